@@ -1,0 +1,14 @@
+use Rattle.std.proofs.Common.{arith}
+use Rattle.std.proofs.lemmas.List.{take_rest}
+use Rattle.sharc_io.proofs.Parts.{appends_front_more}
+use Rattle.sharc_io.proofs.writing.write_all.Goals as goal
+
+pub loop-written-preserved : goal.loop-written-preserved
+loop-written-preserved g c =
+    let taken = rw take_rest at c.in-Ok.ensures.bytes in
+    record {
+      in_bytes = omega (arith, c.in-Ok.ensures.bound);
+      out = appends_front_more _ _ _ c.args.bytes.now c.loop-written.written c.in-Ok.count c.loop-written.invariant.out taken;
+      faults = omega (arith, c.in-Ok.ensures.cause.later);
+      stalls = omega (arith, c.in-Ok.ensures.stall.later);
+    }
