@@ -1,0 +1,4 @@
+pub mod Words
+pub mod History
+pub mod Place
+pub mod Laws
