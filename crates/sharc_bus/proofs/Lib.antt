@@ -1,0 +1,6 @@
+pub mod Members
+pub mod Steps
+pub mod Seats
+pub mod Giving
+pub mod Closing
+pub mod Names

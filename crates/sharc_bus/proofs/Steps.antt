@@ -1,0 +1,89 @@
+-- A step of any operation keeps the rule: its event goes to the end of the history, and of its seat's part.
+use Rattle.std.proofs.Common.{◌≡◌, ◌≢◌, ℕ, ◌<◌, ◌≤◌, ⊎_elim, inl, List, [], ◌∷◌, ◌++◌, length, slice_index, slice_set, refl, sym, ap, ◌∙◌, subst, arith, eq-eqb, ne_eqb}
+use Rattle.std.proofs.lemmas.List.{append-nil}
+use Rattle.std.proofs.lemmas.List.Elements.{filter-append}
+use mathlib.Core.Option.{some}
+use lib.ListN.{get_elem?}
+use Rattle.atomic_table.specs.Table.{State, Me, Allows, keeps}
+use Rattle.atomic_table.proofs.Lists.{at_set}
+use Rattle.sharc_word.specs.declared.step.WordStep.{WordStep}
+use Rattle.sharc_word.specs.declared.step.WordEvent.{WordEvent}
+use Rattle.sharc_word.specs.Words.{word_after, words_after_step, words_after}
+use Rattle.sharc_word.specs.History.{MayFollow, events_of}
+use Rattle.sharc_word.specs.Place.{event_of}
+use Rattle.sharc_word.proofs.Histories.{length-words_after, words_after-append, legal_push}
+use Rattle.sharc_bus.specs.declared.rule.Part.{Part}
+use Rattle.sharc_bus.specs.Rule.{IsAmong, BusRule, with_step}
+use Rattle.sharc_bus.proofs.Members.{among_one}
+
+pub events_push_same : (thread : ℕ) (history : List WordEvent) (e : WordEvent) → e.thread ≡ thread → events_of thread (history ++ e ∷ []) ≡ events_of thread history ++ e ∷ []
+events_push_same thread history e is = rw (filter-append, eq-eqb e.thread thread is)
+
+pub events_push_other : (thread : ℕ) (history : List WordEvent) (e : WordEvent) → e.thread ≢ thread → events_of thread (history ++ e ∷ []) ≡ events_of thread history
+events_push_other thread history e not = rw (filter-append, ne_eqb e.thread thread not) (append-nil (events_of thread history))
+
+-- what the rule says of one part of a seat
+abbrev Kept : List WordEvent → (ℕ → ℕ) → ℕ → ℕ → Part → Type 0
+Kept history owner ports seat part = (part.events ≡ events_of part.number history) × (owner part.number ≡ seat) × (part.number < ports)
+
+module _ (opening : List ℕ) (ports : ℕ) (s : State (Unit {0}) (List Part)) (kept : BusRule opening ports s) (id : ℕ) (p : Part) (at : get_elem? s.views id ≡ some (p ∷ [])) (step : WordStep) (inside : step.word < length opening) where
+  abbrev found : ℕ
+  found = slice_index s.words step.word
+
+  abbrev made : WordEvent
+  made = event_of p.number step found
+
+  abbrev stepped_part : Part
+  stepped_part = record { number = p.number; events = p.events ++ made ∷ [] }
+
+  abbrev after : State (Unit {0}) (List Part)
+  after = record { words = words_after_step s.words step; homes = s.homes; views = slice_set s.views id (stepped_part ∷ []) }
+
+  may : MayFollow (words_after opening kept.history) made
+  may = record { on_a_word = omega (arith, length-words_after opening kept.history); result_is = ap (λ (ws : List ℕ). slice_index ws step.word) kept.words_are }
+
+  here : Kept kept.history kept.owner ports id p
+  here = kept.parts_are id (p ∷ []) p at (inl refl)
+
+  here_after : Kept (kept.history ++ made ∷ []) kept.owner ports id stepped_part
+  here_after = (ap (λ es. es ++ made ∷ []) here.0 ∙ sym (events_push_same p.number kept.history made refl), here.1, here.2)
+
+  parts_after : (seat : ℕ) (parts : List Part) (part : Part) → get_elem? after.views seat ≡ some parts → IsAmong part parts → Kept (kept.history ++ made ∷ []) kept.owner ports seat part
+  parts_after seat parts part there among =
+      ⊎_elim
+      (λ same.
+      let is : part ≡ stepped_part = among_one part stepped_part (subst (λ ps. IsAmong part ps) (sym same.1) among) in
+      let there' : Kept (kept.history ++ made ∷ []) kept.owner ports seat stepped_part = subst (λ n. Kept (kept.history ++ made ∷ []) kept.owner ports n stepped_part) (sym same.0) here_after in
+      subst (λ q. Kept (kept.history ++ made ∷ []) kept.owner ports seat q) (sym is) there')
+      (λ other.
+      let old : Kept kept.history kept.owner ports seat part = kept.parts_are seat parts part other.1 among in
+      let apart : p.number ≢ part.number = (λ e. other.0 (sym old.1 ∙ (ap kept.owner (sym e) ∙ here.1))) in
+      (old.0 ∙ sym (events_push_other part.number kept.history made apart), old.1, old.2))
+      (at_set s.views id seat (stepped_part ∷ []) parts there)
+
+  no_others_after : (number : ℕ) → ports ≤ number → events_of number (kept.history ++ made ∷ []) ≡ []
+  no_others_after number beyond =
+      let small : p.number < ports = here.2 in
+      let apart : p.number ≢ number = (λ e. omega arith) in
+      events_push_other number kept.history made apart ∙ kept.no_others number beyond
+
+  pub step_keeps : BusRule opening ports after
+  step_keeps = record {
+    history = kept.history ++ made ∷ [];
+    legal = legal_push opening kept.history made kept.legal may;
+    words_are = ap (λ (ws : List ℕ). words_after_step ws step) kept.words_are ∙ sym (words_after-append opening kept.history (made ∷ []));
+    owner = kept.owner;
+    parts_are = parts_after;
+    no_others = no_others_after;
+  }
+
+-- the table allows a step that does what the operation says, by a seat with one part
+pub step_allowed : (opening : List ℕ) (ports slots id : ℕ) (me : Me (Unit {0}) (List Part)) (step : WordStep) (f : ℕ → ℕ)
+    → (part : Part) × (me.0 ≡ part ∷ []) → ((n : ℕ) → f n ≡ word_after step.op n) → step.word < length opening
+    → Allows (BusRule opening ports) slots id me step.word f (λ n after. after ≡ (with_step me.0 step n, me.1))
+step_allowed opening ports slots id me step f one same inside s kept _ at _ =
+    let n : ℕ = slice_index s.words step.word in
+    let at' : get_elem? s.views id ≡ some (one.0 ∷ []) = subst (λ v. get_elem? s.views id ≡ some v) one.1 at in
+    let R : ℕ → List Part → Type 0 = λ m v. BusRule opening ports record { words = slice_set s.words step.word m; homes = s.homes; views = slice_set s.views id (with_step v step n) } in
+    let k : R (word_after step.op n) (one.0 ∷ []) = step_keeps opening ports s kept id one.0 at' step inside in
+    (with_step me.0 step n, keeps, tt, subst (λ v. R (f n) v) (sym one.1) (subst (λ m. R m (one.0 ∷ [])) (sym (same n)) k), refl)

@@ -1,0 +1,14 @@
+use Rattle.std.proofs.Common.{◌≡◌, List, ◌++◌, All, vec_len}
+use Rattle.sharc_bus.specs.Bus.{SeatView, HasAll}
+use Rattle.sharc_bus.proofs.bus.take_seats.Given as goal
+
+-- the parts of the seats that were taken are together
+abbrev pub invariant-loop-seat : goal.invariant-loop-seat
+invariant-loop-seat g l = record {
+  own : l.all.table_id ≡ l.table.shared.table_id;
+  buses : All (λ (s : SeatView). s.bus ≡ l.table.shared.table_id) l.seats.items;
+  taken : (taken : List SeatView) × (l.fn.seats.items ≡ l.seats.items ++ taken) × HasAll taken l.all.me.0;
+}
+
+abbrev pub decreases-loop-seat : goal.decreases-loop-seat
+decreases-loop-seat g l = vec_len l.seats

@@ -1,0 +1,118 @@
+//! What the seats of a bus know, the rule of its table, and what each kind of step tells.
+
+use atomic_table::{Join, Play, Split, TableRule};
+use sharc_word::WordEvent;
+use std::alloc::Allocator;
+use std::collections::LinkedList;
+
+/// The events of one port, oldest first. No value of it is made: it stands in proofs alone.
+pub struct Part {
+    pub number: u64,
+    pub events: LinkedList<WordEvent>,
+}
+
+/// What a seat knows: the parts of the history that it has.
+pub type Parts = LinkedList<Part>;
+
+/// What a bus is opened with: its words, and the number of its ports.
+#[derive(Drop)]
+pub struct Opening<A: Allocator> {
+    pub words: Vec<u64, A>,
+    pub ports: u32,
+}
+
+/// The rule of a bus: there is one legal history of its steps.
+pub struct BusLaw;
+
+impl<A: Allocator> TableRule<(), Parts, Opening<A>> for BusLaw {
+    ghost use Rattle.sharc_bus.specs.Rule.{BusRule, unbegun};
+
+    ghost holds = { λ opening. BusRule opening.words.items opening.ports };
+
+    ghost first = { λ opening. unbegun 0 opening.ports };
+}
+
+/// A seat keeps its first part, and a new seat has the others.
+pub(crate) struct FirstPart;
+
+impl Split<Parts> for FirstPart {
+    ghost use Rattle.std.specs.Prelude.{take, drop};
+
+    ghost left = { take 1 };
+
+    ghost right = { drop 1 };
+}
+
+/// A seat takes in the parts of another.
+pub(crate) struct Together;
+
+impl Join<Parts> for Together {
+    ghost use Rattle.std.specs.Prelude.{[], ◌++◌};
+
+    ghost both = { λ parts others. parts ++ others };
+
+    ghost spent = { [] };
+}
+
+pub(crate) struct Loads;
+
+impl Play<(), Parts> for Loads {
+    ghost use Rattle.sharc_word.specs.declared.step.WordOp.TheVariants.{Load};
+    ghost use Rattle.sharc_bus.specs.Rule.{Appends};
+
+    ghost then = { Appends (λ _ _. Load) };
+}
+
+pub(crate) struct Swaps;
+
+impl Play<(), Parts> for Swaps {
+    ghost use Rattle.sharc_word.specs.declared.step.WordOp.TheVariants.{Swap};
+    ghost use Rattle.sharc_bus.specs.Rule.{Appends};
+
+    ghost then = { Appends (λ new _. Swap new) };
+}
+
+pub(crate) struct Adds;
+
+impl Play<(), Parts> for Adds {
+    ghost use Rattle.sharc_word.specs.declared.step.WordOp.TheVariants.{Add};
+    ghost use Rattle.sharc_bus.specs.Rule.{Appends};
+
+    ghost then = { Appends (λ number _. Add number) };
+}
+
+pub(crate) struct Subs;
+
+impl Play<(), Parts> for Subs {
+    ghost use Rattle.sharc_word.specs.declared.step.WordOp.TheVariants.{Sub};
+    ghost use Rattle.sharc_bus.specs.Rule.{Appends};
+
+    ghost then = { Appends (λ number _. Sub number) };
+}
+
+pub(crate) struct Ors;
+
+impl Play<(), Parts> for Ors {
+    ghost use Rattle.sharc_word.specs.declared.step.WordOp.TheVariants.{Or};
+    ghost use Rattle.sharc_bus.specs.Rule.{Appends};
+
+    ghost then = { Appends (λ bits _. Or bits) };
+}
+
+pub(crate) struct Ands;
+
+impl Play<(), Parts> for Ands {
+    ghost use Rattle.sharc_word.specs.declared.step.WordOp.TheVariants.{And};
+    ghost use Rattle.sharc_bus.specs.Rule.{Appends};
+
+    ghost then = { Appends (λ bits _. And bits) };
+}
+
+pub(crate) struct Exchanges;
+
+impl Play<(), Parts> for Exchanges {
+    ghost use Rattle.sharc_word.specs.declared.step.WordOp.TheVariants.{Cas};
+    ghost use Rattle.sharc_bus.specs.Rule.{Appends};
+
+    ghost then = { Appends (λ expected new. Cas expected new) };
+}

@@ -1,0 +1,39 @@
+//! One step on the table of a bus.
+
+ghost use Rattle.std.specs.Prelude.{◌≡◌, ◌<◌, ◌∷◌, [], length};
+ghost use Rattle.sharc_bus.specs.declared.rule.Part.{Part};
+ghost use Rattle.sharc_bus.specs.Rule.{with_step};
+
+use crate::rule::{Adds, Ands, BusLaw, Exchanges, Loads, Opening, Ors, Parts, Subs, Swaps};
+use atomic_table::{Seat, Shared};
+use sharc_word::{WordOp, WordStep};
+use std::alloc::Allocator;
+
+type Words<A> = Shared<(), Parts, Opening<A>, BusLaw>;
+
+// One atomic step on a word, which its seat then has at the end of its part. It answers the word that it found.
+pub(crate) fn make_step<A: Allocator>(
+    words: &Words<A>,
+    seat: &mut Seat<(), Parts>,
+    step: WordStep,
+) -> u64
+    requires own { seat.old.table_id ≡ words.now.table_id }
+    requires part { (part : Part) × (seat.old.me.0 ≡ part ∷ []) }
+    requires opening { words.now.table_id.words ≡ length words.now.key.words.items }
+    requires word { step.word < words.now.table_id.words }
+    ensures own { seat.new.table_id ≡ seat.old.table_id }
+    ensures appended { seat.new.me ≡ (with_step seat.old.me.0 step result, seat.old.me.1) }
+{
+    let word = step.word as usize;
+    match step.op {
+        WordOp::Load => words.load::<Loads>(seat, word),
+        WordOp::Swap(new) => words.swap::<Swaps>(seat, word, new),
+        WordOp::Add(number) => words.fetch_add::<Adds>(seat, word, number),
+        WordOp::Sub(number) => words.fetch_sub::<Subs>(seat, word, number),
+        WordOp::Or(bits) => words.fetch_or::<Ors>(seat, word, bits),
+        WordOp::And(bits) => words.fetch_and::<Ands>(seat, word, bits),
+        WordOp::Cas(expected, new) => {
+            words.compare_exchange::<Exchanges>(seat, word, expected, new)
+        }
+    }
+}
