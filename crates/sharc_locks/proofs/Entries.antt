@@ -1,0 +1,54 @@
+-- What taking the entry at a place out of a held log leaves.
+use Rattle.std.proofs.Common.{◌≡◌, ◌≢◌, ◌==◌, ℕ, ◌+◌, ◌<◌, Some, List, ◌∷◌, ◌++◌, length, get_or, take, drop, suc, refl, sym, ap, ◌∙◌, arith, rules, tests, inl, inr}
+use Rattle.std.specs.List.{remove, position}
+use Rattle.std.proofs.Math.Seq.{drop-cons}
+use Rattle.std.proofs.lemmas.List.{take-append-drop}
+use Rattle.std.proofs.lemmas.List.Quantifiers.{position-Some, all_pairs_remove}
+use Rattle.std.proofs.lemmas.List.Edits.{length-remove, get_or-remove_below, get_or-remove_above}
+use Rattle.std.proofs.lemmas.Bool.{cases_lt}
+use Rattle.sharc_locks.specs.HeldLog.{Holds, IsHeldLog, GivesUp}
+use Rattle.sharc_locks.specs.declared.held_log.HeldMutex.{HeldMutex}
+
+-- a list is what stands before a place, the element there, and what stands behind it
+split_at : {X : Type 0} (xs : List X) (i : ℕ) (x : X) → i < length xs → x ≡ get_or xs i x → xs ≡ take i xs ++ x ∷ drop (suc i) xs
+split_at xs i x within is =
+    sym (take-append-drop i xs) ∙ ap (λ rest. take i xs ++ rest) (drop-cons xs i x within ∙ ap (λ y. y ∷ drop (suc i) xs) (sym is))
+
+-- what stands at the first place of a word
+pub record IsPlaceOf (log : List HeldMutex) (word place : ℕ) : Type 0 where
+  pub within : place < length log
+  pub there : (d : HeldMutex) → (get_or log place d).word ≡ word
+
+pub place_is : (log : List HeldMutex) (word place : ℕ) → position (λ h. h.word == word) log ≡ Some place → IsPlaceOf log word place
+place_is log word place found = record {
+  within = (position-Some (λ h. h.word == word) log place record { word = 0; object = 0 } found).0;
+  there = λ d. let p = position-Some (λ h. h.word == word) log place d found in search (rules, tests);
+}
+
+-- the entry at the place is the one that is given up
+pub gives_up : (log : List HeldMutex) (word place : ℕ) (held : HeldMutex) → IsPlaceOf log word place → held ≡ get_or log place held → GivesUp log (remove log place) record { word = word; object = held.object }
+gives_up log word place held at is =
+    let named : held.word ≡ word = ap (λ (h : HeldMutex). h.word) is ∙ at.there held in
+    let same : held ≡ record { word = word; object = held.object } = ap (λ (w : ℕ). record { word = w; object = held.object }) named in
+    record {
+      before = take place log;
+      after = drop (suc place) log;
+      stood = split_at log place held at.within is ∙ ap (λ (h : HeldMutex). take place log ++ h ∷ drop (suc place) log) same;
+      left = refl;
+    }
+
+-- a log without one of its entries is a log
+pub stays_log : (log : List HeldMutex) (place : ℕ) → place < length log → IsHeldLog log → IsHeldLog (remove log place)
+stays_log log place within is = record {
+  few = let shorter = length-remove log place within in let most = is.few in omega arith;
+  each_once = all_pairs_remove (λ (a b : HeldMutex). a.word ≢ b.word) log place within is.each_once;
+}
+
+-- no other entry is of the word
+pub released : (log : List HeldMutex) (word place : ℕ) → IsPlaceOf log word place → IsHeldLog log → Holds (remove log place) word → ⊥
+released log word place at is (k, held, within, is_there, named) =
+    let shorter = length-remove log place at.within in
+    elim (cases_lt k place) [
+      | inl below ↦ is.each_once k place held below at.within (ap (λ (h : HeldMutex). h.word) (sym (get_or-remove_below log place held k below at.within) ∙ is_there) ∙ named ∙ sym (at.there held))
+      | inr above ↦ is.each_once place (k + 1) held (omega arith) (omega arith) (at.there held ∙ sym named ∙ ap (λ (h : HeldMutex). h.word) (sym is_there ∙ get_or-remove_above log place held k above at.within))
+    ]
