@@ -1,0 +1,69 @@
+-- One bit of a word of waiters, set and cleared.
+use Rattle.std.proofs.Common.{◌≡◌, ℕ, ◌*◌, ◌^◌, ◌/◌, ◌%◌, ◌<◌, ◌≤◌, ◌==◌, ◌||◌, ◌&&◌, Bool, true, false, not, nat_eq, min, bit_and, bit_or, refl, sym, ap, ◌∙◌, inl, inr, arith, w64}
+use Rattle.std.specs.Int.{bit_at, bit_not, trailing_zeros}
+use Rattle.std.proofs.lemmas.Nat.Bits.{bit_at-zero, bit_at-lt, bit_at_and, bit_at_above, same_from_bits, shr_and_one, bit_at_set_same, bit_at_set_other, bit_at_clear_same, bit_at_clear_other, bit_at-trailing_zeros}
+use Rattle.std.proofs.lemmas.Bool.{cases_eq, cases_lt, eq-eqb, ne_eqb, or_right, and_right, and_left}
+use Rattle.std.proofs.lemmas.Bool.Decides.{nat_tests}
+use Rattle.sharc_cond.specs.Waiters.{waits_in, TakesAwayFirst}
+
+or_false : (b : Bool) → b ≡ (b || false)
+or_false true = refl
+or_false false = refl
+
+and_true : (b : Bool) → b ≡ (b && true)
+and_true true = refl
+and_true false = refl
+
+pub set_waiter : (word thread : ℕ) → thread < 64 → (k : ℕ) → waits_in (bit_or word (1 * 2 ^ thread % 2 ^ 64)) k ≡ (waits_in word k || k == thread)
+unfolding waits_in
+set_waiter word thread within k =
+    elim (cases_eq k thread) [
+      | inl same ↦ rw same (ap (λ b. b == 1) (bit_at_set_same w64 word thread within) ∙ sym (or_right (bit_at word thread == 1) (thread == thread) (eq-eqb thread thread refl)))
+      | inr other ↦ ap (λ b. b == 1) (bit_at_set_other w64 word thread within k other) ∙ or_false (bit_at word k == 1) ∙ ap (λ b. bit_at word k == 1 || b) (sym (ne_eqb k thread other))
+    ]
+
+-- past the word no bit stands
+none_above : (word k : ℕ) → word < 2 ^ 64 → 64 ≤ k → (bit_at word k == 1) ≡ false
+none_above word k is_word above = ap (λ b. b == 1) (bit_at_above word 64 k is_word above)
+
+min_zero : (b : ℕ) → min 0 b ≡ 0
+min_zero b = omega arith
+
+clear_above : (word mask k : ℕ) → word < 2 ^ 64 → 64 ≤ k → (bit_at (bit_and word mask) k == 1) ≡ false
+clear_above word mask k is_word above = ap (λ b. b == 1) (bit_at_and word mask k ∙ ap (λ b. min b (bit_at mask k)) (bit_at_above word 64 k is_word above) ∙ min_zero (bit_at mask k))
+
+pub clear_waiter : (word thread : ℕ) → word < 2 ^ 64 → thread < 64 → (k : ℕ) → waits_in (bit_and word (bit_not w64 (1 * 2 ^ thread % 2 ^ 64))) k ≡ (waits_in word k && not (k == thread))
+unfolding waits_in
+clear_waiter word thread is_word within k =
+    elim (cases_eq k thread) [
+      | inl same ↦ rw same (ap (λ b. b == 1) (bit_at_clear_same w64 word thread within) ∙ sym (and_right (bit_at word thread == 1) (not (thread == thread)) (ap not (eq-eqb thread thread refl))))
+      | inr other ↦ elim (cases_lt k 64) [
+        | inl below ↦ ap (λ b. b == 1) (bit_at_clear_other w64 word thread within k below other) ∙ and_true (bit_at word k == 1) ∙ ap (λ b. bit_at word k == 1 && not b) (sym (ne_eqb k thread other))
+        | inr above ↦ clear_above word (bit_not w64 (1 * 2 ^ thread % 2 ^ 64)) k is_word above ∙ sym (and_left (bit_at word k == 1) (not (k == thread)) (none_above word k is_word above))
+      ]
+    ]
+
+pub takes_away_first : (word : ℕ) → 0 < word → word < 2 ^ 64 → TakesAwayFirst word (bit_and word (bit_not w64 (1 * 2 ^ trailing_zeros w64 word % 2 ^ 64))) (trailing_zeros w64 word)
+unfolding waits_in
+takes_away_first word some is_word =
+    let first = bit_at-trailing_zeros w64 word some is_word in
+    record {
+      waited = ap (λ b. b == 1) first.1;
+      lowest = λ k below. ap (λ b. b == 1) (first.2 k below);
+      left = clear_waiter word (trailing_zeros w64 word) is_word first.0;
+    }
+
+pub waits_read : (word thread : ℕ) → nat_eq (bit_and (word / 2 ^ thread) 1) 1 ≡ waits_in word thread
+unfolding waits_in
+waits_read word thread = ap (λ b. nat_eq b 1) (shr_and_one word thread)
+
+pub nobody_in_zero : (k : ℕ) → waits_in 0 k ≡ false
+unfolding waits_in
+nobody_in_zero k = ap (λ b. b == 1) (bit_at-zero k)
+
+same_bit : (x y : ℕ) → x < 2 → y < 2 → (x == 1) ≡ (y == 1) → x ≡ y
+same_bit x y x_bit y_bit same = grind (arith, nat_tests)
+
+pub same_from_waiters : (a b : ℕ) → ((k : ℕ) → waits_in a k ≡ waits_in b k) → a ≡ b
+unfolding waits_in
+same_from_waiters a b same = same_from_bits a b (λ i. same_bit (bit_at a i) (bit_at b i) (bit_at-lt a i) (bit_at-lt b i) (same i))
