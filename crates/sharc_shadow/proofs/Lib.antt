@@ -1,0 +1,4 @@
+pub mod Conflict
+pub mod OneBit
+pub mod Sets
+pub mod Table

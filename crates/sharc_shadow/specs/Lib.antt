@@ -1,0 +1,4 @@
+pub mod Accesses
+pub mod Notes
+pub mod Others
+pub mod ShadowWord
