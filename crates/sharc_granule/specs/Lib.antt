@@ -1,0 +1,5 @@
+pub mod Asks
+pub mod Block
+pub mod Laws
+pub mod Stages
+pub mod State

@@ -1,0 +1,66 @@
+//! Sizes of blocks, and New on arenas that just fit and just do not.
+
+use super::*;
+use sharc_word::{WordOp, WordStep};
+
+fn asked(word: u32, op: WordOp) -> NewTurn {
+    NewTurn::Do(WordStep { word, op })
+}
+
+#[test]
+fn least_blocks(rt: HostRuntime) {
+    for (cells, granules) in [
+        (1u64, 2u64),
+        (2, 2),
+        (3, 4),
+        (14, 8),
+        (29, 16),
+        (30, 16),
+        (31, 32),
+        (1 << 32, 1 << 32),
+    ] {
+        if 1 <= cells && cells <= 1 << 32 {
+            assert_eq!(rt; block(cells), granules, "at {cells}");
+        }
+    }
+}
+
+#[test]
+fn takes_the_last_room(rt: HostRuntime) {
+    // Granules 1 to 4 of an arena of 5, whose cells begin at word 100; another thread moves the top first.
+    let mut state = NewState::new(3, 3, 9, 100, 0);
+    assert_eq!(rt; state.next(77), asked(1, WordOp::Load));
+    assert_eq!(rt; state.next(1), asked(1, WordOp::Cas(1, 5)));
+    assert_eq!(rt; state.next(5), asked(1, WordOp::Cas(5, 9)));
+    assert_eq!(rt; state.next(5), asked(110, WordOp::Swap(1)));
+    assert_eq!(rt; state.next(0), asked(111, WordOp::Swap(3)));
+    assert_eq!(rt; state.next(0), NewTurn::Made(5));
+    assert_eq!(rt; state.next(0), NewTurn::Made(5));
+    assert_eq!(rt; state.head(), 0);
+}
+
+#[test]
+fn finds_no_room(rt: HostRuntime) {
+    let mut state = NewState::new(3, 3, 8, 100, 0);
+    assert_eq!(rt; state.next(0), asked(1, WordOp::Load));
+    assert_eq!(rt; state.next(4), asked(1, WordOp::Cas(4, 8)));
+    assert_eq!(rt; state.next(5), NewTurn::HeapFull);
+    // A top that no sum of it and the block reaches.
+    let mut state = NewState::new(1, 1, 8, 100, 0);
+    assert_eq!(rt; state.next(0), asked(1, WordOp::Load));
+    assert_eq!(rt; state.next(u64::MAX), NewTurn::HeapFull);
+}
+
+#[test]
+fn takes_from_the_own_list(rt: HostRuntime) {
+    let mut state = NewState::new(1, 2, 20, 100, 6);
+    assert_eq!(rt; state.next(0), asked(113, WordOp::Load));
+    assert_eq!(rt; state.head(), 6);
+    assert_eq!(rt; state.next(12), asked(114, WordOp::Swap(0)));
+    assert_eq!(rt; state.head(), 12);
+    assert_eq!(rt; state.next(44), asked(115, WordOp::Swap(0)));
+    assert_eq!(rt; state.next(45), asked(112, WordOp::Swap(1)));
+    assert_eq!(rt; state.next(0), asked(113, WordOp::Swap(1)));
+    assert_eq!(rt; state.next(12), NewTurn::Made(6));
+    assert_eq!(rt; state.head(), 12);
+}
