@@ -1,0 +1,11 @@
+//! The source of the programs on which speed is measured.
+//!
+//! `make` writes a program of the checked language with a given number of small functions. `specs/Source.antt` gives its
+//! lines.
+#![tactic(auto)]
+
+mod source;
+#[cfg(test)]
+mod tests;
+
+pub use source::make;
