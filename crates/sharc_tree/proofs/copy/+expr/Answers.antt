@@ -1,0 +1,13 @@
+use Rattle.sharc_tree.proofs.Copies.{argument_copied, same_call}
+use Rattle.sharc_tree.proofs.Views.{view_call}
+use Rattle.sharc_tree.specs.View.{view_expr, view_arguments}
+use Rattle.sharc_tree.proofs.copy.+expr.Goals as goal
+
+pub copy_arguments-loop-expr-preserved : goal.copy_arguments-loop-expr-preserved
+copy_arguments-loop-expr-preserved t c =
+    argument_copied c.loop-expr.copied.items c.push.new.self.items c.args.list.now c.loop-expr.expr-index c.in_ok-copy_expr.field-0 c.expr-item.result c.loop-expr-test.true c.in_ok-push.ensures.items c.expr-item.is c.in_ok-copy_expr.ensures c.loop-expr.invariant
+
+pub copy_expr-returns-in_ok-copy_arguments-in-Call : goal.copy_expr-returns-in_ok-copy_arguments-in-Call
+copy_expr-returns-in_ok-copy_arguments-in-Call t c =
+    rw (view_call c.args.expr.now c.in-Call.span c.in-Call.name c.in-Call.arguments c.in-Call.is, ← c.deref-in-Call.ensures.value)
+    (same_call (view_expr c.of_call.result) c.in-Call.span c.in_ok-name-in-Call.name c.in-Call.name (view_arguments c.in_ok-copy_arguments-in-Call.field-0.items) (view_arguments c.deref-in-Call.result.now) c.of_call.ensures c.in_ok-name-in-Call.ensures c.in_ok-copy_arguments-in-Call.ensures)

@@ -1,0 +1,6 @@
+pub mod Expressions
+pub mod Measures
+pub mod Spans
+pub mod Texts
+pub mod Tree
+pub mod View

@@ -1,0 +1,14 @@
+// The trees that every crate above speaks of: tokens, types, programs and source events.
+#![tactic(auto)]
+
+pub mod copy;
+pub mod ctype;
+pub mod event;
+pub mod expressions;
+pub mod measure;
+pub mod name;
+pub mod print;
+#[cfg(test)]
+mod tests;
+pub mod token;
+pub mod tree;

@@ -1,0 +1,318 @@
+// Tokens: what the lexer makes of a source, with the place of each.
+
+ghost use Rattle.std.specs.Prelude.{◌≡◌, ℕ, ◌<◌, ◌==◌, List, length, slice_index_or, IfOk};
+
+use crate::name::{Name, Names};
+use std::alloc::{AllocError, Global};
+use std::marker::Model;
+
+/// A place in the source: a line of a file, and the number of a token.
+#[derive(Clone, Copy, PartialEq, Eq, Debug)]
+pub struct Site {
+    /// The place of the file in the list of files.
+    pub file: u32,
+    /// The line, as a line marker counts it; before the first marker from 1.
+    pub line: u32,
+    /// The number of the token, counted from 0.
+    pub token: u32,
+}
+
+/// The tokens of a construct, from its first to its last.
+#[derive(Clone, Copy, PartialEq, Eq, Debug)]
+pub struct Span {
+    pub first: Site,
+    pub last: Site,
+}
+
+/// The keywords of the subset.
+#[derive(Clone, Copy, PartialEq, Eq, Debug)]
+pub enum Keyword {
+    Int,
+    Char,
+    Long,
+    Void,
+    Struct,
+    If,
+    Else,
+    While,
+    For,
+    Break,
+    Continue,
+    Return,
+    Sizeof,
+    Mutex,
+    Private,
+    Readonly,
+    Locked,
+    Racy,
+    Dynamic,
+    Spawn,
+    Join,
+    Lock,
+    Unlock,
+    Print,
+    Malloc,
+    Free,
+    /// `SCAST`
+    Scast,
+    /// `NULL`
+    Null,
+}
+
+/// The punctuators of the subset.
+#[derive(Clone, Copy, PartialEq, Eq, Debug)]
+pub enum Punctuator {
+    /// `(`
+    OpenParenthesis,
+    /// `)`
+    CloseParenthesis,
+    /// `{`
+    OpenBrace,
+    /// `}`
+    CloseBrace,
+    /// `[`
+    OpenBracket,
+    /// `]`
+    CloseBracket,
+    /// `;`
+    Semicolon,
+    /// `,`
+    Comma,
+    /// `.`
+    Dot,
+    /// `->`
+    Arrow,
+    /// `=`
+    Assign,
+    /// `==`
+    Equal,
+    /// `!=`
+    NotEqual,
+    /// `<`
+    Less,
+    /// `>`
+    Greater,
+    /// `<=`
+    LessOrEqual,
+    /// `>=`
+    GreaterOrEqual,
+    /// `<<`
+    ShiftLeft,
+    /// `>>`
+    ShiftRight,
+    /// `+`
+    Plus,
+    /// `-`
+    Minus,
+    /// `*`
+    Star,
+    /// `/`
+    Slash,
+    /// `%`
+    Percent,
+    /// `&`
+    Ampersand,
+    /// `&&`
+    AndAnd,
+    /// `|`
+    Bar,
+    /// `||`
+    OrOr,
+    /// `^`
+    Caret,
+    /// `!`
+    Exclamation,
+    /// `~`
+    Tilde,
+}
+
+/// The type of a number, by C11 6.4.4.1 as the subset has it (own for octal and hexadecimal numbers that C makes unsigned).
+#[derive(Clone, Copy, PartialEq, Eq, Debug)]
+pub enum NumberType {
+    /// No suffix, and at most 2147483647.
+    Int,
+    /// With the suffix `l` or `L`, or larger.
+    Long,
+}
+
+/// What a number says: its value, from 0 to 2^63 - 1, and its type.
+#[derive(Clone, Copy, PartialEq, Eq, Debug)]
+pub struct Number {
+    pub value: i64,
+    pub number_type: NumberType,
+}
+
+/// What a token is, so that nobody above the lexer looks at a token's bytes to learn it.
+#[derive(Clone, Copy, PartialEq, Eq, Debug)]
+pub enum TokenKind {
+    /// A keyword of the subset.
+    Keyword(Keyword),
+    /// A name; the token's text says which.
+    Identifier,
+    /// A decimal, octal or hexadecimal number.
+    Number(Number),
+    /// A character constant: the byte that it stands for.
+    Character(u8),
+    /// A punctuator of the subset.
+    Punctuator(Punctuator),
+    /// A keyword or a punctuator of C11 that the subset leaves out.
+    LeftOut,
+}
+
+/// A token of the source.
+#[derive(Debug, Drop)]
+pub struct Token {
+    pub kind: TokenKind,
+    /// The slice of the source at the span.
+    pub text: Name,
+    /// The offset of the first byte.
+    pub from: u32,
+    /// The offset behind the last byte.
+    pub until: u32,
+    /// The place of the file in the list of files.
+    pub file: u32,
+    /// The line, as in a site.
+    pub line: u32,
+}
+
+impl Token {
+    ghost use Rattle.std.specs.Prelude.{◌≡◌, IfOk};
+    ghost use Rattle.sharc_tree.specs.Spans.{site_of};
+
+    /// The place of the token, whose number this is.
+    pub fn site(&self, number: u32) -> Site
+        ensures { result ≡ site_of self.now number }
+    {
+        Site {
+            file: self.file,
+            line: self.line,
+            token: number,
+        }
+    }
+
+    /// The same token once more.
+    pub fn copy(&self, alloc: Global) -> Result<Self, AllocError>
+        ensures { IfOk result (λ t. t ≡ self.now) }
+    {
+        let text = self.text.copy(alloc)?;
+        Ok(Token {
+            kind: self.kind,
+            text,
+            from: self.from,
+            until: self.until,
+            file: self.file,
+            line: self.line,
+        })
+    }
+}
+
+/// The tokens of a source in their order. A contract sees it as the list of them.
+#[derive(Debug, Drop)]
+pub struct TokenList {
+    list: Vec<Token>,
+}
+
+impl Model for TokenList {
+    ghost use Rattle.std.specs.Prelude.{List};
+    ghost use Rattle.sharc_tree.specs.declared.token.Token.{Token};
+
+    ghost Value = { List Token };
+
+    ghost view = { λ t. t.list.items };
+}
+
+impl TokenList {
+    /// The list of these tokens. It takes no memory.
+    pub fn of(list: Vec<Token>) -> Self
+        ensures { result ≡ list.items }
+    {
+        TokenList { list }
+    }
+
+    /// The number of tokens.
+    pub fn len(&self) -> usize
+        ensures { result ≡ length self.now }
+    {
+        self.list.len()
+    }
+
+    /// Whether there is no token.
+    pub fn is_empty(&self) -> bool
+        ensures { result ≡ (length self.now == 0) }
+    {
+        self.list.is_empty()
+    }
+
+    /// The token at place `i`, counted from 0.
+    pub fn at(&self, i: usize) -> &Token
+        requires { i < length self.now }
+        ensures { result.now ≡ slice_index_or self.now i result.now }
+    {
+        &self.list[i]
+    }
+
+    /// All the tokens.
+    pub fn as_slice(&self) -> &[Token]
+        ensures { result.now ≡ self.now }
+    {
+        self.list.as_slice()
+    }
+
+    /// The tokens as they were handed to `of`. It takes no memory.
+    pub fn into_vec(self) -> Vec<Token>
+        ensures { result.items ≡ self }
+    {
+        self.list
+    }
+
+    /// The same tokens once more.
+    pub fn copy(&self, alloc: Global) -> Result<Self, AllocError>
+        ensures { IfOk result (λ t. t ≡ self.now) }
+    {
+        let tokens = self.list.as_slice();
+        let mut list = Vec::with_capacity(alloc, tokens.len())?;
+        for token in tokens {
+            list.push(token.copy(alloc)?)?;
+        }
+        Ok(TokenList { list })
+    }
+}
+
+/// A source read into tokens.
+#[derive(Debug, Drop)]
+pub struct Tokens {
+    pub list: TokenList,
+    /// The files that the source names, `input` first.
+    pub files: Names,
+    /// The place of the end of input, with the number of tokens.
+    pub end: Site,
+}
+
+impl Tokens {
+    /// The same tokens once more.
+    pub fn copy(&self, alloc: Global) -> Result<Self, AllocError>
+        ensures { IfOk result (λ t. t ≡ self.now) }
+    {
+        let list = self.list.copy(alloc)?;
+        let files = self.files.copy(alloc)?;
+        Ok(Tokens {
+            list,
+            files,
+            end: self.end,
+        })
+    }
+}
+
+/// Where and why a source is refused: a fault of the lexer (L), of the grammar (P) or of C typing (C).
+#[derive(Debug, Drop)]
+pub struct FaultAt {
+    /// The digit of the code.
+    pub code: u8,
+    /// The name of the file.
+    pub file: Name,
+    pub line: u32,
+    /// The offset of a fault of the lexer, else 0.
+    pub offset: u64,
+    /// The byte of L1, the token of P1 and P3 (empty at the end of input), the name that C1, C2, C4, C7 and C9 print, else empty.
+    pub text: Name,
+}
