@@ -1,0 +1,9 @@
+pub mod CoverLemmas
+pub mod FileLemmas
+pub mod LexemeLemmas
+pub mod LineLemmas
+pub mod NumberLemmas
+pub mod PunctuatorLemmas
+pub mod ReadingLemmas
+pub mod WithinLemmas
+pub mod WordLemmas

@@ -1,0 +1,14 @@
+use Rattle.std.proofs.Common.{◌≡◌, rules}
+use Rattle.sharc_lex.specs.TokenAt.{token_at}
+use Rattle.sharc_lex.proofs.LexemeLemmas.{result_lies}
+use Rattle.sharc_lex.proofs.token_at.token_at.Goals as goal
+
+pub returns-then-is_digit-clause-lies : goal.returns-then-is_digit-clause-lies
+returns-then-is_digit-clause-lies c =
+    let e : c.number_at.result ≡ token_at c.args.first c.args.others.now = search rules in
+    result_lies _ c.args.first c.args.others.now c.args.bytes.now c.requires e
+
+pub returns-else-first-eq39-clause-lies : goal.returns-else-first-eq39-clause-lies
+returns-else-first-eq39-clause-lies c =
+    let e : c.ok_or-else-first-eq39.result ≡ token_at c.args.first c.args.others.now = search rules in
+    result_lies _ c.args.first c.args.others.now c.args.bytes.now c.requires e

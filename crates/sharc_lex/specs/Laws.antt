@@ -1,0 +1,46 @@
+-- Where the tokens of a source stand: in order, each the slice of its span, with white space and line markers alone between them.
+use Rattle.std.specs.Prelude.{◌≡◌, ℕ, ◌+◌, ◌-◌, ◌<◌, ◌≤◌, ◌==◌, ◌⊎◌, true, List, [], ◌∷◌, length, take, drop, slice_index, slice_range, All}
+use Rattle.std.specs.List.{position_or_len}
+use Rattle.sharc_tree.specs.declared.token.Token.{Token}
+use Rattle.sharc_tree.specs.declared.token.Tokens.{Tokens}
+use Rattle.sharc_lex.specs.Bytes.{is_white_space}
+use Rattle.sharc_lex.specs.Markers.{is_marker_line}
+
+-- the bytes from an offset up to the next newline
+abbrev pub line_at : List ℕ → ℕ → List ℕ
+line_at source start = take (position_or_len (λ b. b == 10) (drop start source)) (drop start source)
+
+-- a line begins at the beginning, and behind each newline
+abbrev pub BeginsLine : List ℕ → ℕ → Type 0
+BeginsLine source start = (start ≡ 0) ⊎ (slice_index source (start - 1) ≡ 10)
+
+-- the byte at an offset belongs to a line marker
+pub record IsInMarker (source : List ℕ) (k : ℕ) : Type 0 where
+  pub start : ℕ
+  pub begins : BeginsLine source start
+  pub marks : is_marker_line (line_at source start) ≡ true
+  pub from : start ≤ k
+  pub until : k < start + length (line_at source start)
+
+-- only white space and line markers stand from one offset up to another
+pub record IsBetween (source : List ℕ) (low high : ℕ) : Type 0 where
+  pub ordered : low ≤ high
+  pub each : (k : ℕ) → low ≤ k → k < high → (is_white_space (slice_index source k) ≡ true) ⊎ IsInMarker source k
+
+-- the token has a byte at least, and its text is the slice at its span
+pub record IsSlice (source : List ℕ) (t : Token) : Type 0 where
+  pub some : t.from < t.until
+  pub text : t.text ≡ slice_range source t.from t.until
+
+-- from one offset up to another stand these tokens, with white space and line markers alone between them
+abbrev pub Covers : List ℕ → ℕ → ℕ → List Token → Type 0
+Covers source low high [] = IsBetween source low high
+Covers source low high (t ∷ ts) = IsBetween source low t.from × IsSlice source t × Covers source t.until high ts
+
+-- what holds of the tokens of a source
+pub record AreTokensOf (source : List ℕ) (tokens : Tokens) : Type 0 where
+  pub covers : Covers source 0 (length source) tokens.list
+  pub count : length tokens.list ≤ length source
+  pub files : All (λ t. t.file < length tokens.files) tokens.list
+  pub end_file : tokens.end.file < length tokens.files
+  pub end_token : tokens.end.token ≡ length tokens.list

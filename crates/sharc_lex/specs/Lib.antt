@@ -1,0 +1,12 @@
+pub mod Bytes
+pub mod Characters
+pub mod Faults
+pub mod Files
+pub mod Grammar
+pub mod Laws
+pub mod Markers
+pub mod Numbers
+pub mod Punctuators
+pub mod Seen
+pub mod TokenAt
+pub mod Words

@@ -1,0 +1,107 @@
+//! Why a source is no list of tokens.
+
+ghost use Rattle.std.specs.Prelude.{◌≡◌, IfOk};
+ghost use Rattle.sharc_lex.specs.Faults.{digit_of, text_of};
+ghost use Rattle.sharc_lex.specs.declared.fault.Failure.TheVariants.{Memory};
+
+use sharc_tree::name::Name;
+use sharc_tree::token::FaultAt;
+use std::alloc::{AllocError, AllocFailed, Global};
+
+/// What is wrong where a token or a line marker should stand.
+#[derive(Clone, Copy, PartialEq, Eq, Debug)]
+pub enum Fault {
+    /// L1: this byte begins no token.
+    Byte(u8),
+    /// L2: a digit begins no number.
+    Number,
+    /// L3: a `#` begins no line marker.
+    Marker,
+    /// L4: an identifier of more than 64 bytes.
+    Identifier,
+    /// L5: a quote begins no character constant.
+    Character,
+}
+
+impl Fault {
+    /// The digit of the code.
+    pub fn digit(self) -> u8
+        ensures { result ≡ digit_of self }
+    {
+        match self {
+            Fault::Byte(_) => 1,
+            Fault::Number => 2,
+            Fault::Marker => 3,
+            Fault::Identifier => 4,
+            Fault::Character => 5,
+        }
+    }
+
+    /// The byte that the fault prints, if it prints one.
+    pub fn text(self, alloc: Global) -> Result<Name, AllocError>
+        ensures { IfOk result (λ text. text ≡ text_of self) }
+    {
+        let mut text = Vec::new(alloc);
+        if let Fault::Byte(byte) = self {
+            text.push(byte)?;
+        }
+        Ok(Name::of(text))
+    }
+}
+
+/// A fault at an offset of the source.
+#[derive(Clone, Copy, PartialEq, Eq, Debug)]
+pub struct LineFault {
+    pub offset: usize,
+    pub fault: Fault,
+}
+
+/// Where a line stands.
+#[derive(Clone, Copy, PartialEq, Eq, Debug)]
+pub struct Place {
+    /// The file's place in the list of files.
+    pub file: u32,
+    pub line: u32,
+}
+
+/// Why a line was not read.
+#[derive(Debug, Drop)]
+pub enum Failure {
+    At(LineFault),
+    Memory,
+}
+
+impl From<AllocError> for Failure {
+    ghost from_gives = { λ _ e. e ≡ Memory };
+
+    fn from(_error: AllocError) -> Failure {
+        Failure::Memory
+    }
+}
+
+impl<T: Drop> From<AllocFailed<T>> for Failure {
+    ghost from_gives = { λ _ e. e ≡ Memory };
+
+    fn from(_error: AllocFailed<T>) -> Failure {
+        Failure::Memory
+    }
+}
+
+/// Why a source was not read.
+#[derive(Debug, Drop)]
+pub enum LexFault {
+    /// The first place at which the grammar of tokens does not read the source.
+    At(FaultAt),
+    /// There was not enough memory.
+    Memory,
+}
+
+impl From<AllocError> for LexFault {
+    ghost use Rattle.sharc_lex.specs.declared.fault.LexFault.TheVariants.{Memory as OutOfMemory};
+
+    ghost from_gives = { λ _ e. e ≡ OutOfMemory };
+
+    fn from(_error: AllocError) -> LexFault {
+        LexFault::Memory
+    }
+}

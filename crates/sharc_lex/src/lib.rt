@@ -1,0 +1,25 @@
+//! The lexer: reads the bytes of a preprocessed source into tokens with their places.
+//!
+//! The layer above may use `lex` and `LexFault`. What `lex` answers is `reading` of specs/Grammar.antt, the grammar of tokens: the lines of a
+//! source, line markers as GCC writes them, and on every other line white space and tokens, each the longest that stands there. What holds of
+//! every reading is `AreTokensOf` of specs/Laws.antt: the tokens in order, each the slice of its span, with white space and line markers alone
+//! between them.
+#![tactic(auto)]
+
+mod bytes;
+mod characters;
+mod fault;
+mod files;
+mod lines;
+mod markers;
+mod numbers;
+mod punctuators;
+mod reading;
+mod token_at;
+mod words;
+
+pub use fault::LexFault;
+pub use reading::lex;
+
+#[cfg(test)]
+mod tests;
