@@ -1,0 +1,9 @@
+pub mod Complete
+pub mod CompleteProgram
+pub mod Sound
+pub mod Completed
+pub mod Whole
+pub mod Within
+pub mod WithinLaws
+pub mod Readings
+pub mod Examples

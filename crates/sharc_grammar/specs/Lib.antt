@@ -1,0 +1,5 @@
+pub mod Grammar
+pub mod Machine
+pub mod Limits
+pub mod Places
+pub mod Faults

@@ -1,0 +1,72 @@
+// The laws, each the contract of a function that does nothing.
+
+ghost use Rattle.std.specs.Prelude.{◌≡◌, ℕ, ◌+◌, ◌-◌, List, [], length};
+ghost use Rattle.sharc_tree.specs.Tree.{Program};
+ghost use Rattle.sharc_tree.specs.Measures.{height as height_of, nesting_of};
+ghost use Rattle.sharc_tree.specs.declared.token.Site.{Site};
+ghost use Rattle.sharc_tree.specs.declared.token.Tokens.{Tokens};
+ghost use Rattle.sharc_grammar.specs.Grammar.{Word, Phrase, Callable, Part, IsProgram, program_words, FirstFault};
+ghost use Rattle.sharc_grammar.specs.Limits.{height, deepest, LowProgram, ReadWithin, StuckAt, Over, reads_within, FirstWrong, FirstExcess};
+ghost use Rattle.sharc_grammar.specs.Machine.{Read, Stuck, reads, first_state};
+ghost use Rattle.sharc_grammar.specs.Places.{Reads, expression_at, function_at};
+ghost use Rattle.sharc_grammar.specs.Faults.{IsFault, wrong_code};
+
+/// The machine reads each program of the grammar: so no two programs have the same words.
+pub fn reads_each_program()
+    ensures { (p : List Part) → IsProgram p → reads (program_words p []) first_state ≡ Read p }
+{}
+
+/// What the machine reads is a program of the grammar with these words.
+pub fn reads_only_programs()
+    ensures { (all : List Word) → (p : List Part) → reads all first_state ≡ Read p → IsProgram p × (program_words p [] ≡ all) }
+{}
+
+/// Where the machine stops, the words before it begin a program, and with the next word they begin none.
+pub fn stops_at_first_fault()
+    ensures { (all : List Word) → (rest : List Word) → reads all first_state ≡ Stuck rest → FirstFault all rest }
+{}
+
+/// The machine that tests the limits reads each program within them.
+pub fn reads_each_within()
+    ensures { (p : List Part) → IsProgram p → LowProgram p → reads_within (program_words p []) first_state ≡ ReadWithin p }
+{}
+
+/// What it reads is a program within the limits with these words.
+pub fn reads_only_within()
+    ensures { (all : List Word) → (p : List Part) → reads_within all first_state ≡ ReadWithin p → IsProgram p × LowProgram p × (program_words p [] ≡ all) }
+{}
+
+/// Where it is stuck, the words before it begin a program within the limits, and with the next word they begin none at all.
+pub fn stuck_at_first_wrong()
+    ensures { (all : List Word) → (rest : List Word) → reads_within all first_state ≡ StuckAt rest → FirstWrong all rest }
+{}
+
+/// Where it is over a limit, the words before it begin a program within the limits; with the next word they begin a program, but none within them.
+pub fn over_at_first_excess()
+    ensures { (all : List Word) → (rest : List Word) → reads_within all first_state ≡ Over rest → FirstExcess all rest }
+{}
+
+/// Tokens have one reading at most: the tree, with the places of all its nodes, is determined.
+pub fn one_reading()
+    ensures { (tokens : Tokens) → (p : Program) → (q : Program) → Reads tokens p → Reads tokens q → p ≡ q }
+{}
+
+/// The height that is limited is that of the tree's expression.
+pub fn height_is_of_tree()
+    ensures { (sites : (ℕ → Site)) → (n : ℕ) → (x : Phrase) → height_of (expression_at sites n x) ≡ height x }
+{}
+
+/// The nesting that is limited is that of the tree's function.
+pub fn nesting_is_of_tree()
+    ensures { (sites : (ℕ → Site)) → (n : ℕ) → (f : Callable) → nesting_of (function_at sites n f) ≡ deepest f.body + 1 }
+{}
+
+/// Where the machine that tests the limits is stuck after n words, n is the first fault: P3 at a word that is left out, else P1.
+pub fn stuck_at_fault()
+    ensures { (all : List Word) → (rest : List Word) → (n : ℕ) → n ≡ length all - length rest → reads_within all first_state ≡ StuckAt rest → IsFault all (wrong_code rest) n }
+{}
+
+/// Where it is over a limit after n words, n is the first fault, and P2.
+pub fn over_at_fault()
+    ensures { (all : List Word) → (rest : List Word) → (n : ℕ) → n ≡ length all - length rest → reads_within all first_state ≡ Over rest → IsFault all 2 n }
+{}
