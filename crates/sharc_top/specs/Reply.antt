@@ -1,0 +1,53 @@
+-- What the program writes for its words and its input, and with which status it ends.
+use Rattle.std.specs.Prelude.{◌≡◌, ℕ, ◌<◌, ◌≤◌, List, [], ◌∷◌, map, length, take, codes, Option, IfSome, Ok, Err}
+use Rattle.std.specs.Io.KnownBytes.{Appends}
+use Rattle.sharc_tree.specs.declared.token.FaultAt.{FaultAt}
+use Rattle.sharc_tree.specs.declared.token.Tokens.{Tokens}
+use Rattle.sharc_lex.specs.Grammar.{reading}
+use Rattle.sharc_report.specs.Refusals.{refusal_line}
+use Rattle.sharc_report.specs.declared.refusal.Stage.TheVariants.{Lexer}
+use Rattle.sharc_top.specs.Sums.{Writes}
+use Rattle.sharc_top.specs.Symbols.{symbol_of}
+use Rattle.sharc_top.specs.Text.{line, numbers_text}
+
+-- the words are the one command
+abbrev pub IsRun : List (List ℕ) → Type 0
+IsRun words = words ≡ codes "run" ∷ []
+
+-- how many bytes a source has at most
+abbrev pub source_limit : ℕ
+source_limit = 1048576
+
+-- what `run` writes for a source within the limit, and its status
+pub data Runs (source : List ℕ) : ℕ → List ℕ → Type 0 where
+  refused : (at : FaultAt) → reading source ≡ Err at → Runs source 2 (refusal_line Lexer at)
+  printed : (tokens : Tokens) (numbers : List ℕ) → reading source ≡ Ok tokens → Writes (map symbol_of tokens.list) numbers → Runs source 0 (numbers_text numbers)
+  not_built : (tokens : Tokens) → reading source ≡ Ok tokens → ((numbers : List ℕ) → Writes (map symbol_of tokens.list) numbers → ⊥)
+      → Runs source 7 (line (codes "form not built"))
+
+-- what is written for the words and the input, and the status
+pub data Replies (words : List (List ℕ)) (input : List ℕ) : ℕ → List ℕ → Type 0 where
+  usage : (IsRun words → ⊥) → Replies words input 8 (line (codes "usage: run"))
+  too_long : IsRun words → source_limit < length input → Replies words input 2 (line (codes "source over 1048576 bytes"))
+  run : (status : ℕ) (text : List ℕ) → IsRun words → length input ≤ source_limit → Runs input status text → Replies words input status text
+
+-- The reply to the words and to what the source had left. Of a source that does not tell its bytes it is the reply to some input.
+pub record IsReply (words : List (List ℕ)) (left : Option (List ℕ)) (status : ℕ) (text : List ℕ) : Type 0 where
+  pub input : List ℕ
+  pub told : IfSome left (λ bytes. input ≡ bytes)
+  pub reply : Replies words input status text
+
+-- the whole reply was written
+pub record Replied (words : List (List ℕ)) (left old new : Option (List ℕ)) (status : ℕ) : Type 0 where
+  pub text : List ℕ
+  pub reply : IsReply words left status text
+  pub written : Appends old new text
+
+-- a front part of the reply was written
+pub record RepliedInPart (words : List (List ℕ)) (left old new : Option (List ℕ)) : Type 0 where
+  pub status : ℕ
+  pub text : List ℕ
+  pub reply : IsReply words left status text
+  pub count : ℕ
+  pub within : count ≤ length text
+  pub written : Appends old new (take count text)

@@ -1,0 +1,14 @@
+//! The command line and the top call.
+//!
+//! The program calls [`sharc_top`]; `Replies` of specs/Reply.antt says what it writes and with which status it ends.
+#![tactic(auto)]
+
+mod reply;
+mod sums;
+mod symbol;
+#[cfg(test)]
+mod tests;
+mod text;
+mod top;
+
+pub use top::sharc_top;

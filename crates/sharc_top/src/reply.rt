@@ -1,0 +1,155 @@
+//! What is written for the words and the input.
+
+ghost use Rattle.std.specs.Prelude.{◌≡◌, ◌≤◌, ◌++◌, ◌∷◌, [], ◌↔◌, length, map, string_bytes, IfOk, IsTrue, IsErrOf};
+ghost use Rattle.sharc_io.specs.Causes.{Rose};
+ghost use Rattle.sharc_top.specs.Text.{line};
+ghost use Rattle.sharc_top.specs.Reply.{IsRun, Runs, IsReply};
+ghost use Rattle.sharc_top.specs.Status.{code_of};
+
+use crate::sums::numbers;
+use crate::symbol::symbols;
+use crate::text::numbers_text;
+use sharc_io::{ReadError, Source, read_all};
+use sharc_lex::{LexFault, lex};
+use sharc_report::{Stage, fault_text};
+use std::alloc::{AllocError, Global};
+
+/// The largest source, in bytes (own).
+const SOURCE_LIMIT: usize = 1_048_576;
+
+/// How a call ends.
+#[derive(Clone, Copy, Debug, PartialEq, Eq)]
+pub enum Status {
+    /// The program ran to its end.
+    Done,
+    /// The source is too long, or is refused.
+    Refused,
+    /// The source is of a form that is not built yet.
+    NotBuilt,
+    /// The words are no command.
+    Usage,
+    /// Reading failed.
+    ReadFault,
+    /// Writing failed, or stalled.
+    WriteFault,
+    /// Memory was wanting.
+    NoMemory,
+}
+
+impl Status {
+    /// The exit status.
+    pub fn code(self) -> u8
+        ensures { result ≡ code_of self }
+    {
+        match self {
+            Status::Done => 0,
+            Status::Refused => 2,
+            Status::NotBuilt => 7,
+            Status::Usage => 8,
+            Status::ReadFault => 9,
+            Status::WriteFault => 10,
+            Status::NoMemory => 11,
+        }
+    }
+}
+
+/// What is written, and how the call then ends.
+#[derive(Debug, Drop)]
+pub struct Reply {
+    pub status: Status,
+    pub text: Vec<u8>,
+}
+
+/// Why there is no reply.
+#[derive(Clone, Copy, Debug, PartialEq, Eq)]
+pub enum Failure {
+    Source,
+    Memory,
+}
+
+impl From<AllocError> for Failure {
+    ghost use Rattle.sharc_top.specs.declared.reply.Failure.TheVariants.{Memory};
+
+    ghost from_gives = { λ _ e. e ≡ Memory };
+
+    fn from(_error: AllocError) -> Failure {
+        Failure::Memory
+    }
+}
+
+fn line_reply(alloc: Global, status: Status, text: &[u8]) -> Result<Reply, AllocError>
+    ensures { IfOk result (λ reply. (reply.status ≡ status) × (reply.text.items ≡ line text.now)) }
+{
+    let mut whole = Vec::from_slice(alloc, text)?;
+    whole.push(b'\n')?;
+    Ok(Reply {
+        status,
+        text: whole,
+    })
+}
+
+/// What `run` writes for a source within the limit.
+fn run(alloc: Global, source: &[u8]) -> Result<Reply, AllocError>
+    requires { length source.now ≤ SOURCE_LIMIT }
+    ensures { IfOk result (λ reply. Runs source.now (code_of reply.status) reply.text.items) }
+{
+    let tokens = match lex(alloc, source) {
+        Ok(tokens) => tokens,
+        Err(LexFault::At(at)) => {
+            let text = fault_text(alloc, Stage::Lexer, &at)?;
+            return Ok(Reply {
+                status: Status::Refused,
+                text,
+            });
+        }
+        Err(LexFault::Memory) => return Err(AllocError),
+    };
+    let symbols = symbols(alloc, &tokens.list)?;
+    match numbers(alloc, &symbols)? {
+        Some(values) => {
+            let text = numbers_text(alloc, &values)?;
+            Ok(Reply {
+                status: Status::Done,
+                text,
+            })
+        }
+        None => {
+            let reply = line_reply(alloc, Status::NotBuilt, b"form not built")?;
+            Ok(reply)
+        }
+    }
+}
+
+fn is_run(words: &[String]) -> bool
+    ensures { IsTrue result ↔ IsRun (map string_bytes words.now) }
+{
+    match words {
+        [word] => word.as_str() == "run",
+        _ => false,
+    }
+}
+
+/// The reply to the words and to the input. The input is read only where the words are a command.
+pub fn reply_to<S: Source>(alloc: Global, words: &[String], input: &mut S) -> Result<Reply, Failure>
+    ensures reply { IfOk result (λ reply. IsReply (map string_bytes words.now) (S.left input.old) (code_of reply.status) reply.text.items) }
+    ensures command { IsErrOf result Failure.Source → IsRun (map string_bytes words.now) }
+    ensures fault { IsErrOf result Failure.Source → Rose (S.faults input.old) (S.faults input.new) }
+    ensures counted { S.faults input.old ≤ S.faults input.new }
+{
+    if !is_run(words) {
+        let usage = line_reply(alloc, Status::Usage, b"usage: run")?;
+        return Ok(usage);
+    }
+    match read_all(alloc, input, SOURCE_LIMIT) {
+        Ok(source) => {
+            let reply = run(alloc, &source)?;
+            Ok(reply)
+        }
+        Err(ReadError::TooLong) => {
+            let refusal = line_reply(alloc, Status::Refused, b"source over 1048576 bytes")?;
+            Ok(refusal)
+        }
+        Err(ReadError::ReadFault) => Err(Failure::Source),
+        Err(ReadError::Memory) => Err(Failure::Memory),
+    }
+}

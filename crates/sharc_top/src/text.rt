@@ -1,0 +1,56 @@
+//! Text that is written: its lines, and writing it line by line.
+
+ghost use Rattle.std.specs.Prelude.{◌≡◌, ◌+◌, ◌∷◌, ◌++◌, ◌<◌, ◌≤◌, [], ℕ, List, length, take, drop, decimal, flat_map, IfOk, OnOk, OnErr};
+ghost use Rattle.std.specs.Io.KnownBytes.{Appends};
+ghost use Rattle.sharc_io.specs.Causes.{EitherRose};
+ghost use Rattle.sharc_top.specs.Text.{line, numbers_text, AppendsSome};
+
+use itoa::Buffer;
+use sharc_io::{Sink, WriteFault, write_all};
+use std::alloc::{AllocError, Global};
+
+/// The numbers in decimal, each on a line of its own.
+pub fn numbers_text(alloc: Global, numbers: &[u64]) -> Result<Vec<u8>, AllocError>
+    ensures { IfOk result (λ text. text.items ≡ numbers_text numbers.now) }
+{
+    let mut text = Vec::new(alloc);
+    for number in numbers {
+        let mut buffer = Buffer::new();
+        text.extend_from_slice(buffer.format(*number).as_bytes())?;
+        text.push(b'\n')?;
+    }
+    Ok(text)
+}
+
+/// Where the line ends that begins at an index: behind its newline, or at the end of the text.
+fn line_end(text: &[u8], from: usize) -> usize
+    requires { from < length text.now }
+    ensures later { from < result }
+    ensures within { result ≤ length text.now }
+{
+    for (i, byte) in text[from..].iter().enumerate() {
+        if *byte == b'\n' {
+            return from + i + 1;
+        }
+    }
+    text.len()
+}
+
+/// Writes the text, each line by one call that writes all of it.
+///
+/// After a fault the sink has a front part of the text.
+pub fn write_lines<O: Sink>(out: &mut O, text: &[u8]) -> Result<(), WriteFault>
+    ensures all { OnOk result (Appends (O.held out.old) (O.held out.new) text.now) }
+    ensures part { OnErr result (AppendsSome (O.held out.old) (O.held out.new) text.now) }
+    ensures cause { OnErr result (EitherRose (O.faults out.old) (O.faults out.new) (O.stalls out.old) (O.stalls out.new)) }
+    ensures faults { O.faults out.old ≤ O.faults out.new }
+    ensures stalls { O.stalls out.old ≤ O.stalls out.new }
+{
+    let mut from = 0;
+    while from < text.len() {
+        let end = line_end(text, from);
+        write_all(out, &text[from..end])?;
+        from = end;
+    }
+    Ok(())
+}

@@ -1,0 +1,47 @@
+//! The top call.
+
+ghost use Rattle.std.specs.Prelude.{◌≡◌, ◌≤◌, ◌⊎◌, map, string_bytes};
+ghost use Rattle.sharc_io.specs.Causes.{Rose, EitherRose};
+ghost use Rattle.sharc_top.specs.Reply.{IsRun, Replied, RepliedInPart};
+ghost use Rattle.sharc_top.specs.Status.{IsOfReply, IsOfSilence};
+
+use crate::reply::{Failure, Status, reply_to};
+use crate::text::write_lines;
+use sharc_io::{Sink, Source};
+use std::alloc::Global;
+
+/// Does what the words say with the input, writes the reply line by line, and answers the exit status.
+///
+/// 0: the program ran to its end. 2: the source is too long, or is refused. 7: its form is not built yet. 8: the words are no
+/// command. 9: reading failed. 10: writing failed or stalled, and a front part of the reply was written. 11: memory was wanting.
+pub fn sharc_top<S: Source, O: Sink>(
+    alloc: Global,
+    words: &[String],
+    input: &mut S,
+    out: &mut O,
+) -> u8
+    ensures status { IsOfReply result ⊎ (result ≡ 10) ⊎ IsOfSilence result }
+    ensures replied { IsOfReply result → Replied (map string_bytes words.now) (S.left input.old) (O.held out.old) (O.held out.new) result }
+
+    // The sink gave up, in the midst of a reply.
+    ensures cut_short { result ≡ 10 → RepliedInPart (map string_bytes words.now) (S.left input.old) (O.held out.old) (O.held out.new) }
+    ensures sink_failed { result ≡ 10 → EitherRose (O.faults out.old) (O.faults out.new) (O.stalls out.old) (O.stalls out.new) }
+
+    // The source failed, behind a command.
+    ensures source_failed { result ≡ 9 → Rose (S.faults input.old) (S.faults input.new) }
+    ensures source_read { result ≡ 9 → IsRun (map string_bytes words.now) }
+
+    ensures silent { IsOfSilence result → O.held out.new ≡ O.held out.old }
+    ensures source_faults { S.faults input.old ≤ S.faults input.new }
+    ensures sink_faults { O.faults out.old ≤ O.faults out.new }
+    ensures sink_stalls { O.stalls out.old ≤ O.stalls out.new }
+{
+    match reply_to(alloc, words, input) {
+        Ok(reply) => match write_lines(out, &reply.text) {
+            Ok(()) => reply.status.code(),
+            Err(_) => Status::WriteFault.code(),
+        },
+        Err(Failure::Source) => Status::ReadFault.code(),
+        Err(Failure::Memory) => Status::NoMemory.code(),
+    }
+}
