@@ -18,7 +18,7 @@ chosen : {A : Type 0} (b : Bool) (x y z : A) → cond b x y ≡ z → ((b ≡ tr
 chosen true x y z e = inl (refl, e)
 chosen false x y z e = inr (refl, e)
 
-of_len-len : (len : ℕ) (r : Result TokenKind Fault) (found : Lexeme) → of_len len r ≡ Ok found → found.len ≡ len
+pub of_len-len : (len : ℕ) (r : Result TokenKind Fault) (found : Lexeme) → of_len len r ≡ Ok found → found.len ≡ len
 of_len-len len (Ok k) found e = let same : found ≡ record { len = len; kind = k } = cc in ap (λ (x : Lexeme). x.len) same
 of_len-len len (Err f) found e = cc
 
@@ -34,7 +34,7 @@ run_token b bytes r found begins e =
     record { some = omega (arith, lies.0); within = omega (arith, lies.1) }
 
 -- a constant has 3 bytes, or 4 behind a backslash
-constant_len : (len : ℕ) (o : Option ℕ) (found : Lexeme) → option_map (constant len) o ≡ Some found → found.len ≡ len
+pub constant_len : (len : ℕ) (o : Option ℕ) (found : Lexeme) → option_map (constant len) o ≡ Some found → found.len ≡ len
 constant_len len None found e = cc
 constant_len len (Some b) found e = let same : found ≡ constant len b = cc in ap (λ (x : Lexeme). x.len) same
 
@@ -72,7 +72,7 @@ first_begun_lies (entry ∷ entries) bytes found full e =
       | inr h ↦ first_begun_lies entries bytes found parts.1 h.1
     ]
 
-ok_or_some : {A : Type 0} (o : Option A) (f : Fault) (x : A) → ok_or o f ≡ Ok x → o ≡ Some x
+pub ok_or_some : {A : Type 0} (o : Option A) (f : Fault) (x : A) → ok_or o f ≡ Ok x → o ≡ Some x
 ok_or_some None f x e = cc
 ok_or_some (Some y) f x e = cc
 

@@ -2,6 +2,7 @@ pub mod CoverLemmas
 pub mod FileLemmas
 pub mod LexemeLemmas
 pub mod LineLemmas
+pub mod LongestLemmas
 pub mod NumberLemmas
 pub mod PunctuatorLemmas
 pub mod ReadingLemmas

@@ -1,10 +1,16 @@
 -- Where the tokens of a source stand: in order, each the slice of its span, with white space and line markers alone between them.
-use Rattle.std.specs.Prelude.{◌≡◌, ℕ, ◌+◌, ◌-◌, ◌<◌, ◌≤◌, ◌==◌, ◌⊎◌, true, List, [], ◌∷◌, length, take, drop, slice_index, slice_range, All}
+use Rattle.std.specs.Prelude.{◌≡◌, ℕ, ◌+◌, ◌-◌, ◌<◌, ◌≤◌, ◌==◌, ◌⊎◌, Bool, true, List, [], ◌∷◌, length, take, drop, slice_index, slice_range, All, Contains, Some, Result, Ok}
 use Rattle.std.specs.List.{position_or_len}
 use Rattle.sharc_tree.specs.declared.token.Token.{Token}
 use Rattle.sharc_tree.specs.declared.token.Tokens.{Tokens}
-use Rattle.sharc_lex.specs.Bytes.{is_white_space}
+use Rattle.sharc_tree.specs.declared.token.TokenKind.{TokenKind}
+use Rattle.sharc_lex.specs.declared.fault.Fault.{Fault}
+use Rattle.sharc_lex.specs.declared.token_at.Lexeme.{Lexeme}
+use Rattle.sharc_lex.specs.Bytes.{is_white_space, is_letter, is_digit}
+use Rattle.sharc_lex.specs.Characters.{character}
 use Rattle.sharc_lex.specs.Markers.{is_marker_line}
+use Rattle.sharc_lex.specs.Punctuators.{punctuators}
+use Rattle.sharc_lex.specs.TokenAt.{LiesIn, word_at, number_at}
 
 -- the bytes from an offset up to the next newline
 abbrev pub line_at : List ℕ → ℕ → List ℕ
@@ -44,3 +50,22 @@ pub record AreTokensOf (source : List ℕ) (tokens : Tokens) : Type 0 where
   pub files : All (λ t. t.file < length tokens.files) tokens.list
   pub end_file : tokens.end.file < length tokens.files
   pub end_token : tokens.end.token ≡ length tokens.list
+
+-- a text that is a word, a number or a character constant as a whole, and what it is
+abbrev pub IsRun : (ℕ → Bool) → (List ℕ → Result Lexeme Fault) → List ℕ → TokenKind → Type 0
+IsRun begins read [] kind = ⊥
+IsRun begins read (b ∷ bytes) kind = (begins b ≡ true) × (read (b ∷ bytes) ≡ Ok (record { len = length (b ∷ bytes); kind = kind }))
+
+abbrev pub IsConstant : List ℕ → TokenKind → Type 0
+IsConstant [] kind = ⊥
+IsConstant (b ∷ bytes) kind = (b ≡ 39) × (character bytes ≡ Some (record { len = length (b ∷ bytes); kind = kind }))
+
+-- The texts that are tokens: keywords, left-out words and names; numbers; character constants; and the punctuators of the tables.
+abbrev pub IsToken : List ℕ → TokenKind → Type 0
+IsToken text kind = IsRun is_letter word_at text kind ⊎ (IsRun is_digit number_at text kind ⊎ (IsConstant text kind ⊎ Contains punctuators (text, kind)))
+
+-- a token at the front of the bytes, with no longer one there
+pub record IsLongest (bytes : List ℕ) (found : Lexeme) : Type 0 where
+  pub lies : LiesIn bytes found
+  pub token : IsToken (take found.len bytes) found.kind
+  pub longest : (n : ℕ) (kind : TokenKind) → found.len < n → n ≤ length bytes → IsToken (take n bytes) kind → ⊥

@@ -87,6 +87,9 @@ first_begun (entry ∷ entries) bytes =
     if starts_with nat_eq bytes entry.0 then Some (record { len = length entry.0; kind = entry.1 })
     else first_begun entries bytes
 
--- the longer texts stand first, so that the first is the longest
+-- all of them; the longer texts stand first, so that the first that the bytes begin with is the longest
+abbrev pub punctuators : List (List ℕ × TokenKind)
+punctuators = quadruples ++ triples ++ pairs ++ singles
+
 abbrev pub punctuator : List ℕ → Option Lexeme
-punctuator bytes = first_begun (quadruples ++ triples ++ pairs ++ singles) bytes
+punctuator bytes = first_begun punctuators bytes

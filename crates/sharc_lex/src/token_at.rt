@@ -1,6 +1,7 @@
 //! What token stands where a byte begins it.
 
 ghost use Rattle.std.specs.Prelude.{◌≡◌, ◌∷◌, IfOk};
+ghost use Rattle.sharc_lex.specs.Laws.{IsLongest};
 ghost use Rattle.sharc_lex.specs.TokenAt.{LiesIn, word_at, number_at, token_at};
 
 use crate::bytes::{is_digit, is_letter, word_len};
@@ -47,6 +48,7 @@ pub fn token_at(first: u8, others: &[u8], bytes: &[u8]) -> Result<Lexeme, Fault>
     requires { bytes.now ≡ first ∷ others.now }
     ensures token { result ≡ token_at first others.now }
     ensures lies { IfOk result (LiesIn bytes.now) }
+    ensures longest { IfOk result (IsLongest bytes.now) }
 {
     if is_letter(first) {
         word_at(bytes)
