@@ -3,7 +3,6 @@ use Rattle.std.proofs.Common.{ℕ, ◌≡◌, ◌≤◌, ◌<◌, ◌+◌, ◌-�
 use Rattle.std.proofs.lemmas.List.{take-take}
 use Rattle.std.specs.Io.KnownBytes.{Appends}
 use Rattle.sharc_io.proofs.Parts.{appends_front_more}
-use Rattle.sharc_top.specs.Text.{AppendsSome}
 
 -- one more line of a text, behind those before it
 pub appends_line : (a b c : Option (List ℕ)) (text : List ℕ) (from end : ℕ) → from ≤ end
@@ -14,14 +13,10 @@ appends_line a b c text from end h before more =
     subst P e (appends_front_more a b c text from (end - from) before more)
 
 -- a front part of one more line
-pub appends_part : (a b c : Option (List ℕ)) (text : List ℕ) (from end count : ℕ) → end ≤ length text → from ≤ end
+pub appends_part : (a b c : Option (List ℕ)) (text : List ℕ) (from end count : ℕ) → from ≤ end
     → count < length (take (end - from) (drop from text))
-    → Appends a b (take from text) → Appends b c (take count (take (end - from) (drop from text))) → AppendsSome a c text
-appends_part a b c text from end count within h short before more =
+    → Appends a b (take from text) → Appends b c (take count (take (end - from) (drop from text))) → Appends a c (take (from + count) text)
+appends_part a b c text from end count h short before more =
     let l : length (take (end - from) (drop from text)) ≤ end - from = omega (arith, length-take (end - from) (drop from text)) in
     let e : take count (take (end - from) (drop from text)) ≡ take count (drop from text) = take-take count (end - from) (drop from text) (omega arith) in
-    record {
-      count = from + count;
-      within = omega arith;
-      appended = appends_front_more a b c text from count before (subst (Appends b c) e more);
-    }
+    appends_front_more a b c text from count before (subst (Appends b c) e more)

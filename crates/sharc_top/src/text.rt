@@ -1,9 +1,9 @@
 //! Text that is written: its lines, and writing it line by line.
 
-ghost use Rattle.std.specs.Prelude.{◌≡◌, ◌+◌, ◌∷◌, ◌++◌, ◌<◌, ◌≤◌, [], ℕ, List, length, take, drop, decimal, flat_map, IfOk, OnOk, OnErr};
+ghost use Rattle.std.specs.Prelude.{◌≡◌, ◌+◌, ◌∷◌, ◌++◌, ◌<◌, ◌≤◌, [], ℕ, List, length, take, drop, decimal, flat_map, IfOk, IfErr, OnOk, OnErr};
 ghost use Rattle.std.specs.Io.KnownBytes.{Appends};
 ghost use Rattle.sharc_io.specs.Causes.{EitherRose};
-ghost use Rattle.sharc_top.specs.Text.{line, numbers_text, AppendsSome};
+ghost use Rattle.sharc_top.specs.Text.{line, numbers_text};
 
 use itoa::Buffer;
 use sharc_io::{Sink, WriteFault, write_all};
@@ -38,10 +38,11 @@ fn line_end(text: &[u8], from: usize) -> usize
 
 /// Writes the text, each line by one call that writes all of it.
 ///
-/// After a fault the sink has a front part of the text.
+/// After a fault the sink has as many bytes of the text as the fault says.
 pub fn write_lines<O: Sink>(out: &mut O, text: &[u8]) -> Result<(), WriteFault>
     ensures all { OnOk result (Appends (O.held out.old) (O.held out.new) text.now) }
-    ensures part { OnErr result (AppendsSome (O.held out.old) (O.held out.new) text.now) }
+    ensures part { IfErr result (λ fault. Appends (O.held out.old) (O.held out.new) (take fault.written text.now)) }
+    ensures short { IfErr result (λ fault. fault.written < length text.now) }
     ensures cause { OnErr result (EitherRose (O.faults out.old) (O.faults out.new) (O.stalls out.old) (O.stalls out.new)) }
     ensures faults { O.faults out.old ≤ O.faults out.new }
     ensures stalls { O.stalls out.old ≤ O.stalls out.new }
@@ -49,7 +50,11 @@ pub fn write_lines<O: Sink>(out: &mut O, text: &[u8]) -> Result<(), WriteFault>
     let mut from = 0;
     while from < text.len() {
         let end = line_end(text, from);
-        write_all(out, &text[from..end])?;
+        if let Err(fault) = write_all(out, &text[from..end]) {
+            return Err(WriteFault {
+                written: from + fault.written,
+            });
+        }
         from = end;
     }
     Ok(())
