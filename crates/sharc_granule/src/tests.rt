@@ -2,6 +2,7 @@
 
 use super::*;
 use sharc_word::{WordOp, WordStep};
+use std::process::Abort;
 
 fn asked(word: u32, op: WordOp) -> NewTurn {
     NewTurn::Do(WordStep { word, op })
@@ -63,4 +64,35 @@ fn takes_from_the_own_list(rt: HostRuntime) {
     assert_eq!(rt; state.next(0), asked(113, WordOp::Swap(1)));
     assert_eq!(rt; state.next(12), NewTurn::Made(6));
     assert_eq!(rt; state.head(), 12);
+}
+
+// A New of an object of one cell, whose list begins with granule 6 and goes on with granule 8.
+fn takes_a_small_block(rt: &impl Abort) {
+    let mut state = NewState::new(1, 1, 20, 100, 6);
+    assert_eq!(rt; state.next(0), asked(113, WordOp::Load));
+    assert_eq!(rt; state.next(8), asked(114, WordOp::Swap(0)));
+    assert_eq!(rt; state.next(9), asked(112, WordOp::Swap(1)));
+    assert_eq!(rt; state.next(0), asked(113, WordOp::Swap(1)));
+    assert_eq!(rt; state.next(8), NewTurn::Made(6));
+    assert_eq!(rt; state.head(), 8);
+}
+
+// A New of an object of three cells, whose list is granule 12 alone.
+fn takes_a_large_block(rt: &impl Abort) {
+    let mut state = NewState::new(3, 3, 20, 100, 12);
+    assert_eq!(rt; state.next(0), asked(125, WordOp::Load));
+    assert_eq!(rt; state.next(0), asked(126, WordOp::Swap(0)));
+    assert_eq!(rt; state.next(7), asked(127, WordOp::Swap(0)));
+    assert_eq!(rt; state.next(7), asked(128, WordOp::Swap(0)));
+    assert_eq!(rt; state.next(7), asked(124, WordOp::Swap(1)));
+    assert_eq!(rt; state.next(0), asked(125, WordOp::Swap(3)));
+    assert_eq!(rt; state.next(0), NewTurn::Made(12));
+    assert_eq!(rt; state.head(), 0);
+}
+
+#[test]
+fn lists_of_two_sizes_are_used_in_either_order(rt: HostRuntime) {
+    takes_a_small_block(&rt);
+    takes_a_large_block(&rt);
+    takes_a_small_block(&rt);
 }
