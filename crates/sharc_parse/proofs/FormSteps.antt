@@ -1,0 +1,76 @@
+-- The machine's steps over what follows the name of a global.
+use Rattle.std.proofs.Common.{◌≡◌, ℕ, List, [], ◌∷◌, None, refl, ap, true, false}
+use Rattle.sharc_tree.specs.declared.token.Number.{Number}
+use Rattle.sharc_tree.specs.declared.token.Keyword.TheVariants as key
+use Rattle.sharc_tree.specs.declared.token.Punctuator.TheVariants.{OpenParenthesis, OpenBracket, CloseBracket, Semicolon, Assign, Minus}
+use Rattle.sharc_tree.specs.declared.tree.Constant.{Constant}
+use Rattle.sharc_tree.specs.declared.tree.Constant.TheVariants as constants
+use Rattle.sharc_grammar.specs.Grammar.{Word, keyword, mark, number, character, constant_word, Typing, Declaring, single, array, initially, Part}
+use Rattle.sharc_grammar.specs.Machine.{on_top, Named, ArrayWant, InitialWant, InitialNegative, Top, a_semicolon, a_bracket, At, declaring_of, named_top, initial_want}
+use Rattle.sharc_grammar.specs.Limits.{StuckAt, next_within, reads_within}
+use Rattle.sharc_parse.specs.Goes.{NotAt, NoConstant}
+use Rattle.sharc_parse.specs.Forms.{NoNumber, IsSigned, NoSigned, with_form}
+
+pub array_number : (all : List Part) (d : Declaring) (n : Number) (y : List Word) → reads_within (number n ∷ y) (At [] (ArrayWant all d)) ≡ reads_within y (At (a_bracket ∷ (a_semicolon ∷ [])) (Top (with_form all d (array n))))
+array_number all d n y = refl
+
+pub no_number : (all : List Part) (d : Declaring) (ts : List Word) → NoNumber ts → reads_within ts (At [] (ArrayWant all d)) ≡ StuckAt ts
+no_number all d [] h = refl
+no_number all d (number n ∷ y) h = absurd h
+no_number all d (_ ∷ y) h = refl
+
+pub array_ends : (all : List Part) (y : List Word) → reads_within (mark CloseBracket ∷ y) (At (a_bracket ∷ (a_semicolon ∷ [])) (Top all)) ≡ reads_within y (At (a_semicolon ∷ []) (Top all))
+array_ends all y = refl
+
+pub form_ends : (all : List Part) (y : List Word) → reads_within (mark Semicolon ∷ y) (At (a_semicolon ∷ []) (Top all)) ≡ reads_within y (At [] (Top all))
+form_ends all y = refl
+
+pub minus_goes : (all : List Part) (d : Declaring) (y : List Word) → reads_within (mark Minus ∷ y) (At [] (InitialWant all d)) ≡ reads_within y (At [] (InitialNegative all d))
+minus_goes all d y = refl
+
+pub signed_goes : (all : List Part) (d : Declaring) (c : Constant) (y : List Word) → IsSigned c → reads_within (constant_word c ∷ y) (At [] (InitialNegative all d)) ≡ reads_within y (At (a_semicolon ∷ []) (Top (with_form all d (initially true c))))
+signed_goes all d (constants.Number n) y h = refl
+signed_goes all d (constants.Character c) y h = refl
+signed_goes all d constants.Null y h = absurd h
+
+pub no_signed : (all : List Part) (d : Declaring) (ts : List Word) → NoSigned ts → reads_within ts (At [] (InitialNegative all d)) ≡ StuckAt ts
+no_signed all d [] h = refl
+no_signed all d (number n ∷ y) h = absurd h
+no_signed all d (character n ∷ y) h = absurd h
+no_signed all d (_ ∷ y) h = refl
+
+pub constant_goes : (all : List Part) (d : Declaring) (c : Constant) (y : List Word) → reads_within (constant_word c ∷ y) (At [] (InitialWant all d)) ≡ reads_within y (At (a_semicolon ∷ []) (Top (with_form all d (initially false c))))
+constant_goes all d (constants.Number n) y = refl
+constant_goes all d (constants.Character c) y = refl
+constant_goes all d constants.Null y = refl
+
+no_constant_step : (all : List Part) (d : Declaring) (t : Word) → (t ≡ mark Minus → ⊥) → ((c : Constant) → t ≡ constant_word c → ⊥) → initial_want all d t ≡ None
+no_constant_step all d (mark Minus) m h = absurd (m refl)
+no_constant_step all d (number n) m h = absurd (h (constants.Number n) refl)
+no_constant_step all d (character n) m h = absurd (h (constants.Character n) refl)
+no_constant_step all d (keyword key.Null) m h = absurd (h constants.Null refl)
+no_constant_step all d _ m h = refl
+
+pub no_constant : (all : List Part) (d : Declaring) (ts : List Word) → NotAt (mark Minus) ts → NoConstant ts → reads_within ts (At [] (InitialWant all d)) ≡ StuckAt ts
+no_constant all d [] m h = refl
+no_constant all d (t ∷ y) m h = ap (λ o. next_within o (λ s. reads_within y s) (t ∷ y)) (no_constant_step all d t m h)
+
+pub single_goes : (all : List Part) (t : Typing) (n : List ℕ) (y : List Word) → reads_within (mark Semicolon ∷ y) (At [] (Named (on_top all) t n)) ≡ reads_within y (At [] (Top (with_form all (declaring_of t n) single)))
+single_goes all t n y = refl
+
+pub array_goes : (all : List Part) (t : Typing) (n : List ℕ) (y : List Word) → reads_within (mark OpenBracket ∷ y) (At [] (Named (on_top all) t n)) ≡ reads_within y (At [] (ArrayWant all (declaring_of t n)))
+array_goes all t n y = refl
+
+pub initial_goes : (all : List Part) (t : Typing) (n : List ℕ) (y : List Word) → reads_within (mark Assign ∷ y) (At [] (Named (on_top all) t n)) ≡ reads_within y (At [] (InitialWant all (declaring_of t n)))
+initial_goes all t n y = refl
+
+no_form_step : (all : List Part) (t : Typing) (n : List ℕ) (u : Word) → (u ≡ mark Semicolon → ⊥) → (u ≡ mark OpenBracket → ⊥) → (u ≡ mark Assign → ⊥) → (u ≡ mark OpenParenthesis → ⊥) → named_top all t n u ≡ None
+no_form_step all t n (mark Semicolon) a b c d = absurd (a refl)
+no_form_step all t n (mark OpenBracket) a b c d = absurd (b refl)
+no_form_step all t n (mark Assign) a b c d = absurd (c refl)
+no_form_step all t n (mark OpenParenthesis) a b c d = absurd (d refl)
+no_form_step all t n _ a b c d = refl
+
+pub no_form : (all : List Part) (t : Typing) (n : List ℕ) (ts : List Word) → NotAt (mark Semicolon) ts → NotAt (mark OpenBracket) ts → NotAt (mark Assign) ts → NotAt (mark OpenParenthesis) ts → reads_within ts (At [] (Named (on_top all) t n)) ≡ StuckAt ts
+no_form all t n [] a b c d = refl
+no_form all t n (u ∷ y) a b c d = ap (λ o. next_within o (λ s. reads_within y s) (u ∷ y)) (no_form_step all t n u a b c d)

@@ -1,0 +1,15 @@
+pub mod Steps
+pub mod TypeSteps
+pub mod RightSteps
+pub mod SimpleSteps
+pub mod LocalSteps
+pub mod LineSteps
+pub mod HeadSteps
+pub mod WordSteps
+pub mod FormSteps
+pub mod PlainSteps
+pub mod FieldSteps
+pub mod NestedSteps
+pub mod ParameterSteps
+pub mod ItemSteps
+pub mod ProgramSteps

@@ -1,0 +1,64 @@
+-- The machine's steps over statements that hold no other.
+use Rattle.std.proofs.Common.{◌≡◌, ℕ, inl, inr, ◌+◌, ◌<◌, List, [], ◌∷◌, sym, ap, ◌∙◌, arith, Bool, true, false}
+use Rattle.std.specs.Prelude.{◌==◌, ◌⊎◌, ◌≢◌}
+use Rattle.std.proofs.lemmas.Bool.Decides.{eqb_tells}
+use Rattle.std.proofs.lemmas.Bool.{lt-leb, le-leb}
+use Rattle.sharc_tree.specs.declared.token.Punctuator.TheVariants.{Semicolon}
+use Rattle.sharc_tree.specs.declared.tree.Jump.{Jump}
+use Rattle.sharc_grammar.specs.Grammar.{Word, mark, jump}
+use Rattle.sharc_grammar.specs.Machine.{Outer, as_statement, Done, a_semicolon, At, holds_items, may_declare}
+use Rattle.sharc_grammar.specs.Limits.{reads_within, around_it, crowded_line}
+use Rattle.std.proofs.Common.{Option, subst}
+use Rattle.std.specs.Prelude.{Result, Ok, Err}
+use Rattle.sharc_tree.specs.Tree as tree
+use Rattle.sharc_tree.specs.View.{view_expr, view_option, view_stmt}
+use Rattle.sharc_tree.specs.declared.token.Token.{Token}
+use Rattle.sharc_tree.specs.declared.token.Site.{Site}
+use Rattle.sharc_tree.specs.declared.token.Span.{Span}
+use Rattle.sharc_tree.specs.declared.tree.Expr.{Expr}
+use Rattle.sharc_tree.specs.declared.tree.Stmt.{Stmt}
+use Rattle.sharc_grammar.specs.Places.{site_in, option_size, option_at, span_at, statement_at, sentence_size}
+use Rattle.sharc_parse.specs.declared.token.Fault.{Fault}
+use Rattle.sharc_parse.specs.declared.token.Fault.TheVariants.{Memory, Wrong, Deep}
+use Rattle.sharc_parse.specs.Rights.{option_of}
+use Rattle.sharc_parse.specs.Heads.{by_return, ReadsTail, IsTailPlaced}
+use Rattle.sharc_parse.specs.Statements.{bare_statement, sentence_of, BuildsStatement, ReadsReturn, IsRestPlaced}
+use Rattle.sharc_parse.proofs.Steps.{fixed_goes}
+
+pub line_may : (o : Outer) (may : Bool) → holds_items o ≡ may → may_declare as_statement o ≡ may
+line_may o may e = e
+
+room_case : (o : Outer) (room : ℕ) → around_it o + room ≡ 64 → (((room == 0) ≡ true) × (room ≡ 0)) ⊎ (((room == 0) ≡ false) × (room ≢ 0)) → crowded_line as_statement o ≡ (room == 0)
+room_case o room e (inl h) = le-leb 64 (around_it o) (omega (arith, e, h.1)) ∙ sym h.0
+room_case o room e (inr h) = lt-leb 64 (around_it o) (omega (arith, e, h.1)) ∙ sym h.0
+
+-- where there is no room a line is crowded
+pub line_room : (o : Outer) (room : ℕ) → around_it o + room ≡ 64 → crowded_line as_statement o ≡ (room == 0)
+line_room o room e = room_case o room e (eqb_tells room 0)
+
+pub jump_ends : (j : Jump) (o : Outer) (y : List Word) → around_it o < 64 → reads_within (mark Semicolon ∷ y) (At (a_semicolon ∷ []) (Done (jump j) o)) ≡ reads_within y (At [] (Done (jump j) o))
+jump_ends j o y h = fixed_goes a_semicolon [] (Done (jump j) o) y (lt-leb 64 (around_it o) h)
+
+pub return_wrong : (e : Fault) (old new : List Word) → ReadsTail (Err e) old new → ReadsReturn (Err e) old new
+return_wrong Wrong old new t = λ o. t by_return o
+return_wrong Deep old new t = λ o. t by_return o
+return_wrong Memory old new t = λ o. tt
+
+pub return_reads : (result : Result Stmt Fault) (sp : Span) (x : Option Expr) (old new : List Word) → BuildsStatement result (tree.return sp (view_option view_expr x)) → ReadsTail (Ok x) old new → ReadsReturn result old new
+return_reads (Ok s) sp x old new b t = λ o. t by_return o ∙ ap (λ v. reads_within new (At [] (Done (bare_statement v) o))) (sym b)
+return_reads (Err Memory) sp x old new b t = λ o. tt
+return_reads (Err Wrong) sp x old new b t = absurd b
+return_reads (Err Deep) sp x old new b t = absurd b
+
+over_statement : (s : ℕ → Site) (n : ℕ) (v w : tree.Statement) → v ≡ w → w ≡ statement_at s n (bare_statement w) → v ≡ statement_at s n (bare_statement v)
+over_statement s n v w e h = subst (λ v. v ≡ statement_at s n (bare_statement v)) (sym e) h
+
+-- its first word has the number before the old place
+pub return_placed : (result : Result Stmt Fault) (tokens : List Token) (n old new : ℕ) (sp : Span) (x : Option Expr) → BuildsStatement result (tree.return sp (view_option view_expr x)) → old ≡ n + 1 → ((length : ℕ) → new ≡ n + length → sp ≡ span_at (site_in tokens) n length) → IsTailPlaced (Ok x) tokens old new → IsRestPlaced result tokens old new
+return_placed (Ok s) tokens n old new sp x b h span t = λ m e.
+    let same : n ≡ m = omega (arith, e, h) in
+    let stands = over_statement (site_in tokens) n (view_stmt s) (tree.return sp (view_option view_expr x)) b
+    (ap (λ z. tree.return z (view_option view_expr x)) (span (option_size (option_of x) + 2) (omega (arith, h, t.1)))
+    ∙ ap (tree.return (span_at (site_in tokens) n (option_size (option_of x) + 2))) (t.0 ∙ ap (λ i. option_at (site_in tokens) i (option_of x)) h)) in
+    (stands ∙ ap (λ i. statement_at (site_in tokens) i (sentence_of s)) same, omega (arith, h, t.1, same, ap (λ v. sentence_size (bare_statement v)) b))
+return_placed (Err x) tokens n old new sp y b h span t = tt

@@ -1,0 +1,107 @@
+-- The machine's steps over what stands right of `=`.
+use Rattle.std.proofs.Common.{◌≡◌, ◌≤◌, ◌<◌, List, [], ◌∷◌, Option, Some, None, refl, ap, arith, Bool, false}
+use Rattle.std.specs.Prelude.{map, Ok}
+use Rattle.sharc_tree.specs.declared.token.Keyword.TheVariants as key
+use Rattle.sharc_tree.specs.declared.token.Punctuator.TheVariants.{OpenParenthesis, CloseParenthesis, OpenBrace, OpenBracket, Dot, Arrow, Comma, Star}
+use Rattle.sharc_tree.specs.declared.ctype.Base.{Base}
+use Rattle.sharc_tree.specs.declared.tree.WrittenType.{WrittenType}
+use Rattle.sharc_grammar.specs.Grammar.{Word, name, keyword, mark, Sharing, Typing, Phrase, Value, value, malloc}
+use Rattle.sharc_grammar.specs.Machine.{Outer, ValuePlace, Place, part, valued, counting, Want, Have, Malloced, Valued, TypeWant, sizing, an_open, a_close, a_sizeof, At, Role, Calling, Indexing, Accessing, Operating, Ending, role, grip_of, grip, have, leave, typed, level_step}
+use Rattle.sharc_grammar.specs.Limits.{StuckAt, next_within, reads_within}
+use Rattle.sharc_parse.specs.View.{bare_level, bare_type}
+use Rattle.sharc_parse.specs.Goes.{NotAt}
+use Rattle.sharc_parse.specs.Types.{EndsLevels, EndsType, typed_levels, typed_state}
+use Rattle.sharc_parse.specs.Rights.{EndsValue, valued_state, value_within}
+use Rattle.sharc_parse.proofs.Steps.{some_strength}
+
+pub malloc_goes : (v : ValuePlace) (o : Outer) (y : List Word) → reads_within (keyword key.Malloc ∷ y) (At [] (Want (part (valued v) o))) ≡ reads_within y (At (an_open ∷ []) (Malloced v o))
+malloc_goes v o y = refl
+
+pub malloc_opens : (v : ValuePlace) (o : Outer) (y : List Word) → reads_within (mark OpenParenthesis ∷ y) (At (an_open ∷ []) (Malloced v o)) ≡ reads_within y (At [] (Malloced v o))
+malloc_opens v o y = refl
+
+-- counts
+
+pub count_begins : (v : ValuePlace) (o : Outer) (ts : List Word) → NotAt (keyword key.Sizeof) ts → reads_within ts (At [] (Malloced v o)) ≡ reads_within ts (At [] (Want (part (counting v) o)))
+count_begins v o [] h = refl
+count_begins v o (keyword key.Sizeof ∷ y) h = absurd (h refl)
+count_begins v o (_ ∷ y) h = refl
+
+pub sizeof_goes : (v : ValuePlace) (o : Outer) (y : List Word) → reads_within (keyword key.Sizeof ∷ y) (At [] (Malloced v o)) ≡ reads_within y (At (an_open ∷ []) (TypeWant (sizing v None o)))
+sizeof_goes v o y = refl
+
+pub count_goes : (v : ValuePlace) (o : Outer) (x : Phrase) (y : List Word) → reads_within (mark Star ∷ y) (At [] (Have x (part (counting v) o))) ≡ reads_within y (At (a_sizeof ∷ (an_open ∷ [])) (TypeWant (sizing v (Some x) o)))
+count_goes v o x y = refl
+
+pub count_sizes : (v : ValuePlace) (o : Outer) (n : Option Phrase) (y : List Word) → reads_within (keyword key.Sizeof ∷ y) (At (a_sizeof ∷ (an_open ∷ [])) (TypeWant (sizing v n o))) ≡ reads_within y (At (an_open ∷ []) (TypeWant (sizing v n o)))
+count_sizes v o n y = refl
+
+count_word : (v : ValuePlace) (o : Outer) (x : Phrase) (t : Word) → grip_of (role t) ≤ 11 → (t ≡ mark Star → ⊥) → have (role t) x (part (counting v) o) t ≡ None
+count_word v o x (mark Star) g s = absurd (s refl)
+count_word v o x (mark OpenParenthesis) g s = absurd (omega (arith, g))
+count_word v o x (mark OpenBracket) g s = absurd (omega (arith, g))
+count_word v o x (mark Dot) g s = absurd (omega (arith, g))
+count_word v o x (mark Arrow) g s = absurd (omega (arith, g))
+count_word v o x _ g s = refl
+
+-- the `*` is missing
+pub count_stuck : (v : ValuePlace) (o : Outer) (x : Phrase) (ts : List Word) → grip ts ≤ 11 → NotAt (mark Star) ts → reads_within ts (At [] (Have x (part (counting v) o))) ≡ StuckAt ts
+count_stuck v o x [] g s = refl
+count_stuck v o x (t ∷ y) g s = ap (λ n. next_within n (λ s. reads_within y s) (t ∷ y)) (count_word v o x t g s)
+
+-- what `sizeof` takes
+
+pub size_opens : (v : ValuePlace) (o : Outer) (n : Option Phrase) (y : List Word) → reads_within (mark OpenParenthesis ∷ y) (At (an_open ∷ []) (TypeWant (sizing v n o))) ≡ reads_within y (At [] (TypeWant (sizing v n o)))
+size_opens v o n y = refl
+
+abbrev typing_with : Bool → Base → List (Option Sharing) → Typing
+typing_with first b levels = record { mode_first = first; base = b; levels = levels }
+
+closes_levels : (v : ValuePlace) (o : Outer) (n : Option Phrase) (first : Bool) (b : Base) (levels : List (Option Sharing)) (y all : List Word) → EndsLevels false levels all → reads_within (mark CloseParenthesis ∷ y) (typed_levels (sizing v n o) first b levels) ≡ reads_within y (At (a_close ∷ []) (Valued v (malloc n (typing_with first b levels)) o))
+closes_levels v o n first b [] y all e = absurd e
+closes_levels v o n first b (m ∷ below) y all e = refl
+
+pub size_closes : (v : ValuePlace) (o : Outer) (n : Option Phrase) (t : WrittenType) (y all : List Word) → EndsType false (Ok t) all → reads_within (mark CloseParenthesis ∷ y) (typed_state (sizing v n o) (bare_type t)) ≡ reads_within y (At (a_close ∷ []) (Valued v (malloc n (bare_type t)) o))
+size_closes v o n t y all e = closes_levels v o n t.mode_first t.ctype.base (map bare_level t.ctype.levels) y all e
+
+no_mode_there : (v : ValuePlace) (o : Outer) (n : Option Phrase) (first : Bool) (b : Base) (m : Option Sharing) (below : List (Option Sharing)) (t : Word) → level_step (sizing v n o) first b m below t ≡ None
+no_mode_there v o n first b None below t = refl
+no_mode_there v o n first b (Some s) below t = refl
+
+size_ends : (v : ValuePlace) (o : Outer) (n : Option Phrase) (first : Bool) (b : Base) (m : Option Sharing) (below : List (Option Sharing)) (t : Word) → (t ≡ mark Star → ⊥) → (t ≡ mark CloseParenthesis → ⊥) → typed (sizing v n o) first b m below t ≡ None
+size_ends v o n first b m below (mark Star) s c = absurd (s refl)
+size_ends v o n first b m below (name x) s c = refl
+size_ends v o n first b m below (mark Comma) s c = refl
+size_ends v o n first b m below (mark CloseParenthesis) s c = absurd (c refl)
+size_ends v o n first b m below (mark OpenBrace) s c = refl
+size_ends v o n first b m below t s c = no_mode_there v o n first b m below t
+
+stuck_levels : (v : ValuePlace) (o : Outer) (n : Option Phrase) (first : Bool) (b : Base) (levels : List (Option Sharing)) (ts : List Word) → EndsLevels false levels ts → NotAt (mark CloseParenthesis) ts → reads_within ts (typed_levels (sizing v n o) first b levels) ≡ StuckAt ts
+stuck_levels v o n first b [] ts e c = absurd e
+stuck_levels v o n first b (m ∷ below) [] e c = refl
+stuck_levels v o n first b (m ∷ below) (t ∷ y) e c = ap (λ o. next_within o (λ s. reads_within y s) (t ∷ y)) (size_ends v o n first b m below t e.1 c)
+
+-- the first `)` is missing
+pub size_stuck : (v : ValuePlace) (o : Outer) (n : Option Phrase) (t : WrittenType) (ts : List Word) → EndsType false (Ok t) ts → NotAt (mark CloseParenthesis) ts → reads_within ts (typed_state (sizing v n o) (bare_type t)) ≡ StuckAt ts
+size_stuck v o n t ts e c = stuck_levels v o n t.mode_first t.ctype.base (map bare_level t.ctype.levels) ts e c
+
+pub malloc_closes : (v : ValuePlace) (o : Outer) (r : Value) (y : List Word) → reads_within (mark CloseParenthesis ∷ y) (At (a_close ∷ []) (Valued v r o)) ≡ reads_within y (At [] (Valued v r o))
+malloc_closes v o r y = refl
+
+-- the end of a value
+
+ending_role : (r : Role) (p : Place) (o : Outer) (x : Phrase) (t : Word) → grip_of r < 1 → have r x (part p o) t ≡ leave p x o t
+ending_role Calling p o x t g = absurd (omega (arith, g))
+ending_role Indexing p o x t g = absurd (omega (arith, g))
+ending_role (Accessing a) p o x t g = absurd (omega (arith, g))
+ending_role (Operating b) p o x t g = absurd (omega (arith, g, some_strength b))
+ending_role Ending p o x t g = refl
+
+pub ends_place : (p : Place) (o : Outer) (x : Phrase) (t : Word) (y : List Word) → grip (t ∷ y) < 1 → reads_within (t ∷ y) (At [] (Have x (part p o))) ≡ next_within (leave p x o t) (λ s. reads_within y s) (t ∷ y)
+ends_place p o x t y g = ap (λ n. next_within n (λ s. reads_within y s) (t ∷ y)) (ending_role (role t) p o x t g)
+
+pub value_ends : (v : ValuePlace) (o : Outer) (r : Value) (ts : List Word) → EndsValue r ts → reads_within ts (valued_state v o r) ≡ value_within v r o ts
+value_ends v o (value x) [] e = refl
+value_ends v o (value x) (t ∷ y) e = ends_place (valued v) o x t y e
+value_ends v o (malloc n t) [] e = refl
+value_ends v o (malloc n t) (u ∷ y) e = refl

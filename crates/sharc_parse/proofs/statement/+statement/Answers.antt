@@ -1,0 +1,100 @@
+use Rattle.std.proofs.Common.{rules, ◌≡◌, ◌<◌, ◌+◌, ◌-◌, arith, sym, subst}
+use Rattle.std.specs.Prelude.{Ok, Err, true, Vec}
+use Rattle.std.proofs.Common.{◌≡◌, Global}
+use Rattle.sharc_tree.specs.declared.tree.Stmt.{Stmt}
+use Rattle.sharc_tree.specs.Tree.{if_then, if_then_else, while, for}
+use Rattle.sharc_tree.specs.View.{view_expr, view_stmt, view_head}
+use Rattle.sharc_tree.specs.declared.token.Punctuator.TheVariants.{OpenBrace}
+use Rattle.sharc_grammar.specs.Grammar.{mark, for_of}
+use Rattle.sharc_grammar.specs.Places.{site_in, size, sentence_size, opening_size, expression_at, statement_at}
+use Rattle.sharc_parse.specs.View.{phrase_of}
+use Rattle.sharc_parse.specs.Goes.{from, Past}
+use Rattle.sharc_parse.specs.Heads.{head_of}
+use Rattle.sharc_parse.specs.Statements.{sentence_of, ReadsStatement}
+use Rattle.sharc_parse.proofs.NestedSteps.{rest_placed, if_stands, else_stands, while_stands, for_stands, block_wrong, block_reads, one_statement_more}
+use Rattle.sharc_parse.proofs.statement.+statement.Goals as goal
+
+pub rest_of_if-returns-clause-placed : goal.rest_of_if-returns-clause-placed
+rest_of_if-returns-clause-placed t c =
+    let n = c.args.at.now - 1 in
+    let behind : c.args.at.now ≡ n + 1 = omega (arith, c.requires.behind) in
+    let e = c.in_ok-test.ensures.placed in
+    let a = c.in_ok-then.ensures.placed in
+    let stays : c.take_keyword.new.at ≡ c.statement.new.at = search rules in
+    let all : c.take_keyword.new.at ≡ n + (size (phrase_of c.in_ok-test.test) + 3 + sentence_size (sentence_of c.in_ok-then.then)) = omega (arith, behind, e.1, a.1, stays) in
+    rest_placed c.if_of.result c.args.tokens.now n c.args.at.now c.take_keyword.new.at (if_then c.span-2.result (view_expr c.in_ok-test.test) (view_stmt c.in_ok-then.then)) c.if_of.ensures behind
+    (if_stands (site_in c.args.tokens.now) n c.condition.new.at c.span-2.result (view_expr c.in_ok-test.test) (view_stmt c.in_ok-then.then)
+    (c.span-2.ensures (size (phrase_of c.in_ok-test.test) + 3 + sentence_size (sentence_of c.in_ok-then.then)) all)
+    (subst (λ i. view_expr c.in_ok-test.test ≡ expression_at (site_in c.args.tokens.now) i (phrase_of c.in_ok-test.test)) (omega (arith, behind)) e.0)
+    a.0 (omega (arith, behind, e.1)))
+    all
+
+pub rest_of_if-returns-then-take_keyword-clause-placed : goal.rest_of_if-returns-then-take_keyword-clause-placed
+rest_of_if-returns-then-take_keyword-clause-placed t c =
+    let n = c.args.at.now - 1 in
+    let behind : c.args.at.now ≡ n + 1 = omega (arith, c.requires.behind) in
+    let e = c.in_ok-test.ensures.placed in
+    let a = c.in_ok-then.ensures.placed in
+    let b = c.in_ok-otherwise.ensures.placed in
+    let took : c.take_keyword.new.at ≡ c.statement.new.at + 1 = search rules in
+    let all : c.statement-then-take_keyword.new.at ≡ n + (size (phrase_of c.in_ok-test.test) + sentence_size (sentence_of c.in_ok-then.then) + 4 + sentence_size (sentence_of c.in_ok-otherwise.otherwise)) = omega (arith, behind, e.1, a.1, b.1, took) in
+    rest_placed c.else_of.result c.args.tokens.now n c.args.at.now c.statement-then-take_keyword.new.at (if_then_else c.span.result (view_expr c.in_ok-test.test) (view_stmt c.in_ok-then.then) (view_stmt c.in_ok-otherwise.otherwise)) c.else_of.ensures behind
+    (else_stands (site_in c.args.tokens.now) n c.condition.new.at c.take_keyword.new.at c.span.result (view_expr c.in_ok-test.test) (view_stmt c.in_ok-then.then) (view_stmt c.in_ok-otherwise.otherwise)
+    (c.span.ensures (size (phrase_of c.in_ok-test.test) + sentence_size (sentence_of c.in_ok-then.then) + 4 + sentence_size (sentence_of c.in_ok-otherwise.otherwise)) all)
+    (subst (λ i. view_expr c.in_ok-test.test ≡ expression_at (site_in c.args.tokens.now) i (phrase_of c.in_ok-test.test)) (omega (arith, behind)) e.0)
+    a.0 (omega (arith, behind, e.1)) b.0 (omega (arith, behind, e.1, a.1, took)))
+    all
+
+pub rest_of_while-returns-clause-placed : goal.rest_of_while-returns-clause-placed
+rest_of_while-returns-clause-placed t c =
+    let n = c.args.at.now - 1 in
+    let behind : c.args.at.now ≡ n + 1 = omega (arith, c.requires.behind) in
+    let e = c.in_ok-test.ensures.placed in
+    let a = c.in_ok-body.ensures.placed in
+    let all : c.statement.new.at ≡ n + (size (phrase_of c.in_ok-test.test) + 3 + sentence_size (sentence_of c.in_ok-body.body)) = omega (arith, behind, e.1, a.1) in
+    rest_placed c.while_of.result c.args.tokens.now n c.args.at.now c.statement.new.at (while c.span.result (view_expr c.in_ok-test.test) (view_stmt c.in_ok-body.body)) c.while_of.ensures behind
+    (while_stands (site_in c.args.tokens.now) n c.condition.new.at c.span.result (view_expr c.in_ok-test.test) (view_stmt c.in_ok-body.body)
+    (c.span.ensures (size (phrase_of c.in_ok-test.test) + 3 + sentence_size (sentence_of c.in_ok-body.body)) all)
+    (subst (λ i. view_expr c.in_ok-test.test ≡ expression_at (site_in c.args.tokens.now) i (phrase_of c.in_ok-test.test)) (omega (arith, behind)) e.0)
+    a.0 (omega (arith, behind, e.1)))
+    all
+
+pub rest_of_for-returns-clause-placed : goal.rest_of_for-returns-clause-placed
+rest_of_for-returns-clause-placed t c =
+    let n = c.args.at.now - 1 in
+    let behind : c.args.at.now ≡ n + 1 = omega (arith, c.requires.behind) in
+    let h = c.in_ok-head.ensures.placed n (sym behind) in
+    let a = c.in_ok-body.ensures.placed in
+    let all : c.statement.new.at ≡ n + (opening_size (for_of (head_of c.in_ok-head.head)) + sentence_size (sentence_of c.in_ok-body.body)) = omega (arith, behind, h.1, a.1) in
+    rest_placed c.for_of.result c.args.tokens.now n c.args.at.now c.statement.new.at (for c.span.result (view_head c.in_ok-head.head) (view_stmt c.in_ok-body.body)) c.for_of.ensures behind
+    (for_stands (site_in c.args.tokens.now) n c.head.new.at c.span.result (view_head c.in_ok-head.head) (view_stmt c.in_ok-body.body)
+    (c.span.ensures (opening_size (for_of (head_of c.in_ok-head.head)) + sentence_size (sentence_of c.in_ok-body.body)) all)
+    h.0 a.0 h.1)
+    all
+
+pub statement-returns-in_err-list-clause-reads : goal.statement-returns-in_err-list-clause-reads
+statement-returns-in_err-list-clause-reads t c =
+    let is : c.from_residual-in_err-list.result ≡ Err c.in_err-list.field-0.0 = search rules in
+    let opens : Past (mark OpenBrace) c.args.tokens.now c.args.at.now c.enter.new.at = search rules in
+    let room : 0 < c.args.room = search rules in
+    subst (λ r. ReadsStatement c.args.declares c.args.room r (from c.args.tokens.now c.args.at.now) (from c.args.tokens.now c.statements.new.at)) (sym is)
+    (block_wrong (λ (v : Vec Stmt Global). v.items) c.in_err-list.field-0.0 c.args.declares c.args.room c.args.tokens.now c.args.at.now c.enter.new.at c.statements.new.at opens room c.in_err-list.ensures.reads)
+
+pub statement-returns-then-branch-clause-reads : goal.statement-returns-then-branch-clause-reads
+statement-returns-then-branch-clause-reads t c =
+    let opens : Past (mark OpenBrace) c.args.tokens.now c.args.at.now c.enter.new.at = search rules in
+    let room : 0 < c.args.room = search rules in
+    block_reads (λ v. v.items) c.in_ok-list.list c.of_block.result c.span.result c.args.declares c.args.room c.args.tokens.now c.args.at.now c.enter.new.at c.statements.new.at c.of_block.ensures opens room c.in_ok-list.ensures.reads
+
+pub statements-loop-alloc-preserved : goal.statements-loop-alloc-preserved
+statements-loop-alloc-preserved t c =
+    let stays : c.take.new.at ≡ c.loop-alloc.at = search rules in
+    let s = c.in_ok-statement.ensures in
+    let reads : ReadsStatement true c.args.room (Ok c.in_ok-statement.statement) (from c.args.tokens.now c.loop-alloc.at) (from c.args.tokens.now c.statement.new.at) = subst (λ i. ReadsStatement true c.args.room (Ok c.in_ok-statement.statement) (from c.args.tokens.now i) (from c.args.tokens.now c.statement.new.at)) stays s.reads in
+    record {
+      so_far = one_statement_more c.args.room c.args.tokens.now c.args.at.now c.loop-alloc.at c.statement.new.at c.loop-alloc.list.items c.push.new.self.items c.in_ok-statement.statement c.in_ok-push.ensures.items c.loop-alloc.invariant.so_far reads
+          (subst (λ i. view_stmt c.in_ok-statement.statement ≡ statement_at (site_in c.args.tokens.now) i (sentence_of c.in_ok-statement.statement)) stays s.placed.0)
+          (omega (arith, s.placed.1, stays));
+      onward = omega (arith, c.loop-alloc.invariant.onward, stays, s.onward);
+      within = s.within;
+    }

@@ -1,0 +1,16 @@
+pub mod View
+pub mod Goes
+pub mod Types
+pub mod Rights
+pub mod Simples
+pub mod Locals
+pub mod Lines
+pub mod Heads
+pub mod Words
+pub mod Forms
+pub mod Statements
+pub mod Fields
+pub mod Nested
+pub mod Parameters
+pub mod Items
+pub mod Programs

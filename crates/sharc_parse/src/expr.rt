@@ -1,0 +1,350 @@
+// Reading an expression.
+
+ghost use Rattle.std.specs.Prelude.{◌≡◌, ℕ, max, List, [], false, ◌<◌, ◌≤◌, ◌+◌, ◌-◌, ◌^◌, IfOk, length};
+ghost use Rattle.sharc_tree.specs.Tree as tree;
+ghost use Rattle.sharc_tree.specs.Tree.{binary, field, unary};
+ghost use Rattle.sharc_tree.specs.View.{view_expr, view_arguments};
+ghost use Rattle.sharc_grammar.specs.Grammar.{call, front_level};
+ghost use Rattle.sharc_grammar.specs.Machine.{Cont, Have, Called, At, grip};
+ghost use Rattle.sharc_grammar.specs.Limits.{reads_within, depth, crowded, highest};
+ghost use Rattle.sharc_grammar.specs.Places.{sizes, site_in, span_at, arguments_at};
+ghost use Rattle.sharc_parse.specs.View.{phrase_of, phrases_of};
+ghost use Rattle.sharc_parse.specs.Goes.{from, Goes, ReadsFrom, IsHigh, IsPlaced, ReadsFront, IsFrontPlaced, NoUnary, NoCall, Builds, front_tree, bare_front};
+
+use crate::token::{
+    Fault, FrontWord, Piece, access, constant, enter, expect, front_word, is_at, name, operator,
+    site, span, strength_of, take, unary_operator,
+};
+use crate::types::cast_type;
+use sharc_tree::token::{Punctuator, Site, Span, Token};
+use sharc_tree::tree::{
+    Access, BinaryOperator, Expr, Identifier, PlaceCall, UnaryOperator, ValueCall, WrittenType,
+};
+use std::alloc::Global;
+
+/// What stands in front of an expression that a `)` ends.
+#[derive(Drop)]
+pub(crate) enum Front {
+    Parenthesis,
+    Spawn(Identifier),
+    Value(ValueCall),
+    Place(PlaceCall),
+    Cast(WrittenType),
+}
+
+/// The words behind `spawn`, `join`, `print`, `lock`, `unlock`, `free` and `SCAST`, up to the expression.
+fn rest_of_front(
+    alloc: Global,
+    tokens: &[Token],
+    at: &mut usize,
+    word: FrontWord,
+) -> Result<Front, Fault>
+    requires few { length tokens.now ≤ 2 ^ 20 }
+    requires there { at.old ≤ length tokens.now }
+    ensures reads { ReadsFront result word (from tokens.now at.old) (from tokens.now at.new) }
+    ensures placed { IsFrontPlaced result tokens.now at.old at.new }
+    ensures onward { at.old ≤ at.new }
+    ensures within { at.new ≤ length tokens.now }
+{
+    match word {
+        FrontWord::Parenthesis => Ok(Front::Parenthesis),
+        FrontWord::Spawn => {
+            expect(tokens, at, Punctuator::OpenParenthesis)?;
+            let Some(function) = name(alloc, tokens, at)? else {
+                return Err(Fault::Wrong);
+            };
+            expect(tokens, at, Punctuator::Comma)?;
+            Ok(Front::Spawn(function))
+        }
+        FrontWord::Value(call) => {
+            expect(tokens, at, Punctuator::OpenParenthesis)?;
+            Ok(Front::Value(call))
+        }
+        FrontWord::Place(PlaceCall::Free) => {
+            expect(tokens, at, Punctuator::OpenParenthesis)?;
+            Ok(Front::Place(PlaceCall::Free))
+        }
+        FrontWord::Place(PlaceCall::Lock) => {
+            expect(tokens, at, Punctuator::OpenParenthesis)?;
+            expect(tokens, at, Punctuator::Ampersand)?;
+            Ok(Front::Place(PlaceCall::Lock))
+        }
+        FrontWord::Place(PlaceCall::Unlock) => {
+            expect(tokens, at, Punctuator::OpenParenthesis)?;
+            expect(tokens, at, Punctuator::Ampersand)?;
+            Ok(Front::Place(PlaceCall::Unlock))
+        }
+        FrontWord::Cast => Ok(Front::Cast(cast_type(alloc, tokens, at)?)),
+    }
+}
+
+fn binary_of(
+    alloc: Global,
+    span: Span,
+    operator: BinaryOperator,
+    place: Site,
+    left: Piece,
+    right: Piece,
+) -> Result<Piece, Fault>
+    requires left { left.height < 64 }
+    requires right { right.height < 64 }
+    ensures { Builds result (binary span operator place (view_expr left.expr) (view_expr right.expr)) (max left.height right.height + 1) }
+{
+    let height = left.height.max(right.height) + 1;
+    let expr = Expr::Binary(
+        span,
+        operator,
+        place,
+        Box::new(alloc, left.expr)?,
+        Box::new(alloc, right.expr)?,
+    );
+    Ok(Piece { expr, height })
+}
+
+fn index_of(alloc: Global, span: Span, base: Piece, index: Piece) -> Result<Piece, Fault>
+    requires base { base.height < 64 }
+    requires index { index.height < 64 }
+    ensures { Builds result (tree.index span (view_expr base.expr) (view_expr index.expr)) (max base.height index.height + 1) }
+{
+    let height = base.height.max(index.height) + 1;
+    let expr = Expr::Index(
+        span,
+        Box::new(alloc, base.expr)?,
+        Box::new(alloc, index.expr)?,
+    );
+    Ok(Piece { expr, height })
+}
+
+fn field_of(
+    alloc: Global,
+    span: Span,
+    base: Piece,
+    access: Access,
+    name: Identifier,
+) -> Result<Piece, Fault>
+    requires { base.height < 64 }
+    ensures { Builds result (field span (view_expr base.expr) access name) (base.height + 1) }
+{
+    let expr = Expr::Field(span, Box::new(alloc, base.expr)?, access, name);
+    Ok(Piece {
+        expr,
+        height: base.height + 1,
+    })
+}
+
+fn unary_of(
+    alloc: Global,
+    span: Span,
+    operator: UnaryOperator,
+    operand: Piece,
+) -> Result<Piece, Fault>
+    requires { operand.height < 64 }
+    ensures { Builds result (unary span operator (view_expr operand.expr)) (operand.height + 1) }
+{
+    let expr = Expr::Unary(span, operator, Box::new(alloc, operand.expr)?);
+    Ok(Piece {
+        expr,
+        height: operand.height + 1,
+    })
+}
+
+fn front_of(alloc: Global, span: Span, front: Front, inner: Piece) -> Result<Piece, Fault>
+    requires { inner.height < 64 }
+    ensures { Builds result (front_tree span front (view_expr inner.expr)) (inner.height + 1) }
+{
+    let inner_expr = Box::new(alloc, inner.expr)?;
+    let expr = match front {
+        Front::Parenthesis => Expr::Parentheses(span, inner_expr),
+        Front::Spawn(function) => Expr::Spawn(span, function, inner_expr),
+        Front::Value(call) => Expr::OnValue(span, call, inner_expr),
+        Front::Place(call) => Expr::OnPlace(span, call, inner_expr),
+        Front::Cast(written) => Expr::Cast(span, Box::new(alloc, written)?, inner_expr),
+    };
+    Ok(Piece {
+        expr,
+        height: inner.height + 1,
+    })
+}
+
+/// How tightly what stands behind it has to hold together.
+fn least_of(front: &Front) -> u8
+    ensures { result ≡ max 1 (front_level (bare_front front.now)) }
+{
+    match front {
+        Front::Place(_) | Front::Cast(_) => 11,
+        _ => 1,
+    }
+}
+
+/// An expression whose operators bind at least as tightly as that.
+#[cycle(expr)]
+#[tactic(auto, using(crate::proofs::Steps::operator_goes, crate::proofs::Steps::operator_deep))]
+pub(crate) fn binary(
+    alloc: Global,
+    tokens: &[Token],
+    at: &mut usize,
+    least: u8,
+    room: u8,
+) -> Result<Piece, Fault>
+    requires low { 1 ≤ least }
+    requires high { least ≤ 11 }
+    requires room { room ≤ 64 }
+    requires few { length tokens.now ≤ 2 ^ 20 }
+    requires there { at.old ≤ length tokens.now }
+    ensures reads { ReadsFrom least room result (from tokens.now at.old) (from tokens.now at.new) }
+    ensures height { IsHigh room result }
+    ensures placed { IsPlaced result tokens.now at.old at.new }
+    ensures grip { IfOk result (λ _. grip (from tokens.now at.new) < least) }
+    ensures onward { at.old ≤ at.new }
+    ensures within { at.new ≤ length tokens.now }
+{
+    let first = *at;
+    let mut left = unary(alloc, tokens, at, room)?;
+    while let Some(op) = operator(tokens, at, least, room - left.height)? {
+        let place = site(tokens, *at - 1);
+        let right = binary(alloc, tokens, at, strength_of(op) + 1, room - 1)?;
+        left = binary_of(alloc, span(tokens, first, *at), op, place, left, right)?;
+    }
+    Ok(left)
+}
+
+/// An operand with the operators before it.
+#[cycle(expr)]
+#[tactic(auto, using(crate::proofs::Steps::whole_unary, crate::proofs::Steps::unary_goes, crate::proofs::Steps::unary_deep))]
+pub(crate) fn unary(
+    alloc: Global,
+    tokens: &[Token],
+    at: &mut usize,
+    room: u8,
+) -> Result<Piece, Fault>
+    requires room { room ≤ 64 }
+    requires few { length tokens.now ≤ 2 ^ 20 }
+    requires there { at.old ≤ length tokens.now }
+    ensures reads { ReadsFrom 11 room result (from tokens.now at.old) (from tokens.now at.new) }
+    ensures height { IsHigh room result }
+    ensures placed { IsPlaced result tokens.now at.old at.new }
+    ensures grip { IfOk result (λ _. grip (from tokens.now at.new) ≤ 11) }
+    ensures onward { at.old ≤ at.new }
+    ensures within { at.new ≤ length tokens.now }
+{
+    let first = *at;
+    match unary_operator(tokens, at, room)? {
+        Some(op) => {
+            let operand = unary(alloc, tokens, at, room - 1)?;
+            unary_of(alloc, span(tokens, first, *at), op, operand)
+        }
+        None => postfix(alloc, tokens, at, room),
+    }
+}
+
+/// An operand with the indexes and fields behind it.
+#[cycle(expr)]
+#[tactic(auto, using(crate::proofs::Steps::index_deep, crate::proofs::Steps::access_deep, crate::proofs::Steps::no_field, crate::proofs::Steps::no_call, crate::proofs::Steps::ends_postfix))]
+fn postfix(alloc: Global, tokens: &[Token], at: &mut usize, room: u8) -> Result<Piece, Fault>
+    requires room { room ≤ 64 }
+    requires few { length tokens.now ≤ 2 ^ 20 }
+    requires there { at.old ≤ length tokens.now }
+    requires prefix { NoUnary (from tokens.now at.old) }
+    ensures reads { ReadsFrom 12 room result (from tokens.now at.old) (from tokens.now at.new) }
+    ensures height { IsHigh room result }
+    ensures placed { IsPlaced result tokens.now at.old at.new }
+    ensures grip { IfOk result (λ _. grip (from tokens.now at.new) ≤ 11) }
+    ensures onward { at.old ≤ at.new }
+    ensures within { at.new ≤ length tokens.now }
+{
+    let first = *at;
+    let mut base = primary(alloc, tokens, at, room)?;
+    loop {
+        if enter(tokens, at, Punctuator::OpenBracket, room - base.height)? {
+            let index = binary(alloc, tokens, at, 1, room - 1)?;
+            expect(tokens, at, Punctuator::CloseBracket)?;
+            base = index_of(alloc, span(tokens, first, *at), base, index)?;
+        } else if let Some(access) = access(tokens, at, room - base.height)? {
+            let Some(name) = name(alloc, tokens, at)? else {
+                return Err(Fault::Wrong);
+            };
+            base = field_of(alloc, span(tokens, first, *at), base, access, name)?;
+        } else if is_at(tokens, *at, Punctuator::OpenParenthesis) {
+            return Err(Fault::Wrong);
+        } else {
+            return Ok(base);
+        }
+    }
+}
+
+/// The innermost part of an operand.
+#[cycle(expr)]
+#[tactic(auto, using(crate::proofs::Steps::front_goes, crate::proofs::Steps::front_deep, crate::proofs::Steps::no_operand, crate::proofs::Steps::call_deep, crate::proofs::Steps::front_missing))]
+fn primary(alloc: Global, tokens: &[Token], at: &mut usize, room: u8) -> Result<Piece, Fault>
+    requires room { room ≤ 64 }
+    requires few { length tokens.now ≤ 2 ^ 20 }
+    requires there { at.old ≤ length tokens.now }
+    requires prefix { NoUnary (from tokens.now at.old) }
+    ensures reads { ReadsFrom 12 room result (from tokens.now at.old) (from tokens.now at.new) }
+    ensures height { IsHigh room result }
+    ensures placed { IsPlaced result tokens.now at.old at.new }
+    ensures call { IfOk result (λ r. NoCall (phrase_of r.expr) (from tokens.now at.new)) }
+    ensures onward { at.old ≤ at.new }
+    ensures within { at.new ≤ length tokens.now }
+{
+    let first = *at;
+    if let Some(word) = front_word(tokens, at, room)? {
+        let front = rest_of_front(alloc, tokens, at, word)?;
+        let inner = binary(alloc, tokens, at, least_of(&front), room - 1)?;
+        expect(tokens, at, Punctuator::CloseParenthesis)?;
+        front_of(alloc, span(tokens, first, *at), front, inner)
+    } else if let Some(name) = name(alloc, tokens, at)? {
+        if enter(tokens, at, Punctuator::OpenParenthesis, room)? {
+            let (arguments, highest) = arguments(alloc, tokens, at, room - 1)?;
+            Ok(Piece {
+                expr: Expr::of_call(span(tokens, first, *at), name, arguments),
+                height: highest + 1,
+            })
+        } else {
+            Ok(Piece {
+                expr: Expr::Identifier(span(tokens, first, *at), name),
+                height: 0,
+            })
+        }
+    } else if let Some(constant) = constant(tokens, at) {
+        Ok(Piece {
+            expr: Expr::Constant(span(tokens, first, *at), constant),
+            height: 0,
+        })
+    } else {
+        Err(Fault::Wrong)
+    }
+}
+
+/// The arguments behind `name (`, and the `)`; and the height of the highest.
+#[cycle(expr)]
+fn arguments(
+    alloc: Global,
+    tokens: &[Token],
+    at: &mut usize,
+    room: u8,
+) -> Result<(Vec<Expr>, u8), Fault>
+    requires room { room < 64 }
+    requires few { length tokens.now ≤ 2 ^ 20 }
+    requires there { at.old ≤ length tokens.now }
+    ensures reads { (f : List ℕ) (k : Cont) → depth k + room + 1 ≡ 64 → crowded k ≡ false → Goes (λ r. phrases_of r.0.items) result (reads_within (from tokens.now at.old) (At [] (Called f k))) (λ v. reads_within (from tokens.now at.new) (At [] (Have (call f v) k))) (from tokens.now at.new) }
+    ensures height { IfOk result (λ r. (r.1 ≡ highest (phrases_of r.0.items)) × (r.1 ≤ room)) }
+    ensures placed { IfOk result (λ r. (view_arguments r.0.items ≡ arguments_at (site_in tokens.now) at.old (phrases_of r.0.items)) × (at.new ≡ at.old + sizes (phrases_of r.0.items) + 1)) }
+    ensures onward { at.old ≤ at.new }
+    ensures within { at.new ≤ length tokens.now }
+{
+    let mut arguments = Vec::new(alloc);
+    let mut highest = 0;
+    if take(tokens, at, Punctuator::CloseParenthesis) {
+        return Ok((arguments, highest));
+    }
+    loop {
+        let argument = binary(alloc, tokens, at, 1, room)?;
+        highest = highest.max(argument.height);
+        arguments.push(argument.expr)?;
+        if take(tokens, at, Punctuator::CloseParenthesis) {
+            return Ok((arguments, highest));
+        }
+        expect(tokens, at, Punctuator::Comma)?;
+    }
+}

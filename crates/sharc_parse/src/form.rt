@@ -1,0 +1,110 @@
+// Reading what follows the name of a global.
+
+ghost use Rattle.std.specs.Prelude.{◌≤◌, ◌^◌, length};
+ghost use Rattle.sharc_parse.specs.Goes.{from};
+ghost use Rattle.sharc_parse.specs.Forms.{TakesNumber, TakesSigned, ReadsArray, ReadsConstant, IsBehindPlaced, ReadsForm, IsFormPlaced};
+
+use crate::token::{Fault, constant, expect, site, span, take};
+use sharc_tree::token::{Number, Punctuator, Token, TokenKind};
+use sharc_tree::tree::{Constant, GlobalForm};
+
+/// Goes past a number.
+fn number(tokens: &[Token], at: &mut usize) -> Option<Number>
+    ensures { TakesNumber result tokens.now at.old at.new }
+{
+    if *at >= tokens.len() {
+        return None;
+    }
+    let token = &tokens[*at];
+    match token.kind {
+        TokenKind::Number(number) => {
+            *at += 1;
+            Some(number)
+        }
+        _ => None,
+    }
+}
+
+/// Goes past a constant that a `-` may stand before.
+fn signed(tokens: &[Token], at: &mut usize) -> Option<Constant>
+    ensures { TakesSigned result tokens.now at.old at.new }
+{
+    if *at >= tokens.len() {
+        return None;
+    }
+    let token = &tokens[*at];
+    let constant = match token.kind {
+        TokenKind::Number(number) => Constant::Number(number),
+        TokenKind::Character(byte) => Constant::Character(byte),
+        _ => return None,
+    };
+    *at += 1;
+    Some(constant)
+}
+
+/// `number ]` behind a `[`.
+#[tactic(auto, using(crate::proofs::FormSteps::array_number, crate::proofs::FormSteps::no_number, crate::proofs::FormSteps::array_ends, crate::proofs::Steps::fixed_stuck))]
+fn array_form(tokens: &[Token], at: &mut usize) -> Result<GlobalForm, Fault>
+    requires few { length tokens.now ≤ 2 ^ 20 }
+    requires there { at.old ≤ length tokens.now }
+    ensures reads { ReadsArray result (from tokens.now at.old) (from tokens.now at.new) }
+    ensures placed { IsBehindPlaced result tokens.now at.old at.new }
+    ensures onward { at.old ≤ at.new }
+    ensures within { at.new ≤ length tokens.now }
+{
+    let place = site(tokens, *at);
+    let Some(number) = number(tokens, at) else {
+        return Err(Fault::Wrong);
+    };
+    expect(tokens, at, Punctuator::CloseBracket)?;
+    Ok(GlobalForm::Array(place, number))
+}
+
+/// A constant behind a `=`.
+#[tactic(auto, using(crate::proofs::FormSteps::minus_goes, crate::proofs::FormSteps::signed_goes, crate::proofs::FormSteps::no_signed, crate::proofs::FormSteps::constant_goes, crate::proofs::FormSteps::no_constant))]
+fn constant_form(tokens: &[Token], at: &mut usize) -> Result<GlobalForm, Fault>
+    requires few { length tokens.now ≤ 2 ^ 20 }
+    requires there { at.old ≤ length tokens.now }
+    ensures reads { ReadsConstant result (from tokens.now at.old) (from tokens.now at.new) }
+    ensures placed { IsBehindPlaced result tokens.now at.old at.new }
+    ensures onward { at.old ≤ at.new }
+    ensures within { at.new ≤ length tokens.now }
+{
+    let first = *at;
+    if take(tokens, at, Punctuator::Minus) {
+        let Some(constant) = signed(tokens, at) else {
+            return Err(Fault::Wrong);
+        };
+        return Ok(GlobalForm::Initial(span(tokens, first, *at), true, constant));
+    }
+    let Some(constant) = constant(tokens, at) else {
+        return Err(Fault::Wrong);
+    };
+    Ok(GlobalForm::Initial(span(tokens, first, *at), false, constant))
+}
+
+/// What follows the name of a global, and its `;`.
+#[tactic(auto, using(crate::proofs::FormSteps::single_goes, crate::proofs::FormSteps::array_goes, crate::proofs::FormSteps::initial_goes, crate::proofs::FormSteps::form_ends, crate::proofs::FormSteps::no_form, crate::proofs::Steps::fixed_stuck))]
+pub(crate) fn form(tokens: &[Token], at: &mut usize) -> Result<GlobalForm, Fault>
+    requires few { length tokens.now ≤ 2 ^ 20 }
+    requires there { at.old ≤ length tokens.now }
+    ensures reads { ReadsForm result (from tokens.now at.old) (from tokens.now at.new) }
+    ensures placed { IsFormPlaced result tokens.now at.old at.new }
+    ensures onward { at.old ≤ at.new }
+    ensures within { at.new ≤ length tokens.now }
+{
+    if take(tokens, at, Punctuator::Semicolon) {
+        return Ok(GlobalForm::Plain);
+    }
+    if take(tokens, at, Punctuator::OpenBracket) {
+        let form = array_form(tokens, at)?;
+        expect(tokens, at, Punctuator::Semicolon)?;
+        return Ok(form);
+    }
+    if take(tokens, at, Punctuator::Assign) {
+        let form = constant_form(tokens, at)?;
+        expect(tokens, at, Punctuator::Semicolon)?;
+        return Ok(form);
+    }
+    Err(Fault::Wrong)
+}

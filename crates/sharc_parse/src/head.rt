@@ -1,0 +1,66 @@
+// Reading the head of a `for`, and what a `return` gives.
+
+ghost use Rattle.std.specs.Prelude.{◌≤◌, ◌^◌, length};
+ghost use Rattle.sharc_parse.specs.Goes.{from};
+ghost use Rattle.sharc_parse.specs.Heads.{ReadsTail, IsTailPlaced, ReadsStep, IsStepPlaced, ReadsHead, IsHeadPlaced};
+
+use crate::expr::binary;
+use crate::line::line;
+use crate::simple::simple;
+use crate::token::{Fault, expect, take};
+use sharc_tree::token::{Punctuator, Token};
+use sharc_tree::tree::{Expr, ForHead, Simple};
+use std::alloc::Global;
+
+/// An expression that may be left out, and its `;`.
+#[tactic(auto, using(crate::proofs::HeadSteps::tail_empty, crate::proofs::HeadSteps::tail_begins, crate::proofs::HeadSteps::tail_ends, crate::proofs::HeadSteps::tail_stuck, crate::proofs::HeadSteps::tail_fits))]
+pub(crate) fn tail(alloc: Global, tokens: &[Token], at: &mut usize) -> Result<Option<Expr>, Fault>
+    requires few { length tokens.now ≤ 2 ^ 20 }
+    requires there { at.old ≤ length tokens.now }
+    ensures reads { ReadsTail result (from tokens.now at.old) (from tokens.now at.new) }
+    ensures placed { IsTailPlaced result tokens.now at.old at.new }
+    ensures onward { at.old ≤ at.new }
+    ensures within { at.new ≤ length tokens.now }
+{
+    if take(tokens, at, Punctuator::Semicolon) {
+        return Ok(None);
+    }
+    let piece = binary(alloc, tokens, at, 1, 64)?;
+    expect(tokens, at, Punctuator::Semicolon)?;
+    Ok(Some(piece.expr))
+}
+
+/// An assignment or a call that may be left out, and the `)` of a `for`.
+#[tactic(auto, using(crate::proofs::HeadSteps::step_empty, crate::proofs::HeadSteps::step_begins, crate::proofs::HeadSteps::step_ends, crate::proofs::HeadSteps::step_stuck))]
+fn step(alloc: Global, tokens: &[Token], at: &mut usize) -> Result<Option<Simple>, Fault>
+    requires few { length tokens.now ≤ 2 ^ 20 }
+    requires there { at.old ≤ length tokens.now }
+    ensures reads { ReadsStep result (from tokens.now at.old) (from tokens.now at.new) }
+    ensures placed { IsStepPlaced result tokens.now at.old at.new }
+    ensures onward { at.old ≤ at.new }
+    ensures within { at.new ≤ length tokens.now }
+{
+    if take(tokens, at, Punctuator::CloseParenthesis) {
+        return Ok(None);
+    }
+    let simple = simple(alloc, tokens, at)?;
+    expect(tokens, at, Punctuator::CloseParenthesis)?;
+    Ok(Some(simple))
+}
+
+/// What stands behind the word `for`, up to the `)`.
+#[tactic(auto, using(crate::proofs::HeadSteps::for_opens, crate::proofs::HeadSteps::for_begins, crate::proofs::Steps::fixed_stuck))]
+pub(crate) fn head(alloc: Global, tokens: &[Token], at: &mut usize) -> Result<ForHead, Fault>
+    requires few { length tokens.now ≤ 2 ^ 20 }
+    requires there { at.old ≤ length tokens.now }
+    ensures reads { ReadsHead result (from tokens.now at.old) (from tokens.now at.new) }
+    ensures placed { IsHeadPlaced result tokens.now at.old at.new }
+    ensures onward { at.old ≤ at.new }
+    ensures within { at.new ≤ length tokens.now }
+{
+    expect(tokens, at, Punctuator::OpenParenthesis)?;
+    let first = line(alloc, tokens, at, true, false)?;
+    let test = tail(alloc, tokens, at)?;
+    let step = step(alloc, tokens, at)?;
+    Ok(ForHead { first, test, step })
+}

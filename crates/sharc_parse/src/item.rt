@@ -1,0 +1,151 @@
+// Reading the items of a program.
+
+ghost use Rattle.std.specs.Prelude.{◌≡◌, ◌+◌, ◌<◌, ◌≤◌, ◌^◌, length, IfOk};
+ghost use Rattle.sharc_grammar.specs.Places.{site_in};
+ghost use Rattle.sharc_parse.specs.Goes.{from};
+ghost use Rattle.sharc_parse.specs.View.{bare_type};
+ghost use Rattle.sharc_parse.specs.Items.{OpensStruct, ReadsStruct, IsStructPlaced, ReadsFunction, IsFunctionPlaced, ReadsNamed, IsNamedPlaced, ReadsItem, IsItemPlaced};
+
+use crate::field::fields;
+use crate::form::form;
+use crate::local::name_there;
+use crate::parameter::{is_bare, parameters};
+use crate::statement::statements;
+use crate::token::{Fault, expect, span, take};
+use crate::types::written;
+use sharc_tree::ctype::Base;
+use sharc_tree::token::{Punctuator, Token};
+use sharc_tree::tree::{
+    Declaration, Declarations, FunctionDefinition, GlobalDefinition, Identifier, Item,
+    StructDefinition, WrittenType,
+};
+use std::alloc::Global;
+
+/// The name of the struct whose fields begin behind the type, past their `{`.
+fn opens_struct(
+    alloc: Global,
+    tokens: &[Token],
+    at: &mut usize,
+    written: &WrittenType,
+) -> Result<Option<Identifier>, Fault>
+    ensures { OpensStruct result written.now tokens.now at.old at.new }
+{
+    let Base::Struct(name) = &written.ctype.base else {
+        return Ok(None);
+    };
+    if !is_bare(written) || !take(tokens, at, Punctuator::OpenBrace) {
+        return Ok(None);
+    }
+    let text = name.copy(alloc)?;
+    Ok(Some(Identifier {
+        site: written.base,
+        text,
+    }))
+}
+
+/// What follows `struct id {`.
+fn rest_of_struct(
+    alloc: Global,
+    tokens: &[Token],
+    at: &mut usize,
+    name: Identifier,
+) -> Result<Item, Fault>
+    requires few { length tokens.now ≤ 2 ^ 20 }
+    requires behind { 3 ≤ at.old }
+    requires there { at.old ≤ length tokens.now }
+    ensures reads { ReadsStruct name.text result (from tokens.now at.old) (from tokens.now at.new) }
+    ensures placed { IsStructPlaced name result tokens.now at.old at.new }
+    ensures onward { at.old ≤ at.new }
+    ensures within { at.new ≤ length tokens.now }
+{
+    let first = *at - 3;
+    let fields = fields(alloc, tokens, at)?;
+    expect(tokens, at, Punctuator::Semicolon)?;
+    Ok(Item::Struct(StructDefinition {
+        span: span(tokens, first, *at),
+        name,
+        fields: Declarations::of(fields),
+    }))
+}
+
+/// What follows `type id (`, where the item begins at that token.
+fn rest_of_function(
+    alloc: Global,
+    tokens: &[Token],
+    at: &mut usize,
+    first: usize,
+    given: WrittenType,
+    name: Identifier,
+) -> Result<Item, Fault>
+    requires few { length tokens.now ≤ 2 ^ 20 }
+    requires begun { first < at.old }
+    requires there { at.old ≤ length tokens.now }
+    ensures reads { ReadsFunction (bare_type given) name.text result (from tokens.now at.old) (from tokens.now at.new) }
+    ensures placed { IsFunctionPlaced given name first result tokens.now at.old at.new }
+    ensures onward { at.old ≤ at.new }
+    ensures within { at.new ≤ length tokens.now }
+{
+    let parameters = parameters(alloc, tokens, at)?;
+    let opens = *at;
+    expect(tokens, at, Punctuator::OpenBrace)?;
+    let statements = statements(alloc, tokens, at, 63)?;
+    Ok(Item::Function(FunctionDefinition {
+        span: span(tokens, first, *at),
+        result: given,
+        name,
+        parameters: Declarations::of(parameters),
+        body: span(tokens, opens, *at),
+        statements,
+    }))
+}
+
+/// What follows the type of a global or a function, where the item begins at that token.
+fn rest_of_named(
+    alloc: Global,
+    tokens: &[Token],
+    at: &mut usize,
+    first: usize,
+    written: WrittenType,
+) -> Result<Item, Fault>
+    requires few { length tokens.now ≤ 2 ^ 20 }
+    requires begun { first < at.old }
+    requires there { at.old ≤ length tokens.now }
+    ensures reads { ReadsNamed written result (from tokens.now at.old) (from tokens.now at.new) }
+    ensures placed { IsNamedPlaced written first result tokens.now at.old at.new }
+    ensures onward { at.old ≤ at.new }
+    ensures within { at.new ≤ length tokens.now }
+{
+    let name = name_there(alloc, tokens, at)?;
+    if take(tokens, at, Punctuator::OpenParenthesis) {
+        return rest_of_function(alloc, tokens, at, first, written, name);
+    }
+    let declaration = Declaration {
+        span: span(tokens, first, *at),
+        written,
+        name,
+    };
+    let form = form(tokens, at)?;
+    Ok(Item::Global(GlobalDefinition {
+        span: span(tokens, first, *at),
+        declaration,
+        form,
+    }))
+}
+
+/// A struct, a global or a function.
+pub(crate) fn item(alloc: Global, tokens: &[Token], at: &mut usize) -> Result<Item, Fault>
+    requires few { length tokens.now ≤ 2 ^ 20 }
+    requires there { at.old ≤ length tokens.now }
+    ensures reads { ReadsItem result (from tokens.now at.old) (from tokens.now at.new) }
+    ensures placed { IsItemPlaced result tokens.now at.old at.new }
+    ensures further { IfOk result (λ _. at.old < at.new) }
+    ensures onward { at.old ≤ at.new }
+    ensures within { at.new ≤ length tokens.now }
+{
+    let first = *at;
+    let written = written(alloc, tokens, at, true)?;
+    if let Some(name) = opens_struct(alloc, tokens, at, &written)? {
+        return rest_of_struct(alloc, tokens, at, name);
+    }
+    rest_of_named(alloc, tokens, at, first, written)
+}

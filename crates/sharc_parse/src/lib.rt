@@ -1,0 +1,25 @@
+//! The parser: tokens into the tree of a program, or the first fault.
+//!
+//! The layer above may use `parse` and `ParseFault`. What `parse` answers is `Parses` of specs/Programs.antt: the program that the tokens are by the
+//! grammar of sharc_grammar within its limits (`Reads`), or the first fault (`IsFaultOf`). The functions below go the way of the machine of
+//! sharc_grammar by recursive descent, and each has a contract that says so.
+#![tactic(auto)]
+
+mod expr;
+mod field;
+mod form;
+mod head;
+mod item;
+mod line;
+mod local;
+mod parameter;
+mod plain;
+mod program;
+mod right;
+mod simple;
+mod statement;
+mod token;
+mod types;
+mod word;
+
+pub use program::{ParseFault, parse};

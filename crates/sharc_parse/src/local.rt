@@ -1,0 +1,95 @@
+// Reading a declaration, and a local.
+
+ghost use Rattle.std.specs.Prelude.{◌≤◌, ◌^◌, length};
+ghost use Rattle.sharc_parse.specs.Goes.{from};
+ghost use Rattle.sharc_parse.specs.Locals.{ReadsName, IsNamePlaced, ReadsDeclaration, IsDeclarationPlaced, ReadsInitial, EndsInitially, IsInitialPlaced, ReadsLocal, EndsLocal, IsLocalPlaced};
+
+use crate::right::right;
+use crate::token::{Fault, name, span, take};
+use crate::types::written;
+use sharc_tree::token::{Punctuator, Token};
+use sharc_tree::tree::{Declaration, Identifier, Local, Right};
+use std::alloc::Global;
+
+/// The name behind a type.
+#[tactic(auto, using(crate::proofs::LocalSteps::named_goes, crate::proofs::LocalSteps::no_name_there))]
+pub(crate) fn name_there(
+    alloc: Global,
+    tokens: &[Token],
+    at: &mut usize,
+) -> Result<Identifier, Fault>
+    requires few { length tokens.now ≤ 2 ^ 20 }
+    requires there { at.old ≤ length tokens.now }
+    ensures reads { ReadsName result (from tokens.now at.old) (from tokens.now at.new) }
+    ensures placed { IsNamePlaced result tokens.now at.old at.new }
+    ensures onward { at.old ≤ at.new }
+    ensures within { at.new ≤ length tokens.now }
+{
+    let Some(name) = name(alloc, tokens, at)? else {
+        return Err(Fault::Wrong);
+    };
+    Ok(name)
+}
+
+/// A type and a name, where nothing else may stand.
+#[tactic(auto, using(crate::proofs::LocalSteps::plain_there, crate::proofs::LocalSteps::declaration_stands))]
+pub(crate) fn declaration(
+    alloc: Global,
+    tokens: &[Token],
+    at: &mut usize,
+) -> Result<Declaration, Fault>
+    requires few { length tokens.now ≤ 2 ^ 20 }
+    requires there { at.old ≤ length tokens.now }
+    ensures reads { ReadsDeclaration result (from tokens.now at.old) (from tokens.now at.new) }
+    ensures placed { IsDeclarationPlaced result tokens.now at.old at.new }
+    ensures onward { at.old ≤ at.new }
+    ensures within { at.new ≤ length tokens.now }
+{
+    let first = *at;
+    let written = written(alloc, tokens, at, true)?;
+    let name = name_there(alloc, tokens, at)?;
+    Ok(Declaration {
+        span: span(tokens, first, *at),
+        written,
+        name,
+    })
+}
+
+/// What stands right of `=`, if that is there.
+#[tactic(auto, using(crate::proofs::LocalSteps::initial_goes))]
+fn initial(alloc: Global, tokens: &[Token], at: &mut usize) -> Result<Option<Right>, Fault>
+    requires few { length tokens.now ≤ 2 ^ 20 }
+    requires there { at.old ≤ length tokens.now }
+    ensures reads { ReadsInitial result (from tokens.now at.old) (from tokens.now at.new) }
+    ensures ends { EndsInitially result (from tokens.now at.new) }
+    ensures placed { IsInitialPlaced result tokens.now at.old at.new }
+    ensures onward { at.old ≤ at.new }
+    ensures within { at.new ≤ length tokens.now }
+{
+    if take(tokens, at, Punctuator::Assign) {
+        let right = right(alloc, tokens, at)?;
+        Ok(Some(right))
+    } else {
+        Ok(None)
+    }
+}
+
+/// A declaration, and what it begins with.
+pub(crate) fn local(alloc: Global, tokens: &[Token], at: &mut usize) -> Result<Local, Fault>
+    requires few { length tokens.now ≤ 2 ^ 20 }
+    requires there { at.old ≤ length tokens.now }
+    ensures reads { ReadsLocal result (from tokens.now at.old) (from tokens.now at.new) }
+    ensures ends { EndsLocal result (from tokens.now at.new) }
+    ensures placed { IsLocalPlaced result tokens.now at.old at.new }
+    ensures onward { at.old ≤ at.new }
+    ensures within { at.new ≤ length tokens.now }
+{
+    let first = *at;
+    let declaration = declaration(alloc, tokens, at)?;
+    let initial = initial(alloc, tokens, at)?;
+    Ok(Local {
+        span: span(tokens, first, *at),
+        declaration,
+        initial,
+    })
+}

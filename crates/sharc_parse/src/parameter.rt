@@ -1,0 +1,85 @@
+// Reading the parameters of a function.
+
+ghost use Rattle.std.specs.Prelude.{◌≤◌, ◌^◌, length};
+ghost use Rattle.sharc_parse.specs.Goes.{from};
+ghost use Rattle.sharc_parse.specs.View.{bare_type};
+ghost use Rattle.sharc_parse.specs.Parameters.{IsBare, ClosesVoid, ReadsFirst, IsFirstPlaced, ReadsParameters, AreParametersPlaced};
+
+use crate::local::{declaration, name_there};
+use crate::token::{Fault, expect, span, take};
+use crate::types::written;
+use sharc_tree::ctype::Base;
+use sharc_tree::token::{Punctuator, Token};
+use sharc_tree::tree::{Declaration, WrittenType};
+use std::alloc::Global;
+
+/// Whether the type has no star and no mode.
+pub(crate) fn is_bare(written: &WrittenType) -> bool
+    ensures { IsBare result (bare_type written.now) }
+{
+    let levels = &written.ctype.levels;
+    !written.mode_first && levels.len() == 1 && levels.at(0).is_none()
+}
+
+/// Goes past a `)` behind a `void` that stands for no parameters.
+fn closes_void(tokens: &[Token], at: &mut usize, written: &WrittenType) -> bool
+    ensures { ClosesVoid result (bare_type written.now) tokens.now at.old at.new }
+{
+    match written.ctype.base {
+        Base::Void => is_bare(written) && take(tokens, at, Punctuator::CloseParenthesis),
+        _ => false,
+    }
+}
+
+/// The first parameter, or the `void )` that stands for none.
+fn first_parameter(
+    alloc: Global,
+    tokens: &[Token],
+    at: &mut usize,
+) -> Result<Option<Declaration>, Fault>
+    requires few { length tokens.now ≤ 2 ^ 20 }
+    requires there { at.old ≤ length tokens.now }
+    ensures reads { ReadsFirst result (from tokens.now at.old) (from tokens.now at.new) }
+    ensures placed { IsFirstPlaced result tokens.now at.old at.new }
+    ensures onward { at.old ≤ at.new }
+    ensures within { at.new ≤ length tokens.now }
+{
+    let first = *at;
+    let written = written(alloc, tokens, at, true)?;
+    if closes_void(tokens, at, &written) {
+        return Ok(None);
+    }
+    let name = name_there(alloc, tokens, at)?;
+    Ok(Some(Declaration {
+        span: span(tokens, first, *at),
+        written,
+        name,
+    }))
+}
+
+/// The parameters behind the `(` of a function, and the `)`.
+#[tactic(auto, using(crate::proofs::ParameterSteps::first_given, crate::proofs::ParameterSteps::one_given_more, crate::proofs::ParameterSteps::given_stuck, crate::proofs::ParameterSteps::given_read))]
+pub(crate) fn parameters(
+    alloc: Global,
+    tokens: &[Token],
+    at: &mut usize,
+) -> Result<Vec<Declaration>, Fault>
+    requires few { length tokens.now ≤ 2 ^ 20 }
+    requires there { at.old ≤ length tokens.now }
+    ensures reads { ReadsParameters (λ v. v.items) result (from tokens.now at.old) (from tokens.now at.new) }
+    ensures placed { AreParametersPlaced (λ v. v.items) result tokens.now at.old at.new }
+    ensures onward { at.old ≤ at.new }
+    ensures within { at.new ≤ length tokens.now }
+{
+    let mut list = Vec::new(alloc);
+    let Some(parameter) = first_parameter(alloc, tokens, at)? else {
+        return Ok(list);
+    };
+    list.push(parameter)?;
+    while take(tokens, at, Punctuator::Comma) {
+        let parameter = declaration(alloc, tokens, at)?;
+        list.push(parameter)?;
+    }
+    expect(tokens, at, Punctuator::CloseParenthesis)?;
+    Ok(list)
+}

@@ -1,0 +1,91 @@
+// Reading the statements that hold no other.
+
+ghost use Rattle.std.specs.Prelude.{◌≡◌, ◌+◌, ◌≤◌, ◌^◌, length};
+ghost use Rattle.sharc_parse.specs.Goes.{from};
+ghost use Rattle.sharc_tree.specs.Tree.{return};
+ghost use Rattle.sharc_tree.specs.View.{view_expr, view_option};
+ghost use Rattle.sharc_parse.specs.Statements.{ReadsLineStatement, BuildsStatement, ReadsReturn, ReadsJump, EndsStatement, IsStatementPlaced, IsRestPlaced};
+
+use crate::head::tail;
+use crate::line::line;
+use crate::token::{Fault, expect, span};
+use sharc_tree::token::{Punctuator, Span, Token};
+use sharc_tree::tree::{Expr, ForFirst, Jump, Stmt};
+use std::alloc::Global;
+
+/// A line as a statement.
+#[tactic(auto, using(crate::proofs::PlainSteps::line_room, crate::proofs::PlainSteps::line_may))]
+pub(crate) fn line_statement(
+    alloc: Global,
+    tokens: &[Token],
+    at: &mut usize,
+    declares: bool,
+    room: u8,
+) -> Result<Stmt, Fault>
+    requires room { room ≤ 64 }
+    requires few { length tokens.now ≤ 2 ^ 20 }
+    requires there { at.old ≤ length tokens.now }
+    ensures reads { ReadsLineStatement declares room result (from tokens.now at.old) (from tokens.now at.new) }
+    ensures ends { EndsStatement result (from tokens.now at.new) }
+    ensures placed { IsStatementPlaced result tokens.now at.old at.new }
+    ensures onward { at.old ≤ at.new }
+    ensures within { at.new ≤ length tokens.now }
+{
+    let first = *at;
+    match line(alloc, tokens, at, declares, room == 0)? {
+        ForFirst::Nothing => Ok(Stmt::Empty(span(tokens, first, *at))),
+        ForFirst::Declares(local) => Ok(Stmt::Declare(
+            span(tokens, first, *at),
+            Box::new(alloc, local)?,
+        )),
+        ForFirst::Does(simple) => Ok(Stmt::Simple(
+            span(tokens, first, *at),
+            Box::new(alloc, simple)?,
+        )),
+    }
+}
+
+/// What follows the word `break` or `continue`.
+#[tactic(auto, using(crate::proofs::PlainSteps::jump_ends, crate::proofs::Steps::fixed_stuck))]
+pub(crate) fn rest_of_jump(tokens: &[Token], at: &mut usize, jump: Jump) -> Result<Stmt, Fault>
+    requires few { length tokens.now ≤ 2 ^ 20 }
+    requires behind { 1 ≤ at.old }
+    requires there { at.old ≤ length tokens.now }
+    ensures reads { ReadsJump jump result (from tokens.now at.old) (from tokens.now at.new) }
+    ensures ends { EndsStatement result (from tokens.now at.new) }
+    ensures placed { IsRestPlaced result tokens.now at.old at.new }
+    ensures onward { at.old ≤ at.new }
+    ensures within { at.new ≤ length tokens.now }
+{
+    let first = *at - 1;
+    expect(tokens, at, Punctuator::Semicolon)?;
+    Ok(Stmt::Jump(span(tokens, first, *at), jump))
+}
+
+/// A `return` of what it gives.
+fn return_of(alloc: Global, span: Span, given: Option<Expr>) -> Result<Stmt, Fault>
+    ensures { BuildsStatement result (return span (view_option view_expr given)) }
+{
+    let given = match given {
+        Some(expr) => Some(Box::new(alloc, expr)?),
+        None => None,
+    };
+    Ok(Stmt::Return(span, given))
+}
+
+/// What follows the word `return`.
+#[tactic(auto, using(crate::proofs::PlainSteps::return_wrong, crate::proofs::PlainSteps::return_reads, crate::proofs::PlainSteps::return_placed))]
+pub(crate) fn rest_of_return(alloc: Global, tokens: &[Token], at: &mut usize) -> Result<Stmt, Fault>
+    requires few { length tokens.now ≤ 2 ^ 20 }
+    requires behind { 1 ≤ at.old }
+    requires there { at.old ≤ length tokens.now }
+    ensures reads { ReadsReturn result (from tokens.now at.old) (from tokens.now at.new) }
+    ensures ends { EndsStatement result (from tokens.now at.new) }
+    ensures placed { IsRestPlaced result tokens.now at.old at.new }
+    ensures onward { at.old ≤ at.new }
+    ensures within { at.new ≤ length tokens.now }
+{
+    let first = *at - 1;
+    let given = tail(alloc, tokens, at)?;
+    return_of(alloc, span(tokens, first, *at), given)
+}

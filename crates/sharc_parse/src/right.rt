@@ -1,0 +1,71 @@
+// Reading what stands right of `=`.
+
+ghost use Rattle.std.specs.Prelude.{◌≤◌, ◌^◌, length};
+ghost use Rattle.sharc_parse.specs.Goes.{from};
+ghost use Rattle.sharc_parse.specs.Rights.{ReadsCount, IsCountPlaced, ReadsSized, IsSizedPlaced, ReadsRight, EndsRight, IsRightPlaced};
+
+use crate::expr::{binary, unary};
+use crate::token::{Fault, expect, expect_keyword, span, take_keyword};
+use crate::types::written;
+use sharc_tree::token::{Keyword, Punctuator, Token};
+use sharc_tree::tree::{Expr, Right, WrittenType};
+use std::alloc::Global;
+
+/// The count of a `malloc` with the `*` behind it, if there is one, and `sizeof`.
+#[tactic(auto, using(crate::proofs::RightSteps::count_begins, crate::proofs::RightSteps::count_goes, crate::proofs::RightSteps::count_stuck, crate::proofs::RightSteps::count_sizes, crate::proofs::RightSteps::sizeof_goes, crate::proofs::Steps::fixed_stuck))]
+fn count(alloc: Global, tokens: &[Token], at: &mut usize) -> Result<Option<Expr>, Fault>
+    requires few { length tokens.now ≤ 2 ^ 20 }
+    requires there { at.old ≤ length tokens.now }
+    ensures reads { ReadsCount result (from tokens.now at.old) (from tokens.now at.new) }
+    ensures placed { IsCountPlaced result tokens.now at.old at.new }
+    ensures onward { at.old ≤ at.new }
+    ensures within { at.new ≤ length tokens.now }
+{
+    if take_keyword(tokens, at, Keyword::Sizeof) {
+        return Ok(None);
+    }
+    let piece = unary(alloc, tokens, at, 64)?;
+    expect(tokens, at, Punctuator::Star)?;
+    expect_keyword(tokens, at, Keyword::Sizeof)?;
+    Ok(Some(piece.expr))
+}
+
+/// `( plain ) )` behind `sizeof`.
+#[tactic(auto, using(crate::proofs::RightSteps::size_closes, crate::proofs::RightSteps::size_stuck, crate::proofs::RightSteps::size_opens, crate::proofs::RightSteps::malloc_closes, crate::proofs::Steps::fixed_stuck))]
+fn sized(alloc: Global, tokens: &[Token], at: &mut usize) -> Result<WrittenType, Fault>
+    requires few { length tokens.now ≤ 2 ^ 20 }
+    requires there { at.old ≤ length tokens.now }
+    ensures reads { ReadsSized result (from tokens.now at.old) (from tokens.now at.new) }
+    ensures placed { IsSizedPlaced result tokens.now at.old at.new }
+    ensures onward { at.old ≤ at.new }
+    ensures within { at.new ≤ length tokens.now }
+{
+    expect(tokens, at, Punctuator::OpenParenthesis)?;
+    let plain = written(alloc, tokens, at, false)?;
+    expect(tokens, at, Punctuator::CloseParenthesis)?;
+    expect(tokens, at, Punctuator::CloseParenthesis)?;
+    Ok(plain)
+}
+
+/// What stands right of `=`.
+#[tactic(auto, using(crate::proofs::RightSteps::malloc_goes, crate::proofs::RightSteps::malloc_opens, crate::proofs::Steps::fixed_stuck))]
+pub(crate) fn right(alloc: Global, tokens: &[Token], at: &mut usize) -> Result<Right, Fault>
+    requires few { length tokens.now ≤ 2 ^ 20 }
+    requires there { at.old ≤ length tokens.now }
+    ensures reads { ReadsRight result (from tokens.now at.old) (from tokens.now at.new) }
+    ensures ends { EndsRight result (from tokens.now at.new) }
+    ensures placed { IsRightPlaced result tokens.now at.old at.new }
+    ensures onward { at.old ≤ at.new }
+    ensures within { at.new ≤ length tokens.now }
+{
+    let first = *at;
+    if take_keyword(tokens, at, Keyword::Malloc) {
+        expect(tokens, at, Punctuator::OpenParenthesis)?;
+        let count = count(alloc, tokens, at)?;
+        let written = sized(alloc, tokens, at)?;
+        Ok(Right::Malloc(span(tokens, first, *at), count, written))
+    } else {
+        let piece = binary(alloc, tokens, at, 1, 64)?;
+        Ok(Right::Value(piece.expr))
+    }
+}

@@ -1,0 +1,50 @@
+// Reading an assignment or a call.
+
+ghost use Rattle.std.specs.Prelude.{◌≡◌, ◌≤◌, ◌^◌, length};
+ghost use Rattle.sharc_grammar.specs.Grammar as grammar;
+ghost use Rattle.sharc_parse.specs.View.{phrase_of};
+ghost use Rattle.sharc_parse.specs.Goes.{from};
+ghost use Rattle.sharc_parse.specs.Simples.{ReadsSimple, EndsSimple, IsSimplePlaced};
+
+use crate::expr::unary;
+use crate::right::right;
+use crate::token::{Fault, span, take};
+use sharc_tree::token::{Punctuator, Token};
+use sharc_tree::tree::{Expr, Simple};
+use std::alloc::Global;
+
+/// Whether the expression is a call, which alone may stand as a statement.
+fn is_call(expr: &Expr) -> bool
+    ensures { result ≡ grammar.is_call (phrase_of expr.now) }
+{
+    match expr {
+        Expr::Call(_, _, _) => true,
+        Expr::Spawn(_, _, _) => true,
+        Expr::OnValue(_, _, _) => true,
+        Expr::OnPlace(_, _, _) => true,
+        _ => false,
+    }
+}
+
+/// An assignment or a call.
+#[tactic(auto, using(crate::proofs::SimpleSteps::assign_goes, crate::proofs::SimpleSteps::no_call_there))]
+pub(crate) fn simple(alloc: Global, tokens: &[Token], at: &mut usize) -> Result<Simple, Fault>
+    requires few { length tokens.now ≤ 2 ^ 20 }
+    requires there { at.old ≤ length tokens.now }
+    ensures reads { ReadsSimple result (from tokens.now at.old) (from tokens.now at.new) }
+    ensures ends { EndsSimple result (from tokens.now at.new) }
+    ensures placed { IsSimplePlaced result tokens.now at.old at.new }
+    ensures onward { at.old ≤ at.new }
+    ensures within { at.new ≤ length tokens.now }
+{
+    let first = *at;
+    let place = unary(alloc, tokens, at, 64)?;
+    if take(tokens, at, Punctuator::Assign) {
+        let right = right(alloc, tokens, at)?;
+        Ok(Simple::Assign(span(tokens, first, *at), place.expr, right))
+    } else if is_call(&place.expr) {
+        Ok(Simple::Call(place.expr))
+    } else {
+        Err(Fault::Wrong)
+    }
+}

@@ -1,0 +1,215 @@
+// Reading a statement, and the statements between braces.
+
+ghost use Rattle.std.specs.Prelude.{◌≡◌, true, ◌≤◌, ◌<◌, ◌^◌, length, IfOk};
+ghost use Rattle.sharc_tree.specs.Tree.{if_then, if_then_else, while, for};
+ghost use Rattle.sharc_tree.specs.View.{view_expr, view_stmt, view_head};
+ghost use Rattle.sharc_parse.specs.declared.word.StatementWord.TheVariants.{If, While, For};
+ghost use Rattle.sharc_parse.specs.Goes.{from};
+ghost use Rattle.sharc_parse.specs.Words.{room_of};
+ghost use Rattle.sharc_parse.specs.Statements.{BuildsStatement, ReadsStatement, EndsStatement, IsStatementPlaced, IsRestPlaced};
+ghost use Rattle.sharc_parse.specs.Nested.{IsOpen, ReadsRest, ReadsStatements, AreStatementsPlaced};
+
+use crate::head::head;
+use crate::plain::{line_statement, rest_of_jump, rest_of_return};
+use crate::token::{Fault, enter, span, take, take_keyword};
+use crate::word::{StatementWord, condition, statement_word};
+use sharc_tree::token::{Keyword, Punctuator, Span, Token};
+use sharc_tree::tree::{Expr, ForHead, Jump, Stmt};
+use std::alloc::Global;
+
+/// An `if` without `else`.
+fn if_of(alloc: Global, span: Span, test: Expr, then: Stmt) -> Result<Stmt, Fault>
+    ensures { BuildsStatement result (if_then span (view_expr test) (view_stmt then)) }
+{
+    let test = Box::new(alloc, test)?;
+    let then = Box::new(alloc, then)?;
+    Ok(Stmt::If(span, test, then))
+}
+
+/// An `if` with its `else`.
+fn else_of(
+    alloc: Global,
+    span: Span,
+    test: Expr,
+    then: Stmt,
+    otherwise: Stmt,
+) -> Result<Stmt, Fault>
+    ensures { BuildsStatement result (if_then_else span (view_expr test) (view_stmt then) (view_stmt otherwise)) }
+{
+    let test = Box::new(alloc, test)?;
+    let then = Box::new(alloc, then)?;
+    let otherwise = Box::new(alloc, otherwise)?;
+    Ok(Stmt::IfElse(span, test, then, otherwise))
+}
+
+/// A `while`.
+fn while_of(alloc: Global, span: Span, test: Expr, body: Stmt) -> Result<Stmt, Fault>
+    ensures { BuildsStatement result (while span (view_expr test) (view_stmt body)) }
+{
+    let test = Box::new(alloc, test)?;
+    let body = Box::new(alloc, body)?;
+    Ok(Stmt::While(span, test, body))
+}
+
+/// A `for`.
+fn for_of(alloc: Global, span: Span, head: ForHead, body: Stmt) -> Result<Stmt, Fault>
+    ensures { BuildsStatement result (for span (view_head head) (view_stmt body)) }
+{
+    let head = Box::new(alloc, head)?;
+    let body = Box::new(alloc, body)?;
+    Ok(Stmt::For(span, head, body))
+}
+
+/// A statement, or, where declarations may stand, a declaration and its `;`.
+#[cycle(statement)]
+#[tactic(auto, using(crate::proofs::NestedSteps::block_opens, crate::proofs::NestedSteps::block_deep, crate::proofs::NestedSteps::line_anywhere, crate::proofs::WordSteps::word_goes, crate::proofs::WordSteps::word_over))]
+pub(crate) fn statement(
+    alloc: Global,
+    tokens: &[Token],
+    at: &mut usize,
+    declares: bool,
+    room: u8,
+) -> Result<Stmt, Fault>
+    requires room { room ≤ 64 }
+    requires few { length tokens.now ≤ 2 ^ 20 }
+    requires there { at.old ≤ length tokens.now }
+    requires open { IsOpen declares (from tokens.now at.old) }
+    ensures reads { ReadsStatement declares room result (from tokens.now at.old) (from tokens.now at.new) }
+    ensures ends { EndsStatement result (from tokens.now at.new) }
+    ensures placed { IsStatementPlaced result tokens.now at.old at.new }
+    ensures further { IfOk result (λ _. at.old < at.new) }
+    ensures onward { at.old ≤ at.new }
+    ensures within { at.new ≤ length tokens.now }
+{
+    let first = *at;
+    if enter(tokens, at, Punctuator::OpenBrace, room)? {
+        let list = statements(alloc, tokens, at, room - 1)?;
+        return Ok(Stmt::of_block(span(tokens, first, *at), list));
+    }
+    let Some(word) = statement_word(tokens, at, room)? else {
+        return line_statement(alloc, tokens, at, declares, room);
+    };
+    rest_of_statement(alloc, tokens, at, word, room)
+}
+
+/// What follows the first word of a statement.
+#[cycle(statement)]
+fn rest_of_statement(
+    alloc: Global,
+    tokens: &[Token],
+    at: &mut usize,
+    word: StatementWord,
+    room: u8,
+) -> Result<Stmt, Fault>
+    requires enough { room_of word ≤ room }
+    requires room { room ≤ 64 }
+    requires few { length tokens.now ≤ 2 ^ 20 }
+    requires behind { 1 ≤ at.old }
+    requires there { at.old ≤ length tokens.now }
+    ensures reads { ReadsRest word room result (from tokens.now at.old) (from tokens.now at.new) }
+    ensures ends { EndsStatement result (from tokens.now at.new) }
+    ensures placed { IsRestPlaced result tokens.now at.old at.new }
+    ensures onward { at.old ≤ at.new }
+    ensures within { at.new ≤ length tokens.now }
+{
+    match word {
+        StatementWord::If => rest_of_if(alloc, tokens, at, room),
+        StatementWord::While => rest_of_while(alloc, tokens, at, room),
+        StatementWord::For => rest_of_for(alloc, tokens, at, room),
+        StatementWord::Return => rest_of_return(alloc, tokens, at),
+        StatementWord::Break => rest_of_jump(tokens, at, Jump::Break),
+        StatementWord::Continue => rest_of_jump(tokens, at, Jump::Continue),
+    }
+}
+
+/// What follows the word `if`.
+#[cycle(statement)]
+#[tactic(auto, using(crate::proofs::NestedSteps::else_goes, crate::proofs::NestedSteps::if_ends, crate::proofs::NestedSteps::else_ends))]
+fn rest_of_if(alloc: Global, tokens: &[Token], at: &mut usize, room: u8) -> Result<Stmt, Fault>
+    requires two { 2 ≤ room }
+    requires room { room ≤ 64 }
+    requires few { length tokens.now ≤ 2 ^ 20 }
+    requires behind { 1 ≤ at.old }
+    requires there { at.old ≤ length tokens.now }
+    ensures reads { ReadsRest If room result (from tokens.now at.old) (from tokens.now at.new) }
+    ensures ends { EndsStatement result (from tokens.now at.new) }
+    ensures placed { IsRestPlaced result tokens.now at.old at.new }
+    ensures onward { at.old ≤ at.new }
+    ensures within { at.new ≤ length tokens.now }
+{
+    let first = *at - 1;
+    let test = condition(alloc, tokens, at)?;
+    let then = statement(alloc, tokens, at, false, room - 1)?;
+    if take_keyword(tokens, at, Keyword::Else) {
+        let otherwise = statement(alloc, tokens, at, false, room - 1)?;
+        return else_of(alloc, span(tokens, first, *at), test, then, otherwise);
+    }
+    if_of(alloc, span(tokens, first, *at), test, then)
+}
+
+/// What follows the word `while`.
+#[cycle(statement)]
+#[tactic(auto, using(crate::proofs::NestedSteps::while_ends))]
+fn rest_of_while(alloc: Global, tokens: &[Token], at: &mut usize, room: u8) -> Result<Stmt, Fault>
+    requires two { 2 ≤ room }
+    requires room { room ≤ 64 }
+    requires few { length tokens.now ≤ 2 ^ 20 }
+    requires behind { 1 ≤ at.old }
+    requires there { at.old ≤ length tokens.now }
+    ensures reads { ReadsRest While room result (from tokens.now at.old) (from tokens.now at.new) }
+    ensures ends { EndsStatement result (from tokens.now at.new) }
+    ensures placed { IsRestPlaced result tokens.now at.old at.new }
+    ensures onward { at.old ≤ at.new }
+    ensures within { at.new ≤ length tokens.now }
+{
+    let first = *at - 1;
+    let test = condition(alloc, tokens, at)?;
+    let body = statement(alloc, tokens, at, false, room - 1)?;
+    while_of(alloc, span(tokens, first, *at), test, body)
+}
+
+/// What follows the word `for`.
+#[cycle(statement)]
+#[tactic(auto, using(crate::proofs::NestedSteps::for_ends))]
+fn rest_of_for(alloc: Global, tokens: &[Token], at: &mut usize, room: u8) -> Result<Stmt, Fault>
+    requires two { 2 ≤ room }
+    requires room { room ≤ 64 }
+    requires few { length tokens.now ≤ 2 ^ 20 }
+    requires behind { 1 ≤ at.old }
+    requires there { at.old ≤ length tokens.now }
+    ensures reads { ReadsRest For room result (from tokens.now at.old) (from tokens.now at.new) }
+    ensures ends { EndsStatement result (from tokens.now at.new) }
+    ensures placed { IsRestPlaced result tokens.now at.old at.new }
+    ensures onward { at.old ≤ at.new }
+    ensures within { at.new ≤ length tokens.now }
+{
+    let first = *at - 1;
+    let head = head(alloc, tokens, at)?;
+    let body = statement(alloc, tokens, at, false, room - 1)?;
+    for_of(alloc, span(tokens, first, *at), head, body)
+}
+
+/// The statements and declarations behind a `{`, and the `}`.
+#[cycle(statement)]
+#[tactic(auto, using(crate::proofs::NestedSteps::first_statements, crate::proofs::NestedSteps::one_statement_more, crate::proofs::NestedSteps::statements_read))]
+pub(crate) fn statements(
+    alloc: Global,
+    tokens: &[Token],
+    at: &mut usize,
+    room: u8,
+) -> Result<Vec<Stmt>, Fault>
+    requires room { room < 64 }
+    requires few { length tokens.now ≤ 2 ^ 20 }
+    requires there { at.old ≤ length tokens.now }
+    ensures reads { ReadsStatements (λ v. v.items) room result (from tokens.now at.old) (from tokens.now at.new) }
+    ensures placed { AreStatementsPlaced (λ v. v.items) result tokens.now at.old at.new }
+    ensures onward { at.old ≤ at.new }
+    ensures within { at.new ≤ length tokens.now }
+{
+    let mut list = Vec::new(alloc);
+    while !take(tokens, at, Punctuator::CloseBrace) {
+        let statement = statement(alloc, tokens, at, true, room)?;
+        list.push(statement)?;
+    }
+    Ok(list)
+}

@@ -1,0 +1,66 @@
+// Reading the words that statements begin with, and conditions.
+
+ghost use Rattle.std.specs.Prelude.{◌≤◌, ◌^◌, length};
+ghost use Rattle.sharc_parse.specs.Goes.{from};
+ghost use Rattle.sharc_parse.specs.Words.{EntersStatement, ReadsCondition, IsConditionPlaced};
+
+use crate::expr::binary;
+use crate::token::{Fault, expect};
+use sharc_tree::token::{Keyword, Punctuator, Token, TokenKind};
+use sharc_tree::tree::Expr;
+use std::alloc::Global;
+
+/// The word that a statement begins with.
+#[derive(Clone, Copy, PartialEq, Eq, Debug, Drop)]
+pub(crate) enum StatementWord {
+    If,
+    While,
+    For,
+    Return,
+    Break,
+    Continue,
+}
+
+/// Goes past the word that a statement begins with, where there is room.
+pub(crate) fn statement_word(
+    tokens: &[Token],
+    at: &mut usize,
+    room: u8,
+) -> Result<Option<StatementWord>, Fault>
+    ensures { EntersStatement result room tokens.now at.old at.new }
+{
+    if *at >= tokens.len() {
+        return Ok(None);
+    }
+    let token = &tokens[*at];
+    let (word, least) = match token.kind {
+        TokenKind::Keyword(Keyword::If) => (StatementWord::If, 2),
+        TokenKind::Keyword(Keyword::While) => (StatementWord::While, 2),
+        TokenKind::Keyword(Keyword::For) => (StatementWord::For, 2),
+        TokenKind::Keyword(Keyword::Return) => (StatementWord::Return, 1),
+        TokenKind::Keyword(Keyword::Break) => (StatementWord::Break, 1),
+        TokenKind::Keyword(Keyword::Continue) => (StatementWord::Continue, 1),
+        _ => return Ok(None),
+    };
+    if room < least {
+        return Err(Fault::Deep);
+    }
+    *at += 1;
+    Ok(Some(word))
+}
+
+/// The condition of an `if` or a `while`, with its parentheses.
+#[tactic(auto, using(crate::proofs::WordSteps::condition_opens, crate::proofs::WordSteps::condition_ends, crate::proofs::WordSteps::condition_stuck, crate::proofs::Steps::fixed_stuck))]
+pub(crate) fn condition(alloc: Global, tokens: &[Token], at: &mut usize) -> Result<Expr, Fault>
+    requires few { length tokens.now ≤ 2 ^ 20 }
+    requires there { at.old ≤ length tokens.now }
+    ensures reads { ReadsCondition result (from tokens.now at.old) (from tokens.now at.new) }
+    ensures placed { IsConditionPlaced result tokens.now at.old at.new }
+    ensures onward { at.old ≤ at.new }
+    ensures within { at.new ≤ length tokens.now }
+{
+    expect(tokens, at, Punctuator::OpenParenthesis)?;
+    let piece = binary(alloc, tokens, at, 1, 64)?;
+    expect(tokens, at, Punctuator::CloseParenthesis)?;
+    Ok(piece.expr)
+}
