@@ -13,3 +13,4 @@ pub mod NestedSteps
 pub mod ParameterSteps
 pub mod ItemSteps
 pub mod ProgramSteps
+pub mod FaultLaws

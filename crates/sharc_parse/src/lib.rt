@@ -10,6 +10,7 @@ mod field;
 mod form;
 mod head;
 mod item;
+pub mod laws;
 mod line;
 mod local;
 mod parameter;

@@ -1,15 +1,10 @@
 -- What a reply is a reply to.
-use Rattle.std.proofs.Common.{◌≡◌, ℕ, ◌+◌, ◌<◌, ◌≤◌, List, [], ◌∷◌, length, get_or, map, Option, Some, None, IfSome, unwrap_or, refl, arith, ap, sym, ◌∙◌, replicate, codes, Ok, string_bytes, String, Global, ◌↔◌, IsTrue, Bool, true, false, inl, inr}
+use Rattle.std.proofs.Common.{◌≡◌, ℕ, ◌+◌, ◌<◌, ◌≤◌, List, [], ◌∷◌, length, get_or, map, Option, Some, None, IfSome, unwrap_or, refl, arith, ap, sym, ◌∙◌, replicate, codes, string_bytes, String, Global, ◌↔◌, IsTrue, Bool, true, false, inl, inr}
 use Rattle.std.proofs.lemmas.List.{length-replicate}
 use Rattle.std.proofs.lemmas.Slice.Eq.{bytes_eq-Decides}
 use Rattle.std.specs.Str.{bytes_eq}
-use Rattle.sharc_tree.specs.declared.token.Tokens.{Tokens}
-use Rattle.sharc_lex.specs.Grammar.{reading}
-use Rattle.sharc_top.specs.declared.symbol.Symbol.{Symbol}
-use Rattle.sharc_top.specs.Symbols.{symbol_of}
-use Rattle.sharc_top.specs.Sums.{Writes}
-use Rattle.sharc_top.specs.Text.{line, numbers_text}
-use Rattle.sharc_top.specs.Reply.{IsRun, Runs, refused, printed, not_built, Replies, IsReply, usage, too_long, run}
+use Rattle.sharc_top.specs.Text.{line}
+use Rattle.sharc_top.specs.Reply.{IsRun, Runs, not_lexed, not_parsed, printed, not_built, Replies, IsReply, usage, too_long, run}
 use Rattle.sharc_top.specs.Status.{IsOfReply, IsOfSilence}
 
 -- what a source has left, where it tells it
@@ -41,14 +36,6 @@ is_run_word words word r e h =
     let f : map string_bytes words ≡ string_bytes word ∷ [] = ap (map string_bytes) e in
     (λ t. f ∙ ap (λ w. w ∷ []) (d.0 (sym h ∙ t)), λ k. h ∙ d.1 (let g : string_bytes word ∷ [] ≡ codes "run" ∷ [] = sym f ∙ k in cc))
 
-pub run_prints : (source : List ℕ) (tokens : Tokens) (symbols : List Symbol) (values text : List ℕ) → reading source ≡ Ok tokens
-    → symbols ≡ map symbol_of tokens.list → Writes symbols values → text ≡ numbers_text values → Runs source 0 text
-run_prints source tokens symbols values text h e w t = rw t (printed tokens values h (rw e at w))
-
-pub run_unbuilt : (source : List ℕ) (tokens : Tokens) (symbols text : List _) → reading source ≡ Ok tokens
-    → symbols ≡ map symbol_of tokens.list → ((ns : List ℕ) → Writes symbols ns → ⊥) → text ≡ line (codes "form not built") → Runs source 7 text
-run_unbuilt source tokens symbols text h e none t = rw t (not_built tokens h (λ ns w. none ns (rw (← e) at w)))
-
 pub reply_usage : (words : List (List ℕ)) (left : Option (List ℕ)) (code : ℕ) (text : List ℕ) → IsTrue false ↔ IsRun words
     → code ≡ 8 → text ≡ line (codes "usage: run") → IsReply words left code text
 reply_usage words left code text h c t =
@@ -66,9 +53,10 @@ pub reply_run : (words : List (List ℕ)) (left : Option (List ℕ)) (source : L
 reply_run words left source code text h told short runs = record { input = source; told = told; reply = run code text (h.0 refl) short runs }
 
 run_status : (source : List ℕ) (n : ℕ) (text : List ℕ) → Runs source n text → IsOfReply n
-run_status source n text (refused at h) = inr (inl refl)
-run_status source n text (printed tokens numbers h w) = inl refl
-run_status source n text (not_built tokens h none) = inr (inr (inl refl))
+run_status source n text (not_lexed at h) = inr (inl refl)
+run_status source n text (not_parsed tokens at h f) = inr (inl refl)
+run_status source n text (printed tokens p numbers h r w) = inl refl
+run_status source n text (not_built tokens p h r none) = inr (inr (inl refl))
 
 reply_status : (words : List (List ℕ)) (input : List ℕ) (n : ℕ) (text : List ℕ) → Replies words input n text → IsOfReply n
 reply_status words input n text (usage h) = inr (inr (inr refl))

@@ -1,6 +1,5 @@
-pub mod Reading
+pub mod Arithmetic
 pub mod Reply
 pub mod Status
-pub mod Sums
-pub mod Symbols
 pub mod Text
+pub mod TreeSums

@@ -1,14 +1,16 @@
 -- What the program writes for its words and its input, and with which status it ends.
-use Rattle.std.specs.Prelude.{◌≡◌, ℕ, ◌<◌, ◌≤◌, List, [], ◌∷◌, map, length, take, codes, Option, IfSome, Ok, Err}
+use Rattle.std.specs.Prelude.{◌≡◌, ℕ, ◌<◌, ◌≤◌, List, [], ◌∷◌, length, take, codes, Option, Some, None, IfSome, Ok, Err}
 use Rattle.std.specs.Io.KnownBytes.{Appends}
 use Rattle.sharc_tree.specs.declared.token.FaultAt.{FaultAt}
 use Rattle.sharc_tree.specs.declared.token.Tokens.{Tokens}
+use Rattle.sharc_tree.specs.Tree.{Program}
 use Rattle.sharc_lex.specs.Grammar.{reading}
+use Rattle.sharc_grammar.specs.Places.{Reads}
+use Rattle.sharc_parse.specs.Programs.{IsFaultOf}
 use Rattle.sharc_report.specs.Refusals.{refusal_line}
-use Rattle.sharc_report.specs.declared.refusal.Stage.TheVariants.{Lexer}
-use Rattle.sharc_top.specs.Sums.{Writes}
-use Rattle.sharc_top.specs.Symbols.{symbol_of}
+use Rattle.sharc_report.specs.declared.refusal.Stage.TheVariants.{Lexer, Parser}
 use Rattle.sharc_top.specs.Text.{line, numbers_text}
+use Rattle.sharc_top.specs.TreeSums.{program_values}
 
 -- the words are the one command
 abbrev pub IsRun : List (List ℕ) → Type 0
@@ -20,9 +22,11 @@ source_limit = 1048576
 
 -- what `run` writes for a source within the limit, and its status
 pub data Runs (source : List ℕ) : ℕ → List ℕ → Type 0 where
-  refused : (at : FaultAt) → reading source ≡ Err at → Runs source 2 (refusal_line Lexer at)
-  printed : (tokens : Tokens) (numbers : List ℕ) → reading source ≡ Ok tokens → Writes (map symbol_of tokens.list) numbers → Runs source 0 (numbers_text numbers)
-  not_built : (tokens : Tokens) → reading source ≡ Ok tokens → ((numbers : List ℕ) → Writes (map symbol_of tokens.list) numbers → ⊥)
+  not_lexed : (at : FaultAt) → reading source ≡ Err at → Runs source 2 (refusal_line Lexer at)
+  not_parsed : (tokens : Tokens) (at : FaultAt) → reading source ≡ Ok tokens → IsFaultOf tokens at → Runs source 2 (refusal_line Parser at)
+  printed : (tokens : Tokens) (p : Program) (numbers : List ℕ) → reading source ≡ Ok tokens → Reads tokens p → program_values p ≡ Some numbers
+      → Runs source 0 (numbers_text numbers)
+  not_built : (tokens : Tokens) (p : Program) → reading source ≡ Ok tokens → Reads tokens p → program_values p ≡ None
       → Runs source 7 (line (codes "form not built"))
 
 -- what is written for the words and the input, and the status

@@ -3,12 +3,14 @@
 //! The program calls [`sharc_top`]; `Replies` of specs/Reply.antt says what it writes and with which status it ends.
 #![tactic(auto)]
 
+mod arithmetic;
+#[cfg(test)]
+mod reading_tests;
 mod reply;
-mod sums;
-mod symbol;
 #[cfg(test)]
 mod tests;
 mod text;
 mod top;
+mod tree_sums;
 
 pub use top::sharc_top;

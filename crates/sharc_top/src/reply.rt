@@ -1,17 +1,19 @@
 //! What is written for the words and the input.
 
-ghost use Rattle.std.specs.Prelude.{◌≡◌, ◌≤◌, ◌++◌, ◌∷◌, [], ◌↔◌, length, map, string_bytes, IfOk, IsTrue, IsErrOf};
+ghost use Rattle.std.specs.Prelude.{◌≡◌, ◌≤◌, ◌++◌, ◌∷◌, [], ◌↔◌, length, map, string_bytes, IfOk, IsSome, IsTrue, IsErrOf};
 ghost use Rattle.sharc_io.specs.Causes.{Rose};
+ghost use Rattle.sharc_report.specs.Refusals.{message_of, refusal_line};
 ghost use Rattle.sharc_top.specs.Text.{line};
 ghost use Rattle.sharc_top.specs.Reply.{IsRun, Runs, IsReply};
 ghost use Rattle.sharc_top.specs.Status.{code_of};
 
-use crate::sums::numbers;
-use crate::symbol::symbols;
 use crate::text::numbers_text;
+use crate::tree_sums::program_values;
 use sharc_io::{ReadError, Source, read_all};
 use sharc_lex::{LexFault, lex};
+use sharc_parse::{ParseFault, parse};
 use sharc_report::{Stage, fault_text};
+use sharc_tree::token::FaultAt;
 use std::alloc::{AllocError, Global};
 
 /// The largest source, in bytes (own).
@@ -88,6 +90,18 @@ fn line_reply(alloc: Global, status: Status, text: &[u8]) -> Result<Reply, Alloc
     })
 }
 
+/// The line of a source that is refused.
+fn refusal(alloc: Global, stage: Stage, at: &FaultAt) -> Result<Reply, AllocError>
+    requires { IsSome (message_of stage at.now) }
+    ensures { IfOk result (λ reply. (code_of reply.status ≡ 2) × (reply.text.items ≡ refusal_line stage at.now)) }
+{
+    let text = fault_text(alloc, stage, at)?;
+    Ok(Reply {
+        status: Status::Refused,
+        text,
+    })
+}
+
 /// What `run` writes for a source within the limit.
 fn run(alloc: Global, source: &[u8]) -> Result<Reply, AllocError>
     requires { length source.now ≤ SOURCE_LIMIT }
@@ -95,17 +109,15 @@ fn run(alloc: Global, source: &[u8]) -> Result<Reply, AllocError>
 {
     let tokens = match lex(alloc, source) {
         Ok(tokens) => tokens,
-        Err(LexFault::At(at)) => {
-            let text = fault_text(alloc, Stage::Lexer, &at)?;
-            return Ok(Reply {
-                status: Status::Refused,
-                text,
-            });
-        }
+        Err(LexFault::At(at)) => return refusal(alloc, Stage::Lexer, &at),
         Err(LexFault::Memory) => return Err(AllocError),
     };
-    let symbols = symbols(alloc, &tokens.list)?;
-    match numbers(alloc, &symbols)? {
+    let program = match parse(alloc, tokens) {
+        Ok(program) => program,
+        Err(ParseFault::At(at, _)) => return refusal(alloc, Stage::Parser, &at),
+        Err(ParseFault::Memory) => return Err(AllocError),
+    };
+    match program_values(alloc, &program)? {
         Some(values) => {
             let text = numbers_text(alloc, &values)?;
             Ok(Reply {
@@ -113,10 +125,7 @@ fn run(alloc: Global, source: &[u8]) -> Result<Reply, AllocError>
                 text,
             })
         }
-        None => {
-            let reply = line_reply(alloc, Status::NotBuilt, b"form not built")?;
-            Ok(reply)
-        }
+        None => line_reply(alloc, Status::NotBuilt, b"form not built"),
     }
 }
 

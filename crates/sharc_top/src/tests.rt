@@ -108,6 +108,7 @@ fn prints_products_and_sums_in_order(rt: HostRuntime) -> Result<(), Fail> {
             "1\n14\n",
         ),
         ("int main(void) { return 0; }", ""),
+        ("int main(void) { print(6 * 7); return 00; }", "42\n"),
         (
             "# 7 \"a.c\"\nint\tmain ( void ) {\r\nprint(0x10 + 010 + 0);\n# 1 \"b.c\" 2\nreturn 0;}",
             "24\n",
@@ -131,10 +132,11 @@ fn a_form_that_is_not_built_is_said(rt: HostRuntime) -> Result<(), Fail> {
         "int main(void) { print(2147483647 * 2); return 0; }",
         "int main(void) { print(2147483647 + 1); return 0; }",
         "int main(void) { print(2147483648); return 0; }",
-        "int main(void) { print(1 -); return 0; }",
-        "int main(void) { print(6 * 7); return 0; } int",
-        "int main(void) { print(6 * 7); return 00; }",
-        "int main(void) { print(+1); return 0; }",
+        "int main(void) { print(3 - 1); return 0; }",
+        "int main(void) { print(-1); return 0; }",
+        "int main(void) { print(6 * 7); return 0; } int x;",
+        "int main(void) { print(6 * 7); return 1; }",
+        "int main(void) { print(6 * 7); }",
         "int man(void) { return 0; }",
     ] {
         let found = answered(rt.alloc(), &["run"], source.as_bytes())?;
@@ -173,6 +175,59 @@ fn a_fault_of_the_lexer_has_its_line(rt: HostRuntime) -> Result<(), Fail> {
         let found = answered(rt.alloc(), &["run"], source.as_bytes())?;
         assert_eq!(rt; found.status, 2, "{source}");
         assert_eq!(rt; found.text.as_slice(), line.as_bytes(), "{source}");
+    }
+    Ok(())
+}
+
+#[test]
+fn a_fault_of_the_parser_has_its_line(rt: HostRuntime) -> Result<(), Fail> {
+    for (source, line) in [
+        (
+            "# 5 \"t.c\"\nint main(void) { print(1 +); return 0; }",
+            "t.c:5: P1 unexpected ')'\n",
+        ),
+        ("struct s { int n;", "input:1: P1 unexpected end of input\n"),
+        (
+            "int main(void) { int x; x++; }",
+            "input:1: P3 left out '++'\n",
+        ),
+        (
+            "int *********p; int main(void) { return 0; }",
+            "input:1: P2 nesting over 64\n",
+        ),
+    ] {
+        let found = answered(rt.alloc(), &["run"], source.as_bytes())?;
+        assert_eq!(rt; found.status, 2, "{source}");
+        assert_eq!(rt; found.text.as_slice(), line.as_bytes(), "{source}");
+    }
+    Ok(())
+}
+
+#[test]
+fn blocks_one_inside_the_other_are_limited(rt: HostRuntime) -> Result<(), Fail> {
+    for (count, line) in [
+        (64, "input:1: P1 unexpected end of input\n"),
+        (65, "input:1: P2 nesting over 64\n"),
+    ] {
+        let mut source = b"int main(void) ".to_vec(rt.alloc())?;
+        source.resize(source.len() + count, b'{')?;
+        let found = answered(rt.alloc(), &["run"], &source)?;
+        assert_eq!(rt; found.status, 2);
+        assert_eq!(rt; found.text.as_slice(), line.as_bytes());
+    }
+    Ok(())
+}
+
+#[test]
+fn a_source_that_is_cut_off_has_one_line(rt: HostRuntime) -> Result<(), Fail> {
+    let source = b"int main(void) { print(1 + 2); return 0; }".as_slice();
+    assert_eq!(rt; source.len(), 42);
+    for len in 1..source.len() {
+        let found = answered(rt.alloc(), &["run"], &source[..len])?;
+        assert_eq!(rt; found.status, 2, "{len}");
+        assert!(rt; found.text.starts_with(b"input:1: P1 "), "{len}");
+        let line_end = found.text.iter().position(|byte| *byte == b'\n');
+        assert_eq!(rt; line_end, found.text.len().checked_sub(1), "{len}");
     }
     Ok(())
 }

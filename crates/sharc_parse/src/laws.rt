@@ -1,0 +1,18 @@
+//! The laws of what the parser answers, each the contract of a function that does nothing.
+
+ghost use Rattle.std.specs.Prelude.{◌≡◌};
+ghost use Rattle.sharc_tree.specs.Tree.{Program};
+ghost use Rattle.sharc_tree.specs.declared.token.FaultAt.{FaultAt};
+ghost use Rattle.sharc_tree.specs.declared.token.Tokens.{Tokens};
+ghost use Rattle.sharc_grammar.specs.Places.{Reads};
+ghost use Rattle.sharc_parse.specs.Programs.{IsFaultOf};
+
+/// Tokens that are a program have no fault.
+pub fn programs_have_no_fault()
+    ensures { (tokens : Tokens) → (p : Program) → (fault : FaultAt) → Reads tokens p → IsFaultOf tokens fault → ⊥ }
+{}
+
+/// Tokens have one fault at most: its code, its place and what it tells are determined.
+pub fn one_fault()
+    ensures { (tokens : Tokens) → (a : FaultAt) → (b : FaultAt) → IsFaultOf tokens a → IsFaultOf tokens b → a ≡ b }
+{}
