@@ -1,33 +1,45 @@
 -- What the grammar reads are tokens in order, each the slice of its span, with white space and line markers alone between them.
-use Rattle.std.proofs.Common.{◌≡◌, ℕ, zero, suc, ◌+◌, ◌-◌, ◌<◌, ◌≤◌, ◌==◌, min, true, cond, List, [], ◌∷◌, ◌++◌, length, get_or, take, drop, slice_index, Result, Ok, Err, sym, refl, ap, ◌∙◌, subst, inl, inr, arith, add-zero, length-drop, length-take-le, get_or-drop}
+use Rattle.std.proofs.Common.{◌≡◌, ℕ, zero, suc, ◌+◌, ◌-◌, ◌<◌, ◌≤◌, ◌==◌, min, Bool, true, false, cond, List, [], ◌∷◌, ◌++◌, length, get_or, take, drop, slice_index, Result, Ok, Err, sym, refl, ap, ◌∙◌, subst, inl, inr, arith, add-zero, one-add, length-drop, length-take-le, get_or-drop}
 use Rattle.std.specs.Prelude.{ok_or, not, All}
-use Rattle.std.specs.List.{prefix_len}
-use Rattle.std.proofs.lemmas.Bool.{cases_lt, eqb-true, le-leb}
+use Rattle.std.specs.List.{prefix_len, position_or_len}
+use Rattle.std.proofs.lemmas.Bool.{cases_lt, eqb-true}
 use Rattle.std.proofs.lemmas.List.{drop-drop, take-append-le, take-append-drop}
 use Rattle.std.proofs.lemmas.List.Elements.{All-nil, All-cons, All-append, All-weaker}
 use Rattle.std.proofs.lemmas.List.Sums.{prefix_len-le-length, passes_at_first}
 use Rattle.sharc_tree.specs.declared.token.Token.{Token}
-use Rattle.sharc_tree.specs.declared.token.Tokens.{Tokens}
 use Rattle.sharc_lex.specs.declared.fault.Fault.{Fault}
 use Rattle.sharc_lex.specs.declared.fault.Fault.TheVariants as fault
 use Rattle.sharc_lex.specs.declared.fault.Place.{Place}
 use Rattle.sharc_lex.specs.declared.token_at.Lexeme.{Lexeme}
 use Rattle.sharc_lex.specs.Bytes.{is_white_space, is_blank}
 use Rattle.sharc_lex.specs.Files.{with_file}
-use Rattle.sharc_lex.specs.Grammar.{Read, tokens_of, token, at_offset, behind_tokens, marker_line, text_line, line_read, marked, with_tokens, with_place, lines_read, lines_of, opening, tokens_read, reading, IsWithin, ◌>>=◌}
-use Rattle.sharc_lex.specs.Laws.{line_at, BeginsLine, IsBetween, IsSlice, Covers, AreTokensOf}
+use Rattle.sharc_lex.specs.Grammar.{Read, tokens_of, token, at_offset, behind_tokens, marker_line, text_line, line_read, marked, with_tokens, with_place, IsWithin, ◌>>=◌}
+use Rattle.sharc_lex.specs.Laws.{IsLongest, IsBetween, IsSlice, Covers}
+use Rattle.sharc_lex.specs.Lines.{line_at, BeginsLine}
 use Rattle.sharc_lex.specs.Markers.{is_marker_line, marker}
-use Rattle.sharc_lex.specs.TokenAt.{LiesIn, token_at}
-use Rattle.sharc_lex.proofs.LexemeLemmas.{token_lies}
+use Rattle.sharc_lex.specs.TokenAt.{token_at}
+use Rattle.sharc_lex.proofs.LongestLemmas.{token_longest}
 use Rattle.sharc_lex.proofs.ReadingLemmas.{lines_from, lines_from-first, lines_from-end, len_of}
-use Rattle.sharc_lex.proofs.WithinLemmas.{chosen, bind_ok, ok_injective, with_file-length, with_place-ok, behind_tokens-ok, within_line}
+use Rattle.sharc_lex.proofs.WithinLemmas.{chosen, bind_ok, ok_injective, with_file-length, with_place-ok, behind_tokens-ok}
+
+-- the bytes up to the first newline, and those behind the first of them
+abbrev line_of : List ℕ → List ℕ
+line_of l = take (position_or_len (λ b. b == 10) l) l
+
+tail_of_line : (l : List ℕ) (b : ℕ) (bytes : List ℕ) → b ∷ bytes ≡ line_of l → bytes ≡ line_of (drop 1 l)
+tail_of_line [] b bytes e = cc
+tail_of_line (x ∷ l) b bytes e = by_test (x == 10) e
+  where
+    by_test : (t : Bool) → b ∷ bytes ≡ take (cond (not t) (1 + position_or_len (λ b. b == 10) l) 0) (x ∷ l) → bytes ≡ line_of l
+    by_test true e = cc
+    by_test false e = let first : b ∷ bytes ≡ x ∷ line_of l = e ∙ rw one-add refl in cc
 
 at_offset-ok : {A : Type 0} (offset : ℕ) (r : Result A Fault) (x : A) → at_offset offset r ≡ Ok x → r ≡ Ok x
 at_offset-ok offset (Ok y) x e = cc
 at_offset-ok offset (Err f) x e = cc
 
 module _ (source : List ℕ) where
-  empty : (low high : ℕ) → low ≡ high → IsBetween source low high
+  pub empty : (low high : ℕ) → low ≡ high → IsBetween source low high
   empty low high same = record { ordered = omega arith; each = λ k from until. absurd (omega arith) }
 
   joined : (low mid high : ℕ) → IsBetween source low mid → IsBetween source mid high → IsBetween source low high
@@ -36,7 +48,7 @@ module _ (source : List ℕ) where
     each = λ k from until. elim (cases_lt k mid) [ inl below ↦ front.each k from below | inr above ↦ back.each k above until ];
   }
 
-  renumbered : (low high low' high' : ℕ) (ts : List Token) → low ≡ low' → high ≡ high' → Covers source low high ts → Covers source low' high' ts
+  pub renumbered : (low high low' high' : ℕ) (ts : List Token) → low ≡ low' → high ≡ high' → Covers source low high ts → Covers source low' high' ts
   renumbered low high low' high' ts a b covers = subst (λ h. Covers source low' h ts) b (subst (λ l. Covers source l high ts) a covers)
 
   covers_behind : (low mid high : ℕ) (ts : List Token) → IsBetween source low mid → Covers source mid high ts → Covers source low high ts
@@ -52,7 +64,7 @@ module _ (source : List ℕ) where
   covers_to_end low mid high (t ∷ ts) front back = (front.0, front.1, covers_to_end t.until mid high ts front.2 back)
 
   -- as many tokens as bytes at most
-  covers_count : (low high : ℕ) (ts : List Token) → Covers source low high ts → low + length ts ≤ high
+  pub covers_count : (low high : ℕ) (ts : List Token) → Covers source low high ts → low + length ts ≤ high
   covers_count low high [] covers = omega (arith, covers.ordered)
   covers_count low high (t ∷ ts) covers = let rest = covers_count t.until high ts covers.2 in omega (arith, covers.0.ordered, covers.1.some)
 
@@ -68,60 +80,78 @@ module _ (source : List ℕ) where
     each = λ k from until. let same : offset ≡ k = omega arith in inl (subst (λ i. is_white_space (slice_index source i) ≡ true) same white);
   }
 
-  token_slice : (place : Place) (offset : ℕ) (bytes rest : List ℕ) (found : Lexeme) → drop offset source ≡ bytes ++ rest → LiesIn bytes found → IsSlice source (token place offset bytes found)
-  token_slice place offset bytes rest found at lies =
+  next_line : (offset b : ℕ) (bytes : List ℕ) → b ∷ bytes ≡ line_at source offset → bytes ≡ line_at source (offset + 1)
+  next_line offset b bytes line = tail_of_line (drop offset source) b bytes line ∙ ap line_of (drop-drop _ _ source)
+
+  token_slice : (place : Place) (offset : ℕ) (bytes rest : List ℕ) (found : Lexeme) → drop offset source ≡ bytes ++ rest → bytes ≡ line_at source offset → IsLongest bytes found → IsSlice source (token place offset bytes found)
+  token_slice place offset bytes rest found at line longest =
       let len : offset + found.len - offset ≡ found.len = omega arith in
+      let same_len : IsLongest bytes (record { len = offset + found.len - offset; kind = found.kind }) = subst (λ n. IsLongest bytes (record { len = n; kind = found.kind })) (sym len) longest in
       record {
-        some = omega (arith, lies.some);
-        text = sym (ap (λ n. take n (drop offset source)) len ∙ ap (take found.len) at ∙ take-append-le found.len bytes rest lies.within);
+        some = omega (arith, longest.lies.some);
+        text = sym (ap (λ n. take n (drop offset source)) len ∙ ap (take found.len) at ∙ take-append-le found.len bytes rest longest.lies.within);
+        longest = subst (λ l. IsLongest l (record { len = offset + found.len - offset; kind = found.kind })) line same_len;
       }
 
-  covers_tokens : (place : Place) (taken offset : ℕ) (bytes rest : List ℕ) (ts : List Token) → drop offset source ≡ bytes ++ rest → taken ≤ length bytes → tokens_of place taken offset bytes ≡ Ok ts → Covers source (offset + taken) (offset + length bytes) ts
-  covers_tokens place taken offset [] rest ts at inside e =
+  covers_tokens : (place : Place) (taken offset : ℕ) (bytes rest : List ℕ) (ts : List Token) → drop offset source ≡ bytes ++ rest → bytes ≡ line_at source offset → taken ≤ length bytes → tokens_of place taken offset bytes ≡ Ok ts → Covers source (offset + taken) (offset + length bytes) ts
+  covers_tokens place taken offset [] rest ts at line inside e =
       let none : [] ≡ ts = ok_injective [] ts e in
       subst (Covers source (offset + taken) (offset + 0)) none (empty (offset + taken) (offset + 0) (omega arith))
-  covers_tokens place (suc taken) offset (b ∷ bytes) rest ts at inside e =
+  covers_tokens place (suc taken) offset (b ∷ bytes) rest ts at line inside e =
       renumbered (offset + 1 + taken) (offset + 1 + length bytes) (offset + suc taken) (offset + length (b ∷ bytes)) ts (omega arith) (omega arith)
-      (covers_tokens place taken (offset + 1) bytes rest ts (next_bytes offset b bytes rest at) (omega arith) e)
-  covers_tokens place zero offset (b ∷ bytes) rest ts at inside e = elim (chosen (is_white_space b) _ _ _ e) [
+      (covers_tokens place taken (offset + 1) bytes rest ts (next_bytes offset b bytes rest at) (next_line offset b bytes line) (omega arith) e)
+  covers_tokens place zero offset (b ∷ bytes) rest ts at line inside e = elim (chosen (is_white_space b) _ _ _ e) [
     | inl h ↦
-        let more = covers_tokens place 0 (offset + 1) bytes rest ts (next_bytes offset b bytes rest at) (omega arith) h.1 in
+        let more = covers_tokens place 0 (offset + 1) bytes rest ts (next_bytes offset b bytes rest at) (next_line offset b bytes line) (omega arith) h.1 in
         let white : is_white_space (slice_index source offset) ≡ true = ap is_white_space (first_byte offset b bytes rest at) ∙ h.0 in
         renumbered offset (offset + 1 + length bytes) (offset + 0) (offset + length (b ∷ bytes)) ts (omega arith) (omega arith)
         (covers_behind offset (offset + 1) (offset + 1 + length bytes) ts (white_byte offset white) (renumbered (offset + 1 + 0) (offset + 1 + length bytes) (offset + 1) (offset + 1 + length bytes) ts (omega arith) refl more))
     | inr h ↦
         let one = bind_ok (at_offset offset (token_at b bytes)) (λ found. tokens_of place (found.len - 1) (offset + 1) bytes >>= λ tokens. Ok (token place offset (b ∷ bytes) found ∷ tokens)) ts h.1 in
         let two = bind_ok (tokens_of place (one.0.len - 1) (offset + 1) bytes) (λ tokens. Ok (token place offset (b ∷ bytes) one.0 ∷ tokens)) ts one.2 in
-        let lies = token_lies b bytes one.0 (at_offset-ok offset (token_at b bytes) one.0 one.1) in
+        let longest = token_longest b bytes one.0 (at_offset-ok offset (token_at b bytes) one.0 one.1) in
+        let lies = longest.lies in
         let all : token place offset (b ∷ bytes) one.0 ∷ two.0 ≡ ts = ok_injective _ ts two.2 in
-        let more = covers_tokens place (one.0.len - 1) (offset + 1) bytes rest two.0 (next_bytes offset b bytes rest at) (omega (arith, lies.within)) two.1 in
+        let more = covers_tokens place (one.0.len - 1) (offset + 1) bytes rest two.0 (next_bytes offset b bytes rest at) (next_line offset b bytes line) (omega (arith, lies.within)) two.1 in
         let until : offset + 1 + (one.0.len - 1) ≡ offset + one.0.len = omega (arith, lies.some) in
         let high : offset + 1 + length bytes ≡ offset + length (b ∷ bytes) = omega arith in
         subst (Covers source (offset + 0) (offset + length (b ∷ bytes))) all (
           empty (offset + 0) offset (omega arith),
-          token_slice place offset (b ∷ bytes) rest one.0 at lies,
+          token_slice place offset (b ∷ bytes) rest one.0 at line longest,
           renumbered (offset + 1 + (one.0.len - 1)) (offset + 1 + length bytes) (offset + one.0.len) (offset + length (b ∷ bytes)) two.0 until high more,
         )
   ]
 
--- the tokens of a line are in its file
-tokens_of-file : (place : Place) (taken offset : ℕ) (bytes : List ℕ) (ts : List Token) → tokens_of place taken offset bytes ≡ Ok ts → All (λ t. t.file ≡ place.file) ts
-tokens_of-file place taken offset [] ts e = let none : [] ≡ ts = ok_injective [] ts e in subst (All (λ t. t.file ≡ place.file)) none (All-nil (λ t. t.file ≡ place.file))
-tokens_of-file place (suc taken) offset (b ∷ bytes) ts e = tokens_of-file place taken (offset + 1) bytes ts e
-tokens_of-file place zero offset (b ∷ bytes) ts e = elim (chosen (is_white_space b) _ _ _ e) [
-  | inl h ↦ tokens_of-file place 0 (offset + 1) bytes ts h.1
+-- the token is in the file and the line of a place, and begins at one of these offsets
+pub record IsOnLine (place : Place) (low high : ℕ) (t : Token) : Type 0 where
+  pub from : low ≤ t.from
+  pub until : t.from ≤ high
+  pub file : t.file ≡ place.file
+  pub line : t.line ≡ place.line
+
+on_rest : (place : Place) (offset high : ℕ) (t : Token) → IsOnLine place (offset + 1) high t → IsOnLine place offset high t
+on_rest place offset high t on = record { from = omega (arith, on.from); until = on.until; file = on.file; line = on.line }
+
+pub tokens_of-on_line : (place : Place) (taken offset high : ℕ) (bytes : List ℕ) (ts : List Token) → offset + length bytes ≡ high → tokens_of place taken offset bytes ≡ Ok ts → All (IsOnLine place offset high) ts
+tokens_of-on_line place taken offset high [] ts end e = let none : [] ≡ ts = ok_injective [] ts e in subst (All (IsOnLine place offset high)) none (All-nil (IsOnLine place offset high))
+tokens_of-on_line place (suc taken) offset high (b ∷ bytes) ts end e = All-weaker (IsOnLine place (offset + 1) high) (IsOnLine place offset high) (on_rest place offset high) ts (tokens_of-on_line place taken (offset + 1) high bytes ts (omega arith) e)
+tokens_of-on_line place zero offset high (b ∷ bytes) ts end e = elim (chosen (is_white_space b) _ _ _ e) [
+  | inl h ↦ All-weaker (IsOnLine place (offset + 1) high) (IsOnLine place offset high) (on_rest place offset high) ts (tokens_of-on_line place 0 (offset + 1) high bytes ts (omega arith) h.1)
   | inr h ↦
       let one = bind_ok (at_offset offset (token_at b bytes)) (λ found. tokens_of place (found.len - 1) (offset + 1) bytes >>= λ tokens. Ok (token place offset (b ∷ bytes) found ∷ tokens)) ts h.1 in
       let two = bind_ok (tokens_of place (one.0.len - 1) (offset + 1) bytes) (λ tokens. Ok (token place offset (b ∷ bytes) one.0 ∷ tokens)) ts one.2 in
       let all : token place offset (b ∷ bytes) one.0 ∷ two.0 ≡ ts = ok_injective _ ts two.2 in
-      subst (All (λ t. t.file ≡ place.file)) all (All-cons (λ t. t.file ≡ place.file) _ two.0 refl (tokens_of-file place (one.0.len - 1) (offset + 1) bytes two.0 two.1))
+      let rest = tokens_of-on_line place (one.0.len - 1) (offset + 1) high bytes two.0 (omega arith) two.1 in
+      subst (All (IsOnLine place offset high)) all (All-cons (IsOnLine place offset high) _ two.0
+      (record { from = omega arith; until = omega arith; file = refl; line = refl })
+      (All-weaker (IsOnLine place (offset + 1) high) (IsOnLine place offset high) (on_rest place offset high) two.0 rest))
 ]
 
 -- what holds of what was read up to an offset, at which a line begins
-record Covered (source : List ℕ) (at : ℕ) (read : Read) : Type 0 where
-  begins : at ≤ length source → BeginsLine source at
-  covers : Covers source 0 (min at (length source)) read.tokens
-  files : All (λ t. t.file < length read.files) read.tokens
+pub record Covered (source : List ℕ) (at : ℕ) (read : Read) : Type 0 where
+  pub begins : at ≤ length source → BeginsLine source at
+  pub covers : Covers source 0 (min at (length source)) read.tokens
+  pub files : All (λ t. t.file < length read.files) read.tokens
 
 module _ (source : List ℕ) (at : ℕ) (inside : at ≤ length source) where
   abbrev line : List ℕ
@@ -130,14 +160,14 @@ module _ (source : List ℕ) (at : ℕ) (inside : at ≤ length source) where
   abbrev end : ℕ
   end = at + length line
 
-  line_length : length line ≡ len_of (drop at source)
+  pub line_length : length line ≡ len_of (drop at source)
   line_length = length-take-le (len_of (drop at source)) (drop at source) (prefix_len-le-length _ (drop at source))
 
-  end_inside : end ≤ length source
+  pub end_inside : end ≤ length source
   end_inside = omega (arith, line_length, length-drop at source, prefix_len-le-length (λ b. not (b == 10)) (drop at source))
 
   -- behind a line that is not the last one stands a newline
-  newline : end < length source → slice_index source end ≡ 10
+  pub newline : end < length source → slice_index source end ≡ 10
   newline before =
       let n = len_of (drop at source) in
       let within : n < length (drop at source) = omega (arith, line_length, length-drop at source) in
@@ -158,8 +188,8 @@ module _ (source : List ℕ) (at : ℕ) (inside : at ≤ length source) where
       let tokens = behind_tokens-ok read.tokens (tokens_of read.next 0 at line) found.0 found.1 in
       let same : with_tokens read found.0 ≡ more = ok_injective (with_tokens read found.0) more found.2 in
       let n = len_of (drop at source) in
-      let new = covers_tokens source read.next 0 at line (drop n (drop at source)) tokens.0 (sym (take-append-drop n (drop at source))) (omega arith) tokens.1 in
-      let files = All-weaker (λ t. t.file ≡ read.next.file) (λ t. t.file < length read.files) (λ t e. let lt = within.next in omega arith) tokens.0 (tokens_of-file read.next 0 at line tokens.0 tokens.1) in
+      let new = covers_tokens source read.next 0 at line (drop n (drop at source)) tokens.0 (sym (take-append-drop n (drop at source))) refl (omega arith) tokens.1 in
+      let files = All-weaker (IsOnLine read.next at end) (λ t. t.file < length read.files) (λ t on. omega (arith, within.next, on.file)) tokens.0 (tokens_of-on_line read.next 0 at end line tokens.0 refl tokens.1) in
       let old : Covers source 0 at read.tokens = renumbered source 0 (min at (length source)) 0 at read.tokens refl (omega arith) covered.covers in
       let both = covers_append source 0 at end read.tokens tokens.0 old (renumbered source (at + 0) end at end tokens.0 (omega arith) refl new) in
       subst (Covered source (end + 1)) same (record {
@@ -187,59 +217,20 @@ module _ (source : List ℕ) (at : ℕ) (inside : at ≤ length source) where
         files = All-weaker (λ t. t.file < length read.files) (λ t. t.file < length (with_file read.files found.0.1)) (λ t lt. omega (arith, files.1)) read.tokens covered.files;
       })
 
-  covered_line : (read more : Read) → IsWithin at read → Covered source at read → with_place read (line_read read at line) ≡ Ok more → Covered source (end + 1) more
+  pub covered_line : (read more : Read) → IsWithin at read → Covered source at read → with_place read (line_read read at line) ≡ Ok more → Covered source (end + 1) more
   covered_line read more within covered e = elim (chosen (is_marker_line line) _ _ _ (with_place-ok read (line_read read at line) more e)) [
     | inl h ↦ covered_marker read more covered h.0 h.1
     | inr h ↦ covered_text read more within covered h.1
   ]
 
-end_of_lines : (source : List ℕ) (at : ℕ) → at ≤ length source + 1 → lines_from at source ≡ [] → at ≡ length source + 1
+pub end_of_lines : (source : List ℕ) (at : ℕ) → at ≤ length source + 1 → lines_from at source ≡ [] → at ≡ length source + 1
 end_of_lines source at bound none = elim (cases_lt (length source) at) [
   | inl past ↦ omega arith
   | inr inside ↦ let first = lines_from-first at source inside in cc
 ]
 
-line_is_there : (source : List ℕ) (at : ℕ) (l : List ℕ) (lines : List (List ℕ)) → l ∷ lines ≡ lines_from at source → at ≤ length source
+pub line_is_there : (source : List ℕ) (at : ℕ) (l : List ℕ) (lines : List (List ℕ)) → l ∷ lines ≡ lines_from at source → at ≤ length source
 line_is_there source at l lines e = elim (cases_lt (length source) at) [
   | inl past ↦ let none = lines_from-end at source past in cc
   | inr inside ↦ inside
 ]
-
-covered_lines : (source : List ℕ) (lines : List (List ℕ)) (at : ℕ) (read more : Read) → lines ≡ lines_from at source → at ≤ length source + 1 → IsWithin at read → Covered source at read → lines_read read at lines ≡ Ok more → IsWithin (length source + 1) more × Covered source (length source + 1) more
-covered_lines source [] at read more all bound within covered e =
-    let same : read ≡ more = ok_injective read more e in
-    let end = end_of_lines source at bound (sym all) in
-    subst (λ r. IsWithin (length source + 1) r × Covered source (length source + 1) r) same
-    (subst (λ o. IsWithin o read × Covered source o read) end (within, covered))
-covered_lines source (l ∷ lines) at read more all bound within covered e =
-    let inside = line_is_there source at l lines all in
-    let first = lines_from-first at source inside in
-    let line_is : l ≡ line_at source at = cc in
-    let rest_is : lines ≡ lines_from (at + (len_of (drop at source) + 1)) source = cc in
-    let step = bind_ok (with_place read (line_read read at l)) (λ next. lines_read next (at + length l + 1) lines) more e in
-    let len = line_length source at inside in
-    let next : at + length l + 1 ≡ at + (len_of (drop at source) + 1) = omega (arith, ap length line_is) in
-    let here : with_place read (line_read read at (line_at source at)) ≡ Ok step.0 = ap (λ k. with_place read (line_read read at k)) (sym line_is) ∙ step.1 in
-    let end : at + length (line_at source at) + 1 ≡ at + length l + 1 = omega (arith, ap length line_is) in
-    covered_lines source lines (at + length l + 1) step.0 more (rest_is ∙ ap (λ o. lines_from o source) (sym next)) (let h = end_inside source at inside in omega (arith, ap length line_is))
-    (within_line at read step.0 l within step.1)
-    (subst (λ o. Covered source o step.0) end (covered_line source at inside read step.0 within covered here))
-    step.2
-
-pub tokens_are : (source : List ℕ) (tokens : Tokens) → reading source ≡ Ok tokens → AreTokensOf source tokens
-unfolding reading
-tokens_are source tokens e =
-    let read = bind_ok (lines_read opening 0 (lines_of source)) (λ read. Ok (tokens_read read)) tokens e in
-    let same : tokens_read read.0 ≡ tokens = ok_injective (tokens_read read.0) tokens read.2 in
-    let within : IsWithin 0 opening = record { tokens = omega arith; files = omega arith; line = omega arith; here = omega arith; next = omega arith } in
-    let covered : Covered source 0 opening = record { begins = λ _. inl refl; covers = empty source 0 (min 0 (length source)) (omega arith); files = All-nil (λ t. t.file < length opening.files) } in
-    let whole : lines_of source ≡ lines_from 0 source = sym (ap (λ t. cond t (lines_of source) []) (le-leb 0 (length source) (omega arith))) in
-    let all = covered_lines source (lines_of source) 0 opening read.0 whole (omega arith) within covered read.1 in
-    let covers : Covers source 0 (length source) read.0.tokens = renumbered source 0 (min (length source + 1) (length source)) 0 (length source) read.0.tokens refl (omega arith) all.1.covers in
-    subst (AreTokensOf source) same (record {
-      covers = covers;
-      count = let count = covers_count source 0 (length source) read.0.tokens covers in omega arith;
-      files = all.1.files;
-      end_file = all.0.here;
-      end_token = refl;
-    })

@@ -1,55 +1,20 @@
--- Where the tokens of a source stand: in order, each the slice of its span, with white space and line markers alone between them.
-use Rattle.std.specs.Prelude.{◌≡◌, ℕ, ◌+◌, ◌-◌, ◌<◌, ◌≤◌, ◌==◌, ◌⊎◌, Bool, true, List, [], ◌∷◌, length, take, drop, slice_index, slice_range, All, Contains, Some, Result, Ok}
-use Rattle.std.specs.List.{position_or_len}
+-- What holds of the tokens of a source: they stand in order, each the slice of its span and the longest token there, with white space and line
+-- markers alone between them, and each is in the file and the line that line markers and newlines give it.
+use Rattle.std.specs.Prelude.{◌≡◌, ℕ, ◌+◌, ◌-◌, ◌<◌, ◌≤◌, ◌⊎◌, Bool, true, List, [], ◌∷◌, length, take, slice_index, slice_index_or, slice_range, All, Contains, Some, Result, Ok}
+use Rattle.sharc_tree.specs.declared.token.FaultAt.{FaultAt}
 use Rattle.sharc_tree.specs.declared.token.Token.{Token}
 use Rattle.sharc_tree.specs.declared.token.Tokens.{Tokens}
 use Rattle.sharc_tree.specs.declared.token.TokenKind.{TokenKind}
 use Rattle.sharc_lex.specs.declared.fault.Fault.{Fault}
+use Rattle.sharc_lex.specs.declared.fault.LexFault.{LexFault}
+use Rattle.sharc_lex.specs.declared.fault.LexFault.TheVariants as lex
 use Rattle.sharc_lex.specs.declared.token_at.Lexeme.{Lexeme}
 use Rattle.sharc_lex.specs.Bytes.{is_white_space, is_letter, is_digit}
 use Rattle.sharc_lex.specs.Characters.{character}
+use Rattle.sharc_lex.specs.Lines.{line_at, BeginsLine, StandsIn}
 use Rattle.sharc_lex.specs.Markers.{is_marker_line}
 use Rattle.sharc_lex.specs.Punctuators.{punctuators}
 use Rattle.sharc_lex.specs.TokenAt.{LiesIn, word_at, number_at}
-
--- the bytes from an offset up to the next newline
-abbrev pub line_at : List ℕ → ℕ → List ℕ
-line_at source start = take (position_or_len (λ b. b == 10) (drop start source)) (drop start source)
-
--- a line begins at the beginning, and behind each newline
-abbrev pub BeginsLine : List ℕ → ℕ → Type 0
-BeginsLine source start = (start ≡ 0) ⊎ (slice_index source (start - 1) ≡ 10)
-
--- the byte at an offset belongs to a line marker
-pub record IsInMarker (source : List ℕ) (k : ℕ) : Type 0 where
-  pub start : ℕ
-  pub begins : BeginsLine source start
-  pub marks : is_marker_line (line_at source start) ≡ true
-  pub from : start ≤ k
-  pub until : k < start + length (line_at source start)
-
--- only white space and line markers stand from one offset up to another
-pub record IsBetween (source : List ℕ) (low high : ℕ) : Type 0 where
-  pub ordered : low ≤ high
-  pub each : (k : ℕ) → low ≤ k → k < high → (is_white_space (slice_index source k) ≡ true) ⊎ IsInMarker source k
-
--- the token has a byte at least, and its text is the slice at its span
-pub record IsSlice (source : List ℕ) (t : Token) : Type 0 where
-  pub some : t.from < t.until
-  pub text : t.text ≡ slice_range source t.from t.until
-
--- from one offset up to another stand these tokens, with white space and line markers alone between them
-abbrev pub Covers : List ℕ → ℕ → ℕ → List Token → Type 0
-Covers source low high [] = IsBetween source low high
-Covers source low high (t ∷ ts) = IsBetween source low t.from × IsSlice source t × Covers source t.until high ts
-
--- what holds of the tokens of a source
-pub record AreTokensOf (source : List ℕ) (tokens : Tokens) : Type 0 where
-  pub covers : Covers source 0 (length source) tokens.list
-  pub count : length tokens.list ≤ length source
-  pub files : All (λ t. t.file < length tokens.files) tokens.list
-  pub end_file : tokens.end.file < length tokens.files
-  pub end_token : tokens.end.token ≡ length tokens.list
 
 -- a text that is a word, a number or a character constant as a whole, and what it is
 abbrev pub IsRun : (ℕ → Bool) → (List ℕ → Result Lexeme Fault) → List ℕ → TokenKind → Type 0
@@ -69,3 +34,51 @@ pub record IsLongest (bytes : List ℕ) (found : Lexeme) : Type 0 where
   pub lies : LiesIn bytes found
   pub token : IsToken (take found.len bytes) found.kind
   pub longest : (n : ℕ) (kind : TokenKind) → found.len < n → n ≤ length bytes → IsToken (take n bytes) kind → ⊥
+
+-- the byte at an offset belongs to a line marker
+pub record IsInMarker (source : List ℕ) (k : ℕ) : Type 0 where
+  pub start : ℕ
+  pub begins : BeginsLine source start
+  pub marks : is_marker_line (line_at source start) ≡ true
+  pub from : start ≤ k
+  pub until : k < start + length (line_at source start)
+
+-- only white space and line markers stand from one offset up to another
+pub record IsBetween (source : List ℕ) (low high : ℕ) : Type 0 where
+  pub ordered : low ≤ high
+  pub each : (k : ℕ) → low ≤ k → k < high → (is_white_space (slice_index source k) ≡ true) ⊎ IsInMarker source k
+
+-- the token's text is the slice at its span, and it is the longest token that begins there on its line
+pub record IsSlice (source : List ℕ) (t : Token) : Type 0 where
+  pub some : t.from < t.until
+  pub text : t.text ≡ slice_range source t.from t.until
+  pub longest : IsLongest (line_at source t.from) (record { len = t.until - t.from; kind = t.kind })
+
+-- from one offset up to another stand these tokens, with white space and line markers alone between them
+abbrev pub Covers : List ℕ → ℕ → ℕ → List Token → Type 0
+Covers source low high [] = IsBetween source low high
+Covers source low high (t ∷ ts) = IsBetween source low t.from × IsSlice source t × Covers source t.until high ts
+
+-- the name of the file at a place of the list of files
+abbrev pub name_in : List (List ℕ) → ℕ → List ℕ
+name_in files place = slice_index_or files place []
+
+-- what holds of the tokens of a source
+pub record AreTokensOf (source : List ℕ) (tokens : Tokens) : Type 0 where
+  pub covers : Covers source 0 (length source) tokens.list
+  pub count : length tokens.list ≤ length source
+  pub files : All (λ t. t.file < length tokens.files) tokens.list
+  pub placed : All (λ t. StandsIn source t.from (name_in tokens.files t.file) t.line) tokens.list
+  pub end_file : tokens.end.file < length tokens.files
+  pub end_token : tokens.end.token ≡ length tokens.list
+  pub end_placed : StandsIn source (length source) (name_in tokens.files tokens.end.file) tokens.end.line
+
+-- a fault lies in the source, and in the file and the line in which its offset stands
+pub record IsFaultIn (source : List ℕ) (found : FaultAt) : Type 0 where
+  pub within : found.offset ≤ length source
+  pub stands : StandsIn source found.offset found.file found.line
+
+-- where memory was wanting no place is told
+abbrev pub TellsPlace : List ℕ → LexFault → Type 0
+TellsPlace source (lex.At found) = IsFaultIn source found
+TellsPlace source lex.Memory = Unit {0}

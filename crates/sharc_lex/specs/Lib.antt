@@ -4,6 +4,7 @@ pub mod Faults
 pub mod Files
 pub mod Grammar
 pub mod Laws
+pub mod Lines
 pub mod Markers
 pub mod Numbers
 pub mod Punctuators

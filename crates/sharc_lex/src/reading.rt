@@ -4,7 +4,7 @@ ghost use Rattle.std.specs.Prelude.{◌≡◌, ◌+◌, ◌==◌, ◌-◌, ◌<�
 ghost use Rattle.std.specs.List.{prefix_len, position_or_len};
 ghost use Rattle.sharc_lex.specs.Bytes.{is_blank};
 ghost use Rattle.sharc_lex.specs.Faults.{Fails, Tells, Refuses, Gives};
-ghost use Rattle.sharc_lex.specs.Laws.{AreTokensOf};
+ghost use Rattle.sharc_lex.specs.Laws.{AreTokensOf, TellsPlace};
 ghost use Rattle.sharc_lex.specs.Grammar.{IsWithin, opening, text_line, marker_line, line_read, with_place, fault_at, tokens_read, reading};
 
 use crate::fault::{Failure, Fault, LexFault, LineFault, Place};
@@ -177,8 +177,10 @@ pub fn lex(alloc: Global, source: &[u8]) -> Result<Tokens, LexFault>
     requires { length source.now ≤ 1_048_576 }
     // The answer is the grammar's: the one reading, or the first fault. Want of memory alone is free.
     ensures exact { Gives result (reading source.now) }
-    // What the layers above ask of tokens.
+    // What the layers above ask of tokens: each is the longest that stands there, and has the file and the line of its place.
     ensures tokens { IfOk result (AreTokensOf source.now) }
+    // A fault has the file and the line of its offset.
+    ensures place { IfErr result (TellsPlace source.now) }
 {
     let mut reading = Reading::new(alloc)?;
     let mut at = 0;

@@ -2,7 +2,7 @@ use Rattle.std.proofs.Common.{◌≡◌, ◌-◌, ◌<◌, length, take, drop, O
 use Rattle.std.proofs.lemmas.Result.{err_from_is_err_and}
 use Rattle.sharc_lex.specs.Grammar.{lines_read, lines_of, opening, reading}
 use Rattle.sharc_lex.specs.Seen.{read_of}
-use Rattle.sharc_lex.proofs.CoverLemmas.{tokens_are}
+use Rattle.sharc_lex.proofs.TokensLemmas.{tokens_are, refused_place}
 use Rattle.sharc_lex.proofs.ReadingLemmas.{lines_from-end, reading-read, tail_is, step_read, step_within, step_bound, step_refused}
 use Rattle.sharc_lex.proofs.reading.lex.Goals as goal
 
@@ -13,6 +13,14 @@ returns-in_err-line-clause-exact c =
     let read = read_of c.loop-at.reading in
     let p = err_from_is_err_and c.from_residual-in_err-line.result c.from_residual-in_err-line.ensures.1 in
     rw (p.1, p.2) (step_refused source (take (length source - at) (drop at source)) at c.line_len-len.result c.loop-at-test.true (tail_is source at) c.line_len-len.ensures.len read c.in_err-line.field-0.0 c.in_err-line.ensures.failed c.loop-at.invariant.rest)
+
+pub returns-in_err-line-clause-place : goal.returns-in_err-line-clause-place
+returns-in_err-line-clause-place c =
+    let source = c.args.source.now in
+    let at = c.loop-at.at in
+    let read = read_of c.loop-at.reading in
+    let p = err_from_is_err_and c.from_residual-in_err-line.result c.from_residual-in_err-line.ensures.1 in
+    rw (p.1, p.2) (refused_place source c.in_err-line.field-0.0 (step_refused source (take (length source - at) (drop at source)) at c.line_len-len.result c.loop-at-test.true (tail_is source at) c.line_len-len.ensures.len read c.in_err-line.field-0.0 c.in_err-line.ensures.failed c.loop-at.invariant.rest))
 
 pub loop-at-preserved : goal.loop-at-preserved
 loop-at-preserved c =
