@@ -1,11 +1,11 @@
 // Copies of expressions.
 
 ghost use Rattle.std.specs.Prelude.{◌≡◌, IfOk};
-ghost use Rattle.sharc_tree.specs.Tree.{identifier, call, spawn, cast, field};
+ghost use Rattle.sharc_tree.specs.Tree.{identifier, call, spawn, cast, field, binary};
 ghost use Rattle.sharc_tree.specs.View.{view_expr, view_arguments};
 
-use crate::token::Span;
-use crate::tree::{Access, Expr, Identifier, WrittenType};
+use crate::token::{Site, Span};
+use crate::tree::{Access, BinaryOperator, Expr, Identifier, WrittenType};
 use std::alloc::{AllocError, Global};
 
 fn copy_identifier(alloc: Global, span: Span, name: &Identifier) -> Result<Expr, AllocError>
@@ -67,6 +67,24 @@ fn copy_field(
     })
 }
 
+fn binary_of(
+    span: Span,
+    operator: BinaryOperator,
+    site: Site,
+    left: Box<Expr>,
+    right: Box<Expr>,
+) -> Expr
+    ensures { view_expr result ≡ binary span operator site (view_expr left.value) (view_expr right.value) }
+{
+    Expr::Binary {
+        span,
+        operator,
+        site,
+        left,
+        right,
+    }
+}
+
 /// An expression once more.
 #[cycle(expr)]
 pub fn copy_expr(alloc: Global, expr: &Expr) -> Result<Expr, AllocError>
@@ -76,18 +94,18 @@ pub fn copy_expr(alloc: Global, expr: &Expr) -> Result<Expr, AllocError>
         Expr::Identifier(span, name) => copy_identifier(alloc, *span, name),
         Expr::Constant(span, constant) => Ok(Expr::Constant(*span, *constant)),
         Expr::Parentheses(span, inner) => Ok(Expr::Parentheses(*span, copy_box(alloc, inner)?)),
-        Expr::Call(span, name, arguments) => {
-            copy_call(alloc, *span, name, copy_arguments(alloc, arguments)?)
-        }
-        Expr::Spawn(span, name, argument) => {
-            copy_spawn(alloc, *span, name, copy_box(alloc, argument)?)
-        }
-        Expr::OnValue(span, word, argument) => {
-            Ok(Expr::OnValue(*span, *word, copy_box(alloc, argument)?))
-        }
-        Expr::OnPlace(span, word, argument) => {
-            Ok(Expr::OnPlace(*span, *word, copy_box(alloc, argument)?))
-        }
+        Expr::Call(span, name, list) => copy_call(alloc, *span, name, copy_arguments(alloc, list)?),
+        Expr::Spawn(span, name, value) => copy_spawn(alloc, *span, name, copy_box(alloc, value)?),
+        Expr::OnValue(span, word, value) => Ok(Expr::OnValue(
+            *span,
+            *word,
+            copy_box(alloc, value)?,
+        )),
+        Expr::OnPlace(span, word, place) => Ok(Expr::OnPlace(
+            *span,
+            *word,
+            copy_box(alloc, place)?,
+        )),
         Expr::Cast(span, to, source) => copy_cast(alloc, *span, to, copy_box(alloc, source)?),
         Expr::Index(span, base, index) => {
             let base = copy_box(alloc, base)?;
@@ -100,7 +118,8 @@ pub fn copy_expr(alloc: Global, expr: &Expr) -> Result<Expr, AllocError>
             name,
         } => copy_field(alloc, *span, copy_box(alloc, base)?, *access, name),
         Expr::Unary(span, operator, operand) => {
-            Ok(Expr::Unary(*span, *operator, copy_box(alloc, operand)?))
+            let operand = copy_box(alloc, operand)?;
+            Ok(Expr::Unary(*span, *operator, operand))
         }
         Expr::Binary {
             span,
@@ -111,13 +130,7 @@ pub fn copy_expr(alloc: Global, expr: &Expr) -> Result<Expr, AllocError>
         } => {
             let left = copy_box(alloc, left)?;
             let right = copy_box(alloc, right)?;
-            Ok(Expr::Binary {
-                span: *span,
-                operator: *operator,
-                site: *site,
-                left,
-                right,
-            })
+            Ok(binary_of(*span, *operator, *site, left, right))
         }
     }
 }

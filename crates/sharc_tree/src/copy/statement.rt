@@ -148,11 +148,17 @@ fn copy_while(alloc: Global, span: Span, test: &Expr, body: Box<Stmt>) -> Result
     Ok(Stmt::While(span, copy_box(alloc, test)?, body))
 }
 
+fn copy_head_box(alloc: Global, head: &ForHead) -> Result<Box<ForHead>, AllocError>
+    ensures { IfOk result (λ b. view_head b.value ≡ view_head head.now) }
+{
+    let head = copy_head(alloc, head)?;
+    Ok(Box::new(alloc, head)?)
+}
+
 fn copy_for(alloc: Global, span: Span, head: &ForHead, body: Box<Stmt>) -> Result<Stmt, AllocError>
     ensures { IfOk result (λ s. view_stmt s ≡ for span (view_head head.now) (view_stmt body.value)) }
 {
-    let head = copy_head(alloc, head)?;
-    Ok(Stmt::For(span, Box::new(alloc, head)?, body))
+    Ok(Stmt::For(span, copy_head_box(alloc, head)?, body))
 }
 
 /// A statement once more.
@@ -169,7 +175,7 @@ pub fn copy_stmt(alloc: Global, stmt: &Stmt) -> Result<Stmt, AllocError>
         Stmt::Simple(span, simple) => copy_simple_stmt(alloc, *span, simple),
         Stmt::Jump(span, jump) => Ok(Stmt::Jump(*span, *jump)),
         Stmt::Return(span, value) => copy_return(alloc, *span, value),
-        Stmt::If(span, test, then) => { copy_if(alloc, *span, test, copy_stmt_box(alloc, then)?) }
+        Stmt::If(span, test, then) => copy_if(alloc, *span, test, copy_stmt_box(alloc, then)?),
         Stmt::IfElse {
             span,
             test,
@@ -180,10 +186,13 @@ pub fn copy_stmt(alloc: Global, stmt: &Stmt) -> Result<Stmt, AllocError>
             let otherwise = copy_stmt_box(alloc, otherwise)?;
             copy_if_else(alloc, *span, test, then, otherwise)
         }
-        Stmt::While(span, test, body) => {
-            copy_while(alloc, *span, test, copy_stmt_box(alloc, body)?)
-        }
-        Stmt::For(span, head, body) => { copy_for(alloc, *span, head, copy_stmt_box(alloc, body)?) }
+        Stmt::While(span, test, body) => copy_while(
+            alloc,
+            *span,
+            test,
+            copy_stmt_box(alloc, body)?,
+        ),
+        Stmt::For(span, head, body) => copy_for(alloc, *span, head, copy_stmt_box(alloc, body)?),
     }
 }
 

@@ -36,7 +36,8 @@ pub struct WrittenType {
     pub mode_first: bool,
     /// The token that names the base: its keyword, or the name of the struct.
     pub base: Site,
-    /// The type, each level with the mode that is written there or none. A lock path has the number of the token of its first name; its second name is told by its text.
+    /// The type, each level with the mode that is written there or none. A lock path has the number of the token of its first name, and its second
+    /// name is told by its text alone; a struct is told by its name.
     pub ctype: CType,
 }
 

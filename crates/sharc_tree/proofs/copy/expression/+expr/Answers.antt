@@ -8,4 +8,4 @@ copy_arguments-loop-expr-preserved t c =
 
 pub copy_expr-returns-in_ok-copy_arguments-in-Call : goal.copy_expr-returns-in_ok-copy_arguments-in-Call
 copy_expr-returns-in_ok-copy_arguments-in-Call t c =
-    rw (view_call c.args.expr.now c.in-Call.span c.in-Call.name c.in-Call.arguments c.in-Call.is, ← c.deref-in-Call.ensures.value, ← c.in_ok-copy_arguments-in-Call.ensures) c.copy_call.ensures
+    rw (view_call c.args.expr.now c.in-Call.span c.in-Call.name c.in-Call.list c.in-Call.is, ← c.deref-in-Call.ensures.value, ← c.in_ok-copy_arguments-in-Call.ensures) c.copy_call.ensures
