@@ -85,7 +85,9 @@ fn statement_texts(
             texts.extend_from_slice(b"if")?;
             add_span(rt, program, then.span(), &mut texts)?;
         }
-        Stmt::IfElse(_, _, then, otherwise) => {
+        Stmt::IfElse {
+            then, otherwise, ..
+        } => {
             texts.extend_from_slice(b"if else")?;
             add_span(rt, program, then.span(), &mut texts)?;
             add_span(rt, program, otherwise.span(), &mut texts)?;
