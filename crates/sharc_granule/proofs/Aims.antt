@@ -5,12 +5,11 @@ use Rattle.sharc_word.specs.declared.step.WordStep.{WordStep}
 use Rattle.sharc_word.specs.declared.step.WordOp.{WordOp}
 use Rattle.sharc_word.specs.declared.step.WordOp.TheVariants.{Load, Swap, Cas}
 use Rattle.sharc_granule.specs.declared.arguments.NewArguments.{NewArguments}
-use Rattle.sharc_granule.specs.declared.stage.NewTurn.{NewTurn}
 use Rattle.sharc_granule.specs.declared.stage.NewTurn.TheVariants.{Do, Made, HeapFull}
 use Rattle.sharc_granule.specs.Block.{granules_of}
 use Rattle.sharc_granule.specs.Handed.{MovesOn}
-use Rattle.sharc_granule.specs.Asks.{Asks, TakesOwn, ReadsTop, MovesTop, FindsNoRoom, TakesTop, top_word, word_number, granule_number, count_word, length_word, cell_word, step_of, last_steps, own_steps, turn_at}
-use Rattle.sharc_granule.specs.Laws.{words_of, StepsAreOfWords, ComesFrom, OwnList, MovedTop, LiesInArena, HasItsWords, BlocksHaveTheirWords, GranulesStay, IsOwnStep, OfTheTop, OfItsBlock, StepsAreOwn, StepsKeepTop}
+use Rattle.sharc_granule.specs.Asks.{Asks, TakesOwn, ReadsTop, MovesTop, FindsNoRoom, TakesTop, top_word, word_number, step_of, last_steps, own_steps, turn_at}
+use Rattle.sharc_granule.specs.Laws.{words_of, StepsAreOfWords, ComesFrom, OwnList, MovedTop, BlocksHaveTheirWords, GranulesStay, IsOwnStep, OfTheTop, OfItsBlock, StepsAreOwn, StepsKeepTop}
 use Rattle.sharc_granule.proofs.Steps.{turn_in_cells, rest_after_cells}
 
 -- ---- the numbers of words

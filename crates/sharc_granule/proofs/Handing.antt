@@ -1,5 +1,5 @@
 -- What a history hands out from the top lies in order.
-use Rattle.std.proofs.Common.{◌≡◌, ◌≢◌, ℕ, ◌+◌, ◌<◌, ◌≤◌, ◌==◌, suc, List, [], ◌∷◌, ◌++◌, length, slice_index, refl, sym, ap, ◌∙◌, subst, inl, inr, arith, get_or-set_same, get_or-set_other, eq-eqb, ne_eqb, if◌then◌else◌}
+use Rattle.std.proofs.Common.{◌≡◌, ℕ, ◌≤◌, suc, List, [], ◌∷◌, ◌++◌, slice_index, refl, sym, ap, ◌∙◌, subst, inl, inr, arith, get_or-set_same, get_or-set_other, eq-eqb, ne_eqb}
 use Rattle.std.specs.Prelude.{All, AllPairs}
 use Rattle.std.proofs.lemmas.Bool.{cases_eq}
 use Rattle.std.proofs.lemmas.List.Elements.{All-cons}
@@ -11,7 +11,7 @@ use Rattle.sharc_word.specs.Words.{word_after, words_after_step, words_after}
 use Rattle.sharc_word.specs.History.{MayFollow, LegalHistory}
 use Rattle.sharc_granule.specs.Asks.{top_word}
 use Rattle.sharc_granule.specs.Handed.{Granules, MovesOn, KeepsTop, moved_over, handed_by, handed_out, LieInOrder}
-use Rattle.sharc_granule.specs.Laws.{IsHandedOut, TopHandsOutApart}
+use Rattle.sharc_granule.specs.Laws.{TopHandsOutApart}
 
 -- an operation on the top
 at_top : (op : WordOp) (top found to : ℕ) (gs : List Granules) → MovesOn op → found ≡ top → LieInOrder (word_after op top) gs to → LieInOrder top (moved_over op found ++ gs) to

@@ -8,7 +8,7 @@ use Rattle.sharc_granule.specs.declared.stage.NewTurn.{NewTurn}
 use Rattle.sharc_granule.specs.declared.stage.NewTurn.TheVariants.{Do, Made, HeapFull}
 use Rattle.sharc_granule.specs.declared.arguments.NewArguments.{NewArguments}
 use Rattle.sharc_granule.specs.Asks.{Asks, TakesOwn, ReadsTop, MovesTop, FindsNoRoom, TakesTop, AreTops, HasMoved, top_word, step_of, last_steps, own_steps, turn_at}
-use Rattle.sharc_granule.specs.Laws.{AsksOneTurn, HasNoRoom, HeapIsFullWithoutRoom, MovesByOneBlock, TopMovesByOneBlock, OwnListEnds, TopEnds, ComesFrom, OwnList, MovedTop, MadeIsItsBlock}
+use Rattle.sharc_granule.specs.Laws.{AsksOneTurn, HasNoRoom, HeapIsFullWithoutRoom, MovesByOneBlock, TopMovesByOneBlock, OwnListEnds, TopEnds, OwnList, MovedTop, MadeIsItsBlock}
 use Rattle.sharc_granule.proofs.Steps.{turn_in_cells, rest_after_cells}
 use Rattle.sharc_granule.proofs.Tops.{moved_is_not_trying, moved_once, tops_once, tops_are_some, moved_is_some}
 

@@ -10,7 +10,7 @@ use Rattle.sharc_granule.specs.declared.stage.Stage.TheVariants.{Begins, Link, C
 use Rattle.sharc_granule.specs.declared.arguments.NewArguments.{NewArguments}
 use Rattle.sharc_granule.specs.Asks.{Asks, TakesOwn, ReadsTop, MovesTop, FindsNoRoom, TakesTop, AreTops, NoneTwice, top_word, step_of, last_steps, own_steps, turn_at, granule_number, head_after}
 use Rattle.sharc_granule.specs.Stages.{turn_of_stage, try_from, next_stage, next_head, HasBlock, OfOwn, OfTop, IsInCell, IsAtTop, IsAtStage}
-use Rattle.sharc_granule.specs.State.{NewView, IsStep, IsAfter, begun, told, turn_of}
+use Rattle.sharc_granule.specs.State.{NewView, IsStep, IsAfter}
 use Rattle.sharc_granule.specs.Laws.{NewBegins, NewGoesOn, NewStays}
 use Rattle.sharc_granule.proofs.Steps.{turn_in_cells, rest_after_cells}
 

@@ -1,9 +1,8 @@
 -- The functions meet the relations.
-use Rattle.std.proofs.Common.{◌≡◌, ◌≢◌, ℕ, ◌+◌, ◌-◌, ◌*◌, ◌^◌, ◌%◌, ◌<◌, ◌==◌, ◌||◌, ◌&&◌, Bool, true, false, not, bit_and, bit_or, refl, sym, ap, ◌∙◌, subst, inl, inr, arith, Option, if◌then◌else◌}
+use Rattle.std.proofs.Common.{◌≡◌, ℕ, ◌+◌, ◌^◌, ◌%◌, ◌==◌, ◌||◌, ◌&&◌, true, false, not, bit_and, refl, sym, ap, ◌∙◌, subst, inl, inr, arith, Option}
 use Rattle.std.proofs.lemmas.Bool.{cases_Bool, eq-eqb, ne_eqb, or_right}
-use Rattle.sharc_shadow.specs.declared.shadow_word.Kind.{Kind}
 use Rattle.sharc_shadow.specs.declared.shadow_word.Kind.TheVariants.{Read, Write}
-use Rattle.sharc_shadow.specs.ShadowWord.{stands, is_written, is_of, epoch_of, HasBits, Clears, Withdraws}
+use Rattle.sharc_shadow.specs.ShadowWord.{stands, is_of, epoch_of, Withdraws}
 use Rattle.sharc_shadow.specs.Functions.{bits_of, cleared_of, withdrawn_of, all_but}
 use Rattle.sharc_shadow.specs.Laws.{BitsAreOfAccess, OrAddsAccess, OrLeavesOthers, OrSetsOwnBit, WithdrawnWithdraws, WithdrawnLeavesOthers, ClearedClears}
 use Rattle.sharc_shadow.proofs.OneBit.{or_false, and_true, without_bit, and_fits}

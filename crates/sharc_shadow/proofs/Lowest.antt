@@ -1,7 +1,7 @@
 -- The lowest other thread, and conflicts as a test.
-use Rattle.std.proofs.Common.{◌≡◌, ◌≢◌, ℕ, ◌+◌, ◌<◌, ◌≤◌, zero, suc, ◌==◌, ◌&&◌, Bool, true, false, not, Option, Some, None, is_some, IsTrue, ◌↔◌, refl, sym, ap, ◌∙◌, inl, inr, arith, Decides, nat_lt, if◌then◌else◌}
+use Rattle.std.proofs.Common.{◌≡◌, ◌≢◌, ℕ, ◌+◌, ◌<◌, ◌≤◌, zero, suc, ◌==◌, ◌&&◌, Bool, true, false, not, Option, Some, None, is_some, IsTrue, ◌↔◌, refl, sym, ap, ◌∙◌, inl, inr, arith, Decides, if◌then◌else◌}
 use Rattle.std.proofs.lemmas.Bool.{cases_eq, cases_lt, cases_Bool, eq-eqb, ne_eqb, and_parts, false≢true, true≢false}
-use Rattle.std.proofs.lemmas.Bool.Decides.{same_from_decides, Decides-and, Decides-not, Decides-eqb, Decides-like}
+use Rattle.std.proofs.lemmas.Bool.Decides.{same_from_decides, Decides-and, Decides-like}
 use Rattle.sharc_shadow.specs.declared.shadow_word.Kind.{Kind}
 use Rattle.sharc_shadow.specs.declared.shadow_word.Kind.TheVariants.{Read, Write}
 use Rattle.sharc_shadow.specs.ShadowWord.{stands, is_written, is_of, epoch_of, IsOther, HasOther, IsFirstOther, Conflicts}

@@ -2,7 +2,7 @@
 use Rattle.std.specs.Prelude.{◌≡◌, ◌≢◌, ℕ, ◌^◌, ◌<◌, ◌↔◌, true, Option, Some, None, bit_or}
 use Rattle.sharc_word.specs.declared.step.TheConstants.{THREADS}
 use Rattle.sharc_shadow.specs.declared.shadow_word.Kind.{Kind}
-use Rattle.sharc_shadow.specs.ShadowWord.{stands, is_written, epoch_of, HasBits, AddsAccess, Clears, Withdraws, Conflicts, IsFirstOther, WordIsItsSets, NobodyInZero}
+use Rattle.sharc_shadow.specs.ShadowWord.{stands, HasBits, AddsAccess, Clears, Withdraws, Conflicts, IsFirstOther, WordIsItsSets, NobodyInZero}
 use Rattle.sharc_shadow.specs.Functions.{bits_of, cleared_of, withdrawn_of, conflicts_in, first_in}
 
 -- the bits of an access are that of the thread, and for a write the written bit
