@@ -1,8 +1,12 @@
-use Rattle.sharc_cond.proofs.Bits.{same_from_waiters, nobody_in_zero}
-use Rattle.sharc_cond.proofs.waiters.waiters_laws.Goals as goal
+use Rattle.sharc_cond.proofs.Bits.{same_from_waiters, nobody_in_zero, or_enters, or_waits, or_leaves_others, lowest_is_taken_away}
+use Rattle.sharc_cond.proofs.laws.waiters_laws.Goals as goal
 
-pub returns-clause-set : goal.returns-clause-set
-returns-clause-set c = same_from_waiters
-
-pub returns-clause-empty : goal.returns-clause-empty
-returns-clause-empty c = nobody_in_zero
+pub returns : goal.returns
+returns c = record {
+  set = same_from_waiters;
+  empty = nobody_in_zero;
+  enters = or_enters;
+  waits = or_waits;
+  others = or_leaves_others;
+  lowest = lowest_is_taken_away;
+}
