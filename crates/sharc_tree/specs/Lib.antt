@@ -1,5 +1,8 @@
 pub mod Expressions
+pub mod Low
+pub mod Marks
 pub mod Measures
+pub mod Placed
 pub mod Spans
 pub mod Texts
 pub mod Tree
