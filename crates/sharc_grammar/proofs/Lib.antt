@@ -7,3 +7,10 @@ pub mod Within
 pub mod WithinLaws
 pub mod Readings
 pub mod Examples
+pub mod TreeLow
+pub mod Lengths
+pub mod Marked
+pub mod Standing
+pub mod PlacedPhrases
+pub mod Placing
+pub mod Marks

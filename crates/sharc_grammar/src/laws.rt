@@ -1,10 +1,17 @@
 // The laws, each the contract of a function that does nothing.
 
-ghost use Rattle.std.specs.Prelude.{◌≡◌, ℕ, ◌+◌, ◌-◌, List, [], length};
-ghost use Rattle.sharc_tree.specs.Tree.{Program};
+ghost use Rattle.std.specs.Prelude.{◌≡◌, ℕ, ◌+◌, ◌-◌, ◌<◌, ◌≤◌, Bool, false, List, [], length};
+ghost use Rattle.sharc_tree.specs.Tree.{Expression, cast, Statement, Program};
 ghost use Rattle.sharc_tree.specs.Measures.{height as height_of, nesting_of};
+ghost use Rattle.sharc_tree.specs.Low.{is_cast, low_height, IsLow};
+ghost use Rattle.sharc_tree.specs.Marks.{Stand, items_marks};
+ghost use Rattle.sharc_tree.specs.Placed.{IsSpan, Placed, PlacedStatement, IsPlaced};
+ghost use Rattle.sharc_tree.specs.Spans.{span_of, span_of_statement};
 ghost use Rattle.sharc_tree.specs.declared.token.Site.{Site};
+ghost use Rattle.sharc_tree.specs.declared.token.Span.{Span};
+ghost use Rattle.sharc_tree.specs.declared.token.Token.{Token};
 ghost use Rattle.sharc_tree.specs.declared.token.Tokens.{Tokens};
+ghost use Rattle.sharc_tree.specs.declared.tree.declaration.WrittenType.{WrittenType};
 ghost use Rattle.sharc_grammar.specs.Grammar.{Word, Phrase, Callable, Part, IsProgram, program_words, FirstFault};
 ghost use Rattle.sharc_grammar.specs.Limits.{height, deepest, LowProgram, ReadWithin, StuckAt, Over, reads_within, FirstWrong, FirstExcess};
 ghost use Rattle.sharc_grammar.specs.Machine.{Read, Stuck, reads, first_state};
@@ -69,4 +76,39 @@ pub fn stuck_at_fault()
 /// Where it is over a limit after n words, n is the first fault, and P2.
 pub fn over_at_fault()
     ensures { (all : List Word) → (rest : List Word) → (n : ℕ) → n ≡ length all - length rest → reads_within all first_state ≡ Over rest → IsFault all 2 n }
+{}
+
+/// A program that is read is within the limits, and in the forms of the grammar.
+pub fn programs_are_low()
+    ensures { (tokens : Tokens) → (p : Program) → Reads tokens p → IsLow p }
+{}
+
+/// A cast around an expression that is none leaves the height that is limited as it was.
+pub fn casts_add_no_height()
+    ensures { (s : Span) → (t : WrittenType) → (a : Expression) → is_cast a ≡ false → low_height (cast s t a) ≡ low_height a }
+{}
+
+/// A program that is read stands at its tokens.
+pub fn programs_are_placed()
+    ensures { (tokens : Tokens) → (p : Program) → Reads tokens p → IsPlaced p }
+{}
+
+/// In a program that stands at its tokens each name and each cast is the word at its token, and their numbers rise.
+pub fn names_stand_in_order()
+    ensures { (p : Program) → IsPlaced p → Stand p.tokens.list 0 (items_marks p.items) }
+{}
+
+/// A span of tokens is what `print_span` takes.
+pub fn spans_can_be_printed()
+    ensures { (all : List Token) → (s : Span) → IsSpan all s → (s.first.token ≤ s.last.token) × (s.last.token < length all) }
+{}
+
+/// So is that of an expression that stands at its tokens.
+pub fn expressions_can_be_printed()
+    ensures { (all : List Token) → (e : Expression) → Placed all e → ((span_of e).first.token ≤ (span_of e).last.token) × ((span_of e).last.token < length all) }
+{}
+
+/// And that of a statement.
+pub fn statements_can_be_printed()
+    ensures { (all : List Token) → (a : Statement) → PlacedStatement all a → ((span_of_statement a).first.token ≤ (span_of_statement a).last.token) × ((span_of_statement a).last.token < length all) }
 {}

@@ -1,6 +1,9 @@
 pub mod Children
 pub mod Forms
+pub mod Low
+pub mod Marks
 pub mod Measures
+pub mod Placed
 pub mod Spans
 pub mod Texts
 pub mod Tree

@@ -1,0 +1,85 @@
+-- The names and casts of a tree that stands at its tokens are there, in order, and its spans can be printed.
+use Rattle.std.proofs.Common.{◌≡◌, ℕ, ◌+◌, ◌-◌, ◌≤◌, ◌<◌, List, [], ◌∷◌, ◌++◌, length, drop, get_or, HoldsAt, refl, sym, ap, ◌∙◌, arith, subst, length-drop}
+use Rattle.std.proofs.lemmas.List.{drop_more}
+use Rattle.sharc_tree.specs.Tree as tree
+use Rattle.sharc_tree.specs.Spans.{span_of, span_of_statement}
+use Rattle.sharc_tree.specs.Marks.{Mark, keyword_marks, kind_marks, marks_from, Stand, items_marks}
+use Rattle.sharc_tree.specs.Placed.{IsSpan, Placed, PlacedStatement, IsPlaced}
+use Rattle.sharc_tree.specs.declared.token.Keyword.{Keyword}
+use Rattle.sharc_tree.specs.declared.token.Keyword.TheVariants.{Scast}
+use Rattle.sharc_tree.specs.declared.token.Span.{Span}
+use Rattle.sharc_tree.specs.declared.token.Token.{Token}
+use Rattle.sharc_tree.specs.declared.token.TokenKind.{TokenKind}
+use Rattle.sharc_tree.specs.declared.token.TokenKind.TheVariants as kind
+
+-- they may be sought from an earlier token on
+from_earlier : (all : List Token) (n m : ℕ) (l : List Mark) → n ≤ m → Stand all m l → Stand all n l
+from_earlier all n m [] h s = tt
+from_earlier all n m (x ∷ rest) h s = (omega (arith, h, s.0), s.1, s.2)
+
+-- token number n is of that kind, with that text
+abbrev pub HasKind : List Token → ℕ → TokenKind → List ℕ → Type 0
+HasKind all n k text = (n < length all) × HoldsAt (λ t. (t.kind ≡ k) × (t.text ≡ text)) all n
+
+keyword_stands : (all : List Token) (n : ℕ) (k : Keyword) (text : List ℕ) (rest : List Mark) → HasKind all n (kind.Keyword k) text → Stand all (n + 1) rest → Stand all n (keyword_marks k n ++ rest)
+keyword_stands all n Scast text rest h s = (omega arith, (h.0, λ d. (h.1 d).0), s)
+keyword_stands all n _ text rest h s = from_earlier all n (n + 1) rest (omega arith) s
+
+kind_stands : (all : List Token) (n : ℕ) (k : TokenKind) (text : List ℕ) (rest : List Mark) → HasKind all n k text → Stand all (n + 1) rest → Stand all n (kind_marks k text n ++ rest)
+kind_stands all n (kind.Keyword k) text rest h s = keyword_stands all n k text rest h s
+kind_stands all n kind.Identifier text rest h s = (omega arith, h, s)
+kind_stands all n (kind.Number v) text rest h s = from_earlier all n (n + 1) rest (omega arith) s
+kind_stands all n (kind.Character c) text rest h s = from_earlier all n (n + 1) rest (omega arith) s
+kind_stands all n (kind.Punctuator p) text rest h s = from_earlier all n (n + 1) rest (omega arith) s
+kind_stands all n kind.LeftOut text rest h s = from_earlier all n (n + 1) rest (omega arith) s
+
+marks_stand : (all : List Token) (n : ℕ) (l : List Token) → drop n all ≡ l → Stand all n (marks_from n l)
+marks_stand all n [] is = tt
+marks_stand all n (t ∷ rest) is =
+    let size : length all - n ≡ length (t ∷ rest) = sym (length-drop n all) ∙ ap length is in
+    let below : n < length all = omega (arith, size) in
+    let same : (d : Token) → get_or all n d ≡ t = λ d. let e = drop_more all n d below in cc in
+    let next : drop (n + 1) all ≡ rest = let e = drop_more all n t below in cc in
+    kind_stands all n t.kind t.text (marks_from (n + 1) rest)
+    (below, λ d. (ap (λ (x : Token). x.kind) (same d), ap (λ (x : Token). x.text) (same d)))
+    (marks_stand all (n + 1) rest next)
+
+pub names_stand : (p : tree.Program) → IsPlaced p → Stand p.tokens.list 0 (items_marks p.items)
+names_stand p h = subst (Stand p.tokens.list 0) (sym h.marked) (marks_stand p.tokens.list 0 p.tokens.list refl)
+
+-- what `print_span` asks
+
+pub printable : (all : List Token) (s : Span) → IsSpan all s → (s.first.token ≤ s.last.token) × (s.last.token < length all)
+printable all s h = (h.order, h.last.below)
+
+pub expression_span : (all : List Token) (e : tree.Expression) → Placed all e → IsSpan all (span_of e)
+expression_span all (tree.identifier s i) p = p.0
+expression_span all (tree.constant s c) p = p.0
+expression_span all (tree.parentheses s a) p = p.0.0
+expression_span all (tree.call s f given) p = p.0.0
+expression_span all (tree.spawn s f a) p = p.0.0
+expression_span all (tree.on_value s w a) p = p.0.0
+expression_span all (tree.on_place s w a) p = p.0.0
+expression_span all (tree.cast s t a) p = p.0.0
+expression_span all (tree.index s a i) p = p.0.0
+expression_span all (tree.field s a w n) p = p.0.0
+expression_span all (tree.unary s o a) p = p.0.0
+expression_span all (tree.binary s o at a b) p = p.0.0
+
+pub statement_span : (all : List Token) (a : tree.Statement) → PlacedStatement all a → IsSpan all (span_of_statement a)
+statement_span all (tree.empty s) p = p.0
+statement_span all (tree.block s inner) p = p.0.0
+statement_span all (tree.declare s l) p = p.0.0
+statement_span all (tree.simple s x) p = p.0.0
+statement_span all (tree.jump s j) p = p.0
+statement_span all (tree.return s e) p = p.0.0
+statement_span all (tree.if_then s e a) p = p.0.0
+statement_span all (tree.if_then_else s e a b) p = p.0.0
+statement_span all (tree.while s e a) p = p.0.0
+statement_span all (tree.for s h a) p = p.0.0
+
+pub expression_printable : (all : List Token) (e : tree.Expression) → Placed all e → ((span_of e).first.token ≤ (span_of e).last.token) × ((span_of e).last.token < length all)
+expression_printable all e p = printable all (span_of e) (expression_span all e p)
+
+pub statement_printable : (all : List Token) (a : tree.Statement) → PlacedStatement all a → ((span_of_statement a).first.token ≤ (span_of_statement a).last.token) × ((span_of_statement a).last.token < length all)
+statement_printable all a p = printable all (span_of_statement a) (statement_span all a p)
