@@ -9,13 +9,12 @@ use Rattle.sharc_tree.specs.declared.token.Span.{Span}
 use Rattle.sharc_tree.specs.declared.token.Tokens.{Tokens}
 use Rattle.sharc_tree.specs.declared.ctype.Base.{Base}
 use Rattle.sharc_tree.specs.declared.ctype.Mode.{Mode}
-use Rattle.sharc_tree.specs.declared.tree.expression.BinaryOperator.{BinaryOperator}
 use Rattle.sharc_tree.specs.declared.tree.declaration.WrittenType.{WrittenType}
-use Rattle.sharc_tree.specs.declared.tree.expression.BinaryOperator.TheVariants as op
 use Rattle.sharc_tree.specs.declared.tree.expression.Constant.TheVariants as constants
 use Rattle.sharc_grammar.specs.Grammar.{Sharing, Typing, Declaring, Front, parenthesis, of_spawn, of_value, of_place, of_cast, Phrase, identifier, constant, enclosed, call, index, field, unary, binary, Phrases, none, more, Value, value, malloc, Doing, assign, invoke, Declared, Line, nothing, does, declares, Loop, Sentence, line, jump, return, block, under, Sentences, no_more, sentence, Opening, if_of, else_of, while_of, for_of, Form, single, array, initially, Part, structure, global, function, IsProgram, level, strength, front_level, is_declaring, FitsList, FitsType, NoModes, FitsFront, Fits, FitAll, is_call, is_declaration, FitsOption, FitsCount, FitsValue, FitsDoing, FitsInitial, FitsLine, FitsStep, FitsAs, FitAllAs, FitsOpening, FitAllDeclaring, FitsForm, FitsFields, FitsPart}
 use Rattle.sharc_grammar.specs.Limits.{stars_in, FewStars, FewFront, Few, FewAll, Low, LowOption, LowValue, LowDoing, LowInitial, LowLine, LowStep, LowSentence, LowAll, LowOpening, FewGiven, LowPart, LowProgram}
 use Rattle.sharc_grammar.specs.Places.{Reads, site_in, base_size, levels_size, type_size, size, declaring_size, levels_at, bottom_at, level_at, type_at, front_at, expression_at, arguments_at, option_at, value_at, doing_at, initial_at, step_at, front_size, local_at, first_at, head_at, line_at, statement_at, statements_at, under_at, declarations_at, form_at, item_at, items_at, count_size, line_size, option_size, sentence_size, part_size}
+use Rattle.sharc_grammar.proofs.Complete.{weak}
 use Rattle.sharc_grammar.proofs.Readings.{same_height, same_function}
 
 -- the height that is limited is at most that of the tree
@@ -89,26 +88,6 @@ front_unary s n span (of_value w) a = refl
 front_unary s n span (of_place w) a = refl
 front_unary s n span (of_cast t) a = refl
 
-weak_operator : (o : BinaryOperator) → strength o < 11
-weak_operator op.LogicalOr = omega arith
-weak_operator op.LogicalAnd = omega arith
-weak_operator op.BitOr = omega arith
-weak_operator op.BitXor = omega arith
-weak_operator op.BitAnd = omega arith
-weak_operator op.Equal = omega arith
-weak_operator op.NotEqual = omega arith
-weak_operator op.Less = omega arith
-weak_operator op.Greater = omega arith
-weak_operator op.LessOrEqual = omega arith
-weak_operator op.GreaterOrEqual = omega arith
-weak_operator op.ShiftLeft = omega arith
-weak_operator op.ShiftRight = omega arith
-weak_operator op.Add = omega arith
-weak_operator op.Subtract = omega arith
-weak_operator op.Multiply = omega arith
-weak_operator op.Divide = omega arith
-weak_operator op.Remainder = omega arith
-
 unary_at : (s : ℕ → Site) (n : ℕ) (x : Phrase) → 11 ≤ level x → is_unary (expression_at s n x) ≡ true
 unary_at s n (identifier x) h = refl
 unary_at s n (constant c) h = refl
@@ -117,7 +96,7 @@ unary_at s n (call f all) h = refl
 unary_at s n (index a i) h = refl
 unary_at s n (field a w x) h = refl
 unary_at s n (unary o a) h = refl
-unary_at s n (binary o a b) h = absurd (omega (arith, h, weak_operator o))
+unary_at s n (binary o a b) h = absurd (omega (arith, h, weak o))
 
 call_at : (s : ℕ → Site) (n : ℕ) (x : Phrase) → is_call x ≡ true → is_call_of (expression_at s n x) ≡ true
 call_at s n (identifier x) h = cc

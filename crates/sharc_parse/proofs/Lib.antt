@@ -1,3 +1,4 @@
+pub mod Operators
 pub mod Steps
 pub mod TypeSteps
 pub mod RightSteps

@@ -9,13 +9,11 @@ use Rattle.sharc_tree.specs.declared.token.Tokens.{Tokens}
 use Rattle.sharc_tree.specs.declared.token.Site.{Site}
 use Rattle.sharc_tree.specs.declared.tree.item.Item.{Item}
 use Rattle.sharc_tree.specs.declared.tree.item.Program.{Program}
-use Rattle.sharc_grammar.specs.Grammar.{Word, Part}
+use Rattle.sharc_grammar.specs.Grammar.{Word, Part, IsProgram, program_words}
 use Rattle.sharc_grammar.specs.Machine.{on_top, naming, TypeWant, Top, At, with_part, first_state}
-use Rattle.sharc_grammar.specs.Limits.{ReadWithin, StuckAt, Over, reads_within}
+use Rattle.sharc_grammar.specs.Limits.{LowProgram, ReadWithin, StuckAt, Over, reads_within}
 use Rattle.sharc_grammar.specs.Places.{words_of, site_in, part_size, item_at, items_at, Reads}
-use Rattle.sharc_grammar.specs.Faults.{IsFault}
-use Rattle.sharc_grammar.proofs.WithinLaws.{found_within}
-use Rattle.sharc_grammar.proofs.Readings.{wrong_at, excess_at}
+use Rattle.sharc_grammar.specs.Faults.{IsFault, wrong_code}
 use Rattle.sharc_parse.specs.declared.token.Fault.{Fault}
 use Rattle.sharc_parse.specs.declared.token.Fault.TheVariants.{Memory as NoMemory, Wrong, Deep}
 use Rattle.sharc_parse.specs.declared.program.ParseFault.{ParseFault}
@@ -93,28 +91,37 @@ item_fails see result Wrong tokens old new list is z h r = subst (λ o. ReadsIte
 item_fails see result Deep tokens old new list is z h r = subst (λ o. ReadsItems see o tokens new) (sym is) (item_there tokens old list z h ∙ r (parts_of list))
 item_fails see result NoMemory tokens old new list is z h r = subst (λ o. ReadsItems see o tokens new) (sym is) tt
 
--- the program, and the first fault
+-- the program, and the first fault, by the laws of sharc_grammar
+
+abbrev pub ReadsOnlyWithin : Type 0
+ReadsOnlyWithin = (all : List Word) (p : List Part) → reads_within all first_state ≡ ReadWithin p → IsProgram p × LowProgram p × (program_words p [] ≡ all)
+
+abbrev pub StuckAtFault : Type 0
+StuckAtFault = (all rest : List Word) (n : ℕ) → n ≡ length all - length rest → reads_within all first_state ≡ StuckAt rest → IsFault all (wrong_code rest) n
+
+abbrev pub OverAtFault : Type 0
+OverAtFault = (all rest : List Word) (n : ℕ) → n ≡ length all - length rest → reads_within all first_state ≡ Over rest → IsFault all 2 n
 
 words_before : (tokens : List Token) (n : ℕ) → n ≤ length tokens → n ≡ length (words_of tokens) - length (from tokens n)
 words_before tokens n h = omega (arith, h, words_left tokens 0, words_left tokens n)
 
-pub stuck_there : (tokens : List Token) (n : ℕ) → n ≤ length tokens → reads_within (words_of tokens) first_state ≡ StuckAt (from tokens n) → IsFault (words_of tokens) (code_of false (from tokens n)) n
-stuck_there tokens n h e = wrong_at (words_of tokens) (from tokens n) n (words_before tokens n h) e
+pub stuck_there : (law : StuckAtFault) (tokens : List Token) (n : ℕ) → n ≤ length tokens → reads_within (words_of tokens) first_state ≡ StuckAt (from tokens n) → IsFault (words_of tokens) (code_of false (from tokens n)) n
+stuck_there law tokens n h e = law (words_of tokens) (from tokens n) n (words_before tokens n h) e
 
-pub over_there : (tokens : List Token) (n : ℕ) → n ≤ length tokens → reads_within (words_of tokens) first_state ≡ Over (from tokens n) → IsFault (words_of tokens) (code_of true (from tokens n)) n
-over_there tokens n h e = excess_at (words_of tokens) (from tokens n) n (words_before tokens n h) e
+pub over_there : (law : OverAtFault) (tokens : List Token) (n : ℕ) → n ≤ length tokens → reads_within (words_of tokens) first_state ≡ Over (from tokens n) → IsFault (words_of tokens) (code_of true (from tokens n)) n
+over_there law tokens n h e = law (words_of tokens) (from tokens n) n (words_before tokens n h) e
 
 pub parses_refused : (result : Result Program ParseFault) (tokens : Tokens) (n : ℕ) (deep : Bool) → IsFault (words_of tokens.list) (code_of deep (from tokens.list n)) n → Refuses result tokens n deep → Parses result tokens
 parses_refused (Ok p) tokens n deep f h = absurd h
 parses_refused (Err (FaultOf fault back)) tokens n deep f h = (record { number = n; is = subst (λ code. IsFault (words_of tokens.list) code n) (sym h.1) f; told = h.0 }, h.2)
 parses_refused (Err Memory) tokens n deep f h = tt
 
-reads_program : (tokens : Tokens) (p : tree.Program) (parts : List Part) → reads_within (words_of tokens.list) first_state ≡ ReadWithin parts → p.items ≡ items_at (site_in tokens.list) 0 parts → p.tokens ≡ tokens → p.files ≡ tokens.files → Reads tokens p
-reads_program tokens p parts e placed keeps_tokens keeps_files =
-    let found = found_within (words_of tokens.list) parts e in
+reads_program : (law : ReadsOnlyWithin) (tokens : Tokens) (p : tree.Program) (parts : List Part) → reads_within (words_of tokens.list) first_state ≡ ReadWithin parts → p.items ≡ items_at (site_in tokens.list) 0 parts → p.tokens ≡ tokens → p.files ≡ tokens.files → Reads tokens p
+reads_program law tokens p parts e placed keeps_tokens keeps_files =
+    let found = law (words_of tokens.list) parts e in
     record { phrases = parts; is_program = found.0; within = found.1; spelled = found.2; placed = placed; keeps_tokens = keeps_tokens; keeps_files = keeps_files }
 
-pub parses_complete : (result : Result Program ParseFault) (tokens : Tokens) (list : List Item) → reads_within (words_of tokens.list) first_state ≡ ReadWithin (parts_of list) → view_items list ≡ items_at (site_in tokens.list) 0 (parts_of list) → Completes result tokens list → Parses result tokens
-parses_complete (Ok p) tokens list e placed h = reads_program tokens (view_program p) (parts_of list) e (ap (λ q. q.items) h ∙ placed) (ap (λ q. q.tokens) h) (ap (λ q. q.files) h)
-parses_complete (Err (FaultOf fault back)) tokens list e placed h = absurd h
-parses_complete (Err Memory) tokens list e placed h = tt
+pub parses_complete : (law : ReadsOnlyWithin) (result : Result Program ParseFault) (tokens : Tokens) (list : List Item) → reads_within (words_of tokens.list) first_state ≡ ReadWithin (parts_of list) → view_items list ≡ items_at (site_in tokens.list) 0 (parts_of list) → Completes result tokens list → Parses result tokens
+parses_complete law (Ok p) tokens list e placed h = reads_program law tokens (view_program p) (parts_of list) e (ap (λ q. q.items) h ∙ placed) (ap (λ q. q.tokens) h) (ap (λ q. q.files) h)
+parses_complete law (Err (FaultOf fault back)) tokens list e placed h = absurd h
+parses_complete law (Err Memory) tokens list e placed h = tt

@@ -1,7 +1,7 @@
 -- The machine's steps within the limits, put together as the parser takes them.
 use Rattle.std.proofs.Common.{◌≡◌, ℕ, ◌+◌, ◌≤◌, ◌<◌, List, [], ◌∷◌, ◌++◌, Some, None, refl, sym, ap, ◌∙◌, arith, subst, true, false, cond, max, Result, Ok, Err}
 use Rattle.std.specs.Prelude.{nat_le}
-use Rattle.std.proofs.lemmas.Bool.{lt-leb}
+use Rattle.std.proofs.lemmas.Bool.{le-leb, lt-leb}
 use Rattle.sharc_tree.specs.declared.token.Keyword.TheVariants as key
 use Rattle.sharc_tree.specs.declared.token.Punctuator.TheVariants.{OpenParenthesis, CloseParenthesis, OpenBrace, OpenBracket, CloseBracket, Semicolon, Comma, Dot, Arrow, Minus, Star, Ampersand, Exclamation, Tilde}
 use Rattle.sharc_tree.specs.declared.tree.expression.BinaryOperator.{BinaryOperator}
@@ -17,9 +17,7 @@ use Rattle.sharc_tree.specs.declared.tree.expression.Constant.TheVariants as con
 use Rattle.sharc_grammar.specs.Grammar.{Word, name, keyword, mark, number, character, Front, of_place, Phrase, identifier, constant, enclosed, call, index, field, unary, binary, Phrases, none, more, operator_mark, unary_mark, access_mark, constant_word, strength, front_level}
 use Rattle.sharc_grammar.specs.Machine.{condition, returning, testing, subject, valued, counting, Cont, part, beneath, right_of, fronted, indexing, arguments, Core, Want, Have, Called, Dotted, Fixed, an_open, a_close, a_semicolon, a_comma, a_brace, a_bracket, an_ampersand, a_sizeof, State, At, fixed_word, is_fixed, to, Role, Calling, Indexing, Accessing, Operating, Ending, role, grip_of, grip, with_last, floor, settle, mallocs, want, open_call, front_end, end_at, counted, shift, have}
 use Rattle.sharc_grammar.specs.Limits.{height, highest, depth, crowded, over_core, over, Limited, StuckAt, Over, next_within, reads_within}
-use Rattle.sharc_grammar.proofs.Complete.{weak, operating, settle_stops, role_binary, role_unary, le_true, le_false}
-use Rattle.sharc_grammar.proofs.Sound.{floor_most}
-use Rattle.sharc_grammar.proofs.Completed.{highest_more}
+use Rattle.sharc_parse.proofs.Operators.{weak, operating, settle_stops, role_binary, role_unary, floor_most, highest_more}
 use Rattle.sharc_tree.specs.Tree as tree
 use Rattle.sharc_tree.specs.View.{view_expr, view_arguments}
 use Rattle.sharc_tree.specs.declared.token.Site.{Site}
@@ -54,7 +52,7 @@ pub fine : (k : Cont) (m : ℕ) → crowded k ≡ false → m < 64 → cond (cro
 fine k m c h = ap (λ b. cond b true (nat_le 64 m)) c ∙ test_down m h
 
 pub not_fine : (k : Cont) (m : ℕ) → crowded k ≡ false → 64 ≤ m → cond (crowded k) true (nat_le 64 m) ≡ true
-not_fine k m c h = ap (λ b. cond b true (nat_le 64 m)) c ∙ le_true 64 m h
+not_fine k m c h = ap (λ b. cond b true (nat_le 64 m)) c ∙ le-leb 64 m h
 
 -- the words that have to come next
 
@@ -147,7 +145,7 @@ takes_any : (o : BinaryOperator) (x : Phrase) (k : Cont) (y : List Word) → flo
 takes_any o x k y h =
     ap (λ r. next_within (have r x k (mark (operator_mark o))) (λ s. reads_within y s) (mark (operator_mark o) ∷ y)) (operating o)
     ∙ ap (λ (s : Phrase × Cont). next_within (shift o s.0 s.1) (λ n. reads_within y n) (mark (operator_mark o) ∷ y)) (settle_stops (strength o) x k (weak o) h)
-    ∙ ap (λ b. next_within (cond b (to (Want (right_of x o k))) (counted o x k)) (λ n. reads_within y n) (mark (operator_mark o) ∷ y)) (le_true (floor k) (strength o) h)
+    ∙ ap (λ b. next_within (cond b (to (Want (right_of x o k))) (counted o x k)) (λ n. reads_within y n) (mark (operator_mark o) ∷ y)) (le-leb (floor k) (strength o) h)
 
 pub operator_goes : (o : BinaryOperator) (x : Phrase) (k : Cont) (y : List Word) → floor k ≤ strength o → crowded k ≡ false → depth k + height x < 64 → reads_within (mark (operator_mark o) ∷ y) (At [] (Have x k)) ≡ reads_within y (At [] (Want (right_of x o k)))
 operator_goes o x k y f c d = takes_any o x k y f ∙ passes (At [] (Want (right_of x o k))) y (mark (operator_mark o) ∷ y) (fine k (depth k + height x) c d)
@@ -184,7 +182,7 @@ pub call_deep : (n : List ℕ) (k : Cont) (ts : List Word) → IsAt (mark OpenPa
 call_deep n k [] a h = absurd a
 call_deep n k (t ∷ y) a h =
     ap (λ u. reads_within (u ∷ y) (At [] (Have (identifier n) k))) a
-    ∙ fails (At [] (Called n k)) y (mark OpenParenthesis ∷ y) (le_true 64 (depth k) h)
+    ∙ fails (At [] (Called n k)) y (mark OpenParenthesis ∷ y) (le-leb 64 (depth k) h)
     ∙ ap (λ u. Over (u ∷ y)) (sym a)
 
 -- nothing that begins an operand; a `malloc` begins one nowhere but right of `=`
@@ -273,7 +271,7 @@ closed_counts _ _ _ h = refl
 pub closed_operator : (o : BinaryOperator) (x : Phrase) (k : Cont) → IsClosed k → strength o < floor k → have (Operating o) x k (mark (operator_mark o)) ≡ None
 closed_operator o x k h f =
     ap (λ (s : Phrase × Cont). shift o s.0 s.1) (closed_settles (strength o) x k h)
-    ∙ ap (λ b. cond b (to (Want (right_of x o k))) (counted o x k)) (le_false (floor k) (strength o) f)
+    ∙ ap (λ b. cond b (to (Want (right_of x o k))) (counted o x k)) (lt-leb (floor k) (strength o) f)
     ∙ closed_counts o x k h
 
 -- indexes and fields
@@ -302,7 +300,7 @@ access_deep a x k [] i h = absurd i
 access_deep a x k (t ∷ y) i h =
     ap (λ u. reads_within (u ∷ y) (At [] (Have x k))) i
     ∙ ap (λ o. next_within o (λ s. reads_within y s) (mark (access_mark a) ∷ y)) (access_step a x k)
-    ∙ fails (At [] (Dotted x a k)) y (mark (access_mark a) ∷ y) (le_true 64 (depth k + height x) h)
+    ∙ fails (At [] (Dotted x a k)) y (mark (access_mark a) ∷ y) (le-leb 64 (depth k + height x) h)
     ∙ ap (λ u. Over (u ∷ y)) (sym i)
 
 pub field_goes : (x : Phrase) (a : Access) (n : List ℕ) (k : Cont) (y : List Word) → crowded k ≡ false → reads_within (name n ∷ y) (At [] (Dotted x a k)) ≡ reads_within y (At [] (Have (field x a n) k))
@@ -356,7 +354,7 @@ closed_role Indexing k x t i h g e = absurd (omega (arith, floor_most k))
 closed_role (Accessing a) k x t i h g e = absurd (omega (arith, floor_most k))
 closed_role (Operating o) k x t i h g e =
     ap (λ (s : Phrase × Cont). shift o s.0 s.1) (closed_settles (strength o) x k h)
-    ∙ ap (λ b. cond b (to (Want (right_of x o k))) (counted o x k)) (le_false (floor k) (strength o) (omega (arith, some_strength o)))
+    ∙ ap (λ b. cond b (to (Want (right_of x o k))) (counted o x k)) (lt-leb (floor k) (strength o) (omega (arith, some_strength o)))
     ∙ closed_counts o x k h
 closed_role Ending k x t i h g e = ap (λ (s : Phrase × Cont). end_at s.0 s.1 t) (closed_settles 0 x k h) ∙ e
 

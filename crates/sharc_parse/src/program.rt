@@ -6,6 +6,7 @@ ghost use Rattle.sharc_parse.specs.Programs.{Parses, ReadsItems, AreItemsPlaced,
 
 use crate::item::item;
 use crate::token::Fault;
+use sharc_grammar::laws;
 use sharc_tree::name::Name;
 use sharc_tree::token::{FaultAt, Token, TokenKind, Tokens};
 use sharc_tree::tree::{Item, Items, Program};
@@ -135,6 +136,9 @@ pub fn parse(alloc: Global, tokens: Tokens) -> Result<Program, ParseFault>
     requires end_file { tokens.end.file < length tokens.files }
     ensures { Parses result tokens }
 {
+    laws::reads_only_within();
+    laws::stuck_at_fault();
+    laws::over_at_fault();
     let mut at = 0;
     match items(alloc, tokens.list.as_slice(), &mut at) {
         Ok(items) => complete(alloc, tokens, items),
