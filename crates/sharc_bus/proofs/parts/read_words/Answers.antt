@@ -3,7 +3,7 @@ use Rattle.std.proofs.Common.{◌≡◌, ◌≢◌, ◌<◌, length, arith, sym,
 use Rattle.std.proofs.lemmas.List.{ext_get_or}
 use Rattle.std.specs.Mem.Slots.{slots_items, slots_counts}
 use Rattle.sharc_bus.proofs.Closing.{index_at}
-use Rattle.sharc_bus.proofs.bus.read_words.Goals as goal
+use Rattle.sharc_bus.proofs.parts.read_words.Goals as goal
 
 pub loop-i-preserved : goal.loop-i-preserved
 loop-i-preserved g c =
