@@ -1,5 +1,6 @@
 //! Trees that the parser made: their copies, their printed texts, and the calls that look into them.
 
+use crate::nodes::expressions_of;
 use sharc_lex::lex;
 use sharc_parse::{ParseFault, parse};
 use sharc_tree::ctype::{Base, CType, Levels, Mode, Path};
@@ -445,6 +446,7 @@ fn calls_and_blocks_give_their_parts(rt: HostRuntime) -> Result<(), Fail> {
         panic!(rt; "no block")
     };
     assert_eq!(rt; block.len(), 2);
+    assert_eq!(rt; expressions_of(rt.alloc(), function)?.len(), 4);
     Ok(())
 }
 

@@ -85,13 +85,36 @@ fn copy_step(alloc: Global, step: &Option<Simple>) -> Result<Option<Simple>, All
     }
 }
 
+// Each function holds one part of a head at most while it copies the next: a proof goes through the drop of every part that is held.
+fn copy_step_behind(
+    alloc: Global,
+    test: Option<Expr>,
+    step: &Option<Simple>,
+) -> Result<(Option<Expr>, Option<Simple>), AllocError>
+    ensures test { IfOk result (λ r. r.0 ≡ test) }
+    ensures step { IfOk result (λ r. view_option view_simple r.1 ≡ view_option view_simple step.now) }
+{
+    let step = copy_step(alloc, step)?;
+    Ok((test, step))
+}
+
+fn copy_test_and_step(
+    alloc: Global,
+    head: &ForHead,
+) -> Result<(Option<Expr>, Option<Simple>), AllocError>
+    ensures test { IfOk result (λ r. view_option view_expr r.0 ≡ view_option view_expr head.now.test) }
+    ensures step { IfOk result (λ r. view_option view_simple r.1 ≡ view_option view_simple head.now.step) }
+{
+    let test = copy_option(alloc, &head.test)?;
+    copy_step_behind(alloc, test, &head.step)
+}
+
 /// The head of a `for` once more.
 pub fn copy_head(alloc: Global, head: &ForHead) -> Result<ForHead, AllocError>
     ensures { IfOk result (λ h. view_head h ≡ view_head head.now) }
 {
     let first = copy_first(alloc, &head.first)?;
-    let test = copy_option(alloc, &head.test)?;
-    let step = copy_step(alloc, &head.step)?;
+    let (test, step) = copy_test_and_step(alloc, head)?;
     Ok(ForHead { first, test, step })
 }
 
