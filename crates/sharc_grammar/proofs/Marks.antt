@@ -1,11 +1,12 @@
 -- The names and casts of a tree that stands at its tokens are there, in order, and its spans can be printed.
-use Rattle.std.proofs.Common.{◌≡◌, ℕ, ◌+◌, ◌-◌, ◌≤◌, ◌<◌, List, [], ◌∷◌, ◌++◌, length, drop, get_or, HoldsAt, refl, sym, ap, ◌∙◌, arith, subst, length-drop, ⊎_elim, Contains}
+use Rattle.std.proofs.Common.{◌≡◌, ℕ, suc, zero, ◌+◌, ◌-◌, ◌≤◌, ◌<◌, List, [], ◌∷◌, ◌++◌, length, drop, get_or, HoldsAt, refl, sym, ap, ◌∙◌, arith, subst, length-drop, ⊎_elim, Contains}
+use Rattle.std.specs.List.{AllPairs}
 use Rattle.std.proofs.lemmas.Bool.{cases_lt}
 use Rattle.std.proofs.lemmas.List.{drop_more}
 use Rattle.std.proofs.lemmas.List.Elements.{Contains-append_right}
 use Rattle.sharc_tree.specs.Tree as tree
 use Rattle.sharc_tree.specs.Spans.{span_of, span_of_statement}
-use Rattle.sharc_tree.specs.Marks.{Mark, a_name, keyword_marks, kind_marks, marks_from, Stand, items_marks}
+use Rattle.sharc_tree.specs.Marks.{Mark, a_name, number_of, keyword_marks, kind_marks, marks_from, Stand, items_marks}
 use Rattle.sharc_tree.specs.Placed.{IsSpan, Placed, PlacedStatement, IsPlaced}
 use Rattle.sharc_tree.specs.declared.token.Keyword.{Keyword}
 use Rattle.sharc_tree.specs.declared.token.Keyword.TheVariants.{Scast}
@@ -48,6 +49,22 @@ marks_stand all n (t ∷ rest) is =
 
 pub names_stand : (p : tree.Program) → IsPlaced p → Stand p.tokens.list 0 (items_marks p.items)
 names_stand p h = subst (Stand p.tokens.list 0) (sym h.marked) (marks_stand p.tokens.list 0 p.tokens.list refl)
+
+-- no two have one token
+
+not_before : (all : List Token) (n : ℕ) (l : List Mark) (j : ℕ) (d : Mark) → Stand all n l → j < length l → n ≤ number_of (get_or l j d)
+not_before all n [] j d s h = absurd (omega (arith, h))
+not_before all n (x ∷ rest) zero d s h = s.0
+not_before all n (x ∷ rest) (suc j) d s h = let e = not_before all (number_of x + 1) rest j d s.2 (omega (arith, h)) in omega (arith, e, s.0)
+
+in_order : (all : List Token) (n : ℕ) (l : List Mark) (i j : ℕ) (d : Mark) → Stand all n l → i < j → j < length l → number_of (get_or l i d) < number_of (get_or l j d)
+in_order all n [] i j d s less h = absurd (omega (arith, h))
+in_order all n (x ∷ rest) i zero d s less h = absurd (omega (arith, less))
+in_order all n (x ∷ rest) zero (suc j) d s less h = let e = not_before all (number_of x + 1) rest j d s.2 (omega (arith, h)) in omega (arith, e)
+in_order all n (x ∷ rest) (suc i) (suc j) d s less h = in_order all (number_of x + 1) rest i j d s.2 (omega (arith, less)) (omega (arith, h))
+
+pub names_apart : (p : tree.Program) → IsPlaced p → AllPairs (λ x y. number_of x < number_of y) (items_marks p.items)
+names_apart p h i j d less high = in_order p.tokens.list 0 (items_marks p.items) i j d (names_stand p h) less high
 
 -- no name is left out
 
