@@ -1,9 +1,12 @@
 -- The names and casts of a tree that stands at its tokens are there, in order, and its spans can be printed.
-use Rattle.std.proofs.Common.{◌≡◌, ℕ, ◌+◌, ◌-◌, ◌≤◌, ◌<◌, List, [], ◌∷◌, ◌++◌, length, drop, get_or, HoldsAt, refl, sym, ap, ◌∙◌, arith, subst, length-drop}
+use Rattle.std.proofs.Common.{◌≡◌, ℕ, suc, zero, ◌+◌, ◌-◌, ◌≤◌, ◌<◌, List, [], ◌∷◌, ◌++◌, length, drop, get_or, HoldsAt, refl, sym, ap, ◌∙◌, arith, subst, length-drop, ⊎_elim, Contains}
+use Rattle.std.specs.List.{AllPairs}
+use Rattle.std.proofs.lemmas.Bool.{cases_lt}
 use Rattle.std.proofs.lemmas.List.{drop_more}
+use Rattle.std.proofs.lemmas.List.Elements.{Contains-append_right}
 use Rattle.sharc_tree.specs.Tree as tree
 use Rattle.sharc_tree.specs.Spans.{span_of, span_of_statement}
-use Rattle.sharc_tree.specs.Marks.{Mark, keyword_marks, kind_marks, marks_from, Stand, items_marks}
+use Rattle.sharc_tree.specs.Marks.{Mark, a_name, number_of, keyword_marks, kind_marks, marks_from, Stand, items_marks}
 use Rattle.sharc_tree.specs.Placed.{IsSpan, Placed, PlacedStatement, IsPlaced}
 use Rattle.sharc_tree.specs.declared.token.Keyword.{Keyword}
 use Rattle.sharc_tree.specs.declared.token.Keyword.TheVariants.{Scast}
@@ -46,6 +49,50 @@ marks_stand all n (t ∷ rest) is =
 
 pub names_stand : (p : tree.Program) → IsPlaced p → Stand p.tokens.list 0 (items_marks p.items)
 names_stand p h = subst (Stand p.tokens.list 0) (sym h.marked) (marks_stand p.tokens.list 0 p.tokens.list refl)
+
+-- no two have one token
+
+not_before : (all : List Token) (n : ℕ) (l : List Mark) (j : ℕ) (d : Mark) → Stand all n l → j < length l → n ≤ number_of (get_or l j d)
+not_before all n [] j d s h = absurd (omega (arith, h))
+not_before all n (x ∷ rest) zero d s h = s.0
+not_before all n (x ∷ rest) (suc j) d s h = let e = not_before all (number_of x + 1) rest j d s.2 (omega (arith, h)) in omega (arith, e, s.0)
+
+in_order : (all : List Token) (n : ℕ) (l : List Mark) (i j : ℕ) (d : Mark) → Stand all n l → i < j → j < length l → number_of (get_or l i d) < number_of (get_or l j d)
+in_order all n [] i j d s less h = absurd (omega (arith, h))
+in_order all n (x ∷ rest) i zero d s less h = absurd (omega (arith, less))
+in_order all n (x ∷ rest) zero (suc j) d s less h = let e = not_before all (number_of x + 1) rest j d s.2 (omega (arith, h)) in omega (arith, e)
+in_order all n (x ∷ rest) (suc i) (suc j) d s less h = in_order all (number_of x + 1) rest i j d s.2 (omega (arith, less)) (omega (arith, h))
+
+pub names_apart : (p : tree.Program) → IsPlaced p → AllPairs (λ x y. number_of x < number_of y) (items_marks p.items)
+names_apart p h i j d less high = in_order p.tokens.list 0 (items_marks p.items) i j d (names_stand p h) less high
+
+-- no name is left out
+
+either : (m n : ℕ) (P : Type 0) → (m < n → P) → (n ≤ m → P) → P
+either m n P f g = ⊎_elim f g (cases_lt m n)
+
+a_name_first : (n : ℕ) (k : TokenKind) (text : List ℕ) (l : List Mark) → k ≡ kind.Identifier → Contains (kind_marks k text n ++ l) (a_name n text)
+a_name_first n k text l is = subst (λ z. Contains (kind_marks z text n ++ l) (a_name n text)) (sym is) (0, omega arith, refl)
+
+name_among : (all : List Token) (n m : ℕ) (l : List Token) (d : Token) → drop m all ≡ l → m ≤ n → n < length all → (get_or all n d).kind ≡ kind.Identifier → Contains (marks_from m l) (a_name n (get_or all n d).text)
+name_among all n m [] d is low high h =
+    let size : length all - m ≡ 0 = sym (length-drop m all) ∙ ap length is in
+    absurd (omega (arith, size, low, high))
+name_among all n m (t ∷ rest) d is low high h =
+    let below : m < length all = omega (arith, low, high) in
+    let first : get_or all m d ≡ t = let e = drop_more all m d below in cc in
+    let next : drop (m + 1) all ≡ rest = let e = drop_more all m d below in cc in
+    either m n _
+    (λ less. Contains-append_right (kind_marks t.kind t.text m) (marks_from (m + 1) rest) _ (name_among all n (m + 1) rest d next (omega (arith, less)) high h))
+    (λ most.
+    let same : m ≡ n = omega (arith, low, most) in
+    let it : get_or all n d ≡ t = ap (λ z. get_or all z d) (sym same) ∙ first in
+    let is_name : t.kind ≡ kind.Identifier = ap (λ (x : Token). x.kind) (sym it) ∙ h in
+    let mark : a_name m t.text ≡ a_name n (get_or all n d).text = ap (λ z. a_name z t.text) same ∙ ap (λ (x : Token). a_name n x.text) (sym it) in
+    subst (Contains (kind_marks t.kind t.text m ++ marks_from (m + 1) rest)) mark (a_name_first m t.kind t.text (marks_from (m + 1) rest) is_name))
+
+pub name_there : (p : tree.Program) → IsPlaced p → (n : ℕ) (t : Token) → n < length p.tokens.list → (get_or p.tokens.list n t).kind ≡ kind.Identifier → Contains (items_marks p.items) (a_name n (get_or p.tokens.list n t).text)
+name_there p placed n t high h = subst (λ l. Contains l (a_name n (get_or p.tokens.list n t).text)) (sym placed.marked) (name_among p.tokens.list n 0 p.tokens.list t refl (omega arith) high h)
 
 -- what `print_span` asks
 

@@ -1,15 +1,16 @@
 // The laws, each the contract of a function that does nothing.
 
-ghost use Rattle.std.specs.Prelude.{◌≡◌, ℕ, ◌+◌, ◌-◌, ◌<◌, ◌≤◌, Bool, false, List, [], length};
+ghost use Rattle.std.specs.Prelude.{◌≡◌, ℕ, ◌+◌, ◌-◌, ◌<◌, ◌≤◌, Bool, false, List, [], length, slice_index_or, AllPairs, Contains};
 ghost use Rattle.sharc_tree.specs.Tree.{Expression, cast, Statement, Program};
 ghost use Rattle.sharc_tree.specs.Measures.{height as height_of, nesting_of};
 ghost use Rattle.sharc_tree.specs.Low.{is_cast, low_height, IsLow};
-ghost use Rattle.sharc_tree.specs.Marks.{Stand, items_marks};
+ghost use Rattle.sharc_tree.specs.Marks.{a_name, number_of, Stand, items_marks};
 ghost use Rattle.sharc_tree.specs.Placed.{IsSpan, Placed, PlacedStatement, IsPlaced};
 ghost use Rattle.sharc_tree.specs.Spans.{span_of, span_of_statement};
 ghost use Rattle.sharc_tree.specs.declared.token.Site.{Site};
 ghost use Rattle.sharc_tree.specs.declared.token.Span.{Span};
 ghost use Rattle.sharc_tree.specs.declared.token.Token.{Token};
+ghost use Rattle.sharc_tree.specs.declared.token.TokenKind.TheVariants.{Identifier as IdentifierKind};
 ghost use Rattle.sharc_tree.specs.declared.token.Tokens.{Tokens};
 ghost use Rattle.sharc_tree.specs.declared.tree.declaration.WrittenType.{WrittenType};
 ghost use Rattle.sharc_grammar.specs.Grammar.{Word, Phrase, Callable, Part, IsProgram, program_words, FirstFault};
@@ -96,6 +97,16 @@ pub fn programs_are_placed()
 /// In a program that stands at its tokens each name and each cast is the word at its token, and their numbers rise.
 pub fn names_stand_in_order()
     ensures { (p : Program) → IsPlaced p → Stand p.tokens.list 0 (items_marks p.items) }
+{}
+
+/// So no two of them have one token.
+pub fn names_have_tokens_of_their_own()
+    ensures { (p : Program) → IsPlaced p → AllPairs (λ x y. number_of x < number_of y) (items_marks p.items) }
+{}
+
+/// In a program that stands at its tokens no name is left out.
+pub fn each_name_token_is_named()
+    ensures { (p : Program) → IsPlaced p → (n : ℕ) → (t : Token) → n < length p.tokens.list → (slice_index_or p.tokens.list n t).kind ≡ IdentifierKind → Contains (items_marks p.items) (a_name n (slice_index_or p.tokens.list n t).text) }
 {}
 
 /// A span of tokens is what `print_span` takes.
