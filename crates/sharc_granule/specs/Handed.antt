@@ -42,6 +42,10 @@ abbrev pub handed_out : List WordEvent → List Granules
 handed_out [] = []
 handed_out (event ∷ events) = handed_by event ++ handed_out events
 
+-- the event hands out just these granules
+abbrev pub HandsOut : WordEvent → Granules → Type 0
+HandsOut event granules = handed_by event ≡ granules ∷ []
+
 -- these lie one behind the other, the first not before this granule, and none past that one
 abbrev pub LieInOrder : ℕ → List Granules → ℕ → Type 0
 LieInOrder from [] to = from ≤ to

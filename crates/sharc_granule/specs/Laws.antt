@@ -9,7 +9,7 @@ use Rattle.sharc_word.specs.declared.step.WordEvent.{WordEvent}
 use Rattle.sharc_word.specs.Words.{words_after}
 use Rattle.sharc_word.specs.History.{LegalHistory}
 use Rattle.sharc_granule.specs.Block.{granules_of}
-use Rattle.sharc_granule.specs.Handed.{KeepsTop, MovesOn, LieInOrder, handed_out}
+use Rattle.sharc_granule.specs.Handed.{Granules, KeepsTop, MovesOn, HandsOut, LieInOrder, handed_out}
 use Rattle.sharc_granule.specs.State.{NewView, IsAfter, IsStep, begun, told, turn_of}
 use Rattle.sharc_granule.specs.Asks.{count_word, length_word, cell_word, granule_number, Asks, AreTops, HasMoved, step_of, top_word}
 
@@ -140,6 +140,24 @@ abbrev pub TopHandsOutApart : Type 0
 TopHandsOutApart =
     (opening : List ℕ) (events : List WordEvent) → LegalHistory opening events → All KeepsTop events → IsHandedOut opening events
 
+-- a Cas of the top that finds what it is to replace hands out what it moves the top over
+abbrev pub CasHandsOut : Type 0
+CasHandsOut =
+    (event : WordEvent) (from to : ℕ) → event.step ≡ step_of top_word (Cas from to) → event.result ≡ from
+    → HandsOut event record { from = from; to = to }
+
+-- of two such events the earlier one's granules lie before the later one's, and these below the top that is left
+pub record LieApart (opening : List ℕ) (events : List WordEvent) (earlier later : Granules) : Type 0 where
+  pub from_opening : slice_index opening top_word ≤ earlier.from
+  pub apart : earlier.to ≤ later.from
+  pub below : later.to ≤ slice_index (words_after opening events) top_word
+
+abbrev pub HandedApart : Type 0
+HandedApart =
+    (opening : List ℕ) (before between after : List WordEvent) (one other : WordEvent) (earlier later : Granules)
+    → LegalHistory opening (before ++ one ∷ (between ++ other ∷ after)) → All KeepsTop (before ++ one ∷ (between ++ other ∷ after))
+    → HandsOut one earlier → HandsOut other later → LieApart opening (before ++ one ∷ (between ++ other ∷ after)) earlier later
+
 -- the laws of a New together
 pub record NewLaws : Type 0 where
   pub one_turn : AsksOneTurn
@@ -156,4 +174,6 @@ pub record NewLaws : Type 0 where
   pub granules : GranulesStay
   pub own_steps : StepsAreOwn
   pub keep_top : StepsKeepTop
-  pub apart : TopHandsOutApart
+  pub in_order : TopHandsOutApart
+  pub cas : CasHandsOut
+  pub apart : HandedApart
