@@ -1,6 +1,6 @@
 //! The seats of a bus, cut off the first seat of its table and put together again, and the words of a table that is closed.
 
-ghost use Rattle.std.specs.Prelude.{◌≡◌, ◌<◌, [], length, vec_len, All, IfOk};
+ghost use Rattle.std.specs.Prelude.{slice_index, ◌≡◌, ◌<◌, [], length, vec_len, All, IfOk};
 ghost use Rattle.std.specs.Mem.Slots.{slots_items, slots_len, IsFull};
 ghost use Rattle.sharc_bus.specs.Rule.{unbegun};
 ghost use Rattle.sharc_bus.specs.Table.{HasAll, seats_with};
@@ -62,6 +62,15 @@ pub(crate) fn read_words<A: Allocator>(closed: &Closed<(), A>, words: &mut [u64]
     ensures { words.new ≡ slots_items closed.now.words }
 {
     for (i, word) in words.iter_mut().enumerate() {
-        *word = closed.word(i);
+        *word = word_at(closed, i);
     }
+}
+
+// The word at a place of such a table.
+fn word_at<A: Allocator>(closed: &Closed<(), A>, i: usize) -> u64
+    requires within { i < slots_len closed.now.words }
+    requires full { IsFull closed.now.words }
+    ensures { result ≡ slice_index (slots_items closed.now.words) i }
+{
+    closed.word(i)
 }

@@ -1,5 +1,5 @@
 -- What holds of every New.
-use Rattle.std.specs.Prelude.{◌≡◌, ◌≢◌, ℕ, ◌+◌, ◌*◌, ◌<◌, ◌≤◌, List, [], ◌∷◌, ◌++◌, length, slice_index, All, AllPairs}
+use Rattle.std.specs.Prelude.{◌≡◌, ◌≢◌, ℕ, ◌+◌, ◌*◌, ◌^◌, ◌<◌, ◌≤◌, List, [], ◌∷◌, ◌++◌, length, slice_index, All, AllPairs}
 use Rattle.sharc_word.specs.declared.step.WordStep.{WordStep}
 use Rattle.sharc_word.specs.declared.step.WordOp.TheVariants.{Cas}
 use Rattle.sharc_granule.specs.declared.stage.NewTurn.{NewTurn}
@@ -8,7 +8,7 @@ use Rattle.sharc_granule.specs.declared.arguments.NewArguments.{NewArguments}
 use Rattle.sharc_word.specs.declared.step.WordEvent.{WordEvent}
 use Rattle.sharc_word.specs.Words.{words_after}
 use Rattle.sharc_word.specs.History.{LegalHistory}
-use Rattle.sharc_granule.specs.Block.{granules_of}
+use Rattle.sharc_granule.specs.Block.{granules_of, IsBlock, block_of}
 use Rattle.sharc_granule.specs.Handed.{Granules, KeepsTop, MovesOn, HandsOut, LieInOrder, handed_out}
 use Rattle.sharc_granule.specs.State.{NewView, IsAfter, IsStep, begun, told, turn_of}
 use Rattle.sharc_granule.specs.Asks.{count_word, length_word, cell_word, granule_number, Asks, AreTops, HasMoved, step_of, top_word}
@@ -82,6 +82,13 @@ NewStays =
     (state : NewView) (results : List ℕ) (found : ℕ) → IsAfter state results → ¬ IsStep (turn_of state) → told state found ≡ state
 
 -- ---- blocks
+-- the function of a block is its relation, of which there is one
+abbrev pub BlockOfIsBlock : Type 0
+BlockOfIsBlock = (cells : ℕ) → cells ≤ 2 ^ 32 → IsBlock cells (block_of cells)
+
+abbrev pub OneBlock : Type 0
+OneBlock = (cells one other : ℕ) → IsBlock cells one → IsBlock cells other → one ≡ other
+
 -- the block of a New is the first of its own list, or begins at the top that it moved
 pub data ComesFrom (a : NewArguments) (results : List ℕ) (header : ℕ) : Type 0 where
   OwnList : a.head ≢ 0 → header ≡ a.head → ComesFrom a results header
@@ -169,6 +176,8 @@ pub record NewLaws : Type 0 where
   pub begins : NewBegins
   pub goes_on : NewGoesOn
   pub stays : NewStays
+  pub block : BlockOfIsBlock
+  pub one_block : OneBlock
   pub made : MadeIsItsBlock
   pub block_words : BlocksHaveTheirWords
   pub granules : GranulesStay

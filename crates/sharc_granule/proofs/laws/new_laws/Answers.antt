@@ -1,5 +1,6 @@
 use Rattle.sharc_granule.proofs.OneTurn.{asks_one_turn, heap_is_full_without_room, top_moves_by_one_block, own_list_ends, top_ends, made_is_its_block}
 use Rattle.sharc_granule.proofs.Aims.{steps_are_of_words, blocks_have_their_words, granules_stay, steps_are_own, steps_keep_top}
+use Rattle.sharc_granule.proofs.Least.{block_of_is_block, one_block}
 use Rattle.sharc_granule.proofs.Turns.{new_begins, new_goes_on, new_stays}
 use Rattle.sharc_granule.proofs.Handing.{top_hands_out_apart, cas_hands_out, handed_apart}
 use Rattle.sharc_granule.proofs.laws.new_laws.Goals as goal
@@ -15,6 +16,8 @@ returns c = record {
   begins = new_begins;
   goes_on = new_goes_on;
   stays = new_stays;
+  block = block_of_is_block;
+  one_block = one_block;
   made = made_is_its_block;
   block_words = blocks_have_their_words;
   granules = granules_stay;
