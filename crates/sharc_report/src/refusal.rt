@@ -72,7 +72,8 @@ fn put_lexer_message(text: &mut Vec<u8>, at: &FaultAt) -> Result<(), AllocError>
         2 => put_at_offset(text, b"number", at.offset),
         3 => put_at_offset(text, b"line marker", at.offset),
         4 => put_at_offset(text, b"identifier over 64 bytes", at.offset),
-        _ => put_at_offset(text, b"character constant", at.offset),
+        5 => put_at_offset(text, b"character constant", at.offset),
+        _ => unreachable!(),
     }
 }
 
@@ -99,7 +100,8 @@ fn put_parser_message(text: &mut Vec<u8>, at: &FaultAt) -> Result<(), AllocError
     match at.code {
         1 => put_unexpected(text, at.text.as_slice()),
         2 => text.extend_from_slice(b"nesting over 64"),
-        _ => put_quoted(text, b"left out ", at.text.as_slice()),
+        3 => put_quoted(text, b"left out ", at.text.as_slice()),
+        _ => unreachable!(),
     }
 }
 
@@ -136,7 +138,8 @@ fn put_typing_message(text: &mut Vec<u8>, at: &FaultAt) -> Result<(), AllocError
         6 => text.extend_from_slice(b"type not allowed here"),
         7 => put_two(text, b"bad form of ", name),
         8 => text.extend_from_slice(b"no int main(void)"),
-        _ => put_two(text, b"limit passed by ", name),
+        9 => put_two(text, b"limit passed by ", name),
+        _ => unreachable!(),
     }
 }
 
