@@ -22,6 +22,3 @@ mod words;
 
 pub use fault::LexFault;
 pub use reading::lex;
-
-#[cfg(test)]
-mod tests;

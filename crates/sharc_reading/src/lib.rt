@@ -5,3 +5,5 @@
 mod nodes;
 #[cfg(test)]
 mod tree_tests;
+#[cfg(test)]
+mod tokens;

@@ -1,6 +1,6 @@
 //! What the lexer answers on tables of sources.
 
-use super::{LexFault, lex};
+use sharc_lex::{LexFault, lex};
 use sharc_tree::token::{Keyword, Number, NumberType, Punctuator, TokenKind, Tokens};
 use std::process::Abort;
 use std::test::Fail;
