@@ -1,8 +1,7 @@
 //! Trees that the parser made: their copies, their printed texts, and the calls that look into them.
 
 use crate::nodes::expressions_of;
-use sharc_lex::lex;
-use sharc_parse::{ParseFault, parse};
+use crate::sources::program;
 use sharc_tree::ctype::{Base, CType, Levels, Mode, Path};
 use sharc_tree::event::{Act, SourceEvent, SourceEvents};
 use sharc_tree::name::{Name, Names};
@@ -15,17 +14,6 @@ use sharc_tree::tree::{
 use std::alloc::{AllocError, Global};
 use std::process::Abort;
 use std::test::Fail;
-
-/// The program of a source.
-fn program(rt: &(impl Abort + AllocGlobal), source: &[u8]) -> Result<Program, Fail> {
-    assert!(rt; source.len() <= 1_048_576);
-    let tokens = lex(rt.alloc(), source)?;
-    match parse(rt.alloc(), tokens) {
-        Ok(program) => Ok(program),
-        Err(ParseFault::At(fault, _)) => panic!(rt; "P{} at line {}", fault.code, fault.line),
-        Err(ParseFault::Memory) => panic!(rt; "no memory"),
-    }
-}
 
 /// What a walk over a tree has met: the tokens of each node, and the texts of names and types.
 #[derive(Drop)]

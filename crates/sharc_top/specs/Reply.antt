@@ -47,11 +47,11 @@ pub record Replied (words : List (List ℕ)) (left old new : Option (List ℕ)) 
   pub reply : IsReply words left status text
   pub written : Appends old new text
 
--- a front part of the reply was written
+-- a front part of the reply was written, and not all of it
 pub record RepliedInPart (words : List (List ℕ)) (left old new : Option (List ℕ)) : Type 0 where
   pub status : ℕ
   pub text : List ℕ
   pub reply : IsReply words left status text
   pub count : ℕ
-  pub within : count ≤ length text
+  pub short : count < length text
   pub written : Appends old new (take count text)

@@ -4,8 +4,6 @@
 #![tactic(auto)]
 
 mod arithmetic;
-#[cfg(test)]
-mod reading_tests;
 mod reply;
 #[cfg(test)]
 mod tests;

@@ -144,6 +144,7 @@ pub fn reply_to<S: Source>(alloc: Global, words: &[String], input: &mut S) -> Re
     ensures command { IsErrOf result Failure.Source → IsRun (map string_bytes words.now) }
     ensures fault { IsErrOf result Failure.Source → Rose (S.faults input.old) (S.faults input.new) }
     ensures counted { S.faults input.old ≤ S.faults input.new }
+    ensures unread { ¬ (IsRun (map string_bytes words.now)) → (S.left input.new ≡ S.left input.old) × (S.faults input.new ≡ S.faults input.old) }
 {
     if !is_run(words) {
         let usage = line_reply(alloc, Status::Usage, b"usage: run")?;

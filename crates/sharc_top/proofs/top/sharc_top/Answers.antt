@@ -10,3 +10,6 @@ returns-in-Ok-write_lines-clause-source_failed g c nine = absurd (reply_not_sile
 
 pub returns-in-Ok-write_lines-clause-silent : goal.returns-in-Ok-write_lines-clause-silent
 returns-in-Ok-write_lines-clause-silent g c silent = absurd (reply_not_silent _ _ _ _ c.in-Ok.ensures.reply (rw c.code.ensures at silent))
+
+pub returns-in-Ok-write_lines-clause-cut_short : goal.returns-in-Ok-write_lines-clause-cut_short
+returns-in-Ok-write_lines-clause-cut_short g c ten = absurd (reply_not_ten _ _ _ _ c.in-Ok.ensures.reply (sym c.code.ensures ∙ ten))
