@@ -6,7 +6,7 @@ use Rattle.std.proofs.lemmas.List.{drop_more}
 use Rattle.std.proofs.lemmas.List.Elements.{Contains-append_right}
 use Rattle.sharc_tree.specs.Tree as tree
 use Rattle.sharc_tree.specs.Spans.{span_of, span_of_statement}
-use Rattle.sharc_tree.specs.Marks.{Mark, a_name, number_of, keyword_marks, kind_marks, marks_from, Stand, items_marks}
+use Rattle.sharc_tree.specs.Marks.{Mark, a_name, number_of, keyword_marks, kind_marks, marks_from, AreMarks, Stand, items_marks}
 use Rattle.sharc_tree.specs.Placed.{IsSpan, Placed, PlacedStatement, IsPlaced}
 use Rattle.sharc_tree.specs.declared.token.Keyword.{Keyword}
 use Rattle.sharc_tree.specs.declared.token.Keyword.TheVariants.{Scast}
@@ -46,6 +46,23 @@ marks_stand all n (t ∷ rest) is =
     kind_stands all n t.kind t.text (marks_from (n + 1) rest)
     (below, λ d. (ap (λ (x : Token). x.kind) (same d), ap (λ (x : Token). x.text) (same d)))
     (marks_stand all (n + 1) rest next)
+
+-- marks that are there, in parts
+
+pub left : (all : List Token) (a b : List Mark) → AreMarks all (a ++ b) → AreMarks all a
+left all [] b w = tt
+left all (x ∷ rest) b w = (w.0, left all rest b w.1)
+
+pub right : (all : List Token) (a b : List Mark) → AreMarks all (a ++ b) → AreMarks all b
+right all [] b w = w
+right all (x ∷ rest) b w = right all rest b w.1
+
+are_there : (all : List Token) (n : ℕ) (l : List Mark) → Stand all n l → AreMarks all l
+are_there all n [] s = tt
+are_there all n (x ∷ rest) s = (s.1, are_there all (number_of x + 1) rest s.2)
+
+pub words_are_there : (all : List Token) → AreMarks all (marks_from 0 all)
+words_are_there all = are_there all 0 (marks_from 0 all) (marks_stand all 0 all refl)
 
 pub names_stand : (p : tree.Program) → IsPlaced p → Stand p.tokens.list 0 (items_marks p.items)
 names_stand p h = subst (Stand p.tokens.list 0) (sym h.marked) (marks_stand p.tokens.list 0 p.tokens.list refl)
@@ -100,7 +117,7 @@ pub printable : (all : List Token) (s : Span) → IsSpan all s → (s.first.toke
 printable all s h = (h.order, h.last.below)
 
 pub expression_span : (all : List Token) (e : tree.Expression) → Placed all e → IsSpan all (span_of e)
-expression_span all (tree.identifier s i) p = p.0
+expression_span all (tree.identifier s i) p = p.0.0
 expression_span all (tree.constant s c) p = p.0
 expression_span all (tree.parentheses s a) p = p.0.0
 expression_span all (tree.call s f given) p = p.0.0

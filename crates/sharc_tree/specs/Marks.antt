@@ -147,12 +147,19 @@ abbrev pub items_marks : List Item → List Mark
 items_marks [] = []
 items_marks (i ∷ rest) = item_marks i ++ items_marks rest
 
--- The word is there.
+-- the token of that number is that word
 abbrev pub IsMark : List Token → Mark → Type 0
 IsMark all (a_name n text) = (n < length all) × HoldsAt (λ t. (t.kind ≡ kind.Identifier) × (t.text ≡ text)) all n
 IsMark all (a_cast n) = (n < length all) × HoldsAt (λ t. t.kind ≡ kind.Keyword Scast) all n
 
--- Each word is there, and their numbers rise, from `from` on: so no two have one token.
+abbrev pub IsName : List Token → Identifier → Type 0
+IsName all i = IsMark all (a_name i.site.token i.text)
+
+abbrev pub AreMarks : List Token → List Mark → Type 0
+AreMarks all [] = Unit {0}
+AreMarks all (m ∷ rest) = IsMark all m × AreMarks all rest
+
+-- each word is there, and their numbers rise, from `from` on: so no two have one token
 abbrev pub Stand : List Token → ℕ → List Mark → Type 0
 Stand all from [] = Unit {0}
 Stand all from (m ∷ rest) = (from ≤ number_of m) × IsMark all m × Stand all (number_of m + 1) rest

@@ -9,7 +9,7 @@ use Rattle.sharc_tree.specs.declared.tree.item.GlobalForm.{GlobalForm}
 use Rattle.sharc_tree.specs.declared.tree.item.GlobalForm.TheVariants.{Plain, Array, Initial}
 use Rattle.sharc_tree.specs.Tree.{Expression, identifier, constant, parentheses, call, spawn, on_value, on_place, cast, index, field, unary, binary, Arguments, no_arguments, argument, Right, value, malloc, Simple, assign, does_call, Local, First, nothing, declares, does, Head, Statement, empty, block, declare, simple, jump, return, if_then, if_then_else, while, for, Statements, no_statements, statement, Item, structure, global, function, Program}
 use Rattle.sharc_tree.specs.Spans.{site_of, span_of, span_of_statement}
-use Rattle.sharc_tree.specs.Marks.{marks_from, items_marks}
+use Rattle.sharc_tree.specs.Marks.{marks_from, type_marks, items_marks, IsName, AreMarks}
 
 -- the place of a token that there is
 pub record IsSite (all : List Token) (s : Site) : Type 0 where
@@ -81,13 +81,13 @@ abbrev pub item_spans : List Item → List Span
 item_spans [] = []
 item_spans (i ∷ rest) = span_of_item i ∷ item_spans rest
 
--- Each node is a whole of its parts: the nodes, names and types below it, the operator, and the base of a type.
+-- Each node is a whole of its parts: the nodes, names and types below it, the operator, and the base of a type. Each name is the name at its token.
 
 abbrev pub PlacedType : List Token → WrittenType → Type 0
-PlacedType all t = IsWhole all t.span (point t.base ∷ [])
+PlacedType all t = IsWhole all t.span (point t.base ∷ []) × AreMarks all (type_marks t)
 
 abbrev pub PlacedDeclaration : List Token → Declaration → Type 0
-PlacedDeclaration all d = IsWhole all d.span (d.written.span ∷ (point d.name.site ∷ [])) × PlacedType all d.written
+PlacedDeclaration all d = IsWhole all d.span (d.written.span ∷ (point d.name.site ∷ [])) × PlacedType all d.written × IsName all d.name
 
 abbrev pub PlacedDeclarations : List Token → List Declaration → Type 0
 PlacedDeclarations all [] = Unit {0}
@@ -95,16 +95,16 @@ PlacedDeclarations all (d ∷ rest) = PlacedDeclaration all d × PlacedDeclarati
 
 abbrev mutual
   pub Placed : List Token → Expression → Type 0
-  Placed all (identifier s i) = IsWhole all s (point i.site ∷ [])
+  Placed all (identifier s i) = IsWhole all s (point i.site ∷ []) × IsName all i
   Placed all (constant s c) = IsWhole all s []
   Placed all (parentheses s a) = IsWhole all s (span_of a ∷ []) × Placed all a
-  Placed all (call s f args) = IsWhole all s (point f.site ∷ argument_spans args) × AllPlaced all args
-  Placed all (spawn s f a) = IsWhole all s (point f.site ∷ (span_of a ∷ [])) × Placed all a
+  Placed all (call s f args) = IsWhole all s (point f.site ∷ argument_spans args) × IsName all f × AllPlaced all args
+  Placed all (spawn s f a) = IsWhole all s (point f.site ∷ (span_of a ∷ [])) × IsName all f × Placed all a
   Placed all (on_value s w a) = IsWhole all s (span_of a ∷ []) × Placed all a
   Placed all (on_place s w a) = IsWhole all s (span_of a ∷ []) × Placed all a
   Placed all (cast s t a) = IsWhole all s (t.span ∷ (span_of a ∷ [])) × PlacedType all t × Placed all a
   Placed all (index s a i) = IsWhole all s (span_of a ∷ (span_of i ∷ [])) × Placed all a × Placed all i
-  Placed all (field s a w n) = IsWhole all s (span_of a ∷ (point n.site ∷ [])) × Placed all a
+  Placed all (field s a w n) = IsWhole all s (span_of a ∷ (point n.site ∷ [])) × Placed all a × IsName all n
   Placed all (unary s o a) = IsWhole all s (span_of a ∷ []) × Placed all a
   Placed all (binary s o at a b) = IsWhole all s (span_of a ∷ (point at ∷ (span_of b ∷ []))) × Placed all a × Placed all b
 
@@ -149,10 +149,10 @@ abbrev mutual
   PlacedStatements all (statement a rest) = PlacedStatement all a × PlacedStatements all rest
 
 abbrev pub PlacedItem : List Token → Item → Type 0
-PlacedItem all (structure s) = IsWhole all s.span (point s.name.site ∷ declaration_spans s.fields) × PlacedDeclarations all s.fields
+PlacedItem all (structure s) = IsWhole all s.span (point s.name.site ∷ declaration_spans s.fields) × IsName all s.name × PlacedDeclarations all s.fields
 PlacedItem all (global g) = IsWhole all g.span (g.declaration.span ∷ form_spans g.form) × PlacedDeclaration all g.declaration
 PlacedItem all (function f) =
-    IsWhole all f.span (f.result.span ∷ (point f.name.site ∷ (declaration_spans f.parameters ++ (f.body ∷ [])))) × PlacedType all f.result × PlacedDeclarations all f.parameters
+    IsWhole all f.span (f.result.span ∷ (point f.name.site ∷ (declaration_spans f.parameters ++ (f.body ∷ [])))) × PlacedType all f.result × IsName all f.name × PlacedDeclarations all f.parameters
     × IsWhole all f.body (statement_spans f.statements) × PlacedStatements all f.statements
 
 abbrev pub PlacedItems : List Token → List Item → Type 0
@@ -160,7 +160,7 @@ PlacedItems all [] = Unit {0}
 PlacedItems all (i ∷ rest) = PlacedItem all i × PlacedItems all rest
 
 -- Each place in the tree is that of a token, and the parts of each whole follow one another in it. The names and the casts of the tree, in the order in
--- which it is written, are those among the tokens: so each name token is named by one node and no two, with its text. The files are those of the tokens.
+-- which it is written, are those among the tokens: so no two stand at one token, and none is left out. The files are those of the tokens.
 pub record IsPlaced (p : Program) : Type 0 where
   pub follow : Follow p.tokens.list 0 (length p.tokens.list) (item_spans p.items)
   pub items : PlacedItems p.tokens.list p.items
