@@ -1,9 +1,11 @@
 -- Histories begin with an event, come in parts, go on, and are determined by their steps.
 use Rattle.std.proofs.Common.{◌≡◌, ℕ, List, [], ◌∷◌, ◌++◌, length, slice_index, refl, sym, ap, ◌∙◌, subst}
 use Rattle.std.specs.Prelude.{map, All, ◌==◌, Bool, true, false, if◌then◌else◌}
-use Rattle.std.proofs.Common.{arith, zero, suc}
+use Rattle.std.proofs.Common.{arith, zero, suc, get_or, take, drop}
+use Rattle.std.proofs.Math.Seq.{drop-cons}
+use Rattle.std.proofs.lemmas.List.{take-append-drop}
 use Rattle.std.proofs.lemmas.List.{length-set}
-use Rattle.std.proofs.lemmas.List.Elements.{All-set}
+use Rattle.std.proofs.lemmas.List.Elements.{All-set, All-take}
 use Rattle.std.proofs.lemmas.Nat.{or_lt, and_le_l}
 use Rattle.sharc_word.specs.declared.step.WordOp.{WordOp}
 use Rattle.sharc_word.specs.declared.step.WordOp.TheVariants.{Load, Swap, Add, Sub, Or, And, Cas}
@@ -117,3 +119,14 @@ words_stay opening [] all ops = all
 words_stay opening (e ∷ es) all ops =
     let left : IsWord (word_after e.step.op (slice_index opening e.step.word)) = word_left e.step.op (slice_index opening e.step.word) (ops 0 e (omega arith)) (word_of opening e.step.word all) in
     words_stay (words_after_step opening e.step) es (All-set IsWord opening e.step.word (word_after e.step.op (slice_index opening e.step.word)) left all) (λ k d lt. ops (suc k) d (omega arith))
+
+-- each result is a word that stood there
+pub results_are_words : (opening : List ℕ) (events : List WordEvent) → All IsWord opening → All (λ (e : WordEvent). IsOfWords e.step.op) events → LegalHistory opening events → All (λ (e : WordEvent). IsWord e.result) events
+results_are_words opening events all ops h = λ k d lt.
+    let e : WordEvent = get_or events k d in
+    let split : events ≡ take k events ++ e ∷ drop (suc k) events = sym (take-append-drop k events) ∙ ap (λ rest. take k events ++ rest) (drop-cons events k d lt) in
+    let may : MayFollow (words_after opening (take k events)) e = h.each (take k events) (drop (suc k) events) e split in
+    let before : All (λ (f : WordEvent). IsOfWords f.step.op) (take k events) = All-take (λ (f : WordEvent). IsOfWords f.step.op) k events ops in
+    let words : All IsWord (words_after opening (take k events)) = words_stay opening (take k events) all before in
+    let word = word_of (words_after opening (take k events)) e.step.word words in
+    subst IsWord (sym may.result_is) word

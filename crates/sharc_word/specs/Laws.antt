@@ -15,6 +15,10 @@ abbrev pub HistoriesJoin : Type 0
 HistoriesJoin = (opening : List ℕ) (earlier later : List WordEvent)
     → LegalHistory opening (earlier ++ later) ↔ (LegalHistory opening earlier × LegalHistory (words_after opening earlier) later)
 
+-- no event is a legal history
+abbrev pub NothingIsLegal : Type 0
+NothingIsLegal = (opening : List ℕ) → LegalHistory opening []
+
 -- the opening words and the steps determine each result and the last words
 abbrev pub HistoryIsDetermined : Type 0
 HistoryIsDetermined = (opening : List ℕ) (one other : List WordEvent)
@@ -25,10 +29,30 @@ HistoryIsDetermined = (opening : List ℕ) (one other : List WordEvent)
 abbrev pub WordsKeepTheirNumber : Type 0
 WordsKeepTheirNumber = (opening : List ℕ) (events : List WordEvent) → length (words_after opening events) ≡ length opening
 
+-- the words after events in two parts are those that the second part leaves of the words that the first leaves
+abbrev pub WordsComeInParts : Type 0
+WordsComeInParts = (opening : List ℕ) (earlier later : List WordEvent) → words_after opening (earlier ++ later) ≡ words_after (words_after opening earlier) later
+
 -- events on words leave words
 abbrev pub WordsStayWords : Type 0
 WordsStayWords = (opening : List ℕ) (events : List WordEvent)
     → All IsWord opening → All (λ e. IsOfWords e.step.op) events → All IsWord (words_after opening events)
+
+-- each result of a legal history on words is a word
+abbrev pub ResultsAreWords : Type 0
+ResultsAreWords = (opening : List ℕ) (events : List WordEvent)
+    → All IsWord opening → All (λ e. IsOfWords e.step.op) events → LegalHistory opening events → All (λ e. IsWord e.result) events
+
+-- the laws of histories together: a proof above has them where its function calls `history_laws`
+pub record HistoryLaws : Type 0 where
+  pub goes_on : HistoryGoesOn
+  pub join : HistoriesJoin
+  pub nothing : NothingIsLegal
+  pub is_determined : HistoryIsDetermined
+  pub count : WordsKeepTheirNumber
+  pub parts : WordsComeInParts
+  pub words : WordsStayWords
+  pub results : ResultsAreWords
 
 -- events in two parts lead from one place to another exactly where the first part leads to some place, and the second on from there
 abbrev pub LeadsJoin : (Place → WordEvent → Place → Type 0) → Type 0
@@ -44,3 +68,8 @@ WordsLeadByHistory = (from to : Place) (events : List WordEvent)
 abbrev pub EventsLeadByAppending : Type 0
 EventsLeadByAppending = (from to : Place) (events : List WordEvent)
     → Leads LeadsInEvents from events to ↔ (to ≡ record { words = from.words; events = from.events ++ events })
+
+-- the laws of places together
+pub record PlaceLaws : Type 0 where
+  pub words : WordsLeadByHistory
+  pub events : EventsLeadByAppending

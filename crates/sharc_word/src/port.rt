@@ -2,7 +2,8 @@
 
 use crate::step::WordStep;
 
-/// A way to some words, by which a thread makes its steps. It waits for nobody, and takes no memory.
+/// A way to some words, by which a thread makes its steps. A step takes no memory. Whether it waits for the steps of others,
+/// each port says.
 pub trait Port {
     ghost use Rattle.std.specs.Prelude.{ℕ, ◌≡◌, ◌<◌, List};
     ghost use Rattle.sharc_word.specs.declared.step.WordEvent.{WordEvent};
