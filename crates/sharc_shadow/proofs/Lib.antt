@@ -1,4 +1,6 @@
+pub mod Computed
 pub mod Conflict
+pub mod Lowest
 pub mod OneBit
 pub mod Sets
 pub mod Table

@@ -8,6 +8,7 @@ use Rattle.std.proofs.lemmas.Bool.{cases_eq, cases_lt, eq-eqb, ne_eqb, lt-ltb, l
 use Rattle.sharc_shadow.specs.declared.shadow_word.Kind.{Kind}
 use Rattle.sharc_shadow.specs.declared.shadow_word.Kind.TheVariants.{Read, Write}
 use Rattle.sharc_shadow.specs.ShadowWord.{is_written, stands, epoch_of, is_of, HasBits, AddsAccess, Clears, Withdraws, WordIsItsSets, IsBlank}
+use Rattle.sharc_shadow.specs.Functions.{cleared_of}
 use Rattle.sharc_shadow.proofs.OneBit.{or_false, and_true, and_false, max_test, same_bit, bit_at_shifted, IsWithout}
 
 -- ---- the sets by their bits
@@ -199,6 +200,13 @@ clears_shifted old epoch now is next =
     let fits : epoch * 2 ^ 32 < 2 ^ 64 = omega arith in
     let P : ℕ → Type 0 = λ w. Clears old w in
     subst P (sym (mod-eq_of_lt fits)) (clears old epoch (next ∙ ap (λ e. (e + 1) % 2 ^ 32) is))
+
+pub cleared_shifted : (old epoch now : ℕ) → now ≡ epoch_of old → epoch ≡ (now + 1) % 2 ^ 32 → epoch * 2 ^ 32 % 2 ^ 64 ≡ cleared_of old
+unfolding cleared_of
+cleared_shifted old epoch now is next =
+    let small : epoch < 2 ^ 32 = omega arith in
+    let fits : epoch * 2 ^ 32 < 2 ^ 64 = omega arith in
+    mod-eq_of_lt fits ∙ ap (λ e. e * 2 ^ 32) (next ∙ ap (λ e. (e + 1) % 2 ^ 32) is)
 
 pub read_bits_at : (bits thread : ℕ) (kind : Kind) → thread < 31 → bits ≡ 2 ^ (1 + thread) → kind ≡ Read → HasBits bits thread kind
 read_bits_at bits thread kind within is reads = rw (is, reads) (thread_bit thread within)

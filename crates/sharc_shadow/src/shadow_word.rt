@@ -1,8 +1,9 @@
 //! The shadow word of a granule: bit 0 is the written bit, bit `1 + k` that of thread `k`, and the bits from 32 on are the
 //! epoch.
 
-ghost use Rattle.std.specs.Prelude.{◌≡◌, ℕ, ◌+◌, ◌^◌, ◌<◌, ◌==◌, ◌↔◌, IsTrue, IfSome, IfNone, IsNone, bit_or};
-ghost use Rattle.sharc_shadow.specs.ShadowWord.{epoch_of, is_written, HasOther, AddsAccess, HasBits, Conflicts, IsFirstOther, Clears, Withdraws, WordIsItsSets, NobodyInZero, is_of};
+ghost use Rattle.std.specs.Prelude.{◌≡◌, ℕ, ◌+◌, ◌^◌, ◌<◌, ◌==◌, ◌↔◌, IsTrue, IfSome, IfNone, IsNone, is_some, bit_or};
+ghost use Rattle.sharc_shadow.specs.ShadowWord.{epoch_of, is_written, stands, HasOther, AddsAccess, HasBits, Conflicts, IsFirstOther, Clears, Withdraws, is_of};
+ghost use Rattle.sharc_shadow.specs.Functions.{bits_of, cleared_of, withdrawn_of, lowest_other, conflicts_in, first_in};
 ghost use Rattle.sharc_shadow.specs.Others.{AreOthers};
 
 use sharc_word::THREADS;
@@ -19,18 +20,14 @@ const WRITTEN: u64 = 1;
 
 const ALL_THREADS: u64 = 0xffff_fffe;
 
-/// What holds of every shadow word.
-pub fn shadow_laws()
-    ensures sets { WordIsItsSets }
-    ensures empty { NobodyInZero }
-{}
-
 /// The bits that a check of this kind by this thread sets: that of the thread, and for a write the written bit too. An `Or`
 /// of them adds exactly that.
+#[tactic(auto, unfolding(crate::specs::Functions::bits_of))]
 pub fn bits(thread: u32, kind: Kind) -> u64
     requires { thread < THREADS }
     ensures sets { HasBits result thread kind }
     ensures adds { (old : ℕ) → AddsAccess old (bit_or old result) thread kind }
+    ensures is { result ≡ bits_of thread kind }
 {
     match kind {
         Kind::Read => bit_of(thread),
@@ -48,13 +45,15 @@ pub fn epoch(old: u64) -> u32
 /// Whether a check conflicts with the accesses that the word shows, where the check found `old`, and `wrote` is the epoch of
 /// the thread's own note of kind write on the granule (the SharC paper; own in that a thread which wrote in this epoch may
 /// read, since every other bit that stands is then that of a refused check).
+#[tactic(auto, unfolding(crate::specs::Functions::conflicts_in))]
 pub fn conflicts(old: u64, thread: u32, kind: Kind, wrote: Option<u32>) -> bool
     requires { thread < THREADS }
-    ensures { IsTrue result ↔ Conflicts old thread kind wrote }
+    ensures conflicts { IsTrue result ↔ Conflicts old thread kind wrote }
+    ensures is { result ≡ conflicts_in old thread kind wrote }
 {
     match kind {
         Kind::Write => has_other(old, thread),
-        Kind::Read => has_other(old, thread) && shows_write(old) && !is_of_epoch(wrote, old),
+        Kind::Read => has_other(old, thread) && is_written(old) && !is_of_epoch(wrote, old),
     }
 }
 
@@ -63,6 +62,7 @@ pub fn first(old: u64, thread: u32, kind: Kind, wrote: Option<u32>) -> Option<u3
     requires { thread < THREADS }
     ensures none { IsNone result ↔ ¬ Conflicts old thread kind wrote }
     ensures lowest { IfSome result (IsFirstOther old thread) }
+    ensures is { result ≡ first_in old thread kind wrote }
 {
     if conflicts(old, thread, kind, wrote) {
         Some(others(old, thread).trailing_zeros() - 1)
@@ -73,7 +73,8 @@ pub fn first(old: u64, thread: u32, kind: Kind, wrote: Option<u32>) -> Option<u3
 
 /// The word after a clear: no bits, and the epoch plus 1 modulo 2^32.
 pub fn cleared(old: u64) -> u64
-    ensures { Clears old result }
+    ensures clears { Clears old result }
+    ensures is { result ≡ cleared_of old }
 {
     u64::from(epoch(old).wrapping_add(1)) << 32
 }
@@ -82,7 +83,8 @@ pub fn cleared(old: u64) -> u64
 /// epoch, that is, where `wrote` is the epoch of the word.
 pub fn withdrawn(old: u64, thread: u32, wrote: Option<u32>) -> u64
     requires { thread < THREADS }
-    ensures { Withdraws old result thread wrote }
+    ensures withdraws { Withdraws old result thread wrote }
+    ensures is { result ≡ withdrawn_of old thread wrote }
 {
     let left = old & !bit_of(thread);
     if is_of_epoch(wrote, old) {
@@ -92,17 +94,26 @@ pub fn withdrawn(old: u64, thread: u32, wrote: Option<u32>) -> u64
     }
 }
 
-// Whether the written bit stands.
-fn shows_write(old: u64) -> bool
-    ensures { result ≡ is_written old }
+/// Whether the bit of a thread stands.
+pub fn stands(word: u64, thread: u32) -> bool
+    requires { thread < THREADS }
+    ensures { result ≡ stands word thread }
 {
-    old & WRITTEN == 1
+    (word >> (1 + thread)) & 1 == 1
+}
+
+/// Whether the written bit stands.
+pub fn is_written(word: u64) -> bool
+    ensures { result ≡ is_written word }
+{
+    word & WRITTEN == 1
 }
 
 // Whether the bit of another thread stands.
 fn has_other(old: u64, thread: u32) -> bool
     requires { thread < THREADS }
-    ensures { IsTrue result ↔ HasOther old thread }
+    ensures other { IsTrue result ↔ HasOther old thread }
+    ensures is { result ≡ is_some (lowest_other old thread) }
 {
     others(old, thread) != 0
 }

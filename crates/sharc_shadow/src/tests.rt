@@ -25,6 +25,13 @@ fn words_of_a_granule(rt: HostRuntime) {
     assert_eq!(rt; epoch(0x5_8000_0001), 5);
     assert_eq!(rt; cleared(0x5_8000_0001), 0x6_0000_0000);
     assert_eq!(rt; cleared(0xffff_ffff_0000_0003), 0);
+    for (thread, is) in [(0u32, false), (1, true), (2, false), (30, true)] {
+        if thread < 31 {
+            assert_eq!(rt; stands(0x7_8000_0005, thread), is, "at {thread}");
+        }
+    }
+    assert!(rt; is_written(0x7_8000_0005));
+    assert!(rt; !is_written(0x7_8000_0004));
 }
 
 #[test]

@@ -1,10 +1,15 @@
 use Rattle.std.proofs.Common.{◌-◌, w64}
 use Rattle.std.specs.Int.{trailing_zeros}
 use Rattle.sharc_shadow.proofs.Conflict.{first_other, some_of_other, test_of_some, some_of_test}
+use Rattle.std.proofs.Common.{not, ◌==◌, IsTrue, ◌↔◌}
+use Rattle.sharc_shadow.specs.ShadowWord.{HasOther}
+use Rattle.sharc_shadow.proofs.Lowest.{has_other_is}
 use Rattle.sharc_shadow.proofs.shadow_word.has_other.Goals as goal
 
 pub returns : goal.returns
-returns c = (
-  λ test. (trailing_zeros w64 c.others.result - 1, (first_other c.args.old c.args.thread c.others.result c.others.ensures (some_of_test c.others.result test) c.others.type_inv).first.is),
-  λ there. test_of_some c.others.result (some_of_other c.args.old c.args.thread c.others.result there.0 c.others.ensures there.1),
-)
+returns c =
+    let there : IsTrue (not (c.others.result == 0)) ↔ HasOther c.args.old c.args.thread = (
+      λ test. (trailing_zeros w64 c.others.result - 1, (first_other c.args.old c.args.thread c.others.result c.others.ensures (some_of_test c.others.result test) c.others.type_inv).first.is),
+      λ there. test_of_some c.others.result (some_of_other c.args.old c.args.thread c.others.result there.0 c.others.ensures there.1),
+    ) in
+    record { other = there; is = has_other_is c.args.old c.args.thread (not (c.others.result == 0)) there }
