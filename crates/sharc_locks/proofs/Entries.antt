@@ -1,12 +1,13 @@
 -- What taking the entry at a place out of a held log leaves.
-use Rattle.std.proofs.Common.{◌≡◌, ◌≢◌, ◌==◌, ℕ, ◌+◌, ◌<◌, Some, List, ◌∷◌, ◌++◌, length, get_or, take, drop, suc, refl, sym, ap, ◌∙◌, arith, rules, tests, inl, inr}
+use Rattle.std.proofs.Common.{◌≡◌, ◌≢◌, ◌==◌, ℕ, ◌+◌, ◌<◌, Some, List, ◌∷◌, ◌++◌, length, get_or, take, drop, zero, suc, refl, sym, ap, ◌∙◌, arith, rules, tests, inl, inr}
 use Rattle.std.specs.List.{remove, position}
 use Rattle.std.proofs.Math.Seq.{drop-cons}
-use Rattle.std.proofs.lemmas.List.{take-append-drop}
+use Rattle.std.proofs.lemmas.List.{take-append-drop, get_or_default}
 use Rattle.std.proofs.lemmas.List.Quantifiers.{position-Some, all_pairs_remove}
 use Rattle.std.proofs.lemmas.List.Edits.{length-remove, get_or-remove_below, get_or-remove_above}
-use Rattle.std.proofs.lemmas.Bool.{cases_lt}
-use Rattle.sharc_locks.specs.HeldLog.{Holds, IsHeldLog, GivesUp}
+use Rattle.std.proofs.lemmas.Bool.{cases_lt, eq-eqb, ne_eqb}
+use Rattle.std.specs.Prelude.{None, []}
+use Rattle.sharc_locks.specs.HeldLog.{Holds, HoldsEachOnce, IsHeldLog, GivesUp, without, object_of}
 use Rattle.sharc_locks.specs.declared.held_log.HeldMutex.{HeldMutex}
 
 -- a list is what stands before a place, the element there, and what stands behind it
@@ -52,3 +53,51 @@ released log word place at is (k, held, within, is_there, named) =
       | inl below ↦ is.each_once k place held below at.within (ap (λ (h : HeldMutex). h.word) (sym (get_or-remove_below log place held k below at.within) ∙ is_there) ∙ named ∙ sym (at.there held))
       | inr above ↦ is.each_once place (k + 1) held (omega arith) (omega arith) (at.there held ∙ sym named ∙ ap (λ (h : HeldMutex). h.word) (sym is_there ∙ get_or-remove_above log place held k above at.within))
     ]
+
+-- ---- the functions
+none_out : (log : List HeldMutex) (word : ℕ) → ((k : ℕ) (d : HeldMutex) → k < length log → (get_or log k d).word ≢ word) → without log word ≡ log
+none_out [] word none = refl
+none_out (h ∷ hs) word none =
+    rw (ne_eqb h.word word (none 0 h (omega arith))) (ap (λ rest. h ∷ rest) (none_out hs word (λ k d lt. none (suc k) d (omega arith))))
+
+no_object : (log : List HeldMutex) (word : ℕ) → ((k : ℕ) (d : HeldMutex) → k < length log → (get_or log k d).word ≢ word) → object_of log word ≡ None
+no_object [] word none = refl
+no_object (h ∷ hs) word none =
+    rw (ne_eqb h.word word (none 0 h (omega arith))) (no_object hs word (λ k d lt. none (suc k) d (omega arith)))
+
+none_held : (log : List HeldMutex) (word : ℕ) → ¬ Holds log word → (k : ℕ) (d : HeldMutex) → k < length log → (get_or log k d).word ≢ word
+none_held log word absent k d lt is = absent (k, get_or log k d, lt, sym (get_or_default log k d (get_or log k d) lt), is)
+
+pub left_alone : (log : List HeldMutex) (word : ℕ) → ¬ Holds log word → log ≡ without log word
+left_alone log word absent = sym (none_out log word (none_held log word absent))
+
+pub no_object_of : (log : List HeldMutex) (word : ℕ) → ¬ Holds log word → None ≡ object_of log word
+no_object_of log word absent = sym (no_object log word (none_held log word absent))
+
+rest_once : (h : HeldMutex) (hs : List HeldMutex) → HoldsEachOnce (h ∷ hs) → HoldsEachOnce hs
+rest_once h hs once = λ i j d lt within. once (suc i) (suc j) d (omega arith) (omega arith)
+
+later_other : (h : HeldMutex) (hs : List HeldMutex) → HoldsEachOnce (h ∷ hs) → (k : ℕ) (d : HeldMutex) → k < length hs → (get_or hs k d).word ≢ h.word
+later_other h hs once k d lt is = once 0 (suc k) d (omega arith) (omega arith) (sym is)
+
+rest_place : (h : HeldMutex) (hs : List HeldMutex) (word place : ℕ) → IsPlaceOf (h ∷ hs) word (suc place) → IsPlaceOf hs word place
+rest_place h hs word place at = record { within = let w = at.within in omega arith; there = at.there }
+
+first_other : (h : HeldMutex) (hs : List HeldMutex) (word place : ℕ) → IsPlaceOf (h ∷ hs) word (suc place) → HoldsEachOnce (h ∷ hs) → h.word ≢ word
+first_other h hs word place at once is = once 0 (suc place) h (omega arith) at.within (is ∙ sym (at.there h))
+
+pub left_is : (log : List HeldMutex) (word place : ℕ) → IsPlaceOf log word place → HoldsEachOnce log → remove log place ≡ without log word
+left_is [] word place at once = let w = at.within in absurd (omega arith)
+left_is (h ∷ hs) word zero at once =
+    let is : h.word ≡ word = at.there h in
+    rw (eq-eqb h.word word is) (sym (none_out hs word (λ k d lt e. later_other h hs once k d lt (e ∙ sym is))))
+left_is (h ∷ hs) word (suc place) at once =
+    rw (ne_eqb h.word word (first_other h hs word place at once)) (ap (λ rest. h ∷ rest) (left_is hs word place (rest_place h hs word place at) (rest_once h hs once)))
+
+pub object_is : (log : List HeldMutex) (word place : ℕ) (held : HeldMutex) → IsPlaceOf log word place → HoldsEachOnce log → held ≡ get_or log place held → Some held.object ≡ object_of log word
+object_is [] word place held at once is = let w = at.within in absurd (omega arith)
+object_is (h ∷ hs) word zero held at once is =
+    let named : h.word ≡ word = at.there h in
+    rw (eq-eqb h.word word named) (ap (λ (x : HeldMutex). Some x.object) is)
+object_is (h ∷ hs) word (suc place) held at once is =
+    rw (ne_eqb h.word word (first_other h hs word place at once)) (object_is hs word place held (rest_place h hs word place at) (rest_once h hs once) is)

@@ -1,4 +1,4 @@
-//! A list of at most `LIMIT` held mutexes, each with the object that it stands in.
+//! A list of at most sixteen held mutexes, each with the object that it stands in.
 
 ghost use Rattle.std.specs.Prelude.{◌≡◌, ◌<◌, ◌↔◌, ◌++◌, [], ◌∷◌, length, position, IsTrue, IfSome, IfNone, ◌==◌};
 ghost use Rattle.std.specs.Bool.{OnTrue, OnFalse};
@@ -16,7 +16,7 @@ pub struct HeldMutex {
     pub object: u64,
 }
 
-/// The mutexes that one thread holds, in the order in which it took them: at most `LIMIT`, and none twice.
+/// The mutexes that one thread holds, in the order in which it took them: at most sixteen, and none twice.
 #[derive(Drop)]
 pub struct HeldLog {
     entries: ArrayVec<HeldMutex, LIMIT>,
@@ -35,7 +35,7 @@ impl Model for HeldLog {
 }
 
 impl HeldLog {
-    ghost use Rattle.sharc_locks.specs.HeldLog.{Holds, IsHeldLog, GivesUp};
+    ghost use Rattle.sharc_locks.specs.HeldLog.{Holds, IsHeldLog, GivesUp, with_mutex, without, object_of};
 
     /// The log of a thread that holds no mutex.
     pub fn new() -> Self
@@ -63,13 +63,14 @@ impl HeldLog {
 
     /// Adds the mutex at this word, which stands in this object, to the log.
     ///
-    /// The answer is false exactly where `LIMIT` mutexes are held, and the log is then as it was.
+    /// The answer is false exactly where sixteen mutexes are held, and the log is then as it was.
     pub fn take(&mut self, word: u32, object: u64) -> bool
         requires { ¬ Holds self.old word }
-        ensures room { IsTrue result ↔ (length self.old < LIMIT) }
-        ensures full { OnFalse result (length self.old ≡ LIMIT) }
+        ensures room { IsTrue result ↔ (length self.old < 16) }
+        ensures full { OnFalse result (length self.old ≡ 16) }
         ensures taken { OnTrue result (self.new ≡ self.old ++ record { word = word; object = object } ∷ []) }
         ensures refused { OnFalse result (self.new ≡ self.old) }
+        ensures is { self.new ≡ with_mutex self.old word object }
         ensures log { IsHeldLog self.new }
     {
         if self.entries.is_full() {
@@ -87,6 +88,8 @@ impl HeldLog {
         ensures released { ¬ Holds self.new word }
         ensures absent { IfNone result (¬ Holds self.old word) }
         ensures refused { IfNone result (self.new ≡ self.old) }
+        ensures is { result ≡ object_of self.old word }
+        ensures left { self.new ≡ without self.old word }
         ensures log { IsHeldLog self.new }
     {
         let place = self.place_of(word)?;
