@@ -1,10 +1,22 @@
 -- The waiters' word, as the set of the threads that wait.
-use Rattle.std.specs.Prelude.{◌≡◌, ℕ, ◌<◌, ◌==◌, ◌||◌, ◌&&◌, Bool, true, false, not}
-use Rattle.std.specs.Int.{bit_at}
+use Rattle.std.specs.Prelude.{◌≡◌, ℕ, ◌-◌, ◌^◌, ◌<◌, ◌==◌, ◌||◌, ◌&&◌, Bool, true, false, not, Option, Some, None, bit_and, if◌then◌else◌}
+use Rattle.std.specs.Int.{bit_at, trailing_zeros, w64}
 
 -- bit k stands where thread k waits
 unfoldable pub waits_in : ℕ → ℕ → Bool
 waits_in word thread = bit_at word thread == 1
+
+-- the lowest-numbered waiter, where there is one
+unfoldable pub lowest_of : ℕ → ℕ
+lowest_of word = trailing_zeros w64 word
+
+-- the word without its lowest-numbered waiter: all its bits but that one
+unfoldable pub without_lowest : ℕ → ℕ
+without_lowest word = bit_and word (2 ^ 64 - 1 - 2 ^ lowest_of word)
+
+-- the waiter that is taken away, and the word without it
+abbrev pub woken : ℕ → Option (ℕ × ℕ)
+woken word = if word == 0 then None else Some (lowest_of word, without_lowest word)
 
 -- the thread waits as well, and the others as before
 abbrev pub AddsWaiter : ℕ → ℕ → ℕ → Type 0
@@ -15,11 +27,3 @@ pub record TakesAwayFirst (old new thread : ℕ) : Type 0 where
   pub waited : waits_in old thread ≡ true
   pub lowest : (k : ℕ) → k < thread → waits_in old k ≡ false
   pub left : (k : ℕ) → waits_in new k ≡ (waits_in old k && not (k == thread))
-
--- in the word 0 nobody waits
-abbrev pub NobodyWaits : Type 0
-NobodyWaits = (k : ℕ) → waits_in 0 k ≡ false
-
--- a word is told by its waiters
-abbrev pub WordIsItsWaiters : Type 0
-WordIsItsWaiters = (a b : ℕ) → ((k : ℕ) → waits_in a k ≡ waits_in b k) → a ≡ b

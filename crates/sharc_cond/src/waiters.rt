@@ -2,15 +2,9 @@
 
 ghost use Rattle.std.specs.Prelude.{◌≡◌, ℕ, ◌<◌, ◌^◌, ◌↔◌, IsTrue, IsNone, IfSome, bit_or};
 ghost use Rattle.sharc_word.specs.Words.{word_after};
-ghost use Rattle.sharc_cond.specs.Waiters.{waits_in, AddsWaiter, TakesAwayFirst, WordIsItsWaiters, NobodyWaits};
+ghost use Rattle.sharc_cond.specs.Waiters.{waits_in, woken, AddsWaiter, TakesAwayFirst};
 
 use sharc_word::{THREADS, WordOp};
-
-/// What holds of every word of waiters.
-pub fn waiters_laws()
-    ensures set { WordIsItsWaiters }
-    ensures empty { NobodyWaits }
-{}
 
 /// The operation by which a thread becomes a waiter (own; as the wait of a POSIX condition variable).
 pub fn enter(thread: u32) -> WordOp
@@ -33,7 +27,8 @@ pub fn waits(word: u64, thread: u32) -> bool
 /// waits.
 pub fn wake(word: u64) -> Option<(u32, u64)>
     ensures nobody { IsNone result ↔ (word ≡ 0) }
-    ensures first { IfSome result (λ woken. TakesAwayFirst word woken.1 woken.0) }
+    ensures first { IfSome result (λ found. TakesAwayFirst word found.1 found.0) }
+    ensures is { result ≡ woken word }
 {
     if word == 0 {
         return None;
