@@ -1,7 +1,7 @@
 //! The steps of an object's count word: how many references to the object there are.
 //!
-//! Each function names one step of the word, or tests what such a step found. `specs/Count.antt` says what they are. No call
-//! takes memory.
+//! Each function names one step of the word, or tests what such a step found. `specs/Count.antt` says what they are,
+//! and `count_laws` what they make of a count. No call takes memory.
 #![tactic(auto)]
 
 ghost use Rattle.std.specs.Prelude.{◌≡◌, ℕ, ◌+◌, ◌^◌, ◌<◌, ◌↔◌, IsTrue};
@@ -10,8 +10,11 @@ ghost use Rattle.sharc_word.specs.Words.{word_after};
 
 use sharc_word::{WordOp, WordStep};
 
+mod laws;
 #[cfg(test)]
 mod tests;
+
+pub use laws::count_laws;
 
 /// The step by which one reference more is counted; `word` is the object's count word (own).
 pub fn raise(word: u32) -> WordStep
