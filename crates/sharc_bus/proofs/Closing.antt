@@ -9,7 +9,8 @@ use Rattle.atomic_table.specs.Table.{State, Seen}
 use Rattle.sharc_word.specs.History.{events_of}
 use Rattle.sharc_bus.specs.declared.rule.Part.{Part}
 use Rattle.sharc_bus.specs.Rule.{IsAmong, BusRule}
-use Rattle.sharc_bus.specs.Bus.{BusView, SeatView, AreSeatsOf, OneHistory, HasAll, part_of, lists_of}
+use Rattle.sharc_bus.specs.Bus.{BusView, SeatView, AreSeatsOf, OneHistory, lists_of}
+use Rattle.sharc_bus.specs.Table.{HasAll, part_of}
 use Rattle.sharc_bus.proofs.Members.{among_left}
 
 module _ {X : Type 0} (P : X → Type 0) where

@@ -2,7 +2,8 @@
 use Rattle.std.proofs.Common.{◌≡◌, ℕ, zero, suc, ◌+◌, ◌-◌, ◌<◌, List, [], ◌∷◌, ◌++◌, length, refl, sym, ap, ◌∙◌, subst, arith, append_assoc, All, slice_index_or}
 use Rattle.atomic_table.specs.Seated.{TableId}
 use Rattle.sharc_bus.specs.Rule.{unbegun}
-use Rattle.sharc_bus.specs.Bus.{BusView, SeatView, AreSeatsOf, seats_with}
+use Rattle.sharc_bus.specs.Bus.{BusView, SeatView, AreSeatsOf}
+use Rattle.sharc_bus.specs.Table.{seats_with}
 
 -- the parts of the rest, one port later
 pub rest_is : (n e : ℕ) → n < e → unbegun (suc n) (e - n) ≡ unbegun (n + 1) (suc (e - (n + 1)))

@@ -6,7 +6,7 @@ use Rattle.atomic_table.specs.Table.{State, Splits, Joins, opening}
 use Rattle.atomic_table.proofs.Lists.{at_set, set_else}
 use Rattle.sharc_word.specs.declared.step.WordEvent.{WordEvent}
 use Rattle.sharc_word.specs.History.{events_of}
-use Rattle.sharc_word.proofs.Histories.{legal_none}
+use Rattle.sharc_word.specs.Laws.{HistoryLaws}
 use Rattle.sharc_bus.specs.declared.rule.Part.{Part}
 use Rattle.sharc_bus.specs.Rule.{IsAmong, BusRule, unbegun}
 use Rattle.sharc_bus.proofs.Members.{among_one, among_append}
@@ -28,10 +28,10 @@ among_unbegun first (suc more) part h =
     h
 
 -- the rule holds of a table whose one seat has the parts of all ports, none of which has begun
-pub opening_keeps : (words : List ℕ) (ports : ℕ) → BusRule words ports (opening words [] (unbegun 0 ports))
-opening_keeps words ports = record {
+pub opening_keeps : (laws : HistoryLaws) (words : List ℕ) (ports : ℕ) → BusRule words ports (opening words [] (unbegun 0 ports))
+opening_keeps laws words ports = record {
   history = [];
-  legal = legal_none words;
+  legal = laws.nothing words;
   words_are = refl;
   owner = (λ _. 0);
   parts_are = only words ports;

@@ -11,7 +11,7 @@ use Rattle.sharc_word.specs.declared.step.WordEvent.{WordEvent}
 use Rattle.sharc_word.specs.Words.{word_after, words_after_step, words_after}
 use Rattle.sharc_word.specs.History.{MayFollow, events_of}
 use Rattle.sharc_word.specs.Place.{event_of}
-use Rattle.sharc_word.proofs.Histories.{length-words_after, words_after-append, legal_push}
+use Rattle.sharc_word.specs.Laws.{HistoryLaws}
 use Rattle.sharc_bus.specs.declared.rule.Part.{Part}
 use Rattle.sharc_bus.specs.Rule.{IsAmong, BusRule, with_step}
 use Rattle.sharc_bus.proofs.Members.{among_one}
@@ -26,7 +26,7 @@ events_push_other thread history e not = rw (filter-append, ne_eqb e.thread thre
 abbrev Kept : List WordEvent → (ℕ → ℕ) → ℕ → ℕ → Part → Type 0
 Kept history owner ports seat part = (part.events ≡ events_of part.number history) × (owner part.number ≡ seat) × (part.number < ports)
 
-module _ (opening : List ℕ) (ports : ℕ) (s : State (Unit {0}) (List Part)) (kept : BusRule opening ports s) (id : ℕ) (p : Part) (at : get_elem? s.views id ≡ some (p ∷ [])) (step : WordStep) (inside : step.word < length opening) where
+module _ (laws : HistoryLaws) (opening : List ℕ) (ports : ℕ) (s : State (Unit {0}) (List Part)) (kept : BusRule opening ports s) (id : ℕ) (p : Part) (at : get_elem? s.views id ≡ some (p ∷ [])) (step : WordStep) (inside : step.word < length opening) where
   abbrev found : ℕ
   found = slice_index s.words step.word
 
@@ -40,7 +40,7 @@ module _ (opening : List ℕ) (ports : ℕ) (s : State (Unit {0}) (List Part)) (
   after = record { words = words_after_step s.words step; homes = s.homes; views = slice_set s.views id (stepped_part ∷ []) }
 
   may : MayFollow (words_after opening kept.history) made
-  may = record { on_a_word = omega (arith, length-words_after opening kept.history); result_is = ap (λ (ws : List ℕ). slice_index ws step.word) kept.words_are }
+  may = record { on_a_word = omega (arith, laws.count opening kept.history); result_is = ap (λ (ws : List ℕ). slice_index ws step.word) kept.words_are }
 
   here : Kept kept.history kept.owner ports id p
   here = kept.parts_are id (p ∷ []) p at (inl refl)
@@ -70,20 +70,20 @@ module _ (opening : List ℕ) (ports : ℕ) (s : State (Unit {0}) (List Part)) (
   pub step_keeps : BusRule opening ports after
   step_keeps = record {
     history = kept.history ++ made ∷ [];
-    legal = legal_push opening kept.history made kept.legal may;
-    words_are = ap (λ (ws : List ℕ). words_after_step ws step) kept.words_are ∙ sym (words_after-append opening kept.history (made ∷ []));
+    legal = (laws.goes_on opening kept.history made).1 (kept.legal, may);
+    words_are = ap (λ (ws : List ℕ). words_after_step ws step) kept.words_are ∙ sym (laws.parts opening kept.history (made ∷ []));
     owner = kept.owner;
     parts_are = parts_after;
     no_others = no_others_after;
   }
 
 -- the table allows a step that does what the operation says, by a seat with one part
-pub step_allowed : (opening : List ℕ) (ports slots id : ℕ) (me : Me (Unit {0}) (List Part)) (step : WordStep) (f : ℕ → ℕ)
+pub step_allowed : (laws : HistoryLaws) (opening : List ℕ) (ports slots id : ℕ) (me : Me (Unit {0}) (List Part)) (step : WordStep) (f : ℕ → ℕ)
     → (part : Part) × (me.0 ≡ part ∷ []) → ((n : ℕ) → f n ≡ word_after step.op n) → step.word < length opening
     → Allows (BusRule opening ports) slots id me step.word f (λ n after. after ≡ (with_step me.0 step n, me.1))
-step_allowed opening ports slots id me step f one same inside s kept _ at _ =
+step_allowed laws opening ports slots id me step f one same inside s kept _ at _ =
     let n : ℕ = slice_index s.words step.word in
     let at' : get_elem? s.views id ≡ some (one.0 ∷ []) = subst (λ v. get_elem? s.views id ≡ some v) one.1 at in
     let R : ℕ → List Part → Type 0 = λ m v. BusRule opening ports record { words = slice_set s.words step.word m; homes = s.homes; views = slice_set s.views id (with_step v step n) } in
-    let k : R (word_after step.op n) (one.0 ∷ []) = step_keeps opening ports s kept id one.0 at' step inside in
+    let k : R (word_after step.op n) (one.0 ∷ []) = step_keeps laws opening ports s kept id one.0 at' step inside in
     (with_step me.0 step n, keeps, tt, subst (λ v. R (f n) v) (sym one.1) (subst (λ m. R m (one.0 ∷ [])) (sym (same n)) k), refl)

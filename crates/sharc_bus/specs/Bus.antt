@@ -1,24 +1,15 @@
--- Buses, seats and ports as contracts see them, and what a bus promises.
+-- What a caller reads: buses, seats and ports as contracts see them, and what a bus promises.
 use Rattle.std.specs.Prelude.{ℕ, ◌≡◌, ◌<◌, List, [], ◌∷◌, length, map, All, slice_index_or}
 use Rattle.atomic_table.specs.Seated.{TableId}
 use Rattle.sharc_word.specs.declared.step.WordEvent.{WordEvent}
 use Rattle.sharc_word.specs.Words.{words_after}
 use Rattle.sharc_word.specs.History.{LegalHistory, events_of}
-use Rattle.sharc_bus.specs.declared.rule.Part.{Part}
-use Rattle.sharc_bus.specs.Rule.{IsAmong}
 
 -- what tells a bus from others, its opening words, and the number of its ports
 pub record BusView : Type 0 where
   pub id : TableId
   pub opening : List ℕ
   pub ports : ℕ
-
--- a table with these words for so many ports, and with no slot
-pub record IsBusTable (id : TableId) (opening : List ℕ) (ports : ℕ) : Type 0 where
-  pub words_are : id.words ≡ length opening
-  pub some_word : 0 < id.words
-  pub no_slot : id.slots ≡ 0
-  pub some_port : 0 < ports
 
 -- the bus of a seat, the number of its port, and the events that this port has made
 pub record SeatView : Type 0 where
@@ -31,29 +22,11 @@ pub record PortView : Type 0 where
   pub bus : BusView
   pub seat : SeatView
 
--- a seat with one part of a history
-abbrev pub seat_view : TableId → List Part → SeatView
-seat_view bus [] = record { bus = bus; number = 0; events = [] }
-seat_view bus (p ∷ ps) = record { bus = bus; number = p.number; events = p.events }
-
 -- all seats of the bus, each once, in the order of their numbers
 pub record AreSeatsOf (bus : BusView) (seats : List SeatView) : Type 0 where
   pub all : length seats ≡ bus.ports
   pub bus_is : All (λ s. s.bus ≡ bus.id) seats
   pub number_is : (n : ℕ) (d : SeatView) → n < length seats → (slice_index_or seats n d).number ≡ n
-
--- the part of a history that a seat has
-abbrev pub part_of : SeatView → Part
-part_of seat = record { number = seat.number; events = seat.events }
-
--- the parts of all these seats are among these
-abbrev pub HasAll : List SeatView → List Part → Type 0
-HasAll [] parts = Unit {0}
-HasAll (s ∷ ss) parts = IsAmong (part_of s) parts × HasAll ss parts
-
--- the seats of ports with these parts
-abbrev pub seats_with : TableId → List Part → List SeatView
-seats_with bus parts = map (λ p. record { bus = bus; number = p.number; events = p.events }) parts
 
 -- the lists of events of these seats
 abbrev pub lists_of : List SeatView → List (List WordEvent)

@@ -1,2 +1,3 @@
-pub mod Rule
 pub mod Bus
+pub mod Rule
+pub mod Table

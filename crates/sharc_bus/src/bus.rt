@@ -1,17 +1,17 @@
 //! The bus: its words, and how it is opened and closed.
 
-ghost use Rattle.std.specs.Prelude.{◌≡◌, ◌<◌, ℕ, [], length, vec_len, All, IfOk};
-ghost use Rattle.std.specs.Mem.Slots.{slots_items, slots_len, IsFull};
-ghost use Rattle.sharc_bus.specs.Rule.{unbegun};
-ghost use Rattle.sharc_bus.specs.Bus.{AreSeatsOf, OneHistory, HasAll, lists_of, seats_with};
+ghost use Rattle.std.specs.Prelude.{◌≡◌, ◌<◌, [], vec_len, All, IfOk};
+ghost use Rattle.sharc_bus.specs.Bus.{AreSeatsOf, OneHistory, lists_of};
 
-use crate::rule::{BusLaw, FirstPart, Opening, Parts, Together};
+use crate::parts::{give_seats, read_words, take_seats};
+use crate::rule::{BusLaw, Opening, Parts};
 use crate::seat::BusSeat;
-use atomic_table::{Closed, Seat, Table};
+use atomic_table::Table;
+use sharc_word::history_laws;
 use std::alloc::{AllocError, Allocator, Global};
 use std::marker::Model;
 
-type Words<A> = Table<(), Parts, Opening<A>, BusLaw, A>;
+pub(crate) type Words<A> = Table<(), Parts, Opening<A>, BusLaw, A>;
 
 /// Words that the ports of a bus share. Contracts see it as a `BusView`.
 #[derive(Drop)]
@@ -20,7 +20,8 @@ pub struct Bus<A: Allocator = Global> {
 }
 
 impl<A: Allocator> Model for Bus<A> {
-    ghost use Rattle.sharc_bus.specs.Bus.{BusView, IsBusTable};
+    ghost use Rattle.sharc_bus.specs.Bus.{BusView};
+    ghost use Rattle.sharc_bus.specs.Table.{IsBusTable};
 
     ghost Value = { BusView };
 
@@ -49,6 +50,8 @@ impl<A: Allocator> Bus<A> {
             words,
             ports: seats,
         };
+        // For the proof that a table opens under its rule.
+        history_laws();
         let (table, first) = Table::of_words(alloc, opening.words.as_slice(), &opening)?;
         give_seats(&table, first, seats, &mut all)?;
         Ok((Bus { table }, all))
@@ -68,57 +71,5 @@ impl<A: Allocator> Bus<A> {
         read_words(&closed, &mut words);
         closed.free();
         Ok(words)
-    }
-}
-
-// Cuts the seats of all ports off the seat that has all parts.
-fn give_seats<A: Allocator>(
-    table: &Words<A>,
-    first: Seat<(), Parts>,
-    ports: u32,
-    seats: &mut Vec<BusSeat, A>,
-) -> Result<(), AllocError>
-    requires own { first.table_id ≡ table.now.shared.table_id }
-    requires parts { first.me ≡ (unbegun 0 ports, []) }
-    requires words { 0 < table.now.shared.table_id.words }
-    requires some { 0 < ports }
-    requires none { seats.old.items ≡ [] }
-    ensures { IfOk result (λ _. seats.new.items ≡ seats_with table.now.shared.table_id (unbegun 0 ports)) }
-{
-    let mut rest = first;
-    for _ in 0..ports - 1 {
-        let others = table.shared.split_seat::<FirstPart>(&mut rest);
-        seats.push(BusSeat::new(rest))?;
-        rest = others;
-    }
-    seats.push(BusSeat::new(rest))?;
-    Ok(())
-}
-
-// Puts the parts of all seats together, in one seat.
-fn take_seats<A: Allocator>(table: &Words<A>, mut seats: Vec<BusSeat, A>) -> Seat<(), Parts>
-    requires own { All (λ s. s.bus ≡ table.now.shared.table_id) seats.items }
-    requires words { 0 < table.now.shared.table_id.words }
-    requires some { 0 < vec_len seats }
-    ensures own { result.table_id ≡ table.now.shared.table_id }
-    ensures all { HasAll seats.items result.me.0 }
-{
-    let mut all = seats.pop().unwrap().into_inner();
-    while let Some(seat) = seats.pop() {
-        table
-            .shared
-            .join_seat::<Together>(&mut all, seat.into_inner());
-    }
-    all
-}
-
-// The words of a table that nobody shares any more.
-fn read_words<A: Allocator>(closed: &Closed<(), A>, words: &mut [u64])
-    requires len { length words.old ≡ slots_len closed.now.words }
-    requires full { IsFull closed.now.words }
-    ensures { words.new ≡ slots_items closed.now.words }
-{
-    for (i, word) in words.iter_mut().enumerate() {
-        *word = closed.word(i);
     }
 }

@@ -1,7 +1,6 @@
 //! The port of a bus.
 
 ghost use Rattle.std.specs.Prelude.{◌≡◌};
-ghost use Rattle.sharc_bus.specs.Bus.{NamesTell};
 
 use crate::bus::Bus;
 use crate::seat::BusSeat;
@@ -72,8 +71,3 @@ impl<'a, A: Allocator> Port for BusPort<'a, A> {
         self.seat.step(self.bus, step)
     }
 }
-
-/// A port that keeps its name keeps its bus and its number.
-pub fn name_laws()
-    ensures { NamesTell }
-{}

@@ -21,7 +21,8 @@ pub struct BusSeat {
 impl Model for BusSeat {
     ghost use Rattle.std.specs.Prelude.{◌≡◌, [], ◌∷◌};
     ghost use Rattle.sharc_bus.specs.declared.rule.Part.{Part};
-    ghost use Rattle.sharc_bus.specs.Bus.{SeatView, seat_view};
+    ghost use Rattle.sharc_bus.specs.Bus.{SeatView};
+    ghost use Rattle.sharc_bus.specs.Table.{seat_view};
 
     ghost Value = { SeatView };
 
@@ -33,7 +34,7 @@ impl Model for BusSeat {
 impl BusSeat {
     ghost use Rattle.sharc_word.specs.Place.{event_of};
     ghost use Rattle.sharc_bus.specs.declared.rule.Part.{Part};
-    ghost use Rattle.sharc_bus.specs.Bus.{part_of, seat_view};
+    ghost use Rattle.sharc_bus.specs.Table.{part_of, seat_view};
 
     // The seat of one port.
     pub(crate) fn new(seat: Seat<(), Parts>) -> BusSeat

@@ -6,7 +6,7 @@ ghost use Rattle.sharc_bus.specs.Rule.{with_step};
 
 use crate::rule::{Adds, Ands, BusLaw, Exchanges, Loads, Opening, Ors, Parts, Subs, Swaps};
 use atomic_table::{Seat, Shared};
-use sharc_word::{WordOp, WordStep};
+use sharc_word::{WordOp, WordStep, history_laws};
 use std::alloc::Allocator;
 
 type Words<A> = Shared<(), Parts, Opening<A>, BusLaw>;
@@ -24,6 +24,8 @@ pub(crate) fn make_step<A: Allocator>(
     ensures own { seat.new.table_id ≡ seat.old.table_id }
     ensures appended { seat.new.me ≡ (with_step seat.old.me.0 step result, seat.old.me.1) }
 {
+    // For the proof that each operation keeps the rule.
+    history_laws();
     let word = step.word as usize;
     match step.op {
         WordOp::Load => words.load::<Loads>(seat, word),

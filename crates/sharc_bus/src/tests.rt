@@ -1,73 +1,21 @@
-ghost use Rattle.std.specs.Prelude.{◌≡◌, ◌<◌, ◌≤◌, length, IfOk};
+//! Steps of two and of four threads at once over one bus, and a port that is lent to another thread.
+
+ghost use Rattle.std.specs.Prelude.{◌≡◌, ◌<◌, ◌≤◌, length, vec_len, IfOk};
 ghost use Rattle.sharc_bus.specs.Bus.{AreSeatsOf};
 
 use super::*;
 use sharc_word::{Port, WordOp, WordStep};
-use std::alloc::AllocError;
+use std::alloc::{AllocError, Global};
 use std::test::Fail;
 use std::thread;
 use std::thread::Threads;
 
-// Makes one step so many times, by what a port promises and nothing else.
-fn repeat<P: Port>(port: &mut P, step: WordStep, times: u32)
-    requires { step.word < P.count port.old }
-    ensures count { P.count port.new ≡ P.count port.old }
-    ensures name { P.name port.new ≡ P.name port.old }
-{
-    for _ in 0..times {
-        port.step(step);
-    }
-}
+// The word at which threads meet, and how often each looks at most.
+const READY: u32 = 8;
 
-// A thousand additions of 1 to the first word, through the port of this seat.
-fn count_up(bus: &Bus, seat: BusSeat) -> BusSeat
-    requires bus { seat.bus ≡ bus.now.id }
-    requires word { 0 < length bus.now.opening }
-    ensures bus { result.bus ≡ seat.bus }
-    ensures number { result.number ≡ seat.number }
-{
-    let mut port = BusPort::of(bus, seat);
-    let step = WordStep {
-        word: 0,
-        op: WordOp::Add(1),
-    };
-    repeat(&mut port, step, 1000);
-    port.into_seat()
-}
+const LOOKS: u32 = 10_000_000;
 
-// Each port counts up, in a thread of its own.
-fn count_up_in_threads<R: Threads + Sync>(
-    rt: &R,
-    bus: &Bus,
-    seats: Vec<BusSeat>,
-) -> Result<Vec<BusSeat>, AllocError>
-    requires seats { AreSeatsOf bus.now seats.items }
-    requires word { 0 < length bus.now.opening }
-    ensures { IfOk result (λ all. AreSeatsOf bus.now all.items) }
-{
-    thread::map_vec(
-        rt,
-        seats,
-        &|seat: BusSeat| -> BusSeat
-            requires bus { seat.bus ≡ bus.now.id }
-            requires word { 0 < length bus.now.opening }
-            ensures bus { result.bus ≡ seat.bus }
-            ensures number { result.number ≡ seat.number }
-        { count_up(bus, seat) },
-    )
-}
-
-#[test]
-fn two_threads_count_up(rt: HostRuntime) -> Result<(), Fail> {
-    let words = vec![in rt.alloc(); 0; 1]?;
-    let (bus, seats) = Bus::open(rt.alloc(), words, 2)?;
-    let seats = count_up_in_threads(&rt, &bus, seats)?;
-    let words = bus.close(rt.alloc(), seats)?;
-    assert_eq!(rt; words.as_slice(), [2000].as_slice());
-    Ok(())
-}
-
-// The answer of one step.
+// The answer of one step, by what a port promises and nothing else.
 fn at<P: Port>(port: &mut P, word: u32, op: WordOp) -> u64
     requires { word < P.count port.old }
     ensures count { P.count port.new ≡ P.count port.old }
@@ -76,9 +24,34 @@ fn at<P: Port>(port: &mut P, word: u32, op: WordOp) -> u64
     port.step(WordStep { word, op })
 }
 
+// Makes one step so many times.
+fn repeat<P: Port>(port: &mut P, word: u32, op: WordOp, times: u32)
+    requires { word < P.count port.old }
+    ensures count { P.count port.new ≡ P.count port.old }
+    ensures name { P.name port.new ≡ P.name port.old }
+{
+    for _ in 0..times {
+        at(port, word, op);
+    }
+}
+
+// Waits until so many threads are here, or this one has looked long enough.
+fn meet<P: Port>(port: &mut P, all: u64)
+    requires { 9 ≤ P.count port.old }
+    ensures count { P.count port.new ≡ P.count port.old }
+    ensures name { P.name port.new ≡ P.name port.old }
+{
+    at(port, READY, WordOp::Add(1));
+    for _ in 0..LOOKS {
+        if at(port, READY, WordOp::Load) >= all {
+            break;
+        }
+    }
+}
+
 // Adds 1 to word 6 where no other thread comes between, a hundred times, and adds 256 to word 7 for each that it did.
 fn try_to_add<P: Port>(port: &mut P)
-    requires { 8 ≤ P.count port.old }
+    requires { 9 ≤ P.count port.old }
     ensures count { P.count port.new ≡ P.count port.old }
     ensures name { P.name port.new ≡ P.name port.old }
 {
@@ -92,47 +65,83 @@ fn try_to_add<P: Port>(port: &mut P)
 
 // Each operation, on a word of its own. The first takes a number that no other thread has.
 fn mixed_steps<P: Port>(port: &mut P)
-    requires { 8 ≤ P.count port.old }
+    requires { 9 ≤ P.count port.old }
     ensures count { P.count port.new ≡ P.count port.old }
     ensures name { P.name port.new ≡ P.name port.old }
 {
+    meet(port, 4);
     let number = at(port, 7, WordOp::Add(1)) % 64;
     let bit = 1u64 << number;
     at(port, 2, WordOp::Or(bit));
     at(port, 3, WordOp::And(!bit));
     at(port, 4, WordOp::Swap(number + 1));
     at(port, 5, WordOp::Cas(0, number + 1));
-    let add = WordStep {
-        word: 0,
-        op: WordOp::Add(5),
-    };
-    repeat(port, add, 100);
-    let sub = WordStep {
-        word: 1,
-        op: WordOp::Sub(3),
-    };
-    repeat(port, sub, 100);
+    repeat(port, 0, WordOp::Add(5), 100);
+    repeat(port, 1, WordOp::Sub(3), 100);
     try_to_add(port);
 }
 
-fn mix(bus: &Bus, seat: BusSeat) -> BusSeat
+// A thousand additions of 1 to the first word.
+fn count_up<P: Port>(port: &mut P)
+    requires { 9 ≤ P.count port.old }
+    ensures count { P.count port.new ≡ P.count port.old }
+    ensures name { P.name port.new ≡ P.name port.old }
+{
+    meet(port, 2);
+    repeat(port, 0, WordOp::Add(1), 1000);
+}
+
+// What each port of a test does.
+#[derive(Clone, Copy)]
+enum Job {
+    CountUp,
+    Mix,
+    HandOver,
+}
+
+fn do_job<P: Port>(port: &mut P, job: Job)
+    requires { 9 ≤ P.count port.old }
+    ensures count { P.count port.new ≡ P.count port.old }
+    ensures name { P.name port.new ≡ P.name port.old }
+{
+    match job {
+        Job::CountUp => count_up(port),
+        Job::Mix => mixed_steps(port),
+        Job::HandOver => {
+            at(port, 0, WordOp::Add(2));
+        }
+    }
+}
+
+// A port does its job here, or after a step in another thread.
+fn work<R: Threads + Sync>(rt: &R, bus: &Bus, seat: BusSeat, job: Job) -> BusSeat
     requires bus { seat.bus ≡ bus.now.id }
-    requires words { 8 ≤ length bus.now.opening }
+    requires words { 9 ≤ length bus.now.opening }
     ensures bus { result.bus ≡ seat.bus }
     ensures number { result.number ≡ seat.number }
 {
     let mut port = BusPort::of(bus, seat);
-    mixed_steps(&mut port);
+    if matches!(job, Job::HandOver) {
+        at(&mut port, 0, WordOp::Sub(1));
+        thread::join_mut(
+            rt,
+            &mut || repeat(&mut port, 0, WordOp::Swap(40), 1),
+            &mut || (),
+        );
+    }
+    do_job(&mut port, job);
     port.into_seat()
 }
 
-fn mix_in_threads<R: Threads + Sync>(
+// Each port does the job in a thread of its own.
+fn work_in_threads<R: Threads + Sync>(
     rt: &R,
     bus: &Bus,
     seats: Vec<BusSeat>,
+    job: Job,
 ) -> Result<Vec<BusSeat>, AllocError>
     requires seats { AreSeatsOf bus.now seats.items }
-    requires words { 8 ≤ length bus.now.opening }
+    requires words { 9 ≤ length bus.now.opening }
     ensures { IfOk result (λ all. AreSeatsOf bus.now all.items) }
 {
     thread::map_vec(
@@ -140,20 +149,42 @@ fn mix_in_threads<R: Threads + Sync>(
         seats,
         &|seat: BusSeat| -> BusSeat
             requires bus { seat.bus ≡ bus.now.id }
-            requires words { 8 ≤ length bus.now.opening }
+            requires words { 9 ≤ length bus.now.opening }
             ensures bus { result.bus ≡ seat.bus }
             ensures number { result.number ≡ seat.number }
-        { mix(bus, seat) },
+        { work(rt, bus, seat, job) },
     )
+}
+
+// The words of a bus whose ports have done the job.
+fn words_after<R: Threads + Sync>(
+    rt: &R,
+    alloc: Global,
+    words: Vec<u64>,
+    ports: u32,
+    job: Job,
+) -> Result<Vec<u64>, AllocError>
+    requires words { 9 ≤ vec_len words }
+    requires ports { 0 < ports }
+{
+    let (bus, seats) = Bus::open(alloc, words, ports)?;
+    let seats = work_in_threads(rt, &bus, seats, job)?;
+    bus.close(alloc, seats)
+}
+
+#[test]
+fn two_threads_count_up(rt: HostRuntime) -> Result<(), Fail> {
+    let words = vec![in rt.alloc(); 0; 9]?;
+    let words = words_after(&rt, rt.alloc(), words, 2, Job::CountUp)?;
+    assert_eq!(rt; words.as_slice(), [2000, 0, 0, 0, 0, 0, 0, 0, 2].as_slice());
+    Ok(())
 }
 
 #[test]
 fn four_threads_mix_operations(rt: HostRuntime) -> Result<(), Fail> {
-    let words = vec![in rt.alloc(); 7, 5000, 0, u64::MAX, 0, 0, 0, 0]?;
-    let (bus, seats) = Bus::open(rt.alloc(), words, 4)?;
-    let seats = mix_in_threads(&rt, &bus, seats)?;
-    let words = bus.close(rt.alloc(), seats)?;
-    assert_eq!(rt; words.len(), 8);
+    let words = vec![in rt.alloc(); 7, 5000, 0, u64::MAX, 0, 0, 0, 0, 0]?;
+    let words = words_after(&rt, rt.alloc(), words, 4, Job::Mix)?;
+    assert_eq!(rt; words.len(), 9);
     assert_eq!(rt;
         &words[..4],
         [2007, 3800, 0b1111, u64::MAX - 0b1111].as_slice()
@@ -166,75 +197,14 @@ fn four_threads_mix_operations(rt: HostRuntime) -> Result<(), Fail> {
     );
     assert_eq!(rt; words[7] / 256, words[6]);
     assert_eq!(rt; words[7] % 256, 4);
+    assert_eq!(rt; words[8], 4);
     Ok(())
-}
-
-// A port makes a step here, one in another thread, and one here again.
-fn hand_over<R: Threads + Sync>(rt: &R, bus: &Bus, seat: BusSeat) -> BusSeat
-    requires bus { seat.bus ≡ bus.now.id }
-    requires word { 0 < length bus.now.opening }
-    ensures bus { result.bus ≡ seat.bus }
-    ensures number { result.number ≡ seat.number }
-{
-    let mut port = BusPort::of(bus, seat);
-    repeat(
-        &mut port,
-        WordStep {
-            word: 0,
-            op: WordOp::Sub(1),
-        },
-        1,
-    );
-    thread::join_mut(
-        rt,
-        &mut || repeat(
-            &mut port,
-            WordStep {
-                word: 0,
-                op: WordOp::Swap(40),
-            },
-            1,
-        ),
-        &mut || (),
-    );
-    repeat(
-        &mut port,
-        WordStep {
-            word: 0,
-            op: WordOp::Add(2),
-        },
-        1,
-    );
-    port.into_seat()
-}
-
-fn hand_over_in_threads<R: Threads + Sync>(
-    rt: &R,
-    bus: &Bus,
-    seats: Vec<BusSeat>,
-) -> Result<Vec<BusSeat>, AllocError>
-    requires seats { AreSeatsOf bus.now seats.items }
-    requires word { 0 < length bus.now.opening }
-    ensures { IfOk result (λ all. AreSeatsOf bus.now all.items) }
-{
-    thread::map_vec(
-        rt,
-        seats,
-        &|seat: BusSeat| -> BusSeat
-            requires bus { seat.bus ≡ bus.now.id }
-            requires word { 0 < length bus.now.opening }
-            ensures bus { result.bus ≡ seat.bus }
-            ensures number { result.number ≡ seat.number }
-        { hand_over(rt, bus, seat) },
-    )
 }
 
 #[test]
 fn a_port_goes_to_another_thread_and_back(rt: HostRuntime) -> Result<(), Fail> {
-    let words = vec![in rt.alloc(); 50, 3]?;
-    let (bus, seats) = Bus::open(rt.alloc(), words, 1)?;
-    let seats = hand_over_in_threads(&rt, &bus, seats)?;
-    let words = bus.close(rt.alloc(), seats)?;
-    assert_eq!(rt; words.as_slice(), [42, 3].as_slice());
+    let words = vec![in rt.alloc(); 50, 3, 0, 0, 0, 0, 0, 0, 0]?;
+    let words = words_after(&rt, rt.alloc(), words, 1, Job::HandOver)?;
+    assert_eq!(rt; words.as_slice(), [42, 3, 0, 0, 0, 0, 0, 0, 0].as_slice());
     Ok(())
 }

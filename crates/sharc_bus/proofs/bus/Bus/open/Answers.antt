@@ -2,14 +2,15 @@
 use Rattle.std.proofs.Common.{◌≡◌, [], sym, ap, ◌∙◌, subst}
 use Rattle.atomic_table.specs.Table.{opening}
 use Rattle.sharc_bus.specs.Rule.{BusRule, unbegun}
-use Rattle.sharc_bus.specs.Bus.{BusView, seats_with}
+use Rattle.sharc_bus.specs.Bus.{BusView}
+use Rattle.sharc_bus.specs.Table.{seats_with}
 use Rattle.sharc_bus.proofs.Seats.{opening_keeps}
 use Rattle.sharc_bus.proofs.Giving.{seats_are, seats_unbegun}
 use Rattle.sharc_bus.proofs.bus.Bus.open.Goals as goal
 
 pub of_words-requires : goal.of_words-requires
 of_words-requires g c =
-    subst (λ ws. BusRule c.args.words.items c.args.seats (opening ws [] (unbegun 0 c.args.seats))) (sym c.as_slice.ensures.value) (opening_keeps c.args.words.items c.args.seats)
+    subst (λ ws. BusRule c.args.words.items c.args.seats (opening ws [] (unbegun 0 c.args.seats))) (sym c.as_slice.ensures.value) (opening_keeps c.history_laws.ensures c.args.words.items c.args.seats)
 
 pub returns-clause-seats : goal.returns-clause-seats
 returns-clause-seats g c =

@@ -1,6 +1,7 @@
 use Rattle.std.proofs.Common.{◌≡◌, List, ◌++◌, All, vec_len}
-use Rattle.sharc_bus.specs.Bus.{SeatView, HasAll}
-use Rattle.sharc_bus.proofs.bus.take_seats.Given as goal
+use Rattle.sharc_bus.specs.Bus.{SeatView}
+use Rattle.sharc_bus.specs.Table.{HasAll}
+use Rattle.sharc_bus.proofs.parts.take_seats.Given as goal
 
 -- the parts of the seats that were taken are together
 abbrev pub invariant-loop-seat : goal.invariant-loop-seat

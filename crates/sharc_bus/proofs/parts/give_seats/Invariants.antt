@@ -1,7 +1,7 @@
 use Rattle.std.proofs.Common.{◌≡◌, suc, ◌-◌, [], ◌++◌}
 use Rattle.sharc_bus.specs.Rule.{unbegun}
-use Rattle.sharc_bus.specs.Bus.{seats_with}
-use Rattle.sharc_bus.proofs.bus.give_seats.Given as goal
+use Rattle.sharc_bus.specs.Table.{seats_with}
+use Rattle.sharc_bus.proofs.parts.give_seats.Given as goal
 
 -- the rest has the parts of the ports from the counter on, and the others' seats stand in the list
 abbrev pub invariant-loop : goal.invariant-loop

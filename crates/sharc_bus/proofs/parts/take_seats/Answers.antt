@@ -2,11 +2,12 @@
 use Rattle.std.proofs.Common.{◌≡◌, List, [], ◌∷◌, ◌++◌, All, refl, sym, ap, ◌∙◌, subst, append_assoc, inl}
 use Rattle.atomic_table.specs.Table.{Me}
 use Rattle.sharc_bus.specs.declared.rule.Part.{Part}
-use Rattle.sharc_bus.specs.Bus.{SeatView, HasAll, part_of}
+use Rattle.sharc_bus.specs.Bus.{SeatView}
+use Rattle.sharc_bus.specs.Table.{HasAll, part_of}
 use Rattle.sharc_bus.proofs.Members.{among_right}
 use Rattle.sharc_bus.proofs.Seats.{join_allowed}
 use Rattle.sharc_bus.proofs.Closing.{all_left, all_last, has_more}
-use Rattle.sharc_bus.proofs.bus.take_seats.Goals as goal
+use Rattle.sharc_bus.proofs.parts.take_seats.Goals as goal
 
 abbrev M : Type 0
 M = Me (Unit {0}) (List Part)

@@ -3,10 +3,11 @@ use Rattle.std.proofs.Common.{◌≡◌, ◌≢◌, ℕ, suc, ◌+◌, ◌-◌, 
 use Rattle.atomic_table.specs.Table.{Me}
 use Rattle.sharc_bus.specs.declared.rule.Part.{Part}
 use Rattle.sharc_bus.specs.Rule.{IsAmong, unbegun}
-use Rattle.sharc_bus.specs.Bus.{SeatView, seat_view, seats_with}
+use Rattle.sharc_bus.specs.Bus.{SeatView}
+use Rattle.sharc_bus.specs.Table.{seat_view, seats_with}
 use Rattle.sharc_bus.proofs.Seats.{among_unbegun, split_allowed}
 use Rattle.sharc_bus.proofs.Giving.{rest_is, given_more}
-use Rattle.sharc_bus.proofs.bus.give_seats.Goals as goal
+use Rattle.sharc_bus.proofs.parts.give_seats.Goals as goal
 
 abbrev M : Type 0
 M = Me (Unit {0}) (List Part)

@@ -1,0 +1,7 @@
+use Rattle.std.proofs.Common.{sym}
+use Rattle.std.specs.Mem.Slots.{slots_items}
+use Rattle.sharc_bus.proofs.Closing.{index_at}
+use Rattle.sharc_bus.proofs.parts.word_at.Goals as goal
+
+pub returns : goal.returns
+returns g c = sym (index_at (slots_items c.args.closed.now.words) c.args.i c.word.result 0 c.word.ensures)

@@ -1,0 +1,76 @@
+//! The seats of a bus, cut off the first seat of its table and put together again, and the words of a table that is closed.
+
+ghost use Rattle.std.specs.Prelude.{slice_index, ◌≡◌, ◌<◌, [], length, vec_len, All, IfOk};
+ghost use Rattle.std.specs.Mem.Slots.{slots_items, slots_len, IsFull};
+ghost use Rattle.sharc_bus.specs.Rule.{unbegun};
+ghost use Rattle.sharc_bus.specs.Table.{HasAll, seats_with};
+
+use crate::bus::Words;
+use crate::rule::{FirstPart, Parts, Together};
+use crate::seat::BusSeat;
+use atomic_table::{Closed, Seat};
+use std::alloc::{AllocError, Allocator};
+
+// Cuts the seats of all ports off the seat that has all parts.
+pub(crate) fn give_seats<A: Allocator>(
+    table: &Words<A>,
+    first: Seat<(), Parts>,
+    ports: u32,
+    seats: &mut Vec<BusSeat, A>,
+) -> Result<(), AllocError>
+    requires own { first.table_id ≡ table.now.shared.table_id }
+    requires parts { first.me ≡ (unbegun 0 ports, []) }
+    requires words { 0 < table.now.shared.table_id.words }
+    requires some { 0 < ports }
+    requires none { seats.old.items ≡ [] }
+    ensures { IfOk result (λ _. seats.new.items ≡ seats_with table.now.shared.table_id (unbegun 0 ports)) }
+{
+    let mut rest = first;
+    for _ in 0..ports - 1 {
+        let others = table.shared.split_seat::<FirstPart>(&mut rest);
+        seats.push(BusSeat::new(rest))?;
+        rest = others;
+    }
+    seats.push(BusSeat::new(rest))?;
+    Ok(())
+}
+
+// Puts the parts of all seats together, in one seat.
+pub(crate) fn take_seats<A: Allocator>(
+    table: &Words<A>,
+    mut seats: Vec<BusSeat, A>,
+) -> Seat<(), Parts>
+    requires own { All (λ s. s.bus ≡ table.now.shared.table_id) seats.items }
+    requires words { 0 < table.now.shared.table_id.words }
+    requires some { 0 < vec_len seats }
+    ensures own { result.table_id ≡ table.now.shared.table_id }
+    ensures all { HasAll seats.items result.me.0 }
+{
+    let mut all = seats.pop().unwrap().into_inner();
+    while let Some(seat) = seats.pop() {
+        table
+            .shared
+            .join_seat::<Together>(&mut all, seat.into_inner());
+    }
+    all
+}
+
+// The words of a table that nobody shares any more.
+pub(crate) fn read_words<A: Allocator>(closed: &Closed<(), A>, words: &mut [u64])
+    requires len { length words.old ≡ slots_len closed.now.words }
+    requires full { IsFull closed.now.words }
+    ensures { words.new ≡ slots_items closed.now.words }
+{
+    for (i, word) in words.iter_mut().enumerate() {
+        *word = word_at(closed, i);
+    }
+}
+
+// The word at a place of such a table.
+fn word_at<A: Allocator>(closed: &Closed<(), A>, i: usize) -> u64
+    requires within { i < slots_len closed.now.words }
+    requires full { IsFull closed.now.words }
+    ensures { result ≡ slice_index (slots_items closed.now.words) i }
+{
+    closed.word(i)
+}
