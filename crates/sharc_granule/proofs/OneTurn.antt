@@ -1,13 +1,14 @@
 -- A New asks for one turn, and what follows from it.
-use Rattle.std.proofs.Common.{◌≡◌, ℕ, ◌+◌, ◌-◌, ◌≤◌, zero, suc, List, [], length, drop, refl, sym, ap, ◌∙◌, arith, inl, inr, subst}
+use Rattle.std.proofs.Common.{◌≡◌, ℕ, ◌+◌, ◌-◌, ◌≤◌, zero, suc, List, [], ◌∷◌, length, drop, refl, sym, ap, ◌∙◌, arith, inl, inr, subst}
 use Rattle.std.proofs.lemmas.Bool.{cases_lt}
 use Rattle.sharc_word.specs.declared.step.WordStep.{WordStep}
 use Rattle.sharc_word.specs.declared.step.WordOp.{WordOp}
 use Rattle.sharc_word.specs.declared.step.WordOp.TheVariants.{Load, Swap, Cas}
 use Rattle.sharc_granule.specs.declared.stage.NewTurn.{NewTurn}
 use Rattle.sharc_granule.specs.declared.stage.NewTurn.TheVariants.{Do, Made, HeapFull}
-use Rattle.sharc_granule.specs.Asks.{NewArguments, Asks, TakesOwn, ReadsTop, MovesTop, FindsNoRoom, TakesTop, AreTops, HasMoved, top_word, step_of, last_steps, own_steps, turn_at}
-use Rattle.sharc_granule.specs.Laws.{AsksOneTurn, HasNoRoom, HeapIsFullWithoutRoom, MovesByOneBlock, TopMovesByOneBlock, OwnListEnds, TopEnds}
+use Rattle.sharc_granule.specs.declared.arguments.NewArguments.{NewArguments}
+use Rattle.sharc_granule.specs.Asks.{Asks, TakesOwn, ReadsTop, MovesTop, FindsNoRoom, TakesTop, AreTops, HasMoved, top_word, step_of, last_steps, own_steps, turn_at}
+use Rattle.sharc_granule.specs.Laws.{AsksOneTurn, HasNoRoom, HeapIsFullWithoutRoom, MovesByOneBlock, TopMovesByOneBlock, OwnListEnds, TopEnds, OwnList, MovedTop, MadeIsItsBlock}
 use Rattle.sharc_granule.proofs.Steps.{turn_in_cells, rest_after_cells}
 use Rattle.sharc_granule.proofs.Tops.{moved_is_not_trying, moved_once, tops_once, tops_are_some, moved_is_some}
 
@@ -138,3 +139,21 @@ own_list_ends a results turn asks own count =
 pub top_ends : TopEnds
 top_ends a results turn top since asks empty moved fits two =
     asks_one_turn a results turn (Made top) asks (TakesTop empty top since moved fits (sym (ap (λ n. turn_at (drop n (last_steps a top)) top) two)))
+
+-- the block that is made is the one whose steps these were
+made_of : (steps : List WordStep) (header made : ℕ) → turn_at steps header ≡ Made made → made ≡ header
+made_of [] header made is = cc
+made_of (step ∷ rest) header made is = absurd (step_is_not_made step made is)
+  where
+    step_is_not_made : (step : WordStep) (made : ℕ) → Do step ≡ Made made → ⊥
+    step_is_not_made step made is = cc
+
+pub made_is_its_block : MadeIsItsBlock
+made_is_its_block a results header (TakesOwn own is) = OwnList own (made_of (drop (length results) (own_steps a)) a.head header (sym is))
+made_is_its_block a results header (ReadsTop empty none is) = absurd cc
+made_is_its_block a results header (MovesTop empty top seen fits is) = absurd cc
+made_is_its_block a results header (FindsNoRoom empty top seen past is) = absurd cc
+made_is_its_block a results header (TakesTop empty top since moved fits is) =
+    let same : header ≡ top = made_of (drop (length since) (last_steps a top)) top header (sym is) in
+    let P = λ (h : ℕ). HasMoved results h since in
+    MovedTop empty since (subst P (sym same) moved) (omega arith)

@@ -7,7 +7,8 @@ use Rattle.std.proofs.lemmas.List.FromFn.{length-map-range_with_len, get_or-map-
 use Rattle.sharc_word.specs.declared.step.WordStep.{WordStep}
 use Rattle.sharc_word.specs.declared.step.WordOp.TheVariants.{Swap}
 use Rattle.sharc_granule.specs.declared.stage.NewTurn.TheVariants.{Do}
-use Rattle.sharc_granule.specs.Asks.{NewArguments, cell_word, step_of, last_steps, own_steps, turn_at}
+use Rattle.sharc_granule.specs.declared.arguments.NewArguments.{NewArguments}
+use Rattle.sharc_granule.specs.Asks.{cell_word, step_of, last_steps, own_steps, turn_at}
 
 -- the clearing of a cell, and of them all
 abbrev pub clearing : NewArguments → ℕ → WordStep

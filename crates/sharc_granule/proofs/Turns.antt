@@ -7,9 +7,11 @@ use Rattle.sharc_granule.specs.declared.stage.NewTurn.{NewTurn}
 use Rattle.sharc_granule.specs.declared.stage.NewTurn.TheVariants.{Do}
 use Rattle.sharc_granule.specs.declared.stage.Stage.{Stage}
 use Rattle.sharc_granule.specs.declared.stage.Stage.TheVariants.{Begins, Link, Cell, Top, Move, Count, Length, Made as Finished, Full}
-use Rattle.sharc_granule.specs.Asks.{NewArguments, Asks, TakesOwn, ReadsTop, MovesTop, FindsNoRoom, TakesTop, AreTops, NoneTwice, top_word, step_of, last_steps, own_steps, turn_at, granule_number, head_after}
+use Rattle.sharc_granule.specs.declared.arguments.NewArguments.{NewArguments}
+use Rattle.sharc_granule.specs.Asks.{Asks, TakesOwn, ReadsTop, MovesTop, FindsNoRoom, TakesTop, AreTops, NoneTwice, top_word, step_of, last_steps, own_steps, turn_at, granule_number, head_after}
 use Rattle.sharc_granule.specs.Stages.{turn_of_stage, try_from, next_stage, next_head, HasBlock, OfOwn, OfTop, IsInCell, IsAtTop, IsAtStage}
-use Rattle.sharc_granule.specs.State.{IsStep}
+use Rattle.sharc_granule.specs.State.{NewView, IsStep, IsAfter}
+use Rattle.sharc_granule.specs.Laws.{NewBegins, NewGoesOn, NewStays}
 use Rattle.sharc_granule.proofs.Steps.{turn_in_cells, rest_after_cells}
 
 -- ---- what a stage asks for is what a New asks for
@@ -133,3 +135,30 @@ head_stays a results (Count header) head found at none = refl
 head_stays a results (Length header) head found at none = refl
 head_stays a results (Finished header) head found at none = refl
 head_stays a results Full head found at none = refl
+
+-- ---- turn by turn
+pub new_begins : NewBegins
+new_begins a found =
+    elim (cases_eq a.head 0) [
+      | inl empty ↦ rw (eq-eqb a.head 0 empty) (after_none a Top found (empty, refl))
+      | inr some ↦ rw (ne_eqb a.head 0 some) (after_none a Link found (some, refl))
+    ]
+  where
+    after_none : (a : NewArguments) (stage : Stage) (found : ℕ) → IsAtStage a [] stage → IsAfter record { arguments = a; stage = stage; head = a.head } []
+    after_none a stage found at = record { asks = asks_at_stage a [] stage at; head = refl; at = at }
+
+pub new_goes_on : NewGoesOn
+new_goes_on state results found some after step =
+    let at = stage_goes_on state.arguments results state.stage found some after.at step in
+    record {
+      asks = asks_at_stage state.arguments (results ++ found ∷ []) (next_stage state.arguments state.stage found) at;
+      head = head_goes_on state.arguments results state.stage state.head found after.at after.head;
+      at = at;
+    }
+
+pub new_stays : NewStays
+new_stays state results found after none =
+    let stage = stage_stays state.arguments results state.stage found after.at none in
+    let head = head_stays state.arguments results state.stage state.head found after.at none in
+    ap (λ (s : Stage). let v : NewView = record { arguments = state.arguments; stage = s; head = next_head state.arguments state.stage state.head found } in v) stage
+    ∙ ap (λ (h : ℕ). let v : NewView = record { arguments = state.arguments; stage = state.stage; head = h } in v) head

@@ -1,21 +1,16 @@
 -- What a New asks for, by what it was given and what it found so far.
-use Rattle.std.specs.Prelude.{◌≡◌, ◌≢◌, ℕ, ◌+◌, ◌*◌, ◌<◌, ◌≤◌, ◌++◌, ◌∷◌, [], List, length, map, drop, nat_lt, nat_eq, if◌then◌else◌}
+use Rattle.std.specs.Prelude.{◌≡◌, ◌≢◌, ℕ, ◌+◌, ◌*◌, ◌^◌, ◌<◌, ◌≤◌, ◌++◌, ◌∷◌, [], List, length, map, drop, nat_lt, nat_eq, if◌then◌else◌}
 use Rattle.std.specs.List.{range_with_len}
 use Rattle.sharc_word.specs.declared.step.WordStep.{WordStep}
 use Rattle.sharc_word.specs.declared.step.WordOp.{WordOp}
 use Rattle.sharc_word.specs.declared.step.WordOp.TheVariants.{Load, Swap, Cas}
+use Rattle.sharc_granule.specs.declared.arguments.NewArguments.{NewArguments}
 use Rattle.sharc_granule.specs.declared.stage.NewTurn.{NewTurn}
 use Rattle.sharc_granule.specs.declared.stage.NewTurn.TheVariants.{Do, Made, HeapFull}
 
--- the object's elements and its cells, the end of the arena, the word of the first cell of granule 0, the first block of the
--- own list or 0, and the size of a block for this many cells
-pub record NewArguments : Type 0 where
-  pub elements : ℕ
-  pub cells : ℕ
-  pub end : ℕ
-  pub first : ℕ
-  pub head : ℕ
-  pub block : ℕ
+-- the numbers of all words are below 2 ^ 32
+abbrev pub HasFewWords : NewArguments → Type 0
+HasFewWords a = a.first + 2 * a.end < 2 ^ 32
 
 -- ---- words
 -- a word number that is none is taken as 0

@@ -1,5 +1,5 @@
 -- The size of a block.
-use Rattle.std.specs.Prelude.{ℕ, ◌+◌, ◌/◌, ◌^◌, ◌≤◌}
+use Rattle.std.specs.Prelude.{ℕ, zero, suc, ◌+◌, ◌*◌, ◌/◌, ◌^◌, ◌≤◌, nat_le, if◌then◌else◌}
 use Rattle.std.specs.Int.{IsPowerOfTwo}
 
 -- the granules that an object of this many cells takes: its header, and two cells to a granule
@@ -11,3 +11,12 @@ pub record IsBlock (cells block : ℕ) : Type 0 where
   pub power : IsPowerOfTwo block
   pub room : granules_of cells ≤ block
   pub least : (k : ℕ) → granules_of cells ≤ 2 ^ k → block ≤ 2 ^ k
+
+-- the power doubled until there is room for so many granules, so many times at most
+unfoldable pub doubled : ℕ → ℕ → ℕ → ℕ
+doubled zero power granules = power
+doubled (suc more) power granules = if nat_le granules power then power else doubled more (2 * power) granules
+
+-- the block for this many cells, of which there are at most 2 ^ 32
+unfoldable pub block_of : ℕ → ℕ
+block_of cells = doubled 32 1 (granules_of cells)

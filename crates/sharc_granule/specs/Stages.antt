@@ -5,7 +5,8 @@ use Rattle.sharc_granule.specs.declared.stage.NewTurn.{NewTurn}
 use Rattle.sharc_granule.specs.declared.stage.NewTurn.TheVariants.{Do, Made, HeapFull}
 use Rattle.sharc_granule.specs.declared.stage.Stage.{Stage}
 use Rattle.sharc_granule.specs.declared.stage.Stage.TheVariants.{Begins, Link, Cell, Top, Move, Count, Length, Made as Finished, Full}
-use Rattle.sharc_granule.specs.Asks.{NewArguments, length_word, cell_word, count_word, top_word, step_of, granule_number, AreTops, HasMoved}
+use Rattle.sharc_granule.specs.declared.arguments.NewArguments.{NewArguments}
+use Rattle.sharc_granule.specs.Asks.{length_word, cell_word, count_word, top_word, step_of, granule_number, AreTops, HasMoved}
 
 -- what a stage asks for; before the first turn nothing is asked for
 abbrev pub turn_of_stage : NewArguments → Stage → NewTurn

@@ -1,26 +1,34 @@
--- A New on its way: its arguments, what it asked for, and the results that it was given.
+-- A New on its way, turn by turn: what it asks for, and how it goes on when it is told what its step found.
 use Rattle.std.specs.Prelude.{◌≡◌, ℕ, List}
+use Rattle.sharc_granule.specs.declared.arguments.NewArguments.{NewArguments}
 use Rattle.sharc_granule.specs.declared.stage.NewTurn.{NewTurn}
 use Rattle.sharc_granule.specs.declared.stage.NewTurn.TheVariants.{Do, Made, HeapFull}
+use Rattle.sharc_granule.specs.declared.stage.Stage.{Stage}
 use Rattle.sharc_granule.specs.declared.stage.Stage.TheVariants.{Begins}
-use Rattle.sharc_granule.specs.declared.new_state.NewState.{NewState}
-use Rattle.sharc_granule.specs.Asks.{NewArguments, Asks, head_after}
-use Rattle.sharc_granule.specs.Stages.{turn_of_stage, IsAtStage}
+use Rattle.sharc_granule.specs.Asks.{Asks, head_after}
+use Rattle.sharc_granule.specs.Stages.{turn_of_stage, next_stage, next_head, IsAtStage}
 
--- what it was given at the start
-abbrev pub arguments_of : NewState → NewArguments
-arguments_of state = record {
-  elements = state.elements;
-  cells = state.cells;
-  end = state.end;
-  first = state.first;
-  head = state.own;
-  block = state.block;
+-- what a New was given, how far it has come, and the head of the own list as it now is
+pub record NewView : Type 0 where
+  pub arguments : NewArguments
+  pub stage : Stage
+  pub head : ℕ
+
+-- a New that has not had a turn
+abbrev pub begun : NewArguments → NewView
+begun a = record { arguments = a; stage = Begins; head = a.head }
+
+-- the New behind its next turn, where this was found; the first turn does not look at it
+abbrev pub told : NewView → ℕ → NewView
+told state found = record {
+  arguments = state.arguments;
+  stage = next_stage state.arguments state.stage found;
+  head = next_head state.arguments state.stage state.head found;
 }
 
 -- what it asked for last
-abbrev pub turn_of : NewState → NewTurn
-turn_of state = turn_of_stage (arguments_of state) state.stage
+abbrev pub turn_of : NewView → NewTurn
+turn_of state = turn_of_stage state.arguments state.stage
 
 -- the turn is a step, whose result the next call is told
 abbrev pub IsStep : NewTurn → Type 0
@@ -28,13 +36,8 @@ IsStep (Do step) = Unit {0}
 IsStep (Made header) = ⊥
 IsStep HeapFull = ⊥
 
--- no turn was made
-pub record IsNew (state : NewState) : Type 0 where
-  pub begins : state.stage ≡ Begins
-  pub head : state.head ≡ state.own
-
 -- it was given these results, and asked for what a New then asks for
-pub record IsAfter (state : NewState) (results : List ℕ) : Type 0 where
-  pub asks : Asks (arguments_of state) results (turn_of state)
-  pub head : state.head ≡ head_after (arguments_of state) results
-  pub at : IsAtStage (arguments_of state) results state.stage
+pub record IsAfter (state : NewView) (results : List ℕ) : Type 0 where
+  pub asks : Asks state.arguments results (turn_of state)
+  pub head : state.head ≡ head_after state.arguments results
+  pub at : IsAtStage state.arguments results state.stage

@@ -1,15 +1,12 @@
-//! Laws of what a New asks for.
+//! Laws of what a New asks for, and of the granules that are handed out. A proof above has them where its function calls this.
 
-ghost use Rattle.sharc_granule.specs.Laws.{AsksOneTurn, HeapIsFullWithoutRoom, TopMovesByOneBlock, OwnListEnds, TopEnds, StepsAreOfWords};
+ghost use Rattle.sharc_granule.specs.Laws.{NewLaws};
 
-/// What holds of every New: after the same results it asks for one turn; the heap is full exactly where the own list is empty and
-/// there is no room behind the top that was seen last; the top moves by one block from that value, within the arena; each
-/// step is of a word that there is; and both ways end.
+/// What holds of every New: after the same results it asks for one turn, and turn by turn it asks for just that; the heap is
+/// full exactly where the own list is empty and there is no room behind the top that was seen last; the top moves by one block
+/// from that value, within the arena; each step is of the top or of a word of the New's own block; and both ways end. Over a
+/// legal history in which the top is only moved on, what is handed out lies apart and below the top.
+#[inline(always)]
 pub fn new_laws()
-    ensures one_turn { AsksOneTurn }
-    ensures full { HeapIsFullWithoutRoom }
-    ensures top { TopMovesByOneBlock }
-    ensures words { StepsAreOfWords }
-    ensures own_ends { OwnListEnds }
-    ensures top_ends { TopEnds }
+    ensures { NewLaws }
 {}

@@ -1,34 +1,37 @@
 //! A New that takes one turn at a time.
 
-ghost use Rattle.std.specs.Prelude.{◌≡◌, ℕ, ◌+◌, ◌*◌, ◌^◌, ◌<◌, ◌≤◌, ◌++◌, [], ◌∷◌, List, ◌-◌, min};
+ghost use Rattle.std.specs.Prelude.{◌≡◌, ◌+◌, ◌*◌, ◌^◌, ◌<◌, ◌≤◌};
+ghost use Rattle.sharc_granule.specs.Stages.{next_head};
 
+use crate::arguments::NewArguments;
 use crate::blocks::block;
 use crate::stage::{NewTurn, Stage};
-use sharc_word::{WordOp, WordStep};
+use std::marker::Model;
 
-// The word of the first heap granule that is not yet handed out.
-const TOP: u32 = 1;
-
-/// A New on its way. It asks for steps of words, and is told what each found.
-#[derive(Clone, Copy, Debug, PartialEq, Eq)]
+/// A New on its way. It asks for steps of words, and is told what each found. Contracts see it as a `NewView`.
+#[derive(Clone, Copy)]
 pub struct NewState {
-    elements: u64,
-    cells: u64,
-    end: u64,
-    first: u32,
-    own: u64,
-    block: u64,
-    head: u64,
+    arguments: NewArguments,
     stage: Stage,
-    ghost some_cells: { 1 ≤ cells },
-    ghost few_words: { first + 2 * end < 2 ^ 32 },
+    head: u64,
+}
+
+impl Model for NewState {
+    ghost use Rattle.sharc_granule.specs.State.{NewView};
+    ghost use Rattle.sharc_granule.specs.Asks.{HasFewWords};
+
+    ghost Value = { NewView };
+
+    ghost view = { λ s. record { arguments = s.arguments; stage = s.stage; head = s.head } };
+
+    ghost invariant = { λ s. HasFewWords s.arguments };
+
+    ghost inverse = { λ v. record { arguments = v.arguments; stage = v.stage; head = v.head } };
 }
 
 impl NewState {
-    ghost use Rattle.sharc_granule.specs.Block.{IsBlock};
-    ghost use Rattle.sharc_granule.specs.Asks.{head_after, word_number, count_word, length_word, cell_word};
-    ghost use Rattle.sharc_granule.specs.Stages.{next_stage, next_head, after_cell, try_from};
-    ghost use Rattle.sharc_granule.specs.State.{arguments_of, turn_of, IsNew, IsAfter, IsStep};
+    ghost use Rattle.sharc_granule.specs.Block.{block_of};
+    ghost use Rattle.sharc_granule.specs.State.{begun, told, turn_of};
 
     /// A New of this many elements with this many cells in all, in the arena that ends before granule `end`, where `first` is
     /// the number of the word of the first cell of granule 0, and `head` the first freed block of this size on the thread's
@@ -39,30 +42,25 @@ impl NewState {
         requires most { cells ≤ 2 ^ 32 }
         requires words { first + 2 * end < 2 ^ 32 }
         requires head { head < end }
-        ensures new { IsNew result }
-        ensures elements { (arguments_of result).elements ≡ elements }
-        ensures cells { (arguments_of result).cells ≡ cells }
-        ensures end { (arguments_of result).end ≡ end }
-        ensures first { (arguments_of result).first ≡ first }
-        ensures head { (arguments_of result).head ≡ head }
-        ensures block { IsBlock cells (arguments_of result).block }
+        ensures { result ≡ begun record { elements = elements; cells = cells; end = end; first = first; head = head; block = block_of cells } }
     {
         NewState {
-            elements,
-            cells,
-            end,
-            first,
-            own: head,
-            block: block(cells),
-            head,
+            arguments: NewArguments {
+                elements,
+                cells,
+                end,
+                first,
+                head,
+                block: block(cells),
+            },
             stage: Stage::Begins,
+            head,
         }
     }
 
     /// The first freed block of this size that is on the own list afterwards, or 0.
     pub fn head(&self) -> u64
-        ensures new { IsNew self.now → result ≡ (arguments_of self.now).head }
-        ensures after { (results : List ℕ) → IsAfter self.now results → result ≡ head_after (arguments_of self.now) results }
+        ensures { result ≡ self.now.head }
     {
         self.head
     }
@@ -71,132 +69,21 @@ impl NewState {
     /// look at it. Once the answer is no step, it stays.
     pub fn next(&mut self, last: u64) -> NewTurn
         ensures turn { result ≡ turn_of self.new }
-        ensures arguments { arguments_of self.new ≡ arguments_of self.old }
-        ensures begins { IsNew self.old → IsAfter self.new [] }
-        ensures goes_on { (results : List ℕ) → IsAfter self.old results → IsStep (turn_of self.old)
-            → IsAfter self.new (results ++ last ∷ []) }
-        ensures stays { (results : List ℕ) → IsAfter self.old results → ¬ IsStep (turn_of self.old)
-            → IsAfter self.new results × (turn_of self.new ≡ turn_of self.old) }
+        ensures state { self.new ≡ told self.old last }
     {
-        self.head = self.head_after(last);
-        self.stage = self.stage_after(last);
-        self.turn()
+        self.head = head_after(&self.arguments, self.stage, self.head, last);
+        self.stage = self.stage.next(&self.arguments, last);
+        self.stage.turn(&self.arguments)
     }
+}
 
-    // The head of the own list behind this stage, where `last` was found.
-    fn head_after(&self, last: u64) -> u64
-        ensures { result ≡ next_head (arguments_of self.now) self.now.stage self.now.head last }
-    {
-        match self.stage {
-            Stage::Link if last < self.end => last,
-            Stage::Link => 0,
-            _ => self.head,
-        }
-    }
-
-    // The stage behind this one, where `last` was found.
-    fn stage_after(&self, last: u64) -> Stage
-        ensures { result ≡ next_stage (arguments_of self.now) self.now.stage last }
-    {
-        match self.stage {
-            Stage::Begins if self.own == 0 => Stage::Top,
-            Stage::Begins => Stage::Link,
-            Stage::Link => Stage::Cell(0),
-            Stage::Cell(cell) => self.after_cell(cell),
-            Stage::Top => self.try_from(last),
-            Stage::Move(top, _) if top == last => Stage::Count(top),
-            Stage::Move(..) => self.try_from(last),
-            Stage::Count(header) => Stage::Length(header),
-            Stage::Length(header) => Stage::Made(header),
-            Stage::Made(header) => Stage::Made(header),
-            Stage::Full => Stage::Full,
-        }
-    }
-
-    // The stage behind the clearing of this cell.
-    fn after_cell(&self, cell: u64) -> Stage
-        ensures { result ≡ after_cell (arguments_of self.now) cell }
-    {
-        let next = cell.saturating_add(1);
-        if next < self.cells {
-            Stage::Cell(next)
-        } else {
-            Stage::Count(self.own)
-        }
-    }
-
-    // The stage where the top was seen here.
-    fn try_from(&self, top: u64) -> Stage
-        ensures { result ≡ try_from (arguments_of self.now) top }
-    {
-        match top.checked_add(self.block) {
-            Some(moved) if moved <= self.end => Stage::Move(top, moved),
-            _ => Stage::Full,
-        }
-    }
-
-    // What the stage asks for.
-    fn turn(&self) -> NewTurn
-        ensures { result ≡ turn_of self.now }
-    {
-        match self.stage {
-            Stage::Begins => NewTurn::HeapFull,
-            Stage::Link => self.ask(self.length_word(self.own), WordOp::Load),
-            Stage::Cell(cell) => self.ask(self.cell_word(self.own, cell), WordOp::Swap(0)),
-            Stage::Top => self.ask(TOP, WordOp::Load),
-            Stage::Move(top, moved) => self.ask(TOP, WordOp::Cas(top, moved)),
-            Stage::Count(header) => self.ask(self.count_word(header), WordOp::Swap(1)),
-            Stage::Length(header) => self.ask(
-                self.length_word(header),
-                WordOp::Swap(self.elements),
-            ),
-            Stage::Made(header) => NewTurn::Made(header),
-            Stage::Full => NewTurn::HeapFull,
-        }
-    }
-
-    // The turn that makes this step.
-    fn ask(&self, word: u32, op: WordOp) -> NewTurn
-        ensures { result ≡ NewTurn.Do record { word = word; op = op } }
-    {
-        NewTurn::Do(WordStep { word, op })
-    }
-
-    // The number of a word, 0 where it is none.
-    fn word(&self, place: u64) -> u32
-        ensures { result ≡ word_number (arguments_of self.now) place }
-    {
-        if place < u64::from(self.first) + 2 * self.end {
-            place as u32
-        } else {
-            0
-        }
-    }
-
-    // The word of the first cell of a granule, or one too large.
-    fn place(&self, granule: u64) -> u64
-        ensures { result ≡ min (self.now.first + 2 * granule) (2 ^ 64 - 1) }
-    {
-        granule
-            .saturating_mul(2)
-            .saturating_add(u64::from(self.first))
-    }
-
-    fn count_word(&self, header: u64) -> u32
-        ensures { result ≡ count_word (arguments_of self.now) header }
-    {
-        self.word(self.place(header))
-    }
-
-    fn length_word(&self, header: u64) -> u32
-        ensures { result ≡ length_word (arguments_of self.now) header }
-    {
-        self.word(self.place(header).saturating_add(1))
-    }
-
-    fn cell_word(&self, header: u64, cell: u64) -> u32
-        ensures { result ≡ cell_word (arguments_of self.now) header cell }
-    {
-        self.word(self.place(header).saturating_add(2).saturating_add(cell))
+// The head of the own list behind this stage, where `last` was found.
+fn head_after(of: &NewArguments, stage: Stage, head: u64, last: u64) -> u64
+    ensures { result ≡ next_head of.now stage head last }
+{
+    match stage {
+        Stage::Link if last < of.end => last,
+        Stage::Link => 0,
+        _ => head,
     }
 }

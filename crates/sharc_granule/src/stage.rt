@@ -1,6 +1,14 @@
 //! What a New asks for, and how far it has come.
 
-use sharc_word::WordStep;
+ghost use Rattle.std.specs.Prelude.{◌≡◌};
+ghost use Rattle.sharc_granule.specs.Asks.{HasFewWords};
+ghost use Rattle.sharc_granule.specs.Stages.{turn_of_stage, next_stage, after_cell, try_from};
+
+use crate::arguments::NewArguments;
+use sharc_word::{WordOp, WordStep};
+
+// The word of the first heap granule that is not yet handed out.
+const TOP: u32 = 1;
 
 /// One turn of a New.
 #[derive(Clone, Copy, Debug, PartialEq, Eq)]
@@ -14,7 +22,7 @@ pub enum NewTurn {
 }
 
 /// How far a New has come, by what it asked for last.
-#[derive(Clone, Copy, Debug, PartialEq, Eq)]
+#[derive(Clone, Copy)]
 pub enum Stage {
     /// Nothing.
     Begins,
@@ -34,4 +42,73 @@ pub enum Stage {
     Made(u64),
     /// No more: there is no room.
     Full,
+}
+
+impl Stage {
+    // The stage behind this one, where `last` was found.
+    pub(crate) fn next(self, of: &NewArguments, last: u64) -> Stage
+        ensures { result ≡ next_stage of.now self last }
+    {
+        match self {
+            Stage::Begins if of.head == 0 => Stage::Top,
+            Stage::Begins => Stage::Link,
+            Stage::Link => Stage::Cell(0),
+            Stage::Cell(cell) => after_cell(of, cell),
+            Stage::Top => try_from(of, last),
+            Stage::Move(top, _) if top == last => Stage::Count(top),
+            Stage::Move(..) => try_from(of, last),
+            Stage::Count(header) => Stage::Length(header),
+            Stage::Length(header) => Stage::Made(header),
+            Stage::Made(header) => Stage::Made(header),
+            Stage::Full => Stage::Full,
+        }
+    }
+
+    // What the stage asks for.
+    pub(crate) fn turn(self, of: &NewArguments) -> NewTurn
+        requires { HasFewWords of.now }
+        ensures { result ≡ turn_of_stage of.now self }
+    {
+        match self {
+            Stage::Begins => NewTurn::HeapFull,
+            Stage::Link => ask(of.length_word(of.head), WordOp::Load),
+            Stage::Cell(cell) => ask(of.cell_word(of.head, cell), WordOp::Swap(0)),
+            Stage::Top => ask(TOP, WordOp::Load),
+            Stage::Move(top, moved) => ask(TOP, WordOp::Cas(top, moved)),
+            Stage::Count(header) => ask(of.count_word(header), WordOp::Swap(1)),
+            Stage::Length(header) => ask(of.length_word(header), WordOp::Swap(of.elements)),
+            Stage::Made(header) => NewTurn::Made(header),
+            Stage::Full => NewTurn::HeapFull,
+        }
+    }
+}
+
+// The stage behind the clearing of this cell.
+fn after_cell(of: &NewArguments, cell: u64) -> Stage
+    ensures { result ≡ after_cell of.now cell }
+{
+    let next = cell.saturating_add(1);
+    if next < of.cells {
+        Stage::Cell(next)
+    } else {
+        Stage::Count(of.head)
+    }
+}
+
+// The stage where the top was seen here.
+fn try_from(of: &NewArguments, top: u64) -> Stage
+    ensures { result ≡ try_from of.now top }
+{
+    let end = of.end;
+    match top.checked_add(of.block) {
+        Some(moved) if moved <= end => Stage::Move(top, moved),
+        _ => Stage::Full,
+    }
+}
+
+// The turn that makes this step.
+fn ask(word: u32, op: WordOp) -> NewTurn
+    ensures { result ≡ NewTurn.Do record { word = word; op = op } }
+{
+    NewTurn::Do(WordStep { word, op })
 }

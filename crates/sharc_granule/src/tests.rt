@@ -28,7 +28,7 @@ fn least_blocks(rt: HostRuntime) {
 
 #[test]
 fn takes_the_last_room(rt: HostRuntime) {
-    // Granules 1 to 4 of an arena of 5, whose cells begin at word 100; another thread moves the top first.
+    // Granules 1 to 8, room for two blocks of four; the cells of granule 0 are words 100 and 101. Another thread takes the first block.
     let mut state = NewState::new(3, 3, 9, 100, 0);
     assert_eq!(rt; state.next(77), asked(1, WordOp::Load));
     assert_eq!(rt; state.next(1), asked(1, WordOp::Cas(1, 5)));
@@ -42,6 +42,7 @@ fn takes_the_last_room(rt: HostRuntime) {
 
 #[test]
 fn finds_no_room(rt: HostRuntime) {
+    // Another thread takes granule 4 alone, and behind it there are three granules for a block of four.
     let mut state = NewState::new(3, 3, 8, 100, 0);
     assert_eq!(rt; state.next(0), asked(1, WordOp::Load));
     assert_eq!(rt; state.next(4), asked(1, WordOp::Cas(4, 8)));

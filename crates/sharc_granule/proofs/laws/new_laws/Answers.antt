@@ -1,21 +1,29 @@
-use Rattle.sharc_granule.proofs.OneTurn.{asks_one_turn, heap_is_full_without_room, top_moves_by_one_block, own_list_ends, top_ends}
-use Rattle.sharc_granule.proofs.Within.{steps_are_of_words}
+use Rattle.sharc_granule.proofs.OneTurn.{asks_one_turn, heap_is_full_without_room, top_moves_by_one_block, own_list_ends, top_ends, made_is_its_block}
+use Rattle.sharc_granule.proofs.Aims.{steps_are_of_words, blocks_have_their_words, granules_stay, steps_are_own, steps_keep_top}
+use Rattle.sharc_granule.proofs.Least.{block_of_is_block, one_block}
+use Rattle.sharc_granule.proofs.Turns.{new_begins, new_goes_on, new_stays}
+use Rattle.sharc_granule.proofs.Handing.{top_hands_out_apart, cas_hands_out, handed_apart}
 use Rattle.sharc_granule.proofs.laws.new_laws.Goals as goal
 
-pub returns-clause-one_turn : goal.returns-clause-one_turn
-returns-clause-one_turn c = asks_one_turn
-
-pub returns-clause-full : goal.returns-clause-full
-returns-clause-full c = heap_is_full_without_room
-
-pub returns-clause-top : goal.returns-clause-top
-returns-clause-top c = top_moves_by_one_block
-
-pub returns-clause-own_ends : goal.returns-clause-own_ends
-returns-clause-own_ends c = own_list_ends
-
-pub returns-clause-top_ends : goal.returns-clause-top_ends
-returns-clause-top_ends c = top_ends
-
-pub returns-clause-words : goal.returns-clause-words
-returns-clause-words c = steps_are_of_words
+pub returns : goal.returns
+returns c = record {
+  one_turn = asks_one_turn;
+  full = heap_is_full_without_room;
+  top = top_moves_by_one_block;
+  words = steps_are_of_words;
+  own_ends = own_list_ends;
+  top_ends = top_ends;
+  begins = new_begins;
+  goes_on = new_goes_on;
+  stays = new_stays;
+  block = block_of_is_block;
+  one_block = one_block;
+  made = made_is_its_block;
+  block_words = blocks_have_their_words;
+  granules = granules_stay;
+  own_steps = steps_are_own;
+  keep_top = steps_keep_top;
+  in_order = top_hands_out_apart;
+  cas = cas_hands_out;
+  apart = handed_apart;
+}
