@@ -1,5 +1,5 @@
 -- What the steps make of a count.
-use Rattle.std.proofs.Common.{◌≡◌, ℕ, ◌+◌, ◌<◌, ◌^◌, refl, arith}
+use Rattle.std.proofs.Common.{refl, arith}
 use Rattle.sharc_count.specs.Laws.{RaiseCounts, LowerCounts, TestLeaves}
 
 pub raise_counts : RaiseCounts

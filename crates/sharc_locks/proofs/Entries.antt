@@ -6,7 +6,7 @@ use Rattle.std.proofs.lemmas.List.{take-append-drop, get_or_default}
 use Rattle.std.proofs.lemmas.List.Quantifiers.{position-Some, all_pairs_remove}
 use Rattle.std.proofs.lemmas.List.Edits.{length-remove, get_or-remove_below, get_or-remove_above}
 use Rattle.std.proofs.lemmas.Bool.{cases_lt, eq-eqb, ne_eqb}
-use Rattle.std.specs.Prelude.{filter, not, None, [], if◌then◌else◌}
+use Rattle.std.specs.Prelude.{None, []}
 use Rattle.sharc_locks.specs.HeldLog.{Holds, HoldsEachOnce, IsHeldLog, GivesUp, without, object_of}
 use Rattle.sharc_locks.specs.declared.held_log.HeldMutex.{HeldMutex}
 
