@@ -6,16 +6,16 @@ use Rattle.sharc_tree.specs.declared.token.Keyword.TheVariants as key
 use Rattle.sharc_tree.specs.declared.token.Punctuator.TheVariants.{OpenParenthesis, CloseParenthesis, Comma, Arrow, Minus, Star, Exclamation, Tilde}
 use Rattle.sharc_tree.specs.declared.ctype.Base.{Base}
 use Rattle.sharc_tree.specs.declared.ctype.Base.TheVariants as base
-use Rattle.sharc_tree.specs.declared.tree.BinaryOperator.{BinaryOperator}
-use Rattle.sharc_tree.specs.declared.tree.BinaryOperator.TheVariants as op
-use Rattle.sharc_tree.specs.declared.tree.UnaryOperator.{UnaryOperator}
-use Rattle.sharc_tree.specs.declared.tree.UnaryOperator.TheVariants.{Negate, Not, Complement, Dereference}
-use Rattle.sharc_tree.specs.declared.tree.Access.{Access}
-use Rattle.sharc_tree.specs.declared.tree.Access.TheVariants as access
-use Rattle.sharc_tree.specs.declared.tree.ValueCall.TheVariants as value_call
-use Rattle.sharc_tree.specs.declared.tree.PlaceCall.TheVariants as place_call
-use Rattle.sharc_tree.specs.declared.tree.Constant.{Constant}
-use Rattle.sharc_tree.specs.declared.tree.Constant.TheVariants as constants
+use Rattle.sharc_tree.specs.declared.tree.expression.BinaryOperator.{BinaryOperator}
+use Rattle.sharc_tree.specs.declared.tree.expression.BinaryOperator.TheVariants as op
+use Rattle.sharc_tree.specs.declared.tree.expression.UnaryOperator.{UnaryOperator}
+use Rattle.sharc_tree.specs.declared.tree.expression.UnaryOperator.TheVariants.{Negate, Not, Complement, Dereference}
+use Rattle.sharc_tree.specs.declared.tree.expression.Access.{Access}
+use Rattle.sharc_tree.specs.declared.tree.expression.Access.TheVariants as access
+use Rattle.sharc_tree.specs.declared.tree.expression.ValueCall.TheVariants as value_call
+use Rattle.sharc_tree.specs.declared.tree.expression.PlaceCall.TheVariants as place_call
+use Rattle.sharc_tree.specs.declared.tree.expression.Constant.{Constant}
+use Rattle.sharc_tree.specs.declared.tree.expression.Constant.TheVariants as constants
 use Rattle.sharc_grammar.specs.Grammar.{Word, name, keyword, mark, number, character, Sharing, private, readonly, racy, dynamic, locked, locked_through, Declaring, sharing_words, level_words, base_words, bottom_words, levels_words, list_words, declaring_words, FitsBottom, FitsLevels, FitsList, FitsType, NoModes, IsPlain, Front, parenthesis, of_spawn, of_value, of_place, of_cast, Phrase, identifier, constant, enclosed, call, index, field, unary, binary, Phrases, none, more, operator_mark, unary_mark, access_mark, constant_word, strength, front_words, words, words_of_rest, level, FitsFront, Fits, FitAll, malloc, Doing, assign, invoke, Line, doing_words, Part}
 use Rattle.sharc_grammar.specs.Machine.{Outer, LinePlace, as_statement, in_line, as_step, ValuePlace, returning, testing, subject, counting, Cont, part, beneath, right_of, fronted, indexing, arguments, NamePlace, field_of, local, TypePlace, naming, casting, sizing, ModePlace, before_base, at_level, Core, Want, Have, Called, Valued, TypeWant, ModeFirst, StructWant, Typed, Named, State, or_else, to, Role, Calling, Indexing, Accessing, Operating, Ending, role, grip_of, grip, joined, with_last, floor, settle, want, end_at, counted, shift, have, called, takes_modes, moded, mode_step, based, begin_type, typed, fields, may_declare, line_start, start, returned, for_test, for_step, malloced, core_step, Stuck, then_on, reads, reads_at}
 

@@ -6,7 +6,7 @@ use Rattle.sharc_tree.specs.declared.token.Keyword.TheVariants as key
 use Rattle.sharc_tree.specs.declared.token.Punctuator.TheVariants.{OpenParenthesis, CloseParenthesis, OpenBrace, CloseBrace, CloseBracket, Semicolon, Comma, Assign, Star}
 use Rattle.sharc_tree.specs.declared.ctype.Base.{Base}
 use Rattle.sharc_tree.specs.declared.ctype.Base.TheVariants as base
-use Rattle.sharc_tree.specs.declared.tree.Constant.TheVariants as constants
+use Rattle.sharc_tree.specs.declared.tree.expression.Constant.TheVariants as constants
 use Rattle.sharc_grammar.specs.Grammar.{Word, name, keyword, mark, number, character, Sharing, locked, locked_through, Typing, Declaring, sharing_words, level_words, base_words, type_words, declaring_words, FitsType, IsPlain, of_spawn, of_cast, Phrase, constant, enclosed, call, index, field, unary, binary, Phrases, none, more, words, level, Fits, Value, value, malloc, Doing, assign, Line, nothing, does, Sentence, line, return, block, under, Sentences, no_more, sentence, if_of, while_of, value_words, doing_words, line_words, loop_words, written, written_all, opening_words, is_declaring, is_declaration, FitsOption, FitsValue, FitsDoing, FitsLine, FitsStep, FitsAs, Form, single, array, initially, Part, structure, global, parameters_words, part_words, program_words, FitsForm, FitsPart, IsProgram}
 use Rattle.sharc_grammar.specs.Machine.{Outer, body, items, inside, LinePlace, as_statement, as_first, DoingPlace, in_line, as_step, ValuePlace, of_doing, of_local, Asked, by_if, by_while, Place, condition, returning, testing, subject, valued, counting, Cont, part, beneath, right_of, fronted, indexing, arguments, NamePlace, on_top, field_of, parameter_of, local, TypePlace, naming, casting, sizing, ModePlace, before_base, at_level, Core, Want, Have, Called, Dotted, Spawning, Start, Done, Returning, ForOpen, ForTest, ForStep, Malloced, Valued, TypeWant, ModeFirst, StructWant, Typed, PathWant, PathNamed, PathThrough, Named, Fields, ArrayWant, InitialWant, InitialNegative, Top, with_last, floor, loop, local_line, typing_of, takes_modes, moded, based, declaring_of, with_part, with_declaring, fields, with_item, function_of, may_declare}
 use Rattle.sharc_grammar.specs.Limits.{height, highest, FewStars, FewFront, Few, FewAll, Low, LowOption, LowValue, LowDoing, LowInitial, LowLine, LowStep, LowSentence, LowAll, LowOpening, line_nesting, nesting, deepest, nesting_before, FewGiven, LowPart, LowProgram, depth, around_it}

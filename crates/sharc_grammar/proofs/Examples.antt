@@ -5,8 +5,8 @@ use Rattle.sharc_tree.specs.declared.token.Keyword.TheVariants as key
 use Rattle.sharc_tree.specs.declared.token.Punctuator.TheVariants.{OpenParenthesis, CloseParenthesis, OpenBrace, CloseBrace, OpenBracket, CloseBracket, Semicolon, Comma, Arrow, Assign, Less, Plus, Minus, Star, AndAnd, OrOr}
 use Rattle.sharc_tree.specs.declared.token.NumberType.TheVariants.{Int}
 use Rattle.sharc_tree.specs.declared.ctype.Base.TheVariants as base
-use Rattle.sharc_tree.specs.declared.tree.BinaryOperator.TheVariants as op
-use Rattle.sharc_tree.specs.declared.tree.Constant.TheVariants as constants
+use Rattle.sharc_tree.specs.declared.tree.expression.BinaryOperator.TheVariants as op
+use Rattle.sharc_tree.specs.declared.tree.expression.Constant.TheVariants as constants
 use Rattle.sharc_grammar.specs.Grammar.{Word, name, keyword, mark, number, left_out, private, dynamic, locked, locked_through, Typing, of_cast, Phrase, identifier, constant, enclosed, binary, value, malloc, assign, nothing, does, declares, line, return, under, Sentences, no_more, sentence, if_of, else_of, while_of, for_of, array, initially, Part, structure, global, function}
 use Rattle.sharc_grammar.specs.Machine.{Read, Stuck, reads, first_state}
 use Rattle.sharc_grammar.specs.Limits.{StuckAt, Over, reads_within}

@@ -10,12 +10,12 @@ use Rattle.sharc_tree.specs.declared.token.TokenKind.TheVariants as kind
 use Rattle.sharc_tree.specs.declared.ctype.Mode.{Mode}
 use Rattle.sharc_tree.specs.declared.ctype.Base.{Base}
 use Rattle.sharc_tree.specs.declared.ctype.Base.TheVariants as base
-use Rattle.sharc_tree.specs.declared.tree.Constant.{Constant}
-use Rattle.sharc_tree.specs.declared.tree.Constant.TheVariants as constants
-use Rattle.sharc_tree.specs.declared.tree.ValueCall.TheVariants as value_call
-use Rattle.sharc_tree.specs.declared.tree.PlaceCall.TheVariants as place_call
-use Rattle.sharc_tree.specs.declared.tree.Jump.{Jump}
-use Rattle.sharc_tree.specs.declared.tree.Jump.TheVariants as jumps
+use Rattle.sharc_tree.specs.declared.tree.expression.Constant.{Constant}
+use Rattle.sharc_tree.specs.declared.tree.expression.Constant.TheVariants as constants
+use Rattle.sharc_tree.specs.declared.tree.expression.ValueCall.TheVariants as value_call
+use Rattle.sharc_tree.specs.declared.tree.expression.PlaceCall.TheVariants as place_call
+use Rattle.sharc_tree.specs.declared.tree.statement.Jump.{Jump}
+use Rattle.sharc_tree.specs.declared.tree.statement.Jump.TheVariants as jumps
 use Rattle.sharc_tree.specs.declared.token.Keyword.TheVariants as key
 use Rattle.sharc_tree.specs.declared.token.Punctuator.TheVariants.{OpenParenthesis, CloseParenthesis, OpenBrace, CloseBrace, OpenBracket, CloseBracket, Semicolon, Comma, Assign, Star}
 use Rattle.sharc_grammar.specs.Grammar.{Word, name, keyword, mark, Sharing, private, readonly, racy, dynamic, locked, locked_through, Typing, Declaring, Front, parenthesis, of_spawn, of_value, of_place, of_cast, Phrase, identifier, constant, enclosed, call, index, field, unary, binary, Phrases, none, more, Value, value, malloc, Doing, assign, invoke, Declared, Line, nothing, does, declares, Loop, Sentence, line, jump, return, block, under, Sentences, no_more, sentence, Opening, if_of, else_of, while_of, for_of, Form, single, array, initially, Callable, Part, structure, global, function, sharing_words, level_words, base_words, levels_words, list_words, type_words, declaring_words, access_mark, operator_mark, jump_word, constant_word, front_words, words, words_of_all, words_of_rest, option_words, count_words, value_words, doing_words, initial_words, line_words, step_words, loop_words, written, written_all, opening_words, form_words, fields_words, parameters_words, part_words, program_words}

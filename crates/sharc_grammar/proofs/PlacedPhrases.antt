@@ -9,7 +9,7 @@ use Rattle.sharc_tree.specs.declared.token.Span.{Span}
 use Rattle.sharc_tree.specs.declared.token.Token.{Token}
 use Rattle.sharc_tree.specs.declared.ctype.Base.{Base}
 use Rattle.sharc_tree.specs.declared.ctype.Base.TheVariants as base
-use Rattle.sharc_tree.specs.declared.tree.PlaceCall.TheVariants as place_call
+use Rattle.sharc_tree.specs.declared.tree.expression.PlaceCall.TheVariants as place_call
 use Rattle.sharc_grammar.specs.Grammar.{Sharing, Typing, Declaring, Front, parenthesis, of_spawn, of_value, of_place, of_cast, Phrase, identifier, constant, enclosed, call, index, field, unary, binary, Phrases, none, more, FitsList, FitsType, FitsFront, Fits, FitAll, FitsOption, FitAllDeclaring}
 use Rattle.sharc_grammar.specs.Places.{span_at, name_at, level_size, base_size, levels_size, type_size, declaring_size, front_size, size, sizes, rest_size, option_size, fields_size, base_name, base_place, type_at, declaration_at, front_at, expression_at, arguments_at, option_at, declarations_at}
 use Rattle.sharc_grammar.proofs.Marks.{left, right}

@@ -6,14 +6,14 @@ use Rattle.sharc_tree.specs.declared.token.Keyword.TheVariants as key
 use Rattle.sharc_tree.specs.declared.token.Punctuator.TheVariants.{OpenParenthesis, CloseParenthesis, OpenBrace, CloseBrace, OpenBracket, CloseBracket, Semicolon, Comma, Arrow, Assign, Minus, Star, Exclamation, Tilde}
 use Rattle.sharc_tree.specs.declared.ctype.Base.{Base}
 use Rattle.sharc_tree.specs.declared.ctype.Base.TheVariants as base
-use Rattle.sharc_tree.specs.declared.tree.BinaryOperator.{BinaryOperator}
-use Rattle.sharc_tree.specs.declared.tree.BinaryOperator.TheVariants as op
-use Rattle.sharc_tree.specs.declared.tree.UnaryOperator.{UnaryOperator}
-use Rattle.sharc_tree.specs.declared.tree.UnaryOperator.TheVariants.{Negate, Not, Complement, Dereference}
-use Rattle.sharc_tree.specs.declared.tree.Access.{Access}
-use Rattle.sharc_tree.specs.declared.tree.ValueCall.TheVariants as value_call
-use Rattle.sharc_tree.specs.declared.tree.PlaceCall.TheVariants as place_call
-use Rattle.sharc_tree.specs.declared.tree.Constant.TheVariants as constants
+use Rattle.sharc_tree.specs.declared.tree.expression.BinaryOperator.{BinaryOperator}
+use Rattle.sharc_tree.specs.declared.tree.expression.BinaryOperator.TheVariants as op
+use Rattle.sharc_tree.specs.declared.tree.expression.UnaryOperator.{UnaryOperator}
+use Rattle.sharc_tree.specs.declared.tree.expression.UnaryOperator.TheVariants.{Negate, Not, Complement, Dereference}
+use Rattle.sharc_tree.specs.declared.tree.expression.Access.{Access}
+use Rattle.sharc_tree.specs.declared.tree.expression.ValueCall.TheVariants as value_call
+use Rattle.sharc_tree.specs.declared.tree.expression.PlaceCall.TheVariants as place_call
+use Rattle.sharc_tree.specs.declared.tree.expression.Constant.TheVariants as constants
 use Rattle.sharc_grammar.specs.Grammar.{Word, name, keyword, mark, number, character, Sharing, private, readonly, racy, dynamic, locked, locked_through, Typing, Declaring, Front, parenthesis, of_value, of_place, Phrase, identifier, constant, unary, binary, Phrases, none, strength, Value, value, Doing, assign, invoke, Line, nothing, does, declares, Sentence, line, jump, return, block, under, Opening, if_of, else_of, while_of, for_of, is_call, Form, single, array, initially, Part, structure, global}
 use Rattle.sharc_grammar.specs.Machine.{Outer, body, items, inside, LinePlace, as_statement, as_first, DoingPlace, in_line, as_step, ValuePlace, of_doing, of_local, Asked, by_if, by_while, Place, condition, returning, testing, subject, valued, counting, Cont, part, beneath, right_of, fronted, indexing, arguments, NamePlace, on_top, field_of, parameter_of, local, TypePlace, naming, casting, sizing, ModePlace, before_base, at_level, Core, Want, Have, Called, Dotted, Spawning, Start, Done, Returning, ForOpen, ForTest, ForStep, Malloced, Valued, TypeWant, ModeFirst, StructWant, Typed, PathWant, PathNamed, PathThrough, Named, Fields, ArrayWant, InitialWant, InitialNegative, Top, Fixed, a_semicolon, a_bracket, State, At, or_else, to, Role, Calling, Indexing, Accessing, Operating, Ending, role, floor, settle, mallocs, want, open_call, lined, doing_end, local_line, local_end, value_end, subject_end, condition_end, return_end, test_end, leave, front_end, index_end, argument_end, end_at, counted, shift, have, dotted, called, spawning, typing_of, takes_modes, moded, mode_step, based, base_step, begin_type, struct_want, level_step, name_step, comma_step, close_type, open_type, typed, path_want, path_named, path_through, declaring_of, with_part, named_top, named_field, named_parameter, named_local, named, fields, array_want, initial_negative, initial_want, with_item, function_of, close_block, holds_items, line_start, start, is_else, done, returned, for_test, for_step, malloced, core_step}
 use Rattle.sharc_grammar.specs.Limits.{height, FewStars, FewFront, Few, LowValue, LowDoing, LowInitial, line_nesting, nesting, LowPart, LowProgram, depth, around_it, crowded_line, crowded_doing, crowded_place, crowded, over_place, over_at, over_start, over_done, over_cast, over_core}

@@ -7,20 +7,20 @@ use Rattle.sharc_tree.specs.declared.token.Punctuator.TheVariants.{OpenParenthes
 use Rattle.sharc_tree.specs.declared.token.Number.{Number}
 use Rattle.sharc_tree.specs.declared.ctype.Base.{Base}
 use Rattle.sharc_tree.specs.declared.ctype.Base.TheVariants as base
-use Rattle.sharc_tree.specs.declared.tree.BinaryOperator.{BinaryOperator}
-use Rattle.sharc_tree.specs.declared.tree.BinaryOperator.TheVariants as op
-use Rattle.sharc_tree.specs.declared.tree.UnaryOperator.{UnaryOperator}
-use Rattle.sharc_tree.specs.declared.tree.UnaryOperator.TheVariants.{Negate, Not, Complement, Dereference}
-use Rattle.sharc_tree.specs.declared.tree.Access.{Access}
-use Rattle.sharc_tree.specs.declared.tree.Access.TheVariants as access
-use Rattle.sharc_tree.specs.declared.tree.ValueCall.{ValueCall}
-use Rattle.sharc_tree.specs.declared.tree.ValueCall.TheVariants as value_call
-use Rattle.sharc_tree.specs.declared.tree.PlaceCall.{PlaceCall}
-use Rattle.sharc_tree.specs.declared.tree.PlaceCall.TheVariants as place_call
-use Rattle.sharc_tree.specs.declared.tree.Jump.{Jump}
-use Rattle.sharc_tree.specs.declared.tree.Jump.TheVariants as jumps
-use Rattle.sharc_tree.specs.declared.tree.Constant.{Constant}
-use Rattle.sharc_tree.specs.declared.tree.Constant.TheVariants as constants
+use Rattle.sharc_tree.specs.declared.tree.expression.BinaryOperator.{BinaryOperator}
+use Rattle.sharc_tree.specs.declared.tree.expression.BinaryOperator.TheVariants as op
+use Rattle.sharc_tree.specs.declared.tree.expression.UnaryOperator.{UnaryOperator}
+use Rattle.sharc_tree.specs.declared.tree.expression.UnaryOperator.TheVariants.{Negate, Not, Complement, Dereference}
+use Rattle.sharc_tree.specs.declared.tree.expression.Access.{Access}
+use Rattle.sharc_tree.specs.declared.tree.expression.Access.TheVariants as access
+use Rattle.sharc_tree.specs.declared.tree.expression.ValueCall.{ValueCall}
+use Rattle.sharc_tree.specs.declared.tree.expression.ValueCall.TheVariants as value_call
+use Rattle.sharc_tree.specs.declared.tree.expression.PlaceCall.{PlaceCall}
+use Rattle.sharc_tree.specs.declared.tree.expression.PlaceCall.TheVariants as place_call
+use Rattle.sharc_tree.specs.declared.tree.statement.Jump.{Jump}
+use Rattle.sharc_tree.specs.declared.tree.statement.Jump.TheVariants as jumps
+use Rattle.sharc_tree.specs.declared.tree.expression.Constant.{Constant}
+use Rattle.sharc_tree.specs.declared.tree.expression.Constant.TheVariants as constants
 
 -- what the grammar sees of a token: of a name its text
 pub data Word : Type 0 where

@@ -12,7 +12,7 @@ ghost use Rattle.sharc_tree.specs.declared.token.Span.{Span};
 ghost use Rattle.sharc_tree.specs.declared.token.Token.{Token};
 ghost use Rattle.sharc_tree.specs.declared.token.TokenKind.TheVariants.{Identifier as IdentifierKind};
 ghost use Rattle.sharc_tree.specs.declared.token.Tokens.{Tokens};
-ghost use Rattle.sharc_tree.specs.declared.tree.WrittenType.{WrittenType};
+ghost use Rattle.sharc_tree.specs.declared.tree.declaration.WrittenType.{WrittenType};
 ghost use Rattle.sharc_grammar.specs.Grammar.{Word, Phrase, Callable, Part, IsProgram, program_words, FirstFault};
 ghost use Rattle.sharc_grammar.specs.Limits.{height, deepest, LowProgram, ReadWithin, StuckAt, Over, reads_within, FirstWrong, FirstExcess};
 ghost use Rattle.sharc_grammar.specs.Machine.{Read, Stuck, reads, first_state};

@@ -3,7 +3,7 @@ use Rattle.std.proofs.Common.{◌≡◌, ℕ, ◌+◌, List, [], ◌∷◌, ◌+
 use Rattle.sharc_tree.specs.declared.token.Token.{Token}
 use Rattle.sharc_tree.specs.declared.token.Site.{Site}
 use Rattle.sharc_tree.specs.declared.token.Punctuator.TheVariants.{Semicolon, CloseBrace}
-use Rattle.sharc_tree.specs.declared.tree.Declaration.{Declaration}
+use Rattle.sharc_tree.specs.declared.tree.declaration.Declaration.{Declaration}
 use Rattle.sharc_grammar.specs.Grammar.{Word, mark, Declaring, Part, structure}
 use Rattle.sharc_grammar.specs.Machine.{field_of, naming, TypeWant, Named, Fields, Top, a_semicolon, At, with_part, with_declaring, named_field, fields, begin_type}
 use Rattle.sharc_grammar.specs.Limits.{StuckAt, next_within, reads_within}

@@ -3,8 +3,8 @@ use Rattle.std.proofs.Common.{◌≡◌, ℕ, List, [], ◌∷◌, None, refl, a
 use Rattle.sharc_tree.specs.declared.token.Number.{Number}
 use Rattle.sharc_tree.specs.declared.token.Keyword.TheVariants as key
 use Rattle.sharc_tree.specs.declared.token.Punctuator.TheVariants.{OpenParenthesis, OpenBracket, CloseBracket, Semicolon, Assign, Minus}
-use Rattle.sharc_tree.specs.declared.tree.Constant.{Constant}
-use Rattle.sharc_tree.specs.declared.tree.Constant.TheVariants as constants
+use Rattle.sharc_tree.specs.declared.tree.expression.Constant.{Constant}
+use Rattle.sharc_tree.specs.declared.tree.expression.Constant.TheVariants as constants
 use Rattle.sharc_grammar.specs.Grammar.{Word, keyword, mark, number, character, constant_word, Typing, Declaring, single, array, initially, Part}
 use Rattle.sharc_grammar.specs.Machine.{on_top, Named, ArrayWant, InitialWant, InitialNegative, Top, a_semicolon, a_bracket, At, declaring_of, named_top, initial_want}
 use Rattle.sharc_grammar.specs.Limits.{StuckAt, next_within, reads_within}

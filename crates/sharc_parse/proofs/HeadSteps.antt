@@ -12,9 +12,9 @@ use Rattle.sharc_parse.specs.Heads.{Tail, by_return, by_test, tail_place, before
 use Rattle.sharc_grammar.specs.Machine.{grip}
 use Rattle.std.specs.Prelude.{Ok, Err}
 use Rattle.sharc_tree.specs.declared.token.Token.{Token}
-use Rattle.sharc_tree.specs.declared.tree.Expr.{Expr}
-use Rattle.sharc_tree.specs.declared.tree.Simple.{Simple}
-use Rattle.sharc_tree.specs.declared.tree.ForFirst.{ForFirst}
+use Rattle.sharc_tree.specs.declared.tree.expression.Expr.{Expr}
+use Rattle.sharc_tree.specs.declared.tree.statement.Simple.{Simple}
+use Rattle.sharc_tree.specs.declared.tree.statement.ForFirst.{ForFirst}
 use Rattle.sharc_parse.specs.declared.token.Fault.{Fault}
 use Rattle.sharc_parse.specs.declared.token.Fault.TheVariants.{Memory, Wrong, Deep}
 use Rattle.sharc_parse.specs.Goes.{from, Past}

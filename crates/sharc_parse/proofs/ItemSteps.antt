@@ -6,11 +6,11 @@ use Rattle.sharc_tree.specs.declared.token.Token.{Token}
 use Rattle.sharc_tree.specs.declared.token.Site.{Site}
 use Rattle.sharc_tree.specs.declared.token.Span.{Span}
 use Rattle.sharc_tree.specs.declared.token.Punctuator.TheVariants.{OpenBrace}
-use Rattle.sharc_tree.specs.declared.tree.Identifier.{Identifier}
-use Rattle.sharc_tree.specs.declared.tree.WrittenType.{WrittenType}
-use Rattle.sharc_tree.specs.declared.tree.Declaration.{Declaration}
-use Rattle.sharc_tree.specs.declared.tree.Stmt.{Stmt}
-use Rattle.sharc_tree.specs.declared.tree.Item.{Item}
+use Rattle.sharc_tree.specs.declared.tree.declaration.Identifier.{Identifier}
+use Rattle.sharc_tree.specs.declared.tree.declaration.WrittenType.{WrittenType}
+use Rattle.sharc_tree.specs.declared.tree.declaration.Declaration.{Declaration}
+use Rattle.sharc_tree.specs.declared.tree.statement.Stmt.{Stmt}
+use Rattle.sharc_tree.specs.declared.tree.item.Item.{Item}
 use Rattle.sharc_grammar.specs.Grammar.{mark, Typing, Part, structure, no_more}
 use Rattle.sharc_grammar.specs.Machine.{on_top, body, parameter_of, naming, TypeWant, Start, Top, a_brace, At, with_part, function_of}
 use Rattle.sharc_grammar.specs.Limits.{reads_within}

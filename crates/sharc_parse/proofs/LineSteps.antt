@@ -2,10 +2,10 @@
 use Rattle.std.proofs.Common.{◌≡◌, ℕ, List, [], ◌∷◌, Option, Some, None, refl, sym, ap, ◌∙◌, subst, inl, inr, Bool, true, false, cond}
 use Rattle.sharc_tree.specs.declared.token.Keyword.TheVariants as key
 use Rattle.sharc_tree.specs.declared.token.Punctuator.TheVariants.{Assign, Semicolon, Minus, Exclamation, Tilde, Star, OpenParenthesis}
-use Rattle.sharc_tree.specs.declared.tree.UnaryOperator.TheVariants.{Negate, Not, Complement, Dereference}
-use Rattle.sharc_tree.specs.declared.tree.ValueCall.TheVariants as value_call
-use Rattle.sharc_tree.specs.declared.tree.PlaceCall.TheVariants as place_call
-use Rattle.sharc_tree.specs.declared.tree.Constant.TheVariants as constants
+use Rattle.sharc_tree.specs.declared.tree.expression.UnaryOperator.TheVariants.{Negate, Not, Complement, Dereference}
+use Rattle.sharc_tree.specs.declared.tree.expression.ValueCall.TheVariants as value_call
+use Rattle.sharc_tree.specs.declared.tree.expression.PlaceCall.TheVariants as place_call
+use Rattle.sharc_tree.specs.declared.tree.expression.Constant.TheVariants as constants
 use Rattle.sharc_grammar.specs.Grammar.{Word, name, keyword, mark, number, character, Typing, identifier, constant, Value, Doing, nothing, does, parenthesis, of_value, of_place}
 use Rattle.sharc_grammar.specs.Machine.{Outer, LinePlace, as_statement, as_first, in_line, local, naming, of_local, Cont, part, subject, beneath, fronted, Want, Have, Spawning, casting, TypeWant, Named, State, At, an_open, an_ampersand, or_else, begin_type, want, lined, local_line, line_start, may_declare, doing_end, value_end, declaring_of, named_local}
 use Rattle.sharc_grammar.specs.Limits.{StuckAt, Over, next_within, reads_within, over, crowded_line}

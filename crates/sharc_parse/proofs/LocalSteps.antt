@@ -6,8 +6,8 @@ use Rattle.sharc_tree.specs.declared.token.Span.{Span}
 use Rattle.sharc_tree.specs.declared.token.Punctuator.TheVariants.{Assign, Star, Comma, CloseParenthesis, OpenBrace}
 use Rattle.sharc_tree.specs.declared.ctype.Base.{Base}
 use Rattle.sharc_tree.specs.declared.ctype.Base.TheVariants as base
-use Rattle.sharc_tree.specs.declared.tree.WrittenType.{WrittenType}
-use Rattle.sharc_tree.specs.declared.tree.Declaration.{Declaration}
+use Rattle.sharc_tree.specs.declared.tree.declaration.WrittenType.{WrittenType}
+use Rattle.sharc_tree.specs.declared.tree.declaration.Declaration.{Declaration}
 use Rattle.sharc_grammar.specs.Grammar.{Word, name, mark, Sharing, Typing, Part}
 use Rattle.sharc_grammar.specs.Machine.{Outer, LinePlace, NamePlace, on_top, field_of, parameter_of, local, naming, of_local, part, valued, Want, Named, At, typed, close_type, open_type, declaring_of}
 use Rattle.sharc_grammar.specs.Limits.{StuckAt, next_within, reads_within}

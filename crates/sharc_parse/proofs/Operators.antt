@@ -1,9 +1,9 @@
 -- Operators, as the machine takes them.
 use Rattle.std.proofs.Common.{◌≡◌, ℕ, ◌≤◌, ◌<◌, refl, ap, arith, max}
 use Rattle.std.proofs.lemmas.Bool.{le-leb, lt-leb}
-use Rattle.sharc_tree.specs.declared.tree.BinaryOperator.{BinaryOperator}
-use Rattle.sharc_tree.specs.declared.tree.BinaryOperator.TheVariants as op
-use Rattle.sharc_tree.specs.declared.tree.UnaryOperator.{UnaryOperator}
+use Rattle.sharc_tree.specs.declared.tree.expression.BinaryOperator.{BinaryOperator}
+use Rattle.sharc_tree.specs.declared.tree.expression.BinaryOperator.TheVariants as op
+use Rattle.sharc_tree.specs.declared.tree.expression.UnaryOperator.{UnaryOperator}
 use Rattle.sharc_grammar.specs.Grammar.{Word, mark, parenthesis, of_spawn, of_value, of_place, of_cast, Phrase, unary, binary, Phrases, none, more, operator_mark, strength}
 use Rattle.sharc_grammar.specs.Machine.{condition, returning, testing, subject, valued, counting, Cont, part, beneath, right_of, fronted, indexing, arguments, Role, Calling, Indexing, Accessing, Operating, Ending, role, grip_of, with_last, floor, settle, end_at, shift, have}
 use Rattle.sharc_grammar.specs.Limits.{height, highest}

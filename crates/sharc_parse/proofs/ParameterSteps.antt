@@ -3,7 +3,7 @@ use Rattle.std.proofs.Common.{◌≡◌, ℕ, ◌+◌, List, [], ◌∷◌, ◌+
 use Rattle.std.specs.Prelude.{Ok, Err}
 use Rattle.sharc_tree.specs.declared.token.Token.{Token}
 use Rattle.sharc_tree.specs.declared.token.Punctuator.TheVariants.{Comma, CloseParenthesis}
-use Rattle.sharc_tree.specs.declared.tree.Declaration.{Declaration}
+use Rattle.sharc_tree.specs.declared.tree.declaration.Declaration.{Declaration}
 use Rattle.sharc_grammar.specs.Grammar.{Word, mark, Typing, Declaring, Part, no_more}
 use Rattle.sharc_grammar.specs.Machine.{body, parameter_of, naming, TypeWant, Named, Start, a_brace, At, with_declaring, named_parameter}
 use Rattle.sharc_grammar.specs.Limits.{StuckAt, next_within, reads_within}

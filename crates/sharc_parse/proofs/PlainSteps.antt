@@ -4,7 +4,7 @@ use Rattle.std.specs.Prelude.{◌==◌, ◌⊎◌, ◌≢◌}
 use Rattle.std.proofs.lemmas.Bool.Decides.{eqb_tells}
 use Rattle.std.proofs.lemmas.Bool.{lt-leb, le-leb}
 use Rattle.sharc_tree.specs.declared.token.Punctuator.TheVariants.{Semicolon}
-use Rattle.sharc_tree.specs.declared.tree.Jump.{Jump}
+use Rattle.sharc_tree.specs.declared.tree.statement.Jump.{Jump}
 use Rattle.sharc_grammar.specs.Grammar.{Word, mark, jump}
 use Rattle.sharc_grammar.specs.Machine.{Outer, as_statement, Done, a_semicolon, At, holds_items, may_declare}
 use Rattle.sharc_grammar.specs.Limits.{reads_within, around_it, crowded_line}
@@ -15,8 +15,8 @@ use Rattle.sharc_tree.specs.View.{view_expr, view_option, view_stmt}
 use Rattle.sharc_tree.specs.declared.token.Token.{Token}
 use Rattle.sharc_tree.specs.declared.token.Site.{Site}
 use Rattle.sharc_tree.specs.declared.token.Span.{Span}
-use Rattle.sharc_tree.specs.declared.tree.Expr.{Expr}
-use Rattle.sharc_tree.specs.declared.tree.Stmt.{Stmt}
+use Rattle.sharc_tree.specs.declared.tree.expression.Expr.{Expr}
+use Rattle.sharc_tree.specs.declared.tree.statement.Stmt.{Stmt}
 use Rattle.sharc_grammar.specs.Places.{site_in, option_size, option_at, span_at, statement_at, sentence_size}
 use Rattle.sharc_parse.specs.declared.token.Fault.{Fault}
 use Rattle.sharc_parse.specs.declared.token.Fault.TheVariants.{Memory, Wrong, Deep}

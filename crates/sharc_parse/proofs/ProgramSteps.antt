@@ -7,8 +7,8 @@ use Rattle.sharc_tree.specs.Tree as tree
 use Rattle.sharc_tree.specs.declared.token.Token.{Token}
 use Rattle.sharc_tree.specs.declared.token.Tokens.{Tokens}
 use Rattle.sharc_tree.specs.declared.token.Site.{Site}
-use Rattle.sharc_tree.specs.declared.tree.Item.{Item}
-use Rattle.sharc_tree.specs.declared.tree.Program.{Program}
+use Rattle.sharc_tree.specs.declared.tree.item.Item.{Item}
+use Rattle.sharc_tree.specs.declared.tree.item.Program.{Program}
 use Rattle.sharc_grammar.specs.Grammar.{Word, Part, IsProgram, program_words}
 use Rattle.sharc_grammar.specs.Machine.{on_top, naming, TypeWant, Top, At, with_part, first_state}
 use Rattle.sharc_grammar.specs.Limits.{LowProgram, ReadWithin, StuckAt, Over, reads_within}

@@ -4,7 +4,7 @@ use Rattle.std.specs.Prelude.{map, Ok}
 use Rattle.sharc_tree.specs.declared.token.Keyword.TheVariants as key
 use Rattle.sharc_tree.specs.declared.token.Punctuator.TheVariants.{OpenParenthesis, CloseParenthesis, OpenBrace, OpenBracket, Dot, Arrow, Comma, Star}
 use Rattle.sharc_tree.specs.declared.ctype.Base.{Base}
-use Rattle.sharc_tree.specs.declared.tree.WrittenType.{WrittenType}
+use Rattle.sharc_tree.specs.declared.tree.declaration.WrittenType.{WrittenType}
 use Rattle.sharc_grammar.specs.Grammar.{Word, name, keyword, mark, Sharing, Typing, Phrase, Value, value, malloc}
 use Rattle.sharc_grammar.specs.Machine.{Outer, ValuePlace, Place, part, valued, counting, Want, Have, Malloced, Valued, TypeWant, sizing, an_open, a_close, a_sizeof, At, Role, Calling, Indexing, Accessing, Operating, Ending, role, grip_of, grip, have, leave, typed, level_step}
 use Rattle.sharc_grammar.specs.Limits.{StuckAt, next_within, reads_within}

@@ -1,7 +1,7 @@
 -- What the function promises that reads the fields of a struct.
 use Rattle.std.specs.Prelude.{◌≡◌, ℕ, ◌+◌, List, [], ◌∷◌, map, Result, IfOk}
 use Rattle.sharc_tree.specs.declared.token.Token.{Token}
-use Rattle.sharc_tree.specs.declared.tree.Declaration.{Declaration}
+use Rattle.sharc_tree.specs.declared.tree.declaration.Declaration.{Declaration}
 use Rattle.sharc_grammar.specs.Grammar.{Word, Declaring, Part, structure}
 use Rattle.sharc_grammar.specs.Machine.{field_of, naming, TypeWant, Top, a_semicolon, At, with_part}
 use Rattle.sharc_grammar.specs.Limits.{reads_within}

@@ -3,10 +3,10 @@ use Rattle.std.specs.Prelude.{◌≡◌, ℕ, ◌+◌, List, [], ◌∷◌, Opti
 use Rattle.sharc_tree.specs.declared.token.Token.{Token}
 use Rattle.sharc_tree.specs.declared.token.Number.{Number}
 use Rattle.sharc_tree.specs.declared.token.Punctuator.TheVariants.{OpenParenthesis}
-use Rattle.sharc_tree.specs.declared.tree.Constant.{Constant}
-use Rattle.sharc_tree.specs.declared.tree.Constant.TheVariants as constants
-use Rattle.sharc_tree.specs.declared.tree.GlobalForm.{GlobalForm}
-use Rattle.sharc_tree.specs.declared.tree.GlobalForm.TheVariants.{Plain, Array, Initial}
+use Rattle.sharc_tree.specs.declared.tree.expression.Constant.{Constant}
+use Rattle.sharc_tree.specs.declared.tree.expression.Constant.TheVariants as constants
+use Rattle.sharc_tree.specs.declared.tree.item.GlobalForm.{GlobalForm}
+use Rattle.sharc_tree.specs.declared.tree.item.GlobalForm.TheVariants.{Plain, Array, Initial}
 use Rattle.sharc_grammar.specs.Grammar.{Word, mark, number, character, constant_word, Typing, Declaring, Form, single, array, initially, Part, global}
 use Rattle.sharc_grammar.specs.Machine.{on_top, Named, ArrayWant, InitialWant, Top, a_semicolon, At, declaring_of, with_part}
 use Rattle.sharc_grammar.specs.Limits.{reads_within}

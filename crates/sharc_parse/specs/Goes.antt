@@ -5,12 +5,12 @@ use Rattle.sharc_tree.specs.declared.token.Token.{Token}
 use Rattle.sharc_tree.specs.declared.token.Span.{Span}
 use Rattle.sharc_tree.specs.declared.token.Punctuator.{Punctuator}
 use Rattle.sharc_tree.specs.declared.token.Punctuator.TheVariants.{OpenParenthesis}
-use Rattle.sharc_tree.specs.declared.tree.Identifier.{Identifier}
-use Rattle.sharc_tree.specs.declared.tree.Expr.{Expr}
-use Rattle.sharc_tree.specs.declared.tree.Constant.{Constant}
-use Rattle.sharc_tree.specs.declared.tree.BinaryOperator.{BinaryOperator}
-use Rattle.sharc_tree.specs.declared.tree.UnaryOperator.{UnaryOperator}
-use Rattle.sharc_tree.specs.declared.tree.Access.{Access}
+use Rattle.sharc_tree.specs.declared.tree.declaration.Identifier.{Identifier}
+use Rattle.sharc_tree.specs.declared.tree.expression.Expr.{Expr}
+use Rattle.sharc_tree.specs.declared.tree.expression.Constant.{Constant}
+use Rattle.sharc_tree.specs.declared.tree.expression.BinaryOperator.{BinaryOperator}
+use Rattle.sharc_tree.specs.declared.tree.expression.UnaryOperator.{UnaryOperator}
+use Rattle.sharc_tree.specs.declared.tree.expression.Access.{Access}
 use Rattle.sharc_grammar.specs.Grammar.{Word, name, keyword, mark, number, character, left_out, Phrase, identifier, constant, constant_word, unary_mark, operator_mark, access_mark, strength}
 use Rattle.sharc_grammar.specs.Machine.{Cont, Want, Have, State, At, floor, grip, grip_of, role, TypeWant, an_open, fronted, part, valued}
 use Rattle.sharc_grammar.specs.Limits.{Limited, StuckAt, Over, reads_within, depth, crowded, height}
@@ -21,8 +21,8 @@ use Rattle.sharc_parse.specs.declared.token.FrontWord.{FrontWord}
 use Rattle.sharc_parse.specs.declared.token.FrontWord.TheVariants.{Parenthesis, Spawn, Value, Place, Cast}
 use Rattle.sharc_parse.specs.declared.token.Piece.{Piece}
 use Rattle.sharc_tree.specs.declared.token.Keyword.TheVariants as key
-use Rattle.sharc_tree.specs.declared.tree.ValueCall.TheVariants as value_call
-use Rattle.sharc_tree.specs.declared.tree.PlaceCall.TheVariants as place_call
+use Rattle.sharc_tree.specs.declared.tree.expression.ValueCall.TheVariants as value_call
+use Rattle.sharc_tree.specs.declared.tree.expression.PlaceCall.TheVariants as place_call
 use Rattle.sharc_parse.specs.declared.expr.Front.{Front}
 use Rattle.sharc_parse.specs.declared.expr.Front.TheVariants.{Parenthesis as FrontParenthesis, Spawn as FrontSpawn, Value as FrontValue, Place as FrontPlace, Cast as FrontCast}
 use Rattle.sharc_tree.specs.Tree as tree

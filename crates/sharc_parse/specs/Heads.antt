@@ -3,9 +3,9 @@ use Rattle.std.specs.Prelude.{◌≡◌, ℕ, ◌+◌, ◌<◌, List, [], ◌∷
 use Rattle.sharc_tree.specs.Tree as tree
 use Rattle.sharc_tree.specs.View.{view_expr, view_option, view_simple, view_head}
 use Rattle.sharc_tree.specs.declared.token.Token.{Token}
-use Rattle.sharc_tree.specs.declared.tree.Expr.{Expr}
-use Rattle.sharc_tree.specs.declared.tree.Simple.{Simple}
-use Rattle.sharc_tree.specs.declared.tree.ForHead.{ForHead}
+use Rattle.sharc_tree.specs.declared.tree.expression.Expr.{Expr}
+use Rattle.sharc_tree.specs.declared.tree.statement.Simple.{Simple}
+use Rattle.sharc_tree.specs.declared.tree.statement.ForHead.{ForHead}
 use Rattle.sharc_grammar.specs.Grammar.{Word, Phrase, Doing, Line, Loop, return, for_of}
 use Rattle.sharc_grammar.specs.Machine.{Outer, inside, Place, returning, testing, Start, Done, Returning, ForOpen, ForTest, ForStep, an_open, State, At, loop}
 use Rattle.sharc_grammar.specs.Limits.{reads_within, around_it}

@@ -4,9 +4,9 @@ use Rattle.sharc_tree.specs.Tree as tree
 use Rattle.sharc_tree.specs.View.{view_item}
 use Rattle.sharc_tree.specs.declared.token.Token.{Token}
 use Rattle.sharc_tree.specs.declared.token.Punctuator.TheVariants.{OpenBrace}
-use Rattle.sharc_tree.specs.declared.tree.Identifier.{Identifier}
-use Rattle.sharc_tree.specs.declared.tree.WrittenType.{WrittenType}
-use Rattle.sharc_tree.specs.declared.tree.Item.{Item}
+use Rattle.sharc_tree.specs.declared.tree.declaration.Identifier.{Identifier}
+use Rattle.sharc_tree.specs.declared.tree.declaration.WrittenType.{WrittenType}
+use Rattle.sharc_tree.specs.declared.tree.item.Item.{Item}
 use Rattle.sharc_grammar.specs.Grammar.{Word, mark, Typing, Part, structure, global, function}
 use Rattle.sharc_grammar.specs.Machine.{on_top, field_of, parameter_of, naming, TypeWant, Top, State, At, with_part}
 use Rattle.sharc_grammar.specs.Limits.{reads_within}

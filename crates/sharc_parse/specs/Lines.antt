@@ -5,7 +5,7 @@ use Rattle.sharc_tree.specs.View.{view_first}
 use Rattle.sharc_tree.specs.declared.token.Token.{Token}
 use Rattle.sharc_tree.specs.declared.token.Keyword.TheVariants as key
 use Rattle.sharc_tree.specs.declared.token.Punctuator.TheVariants.{Semicolon, Minus, Exclamation, Tilde, Star, OpenParenthesis}
-use Rattle.sharc_tree.specs.declared.tree.ForFirst.{ForFirst}
+use Rattle.sharc_tree.specs.declared.tree.statement.ForFirst.{ForFirst}
 use Rattle.sharc_grammar.specs.Grammar.{Word, name, keyword, mark, number, character, Line, nothing, does, declares}
 use Rattle.sharc_grammar.specs.Machine.{Outer, LinePlace, in_line, local, naming, part, subject, Want, TypeWant, At, lined, line_start, may_declare}
 use Rattle.sharc_grammar.specs.Limits.{Limited, StuckAt, next_within, reads_within, crowded_line}

@@ -5,11 +5,11 @@ use Rattle.sharc_tree.specs.View.{view_option, view_right, view_local}
 use Rattle.sharc_tree.specs.declared.token.Token.{Token}
 use Rattle.sharc_tree.specs.declared.token.Punctuator.TheVariants.{Assign, CloseParenthesis, OpenBrace}
 use Rattle.sharc_tree.specs.declared.ctype.Base.TheVariants as base
-use Rattle.sharc_tree.specs.declared.tree.Identifier.{Identifier}
-use Rattle.sharc_tree.specs.declared.tree.WrittenType.{WrittenType}
-use Rattle.sharc_tree.specs.declared.tree.Declaration.{Declaration}
-use Rattle.sharc_tree.specs.declared.tree.Right.{Right}
-use Rattle.sharc_tree.specs.declared.tree.Local.{Local}
+use Rattle.sharc_tree.specs.declared.tree.declaration.Identifier.{Identifier}
+use Rattle.sharc_tree.specs.declared.tree.declaration.WrittenType.{WrittenType}
+use Rattle.sharc_tree.specs.declared.tree.declaration.Declaration.{Declaration}
+use Rattle.sharc_tree.specs.declared.tree.statement.Right.{Right}
+use Rattle.sharc_tree.specs.declared.tree.statement.Local.{Local}
 use Rattle.sharc_grammar.specs.Grammar.{Word, mark, Typing, Declared, Value}
 use Rattle.sharc_grammar.specs.Machine.{Outer, LinePlace, NamePlace, on_top, parameter_of, local, naming, of_local, TypeWant, Named, State, At, declaring_of}
 use Rattle.sharc_grammar.specs.Limits.{reads_within}

@@ -3,7 +3,7 @@ use Rattle.std.specs.Prelude.{◌≡◌, ℕ, ◌+◌, Bool, true, false, List, 
 use Rattle.sharc_tree.specs.View.{view_statements}
 use Rattle.sharc_tree.specs.declared.token.Token.{Token}
 use Rattle.sharc_tree.specs.declared.token.Punctuator.TheVariants.{CloseBrace}
-use Rattle.sharc_tree.specs.declared.tree.Stmt.{Stmt}
+use Rattle.sharc_tree.specs.declared.tree.statement.Stmt.{Stmt}
 use Rattle.sharc_grammar.specs.Grammar.{Word, mark, block, Sentences, no_more}
 use Rattle.sharc_grammar.specs.Machine.{Outer, body, items, inside, Start, Done, Top, State, At, holds_items, with_part, function_of}
 use Rattle.sharc_grammar.specs.Limits.{reads_within, around_it}

@@ -2,7 +2,7 @@
 use Rattle.std.specs.Prelude.{◌≡◌, ℕ, ◌+◌, Bool, true, false, List, [], ◌∷◌, Option, Some, None, Result, IfOk}
 use Rattle.sharc_tree.specs.declared.token.Token.{Token}
 use Rattle.sharc_tree.specs.declared.token.Punctuator.TheVariants.{CloseParenthesis}
-use Rattle.sharc_tree.specs.declared.tree.Declaration.{Declaration}
+use Rattle.sharc_tree.specs.declared.tree.declaration.Declaration.{Declaration}
 use Rattle.sharc_grammar.specs.Grammar.{Word, mark, Typing, Declaring, Part, no_more}
 use Rattle.sharc_grammar.specs.Machine.{body, parameter_of, naming, TypeWant, Named, Start, a_brace, State, At}
 use Rattle.sharc_grammar.specs.Limits.{reads_within}

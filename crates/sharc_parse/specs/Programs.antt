@@ -5,8 +5,8 @@ use Rattle.sharc_tree.specs.declared.token.Token.{Token}
 use Rattle.sharc_tree.specs.declared.token.Tokens.{Tokens}
 use Rattle.sharc_tree.specs.declared.token.Site.{Site}
 use Rattle.sharc_tree.specs.declared.token.FaultAt.{FaultAt}
-use Rattle.sharc_tree.specs.declared.tree.Item.{Item}
-use Rattle.sharc_tree.specs.declared.tree.Program.{Program}
+use Rattle.sharc_tree.specs.declared.tree.item.Item.{Item}
+use Rattle.sharc_tree.specs.declared.tree.item.Program.{Program}
 use Rattle.sharc_grammar.specs.Grammar.{Word, Part}
 use Rattle.sharc_grammar.specs.Machine.{first_state}
 use Rattle.sharc_grammar.specs.Limits.{ReadWithin, reads_within}

@@ -3,9 +3,9 @@ use Rattle.std.specs.Prelude.{◌≡◌, ℕ, ◌+◌, ◌<◌, List, [], ◌∷
 use Rattle.sharc_tree.specs.Tree as tree
 use Rattle.sharc_tree.specs.View.{view_expr, view_option, view_right}
 use Rattle.sharc_tree.specs.declared.token.Token.{Token}
-use Rattle.sharc_tree.specs.declared.tree.Expr.{Expr}
-use Rattle.sharc_tree.specs.declared.tree.Right.{Right}
-use Rattle.sharc_tree.specs.declared.tree.WrittenType.{WrittenType}
+use Rattle.sharc_tree.specs.declared.tree.expression.Expr.{Expr}
+use Rattle.sharc_tree.specs.declared.tree.statement.Right.{Right}
+use Rattle.sharc_tree.specs.declared.tree.declaration.WrittenType.{WrittenType}
 use Rattle.sharc_grammar.specs.Grammar.{Word, Phrase, Value, value, malloc}
 use Rattle.sharc_grammar.specs.Machine.{Outer, ValuePlace, part, valued, Want, Have, Malloced, Valued, TypeWant, sizing, an_open, State, At, grip, value_end}
 use Rattle.sharc_grammar.specs.Limits.{Limited, StuckAt, next_within, reads_within}

@@ -4,7 +4,7 @@ use Rattle.sharc_tree.specs.Tree as tree
 use Rattle.sharc_tree.specs.View.{view_simple}
 use Rattle.sharc_tree.specs.declared.token.Token.{Token}
 use Rattle.sharc_tree.specs.declared.token.Punctuator.TheVariants.{Assign}
-use Rattle.sharc_tree.specs.declared.tree.Simple.{Simple}
+use Rattle.sharc_tree.specs.declared.tree.statement.Simple.{Simple}
 use Rattle.sharc_grammar.specs.Grammar.{Word, mark, Doing, assign, invoke, is_call}
 use Rattle.sharc_grammar.specs.Machine.{Outer, DoingPlace, of_doing, part, subject, Want, Have, State, At, grip, doing_end}
 use Rattle.sharc_grammar.specs.Limits.{Limited, StuckAt, next_within, reads_within, crowded_doing}

@@ -4,8 +4,8 @@ use Rattle.sharc_tree.specs.Tree as tree
 use Rattle.sharc_tree.specs.View.{view_stmt, view_statements}
 use Rattle.sharc_tree.specs.declared.token.Token.{Token}
 use Rattle.sharc_tree.specs.declared.token.Keyword.TheVariants as key
-use Rattle.sharc_tree.specs.declared.tree.Jump.{Jump}
-use Rattle.sharc_tree.specs.declared.tree.Stmt.{Stmt}
+use Rattle.sharc_tree.specs.declared.tree.statement.Jump.{Jump}
+use Rattle.sharc_tree.specs.declared.tree.statement.Stmt.{Stmt}
 use Rattle.sharc_grammar.specs.Grammar.{Word, keyword, Sentence, line, jump, return, block, under, Sentences, no_more, sentence, if_of, else_of, while_of, for_of, nothing, does, declares, takes_else}
 use Rattle.sharc_grammar.specs.Machine.{Outer, as_statement, Start, Done, Returning, a_semicolon, At, holds_items}
 use Rattle.sharc_grammar.specs.Limits.{reads_within, around_it}

@@ -8,7 +8,7 @@ use Rattle.sharc_tree.specs.declared.ctype.Base.{Base}
 use Rattle.sharc_tree.specs.declared.ctype.Mode.{Mode}
 use Rattle.sharc_tree.specs.declared.ctype.Mode.TheVariants as mode
 use Rattle.sharc_tree.specs.declared.ctype.Path.{Path}
-use Rattle.sharc_tree.specs.declared.tree.WrittenType.{WrittenType}
+use Rattle.sharc_tree.specs.declared.tree.declaration.WrittenType.{WrittenType}
 use Rattle.sharc_grammar.specs.Grammar.{Word, keyword, mark, Sharing, private, readonly, racy, dynamic, Typing, of_cast}
 use Rattle.sharc_grammar.specs.Machine.{ModePlace, before_base, at_level, moded, TypePlace, takes_modes, TypeWant, Typed, PathWant, an_open, State, At, mode_step, base_step, based, casting, Cont, Want, fronted}
 use Rattle.sharc_grammar.specs.Limits.{Limited, StuckAt, Over, next_within, reads_within, depth, crowded}

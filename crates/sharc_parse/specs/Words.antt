@@ -3,8 +3,8 @@ use Rattle.std.specs.Prelude.{◌≡◌, ℕ, ◌+◌, ◌≤◌, ◌<◌, List,
 use Rattle.sharc_tree.specs.View.{view_expr}
 use Rattle.sharc_tree.specs.declared.token.Token.{Token}
 use Rattle.sharc_tree.specs.declared.token.Keyword.TheVariants as key
-use Rattle.sharc_tree.specs.declared.tree.Expr.{Expr}
-use Rattle.sharc_tree.specs.declared.tree.Jump.TheVariants as jumps
+use Rattle.sharc_tree.specs.declared.tree.expression.Expr.{Expr}
+use Rattle.sharc_tree.specs.declared.tree.statement.Jump.TheVariants as jumps
 use Rattle.sharc_grammar.specs.Grammar.{Word, keyword, jump}
 use Rattle.sharc_grammar.specs.Machine.{Outer, inside, Asked, by_if, by_while, condition, part, Want, Start, Done, Returning, ForOpen, an_open, a_semicolon, State, At, asked}
 use Rattle.sharc_grammar.specs.Limits.{reads_within, around_it}

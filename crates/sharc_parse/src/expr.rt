@@ -82,22 +82,24 @@ fn binary_of(
     alloc: Global,
     span: Span,
     operator: BinaryOperator,
-    place: Site,
+    site: Site,
     left: Piece,
     right: Piece,
 ) -> Result<Piece, Fault>
     requires left { left.height < 64 }
     requires right { right.height < 64 }
-    ensures { Builds result (binary span operator place (view_expr left.expr) (view_expr right.expr)) (max left.height right.height + 1) }
+    ensures { Builds result (binary span operator site (view_expr left.expr) (view_expr right.expr)) (max left.height right.height + 1) }
 {
     let height = left.height.max(right.height) + 1;
-    let expr = Expr::Binary(
+    let left = Box::new(alloc, left.expr)?;
+    let right = Box::new(alloc, right.expr)?;
+    let expr = Expr::Binary {
         span,
         operator,
-        place,
-        Box::new(alloc, left.expr)?,
-        Box::new(alloc, right.expr)?,
-    );
+        site,
+        left,
+        right,
+    };
     Ok(Piece { expr, height })
 }
 
@@ -125,11 +127,15 @@ fn field_of(
     requires { base.height < 64 }
     ensures { Builds result (field span (view_expr base.expr) access name) (base.height + 1) }
 {
-    let expr = Expr::Field(span, Box::new(alloc, base.expr)?, access, name);
-    Ok(Piece {
-        expr,
-        height: base.height + 1,
-    })
+    let height = base.height + 1;
+    let base = Box::new(alloc, base.expr)?;
+    let expr = Expr::Field {
+        span,
+        base,
+        access,
+        name,
+    };
+    Ok(Piece { expr, height })
 }
 
 fn unary_of(
@@ -297,7 +303,7 @@ fn primary(alloc: Global, tokens: &[Token], at: &mut usize, room: u8) -> Result<
         if enter(tokens, at, Punctuator::OpenParenthesis, room)? {
             let (arguments, highest) = arguments(alloc, tokens, at, room - 1)?;
             Ok(Piece {
-                expr: Expr::of_call(span(tokens, first, *at), name, arguments),
+                expr: Expr::call(span(tokens, first, *at), name, arguments),
                 height: highest + 1,
             })
         } else {

@@ -13,7 +13,7 @@ use sharc_tree::tree::{Item, Items, Program};
 use std::alloc::{AllocError, Global};
 
 /// Why tokens were not read.
-#[derive(Debug, Drop)]
+#[derive(Drop)]
 pub enum ParseFault {
     /// The first fault, and the tokens.
     At(FaultAt, Tokens),

@@ -39,7 +39,12 @@ fn else_of(
     let test = Box::new(alloc, test)?;
     let then = Box::new(alloc, then)?;
     let otherwise = Box::new(alloc, otherwise)?;
-    Ok(Stmt::IfElse(span, test, then, otherwise))
+    Ok(Stmt::IfElse {
+        span,
+        test,
+        then,
+        otherwise,
+    })
 }
 
 /// A `while`.
@@ -84,7 +89,7 @@ pub(crate) fn statement(
     let first = *at;
     if enter(tokens, at, Punctuator::OpenBrace, room)? {
         let list = statements(alloc, tokens, at, room - 1)?;
-        return Ok(Stmt::of_block(span(tokens, first, *at), list));
+        return Ok(Stmt::block(span(tokens, first, *at), list));
     }
     let Some(word) = statement_word(tokens, at, room)? else {
         return line_statement(alloc, tokens, at, declares, room);

@@ -47,7 +47,7 @@ pub(crate) struct Piece {
 }
 
 /// What an expression that a `)` ends begins with.
-#[derive(Clone, Copy, PartialEq, Eq, Debug, Drop)]
+#[derive(Clone, Copy)]
 pub(crate) enum FrontWord {
     Parenthesis,
     Spawn,

@@ -11,7 +11,7 @@ use sharc_tree::tree::WrittenType;
 use std::alloc::Global;
 
 /// The word that a sharing mode begins with.
-#[derive(Clone, Copy, PartialEq, Eq, Debug, Drop)]
+#[derive(Clone, Copy)]
 pub(crate) enum ModeWord {
     Private,
     Readonly,
@@ -128,7 +128,7 @@ fn level(
 }
 
 /// The word that a base begins with.
-#[derive(Clone, Copy, PartialEq, Eq, Debug, Drop)]
+#[derive(Clone, Copy)]
 pub(crate) enum BaseWord {
     Int,
     Char,

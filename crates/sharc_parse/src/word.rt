@@ -11,7 +11,7 @@ use sharc_tree::tree::Expr;
 use std::alloc::Global;
 
 /// The word that a statement begins with.
-#[derive(Clone, Copy, PartialEq, Eq, Debug, Drop)]
+#[derive(Clone, Copy)]
 pub(crate) enum StatementWord {
     If,
     While,

@@ -1,11 +1,11 @@
 -- Which numbers a program of printed sums writes: the condition on its tree, and the values.
 use Rattle.std.specs.Prelude.{ℕ, ◌+◌, ◌*◌, Bool, true, false, ◌==◌, ◌&&◌, List, [], ◌∷◌, ◌++◌, length, Option, Some, None, if◌then◌else◌, codes, unsigned_abs}
 use Rattle.std.specs.Str.{bytes_eq}
-use Rattle.sharc_tree.specs.declared.tree.Constant.{Constant}
-use Rattle.sharc_tree.specs.declared.tree.Constant.TheVariants as constants
-use Rattle.sharc_tree.specs.declared.tree.BinaryOperator.{BinaryOperator}
-use Rattle.sharc_tree.specs.declared.tree.BinaryOperator.TheVariants as op
-use Rattle.sharc_tree.specs.declared.tree.ValueCall.TheVariants as value_call
+use Rattle.sharc_tree.specs.declared.tree.expression.Constant.{Constant}
+use Rattle.sharc_tree.specs.declared.tree.expression.Constant.TheVariants as constants
+use Rattle.sharc_tree.specs.declared.tree.expression.BinaryOperator.{BinaryOperator}
+use Rattle.sharc_tree.specs.declared.tree.expression.BinaryOperator.TheVariants as op
+use Rattle.sharc_tree.specs.declared.tree.expression.ValueCall.TheVariants as value_call
 use Rattle.sharc_tree.specs.declared.ctype.Base.{Base}
 use Rattle.sharc_tree.specs.declared.ctype.Base.TheVariants as bases
 use Rattle.sharc_tree.specs.declared.ctype.CType.{CType}

@@ -2,7 +2,6 @@
 
 use sharc_lex::lex;
 use sharc_parse::{ParseFault, parse};
-use sharc_tree::expressions::expressions_of;
 use sharc_tree::print::{print_span, print_type};
 use sharc_tree::token::Span;
 use sharc_tree::tree::{GlobalForm, Item, Program, Stmt};
@@ -48,19 +47,6 @@ fn add_span(
     Ok(())
 }
 
-/// The texts of the expressions of the last item, which is a function, each before those inside it.
-fn expression_texts(rt: &(impl Abort + AllocGlobal), source: &[u8]) -> Result<Vec<u8>, Fail> {
-    let program = program(rt, source)?;
-    let mut texts = Vec::new(rt.alloc());
-    let Some(Item::Function(function)) = program.items.as_slice().last() else {
-        panic!(rt; "no function")
-    };
-    for expression in expressions_of(rt.alloc(), function)? {
-        add_span(rt, &program, expression.span(), &mut texts)?;
-    }
-    Ok(texts)
-}
-
 /// The kind of a statement, and the texts of the statements right inside it.
 fn statement_texts(
     rt: &(impl Abort + AllocGlobal),
@@ -85,7 +71,9 @@ fn statement_texts(
             texts.extend_from_slice(b"if")?;
             add_span(rt, program, then.span(), &mut texts)?;
         }
-        Stmt::IfElse(_, _, then, otherwise) => {
+        Stmt::IfElse {
+            then, otherwise, ..
+        } => {
             texts.extend_from_slice(b"if else")?;
             add_span(rt, program, then.span(), &mut texts)?;
             add_span(rt, program, otherwise.span(), &mut texts)?;
@@ -100,41 +88,6 @@ fn statement_texts(
         }
     }
     Ok(texts)
-}
-
-#[test]
-fn operators_take_their_operands(rt: HostRuntime) -> Result<(), Fail> {
-    for (expression, texts) in [
-        ("a", "a"),
-        ("07", "07"),
-        ("'x'", "'x'"),
-        ("NULL", "NULL"),
-        ("a - b - c", "a-b-c | a-b | a | b | c"),
-        ("a || b && c", "a||b&&c | a | b&&c | b | c"),
-        ("a | b ^ c & d", "a|b^c&d | a | b^c&d | b | c&d | c | d"),
-        ("a == b < c", "a==b<c | a | b<c | b | c"),
-        ("a != b << c", "a!=b<<c | a | b<<c | b | c"),
-        ("a + b >> c", "a+b>>c | a+b | a | b | c"),
-        ("a / b % c * d", "a/b%c*d | a/b%c | a/b | a | b | c | d"),
-        ("-a * !b", "-a*!b | -a | a | !b | b"),
-        ("~*p", "~*p | *p | p"),
-        ("(a + b) * c", "(a+b)*c | (a+b) | a+b | a | b | c"),
-        ("p->n[1].m", "p->n[1].m | p->n[1] | p->n | p | 1"),
-        ("-p.n", "-p.n | p.n | p"),
-        ("f()", "f()"),
-        ("f(a, g(b) + 1)", "f(a,g(b)+1) | a | g(b)+1 | g(b) | b | 1"),
-        ("spawn(f, p)", "spawn(f,p) | p"),
-        ("join(t + 1)", "join(t+1) | t+1 | t | 1"),
-        (
-            "SCAST(int private * locked(s->m), p)",
-            "SCAST(int private*locked(s->m),p) | p",
-        ),
-    ] {
-        let source = format!(in rt.alloc(); "int f(void) {{ return {expression}; }}")?;
-        let found = expression_texts(&rt, source.as_bytes())?;
-        assert_eq!(rt; found.as_slice(), texts.as_bytes(), "{expression}");
-    }
-    Ok(())
 }
 
 #[test]

@@ -41,7 +41,12 @@ fn product_value(expr: &Expr) -> Option<u64>
             let number = number_of_constant(*constant)?;
             small(number)
         }
-        Expr::Binary(_, BinaryOperator::Multiply, _, left, right) => {
+        Expr::Binary {
+            operator: BinaryOperator::Multiply,
+            left,
+            right,
+            ..
+        } => {
             let product = product_value(left)?;
             let number = number_value(right)?;
             small_product(product, number)
@@ -55,7 +60,12 @@ fn sum_value(expr: &Expr) -> Option<u64>
     ensures { result ≡ sum_value_of (view_expr expr.now) }
 {
     match expr {
-        Expr::Binary(_, BinaryOperator::Add, _, left, right) => {
+        Expr::Binary {
+            operator: BinaryOperator::Add,
+            left,
+            right,
+            ..
+        } => {
             let total = sum_value(left)?;
             let product = product_value(right)?;
             small_sum(total, product)

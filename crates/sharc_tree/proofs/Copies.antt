@@ -1,13 +1,10 @@
 -- Lists of children that are copied one by one.
 use Rattle.std.proofs.Common.{◌≡◌, ℕ, ◌+◌, ◌<◌, List, [], ◌∷◌, ◌++◌, length, take, get_or, ap, sym, ◌∙◌}
 use Rattle.std.proofs.lemmas.List.{take_more}
-use Rattle.sharc_tree.specs.declared.tree.Expr.{Expr}
-use Rattle.sharc_tree.specs.declared.tree.Stmt.{Stmt}
-use Rattle.sharc_tree.specs.declared.token.Span.{Span}
-use Rattle.sharc_tree.specs.declared.tree.Identifier.{Identifier}
-use Rattle.sharc_tree.specs.Tree.{Expression, Arguments, call}
+use Rattle.sharc_tree.specs.declared.tree.expression.Expr.{Expr}
+use Rattle.sharc_tree.specs.declared.tree.statement.Stmt.{Stmt}
 use Rattle.sharc_tree.specs.View.{view_expr, view_arguments, view_stmt, view_statements}
-use Rattle.sharc_tree.proofs.Views.{view_arguments-push, view_statements-push}
+use Rattle.sharc_tree.specs.Children.{view_arguments-push, view_statements-push}
 
 pub argument_copied : (done more list : List Expr) (i : ℕ) (a b : Expr) → i < length list → more ≡ done ++ a ∷ [] → b ≡ get_or list i b → view_expr a ≡ view_expr b → view_arguments done ≡ view_arguments (take i list) → view_arguments more ≡ view_arguments (take (i + 1) list)
 argument_copied done more list i a b below is item same before =
@@ -18,6 +15,3 @@ pub statement_copied : (done more list : List Stmt) (i : ℕ) (a b : Stmt) → i
 statement_copied done more list i a b below is item same before =
     let last : take (i + 1) list ≡ take i list ++ b ∷ [] = take_more list i b below ∙ ap (λ x. take i list ++ x ∷ []) (sym item) in
     rw (is, last, view_statements-push done a, view_statements-push (take i list) b, before, same)
-
-pub same_call : (x : Expression) (s : Span) (f g : Identifier) (a b : Arguments) → x ≡ call s f a → f ≡ g → a ≡ b → x ≡ call s g b
-same_call x s f g a b is name list = cc

@@ -1,3 +1,1 @@
-pub mod Collects
 pub mod Copies
-pub mod Views

@@ -1,4 +1,5 @@
-pub mod Expressions
+pub mod Children
+pub mod Forms
 pub mod Low
 pub mod Marks
 pub mod Measures

@@ -11,9 +11,9 @@ use Rattle.sharc_tree.specs.declared.token.Keyword.TheVariants.{Scast}
 use Rattle.sharc_tree.specs.declared.token.Token.{Token}
 use Rattle.sharc_tree.specs.declared.token.TokenKind.{TokenKind}
 use Rattle.sharc_tree.specs.declared.token.TokenKind.TheVariants as kind
-use Rattle.sharc_tree.specs.declared.tree.Identifier.{Identifier}
-use Rattle.sharc_tree.specs.declared.tree.WrittenType.{WrittenType}
-use Rattle.sharc_tree.specs.declared.tree.Declaration.{Declaration}
+use Rattle.sharc_tree.specs.declared.tree.declaration.Identifier.{Identifier}
+use Rattle.sharc_tree.specs.declared.tree.declaration.WrittenType.{WrittenType}
+use Rattle.sharc_tree.specs.declared.tree.declaration.Declaration.{Declaration}
 use Rattle.sharc_tree.specs.Tree.{Expression, identifier, constant, parentheses, call, spawn, on_value, on_place, cast, index, field, unary, binary, Arguments, no_arguments, argument, Right, value, malloc, Simple, assign, does_call, Local, First, nothing, declares, does, Head, Statement, empty, block, declare, simple, jump, return, if_then, if_then_else, while, for, Statements, no_statements, statement, Item, structure, global, function}
 
 -- a name with its text, or the word SCAST, each with the number of its token

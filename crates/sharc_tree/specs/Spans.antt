@@ -1,13 +1,6 @@
--- Where things stand.
-use Rattle.std.specs.Prelude.{ℕ}
-use Rattle.sharc_tree.specs.declared.token.Site.{Site}
+-- Where things stand: the tokens of each node.
 use Rattle.sharc_tree.specs.declared.token.Span.{Span}
-use Rattle.sharc_tree.specs.declared.token.Token.{Token}
-use Rattle.sharc_tree.specs.Tree.{Expression, identifier, constant, parentheses, call, spawn, on_value, on_place, cast, index, field, unary, binary, Statement, empty, block, declare, simple, jump, return, if_then, if_then_else, while, for}
-
--- the place of the token of this number
-abbrev pub site_of : Token → ℕ → Site
-site_of t number = record { file = t.file; line = t.line; token = number }
+use Rattle.sharc_tree.specs.Tree.{Expression, identifier, constant, parentheses, call, spawn, on_value, on_place, cast, index, field, unary, binary, Right, value, malloc, Simple, assign, does_call, Item, structure, global, function, Statement, empty, block, declare, simple, jump, return, if_then, if_then_else, while, for}
 
 abbrev pub span_of : Expression → Span
 span_of (identifier s _) = s
@@ -34,3 +27,16 @@ span_of_statement (if_then s _ _) = s
 span_of_statement (if_then_else s _ _ _) = s
 span_of_statement (while s _ _) = s
 span_of_statement (for s _ _) = s
+
+abbrev pub span_of_right : Right → Span
+span_of_right (value e) = span_of e
+span_of_right (malloc s _ _) = s
+
+abbrev pub span_of_simple : Simple → Span
+span_of_simple (assign s _ _) = s
+span_of_simple (does_call e) = span_of e
+
+abbrev pub span_of_item : Item → Span
+span_of_item (structure x) = x.span
+span_of_item (global x) = x.span
+span_of_item (function x) = x.span

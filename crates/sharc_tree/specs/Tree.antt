@@ -3,18 +3,18 @@ use Rattle.std.specs.Prelude.{ℕ, List, Option}
 use Rattle.sharc_tree.specs.declared.token.Site.{Site}
 use Rattle.sharc_tree.specs.declared.token.Span.{Span}
 use Rattle.sharc_tree.specs.declared.token.Tokens.{Tokens}
-use Rattle.sharc_tree.specs.declared.tree.Identifier.{Identifier}
-use Rattle.sharc_tree.specs.declared.tree.WrittenType.{WrittenType}
-use Rattle.sharc_tree.specs.declared.tree.Declaration.{Declaration}
-use Rattle.sharc_tree.specs.declared.tree.BinaryOperator.{BinaryOperator}
-use Rattle.sharc_tree.specs.declared.tree.UnaryOperator.{UnaryOperator}
-use Rattle.sharc_tree.specs.declared.tree.Access.{Access}
-use Rattle.sharc_tree.specs.declared.tree.ValueCall.{ValueCall}
-use Rattle.sharc_tree.specs.declared.tree.PlaceCall.{PlaceCall}
-use Rattle.sharc_tree.specs.declared.tree.Jump.{Jump}
-use Rattle.sharc_tree.specs.declared.tree.Constant.{Constant}
-use Rattle.sharc_tree.specs.declared.tree.StructDefinition.{StructDefinition}
-use Rattle.sharc_tree.specs.declared.tree.GlobalDefinition.{GlobalDefinition}
+use Rattle.sharc_tree.specs.declared.tree.declaration.Identifier.{Identifier}
+use Rattle.sharc_tree.specs.declared.tree.declaration.WrittenType.{WrittenType}
+use Rattle.sharc_tree.specs.declared.tree.declaration.Declaration.{Declaration}
+use Rattle.sharc_tree.specs.declared.tree.expression.BinaryOperator.{BinaryOperator}
+use Rattle.sharc_tree.specs.declared.tree.expression.UnaryOperator.{UnaryOperator}
+use Rattle.sharc_tree.specs.declared.tree.expression.Access.{Access}
+use Rattle.sharc_tree.specs.declared.tree.expression.ValueCall.{ValueCall}
+use Rattle.sharc_tree.specs.declared.tree.expression.PlaceCall.{PlaceCall}
+use Rattle.sharc_tree.specs.declared.tree.statement.Jump.{Jump}
+use Rattle.sharc_tree.specs.declared.tree.expression.Constant.{Constant}
+use Rattle.sharc_tree.specs.declared.tree.item.StructDefinition.{StructDefinition}
+use Rattle.sharc_tree.specs.declared.tree.item.GlobalDefinition.{GlobalDefinition}
 
 mutual
   -- a binary operator has its own site before its operands

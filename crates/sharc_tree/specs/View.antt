@@ -1,20 +1,20 @@
 -- What the program's trees stand for.
 use Rattle.std.specs.Prelude.{List, [], ◌∷◌, map, Option, Some, None}
 use Rattle.sharc_tree.specs.Tree as tree
-use Rattle.sharc_tree.specs.declared.tree.Expr.{Expr, Identifier, Constant, Parentheses', Call', Spawn', OnValue', OnPlace', Cast', Index', Field', Unary', Binary', Row_of-Expr, end_of-Expr, more_of-Expr}
-use Rattle.sharc_tree.specs.declared.tree.Right.{Right}
-use Rattle.sharc_tree.specs.declared.tree.Right.TheVariants.{Value, Malloc}
-use Rattle.sharc_tree.specs.declared.tree.Simple.{Simple as RustSimple}
-use Rattle.sharc_tree.specs.declared.tree.Simple.TheVariants.{Assign, Call}
-use Rattle.sharc_tree.specs.declared.tree.Local.{Local}
-use Rattle.sharc_tree.specs.declared.tree.ForFirst.{ForFirst}
-use Rattle.sharc_tree.specs.declared.tree.ForFirst.TheVariants.{Nothing, Declares, Does}
-use Rattle.sharc_tree.specs.declared.tree.ForHead.{ForHead}
-use Rattle.sharc_tree.specs.declared.tree.Stmt.{Stmt, Empty, Block', Declare, Simple, Jump, Return, If', IfElse', While', For', Row_of-Stmt, end_of-Stmt, more_of-Stmt}
-use Rattle.sharc_tree.specs.declared.tree.FunctionDefinition.{FunctionDefinition}
-use Rattle.sharc_tree.specs.declared.tree.Item.{Item}
-use Rattle.sharc_tree.specs.declared.tree.Item.TheVariants.{Struct, Global, Function}
-use Rattle.sharc_tree.specs.declared.tree.Program.{Program}
+use Rattle.sharc_tree.specs.declared.tree.expression.Expr.{Expr, Identifier, Constant, Parentheses', Call', Spawn', OnValue', OnPlace', Cast', Index', Field', Unary', Binary', Row_of-Expr, end_of-Expr, more_of-Expr}
+use Rattle.sharc_tree.specs.declared.tree.statement.Right.{Right}
+use Rattle.sharc_tree.specs.declared.tree.statement.Right.TheVariants.{Value, Malloc}
+use Rattle.sharc_tree.specs.declared.tree.statement.Simple.{Simple as RustSimple}
+use Rattle.sharc_tree.specs.declared.tree.statement.Simple.TheVariants.{Assign, Call}
+use Rattle.sharc_tree.specs.declared.tree.statement.Local.{Local}
+use Rattle.sharc_tree.specs.declared.tree.statement.ForFirst.{ForFirst}
+use Rattle.sharc_tree.specs.declared.tree.statement.ForFirst.TheVariants.{Nothing, Declares, Does}
+use Rattle.sharc_tree.specs.declared.tree.statement.ForHead.{ForHead}
+use Rattle.sharc_tree.specs.declared.tree.statement.Stmt.{Stmt, Empty, Block', Declare, Simple, Jump, Return, If', IfElse', While', For', Row_of-Stmt, end_of-Stmt, more_of-Stmt}
+use Rattle.sharc_tree.specs.declared.tree.item.FunctionDefinition.{FunctionDefinition}
+use Rattle.sharc_tree.specs.declared.tree.item.Item.{Item}
+use Rattle.sharc_tree.specs.declared.tree.item.Item.TheVariants.{Struct, Global, Function}
+use Rattle.sharc_tree.specs.declared.tree.item.Program.{Program}
 
 abbrev mutual
   pub view_expr : Expr → tree.Expression

@@ -1,13 +1,13 @@
 // Types with their sharing modes.
 
-ghost use Rattle.std.specs.Prelude.{◌≡◌, ℕ, ◌<◌, ◌==◌, List, length, slice_index_or, IfOk};
+ghost use Rattle.std.specs.Prelude.{◌≡◌, IfOk, IsTrue, ◌↔◌};
 
+use crate::listed::Listed;
 use crate::name::Name;
 use std::alloc::{AllocError, Global};
-use std::marker::Model;
 
 /// A lock path. The number is that of the token of its first name, so that two variables of one name are told apart.
-#[derive(Debug, Drop)]
+#[derive(Drop)]
 pub enum Path {
     /// `m`: a global mutex, or in a field the sibling of that name.
     One(Name, u32),
@@ -16,6 +16,19 @@ pub enum Path {
 }
 
 impl Path {
+    /// Whether the paths are the same data: the names, and the number of the token.
+    pub fn equals(&self, other: &Path) -> bool
+        ensures { IsTrue result ↔ (self.now ≡ other.now) }
+    {
+        match (self, other) {
+            (Path::One(mutex, token), Path::One(other, at)) => token == at && mutex.equals(other),
+            (Path::Through(variable, token, mutex), Path::Through(other, at, second)) => {
+                token == at && variable.equals(other) && mutex.equals(second)
+            }
+            _ => false,
+        }
+    }
+
     /// The same path once more.
     pub fn copy(&self, alloc: Global) -> Result<Self, AllocError>
         ensures { IfOk result (λ p. p ≡ self.now) }
@@ -31,7 +44,7 @@ impl Path {
 }
 
 /// A sharing mode (the SharC paper).
-#[derive(Debug, Drop)]
+#[derive(Drop)]
 pub enum Mode {
     /// Accessed by its owner thread alone.
     Private,
@@ -46,6 +59,20 @@ pub enum Mode {
 }
 
 impl Mode {
+    /// Whether the modes are the same data, lock paths included.
+    pub fn equals(&self, other: &Mode) -> bool
+        ensures { IsTrue result ↔ (self.now ≡ other.now) }
+    {
+        match (self, other) {
+            (Mode::Locked(path), Mode::Locked(other)) => path.equals(other),
+            (Mode::Private, Mode::Private) => true,
+            (Mode::Readonly, Mode::Readonly) => true,
+            (Mode::Racy, Mode::Racy) => true,
+            (Mode::Dynamic, Mode::Dynamic) => true,
+            _ => false,
+        }
+    }
+
     /// The same mode once more.
     pub fn copy(&self, alloc: Global) -> Result<Self, AllocError>
         ensures { IfOk result (λ m. m ≡ self.now) }
@@ -61,7 +88,7 @@ impl Mode {
 }
 
 /// What stands at the bottom of a type.
-#[derive(Debug, Drop)]
+#[derive(Drop)]
 pub enum Base {
     Int,
     Char,
@@ -73,6 +100,21 @@ pub enum Base {
 }
 
 impl Base {
+    /// Whether the bases are the same: a struct is told by its name.
+    pub fn equals(&self, other: &Base) -> bool
+        ensures { IsTrue result ↔ (self.now ≡ other.now) }
+    {
+        match (self, other) {
+            (Base::Struct(name), Base::Struct(other)) => name.equals(other),
+            (Base::Int, Base::Int) => true,
+            (Base::Char, Base::Char) => true,
+            (Base::Long, Base::Long) => true,
+            (Base::Mutex, Base::Mutex) => true,
+            (Base::Void, Base::Void) => true,
+            _ => false,
+        }
+    }
+
     /// The same base once more.
     pub fn copy(&self, alloc: Global) -> Result<Self, AllocError>
         ensures { IfOk result (λ b. b ≡ self.now) }
@@ -88,6 +130,17 @@ impl Base {
     }
 }
 
+/// Whether the modes are both unknown, or both known and the same.
+fn same_level(level: &Option<Mode>, other: &Option<Mode>) -> bool
+    ensures { IsTrue result ↔ (level.now ≡ other.now) }
+{
+    match (level, other) {
+        (Some(mode), Some(other)) => mode.equals(other),
+        (None, None) => true,
+        _ => false,
+    }
+}
+
 fn copy_level(alloc: Global, level: &Option<Mode>) -> Result<Option<Mode>, AllocError>
     ensures { IfOk result (λ m. m ≡ level.now) }
 {
@@ -97,86 +150,55 @@ fn copy_level(alloc: Global, level: &Option<Mode>) -> Result<Option<Mode>, Alloc
     }
 }
 
-/// The modes of a type's levels where they are known, from the top down to the base: a type with n stars has n + 1 levels. A contract sees it as the list of them.
-#[derive(Debug, Drop)]
-pub struct Levels {
-    list: Vec<Option<Mode>>,
-}
+/// The modes of a type's levels where they are known, from the top down to the base: a type with n stars has n + 1 levels.
+pub type Levels = Listed<Option<Mode>>;
 
-impl Model for Levels {
-    ghost use Rattle.std.specs.Prelude.{List, Option};
-    ghost use Rattle.sharc_tree.specs.declared.ctype.Mode.{Mode};
-
-    ghost Value = { List (Option Mode) };
-
-    ghost view = { λ l. l.list.items };
-}
-
-impl Levels {
-    /// The list of these levels. It takes no memory.
-    pub fn of(list: Vec<Option<Mode>>) -> Self
-        ensures { result ≡ list.items }
+impl Listed<Option<Mode>> {
+    /// Whether there are as many levels in both, and each has the same mode or none in both.
+    pub fn equals(&self, other: &Levels) -> bool
+        ensures { IsTrue result ↔ (self.now ≡ other.now) }
     {
-        Levels { list }
-    }
-
-    /// The number of levels.
-    pub fn len(&self) -> usize
-        ensures { result ≡ length self.now }
-    {
-        self.list.len()
-    }
-
-    /// Whether there is no level.
-    pub fn is_empty(&self) -> bool
-        ensures { result ≡ (length self.now == 0) }
-    {
-        self.list.is_empty()
-    }
-
-    /// The level at place `i`, counted from 0 at the top.
-    pub fn at(&self, i: usize) -> &Option<Mode>
-        requires { i < length self.now }
-        ensures { result.now ≡ slice_index_or self.now i result.now }
-    {
-        &self.list[i]
-    }
-
-    /// All the levels.
-    pub fn as_slice(&self) -> &[Option<Mode>]
-        ensures { result.now ≡ self.now }
-    {
-        self.list.as_slice()
-    }
-
-    /// The levels as they were handed to `of`. It takes no memory.
-    pub fn into_vec(self) -> Vec<Option<Mode>>
-        ensures { result.items ≡ self }
-    {
-        self.list
+        let levels = self.as_slice();
+        let others = other.as_slice();
+        if levels.len() != others.len() {
+            return false;
+        }
+        for i in 0..levels.len() {
+            if !same_level(&levels[i], &others[i]) {
+                return false;
+            }
+        }
+        true
     }
 
     /// The same levels once more.
     pub fn copy(&self, alloc: Global) -> Result<Self, AllocError>
         ensures { IfOk result (λ l. l ≡ self.now) }
     {
-        let levels = self.list.as_slice();
+        let levels = self.as_slice();
         let mut list = Vec::with_capacity(alloc, levels.len())?;
         for level in levels {
             list.push(copy_level(alloc, level)?)?;
         }
-        Ok(Levels { list })
+        Ok(Listed::of(list))
     }
 }
 
 /// A C type with the modes of its levels where they are known.
-#[derive(Debug, Drop)]
+#[derive(Drop)]
 pub struct CType {
     pub base: Base,
     pub levels: Levels,
 }
 
 impl CType {
+    /// Whether the types are the same data: the bases, and the mode or its want at each level.
+    pub fn equals(&self, other: &CType) -> bool
+        ensures { IsTrue result ↔ (self.now ≡ other.now) }
+    {
+        self.base.equals(&other.base) && self.levels.equals(&other.levels)
+    }
+
     /// The same type once more.
     pub fn copy(&self, alloc: Global) -> Result<Self, AllocError>
         ensures { IfOk result (λ t. t ≡ self.now) }

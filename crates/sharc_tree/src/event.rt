@@ -1,12 +1,10 @@
 // Source events: what the threads of a program do that other threads can see.
 
-ghost use Rattle.std.specs.Prelude.{◌≡◌, ℕ, ◌<◌, ◌==◌, List, length, slice_index_or};
-
+use crate::listed::Listed;
 use crate::token::Site;
-use std::marker::Model;
 
 /// An object with cells.
-#[derive(Clone, Copy, PartialEq, Eq, Debug)]
+#[derive(Clone, Copy, PartialEq, Eq)]
 pub enum Object {
     /// The global of this number, counted from 0 in source order.
     Global(u32),
@@ -15,14 +13,14 @@ pub enum Object {
 }
 
 /// A cell of an object, counted from 0 over all its elements.
-#[derive(Clone, Copy, PartialEq, Eq, Debug)]
+#[derive(Clone, Copy, PartialEq, Eq)]
 pub struct CellAt {
     pub object: Object,
     pub cell: u64,
 }
 
 /// The mode under which a cell is accessed. A lock is the mutex cell itself.
-#[derive(Clone, Copy, PartialEq, Eq, Debug)]
+#[derive(Clone, Copy, PartialEq, Eq)]
 pub enum CellMode {
     Private,
     Readonly,
@@ -33,7 +31,7 @@ pub enum CellMode {
 }
 
 /// What a sharing cast or `free` nulls.
-#[derive(Clone, Copy, PartialEq, Eq, Debug)]
+#[derive(Clone, Copy, PartialEq, Eq)]
 pub enum Taken {
     /// A cell, with its mode.
     Cell(CellAt, CellMode),
@@ -42,14 +40,14 @@ pub enum Taken {
 }
 
 /// What a reference is taken for.
-#[derive(Clone, Copy, PartialEq, Eq, Debug)]
+#[derive(Clone, Copy, PartialEq, Eq)]
 pub enum TakeKind {
     Cast,
     Free,
 }
 
 /// What an event does. A reference is written as its object's number plus 2^32 times its number of elements, and NULL as 0.
-#[derive(Clone, Copy, PartialEq, Eq, Debug)]
+#[derive(Clone, Copy, PartialEq, Eq)]
 pub enum Act {
     /// Reads the cell; answers the value.
     Read(CellAt, CellMode),
@@ -90,7 +88,7 @@ pub enum Act {
 }
 
 /// An event of a thread. The answer is 0 where the act names none.
-#[derive(Clone, Copy, PartialEq, Eq, Debug)]
+#[derive(Clone, Copy, PartialEq, Eq)]
 pub struct SourceEvent {
     pub thread: u32,
     pub site: Site,
@@ -98,62 +96,5 @@ pub struct SourceEvent {
     pub act: Act,
 }
 
-/// A list of events in their order. A contract sees it as the list of them.
-#[derive(Debug, Drop)]
-pub struct SourceEvents {
-    list: Vec<SourceEvent>,
-}
-
-impl Model for SourceEvents {
-    ghost use Rattle.std.specs.Prelude.{List};
-    ghost use Rattle.sharc_tree.specs.declared.event.SourceEvent.{SourceEvent};
-
-    ghost Value = { List SourceEvent };
-
-    ghost view = { λ e. e.list.items };
-}
-
-impl SourceEvents {
-    /// The list of these events. It takes no memory.
-    pub fn of(list: Vec<SourceEvent>) -> Self
-        ensures { result ≡ list.items }
-    {
-        SourceEvents { list }
-    }
-
-    /// The number of events.
-    pub fn len(&self) -> usize
-        ensures { result ≡ length self.now }
-    {
-        self.list.len()
-    }
-
-    /// Whether there is no event.
-    pub fn is_empty(&self) -> bool
-        ensures { result ≡ (length self.now == 0) }
-    {
-        self.list.is_empty()
-    }
-
-    /// The event at place `i`, counted from 0.
-    pub fn at(&self, i: usize) -> &SourceEvent
-        requires { i < length self.now }
-        ensures { result.now ≡ slice_index_or self.now i result.now }
-    {
-        &self.list[i]
-    }
-
-    /// All the events.
-    pub fn as_slice(&self) -> &[SourceEvent]
-        ensures { result.now ≡ self.now }
-    {
-        self.list.as_slice()
-    }
-
-    /// The events as they were handed to `of`. It takes no memory.
-    pub fn into_vec(self) -> Vec<SourceEvent>
-        ensures { result.items ≡ self }
-    {
-        self.list
-    }
-}
+/// A list of events in their order.
+pub type SourceEvents = Listed<SourceEvent>;

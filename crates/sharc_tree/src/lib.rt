@@ -4,11 +4,8 @@
 pub mod copy;
 pub mod ctype;
 pub mod event;
-pub mod expressions;
-pub mod measure;
+pub mod listed;
 pub mod name;
 pub mod print;
-#[cfg(test)]
-mod tests;
 pub mod token;
 pub mod tree;

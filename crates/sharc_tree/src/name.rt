@@ -1,7 +1,8 @@
 // Names: texts of bytes, whatever bytes they are.
 
-ghost use Rattle.std.specs.Prelude.{◌≡◌, ℕ, ◌<◌, ◌==◌, List, length, IfOk, slice_index_or, IsTrue, ◌↔◌};
+ghost use Rattle.std.specs.Prelude.{◌≡◌, ◌<◌, ◌==◌, length, IfOk, slice_index_or, IsTrue, ◌↔◌};
 
+use crate::listed::Listed;
 use std::alloc::{AllocError, Global};
 use std::marker::Model;
 
@@ -71,6 +72,13 @@ impl Name {
         self.bytes
     }
 
+    /// Whether the names have the same bytes.
+    pub fn equals(&self, other: &Name) -> bool
+        ensures { IsTrue result ↔ (self.now ≡ other.now) }
+    {
+        self.bytes.as_slice() == other.bytes.as_slice()
+    }
+
     /// The same name once more.
     pub fn copy(&self, alloc: Global) -> Result<Self, AllocError>
         ensures { IfOk result (λ n. n ≡ self.now) }
@@ -79,73 +87,19 @@ impl Name {
     }
 }
 
-/// A list of names, as the files that a source names. A contract sees it as the list of its names.
-#[derive(Debug, Drop)]
-pub struct Names {
-    list: Vec<Name>,
-}
+/// A list of names, as the files that a source names.
+pub type Names = Listed<Name>;
 
-impl Model for Names {
-    ghost use Rattle.std.specs.Prelude.{List, ℕ};
-
-    ghost Value = { List (List ℕ) };
-
-    ghost view = { λ n. n.list.items };
-}
-
-impl Names {
-    /// The list of these names. It takes no memory.
-    pub fn of(list: Vec<Name>) -> Self
-        ensures { result ≡ list.items }
-    {
-        Names { list }
-    }
-
-    /// The number of names.
-    pub fn len(&self) -> usize
-        ensures { result ≡ length self.now }
-    {
-        self.list.len()
-    }
-
-    /// Whether there is no name.
-    pub fn is_empty(&self) -> bool
-        ensures { result ≡ (length self.now == 0) }
-    {
-        self.list.is_empty()
-    }
-
-    /// The name at place `i`, counted from 0.
-    pub fn at(&self, i: usize) -> &Name
-        requires { i < length self.now }
-        ensures { result.now ≡ slice_index_or self.now i result.now }
-    {
-        &self.list[i]
-    }
-
-    /// All the names.
-    pub fn as_slice(&self) -> &[Name]
-        ensures { result.now ≡ self.now }
-    {
-        self.list.as_slice()
-    }
-
-    /// The names as they were handed to `of`. It takes no memory.
-    pub fn into_vec(self) -> Vec<Name>
-        ensures { result.items ≡ self }
-    {
-        self.list
-    }
-
+impl Listed<Name> {
     /// The same names once more.
     pub fn copy(&self, alloc: Global) -> Result<Self, AllocError>
         ensures { IfOk result (λ n. n ≡ self.now) }
     {
-        let names = self.list.as_slice();
+        let names = self.as_slice();
         let mut list = Vec::with_capacity(alloc, names.len())?;
         for name in names {
             list.push(name.copy(alloc)?)?;
         }
-        Ok(Names { list })
+        Ok(Listed::of(list))
     }
 }

@@ -1,13 +1,13 @@
 // Tokens: what the lexer makes of a source, with the place of each.
 
-ghost use Rattle.std.specs.Prelude.{◌≡◌, ℕ, ◌<◌, ◌==◌, List, length, slice_index_or, IfOk};
+ghost use Rattle.std.specs.Prelude.{◌≡◌, IfOk};
 
+use crate::listed::Listed;
 use crate::name::{Name, Names};
 use std::alloc::{AllocError, Global};
-use std::marker::Model;
 
 /// A place in the source: a line of a file, and the number of a token.
-#[derive(Clone, Copy, PartialEq, Eq, Debug)]
+#[derive(Clone, Copy, PartialEq, Eq)]
 pub struct Site {
     /// The place of the file in the list of files.
     pub file: u32,
@@ -18,7 +18,7 @@ pub struct Site {
 }
 
 /// The tokens of a construct, from its first to its last.
-#[derive(Clone, Copy, PartialEq, Eq, Debug)]
+#[derive(Clone, Copy)]
 pub struct Span {
     pub first: Site,
     pub last: Site,
@@ -160,7 +160,7 @@ pub enum TokenKind {
 }
 
 /// A token of the source.
-#[derive(Debug, Drop)]
+#[derive(Drop)]
 pub struct Token {
     pub kind: TokenKind,
     /// The slice of the source at the span.
@@ -176,20 +176,6 @@ pub struct Token {
 }
 
 impl Token {
-    ghost use Rattle.std.specs.Prelude.{◌≡◌, IfOk};
-    ghost use Rattle.sharc_tree.specs.Spans.{site_of};
-
-    /// The place of the token, whose number this is.
-    pub fn site(&self, number: u32) -> Site
-        ensures { result ≡ site_of self.now number }
-    {
-        Site {
-            file: self.file,
-            line: self.line,
-            token: number,
-        }
-    }
-
     /// The same token once more.
     pub fn copy(&self, alloc: Global) -> Result<Self, AllocError>
         ensures { IfOk result (λ t. t ≡ self.now) }
@@ -206,80 +192,25 @@ impl Token {
     }
 }
 
-/// The tokens of a source in their order. A contract sees it as the list of them.
-#[derive(Debug, Drop)]
-pub struct TokenList {
-    list: Vec<Token>,
-}
+/// The tokens of a source in their order.
+pub type TokenList = Listed<Token>;
 
-impl Model for TokenList {
-    ghost use Rattle.std.specs.Prelude.{List};
-    ghost use Rattle.sharc_tree.specs.declared.token.Token.{Token};
-
-    ghost Value = { List Token };
-
-    ghost view = { λ t. t.list.items };
-}
-
-impl TokenList {
-    /// The list of these tokens. It takes no memory.
-    pub fn of(list: Vec<Token>) -> Self
-        ensures { result ≡ list.items }
-    {
-        TokenList { list }
-    }
-
-    /// The number of tokens.
-    pub fn len(&self) -> usize
-        ensures { result ≡ length self.now }
-    {
-        self.list.len()
-    }
-
-    /// Whether there is no token.
-    pub fn is_empty(&self) -> bool
-        ensures { result ≡ (length self.now == 0) }
-    {
-        self.list.is_empty()
-    }
-
-    /// The token at place `i`, counted from 0.
-    pub fn at(&self, i: usize) -> &Token
-        requires { i < length self.now }
-        ensures { result.now ≡ slice_index_or self.now i result.now }
-    {
-        &self.list[i]
-    }
-
-    /// All the tokens.
-    pub fn as_slice(&self) -> &[Token]
-        ensures { result.now ≡ self.now }
-    {
-        self.list.as_slice()
-    }
-
-    /// The tokens as they were handed to `of`. It takes no memory.
-    pub fn into_vec(self) -> Vec<Token>
-        ensures { result.items ≡ self }
-    {
-        self.list
-    }
-
+impl Listed<Token> {
     /// The same tokens once more.
     pub fn copy(&self, alloc: Global) -> Result<Self, AllocError>
         ensures { IfOk result (λ t. t ≡ self.now) }
     {
-        let tokens = self.list.as_slice();
+        let tokens = self.as_slice();
         let mut list = Vec::with_capacity(alloc, tokens.len())?;
         for token in tokens {
             list.push(token.copy(alloc)?)?;
         }
-        Ok(TokenList { list })
+        Ok(Listed::of(list))
     }
 }
 
 /// A source read into tokens.
-#[derive(Debug, Drop)]
+#[derive(Drop)]
 pub struct Tokens {
     pub list: TokenList,
     /// The files that the source names, `input` first.

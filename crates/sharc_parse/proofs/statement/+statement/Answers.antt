@@ -1,7 +1,7 @@
 use Rattle.std.proofs.Common.{rules, ◌≡◌, ◌<◌, ◌+◌, ◌-◌, arith, sym, subst}
 use Rattle.std.specs.Prelude.{Ok, Err, true, Vec}
 use Rattle.std.proofs.Common.{◌≡◌, Global}
-use Rattle.sharc_tree.specs.declared.tree.Stmt.{Stmt}
+use Rattle.sharc_tree.specs.declared.tree.statement.Stmt.{Stmt}
 use Rattle.sharc_tree.specs.Tree.{if_then, if_then_else, while, for}
 use Rattle.sharc_tree.specs.View.{view_expr, view_stmt, view_head}
 use Rattle.sharc_tree.specs.declared.token.Punctuator.TheVariants.{OpenBrace}
@@ -84,7 +84,7 @@ pub statement-returns-then-branch-clause-reads : goal.statement-returns-then-bra
 statement-returns-then-branch-clause-reads t c =
     let opens : Past (mark OpenBrace) c.args.tokens.now c.args.at.now c.enter.new.at = search rules in
     let room : 0 < c.args.room = search rules in
-    block_reads (λ v. v.items) c.in_ok-list.list c.of_block.result c.span.result c.args.declares c.args.room c.args.tokens.now c.args.at.now c.enter.new.at c.statements.new.at c.of_block.ensures opens room c.in_ok-list.ensures.reads
+    block_reads (λ v. v.items) c.in_ok-list.list c.block.result c.span.result c.args.declares c.args.room c.args.tokens.now c.args.at.now c.enter.new.at c.statements.new.at c.block.ensures opens room c.in_ok-list.ensures.reads
 
 pub statements-loop-alloc-preserved : goal.statements-loop-alloc-preserved
 statements-loop-alloc-preserved t c =
