@@ -3,8 +3,8 @@ use Rattle.std.proofs.Common.{◌≡◌, ℕ, ◌+◌, ◌≤◌, ◌<◌, List,
 use Rattle.std.proofs.lemmas.List.{length-map}
 use Rattle.sharc_tree.specs.Tree as tree
 use Rattle.sharc_tree.specs.Marks.{marks_from, name_marks, type_marks, declaration_marks, declarations_marks, marks, option_marks, right_marks, simple_marks, local_marks, first_marks, head_marks, statement_marks, statements_marks, item_marks, items_marks, AreMarks}
-use Rattle.sharc_tree.specs.Spans.{span_of, span_of_statement}
-use Rattle.sharc_tree.specs.Placed.{Follow, option_spans, span_of_right, span_of_simple, first_spans, head_spans, statement_spans, declaration_spans, form_spans, span_of_item, item_spans, Placed, PlacedRight, PlacedSimple, PlacedLocal, PlacedFirst, PlacedHead, PlacedStatement, PlacedStatements, PlacedItem, PlacedItems, IsPlaced}
+use Rattle.sharc_tree.specs.Spans.{span_of, span_of_right, span_of_simple, span_of_statement, span_of_item}
+use Rattle.sharc_tree.specs.Placed.{Follow, option_spans, first_spans, head_spans, statement_spans, declaration_spans, form_spans, item_spans, Placed, PlacedRight, PlacedSimple, PlacedLocal, PlacedFirst, PlacedHead, PlacedStatement, PlacedStatements, PlacedItem, PlacedItems, IsPlaced}
 use Rattle.sharc_tree.specs.declared.token.Site.{Site}
 use Rattle.sharc_tree.specs.declared.token.Span.{Span}
 use Rattle.sharc_tree.specs.declared.token.Token.{Token}

@@ -4,8 +4,7 @@ use Rattle.std.proofs.lemmas.List.{at_drop_more}
 use Rattle.sharc_tree.specs.declared.token.Site.{Site}
 use Rattle.sharc_tree.specs.declared.token.Span.{Span}
 use Rattle.sharc_tree.specs.declared.token.Token.{Token}
-use Rattle.sharc_tree.specs.Spans.{site_of as site_of_token}
-use Rattle.sharc_tree.specs.Placed.{IsSite, IsSpan, Follow, IsWhole, point}
+use Rattle.sharc_tree.specs.Placed.{site_of as site_of_token, IsSite, IsSpan, Follow, IsWhole, point}
 use Rattle.sharc_grammar.specs.Places.{site_of, site_in, span_at}
 
 -- the places of these tokens

@@ -8,8 +8,12 @@ use Rattle.sharc_tree.specs.declared.tree.declaration.Declaration.{Declaration}
 use Rattle.sharc_tree.specs.declared.tree.item.GlobalForm.{GlobalForm}
 use Rattle.sharc_tree.specs.declared.tree.item.GlobalForm.TheVariants.{Plain, Array, Initial}
 use Rattle.sharc_tree.specs.Tree.{Expression, identifier, constant, parentheses, call, spawn, on_value, on_place, cast, index, field, unary, binary, Arguments, no_arguments, argument, Right, value, malloc, Simple, assign, does_call, Local, First, nothing, declares, does, Head, Statement, empty, block, declare, simple, jump, return, if_then, if_then_else, while, for, Statements, no_statements, statement, Item, structure, global, function, Program}
-use Rattle.sharc_tree.specs.Spans.{site_of, span_of, span_of_statement}
+use Rattle.sharc_tree.specs.Spans.{span_of, span_of_right, span_of_simple, span_of_statement, span_of_item}
 use Rattle.sharc_tree.specs.Marks.{marks_from, type_marks, items_marks, IsName, AreMarks}
+
+-- the place of the token of this number
+abbrev pub site_of : Token → ℕ → Site
+site_of t number = record { file = t.file; line = t.line; token = number }
 
 -- the place of a token that there is
 pub record IsSite (all : List Token) (s : Site) : Type 0 where
@@ -43,14 +47,6 @@ abbrev pub argument_spans : Arguments → List Span
 argument_spans no_arguments = []
 argument_spans (argument a rest) = span_of a ∷ argument_spans rest
 
-abbrev pub span_of_right : Right → Span
-span_of_right (value e) = span_of e
-span_of_right (malloc s n t) = s
-
-abbrev pub span_of_simple : Simple → Span
-span_of_simple (assign s u r) = s
-span_of_simple (does_call e) = span_of e
-
 abbrev pub first_spans : First → List Span
 first_spans nothing = []
 first_spans (declares l) = l.span ∷ []
@@ -71,11 +67,6 @@ abbrev pub form_spans : GlobalForm → List Span
 form_spans Plain = []
 form_spans (Array at n) = point at ∷ []
 form_spans (Initial s negative c) = s ∷ []
-
-abbrev pub span_of_item : Item → Span
-span_of_item (structure s) = s.span
-span_of_item (global g) = g.span
-span_of_item (function f) = f.span
 
 abbrev pub item_spans : List Item → List Span
 item_spans [] = []
