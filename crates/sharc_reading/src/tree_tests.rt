@@ -107,7 +107,10 @@ fn add_expr(alloc: Global, expr: &Expr, met: &mut Met) -> Result<(), AllocError>
         }
         Expr::Unary(_, _, operand) => add_expr(alloc, operand, met),
         Expr::Binary {
-            site, left, right, ..
+            site,
+            left,
+            right,
+            ..
         } => {
             add_site(*site, met)?;
             add_expr(alloc, left, met)?;
@@ -286,7 +289,10 @@ fn texts(rt: &(impl Abort + AllocGlobal), program: &Program) -> Result<Vec<u8>, 
     let Met { spans, mut texts } = nodes(rt.alloc(), program)?;
     for span in spans.as_slice() {
         let text = text_of(rt, program, *span)?;
-        let line = format!(in rt.alloc(); "{}:{}-{}: ", span.first.file, span.first.line, span.last.line)?;
+        let line = format!(in rt.alloc();
+            "{}:{}-{}: ",
+            span.first.file, span.first.line, span.last.line
+        )?;
         texts.extend_from_slice(line.as_bytes())?;
         texts.extend_from_slice(text.as_slice())?;
         texts.push(b'\n')?;
@@ -348,9 +354,11 @@ fn copies_have_the_nodes_of_their_sources(rt: HostRuntime) -> Result<(), Fail> {
     assert_eq!(rt; copied.tokens.list.len(), source.tokens.list.len());
     assert_eq!(rt; copied.tokens.files.len(), 3);
     assert_eq!(rt; copied.files.at(2).as_slice(), b"b.h".as_slice());
-    let names = b"s\nmutex racy\nm\nint locked(m)\nn\nchar locked(m)\nc\nlong\nd\nstruct s dynamic * private *\nnext\n";
+    let names =
+        b"s\nmutex racy\nm\nint locked(m)\nn\nchar locked(m)\nc\nlong\nd\nstruct s dynamic * private *\nnext\n";
     assert!(rt; found.starts_with(names.as_slice()));
-    let last = b"2:27-27: int main(void){return;}\n2:27-27: {return;}\n2:27-27: int\n2:27-27: int\n2:27-27: main\n2:27-27: return;\n";
+    let last =
+        b"2:27-27: int main(void){return;}\n2:27-27: {return;}\n2:27-27: int\n2:27-27: int\n2:27-27: main\n2:27-27: return;\n";
     assert!(rt; found.ends_with(last.as_slice()));
     Ok(())
 }
