@@ -353,6 +353,7 @@ fn copies_have_the_nodes_of_their_sources(rt: HostRuntime) -> Result<(), Fail> {
     assert_eq!(rt; copied.items.len(), 10);
     assert_eq!(rt; copied.tokens.list.len(), source.tokens.list.len());
     assert_eq!(rt; copied.tokens.files.len(), 3);
+    assert_eq!(rt; copied.files.len(), 3);
     assert_eq!(rt; copied.files.at(2).as_slice(), b"b.h".as_slice());
     let names =
         b"s\nmutex racy\nm\nint locked(m)\nn\nchar locked(m)\nc\nlong\nd\nstruct s dynamic * private *\nnext\n";
