@@ -1,9 +1,12 @@
 -- What the program writes for its words and its input, and with which status it ends.
-use Rattle.std.specs.Prelude.{◌≡◌, ℕ, ◌<◌, ◌≤◌, List, [], ◌∷◌, length, take, codes, Option, Some, None, IfSome, Ok, Err}
+use Rattle.std.specs.Prelude.{◌≡◌, ℕ, ◌<◌, ◌≤◌, Bool, true, false, List, length, take, codes, Option, Some, None, IfSome, Ok, Err}
 use Rattle.std.specs.Io.KnownBytes.{Appends}
 use Rattle.sharc_tree.specs.declared.token.FaultAt.{FaultAt}
 use Rattle.sharc_tree.specs.declared.token.Tokens.{Tokens}
 use Rattle.sharc_tree.specs.Tree.{Program}
+use Rattle.sharc_command.specs.Commands.{commands}
+use Rattle.sharc_command.specs.declared.command.Command.{Command}
+use Rattle.sharc_command.specs.declared.command.Command.TheVariants as command
 use Rattle.sharc_lex.specs.Grammar.{reading}
 use Rattle.sharc_grammar.specs.Places.{Reads}
 use Rattle.sharc_parse.specs.Programs.{IsFaultOf}
@@ -12,9 +15,23 @@ use Rattle.sharc_report.specs.declared.refusal.Stage.TheVariants.{Lexer, Parser}
 use Rattle.sharc_top.specs.Text.{line, numbers_text}
 use Rattle.sharc_top.specs.TreeSums.{program_values}
 
--- the words are the one command
+-- a command of the command line, or none
+abbrev pub is_run : Option Command → Bool
+is_run (Some (command.Run workers granules events seed)) = true
+is_run _ = false
+
+-- the words are `run`, with options or without
 abbrev pub IsRun : List (List ℕ) → Type 0
-IsRun words = words ≡ codes "run" ∷ []
+IsRun words = is_run (commands words) ≡ true
+
+-- the words are a command that is not built yet
+pub record IsUnbuilt (words : List (List ℕ)) : Type 0 where
+  pub command : Command
+  pub is : commands words ≡ Some command
+  pub other : is_run (Some command) ≡ false
+
+abbrev pub usage_text : List ℕ
+usage_text = codes "usage: check | explain | run [--workers N] [--granules N] [--events N] [--seed N] | load N [--workers N] | record [--workers N] [--granules N] [--events N] | replay | audit"
 
 -- how many bytes a source has at most
 abbrev pub source_limit : ℕ
@@ -31,7 +48,8 @@ pub data Runs (source : List ℕ) : ℕ → List ℕ → Type 0 where
 
 -- what is written for the words and the input, and the status
 pub data Replies (words : List (List ℕ)) (input : List ℕ) : ℕ → List ℕ → Type 0 where
-  usage : (IsRun words → ⊥) → Replies words input 8 (line (codes "usage: run"))
+  usage : commands words ≡ None → Replies words input 8 (line usage_text)
+  unbuilt : IsUnbuilt words → Replies words input 7 (line (codes "form not built"))
   too_long : IsRun words → source_limit < length input → Replies words input 2 (line (codes "source over 1048576 bytes"))
   run : (status : ℕ) (text : List ℕ) → IsRun words → length input ≤ source_limit → Runs input status text → Replies words input status text
 

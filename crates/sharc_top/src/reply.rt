@@ -1,14 +1,15 @@
 //! What is written for the words and the input.
 
-ghost use Rattle.std.specs.Prelude.{◌≡◌, ◌≤◌, ◌++◌, ◌∷◌, [], ◌↔◌, length, map, string_bytes, IfOk, IsSome, IsTrue, IsErrOf};
+ghost use Rattle.std.specs.Prelude.{◌≡◌, ◌≤◌, ◌++◌, ◌∷◌, [], length, map, string_bytes, IfOk, IsSome, Some, IsErrOf};
 ghost use Rattle.sharc_io.specs.Causes.{Rose};
 ghost use Rattle.sharc_report.specs.Refusals.{message_of, refusal_line};
 ghost use Rattle.sharc_top.specs.Text.{line};
-ghost use Rattle.sharc_top.specs.Reply.{IsRun, Runs, IsReply};
+ghost use Rattle.sharc_top.specs.Reply.{is_run, IsRun, Runs, IsReply};
 ghost use Rattle.sharc_top.specs.Status.{code_of};
 
 use crate::text::numbers_text;
 use crate::tree_sums::program_values;
+use sharc_command::{Command, read_words};
 use sharc_io::{ReadError, Source, read_all};
 use sharc_lex::{LexFault, lex};
 use sharc_parse::{ParseFault, parse};
@@ -18,6 +19,10 @@ use std::alloc::{AllocError, Global};
 
 /// The largest source, in bytes (own).
 const SOURCE_LIMIT: usize = 1_048_576;
+
+/// What the words may be.
+const USAGE: &[u8] =
+    b"usage: check | explain | run [--workers N] [--granules N] [--events N] [--seed N] | load N [--workers N] | record [--workers N] [--granules N] [--events N] | replay | audit";
 
 /// How a call ends.
 #[derive(Clone, Copy, Debug, PartialEq, Eq)]
@@ -129,16 +134,13 @@ fn run(alloc: Global, source: &[u8]) -> Result<Reply, AllocError>
     }
 }
 
-fn is_run(words: &[String]) -> bool
-    ensures { IsTrue result ↔ IsRun (map string_bytes words.now) }
+fn is_run(command: Command) -> bool
+    ensures { result ≡ is_run (Some command) }
 {
-    match words {
-        [word] => word.as_str() == "run",
-        _ => false,
-    }
+    matches!(command, Command::Run { .. })
 }
 
-/// The reply to the words and to the input. The input is read only where the words are a command.
+/// The reply to the words and to the input. The input is read only where the words are `run`.
 pub fn reply_to<S: Source>(alloc: Global, words: &[String], input: &mut S) -> Result<Reply, Failure>
     ensures reply { IfOk result (λ reply. IsReply (map string_bytes words.now) (S.left input.old) (code_of reply.status) reply.text.items) }
     ensures command { IsErrOf result Failure.Source → IsRun (map string_bytes words.now) }
@@ -146,9 +148,13 @@ pub fn reply_to<S: Source>(alloc: Global, words: &[String], input: &mut S) -> Re
     ensures counted { S.faults input.old ≤ S.faults input.new }
     ensures unread { ¬ (IsRun (map string_bytes words.now)) → (S.left input.new ≡ S.left input.old) × (S.faults input.new ≡ S.faults input.old) }
 {
-    if !is_run(words) {
-        let usage = line_reply(alloc, Status::Usage, b"usage: run")?;
+    let Some(command) = read_words(alloc, words)? else {
+        let usage = line_reply(alloc, Status::Usage, USAGE)?;
         return Ok(usage);
+    };
+    if !is_run(command) {
+        let unbuilt = line_reply(alloc, Status::NotBuilt, b"form not built")?;
+        return Ok(unbuilt);
     }
     match read_all(alloc, input, SOURCE_LIMIT) {
         Ok(source) => {

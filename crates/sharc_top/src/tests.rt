@@ -99,10 +99,14 @@ fn a_hundred_thousand_prints_are_written(rt: HostRuntime) -> Result<(), Fail> {
     Ok(())
 }
 
+/// The line for words that are no command.
+const USAGE: &str =
+    "usage: check | explain | run [--workers N] [--granules N] [--events N] [--seed N] | load N [--workers N] | record [--workers N] [--granules N] [--events N] | replay | audit\n";
+
 // Whether the words are answered with the usage and status 8.
 fn is_no_command(alloc: Global, words: &[&str]) -> Result<bool, AllocError> {
-    let found = answered(alloc, words, ANSWER.as_bytes(), 100)?;
-    Ok(found.status == 8 && found.text.as_slice() == b"usage: run\n".as_slice())
+    let found = answered(alloc, words, ANSWER.as_bytes(), 200)?;
+    Ok(found.status == 8 && found.text.as_slice() == USAGE.as_bytes())
 }
 
 #[test]
@@ -113,7 +117,34 @@ fn other_words_are_no_command(rt: HostRuntime) -> Result<(), Fail> {
     assert!(rt; is_no_command(alloc, &["run", "run"])?);
     assert!(rt; is_no_command(alloc, &["Run"])?);
     assert!(rt; is_no_command(alloc, &[""])?);
+    assert!(rt; is_no_command(alloc, &["run", "--workers", "17"])?);
     assert!(rt; !is_no_command(alloc, &["run"])?);
+    Ok(())
+}
+
+#[test]
+fn options_of_run_are_taken(rt: HostRuntime) -> Result<(), Fail> {
+    let words = ["run", "--seed=7", "--workers", "2"];
+    let found = answered(rt.alloc(), &words, ANSWER.as_bytes(), 100)?;
+    assert_eq!(rt; found.status, 0);
+    assert_eq!(rt; found.text.as_slice(), b"42\n".as_slice());
+    Ok(())
+}
+
+#[test]
+fn other_commands_are_not_built(rt: HostRuntime) -> Result<(), Fail> {
+    for words in [
+        ["check"].as_slice(),
+        &["explain"],
+        &["load", "8"],
+        &["record"],
+        &["replay"],
+        &["audit"],
+    ] {
+        let found = answered(rt.alloc(), words, ANSWER.as_bytes(), 100)?;
+        assert_eq!(rt; found.status, 7);
+        assert_eq!(rt; found.text.as_slice(), b"form not built\n".as_slice());
+    }
     Ok(())
 }
 

@@ -13,3 +13,6 @@ returns-in-Ok-write_lines-clause-silent g c silent = absurd (reply_not_silent _ 
 
 pub returns-in-Ok-write_lines-clause-cut_short : goal.returns-in-Ok-write_lines-clause-cut_short
 returns-in-Ok-write_lines-clause-cut_short g c ten = absurd (reply_not_ten _ _ _ _ c.in-Ok.ensures.reply (sym c.code.ensures ∙ ten))
+
+pub returns-in-Ok-write_lines-clause-source_read : goal.returns-in-Ok-write_lines-clause-source_read
+returns-in-Ok-write_lines-clause-source_read g c nine = absurd (reply_not_silent _ _ _ _ c.in-Ok.ensures.reply (inl (sym c.code.ensures ∙ nine)))
