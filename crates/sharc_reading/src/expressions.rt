@@ -1,7 +1,7 @@
 //! Which operands operators and calls take.
 
-use crate::sources::{add_span, last_function, program};
 use crate::nodes::expressions_of;
+use crate::sources::{add_span, last_function, program};
 use std::process::Abort;
 use std::test::Fail;
 

@@ -29,7 +29,9 @@ fn statement_texts(
             add_span(rt, program, then.span(), &mut texts)?;
         }
         Stmt::IfElse {
-            then, otherwise, ..
+            then,
+            otherwise,
+            ..
         } => {
             texts.extend_from_slice(b"if else")?;
             add_span(rt, program, then.span(), &mut texts)?;

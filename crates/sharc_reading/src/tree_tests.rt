@@ -2,6 +2,7 @@
 
 use crate::nodes::expressions_of;
 use crate::sources::program;
+use sharc_lex::lex;
 use sharc_tree::ctype::{Base, CType, Levels, Mode, Path};
 use sharc_tree::event::{Act, SourceEvent, SourceEvents};
 use sharc_tree::name::{Name, Names};
