@@ -1,0 +1,9 @@
+pub mod Arithmetic
+pub mod Laws
+pub mod Layout
+pub mod Machine
+pub mod Path
+pub mod Runs
+pub mod Says
+pub mod Waits
+pub mod Whole

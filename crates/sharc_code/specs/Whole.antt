@@ -1,0 +1,81 @@
+-- The checked runs of a code: what its threads do, the words that they open with, what a run tells of the source, and where it is stuck.
+use Rattle.std.specs.Prelude.{ℕ, ◌+◌, ◌-◌, ◌*◌, ◌≡◌, ◌==◌, true, ◌&&◌, nat_lt, nat_le, List, map, slice_index, if◌then◌else◌}
+use Rattle.std.specs.List.{range_with_len}
+use Rattle.sharc_word.specs.declared.step.TheConstants.{THREADS}
+use Rattle.sharc_tree.specs.declared.event.SourceEvent.{SourceEvent}
+use Rattle.sharc_code.specs.declared.code.Code.{Code}
+use Rattle.sharc_code.specs.declared.shape.Shape.{Shape}
+use Rattle.sharc_code.specs.Layout.{first_cell, words_of, top_word, next_thread_word, state_word, function_word}
+use Rattle.sharc_code.specs.Machine.{Machine, instr_at}
+use Rattle.sharc_code.specs.Path.{begun, turn, after, asked_by, may_go, counted}
+use Rattle.sharc_code.specs.Says.{says, speaks_of, elements_in}
+use Rattle.sharc_code.specs.Waits.{waits_now}
+use Rattle.sharc_code.specs.Runs.{Said, OneThread, Bounds, Turn, Global, CheckedRunOf, at, opening_of, erase}
+
+-- ---- the opening words
+-- the first cell of the globals, and the first of the heap
+abbrev pub first_global : Shape → ℕ
+first_global s = first_cell s + 2
+
+abbrev pub first_heap : Shape → ℕ
+first_heap s = first_global s + 2 * s.globals
+
+abbrev pub opening_cell : Code → Shape → ℕ → ℕ
+opening_cell code s word =
+    if nat_le (first_global s) word && nat_lt word (first_heap s) then slice_index code.initial.items (word - first_global s) else 0
+
+-- what a word holds at first: the top, the next thread, the state and the function of thread 0, the globals' cells, and else 0
+abbrev pub opens_with : Code → Shape → ℕ → ℕ
+opens_with code s word =
+    if word == top_word then 1 + s.globals
+    else (if word == next_thread_word then 1
+    else (if word == state_word 0 then 1
+    else (if word == function_word 0 then code.main
+    else opening_cell code s word)))
+
+abbrev pub opening_words : Code → Shape → List ℕ
+opening_words code s = map (opens_with code s) (range_with_len 0 (words_of s))
+
+-- ---- runs
+abbrev pub one_thread : Code → Shape → OneThread Machine SourceEvent
+one_thread code s = record {
+  start = begun code s;
+  runs = λ m. may_go m.at.state;
+  asks = λ m. asked_by (turn code s m);
+  goes = λ m found. after (turn code s m) found;
+  counts = λ m. counted m.at.state;
+  pairs = λ earlier m found. elements_in (map (λ said. said.told) earlier) (speaks_of (instr_at code m.at.pc) m found);
+  says = says code;
+}
+
+-- no thread makes more than 100,000,000 events
+abbrev pub bounds : Bounds
+bounds = record { threads = THREADS; limit = 100000000 }
+
+-- a list of turns of threads of this code, the newest first
+abbrev pub CheckedRun : Code → Shape → List Turn → Type 0
+CheckedRun code s turns = CheckedRunOf bounds (one_thread code s) (opening_words code s) turns
+
+-- where it stands
+abbrev pub place_after : Code → Shape → List Turn → Global Machine
+place_after code s turns = at bounds (one_thread code s) (opening_of bounds (one_thread code s) (opening_words code s)) turns
+
+-- its source events, the newest first
+abbrev pub Erase : Code → Shape → List Turn → List (Said SourceEvent)
+Erase code s turns = erase bounds (one_thread code s) (opening_of bounds (one_thread code s) (opening_words code s)) turns
+
+-- ---- waiting
+abbrev pub Waits : Code → Shape → Global Machine → ℕ → Type 0
+Waits code s g t = waits_now code s g.words (g.threads t) ≡ true
+
+-- it is neither gone nor stopped
+abbrev pub IsOn : Global Machine → ℕ → Type 0
+IsOn g t = (g.started t ≡ true) × (may_go (g.threads t).at.state ≡ true)
+
+-- some thread is on, and every such thread waits
+pub record IsStuck (code : Code) (s : Shape) (g : Global Machine) : Type 0 where
+  pub some : (t : ℕ) × IsOn g t
+  pub all : (t : ℕ) → IsOn g t → Waits code s g t
+
+abbrev pub Stuck : Code → Shape → List Turn → Type 0
+Stuck code s turns = IsStuck code s (place_after code s turns)

@@ -1,0 +1,14 @@
+//! Laws of checked runs. A proof above has them where its function calls this.
+
+ghost use Rattle.sharc_code.specs.Laws.{RunLaws};
+
+use sharc_word::history_laws;
+
+/// What holds of every checked run: it is a run by turns of the whole machine, and the other way round; runs join; where a run
+/// stands is told by its parts; a turn changes no other thread, counts as an event where it is no failed try, and comes from no thread
+/// that is stopped or gone; the source events are by thread those of the paths; and a run is that of its schedule.
+pub fn run_laws()
+    ensures { RunLaws }
+{
+    history_laws();
+}
