@@ -1,2 +1,4 @@
-pub mod Places
 pub mod ByTurns
+pub mod Merged
+pub mod Paths
+pub mod Places

@@ -9,7 +9,7 @@ use Rattle.sharc_code.specs.Runs.{put}
 pub eq_refl : (n : ℕ) → nat_eq n n ≡ true
 eq_refl n = grind (arith, nat_tests)
 
-ne_eq : (m n : ℕ) → (m ≡ n → ⊥) → nat_eq m n ≡ false
+pub ne_eq : (m n : ℕ) → (m ≡ n → ⊥) → nat_eq m n ≡ false
 ne_eq m n ne = grind (arith, nat_tests)
 
 pub put_same : {A : Type 0} (f : ℕ → A) (i : ℕ) (v : A) → put f i v i ≡ v

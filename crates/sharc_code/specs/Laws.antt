@@ -1,13 +1,14 @@
 -- Laws of checked runs, for the crates above.
 use Rattle.std.specs.Prelude.{ℕ, ◌+◌, ◌≡◌, ◌≢◌, ◌≤◌, ◌↔◌, false, List, ◌++◌}
 use Rattle.sharc_word.specs.Words.{words_after}
+use Rattle.sharc_word.specs.declared.step.WordEvent.{WordEvent}
 use Rattle.sharc_tree.specs.declared.event.SourceEvent.{SourceEvent}
 use Rattle.sharc_code.specs.declared.code.Code.{Code}
 use Rattle.sharc_code.specs.declared.shape.Shape.{Shape}
 use Rattle.sharc_code.specs.Machine.{Machine}
-use Rattle.sharc_code.specs.Path.{may_go, counted}
-use Rattle.sharc_code.specs.Runs.{OneThread, Bounds, Turn, Global, CheckedFrom, IsRun, MayTurn, opening_of, at, after_turn, state_now, state_after, made_in, turns_of, word_events, was_started, erase, said_by, path_says, pairs_of, scheduled, threads_of}
-use Rattle.sharc_code.specs.Whole.{one_thread, opening_words, bounds, CheckedRun}
+use Rattle.sharc_code.specs.Path.{may_go, counted, machine_after, events_of_path, IsPath as IsCodePath, made_in as made_in_path}
+use Rattle.sharc_code.specs.Runs.{IsPath, Owns, Parts, Round, OneThread, Bounds, Turn, Global, CheckedFrom, IsRun, MayTurn, opening_of, at, after_turn, state_now, state_after, made_in, turns_of, word_events, was_started, erase, said_by, path_says, pairs_of, scheduled, threads_of}
+use Rattle.sharc_code.specs.Whole.{turns_by, one_thread, opening_words, bounds, CheckedRun}
 
 -- a checked run is a run by turns of the whole machine, and the other way round
 abbrev pub CheckedRunsAreRuns : Type 0
@@ -72,6 +73,31 @@ abbrev pub RunsAreScheduled : Type 0
 RunsAreScheduled = (b : Bounds) (code : Code) (s : Shape) (from : Global Machine) (turns : List Turn)
     → IsRun b (one_thread code s) from turns → turns ≡ scheduled b (one_thread code s) from (threads_of turns)
 
+-- a path of one thread, as turns
+pub record IsPathOf (code : Code) (s : Shape) (t : ℕ) (m : Machine) (founds : List ℕ) (turns : List Turn) : Type 0 where
+  pub path : IsPath (one_thread code s) m turns
+  pub own : Owns t turns
+  pub machine : state_after (one_thread code s) m turns ≡ machine_after code s m founds
+  pub events : t ≡ m.own.number → word_events turns ≡ events_of_path code s m founds
+  pub made : made_in (one_thread code s) m turns ≡ made_in_path code s m founds
+
+-- the found words of a path are turns, with the same events
+abbrev pub PathsAreTurns : Type 0
+PathsAreTurns = (code : Code) (s : Shape) (t : ℕ) (m : Machine) (founds : List ℕ) → IsCodePath code s m founds → IsPathOf code s t m founds (turns_by code s t m founds)
+
+-- paths of started threads, whose word events are the parts of one history, are a checked run from where they began
+pub record IsMerged (b : Bounds) (m : OneThread Machine SourceEvent) (from : Global Machine) (paths : ℕ → List Turn) (history : List WordEvent) : Type 0 where
+  pub turns : List Turn
+  pub parts : (t : ℕ) → turns_of t turns ≡ paths t
+  pub events : word_events turns ≡ history
+  pub run : CheckedFrom b m from turns
+  pub words : (at b m from turns).words ≡ words_after from.words history
+  pub threads : (t : ℕ) → (at b m from turns).threads t ≡ state_after m (from.threads t) (paths t)
+
+abbrev pub RoundsAreRuns : Type 0
+RoundsAreRuns = (b : Bounds) (code : Code) (s : Shape) (from : Global Machine) (n : ℕ) (paths : ℕ → List Turn) (history : List WordEvent)
+    → Parts n paths history → Round b (one_thread code s) from paths history → IsMerged b (one_thread code s) from paths history
+
 -- the laws of checked runs together
 pub record RunLaws : Type 0 where
   pub checked : CheckedRunsAreRuns
@@ -85,3 +111,5 @@ pub record RunLaws : Type 0 where
   pub stopped : StoppedMakeNone
   pub erased : ErasedByThread
   pub is_scheduled : RunsAreScheduled
+  pub paths : PathsAreTurns
+  pub rounds : RoundsAreRuns

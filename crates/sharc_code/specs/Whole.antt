@@ -1,16 +1,19 @@
 -- The checked runs of a code: what its threads do, the words that they open with, what a run tells of the source, and where it is stuck.
-use Rattle.std.specs.Prelude.{ℕ, ◌+◌, ◌-◌, ◌*◌, ◌≡◌, ◌==◌, true, ◌&&◌, nat_lt, nat_le, List, map, slice_index, if◌then◌else◌}
+use Rattle.std.specs.Prelude.{ℕ, ◌+◌, ◌-◌, ◌*◌, ◌≡◌, ◌==◌, Bool, true, false, ◌&&◌, nat_lt, nat_le, List, [], ◌∷◌, map, Option, Some, None, slice_index, if◌then◌else◌}
 use Rattle.std.specs.List.{range_with_len}
 use Rattle.sharc_word.specs.declared.step.TheConstants.{THREADS}
+use Rattle.sharc_word.specs.declared.step.WordEvent.{WordEvent}
+use Rattle.sharc_word.specs.Place.{event_of}
 use Rattle.sharc_tree.specs.declared.event.SourceEvent.{SourceEvent}
 use Rattle.sharc_code.specs.declared.code.Code.{Code}
 use Rattle.sharc_code.specs.declared.shape.Shape.{Shape}
 use Rattle.sharc_code.specs.Layout.{first_cell, words_of, top_word, next_thread_word, state_word, function_word}
 use Rattle.sharc_code.specs.Machine.{Machine, instr_at}
-use Rattle.sharc_code.specs.Path.{begun, turn, after, asked_by, may_go, counted}
+use Rattle.sharc_code.specs.Machine as Step
+use Rattle.sharc_code.specs.Path.{begun, machine_after, turn, after, asked_by, may_go, counted}
 use Rattle.sharc_code.specs.Says.{says, speaks_of, elements_in}
 use Rattle.sharc_code.specs.Waits.{waits_now}
-use Rattle.sharc_code.specs.Runs.{Said, OneThread, Bounds, Turn, Global, CheckedRunOf, at, opening_of, erase}
+use Rattle.sharc_code.specs.Runs.{Said, OneThread, Bounds, Turn, turn_with, Global, CheckedRunOf, at, opening_of, erase}
 
 -- ---- the opening words
 -- the first cell of the globals, and the first of the heap
@@ -79,3 +82,15 @@ pub record IsStuck (code : Code) (s : Shape) (g : Global Machine) : Type 0 where
 
 abbrev pub Stuck : Code → Shape → List Turn → Type 0
 Stuck code s turns = IsStuck code s (place_after code s turns)
+
+-- ---- paths as turns
+-- the event of a turn of this thread, if its step was made
+abbrev pub event_in : ℕ → Step.Turn → ℕ → Option WordEvent
+event_in t (Step.Local m) found = None
+event_in t (Step.Asks step go) found = Some (event_of t step found)
+
+-- the turns of a path of this thread from a machine
+abbrev pub turns_by : Code → Shape → ℕ → Machine → List ℕ → List Turn
+turns_by code s t m [] = []
+turns_by code s t m (found ∷ earlier) =
+    turn_with t (event_in t (turn code s (machine_after code s m earlier)) found) ∷ turns_by code s t m earlier

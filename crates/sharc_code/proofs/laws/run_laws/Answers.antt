@@ -3,6 +3,8 @@ use Rattle.sharc_code.specs.Whole.{one_thread, opening_words, bounds}
 use Rattle.sharc_code.specs.Runs.{opening_of, made_now, state_now}
 use Rattle.sharc_code.proofs.Places.{put_same, put_other}
 use Rattle.sharc_code.proofs.ByTurns.{at_join, runs_join, runs_part, words_are, threads_are, started_are, made_are, checked_runs, runs_checked, room, erased, is_scheduled}
+use Rattle.sharc_code.proofs.Merged.{merge, round_checked, round_words, round_threads}
+use Rattle.sharc_code.proofs.Paths.{path_of}
 use Rattle.sharc_code.proofs.laws.run_laws.Goals as goal
 
 pub returns : goal.returns
@@ -27,4 +29,15 @@ returns c = let laws = c.history_laws.ensures in record {
   stopped = λ b code s g turn off may. absurd (cc);
   erased = λ b code s from turns t. erased laws b (one_thread code s) from turns t;
   is_scheduled = λ b code s from turns run. is_scheduled laws b (one_thread code s) from turns run;
+  paths = λ code s t m founds path. path_of code s t m founds path;
+  rounds = λ b code s from n paths history parts round.
+      let m = one_thread code s in
+      let x = merge n paths history parts in
+      record {
+        turns = x.turns;
+        parts = x.parts;
+        events = x.events;
+        run = round_checked b m from paths history round x;
+        words = round_words laws b m from paths history x;
+        threads = round_threads laws b m from paths history x };
 }
