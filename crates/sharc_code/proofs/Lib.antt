@@ -1,4 +1,5 @@
 pub mod ByTurns
 pub mod Merged
+pub mod Opened
 pub mod Paths
 pub mod Places

@@ -1,5 +1,5 @@
 -- The paths of some threads, whose word events are the parts of one history, are the parts of one list of turns with that history.
-use Rattle.std.proofs.Common.{◌≡◌, ℕ, zero, suc, ◌+◌, ◌<◌, ◌≤◌, true, false, cond, List, [], ◌∷◌, ◌++◌, length, Option, Some, None, refl, sym, ap, ◌∙◌, subst, ⊎_elim, arith, eq-eqb, ne_eqb}
+use Rattle.std.proofs.Common.{◌≡◌, ℕ, zero, suc, ◌+◌, ◌<◌, ◌≤◌, true, false, cond, List, [], ◌∷◌, ◌++◌, Option, Some, None, refl, sym, ap, ◌∙◌, subst, ⊎_elim, arith, eq-eqb, ne_eqb}
 use Rattle.std.specs.Prelude.{nat_eq}
 use Rattle.std.proofs.lemmas.Bool.{cases_eq, cases_lt, or_right}
 use Rattle.std.proofs.lemmas.List.{append-nil, append_assoc}
@@ -93,11 +93,14 @@ split e l (x ∷ xs) h = by (λ k. split e l xs k) x.event refl
     by more None n =
         let s = more (sym (append-nil (word_events xs)) ∙ ap (λ o. word_events xs ++ event_list o) (sym n) ∙ h) in
         record {
-          later = x ∷ s.later; turn = s.turn; rest = s.rest;
+          later = x ∷ s.later;
+          turn = s.turn;
+          rest = s.rest;
           is = ap (λ ys. x ∷ ys) s.is;
           event = s.event;
           silent = ap (λ o. word_events s.later ++ event_list o) n ∙ append-nil (word_events s.later) ∙ s.silent;
-          before = s.before }
+          before = s.before;
+        }
     by more (Some f) n =
         let ends = same_end (word_events xs) l f e (ap (λ o. word_events xs ++ event_list o) (sym n) ∙ h) in
         record { later = []; turn = x; rest = xs; is = refl; event = n ∙ ap Some ends.1; silent = refl; before = ends.0 }
@@ -119,11 +122,11 @@ gather_below zero paths o t lt = absurd (omega arith)
 gather_below (suc n) paths o t lt =
     turns_of-append t (paths n) (gather n paths)
     ∙ ⊎_elim
-      (λ (e : t ≡ n).
-        ap (λ xs. turns_of t (paths n) ++ xs) (gather_above n paths o t (omega arith)) ∙ append-nil (turns_of t (paths n))
-        ∙ ap (λ n. turns_of t (paths n)) (sym e) ∙ owned t (paths t) (o t))
-      (λ (ne : t ≡ n → ⊥). ap (λ xs. xs ++ turns_of t (gather n paths)) (not_owned t n (paths n) ne (o n)) ∙ gather_below n paths o t (omega arith))
-      (cases_eq t n)
+    (λ (e : t ≡ n).
+    ap (λ xs. turns_of t (paths n) ++ xs) (gather_above n paths o t (omega arith)) ∙ append-nil (turns_of t (paths n))
+    ∙ ap (λ n. turns_of t (paths n)) (sym e) ∙ owned t (paths t) (o t))
+    (λ (ne : t ≡ n → ⊥). ap (λ xs. xs ++ turns_of t (gather n paths)) (not_owned t n (paths n) ne (o n)) ∙ gather_below n paths o t (omega arith))
+    (cases_eq t n)
 
 gather_silent : (n : ℕ) (paths : ℕ → List Turn) → ((t : ℕ) → word_events (paths t) ≡ []) → word_events (gather n paths) ≡ []
 gather_silent zero paths h = refl
@@ -139,10 +142,11 @@ merge_by : (n : ℕ) (es : List WordEvent) (paths : ℕ → List Turn) → Parts
 merge_by n [] paths p = record {
   turns = gather n paths;
   parts = λ t. ⊎_elim
-    (λ (lt : t < n). gather_below n paths p.own t lt)
-    (λ (le : n ≤ t). gather_above n paths p.own t le ∙ sym (p.few t le))
-    (cases_lt t n);
-  events = gather_silent n paths p.events }
+      (λ (lt : t < n). gather_below n paths p.own t lt)
+      (λ (le : n ≤ t). gather_above n paths p.own t le ∙ sym (p.few t le))
+      (cases_lt t n);
+  events = gather_silent n paths p.events;
+}
 merge_by n (e ∷ es) paths p =
     let t = e.thread in
     let l = chrono es in
@@ -152,25 +156,27 @@ merge_by n (e ∷ es) paths p =
     let p' : Parts n paths' l = record {
       events = put_all (λ u xs. word_events xs ≡ events_of u l) paths t s.rest s.before (λ u ne. p.events u ∙ events_other u l e (λ i. ne (sym i)));
       few = put_all (λ u xs. n ≤ u → xs ≡ []) paths t s.rest (λ le. absurd (not_none s.later s.rest s.turn (sym s.is ∙ p.few t le))) (λ u _ le. p.few u le);
-      own = put_all Owns paths t s.rest owns.1.1 (λ u _. p.own u) } in
+      own = put_all Owns paths t s.rest owns.1.1 (λ u _. p.own u);
+    } in
     let m = merge_by n es paths' p' in
     let all = s.later ++ s.turn ∷ m.turns in
     record {
       turns = all;
       parts = λ u. turns_of-append u s.later (s.turn ∷ m.turns) ∙ ⊎_elim
-        (λ (i : u ≡ t).
+          (λ (i : u ≡ t).
           let here : turns_of t (s.turn ∷ m.turns) ≡ s.turn ∷ turns_of t m.turns = rw (ap (nat_eq t) owns.1.0 ∙ eq_refl t) refl in
           let mine : turns_of t s.later ++ turns_of t (s.turn ∷ m.turns) ≡ paths t =
-            ap (λ xs. xs ++ turns_of t (s.turn ∷ m.turns)) (owned t s.later owns.0) ∙ ap (λ xs. s.later ++ xs) (here ∙ ap (λ xs. s.turn ∷ xs) (m.parts t ∙ put_same paths t s.rest)) ∙ sym s.is in
+          ap (λ xs. xs ++ turns_of t (s.turn ∷ m.turns)) (owned t s.later owns.0) ∙ ap (λ xs. s.later ++ xs) (here ∙ ap (λ xs. s.turn ∷ xs) (m.parts t ∙ put_same paths t s.rest)) ∙ sym s.is in
           subst (λ u. turns_of u s.later ++ turns_of u (s.turn ∷ m.turns) ≡ paths u) (sym i) mine)
-        (λ (ne : u ≡ t → ⊥).
+          (λ (ne : u ≡ t → ⊥).
           let there : turns_of u (s.turn ∷ m.turns) ≡ turns_of u m.turns = rw (ap (nat_eq u) owns.1.0 ∙ ne_eq u t ne) refl in
           ap (λ xs. xs ++ turns_of u (s.turn ∷ m.turns)) (not_owned u t s.later ne owns.0) ∙ there ∙ m.parts u ∙ put_other paths t u s.rest ne)
-        (cases_eq u t);
+          (cases_eq u t);
       events =
-        word_events-append s.later (s.turn ∷ m.turns)
-        ∙ ap (λ xs. word_events (s.turn ∷ m.turns) ++ xs) s.silent ∙ append-nil (word_events (s.turn ∷ m.turns))
-        ∙ ap (λ o. word_events m.turns ++ event_list o) s.event ∙ ap (λ xs. xs ++ e ∷ []) m.events }
+          word_events-append s.later (s.turn ∷ m.turns)
+          ∙ ap (λ xs. word_events (s.turn ∷ m.turns) ++ xs) s.silent ∙ append-nil (word_events (s.turn ∷ m.turns))
+          ∙ ap (λ o. word_events m.turns ++ event_list o) s.event ∙ ap (λ xs. xs ++ e ∷ []) m.events;
+    }
 
 pub merge : (n : ℕ) (paths : ℕ → List Turn) (history : List WordEvent) → Parts n paths history → Merged paths history
 merge n paths history p =
@@ -193,9 +199,10 @@ round_checked b m from paths history r x = record {
   legal = subst (LegalHistory from.words) (sym x.events) r.legal;
   paths = λ t. subst (IsPath m (from.threads t)) (sym (x.parts t)) (r.goes t);
   begun = λ later earlier turn is.
-    let t = turn.thread in
-    started_stays b from t earlier (r.started t (λ e. stands later earlier turn (ap (turns_of t) (sym is) ∙ x.parts t ∙ e)));
-  few = λ t. subst (λ xs. from.made t + made_in m (from.threads t) xs ≤ b.limit) (sym (x.parts t)) (r.room t) }
+      let t = turn.thread in
+      started_stays b from t earlier (r.started t (λ e. stands later earlier turn (ap (turns_of t) (sym is) ∙ x.parts t ∙ e)));
+  few = λ t. subst (λ xs. from.made t + made_in m (from.threads t) xs ≤ b.limit) (sym (x.parts t)) (r.room t);
+}
 
 -- where a round leads
 pub round_words : {S E : Type 0} (laws : HistoryLaws) (b : Bounds) (m : OneThread S E) (from : Global S) (paths : ℕ → List Turn) (history : List WordEvent) (x : Merged paths history) → (at b m from x.turns).words ≡ words_after from.words history

@@ -1,13 +1,10 @@
 -- The found words of a path are turns, with the same events.
-use Rattle.std.proofs.Common.{◌≡◌, ℕ, ◌+◌, List, [], ◌∷◌, ◌++◌, Option, Some, None, true, refl, sym, ap, ◌∙◌, subst}
-use Rattle.sharc_word.specs.declared.step.WordEvent.{WordEvent}
-use Rattle.sharc_word.specs.declared.step.WordStep.{WordStep}
-use Rattle.sharc_word.specs.Place.{event_of}
+use Rattle.std.proofs.Common.{◌≡◌, ℕ, ◌+◌, List, [], ◌∷◌, ◌++◌, true, refl, sym, ap, ◌∙◌, subst}
 use Rattle.sharc_code.specs.declared.code.Code.{Code}
 use Rattle.sharc_code.specs.declared.shape.Shape.{Shape}
 use Rattle.sharc_code.specs.Machine.{Machine, Turn as Act, Local, Asks}
 use Rattle.sharc_code.specs.Path.{turn, after, asked_by, events_of_turn, machine_after, events_of_path, may_go, counted, IsPath as IsCodePath, made_in as made_in_path}
-use Rattle.sharc_code.specs.Runs.{Turn, turn_with, result_of, step_of, event_list, IsOf, word_events, IsPath, IsNext, Owns, state_after, made_in}
+use Rattle.sharc_code.specs.Runs.{turn_with, result_of, step_of, event_list, IsOf, word_events, IsPath, IsNext, Owns, state_after, made_in}
 use Rattle.sharc_code.specs.Whole.{one_thread, event_in, turns_by}
 use Rattle.sharc_code.specs.Laws.{IsPathOf}
 
@@ -41,7 +38,7 @@ module _ (code : Code) (s : Shape) (t : ℕ) (m : Machine) where
   next found earlier go =
       let now = machine_after code s m earlier in
       subst (λ x. IsNext (one_thread code s) x (turn_with t (event_in t (turn code s now) found))) (sym (machine_is earlier))
-        record { runs = go; asks = asked t (turn code s now) found; own = own t (turn code s now) found }
+      record { runs = go; asks = asked t (turn code s now) found; own = own t (turn code s now) found }
 
   is_path : (founds : List ℕ) → IsCodePath code s m founds → IsPath (one_thread code s) m (turns_by code s t m founds)
   is_path [] p = tt

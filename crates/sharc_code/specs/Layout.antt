@@ -1,5 +1,5 @@
 -- The numbers of words, of granules and of cells.
-use Rattle.std.specs.Prelude.{ℕ, ◌≡◌, ◌≤◌, ◌+◌, ◌*◌, ◌/◌, nat_lt, length, if◌then◌else◌}
+use Rattle.std.specs.Prelude.{ℕ, ◌≡◌, ◌≤◌, ◌+◌, ◌*◌, ◌/◌, ◌^◌, ◌<◌, nat_lt, length, if◌then◌else◌}
 use Rattle.sharc_word.specs.declared.step.TheConstants.{THREADS}
 use Rattle.sharc_code.specs.declared.code.Code.{Code}
 use Rattle.sharc_code.specs.declared.shape.Shape.{Shape}
@@ -24,6 +24,10 @@ pub record Fits (code : Code) (s : Shape) : Type 0 where
   pub globals : s.globals ≡ code.granules
   pub least : 16 ≤ s.heap
   pub most : s.heap ≤ 65536
+
+-- the words have numbers of 32 bits
+pub record IsShape (s : Shape) : Type 0 where
+  pub small : words_of s < 2 ^ 32
 
 -- ---- what is not there
 -- N1: a granule number that is none is taken as 0

@@ -2,6 +2,7 @@ pub mod Arithmetic
 pub mod Laws
 pub mod Layout
 pub mod Machine
+pub mod Opening
 pub mod Path
 pub mod Runs
 pub mod Says

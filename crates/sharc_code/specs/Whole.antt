@@ -1,43 +1,18 @@
--- The checked runs of a code: what its threads do, the words that they open with, what a run tells of the source, and where it is stuck.
-use Rattle.std.specs.Prelude.{ℕ, ◌+◌, ◌-◌, ◌*◌, ◌≡◌, ◌==◌, Bool, true, false, ◌&&◌, nat_lt, nat_le, List, [], ◌∷◌, map, Option, Some, None, slice_index, if◌then◌else◌}
-use Rattle.std.specs.List.{range_with_len}
+-- The checked runs of a code: what its threads do, what a run tells of the source, and where it is stuck.
+use Rattle.std.specs.Prelude.{ℕ, ◌≡◌, true, List, [], ◌∷◌, map, Option, Some, None}
 use Rattle.sharc_word.specs.declared.step.TheConstants.{THREADS}
 use Rattle.sharc_word.specs.declared.step.WordEvent.{WordEvent}
 use Rattle.sharc_word.specs.Place.{event_of}
 use Rattle.sharc_tree.specs.declared.event.SourceEvent.{SourceEvent}
 use Rattle.sharc_code.specs.declared.code.Code.{Code}
 use Rattle.sharc_code.specs.declared.shape.Shape.{Shape}
-use Rattle.sharc_code.specs.Layout.{first_cell, words_of, top_word, next_thread_word, state_word, function_word}
 use Rattle.sharc_code.specs.Machine.{Machine, instr_at}
+use Rattle.sharc_code.specs.Opening.{opening_words}
 use Rattle.sharc_code.specs.Machine as Step
 use Rattle.sharc_code.specs.Path.{begun, machine_after, turn, after, asked_by, may_go, counted}
 use Rattle.sharc_code.specs.Says.{says, speaks_of, elements_in}
 use Rattle.sharc_code.specs.Waits.{waits_now}
 use Rattle.sharc_code.specs.Runs.{Said, OneThread, Bounds, Turn, turn_with, Global, CheckedRunOf, at, opening_of, erase}
-
--- ---- the opening words
--- the first cell of the globals, and the first of the heap
-abbrev pub first_global : Shape → ℕ
-first_global s = first_cell s + 2
-
-abbrev pub first_heap : Shape → ℕ
-first_heap s = first_global s + 2 * s.globals
-
-abbrev pub opening_cell : Code → Shape → ℕ → ℕ
-opening_cell code s word =
-    if nat_le (first_global s) word && nat_lt word (first_heap s) then slice_index code.initial.items (word - first_global s) else 0
-
--- what a word holds at first: the top, the next thread, the state and the function of thread 0, the globals' cells, and else 0
-abbrev pub opens_with : Code → Shape → ℕ → ℕ
-opens_with code s word =
-    if word == top_word then 1 + s.globals
-    else (if word == next_thread_word then 1
-    else (if word == state_word 0 then 1
-    else (if word == function_word 0 then code.main
-    else opening_cell code s word)))
-
-abbrev pub opening_words : Code → Shape → List ℕ
-opening_words code s = map (opens_with code s) (range_with_len 0 (words_of s))
 
 -- ---- runs
 abbrev pub one_thread : Code → Shape → OneThread Machine SourceEvent

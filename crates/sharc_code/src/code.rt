@@ -1,5 +1,7 @@
 //! The code of a program, with what its sites are in the source.
 
+ghost use Rattle.std.specs.Prelude.{◌≤◌};
+
 use crate::instr::Instr;
 use sharc_tree::name::Names;
 use sharc_tree::token::Site;
@@ -113,4 +115,6 @@ pub struct Code {
     pub texts: Vec<u8>,
     /// The names of the source's files.
     pub files: Names,
+    // So the words of a shape that fits have numbers of 32 bits.
+    ghost few_granules: { granules ≤ 65536 },
 }

@@ -1,7 +1,10 @@
-//! Laws of checked runs. A proof above has them where its function calls this.
+//! Laws of shapes and of checked runs. A proof above has them where its function calls these.
 
+ghost use Rattle.sharc_code.specs.Layout.{Fits, IsShape};
 ghost use Rattle.sharc_code.specs.Laws.{RunLaws};
 
+use crate::code::Code;
+use crate::shape::Shape;
 use sharc_word::history_laws;
 
 /// What holds of every checked run: it is a run by turns of the whole machine, and the other way round; runs join; where a run
@@ -12,3 +15,10 @@ pub fn run_laws()
 {
     history_laws();
 }
+
+/// A shape that fits a code has words with numbers of 32 bits.
+#[inline(always)]
+pub fn fits_law(code: &Code, shape: &Shape)
+    requires { Fits code.now shape.now }
+    ensures { IsShape shape.now }
+{}

@@ -9,11 +9,15 @@
 mod code;
 mod instr;
 mod laws;
+mod layout;
 mod shape;
 mod state;
+mod words;
 
 pub use code::{Code, Function, GlobalCells, Layout, Parameter, PlaceMode, SourcePlace, Text, Use};
 pub use instr::{Cell, Instr, Operator, Register, Width};
-pub use laws::run_laws;
+pub use laws::{fits_law, run_laws};
+pub use layout::{NEXT_THREAD, PRINTS, TOP, argument_word, cell_of, function_word, state_word};
 pub use shape::Shape;
 pub use state::{At, ConflictAt, FRAMES, Frame, Print, Stage, State, Stop, Wait};
+pub use words::opening;

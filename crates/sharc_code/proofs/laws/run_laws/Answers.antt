@@ -1,5 +1,6 @@
 use Rattle.std.proofs.Common.{arith}
-use Rattle.sharc_code.specs.Whole.{one_thread, opening_words, bounds}
+use Rattle.sharc_code.specs.Opening.{opening_words}
+use Rattle.sharc_code.specs.Whole.{one_thread, bounds}
 use Rattle.sharc_code.specs.Runs.{opening_of, made_now, state_now}
 use Rattle.sharc_code.proofs.Places.{put_same, put_other}
 use Rattle.sharc_code.proofs.ByTurns.{at_join, runs_join, runs_part, words_are, threads_are, started_are, made_are, checked_runs, runs_checked, room, erased, is_scheduled}
@@ -39,5 +40,6 @@ returns c = let laws = c.history_laws.ensures in record {
         events = x.events;
         run = round_checked b m from paths history round x;
         words = round_words laws b m from paths history x;
-        threads = round_threads laws b m from paths history x };
+        threads = round_threads laws b m from paths history x;
+      };
 }
