@@ -6,5 +6,6 @@ pub mod Opening
 pub mod Path
 pub mod Runs
 pub mod Says
+pub mod ThreadLaws
 pub mod Waits
 pub mod Whole

@@ -1,7 +1,8 @@
-//! Laws of shapes and of checked runs. A proof above has them where its function calls these.
+//! Laws of shapes, of threads and of checked runs. A proof above has them where its function calls these.
 
 ghost use Rattle.sharc_code.specs.Layout.{Fits, IsShape};
 ghost use Rattle.sharc_code.specs.Laws.{RunLaws};
+ghost use Rattle.sharc_code.specs.ThreadLaws.{ThreadLaws};
 
 use crate::code::Code;
 use crate::shape::Shape;
@@ -21,4 +22,11 @@ pub fn run_laws()
 pub fn fits_law(code: &Code, shape: &Shape)
     requires { Fits code.now shape.now }
     ensures { IsShape shape.now }
+{}
+
+/// What holds of each turn of a thread: its number stays; it waits exactly where its next turn would be a failed try; and a failed try
+/// changes nothing else.
+#[inline(always)]
+pub fn thread_laws()
+    ensures { ThreadLaws }
 {}

@@ -16,7 +16,7 @@ mod words;
 
 pub use code::{Code, Function, GlobalCells, Layout, Parameter, PlaceMode, SourcePlace, Text, Use};
 pub use instr::{Cell, Instr, Operator, Register, Width};
-pub use laws::{fits_law, run_laws};
+pub use laws::{fits_law, run_laws, thread_laws};
 pub use layout::{NEXT_THREAD, PRINTS, TOP, argument_word, cell_of, function_word, state_word};
 pub use shape::Shape;
 pub use state::{At, ConflictAt, FRAMES, Frame, Print, Stage, State, Stop, Wait};
