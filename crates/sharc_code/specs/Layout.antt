@@ -30,15 +30,15 @@ pub record IsShape (s : Shape) : Type 0 where
   pub small : words_of s < 2 ^ 32
 
 -- ---- what is not there
--- N1: a granule number that is none is taken as 0
+-- a granule number that is none is taken as 0
 abbrev pub granule_at : Shape → ℕ → ℕ
 granule_at s granule = if nat_lt granule (granules s) then granule else 0
 
--- N2: so is a word number
+-- so is a word number
 abbrev pub word_at : Shape → ℕ → ℕ
 word_at s word = if nat_lt word (words_of s) then word else 0
 
--- N3: a function number that is none is taken as that of main
+-- a function number that is none is taken as that of main
 abbrev pub function_at : Code → ℕ → ℕ
 function_at code function = if nat_lt function (length code.functions.items) then function else code.main
 
