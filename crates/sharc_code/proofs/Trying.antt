@@ -1,0 +1,108 @@
+-- A thread waits where its next turn would be a failed try, and a failed try changes nothing else.
+use Rattle.std.proofs.Common.{◌≡◌, ℕ, ℤ, pos, negsuc, Bool, true, false, not, ◌||◌, ◌==◌, nat_lt, Some, None, List, if◌then◌else◌, refl, sym, ap, ◌∙◌, subst, eqb-true}
+use Rattle.std.specs.Prelude.{◌↔◌, slice_index}
+use Rattle.sharc_word.specs.declared.step.WordOp.TheVariants as ops
+use Rattle.sharc_word.specs.declared.step.TheConstants.{THREADS}
+use Rattle.sharc_cond.specs.Waiters.{waits_in}
+use Rattle.sharc_code.specs.declared.code.Code.{Code}
+use Rattle.sharc_code.specs.declared.instr.Instr.{Instr}
+use Rattle.sharc_code.specs.declared.shape.Shape.{Shape}
+use Rattle.sharc_code.specs.declared.state.State.TheVariants.{Tries}
+use Rattle.sharc_code.specs.declared.state.Wait.TheVariants as waits
+use Rattle.sharc_code.specs.Layout.{state_word}
+use Rattle.sharc_code.specs.Machine.{Machine, Local, Asks, step_of, act, int, word, fails, goes, trapped, joined, join, instr_at}
+use Rattle.sharc_code.specs.Path.{after, may_go}
+use Rattle.sharc_code.specs.Waits.{asks_for, joins, held_up, waits_now}
+use Rattle.sharc_code.specs.ThreadLaws.{found_now, behind}
+use Rattle.sharc_code.proofs.Moving.{Moves, is_try, Sorted, Other, Locks, Joins, Conds, sorted}
+
+untried : (m x : Machine) → is_try x.at.state ≡ false → x.at.state ≡ Tries → ⊥
+untried m x off is = let e : is_try Tries ≡ false = ap is_try (sym is) ∙ off in cc
+
+-- ---- a failed try changes nothing
+pub record Trying (m x : Machine) : Type 0 where
+  pub number : x.own.number ≡ m.own.number
+  pub same : x.at.state ≡ Tries → x ≡ fails m
+
+moved : (m x : Machine) → Moves m x → Trying m x
+moved m x h = record { number = h.number; same = λ is. absurd (untried m x h.untried is) }
+
+failed : (m : Machine) → Trying m (fails m)
+failed m = record { number = refl; same = λ is. refl }
+
+either : (m : Machine) (b : Bool) (x y : Machine) → Trying m x → Trying m y → Trying m (if b then x else y)
+either m true x y h k = h
+either m false x y h k = k
+
+at_joined : (m : Machine) (site found : ℕ) → Trying m (joined m site found)
+at_joined m site found = either m (found == 0) _ _ (moved m _ (record { number = refl; untried = refl }))
+    (either m (found == 1 || found == 2) _ _ (failed m) (moved m _ (record { number = refl; untried = refl })))
+
+at_join : (m : Machine) (z : ℤ) (site found : ℕ) → Trying m (after (join m z site) found)
+at_join m (pos n) site found =
+    elim (nat_lt n THREADS) as (λ b. Trying m (after (if b then Asks (step_of (state_word n) ops.Load) (joined m site) else Local (trapped m 7 site)) found)) [
+      | true ↦ at_joined m site found
+      | false ↦ moved m _ (record { number = refl; untried = refl })
+    ]
+at_join m (negsuc n) site found = moved m _ (record { number = refl; untried = refl })
+
+pub trying : (code : Code) (s : Shape) (m : Machine) (i : Instr) (found : ℕ) → Trying m (after (act code s i m) found)
+trying code s m i found = by i (sorted code s m i)
+  where
+    by : (i : Instr) → Sorted code s m i → Trying m (after (act code s i m) found)
+    by i (Other none moves) = moved m _ (moves found)
+    by i (Locks cell site is) = subst (λ i. Trying m (after (act code s i m) found)) (sym is)
+        (either m (found == 0) _ _ (moved m _ (record { number = refl; untried = refl })) (failed m))
+    by i (Joins r site is) = subst (λ i. Trying m (after (act code s i m) found)) (sym is) (at_join m (int m r) site found)
+    by i (Conds cell site is) = subst (λ i. Trying m (after (act code s i m) found)) (sym is)
+        (either m (waits_in found m.own.number) _ _ (failed m) (moved m _ (record { number = refl; untried = refl })))
+
+-- ---- waiting
+no_wait : (m x : Machine) (b : Bool) → b ≡ false → is_try x.at.state ≡ false → (b ≡ true) ↔ (x.at.state ≡ Tries)
+no_wait m x b out off = ((λ on. absurd (let e : false ≡ true = sym out ∙ on in cc)), (λ is. absurd (untried m x off is)))
+
+unless : (m : Machine) (b : Bool) (x : Machine) → is_try x.at.state ≡ false → (not b ≡ true) ↔ ((if b then x else fails m).at.state ≡ Tries)
+unless m true x off = no_wait m x false refl off
+unless m false x off = ((λ h. refl), (λ h. refl))
+
+provided : (m : Machine) (b : Bool) (x : Machine) → is_try x.at.state ≡ false → (b ≡ true) ↔ ((if b then fails m else x).at.state ≡ Tries)
+provided m true x off = ((λ h. refl), (λ h. refl))
+provided m false x off = no_wait m x false refl off
+
+join_waits : (m : Machine) (site found : ℕ) → ((found == 1 || found == 2) ≡ true) ↔ ((joined m site found).at.state ≡ Tries)
+join_waits m site found =
+    elim (found == 0) as (λ b. (found == 0) ≡ b → ((found == 1 || found == 2) ≡ true) ↔ ((if b then trapped m 7 site else (if found == 1 || found == 2 then fails m else goes m)).at.state ≡ Tries)) [
+      | true ↦ λ e.
+          let zero : found ≡ 0 = eqb-true found 0 e in
+          no_wait m (trapped m 7 site) (found == 1 || found == 2) (ap (λ f. f == 1 || f == 2) zero) refl
+      | false ↦ λ e. provided m (found == 1 || found == 2) (goes m) refl
+    ] refl
+
+module _ (code : Code) (s : Shape) (words : List ℕ) (m : Machine) where
+  at_join_waits : (z : ℤ) (site : ℕ) → (held_up words m.own.number (joins z site) ≡ true) ↔ ((after (join m z site) (found_now words (join m z site))).at.state ≡ Tries)
+  at_join_waits (pos n) site =
+      elim (nat_lt n THREADS) as (λ b.
+      (held_up words m.own.number (if b then Some (waits.Join n site) else None) ≡ true)
+      ↔ ((after (if b then Asks (step_of (state_word n) ops.Load) (joined m site) else Local (trapped m 7 site))
+      (found_now words (if b then Asks (step_of (state_word n) ops.Load) (joined m site) else Local (trapped m 7 site)))).at.state ≡ Tries)) [
+        | true ↦ join_waits m site (slice_index words (state_word n))
+        | false ↦ no_wait m (trapped m 7 site) false refl refl
+      ]
+  at_join_waits (negsuc n) site = no_wait m (trapped m 7 site) false refl refl
+
+  asks_waits : (i : Instr) → Sorted code s m i → (held_up words m.own.number (asks_for s i m) ≡ true) ↔ ((after (act code s i m) (found_now words (act code s i m))).at.state ≡ Tries)
+  asks_waits i (Other none moves) = no_wait m (after (act code s i m) (found_now words (act code s i m))) (held_up words m.own.number (asks_for s i m)) (ap (held_up words m.own.number) none) (moves (found_now words (act code s i m))).untried
+  asks_waits i (Locks cell site is) =
+      subst (λ i. (held_up words m.own.number (asks_for s i m) ≡ true) ↔ ((after (act code s i m) (found_now words (act code s i m))).at.state ≡ Tries)) (sym is)
+      (unless m (slice_index words (word s m cell) == 0) _ refl)
+  asks_waits i (Joins r site is) =
+      subst (λ i. (held_up words m.own.number (asks_for s i m) ≡ true) ↔ ((after (act code s i m) (found_now words (act code s i m))).at.state ≡ Tries)) (sym is)
+      (at_join_waits (int m r) site)
+  asks_waits i (Conds cell site is) =
+      subst (λ i. (held_up words m.own.number (asks_for s i m) ≡ true) ↔ ((after (act code s i m) (found_now words (act code s i m))).at.state ≡ Tries)) (sym is)
+      (provided m (waits_in (slice_index words (word s m cell)) m.own.number) _ refl)
+
+  pub waits_where : may_go m.at.state ≡ true → (waits_now code s words m ≡ true) ↔ ((behind code s words m).at.state ≡ Tries)
+  waits_where on =
+      let i = instr_at code m.at.pc in
+      subst (λ b. (held_up words m.own.number (if b then asks_for s i m else None) ≡ true) ↔ ((behind code s words m).at.state ≡ Tries)) (sym on) (asks_waits i (sorted code s m i))

@@ -1,0 +1,10 @@
+use Rattle.sharc_code.specs.Machine.{instr_at}
+use Rattle.sharc_code.proofs.Trying.{trying, waits_where}
+use Rattle.sharc_code.proofs.laws.thread_laws.Goals as goal
+
+pub returns : goal.returns
+returns c = record {
+  number = λ code s m found. (trying code s m (instr_at code m.at.pc) found).number;
+  tries = λ code s m found is. (trying code s m (instr_at code m.at.pc) found).same is;
+  waits = λ code s words m on. waits_where code s words m on;
+}

@@ -1,0 +1,11 @@
+pub mod Arithmetic
+pub mod Laws
+pub mod Layout
+pub mod Machine
+pub mod Opening
+pub mod Path
+pub mod Runs
+pub mod Says
+pub mod ThreadLaws
+pub mod Waits
+pub mod Whole
