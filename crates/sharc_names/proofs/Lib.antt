@@ -1,0 +1,4 @@
+pub mod FieldLemmas
+pub mod FirstLemmas
+pub mod StructLemmas
+pub mod TableLemmas

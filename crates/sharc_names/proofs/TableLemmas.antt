@@ -1,0 +1,70 @@
+-- The table of names agrees with its log.
+use Rattle.std.proofs.Common.{◌≡◌, ℕ, ◌-◌, ◌<◌, ◌≤◌, suc, length, drop, arith, Bool, true, false, cond, List, [], ◌∷◌, ◌++◌, reverse, refl, ap, sym, subst, ◌∙◌, Option, Some}
+use Rattle.std.proofs.lemmas.List.{reverse-append}
+use Rattle.std.proofs.lemmas.Slice.Eq.{bytes_eq-Decides}
+use Rattle.std.specs.Borrow.{Bor}
+use Rattle.std.specs.Map.{lookup}
+use Rattle.std.specs.Str.{bytes_eq}
+use Rattle.sharc_names.specs.declared.meaning.Bound.{Bound}
+use Rattle.sharc_names.specs.declared.names.Shadow.{Shadow}
+use Rattle.sharc_names.specs.Names.{Entry, look_up}
+use Rattle.sharc_names.specs.View.{view_bound, view_bounds}
+use Rattle.sharc_names.specs.Table.{entries, in_scope, newest_of, table_at, HidesOlder, IsKept}
+
+abbrev Table : Type 0
+Table = List (Bor (List ℕ) × Option Bound)
+
+reverse_push : (log : List Shadow) (s : Shadow) → reverse (log ++ s ∷ []) ≡ s ∷ reverse log
+reverse_push log s = reverse-append log (s ∷ [])
+
+pub in_scope_push : (log : List Shadow) (s : Shadow) → in_scope (log ++ s ∷ []) ≡ view_bound s.bound ∷ in_scope log
+in_scope_push log s = ap entries (reverse_push log s)
+
+newest_of_cond : (b : Bool) (w x : Option (Option Bound)) → newest_of (cond b w x) ≡ cond b (newest_of w) (newest_of x)
+newest_of_cond true w x = refl
+newest_of_cond false w x = refl
+
+-- a table after a write: what `insert` ensures, read by bytes
+abbrev pub Writes : List ℕ → Option Bound → Table → Table → Type 0
+Writes name bound old new = (q : List ℕ) → lookup (λ k. bytes_eq q k.now) new ≡ cond (bytes_eq name q) (Some bound) (lookup (λ k. bytes_eq q k.now) old)
+
+table_written : (name : List ℕ) (bound : Option Bound) (old new : Table) → Writes name bound old new → (q : List ℕ) → table_at new q ≡ cond (bytes_eq name q) (view_bounds bound) (table_at old q)
+table_written name bound old new writes q = ap newest_of (writes q) ∙ newest_of_cond (bytes_eq name q) (Some bound) (lookup (λ k. bytes_eq q k.now) old)
+
+pub kept_push : (log : List Shadow) (s : Shadow) (old new : Table) → IsKept log old → Writes s.bound.name.now (Some s.bound) old new → view_bounds s.hidden ≡ look_up (in_scope log) s.bound.name.now → IsKept (log ++ s ∷ []) new
+kept_push log s old new kept writes hidden = record {
+  newest = λ q.
+      table_written s.bound.name.now (Some s.bound) old new writes q
+      ∙ ap (cond (bytes_eq s.bound.name.now q) (Some (view_bound s.bound))) (kept.newest q)
+      ∙ sym (ap (λ l. look_up l q) (in_scope_push log s));
+  hides = subst HidesOlder (sym (reverse_push log s)) (hidden, kept.hides);
+}
+
+unwritten : (b : Bool) (e : Entry) (h x t : Option Entry) → (b ≡ true → h ≡ x) → t ≡ cond b (Some e) x → cond b h t ≡ x
+unwritten true e h x t same is = same refl
+unwritten false e h x t same is = is
+
+same_name : (a b : List ℕ) → bytes_eq a b ≡ true → a ≡ b
+same_name a b e = (bytes_eq-Decides a b).0 e
+
+pub kept_pop : (log : List Shadow) (s : Shadow) (old new : Table) → IsKept (log ++ s ∷ []) old → Writes s.bound.name.now s.hidden old new → IsKept log new
+kept_pop log s old new kept writes =
+    let hides : HidesOlder (s ∷ reverse log) = subst HidesOlder (reverse_push log s) kept.hides in
+    record {
+      newest = λ q.
+          table_written s.bound.name.now s.hidden old new writes q
+          ∙ unwritten (bytes_eq s.bound.name.now q) (view_bound s.bound) (view_bounds s.hidden) (look_up (in_scope log) q) (table_at old q)
+          (λ e. hides.0 ∙ ap (look_up (in_scope log)) (same_name s.bound.name.now q e))
+          (kept.newest q ∙ ap (λ l. look_up l q) (in_scope_push log s));
+      hides = hides.1;
+    }
+
+dropped : (names : List Entry) (mark : ℕ) → mark < length names → (mark ≤ length (drop 1 names)) × (drop (length (drop 1 names) - mark) (drop 1 names) ≡ drop (length names - mark) names)
+dropped [] mark below = absurd (omega arith)
+dropped (e ∷ rest) mark below =
+    let n : suc (length rest - mark) ≡ suc (length rest) - mark = omega arith in
+    (omega arith, ap (λ k. drop k (e ∷ rest)) n)
+
+-- one name less at the end of a block
+pub one_dropped : (names left : List Entry) (mark : ℕ) → left ≡ drop 1 names → mark < length names → (mark ≤ length left) × (drop (length left - mark) left ≡ drop (length names - mark) names)
+one_dropped names left mark is below = subst (λ l. (mark ≤ length l) × (drop (length l - mark) l ≡ drop (length names - mark) names)) (sym is) (dropped names mark below)

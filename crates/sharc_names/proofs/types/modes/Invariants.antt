@@ -1,0 +1,8 @@
+use Rattle.std.proofs.Common.{◌≡◌, drop, fold}
+use Rattle.sharc_names.specs.Notes.{noted}
+use Rattle.sharc_names.specs.Seen.{siblings_seen}
+use Rattle.sharc_names.specs.Types.{modes_notes}
+use Rattle.sharc_names.proofs.types.modes.Given as goal
+
+abbrev pub invariant-loop-level : goal.invariant-loop-level
+invariant-loop-level l = fold noted l.found (modes_notes l.scope (siblings_seen l.siblings) (drop l.level-index l.levels)) ≡ fold noted l.fn.found (modes_notes l.scope (siblings_seen l.siblings) l.levels)

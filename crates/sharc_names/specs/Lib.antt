@@ -1,0 +1,9 @@
+pub mod Kinds
+pub mod Names
+pub mod Needs
+pub mod Notes
+pub mod Seen
+pub mod Table
+pub mod Types
+pub mod View
+pub mod Wants

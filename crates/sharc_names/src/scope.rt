@@ -1,0 +1,11 @@
+// What is known where an expression stands.
+
+use crate::names::Names;
+use crate::structs::Structs;
+
+/// The structs of the file, and the names in scope.
+#[derive(Drop)]
+pub struct Scope<'a> {
+    pub structs: Structs<'a>,
+    pub names: Names<'a>,
+}
