@@ -1,0 +1,4 @@
+pub mod Closed
+pub mod Edges
+pub mod MakeSteps
+pub mod SamePaths

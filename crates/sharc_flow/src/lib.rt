@@ -1,0 +1,17 @@
+//! Which positions without a written mode are dynamic, with their ranks and reasons.
+//!
+//! The layer above gives the positions by number, each with what is written there, and the links: two for each pair of positions
+//! that an assignment, an argument, a return or a cast makes equal, and one from each position to the one directly below it. What
+//! is answered stands in specs/Flow.antt: the least assignment. Laws of it stand in specs/Laws.antt. The time is linear in the positions and the links.
+#![tactic(auto)]
+
+pub mod laws;
+mod least;
+mod make;
+mod place;
+#[cfg(test)]
+mod tests;
+
+pub use least::least_assignment;
+pub use make::{lead_down, make_equal};
+pub use place::{Link, Place};
