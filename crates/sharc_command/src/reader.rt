@@ -7,7 +7,7 @@ ghost use Rattle.clap.specs.Simple.{app_of, subcommand_rows_of};
 ghost use Rattle.clap.specs.Walk.{rows_of};
 ghost use Rattle.clap.specs.Matches.{found_of};
 ghost use Rattle.sharc_command.specs.Commands.{command_of, commands, load_of, number_in, number_or, record_of, run_of};
-ghost use Rattle.sharc_command.specs.Line.{command_in, is_plain, IsSubcommand, line, seen, values_in};
+ghost use Rattle.sharc_command.specs.Line.{command_in, bare_line, is_plain, IsSubcommand, line, seen, values_in, with_form};
 
 use crate::command::Command;
 use clap::error::ErrorKind;
@@ -67,39 +67,53 @@ fn subcommand<'a>(
     Ok(command)
 }
 
-/// The seven commands as subcommands, with no help and no version.
-fn command_line<'a>(alloc: Global) -> Result<clap::Command<'a>, AllocError>
-    ensures { IfOk result (λ c. app_of c ≡ line) }
+/// The command line with one subcommand more: with these options, and before them a number where it has one.
+fn with_subcommand<'a>(
+    alloc: Global,
+    line: clap::Command<'a>,
+    name: &'a str,
+    number: Option<&'a str>,
+    options: &[&'a str],
+) -> Result<clap::Command<'a>, AllocError>
+    ensures { IfOk result (λ c. app_of c ≡ with_form (app_of line.entry) name.entry.now (option_map (λ n. n.now) number.entry) (map (λ s. s.now) options.now)) }
 {
-    let check = subcommand(alloc, "check", None, [].as_slice())?;
-    let explain = subcommand(alloc, "explain", None, [].as_slice())?;
-    let run = subcommand(
-        alloc,
-        "run",
-        None,
-        ["workers", "granules", "events", "seed"].as_slice(),
-    )?;
-    let load = subcommand(alloc, "load", Some("number"), ["workers"].as_slice())?;
-    let recorded = subcommand(
-        alloc,
-        "record",
-        None,
-        ["workers", "granules", "events"].as_slice(),
-    )?;
-    let replay = subcommand(alloc, "replay", None, [].as_slice())?;
-    let audit = subcommand(alloc, "audit", None, [].as_slice())?;
+    line.subcommand(subcommand(alloc, name, number, options)?)
+}
+
+/// A command line without subcommands, with no help and no version.
+fn bare_line<'a>(alloc: Global) -> clap::Command<'a>
+    ensures { app_of result ≡ bare_line }
+{
     clap::Command::new(alloc, "sharc")
         .no_binary_name(true)
         .disable_help_flag(true)
         .disable_help_subcommand(true)
         .disable_version_flag(true)
-        .subcommand(check)?
-        .subcommand(explain)?
-        .subcommand(run)?
-        .subcommand(load)?
-        .subcommand(recorded)?
-        .subcommand(replay)?
-        .subcommand(audit)
+}
+
+/// The seven commands as subcommands. Nothing is kept beside the command line while the next one is made.
+fn command_line<'a>(alloc: Global) -> Result<clap::Command<'a>, AllocError>
+    ensures { IfOk result (λ c. app_of c ≡ line) }
+{
+    let line = with_subcommand(alloc, bare_line(alloc), "check", None, [].as_slice())?;
+    let line = with_subcommand(alloc, line, "explain", None, [].as_slice())?;
+    let line = with_subcommand(
+        alloc,
+        line,
+        "run",
+        None,
+        ["workers", "granules", "events", "seed"].as_slice(),
+    )?;
+    let line = with_subcommand(alloc, line, "load", Some("number"), ["workers"].as_slice())?;
+    let line = with_subcommand(
+        alloc,
+        line,
+        "record",
+        None,
+        ["workers", "granules", "events"].as_slice(),
+    )?;
+    let line = with_subcommand(alloc, line, "replay", None, [].as_slice())?;
+    with_subcommand(alloc, line, "audit", None, [].as_slice())
 }
 
 fn are_digits(bytes: &[u8]) -> bool

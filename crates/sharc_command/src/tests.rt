@@ -138,116 +138,118 @@ fn reads_each_command_with_its_options(rt: HostRuntime) -> Result<(), Fail> {
     Ok(())
 }
 
+/// Lines that are no command.
+const NO_COMMANDS: &str = "\
+run --workers 0\n\
+run --workers 17\n\
+run --granules 15\n\
+run --granules 65537\n\
+run --events 0\n\
+run --events 100000001\n\
+run --seed 18446744073709551616\n\
+run --seed 99999999999999999999\n\
+run --seed 000000000000000000001\n\
+run --workers 000000000000000000004\n\
+run --workers\n\
+run --seed\n\
+run --workers=\n\
+run --workers --granules 20\n\
+run --workers 2 --workers 2\n\
+run --workers=2 --workers 3\n\
+run --workers 2 --seed 1 --workers=2\n\
+run --seed 1 --seed 1\n\
+run --workers +2\n\
+run --workers=+2\n\
+run --workers -1\n\
+run --workers=-1\n\
+run --workers 2x\n\
+run --workers x2\n\
+run --workers 2.0\n\
+run --workers 0x2\n\
+run --workers 1e1\n\
+run --workers 2,0\n\
+run --workers=2=2\n\
+run --workers==2\n\
+run --=5\n\
+run --\n\
+run -- --workers 2\n\
+run -\n\
+run -w 2\n\
+run -w2\n\
+run -workers 2\n\
+run ---workers 2\n\
+run -h\n\
+run --help\n\
+run help\n\
+run --version\n\
+run 5\n\
+run --workers 2 3\n\
+run --work 2\n\
+run --worker 2\n\
+run --workerss 2\n\
+run --Workers 2\n\
+run --seeds 2\n\
+run --number 2\n\
+help\n\
+--help\n\
+-h\n\
+-V\n\
+--version\n\
+--\n\
+-\n\
+--seed 2 run\n\
+--workers=2 run\n\
+check run\n\
+run check\n\
+check check\n\
+check 1\n\
+check --workers 2\n\
+check --\n\
+check --help\n\
+explain --seed 1\n\
+replay --seed 1\n\
+replay 1\n\
+audit 1\n\
+audit --events 5\n\
+load\n\
+load 0\n\
+load 10001\n\
+load 00000000000000010001\n\
+load 5 6\n\
+load 5 --workers 3 6\n\
+load --workers 3\n\
+load 5 --workers 0\n\
+load 5 --workers 17\n\
+load 5 --workers 3 --workers 3\n\
+load 5 --granules 20\n\
+load 5 --events 20\n\
+load 5 --seed 20\n\
+load -- 5\n\
+load --number 5\n\
+load --number=5\n\
+load -5\n\
+load +5\n\
+load 5x\n\
+record --seed 1\n\
+record --events 0\n\
+record --events 200001\n\
+record --workers 17\n\
+record 5\n\
+record --\n\
+Run\n\
+RUN\n\
+chec\n\
+checks\n\
+exit\n\
+=\n\
+=run\n\
+run=\n\
+--run\n\
+--workers=2";
+
 #[test]
 fn refuses_every_other_line(rt: HostRuntime) -> Result<(), Fail> {
-    for line in [
-        "run --workers 0",
-        "run --workers 17",
-        "run --granules 15",
-        "run --granules 65537",
-        "run --events 0",
-        "run --events 100000001",
-        "run --seed 18446744073709551616",
-        "run --seed 99999999999999999999",
-        "run --seed 000000000000000000001",
-        "run --workers 000000000000000000004",
-        "run --workers",
-        "run --seed",
-        "run --workers=",
-        "run --workers --granules 20",
-        "run --workers 2 --workers 2",
-        "run --workers=2 --workers 3",
-        "run --workers 2 --seed 1 --workers=2",
-        "run --seed 1 --seed 1",
-        "run --workers +2",
-        "run --workers=+2",
-        "run --workers -1",
-        "run --workers=-1",
-        "run --workers 2x",
-        "run --workers x2",
-        "run --workers 2.0",
-        "run --workers 0x2",
-        "run --workers 1e1",
-        "run --workers 2,0",
-        "run --workers=2=2",
-        "run --workers==2",
-        "run --=5",
-        "run --",
-        "run -- --workers 2",
-        "run -",
-        "run -w 2",
-        "run -w2",
-        "run -workers 2",
-        "run ---workers 2",
-        "run -h",
-        "run --help",
-        "run help",
-        "run --version",
-        "run 5",
-        "run --workers 2 3",
-        "run --work 2",
-        "run --worker 2",
-        "run --workerss 2",
-        "run --Workers 2",
-        "run --seeds 2",
-        "run --number 2",
-        "help",
-        "--help",
-        "-h",
-        "-V",
-        "--version",
-        "--",
-        "-",
-        "--seed 2 run",
-        "--workers=2 run",
-        "check run",
-        "run check",
-        "check check",
-        "check 1",
-        "check --workers 2",
-        "check --",
-        "check --help",
-        "explain --seed 1",
-        "replay --seed 1",
-        "replay 1",
-        "audit 1",
-        "audit --events 5",
-        "load",
-        "load 0",
-        "load 10001",
-        "load 00000000000000010001",
-        "load 5 6",
-        "load 5 --workers 3 6",
-        "load --workers 3",
-        "load 5 --workers 0",
-        "load 5 --workers 17",
-        "load 5 --workers 3 --workers 3",
-        "load 5 --granules 20",
-        "load 5 --events 20",
-        "load 5 --seed 20",
-        "load -- 5",
-        "load --number 5",
-        "load --number=5",
-        "load -5",
-        "load +5",
-        "load 5x",
-        "record --seed 1",
-        "record --events 0",
-        "record --events 200001",
-        "record --workers 17",
-        "record 5",
-        "record --",
-        "Run",
-        "RUN",
-        "chec",
-        "checks",
-        "exit",
-        "=",
-        "=run",
-        "run=",
-        "--run",
-        "--workers=2",
-    ] {
+    for line in NO_COMMANDS.split('\n') {
         assert_eq!(rt; read_line(rt.alloc(), line)?, None, "at {line}");
     }
     Ok(())
