@@ -1,0 +1,9 @@
+pub mod BitLemmas
+pub mod CallLemmas
+pub mod DeclaredLemmas
+pub mod LimitLemmas
+pub mod LocalLemmas
+pub mod NamedLemmas
+pub mod PlaceLemmas
+pub mod ScopeLemmas
+pub mod StatementLemmas

@@ -1,0 +1,30 @@
+-- The limit on locals over two lists, one behind the other.
+use Rattle.std.proofs.Common.{◌≡◌, ℕ, ◌+◌, ◌-◌, ◌<◌, ◌==◌, drop, get_or, add-one, drop-cons, List, [], ◌∷◌, ◌++◌, length, fold, ap, sym, ◌∙◌, arith, append_assoc, length-append}
+use Rattle.std.proofs.lemmas.List.Sums.{fold-append}
+use Rattle.sharc_tree.specs.declared.tree.declaration.Declaration.{Declaration}
+use Rattle.sharc_names.specs.declared.fault.FaultCode.TheVariants.{LimitPassed}
+use Rattle.sharc_names.specs.Notes.{Findings, noted, fault_where}
+use Rattle.sharc_ctype.specs.Items.{beyond}
+
+pub first_of_rest : {A : Type 0} (list : List A) (i : ℕ) (e : A) → i < length list → e ≡ get_or list i e → drop i list ≡ e ∷ drop (i + 1) list
+first_of_rest list i e below is = drop-cons list i e below ∙ ap (λ n. get_or list i e ∷ drop n list) (sym (add-one i)) ∙ ap (λ x. x ∷ drop (i + 1) list) (sym is)
+
+less_first : (room n : ℕ) → (room - 1) - n ≡ room - (n + 1)
+less_first room n = omega arith
+
+pub beyond_append : (room : ℕ) (a b : List Declaration) → beyond room (a ++ b) ≡ beyond room a ++ beyond (room - length a) b
+beyond_append room [] b = ap (λ n. beyond n b) (let e : room ≡ room - 0 = omega arith in e)
+beyond_append room (d ∷ rest) b =
+    ap (λ l. fault_where (room == 0) d.name.site.token LimitPassed ++ l) (beyond_append (room - 1) rest b)
+    ∙ sym (append_assoc (fault_where (room == 0) d.name.site.token LimitPassed) (beyond (room - 1) rest) (beyond ((room - 1) - length rest) b))
+    ∙ ap (λ n. (fault_where (room == 0) d.name.site.token LimitPassed ++ beyond (room - 1) rest) ++ beyond n b) (let e : (room - 1) - length rest ≡ room - length (d ∷ rest) = omega arith in e)
+
+pub beyond_both : (room left : ℕ) (a b : List Declaration) (f0 f1 : Findings) → left ≡ room - length a → f1 ≡ fold noted f0 (beyond room a) → fold noted f1 (beyond left b) ≡ fold noted f0 (beyond room (a ++ b))
+beyond_both room left a b f0 f1 left_is one =
+    ap (λ n. fold noted f1 (beyond n b)) left_is
+    ∙ ap (λ f. fold noted f (beyond (room - length a) b)) one
+    ∙ sym (fold-append noted f0 (beyond room a) (beyond (room - length a) b))
+    ∙ ap (fold noted f0) (sym (beyond_append room a b))
+
+pub room_both : (room left : ℕ) (a b : List Declaration) → left ≡ room - length a → left - length b ≡ room - length (a ++ b)
+room_both room left a b is = omega (arith, is, length-append a b)

@@ -1,0 +1,12 @@
+-- A block's statements.
+use Rattle.std.proofs.Common.{◌≡◌, fold, ap, sym, ◌∙◌}
+use Rattle.sharc_tree.specs.declared.token.Span.{Span}
+use Rattle.sharc_tree.specs.Tree.{Statement, block, Statements}
+use Rattle.sharc_names.specs.declared.scope.Scope.{Scope}
+use Rattle.sharc_names.specs.Notes.{Findings, noted}
+use Rattle.sharc_ctype.specs.Statements.{Around, opened, notes_in, notes_in_all}
+
+pub block_noted : (around inner : Around) (scope : Scope) (x : Statement) (s : Span) (all : Statements) (f0 f1 : Findings) → x ≡ block s all → inner ≡ opened around scope.names
+    → f1 ≡ fold noted f0 (notes_in_all inner scope all) → f1 ≡ fold noted f0 (notes_in around scope x)
+block_noted around inner scope x s all f0 f1 is inner_is one =
+    one ∙ ap (λ i. fold noted f0 (notes_in_all i scope all)) inner_is ∙ sym (ap (λ y. fold noted f0 (notes_in around scope y)) is)

@@ -1,0 +1,55 @@
+use Rattle.std.proofs.Common.{ap, sym, ◌∙◌, ◌+◌, ◌&&◌, drop, fold, is_some}
+use Rattle.sharc_tree.specs.Tree.{call}
+use Rattle.sharc_tree.specs.View.{view_expr, view_arguments}
+use Rattle.sharc_tree.specs.Children.{view_call}
+use Rattle.sharc_names.specs.declared.need.Need.TheVariants.{Value}
+use Rattle.sharc_names.specs.Names.{look_up}
+use Rattle.sharc_names.specs.Needs.{met, agreed, unagreed}
+use Rattle.sharc_names.specs.Notes.{noted}
+use Rattle.sharc_names.specs.View.{view_kinds, view_bounds, view_wanted}
+use Rattle.sharc_ctype.specs.Expressions.{call_kind, are_fine, notes_of_all}
+use Rattle.sharc_ctype.proofs.CallLemmas.{call_typed, call_noted, one_fine, one_noted}
+use Rattle.sharc_ctype.proofs.expr.+expr.Goals as goal
+
+pub expression-returns-in-Call-clause-kind : goal.expression-returns-in-Call-clause-kind
+expression-returns-in-Call-clause-kind t c =
+    let list = c.deref-in-Call.result.now in
+    call_typed c.args.scope.now (view_expr c.args.expr.now) c.in-Call.field-0 c.in-Call.name list c.len-count.result (view_bounds c.find-bound-in-Call.result) (view_wanted c.wanted.result) _ c.arguments-fine.result
+    (view_call c.args.expr.now c.in-Call.field-0 c.in-Call.name c.in-Call.all c.in-Call.is ∙ ap (λ l. call c.in-Call.field-0 c.in-Call.name (view_arguments l)) (sym c.deref-in-Call.ensures.value))
+    (c.len-count.ensures ∙ sym c.deref-in-Call.ensures.len)
+    (c.find-bound-in-Call.ensures ∙ ap (look_up c.args.scope.now.names) c.as_slice-in-Call.ensures)
+    c.wanted.ensures c.arguments-fine.ensures.fine
+    (c.call_kind.ensures ∙ ap (λ k. call_kind k c.arguments-fine.result) c.call_result.ensures)
+
+pub expression-returns-in-Call-clause-found : goal.expression-returns-in-Call-clause-found
+expression-returns-in-Call-clause-found t c =
+    let list = c.deref-in-Call.result.now in
+    call_noted c.args.scope.now (view_expr c.args.expr.now) c.in-Call.field-0 c.in-Call.name list c.len-count.result (view_bounds c.find-bound-in-Call.result) (view_wanted c.wanted.result) c.args.found.now c.callee.new.found c.arguments-fine.new.found
+    (view_call c.args.expr.now c.in-Call.field-0 c.in-Call.name c.in-Call.all c.in-Call.is ∙ ap (λ l. call c.in-Call.field-0 c.in-Call.name (view_arguments l)) (sym c.deref-in-Call.ensures.value))
+    (c.len-count.ensures ∙ sym c.deref-in-Call.ensures.len)
+    (c.find-bound-in-Call.ensures ∙ ap (look_up c.args.scope.now.names) c.as_slice-in-Call.ensures)
+    c.wanted.ensures c.callee.ensures c.arguments-fine.ensures.found
+
+pub arguments-loop-expr-preserved : goal.arguments-loop-expr-preserved
+arguments-loop-expr-preserved t c =
+    let scope = c.args.scope.now in
+    let list = c.args.list.now in
+    let i = c.loop-expr.expr-index in
+    let left = view_wanted c.loop-expr.left in
+    let e = c.expr-item.result in
+    let kind = view_kinds c.meet-kind.result in
+    let kind_is = c.meet-kind.ensures.kind ∙ ap (met Value) c.expression-kind.ensures.kind in
+    let rest = view_arguments (drop (i + 1) list) in
+    record {
+      fine =
+          ap (λ b. b && are_fine scope (view_wanted c.rest_wanted-left.result) rest) c.still_fine-fine.ensures
+          ∙ ap (λ d. (c.loop-expr.fine && (is_some kind && c.agree-agreed.result)) && are_fine scope d rest) c.rest_wanted-left.ensures
+          ∙ sym (one_fine scope left list i e c.loop-expr.fine kind c.agree-agreed.result c.loop-expr-test.true c.expr-item.is kind_is (c.agree-agreed.ensures.agreed ∙ ap (λ w. agreed w kind) c.first_wanted.ensures))
+          ∙ c.loop-expr.invariant.fine;
+      found =
+          ap (λ d. fold noted c.agree-agreed.new.found (notes_of_all scope d rest)) c.rest_wanted-left.ensures
+          ∙ sym (one_noted scope left list i e (view_kinds c.expression-kind.result) kind c.loop-expr.found c.expression-kind.new.found c.meet-kind.new.found c.agree-agreed.new.found
+          c.loop-expr-test.true c.expr-item.is c.expression-kind.ensures.kind kind_is c.expression-kind.ensures.found c.meet-kind.ensures.found
+          (c.agree-agreed.ensures.found ∙ ap (λ w. fold noted c.meet-kind.new.found (unagreed w (view_expr e) kind)) c.first_wanted.ensures))
+          ∙ c.loop-expr.invariant.found;
+    }

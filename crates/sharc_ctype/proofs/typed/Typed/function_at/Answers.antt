@@ -1,0 +1,23 @@
+use Rattle.std.proofs.Common.{ap, sym, ◌∙◌, Some, None}
+use Rattle.std.specs.List.{slice_get}
+use Rattle.std.specs.Option.{option_copied, option_and_then}
+use Rattle.sharc_ctype.specs.Resolved.{Resolution, function_at}
+use Rattle.sharc_ctype.proofs.PlaceLemmas.{to_function}
+use Rattle.sharc_ctype.proofs.typed.Typed.function_at.Goals as goal
+
+pub returns-in-None : goal.returns-in-None
+returns-in-None c =
+    let items = c.self.inside.program.items in
+    let places = c.deref.result.now in
+    to_function items places c.args.number None (c.deref.ensures.value ∙ c.self.invariant.1.functions)
+    (sym (ap option_copied c.in-None.is) ∙ c.item_at.ensures ∙ ap (λ l. option_and_then (slice_get l) (slice_get places c.args.number)) c.as_slice-items.ensures)
+    ∙ ap (λ (r : Resolution). function_at r c.args.number) c.self.view_is
+
+pub returns-in-Some : goal.returns-in-Some
+returns-in-Some c =
+    let items = c.self.inside.program.items in
+    let places = c.deref.result.now in
+    c.as_function.ensures
+    ∙ to_function items places c.args.number (Some c.in-Some.item.now) (c.deref.ensures.value ∙ c.self.invariant.1.functions)
+    (sym (ap option_copied c.in-Some.is) ∙ c.item_at.ensures ∙ ap (λ l. option_and_then (slice_get l) (slice_get places c.args.number)) c.as_slice-items.ensures)
+    ∙ ap (λ (r : Resolution). function_at r c.args.number) c.self.view_is

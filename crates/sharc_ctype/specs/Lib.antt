@@ -1,0 +1,15 @@
+pub mod Codes
+pub mod Condition
+pub mod Expressions
+pub mod FirstPlaces
+pub mod Globals
+pub mod Heads
+pub mod Items
+pub mod Layouts
+pub mod Reaches
+pub mod Resolved
+pub mod Statements
+pub mod Tables
+pub mod Transfers
+pub mod Typings
+pub mod View

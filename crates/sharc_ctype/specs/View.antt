@@ -1,0 +1,7 @@
+-- Where a statement stands, as the definitions see it.
+use Rattle.sharc_names.specs.View.{view_kind}
+use Rattle.sharc_ctype.specs.declared.statement.Around.{Around as RustAround}
+use Rattle.sharc_ctype.specs.Statements.{Around}
+
+abbrev pub view_around : RustAround → Around
+view_around i = record { result = view_kind i.result; in_loop = i.in_loop; block = i.block }

@@ -1,0 +1,84 @@
+// The types of the expressions of a typed program, from what its names name alone.
+
+ghost use Rattle.std.specs.Prelude.{◌≡◌};
+ghost use Rattle.std.specs.Option.{option_copied};
+ghost use Rattle.sharc_tree.specs.View.{view_expr};
+ghost use Rattle.sharc_names.specs.View.{view_kind};
+ghost use Rattle.sharc_ctype.specs.Resolved.{variable_kind, named_kind, called_kind, kind_at};
+
+use crate::expr::{binary_result, class_of, constant_kind, unary_result};
+use crate::typed::Typed;
+use sharc_names::fault::Named;
+use sharc_names::kind::{Kind, declared_kind, element_kind};
+use sharc_names::meaning::{Meaning, kind_of};
+use sharc_tree::tree::{Declaration, Expr};
+
+fn variable_kind(declaration: Option<&Declaration>) -> Kind<'_>
+    ensures { view_kind result ≡ variable_kind (option_copied declaration.entry) }
+{
+    match declaration {
+        None => Kind::Function,
+        Some(declaration) => declared_kind(&declaration.written),
+    }
+}
+
+/// The kind of a name that names this.
+fn named_kind(t: &Typed, named: Named) -> Kind<'_>
+    ensures { view_kind result ≡ named_kind t.now named }
+{
+    match named {
+        Named::Global(number) => match t.global_at(number) {
+            None => Kind::Function,
+            Some(global) => kind_of(Meaning::Global(number, global)),
+        },
+        Named::Variable(token) => variable_kind(t.declaration_at(token)),
+        Named::Field(token) => variable_kind(t.declaration_at(token)),
+        Named::Struct(_) => Kind::Function,
+        Named::Function(_) => Kind::Function,
+        Named::Known => Kind::Function,
+    }
+}
+
+/// The kind of a call of a name that names this.
+fn called_kind(t: &Typed, named: Named) -> Kind<'_>
+    ensures { view_kind result ≡ called_kind t.now named }
+{
+    match named {
+        Named::Function(number) => match t.function_at(number) {
+            None => Kind::void(),
+            Some(function) => declared_kind(&function.result),
+        },
+        Named::Struct(_) => Kind::void(),
+        Named::Global(_) => Kind::void(),
+        Named::Variable(_) => Kind::void(),
+        Named::Field(_) => Kind::void(),
+        Named::Known => Kind::void(),
+    }
+}
+
+impl Typed {
+    /// The type of an expression of the program. It looks at no argument of a call and no index.
+    pub fn kind_at<'a>(&'a self, expr: &'a Expr) -> Kind<'a>
+        ensures { view_kind result ≡ kind_at self.now (view_expr expr.now) }
+    {
+        match expr {
+            Expr::Identifier(_, name) => named_kind(self, self.named(name.site.token)),
+            Expr::Constant(_, constant) => constant_kind(*constant),
+            Expr::Parentheses(_, inner) => self.kind_at(inner),
+            Expr::Call(_, name, _) => called_kind(self, self.named(name.site.token)),
+            Expr::Spawn(_, _, _) => Kind::int(),
+            Expr::OnValue(_, _, _) => Kind::void(),
+            Expr::OnPlace(_, _, _) => Kind::void(),
+            Expr::Cast(_, written, _) => declared_kind(written),
+            Expr::Index(_, base, _) => element_kind(self.kind_at(base)),
+            Expr::Field { name, .. } => named_kind(self, self.named(name.site.token)),
+            Expr::Unary(_, operator, operand) => unary_result(*operator, self.kind_at(operand)),
+            Expr::Binary {
+                operator,
+                left,
+                right,
+                ..
+            } => binary_result(class_of(*operator), self.kind_at(left), self.kind_at(right)),
+        }
+    }
+}
