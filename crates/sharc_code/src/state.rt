@@ -67,7 +67,7 @@ pub enum Stage {
     /// Spawn: the Swap of its state.
     Begins(u32),
     /// Start: the Load of the argument, for this function.
-    Enters(u32),
+    Enters(u64),
     /// Exit: the Load of the shadow word of the granule in this row of the access table.
     Withdraws(u32),
     /// Exit: the Cas of it, where this was found.

@@ -65,6 +65,21 @@ impl NewState {
         self.head
     }
 
+    /// The granules of the block that the New takes.
+    pub fn block(&self) -> u64
+        ensures { result ≡ self.now.arguments.block }
+    {
+        self.arguments.block
+    }
+
+    /// What the New asked for last; before the first call of `next` nothing, which is told as a full heap.
+    pub fn turn(&self) -> NewTurn
+        ensures { result ≡ turn_of self.now }
+    {
+        let stage = self.stage;
+        stage.turn(&self.arguments)
+    }
+
     /// What the New asks for next, where `last` is the result of the step that it asked for before; the first call does not
     /// look at it. Once the answer is no step, it stays.
     pub fn next(&mut self, last: u64) -> NewTurn

@@ -1,6 +1,6 @@
 //! A list of at most sixteen held mutexes, each with the object that it stands in.
 
-ghost use Rattle.std.specs.Prelude.{◌≡◌, ◌<◌, ◌↔◌, ◌++◌, [], ◌∷◌, length, position, IsTrue, IfSome, IfNone, ◌==◌};
+ghost use Rattle.std.specs.Prelude.{◌≡◌, ◌<◌, ◌≤◌, ◌↔◌, ◌++◌, [], ◌∷◌, length, position, IsTrue, IfSome, IfNone, ◌==◌};
 ghost use Rattle.std.specs.Bool.{OnTrue, OnFalse};
 
 use arrayvec::ArrayVec;
@@ -51,6 +51,13 @@ impl HeldLog {
         ensures { IsTrue result ↔ (self.now ≡ []) }
     {
         self.entries.is_empty()
+    }
+
+    /// Whether sixteen mutexes are held, so that there is no room for another.
+    pub fn is_full(&self) -> bool
+        ensures { IsTrue result ↔ (16 ≤ length self.now) }
+    {
+        self.entries.is_full()
     }
 
     /// Whether the thread holds the mutex at this word.

@@ -1,0 +1,22 @@
+-- A thread that made no turn, field by field.
+use Rattle.std.proofs.Common.{◌≡◌, ℕ, ℤ, List, None}
+use Rattle.sharc_locks.specs.declared.held_log.HeldMutex.{HeldMutex}
+use Rattle.sharc_shadow.specs.Accesses.{Accesses}
+use Rattle.sharc_code.specs.declared.state.At.{At}
+use Rattle.sharc_code.specs.declared.state.Frame.{Frame}
+use Rattle.sharc_code.specs.declared.state.Print.{Print}
+use Rattle.sharc_code.specs.declared.state.Stage.TheVariants.{Rests}
+use Rattle.sharc_code.specs.Machine.{Machine}
+
+abbrev pub fresh : At → List ℤ → List ℕ → List Frame → ℕ → ℕ → Accesses → List HeldMutex → List ℕ → List Print → Machine
+fresh at ints refs frames number function table held heads prints = record {
+  at = at;
+  ints = ints;
+  refs = refs;
+  pending = 0;
+  frames = frames;
+  own = record { number = number; function = function; table = table; held = held; heads = heads; prints = prints; stage = Rests; stop = None };
+}
+
+pub same_fresh : (at : At) (i i' : List ℤ) (r r' : List ℕ) (f f' : List Frame) (number k k' : ℕ) (t t' : Accesses) (h h' : List HeldMutex) (b b' : List ℕ) (p p' : List Print) → i ≡ i' → r ≡ r' → f ≡ f' → k ≡ k' → t ≡ t' → h ≡ h' → b ≡ b' → p ≡ p' → fresh at i r f number k t h b p ≡ fresh at i' r' f' number k' t' h' b' p'
+same_fresh at i i' r r' f f' number k k' t t' h h' b b' p p' ei er ef ek et eh eb ep = cc

@@ -1,0 +1,6 @@
+use Rattle.std.proofs.Common.{◌≡◌, take}
+use Rattle.sharc_code.specs.Path.{most_refs}
+use Rattle.sharc_cpu.proofs.begin.most_refs.Given as goal
+
+abbrev pub invariant-loop-function : goal.invariant-loop-function
+invariant-loop-function l = l.most ≡ most_refs (take l.function-index l.code.functions.items)

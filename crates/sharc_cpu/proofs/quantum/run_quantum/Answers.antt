@@ -1,0 +1,54 @@
+use Rattle.std.proofs.Common.{◌≡◌, ◌+◌, ℕ, sym, ap, ◌∙◌, subst, arith}
+use Rattle.sharc_code.specs.declared.state.State.{State}
+use Rattle.sharc_code.specs.declared.state.State.TheVariants as states
+use Rattle.sharc_code.specs.Machine.{Machine}
+use Rattle.sharc_cpu.specs.Thread.{ThreadView}
+use Rattle.sharc_cpu.specs.View.{machine_of, IsWithin}
+use Rattle.sharc_cpu.specs.Quantum.{GoesWhere, pause_of}
+use Rattle.sharc_cpu.proofs.Paths.{goes_none}
+use Rattle.sharc_cpu.proofs.OnPath.{thread_within, goes_thread}
+use Rattle.sharc_cpu.proofs.quantum.run_quantum.Goals as goal
+
+pub returns-in-Stopped-clause-quantum : goal.returns-in-Stopped-clause-quantum
+returns-in-Stopped-clause-quantum g c =
+    let t : ThreadView = c.args.thread.now in
+    let is : t.machine.at.state ≡ states.Stopped = ap (λ (v : ThreadView). v.machine.at.state) (sym c.thread.view_is) ∙ c.in-Stopped.is in
+    record {
+      turns = 0;
+      events = 0;
+      few = omega arith;
+      goes = goes_none g.P.Port.leads (g.P.Port.serves c.args.port.now t.machine.own.number) c.args.code.now c.args.shape.now t.machine (g.P.Port.place c.args.port.now);
+      made = omega arith;
+      within = c.requires.limit;
+      pause_is = ap (λ (x : State). pause_of x 0 t.made c.args.limit) (sym is);
+      ran = λ e. cc;
+    }
+
+pub returns-in-Ended-clause-quantum : goal.returns-in-Ended-clause-quantum
+returns-in-Ended-clause-quantum g c =
+    let t : ThreadView = c.args.thread.now in
+    let is : t.machine.at.state ≡ states.Ended = ap (λ (v : ThreadView). v.machine.at.state) (sym c.thread.view_is) ∙ c.in-Ended.is in
+    record {
+      turns = 0;
+      events = 0;
+      few = omega arith;
+      goes = goes_none g.P.Port.leads (g.P.Port.serves c.args.port.now t.machine.own.number) c.args.code.now c.args.shape.now t.machine (g.P.Port.place c.args.port.now);
+      made = omega arith;
+      within = c.requires.limit;
+      pause_is = ap (λ (x : State). pause_of x 0 t.made c.args.limit) (sym is);
+      ran = λ e. cc;
+    }
+
+pub go-went-requires-clause-within : goal.go-went-requires-clause-within
+go-went-requires-clause-within g c =
+    subst (λ (v : ThreadView). IsWithin c.args.shape.now v.machine.own) (sym c.thread.view_is) (thread_within c.args.code.now c.args.shape.now c.args.thread.now c.requires.thread)
+
+pub returns-clause-thread : goal.returns-clause-thread
+returns-clause-thread g c =
+    let serves = g.P.Port.serves c.args.port.now c.thread.inside.parts.number in
+    goes_thread serves g.P.Port.leads c.args.code.now c.args.shape.now c.args.thread.now _ (g.P.Port.place c.args.port.now) (g.P.Port.place c.go-went.new.port) c.go-went.result.turns c.go-went.result.made
+    c.requires.thread
+    (subst (λ (m : Machine). GoesWhere serves g.P.Port.leads c.args.code.now c.args.shape.now m (machine_of c.go-went.result.at c.go-went.new.parts) (g.P.Port.place c.args.port.now) (g.P.Port.place c.go-went.new.port) c.go-went.result.turns c.go-went.result.made) (ap (λ (v : ThreadView). v.machine) c.thread.view_is) c.go-went.ensures.goes)
+    (c.go-went.ensures.number ∙ ap (λ (v : ThreadView). v.machine.own.number) c.thread.view_is)
+    (ap (λ (n : ℕ). n + c.go-went.result.made) (ap (λ (v : ThreadView). v.made) c.thread.view_is))
+    c.wait_of-thread-inside.ensures

@@ -1,0 +1,4 @@
+pub mod Quantum
+pub mod Shifts
+pub mod Thread
+pub mod View

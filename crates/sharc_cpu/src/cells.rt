@@ -1,0 +1,294 @@
+//! Cells: their words, and the instructions that access them.
+
+ghost use Rattle.std.specs.Prelude.{◌≡◌, ◌<◌, ◌+◌, ◌/◌, ◌^◌, min, vec_capacity};
+ghost use Rattle.sharc_word.specs.Place.{event_of};
+ghost use Rattle.sharc_word.specs.declared.step.WordOp.TheVariants as ops;
+ghost use Rattle.sharc_code.specs.Layout.{IsShape, granules, words_of, granule_at, granule_of, length_word};
+ghost use Rattle.sharc_code.specs.Arithmetic.{word_of, int_of};
+ghost use Rattle.sharc_code.specs.Machine.{Asks, step_of, int, ref, set_int, set_ref, goes, accessed, place, word, is_of_null, object, without_base, indexed, largest};
+ghost use Rattle.sharc_cpu.specs.View.{machine_of, Makes, KeepsPort};
+
+use crate::arithmetic::{int_of, word_of};
+use crate::parts::Parts;
+use crate::places::{Done, next};
+use crate::turns::indexed;
+use sharc_code::{At, Cell, Shape, cell_of};
+use sharc_word::{Port, WordOp, WordStep};
+
+/// Makes a step for the thread.
+#[inline(always)]
+pub(crate) fn ask<P: Port>(port: &mut P, step: WordStep) -> u64
+    requires { step.word < P.count port.old }
+    ensures leads { (thread : _) → P.serves port.old thread → P.leads (P.place port.old) (event_of thread step result) (P.place port.new) }
+    ensures port { KeepsPort P.count P.name P.serves port.old port.new }
+{
+    port.step(step)
+}
+
+// The number of a cell, counted from the first cell of granule 0, or the largest number where it is larger.
+#[inline(always)]
+fn place(at: At, parts: &Parts, cell: Cell) -> u64
+    ensures { result ≡ min (place (machine_of at parts.now) cell) largest }
+{
+    match cell {
+        Cell::Global(_, cell) => u64::from(cell),
+        Cell::GlobalAt(_, register) => word_of(parts.int(at, register)),
+        Cell::Object(register, cell) => cell_of(parts.reference(at, register), u64::from(cell)),
+        Cell::ObjectAt(register, index) => {
+            cell_of(parts.reference(at, register), word_of(parts.int(at, index)))
+        }
+    }
+}
+
+/// The word of a cell.
+#[inline(always)]
+pub(crate) fn word(shape: Shape, at: At, parts: &Parts, cell: Cell) -> u32
+    requires { IsShape shape }
+    ensures is { result ≡ word shape (machine_of at parts.now) cell }
+    ensures within { result < words_of shape }
+{
+    shape.cell_word(place(at, parts, cell))
+}
+
+/// The granule of a cell, 0 where it is none.
+#[inline(always)]
+pub(crate) fn granule(shape: Shape, at: At, parts: &Parts, cell: Cell) -> u32
+    requires { IsShape shape }
+    ensures is { result ≡ granule_at shape (granule_of (place (machine_of at parts.now) cell)) }
+    ensures within { result < granules shape }
+{
+    shape.granule_at(place(at, parts, cell) / 2)
+}
+
+/// Whether the cell is one of NULL.
+#[inline(always)]
+pub(crate) fn is_of_null(at: At, parts: &Parts, cell: Cell) -> bool
+    ensures { result ≡ is_of_null (machine_of at parts.now) cell }
+{
+    match cell {
+        Cell::Global(..) | Cell::GlobalAt(..) => false,
+        Cell::Object(register, _) | Cell::ObjectAt(register, _) => parts.reference(at, register)
+            == 0,
+    }
+}
+
+/// The object in which the cell stands, 0 for a global.
+#[inline(always)]
+pub(crate) fn object(at: At, parts: &Parts, cell: Cell) -> u64
+    ensures { result ≡ object (machine_of at parts.now) cell }
+{
+    match cell {
+        Cell::Global(..) | Cell::GlobalAt(..) => 0,
+        Cell::Object(register, _) | Cell::ObjectAt(register, _) => parts.reference(at, register),
+    }
+}
+
+/// Gives up the reference to that object.
+#[inline(always)]
+pub(crate) fn give_up_base(at: At, parts: &mut Parts, cell: Cell)
+    ensures turn { machine_of at parts.new ≡ without_base (machine_of at parts.old) cell }
+    ensures room { vec_capacity parts.new.prints ≡ vec_capacity parts.old.prints }
+{
+    match cell {
+        Cell::Global(..) | Cell::GlobalAt(..) => {}
+        Cell::Object(register, _) | Cell::ObjectAt(register, _) => {
+            parts.set_reference(at, register, 0);
+        }
+    }
+}
+
+/// To this integer register, the value of the cell.
+#[inline(always)]
+pub(crate) fn load<P: Port>(
+    shape: Shape,
+    at: At,
+    parts: &mut Parts,
+    port: &mut P,
+    register: u32,
+    cell: Cell,
+) -> Done
+    requires shape { IsShape shape }
+    requires place { at.pc + 1 < 2 ^ 64 }
+    requires words { P.count port.old ≡ words_of shape }
+    ensures turn { Makes (P.serves port.old) P.leads (Asks (step_of (word shape (machine_of at parts.old) cell) ops.Load) (λ found. goes (accessed (set_int (machine_of at parts.old) register (int_of found))))) parts.old.number (machine_of result.at parts.new) result.found (P.place port.old) (P.place port.new) }
+    ensures port { KeepsPort P.count P.name P.serves port.old port.new }
+    ensures room { vec_capacity parts.new.prints ≡ vec_capacity parts.old.prints }
+{
+    let word = word(shape, at, parts, cell);
+    let found = ask(
+        port,
+        WordStep {
+            word,
+            op: WordOp::Load,
+        },
+    );
+    parts.set_int(at, register, int_of(found));
+    parts.set_pending(0);
+    Done {
+        at: next(at),
+        found,
+    }
+}
+
+/// To this cell, the value of this integer register.
+#[inline(always)]
+pub(crate) fn store<P: Port>(
+    shape: Shape,
+    at: At,
+    parts: &mut Parts,
+    port: &mut P,
+    register: u32,
+    cell: Cell,
+) -> Done
+    requires shape { IsShape shape }
+    requires place { at.pc + 1 < 2 ^ 64 }
+    requires words { P.count port.old ≡ words_of shape }
+    ensures turn { Makes (P.serves port.old) P.leads (Asks (step_of (word shape (machine_of at parts.old) cell) (ops.Swap (word_of (int (machine_of at parts.old) register)))) (λ found. goes (accessed (machine_of at parts.old)))) parts.old.number (machine_of result.at parts.new) result.found (P.place port.old) (P.place port.new) }
+    ensures port { KeepsPort P.count P.name P.serves port.old port.new }
+    ensures room { vec_capacity parts.new.prints ≡ vec_capacity parts.old.prints }
+{
+    let word = word(shape, at, parts, cell);
+    let value = word_of(parts.int(at, register));
+    let found = ask(
+        port,
+        WordStep {
+            word,
+            op: WordOp::Swap(value),
+        },
+    );
+    parts.set_pending(0);
+    Done {
+        at: next(at),
+        found,
+    }
+}
+
+/// The reference in this cell is loaded, and not counted.
+#[inline(always)]
+pub(crate) fn load_reference<P: Port>(
+    shape: Shape,
+    at: At,
+    parts: &mut Parts,
+    port: &mut P,
+    cell: Cell,
+) -> Done
+    requires shape { IsShape shape }
+    requires place { at.pc + 1 < 2 ^ 64 }
+    requires words { P.count port.old ≡ words_of shape }
+    ensures turn { Makes (P.serves port.old) P.leads (Asks (step_of (word shape (machine_of at parts.old) cell) ops.Load) (λ found. goes (record (machine_of at parts.old) { pending = found }))) parts.old.number (machine_of result.at parts.new) result.found (P.place port.old) (P.place port.new) }
+    ensures port { KeepsPort P.count P.name P.serves port.old port.new }
+    ensures room { vec_capacity parts.new.prints ≡ vec_capacity parts.old.prints }
+{
+    let word = word(shape, at, parts, cell);
+    let found = ask(
+        port,
+        WordStep {
+            word,
+            op: WordOp::Load,
+        },
+    );
+    parts.set_pending(found);
+    Done {
+        at: next(at),
+        found,
+    }
+}
+
+/// The reference of this register goes to the cell, and that of the cell to the register.
+#[inline(always)]
+pub(crate) fn exchange<P: Port>(
+    shape: Shape,
+    at: At,
+    parts: &mut Parts,
+    port: &mut P,
+    register: u32,
+    cell: Cell,
+) -> Done
+    requires shape { IsShape shape }
+    requires place { at.pc + 1 < 2 ^ 64 }
+    requires words { P.count port.old ≡ words_of shape }
+    ensures turn { Makes (P.serves port.old) P.leads (Asks (step_of (word shape (machine_of at parts.old) cell) (ops.Swap (ref (machine_of at parts.old) register))) (λ found. goes (accessed (set_ref (machine_of at parts.old) register found)))) parts.old.number (machine_of result.at parts.new) result.found (P.place port.old) (P.place port.new) }
+    ensures port { KeepsPort P.count P.name P.serves port.old port.new }
+    ensures room { vec_capacity parts.new.prints ≡ vec_capacity parts.old.prints }
+{
+    let word = word(shape, at, parts, cell);
+    let reference = parts.reference(at, register);
+    let found = ask(
+        port,
+        WordStep {
+            word,
+            op: WordOp::Swap(reference),
+        },
+    );
+    parts.set_reference(at, register, found);
+    parts.set_pending(0);
+    Done {
+        at: next(at),
+        found,
+    }
+}
+
+/// To this reference register, the reference of the cell, which is then NULL.
+#[inline(always)]
+pub(crate) fn take_cell<P: Port>(
+    shape: Shape,
+    at: At,
+    parts: &mut Parts,
+    port: &mut P,
+    register: u32,
+    cell: Cell,
+) -> Done
+    requires shape { IsShape shape }
+    requires place { at.pc + 1 < 2 ^ 64 }
+    requires words { P.count port.old ≡ words_of shape }
+    ensures turn { Makes (P.serves port.old) P.leads (Asks (step_of (word shape (machine_of at parts.old) cell) (ops.Swap 0)) (λ found. goes (accessed (set_ref (machine_of at parts.old) register found)))) parts.old.number (machine_of result.at parts.new) result.found (P.place port.old) (P.place port.new) }
+    ensures port { KeepsPort P.count P.name P.serves port.old port.new }
+    ensures room { vec_capacity parts.new.prints ≡ vec_capacity parts.old.prints }
+{
+    let word = word(shape, at, parts, cell);
+    let found = ask(
+        port,
+        WordStep {
+            word,
+            op: WordOp::Swap(0),
+        },
+    );
+    parts.set_reference(at, register, found);
+    parts.set_pending(0);
+    Done {
+        at: next(at),
+        found,
+    }
+}
+
+/// The register, an index of the object, becomes the number of a field of that element.
+#[inline(always)]
+pub(crate) fn bounds<P: Port>(
+    shape: Shape,
+    at: At,
+    parts: &mut Parts,
+    port: &mut P,
+    register: u32,
+    base: u32,
+    cells: u32,
+    field: u32,
+    site: u32,
+) -> Done
+    requires shape { IsShape shape }
+    requires place { at.pc + 1 < 2 ^ 64 }
+    requires words { P.count port.old ≡ words_of shape }
+    ensures turn { Makes (P.serves port.old) P.leads (Asks (step_of (length_word shape (ref (machine_of at parts.old) base)) ops.Load) (indexed (machine_of at parts.old) register (int (machine_of at parts.old) register) cells field site)) parts.old.number (machine_of result.at parts.new) result.found (P.place port.old) (P.place port.new) }
+    ensures port { KeepsPort P.count P.name P.serves port.old port.new }
+    ensures room { vec_capacity parts.new.prints ≡ vec_capacity parts.old.prints }
+{
+    let word = shape.length_word(parts.reference(at, base));
+    let found = ask(
+        port,
+        WordStep {
+            word,
+            op: WordOp::Load,
+        },
+    );
+    let at = indexed(at, parts, register, cells, field, site, found);
+    Done { at, found }
+}

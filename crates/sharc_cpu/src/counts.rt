@@ -1,0 +1,191 @@
+//! The counts of references.
+
+ghost use Rattle.std.specs.Prelude.{◌≡◌, ◌<◌, ◌+◌, ◌^◌, vec_capacity};
+ghost use Rattle.sharc_count.specs.Count.{test_of};
+ghost use Rattle.sharc_code.specs.Layout.{IsShape, words_of, count_word};
+ghost use Rattle.sharc_code.specs.Machine.{Asks, ref, set_ref, move_ref, goes, accessed, raise, lower, test, tested};
+ghost use Rattle.sharc_cpu.specs.View.{machine_of, Makes, KeepsPort};
+
+use crate::cells::ask;
+use crate::parts::Parts;
+use crate::places::{Done, local, next};
+use crate::turns::stopped;
+use sharc_code::{At, Shape, Stop};
+use sharc_word::Port;
+
+// A4 where the count is another than 1.
+#[inline(always)]
+fn tested(at: At, parts: &mut Parts, site: u32, count: u64) -> At
+    requires place { at.pc + 1 < 2 ^ 64 }
+    ensures turn { machine_of result parts.new ≡ tested (machine_of at parts.old) site count }
+    ensures room { vec_capacity parts.new.prints ≡ vec_capacity parts.old.prints }
+{
+    if sharc_count::sole(count) {
+        next(at)
+    } else {
+        stopped(at, parts, Stop::NotSole(site, count))
+    }
+}
+
+/// To this reference register, the reference of that one, which is counted once more.
+#[inline(always)]
+pub(crate) fn raise<P: Port>(
+    shape: Shape,
+    at: At,
+    parts: &mut Parts,
+    port: &mut P,
+    register: u32,
+    from: u32,
+) -> Done
+    requires shape { IsShape shape }
+    requires place { at.pc + 1 < 2 ^ 64 }
+    requires words { P.count port.old ≡ words_of shape }
+    ensures turn { Makes (P.serves port.old) P.leads (raise shape (ref (machine_of at parts.old) from) (goes (set_ref (machine_of at parts.old) register (ref (machine_of at parts.old) from)))) parts.old.number (machine_of result.at parts.new) result.found (P.place port.old) (P.place port.new) }
+    ensures port { KeepsPort P.count P.name P.serves port.old port.new }
+    ensures room { vec_capacity parts.new.prints ≡ vec_capacity parts.old.prints }
+{
+    let header = parts.reference(at, from);
+    parts.set_reference(at, register, header);
+    if header == 0 {
+        return local(next(at));
+    }
+    let found = ask(port, sharc_count::raise(shape.count_word(header)));
+    Done {
+        at: next(at),
+        found,
+    }
+}
+
+/// To this reference register, the reference that was loaded, which is counted.
+#[inline(always)]
+pub(crate) fn raise_loaded<P: Port>(
+    shape: Shape,
+    at: At,
+    parts: &mut Parts,
+    port: &mut P,
+    register: u32,
+) -> Done
+    requires shape { IsShape shape }
+    requires place { at.pc + 1 < 2 ^ 64 }
+    requires words { P.count port.old ≡ words_of shape }
+    ensures turn { Makes (P.serves port.old) P.leads (raise shape (machine_of at parts.old).pending (goes (accessed (set_ref (machine_of at parts.old) register (machine_of at parts.old).pending)))) parts.old.number (machine_of result.at parts.new) result.found (P.place port.old) (P.place port.new) }
+    ensures port { KeepsPort P.count P.name P.serves port.old port.new }
+    ensures room { vec_capacity parts.new.prints ≡ vec_capacity parts.old.prints }
+{
+    let header = parts.pending;
+    parts.set_reference(at, register, header);
+    parts.set_pending(0);
+    if header == 0 {
+        return local(next(at));
+    }
+    let found = ask(port, sharc_count::raise(shape.count_word(header)));
+    Done {
+        at: next(at),
+        found,
+    }
+}
+
+/// The reference of this register is counted once less, and the register is NULL.
+#[inline(always)]
+pub(crate) fn lower<P: Port>(
+    shape: Shape,
+    at: At,
+    parts: &mut Parts,
+    port: &mut P,
+    register: u32,
+) -> Done
+    requires shape { IsShape shape }
+    requires place { at.pc + 1 < 2 ^ 64 }
+    requires words { P.count port.old ≡ words_of shape }
+    ensures turn { Makes (P.serves port.old) P.leads (lower shape (ref (machine_of at parts.old) register) (goes (set_ref (machine_of at parts.old) register 0))) parts.old.number (machine_of result.at parts.new) result.found (P.place port.old) (P.place port.new) }
+    ensures port { KeepsPort P.count P.name P.serves port.old port.new }
+    ensures room { vec_capacity parts.new.prints ≡ vec_capacity parts.old.prints }
+{
+    let header = parts.reference(at, register);
+    parts.set_reference(at, register, 0);
+    if header == 0 {
+        return local(next(at));
+    }
+    let found = ask(port, sharc_count::lower(shape.count_word(header)));
+    Done {
+        at: next(at),
+        found,
+    }
+}
+
+/// To this reference register, that of the local in the other one, which is then NULL.
+#[inline(always)]
+pub(crate) fn take_local<P: Port>(
+    shape: Shape,
+    at: At,
+    parts: &mut Parts,
+    port: &mut P,
+    register: u32,
+    from: u32,
+) -> Done
+    requires shape { IsShape shape }
+    requires place { at.pc + 1 < 2 ^ 64 }
+    requires words { P.count port.old ≡ words_of shape }
+    ensures turn { Makes (P.serves port.old) P.leads (test shape (ref (machine_of at parts.old) from) (goes (move_ref (machine_of at parts.old) register from))) parts.old.number (machine_of result.at parts.new) result.found (P.place port.old) (P.place port.new) }
+    ensures port { KeepsPort P.count P.name P.serves port.old port.new }
+    ensures room { vec_capacity parts.new.prints ≡ vec_capacity parts.old.prints }
+{
+    let header = parts.reference(at, from);
+    parts.set_reference(at, from, 0);
+    parts.set_reference(at, register, header);
+    if header == 0 {
+        return local(next(at));
+    }
+    let found = ask(port, sharc_count::test(shape.count_word(header)));
+    Done {
+        at: next(at),
+        found,
+    }
+}
+
+/// A4 where the object in this register has another count than 1.
+#[inline(always)]
+pub(crate) fn test_sole<P: Port>(
+    shape: Shape,
+    at: At,
+    parts: &mut Parts,
+    port: &mut P,
+    register: u32,
+    site: u32,
+) -> Done
+    requires shape { IsShape shape }
+    requires place { at.pc + 1 < 2 ^ 64 }
+    requires words { P.count port.old ≡ words_of shape }
+    ensures turn { Makes (P.serves port.old) P.leads (Asks (test_of (count_word shape (ref (machine_of at parts.old) register))) (tested (machine_of at parts.old) site)) parts.old.number (machine_of result.at parts.new) result.found (P.place port.old) (P.place port.new) }
+    ensures port { KeepsPort P.count P.name P.serves port.old port.new }
+    ensures room { vec_capacity parts.new.prints ≡ vec_capacity parts.old.prints }
+{
+    let word = shape.count_word(parts.reference(at, register));
+    let found = ask(port, sharc_count::test(word));
+    let at = tested(at, parts, site, found);
+    Done { at, found }
+}
+
+/// The object in this register has a new mode.
+#[inline(always)]
+pub(crate) fn give<P: Port>(
+    shape: Shape,
+    at: At,
+    parts: &mut Parts,
+    port: &mut P,
+    register: u32,
+) -> Done
+    requires shape { IsShape shape }
+    requires place { at.pc + 1 < 2 ^ 64 }
+    requires words { P.count port.old ≡ words_of shape }
+    ensures turn { Makes (P.serves port.old) P.leads (Asks (test_of (count_word shape (ref (machine_of at parts.old) register))) (λ found. goes (machine_of at parts.old))) parts.old.number (machine_of result.at parts.new) result.found (P.place port.old) (P.place port.new) }
+    ensures port { KeepsPort P.count P.name P.serves port.old port.new }
+    ensures room { vec_capacity parts.new.prints ≡ vec_capacity parts.old.prints }
+{
+    let word = shape.count_word(parts.reference(at, register));
+    let found = ask(port, sharc_count::test(word));
+    Done {
+        at: next(at),
+        found,
+    }
+}

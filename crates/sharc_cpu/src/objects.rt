@@ -1,0 +1,471 @@
+//! Objects: how they are made, cleared and freed.
+
+ghost use Rattle.std.specs.Prelude.{◌≡◌, ◌<◌, ◌≤◌, ◌+◌, ◌*◌, ◌^◌, max, slice_index, vec_capacity};
+ghost use Rattle.sharc_word.specs.declared.step.WordOp.TheVariants as ops;
+ghost use Rattle.sharc_granule.specs.State.{begun, told, turn_of};
+ghost use Rattle.sharc_granule.specs.Block.{block_of};
+ghost use Rattle.sharc_code.specs.Layout.{IsShape, granules, first_cell, granule_at, words_of, shadow_word, cell_word, cell_of};
+ghost use Rattle.sharc_code.specs.Machine.{size_of, elements_of, all_cells, made, goes_on_new, asks_new, new, data_granules, data_granule, looks, clear, layout_at, pointer_cell, fields, free_looks, empties, emptied, free_size, free_head, freed, free, ref, int};
+ghost use Rattle.sharc_cpu.specs.View.{rest_of, machine_of, IsWithin, Makes, KeepsPort};
+
+use crate::cells::ask;
+use crate::parts::Parts;
+use crate::places::{Done, local};
+use crate::turns::{at_stage, field_of, rests, trapped};
+use sharc_code::{At, Code, Layout, Shape, Stage, cell_of};
+use sharc_granule::{NewState, NewTurn, block};
+use sharc_shadow::cleared;
+use sharc_word::{Port, WordOp, WordStep};
+
+// ---- new objects
+
+// The elements that a count asks for: at least one.
+fn elements_of(count: i64) -> u64
+    ensures is { result ≡ elements_of count }
+    ensures some { 1 ≤ result }
+{
+    if count < 1 { 1 } else { count.cast_unsigned() }
+}
+
+// The cells of so many elements, too many where they pass 2 ^ 32.
+fn all_cells(elements: u64, cells: u32) -> u64
+    ensures is { result ≡ all_cells elements cells }
+    ensures least { 1 ≤ result }
+    ensures most { result ≤ 2 ^ 32 }
+{
+    elements
+        .saturating_mul(u64::from(cells))
+        .max(1)
+        .min(4294967296)
+}
+
+// The place of a block size among the heads, of which the first is of two granules.
+fn size_of(block: u64) -> u32
+    ensures { result ≡ size_of block }
+{
+    block.trailing_zeros().saturating_sub(1)
+}
+
+// A New that has not had a turn, told that.
+fn opened(shape: Shape, parts: &Parts, elements: u64, cells: u32) -> NewState
+    requires shape { IsShape shape }
+    requires some { 1 ≤ elements }
+    ensures is { let all = all_cells elements cells in result ≡ told (begun record { elements = elements; cells = all; end = granules shape; first = first_cell shape; head = granule_at shape (slice_index parts.now.heads.items (size_of (block_of all))); block = block_of all }) 0 }
+    ensures arena { result.arguments.first + 2 * result.arguments.end ≡ words_of shape }
+{
+    let all = all_cells(elements, cells);
+    let head = shape.granule_at(parts.head(size_of(block(all))));
+    let mut state = NewState::new(
+        elements,
+        all,
+        u64::from(shape.granules()),
+        shape.first_cell(),
+        u64::from(head),
+    );
+    let _ = state.next(0);
+    state
+}
+
+// The object is made; the head of its list is what the New says.
+fn made(at: At, parts: &mut Parts, register: u32, state: NewState, header: u64) -> At
+    requires place { at.pc + 1 < 2 ^ 64 }
+    ensures turn { machine_of result parts.new ≡ made (machine_of at parts.old) register state header }
+    ensures room { vec_capacity parts.new.prints ≡ vec_capacity parts.old.prints }
+{
+    parts.set_reference(at, register, header);
+    parts.set_head(size_of(state.block()), state.head());
+    rests(at, parts)
+}
+
+// The New behind its step.
+fn goes_on_new(at: At, parts: &mut Parts, register: u32, site: u32, state: NewState) -> At
+    requires place { at.pc + 1 < 2 ^ 64 }
+    ensures turn { machine_of result parts.new ≡ goes_on_new (machine_of at parts.old) register site state }
+    ensures room { vec_capacity parts.new.prints ≡ vec_capacity parts.old.prints }
+{
+    match state.turn() {
+        NewTurn::Do(_) => at_stage(at, parts, Stage::Makes(state)),
+        NewTurn::Made(header) => made(at, parts, register, state, header),
+        NewTurn::HeapFull => trapped(at, parts, 9, site),
+    }
+}
+
+// Makes the step that the New asks for.
+fn asks_new<P: Port>(
+    shape: Shape,
+    at: At,
+    parts: &mut Parts,
+    port: &mut P,
+    register: u32,
+    site: u32,
+    state: NewState,
+) -> Done
+    requires shape { IsShape shape }
+    requires place { at.pc + 1 < 2 ^ 64 }
+    requires arena { state.arguments.first + 2 * state.arguments.end ≡ words_of shape }
+    requires words { P.count port.old ≡ words_of shape }
+    ensures turn { Makes (P.serves port.old) P.leads (asks_new (machine_of at parts.old) register site state (turn_of state)) parts.old.number (machine_of result.at parts.new) result.found (P.place port.old) (P.place port.new) }
+    ensures port { KeepsPort P.count P.name P.serves port.old port.new }
+    ensures room { vec_capacity parts.new.prints ≡ vec_capacity parts.old.prints }
+{
+    match state.turn() {
+        NewTurn::Do(step) => {
+            let found = ask(port, step);
+            let mut told = state;
+            let _ = told.next(found);
+            let at = goes_on_new(at, parts, register, site, told);
+            Done { at, found }
+        }
+        NewTurn::Made(header) => local(made(at, parts, register, state, header)),
+        NewTurn::HeapFull => local(trapped(at, parts, 9, site)),
+    }
+}
+
+// ---- clearing
+
+// The data granules of so many elements.
+fn data_granules(elements: u64, cells: u32) -> u64
+    ensures { result ≡ data_granules elements cells }
+{
+    let all = elements.saturating_mul(u64::from(cells));
+    all / 2 + all % 2
+}
+
+// The shadow word of the granule of this number among the data granules of an object.
+fn data_word(shape: Shape, header: u64, place: u64) -> u32
+    requires { IsShape shape }
+    ensures is { result ≡ shadow_word shape (data_granule header place) }
+    ensures within { result < words_of shape }
+{
+    shape.shadow_word(header.saturating_add(1).saturating_add(place))
+}
+
+fn looks(at: At, parts: &mut Parts, done: u64, all: u64) -> At
+    requires place { at.pc + 1 < 2 ^ 64 }
+    ensures turn { machine_of result parts.new ≡ looks (machine_of at parts.old) done all }
+    ensures room { vec_capacity parts.new.prints ≡ vec_capacity parts.old.prints }
+{
+    if done < all {
+        at_stage(at, parts, Stage::Looks(done, all))
+    } else {
+        rests(at, parts)
+    }
+}
+
+// The same behind one granule more.
+fn looks_on(at: At, parts: &mut Parts, done: u64, all: u64) -> At
+    requires place { at.pc + 1 < 2 ^ 64 }
+    ensures turn { machine_of result parts.new ≡ looks (machine_of at parts.old) (done + 1) all }
+    ensures room { vec_capacity parts.new.prints ≡ vec_capacity parts.old.prints }
+{
+    looks(at, parts, done.saturating_add(1), all)
+}
+
+// ---- freeing
+
+/// The layout of this number, or that of no cells.
+fn layout_at(code: &Code, layout: u32) -> Layout
+    ensures { result ≡ layout_at code.now layout }
+{
+    let layouts = code.layouts.as_slice();
+    if (layout as usize) < layouts.len() {
+        layouts[layout as usize]
+    } else {
+        Layout {
+            cells: 0,
+            from: 0,
+            until: 0,
+        }
+    }
+}
+
+// How many pointer fields an element has.
+fn fields(layout: Layout) -> u64
+    ensures { result ≡ fields layout }
+{
+    u64::from(layout.until.saturating_sub(layout.from))
+}
+
+// The pointer cell of this number among those of all elements.
+fn pointer_cell(code: &Code, layout: Layout, i: u64) -> u64
+    ensures { result ≡ pointer_cell code.now layout i }
+{
+    let fields = fields(layout);
+    let (element, field) = if fields == 0 {
+        (0, i)
+    } else {
+        (i / fields, i % fields)
+    };
+    field_of(element, layout.cells, pointer(code, layout, field))
+}
+
+// The pointer field of this number.
+fn pointer(code: &Code, layout: Layout, field: u64) -> u32
+    ensures { result ≡ slice_index code.now.pointers.items (layout.from + field) }
+{
+    let place = u64::from(layout.from).saturating_add(field);
+    let pointers = code.pointers.as_slice();
+    if (place as usize) < pointers.len() {
+        pointers[place as usize]
+    } else {
+        0
+    }
+}
+
+fn free_looks(at: At, parts: &mut Parts, layout: Layout, done: u64, elements: u64) -> At
+    ensures turn { machine_of result parts.new ≡ free_looks (machine_of at parts.old) layout done elements }
+    ensures room { vec_capacity parts.new.prints ≡ vec_capacity parts.old.prints }
+{
+    if done < data_granules(elements, layout.cells) {
+        at_stage(at, parts, Stage::FreeLooks(done, elements))
+    } else {
+        at_stage(at, parts, Stage::Uncounts(elements))
+    }
+}
+
+// The same behind one granule more.
+fn free_looks_on(at: At, parts: &mut Parts, layout: Layout, done: u64, elements: u64) -> At
+    ensures turn { machine_of result parts.new ≡ free_looks (machine_of at parts.old) layout (done + 1) elements }
+    ensures room { vec_capacity parts.new.prints ≡ vec_capacity parts.old.prints }
+{
+    free_looks(at, parts, layout, done.saturating_add(1), elements)
+}
+
+fn empties(at: At, parts: &mut Parts, layout: Layout, i: u64, elements: u64) -> At
+    ensures turn { machine_of result parts.new ≡ empties (machine_of at parts.old) layout i elements }
+    ensures room { vec_capacity parts.new.prints ≡ vec_capacity parts.old.prints }
+{
+    if i < elements.saturating_mul(fields(layout)) {
+        at_stage(at, parts, Stage::Empties(i, elements))
+    } else {
+        free_looks(at, parts, layout, 0, elements)
+    }
+}
+
+// The same behind one cell more.
+fn empties_on(at: At, parts: &mut Parts, layout: Layout, i: u64, elements: u64) -> At
+    ensures turn { machine_of result parts.new ≡ empties (machine_of at parts.old) layout (i + 1) elements }
+    ensures room { vec_capacity parts.new.prints ≡ vec_capacity parts.old.prints }
+{
+    empties(at, parts, layout, i.saturating_add(1), elements)
+}
+
+// Behind the Swap of a pointer cell comes the Lower of what it held.
+fn emptied(at: At, parts: &mut Parts, layout: Layout, i: u64, elements: u64, found: u64) -> At
+    ensures turn { machine_of result parts.new ≡ emptied (machine_of at parts.old) layout i elements found }
+    ensures room { vec_capacity parts.new.prints ≡ vec_capacity parts.old.prints }
+{
+    if found == 0 {
+        empties_on(at, parts, layout, i, elements)
+    } else {
+        at_stage(at, parts, Stage::Lowers(i, elements, found))
+    }
+}
+
+// The place of the object's block among the heads.
+fn free_size(layout: Layout, elements: u64) -> u32
+    ensures { result ≡ free_size layout elements }
+{
+    size_of(block(all_cells(elements, layout.cells)))
+}
+
+// The block becomes the head of its list.
+fn freed(at: At, parts: &mut Parts, register: u32, layout: Layout, elements: u64) -> At
+    requires place { at.pc + 1 < 2 ^ 64 }
+    ensures turn { machine_of result parts.new ≡ freed (machine_of at parts.old) register layout elements }
+    ensures room { vec_capacity parts.new.prints ≡ vec_capacity parts.old.prints }
+{
+    let header = parts.reference(at, register);
+    parts.set_reference(at, register, 0);
+    parts.set_head(free_size(layout, elements), header);
+    rests(at, parts)
+}
+
+/// A new object of so many elements as this integer register has, each of so many cells.
+#[inline(always)]
+pub(crate) fn new<P: Port>(
+    shape: Shape,
+    at: At,
+    parts: &mut Parts,
+    port: &mut P,
+    register: u32,
+    count: u32,
+    cells: u32,
+    site: u32,
+) -> Done
+    requires shape { IsShape shape }
+    requires place { at.pc + 1 < 2 ^ 64 }
+    requires within { IsWithin shape (rest_of parts.old).own }
+    requires words { P.count port.old ≡ words_of shape }
+    ensures turn { Makes (P.serves port.old) P.leads (new shape (machine_of at parts.old) register (elements_of (int (machine_of at parts.old) count)) cells site parts.old.stage) parts.old.number (machine_of result.at parts.new) result.found (P.place port.old) (P.place port.new) }
+    ensures port { KeepsPort P.count P.name P.serves port.old port.new }
+    ensures room { vec_capacity parts.new.prints ≡ vec_capacity parts.old.prints }
+{
+    let stage = parts.stage;
+    let state = match stage {
+        Stage::Makes(state) => state,
+        _ => opened(shape, parts, elements_of(parts.int(at, count)), cells),
+    };
+    asks_new(shape, at, parts, port, register, site, state)
+}
+
+/// Clears the granules of the object in this register, whose elements have so many cells.
+#[inline(always)]
+pub(crate) fn clear<P: Port>(
+    shape: Shape,
+    at: At,
+    parts: &mut Parts,
+    port: &mut P,
+    register: u32,
+    cells: u32,
+) -> Done
+    requires shape { IsShape shape }
+    requires place { at.pc + 1 < 2 ^ 64 }
+    requires words { P.count port.old ≡ words_of shape }
+    ensures turn { Makes (P.serves port.old) P.leads (clear shape (machine_of at parts.old) (ref (machine_of at parts.old) register) cells parts.old.stage) parts.old.number (machine_of result.at parts.new) result.found (P.place port.old) (P.place port.new) }
+    ensures port { KeepsPort P.count P.name P.serves port.old port.new }
+    ensures room { vec_capacity parts.new.prints ≡ vec_capacity parts.old.prints }
+{
+    let header = parts.reference(at, register);
+    match parts.stage {
+        Stage::Looks(done, all) => {
+            let word = data_word(shape, header, done);
+            let found = ask(
+                port,
+                WordStep {
+                    word,
+                    op: WordOp::Load,
+                },
+            );
+            let at = at_stage(at, parts, Stage::Clears(done, all, found));
+            Done { at, found }
+        }
+        Stage::Clears(done, all, seen) => {
+            let word = data_word(shape, header, done);
+            let found = ask(
+                port,
+                WordStep {
+                    word,
+                    op: WordOp::Swap(cleared(seen)),
+                },
+            );
+            let at = looks_on(at, parts, done, all);
+            Done { at, found }
+        }
+        _ => {
+            let word = shape.length_word(header);
+            let found = ask(
+                port,
+                WordStep {
+                    word,
+                    op: WordOp::Load,
+                },
+            );
+            let at = looks(at, parts, 0, data_granules(found, cells));
+            Done { at, found }
+        }
+    }
+}
+
+/// Frees the object in this register, whose elements have this layout.
+#[inline(always)]
+pub(crate) fn free<P: Port>(
+    shape: Shape,
+    at: At,
+    parts: &mut Parts,
+    port: &mut P,
+    code: &Code,
+    register: u32,
+    layout: u32,
+) -> Done
+    requires shape { IsShape shape }
+    requires place { at.pc + 1 < 2 ^ 64 }
+    requires words { P.count port.old ≡ words_of shape }
+    ensures turn { Makes (P.serves port.old) P.leads (free code.now shape (machine_of at parts.old) register (layout_at code.now layout) parts.old.stage) parts.old.number (machine_of result.at parts.new) result.found (P.place port.old) (P.place port.new) }
+    ensures port { KeepsPort P.count P.name P.serves port.old port.new }
+    ensures room { vec_capacity parts.new.prints ≡ vec_capacity parts.old.prints }
+{
+    let header = parts.reference(at, register);
+    let layout = layout_at(code, layout);
+    match parts.stage {
+        Stage::Empties(i, elements) => {
+            let cell = cell_of(header, pointer_cell(code, layout, i));
+            let word = shape.cell_word(cell);
+            let found = ask(
+                port,
+                WordStep {
+                    word,
+                    op: WordOp::Swap(0),
+                },
+            );
+            let at = emptied(at, parts, layout, i, elements, found);
+            Done { at, found }
+        }
+        Stage::Lowers(i, elements, of) => {
+            let found = ask(port, sharc_count::lower(shape.count_word(of)));
+            let at = empties_on(at, parts, layout, i, elements);
+            Done { at, found }
+        }
+        Stage::FreeLooks(done, elements) => {
+            let word = data_word(shape, header, done);
+            let found = ask(
+                port,
+                WordStep {
+                    word,
+                    op: WordOp::Load,
+                },
+            );
+            let at = at_stage(at, parts, Stage::FreeClears(done, elements, found));
+            Done { at, found }
+        }
+        Stage::FreeClears(done, elements, seen) => {
+            let word = data_word(shape, header, done);
+            let found = ask(
+                port,
+                WordStep {
+                    word,
+                    op: WordOp::Swap(cleared(seen)),
+                },
+            );
+            let at = free_looks_on(at, parts, layout, done, elements);
+            Done { at, found }
+        }
+        Stage::Uncounts(elements) => {
+            let word = shape.count_word(header);
+            let found = ask(
+                port,
+                WordStep {
+                    word,
+                    op: WordOp::Swap(0),
+                },
+            );
+            let at = at_stage(at, parts, Stage::Links(elements));
+            Done { at, found }
+        }
+        Stage::Links(elements) => {
+            let word = shape.length_word(header);
+            let head = parts.head(free_size(layout, elements));
+            let found = ask(
+                port,
+                WordStep {
+                    word,
+                    op: WordOp::Swap(head),
+                },
+            );
+            let at = freed(at, parts, register, layout, elements);
+            Done { at, found }
+        }
+        _ => {
+            let word = shape.length_word(header);
+            let found = ask(
+                port,
+                WordStep {
+                    word,
+                    op: WordOp::Load,
+                },
+            );
+            let at = empties(at, parts, layout, 0, found);
+            Done { at, found }
+        }
+    }
+}

@@ -1,0 +1,120 @@
+//! A thread between two quanta.
+
+use crate::begin::begun;
+use crate::parts::Parts;
+use crate::waits::wait_of;
+use sharc_code::{At, Code, Print, Shape, State, Stop, Wait, fits_law};
+use sharc_shadow::Kind;
+use std::alloc::{AllocError, Global};
+use std::marker::Model;
+
+/// One thread of a code and a shape. Contracts see it as a `ThreadView`.
+#[derive(Drop)]
+pub struct Thread {
+    pub(crate) at: At,
+    pub(crate) parts: Parts,
+    pub(crate) made: u64,
+    pub(crate) wait: Option<Wait>,
+}
+
+impl Model for Thread {
+    ghost use Rattle.std.specs.Prelude.{◌-◌, vec_len, vec_capacity};
+    ghost use Rattle.sharc_cpu.specs.Thread.{ThreadView};
+    ghost use Rattle.sharc_cpu.specs.View.{machine_of};
+
+    ghost Value = { ThreadView };
+
+    ghost view = { λ t. record { machine = machine_of t.at t.parts; made = t.made; wait = t.wait; room = vec_capacity t.parts.prints - vec_len t.parts.prints } };
+}
+
+impl Thread {
+    ghost use Rattle.std.specs.Prelude.{◌≡◌, ◌≤◌, ◌<◌, length, IfOk, OnOk};
+    ghost use Rattle.sharc_word.specs.declared.step.TheConstants.{THREADS as threads};
+    ghost use Rattle.sharc_shadow.specs.Accesses.{note_of, site_at};
+    ghost use Rattle.sharc_code.specs.Layout.{Fits};
+    ghost use Rattle.sharc_code.specs.Path.{begun};
+    ghost use Rattle.sharc_cpu.specs.Thread.{IsThread};
+
+    /// The thread of this number, which made no turn.
+    ///
+    /// An `Err` says that memory was not found.
+    pub fn new(alloc: Global, code: &Code, shape: &Shape, number: u32) -> Result<Thread, AllocError>
+        requires fits { Fits code.now shape.now }
+        requires number { number < threads }
+        ensures thread { IfOk result (λ t. IsThread code.now shape.now t) }
+        ensures machine { IfOk result (λ t. t.machine ≡ begun code.now shape.now number) }
+        ensures made { IfOk result (λ t. t.made ≡ 0) }
+    {
+        fits_law(code, shape);
+        let at = At {
+            pc: 0,
+            ints: 0,
+            refs: 0,
+            depth: 0,
+            state: State::Runs,
+        };
+        let parts = begun(alloc, code, *shape, number)?;
+        let wait = wait_of(code, *shape, at, &parts);
+        Ok(Thread {
+            at,
+            parts,
+            made: 0,
+            wait,
+        })
+    }
+
+    /// Makes room for so many prints.
+    ///
+    /// An `Err` says that memory was not found.
+    pub fn reserve(&mut self, turns: u32) -> Result<(), AllocError>
+        ensures room { OnOk result (turns ≤ self.new.room) }
+        ensures machine { self.new.machine ≡ self.old.machine }
+        ensures made { self.new.made ≡ self.old.made }
+        ensures wait { self.new.wait ≡ self.old.wait }
+    {
+        self.parts.prints.reserve(turns as usize)
+    }
+
+    /// Its number.
+    pub fn number(&self) -> u32
+        ensures { result ≡ self.now.machine.own.number }
+    {
+        self.parts.number
+    }
+
+    /// The events that it has made.
+    pub fn made(&self) -> u64
+        ensures { result ≡ self.now.made }
+    {
+        self.made
+    }
+
+    /// Its stop, if it has one.
+    pub fn stop(&self) -> Option<Stop>
+        ensures { result ≡ self.now.machine.own.stop }
+    {
+        self.parts.stop
+    }
+
+    /// What its next turn asks for that it may have to wait for: `None` where it asks for nothing such, or makes no turn.
+    pub fn wait(&self) -> Option<Wait>
+        ensures { result ≡ self.now.wait }
+    {
+        self.wait
+    }
+
+    /// The prints that it made.
+    pub fn prints(&self) -> &[Print]
+        ensures { result.now ≡ self.now.machine.own.prints }
+    {
+        self.parts.prints.as_slice()
+    }
+
+    /// The site of its last check of the granule and kind, if that was made in this epoch.
+    pub fn noted(&self, granule: u32, kind: Kind, epoch: u32) -> Option<u32>
+        requires { granule < length self.now.machine.own.table.notes }
+        ensures { result ≡ site_at (note_of self.now.machine.own.table granule kind) epoch }
+    {
+        self.parts.table.site(granule, kind, epoch)
+    }
+}

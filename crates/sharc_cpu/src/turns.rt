@@ -1,0 +1,182 @@
+//! What turns make of a thread beside its words: how it goes on, stops, calls and returns.
+
+ghost use Rattle.std.specs.Prelude.{◌≡◌, ◌<◌, ◌+◌, ◌^◌, vec_capacity};
+ghost use Rattle.sharc_code.specs.Machine.{asserts, with_result, at_stage, rests, stopped, trapped, called, returned, has_room, holds_none, indexed, int, field_of};
+ghost use Rattle.sharc_cpu.specs.View.{machine_of};
+
+use crate::arithmetic::int_of;
+use crate::parts::Parts;
+use crate::places::{jumps, next, stays, stops};
+use sharc_code::{At, Code, Frame, Stage, State, Stop};
+
+/// Stops.
+pub(crate) fn stopped(at: At, parts: &mut Parts, stop: Stop) -> At
+    ensures turn { machine_of result parts.new ≡ stopped (machine_of at parts.old) stop }
+    ensures room { vec_capacity parts.new.prints ≡ vec_capacity parts.old.prints }
+{
+    parts.set_stop(stop);
+    stops(at)
+}
+
+/// Stops with the X of this number.
+pub(crate) fn trapped(at: At, parts: &mut Parts, number: u8, site: u32) -> At
+    ensures turn { machine_of result parts.new ≡ trapped (machine_of at parts.old) number site }
+    ensures room { vec_capacity parts.new.prints ≡ vec_capacity parts.old.prints }
+{
+    stopped(at, parts, Stop::Trap(number, site))
+}
+
+/// Stops with this X where this does not hold.
+#[inline(always)]
+pub(crate) fn asserts(at: At, parts: &mut Parts, holds: bool, number: u8, site: u32) -> At
+    requires place { at.pc + 1 < 2 ^ 64 }
+    ensures turn { machine_of result parts.new ≡ asserts (machine_of at parts.old) holds number site }
+    ensures room { vec_capacity parts.new.prints ≡ vec_capacity parts.old.prints }
+{
+    if holds {
+        next(at)
+    } else {
+        trapped(at, parts, number, site)
+    }
+}
+
+/// Keeps the value, or stops with the number of an X.
+#[inline(always)]
+pub(crate) fn keep(
+    at: At,
+    parts: &mut Parts,
+    register: u32,
+    site: u32,
+    value: Result<i64, u8>,
+) -> At
+    requires place { at.pc + 1 < 2 ^ 64 }
+    ensures turn { machine_of result parts.new ≡ with_result (machine_of at parts.old) register site value }
+    ensures room { vec_capacity parts.new.prints ≡ vec_capacity parts.old.prints }
+{
+    match value {
+        Ok(value) => {
+            parts.set_int(at, register, value);
+            next(at)
+        }
+        Err(number) => trapped(at, parts, number, site),
+    }
+}
+
+/// The instruction has another turn.
+#[inline(always)]
+pub(crate) fn at_stage(at: At, parts: &mut Parts, stage: Stage) -> At
+    ensures turn { machine_of result parts.new ≡ at_stage (machine_of at parts.old) stage }
+    ensures room { vec_capacity parts.new.prints ≡ vec_capacity parts.old.prints }
+{
+    parts.set_stage(stage);
+    stays(at)
+}
+
+/// It has none.
+#[inline(always)]
+pub(crate) fn rests(at: At, parts: &mut Parts) -> At
+    requires place { at.pc + 1 < 2 ^ 64 }
+    ensures turn { machine_of result parts.new ≡ rests (machine_of at parts.old) }
+    ensures room { vec_capacity parts.new.prints ≡ vec_capacity parts.old.prints }
+{
+    parts.set_stage(Stage::Rests);
+    next(at)
+}
+
+// Whether one more frame has room.
+#[inline(always)]
+fn has_room(at: At, parts: &Parts, ints: u32, refs: u32) -> bool
+    ensures { result ≡ has_room (machine_of at parts.now) ints refs }
+{
+    at.depth < parts.frames.len()
+        && (at.ints as usize + ints as usize) < 4294967296
+        && (at.refs as usize + refs as usize) < 4294967296
+}
+
+/// To this place, with frames that begin at these registers.
+pub(crate) fn called(at: At, parts: &mut Parts, pc: u32, ints: u32, refs: u32, site: u32) -> At
+    requires place { at.pc + 1 < 2 ^ 64 }
+    ensures turn { machine_of result parts.new ≡ called (machine_of at parts.old) pc ints refs site }
+    ensures room { vec_capacity parts.new.prints ≡ vec_capacity parts.old.prints }
+{
+    if has_room(at, parts, ints, refs) {
+        parts.set_frame(
+            at.depth,
+            Frame {
+                pc: at.pc + 1,
+                ints: at.ints,
+                refs: at.refs,
+            },
+        );
+        At {
+            pc: pc as usize,
+            ints: at.ints + ints,
+            refs: at.refs + refs,
+            depth: at.depth + 1,
+            state: State::Runs,
+        }
+    } else {
+        trapped(at, parts, 10, site)
+    }
+}
+
+// Whether no mutex is held.
+fn holds_none(parts: &Parts) -> bool
+    ensures { result ≡ holds_none parts.now.held }
+{
+    parts.held.is_empty()
+}
+
+/// Back to the caller; where no frame stands, behind the code.
+pub(crate) fn returned(code: &Code, at: At, parts: &mut Parts, site: u32) -> At
+    ensures turn { machine_of result parts.new ≡ returned code.now (machine_of at parts.old) site }
+    ensures room { vec_capacity parts.new.prints ≡ vec_capacity parts.old.prints }
+{
+    if at.depth == 0 {
+        return jumps(at, code.instrs.len());
+    }
+    if at.depth == 1 && !holds_none(parts) {
+        return trapped(at, parts, 11, site);
+    }
+    let depth = at.depth - 1;
+    let frame = parts.frame(depth);
+    At {
+        pc: frame.pc,
+        ints: frame.ints,
+        refs: frame.refs,
+        depth,
+        state: State::Runs,
+    }
+}
+
+/// The register, which holds an index of so many elements, becomes the number of a field of that element; X2 where it is none.
+pub(crate) fn indexed(
+    at: At,
+    parts: &mut Parts,
+    register: u32,
+    cells: u32,
+    field: u32,
+    site: u32,
+    elements: u64,
+) -> At
+    requires place { at.pc + 1 < 2 ^ 64 }
+    ensures turn { machine_of result parts.new ≡ indexed (machine_of at parts.old) register (int (machine_of at parts.old) register) cells field site elements }
+    ensures room { vec_capacity parts.new.prints ≡ vec_capacity parts.old.prints }
+{
+    let index = parts.int(at, register);
+    if index < 0 || index.cast_unsigned() >= elements {
+        return trapped(at, parts, 2, site);
+    }
+    let field = field_of(index.cast_unsigned(), cells, field);
+    parts.set_int(at, register, int_of(field));
+    next(at)
+}
+
+/// The number of a field of an element, or the largest number where it is larger.
+pub(crate) fn field_of(index: u64, cells: u32, field: u32) -> u64
+    ensures { result ≡ field_of index cells field }
+{
+    index
+        .saturating_mul(u64::from(cells))
+        .saturating_add(u64::from(field))
+}
