@@ -58,3 +58,7 @@ heads_notes h (i ∷ rest) = head_notes h i ++ heads_notes (behind h i) rest
 
 abbrev pub no_heads : Heads
 no_heads = record { scope = record { structs = []; names = [] }; structs = 0; globals = 0; functions = 0 }
+
+-- what is known of the file behind some of its items, by a name that the crates above can write
+abbrev pub Heading : Type 0
+Heading = Heads

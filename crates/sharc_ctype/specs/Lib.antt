@@ -1,6 +1,9 @@
 pub mod Codes
 pub mod Condition
+pub mod Constants
+pub mod Entities
 pub mod Expressions
+pub mod FirstEntities
 pub mod FirstPlaces
 pub mod Globals
 pub mod Heads
@@ -12,4 +15,5 @@ pub mod Statements
 pub mod Tables
 pub mod Transfers
 pub mod Typings
+pub mod Variables
 pub mod View

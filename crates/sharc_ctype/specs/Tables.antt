@@ -1,11 +1,15 @@
--- The tables of a typed program: where its structs, globals and functions stand among its items, and all other declarations.
+-- The tables of a typed program: where its structs, globals and functions stand among its items, all other declarations, what has a type with modes,
+-- and the constant variables.
 use Rattle.std.specs.Prelude.{◌≡◌, ℕ, ◌+◌, Bool, true, false, List, [], ◌∷◌, Option, Some, None, if◌then◌else◌}
 use Rattle.sharc_tree.specs.declared.tree.item.StructDefinition.{StructDefinition}
 use Rattle.sharc_tree.specs.declared.tree.item.GlobalDefinition.{GlobalDefinition}
 use Rattle.sharc_tree.specs.Tree.{Function, Item, structure, global, function}
+use Rattle.sharc_names.specs.declared.fault.Named.{Named}
 use Rattle.sharc_ctype.specs.declared.tables.ItemForm.{ItemForm}
 use Rattle.sharc_ctype.specs.declared.tables.ItemForm.TheVariants as form
 use Rattle.sharc_ctype.specs.declared.tables.Tables.{Tables}
+use Rattle.sharc_ctype.specs.Constants.{HasConstants}
+use Rattle.sharc_ctype.specs.Entities.{entities_in}
 use Rattle.sharc_ctype.specs.Resolved.{declarations_in}
 
 abbrev pub has_form : ItemForm → Item → Bool
@@ -34,9 +38,11 @@ as_function (structure s) = None
 as_function (global g) = None
 as_function (function f) = Some f
 
--- these are the tables of a program with such items
-pub record AreTables (items : List Item) (t : Tables) : Type 0 where
+-- these are the tables of a program with such items, whose tokens name this
+pub record AreTables (items : List Item) (names : List Named) (t : Tables) : Type 0 where
   pub structs : t.structs.items ≡ places_of form.Struct 0 items
   pub globals : t.globals.items ≡ places_of form.Global 0 items
   pub functions : t.functions.items ≡ places_of form.Function 0 items
   pub declared : t.declared ≡ declarations_in items
+  pub entities : t.entities ≡ entities_in items
+  pub constants : HasConstants names items t.constants.keys

@@ -5,8 +5,13 @@ ghost use Rattle.std.specs.Option.{option_copied, option_map, option_and_then};
 ghost use Rattle.sharc_tree.specs.View.{view_item, view_items, view_function};
 ghost use Rattle.sharc_ctype.specs.Tables.{has_form, places_of, as_structure, as_global, as_function, AreTables};
 
+use crate::collect::entities_in;
+use crate::constants::constants_in;
 use crate::declared::Declared;
+use crate::entities::Entities;
 use crate::gather::declarations_in;
+use indexmap::IndexSet;
+use sharc_names::fault::Named;
 use sharc_tree::tree::{FunctionDefinition, GlobalDefinition, Item, StructDefinition};
 use std::alloc::{AllocError, Global};
 
@@ -18,13 +23,16 @@ pub(crate) enum ItemForm {
     Function,
 }
 
-/// Where the structs, globals and functions stand among the items, each at its number, and all other declarations.
+/// Where the structs, globals and functions stand among the items, each at its number; all other declarations; what has a type with modes; and the
+/// tokens that declare constant variables.
 #[derive(Drop)]
 pub(crate) struct Tables {
     pub(crate) structs: Vec<usize>,
     pub(crate) globals: Vec<usize>,
     pub(crate) functions: Vec<usize>,
     pub(crate) declared: Declared,
+    pub(crate) entities: Entities,
+    pub(crate) constants: IndexSet<u32>,
 }
 
 fn has_form(form: ItemForm, item: &Item) -> bool
@@ -52,19 +60,23 @@ fn places_of(alloc: Global, form: ItemForm, items: &[Item]) -> Result<Vec<usize>
 }
 
 impl Tables {
-    /// The tables of a program with these items.
-    pub(crate) fn of(alloc: Global, items: &[Item]) -> Result<Self, AllocError>
-        ensures { IfOk result (λ t. AreTables (view_items items.now) t) }
+    /// The tables of a program with these items, whose tokens name this.
+    pub(crate) fn of(alloc: Global, items: &[Item], names: &[Named]) -> Result<Self, AllocError>
+        ensures { IfOk result (λ t. AreTables (view_items items.now) names.now t) }
     {
         let structs = places_of(alloc, ItemForm::Struct, items)?;
         let globals = places_of(alloc, ItemForm::Global, items)?;
         let functions = places_of(alloc, ItemForm::Function, items)?;
         let declared = declarations_in(alloc, items)?;
+        let entities = entities_in(alloc, items)?;
+        let constants = constants_in(alloc, names, items)?;
         Ok(Tables {
             structs,
             globals,
             functions,
             declared,
+            entities,
+            constants,
         })
     }
 }

@@ -4,11 +4,14 @@ ghost use Rattle.std.specs.Prelude.{◌≡◌, ◌<◌, ◌≤◌, ◌+◌, ◌^
 ghost use Rattle.std.specs.Option.{option_copied, option_map};
 ghost use Rattle.sharc_tree.specs.View.{view_program, view_function};
 ghost use Rattle.sharc_names.specs.Notes.{noted, faults};
+ghost use Rattle.sharc_ctype.specs.Constants.{is_constant};
+ghost use Rattle.sharc_ctype.specs.Entities.{entities_in, entity_at, numbered, positions_in};
 ghost use Rattle.sharc_ctype.specs.Items.{nothing_found, notes_about};
 ghost use Rattle.sharc_ctype.specs.Layouts.{IsLayout};
 ghost use Rattle.sharc_ctype.specs.Resolved.{IsResolved, named_at, struct_at, global_at, function_at, declaration_at, structs_in, globals_in, functions_in, declarations_in};
 ghost use Rattle.sharc_ctype.specs.Typings.{Types};
 
+use crate::entity::Numbered;
 use crate::layout::{StructCells, cells_of};
 use crate::program::{first_fault, pass};
 use crate::tables::{Tables, as_function, as_global, as_struct, item_at};
@@ -42,7 +45,7 @@ impl Model for Typed {
 
     ghost view = { λ t. record { program = view_program t.program; named = t.named.items } };
 
-    ghost invariant = { λ t. IsResolved (record { program = view_program t.program; named = t.named.items }) × AreTables (view_items t.program.items) t.tables };
+    ghost invariant = { λ t. IsResolved (record { program = view_program t.program; named = t.named.items }) × AreTables (view_items t.program.items) t.named.items t.tables };
 }
 
 /// Why a program is not typed.
@@ -50,7 +53,8 @@ impl Model for Typed {
 pub enum TypeFault {
     /// The first fault.
     At(FaultAt),
-    /// There was not enough memory.
+    /// There was not enough memory. It is the answer, too, where the program has so many positions that their numbers pass 2^32 - 1, since a list of
+    /// that many could not be kept.
     Memory,
 }
 
@@ -154,6 +158,35 @@ impl Typed {
         self.tables.declared.find(token)
     }
 
+    /// What has a type with modes, in source order, each with the number of its first position.
+    pub fn entities(&self) -> &[Numbered]
+        ensures { result.now ≡ numbered (entities_in self.now.program.items) }
+    {
+        self.tables.entities.as_slice()
+    }
+
+    /// The first of them that begins at this token and ends at that one: a cast by its first token and its last, any other by the token of its name
+    /// twice.
+    pub fn entity_at(&self, token: u32, last: u32) -> Option<&Numbered>
+        ensures { option_copied result ≡ entity_at self.now token last }
+    {
+        self.tables.entities.find(token, last)
+    }
+
+    /// How many positions their types have. The numbers of the positions are those below.
+    pub fn position_count(&self) -> u32
+        ensures { result ≡ positions_in (entities_in self.now.program.items) }
+    {
+        self.tables.entities.positions()
+    }
+
+    /// Whether the variable that the token with this number declares is constant: a parameter or an initialised local that is never assigned.
+    pub fn is_constant(&self, token: u32) -> bool
+        ensures { result ≡ is_constant self.now token }
+    {
+        self.tables.constants.contains(&token)
+    }
+
     /// The same typed program once more.
     pub fn copy(&self, alloc: Global) -> Result<Self, AllocError>
         ensures { IfOk result (λ t. t ≡ self.now) }
@@ -169,10 +202,8 @@ pub fn layout(t: &Typed, of: u32) -> StructCells
     requires { IsSome (struct_at t.now of) }
     ensures { IsSomeAnd (struct_at t.now of) (λ s. IsLayout s.fields result) }
 {
-    match t.struct_at(of) {
-        Some(definition) => cells_of(definition.fields.as_slice()),
-        None => cells_of(&[]),
-    }
+    let definition = t.struct_at(of).unwrap();
+    cells_of(definition.fields.as_slice())
 }
 
 /// A typed program, with its tables.
@@ -180,7 +211,7 @@ fn with_tables(alloc: Global, program: Program, named: Vec<Named>) -> Result<Typ
     requires { IsResolved (record { program = view_program program; named = named.items }) }
     ensures { IfOk result (λ t. t ≡ record { program = view_program program; named = named.items }) }
 {
-    let tables = Tables::of(alloc, program.items.as_slice())?;
+    let tables = Tables::of(alloc, program.items.as_slice(), named.as_slice())?;
     Ok(Typed {
         program,
         named,

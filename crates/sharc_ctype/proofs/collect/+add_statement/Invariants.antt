@@ -1,0 +1,7 @@
+use Rattle.std.proofs.Common.{◌≡◌, ◌++◌, drop}
+use Rattle.sharc_tree.specs.View.{view_statements}
+use Rattle.sharc_ctype.specs.Entities.{statements_entities}
+use Rattle.sharc_ctype.proofs.collect.+add_statement.Given as goal
+
+abbrev pub invariant-add_statements-loop-stmt : goal.invariant-add_statements-loop-stmt
+invariant-add_statements-loop-stmt l = l.entities ++ statements_entities (view_statements (drop l.stmt-index l.list)) ≡ l.fn.entities ++ statements_entities (view_statements l.list)

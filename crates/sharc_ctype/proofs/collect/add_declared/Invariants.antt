@@ -1,0 +1,6 @@
+use Rattle.std.proofs.Common.{◌≡◌, ◌++◌, drop, map}
+use Rattle.sharc_ctype.specs.Entities.{declared}
+use Rattle.sharc_ctype.proofs.collect.add_declared.Given as goal
+
+abbrev pub invariant-loop-declaration : goal.invariant-loop-declaration
+invariant-loop-declaration l = l.entities ++ map (declared l.role) (drop l.declaration-index l.list) ≡ l.fn.entities ++ map (declared l.role) l.list

@@ -1,0 +1,6 @@
+use Rattle.std.proofs.Common.{◌≡◌, ℕ, ◌||◌, ◌&&◌, not, drop}
+use Rattle.sharc_ctype.specs.Constants.{is_among}
+use Rattle.sharc_ctype.proofs.constants.set_without.Given as goal
+
+abbrev pub invariant-loop-token : goal.invariant-loop-token
+invariant-loop-token l = (q : ℕ) → (is_among q l.set.keys || (is_among q (drop l.token-index l.tokens) && not (is_among q l.others.keys))) ≡ (is_among q l.tokens && not (is_among q l.others.keys))
