@@ -1,0 +1,71 @@
+-- What holds of each typed program.
+use Rattle.std.specs.Prelude.{◌≡◌, ℕ, List, ◌∷◌, ◌++◌, Some, Contains}
+use Rattle.std.specs.List.{AllByRecursion}
+use Rattle.sharc_tree.specs.Low.{IsLow}
+use Rattle.sharc_tree.specs.Marks.{items_marks}
+use Rattle.sharc_tree.specs.Measures.{in_function}
+use Rattle.sharc_tree.specs.Placed.{IsPlaced}
+use Rattle.sharc_tree.specs.Tree.{Function, Program}
+use Rattle.sharc_names.specs.declared.fault.Named.{Named}
+use Rattle.sharc_names.specs.Notes.{Note, refers, referred}
+use Rattle.sharc_ctype.specs.Expressions.{type_of}
+use Rattle.sharc_ctype.specs.Items.{IsTyped, notes_about, file_scope}
+use Rattle.sharc_resolved.specs.Places.{places_of_all}
+use Rattle.sharc_ctype.specs.Resolved.{Resolution, IsResolved, functions_in, kind_at, named_at}
+use Rattle.sharc_ctype.specs.Transfers.{IsFair, function_transfers}
+use Rattle.sharc_resolved.specs.Constraints.{HasType}
+use Rattle.sharc_resolved.specs.Rules.{MeetsRules}
+use Rattle.sharc_resolved.specs.WrittenTypes.{types_in_items, IsNamedType}
+use Rattle.sharc_resolved.specs.Declared.{NameThemselves}
+use Rattle.sharc_resolved.specs.Limits.{IsWithinLimits, IsMain}
+use Rattle.sharc_ctype.specs.Reaches.{name_tokens}
+
+-- one note refers to a token, and none before it or behind it does; the resolved program names what that note says
+pub record IsToldOnce (r : Resolution) (token : ℕ) : Type 0 where
+  pub what : Named
+  pub before : List Note
+  pub after : List Note
+  pub notes : notes_about r.program ≡ before ++ refers token what ∷ after
+  pub not_before : Contains (referred before) token → ⊥
+  pub not_after : Contains (referred after) token → ⊥
+  pub named : named_at r token ≡ what
+
+-- in a program at its tokens the token of each name is referred to once
+abbrev pub EachNameOnce : Type 0
+EachNameOnce = (r : Resolution) → IsResolved r → IsPlaced r.program → IsLow r.program → (token : ℕ) → Contains (name_tokens (items_marks r.program.items)) token → IsToldOnce r token
+
+-- and no other token is
+abbrev pub OnlyNames : Type 0
+OnlyNames = (r : Resolution) → IsResolved r → IsPlaced r.program → IsLow r.program → (token : ℕ) → Contains (referred (notes_about r.program)) token → Contains (name_tokens (items_marks r.program.items)) token
+
+-- the name of a declaration names that declaration
+abbrev pub EachNamesItself : Type 0
+EachNamesItself = (r : Resolution) → IsResolved r → IsPlaced r.program → IsLow r.program → NameThemselves r
+
+-- the type of an expression from what its names name is that of the expression in its scope
+abbrev pub SameKinds : Type 0
+SameKinds = (r : Resolution) → IsResolved r → IsPlaced r.program → IsLow r.program → AllByRecursion (λ p. type_of p.scope p.expression ≡ Some (kind_at r p.expression)) (places_of_all (file_scope r.program.items) (functions_in r.program.items))
+
+-- and it is the type that C11 gives it
+abbrev pub MeetsConstraints : Type 0
+MeetsConstraints = (r : Resolution) → IsResolved r → IsPlaced r.program → IsLow r.program → AllByRecursion (λ f. AllByRecursion (λ e. HasType r e (kind_at r e)) (in_function f)) (functions_in r.program.items)
+
+-- the names in written types name what they spell: the struct of that name, and what a lock path leads to
+abbrev pub NamesInTypes : Type 0
+NamesInTypes = (r : Resolution) → IsResolved r → IsPlaced r.program → IsLow r.program → AllByRecursion (IsNamedType r) (types_in_items r.program.items)
+
+-- each statement meets the constraints of C11 6.8
+abbrev pub MeetsStatements : Type 0
+MeetsStatements = (r : Resolution) → IsResolved r → IsPlaced r.program → IsLow r.program → AllByRecursion (MeetsRules r) (functions_in r.program.items)
+
+-- what is assigned, initialised, passed and returned agrees with what it is given to
+abbrev pub AllFair : Type 0
+AllFair = (r : Resolution) → IsResolved r → IsPlaced r.program → IsLow r.program → AllByRecursion (λ f. AllByRecursion (IsFair r) (function_transfers r f)) (functions_in r.program.items)
+
+-- a typed program is within the limits
+abbrev pub WithinLimits : Type 0
+WithinLimits = (p : Program) → IsTyped p → IsWithinLimits p
+
+-- and has its `main`
+abbrev pub HasMain : Type 0
+HasMain = (r : Resolution) → IsResolved r → IsPlaced r.program → IsLow r.program → (n : ℕ) × (f : Function) × IsMain r n f

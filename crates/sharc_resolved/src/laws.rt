@@ -1,0 +1,53 @@
+// The laws of typed programs: each is the contract of a function that does nothing.
+
+ghost use Rattle.sharc_resolved.specs.Laws.{EachNameOnce, OnlyNames, EachNamesItself, NamesInTypes, SameKinds, MeetsConstraints, MeetsStatements, AllFair, WithinLimits, HasMain};
+
+/// In a typed program at its tokens each name is referred to once.
+pub fn each_name_once()
+    ensures { EachNameOnce }
+{}
+
+/// And no other token is.
+pub fn only_names()
+    ensures { OnlyNames }
+{}
+
+/// The name of a declaration names that declaration.
+pub fn each_names_itself()
+    ensures { EachNamesItself }
+{}
+
+/// The names in written types name what they spell.
+pub fn names_in_types()
+    ensures { NamesInTypes }
+{}
+
+/// The type of an expression from what its names name is that of the expression in its scope.
+pub fn same_kinds()
+    ensures { SameKinds }
+{}
+
+/// And it is the type that C11 gives it.
+pub fn meets_constraints()
+    ensures { MeetsConstraints }
+{}
+
+/// Each statement meets the constraints of C11 6.8.
+pub fn meets_statements()
+    ensures { MeetsStatements }
+{}
+
+/// What is assigned, initialised, passed and returned agrees with what it is given to.
+pub fn all_fair()
+    ensures { AllFair }
+{}
+
+/// A typed program is within the limits.
+pub fn within_limits()
+    ensures { WithinLimits }
+{}
+
+/// A typed program has its `main`.
+pub fn has_main()
+    ensures { HasMain }
+{}
