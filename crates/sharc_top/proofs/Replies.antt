@@ -4,7 +4,7 @@ use Rattle.std.proofs.lemmas.List.{length-replicate}
 use Rattle.sharc_command.specs.Commands.{commands}
 use Rattle.sharc_command.specs.declared.command.Command.{Command}
 use Rattle.sharc_top.specs.Text.{line}
-use Rattle.sharc_top.specs.Reply.{is_run, IsRun, usage_text, Runs, not_lexed, not_parsed, printed, not_built, Replies, IsReply, usage, unbuilt, too_long, run}
+use Rattle.sharc_top.specs.Reply.{is_run, IsRun, usage_text, Runs, not_lexed, not_parsed, not_typed, printed, not_built, Replies, IsReply, usage, unbuilt, too_long, run}
 use Rattle.sharc_top.specs.Status.{IsOfReply, IsOfSilence}
 
 -- what a source has left, where it tells it
@@ -45,8 +45,9 @@ reply_run words left source code text h told short runs = record { input = sourc
 run_status : (source : List ℕ) (n : ℕ) (text : List ℕ) → Runs source n text → IsOfReply n
 run_status source n text (not_lexed at h) = inr (inl refl)
 run_status source n text (not_parsed tokens at h f) = inr (inl refl)
-run_status source n text (printed tokens p numbers h r w) = inl refl
-run_status source n text (not_built tokens p h r none) = inr (inr (inl refl))
+run_status source n text (not_typed tokens p at h r f) = inr (inl refl)
+run_status source n text (printed tokens p numbers h r t w) = inl refl
+run_status source n text (not_built tokens p h r t none) = inr (inr (inl refl))
 
 reply_status : (words : List (List ℕ)) (input : List ℕ) (n : ℕ) (text : List ℕ) → Replies words input n text → IsOfReply n
 reply_status words input n text (usage h) = inr (inr (inr refl))

@@ -10,8 +10,10 @@ use Rattle.sharc_command.specs.declared.command.Command.TheVariants as command
 use Rattle.sharc_lex.specs.Grammar.{reading}
 use Rattle.sharc_grammar.specs.Places.{Reads}
 use Rattle.sharc_parse.specs.Programs.{IsFaultOf}
+use Rattle.sharc_ctype.specs.Items.{IsTyped}
+use Rattle.sharc_ctype.specs.Typings as typing
 use Rattle.sharc_report.specs.Refusals.{refusal_line}
-use Rattle.sharc_report.specs.declared.refusal.Stage.TheVariants.{Lexer, Parser}
+use Rattle.sharc_report.specs.declared.refusal.Stage.TheVariants.{Lexer, Parser, Typing}
 use Rattle.sharc_top.specs.Text.{line, numbers_text}
 use Rattle.sharc_top.specs.TreeSums.{program_values}
 
@@ -41,9 +43,10 @@ source_limit = 1048576
 pub data Runs (source : List ℕ) : ℕ → List ℕ → Type 0 where
   not_lexed : (at : FaultAt) → reading source ≡ Err at → Runs source 2 (refusal_line Lexer at)
   not_parsed : (tokens : Tokens) (at : FaultAt) → reading source ≡ Ok tokens → IsFaultOf tokens at → Runs source 2 (refusal_line Parser at)
-  printed : (tokens : Tokens) (p : Program) (numbers : List ℕ) → reading source ≡ Ok tokens → Reads tokens p → program_values p ≡ Some numbers
+  not_typed : (tokens : Tokens) (p : Program) (at : FaultAt) → reading source ≡ Ok tokens → Reads tokens p → typing.IsFaultOf p at → Runs source 2 (refusal_line Typing at)
+  printed : (tokens : Tokens) (p : Program) (numbers : List ℕ) → reading source ≡ Ok tokens → Reads tokens p → IsTyped p → program_values p ≡ Some numbers
       → Runs source 0 (numbers_text numbers)
-  not_built : (tokens : Tokens) (p : Program) → reading source ≡ Ok tokens → Reads tokens p → program_values p ≡ None
+  not_built : (tokens : Tokens) (p : Program) → reading source ≡ Ok tokens → Reads tokens p → IsTyped p → program_values p ≡ None
       → Runs source 7 (line (codes "form not built"))
 
 -- what is written for the words and the input, and the status

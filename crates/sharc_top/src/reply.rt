@@ -10,6 +10,8 @@ ghost use Rattle.sharc_top.specs.Status.{code_of};
 use crate::text::numbers_text;
 use crate::tree_sums::program_values;
 use sharc_command::{Command, read_words};
+use sharc_ctype::typed::{TypeFault, type_program};
+use sharc_grammar::laws::programs_are_placed;
 use sharc_io::{ReadError, Source, read_all};
 use sharc_lex::{LexFault, lex};
 use sharc_parse::{ParseFault, parse};
@@ -122,7 +124,13 @@ fn run(alloc: Global, source: &[u8]) -> Result<Reply, AllocError>
         Err(ParseFault::At(at, _)) => return refusal(alloc, Stage::Parser, &at),
         Err(ParseFault::Memory) => return Err(AllocError),
     };
-    match program_values(alloc, &program)? {
+    programs_are_placed();
+    let typed = match type_program(alloc, program) {
+        Ok(typed) => typed,
+        Err(TypeFault::At(at)) => return refusal(alloc, Stage::Typing, &at),
+        Err(TypeFault::Memory) => return Err(AllocError),
+    };
+    match program_values(alloc, typed.program())? {
         Some(values) => {
             let text = numbers_text(alloc, &values)?;
             Ok(Reply {

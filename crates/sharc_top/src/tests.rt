@@ -71,15 +71,60 @@ fn each_source_has_its_text_and_status(rt: HostRuntime) -> Result<(), Fail> {
             2,
             "t.c:5: P1 unexpected ')'\n",
         ),
-        ("", 7, "form not built\n"),
+        ("", 2, "input:1: C8 no int main(void)\n"),
+        (
+            "# 5 \"t.c\"\nint main(void) { int x = 1;\nprint(y); return 0; }",
+            2,
+            "t.c:6: C1 unknown name y\n",
+        ),
+        (
+            "int f(int a) { return a; } int main(void) { print(f()); return 0; }",
+            2,
+            "input:1: C4 wrong number of arguments for f\n",
+        ),
+        (
+            "int a[65537]; int main(void) { return 0; }",
+            2,
+            "input:1: C9 limit passed by a\n",
+        ),
+        (
+            "int main(void) { print(1); return 0; } int main(void) { return 0; }",
+            2,
+            "input:1: C2 main defined twice\n",
+        ),
         (
             "int main(void) { print(2147483647 + 1); return 0; }",
+            7,
+            "form not built\n",
+        ),
+        (
+            "int main(void) { int x = 1; print(x); return 0; }",
             7,
             "form not built\n",
         ),
     ] {
         let found = answered(rt.alloc(), &["run"], source.as_bytes(), 100)?;
         assert_eq!(rt; found.status, status, "{source}");
+        assert_eq!(rt; found.text.as_slice(), text.as_bytes(), "{source}");
+    }
+    Ok(())
+}
+
+#[test]
+fn the_earlier_stage_refuses_first(rt: HostRuntime) -> Result<(), Fail> {
+    for (source, text) in [
+        (
+            "int f(void) { nope(); } )\n@",
+            "input:2: L1 byte 64 at offset 26\n",
+        ),
+        ("int f(void) { nope(); }\n)", "input:2: P1 unexpected ')'\n"),
+        (
+            "int f(void) {\nnope(); }",
+            "input:2: C1 unknown name nope\n",
+        ),
+    ] {
+        let found = answered(rt.alloc(), &["run"], source.as_bytes(), 100)?;
+        assert_eq!(rt; found.status, 2, "{source}");
         assert_eq!(rt; found.text.as_slice(), text.as_bytes(), "{source}");
     }
     Ok(())
