@@ -1,0 +1,6 @@
+use Rattle.std.proofs.Common.{◌≡◌, drop, fold, replicate}
+use Rattle.sharc_reach.specs.Graphs.{quiet_node, marked_by}
+use Rattle.sharc_reach.proofs.sources.nodes.Given as goal
+
+abbrev pub invariant-loop-mention : goal.invariant-loop-mention
+invariant-loop-mention l = fold (marked_by l.t) l.nodes.items (drop l.mention-index l.mentions) ≡ fold (marked_by l.t) (replicate l.count quiet_node) l.mentions

@@ -1,0 +1,4 @@
+pub mod Firsts
+pub mod Graphs
+pub mod Mentions
+pub mod Reaching

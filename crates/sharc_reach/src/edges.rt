@@ -1,0 +1,73 @@
+// The calls and spawns of a program, as the edges of a graph.
+
+ghost use Rattle.std.specs.Prelude.{◌≡◌, IfOk};
+ghost use Rattle.std.specs.List.{filter_map};
+ghost use Rattle.sharc_reach.specs.Graphs.{function_named, ran, edge_within, edge_of_mention};
+
+use crate::mention::{Mention, Role};
+use sharc_ctype::typed::Typed;
+use sharc_graph::Edge;
+use sharc_names::fault::Named;
+use std::alloc::{AllocError, Global};
+
+/// The function that a name means.
+pub(crate) fn function_named(named: Named) -> Option<u32>
+    ensures { result ≡ function_named named }
+{
+    match named {
+        Named::Function(number) => Some(number),
+        Named::Struct(_) => None,
+        Named::Global(_) => None,
+        Named::Variable(_) => None,
+        Named::Field(_) => None,
+        Named::Known => None,
+    }
+}
+
+/// The function that is called or spawned.
+fn ran(t: &Typed, mention: &Mention) -> Option<u32>
+    ensures { result ≡ ran t.now mention.now }
+{
+    match mention.role {
+        Role::Named => None,
+        Role::Called => function_named(t.named(mention.token)),
+        Role::Spawned => function_named(t.named(mention.token)),
+    }
+}
+
+/// The edge between two of so many functions.
+fn edge_within(count: u32, from: u32, to: Option<u32>) -> Option<Edge>
+    ensures { result ≡ edge_within count from to }
+{
+    match to {
+        None => None,
+        Some(to) => {
+            if from < count && to < count {
+                Some(Edge { from, to })
+            } else {
+                None
+            }
+        }
+    }
+}
+
+fn edge_of(t: &Typed, count: u32, mention: &Mention) -> Option<Edge>
+    ensures { result ≡ edge_of_mention t.now count mention.now }
+{
+    edge_within(count, mention.function, ran(t, mention))
+}
+
+/// The edges between so many functions.
+pub(crate) fn edges(
+    alloc: Global,
+    t: &Typed,
+    count: u32,
+    mentions: &[Mention],
+) -> Result<Vec<Edge>, AllocError>
+    ensures { IfOk result (λ edges. edges.items ≡ filter_map (edge_of_mention t.now count) mentions.now) }
+{
+    mentions
+        .iter()
+        .filter_map(|mention| edge_of(t, count, mention))
+        .collect(alloc)
+}

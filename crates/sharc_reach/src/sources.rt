@@ -1,0 +1,57 @@
+// The functions as the nodes of a graph: those that are spawned are its sources.
+
+ghost use Rattle.std.specs.Prelude.{◌≡◌, fold, replicate, slice_set, IfOk};
+ghost use Rattle.sharc_reach.specs.Graphs.{spawned, quiet_node, marked, marked_by};
+
+use crate::edges::function_named;
+use crate::mention::{Mention, Role};
+use sharc_ctype::typed::Typed;
+use sharc_graph::Node;
+use std::alloc::{AllocError, Global};
+
+/// The function that is spawned.
+fn spawned(t: &Typed, mention: &Mention) -> Option<u32>
+    ensures { result ≡ spawned t.now mention.now }
+{
+    match mention.role {
+        Role::Named => None,
+        Role::Called => None,
+        Role::Spawned => function_named(t.named(mention.token)),
+    }
+}
+
+/// Makes the function a source.
+#[tactic(auto, using(std::proofs::lemmas::List::set_past))]
+fn mark(spawned: Option<u32>, nodes: &mut Vec<Node>)
+    ensures { nodes.new.items ≡ marked nodes.old.items spawned }
+{
+    if let Some(number) = spawned {
+        let place = number as usize;
+        if place < nodes.len() {
+            nodes[place] = Node {
+                source: true,
+                free: true,
+            };
+        }
+    }
+}
+
+/// A node for each of so many functions.
+pub(crate) fn nodes(
+    alloc: Global,
+    t: &Typed,
+    count: u32,
+    mentions: &[Mention],
+) -> Result<Vec<Node>, AllocError>
+    ensures { IfOk result (λ nodes. nodes.items ≡ fold (marked_by t.now) (replicate count quiet_node) mentions.now) }
+{
+    let quiet = Node {
+        source: false,
+        free: true,
+    };
+    let mut nodes = vec![in alloc; quiet; count as usize]?;
+    for mention in mentions {
+        mark(spawned(t, mention), &mut nodes);
+    }
+    Ok(nodes)
+}
