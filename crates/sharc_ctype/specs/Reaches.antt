@@ -1,5 +1,5 @@
 -- Which functions threads may run, and which globals they may touch (own).
-use Rattle.std.specs.Prelude.{◌≡◌, ℕ, List, [], ◌∷◌, ◌++◌, IfSome, Contains}
+use Rattle.std.specs.Prelude.{◌≡◌, ℕ, List, [], ◌∷◌, ◌++◌, IsSomeAnd, Contains}
 use Rattle.sharc_tree.specs.Marks.{Mark, a_name, a_cast, item_marks}
 use Rattle.sharc_tree.specs.Measures.{in_function}
 use Rattle.sharc_tree.specs.Tree.{Expression, call, spawn, Function, function}
@@ -21,15 +21,16 @@ abbrev pub of_all : (Expression → List ℕ) → List Expression → List ℕ
 of_all f [] = []
 of_all f (e ∷ rest) = f e ++ of_all f rest
 
--- the function with number n has, among such tokens, one that names m
+-- among such tokens is one that names this
 abbrev pub Names : Resolution → Named → List ℕ → Type 0
 Names r what tokens = (token : ℕ) × Contains tokens token × (named_at r token ≡ what)
 
+-- the function with number n spawns, or calls or spawns, the one with number m
 abbrev pub Spawns : Resolution → ℕ → ℕ → Type 0
-Spawns r n m = IfSome (function_at r n) (λ f. Names r (named.Function m) (of_all spawns (in_function f)))
+Spawns r n m = IsSomeAnd (function_at r n) (λ f. Names r (named.Function m) (of_all spawns (in_function f)))
 
 abbrev pub Runs : Resolution → ℕ → ℕ → Type 0
-Runs r n m = IfSome (function_at r n) (λ f. Names r (named.Function m) (of_all runs (in_function f)))
+Runs r n m = IsSomeAnd (function_at r n) (λ f. Names r (named.Function m) (of_all runs (in_function f)))
 
 -- a list of functions in which each calls or spawns the next
 abbrev pub Leads : Resolution → ℕ → List ℕ → ℕ → Type 0
@@ -53,8 +54,12 @@ name_tokens (a_cast n ∷ rest) = name_tokens rest
 abbrev pub tokens_of : Function → List ℕ
 tokens_of f = name_tokens (item_marks (function f))
 
+-- the function with number n names the global with number g
+abbrev pub NamesGlobal : Resolution → ℕ → ℕ → Type 0
+NamesGlobal r n g = IsSomeAnd (function_at r n) (λ f. Names r (named.Global g) (tokens_of f))
+
 -- a global is touched where a reached function names it
 pub record IsTouched (r : Resolution) (g : ℕ) : Type 0 where
   pub by : ℕ
   pub reached : IsReached r by
-  pub names : IfSome (function_at r by) (λ f. Names r (named.Global g) (tokens_of f))
+  pub names : NamesGlobal r by g

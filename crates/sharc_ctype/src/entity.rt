@@ -24,8 +24,9 @@ pub struct Numbered {
     pub first: u32,
 }
 
-/// The depth of the first position: the top of a global is one, of any other type the target is the first.
-fn first_depth(role: Role) -> usize
+/// The depth of the first position: the top of a global is one, of any other type the target is the first. The position at a depth from there on has
+/// the number of the first and as many more as it lies deeper.
+pub fn first_depth(role: Role) -> usize
     ensures { result ≡ first_depth role }
 {
     match role {
