@@ -86,3 +86,7 @@ pub clean_not_wrong : (b : Bool) (place : ℕ) (code : FaultCode) → Clean (fau
 unfolding Clean
 clean_not_wrong true place code h = absurd h
 clean_not_wrong false place code h = refl
+
+pub clean_fault : (place : ℕ) (code : FaultCode) (rest : List Note) → Clean (fault place code ∷ rest) → ⊥
+unfolding Clean
+clean_fault place code rest h = h

@@ -63,10 +63,10 @@ judge r scope e k is t v h = record { typed = t ∙ ap Some (sym is); valued = s
 -- names
 
 pub record IsNamed (r : Resolution) (i : Identifier) (o : Option Entry) : Type 0 where
-  entry : Entry
-  found : o ≡ Some entry
-  names : named_at r i.site.token ≡ named_of entry.meaning
-  not_main : is_main entry.meaning ≡ false
+  pub entry : Entry
+  pub found : o ≡ Some entry
+  pub names : named_at r i.site.token ≡ named_of entry.meaning
+  pub not_main : is_main entry.meaning ≡ false
 
 pub named_by : (r : Resolution) (i : Identifier) (o : Option Entry) → Held r (name_notes i.site.token o) → IsNamed r i o
 named_by r i None h = absurd (no_fault r _ _ _ h)

@@ -1,5 +1,6 @@
 pub mod AllLemmas
 pub mod AtMost
+pub mod Begun
 pub mod Counts
 pub mod Exact
 pub mod Fair
@@ -9,7 +10,10 @@ pub mod Held
 pub mod Judged
 pub mod KindLemmas
 pub mod Limited
+pub mod OneType
 pub mod OwnTokens
+pub mod OwnVariables
+pub mod Reached
 pub mod Ruled
 pub mod Scenes
 pub mod Themselves
@@ -17,3 +21,4 @@ pub mod ToldOnce
 pub mod TypedLaws
 pub mod TypesNamed
 pub mod Walked
+pub mod Witness

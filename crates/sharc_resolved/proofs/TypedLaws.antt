@@ -6,24 +6,29 @@ use Rattle.sharc_tree.specs.Marks.{items_marks}
 use Rattle.sharc_tree.specs.Measures.{in_function}
 use Rattle.sharc_resolved.specs.Constraints.{HasType}
 use Rattle.sharc_ctype.specs.Expressions.{type_of}
+use Rattle.sharc_resolved.specs.Declared.{NamesOwnVariables}
 use Rattle.sharc_resolved.specs.Rules.{MeetsRules}
 use Rattle.sharc_ctype.specs.Transfers.{IsFair, function_transfers}
 use Rattle.sharc_ctype.specs.Items.{file_scope, items_notes, notes_about, main_missing}
 use Rattle.sharc_ctype.specs.Globals.{sizes_notes}
 use Rattle.sharc_ctype.specs.Heads.{heads_notes, no_heads}
-use Rattle.sharc_resolved.specs.Laws.{EachNameOnce, OnlyNames, EachNamesItself, NamesInTypes, SameKinds, MeetsConstraints, MeetsStatements, AllFair, WithinLimits, HasMain}
+use Rattle.sharc_resolved.specs.Laws.{MeetsGlobals, SpawnsThreads, ReachesFunctions, OneType, EachNameOnce, OnlyNames, EachNamesItself, EachNamesOwn, NamesInTypes, SameKinds, MeetsConstraints, MeetsStatements, AllFair, WithinLimits, HasMain}
 use Rattle.sharc_resolved.specs.Places.{places_of, places_of_all}
 use Rattle.sharc_ctype.specs.Resolved.{Resolution, IsResolved, functions_in, declarations_in, kind_at}
 use Rattle.sharc_resolved.proofs.AllLemmas.{each}
 use Rattle.sharc_resolved.proofs.AtMost.{program_most}
 use Rattle.sharc_resolved.proofs.Exact.{program_is}
+use Rattle.sharc_resolved.proofs.Begun.{globals_meet}
 use Rattle.sharc_resolved.proofs.Fair.{fair_function}
 use Rattle.sharc_resolved.proofs.FileScene.{file_scene, items_places, function_places, each_function}
 use Rattle.sharc_resolved.proofs.Forgotten.{in_function_all}
 use Rattle.sharc_resolved.proofs.Held.{Held, left, right, clean, clean_left, clean_right}
 use Rattle.sharc_resolved.proofs.Limited.{few, small, few_cells, main_is}
+use Rattle.sharc_resolved.proofs.OneType as types
 use Rattle.sharc_resolved.proofs.OwnTokens.{HasOwnTokens, own_tokens, all_held, all_declared}
+use Rattle.sharc_resolved.proofs.Reached.{spawned_thread, reached_function}
 use Rattle.sharc_resolved.proofs.Ruled.{function_meets}
+use Rattle.sharc_resolved.proofs.OwnVariables.{own_variables}
 use Rattle.sharc_resolved.proofs.Scenes.{IsScene}
 use Rattle.sharc_resolved.proofs.Themselves.{themselves}
 use Rattle.sharc_resolved.proofs.ToldOnce.{counted, name_counted, name_there, told_once}
@@ -51,7 +56,7 @@ all_places r s = items_places r (file_scope r.program.items) s.scene r.program.i
 
 pub same_kinds : SameKinds
 same_kinds r resolved placed low =
-    each (JudgedAt r) (λ p. type_of p.scope p.expression ≡ Some (kind_at r p.expression)) (λ p j. j.typed) (places_of_all (file_scope r.program.items) (functions_in r.program.items))
+    each (JudgedAt r) (λ p. type_of p.scope p.expression ≡ Some (kind_at r p.expression)) (λ p j. j.judged.typed) (places_of_all (file_scope r.program.items) (functions_in r.program.items))
     (all_places r (sound r resolved (own_tokens r.program placed) low))
 
 pub names_in_types : NamesInTypes
@@ -64,7 +69,7 @@ meets_constraints r resolved placed low =
     let s = sound r resolved (own_tokens r.program placed) low in
     each_function r (file_scope r.program.items) (λ f. AllByRecursion (λ e. HasType r e (kind_at r e)) (in_function f))
     (λ f d h. in_function_all (λ e. HasType r e (kind_at r e)) (file_scope r.program.items) f
-    (each (JudgedAt r) (λ p. HasType r p.expression (kind_at r p.expression)) (λ p j. j.has) (places_of (file_scope r.program.items) f) (function_places r (file_scope r.program.items) s.scene f d h)))
+    (each (JudgedAt r) (λ p. HasType r p.expression (kind_at r p.expression)) (λ p j. j.judged.has) (places_of (file_scope r.program.items) f) (function_places r (file_scope r.program.items) s.scene f d h)))
     r.program.items s.declared s.items
 
 pub meets_statements : MeetsStatements
@@ -124,3 +129,23 @@ pub each_names_itself : EachNamesItself
 each_names_itself r resolved placed low =
     let s = sound r resolved (own_tokens r.program placed) low in
     themselves r no_heads (file_scope r.program.items) refl refl refl s.declared s.heads s.items
+
+pub each_names_own : EachNamesOwn
+each_names_own r resolved placed low =
+    let s = sound r resolved (own_tokens r.program placed) low in
+    each_function r (file_scope r.program.items) (NamesOwnVariables r) (λ f d h. own_variables r r.program.items f (function_places r (file_scope r.program.items) s.scene f d h)) r.program.items s.declared s.items
+
+pub one_type : OneType
+one_type r resolved placed low e k h = types.one_type r (each_names_itself r resolved placed low) e k h
+
+pub spawns_threads : SpawnsThreads
+spawns_threads r resolved placed low n m h = spawned_thread r (meets_constraints r resolved placed low) n m h
+
+pub reaches_functions : ReachesFunctions
+reaches_functions r resolved placed low m h = reached_function r (meets_constraints r resolved placed low) m h
+
+pub meets_globals : MeetsGlobals
+meets_globals p typed =
+    let sized = clean_left (heads_notes no_heads p.items ++ items_notes (file_scope p.items) p.items ++ sizes_notes (file_scope p.items).structs 0 p.items) _ (clean (notes_about p) typed) in
+    globals_meet (file_scope p.items) p.items
+    (clean_right (heads_notes no_heads p.items) (items_notes (file_scope p.items) p.items) (clean_left (heads_notes no_heads p.items ++ items_notes (file_scope p.items) p.items) (sizes_notes (file_scope p.items).structs 0 p.items) sized))

@@ -19,40 +19,48 @@ use Rattle.sharc_resolved.proofs.Held.{Held, left, right}
 use Rattle.sharc_resolved.proofs.Judged.{IsJudged, judged}
 use Rattle.sharc_resolved.proofs.Scenes.{IsSolid, IsMeant, AreMeant, IsScene, type_solid}
 
+-- an expression of which no fault is noted is judged
+pub record IsSeen (r : Resolution) (scope : Scope) (e : Expression) : Type 0 where
+  pub judged : IsJudged r scope e
+  pub held : Held r (notes_of scope e)
+
+seen : (r : Resolution) (scope : Scope) → IsScene r scope → (e : Expression) → Held r (notes_of scope e) → IsSeen r scope e
+seen r scope scene e h = record { judged = judged r scope scene e h; held = h }
+
 -- below an expression
 
 mutual
-  below : (r : Resolution) (scope : Scope) → IsScene r scope → (e : Expression) → Held r (notes_of scope e) → AllByRecursion (IsJudged r scope) (expressions e)
-  below r scope scene (tree.identifier s i) h = (judged r scope scene (tree.identifier s i) h, tt)
-  below r scope scene (tree.constant s c) h = (judged r scope scene (tree.constant s c) h, tt)
-  below r scope scene (tree.parentheses s a) h = (judged r scope scene (tree.parentheses s a) h, below r scope scene a h)
-  below r scope scene (tree.call s f all) h = (judged r scope scene (tree.call s f all) h, below_all r scope scene (wanted (count all) (look_up scope.names f.text)) all (right r _ _ h))
-  below r scope scene (tree.spawn s f a) h = (judged r scope scene (tree.spawn s f a) h, below r scope scene a (left r _ _ (left r _ _ (left r _ _ h))))
-  below r scope scene (tree.on_value s w a) h = (judged r scope scene (tree.on_value s w a) h, below r scope scene a (left r _ _ h))
-  below r scope scene (tree.on_place s w a) h = (judged r scope scene (tree.on_place s w a) h, below r scope scene a (left r _ _ (left r _ _ h)))
-  below r scope scene (tree.cast s t a) h = (judged r scope scene (tree.cast s t a) h, below r scope scene a (right r _ _ (left r _ _ (left r _ _ h))))
+  below : (r : Resolution) (scope : Scope) → IsScene r scope → (e : Expression) → Held r (notes_of scope e) → AllByRecursion (IsSeen r scope) (expressions e)
+  below r scope scene (tree.identifier s i) h = (seen r scope scene (tree.identifier s i) h, tt)
+  below r scope scene (tree.constant s c) h = (seen r scope scene (tree.constant s c) h, tt)
+  below r scope scene (tree.parentheses s a) h = (seen r scope scene (tree.parentheses s a) h, below r scope scene a h)
+  below r scope scene (tree.call s f all) h = (seen r scope scene (tree.call s f all) h, below_all r scope scene (wanted (count all) (look_up scope.names f.text)) all (right r _ _ h))
+  below r scope scene (tree.spawn s f a) h = (seen r scope scene (tree.spawn s f a) h, below r scope scene a (left r _ _ (left r _ _ (left r _ _ h))))
+  below r scope scene (tree.on_value s w a) h = (seen r scope scene (tree.on_value s w a) h, below r scope scene a (left r _ _ h))
+  below r scope scene (tree.on_place s w a) h = (seen r scope scene (tree.on_place s w a) h, below r scope scene a (left r _ _ (left r _ _ h)))
+  below r scope scene (tree.cast s t a) h = (seen r scope scene (tree.cast s t a) h, below r scope scene a (right r _ _ (left r _ _ (left r _ _ h))))
   below r scope scene (tree.index s a i) h =
-      (judged r scope scene (tree.index s a i) h, both _ (expressions a) (expressions i) (below r scope scene a (left r _ _ (left r _ _ (left r _ _ h)))) (below r scope scene i (right r _ _ (left r _ _ h))))
-  below r scope scene (tree.field s a w n) h = (judged r scope scene (tree.field s a w n) h, below r scope scene a (left r _ _ (left r _ _ h)))
-  below r scope scene (tree.unary s o a) h = (judged r scope scene (tree.unary s o a) h, below r scope scene a (left r _ _ h))
+      (seen r scope scene (tree.index s a i) h, both _ (expressions a) (expressions i) (below r scope scene a (left r _ _ (left r _ _ (left r _ _ h)))) (below r scope scene i (right r _ _ (left r _ _ h))))
+  below r scope scene (tree.field s a w n) h = (seen r scope scene (tree.field s a w n) h, below r scope scene a (left r _ _ (left r _ _ h)))
+  below r scope scene (tree.unary s o a) h = (seen r scope scene (tree.unary s o a) h, below r scope scene a (left r _ _ h))
   below r scope scene (tree.binary s o at a b) h = (
-    judged r scope scene (tree.binary s o at a b) h,
+    seen r scope scene (tree.binary s o at a b) h,
     both _ (expressions a) (expressions b) (below r scope scene a (left r _ _ (left r _ _ (left r _ _ (left r _ _ h))))) (below r scope scene b (right r _ _ (left r _ _ (left r _ _ h)))),
   )
 
-  below_all : (r : Resolution) (scope : Scope) → IsScene r scope → (want : List Kind) (all : Arguments) → Held r (notes_of_all scope want all) → AllByRecursion (IsJudged r scope) (in_arguments all)
+  below_all : (r : Resolution) (scope : Scope) → IsScene r scope → (want : List Kind) (all : Arguments) → Held r (notes_of_all scope want all) → AllByRecursion (IsSeen r scope) (in_arguments all)
   below_all r scope scene want no_arguments h = tt
   below_all r scope scene want (argument a rest) h = both _ (expressions a) (in_arguments rest) (below r scope scene a (left r _ _ (left r _ _ (left r _ _ h)))) (below_all r scope scene (drop 1 want) rest (right r _ _ h))
 
-below_count : (r : Resolution) (scope : Scope) → IsScene r scope → (n : Option Expression) → Held r (count_notes scope n) → AllByRecursion (IsJudged r scope) (in_option expressions n)
+below_count : (r : Resolution) (scope : Scope) → IsScene r scope → (n : Option Expression) → Held r (count_notes scope n) → AllByRecursion (IsSeen r scope) (in_option expressions n)
 below_count r scope scene None h = tt
 below_count r scope scene (Some e) h = below r scope scene e (left r _ _ h)
 
-below_right : (r : Resolution) (scope : Scope) → IsScene r scope → (want : Option Kind) (x : Right) → Held r (right_notes scope want x) → AllByRecursion (IsJudged r scope) (in_right x)
+below_right : (r : Resolution) (scope : Scope) → IsScene r scope → (want : Option Kind) (x : Right) → Held r (right_notes scope want x) → AllByRecursion (IsSeen r scope) (in_right x)
 below_right r scope scene want (value e) h = below r scope scene e (left r _ _ (left r _ _ h))
 below_right r scope scene want (malloc s n w) h = below_count r scope scene n (left r _ _ (left r _ _ h))
 
-below_simple : (r : Resolution) (scope : Scope) → IsScene r scope → (x : Simple) → Held r (simple_notes scope x) → AllByRecursion (IsJudged r scope) (in_simple x)
+below_simple : (r : Resolution) (scope : Scope) → IsScene r scope → (x : Simple) → Held r (simple_notes scope x) → AllByRecursion (IsSeen r scope) (in_simple x)
 below_simple r scope scene (assign s u x) h = both _ (expressions u) (in_right x) (below r scope scene u (left r _ _ (left r _ _ (left r _ _ h)))) (below_right r scope scene _ x (right r _ _ h))
 below_simple r scope scene (does_call e) h = below r scope scene e h
 
@@ -106,12 +114,12 @@ after_scene r around scope scene a d h = scene_with r scope scene _ (after_meant
 -- below a statement
 
 abbrev pub JudgedAt : Resolution → Placing → Type 0
-JudgedAt r p = IsJudged r p.scope p.expression
+JudgedAt r p = IsSeen r p.scope p.expression
 
-placed : (r : Resolution) (scope : Scope) (list : List Expression) → AllByRecursion (IsJudged r scope) list → AllByRecursion (JudgedAt r) (at scope list)
+placed : (r : Resolution) (scope : Scope) (list : List Expression) → AllByRecursion (IsSeen r scope) list → AllByRecursion (JudgedAt r) (at scope list)
 placed r scope list h = mapped (JudgedAt r) (λ e. record { scope = scope; expression = e }) list h
 
-below_initial : (r : Resolution) (scope : Scope) → IsScene r scope → (d : Declaration) (x : Option Right) → Held r (initial_notes scope d x) → AllByRecursion (IsJudged r scope) (in_option in_right x)
+below_initial : (r : Resolution) (scope : Scope) → IsScene r scope → (d : Declaration) (x : Option Right) → Held r (initial_notes scope d x) → AllByRecursion (IsSeen r scope) (in_option in_right x)
 below_initial r scope scene d None h = tt
 below_initial r scope scene d (Some x) h = below_right r scope scene _ x (right r _ _ h)
 
@@ -123,15 +131,15 @@ first_places r around scope scene nothing d h = tt
 first_places r around scope scene (declares l) d h = local_places r around scope scene l d.0 h
 first_places r around scope scene (does x) d h = placed r scope (in_simple x) (below_simple r scope scene x h)
 
-below_tests : (r : Resolution) (scope : Scope) → IsScene r scope → (e : Option Expression) → Held r (tests_notes scope e) → AllByRecursion (IsJudged r scope) (in_option expressions e)
+below_tests : (r : Resolution) (scope : Scope) → IsScene r scope → (e : Option Expression) → Held r (tests_notes scope e) → AllByRecursion (IsSeen r scope) (in_option expressions e)
 below_tests r scope scene None h = tt
 below_tests r scope scene (Some e) h = below r scope scene e (left r _ _ h)
 
-below_step : (r : Resolution) (scope : Scope) → IsScene r scope → (x : Option Simple) → Held r (step_notes scope x) → AllByRecursion (IsJudged r scope) (in_option in_simple x)
+below_step : (r : Resolution) (scope : Scope) → IsScene r scope → (x : Option Simple) → Held r (step_notes scope x) → AllByRecursion (IsSeen r scope) (in_option in_simple x)
 below_step r scope scene None h = tt
 below_step r scope scene (Some x) h = below_simple r scope scene x h
 
-below_return : (r : Resolution) (around : Around) (scope : Scope) → IsScene r scope → (word : ℕ) (e : Option Expression) → Held r (return_notes around scope word e) → AllByRecursion (IsJudged r scope) (in_option expressions e)
+below_return : (r : Resolution) (around : Around) (scope : Scope) → IsScene r scope → (word : ℕ) (e : Option Expression) → Held r (return_notes around scope word e) → AllByRecursion (IsSeen r scope) (in_option expressions e)
 below_return r around scope scene word None h = tt
 below_return r around scope scene word (Some e) h = below r scope scene e (right r _ _ (left r _ _ (left r _ _ h)))
 

@@ -1,10 +1,11 @@
--- What the name of a declaration names: itself.
-use Rattle.std.specs.Prelude.{◌≡◌, ℕ, ◌++◌, Some}
+-- What the name of a declaration names: itself. And which variables a function names: its own.
+use Rattle.std.specs.Prelude.{◌≡◌, ℕ, List, ◌++◌, map, Some, Contains}
 use Rattle.std.specs.List.{AllByRecursion}
 use Rattle.sharc_tree.specs.declared.tree.declaration.Declaration.{Declaration}
 use Rattle.sharc_tree.specs.declared.tree.item.StructDefinition.{StructDefinition}
 use Rattle.sharc_tree.specs.declared.tree.item.GlobalDefinition.{GlobalDefinition}
-use Rattle.sharc_tree.specs.Tree.{Function}
+use Rattle.sharc_tree.specs.Measures.{in_function}
+use Rattle.sharc_tree.specs.Tree.{Expression, identifier, Function}
 use Rattle.sharc_names.specs.declared.fault.Named.{Named}
 use Rattle.sharc_names.specs.declared.fault.Named.TheVariants as named
 use Rattle.sharc_ctype.specs.Resolved.{Resolution, structs_in, functions_in, struct_at, global_at, function_at, declaration_at, named_at}
@@ -21,3 +22,11 @@ pub record NameThemselves (r : Resolution) : Type 0 where
   pub functions : (n : ℕ) (f : Function) → function_at r n ≡ Some f → named_at r f.name.site.token ≡ named.Function n
   pub fields : AllByRecursion (λ s. AllByRecursion (IsItself r named.Field) s.fields) (structs_in r.program.items)
   pub variables : AllByRecursion (λ f. AllByRecursion (IsItself r named.Variable) (f.parameters ++ locals_in_all f.statements)) (functions_in r.program.items)
+
+-- 6.2.1p4: a variable that is named in a function is a parameter or a local of it
+abbrev pub NamesOwn : Resolution → List Declaration → Expression → Type 0
+NamesOwn r own (identifier s i) = (token : ℕ) → named_at r i.site.token ≡ named.Variable token → Contains (map (λ d. d.name.site.token) own) token
+NamesOwn r own _ = Unit {0}
+
+abbrev pub NamesOwnVariables : Resolution → Function → Type 0
+NamesOwnVariables r f = AllByRecursion (NamesOwn r (f.parameters ++ locals_in_all f.statements)) (in_function f)

@@ -5,20 +5,23 @@ use Rattle.sharc_tree.specs.Low.{IsLow}
 use Rattle.sharc_tree.specs.Marks.{items_marks}
 use Rattle.sharc_tree.specs.Measures.{in_function}
 use Rattle.sharc_tree.specs.Placed.{IsPlaced}
-use Rattle.sharc_tree.specs.Tree.{Function, Program}
+use Rattle.sharc_tree.specs.Tree.{Expression, Function, Program}
 use Rattle.sharc_names.specs.declared.fault.Named.{Named}
+use Rattle.sharc_names.specs.Kinds.{Kind}
 use Rattle.sharc_names.specs.Notes.{Note, refers, referred}
 use Rattle.sharc_ctype.specs.Expressions.{type_of}
 use Rattle.sharc_ctype.specs.Items.{IsTyped, notes_about, file_scope}
 use Rattle.sharc_resolved.specs.Places.{places_of_all}
-use Rattle.sharc_ctype.specs.Resolved.{Resolution, IsResolved, functions_in, kind_at, named_at}
+use Rattle.sharc_ctype.specs.Resolved.{Resolution, IsResolved, globals_in, functions_in, kind_at, named_at}
 use Rattle.sharc_ctype.specs.Transfers.{IsFair, function_transfers}
 use Rattle.sharc_resolved.specs.Constraints.{HasType}
 use Rattle.sharc_resolved.specs.Rules.{MeetsRules}
 use Rattle.sharc_resolved.specs.WrittenTypes.{types_in_items, IsNamedType}
-use Rattle.sharc_resolved.specs.Declared.{NameThemselves}
+use Rattle.sharc_resolved.specs.Declared.{NameThemselves, NamesOwnVariables}
+use Rattle.sharc_resolved.specs.Initials.{MeetsGlobal}
 use Rattle.sharc_resolved.specs.Limits.{IsWithinLimits, IsMain}
-use Rattle.sharc_ctype.specs.Reaches.{name_tokens}
+use Rattle.sharc_ctype.specs.Reaches.{name_tokens, Spawns, IsReached}
+use Rattle.sharc_resolved.specs.Callable.{IsCallable, IsThread}
 
 -- one note refers to a token, and none before it or behind it does; the resolved program names what that note says
 pub record IsToldOnce (r : Resolution) (token : ℕ) : Type 0 where
@@ -42,6 +45,10 @@ OnlyNames = (r : Resolution) → IsResolved r → IsPlaced r.program → IsLow r
 abbrev pub EachNamesItself : Type 0
 EachNamesItself = (r : Resolution) → IsResolved r → IsPlaced r.program → IsLow r.program → NameThemselves r
 
+-- the variables that a function names are its own
+abbrev pub EachNamesOwn : Type 0
+EachNamesOwn = (r : Resolution) → IsResolved r → IsPlaced r.program → IsLow r.program → AllByRecursion (NamesOwnVariables r) (functions_in r.program.items)
+
 -- the type of an expression from what its names name is that of the expression in its scope
 abbrev pub SameKinds : Type 0
 SameKinds = (r : Resolution) → IsResolved r → IsPlaced r.program → IsLow r.program → AllByRecursion (λ p. type_of p.scope p.expression ≡ Some (kind_at r p.expression)) (places_of_all (file_scope r.program.items) (functions_in r.program.items))
@@ -49,6 +56,10 @@ SameKinds = (r : Resolution) → IsResolved r → IsPlaced r.program → IsLow r
 -- and it is the type that C11 gives it
 abbrev pub MeetsConstraints : Type 0
 MeetsConstraints = (r : Resolution) → IsResolved r → IsPlaced r.program → IsLow r.program → AllByRecursion (λ f. AllByRecursion (λ e. HasType r e (kind_at r e)) (in_function f)) (functions_in r.program.items)
+
+-- and they give it no other
+abbrev pub OneType : Type 0
+OneType = (r : Resolution) → IsResolved r → IsPlaced r.program → IsLow r.program → (e : Expression) → (k : Kind) → HasType r e k → kind_at r e ≡ k
 
 -- the names in written types name what they spell: the struct of that name, and what a lock path leads to
 abbrev pub NamesInTypes : Type 0
@@ -62,6 +73,10 @@ MeetsStatements = (r : Resolution) → IsResolved r → IsPlaced r.program → I
 abbrev pub AllFair : Type 0
 AllFair = (r : Resolution) → IsResolved r → IsPlaced r.program → IsLow r.program → AllByRecursion (λ f. AllByRecursion (IsFair r) (function_transfers r f)) (functions_in r.program.items)
 
+-- the globals of a typed program meet the constraints of C11 6.7
+abbrev pub MeetsGlobals : Type 0
+MeetsGlobals = (p : Program) → IsTyped p → AllByRecursion MeetsGlobal (globals_in p.items)
+
 -- a typed program is within the limits
 abbrev pub WithinLimits : Type 0
 WithinLimits = (p : Program) → IsTyped p → IsWithinLimits p
@@ -69,3 +84,14 @@ WithinLimits = (p : Program) → IsTyped p → IsWithinLimits p
 -- and has its `main`
 abbrev pub HasMain : Type 0
 HasMain = (r : Resolution) → IsResolved r → IsPlaced r.program → IsLow r.program → (n : ℕ) × (f : Function) × IsMain r n f
+
+-- what is spawned anywhere is a void function with one parameter, and what is reached is a function; neither is `main`
+abbrev pub SpawnsThreads : Type 0
+SpawnsThreads = (r : Resolution) → IsResolved r → IsPlaced r.program → IsLow r.program → (n m : ℕ) → Spawns r n m → (f : Function) × IsThread r m f
+
+abbrev pub ReachesFunctions : Type 0
+ReachesFunctions = (r : Resolution) → IsResolved r → IsPlaced r.program → IsLow r.program → (m : ℕ) → IsReached r m → (f : Function) × IsCallable r m f
+
+-- there is such a program
+abbrev pub SomeTyped : Type 0
+SomeTyped = (r : Resolution) × IsResolved r × IsPlaced r.program × IsLow r.program

@@ -1,6 +1,6 @@
 // The laws of typed programs: each is the contract of a function that does nothing.
 
-ghost use Rattle.sharc_resolved.specs.Laws.{EachNameOnce, OnlyNames, EachNamesItself, NamesInTypes, SameKinds, MeetsConstraints, MeetsStatements, AllFair, WithinLimits, HasMain};
+ghost use Rattle.sharc_resolved.specs.Laws.{EachNameOnce, OnlyNames, EachNamesItself, EachNamesOwn, NamesInTypes, SameKinds, MeetsConstraints, OneType, MeetsStatements, AllFair, MeetsGlobals, WithinLimits, HasMain, SpawnsThreads, ReachesFunctions, SomeTyped};
 
 /// In a typed program at its tokens each name is referred to once.
 pub fn each_name_once()
@@ -15,6 +15,11 @@ pub fn only_names()
 /// The name of a declaration names that declaration.
 pub fn each_names_itself()
     ensures { EachNamesItself }
+{}
+
+/// The variables that a function names are its own.
+pub fn each_names_own()
+    ensures { EachNamesOwn }
 {}
 
 /// The names in written types name what they spell.
@@ -32,6 +37,11 @@ pub fn meets_constraints()
     ensures { MeetsConstraints }
 {}
 
+/// And they give it no other.
+pub fn one_type()
+    ensures { OneType }
+{}
+
 /// Each statement meets the constraints of C11 6.8.
 pub fn meets_statements()
     ensures { MeetsStatements }
@@ -42,6 +52,11 @@ pub fn all_fair()
     ensures { AllFair }
 {}
 
+/// The globals of a typed program meet the constraints of C11 6.7: their lengths and their initial values.
+pub fn meets_globals()
+    ensures { MeetsGlobals }
+{}
+
 /// A typed program is within the limits.
 pub fn within_limits()
     ensures { WithinLimits }
@@ -50,4 +65,19 @@ pub fn within_limits()
 /// A typed program has its `main`.
 pub fn has_main()
     ensures { HasMain }
+{}
+
+/// What is spawned is a void function with one parameter, and not `main`.
+pub fn spawns_threads()
+    ensures { SpawnsThreads }
+{}
+
+/// What is reached is a function of the program, and not `main`.
+pub fn reaches_functions()
+    ensures { ReachesFunctions }
+{}
+
+/// There is a typed program at its tokens in the forms of the grammar: so the laws speak of something.
+pub fn some_typed()
+    ensures { SomeTyped }
 {}
