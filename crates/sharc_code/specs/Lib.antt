@@ -1,8 +1,10 @@
 pub mod Arithmetic
 pub mod Laws
 pub mod Layout
+pub mod Listing
 pub mod Machine
 pub mod Opening
+pub mod Paced
 pub mod Path
 pub mod Runs
 pub mod Says

@@ -10,6 +10,7 @@ mod code;
 mod instr;
 mod laws;
 mod layout;
+mod lines;
 mod shape;
 mod state;
 mod words;
@@ -18,6 +19,7 @@ pub use code::{Code, Function, GlobalCells, Layout, Parameter, PlaceMode, Source
 pub use instr::{Cell, Instr, Operator, Register, Width};
 pub use laws::{fits_law, run_laws, thread_laws};
 pub use layout::{NEXT_THREAD, PRINTS, TOP, argument_word, cell_of, function_word, state_word};
+pub use lines::{Operand, listing};
 pub use shape::Shape;
 pub use state::{At, ConflictAt, FRAMES, Frame, Print, Stage, State, Stop, Wait};
 pub use words::opening;

@@ -4,5 +4,6 @@ pub mod Held
 pub mod Joined
 pub mod Keeps
 pub mod Paths
+pub mod Settling
 pub mod OnPath
 pub mod Turned

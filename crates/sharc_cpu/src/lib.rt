@@ -23,7 +23,7 @@ mod threads;
 mod turns;
 mod waits;
 
-pub use laws::path_laws;
+pub use laws::{path_laws, thread_law};
 pub use quantum::{Pause, run_quantum};
 pub use sharc_code::{ConflictAt, Stop, Wait};
 pub use thread::Thread;

@@ -68,6 +68,7 @@ impl Thread {
     /// An `Err` says that memory was not found.
     pub fn reserve(&mut self, turns: u32) -> Result<(), AllocError>
         ensures room { OnOk result (turns ≤ self.new.room) }
+        ensures thread { (code : _) (shape : _) → IsThread code shape self.old → IsThread code shape self.new }
         ensures machine { self.new.machine ≡ self.old.machine }
         ensures made { self.new.made ≡ self.old.made }
         ensures wait { self.new.wait ≡ self.old.wait }

@@ -6,7 +6,7 @@ use Rattle.sharc_cpu.specs.Thread.{ThreadView}
 use Rattle.sharc_cpu.specs.View.{machine_of, IsWithin}
 use Rattle.sharc_cpu.specs.Quantum.{GoesWhere, pause_of}
 use Rattle.sharc_cpu.proofs.Paths.{goes_none}
-use Rattle.sharc_cpu.proofs.OnPath.{thread_within, goes_thread}
+use Rattle.sharc_cpu.proofs.OnPath.{thread_within, goes_thread, stop_is_told}
 use Rattle.sharc_cpu.proofs.quantum.run_quantum.Goals as goal
 
 pub returns-in-Stopped-clause-quantum : goal.returns-in-Stopped-clause-quantum
@@ -52,3 +52,28 @@ returns-clause-thread g c =
     (c.go-went.ensures.number ∙ ap (λ (v : ThreadView). v.machine.own.number) c.thread.view_is)
     (ap (λ (n : ℕ). n + c.go-went.result.made) (ap (λ (v : ThreadView). v.made) c.thread.view_is))
     c.wait_of-thread-inside.ensures
+
+pub returns-in-Stopped-clause-stopped : goal.returns-in-Stopped-clause-stopped
+returns-in-Stopped-clause-stopped g c =
+    let t : ThreadView = c.args.thread.now in
+    let is : t.machine.at.state ≡ states.Stopped = ap (λ (v : ThreadView). v.machine.at.state) (sym c.thread.view_is) ∙ c.in-Stopped.is in
+    stop_is_told c.args.code.now c.args.shape.now t 0 c.args.limit _ c.requires.thread (ap (λ (x : State). pause_of x 0 t.made c.args.limit) (sym is))
+
+pub returns-in-Ended-clause-stopped : goal.returns-in-Ended-clause-stopped
+returns-in-Ended-clause-stopped g c =
+    let t : ThreadView = c.args.thread.now in
+    let is : t.machine.at.state ≡ states.Ended = ap (λ (v : ThreadView). v.machine.at.state) (sym c.thread.view_is) ∙ c.in-Ended.is in
+    stop_is_told c.args.code.now c.args.shape.now t 0 c.args.limit _ c.requires.thread (ap (λ (x : State). pause_of x 0 t.made c.args.limit) (sym is))
+
+pub returns-clause-stopped : goal.returns-clause-stopped
+returns-clause-stopped g c =
+    let serves = g.P.Port.serves c.args.port.now c.thread.inside.parts.number in
+    let new : ThreadView = record { machine = machine_of c.go-went.result.at c.go-went.new.parts; made = c.thread.inside.made + c.go-went.result.made; wait = c.wait_of-thread-inside.result; room = 0 } in
+    stop_is_told c.args.code.now c.args.shape.now new c.go-went.result.turns c.args.limit c.answer.result
+    (goes_thread serves g.P.Port.leads c.args.code.now c.args.shape.now c.args.thread.now new (g.P.Port.place c.args.port.now) (g.P.Port.place c.go-went.new.port) c.go-went.result.turns c.go-went.result.made
+    c.requires.thread
+    (subst (λ (m : Machine). GoesWhere serves g.P.Port.leads c.args.code.now c.args.shape.now m (machine_of c.go-went.result.at c.go-went.new.parts) (g.P.Port.place c.args.port.now) (g.P.Port.place c.go-went.new.port) c.go-went.result.turns c.go-went.result.made) (ap (λ (v : ThreadView). v.machine) c.thread.view_is) c.go-went.ensures.goes)
+    (c.go-went.ensures.number ∙ ap (λ (v : ThreadView). v.machine.own.number) c.thread.view_is)
+    (ap (λ (n : ℕ). n + c.go-went.result.made) (ap (λ (v : ThreadView). v.made) c.thread.view_is))
+    c.wait_of-thread-inside.ensures)
+    c.answer.ensures

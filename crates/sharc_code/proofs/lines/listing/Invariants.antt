@@ -1,0 +1,7 @@
+use Rattle.std.proofs.Common.{◌≡◌, take}
+use Rattle.std.specs.List.{flat_map}
+use Rattle.sharc_code.specs.Listing.{line_of}
+use Rattle.sharc_code.proofs.lines.listing.Given as goal
+
+abbrev pub invariant-loop-instr : goal.invariant-loop-instr
+invariant-loop-instr l = l.text.items ≡ flat_map line_of (take l.instr-index l.code.instrs.items)
