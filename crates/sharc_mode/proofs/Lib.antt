@@ -1,0 +1,5 @@
+pub mod ArgumentLemmas
+pub mod CellLemmas
+pub mod LawLemmas
+pub mod RowLemmas
+pub mod SameLemmas

@@ -1,0 +1,12 @@
+pub mod Cells
+pub mod Expressions
+pub mod Flows
+pub mod Laws
+pub mod Moded
+pub mod Notes
+pub mod Rows
+pub mod Settled
+pub mod Sharings
+pub mod View
+pub mod WellFormed
+pub mod WellModed

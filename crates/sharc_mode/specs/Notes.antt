@@ -1,0 +1,250 @@
+-- What is to be said of each construct: the cases M1 to M11, and which variables lock paths name (own).
+use Rattle.std.specs.Prelude.{ℕ, ◌+◌, ◌==◌, Bool, true, false, ◌||◌, List, [], ◌∷◌, ◌++◌, drop, take, map, slice_range, slice_index_or, Option, Some, None, unwrap_or, if◌then◌else◌}
+use Rattle.std.specs.List.{flat_map, list_any}
+use Rattle.std.specs.Option.{option_or}
+use Rattle.sharc_tree.specs.declared.ctype.Base.{Base}
+use Rattle.sharc_tree.specs.declared.ctype.Base.TheVariants as base
+use Rattle.sharc_tree.specs.declared.ctype.CType.{CType}
+use Rattle.sharc_tree.specs.declared.ctype.Path.{Path}
+use Rattle.sharc_tree.specs.declared.ctype.Mode.{Mode}
+use Rattle.sharc_tree.specs.declared.ctype.Mode.TheVariants.{Private}
+use Rattle.sharc_tree.specs.declared.token.Span.{Span}
+use Rattle.sharc_tree.specs.declared.tree.declaration.Declaration.{Declaration}
+use Rattle.sharc_tree.specs.Forms.{without_parentheses}
+use Rattle.sharc_tree.specs.Spans.{span_of}
+use Rattle.sharc_tree.specs.Texts.{path_text, mode_text, tokens_text}
+use Rattle.sharc_tree.specs.Tree.{Expression, identifier, Arguments}
+use Rattle.sharc_names.specs.declared.fault.Named.{Named}
+use Rattle.sharc_names.specs.declared.types.Role.{Role}
+use Rattle.sharc_names.specs.declared.types.Role.TheVariants as role
+use Rattle.sharc_names.specs.Kinds.{Kind, object, array, null, function}
+use Rattle.sharc_ctype.specs.Resolved.{Resolution, named_at, kind_at}
+use Rattle.sharc_ctype.specs.declared.entity.Numbered.{Numbered}
+use Rattle.sharc_mode.specs.declared.error.ModeError.{ModeError}
+use Rattle.sharc_mode.specs.declared.note.Note.{Note}
+use Rattle.sharc_mode.specs.declared.note.Note.TheVariants.{Wrong, Names, Takes}
+use Rattle.sharc_mode.specs.Cells.{cell_at, top_of}
+use Rattle.sharc_ctype.specs.Entities.{positions_of}
+use Rattle.sharc_mode.specs.Moded.{Assignment}
+use Rattle.sharc_mode.specs.Rows.{Row, written, at_call, modes_of, modes_at, declared_row, cast_row, argument_use, path_variable}
+use Rattle.sharc_mode.specs.Sharings.{Lock, Sharing, private, readonly, locked, racy, dynamic, lock_of, sharing_of, path_of, mode_of, text_at, same_all, is_private, is_readonly, is_sibling, variable_named, variable_of}
+use Rattle.sharc_mode.specs.WellFormed.{place_of, holds_private, first_unfit_path, first_unfit_mode, is_private_mode}
+
+-- ---- what a case tells
+
+-- the tokens of a construct, as they are printed
+abbrev pub span_text : Resolution → Span → List ℕ
+span_text r s = tokens_text (slice_range r.program.tokens.list s.first.token (s.last.token + 1))
+
+abbrev pub no_type : CType
+no_type = record { base = base.Void; levels = [] }
+
+-- a case that shows no types
+abbrev pub error : ℕ → Span → List ℕ → Note
+error code s subject = Wrong (record { code = code; site = s.first; expected = no_type; found = no_type; subject = subject })
+
+-- a case that shows two
+abbrev pub mismatch : ℕ → Span → CType → CType → Note
+mismatch code s expected found = Wrong (record { code = code; site = s.first; expected = expected; found = found; subject = [] })
+
+-- a type with these modes of its targets, without that of its top
+abbrev pub shown : Resolution → Base → List Sharing → CType
+shown r b modes = record { base = b; levels = None ∷ map (λ s. Some (mode_of r s)) modes }
+
+abbrev pub base_of : Kind → Base
+base_of (object b stars) = b
+base_of (array b stars) = b
+base_of null = base.Void
+base_of function = base.Void
+
+-- ---- M1: in an assignment, initialiser, argument, spawn argument or return the two types differ in the mode of some target
+
+abbrev pub unless_same : Resolution → ℕ → Span → Base → List Sharing → List Sharing → List Note
+unless_same r code s b expected found = if same_all r expected found then [] else mismatch code s (shown r b expected) (shown r b found) ∷ []
+
+-- NULL agrees with every pointer type; and nothing is expected where there is no parameter
+abbrev pub agree : Resolution → Span → Base → Option (List Sharing) → Option (List Sharing) → List Note
+agree r s b None found = []
+agree r s b (Some expected) None = []
+agree r s b (Some expected) (Some found) = unless_same r 1 s b expected found
+
+abbrev pub agree_notes : Assignment → Option (List Sharing) → Expression → List Note
+agree_notes m expected e = agree m.typed (span_of e) (base_of (kind_at m.typed e)) expected (modes_at m e)
+
+-- ---- M2: an assignment writes a cell of mode readonly
+
+abbrev pub error_where : Bool → ℕ → Span → List ℕ → List Note
+error_where wrong code s subject = if wrong then error code s subject ∷ [] else []
+
+abbrev pub write_notes : Assignment → Expression → List Note
+write_notes m u = error_where (is_readonly (cell_at m u)) 2 (span_of u) (span_text m.typed (span_of u))
+
+-- ---- M3 to M6 of a type, and the variables that its paths name
+
+-- its modes by depth: of the top what is written, a local's and a parameter's else private; a global's top is a position
+
+abbrev pub top_levels : Role → List (Option Mode) → List (Option Mode)
+top_levels role.Global levels = []
+top_levels role.Field levels = top_of levels ∷ []
+top_levels role.Local levels = option_or (top_of levels) (Some Private) ∷ []
+top_levels role.Parameter levels = option_or (top_of levels) (Some Private) ∷ []
+top_levels role.Result levels = top_of levels ∷ []
+top_levels role.Cast levels = top_of levels ∷ []
+top_levels role.Made levels = top_of levels ∷ []
+
+abbrev pub position_levels : Assignment → Numbered → List (Option Mode)
+position_levels m n = map (λ mode. Some mode) (take (positions_of n.entity) (drop n.first m.modes))
+
+abbrev pub levels_of : Assignment → Numbered → List (Option Mode)
+levels_of m n = top_levels n.entity.role n.entity.written.ctype.levels ++ position_levels m n
+
+-- and as the type is printed: without the top of a result and of a cast
+
+abbrev pub printed_top : Role → List (Option Mode) → List (Option Mode)
+printed_top role.Result levels = None ∷ []
+printed_top role.Cast levels = None ∷ []
+printed_top other levels = top_levels other levels
+
+abbrev pub printed_type : Assignment → Numbered → CType
+printed_type m n = record { base = n.entity.written.ctype.base; levels = printed_top n.entity.role n.entity.written.ctype.levels ++ position_levels m n }
+
+-- M3: a non-private level stands directly above a private target
+abbrev pub private_notes : Assignment → Numbered → List Note
+private_notes m n = if holds_private (levels_of m n) then mismatch 3 n.entity.written.span (printed_type m n) (printed_type m n) ∷ [] else []
+
+-- M4: a lock path is none of the allowed forms; the first of them in the source is told
+abbrev pub path_notes : Span → Option Path → List Note
+path_notes s None = []
+path_notes s (Some path) = error 4 s (path_text path) ∷ []
+
+-- M5: a mode where it may not stand
+abbrev pub mode_notes : Span → Option Mode → List Note
+mode_notes s None = []
+mode_notes s (Some mode) = error 5 s (mode_text mode) ∷ []
+
+-- M6: `private` written in a field
+abbrev pub is_private_level : Option Mode → Bool
+is_private_level None = false
+is_private_level (Some m) = is_private_mode m
+
+abbrev pub is_field_role : Role → Bool
+is_field_role role.Field = true
+is_field_role _ = false
+
+abbrev pub private_field_notes : Resolution → Numbered → List Note
+private_field_notes r n = if is_field_role n.entity.role then error_where (list_any is_private_level n.entity.written.ctype.levels) 6 n.entity.written.span (text_at r n.entity.token) else []
+
+-- the variables that paths name
+
+abbrev pub names_of : Option ℕ → List Note
+names_of None = []
+names_of (Some x) = Names x ∷ []
+
+abbrev pub names_in : Resolution → Sharing → List Note
+names_in r private = []
+names_in r readonly = []
+names_in r (locked l) = names_of (variable_of r l)
+names_in r racy = []
+names_in r dynamic = []
+
+abbrev pub names_in_all : Resolution → List Sharing → List Note
+names_in_all r = flat_map (names_in r)
+
+abbrev pub names_in_level : Resolution → Option Mode → List Note
+names_in_level r None = []
+names_in_level r (Some m) = names_in r (sharing_of m)
+
+abbrev pub type_notes : Assignment → Numbered → List Note
+type_notes m n = private_notes m n
+    ++ path_notes n.entity.written.span (first_unfit_path m.typed (place_of n.entity.role) n.entity.written.ctype.base n.entity.written.ctype.levels)
+    ++ mode_notes n.entity.written.span (first_unfit_mode (place_of n.entity.role) n.entity.written.ctype.base n.entity.written.ctype.levels)
+    ++ private_field_notes m.typed n
+    ++ flat_map (names_in_level m.typed) n.entity.written.ctype.levels
+
+-- ---- M4 at a call: a path that the parameters' types need, whose argument is no constant variable
+
+abbrev pub unmet_by : Option ℕ → Lock → Option Lock
+unmet_by None l = Some l
+unmet_by (Some y) l = None
+
+abbrev pub unmet_for : Resolution → List Declaration → Arguments → Option ℕ → Lock → Option Lock
+unmet_for r ds all None l = None
+unmet_for r ds all (Some x) l = unmet_by (argument_use r ds all x) l
+
+abbrev pub unmet : Resolution → List Declaration → Arguments → Sharing → Option Lock
+unmet r ds all private = None
+unmet r ds all readonly = None
+unmet r ds all (locked l) = unmet_for r ds all (path_variable r l) l
+unmet r ds all racy = None
+unmet r ds all dynamic = None
+
+-- the first in the source, where the deepest target stands first
+abbrev pub unmet_in : Resolution → List Declaration → Arguments → List Sharing → Option Lock
+unmet_in r ds all [] = None
+unmet_in r ds all (s ∷ below) = option_or (unmet_in r ds all below) (unmet r ds all s)
+
+abbrev pub first_unmet : Assignment → List Declaration → Arguments → List Declaration → Option Lock
+first_unmet m ds all [] = None
+first_unmet m ds all (d ∷ rest) = option_or (unmet_in m.typed ds all (modes_of m (declared_row m.typed written d.name.site.token))) (first_unmet m ds all rest)
+
+abbrev pub unmet_notes : Resolution → Span → Option Lock → List Note
+unmet_notes r s None = []
+unmet_notes r s (Some l) = error 4 s (path_text (path_of r l)) ∷ []
+
+-- the variables that the substituted paths name
+abbrev pub names_at_call : Assignment → List Declaration → Arguments → List Declaration → List Note
+names_at_call m ds all = flat_map (λ d. names_in_all m.typed (modes_of m (declared_row m.typed (at_call ds all) d.name.site.token)))
+
+abbrev pub call_notes : Assignment → Span → List Declaration → Arguments → List Note
+call_notes m s ds all = unmet_notes m.typed s (first_unmet m ds all ds) ++ names_at_call m ds all ds
+
+-- ---- M8: a cast's type differs from its source's in the mode of a target at depth 2 or more
+
+abbrev pub cast_notes : Resolution → Span → Base → List Sharing → Option (List Sharing) → List Note
+cast_notes r s b to None = []
+cast_notes r s b to (Some from) = if same_all r (drop 1 to) (drop 1 from) then [] else mismatch 8 s (shown r b to) (shown r b from) ∷ []
+
+-- ---- M9: the source of SCAST or `free` is a cell of mode readonly. A variable may be one that some lock path names (M10)
+
+abbrev pub taken_variable : Resolution → Expression → Option ℕ
+taken_variable r (identifier s i) = variable_named (named_at r i.site.token)
+taken_variable r _ = None
+
+abbrev pub takes : Span → Option ℕ → List Note
+takes s None = []
+takes s (Some x) = Takes s x ∷ []
+
+abbrev pub source_notes : Assignment → Expression → List Note
+source_notes m a = error_where (is_readonly (cell_at m a)) 9 (span_of a) (span_text m.typed (span_of a))
+    ++ takes (span_of a) (taken_variable m.typed (without_parentheses a))
+
+-- ---- M11: a field whose target is locked by a sibling is used in another form than `x->f` with `x` a constant variable
+
+abbrev pub sibling_notes : Resolution → Span → Option ℕ → List Note
+sibling_notes r s None = error 11 s (span_text r s) ∷ []
+sibling_notes r s (Some at) = names_of (variable_named (named_at r at))
+
+abbrev pub field_notes : Resolution → Span → Option ℕ → List Sharing → List Note
+field_notes r s base_at modes = if list_any (is_sibling r) modes then sibling_notes r s base_at else []
+
+-- ---- M10: the source of SCAST or `free` is a variable that some lock path names
+
+abbrev pub is_named : ℕ → List Note → Bool
+is_named x [] = false
+is_named x (Wrong e ∷ rest) = is_named x rest
+is_named x (Names y ∷ rest) = x == y || is_named x rest
+is_named x (Takes s y ∷ rest) = is_named x rest
+
+abbrev pub error_of : Note → List ModeError
+error_of (Wrong e) = e ∷ []
+error_of (Names x) = []
+error_of (Takes s x) = []
+
+abbrev pub errors_by : Resolution → List Note → Note → List ModeError
+errors_by r all (Wrong e) = e ∷ []
+errors_by r all (Names x) = []
+errors_by r all (Takes s x) = flat_map error_of (error_where (is_named x all) 10 s (span_text r s))
+
+-- the cases that arise, by what is said of all constructs
+abbrev pub errors_of : Resolution → List Note → List ModeError
+errors_of r notes = flat_map (errors_by r notes) notes

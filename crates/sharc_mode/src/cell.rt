@@ -1,0 +1,196 @@
+// The mode of the cell that an expression names.
+
+ghost use Rattle.std.specs.Prelude.{◌≡◌};
+ghost use Rattle.std.specs.Option.{option_copied};
+ghost use Rattle.sharc_tree.specs.View.{view_expr};
+ghost use Rattle.sharc_names.specs.View.{view_kind};
+ghost use Rattle.sharc_ctype.specs.Entities.{entity_at};
+ghost use Rattle.sharc_ctype.specs.Resolved.{named_kind};
+ghost use Rattle.sharc_mode.specs.Cells.{is_mutex_kind, is_behind_pointer, written_cell, top_of, field_cell, field_named, first_mode, named_cell, pointed, cell_at};
+ghost use Rattle.sharc_mode.specs.View.{view_lock, view_sharing, view_rows};
+
+use crate::moded::Moded;
+use crate::read::read;
+use crate::row::{Row, row_of};
+use crate::sharing::{Lock, Sharing, is_private, is_sibling_lock, lock_of};
+use sharc_ctype::typed::Typed;
+use sharc_names::fault::Named;
+use sharc_names::kind::{Kind, Root, declared_kind, is_array, is_pointer};
+use sharc_names::meaning::{Meaning, kind_of};
+use sharc_tree::ctype::Mode;
+use sharc_tree::tree::{Access, Declaration, Expr, UnaryOperator};
+
+/// Whether it is an object of C type mutex.
+pub fn is_mutex_kind(kind: Kind<'_>) -> bool
+    ensures { result ≡ is_mutex_kind (view_kind kind.entry) }
+{
+    match kind {
+        Kind::Object(Root::Mutex, stars) => stars == 0,
+        _ => false,
+    }
+}
+
+/// The kind of what a variable, a field or a global is declared as; of anything else that of a function's name.
+pub fn named_kind(t: &Typed, named: Named) -> Kind<'_>
+    ensures { view_kind result ≡ named_kind t.now named }
+{
+    match named {
+        Named::Global(number) => match t.global_at(number) {
+            None => Kind::Function,
+            Some(global) => kind_of(Meaning::Global(number, global)),
+        },
+        Named::Variable(token) | Named::Field(token) => match t.declaration_at(token) {
+            None => Kind::Function,
+            Some(declaration) => declared_kind(&declaration.written),
+        },
+        Named::Struct(_) | Named::Function(_) | Named::Known => Kind::Function,
+    }
+}
+
+/// Whether a path names a sibling that points to a mutex.
+fn is_behind_pointer(t: &Typed, lock: Lock<'_>) -> bool
+    ensures { result ≡ is_behind_pointer t.now (view_lock lock.entry) }
+{
+    is_sibling_lock(t, lock) && is_pointer(named_kind(t, t.named(lock.first)))
+}
+
+/// The mode of a field's cell by its written mode, in an instance of that mode.
+fn written_cell<'a>(t: &Typed, instance: Sharing<'a>, written: Option<&'a Mode>) -> Sharing<'a>
+    ensures { view_sharing result ≡ written_cell t.now (view_sharing instance.entry) (option_copied written.entry) }
+{
+    match written {
+        None => instance,
+        Some(Mode::Readonly) => {
+            if is_private(instance) {
+                Sharing::Private
+            } else {
+                Sharing::Readonly
+            }
+        }
+        Some(Mode::Locked(path)) => {
+            let lock = lock_of(path);
+            if is_behind_pointer(t, lock) && is_private(instance) {
+                Sharing::Private
+            } else {
+                Sharing::Locked(lock)
+            }
+        }
+        Some(Mode::Private) => Sharing::Private,
+        Some(Mode::Racy) => Sharing::Racy,
+        Some(Mode::Dynamic) => Sharing::Dynamic,
+    }
+}
+
+/// The mode that is written at the top of a type.
+pub fn top_of(levels: &[Option<Mode>]) -> Option<&Mode>
+    ensures { option_copied result ≡ top_of levels.now }
+{
+    match levels {
+        [Some(mode), ..] => Some(mode),
+        _ => None,
+    }
+}
+
+/// The mode of a field's cell in an instance of that mode.
+pub fn field_cell<'a>(t: &Typed, instance: Sharing<'a>, field: &'a Declaration) -> Sharing<'a>
+    ensures { view_sharing result ≡ field_cell t.now (view_sharing instance.entry) field.now.written }
+{
+    if is_mutex_kind(declared_kind(&field.written)) {
+        Sharing::Racy
+    } else {
+        written_cell(t, instance, top_of(field.written.ctype.levels.as_slice()))
+    }
+}
+
+/// The mode of the cell of the field that a name names.
+fn field_named<'a>(t: &'a Typed, instance: Sharing<'a>, named: Named) -> Sharing<'a>
+    ensures { view_sharing result ≡ field_named t.now (view_sharing instance.entry) named }
+{
+    match named {
+        Named::Field(token) => match t.declaration_at(token) {
+            None => Sharing::Private,
+            Some(field) => field_cell(t, instance, field),
+        },
+        _ => Sharing::Private,
+    }
+}
+
+/// The mode of a global's cells.
+fn global_cell(m: &Moded, token: u32) -> Sharing<'_>
+    ensures { view_sharing result ≡ first_mode m.now (entity_at m.now.typed token token) }
+{
+    let t = m.typed();
+    match t.entity_at(token, token) {
+        None => Sharing::Private,
+        Some(numbered) => m.sharing(numbered.first),
+    }
+}
+
+/// The mode of the cell that a name names.
+fn named_cell(m: &Moded, named: Named) -> Sharing<'_>
+    ensures { view_sharing result ≡ named_cell m.now named }
+{
+    let t = m.typed();
+    match named {
+        Named::Global(number) => match t.global_at(number) {
+            None => Sharing::Private,
+            Some(global) => global_cell(m, global.declaration.name.site.token),
+        },
+        _ => Sharing::Private,
+    }
+}
+
+/// The mode of the first target.
+pub fn pointed<'a>(m: &'a Moded, row: Option<Row<'a>>) -> Sharing<'a>
+    ensures { view_sharing result ≡ pointed m.now (view_rows row.entry) }
+{
+    match row {
+        None => Sharing::Private,
+        Some(row) => {
+            if row.count == 0 {
+                Sharing::Private
+            } else {
+                read(m.typed(), row.reading, m.sharing(row.first))
+            }
+        }
+    }
+}
+
+/// The mode of the cell that an expression of the program names; private where it names none. It looks at no argument of a call and no index.
+pub fn cell_of<'a>(m: &'a Moded, expr: &'a Expr) -> Sharing<'a>
+    ensures { view_sharing result ≡ cell_at m.now (view_expr expr.now) }
+{
+    let t = m.typed();
+    match expr {
+        Expr::Identifier(_, name) => named_cell(m, t.named(name.site.token)),
+        Expr::Parentheses(_, inner) => cell_of(m, inner),
+        Expr::Index(_, base, _) => {
+            if is_array(t.kind_at(base)) {
+                cell_of(m, base)
+            } else {
+                pointed(m, row_of(t, base))
+            }
+        }
+        Expr::Field {
+            base,
+            access: Access::Dot,
+            name,
+            ..
+        } => field_named(t, cell_of(m, base), t.named(name.site.token)),
+        Expr::Field {
+            base,
+            access: Access::Arrow,
+            name,
+            ..
+        } => field_named(t, pointed(m, row_of(t, base)), t.named(name.site.token)),
+        Expr::Unary(_, UnaryOperator::Dereference, operand) => pointed(m, row_of(t, operand)),
+        Expr::Unary(_, _, _) => Sharing::Private,
+        Expr::Constant(_, _) => Sharing::Private,
+        Expr::Call(_, _, _) => Sharing::Private,
+        Expr::Spawn(_, _, _) => Sharing::Private,
+        Expr::OnValue(_, _, _) => Sharing::Private,
+        Expr::OnPlace(_, _, _) => Sharing::Private,
+        Expr::Cast(_, _, _) => Sharing::Private,
+        Expr::Binary { .. } => Sharing::Private,
+    }
+}

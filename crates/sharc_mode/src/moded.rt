@@ -1,0 +1,88 @@
+// A typed program with a mode for each of its positions.
+
+ghost use Rattle.std.specs.Prelude.{◌≡◌, ◌<◌, length, slice_index_or, IfOk};
+ghost use Rattle.sharc_tree.specs.declared.ctype.Mode.TheVariants.{Private as PrivateMode};
+ghost use Rattle.sharc_mode.specs.Moded.{position_count, mode_at, reason_at};
+ghost use Rattle.sharc_mode.specs.View.{view_sharing};
+
+use crate::position::{Modes, Reason, Reasons};
+use crate::sharing::{Sharing, sharing_of};
+use sharc_ctype::typed::Typed;
+use sharc_tree::ctype::Mode;
+use std::alloc::{AllocError, Global};
+use std::marker::Model;
+
+/// A typed program with a mode for each position, and a reason for each that was inferred to be dynamic. A contract sees it as these.
+#[derive(Drop)]
+pub struct Moded {
+    typed: Typed,
+    modes: Modes,
+    reasons: Reasons,
+}
+
+impl Model for Moded {
+    ghost use Rattle.std.specs.Coded.{codes};
+    ghost use Rattle.sharc_ctype.specs.Codes.{coded_expression, coded_statements};
+    ghost use Rattle.sharc_mode.specs.Moded.{Assignment, IsWhole};
+
+    ghost Value = { Assignment };
+
+    ghost coded = { Prim.hlevel (codes, coded_statements (Prim.hlevel (codes, coded_expression (Prim.hlevel codes)))) };
+
+    ghost view = { λ m. record { typed = m.typed; modes = m.modes; reasons = m.reasons } };
+
+    ghost invariant = { λ m. IsWhole (record { typed = m.typed; modes = m.modes; reasons = m.reasons }) };
+}
+
+impl Moded {
+    /// The program with these modes and reasons, by position.
+    pub fn assign(t: Typed, modes: Modes, reasons: Reasons) -> Moded
+        requires modes { length modes ≡ position_count t }
+        requires reasons { length reasons ≡ position_count t }
+        ensures { result ≡ record { typed = t; modes = modes; reasons = reasons } }
+    {
+        Moded {
+            typed: t,
+            modes,
+            reasons,
+        }
+    }
+
+    /// The program.
+    pub fn typed(&self) -> &Typed
+        ensures { result.now ≡ self.now.typed }
+    {
+        &self.typed
+    }
+
+    /// The mode of a position.
+    pub fn mode(&self, position: u32) -> &Mode
+        requires { position < position_count self.now.typed }
+        ensures { result.now ≡ slice_index_or self.now.modes position PrivateMode }
+    {
+        let modes = &self.modes;
+        modes.at(position as usize)
+    }
+
+    /// Why a position was inferred to be dynamic; none of any other.
+    pub fn reason(&self, position: u32) -> Option<Reason>
+        requires { position < position_count self.now.typed }
+        ensures { result ≡ reason_at self.now position }
+    {
+        let reasons = &self.reasons;
+        *reasons.at(position as usize)
+    }
+
+    /// The mode of a position with what its lock path names; private past the last one.
+    pub fn sharing(&self, position: u32) -> Sharing<'_>
+        ensures { view_sharing result ≡ mode_at self.now position }
+    {
+        let modes = self.modes.as_slice();
+        let position = position as usize;
+        if position < modes.len() {
+            sharing_of(&modes[position])
+        } else {
+            Sharing::Private
+        }
+    }
+}

@@ -1,0 +1,115 @@
+// Modes with their lock paths as they are read where a declared type is used.
+
+ghost use Rattle.std.specs.Prelude.{◌≡◌};
+ghost use Rattle.sharc_tree.specs.Tree.{argument, no_arguments};
+ghost use Rattle.sharc_tree.specs.View.{view_expr};
+ghost use Rattle.sharc_mode.specs.Rows.{argument_use, lock_through, with_base, path_variable, read_lock, read};
+ghost use Rattle.sharc_mode.specs.Sharings.{text_at};
+ghost use Rattle.sharc_mode.specs.View.{view_lock, view_reading, view_sharing};
+
+use crate::row::{Reading, argument_use, constant_use};
+use crate::sharing::{Lock, Sharing, is_sibling_lock, variable_of};
+use sharc_ctype::typed::Typed;
+use sharc_tree::tree::{Declaration, Expr};
+
+/// What stands at a token; nothing past the last one.
+pub fn text_at(t: &Typed, token: u32) -> &[u8]
+    ensures { result.now ≡ text_at t.now token }
+{
+    let tokens = t.program().tokens.list.as_slice();
+    let token = token as usize;
+    if token < tokens.len() {
+        tokens[token].text.as_slice()
+    } else {
+        &[]
+    }
+}
+
+/// A path of a field's type through `x->f`, where `x` stands at that token: a sibling's name `m` becomes `x->m`.
+fn lock_through<'a>(t: &'a Typed, at: u32, lock: Lock<'a>) -> Lock<'a>
+    ensures { view_lock result ≡ lock_through t.now at (view_lock lock.entry) }
+{
+    if is_sibling_lock(t, lock) {
+        Lock {
+            first: at,
+            second: Some(text_at(t, lock.first)),
+        }
+    } else {
+        lock
+    }
+}
+
+/// A path with that first name, if there is one.
+fn with_base<'a>(base: Option<u32>, lock: Lock<'a>) -> Lock<'a>
+    ensures { view_lock result ≡ with_base base (view_lock lock.entry) }
+{
+    match base {
+        None => lock,
+        Some(first) => Lock {
+            first,
+            second: lock.second,
+        },
+    }
+}
+
+/// The variable `x` of a path `x->m`, by the token that declares it.
+pub fn path_variable(t: &Typed, lock: Lock<'_>) -> Option<u32>
+    ensures { result ≡ path_variable t.now (view_lock lock.entry) }
+{
+    match lock.second {
+        None => None,
+        Some(_) => variable_of(t, lock),
+    }
+}
+
+/// The argument of a spawn for the parameter that this token declares, where it is a constant variable.
+pub fn spawn_argument_use(
+    t: &Typed,
+    parameters: &[Declaration],
+    value: &Expr,
+    wanted: u32,
+) -> Option<u32>
+    ensures { result ≡ argument_use t.now parameters.now (argument (view_expr value.now) no_arguments) wanted }
+{
+    match parameters {
+        [] => None,
+        [parameter, ..] => {
+            if parameter.name.site.token == wanted {
+                constant_use(t, value)
+            } else {
+                None
+            }
+        }
+    }
+}
+
+/// A path of a declared type as it is read there.
+pub fn read_lock<'a>(t: &'a Typed, reading: Reading<'a>, lock: Lock<'a>) -> Lock<'a>
+    ensures { view_lock result ≡ read_lock t.now (view_reading reading.entry) (view_lock lock.entry) }
+{
+    match reading {
+        Reading::Written => lock,
+        Reading::Through(at) => lock_through(t, at, lock),
+        Reading::Call(parameters, arguments) => match path_variable(t, lock) {
+            None => lock,
+            Some(variable) => with_base(argument_use(t, parameters, arguments, variable), lock),
+        },
+        Reading::Spawn(parameters, value) => match path_variable(t, lock) {
+            None => lock,
+            Some(variable) => with_base(spawn_argument_use(t, parameters, value, variable), lock),
+        },
+    }
+}
+
+/// A mode of a declared type as it is read there.
+pub fn read<'a>(t: &'a Typed, reading: Reading<'a>, s: Sharing<'a>) -> Sharing<'a>
+    ensures { view_sharing result ≡ read t.now (view_reading reading.entry) (view_sharing s.entry) }
+{
+    match s {
+        Sharing::Locked(lock) => Sharing::Locked(read_lock(t, reading, lock)),
+        Sharing::Private => s,
+        Sharing::Readonly => s,
+        Sharing::Racy => s,
+        Sharing::Dynamic => s,
+    }
+}

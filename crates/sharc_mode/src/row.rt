@@ -1,0 +1,296 @@
+// What an expression points to: positions of some declared type, and how their lock paths are read where it is used.
+
+ghost use Rattle.std.specs.Prelude.{◌≡◌, ◌+◌, ◌<◌, ◌≤◌, ◌^◌, IfSome};
+ghost use Rattle.std.specs.Option.{option_copied, option_map};
+ghost use Rattle.sharc_tree.specs.View.{view_expr, view_arguments, view_function};
+ghost use Rattle.sharc_ctype.specs.Constants.{is_constant};
+ghost use Rattle.sharc_ctype.specs.Entities.{entity_at, positions_of};
+ghost use Rattle.sharc_mode.specs.Moded.{position_count};
+ghost use Rattle.sharc_mode.specs.Rows.{is_constant_named, constant_use, base_use, argument_use, targets_from, deeper, entity_row, declared_row, cast_row, global_row, named_row, result_row, called_row, behind, no_row, constant_row, reading_through, unary_row, row_at};
+ghost use Rattle.sharc_mode.specs.View.{view_reading, view_row, view_rows, EndsWithin};
+
+use sharc_ctype::entity::Numbered;
+use sharc_ctype::typed::Typed;
+use sharc_names::fault::Named;
+use sharc_names::kind::is_array;
+use sharc_names::types::Role;
+use sharc_tree::token::Span;
+use sharc_tree::tree::{
+    Access, Constant, Declaration, Expr, FunctionDefinition, GlobalDefinition, UnaryOperator,
+};
+
+/// How the lock paths of a declared type are read where it is used.
+#[derive(Clone, Copy)]
+pub enum Reading<'a> {
+    /// As they are written.
+    Written,
+    /// Through `x->f` with `x` a constant variable, which stands at this token: a sibling's name `m` becomes `x->m`.
+    Through(u32),
+    /// At a call with these parameters and arguments: `x->m` becomes `y->m` where the argument for `x` is the constant variable `y`.
+    Call(&'a [Declaration], &'a [Expr]),
+    /// At a spawn with these parameters and this argument, likewise.
+    Spawn(&'a [Declaration], &'a Expr),
+}
+
+/// This many positions from the first on: the targets of a type from the first target down.
+#[derive(Clone, Copy)]
+pub struct Row<'a> {
+    pub first: u32,
+    pub count: u32,
+    pub reading: Reading<'a>,
+}
+
+/// Whether a name names a constant variable.
+fn is_constant_named(t: &Typed, named: Named) -> bool
+    ensures { result ≡ is_constant_named t.now named }
+{
+    match named {
+        Named::Variable(token) => t.is_constant(token),
+        _ => false,
+    }
+}
+
+/// The token of a constant variable, where the expression is one, without parentheses.
+pub fn constant_use(t: &Typed, expr: &Expr) -> Option<u32>
+    ensures { result ≡ constant_use t.now (view_expr expr.now) }
+{
+    match expr {
+        Expr::Identifier(_, name) => {
+            let token = name.site.token;
+            if is_constant_named(t, t.named(token)) {
+                Some(token)
+            } else {
+                None
+            }
+        }
+        _ => None,
+    }
+}
+
+/// The token of `x` of a use `x->f`, where `x` is a constant variable.
+pub fn base_use(t: &Typed, access: Access, base: &Expr) -> Option<u32>
+    ensures { result ≡ base_use t.now access (view_expr base.now) }
+{
+    match access {
+        Access::Arrow => constant_use(t, base),
+        Access::Dot => None,
+    }
+}
+
+/// The argument for the parameter that this token declares, where it is a constant variable.
+pub fn argument_use(
+    t: &Typed,
+    parameters: &[Declaration],
+    arguments: &[Expr],
+    wanted: u32,
+) -> Option<u32>
+    ensures { result ≡ argument_use t.now parameters.now (view_arguments arguments.now) wanted }
+{
+    for i in 0..parameters.len() {
+        if i >= arguments.len() {
+            return None;
+        }
+        let argument = &arguments[i];
+        if parameters[i].name.site.token == wanted {
+            return constant_use(t, argument);
+        }
+    }
+    None
+}
+
+impl<'a> Row<'a> {
+    /// Of what has no target.
+    pub fn none() -> Self
+        ensures { view_row result ≡ no_row }
+    {
+        Row {
+            first: 0,
+            count: 0,
+            reading: Reading::Written,
+        }
+    }
+
+    /// The row of what it points to in turn.
+    pub fn deeper(self) -> Self
+        requires { self.first + self.count < 2 ^ 32 }
+        ensures { view_row result ≡ deeper (view_row self.entry) }
+    {
+        if self.count == 0 {
+            self
+        } else {
+            Row {
+                first: self.first + 1,
+                count: self.count - 1,
+                reading: self.reading,
+            }
+        }
+    }
+}
+
+/// The row from the first target on: the first position of a global is its top.
+fn targets_from<'a>(role: Role, row: Row<'a>) -> Row<'a>
+    requires { row.first + row.count < 2 ^ 32 }
+    ensures row { view_row result ≡ targets_from role (view_row row.entry) }
+    ensures ends { result.first + result.count ≤ row.entry.first + row.entry.count }
+{
+    match role {
+        Role::Global => row.deeper(),
+        _ => row,
+    }
+}
+
+/// The positions of an entity.
+fn row_of_entity<'a>(t: &Typed, reading: Reading<'a>, numbered: &Numbered) -> Row<'a>
+    requires { numbered.now.first + positions_of numbered.now.entity ≤ position_count t.now }
+    ensures row { view_row result ≡ entity_row (view_reading reading.entry) (Some numbered.now) }
+    ensures within { result.first + result.count ≤ position_count t.now }
+{
+    let _all = t.position_count();
+    let row = Row {
+        first: numbered.first,
+        count: numbered.entity.positions() as u32,
+        reading,
+    };
+    targets_from(numbered.entity.role, row)
+}
+
+/// The targets of the type of what this token declares, of a cast by its first and its last token.
+pub fn row_between<'a>(t: &Typed, reading: Reading<'a>, token: u32, last: u32) -> Row<'a>
+    ensures row { view_row result ≡ entity_row (view_reading reading.entry) (entity_at t.now token last) }
+    ensures within { result.first + result.count ≤ position_count t.now }
+{
+    match t.entity_at(token, last) {
+        None => Row::none(),
+        Some(numbered) => row_of_entity(t, reading, numbered),
+    }
+}
+
+/// The targets of the type of what this token declares.
+pub fn declared_row<'a>(t: &Typed, reading: Reading<'a>, token: u32) -> Row<'a>
+    ensures row { view_row result ≡ declared_row t.now (view_reading reading.entry) token }
+    ensures within { result.first + result.count ≤ position_count t.now }
+{
+    row_between(t, reading, token, token)
+}
+
+/// The targets of the type of a cast that stands at these tokens.
+pub fn cast_row<'a>(t: &Typed, span: Span) -> Row<'a>
+    ensures row { view_row result ≡ cast_row t.now span }
+    ensures within { result.first + result.count ≤ position_count t.now }
+{
+    row_between(t, Reading::Written, span.first.token, span.last.token)
+}
+
+/// The targets of the type of what a name names.
+pub fn named_row<'a>(t: &Typed, reading: Reading<'a>, named: Named) -> Row<'a>
+    ensures row { view_row result ≡ named_row t.now (view_reading reading.entry) named }
+    ensures within { result.first + result.count ≤ position_count t.now }
+{
+    match named {
+        Named::Global(number) => match t.global_at(number) {
+            None => Row::none(),
+            Some(global) => declared_row(t, reading, global.declaration.name.site.token),
+        },
+        Named::Variable(token) => declared_row(t, reading, token),
+        Named::Field(token) => declared_row(t, reading, token),
+        Named::Struct(_) => Row::none(),
+        Named::Function(_) => Row::none(),
+        Named::Known => Row::none(),
+    }
+}
+
+/// The targets of what a call of a name gives.
+fn called_row<'a>(t: &Typed, named: Named) -> Row<'a>
+    ensures row { view_row result ≡ called_row t.now named }
+    ensures within { result.first + result.count ≤ position_count t.now }
+{
+    match named {
+        Named::Function(number) => match t.function_at(number) {
+            None => Row::none(),
+            Some(function) => declared_row(t, Reading::Written, function.name.site.token),
+        },
+        Named::Struct(_) => Row::none(),
+        Named::Global(_) => Row::none(),
+        Named::Variable(_) => Row::none(),
+        Named::Field(_) => Row::none(),
+        Named::Known => Row::none(),
+    }
+}
+
+/// What it points to in turn.
+pub fn behind<'a>(t: &Typed, row: Option<Row<'a>>) -> Option<Row<'a>>
+    requires { EndsWithin t.now row }
+    ensures row { view_rows result ≡ behind (view_rows row.entry) }
+    ensures within { EndsWithin t.now result }
+{
+    let _all = t.position_count();
+    match row {
+        None => None,
+        Some(row) => Some(row.deeper()),
+    }
+}
+
+fn constant_row<'a>(constant: Constant) -> Option<Row<'a>>
+    ensures row { view_rows result ≡ constant_row constant }
+    ensures none { IfSome result (λ row. row.first + row.count ≤ 0) }
+{
+    match constant {
+        Constant::Number(_) => Some(Row::none()),
+        Constant::Character(_) => Some(Row::none()),
+        Constant::Null => None,
+    }
+}
+
+fn reading_through<'a>(base: Option<u32>) -> Reading<'a>
+    ensures { view_reading result ≡ reading_through base }
+{
+    match base {
+        None => Reading::Written,
+        Some(at) => Reading::Through(at),
+    }
+}
+
+/// What an expression of the program points to, from its first target on; none for NULL, which agrees with every pointer type. It looks at no
+/// argument of a call and no index.
+pub fn row_of<'a>(t: &Typed, expr: &Expr) -> Option<Row<'a>>
+    ensures row { view_rows result ≡ row_at t.now (view_expr expr.now) }
+    ensures within { EndsWithin t.now result }
+{
+    match expr {
+        Expr::Identifier(_, name) => Some(named_row(t, Reading::Written, t.named(name.site.token))),
+        Expr::Constant(_, constant) => constant_row(*constant),
+        Expr::Parentheses(_, inner) => row_of(t, inner),
+        Expr::Call(_, name, _) => Some(called_row(t, t.named(name.site.token))),
+        Expr::Spawn(_, _, _) => Some(Row::none()),
+        Expr::OnValue(_, _, _) => Some(Row::none()),
+        Expr::OnPlace(_, _, _) => Some(Row::none()),
+        Expr::Cast(span, _, _) => Some(cast_row(t, *span)),
+        Expr::Index(_, base, _) => {
+            let row = row_of(t, base);
+            if is_array(t.kind_at(base)) {
+                row
+            } else {
+                behind(t, row)
+            }
+        }
+        Expr::Field {
+            base,
+            access,
+            name,
+            ..
+        } => {
+            let reading = reading_through(base_use(t, *access, base));
+            Some(named_row(t, reading, t.named(name.site.token)))
+        }
+        Expr::Unary(_, UnaryOperator::Dereference, operand) => behind(t, row_of(t, operand)),
+        Expr::Unary(_, _, _) => Some(Row::none()),
+        Expr::Binary { .. } => Some(Row::none()),
+    }
+}
+
+/// Whether the variable that the token with this number declares is constant: a parameter or an initialised local that is never assigned.
+pub fn constant_var(t: &Typed, variable: u32) -> bool
+    ensures { result ≡ is_constant t.now variable }
+{
+    t.is_constant(variable)
+}

@@ -1,0 +1,192 @@
+// Sharing modes with what their lock paths name, and when two are the same.
+
+ghost use Rattle.std.specs.Prelude.{◌≡◌};
+ghost use Rattle.sharc_mode.specs.Sharings.{lock_of, sharing_of, same_named, same_second, same_lock, same, same_level, same_levels, is_private, is_readonly, is_field, is_sibling_lock, is_sibling, variable_named, variable_of};
+ghost use Rattle.sharc_mode.specs.View.{view_name, view_lock, view_sharing};
+
+use sharc_ctype::typed::Typed;
+use sharc_names::fault::Named;
+use sharc_tree::ctype::{CType, Mode, Path};
+
+/// A lock path: the token of its first name, which tells what that names, and its second name, where it has one.
+#[derive(Clone, Copy)]
+pub struct Lock<'a> {
+    pub first: u32,
+    pub second: Option<&'a [u8]>,
+}
+
+/// A sharing mode (the SharC paper).
+#[derive(Clone, Copy)]
+pub enum Sharing<'a> {
+    Private,
+    Readonly,
+    Locked(Lock<'a>),
+    Racy,
+    Dynamic,
+}
+
+/// A path as it is written.
+pub fn lock_of(path: &Path) -> Lock<'_>
+    ensures { view_lock result ≡ lock_of path.now }
+{
+    match path {
+        Path::One(_, token) => Lock {
+            first: *token,
+            second: None,
+        },
+        Path::Through(_, token, mutex) => Lock {
+            first: *token,
+            second: Some(mutex.as_slice()),
+        },
+    }
+}
+
+/// A mode as it is written.
+pub fn sharing_of(mode: &Mode) -> Sharing<'_>
+    ensures { view_sharing result ≡ sharing_of mode.now }
+{
+    match mode {
+        Mode::Private => Sharing::Private,
+        Mode::Readonly => Sharing::Readonly,
+        Mode::Locked(path) => Sharing::Locked(lock_of(path)),
+        Mode::Racy => Sharing::Racy,
+        Mode::Dynamic => Sharing::Dynamic,
+    }
+}
+
+/// Whether two names name the same global, variable or field.
+fn same_named(a: Named, b: Named) -> bool
+    ensures { result ≡ same_named a b }
+{
+    match (a, b) {
+        (Named::Global(a), Named::Global(b)) => a == b,
+        (Named::Variable(a), Named::Variable(b)) => a == b,
+        (Named::Field(a), Named::Field(b)) => a == b,
+        _ => false,
+    }
+}
+
+fn same_second(a: Option<&[u8]>, b: Option<&[u8]>) -> bool
+    ensures { result ≡ same_second (view_name a.entry) (view_name b.entry) }
+{
+    match (a, b) {
+        (None, None) => true,
+        (Some(a), Some(b)) => a == b,
+        _ => false,
+    }
+}
+
+/// Whether two paths are equal.
+pub fn same_lock(t: &Typed, a: Lock<'_>, b: Lock<'_>) -> bool
+    ensures { result ≡ same_lock t.now (view_lock a.entry) (view_lock b.entry) }
+{
+    same_named(t.named(a.first), t.named(b.first)) && same_second(a.second, b.second)
+}
+
+/// Whether two modes are the same.
+pub fn same(t: &Typed, a: Sharing<'_>, b: Sharing<'_>) -> bool
+    ensures { result ≡ same t.now (view_sharing a.entry) (view_sharing b.entry) }
+{
+    match (a, b) {
+        (Sharing::Private, Sharing::Private) => true,
+        (Sharing::Readonly, Sharing::Readonly) => true,
+        (Sharing::Locked(a), Sharing::Locked(b)) => same_lock(t, a, b),
+        (Sharing::Racy, Sharing::Racy) => true,
+        (Sharing::Dynamic, Sharing::Dynamic) => true,
+        _ => false,
+    }
+}
+
+fn same_level(t: &Typed, a: &Option<Mode>, b: &Option<Mode>) -> bool
+    ensures { result ≡ same_level t.now a.now b.now }
+{
+    match (a, b) {
+        (None, None) => true,
+        (Some(a), Some(b)) => same(t, sharing_of(a), sharing_of(b)),
+        _ => false,
+    }
+}
+
+fn same_levels(t: &Typed, a: &[Option<Mode>], b: &[Option<Mode>]) -> bool
+    ensures { result ≡ same_levels t.now a.now b.now }
+{
+    if a.len() != b.len() {
+        return false;
+    }
+    for i in 0..a.len() {
+        if !same_level(t, &a[i], &b[i]) {
+            return false;
+        }
+    }
+    true
+}
+
+/// Whether two types have the same modes, level by level. Two paths are equal where they name the same global, or the same variable and the same
+/// field; modes that are not known are the same.
+pub fn same_modes(t: &Typed, a: &CType, b: &CType) -> bool
+    ensures { result ≡ same_levels t.now a.now.levels b.now.levels }
+{
+    same_levels(t, a.levels.as_slice(), b.levels.as_slice())
+}
+
+/// Whether it is private.
+pub fn is_private(s: Sharing<'_>) -> bool
+    ensures { result ≡ is_private (view_sharing s.entry) }
+{
+    match s {
+        Sharing::Private => true,
+        _ => false,
+    }
+}
+
+/// Whether it is readonly.
+pub fn is_readonly(s: Sharing<'_>) -> bool
+    ensures { result ≡ is_readonly (view_sharing s.entry) }
+{
+    match s {
+        Sharing::Readonly => true,
+        _ => false,
+    }
+}
+
+fn is_field(named: Named) -> bool
+    ensures { result ≡ is_field named }
+{
+    match named {
+        Named::Field(_) => true,
+        _ => false,
+    }
+}
+
+/// Whether a path is the name of a sibling of the field in whose type it stands.
+pub fn is_sibling_lock(t: &Typed, lock: Lock<'_>) -> bool
+    ensures { result ≡ is_sibling_lock t.now (view_lock lock.entry) }
+{
+    is_field(t.named(lock.first)) && lock.second.is_none()
+}
+
+/// Whether a mode is locked by a sibling.
+pub fn is_sibling(t: &Typed, s: Sharing<'_>) -> bool
+    ensures { result ≡ is_sibling t.now (view_sharing s.entry) }
+{
+    match s {
+        Sharing::Locked(lock) => is_sibling_lock(t, lock),
+        _ => false,
+    }
+}
+
+fn variable_named(named: Named) -> Option<u32>
+    ensures { result ≡ variable_named named }
+{
+    match named {
+        Named::Variable(token) => Some(token),
+        _ => None,
+    }
+}
+
+/// The variable that the first name of a path names, by the token that declares it.
+pub fn variable_of(t: &Typed, lock: Lock<'_>) -> Option<u32>
+    ensures { result ≡ variable_of t.now (view_lock lock.entry) }
+{
+    variable_named(t.named(lock.first))
+}
