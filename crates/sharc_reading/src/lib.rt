@@ -1,4 +1,4 @@
-//! Tables of sources, and what the front end makes of them: tests alone, over the lexer and the parser as they stand together.
+//! Tables of sources, and what the front end makes of them: tests alone, over the lexer, the parser and C typing as they stand together.
 //!
 //! Nothing stands on this crate, and it has no code of its own. A table that needs the lexer to write what a later stage of the
 //! front end is given stands here too, so that a change of the top call proves none of them again.
@@ -22,3 +22,15 @@ mod statements;
 mod tokens;
 #[cfg(test)]
 mod tree_tests;
+#[cfg(test)]
+mod typing;
+#[cfg(test)]
+mod typing_conditions;
+#[cfg(test)]
+mod typing_items;
+#[cfg(test)]
+mod typing_paths;
+#[cfg(test)]
+mod typing_scopes;
+#[cfg(test)]
+mod typing_values;
