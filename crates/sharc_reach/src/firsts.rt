@@ -1,7 +1,7 @@
 // The first reached function that names each global.
 
-ghost use Rattle.std.specs.Prelude.{◌≡◌, None as Nothing, fold, replicate, slice_set, slice_index_or, IfOk};
-ghost use Rattle.sharc_reach.specs.Firsts.{global_named, lower, lowered, named_by, lowered_by};
+ghost use Rattle.std.specs.Prelude.{◌≡◌, None as Nothing, fold, replicate, IfOk};
+ghost use Rattle.sharc_reach.specs.Firsts.{global_named, lower, lowered, lowered_by};
 ghost use Rattle.sharc_reach.specs.Reaching.{is_chosen};
 
 use crate::mention::Mention;

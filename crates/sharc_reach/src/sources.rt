@@ -1,6 +1,6 @@
 // The functions as the nodes of a graph: those that are spawned are its sources.
 
-ghost use Rattle.std.specs.Prelude.{◌≡◌, fold, replicate, slice_set, IfOk};
+ghost use Rattle.std.specs.Prelude.{◌≡◌, fold, replicate, IfOk};
 ghost use Rattle.sharc_reach.specs.Graphs.{spawned, quiet_node, marked, marked_by};
 
 use crate::edges::function_named;

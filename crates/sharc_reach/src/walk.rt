@@ -1,8 +1,8 @@
 // The names that stand in expressions, statements and functions: one walk over a program.
 
-ghost use Rattle.std.specs.Prelude.{◌≡◌, ◌^◌, ◌≤◌, ◌++◌, length, IfOk, OnOk};
+ghost use Rattle.std.specs.Prelude.{◌≡◌, ◌++◌, IfOk, OnOk};
 ghost use Rattle.sharc_tree.specs.View.{view_expr, view_arguments, view_option, view_right, view_simple, view_local, view_first, view_head, view_stmt, view_statements, view_function};
-ghost use Rattle.sharc_ctype.specs.Resolved.{function_at, functions_in};
+ghost use Rattle.sharc_ctype.specs.Resolved.{function_at};
 ghost use Rattle.sharc_reach.specs.Mentions.{mentions, mentions_of_all, option_mentions, right_mentions, simple_mentions, local_mentions, first_mentions, head_mentions, statement_mentions, statements_mentions, function_mentions, mentions_in, mentions_below};
 
 use crate::mention::{Mention, Role};
