@@ -1,5 +1,5 @@
 -- The places and links of a typed program, and the least assignment: which unwritten positions are dynamic.
-use Rattle.std.specs.Prelude.{◌≡◌, ◌⊎◌, ℕ, ◌+◌, ◌-◌, ◌<◌, ◌≤◌, min, List, [], ◌∷◌, ◌++◌, length, slice_index_or, Option, Some, None, IfSome, Contains}
+use Rattle.std.specs.Prelude.{◌≡◌, ◌⊎◌, ℕ, ◌+◌, ◌-◌, ◌<◌, ◌≤◌, min, List, [], ◌∷◌, ◌++◌, length, slice_index_or, Option, Some, None, IsSomeAnd, Contains}
 use Rattle.std.specs.List.{flat_map}
 use Rattle.sharc_tree.specs.declared.ctype.Mode.{Mode}
 use Rattle.sharc_tree.specs.declared.ctype.Mode.TheVariants.{Private, Readonly, Locked, Racy, Dynamic}
@@ -16,7 +16,7 @@ use Rattle.sharc_flow.specs.Flow.{flow_of, place_at, AreInferred}
 use Rattle.sharc_flow.specs.Make.{equal_links, below_links}
 use Rattle.sharc_names.specs.declared.fault.Named.{Named}
 use Rattle.sharc_names.specs.declared.fault.Named.TheVariants as named
-use Rattle.sharc_ctype.specs.Reaches.{Names, Spawns, IsReached, tokens_of}
+use Rattle.sharc_ctype.specs.Reaches.{Spawns, IsReached, NamesGlobal}
 use Rattle.sharc_ctype.specs.Resolved.{Resolution, global_at, function_at}
 use Rattle.sharc_ctype.specs.Transfers.{Receiver, lvalue, variable, result, Transfer, function_transfers}
 use Rattle.sharc_ctype.specs.declared.entity.Numbered.{Numbered}
@@ -30,16 +30,16 @@ use Rattle.sharc_mode.specs.Settled.{settled_at}
 -- ---- roots: the first position of what this token declares, where its type has one
 
 abbrev pub IsFirst : Resolution → ℕ → ℕ → Type 0
-IsFirst r token position = IfSome (entity_at r token token) (λ n. (0 < positions_of n.entity) × (n.first ≡ position))
+IsFirst r token position = IsSomeAnd (entity_at r token token) (λ n. (0 < positions_of n.entity) × (n.first ≡ position))
 
 -- the function is reached and names the global
 abbrev pub Touches : Resolution → ℕ → ℕ → Type 0
-Touches r f g = IsReached r f × IfSome (function_at r f) (λ d. Names r (named.Global g) (tokens_of d))
+Touches r f g = IsReached r f × NamesGlobal r f g
 
 -- the top of a global that this function touches, and none before it does
 pub record IsTouchedIn (r : Resolution) (position f : ℕ) : Type 0 where
   pub global : ℕ
-  pub top : IfSome (global_at r global) (λ g. IsFirst r g.declaration.name.site.token position)
+  pub top : IsSomeAnd (global_at r global) (λ g. IsFirst r g.declaration.name.site.token position)
   pub touches : Touches r f global
   pub least : (other : ℕ) → Touches r other global → f ≤ other
 
@@ -47,7 +47,7 @@ pub record IsTouchedIn (r : Resolution) (position f : ℕ) : Type 0 where
 pub record IsPassedTo (r : Resolution) (position f : ℕ) : Type 0 where
   pub spawner : ℕ
   pub spawned : Spawns r spawner f
-  pub parameter : IfSome (function_at r f) (λ d. (p : Declaration) × Contains d.parameters p × IsFirst r p.name.site.token position)
+  pub parameter : IsSomeAnd (function_at r f) (λ d. (p : Declaration) × Contains d.parameters p × IsFirst r p.name.site.token position)
 
 abbrev pub IsRoot : Resolution → ℕ → Type 0
 IsRoot r position = (f : ℕ) × (IsTouchedIn r position f ⊎ IsPassedTo r position f)

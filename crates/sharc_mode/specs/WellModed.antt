@@ -11,13 +11,13 @@ use Rattle.sharc_ctype.specs.Reaches.{of_all, spawns, IsTouched}
 use Rattle.sharc_ctype.specs.Resolved.{Resolution, named_at, globals_in, functions_in}
 use Rattle.sharc_mode.specs.declared.error.ModeError.{ModeError}
 use Rattle.sharc_mode.specs.declared.note.Note.{Note}
-use Rattle.sharc_mode.specs.Cells.{top_of, first_of}
+use Rattle.sharc_mode.specs.Cells.{top_of}
 use Rattle.sharc_ctype.specs.Entities.{entities_in, numbered}
 use Rattle.sharc_mode.specs.Expressions.{items_notes}
 use Rattle.sharc_mode.specs.Moded.{Assignment}
 use Rattle.sharc_mode.specs.Notes.{error_where, type_notes, errors_of, is_private_level}
 use Rattle.sharc_mode.specs.Rows.{written, declared_row, modes_of}
-use Rattle.sharc_mode.specs.Sharings.{is_private}
+use Rattle.sharc_mode.specs.Sharings.{Sharing, is_private}
 
 -- M7: the target of a spawned function's parameter is private, or a touched global has the written top mode private
 
@@ -32,8 +32,13 @@ all_spawned = flat_map (λ f. of_all spawns (in_function f))
 abbrev pub is_spawned : Resolution → ℕ → Bool
 is_spawned r n = list_any (λ token. names_function n (named_at r token)) (all_spawned (functions_in r.program.items))
 
+-- what is no pointer has no target
+abbrev pub has_private_target : List Sharing → Bool
+has_private_target [] = false
+has_private_target (s ∷ below) = is_private s
+
 abbrev pub parameter_notes : Assignment → List ℕ → Declaration → List Note
-parameter_notes m name d = error_where (is_private (first_of (modes_of m (declared_row m.typed written d.name.site.token)))) 7 d.written.span name
+parameter_notes m name d = error_where (has_private_target (modes_of m (declared_row m.typed written d.name.site.token))) 7 d.written.span name
 
 abbrev pub spawned_notes : Assignment → ℕ → List Function → List Note
 spawned_notes m n [] = []

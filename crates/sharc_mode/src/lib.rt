@@ -11,3 +11,4 @@ pub mod position;
 pub mod read;
 pub mod row;
 pub mod sharing;
+pub mod types;

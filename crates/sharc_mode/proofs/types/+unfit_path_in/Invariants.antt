@@ -1,0 +1,5 @@
+use Rattle.std.proofs.Common.{length}
+use Rattle.sharc_mode.proofs.types.+unfit_path_in.Given as goal
+
+abbrev pub decreases-unfit_path_in : goal.decreases-unfit_path_in
+decreases-unfit_path_in l = length l.levels.now
