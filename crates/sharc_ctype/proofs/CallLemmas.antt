@@ -13,7 +13,8 @@ use Rattle.sharc_names.specs.Names.{Entry, look_up}
 use Rattle.sharc_names.specs.Notes.{Note, Findings, noted}
 use Rattle.sharc_names.specs.Needs.{met, unmet, agreed, unagreed}
 use Rattle.sharc_names.specs.Wants.{first_wanted}
-use Rattle.sharc_ctype.specs.Expressions.{count, wanted, call_result, call_kind, callee_notes, type_of, are_fine, notes_of, notes_of_all}
+use Rattle.sharc_ctype.specs.declared.expr.Standing.{Standing}
+use Rattle.sharc_ctype.specs.Expressions.{count, wanted, call_result, call_kind, callee_notes, type_of, are_fine, notes_at, notes_of, notes_of_all}
 
 count_is : (list : List Expr) → count (view_arguments list) ≡ length list
 count_is [] = refl
@@ -30,18 +31,18 @@ call_typed scope e s f list n entry params result fine is n_is entry_is params_i
     ∙ ap (λ o. call_kind (call_result (count args) o) (are_fine scope (wanted (count args) o) args)) entry_is
     ∙ sym (ap (type_of scope) is)
 
-pub call_noted : (scope : Scope) (e : Expression) (s : Span) (f : Identifier) (list : List Expr) (n : ℕ) (entry : Option Entry) (params : List Kind) (f0 f1 f2 : Findings)
+pub call_noted : (stands : Standing) (scope : Scope) (e : Expression) (s : Span) (f : Identifier) (list : List Expr) (n : ℕ) (entry : Option Entry) (params : List Kind) (f0 f1 f2 : Findings)
     → e ≡ call s f (view_arguments list) → n ≡ length list → entry ≡ look_up scope.names f.text → params ≡ wanted n entry
-    → f1 ≡ fold noted f0 (callee_notes f.site.token n entry) → f2 ≡ fold noted f1 (notes_of_all scope params (view_arguments list)) → f2 ≡ fold noted f0 (notes_of scope e)
-call_noted scope e s f list n entry params f0 f1 f2 is n_is entry_is params_is one two =
+    → f1 ≡ fold noted f0 (callee_notes stands f.site.token n entry) → f2 ≡ fold noted f1 (notes_of_all scope params (view_arguments list)) → f2 ≡ fold noted f0 (notes_at stands scope e)
+call_noted stands scope e s f list n entry params f0 f1 f2 is n_is entry_is params_is one two =
     let args = view_arguments list in
     two
     ∙ ap (λ g. fold noted g (notes_of_all scope params args)) one
-    ∙ sym (fold-append noted f0 (callee_notes f.site.token n entry) (notes_of_all scope params args))
-    ∙ ap (λ p. fold noted f0 (callee_notes f.site.token n entry ++ notes_of_all scope p args)) params_is
-    ∙ ap (λ m. fold noted f0 (callee_notes f.site.token m entry ++ notes_of_all scope (wanted m entry) args)) (n_is ∙ sym (count_is list))
-    ∙ ap (λ o. fold noted f0 (callee_notes f.site.token (count args) o ++ notes_of_all scope (wanted (count args) o) args)) entry_is
-    ∙ sym (ap (λ x. fold noted f0 (notes_of scope x)) is)
+    ∙ sym (fold-append noted f0 (callee_notes stands f.site.token n entry) (notes_of_all scope params args))
+    ∙ ap (λ p. fold noted f0 (callee_notes stands f.site.token n entry ++ notes_of_all scope p args)) params_is
+    ∙ ap (λ m. fold noted f0 (callee_notes stands f.site.token m entry ++ notes_of_all scope (wanted m entry) args)) (n_is ∙ sym (count_is list))
+    ∙ ap (λ o. fold noted f0 (callee_notes stands f.site.token (count args) o ++ notes_of_all scope (wanted (count args) o) args)) entry_is
+    ∙ sym (ap (λ x. fold noted f0 (notes_at stands scope x)) is)
 
 and_assoc : (x y z : Bool) → (x && (y && z)) ≡ ((x && y) && z)
 and_assoc true y z = refl

@@ -26,6 +26,8 @@ use Rattle.sharc_names.specs.Needs.{place, met, unmet, agreed, unagreed}
 use Rattle.sharc_names.specs.Notes.{Note, fault, refers, fault_unless}
 use Rattle.sharc_names.specs.Types.{name_kind, main_notes, name_notes, field_in, field_kind, field_notes, type_notes, is_fine}
 use Rattle.sharc_names.specs.Wants.{first_wanted}
+use Rattle.sharc_ctype.specs.declared.expr.Standing.{Standing}
+use Rattle.sharc_ctype.specs.declared.expr.Standing.TheVariants.{AsValue, AsLvalue}
 use Rattle.sharc_ctype.specs.declared.expr.OperatorClass.{OperatorClass}
 use Rattle.sharc_ctype.specs.declared.expr.OperatorClass.TheVariants.{Logical, Equality, Relation, Shift, Arithmetic}
 
@@ -187,13 +189,18 @@ abbrev pub takes : ℕ → Option (List Kind) → Bool
 takes n None = false
 takes n (Some parameters) = length parameters == n
 
-abbrev pub count_notes : ℕ → ℕ → Option (List Kind) → List Note
-count_notes token n None = fault token TypeMismatch ∷ []
-count_notes token n (Some parameters) = fault_unless (length parameters == n) token ArgumentCount
+-- of what is no function nothing is said here where an lvalue is needed: it is none
+abbrev pub uncalled_notes : Standing → ℕ → List Note
+uncalled_notes AsValue token = fault token TypeMismatch ∷ []
+uncalled_notes AsLvalue token = []
 
-abbrev pub callee_notes : ℕ → ℕ → Option Entry → List Note
-callee_notes token n None = fault token UnknownName ∷ []
-callee_notes token n (Some e) = refers token (named_of e.meaning) ∷ (main_notes token e.meaning ++ count_notes token n (parameters_of e.meaning))
+abbrev pub count_notes : Standing → ℕ → ℕ → Option (List Kind) → List Note
+count_notes stands token n None = uncalled_notes stands token
+count_notes stands token n (Some parameters) = fault_unless (length parameters == n) token ArgumentCount
+
+abbrev pub callee_notes : Standing → ℕ → ℕ → Option Entry → List Note
+callee_notes stands token n None = fault token UnknownName ∷ []
+callee_notes stands token n (Some e) = refers token (named_of e.meaning) ∷ (main_notes token e.meaning ++ count_notes stands token n (parameters_of e.meaning))
 
 -- what so many arguments have to agree with: nothing where their number is wrong
 abbrev pub wanted_if : Bool → Option (List Kind) → List Kind
@@ -255,28 +262,31 @@ abbrev mutual
   are_fine scope wanted no_arguments = true
   are_fine scope wanted (argument a rest) = (is_some (met Value (type_of scope a)) && agreed (first_wanted wanted) (met Value (type_of scope a))) && are_fine scope (drop 1 wanted) rest
 
--- the faults that stand in an expression, and what its names name
+-- the faults that stand in an expression, where its value or an lvalue is needed, and what its names name
 abbrev mutual
-  pub notes_of : Scope → Expression → List Note
-  notes_of scope (identifier s i) = name_notes i.site.token (look_up scope.names i.text)
-  notes_of scope (constant s c) = []
-  notes_of scope (parentheses s a) = notes_of scope a
-  notes_of scope (call s f all) = callee_notes f.site.token (count all) (look_up scope.names f.text) ++ notes_of_all scope (wanted (count all) (look_up scope.names f.text)) all
-  notes_of scope (spawn s f a) = notes_of scope a ++ unmet Value a (type_of scope a) ++ spawn_notes s.first.token f.site.token (look_up scope.names f.text)
+  pub notes_at : Standing → Scope → Expression → List Note
+  notes_at stands scope (identifier s i) = name_notes i.site.token (look_up scope.names i.text)
+  notes_at stands scope (constant s c) = []
+  notes_at stands scope (parentheses s a) = notes_at stands scope a
+  notes_at stands scope (call s f all) = callee_notes stands f.site.token (count all) (look_up scope.names f.text) ++ notes_of_all scope (wanted (count all) (look_up scope.names f.text)) all
+  notes_at stands scope (spawn s f a) = notes_at AsValue scope a ++ unmet Value a (type_of scope a) ++ spawn_notes s.first.token f.site.token (look_up scope.names f.text)
       ++ unagreed (spawn_wanted (look_up scope.names f.text)) a (met Value (type_of scope a))
-  notes_of scope (on_value s w a) = notes_of scope a ++ unmet Integer a (type_of scope a)
-  notes_of scope (on_place s w a) = notes_of scope a ++ place_notes scope.names a ++ place_call_notes s.first.token w (place_kind scope.names a (type_of scope a))
-  notes_of scope (cast s t a) = type_notes scope [] Cast t ++ notes_of scope a ++ place_notes scope.names a
+  notes_at stands scope (on_value s w a) = notes_at AsValue scope a ++ unmet Integer a (type_of scope a)
+  notes_at stands scope (on_place s w a) = notes_at AsLvalue scope a ++ place_notes scope.names a ++ place_call_notes s.first.token w (place_kind scope.names a (type_of scope a))
+  notes_at stands scope (cast s t a) = type_notes scope [] Cast t ++ notes_at AsLvalue scope a ++ place_notes scope.names a
       ++ cast_notes s.first.token (is_fine scope.structs Cast t) t a (place_kind scope.names a (type_of scope a))
-  notes_of scope (index s a i) = notes_of scope a ++ unmet Indexed a (type_of scope a) ++ notes_of scope i ++ unmet Integer i (type_of scope i)
-  notes_of scope (field s a w n) = notes_of scope a ++ unmet (access_need w) a (type_of scope a)
+  notes_at stands scope (index s a i) = notes_at AsValue scope a ++ unmet Indexed a (type_of scope a) ++ notes_at AsValue scope i ++ unmet Integer i (type_of scope i)
+  notes_at stands scope (field s a w n) = notes_at AsValue scope a ++ unmet (access_need w) a (type_of scope a)
       ++ field_notes n.site.token (field_in scope.structs n.text (met (access_need w) (type_of scope a)))
-  notes_of scope (unary s o a) = notes_of scope a ++ unmet (operand_need o) a (type_of scope a)
-  notes_of scope (binary s o at a b) = notes_of scope a ++ unmet (operands_need (class_of o)) a (type_of scope a)
-      ++ notes_of scope b ++ unmet (operands_need (class_of o)) b (type_of scope b)
+  notes_at stands scope (unary s o a) = notes_at AsValue scope a ++ unmet (operand_need o) a (type_of scope a)
+  notes_at stands scope (binary s o at a b) = notes_at AsValue scope a ++ unmet (operands_need (class_of o)) a (type_of scope a)
+      ++ notes_at AsValue scope b ++ unmet (operands_need (class_of o)) b (type_of scope b)
       ++ binary_notes (class_of o) b (met (operands_need (class_of o)) (type_of scope a)) (met (operands_need (class_of o)) (type_of scope b))
 
   pub notes_of_all : Scope → List Kind → Arguments → List Note
   notes_of_all scope wanted no_arguments = []
-  notes_of_all scope wanted (argument a rest) = notes_of scope a ++ unmet Value a (type_of scope a)
+  notes_of_all scope wanted (argument a rest) = notes_at AsValue scope a ++ unmet Value a (type_of scope a)
       ++ unagreed (first_wanted wanted) a (met Value (type_of scope a)) ++ notes_of_all scope (drop 1 wanted) rest
+
+abbrev pub notes_of : Scope → Expression → List Note
+notes_of = notes_at AsValue

@@ -1,5 +1,5 @@
 -- The faults of statements (C11 6.8), and the names that a block declares (6.2.1).
-use Rattle.std.specs.Prelude.{ℕ, ◌+◌, ◌==◌, Bool, true, false, not, ◌&&◌, ◌||◌, List, [], ◌∷◌, ◌++◌, length, Option, Some, None, is_some, if◌then◌else◌}
+use Rattle.std.specs.Prelude.{ℕ, ◌+◌, ◌==◌, Bool, true, false, not, ◌&&◌, ◌||◌, List, [], ◌∷◌, ◌++◌, length, Option, Some, None, if◌then◌else◌}
 use Rattle.sharc_tree.specs.declared.tree.declaration.Declaration.{Declaration}
 use Rattle.sharc_tree.specs.declared.tree.declaration.WrittenType.{WrittenType}
 use Rattle.sharc_tree.specs.Tree.{Expression, Right, value, malloc, Simple, assign, does_call, Local, First, nothing, declares, does, Head, Statement, empty, block, declare, simple, jump, return, if_then, if_then_else, while, for, Statements, no_statements, statement}
@@ -13,7 +13,8 @@ use Rattle.sharc_names.specs.Names.{Entry, variable, look_up}
 use Rattle.sharc_names.specs.Notes.{Note, refers, fault_unless, fault_where}
 use Rattle.sharc_names.specs.Needs.{met, unmet, unagreed}
 use Rattle.sharc_names.specs.Types.{type_notes, is_fine}
-use Rattle.sharc_ctype.specs.Expressions.{type_of, notes_of, place_kind, place_notes}
+use Rattle.sharc_ctype.specs.declared.expr.Standing.TheVariants.{AsLvalue}
+use Rattle.sharc_ctype.specs.Expressions.{type_of, notes_at, notes_of, place_kind, place_notes}
 
 -- where a statement stands: the function's result, whether a loop is around it, and how many names were in scope where the block begins
 pub record Around : Type 0 where
@@ -51,18 +52,11 @@ declared_notes from d scope = refers d.name.site.token (Variable d.name.site.tok
 abbrev pub test_notes : Scope → Expression → List Note
 test_notes scope e = notes_of scope e ++ unmet Value e (type_of scope e)
 
-abbrev pub is_test_fine : Scope → Expression → Bool
-is_test_fine scope e = is_some (met Value (type_of scope e))
-
 -- own: `malloc` takes an integer times the size of a type
 
 abbrev pub count_notes : Scope → Option Expression → List Note
 count_notes scope None = []
 count_notes scope (Some e) = notes_of scope e ++ unmet Integer e (type_of scope e)
-
-abbrev pub is_count_fine : Scope → Option Expression → Bool
-is_count_fine scope None = true
-is_count_fine scope (Some e) = is_some (met Integer (type_of scope e))
 
 -- what it gives: a pointer to its type
 abbrev pub made : WrittenType → Kind
@@ -72,15 +66,15 @@ abbrev pub is_made : Option Kind → WrittenType → Bool
 is_made None w = true
 is_made (Some want) w = same_kind want (made w)
 
--- 6.5.16.1: what stands right of `=`, where the left side wants a kind, if it has one
+-- 6.5.16.1: what stands right of `=`, where the left side wants a kind, if it has one. What `malloc` gives is told by its type alone, whatever its count is
 abbrev pub right_notes : Scope → Option Kind → Right → List Note
 right_notes scope want (value e) = notes_of scope e ++ unmet Value e (type_of scope e) ++ unagreed want e (met Value (type_of scope e))
 right_notes scope want (malloc s n w) = count_notes scope n ++ type_notes scope [] role.Made w
-    ++ fault_unless (is_made want w || not (is_count_fine scope n && is_fine scope.structs role.Made w)) s.first.token TypeMismatch
+    ++ fault_unless (is_made want w || not (is_fine scope.structs role.Made w)) s.first.token TypeMismatch
 
 -- 6.5.16p2: the left side is an lvalue; it has an integer or a pointer
 abbrev pub simple_notes : Scope → Simple → List Note
-simple_notes scope (assign s u r) = notes_of scope u ++ place_notes scope.names u
+simple_notes scope (assign s u r) = notes_at AsLvalue scope u ++ place_notes scope.names u
     ++ unmet Value u (place_kind scope.names u (type_of scope u))
     ++ right_notes scope (met Value (place_kind scope.names u (type_of scope u))) r
 simple_notes scope (does_call e) = notes_of scope e

@@ -6,7 +6,7 @@ ghost use Rattle.sharc_names.specs.Names.{look_up};
 ghost use Rattle.sharc_names.specs.Notes.{noted};
 ghost use Rattle.sharc_names.specs.Types.{is_fine};
 ghost use Rattle.sharc_names.specs.View.{view_kind, view_kinds, view_bound, view_bounds, view_meaning, view_wanted, view_wanteds};
-ghost use Rattle.sharc_ctype.specs.Expressions.{constant_kind, number_kind, access_need, element_of, operand_need, unary_result, unary_kind, class_of, operands_need, binary_result, may_join, binary_kind, binary_notes, is_function_name, names_function, is_place, place_kind, place_notes, suits, place_call_kind, place_call_notes, value_call_kind, keeps_kind, cast_kind, cast_notes, can_spawn, spawn_notes, may_spawn, spawn_kind, spawn_wanted, takes, count_notes, callee_notes, wanted_if, wanted, call_result, call_kind, type_of, are_fine, notes_of, notes_of_all};
+ghost use Rattle.sharc_ctype.specs.Expressions.{constant_kind, number_kind, access_need, element_of, operand_need, unary_result, unary_kind, class_of, operands_need, binary_result, may_join, binary_kind, binary_notes, is_function_name, names_function, is_place, place_kind, place_notes, suits, place_call_kind, place_call_notes, value_call_kind, keeps_kind, cast_kind, cast_notes, can_spawn, spawn_notes, may_spawn, spawn_kind, spawn_wanted, takes, uncalled_notes, count_notes, callee_notes, wanted_if, wanted, call_result, call_kind, type_of, are_fine, notes_at, notes_of_all};
 
 use sharc_names::fault::{FaultCode, Found};
 use sharc_names::kind::{
@@ -26,6 +26,15 @@ use sharc_tree::token::NumberType;
 use sharc_tree::tree::{
     Access, BinaryOperator, Constant, Expr, PlaceCall, UnaryOperator, WrittenType,
 };
+
+/// What an expression stands for.
+#[derive(Clone, Copy, PartialEq, Eq, Debug)]
+pub enum Standing {
+    /// For its value, or for nothing.
+    AsValue,
+    /// For the cell that it names: a call of a variable is then no lvalue, and nothing else.
+    AsLvalue,
+}
 
 /// The kinds of operators between two operands (C11 6.5.5 to 6.5.14).
 #[derive(Clone, Copy, PartialEq, Eq, Debug)]
@@ -306,11 +315,27 @@ fn takes(count: usize, wanted: Option<Wanted<'_>>) -> bool
     }
 }
 
-fn argument_count(token: u32, count: usize, wanted: Option<Wanted<'_>>, found: &mut Found)
-    ensures { found.new ≡ fold noted found.old (count_notes token count (view_wanteds wanted.entry)) }
+/// The fault of a call of what is no function.
+fn uncalled(standing: Standing, token: u32, found: &mut Found)
+    ensures { found.new ≡ fold noted found.old (uncalled_notes standing token) }
+{
+    match standing {
+        Standing::AsValue => found.fault(token, FaultCode::TypeMismatch),
+        Standing::AsLvalue => {}
+    }
+}
+
+fn argument_count(
+    standing: Standing,
+    token: u32,
+    count: usize,
+    wanted: Option<Wanted<'_>>,
+    found: &mut Found,
+)
+    ensures { found.new ≡ fold noted found.old (count_notes standing token count (view_wanteds wanted.entry)) }
 {
     match wanted {
-        None => found.fault(token, FaultCode::TypeMismatch),
+        None => uncalled(standing, token, found),
         Some(wanted) => {
             found.fault_unless(count_of(wanted) == count, token, FaultCode::ArgumentCount);
         }
@@ -318,15 +343,15 @@ fn argument_count(token: u32, count: usize, wanted: Option<Wanted<'_>>, found: &
 }
 
 /// The faults of a call's name, with so many arguments.
-fn callee(token: u32, count: usize, bound: Option<Bound<'_>>, found: &mut Found)
-    ensures { found.new ≡ fold noted found.old (callee_notes token count (view_bounds bound.entry)) }
+fn callee(standing: Standing, token: u32, count: usize, bound: Option<Bound<'_>>, found: &mut Found)
+    ensures { found.new ≡ fold noted found.old (callee_notes standing token count (view_bounds bound.entry)) }
 {
     match bound {
         None => found.fault(token, FaultCode::UnknownName),
         Some(bound) => {
             found.name(token, named_of(bound.meaning));
             main_use(token, bound.meaning, found);
-            argument_count(token, count, parameters_of(bound.meaning), found);
+            argument_count(standing, token, count, parameters_of(bound.meaning), found);
         }
     }
 }
@@ -430,11 +455,12 @@ fn call_kind(kind: Option<Kind<'_>>, fine: bool) -> Option<Kind<'_>>
 #[cycle(expr)]
 pub(crate) fn expression<'a>(
     scope: &Scope<'a>,
+    standing: Standing,
     expr: &'a Expr,
     found: &mut Found,
 ) -> Option<Kind<'a>>
     ensures kind { view_kinds result ≡ type_of scope.now (view_expr expr.now) }
-    ensures found { found.new ≡ fold noted found.old (notes_of scope.now (view_expr expr.now)) }
+    ensures found { found.new ≡ fold noted found.old (notes_at standing scope.now (view_expr expr.now)) }
 {
     match expr {
         Expr::Identifier(_, name) => {
@@ -443,41 +469,41 @@ pub(crate) fn expression<'a>(
             name_kind(bound)
         }
         Expr::Constant(_, constant) => Some(constant_kind(*constant)),
-        Expr::Parentheses(_, inner) => expression(scope, inner, found),
+        Expr::Parentheses(_, inner) => expression(scope, standing, inner, found),
         Expr::Call(_, name, all) => {
             let bound = scope.names.find(name.text.as_slice());
             let count = all.len();
-            callee(name.site.token, count, bound, found);
+            callee(standing, name.site.token, count, bound, found);
             let fine = arguments(scope, wanted(count, bound), all, found);
             call_kind(call_result(count, bound), fine)
         }
         Expr::Spawn(span, name, argument) => {
             let bound = scope.names.find(name.text.as_slice());
-            let kind = expression(scope, argument, found);
+            let kind = expression(scope, Standing::AsValue, argument, found);
             let kind = meet(Need::Value, argument, kind, found);
             spawned(span.first.token, name.site.token, bound, found);
             let agreed = agree(first_wanted(wanted(1, bound)), argument, kind, found);
             spawn_kind(may_spawn(bound), agreed, kind)
         }
         Expr::OnValue(_, _, argument) => {
-            let kind = expression(scope, argument, found);
+            let kind = expression(scope, Standing::AsValue, argument, found);
             value_call_kind(meet(Need::Integer, argument, kind, found))
         }
         Expr::OnPlace(span, call, argument) => {
-            let kind = expression(scope, argument, found);
+            let kind = expression(scope, Standing::AsLvalue, argument, found);
             let kind = lvalue(&scope.names, argument, kind, found);
             place_call_kind(span.first.token, *call, kind, found)
         }
         Expr::Cast(span, to, source) => {
             let fine = written_type(scope, None, Role::Cast, to, found);
-            let kind = expression(scope, source, found);
+            let kind = expression(scope, Standing::AsLvalue, source, found);
             let kind = lvalue(&scope.names, source, kind, found);
             cast_kind(span.first.token, fine, to, source, kind, found)
         }
         Expr::Index(_, base, index) => {
-            let kind = expression(scope, base, found);
+            let kind = expression(scope, Standing::AsValue, base, found);
             let element = meet(Need::Indexed, base, kind, found);
-            let kind = expression(scope, index, found);
+            let kind = expression(scope, Standing::AsValue, index, found);
             element_of(element, meet(Need::Integer, index, kind, found))
         }
         Expr::Field {
@@ -486,14 +512,14 @@ pub(crate) fn expression<'a>(
             name,
             ..
         } => {
-            let kind = expression(scope, base, found);
+            let kind = expression(scope, Standing::AsValue, base, found);
             let of = meet(access_need(*access), base, kind, found);
             let field = field_in(&scope.structs, name.text.as_slice(), of);
             field_use(name.site.token as usize, field, found);
             field_kind(field)
         }
         Expr::Unary(_, operator, operand) => {
-            let kind = expression(scope, operand, found);
+            let kind = expression(scope, Standing::AsValue, operand, found);
             unary_kind(
                 *operator,
                 meet(operand_need(*operator), operand, kind, found),
@@ -507,9 +533,9 @@ pub(crate) fn expression<'a>(
         } => {
             let class = class_of(*operator);
             let need = operands_need(class);
-            let kind = expression(scope, left, found);
+            let kind = expression(scope, Standing::AsValue, left, found);
             let a = meet(need, left, kind, found);
-            let kind = expression(scope, right, found);
+            let kind = expression(scope, Standing::AsValue, right, found);
             let b = meet(need, right, kind, found);
             binary_kind(class, right, a, b, found)
         }
@@ -525,7 +551,7 @@ fn arguments<'a>(scope: &Scope<'a>, wanted: Wanted<'a>, list: &'a [Expr], found:
     let mut fine = true;
     let mut left = wanted;
     for expr in list {
-        let kind = expression(scope, expr, found);
+        let kind = expression(scope, Standing::AsValue, expr, found);
         let kind = meet(Need::Value, expr, kind, found);
         let agreed = agree(first_wanted(left), expr, kind, found);
         fine = still_fine(fine, kind, agreed);

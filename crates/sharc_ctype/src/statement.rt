@@ -6,10 +6,10 @@ ghost use Rattle.sharc_names.specs.Kinds.{stars_of};
 ghost use Rattle.sharc_names.specs.Notes.{noted};
 ghost use Rattle.sharc_names.specs.Types.{is_fine};
 ghost use Rattle.sharc_names.specs.View.{view_kind, view_kinds, view_bounds};
-ghost use Rattle.sharc_ctype.specs.Statements.{is_here, in_block, declared, declared_notes, with_names, test_notes, count_notes, is_count_fine, is_made, right_notes, simple_notes, is_aggregate, wanted_by, initial_notes, local_notes, returned_as, return_notes, first_notes, behind_first, tests_notes, step_notes, in_head, head_notes, after, after_all, notes_in, notes_in_all};
+ghost use Rattle.sharc_ctype.specs.Statements.{is_here, in_block, declared, declared_notes, with_names, test_notes, count_notes, is_made, right_notes, simple_notes, is_aggregate, wanted_by, initial_notes, local_notes, returned_as, return_notes, first_notes, behind_first, tests_notes, step_notes, in_head, head_notes, after, after_all, notes_in, notes_in_all};
 ghost use Rattle.sharc_ctype.specs.View.{view_around};
 
-use crate::expr::{expression, lvalue};
+use crate::expr::{Standing, expression, lvalue};
 use sharc_names::fault::{FaultCode, Found, Named};
 use sharc_names::kind::{Kind, declared_kind, is_struct_behind, root_of, same_kind};
 use sharc_names::meaning::{Bound, Meaning};
@@ -70,20 +70,17 @@ pub(crate) fn declare<'a>(
 fn test<'a>(scope: &Scope<'a>, expr: &'a Expr, found: &mut Found)
     ensures { found.new ≡ fold noted found.old (test_notes scope.now (view_expr expr.now)) }
 {
-    let kind = expression(scope, expr, found);
+    let kind = expression(scope, Standing::AsValue, expr, found);
     meet(Need::Value, expr, kind, found);
 }
 
-fn count<'a>(scope: &Scope<'a>, expr: &'a Option<Expr>, found: &mut Found) -> bool
-    ensures fine { result ≡ is_count_fine scope.now (view_option view_expr expr.now) }
-    ensures found { found.new ≡ fold noted found.old (count_notes scope.now (view_option view_expr expr.now)) }
+/// The faults of the number that `malloc` takes.
+fn count<'a>(scope: &Scope<'a>, expr: &'a Option<Expr>, found: &mut Found)
+    ensures { found.new ≡ fold noted found.old (count_notes scope.now (view_option view_expr expr.now)) }
 {
-    match expr {
-        None => true,
-        Some(expr) => {
-            let kind = expression(scope, expr, found);
-            meet(Need::Integer, expr, kind, found).is_some()
-        }
+    if let Some(expr) = expr {
+        let kind = expression(scope, Standing::AsValue, expr, found);
+        meet(Need::Integer, expr, kind, found);
     }
 }
 
@@ -110,14 +107,14 @@ fn right<'a>(scope: &Scope<'a>, want: Option<Kind<'_>>, right: &'a Right, found:
 {
     match right {
         Right::Value(expr) => {
-            let kind = expression(scope, expr, found);
+            let kind = expression(scope, Standing::AsValue, expr, found);
             let kind = meet(Need::Value, expr, kind, found);
             agree(want, expr, kind, found);
         }
         Right::Malloc(span, n, written) => {
-            let counted = count(scope, n, found);
+            count(scope, n, found);
             let fine = written_type(scope, None, Role::Made, written, found);
-            let well = is_made(want, written) || !(counted && fine);
+            let well = is_made(want, written) || !fine;
             found.fault_unless(well, span.first.token, FaultCode::TypeMismatch);
         }
     }
@@ -129,13 +126,13 @@ fn simple<'a>(scope: &Scope<'a>, simple: &'a Simple, found: &mut Found)
 {
     match simple {
         Simple::Assign(_, place, value) => {
-            let kind = expression(scope, place, found);
+            let kind = expression(scope, Standing::AsLvalue, place, found);
             let kind = lvalue(&scope.names, place, kind, found);
             let want = meet(Need::Value, place, kind, found);
             right(scope, want, value, found);
         }
         Simple::Call(call) => {
-            expression(scope, call, found);
+            expression(scope, Standing::AsValue, call, found);
         }
     }
 }
@@ -215,7 +212,7 @@ fn returned<'a>(
         None => found.fault_unless(void, word, FaultCode::BadForm),
         Some(expr) => {
             found.fault_where(void, word, FaultCode::BadForm);
-            let kind = expression(scope, expr, found);
+            let kind = expression(scope, Standing::AsValue, expr, found);
             let kind = meet(Need::Value, expr, kind, found);
             agree(returned_as(around.result), expr, kind, found);
         }

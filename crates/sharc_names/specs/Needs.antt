@@ -3,6 +3,7 @@ use Rattle.std.specs.Prelude.{ℕ, ◌==◌, Bool, true, ◌||◌, List, [], ◌
 use Rattle.sharc_tree.specs.declared.ctype.Base.{Base}
 use Rattle.sharc_tree.specs.declared.ctype.Base.TheVariants as base
 use Rattle.sharc_tree.specs.Tree.{Expression, identifier, constant, parentheses, call, spawn, on_value, on_place, cast, index, field, unary, binary}
+use Rattle.sharc_tree.specs.Forms.{without_parentheses}
 use Rattle.sharc_tree.specs.Spans.{span_of}
 use Rattle.sharc_names.specs.declared.need.Need.{Need}
 use Rattle.sharc_names.specs.declared.need.Need.TheVariants.{Value, Integer, Pointer, Indexed, Struct, StructPointer}
@@ -54,12 +55,12 @@ misfit_of base.Mutex e = mismatch e
 misfit_of base.Void e = used_call (called e)
 misfit_of (base.Struct name) e = fault (place e) TypeNotAllowed ∷ []
 
--- the fault of an expression of another kind: a void call, a struct as a value, or else the type
+-- the fault of an expression of another kind: a void call, a struct as a value, or else the type. Of a function's name it stands at the name
 abbrev pub misfit : Kind → Expression → List Note
 misfit (object b stars) e = if stars == 0 then misfit_of b e else mismatch e
 misfit (array b stars) e = mismatch e
 misfit null e = mismatch e
-misfit function e = mismatch e
+misfit function e = mismatch (without_parentheses e)
 
 -- the expression's kind if it is one that is needed; an expression in which a fault stands has none
 abbrev pub met : Need → Option Kind → Option Kind

@@ -91,6 +91,7 @@ fn misfit(kind: Kind<'_>, expr: &Expr, found: &mut Found)
 {
     match kind {
         Kind::Object(root, 0) => misfit_of(root, expr, found),
+        Kind::Function => found.fault(place(expr.without_parentheses()), FaultCode::TypeMismatch),
         _ => found.fault(place(expr), FaultCode::TypeMismatch),
     }
 }

@@ -33,7 +33,9 @@ use Rattle.sharc_names.specs.Types.{name_notes, main_notes, field_in, field_note
 use Rattle.sharc_names.specs.Wants.{first_wanted}
 use Rattle.sharc_ctype.specs.declared.expr.OperatorClass.{OperatorClass}
 use Rattle.sharc_ctype.specs.Heads.{Heading as Heads}
-use Rattle.sharc_ctype.specs.Expressions.{type_of, notes_of, notes_of_all, is_place, access_need, operand_need, place_notes, place_kind, place_call_notes, cast_notes, count, count_notes as arguments_count_notes, callee_notes, wanted, spawn_notes, spawn_wanted, class_of, operands_need, binary_notes}
+use Rattle.sharc_ctype.specs.declared.expr.Standing.{Standing}
+use Rattle.sharc_ctype.specs.declared.expr.Standing.TheVariants.{AsValue, AsLvalue}
+use Rattle.sharc_ctype.specs.Expressions.{uncalled_notes, type_of, notes_at, notes_of, notes_of_all, is_place, access_need, operand_need, place_notes, place_kind, place_call_notes, cast_notes, count, count_notes as arguments_count_notes, callee_notes, wanted, spawn_notes, spawn_wanted, class_of, operands_need, binary_notes}
 use Rattle.sharc_ctype.specs.Globals.{length_notes, initial_notes as constant_notes, base_initial_notes, item_size_notes, sizes_notes, item_cells}
 use Rattle.sharc_ctype.specs.Heads.{head_notes as item_head_notes, heads_notes, behind as heads_behind, no_heads, twice}
 use Rattle.sharc_ctype.specs.Items.{in_body, fields_notes, field_notes as one_field_notes, parameters_notes, beyond, item_notes, items_notes, file_scope, has_main, program_notes}
@@ -61,9 +63,13 @@ quiet_binary t c e None k = told_none t
 quiet_binary t c e (Some j) None = told_none t
 quiet_binary t c e (Some j) (Some k) = quiet_unless t _ _ _
 
-pub quiet_count : (t token n : ℕ) (o : Option (List Kind)) → told t (arguments_count_notes token n o) ≡ 0
-quiet_count t token n None = quiet_fault t _ _
-quiet_count t token n (Some list) = quiet_unless t _ _ _
+quiet_uncalled : (stands : Standing) (t token : ℕ) → told t (uncalled_notes stands token) ≡ 0
+quiet_uncalled AsValue t token = quiet_fault t _ _
+quiet_uncalled AsLvalue t token = told_none t
+
+pub quiet_count : (stands : Standing) (t token n : ℕ) (o : Option (List Kind)) → told t (arguments_count_notes stands token n o) ≡ 0
+quiet_count stands t token n None = quiet_uncalled stands t token
+quiet_count stands t token n (Some list) = quiet_unless t _ _ _
 
 -- names
 
@@ -82,9 +88,9 @@ member_most t token None = none_most t _
 member_most t token (Some None) = fault_most t _ _ _
 member_most t token (Some (Some d)) = one_most t token _ [] token refl (told_none t)
 
-callee_most : (t token n : ℕ) (o : Option Entry) → told t (callee_notes token n o) ≤ one t token
-callee_most t token n None = fault_most t _ _ _
-callee_most t token n (Some e) = one_most t token _ _ token refl (quiet_both t _ _ (quiet_main t token e.meaning) (quiet_count t token n (parameters_of e.meaning)))
+callee_most : (stands : Standing) (t token n : ℕ) (o : Option Entry) → told t (callee_notes stands token n o) ≤ one t token
+callee_most stands t token n None = fault_most t _ _ _
+callee_most stands t token n (Some e) = one_most t token _ _ token refl (quiet_both t _ _ (quiet_main t token e.meaning) (quiet_count stands t token n (parameters_of e.meaning)))
 
 spawn_most : (t word token : ℕ) (o : Option Entry) → told t (spawn_notes word token o) ≤ one t token
 spawn_most t word token None = fault_most t _ _ _
@@ -165,58 +171,58 @@ past_cast : (t word n : ℕ) (rest : List Mark) → n ≤ written t rest → n �
 past_cast t word n rest h = let e = written_cast t word rest in omega (arith, e, h)
 
 mutual
-  most : (t : ℕ) (scope : Scope) (e : Expression) → LowTypes e → told t (notes_of scope e) ≤ written t (marks e)
-  most t scope (tree.identifier s i) l = of_name t _ _ _ (named_most t i.site.token (look_up scope.names i.text))
-  most t scope (tree.constant s c) l = none_most t _
-  most t scope (tree.parentheses s a) l = most t scope a l
-  most t scope (tree.call s f all) l =
-      side t _ _ (name_marks f) (arguments_marks all) (of_name t _ _ _ (callee_most t f.site.token (count all) (look_up scope.names f.text)))
+  most : (stands : Standing) (t : ℕ) (scope : Scope) (e : Expression) → LowTypes e → told t (notes_at stands scope e) ≤ written t (marks e)
+  most stands t scope (tree.identifier s i) l = of_name t _ _ _ (named_most t i.site.token (look_up scope.names i.text))
+  most stands t scope (tree.constant s c) l = none_most t _
+  most stands t scope (tree.parentheses s a) l = most stands t scope a l
+  most stands t scope (tree.call s f all) l =
+      side t _ _ (name_marks f) (arguments_marks all) (of_name t _ _ _ (callee_most stands t f.site.token (count all) (look_up scope.names f.text)))
       (most_all t scope (wanted (count all) (look_up scope.names f.text)) all l)
-  most t scope (tree.spawn s f a) l =
+  most stands t scope (tree.spawn s f a) l =
       behind t _ _ _
-      (crossed t _ _ (name_marks f) (marks a) (behind t _ _ _ (most t scope a l) (quiet_unmet t need.Value a (type_of scope a))) (of_name t _ _ _ (spawn_most t s.first.token f.site.token (look_up scope.names f.text))))
+      (crossed t _ _ (name_marks f) (marks a) (behind t _ _ _ (most AsValue t scope a l) (quiet_unmet t need.Value a (type_of scope a))) (of_name t _ _ _ (spawn_most t s.first.token f.site.token (look_up scope.names f.text))))
       (quiet_unagreed t (spawn_wanted (look_up scope.names f.text)) a (met need.Value (type_of scope a)))
-  most t scope (tree.on_value s w a) l = behind t _ _ _ (most t scope a l) (quiet_unmet t need.Integer a (type_of scope a))
-  most t scope (tree.on_place s w a) l =
-      behind t _ _ _ (behind t _ _ _ (most t scope a l.1) (quiet_place t scope.names a)) (quiet_place_call t s.first.token w (place_kind scope.names a (type_of scope a)))
-  most t scope (tree.cast s w a) l =
+  most stands t scope (tree.on_value s w a) l = behind t _ _ _ (most AsValue t scope a l) (quiet_unmet t need.Integer a (type_of scope a))
+  most stands t scope (tree.on_place s w a) l =
+      behind t _ _ _ (behind t _ _ _ (most AsLvalue t scope a l.1) (quiet_place t scope.names a)) (quiet_place_call t s.first.token w (place_kind scope.names a (type_of scope a)))
+  most stands t scope (tree.cast s w a) l =
       past_cast t s.first.token _ (type_marks w ++ marks a)
-      (behind t _ _ _ (behind t _ _ _ (side t _ _ (type_marks w) (marks a) (type_most t scope [] role.Cast w l.0) (most t scope a l.2)) (quiet_place t scope.names a))
+      (behind t _ _ _ (behind t _ _ _ (side t _ _ (type_marks w) (marks a) (type_most t scope [] role.Cast w l.0) (most AsLvalue t scope a l.2)) (quiet_place t scope.names a))
       (quiet_cast t s.first.token (is_fine scope.structs role.Cast w) w a (place_kind scope.names a (type_of scope a))))
-  most t scope (tree.index s a i) l =
-      behind t _ _ _ (side t _ _ (marks a) (marks i) (behind t _ _ _ (most t scope a l.0) (quiet_unmet t need.Indexed a (type_of scope a))) (most t scope i l.1)) (quiet_unmet t need.Integer i (type_of scope i))
-  most t scope (tree.field s a w n) l =
-      side t _ _ (marks a) (name_marks n) (behind t _ _ _ (most t scope a l) (quiet_unmet t (access_need w) a (type_of scope a)))
+  most stands t scope (tree.index s a i) l =
+      behind t _ _ _ (side t _ _ (marks a) (marks i) (behind t _ _ _ (most AsValue t scope a l.0) (quiet_unmet t need.Indexed a (type_of scope a))) (most AsValue t scope i l.1)) (quiet_unmet t need.Integer i (type_of scope i))
+  most stands t scope (tree.field s a w n) l =
+      side t _ _ (marks a) (name_marks n) (behind t _ _ _ (most AsValue t scope a l) (quiet_unmet t (access_need w) a (type_of scope a)))
       (of_name t _ _ _ (member_most t n.site.token (field_in scope.structs n.text (met (access_need w) (type_of scope a)))))
-  most t scope (tree.unary s o a) l = behind t _ _ _ (most t scope a l) (quiet_unmet t (operand_need o) a (type_of scope a))
-  most t scope (tree.binary s o at a b) l =
+  most stands t scope (tree.unary s o a) l = behind t _ _ _ (most AsValue t scope a l) (quiet_unmet t (operand_need o) a (type_of scope a))
+  most stands t scope (tree.binary s o at a b) l =
       behind t _ _ _
-      (behind t _ _ _ (side t _ _ (marks a) (marks b) (behind t _ _ _ (most t scope a l.0) (quiet_unmet t (operands_need (class_of o)) a (type_of scope a))) (most t scope b l.1)) (quiet_unmet t (operands_need (class_of o)) b (type_of scope b)))
+      (behind t _ _ _ (side t _ _ (marks a) (marks b) (behind t _ _ _ (most AsValue t scope a l.0) (quiet_unmet t (operands_need (class_of o)) a (type_of scope a))) (most AsValue t scope b l.1)) (quiet_unmet t (operands_need (class_of o)) b (type_of scope b)))
       (quiet_binary t (class_of o) b (met (operands_need (class_of o)) (type_of scope a)) (met (operands_need (class_of o)) (type_of scope b)))
 
   most_all : (t : ℕ) (scope : Scope) (want : List Kind) (all : Arguments) → AllLowTypes all → told t (notes_of_all scope want all) ≤ written t (arguments_marks all)
   most_all t scope want no_arguments l = none_most t _
   most_all t scope want (argument a rest) l =
       side t _ _ (marks a) (arguments_marks rest)
-      (behind t _ _ _ (behind t _ _ _ (most t scope a l.0) (quiet_unmet t need.Value a (type_of scope a))) (quiet_unagreed t (first_wanted want) a (met need.Value (type_of scope a))))
+      (behind t _ _ _ (behind t _ _ _ (most AsValue t scope a l.0) (quiet_unmet t need.Value a (type_of scope a))) (quiet_unagreed t (first_wanted want) a (met need.Value (type_of scope a))))
       (most_all t scope (drop 1 want) rest l.1)
 
 -- statements
 
 most_count : (t : ℕ) (scope : Scope) (n : Option Expression) → IfSome n (λ e. (is_unary e ≡ true) × LowExpression e) → told t (count_notes scope n) ≤ written t (option_marks marks n)
 most_count t scope None l = none_most t _
-most_count t scope (Some e) l = behind t _ _ _ (most t scope e l.1.1) (quiet_unmet t need.Integer e (type_of scope e))
+most_count t scope (Some e) l = behind t _ _ _ (most AsValue t scope e l.1.1) (quiet_unmet t need.Integer e (type_of scope e))
 
 most_right : (t : ℕ) (scope : Scope) (want : Option Kind) (x : Right) → LowRight x → told t (right_notes scope want x) ≤ written t (right_marks x)
-most_right t scope want (value e) l = behind t _ _ _ (behind t _ _ _ (most t scope e l.1) (quiet_unmet t need.Value e (type_of scope e))) (quiet_unagreed t want e (met need.Value (type_of scope e)))
+most_right t scope want (value e) l = behind t _ _ _ (behind t _ _ _ (most AsValue t scope e l.1) (quiet_unmet t need.Value e (type_of scope e))) (quiet_unagreed t want e (met need.Value (type_of scope e)))
 most_right t scope want (malloc s n w) l = behind t _ _ _ (side t _ _ (option_marks marks n) (type_marks w) (most_count t scope n l.0) (type_most t scope [] role.Made w l.1)) (quiet_unless t _ _ _)
 
 most_simple : (t : ℕ) (scope : Scope) (x : Simple) → LowSimple x → told t (simple_notes scope x) ≤ written t (simple_marks x)
 most_simple t scope (assign s u x) l =
     side t _ _ (marks u) (right_marks x)
-    (behind t _ _ _ (behind t _ _ _ (most t scope u l.1.1) (quiet_place t scope.names u)) (quiet_unmet t need.Value u (place_kind scope.names u (type_of scope u))))
+    (behind t _ _ _ (behind t _ _ _ (most AsLvalue t scope u l.1.1) (quiet_place t scope.names u)) (quiet_unmet t need.Value u (place_kind scope.names u (type_of scope u))))
     (most_right t scope _ x l.2)
-most_simple t scope (does_call e) l = most t scope e l.1.1
+most_simple t scope (does_call e) l = most AsValue t scope e l.1.1
 
 pub quiet_twice : (t : ℕ) (known : Bool) (token : ℕ) → told t (twice known token) ≡ 0
 quiet_twice t known token = quiet_where t _ _ _
@@ -240,7 +246,7 @@ most_first t around scope (declares x) l = most_local t around scope x l
 most_first t around scope (does x) l = most_simple t scope x l
 
 most_test : (t : ℕ) (scope : Scope) (e : Expression) → LowExpression e → told t (test_notes scope e) ≤ written t (marks e)
-most_test t scope e l = behind t _ _ _ (most t scope e l.1) (quiet_unmet t need.Value e (type_of scope e))
+most_test t scope e l = behind t _ _ _ (most AsValue t scope e l.1) (quiet_unmet t need.Value e (type_of scope e))
 
 most_tests : (t : ℕ) (scope : Scope) (e : Option Expression) → IfSome e LowExpression → told t (tests_notes scope e) ≤ written t (option_marks marks e)
 most_tests t scope None l = none_most t _
@@ -259,7 +265,7 @@ most_head t around scope h l =
 most_return : (t : ℕ) (around : Around) (scope : Scope) (word : ℕ) (e : Option Expression) → IfSome e LowExpression → told t (return_notes around scope word e) ≤ written t (option_marks marks e)
 most_return t around scope word None l = let e = quiet_unless t (same_kind around.result void) word BadForm in omega (arith, e)
 most_return t around scope word (Some e) l =
-    behind t _ _ _ (behind t _ _ _ (before t _ _ _ (quiet_where t (same_kind around.result void) word BadForm) (most t scope e l.1)) (quiet_unmet t need.Value e (type_of scope e)))
+    behind t _ _ _ (behind t _ _ _ (before t _ _ _ (quiet_where t (same_kind around.result void) word BadForm) (most AsValue t scope e l.1)) (quiet_unmet t need.Value e (type_of scope e)))
     (quiet_unagreed t (returned_as around.result) e (met need.Value (type_of scope e)))
 
 jump_most : (t : ℕ) (b : Bool) (place n : ℕ) → told t (fault_unless b place BadForm) ≤ n

@@ -26,7 +26,9 @@ use Rattle.sharc_names.specs.Notes.{Note, refers, fault_unless}
 use Rattle.sharc_names.specs.Types.{name_kind, name_notes, field_in, field_notes, first_kind, first_notes, second_in, path_notes, mode_notes, modes_notes, struct_note, base_notes, allowed_there, type_notes, is_fine}
 use Rattle.sharc_names.specs.Wants.{first_wanted}
 use Rattle.sharc_ctype.specs.Heads.{Heading as Heads}
-use Rattle.sharc_ctype.specs.Expressions.{type_of, notes_of, notes_of_all, access_need, operand_need, place_kind, count, callee_notes, wanted, spawn_notes, spawn_wanted, class_of, operands_need}
+use Rattle.sharc_ctype.specs.declared.expr.Standing.{Standing}
+use Rattle.sharc_ctype.specs.declared.expr.Standing.TheVariants.{AsValue, AsLvalue}
+use Rattle.sharc_ctype.specs.Expressions.{notes_at, type_of, notes_of, notes_of_all, access_need, operand_need, place_kind, count, callee_notes, wanted, spawn_notes, spawn_wanted, class_of, operands_need}
 use Rattle.sharc_ctype.specs.Heads.{head_notes as item_head_notes, heads_notes, behind as heads_behind, no_heads}
 use Rattle.sharc_ctype.specs.Items.{in_body, fields_notes, field_notes as one_field_notes, parameters_notes, item_notes, items_notes, file_scope, has_main, program_notes}
 use Rattle.sharc_ctype.specs.Resolved.{Resolution, declarations_of, declarations_in}
@@ -52,9 +54,9 @@ named_is t r token (Some e) h = one_is t token _ _ (quiet_main t token e.meaning
 member_is : (t token : ℕ) (o : Option (Option Declaration)) (d : Declaration) → o ≡ Some (Some d) → told t (field_notes token o) ≡ one t token
 member_is t token o d is = ap (λ z. told t (field_notes token z)) is ∙ told_one t token _
 
-callee_is : (t : ℕ) (r : Resolution) (token n : ℕ) (o : Option Entry) → Held r (callee_notes token n o) → told t (callee_notes token n o) ≡ one t token
-callee_is t r token n None h = absurd (no_fault r _ _ _ h)
-callee_is t r token n (Some e) h = one_is t token _ _ (quiet_both t _ _ (quiet_main t token e.meaning) (quiet_count t token n (parameters_of e.meaning)))
+callee_is : (stands : Standing) (t : ℕ) (r : Resolution) (token n : ℕ) (o : Option Entry) → Held r (callee_notes stands token n o) → told t (callee_notes stands token n o) ≡ one t token
+callee_is stands t r token n None h = absurd (no_fault r _ _ _ h)
+callee_is stands t r token n (Some e) h = one_is t token _ _ (quiet_both t _ _ (quiet_main t token e.meaning) (quiet_count stands t token n (parameters_of e.meaning)))
 
 spawn_is : (t : ℕ) (r : Resolution) (word token : ℕ) (o : Option Entry) → Held r (spawn_notes word token o) → told t (spawn_notes word token o) ≡ one t token
 spawn_is t r word token None h = absurd (no_fault r _ _ _ h)
@@ -145,40 +147,40 @@ type_is t r scope scene siblings all where_ w low h =
 -- expressions
 
 mutual
-  exact : (t : ℕ) (r : Resolution) (scope : Scope) → IsScene r scope → (e : Expression) → LowTypes e → Held r (notes_of scope e) → told t (notes_of scope e) ≡ written t (marks e)
-  exact t r scope scene (tree.identifier s i) l h = of_name t _ _ _ (named_is t r i.site.token (look_up scope.names i.text) h)
-  exact t r scope scene (tree.constant s c) l h = none_is t
-  exact t r scope scene (tree.parentheses s a) l h = exact t r scope scene a l h
-  exact t r scope scene (tree.call s f all) l h =
-      side_is t _ _ (name_marks f) (arguments_marks all) (of_name t _ _ _ (callee_is t r f.site.token (count all) (look_up scope.names f.text) (left r _ _ h)))
+  exact : (stands : Standing) (t : ℕ) (r : Resolution) (scope : Scope) → IsScene r scope → (e : Expression) → LowTypes e → Held r (notes_at stands scope e) → told t (notes_at stands scope e) ≡ written t (marks e)
+  exact stands t r scope scene (tree.identifier s i) l h = of_name t _ _ _ (named_is t r i.site.token (look_up scope.names i.text) h)
+  exact stands t r scope scene (tree.constant s c) l h = none_is t
+  exact stands t r scope scene (tree.parentheses s a) l h = exact stands t r scope scene a l h
+  exact stands t r scope scene (tree.call s f all) l h =
+      side_is t _ _ (name_marks f) (arguments_marks all) (of_name t _ _ _ (callee_is stands t r f.site.token (count all) (look_up scope.names f.text) (left r _ _ h)))
       (exact_all t r scope scene (wanted (count all) (look_up scope.names f.text)) all l (right r _ _ h))
-  exact t r scope scene (tree.spawn s f a) l h =
+  exact stands t r scope scene (tree.spawn s f a) l h =
       behind_is t _ _ _
-      (crossed_is t _ _ (name_marks f) (marks a) (behind_is t _ _ _ (exact t r scope scene a l (left r _ _ (left r _ _ (left r _ _ h)))) (quiet_unmet t need.Value a (type_of scope a)))
+      (crossed_is t _ _ (name_marks f) (marks a) (behind_is t _ _ _ (exact AsValue t r scope scene a l (left r _ _ (left r _ _ (left r _ _ h)))) (quiet_unmet t need.Value a (type_of scope a)))
       (of_name t _ _ _ (spawn_is t r s.first.token f.site.token (look_up scope.names f.text) (right r _ _ (left r _ _ h)))))
       (quiet_unagreed t (spawn_wanted (look_up scope.names f.text)) a (met need.Value (type_of scope a)))
-  exact t r scope scene (tree.on_value s w a) l h = behind_is t _ _ _ (exact t r scope scene a l (left r _ _ h)) (quiet_unmet t need.Integer a (type_of scope a))
-  exact t r scope scene (tree.on_place s w a) l h =
-      behind_is t _ _ _ (behind_is t _ _ _ (exact t r scope scene a l.1 (left r _ _ (left r _ _ h))) (quiet_place t scope.names a)) (quiet_place_call t s.first.token w (place_kind scope.names a (type_of scope a)))
-  exact t r scope scene (tree.cast s w a) l h =
+  exact stands t r scope scene (tree.on_value s w a) l h = behind_is t _ _ _ (exact AsValue t r scope scene a l (left r _ _ h)) (quiet_unmet t need.Integer a (type_of scope a))
+  exact stands t r scope scene (tree.on_place s w a) l h =
+      behind_is t _ _ _ (behind_is t _ _ _ (exact AsLvalue t r scope scene a l.1 (left r _ _ (left r _ _ h))) (quiet_place t scope.names a)) (quiet_place_call t s.first.token w (place_kind scope.names a (type_of scope a)))
+  exact stands t r scope scene (tree.cast s w a) l h =
       behind_is t _ _ _
-      (behind_is t _ _ _ (side_is t _ _ (type_marks w) (marks a) (type_is t r scope scene [] tt role.Cast w l.0 (left r _ _ (left r _ _ (left r _ _ h)))) (exact t r scope scene a l.2 (right r _ _ (left r _ _ (left r _ _ h))))) (quiet_place t scope.names a))
+      (behind_is t _ _ _ (side_is t _ _ (type_marks w) (marks a) (type_is t r scope scene [] tt role.Cast w l.0 (left r _ _ (left r _ _ (left r _ _ h)))) (exact AsLvalue t r scope scene a l.2 (right r _ _ (left r _ _ (left r _ _ h))))) (quiet_place t scope.names a))
       (quiet_cast t s.first.token (is_fine scope.structs role.Cast w) w a (place_kind scope.names a (type_of scope a)))
       ∙ sym (written_cast t s.first.token (type_marks w ++ marks a))
-  exact t r scope scene (tree.index s a i) l h =
+  exact stands t r scope scene (tree.index s a i) l h =
       behind_is t _ _ _
-      (side_is t _ _ (marks a) (marks i) (behind_is t _ _ _ (exact t r scope scene a l.0 (left r _ _ (left r _ _ (left r _ _ h)))) (quiet_unmet t need.Indexed a (type_of scope a))) (exact t r scope scene i l.1 (right r _ _ (left r _ _ h))))
+      (side_is t _ _ (marks a) (marks i) (behind_is t _ _ _ (exact AsValue t r scope scene a l.0 (left r _ _ (left r _ _ (left r _ _ h)))) (quiet_unmet t need.Indexed a (type_of scope a))) (exact AsValue t r scope scene i l.1 (right r _ _ (left r _ _ h))))
       (quiet_unmet t need.Integer i (type_of scope i))
-  exact t r scope scene (tree.field s a w n) l h =
+  exact stands t r scope scene (tree.field s a w n) l h =
       let f = field_member r scope scene s a w n (judged r scope scene a (left r _ _ (left r _ _ h))) h in
-      side_is t _ _ (marks a) (name_marks n) (behind_is t _ _ _ (exact t r scope scene a l (left r _ _ (left r _ _ h))) (quiet_unmet t (access_need w) a (type_of scope a)))
+      side_is t _ _ (marks a) (name_marks n) (behind_is t _ _ _ (exact AsValue t r scope scene a l (left r _ _ (left r _ _ h))) (quiet_unmet t (access_need w) a (type_of scope a)))
       (of_name t _ _ _ (member_is t n.site.token (field_in scope.structs n.text (met (access_need w) (type_of scope a))) f.found.member f.found.found))
-  exact t r scope scene (tree.unary s o a) l h = behind_is t _ _ _ (exact t r scope scene a l (left r _ _ h)) (quiet_unmet t (operand_need o) a (type_of scope a))
-  exact t r scope scene (tree.binary s o at a b) l h =
+  exact stands t r scope scene (tree.unary s o a) l h = behind_is t _ _ _ (exact AsValue t r scope scene a l (left r _ _ h)) (quiet_unmet t (operand_need o) a (type_of scope a))
+  exact stands t r scope scene (tree.binary s o at a b) l h =
       behind_is t _ _ _
       (behind_is t _ _ _
-      (side_is t _ _ (marks a) (marks b) (behind_is t _ _ _ (exact t r scope scene a l.0 (left r _ _ (left r _ _ (left r _ _ (left r _ _ h))))) (quiet_unmet t (operands_need (class_of o)) a (type_of scope a)))
-      (exact t r scope scene b l.1 (right r _ _ (left r _ _ (left r _ _ h)))))
+      (side_is t _ _ (marks a) (marks b) (behind_is t _ _ _ (exact AsValue t r scope scene a l.0 (left r _ _ (left r _ _ (left r _ _ (left r _ _ h))))) (quiet_unmet t (operands_need (class_of o)) a (type_of scope a)))
+      (exact AsValue t r scope scene b l.1 (right r _ _ (left r _ _ (left r _ _ h)))))
       (quiet_unmet t (operands_need (class_of o)) b (type_of scope b)))
       (quiet_binary t (class_of o) b (met (operands_need (class_of o)) (type_of scope a)) (met (operands_need (class_of o)) (type_of scope b)))
 
@@ -186,18 +188,18 @@ mutual
   exact_all t r scope scene want no_arguments l h = none_is t
   exact_all t r scope scene want (argument a rest) l h =
       side_is t _ _ (marks a) (arguments_marks rest)
-      (behind_is t _ _ _ (behind_is t _ _ _ (exact t r scope scene a l.0 (left r _ _ (left r _ _ (left r _ _ h)))) (quiet_unmet t need.Value a (type_of scope a))) (quiet_unagreed t (first_wanted want) a (met need.Value (type_of scope a))))
+      (behind_is t _ _ _ (behind_is t _ _ _ (exact AsValue t r scope scene a l.0 (left r _ _ (left r _ _ (left r _ _ h)))) (quiet_unmet t need.Value a (type_of scope a))) (quiet_unagreed t (first_wanted want) a (met need.Value (type_of scope a))))
       (exact_all t r scope scene (drop 1 want) rest l.1 (right r _ _ h))
 
 -- statements
 
 exact_count : (t : ℕ) (r : Resolution) (scope : Scope) → IsScene r scope → (n : Option Expression) → IfSome n (λ e. (is_unary e ≡ true) × LowExpression e) → Held r (count_notes scope n) → told t (count_notes scope n) ≡ written t (option_marks marks n)
 exact_count t r scope scene None l h = none_is t
-exact_count t r scope scene (Some e) l h = behind_is t _ _ _ (exact t r scope scene e l.1.1 (left r _ _ h)) (quiet_unmet t need.Integer e (type_of scope e))
+exact_count t r scope scene (Some e) l h = behind_is t _ _ _ (exact AsValue t r scope scene e l.1.1 (left r _ _ h)) (quiet_unmet t need.Integer e (type_of scope e))
 
 exact_right : (t : ℕ) (r : Resolution) (scope : Scope) → IsScene r scope → (want : Option Kind) (x : Right) → LowRight x → Held r (right_notes scope want x) → told t (right_notes scope want x) ≡ written t (right_marks x)
 exact_right t r scope scene want (value e) l h =
-    behind_is t _ _ _ (behind_is t _ _ _ (exact t r scope scene e l.1 (left r _ _ (left r _ _ h))) (quiet_unmet t need.Value e (type_of scope e))) (quiet_unagreed t want e (met need.Value (type_of scope e)))
+    behind_is t _ _ _ (behind_is t _ _ _ (exact AsValue t r scope scene e l.1 (left r _ _ (left r _ _ h))) (quiet_unmet t need.Value e (type_of scope e))) (quiet_unagreed t want e (met need.Value (type_of scope e)))
 exact_right t r scope scene want (malloc s n w) l h =
     behind_is t _ _ _
     (side_is t _ _ (option_marks marks n) (type_marks w) (exact_count t r scope scene n l.0 (left r _ _ (left r _ _ h))) (type_is t r scope scene [] tt role.Made w l.1 (right r _ _ (left r _ _ h))))
@@ -206,9 +208,9 @@ exact_right t r scope scene want (malloc s n w) l h =
 exact_simple : (t : ℕ) (r : Resolution) (scope : Scope) → IsScene r scope → (x : Simple) → LowSimple x → Held r (simple_notes scope x) → told t (simple_notes scope x) ≡ written t (simple_marks x)
 exact_simple t r scope scene (assign s u x) l h =
     side_is t _ _ (marks u) (right_marks x)
-    (behind_is t _ _ _ (behind_is t _ _ _ (exact t r scope scene u l.1.1 (left r _ _ (left r _ _ (left r _ _ h)))) (quiet_place t scope.names u)) (quiet_unmet t need.Value u (place_kind scope.names u (type_of scope u))))
+    (behind_is t _ _ _ (behind_is t _ _ _ (exact AsLvalue t r scope scene u l.1.1 (left r _ _ (left r _ _ (left r _ _ h)))) (quiet_place t scope.names u)) (quiet_unmet t need.Value u (place_kind scope.names u (type_of scope u))))
     (exact_right t r scope scene _ x l.2 (right r _ _ h))
-exact_simple t r scope scene (does_call e) l h = exact t r scope scene e l.1.1 h
+exact_simple t r scope scene (does_call e) l h = exact AsValue t r scope scene e l.1.1 h
 
 declared_is : (t block : ℕ) (d : Declaration) (names : List Entry) → told t (declared_notes block d names) ≡ written t (name_marks d.name)
 declared_is t block d names = of_name t d.name.site.token d.name.text _ (one_is t d.name.site.token _ _ (quiet_where t (is_here block names d) _ _))
@@ -229,7 +231,7 @@ exact_first t r around scope scene (declares x) l d h = exact_local t r around s
 exact_first t r around scope scene (does x) l d h = exact_simple t r scope scene x l h
 
 exact_test : (t : ℕ) (r : Resolution) (scope : Scope) → IsScene r scope → (e : Expression) → LowExpression e → Held r (test_notes scope e) → told t (test_notes scope e) ≡ written t (marks e)
-exact_test t r scope scene e l h = behind_is t _ _ _ (exact t r scope scene e l.1 (left r _ _ h)) (quiet_unmet t need.Value e (type_of scope e))
+exact_test t r scope scene e l h = behind_is t _ _ _ (exact AsValue t r scope scene e l.1 (left r _ _ h)) (quiet_unmet t need.Value e (type_of scope e))
 
 exact_tests : (t : ℕ) (r : Resolution) (scope : Scope) → IsScene r scope → (e : Option Expression) → IfSome e LowExpression → Held r (tests_notes scope e) → told t (tests_notes scope e) ≡ written t (option_marks marks e)
 exact_tests t r scope scene None l h = none_is t
@@ -249,7 +251,7 @@ exact_head t r around scope scene x l d h =
 exact_return : (t : ℕ) (r : Resolution) (around : Around) (scope : Scope) → IsScene r scope → (word : ℕ) (e : Option Expression) → IfSome e LowExpression → Held r (return_notes around scope word e) → told t (return_notes around scope word e) ≡ written t (option_marks marks e)
 exact_return t r around scope scene word None l h = quiet_unless t (same_kind around.result void) word BadForm ∙ sym (written_none t)
 exact_return t r around scope scene word (Some e) l h =
-    behind_is t _ _ _ (behind_is t _ _ _ (before_is t _ _ _ (quiet_where t (same_kind around.result void) word BadForm) (exact t r scope scene e l.1 (right r _ _ (left r _ _ (left r _ _ h))))) (quiet_unmet t need.Value e (type_of scope e)))
+    behind_is t _ _ _ (behind_is t _ _ _ (before_is t _ _ _ (quiet_where t (same_kind around.result void) word BadForm) (exact AsValue t r scope scene e l.1 (right r _ _ (left r _ _ (left r _ _ h))))) (quiet_unmet t need.Value e (type_of scope e)))
     (quiet_unagreed t (returned_as around.result) e (met need.Value (type_of scope e)))
 
 mutual

@@ -20,7 +20,7 @@ use Rattle.sharc_names.specs.Types.{is_fine}
 use Rattle.sharc_ctype.specs.Expressions.{type_of, notes_of, notes_of_all, count, wanted, place_kind}
 use Rattle.sharc_ctype.specs.Items.{in_body, function_notes}
 use Rattle.sharc_ctype.specs.Resolved.{Resolution, named_at, kind_at, declarations_of}
-use Rattle.sharc_ctype.specs.Statements.{Around, opened, looping, with_names, declared, count_notes, is_count_fine, made, is_made, right_notes, simple_notes, wanted_by, initial_notes, local_notes, returned_as, return_notes, first_notes, behind_first, tests_notes, step_notes, in_head, after, notes_in, notes_in_all, first_locals, locals_in, locals_in_all}
+use Rattle.sharc_ctype.specs.Statements.{Around, opened, looping, with_names, declared, count_notes, made, is_made, right_notes, simple_notes, wanted_by, initial_notes, local_notes, returned_as, return_notes, first_notes, behind_first, tests_notes, step_notes, in_head, after, notes_in, notes_in_all, first_locals, locals_in, locals_in_all}
 use Rattle.sharc_ctype.specs.Transfers.{lvalue, variable, result, gives, parameters_named, passed, transfers, argument_transfers, in_option, right_transfers, simple_transfers, local_transfers, first_transfers, statement_transfers, statements_transfers, function_transfers, Agrees, IsFair}
 use Rattle.sharc_resolved.proofs.AllLemmas.{both, front, back}
 use Rattle.sharc_resolved.proofs.FileScene.{body_scene}
@@ -28,6 +28,7 @@ use Rattle.sharc_resolved.proofs.Held.{Held, left, right, well, not_wrong}
 use Rattle.sharc_resolved.proofs.Judged.{judged, met_by, lvalue_by, argument_agrees, call_callee, spawn_callee, spawn_agrees}
 use Rattle.sharc_resolved.proofs.Scenes.{IsScene, type_fine, need_fits, need_met}
 use Rattle.sharc_resolved.proofs.Walked.{AreDeclared, local_scene, head_scene, after_scene}
+use Rattle.sharc_resolved.proofs.Standings.{lvalue_held}
 
 -- calls
 
@@ -63,8 +64,8 @@ mutual
       (all_fair r scope scene (wanted (count all) (look_up scope.names f.text)) all (right r _ _ h))
   fair r scope scene (tree.spawn s f a) h = both (IsFair r) (passed (parameters_named r (named_at r f.site.token)) (argument a no_arguments)) (transfers r a) (fair_spawn r scope scene s f a h) (fair r scope scene a (left r _ _ (left r _ _ (left r _ _ h))))
   fair r scope scene (tree.on_value s w a) h = fair r scope scene a (left r _ _ h)
-  fair r scope scene (tree.on_place s w a) h = fair r scope scene a (left r _ _ (left r _ _ h))
-  fair r scope scene (tree.cast s t a) h = fair r scope scene a (right r _ _ (left r _ _ (left r _ _ h)))
+  fair r scope scene (tree.on_place s w a) h = fair r scope scene a (lvalue_held r scope a (left r _ _ (left r _ _ h)) (right r _ _ (left r _ _ h)))
+  fair r scope scene (tree.cast s t a) h = fair r scope scene a (lvalue_held r scope a (right r _ _ (left r _ _ (left r _ _ h))) (right r _ _ (left r _ _ h)))
   fair r scope scene (tree.index s a i) h = both (IsFair r) (transfers r a) (transfers r i) (fair r scope scene a (left r _ _ (left r _ _ (left r _ _ h)))) (fair r scope scene i (right r _ _ (left r _ _ h)))
   fair r scope scene (tree.field s a w n) h = fair r scope scene a (left r _ _ (left r _ _ h))
   fair r scope scene (tree.unary s o a) h = fair r scope scene a (left r _ _ h)
@@ -84,30 +85,26 @@ fair_right : (r : Resolution) (scope : Scope) → IsScene r scope → (want : Op
 fair_right r scope scene want (value e) h = fair r scope scene e (left r _ _ (left r _ _ h))
 fair_right r scope scene want (malloc s n w) h = fair_count r scope scene n (left r _ _ (left r _ _ h))
 
-fine_count : (r : Resolution) (scope : Scope) → IsScene r scope → (n : Option Expression) → Held r (count_notes scope n) → is_count_fine scope n ≡ true
-fine_count r scope scene None h = refl
-fine_count r scope scene (Some e) h = ap is_some (met_by r scope need.Integer e (judged r scope scene e (left r _ _ h)) (right r _ _ h)).met
-
-made_agrees : (made_it fine_n fine_w : Bool) → fine_n ≡ true → fine_w ≡ true → (made_it || not (fine_n && fine_w)) ≡ true → made_it ≡ true
-made_agrees true fine_n fine_w n w h = refl
-made_agrees false fine_n fine_w n w h = absurd (false≢true (sym (ap₂ (λ a b. not (a && b)) n w) ∙ h))
+made_agrees : (made_it fine : Bool) → fine ≡ true → (made_it || not fine) ≡ true → made_it ≡ true
+made_agrees true fine w h = refl
+made_agrees false fine w h = absurd (false≢true (sym (ap not w) ∙ h))
 
 right_agrees : (r : Resolution) (scope : Scope) → IsScene r scope → (want : Kind) (given : Option Kind) (x : Right) → given ≡ Some want → Held r (right_notes scope given x) → Agrees r want x
 right_agrees r scope scene want given (value e) is h =
     argument_agrees r scope (Some want) e (met_by r scope need.Value e (judged r scope scene e (left r _ _ (left r _ _ h))) (right r _ _ (left r _ _ h)))
     (subst (λ g. Held r (unagreed g e (met need.Value (type_of scope e)))) is (right r _ _ h))
 right_agrees r scope scene want given (malloc s n w) is h =
-    made_agrees (same_kind want (made w)) (is_count_fine scope n) (is_fine scope.structs role.Made w) (fine_count r scope scene n (left r _ _ (left r _ _ h))) (type_fine r scope [] role.Made w (right r _ _ (left r _ _ h)))
-    (well r _ s.first.token TypeMismatch (subst (λ g. Held r (fault_unless (is_made g w || not (is_count_fine scope n && is_fine scope.structs role.Made w)) s.first.token TypeMismatch)) is (right r _ _ h)))
+    made_agrees (same_kind want (made w)) (is_fine scope.structs role.Made w) (type_fine r scope [] role.Made w (right r _ _ (left r _ _ h)))
+    (well r _ s.first.token TypeMismatch (subst (λ g. Held r (fault_unless (is_made g w || not (is_fine scope.structs role.Made w)) s.first.token TypeMismatch)) is (right r _ _ h)))
 
 fair_simple : (r : Resolution) (scope : Scope) → IsScene r scope → (x : Simple) → Held r (simple_notes scope x) → AllByRecursion (IsFair r) (simple_transfers r x)
 fair_simple r scope scene (assign s u x) h =
-    let j = judged r scope scene u (left r _ _ (left r _ _ (left r _ _ h))) in
+    let j = judged r scope scene u (lvalue_held r scope u (left r _ _ (left r _ _ (left r _ _ h))) (right r _ _ (left r _ _ (left r _ _ h)))) in
     let l = lvalue_by r scope u j (right r _ _ (left r _ _ (left r _ _ h))) in
     let f = need_fits r scope.structs need.Value u (kind_at r u) (place_kind scope.names u (type_of scope u)) l.kind j.valued (right r _ _ (left r _ _ h)) in
     let m = need_met need.Value (kind_at r u) (place_kind scope.names u (type_of scope u)) l.kind f in
     both (IsFair r) (gives (lvalue u) x ++ transfers r u) (right_transfers r x)
-    (right_agrees r scope scene (kind_at r u) (met need.Value (place_kind scope.names u (type_of scope u))) x m (right r _ _ h), fair r scope scene u (left r _ _ (left r _ _ (left r _ _ h))))
+    (right_agrees r scope scene (kind_at r u) (met need.Value (place_kind scope.names u (type_of scope u))) x m (right r _ _ h), fair r scope scene u (lvalue_held r scope u (left r _ _ (left r _ _ (left r _ _ h))) (right r _ _ (left r _ _ (left r _ _ h)))))
     (fair_right r scope scene _ x (right r _ _ h))
 fair_simple r scope scene (does_call e) h = fair r scope scene e h
 

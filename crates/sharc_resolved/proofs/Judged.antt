@@ -51,6 +51,8 @@ use Rattle.sharc_ctype.specs.Transfers.{parameters_named, parameters_of as param
 use Rattle.sharc_resolved.proofs.Held.{Held, left, right, no_fault, head_named, behind_head, well, not_wrong}
 use Rattle.sharc_resolved.proofs.KindLemmas.{one_kind, integer_is, pointer_is, scalar_is, one_less, common_is, promoted_is, comparable_is, assignable_is}
 use Rattle.sharc_resolved.proofs.Scenes.{IsSolid, IsResult, IsValued, IsMeant, AreMeant, IsField, IsStruct, AreStructs, IsScene, found_name, found_struct, found_field, need_fits, need_met, type_fine}
+use Rattle.sharc_ctype.specs.declared.expr.Standing.TheVariants.{AsValue}
+use Rattle.sharc_resolved.proofs.Standings.{lvalue_held}
 
 pub record IsJudged (r : Resolution) (scope : Scope) (e : Expression) : Type 0 where
   pub typed : type_of scope e ≡ Some (kind_at r e)
@@ -385,7 +387,7 @@ pub record IsCallee (r : Resolution) (structs : StructTable) (i : Identifier) (n
   pub names : (parameters_named r (named_at r i.site.token) ≡ []) ⊎ (declared_kinds (parameters_named r (named_at r i.site.token)) ≡ parameters)
 
 callee_facts : (r : Resolution) (structs : StructTable) (i : Identifier) (n : ℕ) (e : Entry) (parameters : List Kind) (result : Kind) → parameters_of e.meaning ≡ Some parameters → result_of e.meaning ≡ result → is_main e.meaning ≡ false
-    → Held r (count_notes i.site.token n (Some parameters)) → called_kind r (named_at r i.site.token) ≡ result → Callee r i parameters result → IsResult structs result
+    → Held r (count_notes AsValue i.site.token n (Some parameters)) → called_kind r (named_at r i.site.token) ≡ result → Callee r i parameters result → IsResult structs result
     → (parameters_named r (named_at r i.site.token) ≡ []) ⊎ (declared_kinds (parameters_named r (named_at r i.site.token)) ≡ parameters) → IsCallee r structs i n (Some e)
 callee_facts r structs i n e parameters result takes_is result_is not_main h kind callee sound names =
     let fits = well r (length parameters == n) i.site.token ArgumentCount h in
@@ -403,7 +405,7 @@ callee_facts r structs i n e parameters result takes_is result_is not_main h kin
     }
 
 callee_meant : (r : Resolution) (structs : StructTable) (i : Identifier) (n : ℕ) (name : List ℕ) (block : ℕ) (m : Meaning) → IsMeant r structs i.text m → named_at r i.site.token ≡ named_of m → is_main m ≡ false
-    → Held r (count_notes i.site.token n (parameters_of m)) → IsCallee r structs i n (Some (record { name = name; block = block; meaning = m }))
+    → Held r (count_notes AsValue i.site.token n (parameters_of m)) → IsCallee r structs i n (Some (record { name = name; block = block; meaning = m }))
 callee_meant r structs i n name block (meaning.variable d) m is not_main h = absurd (no_fault r _ _ _ h)
 callee_meant r structs i n name block (meaning.global k g) m is not_main h = absurd (no_fault r _ _ _ h)
 callee_meant r structs i n name block (meaning.function k s) m is not_main h =
@@ -415,7 +417,7 @@ callee_meant r structs i n name block (meaning.condition c) m is not_main h =
     callee_facts r structs i n (record { name = name; block = block; meaning = meaning.condition c }) (condition_parameters c) void refl refl not_main h (ap (called_kind r) is) (of_conditions c is m) (inr refl)
     (inl (ap (parameters_named r) is))
 
-callee_by : (r : Resolution) (structs : StructTable) (names : List Entry) (i : Identifier) (n : ℕ) (o : Option Entry) → AreMeant r structs names → look_up names i.text ≡ o → Held r (callee_notes i.site.token n o) → IsCallee r structs i n o
+callee_by : (r : Resolution) (structs : StructTable) (names : List Entry) (i : Identifier) (n : ℕ) (o : Option Entry) → AreMeant r structs names → look_up names i.text ≡ o → Held r (callee_notes AsValue i.site.token n o) → IsCallee r structs i n o
 callee_by r structs names i n None all is h = absurd (no_fault r _ _ _ h)
 callee_by r structs names i n (Some e) all is h =
     let rest = behind_head r _ _ _ h in
@@ -532,8 +534,8 @@ mutual
       call_judged r scope s f all c (all_judged r scope scene c.parameters all (subst (λ w. Held r (notes_of_all scope w all)) c.wants (right r _ _ h)) c.many)
   judged r scope scene (tree.spawn s f a) h = spawn_judged r scope scene s f a (judged r scope scene a (left r _ _ (left r _ _ (left r _ _ h)))) h
   judged r scope scene (tree.on_value s w a) h = value_call_judged r scope s w a (judged r scope scene a (left r _ _ h)) h
-  judged r scope scene (tree.on_place s w a) h = place_call_judged r scope s w a (judged r scope scene a (left r _ _ (left r _ _ h))) h
-  judged r scope scene (tree.cast s t a) h = cast_judged r scope s t a (judged r scope scene a (right r _ _ (left r _ _ (left r _ _ h)))) h
+  judged r scope scene (tree.on_place s w a) h = place_call_judged r scope s w a (judged r scope scene a (lvalue_held r scope a (left r _ _ (left r _ _ h)) (right r _ _ (left r _ _ h)))) h
+  judged r scope scene (tree.cast s t a) h = cast_judged r scope s t a (judged r scope scene a (lvalue_held r scope a (right r _ _ (left r _ _ (left r _ _ h))) (right r _ _ (left r _ _ h)))) h
   judged r scope scene (tree.index s a i) h = index_judged r scope s a i (judged r scope scene a (left r _ _ (left r _ _ (left r _ _ h)))) (judged r scope scene i (right r _ _ (left r _ _ h))) h
   judged r scope scene (tree.field s a w n) h = field_judged r scope scene s a w n (judged r scope scene a (left r _ _ (left r _ _ h))) h
   judged r scope scene (tree.unary s o a) h = unary_judged r scope s o a (judged r scope scene a (left r _ _ h)) h

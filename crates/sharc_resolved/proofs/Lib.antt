@@ -16,6 +16,7 @@ pub mod OwnVariables
 pub mod Reached
 pub mod Ruled
 pub mod Scenes
+pub mod Standings
 pub mod Themselves
 pub mod ToldOnce
 pub mod TypedLaws

@@ -30,6 +30,7 @@ use Rattle.sharc_resolved.proofs.Judged.{judged, met_by, lvalue_by}
 use Rattle.sharc_resolved.proofs.KindLemmas.{integer_is, scalar_is, pointer_is, one_kind}
 use Rattle.sharc_resolved.proofs.Scenes.{Stands, IsSolid, IsScene, need_fits, type_solid}
 use Rattle.sharc_resolved.proofs.Walked.{AreDeclared, local_scene, head_scene, after_scene}
+use Rattle.sharc_resolved.proofs.Standings.{lvalue_held}
 
 -- an lvalue is no NULL
 
@@ -102,7 +103,7 @@ meets_right r scope scene want (malloc s n w) h = meets_count r scope scene n (l
 
 meets_simple : (r : Resolution) (scope : Scope) → IsScene r scope → (x : Simple) → Held r (simple_notes scope x) → MeetsSimple r x
 meets_simple r scope scene (assign s u x) h =
-    let j = judged r scope scene u (left r _ _ (left r _ _ (left r _ _ h))) in
+    let j = judged r scope scene u (lvalue_held r scope u (left r _ _ (left r _ _ (left r _ _ h))) (right r _ _ (left r _ _ (left r _ _ h)))) in
     let l = lvalue_by r scope u j (right r _ _ (left r _ _ (left r _ _ h))) in
     let f = need_fits r scope.structs need.Value u (kind_at r u) (place_kind scope.names u (type_of scope u)) l.kind j.valued (right r _ _ (left r _ _ h)) in
     (l.lvalue, held_scalar (kind_at r u) (scalar_is (kind_at r u) f) (lvalue_not_null r u (kind_at r u) j.has l.lvalue), meets_right r scope scene _ x (right r _ _ h))

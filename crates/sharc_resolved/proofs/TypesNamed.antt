@@ -35,6 +35,7 @@ use Rattle.sharc_resolved.proofs.Held.{Held, left, right, no_fault, not_wrong, h
 use Rattle.sharc_resolved.proofs.Judged.{not_main_text, struct_behind_is, member_of}
 use Rattle.sharc_resolved.proofs.Scenes.{IsSolid, IsMeant, IsField, IsStruct, IsScene, found_or_later, found_name, found_struct, found_field, type_solid}
 use Rattle.sharc_resolved.proofs.Walked.{AreDeclared, scene_with, declared_meant, local_scene, head_scene, after_scene}
+use Rattle.sharc_resolved.proofs.Standings.{lvalue_held}
 
 -- bases
 
@@ -134,8 +135,8 @@ mutual
   named_types r scope scene (tree.call s f all) h = named_arguments r scope scene (wanted (count all) (look_up scope.names f.text)) all (right r _ _ h)
   named_types r scope scene (tree.spawn s f a) h = named_types r scope scene a (left r _ _ (left r _ _ (left r _ _ h)))
   named_types r scope scene (tree.on_value s w a) h = named_types r scope scene a (left r _ _ h)
-  named_types r scope scene (tree.on_place s w a) h = named_types r scope scene a (left r _ _ (left r _ _ h))
-  named_types r scope scene (tree.cast s t a) h = (type_named r scope scene [] tt role.Cast t (left r _ _ (left r _ _ (left r _ _ h))), named_types r scope scene a (right r _ _ (left r _ _ (left r _ _ h))))
+  named_types r scope scene (tree.on_place s w a) h = named_types r scope scene a (lvalue_held r scope a (left r _ _ (left r _ _ h)) (right r _ _ (left r _ _ h)))
+  named_types r scope scene (tree.cast s t a) h = (type_named r scope scene [] tt role.Cast t (left r _ _ (left r _ _ (left r _ _ h))), named_types r scope scene a (lvalue_held r scope a (right r _ _ (left r _ _ (left r _ _ h))) (right r _ _ (left r _ _ h))))
   named_types r scope scene (tree.index s a i) h = both (IsNamedType r) (types_in a) (types_in i) (named_types r scope scene a (left r _ _ (left r _ _ (left r _ _ h)))) (named_types r scope scene i (right r _ _ (left r _ _ h)))
   named_types r scope scene (tree.field s a w n) h = named_types r scope scene a (left r _ _ (left r _ _ h))
   named_types r scope scene (tree.unary s o a) h = named_types r scope scene a (left r _ _ h)
@@ -156,7 +157,7 @@ named_right r scope scene want (value e) h = named_types r scope scene e (left r
 named_right r scope scene want (malloc s n w) h = both (IsNamedType r) (types_in_option types_in n) (w ∷ []) (named_count r scope scene n (left r _ _ (left r _ _ h))) (type_named r scope scene [] tt role.Made w (right r _ _ (left r _ _ h)), tt)
 
 named_simple : (r : Resolution) (scope : Scope) → IsScene r scope → (x : Simple) → Held r (simple_notes scope x) → AllByRecursion (IsNamedType r) (types_in_simple x)
-named_simple r scope scene (assign s u x) h = both (IsNamedType r) (types_in u) (types_in_right x) (named_types r scope scene u (left r _ _ (left r _ _ (left r _ _ h)))) (named_right r scope scene _ x (right r _ _ h))
+named_simple r scope scene (assign s u x) h = both (IsNamedType r) (types_in u) (types_in_right x) (named_types r scope scene u (lvalue_held r scope u (left r _ _ (left r _ _ (left r _ _ h))) (right r _ _ (left r _ _ (left r _ _ h))))) (named_right r scope scene _ x (right r _ _ h))
 named_simple r scope scene (does_call e) h = named_types r scope scene e h
 
 named_initial : (r : Resolution) (scope : Scope) → IsScene r scope → (d : Declaration) (x : Option Right) → Held r (initial_notes scope d x) → AllByRecursion (IsNamedType r) (types_in_option types_in_right x)

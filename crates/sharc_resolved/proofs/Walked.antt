@@ -18,6 +18,7 @@ use Rattle.sharc_resolved.proofs.AllLemmas.{both, front, back, mapped}
 use Rattle.sharc_resolved.proofs.Held.{Held, left, right}
 use Rattle.sharc_resolved.proofs.Judged.{IsJudged, judged}
 use Rattle.sharc_resolved.proofs.Scenes.{IsSolid, IsMeant, AreMeant, IsScene, type_solid}
+use Rattle.sharc_resolved.proofs.Standings.{lvalue_held}
 
 -- an expression of which no fault is noted is judged
 pub record IsSeen (r : Resolution) (scope : Scope) (e : Expression) : Type 0 where
@@ -37,8 +38,8 @@ mutual
   below r scope scene (tree.call s f all) h = (seen r scope scene (tree.call s f all) h, below_all r scope scene (wanted (count all) (look_up scope.names f.text)) all (right r _ _ h))
   below r scope scene (tree.spawn s f a) h = (seen r scope scene (tree.spawn s f a) h, below r scope scene a (left r _ _ (left r _ _ (left r _ _ h))))
   below r scope scene (tree.on_value s w a) h = (seen r scope scene (tree.on_value s w a) h, below r scope scene a (left r _ _ h))
-  below r scope scene (tree.on_place s w a) h = (seen r scope scene (tree.on_place s w a) h, below r scope scene a (left r _ _ (left r _ _ h)))
-  below r scope scene (tree.cast s t a) h = (seen r scope scene (tree.cast s t a) h, below r scope scene a (right r _ _ (left r _ _ (left r _ _ h))))
+  below r scope scene (tree.on_place s w a) h = (seen r scope scene (tree.on_place s w a) h, below r scope scene a (lvalue_held r scope a (left r _ _ (left r _ _ h)) (right r _ _ (left r _ _ h))))
+  below r scope scene (tree.cast s t a) h = (seen r scope scene (tree.cast s t a) h, below r scope scene a (lvalue_held r scope a (right r _ _ (left r _ _ (left r _ _ h))) (right r _ _ (left r _ _ h))))
   below r scope scene (tree.index s a i) h =
       (seen r scope scene (tree.index s a i) h, both _ (expressions a) (expressions i) (below r scope scene a (left r _ _ (left r _ _ (left r _ _ h)))) (below r scope scene i (right r _ _ (left r _ _ h))))
   below r scope scene (tree.field s a w n) h = (seen r scope scene (tree.field s a w n) h, below r scope scene a (left r _ _ (left r _ _ h)))
@@ -61,7 +62,7 @@ below_right r scope scene want (value e) h = below r scope scene e (left r _ _ (
 below_right r scope scene want (malloc s n w) h = below_count r scope scene n (left r _ _ (left r _ _ h))
 
 below_simple : (r : Resolution) (scope : Scope) → IsScene r scope → (x : Simple) → Held r (simple_notes scope x) → AllByRecursion (IsSeen r scope) (in_simple x)
-below_simple r scope scene (assign s u x) h = both _ (expressions u) (in_right x) (below r scope scene u (left r _ _ (left r _ _ (left r _ _ h)))) (below_right r scope scene _ x (right r _ _ h))
+below_simple r scope scene (assign s u x) h = both _ (expressions u) (in_right x) (below r scope scene u (lvalue_held r scope u (left r _ _ (left r _ _ (left r _ _ h))) (right r _ _ (left r _ _ (left r _ _ h))))) (below_right r scope scene _ x (right r _ _ h))
 below_simple r scope scene (does_call e) h = below r scope scene e h
 
 -- scopes of statements

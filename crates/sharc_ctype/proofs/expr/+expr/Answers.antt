@@ -24,7 +24,7 @@ expression-returns-in-Call-clause-kind t c =
 pub expression-returns-in-Call-clause-found : goal.expression-returns-in-Call-clause-found
 expression-returns-in-Call-clause-found t c =
     let list = c.deref-in-Call.result.now in
-    call_noted c.args.scope.now (view_expr c.args.expr.now) c.in-Call.field-0 c.in-Call.name list c.len-count.result (view_bounds c.find-bound-in-Call.result) (view_wanted c.wanted.result) c.args.found.now c.callee.new.found c.arguments-fine.new.found
+    call_noted c.args.standing c.args.scope.now (view_expr c.args.expr.now) c.in-Call.field-0 c.in-Call.name list c.len-count.result (view_bounds c.find-bound-in-Call.result) (view_wanted c.wanted.result) c.args.found.now c.callee.new.found c.arguments-fine.new.found
     (view_call c.args.expr.now c.in-Call.field-0 c.in-Call.name c.in-Call.all c.in-Call.is ∙ ap (λ l. call c.in-Call.field-0 c.in-Call.name (view_arguments l)) (sym c.deref-in-Call.ensures.value))
     (c.len-count.ensures ∙ sym c.deref-in-Call.ensures.len)
     (c.find-bound-in-Call.ensures ∙ ap (look_up c.args.scope.now.names) c.as_slice-in-Call.ensures)
