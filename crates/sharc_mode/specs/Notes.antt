@@ -243,7 +243,7 @@ error_of (Takes s x) = []
 abbrev pub errors_by : Resolution → List Note → Note → List ModeError
 errors_by r all (Wrong e) = e ∷ []
 errors_by r all (Names x) = []
-errors_by r all (Takes s x) = flat_map error_of (error_where (is_named x all) 10 s (span_text r s))
+errors_by r all (Takes s x) = flat_map error_of (error_where (is_named x all) 10 s (text_at r x))
 
 -- the cases that arise, by what is said of all constructs
 abbrev pub errors_of : Resolution → List Note → List ModeError
