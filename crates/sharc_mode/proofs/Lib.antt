@@ -1,5 +1,9 @@
 pub mod ArgumentLemmas
 pub mod CellLemmas
 pub mod LawLemmas
+pub mod LeastLemmas
+pub mod MemberLemmas
+pub mod PairLemmas
 pub mod RowLemmas
 pub mod SameLemmas
+pub mod WithinLemmas

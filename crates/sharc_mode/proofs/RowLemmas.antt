@@ -20,7 +20,7 @@ either : (limit : ℕ) (b : Bool) (x y : Option Numbered) → EndsBy limit x →
 either limit true x y p q = p
 either limit false x y p q = q
 
-ends_by : (test : Numbered → Bool) (k : ℕ) (list : List Entity) → EndsBy (k + positions_in list) (find test (numbered_from k list))
+pub ends_by : (test : Numbered → Bool) (k : ℕ) (list : List Entity) → EndsBy (k + positions_in list) (find test (numbered_from k list))
 ends_by test k [] = tt
 ends_by test k (e ∷ rest) =
     either (k + (positions_of e + positions_in rest)) (test (record { entity = e; first = k })) (Some (record { entity = e; first = k })) (find test (numbered_from (k + positions_of e) rest))

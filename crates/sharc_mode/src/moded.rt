@@ -9,6 +9,7 @@ use crate::position::{Modes, Reason, Reasons};
 use crate::sharing::{Sharing, sharing_of};
 use sharc_ctype::typed::Typed;
 use sharc_tree::ctype::Mode;
+use sharc_tree::listed::Listed;
 use std::alloc::{AllocError, Global};
 use std::marker::Model;
 
@@ -32,6 +33,17 @@ impl Model for Moded {
     ghost view = { λ m. record { typed = m.typed; modes = m.modes; reasons = m.reasons } };
 
     ghost invariant = { λ m. IsWhole (record { typed = m.typed; modes = m.modes; reasons = m.reasons }) };
+}
+
+/// The same modes once more.
+fn copied(alloc: Global, modes: &[Mode]) -> Result<Vec<Mode>, AllocError>
+    ensures { IfOk result (λ list. list.items ≡ modes.now) }
+{
+    let mut list = Vec::with_capacity(alloc, modes.len())?;
+    for mode in modes {
+        list.push(mode.copy(alloc)?)?;
+    }
+    Ok(list)
 }
 
 impl Moded {
@@ -84,5 +96,19 @@ impl Moded {
         } else {
             Sharing::Private
         }
+    }
+
+    /// The same program with the same modes and reasons once more.
+    pub fn copy(&self, alloc: Global) -> Result<Self, AllocError>
+        ensures { IfOk result (λ m. m ≡ self.now) }
+    {
+        let typed = self.typed.copy(alloc)?;
+        let modes = copied(alloc, self.modes.as_slice())?;
+        let reasons = Vec::from_slice(alloc, self.reasons.as_slice())?;
+        Ok(Moded {
+            typed,
+            modes: Listed::of(modes),
+            reasons: Listed::of(reasons),
+        })
     }
 }

@@ -9,11 +9,11 @@ use Rattle.sharc_ctype.specs.Resolved.{Resolution, named_at, functions_in, globa
 use Rattle.sharc_ctype.specs.Reaches.{Names, tokens_of, NamesGlobal}
 use Rattle.sharc_reach.specs.declared.mention.Mention.{Mention}
 use Rattle.sharc_reach.specs.Mentions.{mentions_below}
-use Rattle.sharc_reach.specs.Graphs.{is_found}
+use Rattle.sharc_reach.specs.Graphs.{is_found, is_source}
 use Rattle.sharc_reach.specs.Firsts.{global_named, lower, lowered, named_by, lowered_by}
 use Rattle.sharc_reach.specs.Reaching.{Reaching, is_chosen, first_of, IsFirstOf, AreReached}
 use Rattle.sharc_reach.proofs.MemberLemmas.{Has, has_same, of_function_below, below_of_function, names_of, of_names, some_within}
-use Rattle.sharc_reach.proofs.PathLemmas.{graph_in, chosen_size, chosen_reached, reached_chosen}
+use Rattle.sharc_reach.proofs.PathLemmas.{graph_in, chosen_size, chosen_reached, reached_chosen, spawned_size, source_is_spawned, spawned_is_source}
 
 -- ---- the least number with a property
 abbrev pub Least : (ℕ → Type 0) → Option ℕ → Type 0
@@ -123,21 +123,27 @@ module _ (r : Resolution) (count : ℕ) (counted : count ≡ length (functions_i
         least = λ other reached names. least.1 other (inr (adds_named chosen other g names (reached_chosen r count counted findings found other (namer_within other g names) reached)));
       }
 
-  pub all_reached : (a : Reaching) → a.functions ≡ map is_found findings → a.firsts ≡ fold (lowered_by r a.functions) (replicate (length (globals_in r.program.items)) None) (mentions_below r count) → AreReached r a
-  all_reached a functions_are firsts_are =
+  pub all_reached : (a : Reaching) → a.functions ≡ map is_found findings → a.spawned ≡ map is_source findings → a.firsts ≡ fold (lowered_by r a.functions) (replicate (length (globals_in r.program.items)) None) (mentions_below r count) → AreReached r a
+  all_reached a functions_are spawned_are firsts_are =
       let globals = length (globals_in r.program.items) in
       let chosen = map is_found findings in
       let start : List (Option ℕ) = replicate globals None in
       let firsts : a.firsts ≡ fold (lowered_by r chosen) start (mentions_below r count) = firsts_are ∙ ap (λ c. fold (lowered_by r c) start (mentions_below r count)) functions_are in
       let function_size : length a.functions ≡ count = ap length functions_are ∙ chosen_size r count counted findings found in
+      let sources_size : length a.spawned ≡ count = ap length spawned_are ∙ spawned_size r count counted findings found in
       let start_size : length start ≡ globals = length-replicate globals None in
       let global_size : length a.firsts ≡ globals = ap length firsts ∙ all_size r chosen (mentions_below r count) start ∙ start_size in
       record {
         function_count = function_size ∙ counted;
+        spawned_count = sources_size ∙ counted;
         global_count = global_size;
         functions = λ n below. (
           λ is. chosen_reached r count counted findings found n (omega arith) (ap (λ c. is_chosen c n) (sym functions_are) ∙ is),
           λ reached. ap (λ c. is_chosen c n) functions_are ∙ reached_chosen r count counted findings found n (omega arith) reached,
+        );
+        spawned = λ n below. (
+          λ is. source_is_spawned r count counted findings found n (omega arith) (ap (λ c. is_chosen c n) (sym spawned_are) ∙ is),
+          λ has. ap (λ c. is_chosen c n) spawned_are ∙ spawned_is_source r count counted findings found n (omega arith) has,
         );
         globals = λ g below.
             let inside : g < globals = omega arith in

@@ -1,5 +1,5 @@
 -- The paths of the graph of the functions are the lists of functions in which each calls or spawns the next.
-use Rattle.std.proofs.Common.{◌≡◌, ℕ, ◌<◌, ◌⊎◌, true, false, ◌&&◌, List, [], ◌∷◌, Option, Some, None, length, get_or, set, fold, replicate, map, refl, ap, sym, ◌∙◌, subst, inl, inr, arith}
+use Rattle.std.proofs.Common.{◌≡◌, ℕ, ◌+◌, ◌<◌, ◌≤◌, ◌⊎◌, true, false, ◌&&◌, List, [], ◌∷◌, Option, Some, None, length, get_or, set, fold, replicate, map, refl, ap, sym, ◌∙◌, subst, inl, inr, arith}
 use Rattle.std.specs.Prelude.{nat_lt, Contains}
 use Rattle.std.specs.List.{filter_map, All}
 use Rattle.std.proofs.lemmas.Bool.{cases_eq, cases_lt, cases_Bool, and_parts, ltb-true, lt-ltb, false≢true}
@@ -16,8 +16,8 @@ use Rattle.sharc_ctype.specs.Resolved.{Resolution, functions_in}
 use Rattle.sharc_ctype.specs.Reaches.{runs, spawns, of_all, Names, Spawns, Runs, Leads, IsReached}
 use Rattle.sharc_reach.specs.declared.mention.Mention.{Mention}
 use Rattle.sharc_reach.specs.Mentions.{mentions_below}
-use Rattle.sharc_reach.specs.Graphs.{ran, spawned, edge_within, edge_of_mention, quiet_node, source_node, marked, marked_by, is_found}
-use Rattle.sharc_reach.specs.Reaching.{is_chosen}
+use Rattle.sharc_reach.specs.Graphs.{ran, spawned, edge_within, edge_of_mention, quiet_node, source_node, marked, marked_by, is_found, is_source}
+use Rattle.sharc_reach.specs.Reaching.{is_chosen, IsSpawned}
 use Rattle.sharc_reach.proofs.MemberLemmas.{Has, has_same, has_contained, contained, has_made, has_source, below_has, has_below, of_function_below, below_of_function, runs_of, of_runs, spawns_of, of_spawns, some_within}
 
 -- ---- edges
@@ -244,6 +244,20 @@ module _ (r : Resolution) (count : ℕ) (counted : count ≡ length (functions_i
   finding_from_reached m Source below found has = refl
   finding_from_reached m (Behind rank reason) below found has = refl
 
+  -- a source is found as one
+  spawned_from_finding : (n : ℕ) (finding : Finding) → IsFinding (graph_in r count) n finding → is_source finding ≡ true → IsSpawned r n
+  spawned_from_finding n Apart found is = absurd (false≢true is)
+  spawned_from_finding n Source found is = source_spawned r count n found
+  spawned_from_finding n (Behind rank reason) found is = absurd (false≢true is)
+
+  finding_from_spawned : (n : ℕ) (finding : Finding) → n < count → IsFinding (graph_in r count) n finding → IsSpawned r n → is_source finding ≡ true
+  finding_from_spawned n Apart below found has = absurd (found n [] record { begins = spawned_source has.0 n below has.1; follow = tt; ends = refl })
+  finding_from_spawned n Source below found has = refl
+  finding_from_spawned n (Behind rank reason) below found has =
+      let least : rank ≤ 0 = found.0.least n [] record { begins = spawned_source has.0 n below has.1; follow = tt; ends = refl } in
+      let above = found.1.one_below in
+      absurd (omega arith)
+
   module _ (findings : List Finding) (found : AreFindings (graph_in r count) findings) where
     found_size : length findings ≡ count
     found_size = found.size ∙ nodes_size r count
@@ -262,3 +276,15 @@ module _ (r : Resolution) (count : ℕ) (counted : count ≡ length (functions_i
 
     pub reached_chosen : (m : ℕ) → m < count → IsReached r m → is_chosen (map is_found findings) m ≡ true
     reached_chosen m below has = chosen_at m below ∙ finding_from_reached m (finding_at findings m) below (finding_is m below) has
+
+    pub spawned_size : length (map is_source findings) ≡ count
+    spawned_size = length-map findings is_source ∙ found_size
+
+    spawned_at : (m : ℕ) → m < count → is_chosen (map is_source findings) m ≡ is_source (finding_at findings m)
+    spawned_at m below = let size = found_size in get_or-map is_source findings m Apart false (omega arith)
+
+    pub source_is_spawned : (m : ℕ) → m < count → is_chosen (map is_source findings) m ≡ true → IsSpawned r m
+    source_is_spawned m below is = spawned_from_finding m (finding_at findings m) (finding_is m below) (sym (spawned_at m below) ∙ is)
+
+    pub spawned_is_source : (m : ℕ) → m < count → IsSpawned r m → is_chosen (map is_source findings) m ≡ true
+    spawned_is_source m below has = spawned_at m below ∙ finding_from_spawned m (finding_at findings m) below (finding_is m below) has

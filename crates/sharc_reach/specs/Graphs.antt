@@ -3,6 +3,7 @@ use Rattle.std.specs.Prelude.{ℕ, Bool, true, false, not, ◌&&◌, nat_lt, Lis
 use Rattle.sharc_graph.specs.declared.graph.Node.{Node}
 use Rattle.sharc_graph.specs.declared.graph.Edge.{Edge}
 use Rattle.sharc_graph.specs.declared.graph.Finding.{Finding}
+use Rattle.sharc_graph.specs.declared.graph.Finding.TheVariants.{Apart, Source, Behind}
 use Rattle.sharc_graph.specs.Findings.{is_apart}
 use Rattle.sharc_graph.specs.Paths.{edge_of}
 use Rattle.sharc_names.specs.declared.fault.Named.{Named}
@@ -62,3 +63,9 @@ marked_by r nodes m = marked nodes (spawned r m)
 -- whether a path leads there
 abbrev pub is_found : Finding → Bool
 is_found f = not (is_apart f)
+
+-- whether it is itself a source
+abbrev pub is_source : Finding → Bool
+is_source Apart = false
+is_source Source = true
+is_source (Behind rank reason) = false

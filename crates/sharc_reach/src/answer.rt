@@ -1,7 +1,7 @@
 // What is reached and touched.
 
 ghost use Rattle.std.specs.Prelude.{◌≡◌, ◌<◌, length, map, IfOk};
-ghost use Rattle.sharc_reach.specs.Graphs.{is_found};
+ghost use Rattle.sharc_reach.specs.Graphs.{is_found, is_source};
 ghost use Rattle.sharc_reach.specs.Reaching.{is_chosen, first_of, AreReached};
 
 use crate::edges::edges;
@@ -13,10 +13,12 @@ use sharc_graph::{Finding, find};
 use std::alloc::{AllocError, Global};
 use std::marker::Model;
 
-/// The reached functions, and for each global the first of them in source order that names it. A contract sees it as these two lists, by number.
+/// The reached functions, those that are spawned, and for each global the first reached function in source order that names it. A contract sees it as
+/// these three lists, by number.
 #[derive(Drop)]
 pub struct Reached {
     functions: Vec<bool>,
+    spawned: Vec<bool>,
     firsts: Vec<Option<u32>>,
 }
 
@@ -25,7 +27,7 @@ impl Model for Reached {
 
     ghost Value = { Reaching };
 
-    ghost view = { λ a. record { functions = a.functions.items; firsts = a.firsts.items } };
+    ghost view = { λ a. record { functions = a.functions.items; spawned = a.spawned.items; firsts = a.firsts.items } };
 }
 
 impl Reached {
@@ -36,6 +38,14 @@ impl Reached {
         ensures { result ≡ is_chosen self.now.functions function }
     {
         self.functions[function as usize]
+    }
+
+    /// Whether the function with this number is spawned anywhere (own). It takes no memory and one step.
+    pub fn spawned(&self, function: u32) -> bool
+        requires { function < length self.now.spawned }
+        ensures { result ≡ is_chosen self.now.spawned function }
+    {
+        self.spawned[function as usize]
     }
 
     /// The first reached function in source order that names the global with this number, in a lock path too (own); none where no reached function
@@ -58,6 +68,26 @@ fn are_found(alloc: Global, findings: &[Finding]) -> Result<Vec<bool>, AllocErro
         .collect(alloc)
 }
 
+// Which of them are sources.
+fn are_sources(alloc: Global, findings: &[Finding]) -> Result<Vec<bool>, AllocError>
+    ensures { IfOk result (λ sources. sources.items ≡ map is_source findings.now) }
+{
+    findings
+        .iter()
+        .map(|finding| is_source(*finding))
+        .collect(alloc)
+}
+
+fn is_source(finding: Finding) -> bool
+    ensures { result ≡ is_source finding }
+{
+    match finding {
+        Finding::Apart => false,
+        Finding::Source => true,
+        Finding::Behind { .. } => false,
+    }
+}
+
 /// What is reached and touched in a program. Want of memory is the only error; more functions or calls than a number of 32 bits counts are answered
 /// so, too.
 pub fn reach(alloc: Global, t: &Typed) -> Result<Reached, AllocError>
@@ -76,6 +106,11 @@ pub fn reach(alloc: Global, t: &Typed) -> Result<Reached, AllocError>
     let nodes = nodes(alloc, t, count, &mentions)?;
     let findings = find(alloc, &nodes, &edges)?;
     let functions = are_found(alloc, &findings)?;
+    let spawned = are_sources(alloc, &findings)?;
     let firsts = firsts(alloc, t, &functions, t.global_count(), &mentions)?;
-    Ok(Reached { functions, firsts })
+    Ok(Reached {
+        functions,
+        spawned,
+        firsts,
+    })
 }

@@ -3,7 +3,7 @@ use Rattle.std.specs.List.{filter_map, All}
 use Rattle.sharc_graph.specs.Paths.{graph_of, IsWithin, AreFindings}
 use Rattle.sharc_ctype.specs.Resolved.{globals_in}
 use Rattle.sharc_reach.specs.Firsts.{lowered_by}
-use Rattle.sharc_reach.specs.Graphs.{is_found, quiet_node, marked_by, edge_of_mention}
+use Rattle.sharc_reach.specs.Graphs.{is_found, is_source, quiet_node, marked_by, edge_of_mention}
 use Rattle.sharc_reach.specs.Mentions.{mentions_below}
 use Rattle.sharc_reach.proofs.FirstLemmas.{all_reached}
 use Rattle.sharc_reach.proofs.PathLemmas.{call_edges, function_nodes, nodes_size, edges_within}
@@ -36,6 +36,7 @@ returns c =
     let count = c.function_count-functions.result in
     let findings = c.in_ok-findings.findings.items in
     let functions = c.in_ok-functions.functions.items in
+    let spawned = c.in_ok-spawned.spawned.items in
     let firsts = c.in_ok-firsts.firsts.items in
     let nodes_are : c.deref-3.result.now ≡ function_nodes r count =
     c.deref-3.ensures.value ∙ c.in_ok-nodes.ensures ∙ ap (fold (marked_by r) (replicate count quiet_node)) (c.deref-2.ensures.value ∙ c.in_ok-mentions.ensures) in
@@ -44,9 +45,10 @@ returns c =
     let found : AreFindings (graph_of (function_nodes r count) (call_edges r count)) findings =
     subst (λ nodes. AreFindings (graph_of nodes (call_edges r count)) findings) nodes_are (subst (λ edges. AreFindings (graph_of c.deref-3.result.now edges) findings) edges_are c.in_ok-findings.ensures) in
     let functions_are : functions ≡ map is_found findings = c.in_ok-functions.ensures ∙ ap (map is_found) c.deref-5.ensures.value in
+    let spawned_are : spawned ≡ map is_source findings = c.in_ok-spawned.ensures ∙ ap (map is_source) c.deref-6.ensures.value in
     let firsts_are : firsts ≡ fold (lowered_by r functions) (replicate (length (globals_in r.program.items)) None) (mentions_below r count) =
     c.in_ok-firsts.ensures
-    ∙ ap (λ chosen. fold (lowered_by r chosen) (replicate c.global_count.result None) c.deref-7.result.now) c.deref-6.ensures.value
-    ∙ ap (λ n. fold (lowered_by r functions) (replicate n None) c.deref-7.result.now) c.global_count.ensures
-    ∙ ap (fold (lowered_by r functions) (replicate (length (globals_in r.program.items)) None)) (c.deref-7.ensures.value ∙ c.in_ok-mentions.ensures) in
-    all_reached r count c.function_count-functions.ensures findings found record { functions = functions; firsts = firsts } functions_are firsts_are
+    ∙ ap (λ chosen. fold (lowered_by r chosen) (replicate c.global_count.result None) c.deref-8.result.now) c.deref-7.ensures.value
+    ∙ ap (λ n. fold (lowered_by r functions) (replicate n None) c.deref-8.result.now) c.global_count.ensures
+    ∙ ap (fold (lowered_by r functions) (replicate (length (globals_in r.program.items)) None)) (c.deref-8.ensures.value ∙ c.in_ok-mentions.ensures) in
+    all_reached r count c.function_count-functions.ensures findings found record { functions = functions; spawned = spawned; firsts = firsts } functions_are spawned_are firsts_are
