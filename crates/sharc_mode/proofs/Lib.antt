@@ -3,3 +3,4 @@ pub mod CellLemmas
 pub mod LawLemmas
 pub mod RowLemmas
 pub mod SameLemmas
+pub mod ShownLemmas

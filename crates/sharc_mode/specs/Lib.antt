@@ -4,6 +4,7 @@ pub mod Flows
 pub mod Laws
 pub mod Moded
 pub mod Notes
+pub mod RowLaws
 pub mod Rows
 pub mod Settled
 pub mod Sharings
