@@ -6,4 +6,5 @@ pub mod MemberLemmas
 pub mod PairLemmas
 pub mod RowLemmas
 pub mod SameLemmas
+pub mod ShownLemmas
 pub mod WithinLemmas

@@ -5,6 +5,7 @@ pub mod Laws
 pub mod Moded
 pub mod Notes
 pub mod Pairs
+pub mod RowLaws
 pub mod Rows
 pub mod Settled
 pub mod Sharings

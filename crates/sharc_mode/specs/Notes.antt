@@ -227,7 +227,7 @@ sibling_notes r s (Some at) = names_of (variable_named (named_at r at))
 abbrev pub field_notes : Resolution → Span → Option ℕ → List Sharing → List Note
 field_notes r s base_at modes = if list_any (is_sibling r) modes then sibling_notes r s base_at else []
 
--- ---- M10: the source of SCAST or `free` is a variable that some lock path names
+-- ---- M10: the source of SCAST or `free` is a variable that some lock path names; it is told by its name
 
 abbrev pub is_named : ℕ → List Note → Bool
 is_named x [] = false

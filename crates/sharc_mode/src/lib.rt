@@ -11,4 +11,6 @@ pub mod position;
 pub mod read;
 pub mod row;
 pub mod sharing;
+pub mod shown;
+pub mod text;
 pub mod types;

@@ -2,7 +2,7 @@
 
 ghost use Rattle.std.specs.Prelude.{◌≡◌, ◌<◌, length, slice_index_or, IfOk};
 ghost use Rattle.sharc_tree.specs.declared.ctype.Mode.TheVariants.{Private as PrivateMode};
-ghost use Rattle.sharc_mode.specs.Moded.{position_count, mode_at, reason_at};
+ghost use Rattle.sharc_mode.specs.Moded.{position_count, IsWhole, mode_at, reason_at};
 ghost use Rattle.sharc_mode.specs.View.{view_sharing};
 
 use crate::position::{Modes, Reason, Reasons};
@@ -65,6 +65,14 @@ impl Moded {
         ensures { result.now ≡ self.now.typed }
     {
         &self.typed
+    }
+
+    /// How many positions the program has. There is a mode for each.
+    pub fn position_count(&self) -> u32
+        ensures count { result ≡ position_count self.now.typed }
+        ensures whole { IsWhole self.now }
+    {
+        self.typed.position_count()
     }
 
     /// The mode of a position.

@@ -175,7 +175,8 @@ pub fn is_sibling(t: &Typed, s: Sharing<'_>) -> bool
     }
 }
 
-fn variable_named(named: Named) -> Option<u32>
+/// The variable that a name names, by the token that declares it.
+pub fn variable_named(named: Named) -> Option<u32>
     ensures { result ≡ variable_named named }
 {
     match named {

@@ -30,7 +30,8 @@ fn is_mutex(base: &Base, below: &[Option<Mode>]) -> bool
     }
 }
 
-fn is_private_mode(mode: &Mode) -> bool
+/// Whether it is private.
+pub fn is_private_mode(mode: &Mode) -> bool
     ensures { result ≡ is_private_mode mode.now }
 {
     match mode {

@@ -1,0 +1,16 @@
+use Rattle.std.proofs.Common.{◌≡◌, ◌+◌, ◌≤◌}
+use Rattle.sharc_mode.specs.Moded.{position_count}
+use Rattle.sharc_mode.specs.Rows.{modes_of}
+use Rattle.sharc_mode.specs.Sharings.{same_all}
+use Rattle.sharc_mode.specs.View.{view_row}
+use Rattle.sharc_mode.proofs.shown.same_rows.Given as goal
+
+abbrev pub invariant-loop-a : goal.invariant-loop-a
+invariant-loop-a l = record {
+  first : l.a.first + l.a.count ≤ position_count l.m.typed;
+  second : l.b.first + l.b.count ≤ position_count l.m.typed;
+  same : same_all l.m.typed (modes_of l.m (view_row l.a)) (modes_of l.m (view_row l.b)) ≡ same_all l.m.typed (modes_of l.m (view_row l.fn.a)) (modes_of l.m (view_row l.fn.b));
+}
+
+abbrev pub decreases-loop-a : goal.decreases-loop-a
+decreases-loop-a l = l.a.count

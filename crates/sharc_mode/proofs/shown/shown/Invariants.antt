@@ -1,0 +1,15 @@
+use Rattle.std.proofs.Common.{◌≡◌, ◌+◌, ◌≤◌, ◌∷◌, ◌++◌, map, Some, None}
+use Rattle.sharc_mode.specs.Moded.{position_count}
+use Rattle.sharc_mode.specs.Rows.{modes_of}
+use Rattle.sharc_mode.specs.Sharings.{mode_of}
+use Rattle.sharc_mode.specs.View.{view_row}
+use Rattle.sharc_mode.proofs.shown.shown.Given as goal
+
+abbrev pub invariant-loop-left : goal.invariant-loop-left
+invariant-loop-left l = record {
+  ends : l.left.first + l.left.count ≤ position_count l.m.typed;
+  levels : l.levels.items ++ map (λ s. Some (mode_of l.m.typed s)) (modes_of l.m (view_row l.left)) ≡ None ∷ map (λ s. Some (mode_of l.m.typed s)) (modes_of l.m (view_row l.fn.row));
+}
+
+abbrev pub decreases-loop-left : goal.decreases-loop-left
+decreases-loop-left l = l.left.count

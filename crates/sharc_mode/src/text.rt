@@ -1,0 +1,70 @@
+// The texts of lock paths, of modes and of the tokens of a construct.
+
+ghost use Rattle.std.specs.Prelude.{◌≡◌, IfOk};
+ghost use Rattle.sharc_tree.specs.Texts.{path_text, mode_text};
+ghost use Rattle.sharc_tree.specs.declared.ctype.Mode.TheVariants.{Locked as LockedMode};
+ghost use Rattle.sharc_mode.specs.Notes.{span_text};
+
+use sharc_ctype::typed::Typed;
+use sharc_tree::ctype::{Mode, Path};
+use sharc_tree::name::Name;
+use sharc_tree::print::print_span;
+use sharc_tree::token::Span;
+use std::alloc::{AllocError, Global};
+
+/// The text of a lock path: `m` or `x->m`.
+pub fn path_text(alloc: Global, path: &Path) -> Result<Name, AllocError>
+    ensures { IfOk result (λ n. n ≡ path_text path.now) }
+{
+    match path {
+        Path::One(mutex, _) => mutex.copy(alloc),
+        Path::Through(variable, _, mutex) => {
+            let mut text = Vec::from_slice(alloc, variable.as_slice())?;
+            text.extend_from_slice(b"->")?;
+            text.extend_from_slice(mutex.as_slice())?;
+            Ok(Name::of(text))
+        }
+    }
+}
+
+fn locked_text(alloc: Global, path: &Path) -> Result<Name, AllocError>
+    ensures { IfOk result (λ n. n ≡ mode_text (LockedMode path.now)) }
+{
+    let path = path_text(alloc, path)?;
+    let mut text = Vec::from_slice(alloc, b"locked(")?;
+    text.extend_from_slice(path.as_slice())?;
+    text.extend_from_slice(b")")?;
+    Ok(Name::of(text))
+}
+
+/// The text of a mode.
+pub fn mode_text(alloc: Global, mode: &Mode) -> Result<Name, AllocError>
+    ensures { IfOk result (λ n. n ≡ mode_text mode.now) }
+{
+    match mode {
+        Mode::Private => Name::from_slice(alloc, b"private"),
+        Mode::Readonly => Name::from_slice(alloc, b"readonly"),
+        Mode::Locked(path) => locked_text(alloc, path),
+        Mode::Racy => Name::from_slice(alloc, b"racy"),
+        Mode::Dynamic => Name::from_slice(alloc, b"dynamic"),
+    }
+}
+
+/// The text of the tokens of a construct, with a blank only between two tokens that are both words or numbers. Tokens past the last one have none.
+pub fn span_text(alloc: Global, t: &Typed, span: Span) -> Result<Name, AllocError>
+    ensures { IfOk result (λ n. n ≡ span_text t.now span) }
+{
+    let program = t.program();
+    let count = program.tokens.list.len();
+    let from = span.first.token;
+    let last = span.last.token;
+    if from as usize >= count || last < from {
+        return Ok(Name::of(Vec::new(alloc)));
+    }
+    let last = if (last as usize) < count {
+        last
+    } else {
+        (count - 1) as u32
+    };
+    Ok(Name::of(print_span(alloc, program, from, last)?))
+}
