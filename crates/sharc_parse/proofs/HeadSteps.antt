@@ -19,8 +19,11 @@ use Rattle.sharc_parse.specs.declared.token.Fault.{Fault}
 use Rattle.sharc_parse.specs.declared.token.Fault.TheVariants.{Memory, Wrong, Deep}
 use Rattle.sharc_parse.specs.Goes.{from, Past}
 use Rattle.sharc_parse.specs.Rights.{option_of}
-use Rattle.sharc_parse.specs.Lines.{line_of, ReadsLine}
-use Rattle.sharc_parse.specs.Heads.{ReadsTail, ReadsStep, ReadsHead}
+use Rattle.sharc_parse.specs.Lines.{line_of, ReadsLine, IsLinePlaced}
+use Rattle.sharc_parse.specs.Heads.{ReadsTail, IsTailPlaced, step_of, ReadsStep, IsStepPlaced, ReadsHead, IsHeadPlaced}
+use Rattle.sharc_tree.specs.Tree as tree
+use Rattle.sharc_tree.specs.View.{view_expr, view_option, view_simple, view_first}
+use Rattle.sharc_grammar.specs.Places.{site_in, line_size, option_size, first_at, option_at, step_at}
 use Rattle.sharc_parse.proofs.Steps.{passes, fixed_goes}
 use Rattle.sharc_parse.proofs.RightSteps.{ends_place}
 use Rattle.sharc_parse.proofs.SimpleSteps.{doing_ends}
@@ -134,3 +137,17 @@ head_step_wrong Memory tokens old mid next last new f x s r t z o h = tt
 
 pub head_done : (tokens : List Token) (old mid next last new : ℕ) (f : ForFirst) (x : Option Expr) (y : Option Simple) → Past (mark OpenParenthesis) tokens old mid → ReadsLine true false (Ok f) (from tokens mid) (from tokens next) → ReadsTail (Ok x) (from tokens next) (from tokens last) → ReadsStep (Ok y) (from tokens last) (from tokens new) → ReadsHead (Ok (record { first = f; test = x; step = y })) (from tokens old) (from tokens new)
 head_done tokens old mid next last new f x y s r t z o h = head_second tokens old mid next last f x s r t o h ∙ z (line_of f) (option_of x) o h
+
+abbrev made_head : tree.First → Option tree.Expression → Option tree.Simple → tree.Head
+made_head f x y = record { first = f; test = x; step = y }
+
+pub head_placed : (tokens : List Token) (old mid next last new : ℕ) (f : ForFirst) (x : Option Expr) (y : Option Simple) → Past (mark OpenParenthesis) tokens old mid → IsLinePlaced (Ok f) tokens mid next → IsTailPlaced (Ok x) tokens next last → IsStepPlaced (Ok y) tokens last new → IsHeadPlaced (Ok (record { first = f; test = x; step = y })) tokens old new
+head_placed tokens old mid next last new f x y s a b z = λ n h.
+    let first : view_first f ≡ first_at (site_in tokens) (n + 2) (line_of f) = a.0 ∙ ap (λ i. first_at (site_in tokens) i (line_of f)) (omega (arith, s.1, h)) in
+    let test : view_option view_expr x ≡ option_at (site_in tokens) (n + line_size (line_of f) + 2) (option_of x) = b.0 ∙ ap (λ i. option_at (site_in tokens) i (option_of x)) (omega (arith, s.1, h, a.1)) in
+    let step : view_option view_simple y ≡ step_at (site_in tokens) (n + line_size (line_of f) + option_size (option_of x) + 3) (step_of y) = z.0 ∙ ap (λ i. step_at (site_in tokens) i (step_of y)) (omega (arith, s.1, h, a.1, b.1)) in (
+      ap (λ v. made_head v (view_option view_expr x) (view_option view_simple y)) first
+          ∙ ap (λ v. made_head (first_at (site_in tokens) (n + 2) (line_of f)) v (view_option view_simple y)) test
+          ∙ ap (made_head (first_at (site_in tokens) (n + 2) (line_of f)) (option_at (site_in tokens) (n + line_size (line_of f) + 2) (option_of x))) step,
+      omega (arith, s.1, h, a.1, b.1, z.1),
+    )

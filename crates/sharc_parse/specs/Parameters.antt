@@ -13,11 +13,6 @@ use Rattle.sharc_parse.specs.Goes.{from, Past, NotAt, Goes}
 use Rattle.sharc_parse.specs.Locals.{void_type}
 use Rattle.sharc_parse.specs.Fields.{declared}
 
--- no star, and no mode
-abbrev pub IsBare : Bool → Typing → Type 0
-IsBare true t = (t.mode_first ≡ false) × (t.levels ≡ None ∷ [])
-IsBare false t = t.mode_first ≡ false → t.levels ≡ None ∷ [] → ⊥
-
 abbrev pub ClosesVoid : Bool → Typing → List Token → ℕ → ℕ → Type 0
 ClosesVoid true t tokens old new = (t ≡ void_type) × Past (mark CloseParenthesis) tokens old new
 ClosesVoid false t tokens old new = (new ≡ old) × (t ≡ void_type → NotAt (mark CloseParenthesis) (from tokens new))

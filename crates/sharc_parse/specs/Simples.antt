@@ -1,5 +1,5 @@
 -- What the functions that read assignments and calls promise.
-use Rattle.std.specs.Prelude.{◌≡◌, ℕ, ◌+◌, ◌≤◌, true, false, List, [], ◌∷◌, Result, IfOk}
+use Rattle.std.specs.Prelude.{◌≡◌, ℕ, ◌+◌, ◌≤◌, true, false, List, [], ◌∷◌, Result, Ok, Err, IfOk}
 use Rattle.sharc_tree.specs.Tree as tree
 use Rattle.sharc_tree.specs.View.{view_simple}
 use Rattle.sharc_tree.specs.declared.token.Token.{Token}
@@ -10,6 +10,7 @@ use Rattle.sharc_grammar.specs.Machine.{Outer, DoingPlace, of_doing, part, subje
 use Rattle.sharc_grammar.specs.Limits.{Limited, StuckAt, next_within, reads_within, crowded_doing}
 use Rattle.sharc_grammar.specs.Places.{site_in, doing_size, doing_at}
 use Rattle.sharc_parse.specs.declared.token.Fault.{Fault}
+use Rattle.sharc_parse.specs.declared.token.Fault.TheVariants.{Wrong}
 use Rattle.sharc_parse.specs.View.{bare}
 use Rattle.sharc_parse.specs.Goes.{Goes, NotAt}
 use Rattle.sharc_parse.specs.Rights.{bare_value, valued_state, EndsValue}
@@ -36,6 +37,12 @@ EndsDoing (invoke e) all = (is_call e ≡ true) × (grip all ≤ 11) × NotAt (m
 
 abbrev pub EndsSimple : Result Simple Fault → List Word → Type 0
 EndsSimple result new = IfOk result (λ x. EndsDoing (doing_of x) new)
+
+-- a call is what was read, and nothing else is
+abbrev pub IsCallOf : Result Simple Fault → tree.Expression → Type 0
+IsCallOf (Ok x) e = (view_simple x ≡ tree.does_call e) × (is_call (bare e) ≡ true)
+IsCallOf (Err Wrong) e = is_call (bare e) ≡ false
+IsCallOf (Err _) e = ⊥
 
 abbrev pub IsSimplePlaced : Result Simple Fault → List Token → ℕ → ℕ → Type 0
 IsSimplePlaced result tokens old new = IfOk result (λ x. (view_simple x ≡ doing_at (site_in tokens) old (doing_of x)) × (new ≡ old + doing_size (doing_of x)))

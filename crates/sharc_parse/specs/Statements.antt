@@ -3,6 +3,7 @@ use Rattle.std.specs.Prelude.{◌≡◌, ℕ, ◌+◌, ◌<◌, Bool, true, List
 use Rattle.sharc_tree.specs.Tree as tree
 use Rattle.sharc_tree.specs.View.{view_stmt, view_statements}
 use Rattle.sharc_tree.specs.declared.token.Token.{Token}
+use Rattle.sharc_tree.specs.declared.token.Span.{Span}
 use Rattle.sharc_tree.specs.declared.token.Keyword.TheVariants as key
 use Rattle.sharc_tree.specs.declared.tree.statement.Jump.{Jump}
 use Rattle.sharc_tree.specs.declared.tree.statement.Stmt.{Stmt}
@@ -72,6 +73,11 @@ ReadsJump j result old new = (o : Outer) → around_it o < 64 → Goes sentence_
 -- its first word has the number before the old place
 abbrev pub IsRestPlaced : Result Stmt Fault → List Token → ℕ → ℕ → Type 0
 IsRestPlaced result tokens old new = IfOk result (λ s. (n : ℕ) → n + 1 ≡ old → (view_stmt s ≡ statement_at (site_in tokens) n (sentence_of s)) × (new ≡ n + sentence_size (sentence_of s)))
+
+abbrev pub line_statement : Span → tree.First → tree.Statement
+line_statement s tree.nothing = tree.empty s
+line_statement s (tree.declares l) = tree.declare s l
+line_statement s (tree.does x) = tree.simple s x
 
 abbrev pub BuildsStatement : Result Stmt Fault → tree.Statement → Type 0
 BuildsStatement (Ok s) x = view_stmt s ≡ x

@@ -164,6 +164,11 @@ EndsType modes result new = IfOk result (λ t. EndsLevels modes (bare_type t).le
 abbrev pub IsTypePlaced : Result WrittenType Fault → List Token → ℕ → ℕ → Type 0
 IsTypePlaced result tokens old new = IfOk result (λ t. (t ≡ type_at (site_in tokens) old (bare_type t)) × (new ≡ old + type_size (bare_type t)))
 
+-- the type has no star and no mode
+abbrev pub IsBare : Bool → Typing → Type 0
+IsBare true t = (t.mode_first ≡ false) × (t.levels ≡ None ∷ [])
+IsBare false t = t.mode_first ≡ false → t.levels ≡ None ∷ [] → ⊥
+
 -- the type of a cast, with the `(` before it and the `,` behind it
 abbrev pub ReadsCast : Result WrittenType Fault → List Word → List Word → Type 0
 ReadsCast result old new = (k : Cont) → depth k < 64 → crowded k ≡ false → Goes bare_type result (reads_within old (At (an_open ∷ []) (TypeWant (casting k)))) (λ t. reads_within new (At [] (Want (fronted (of_cast t) k)))) new

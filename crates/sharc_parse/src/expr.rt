@@ -11,6 +11,7 @@ ghost use Rattle.sharc_grammar.specs.Places.{sizes, site_in, span_at, arguments_
 ghost use Rattle.sharc_parse.specs.View.{phrase_of, phrases_of};
 ghost use Rattle.sharc_parse.specs.Goes.{from, Goes, ReadsFrom, IsHigh, IsPlaced, ReadsFront, IsFrontPlaced, NoUnary, NoCall, Builds, front_tree, bare_front};
 
+use crate::held::{both, boxed_beside, boxes, expect_behind};
 use crate::token::{
     Fault, FrontWord, Piece, access, constant, enter, expect, front_word, is_at, name, operator,
     site, span, strength_of, take, unary_operator,
@@ -53,7 +54,7 @@ fn rest_of_front(
             let Some(function) = name(alloc, tokens, at)? else {
                 return Err(Fault::Wrong);
             };
-            expect(tokens, at, Punctuator::Comma)?;
+            let function = expect_behind(tokens, at, function, Punctuator::Comma)?;
             Ok(Front::Spawn(function))
         }
         FrontWord::Value(call) => {
@@ -91,8 +92,7 @@ fn binary_of(
     ensures { Builds result (binary span operator site (view_expr left.expr) (view_expr right.expr)) (max left.height right.height + 1) }
 {
     let height = left.height.max(right.height) + 1;
-    let left = Box::new(alloc, left.expr)?;
-    let right = Box::new(alloc, right.expr)?;
+    let (left, right) = boxes(alloc, left.expr, right.expr)?;
     let expr = Expr::Binary {
         span,
         operator,
@@ -109,11 +109,8 @@ fn index_of(alloc: Global, span: Span, base: Piece, index: Piece) -> Result<Piec
     ensures { Builds result (tree.index span (view_expr base.expr) (view_expr index.expr)) (max base.height index.height + 1) }
 {
     let height = base.height.max(index.height) + 1;
-    let expr = Expr::Index(
-        span,
-        Box::new(alloc, base.expr)?,
-        Box::new(alloc, index.expr)?,
-    );
+    let (base, index) = boxes(alloc, base.expr, index.expr)?;
+    let expr = Expr::Index(span, base, index);
     Ok(Piece { expr, height })
 }
 
@@ -128,7 +125,7 @@ fn field_of(
     ensures { Builds result (field span (view_expr base.expr) access name) (base.height + 1) }
 {
     let height = base.height + 1;
-    let base = Box::new(alloc, base.expr)?;
+    let (base, name) = boxed_beside(alloc, base.expr, name)?;
     let expr = Expr::Field {
         span,
         base,
@@ -158,18 +155,19 @@ fn front_of(alloc: Global, span: Span, front: Front, inner: Piece) -> Result<Pie
     requires { inner.height < 64 }
     ensures { Builds result (front_tree span front (view_expr inner.expr)) (inner.height + 1) }
 {
-    let inner_expr = Box::new(alloc, inner.expr)?;
+    let height = inner.height + 1;
+    let (inner, front) = boxed_beside(alloc, inner.expr, front)?;
     let expr = match front {
-        Front::Parenthesis => Expr::Parentheses(span, inner_expr),
-        Front::Spawn(function) => Expr::Spawn(span, function, inner_expr),
-        Front::Value(call) => Expr::OnValue(span, call, inner_expr),
-        Front::Place(call) => Expr::OnPlace(span, call, inner_expr),
-        Front::Cast(written) => Expr::Cast(span, Box::new(alloc, written)?, inner_expr),
+        Front::Parenthesis => Expr::Parentheses(span, inner),
+        Front::Spawn(function) => Expr::Spawn(span, function, inner),
+        Front::Value(call) => Expr::OnValue(span, call, inner),
+        Front::Place(call) => Expr::OnPlace(span, call, inner),
+        Front::Cast(written) => {
+            let (written, inner) = boxed_beside(alloc, written, inner)?;
+            Expr::Cast(span, written, inner)
+        }
     };
-    Ok(Piece {
-        expr,
-        height: inner.height + 1,
-    })
+    Ok(Piece { expr, height })
 }
 
 /// How tightly what stands behind it has to hold together.
@@ -296,12 +294,19 @@ fn primary(alloc: Global, tokens: &[Token], at: &mut usize, room: u8) -> Result<
     let first = *at;
     if let Some(word) = front_word(tokens, at, room)? {
         let front = rest_of_front(alloc, tokens, at, word)?;
-        let inner = binary(alloc, tokens, at, least_of(&front), room - 1)?;
-        expect(tokens, at, Punctuator::CloseParenthesis)?;
+        let least = least_of(&front);
+        let (front, inner) = both(front, binary(alloc, tokens, at, least, room - 1))?;
+        let (front, inner) = expect_behind(
+            tokens,
+            at,
+            (front, inner),
+            Punctuator::CloseParenthesis,
+        )?;
         front_of(alloc, span(tokens, first, *at), front, inner)
     } else if let Some(name) = name(alloc, tokens, at)? {
-        if enter(tokens, at, Punctuator::OpenParenthesis, room)? {
-            let (arguments, highest) = arguments(alloc, tokens, at, room - 1)?;
+        let (name, opens) = both(name, enter(tokens, at, Punctuator::OpenParenthesis, room))?;
+        if opens {
+            let (name, (arguments, highest)) = both(name, arguments(alloc, tokens, at, room - 1))?;
             Ok(Piece {
                 expr: Expr::call(span(tokens, first, *at), name, arguments),
                 height: highest + 1,

@@ -5,6 +5,7 @@ ghost use Rattle.sharc_parse.specs.Goes.{from};
 ghost use Rattle.sharc_parse.specs.Heads.{ReadsTail, IsTailPlaced, ReadsStep, IsStepPlaced, ReadsHead, IsHeadPlaced};
 
 use crate::expr::binary;
+use crate::held::{both, expect_behind};
 use crate::line::line;
 use crate::simple::simple;
 use crate::token::{Fault, expect, take};
@@ -26,7 +27,7 @@ pub(crate) fn tail(alloc: Global, tokens: &[Token], at: &mut usize) -> Result<Op
         return Ok(None);
     }
     let piece = binary(alloc, tokens, at, 1, 64)?;
-    expect(tokens, at, Punctuator::Semicolon)?;
+    let piece = expect_behind(tokens, at, piece, Punctuator::Semicolon)?;
     Ok(Some(piece.expr))
 }
 
@@ -44,7 +45,7 @@ fn step(alloc: Global, tokens: &[Token], at: &mut usize) -> Result<Option<Simple
         return Ok(None);
     }
     let simple = simple(alloc, tokens, at)?;
-    expect(tokens, at, Punctuator::CloseParenthesis)?;
+    let simple = expect_behind(tokens, at, simple, Punctuator::CloseParenthesis)?;
     Ok(Some(simple))
 }
 
@@ -60,7 +61,7 @@ pub(crate) fn head(alloc: Global, tokens: &[Token], at: &mut usize) -> Result<Fo
 {
     expect(tokens, at, Punctuator::OpenParenthesis)?;
     let first = line(alloc, tokens, at, true, false)?;
-    let test = tail(alloc, tokens, at)?;
-    let step = step(alloc, tokens, at)?;
+    let (first, test) = both(first, tail(alloc, tokens, at))?;
+    let ((first, test), step) = both((first, test), step(alloc, tokens, at))?;
     Ok(ForHead { first, test, step })
 }

@@ -8,11 +8,12 @@ ghost use Rattle.sharc_parse.specs.Items.{OpensStruct, ReadsStruct, IsStructPlac
 
 use crate::field::fields;
 use crate::form::form;
+use crate::held::{both, expect_behind};
 use crate::local::name_there;
-use crate::parameter::{is_bare, parameters};
+use crate::parameter::parameters;
 use crate::statement::statements;
-use crate::token::{Fault, expect, span, take};
-use crate::types::written;
+use crate::token::{Fault, span, take};
+use crate::types::{is_bare, written};
 use sharc_tree::ctype::Base;
 use sharc_tree::token::{Punctuator, Token};
 use sharc_tree::tree::{
@@ -59,8 +60,8 @@ fn rest_of_struct(
     ensures within { at.new ≤ length tokens.now }
 {
     let first = *at - 3;
-    let fields = fields(alloc, tokens, at)?;
-    expect(tokens, at, Punctuator::Semicolon)?;
+    let (name, fields) = both(name, fields(alloc, tokens, at))?;
+    let (name, fields) = expect_behind(tokens, at, (name, fields), Punctuator::Semicolon)?;
     Ok(Item::Struct(StructDefinition {
         span: span(tokens, first, *at),
         name,
@@ -85,13 +86,13 @@ fn rest_of_function(
     ensures onward { at.old ≤ at.new }
     ensures within { at.new ≤ length tokens.now }
 {
-    let parameters = parameters(alloc, tokens, at)?;
+    let (named, parameters) = both((given, name), parameters(alloc, tokens, at))?;
     let opens = *at;
-    expect(tokens, at, Punctuator::OpenBrace)?;
-    let statements = statements(alloc, tokens, at, 63)?;
+    let head = expect_behind(tokens, at, (named, parameters), Punctuator::OpenBrace)?;
+    let (((result, name), parameters), statements) = both(head, statements(alloc, tokens, at, 63))?;
     Ok(Item::Function(FunctionDefinition {
         span: span(tokens, first, *at),
-        result: given,
+        result,
         name,
         parameters: Declarations::of(parameters),
         body: span(tokens, opens, *at),
@@ -115,7 +116,7 @@ fn rest_of_named(
     ensures onward { at.old ≤ at.new }
     ensures within { at.new ≤ length tokens.now }
 {
-    let name = name_there(alloc, tokens, at)?;
+    let (written, name) = both(written, name_there(alloc, tokens, at))?;
     if take(tokens, at, Punctuator::OpenParenthesis) {
         return rest_of_function(alloc, tokens, at, first, written, name);
     }
@@ -124,7 +125,7 @@ fn rest_of_named(
         written,
         name,
     };
-    let form = form(tokens, at)?;
+    let (declaration, form) = both(declaration, form(tokens, at))?;
     Ok(Item::Global(GlobalDefinition {
         span: span(tokens, first, *at),
         declaration,

@@ -10,6 +10,7 @@ mod expr;
 mod field;
 mod form;
 mod head;
+mod held;
 mod item;
 pub mod laws;
 mod line;

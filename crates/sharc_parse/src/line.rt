@@ -4,9 +4,10 @@ ghost use Rattle.std.specs.Prelude.{◌≡◌, ◌≤◌, ◌^◌, length};
 ghost use Rattle.sharc_parse.specs.Goes.{from};
 ghost use Rattle.sharc_parse.specs.Lines.{MeetsType, MeetsLocal, starts_line, ReadsDeclaredLine, ReadsSimpleLine, ReadsLine, IsLinePlaced};
 
+use crate::held::expect_behind;
 use crate::local::local;
 use crate::simple::simple;
-use crate::token::{Fault, expect, take};
+use crate::token::{Fault, take};
 use crate::types::{base_word, mode_word};
 use sharc_tree::token::{Keyword, Punctuator, Token, TokenKind};
 use sharc_tree::tree::ForFirst;
@@ -71,7 +72,7 @@ fn declared_line(alloc: Global, tokens: &[Token], at: &mut usize) -> Result<ForF
     ensures within { at.new ≤ length tokens.now }
 {
     let local = local(alloc, tokens, at)?;
-    expect(tokens, at, Punctuator::Semicolon)?;
+    let local = expect_behind(tokens, at, local, Punctuator::Semicolon)?;
     Ok(ForFirst::Declares(local))
 }
 
@@ -86,7 +87,7 @@ fn simple_line(alloc: Global, tokens: &[Token], at: &mut usize) -> Result<ForFir
     ensures within { at.new ≤ length tokens.now }
 {
     let simple = simple(alloc, tokens, at)?;
-    expect(tokens, at, Punctuator::Semicolon)?;
+    let simple = expect_behind(tokens, at, simple, Punctuator::Semicolon)?;
     Ok(ForFirst::Does(simple))
 }
 

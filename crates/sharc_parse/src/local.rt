@@ -4,6 +4,7 @@ ghost use Rattle.std.specs.Prelude.{◌≤◌, ◌^◌, length};
 ghost use Rattle.sharc_parse.specs.Goes.{from};
 ghost use Rattle.sharc_parse.specs.Locals.{ReadsName, IsNamePlaced, ReadsDeclaration, IsDeclarationPlaced, ReadsInitial, EndsInitially, IsInitialPlaced, ReadsLocal, EndsLocal, IsLocalPlaced};
 
+use crate::held::both;
 use crate::right::right;
 use crate::token::{Fault, name, span, take};
 use crate::types::written;
@@ -47,7 +48,7 @@ pub(crate) fn declaration(
 {
     let first = *at;
     let written = written(alloc, tokens, at, true)?;
-    let name = name_there(alloc, tokens, at)?;
+    let (written, name) = both(written, name_there(alloc, tokens, at))?;
     Ok(Declaration {
         span: span(tokens, first, *at),
         written,
@@ -86,7 +87,7 @@ pub(crate) fn local(alloc: Global, tokens: &[Token], at: &mut usize) -> Result<L
 {
     let first = *at;
     let declaration = declaration(alloc, tokens, at)?;
-    let initial = initial(alloc, tokens, at)?;
+    let (declaration, initial) = both(declaration, initial(alloc, tokens, at))?;
     Ok(Local {
         span: span(tokens, first, *at),
         declaration,

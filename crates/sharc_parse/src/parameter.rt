@@ -3,23 +3,16 @@
 ghost use Rattle.std.specs.Prelude.{◌≤◌, ◌^◌, length};
 ghost use Rattle.sharc_parse.specs.Goes.{from};
 ghost use Rattle.sharc_parse.specs.View.{bare_type};
-ghost use Rattle.sharc_parse.specs.Parameters.{IsBare, ClosesVoid, ReadsFirst, IsFirstPlaced, ReadsParameters, AreParametersPlaced};
+ghost use Rattle.sharc_parse.specs.Parameters.{ClosesVoid, ReadsFirst, IsFirstPlaced, ReadsParameters, AreParametersPlaced};
 
+use crate::held::both;
 use crate::local::{declaration, name_there};
 use crate::token::{Fault, expect, span, take};
-use crate::types::written;
+use crate::types::{is_bare, written};
 use sharc_tree::ctype::Base;
 use sharc_tree::token::{Punctuator, Token};
 use sharc_tree::tree::{Declaration, WrittenType};
 use std::alloc::Global;
-
-/// Whether the type has no star and no mode.
-pub(crate) fn is_bare(written: &WrittenType) -> bool
-    ensures { IsBare result (bare_type written.now) }
-{
-    let levels = &written.ctype.levels;
-    !written.mode_first && levels.len() == 1 && levels.at(0).is_none()
-}
 
 /// Goes past a `)` behind a `void` that stands for no parameters.
 fn closes_void(tokens: &[Token], at: &mut usize, written: &WrittenType) -> bool
@@ -49,7 +42,7 @@ fn first_parameter(
     if closes_void(tokens, at, &written) {
         return Ok(None);
     }
-    let name = name_there(alloc, tokens, at)?;
+    let (written, name) = both(written, name_there(alloc, tokens, at))?;
     Ok(Some(Declaration {
         span: span(tokens, first, *at),
         written,

@@ -3,8 +3,8 @@
 ghost use Rattle.std.specs.Prelude.{◌≡◌, ◌+◌, ◌≤◌, ◌^◌, length};
 ghost use Rattle.sharc_parse.specs.Goes.{from};
 ghost use Rattle.sharc_tree.specs.Tree.{return};
-ghost use Rattle.sharc_tree.specs.View.{view_expr, view_option};
-ghost use Rattle.sharc_parse.specs.Statements.{ReadsLineStatement, BuildsStatement, ReadsReturn, ReadsJump, EndsStatement, IsStatementPlaced, IsRestPlaced};
+ghost use Rattle.sharc_tree.specs.View.{view_expr, view_option, view_first};
+ghost use Rattle.sharc_parse.specs.Statements.{ReadsLineStatement, BuildsStatement, line_statement, ReadsReturn, ReadsJump, EndsStatement, IsStatementPlaced, IsRestPlaced};
 
 use crate::head::tail;
 use crate::line::line;
@@ -12,6 +12,17 @@ use crate::token::{Fault, expect, span};
 use sharc_tree::token::{Punctuator, Span, Token};
 use sharc_tree::tree::{Expr, ForFirst, Jump, Stmt};
 use std::alloc::Global;
+
+/// A statement of a line.
+fn statement_of(alloc: Global, span: Span, line: ForFirst) -> Result<Stmt, Fault>
+    ensures { BuildsStatement result (line_statement span (view_first line)) }
+{
+    match line {
+        ForFirst::Nothing => Ok(Stmt::Empty(span)),
+        ForFirst::Declares(local) => Ok(Stmt::Declare(span, Box::new(alloc, local)?)),
+        ForFirst::Does(simple) => Ok(Stmt::Simple(span, Box::new(alloc, simple)?)),
+    }
+}
 
 /// A line as a statement.
 #[tactic(auto, using(crate::proofs::PlainSteps::line_room, crate::proofs::PlainSteps::line_may))]
@@ -32,17 +43,8 @@ pub(crate) fn line_statement(
     ensures within { at.new ≤ length tokens.now }
 {
     let first = *at;
-    match line(alloc, tokens, at, declares, room == 0)? {
-        ForFirst::Nothing => Ok(Stmt::Empty(span(tokens, first, *at))),
-        ForFirst::Declares(local) => Ok(Stmt::Declare(
-            span(tokens, first, *at),
-            Box::new(alloc, local)?,
-        )),
-        ForFirst::Does(simple) => Ok(Stmt::Simple(
-            span(tokens, first, *at),
-            Box::new(alloc, simple)?,
-        )),
-    }
+    let line = line(alloc, tokens, at, declares, room == 0)?;
+    statement_of(alloc, span(tokens, first, *at), line)
 }
 
 /// What follows the word `break` or `continue`.

@@ -5,6 +5,7 @@ ghost use Rattle.sharc_parse.specs.Goes.{from};
 ghost use Rattle.sharc_parse.specs.Rights.{ReadsCount, IsCountPlaced, ReadsSized, IsSizedPlaced, ReadsRight, EndsRight, IsRightPlaced};
 
 use crate::expr::{binary, unary};
+use crate::held::{both, expect_behind};
 use crate::token::{Fault, expect, expect_keyword, span, take_keyword};
 use crate::types::written;
 use sharc_tree::token::{Keyword, Punctuator, Token};
@@ -25,8 +26,8 @@ fn count(alloc: Global, tokens: &[Token], at: &mut usize) -> Result<Option<Expr>
         return Ok(None);
     }
     let piece = unary(alloc, tokens, at, 64)?;
-    expect(tokens, at, Punctuator::Star)?;
-    expect_keyword(tokens, at, Keyword::Sizeof)?;
+    let piece = expect_behind(tokens, at, piece, Punctuator::Star)?;
+    let (piece, _) = both(piece, expect_keyword(tokens, at, Keyword::Sizeof))?;
     Ok(Some(piece.expr))
 }
 
@@ -42,8 +43,8 @@ fn sized(alloc: Global, tokens: &[Token], at: &mut usize) -> Result<WrittenType,
 {
     expect(tokens, at, Punctuator::OpenParenthesis)?;
     let plain = written(alloc, tokens, at, false)?;
-    expect(tokens, at, Punctuator::CloseParenthesis)?;
-    expect(tokens, at, Punctuator::CloseParenthesis)?;
+    let plain = expect_behind(tokens, at, plain, Punctuator::CloseParenthesis)?;
+    let plain = expect_behind(tokens, at, plain, Punctuator::CloseParenthesis)?;
     Ok(plain)
 }
 
@@ -62,7 +63,7 @@ pub(crate) fn right(alloc: Global, tokens: &[Token], at: &mut usize) -> Result<R
     if take_keyword(tokens, at, Keyword::Malloc) {
         expect(tokens, at, Punctuator::OpenParenthesis)?;
         let count = count(alloc, tokens, at)?;
-        let written = sized(alloc, tokens, at)?;
+        let (count, written) = both(count, sized(alloc, tokens, at))?;
         Ok(Right::Malloc(span(tokens, first, *at), count, written))
     } else {
         let piece = binary(alloc, tokens, at, 1, 64)?;

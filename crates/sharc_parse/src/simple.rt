@@ -2,11 +2,13 @@
 
 ghost use Rattle.std.specs.Prelude.{◌≡◌, ◌≤◌, ◌^◌, length};
 ghost use Rattle.sharc_grammar.specs.Grammar as grammar;
+ghost use Rattle.sharc_tree.specs.View.{view_expr};
 ghost use Rattle.sharc_parse.specs.View.{phrase_of};
 ghost use Rattle.sharc_parse.specs.Goes.{from};
-ghost use Rattle.sharc_parse.specs.Simples.{ReadsSimple, EndsSimple, IsSimplePlaced};
+ghost use Rattle.sharc_parse.specs.Simples.{IsCallOf, ReadsSimple, EndsSimple, IsSimplePlaced};
 
 use crate::expr::unary;
+use crate::held::both;
 use crate::right::right;
 use crate::token::{Fault, span, take};
 use sharc_tree::token::{Punctuator, Token};
@@ -26,6 +28,17 @@ fn is_call(expr: &Expr) -> bool
     }
 }
 
+/// A call, as what stands before a `;`.
+fn call_of(expr: Expr) -> Result<Simple, Fault>
+    ensures { IsCallOf result (view_expr expr) }
+{
+    if is_call(&expr) {
+        Ok(Simple::Call(expr))
+    } else {
+        Err(Fault::Wrong)
+    }
+}
+
 /// An assignment or a call.
 #[tactic(auto, using(crate::proofs::SimpleSteps::assign_goes, crate::proofs::SimpleSteps::no_call_there))]
 pub(crate) fn simple(alloc: Global, tokens: &[Token], at: &mut usize) -> Result<Simple, Fault>
@@ -40,11 +53,9 @@ pub(crate) fn simple(alloc: Global, tokens: &[Token], at: &mut usize) -> Result<
     let first = *at;
     let place = unary(alloc, tokens, at, 64)?;
     if take(tokens, at, Punctuator::Assign) {
-        let right = right(alloc, tokens, at)?;
-        Ok(Simple::Assign(span(tokens, first, *at), place.expr, right))
-    } else if is_call(&place.expr) {
-        Ok(Simple::Call(place.expr))
+        let (place, right) = both(place.expr, right(alloc, tokens, at))?;
+        Ok(Simple::Assign(span(tokens, first, *at), place, right))
     } else {
-        Err(Fault::Wrong)
+        call_of(place.expr)
     }
 }

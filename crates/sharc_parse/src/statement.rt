@@ -10,6 +10,7 @@ ghost use Rattle.sharc_parse.specs.Statements.{BuildsStatement, ReadsStatement, 
 ghost use Rattle.sharc_parse.specs.Nested.{IsOpen, ReadsRest, ReadsStatements, AreStatementsPlaced};
 
 use crate::head::head;
+use crate::held::{both, boxed_beside, boxes};
 use crate::plain::{line_statement, rest_of_jump, rest_of_return};
 use crate::token::{Fault, enter, span, take, take_keyword};
 use crate::word::{StatementWord, condition, statement_word};
@@ -21,8 +22,7 @@ use std::alloc::Global;
 fn if_of(alloc: Global, span: Span, test: Expr, then: Stmt) -> Result<Stmt, Fault>
     ensures { BuildsStatement result (if_then span (view_expr test) (view_stmt then)) }
 {
-    let test = Box::new(alloc, test)?;
-    let then = Box::new(alloc, then)?;
+    let (test, then) = boxes(alloc, test, then)?;
     Ok(Stmt::If(span, test, then))
 }
 
@@ -36,9 +36,9 @@ fn else_of(
 ) -> Result<Stmt, Fault>
     ensures { BuildsStatement result (if_then_else span (view_expr test) (view_stmt then) (view_stmt otherwise)) }
 {
-    let test = Box::new(alloc, test)?;
-    let then = Box::new(alloc, then)?;
-    let otherwise = Box::new(alloc, otherwise)?;
+    let (test, (then, otherwise)) = boxed_beside(alloc, test, (then, otherwise))?;
+    let (then, (otherwise, test)) = boxed_beside(alloc, then, (otherwise, test))?;
+    let (otherwise, (then, test)) = boxed_beside(alloc, otherwise, (then, test))?;
     Ok(Stmt::IfElse {
         span,
         test,
@@ -51,8 +51,7 @@ fn else_of(
 fn while_of(alloc: Global, span: Span, test: Expr, body: Stmt) -> Result<Stmt, Fault>
     ensures { BuildsStatement result (while span (view_expr test) (view_stmt body)) }
 {
-    let test = Box::new(alloc, test)?;
-    let body = Box::new(alloc, body)?;
+    let (test, body) = boxes(alloc, test, body)?;
     Ok(Stmt::While(span, test, body))
 }
 
@@ -60,8 +59,7 @@ fn while_of(alloc: Global, span: Span, test: Expr, body: Stmt) -> Result<Stmt, F
 fn for_of(alloc: Global, span: Span, head: ForHead, body: Stmt) -> Result<Stmt, Fault>
     ensures { BuildsStatement result (for span (view_head head) (view_stmt body)) }
 {
-    let head = Box::new(alloc, head)?;
-    let body = Box::new(alloc, body)?;
+    let (head, body) = boxes(alloc, head, body)?;
     Ok(Stmt::For(span, head, body))
 }
 
@@ -144,9 +142,10 @@ fn rest_of_if(alloc: Global, tokens: &[Token], at: &mut usize, room: u8) -> Resu
 {
     let first = *at - 1;
     let test = condition(alloc, tokens, at)?;
-    let then = statement(alloc, tokens, at, false, room - 1)?;
+    let (test, then) = both(test, statement(alloc, tokens, at, false, room - 1))?;
     if take_keyword(tokens, at, Keyword::Else) {
-        let otherwise = statement(alloc, tokens, at, false, room - 1)?;
+        let otherwise = statement(alloc, tokens, at, false, room - 1);
+        let ((test, then), otherwise) = both((test, then), otherwise)?;
         return else_of(alloc, span(tokens, first, *at), test, then, otherwise);
     }
     if_of(alloc, span(tokens, first, *at), test, then)
@@ -169,7 +168,7 @@ fn rest_of_while(alloc: Global, tokens: &[Token], at: &mut usize, room: u8) -> R
 {
     let first = *at - 1;
     let test = condition(alloc, tokens, at)?;
-    let body = statement(alloc, tokens, at, false, room - 1)?;
+    let (test, body) = both(test, statement(alloc, tokens, at, false, room - 1))?;
     while_of(alloc, span(tokens, first, *at), test, body)
 }
 
@@ -190,7 +189,7 @@ fn rest_of_for(alloc: Global, tokens: &[Token], at: &mut usize, room: u8) -> Res
 {
     let first = *at - 1;
     let head = head(alloc, tokens, at)?;
-    let body = statement(alloc, tokens, at, false, room - 1)?;
+    let (head, body) = both(head, statement(alloc, tokens, at, false, room - 1))?;
     for_of(alloc, span(tokens, first, *at), head, body)
 }
 

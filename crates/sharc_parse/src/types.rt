@@ -2,8 +2,10 @@
 
 ghost use Rattle.std.specs.Prelude.{◌≤◌, ◌<◌, ◌^◌, length, IfOk};
 ghost use Rattle.sharc_parse.specs.Goes.{from};
-ghost use Rattle.sharc_parse.specs.Types.{TakesMode, ReadsPath, IsPathPlaced, ReadsModeRest, IsModeRestPlaced, ReadsMode, IsModePlaced, ReadsLevel, TakesBase, ReadsBase, IsBasePlaced, ReadsBottom, IsBottomPlaced, EndsBottom, ReadsType, IsTypePlaced, EndsType, ReadsCast, IsCastPlaced};
+ghost use Rattle.sharc_parse.specs.View.{bare_type};
+ghost use Rattle.sharc_parse.specs.Types.{TakesMode, ReadsPath, IsPathPlaced, ReadsModeRest, IsModeRestPlaced, ReadsMode, IsModePlaced, ReadsLevel, TakesBase, ReadsBase, IsBasePlaced, ReadsBottom, IsBottomPlaced, EndsBottom, ReadsType, IsTypePlaced, EndsType, IsBare, ReadsCast, IsCastPlaced};
 
+use crate::held::{both, expect_behind};
 use crate::token::{Fault, enter, expect, name, site, span, take};
 use sharc_tree::ctype::{Base, CType, Levels, Mode, Path};
 use sharc_tree::token::{Keyword, Punctuator, Site, Token, TokenKind};
@@ -209,7 +211,7 @@ fn moded_base(alloc: Global, tokens: &[Token], at: &mut usize, modes: bool) -> R
     ensures within { at.new ≤ length tokens.now }
 {
     if let Some(mode) = level(alloc, tokens, at, modes)? {
-        let (base, place) = base(alloc, tokens, at)?;
+        let (mode, (base, place)) = both(mode, base(alloc, tokens, at))?;
         Ok(Bottom {
             mode_first: true,
             base,
@@ -217,8 +219,8 @@ fn moded_base(alloc: Global, tokens: &[Token], at: &mut usize, modes: bool) -> R
             mode: Some(mode),
         })
     } else {
-        let (base, place) = base(alloc, tokens, at)?;
-        let mode = level(alloc, tokens, at, modes)?;
+        let named = base(alloc, tokens, at)?;
+        let ((base, place), mode) = both(named, level(alloc, tokens, at, modes))?;
         Ok(Bottom {
             mode_first: false,
             base,
@@ -270,6 +272,14 @@ pub(crate) fn written(
     })
 }
 
+/// Whether the type has no star and no mode.
+pub(crate) fn is_bare(written: &WrittenType) -> bool
+    ensures { IsBare result (bare_type written.now) }
+{
+    let levels = &written.ctype.levels;
+    !written.mode_first && levels.len() == 1 && levels.at(0).is_none()
+}
+
 /// `( type ,` behind `SCAST`.
 #[tactic(auto, using(crate::proofs::TypeSteps::cast_opens, crate::proofs::TypeSteps::cast_comma, crate::proofs::TypeSteps::cast_stuck, crate::proofs::Steps::fixed_stuck))]
 pub(crate) fn cast_type(
@@ -286,6 +296,6 @@ pub(crate) fn cast_type(
 {
     expect(tokens, at, Punctuator::OpenParenthesis)?;
     let written = written(alloc, tokens, at, true)?;
-    expect(tokens, at, Punctuator::Comma)?;
+    let written = expect_behind(tokens, at, written, Punctuator::Comma)?;
     Ok(written)
 }

@@ -5,6 +5,7 @@ ghost use Rattle.sharc_parse.specs.Goes.{from};
 ghost use Rattle.sharc_parse.specs.Words.{EntersStatement, ReadsCondition, IsConditionPlaced};
 
 use crate::expr::binary;
+use crate::held::expect_behind;
 use crate::token::{Fault, expect};
 use sharc_tree::token::{Keyword, Punctuator, Token, TokenKind};
 use sharc_tree::tree::Expr;
@@ -61,6 +62,6 @@ pub(crate) fn condition(alloc: Global, tokens: &[Token], at: &mut usize) -> Resu
 {
     expect(tokens, at, Punctuator::OpenParenthesis)?;
     let piece = binary(alloc, tokens, at, 1, 64)?;
-    expect(tokens, at, Punctuator::CloseParenthesis)?;
+    let piece = expect_behind(tokens, at, piece, Punctuator::CloseParenthesis)?;
     Ok(piece.expr)
 }

@@ -1,4 +1,4 @@
-use Rattle.std.proofs.Common.{◌≡◌, ◌+◌, sym, ap, ◌∙◌, arith, ◌∷◌, [], rules}
+use Rattle.std.proofs.Common.{◌≡◌, ◌+◌, sym, ap, ◌∙◌, subst, arith, ◌∷◌, [], rules, Result, Ok}
 use Rattle.sharc_grammar.specs.Grammar.{mark, name, access_mark}
 use Rattle.sharc_grammar.specs.Machine.{Want, Have, Called, At, right_of}
 use Rattle.sharc_grammar.specs.Machine as machine
@@ -7,7 +7,10 @@ use Rattle.sharc_grammar.specs.Limits as Limits
 use Rattle.sharc_grammar.specs.Places.{site_in, size, front_size}
 use Rattle.sharc_tree.specs.View.{view_expr}
 use Rattle.sharc_parse.specs.View.{bare, phrase_of, phrases_of}
-use Rattle.sharc_parse.specs.Goes.{from, bare_front}
+use Rattle.sharc_parse.specs.declared.token.Fault.{Fault}
+use Rattle.sharc_parse.specs.declared.token.Piece.{Piece}
+use Rattle.sharc_parse.specs.declared.expr.Front.{Front}
+use Rattle.sharc_parse.specs.Goes.{from, Builds, IsPlaced, bare_front, front_tree}
 use Rattle.sharc_parse.proofs.Steps.{longer, last_argument, next_argument, binary_read, binary_stands, field_stands, field_goes, access_goes, front_placed}
 use Rattle.sharc_parse.proofs.expr.+expr.Goals as goal
 
@@ -112,14 +115,19 @@ postfix-loop-base-preserved t c =
       within = search rules;
     }
 
-pub primary-returns-in_ok-expect-clause-placed : goal.primary-returns-in_ok-expect-clause-placed
-primary-returns-in_ok-expect-clause-placed t c =
+pub primary-returns-in_ok-front-3-clause-placed : goal.primary-returns-in_ok-front-3-clause-placed
+primary-returns-in_ok-front-3-clause-placed t c =
     let f = c.in_ok-front.front in
-    let va = view_expr c.in_ok-inner.inner.expr in
+    let inner = c.in_ok-front-2.inner in
+    let last = c.in_ok-front-3 in
+    let read : c.binary.result ≡ Ok inner = search rules in
+    let same_front : last.front ≡ f = search rules in
+    let same_inner : last.inner ≡ inner = search rules in
     let took : c.front_word.new.at ≡ c.args.at.now + 1 = search rules in
-    let closes : c.expect.new.at ≡ c.binary.new.at + 1 = search rules in
+    let closes : c.expect_behind.new.at ≡ c.binary.new.at + 1 = search rules in
     let p = c.in_ok-front.ensures.placed c.args.at.now (sym took) in
-    let r = c.in_ok-inner.ensures.placed in
-    front_placed c.front_of.result c.args.tokens.now c.args.at.now c.rest_of_front.new.at c.expect.new.at _ c.span.result f va c.front_of.ensures
-    (c.span.ensures (front_size (bare_front f) + size (bare va) + 1) (omega (arith, p.1, r.1, closes)))
+    let r = subst (λ (x : Result Piece Fault). IsPlaced x c.args.tokens.now c.rest_of_front.new.at c.binary.new.at) read c.binary.ensures.placed in
+    let built = subst (λ (x : Piece). Builds c.front_of.result (front_tree c.span.result f (view_expr x.expr)) (x.height + 1)) same_inner (subst (λ (x : Front). Builds c.front_of.result (front_tree c.span.result x (view_expr last.inner.expr)) (last.inner.height + 1)) same_front c.front_of.ensures) in
+    front_placed c.front_of.result c.args.tokens.now c.args.at.now c.rest_of_front.new.at c.expect_behind.new.at _ c.span.result f (view_expr inner.expr) built
+    (c.span.ensures (front_size (bare_front f) + size (bare (view_expr inner.expr)) + 1) (omega (arith, p.1, r.1, closes)))
     p.0 p.1 r.0 (omega (arith, r.1, closes))

@@ -1,5 +1,9 @@
 use Rattle.std.proofs.Common.{rules, ◌≡◌, ◌<◌, ◌+◌, ◌-◌, arith, sym, subst}
-use Rattle.std.specs.Prelude.{Ok, Err, true, Vec}
+use Rattle.std.specs.Prelude.{Result, Ok, Err, true, Vec}
+use Rattle.sharc_tree.specs.declared.tree.expression.Expr.{Expr}
+use Rattle.sharc_tree.specs.declared.tree.statement.ForHead.{ForHead}
+use Rattle.sharc_parse.specs.declared.token.Fault.{Fault}
+use Rattle.sharc_parse.specs.Words.{IsConditionPlaced}
 use Rattle.std.proofs.Common.{◌≡◌, Global}
 use Rattle.sharc_tree.specs.declared.tree.statement.Stmt.{Stmt}
 use Rattle.sharc_tree.specs.Tree.{if_then, if_then_else, while, for}
@@ -9,8 +13,8 @@ use Rattle.sharc_grammar.specs.Grammar.{mark, for_of}
 use Rattle.sharc_grammar.specs.Places.{site_in, size, sentence_size, opening_size, expression_at, statement_at}
 use Rattle.sharc_parse.specs.View.{phrase_of}
 use Rattle.sharc_parse.specs.Goes.{from, Past}
-use Rattle.sharc_parse.specs.Heads.{head_of}
-use Rattle.sharc_parse.specs.Statements.{sentence_of, ReadsStatement}
+use Rattle.sharc_parse.specs.Heads.{head_of, IsHeadPlaced}
+use Rattle.sharc_parse.specs.Statements.{sentence_of, ReadsStatement, IsStatementPlaced}
 use Rattle.sharc_parse.proofs.NestedSteps.{rest_placed, if_stands, else_stands, while_stands, for_stands, block_wrong, block_reads, one_statement_more}
 use Rattle.sharc_parse.proofs.statement.+statement.Goals as goal
 
@@ -18,59 +22,72 @@ pub rest_of_if-returns-clause-placed : goal.rest_of_if-returns-clause-placed
 rest_of_if-returns-clause-placed t c =
     let n = c.args.at.now - 1 in
     let behind : c.args.at.now ≡ n + 1 = omega (arith, c.requires.behind) in
-    let e = c.in_ok-test.ensures.placed in
-    let a = c.in_ok-then.ensures.placed in
+    let all = c.in_ok-test-2 in
+    let same : c.in_ok-test.test ≡ all.test = search rules in
+    let read : c.statement.result ≡ Ok all.then = search rules in
+    let e = subst (λ (x : Expr). IsConditionPlaced (Ok x) c.args.tokens.now c.args.at.now c.condition.new.at) same c.in_ok-test.ensures.placed in
+    let a = subst (λ (r : Result Stmt Fault). IsStatementPlaced r c.args.tokens.now c.condition.new.at c.statement.new.at) read c.statement.ensures.placed in
     let stays : c.take_keyword.new.at ≡ c.statement.new.at = search rules in
-    let all : c.take_keyword.new.at ≡ n + (size (phrase_of c.in_ok-test.test) + 3 + sentence_size (sentence_of c.in_ok-then.then)) = omega (arith, behind, e.1, a.1, stays) in
-    rest_placed c.if_of.result c.args.tokens.now n c.args.at.now c.take_keyword.new.at (if_then c.span-2.result (view_expr c.in_ok-test.test) (view_stmt c.in_ok-then.then)) c.if_of.ensures behind
-    (if_stands (site_in c.args.tokens.now) n c.condition.new.at c.span-2.result (view_expr c.in_ok-test.test) (view_stmt c.in_ok-then.then)
-    (c.span-2.ensures (size (phrase_of c.in_ok-test.test) + 3 + sentence_size (sentence_of c.in_ok-then.then)) all)
-    (subst (λ i. view_expr c.in_ok-test.test ≡ expression_at (site_in c.args.tokens.now) i (phrase_of c.in_ok-test.test)) (omega (arith, behind)) e.0)
+    let whole : c.take_keyword.new.at ≡ n + (size (phrase_of all.test) + 3 + sentence_size (sentence_of all.then)) = omega (arith, behind, e.1, a.1, stays) in
+    rest_placed c.if_of.result c.args.tokens.now n c.args.at.now c.take_keyword.new.at (if_then c.span-2.result (view_expr all.test) (view_stmt all.then)) c.if_of.ensures behind
+    (if_stands (site_in c.args.tokens.now) n c.condition.new.at c.span-2.result (view_expr all.test) (view_stmt all.then)
+    (c.span-2.ensures (size (phrase_of all.test) + 3 + sentence_size (sentence_of all.then)) whole)
+    (subst (λ i. view_expr all.test ≡ expression_at (site_in c.args.tokens.now) i (phrase_of all.test)) (omega (arith, behind)) e.0)
     a.0 (omega (arith, behind, e.1)))
-    all
+    whole
 
 pub rest_of_if-returns-then-take_keyword-clause-placed : goal.rest_of_if-returns-then-take_keyword-clause-placed
 rest_of_if-returns-then-take_keyword-clause-placed t c =
     let n = c.args.at.now - 1 in
     let behind : c.args.at.now ≡ n + 1 = omega (arith, c.requires.behind) in
-    let e = c.in_ok-test.ensures.placed in
-    let a = c.in_ok-then.ensures.placed in
-    let b = c.in_ok-otherwise.ensures.placed in
+    let all = c.in_ok-test-3 in
+    let same : c.in_ok-test.test ≡ all.test = search rules in
+    let read : c.statement.result ≡ Ok all.then = search rules in
+    let other : c.statement-otherwise.result ≡ Ok all.otherwise = search rules in
+    let e = subst (λ (x : Expr). IsConditionPlaced (Ok x) c.args.tokens.now c.args.at.now c.condition.new.at) same c.in_ok-test.ensures.placed in
+    let a = subst (λ (r : Result Stmt Fault). IsStatementPlaced r c.args.tokens.now c.condition.new.at c.statement.new.at) read c.statement.ensures.placed in
+    let b = subst (λ (r : Result Stmt Fault). IsStatementPlaced r c.args.tokens.now c.take_keyword.new.at c.statement-otherwise.new.at) other c.statement-otherwise.ensures.placed in
     let took : c.take_keyword.new.at ≡ c.statement.new.at + 1 = search rules in
-    let all : c.statement-then-take_keyword.new.at ≡ n + (size (phrase_of c.in_ok-test.test) + sentence_size (sentence_of c.in_ok-then.then) + 4 + sentence_size (sentence_of c.in_ok-otherwise.otherwise)) = omega (arith, behind, e.1, a.1, b.1, took) in
-    rest_placed c.else_of.result c.args.tokens.now n c.args.at.now c.statement-then-take_keyword.new.at (if_then_else c.span.result (view_expr c.in_ok-test.test) (view_stmt c.in_ok-then.then) (view_stmt c.in_ok-otherwise.otherwise)) c.else_of.ensures behind
-    (else_stands (site_in c.args.tokens.now) n c.condition.new.at c.take_keyword.new.at c.span.result (view_expr c.in_ok-test.test) (view_stmt c.in_ok-then.then) (view_stmt c.in_ok-otherwise.otherwise)
-    (c.span.ensures (size (phrase_of c.in_ok-test.test) + sentence_size (sentence_of c.in_ok-then.then) + 4 + sentence_size (sentence_of c.in_ok-otherwise.otherwise)) all)
-    (subst (λ i. view_expr c.in_ok-test.test ≡ expression_at (site_in c.args.tokens.now) i (phrase_of c.in_ok-test.test)) (omega (arith, behind)) e.0)
+    let whole : c.statement-otherwise.new.at ≡ n + (size (phrase_of all.test) + sentence_size (sentence_of all.then) + 4 + sentence_size (sentence_of all.otherwise)) = omega (arith, behind, e.1, a.1, b.1, took) in
+    rest_placed c.else_of.result c.args.tokens.now n c.args.at.now c.statement-otherwise.new.at (if_then_else c.span.result (view_expr all.test) (view_stmt all.then) (view_stmt all.otherwise)) c.else_of.ensures behind
+    (else_stands (site_in c.args.tokens.now) n c.condition.new.at c.take_keyword.new.at c.span.result (view_expr all.test) (view_stmt all.then) (view_stmt all.otherwise)
+    (c.span.ensures (size (phrase_of all.test) + sentence_size (sentence_of all.then) + 4 + sentence_size (sentence_of all.otherwise)) whole)
+    (subst (λ i. view_expr all.test ≡ expression_at (site_in c.args.tokens.now) i (phrase_of all.test)) (omega (arith, behind)) e.0)
     a.0 (omega (arith, behind, e.1)) b.0 (omega (arith, behind, e.1, a.1, took)))
-    all
+    whole
 
 pub rest_of_while-returns-clause-placed : goal.rest_of_while-returns-clause-placed
 rest_of_while-returns-clause-placed t c =
     let n = c.args.at.now - 1 in
     let behind : c.args.at.now ≡ n + 1 = omega (arith, c.requires.behind) in
-    let e = c.in_ok-test.ensures.placed in
-    let a = c.in_ok-body.ensures.placed in
-    let all : c.statement.new.at ≡ n + (size (phrase_of c.in_ok-test.test) + 3 + sentence_size (sentence_of c.in_ok-body.body)) = omega (arith, behind, e.1, a.1) in
-    rest_placed c.while_of.result c.args.tokens.now n c.args.at.now c.statement.new.at (while c.span.result (view_expr c.in_ok-test.test) (view_stmt c.in_ok-body.body)) c.while_of.ensures behind
-    (while_stands (site_in c.args.tokens.now) n c.condition.new.at c.span.result (view_expr c.in_ok-test.test) (view_stmt c.in_ok-body.body)
-    (c.span.ensures (size (phrase_of c.in_ok-test.test) + 3 + sentence_size (sentence_of c.in_ok-body.body)) all)
-    (subst (λ i. view_expr c.in_ok-test.test ≡ expression_at (site_in c.args.tokens.now) i (phrase_of c.in_ok-test.test)) (omega (arith, behind)) e.0)
+    let all = c.in_ok-test-2 in
+    let same : c.in_ok-test.test ≡ all.test = search rules in
+    let read : c.statement.result ≡ Ok all.body = search rules in
+    let e = subst (λ (x : Expr). IsConditionPlaced (Ok x) c.args.tokens.now c.args.at.now c.condition.new.at) same c.in_ok-test.ensures.placed in
+    let a = subst (λ (r : Result Stmt Fault). IsStatementPlaced r c.args.tokens.now c.condition.new.at c.statement.new.at) read c.statement.ensures.placed in
+    let whole : c.statement.new.at ≡ n + (size (phrase_of all.test) + 3 + sentence_size (sentence_of all.body)) = omega (arith, behind, e.1, a.1) in
+    rest_placed c.while_of.result c.args.tokens.now n c.args.at.now c.statement.new.at (while c.span.result (view_expr all.test) (view_stmt all.body)) c.while_of.ensures behind
+    (while_stands (site_in c.args.tokens.now) n c.condition.new.at c.span.result (view_expr all.test) (view_stmt all.body)
+    (c.span.ensures (size (phrase_of all.test) + 3 + sentence_size (sentence_of all.body)) whole)
+    (subst (λ i. view_expr all.test ≡ expression_at (site_in c.args.tokens.now) i (phrase_of all.test)) (omega (arith, behind)) e.0)
     a.0 (omega (arith, behind, e.1)))
-    all
+    whole
 
 pub rest_of_for-returns-clause-placed : goal.rest_of_for-returns-clause-placed
 rest_of_for-returns-clause-placed t c =
     let n = c.args.at.now - 1 in
     let behind : c.args.at.now ≡ n + 1 = omega (arith, c.requires.behind) in
-    let h = c.in_ok-head.ensures.placed n (sym behind) in
-    let a = c.in_ok-body.ensures.placed in
-    let all : c.statement.new.at ≡ n + (opening_size (for_of (head_of c.in_ok-head.head)) + sentence_size (sentence_of c.in_ok-body.body)) = omega (arith, behind, h.1, a.1) in
-    rest_placed c.for_of.result c.args.tokens.now n c.args.at.now c.statement.new.at (for c.span.result (view_head c.in_ok-head.head) (view_stmt c.in_ok-body.body)) c.for_of.ensures behind
-    (for_stands (site_in c.args.tokens.now) n c.head.new.at c.span.result (view_head c.in_ok-head.head) (view_stmt c.in_ok-body.body)
-    (c.span.ensures (opening_size (for_of (head_of c.in_ok-head.head)) + sentence_size (sentence_of c.in_ok-body.body)) all)
+    let all = c.in_ok-head-2 in
+    let same : c.in_ok-head.head ≡ all.head = search rules in
+    let read : c.statement.result ≡ Ok all.body = search rules in
+    let h = subst (λ (x : ForHead). IsHeadPlaced (Ok x) c.args.tokens.now c.args.at.now c.head.new.at) same c.in_ok-head.ensures.placed n (sym behind) in
+    let a = subst (λ (r : Result Stmt Fault). IsStatementPlaced r c.args.tokens.now c.head.new.at c.statement.new.at) read c.statement.ensures.placed in
+    let whole : c.statement.new.at ≡ n + (opening_size (for_of (head_of all.head)) + sentence_size (sentence_of all.body)) = omega (arith, behind, h.1, a.1) in
+    rest_placed c.for_of.result c.args.tokens.now n c.args.at.now c.statement.new.at (for c.span.result (view_head all.head) (view_stmt all.body)) c.for_of.ensures behind
+    (for_stands (site_in c.args.tokens.now) n c.head.new.at c.span.result (view_head all.head) (view_stmt all.body)
+    (c.span.ensures (opening_size (for_of (head_of all.head)) + sentence_size (sentence_of all.body)) whole)
     h.0 a.0 h.1)
-    all
+    whole
 
 pub statement-returns-in_err-list-clause-reads : goal.statement-returns-in_err-list-clause-reads
 statement-returns-in_err-list-clause-reads t c =

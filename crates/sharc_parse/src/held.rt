@@ -1,0 +1,64 @@
+// Values that are held while more is read.
+//
+// Where a function returns early, what it holds is dropped, and its proof goes through each part of that. Here this is proved once, for any value.
+
+ghost use Rattle.std.specs.Prelude.{◌≡◌, Ok, Err, IfOk, IfErr};
+ghost use Rattle.sharc_grammar.specs.Grammar.{mark, keyword};
+ghost use Rattle.sharc_parse.specs.declared.token.Fault.TheVariants.{Memory};
+ghost use Rattle.sharc_parse.specs.Goes.{Expects};
+
+use crate::token::{Fault, expect};
+use sharc_tree::token::{Punctuator, Token};
+use std::alloc::Global;
+
+/// The value, and what was read behind it.
+pub(crate) fn both<A: Drop, B>(value: A, read: Result<B, Fault>) -> Result<(A, B), Fault>
+    ensures held { IfOk result (λ r. (r.0 ≡ value) × (read ≡ Ok r.1)) }
+    ensures fault { IfErr result (λ e. read ≡ Err e) }
+{
+    match read {
+        Ok(behind) => Ok((value, behind)),
+        Err(fault) => Err(fault),
+    }
+}
+
+/// The value, past a token that has to be that punctuator.
+pub(crate) fn expect_behind<T: Drop>(
+    tokens: &[Token],
+    at: &mut usize,
+    value: T,
+    punctuator: Punctuator,
+) -> Result<T, Fault>
+    ensures past { Expects result (mark punctuator) tokens.now at.old at.new }
+    ensures held { IfOk result (λ v. v ≡ value) }
+{
+    expect(tokens, at, punctuator)?;
+    Ok(value)
+}
+
+/// Two values, each in a box.
+pub(crate) fn boxes<A: Drop, B: Drop>(
+    alloc: Global,
+    first: A,
+    second: B,
+) -> Result<(Box<A>, Box<B>), Fault>
+    ensures boxed { IfOk result (λ r. (r.0.value ≡ first) × (r.1.value ≡ second)) }
+    ensures memory { IfErr result (λ e. e ≡ Memory) }
+{
+    let first = Box::new(alloc, first)?;
+    let second = Box::new(alloc, second)?;
+    Ok((first, second))
+}
+
+/// The first value in a box, beside the other.
+pub(crate) fn boxed_beside<A: Drop, B: Drop>(
+    alloc: Global,
+    first: A,
+    other: B,
+) -> Result<(Box<A>, B), Fault>
+    ensures boxed { IfOk result (λ r. (r.0.value ≡ first) × (r.1 ≡ other)) }
+    ensures memory { IfErr result (λ e. e ≡ Memory) }
+{
+    let first = Box::new(alloc, first)?;
+    Ok((first, other))
+}
