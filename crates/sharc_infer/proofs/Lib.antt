@@ -1,0 +1,4 @@
+pub mod AssignLemmas
+pub mod LinkLemmas
+pub mod PositionLemmas
+pub mod RootLemmas

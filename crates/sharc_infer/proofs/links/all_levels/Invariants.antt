@@ -1,0 +1,8 @@
+use Rattle.std.proofs.Common.{◌≡◌, ◌++◌, drop}
+use Rattle.std.specs.List.{flat_map}
+use Rattle.sharc_ctype.specs.Entities.{entities_in, numbered}
+use Rattle.sharc_mode.specs.Flows.{levels_down}
+use Rattle.sharc_infer.proofs.links.all_levels.Given as goal
+
+abbrev pub invariant-loop-numbered : goal.invariant-loop-numbered
+invariant-loop-numbered l = l.links.items ++ flat_map levels_down (drop l.numbered-index (numbered (entities_in l.t.program.items))) ≡ flat_map levels_down (numbered (entities_in l.t.program.items))

@@ -1,0 +1,10 @@
+use Rattle.std.proofs.Common.{◌≡◌, ℕ, ◌<◌, length}
+use Rattle.sharc_flow.specs.Flow.{place_at}
+use Rattle.sharc_infer.specs.Positions.{place_of, settled_of, root_of}
+use Rattle.sharc_infer.proofs.places.places.Given as goal
+
+abbrev pub invariant-loop-position : goal.invariant-loop-position
+invariant-loop-position l = record {
+  size : length l.places.items ≡ l.position;
+  each : (p : ℕ) → p < l.position → place_at l.places.items p ≡ place_of (settled_of l.settled p) (root_of l.roots p);
+}

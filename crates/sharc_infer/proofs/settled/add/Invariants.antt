@@ -1,0 +1,6 @@
+use Rattle.std.proofs.Common.{◌≡◌, ◌++◌, drop}
+use Rattle.sharc_mode.specs.Settled.{settled, otherwise_of, settled_modes}
+use Rattle.sharc_infer.proofs.settled.add.Given as goal
+
+abbrev pub invariant-loop-depth : goal.invariant-loop-depth
+invariant-loop-depth l = l.list.items ++ settled l.entity.written.ctype.base l.otherwise (drop l.depth l.levels) ≡ l.fn.list.items ++ settled_modes l.entity

@@ -1,0 +1,8 @@
+use Rattle.std.proofs.Common.{◌≡◌, ◌++◌, drop}
+use Rattle.sharc_tree.specs.View.{view_arguments}
+use Rattle.sharc_ctype.specs.Transfers.{argument_transfers}
+use Rattle.sharc_infer.specs.Links.{given}
+use Rattle.sharc_infer.proofs.transfers.+expression.Given as goal
+
+abbrev pub invariant-arguments-loop-expr : goal.invariant-arguments-loop-expr
+invariant-arguments-loop-expr l = l.links.items ++ given l.t l.function (argument_transfers l.t (view_arguments (drop l.expr-index l.all))) ≡ l.fn.links.items ++ given l.t l.function (argument_transfers l.t (view_arguments l.all))

@@ -1,0 +1,319 @@
+// The links of what functions assign, initialise, pass and return: one walk over a program.
+
+ghost use Rattle.std.specs.Prelude.{◌≡◌, ◌++◌, Some, OnOk};
+ghost use Rattle.sharc_tree.specs.Tree.{value, argument, no_arguments};
+ghost use Rattle.sharc_tree.specs.View.{view_expr, view_arguments, view_option, view_right, view_simple, view_local, view_first, view_head, view_stmt, view_statements};
+ghost use Rattle.sharc_ctype.specs.Transfers.{parameters_named, passed, transfers, argument_transfers, in_option, right_transfers, simple_transfers, local_transfers, first_transfers, statement_transfers, statements_transfers, gives, result as result_receiver};
+ghost use Rattle.sharc_mode.specs.Flows.{equal_rows, source_row};
+ghost use Rattle.sharc_mode.specs.Rows.{written, declared_row, row_at};
+ghost use Rattle.sharc_mode.specs.View.{view_rows, EndsWithin};
+ghost use Rattle.sharc_infer.specs.Links.{given};
+
+use crate::links::{equate, source_row};
+use sharc_ctype::typed::Typed;
+use sharc_flow::Link;
+use sharc_mode::row::{Reading, declared_row, row_of};
+use sharc_names::fault::Named;
+use sharc_tree::tree::{
+    Declaration, Expr, ForFirst, ForHead, Local, Right, Simple, Stmt, WrittenType,
+};
+use std::alloc::AllocError;
+
+/// The parameters of what a name names.
+fn parameters_named(t: &Typed, named: Named) -> &[Declaration]
+    ensures { result.now ≡ parameters_named t.now named }
+{
+    match named {
+        Named::Function(number) => match t.function_at(number) {
+            None => &[],
+            Some(function) => function.parameters.as_slice(),
+        },
+        Named::Struct(_) => &[],
+        Named::Global(_) => &[],
+        Named::Variable(_) => &[],
+        Named::Field(_) => &[],
+        Named::Known => &[],
+    }
+}
+
+/// Adds the links of an argument that is passed to a parameter.
+fn pass(
+    to: &Declaration,
+    argument: &Expr,
+    t: &Typed,
+    links: &mut Vec<Link>,
+) -> Result<(), AllocError>
+    ensures { OnOk result (links.new.items ≡ links.old.items ++ equal_rows (Some (declared_row t.now written to.now.name.site.token)) (row_at t.now (view_expr argument.now))) }
+{
+    let row = declared_row(t, Reading::Written, to.name.site.token);
+    equate(t, Some(row), row_of(t, argument), links)
+}
+
+/// Adds the links of the arguments of a call.
+fn pass_all(
+    parameters: &[Declaration],
+    all: &[Expr],
+    function: u32,
+    t: &Typed,
+    links: &mut Vec<Link>,
+) -> Result<(), AllocError>
+    ensures { OnOk result (links.new.items ≡ links.old.items ++ given t.now function (passed parameters.now (view_arguments all.now))) }
+{
+    for i in 0..parameters.len().min(all.len()) {
+        pass(&parameters[i], &all[i], t, links)?;
+    }
+    Ok(())
+}
+
+/// Adds the links of the argument of a spawn.
+fn pass_one(
+    parameters: &[Declaration],
+    source: &Expr,
+    function: u32,
+    t: &Typed,
+    links: &mut Vec<Link>,
+) -> Result<(), AllocError>
+    ensures { OnOk result (links.new.items ≡ links.old.items ++ given t.now function (passed parameters.now (argument (view_expr source.now) no_arguments))) }
+{
+    match parameters {
+        [] => Ok(()),
+        [parameter, ..] => pass(parameter, source, t, links),
+    }
+}
+
+/// Adds the links of what an expression passes, in the function that this token names.
+#[cycle(expression)]
+#[tactic(auto, using(crate::proofs::LinkLemmas::given_both))]
+fn expression(
+    expr: &Expr,
+    function: u32,
+    t: &Typed,
+    links: &mut Vec<Link>,
+) -> Result<(), AllocError>
+    ensures { OnOk result (links.new.items ≡ links.old.items ++ given t.now function (transfers t.now (view_expr expr.now))) }
+{
+    match expr {
+        Expr::Identifier(_, _) => Ok(()),
+        Expr::Constant(_, _) => Ok(()),
+        Expr::Parentheses(_, inner) => expression(inner, function, t, links),
+        Expr::Call(_, name, all) => {
+            let parameters = parameters_named(t, t.named(name.site.token));
+            pass_all(parameters, all.as_slice(), function, t, links)?;
+            arguments(all.as_slice(), function, t, links)
+        }
+        Expr::Spawn(_, name, argument) => {
+            let parameters = parameters_named(t, t.named(name.site.token));
+            pass_one(parameters, argument, function, t, links)?;
+            expression(argument, function, t, links)
+        }
+        Expr::OnValue(_, _, argument) => expression(argument, function, t, links),
+        Expr::OnPlace(_, _, argument) => expression(argument, function, t, links),
+        Expr::Cast(_, _, source) => expression(source, function, t, links),
+        Expr::Index(_, base, index) => {
+            expression(base, function, t, links)?;
+            expression(index, function, t, links)
+        }
+        Expr::Field { base, .. } => expression(base, function, t, links),
+        Expr::Unary(_, _, operand) => expression(operand, function, t, links),
+        Expr::Binary { left, right, .. } => {
+            expression(left, function, t, links)?;
+            expression(right, function, t, links)
+        }
+    }
+}
+
+/// The same of the arguments of a call.
+#[cycle(expression)]
+#[tactic(auto, using(crate::proofs::LinkLemmas::given_both))]
+fn arguments(
+    all: &[Expr],
+    function: u32,
+    t: &Typed,
+    links: &mut Vec<Link>,
+) -> Result<(), AllocError>
+    ensures { OnOk result (links.new.items ≡ links.old.items ++ given t.now function (argument_transfers t.now (view_arguments all.now))) }
+{
+    for expr in all {
+        expression(expr, function, t, links)?;
+    }
+    Ok(())
+}
+
+fn optional(
+    expr: &Option<Expr>,
+    function: u32,
+    t: &Typed,
+    links: &mut Vec<Link>,
+) -> Result<(), AllocError>
+    ensures { OnOk result (links.new.items ≡ links.old.items ++ given t.now function (in_option (transfers t.now) (view_option view_expr expr.now))) }
+{
+    match expr {
+        None => Ok(()),
+        Some(expr) => expression(expr, function, t, links),
+    }
+}
+
+fn right(right: &Right, function: u32, t: &Typed, links: &mut Vec<Link>) -> Result<(), AllocError>
+    ensures { OnOk result (links.new.items ≡ links.old.items ++ given t.now function (right_transfers t.now (view_right right.now))) }
+{
+    match right {
+        Right::Value(expr) => expression(expr, function, t, links),
+        Right::Malloc(_, count, _) => optional(count, function, t, links),
+    }
+}
+
+#[tactic(auto, using(crate::proofs::LinkLemmas::given_both))]
+fn simple(
+    simple: &Simple,
+    function: u32,
+    t: &Typed,
+    links: &mut Vec<Link>,
+) -> Result<(), AllocError>
+    ensures { OnOk result (links.new.items ≡ links.old.items ++ given t.now function (simple_transfers t.now (view_simple simple.now))) }
+{
+    match simple {
+        Simple::Assign(_, place, value) => {
+            equate(t, row_of(t, place), source_row(t, value), links)?;
+            expression(place, function, t, links)?;
+            right(value, function, t, links)
+        }
+        Simple::Call(call) => expression(call, function, t, links),
+    }
+}
+
+/// Adds the links of an initialiser.
+#[tactic(auto, using(crate::proofs::LinkLemmas::given_both))]
+fn local(local: &Local, function: u32, t: &Typed, links: &mut Vec<Link>) -> Result<(), AllocError>
+    ensures { OnOk result (links.new.items ≡ links.old.items ++ given t.now function (local_transfers t.now (view_local local.now))) }
+{
+    match &local.initial {
+        None => Ok(()),
+        Some(value) => {
+            let row = declared_row(t, Reading::Written, local.declaration.name.site.token);
+            equate(t, Some(row), source_row(t, value), links)?;
+            right(value, function, t, links)
+        }
+    }
+}
+
+fn first(
+    first: &ForFirst,
+    function: u32,
+    t: &Typed,
+    links: &mut Vec<Link>,
+) -> Result<(), AllocError>
+    ensures { OnOk result (links.new.items ≡ links.old.items ++ given t.now function (first_transfers t.now (view_first first.now))) }
+{
+    match first {
+        ForFirst::Nothing => Ok(()),
+        ForFirst::Declares(declared) => local(declared, function, t, links),
+        ForFirst::Does(x) => simple(x, function, t, links),
+    }
+}
+
+fn step(
+    step: &Option<Simple>,
+    function: u32,
+    t: &Typed,
+    links: &mut Vec<Link>,
+) -> Result<(), AllocError>
+    ensures { OnOk result (links.new.items ≡ links.old.items ++ given t.now function (in_option (simple_transfers t.now) (view_option view_simple step.now))) }
+{
+    match step {
+        None => Ok(()),
+        Some(x) => simple(x, function, t, links),
+    }
+}
+
+/// Adds the links of a value that the function returns, whose result has this type.
+#[tactic(auto, using(crate::proofs::LinkLemmas::given_both))]
+fn returned(
+    expr: &Option<Box<Expr>>,
+    function: u32,
+    returns: &WrittenType,
+    t: &Typed,
+    links: &mut Vec<Link>,
+) -> Result<(), AllocError>
+    ensures { OnOk result (links.new.items ≡ links.old.items ++ given t.now function (in_option (λ x. gives (result_receiver returns.now) (value x) ++ transfers t.now x) (view_option (λ b. view_expr b.value) expr.now))) }
+{
+    match expr {
+        None => Ok(()),
+        Some(expr) => {
+            let row = declared_row(t, Reading::Written, function);
+            equate(t, Some(row), row_of(t, expr), links)?;
+            expression(expr, function, t, links)
+        }
+    }
+}
+
+/// Adds the links of the head of a `for`.
+#[tactic(auto, using(crate::proofs::LinkLemmas::given_both))]
+fn head(head: &ForHead, function: u32, t: &Typed, links: &mut Vec<Link>) -> Result<(), AllocError>
+    ensures { OnOk result (links.new.items ≡ links.old.items ++ given t.now function (first_transfers t.now (view_head head.now).first ++ in_option (transfers t.now) (view_head head.now).test ++ in_option (simple_transfers t.now) (view_head head.now).step)) }
+{
+    first(&head.first, function, t, links)?;
+    optional(&head.test, function, t, links)?;
+    step(&head.step, function, t, links)
+}
+
+/// Adds the links of a statement of a function whose result has this type.
+#[cycle(statement)]
+#[tactic(auto, using(crate::proofs::LinkLemmas::given_both))]
+fn statement(
+    stmt: &Stmt,
+    function: u32,
+    returns: &WrittenType,
+    t: &Typed,
+    links: &mut Vec<Link>,
+) -> Result<(), AllocError>
+    ensures { OnOk result (links.new.items ≡ links.old.items ++ given t.now function (statement_transfers t.now returns.now (view_stmt stmt.now))) }
+{
+    match stmt {
+        Stmt::Empty(_) => Ok(()),
+        Stmt::Block(_, all) => statements(all.as_slice(), function, returns, t, links),
+        Stmt::Declare(_, declared) => local(declared, function, t, links),
+        Stmt::Simple(_, x) => simple(x, function, t, links),
+        Stmt::Jump(_, _) => Ok(()),
+        Stmt::Return(_, value) => returned(value, function, returns, t, links),
+        Stmt::If(_, test, then) => {
+            expression(test, function, t, links)?;
+            statement(then, function, returns, t, links)
+        }
+        Stmt::IfElse {
+            test,
+            then,
+            otherwise,
+            ..
+        } => {
+            expression(test, function, t, links)?;
+            statement(then, function, returns, t, links)?;
+            statement(otherwise, function, returns, t, links)
+        }
+        Stmt::While(_, test, body) => {
+            expression(test, function, t, links)?;
+            statement(body, function, returns, t, links)
+        }
+        Stmt::For(_, parts, body) => {
+            head(parts, function, t, links)?;
+            statement(body, function, returns, t, links)
+        }
+    }
+}
+
+/// The same of statements that follow one another.
+#[cycle(statement)]
+#[tactic(auto, using(crate::proofs::LinkLemmas::given_both))]
+pub(crate) fn statements(
+    all: &[Stmt],
+    function: u32,
+    returns: &WrittenType,
+    t: &Typed,
+    links: &mut Vec<Link>,
+) -> Result<(), AllocError>
+    ensures { OnOk result (links.new.items ≡ links.old.items ++ given t.now function (statements_transfers t.now returns.now (view_statements all.now))) }
+{
+    for stmt in all {
+        statement(stmt, function, returns, t, links)?;
+    }
+    Ok(())
+}
