@@ -7,7 +7,6 @@ use Rattle.sharc_tree.specs.declared.token.Punctuator.TheVariants.{OpenParenthes
 use Rattle.sharc_tree.specs.declared.ctype.Base.{Base}
 use Rattle.sharc_tree.specs.declared.ctype.Base.TheVariants as base
 use Rattle.sharc_tree.specs.declared.tree.expression.BinaryOperator.{BinaryOperator}
-use Rattle.sharc_tree.specs.declared.tree.expression.BinaryOperator.TheVariants as op
 use Rattle.sharc_tree.specs.declared.tree.expression.UnaryOperator.{UnaryOperator}
 use Rattle.sharc_tree.specs.declared.tree.expression.UnaryOperator.TheVariants.{Negate, Not, Complement, Dereference}
 use Rattle.sharc_tree.specs.declared.tree.expression.Access.{Access}
@@ -17,80 +16,14 @@ use Rattle.sharc_tree.specs.declared.tree.expression.PlaceCall.TheVariants as pl
 use Rattle.sharc_tree.specs.declared.tree.expression.Constant.{Constant}
 use Rattle.sharc_tree.specs.declared.tree.expression.Constant.TheVariants as constants
 use Rattle.sharc_grammar.specs.Grammar.{Word, name, keyword, mark, number, character, Sharing, private, readonly, racy, dynamic, locked, locked_through, Declaring, sharing_words, level_words, base_words, bottom_words, levels_words, list_words, declaring_words, FitsBottom, FitsLevels, FitsList, FitsType, NoModes, IsPlain, Front, parenthesis, of_spawn, of_value, of_place, of_cast, Phrase, identifier, constant, enclosed, call, index, field, unary, binary, Phrases, none, more, operator_mark, unary_mark, access_mark, constant_word, strength, front_words, words, words_of_rest, level, FitsFront, Fits, FitAll, malloc, Doing, assign, invoke, Line, doing_words, Part}
-use Rattle.sharc_grammar.specs.Machine.{Outer, LinePlace, as_statement, in_line, as_step, ValuePlace, returning, testing, subject, counting, Cont, part, beneath, right_of, fronted, indexing, arguments, NamePlace, field_of, local, TypePlace, naming, casting, sizing, ModePlace, before_base, at_level, Core, Want, Have, Called, Valued, TypeWant, ModeFirst, StructWant, Typed, Named, State, or_else, to, Role, Calling, Indexing, Accessing, Operating, Ending, role, grip_of, grip, joined, with_last, floor, settle, want, end_at, counted, shift, have, called, takes_modes, moded, mode_step, based, begin_type, typed, fields, may_declare, line_start, start, returned, for_test, for_step, malloced, core_step, Stuck, then_on, reads, reads_at}
+use Rattle.sharc_grammar.specs.Machine.{Outer, LinePlace, as_statement, in_line, as_step, ValuePlace, returning, testing, subject, counting, Cont, part, beneath, right_of, fronted, indexing, arguments, NamePlace, field_of, local, TypePlace, naming, casting, sizing, ModePlace, before_base, at_level, Core, Want, Have, Called, Valued, TypeWant, ModeFirst, StructWant, Typed, Named, State, or_else, to, role, grip_of, grip, joined, with_last, floor, want, counted, shift, have, called, takes_modes, moded, mode_step, based, begin_type, typed, fields, may_declare, line_start, start, returned, for_test, for_step, malloced, core_step, Stuck, then_on, reads, reads_at}
+use Rattle.sharc_grammar.specs.Operators.{weak, operating, settle_stops, role_binary, role_unary}
 
 pub le_true : (m n : ℕ) → m ≤ n → nat_le m n ≡ true
 le_true = le-leb
 
 pub le_false : (m n : ℕ) → n < m → nat_le m n ≡ false
 le_false m n h = lt-leb m n h
-
-pub weak : (o : BinaryOperator) → strength o < 11
-weak op.LogicalOr = omega arith
-weak op.LogicalAnd = omega arith
-weak op.BitOr = omega arith
-weak op.BitXor = omega arith
-weak op.BitAnd = omega arith
-weak op.Equal = omega arith
-weak op.NotEqual = omega arith
-weak op.Less = omega arith
-weak op.Greater = omega arith
-weak op.LessOrEqual = omega arith
-weak op.GreaterOrEqual = omega arith
-weak op.ShiftLeft = omega arith
-weak op.ShiftRight = omega arith
-weak op.Add = omega arith
-weak op.Subtract = omega arith
-weak op.Multiply = omega arith
-weak op.Divide = omega arith
-weak op.Remainder = omega arith
-
-pub operating : (o : BinaryOperator) → role (mark (operator_mark o)) ≡ Operating o
-operating op.LogicalOr = refl
-operating op.LogicalAnd = refl
-operating op.BitOr = refl
-operating op.BitXor = refl
-operating op.BitAnd = refl
-operating op.Equal = refl
-operating op.NotEqual = refl
-operating op.Less = refl
-operating op.Greater = refl
-operating op.LessOrEqual = refl
-operating op.GreaterOrEqual = refl
-operating op.ShiftLeft = refl
-operating op.ShiftRight = refl
-operating op.Add = refl
-operating op.Subtract = refl
-operating op.Multiply = refl
-operating op.Divide = refl
-operating op.Remainder = refl
-
--- an operator takes nothing of what stands around an operand that holds together as tightly
-pub settle_stops : (l : ℕ) (x : Phrase) (k : Cont) → l < 11 → floor k ≤ l → settle l x k ≡ (x, k)
-settle_stops l x (beneath u k) w h = absurd (omega arith)
-settle_stops l x (right_of a o k) w h = rw (le_false l (strength o) h) refl
-settle_stops l x (part p o) w h = refl
-settle_stops l x (fronted f k) w h = refl
-settle_stops l x (indexing a k) w h = refl
-settle_stops l x (arguments f all k) w h = refl
-
-settle_binary : (l : ℕ) (a b : Phrase) (o : BinaryOperator) (k : Cont) → l ≤ strength o → settle l b (right_of a o k) ≡ settle l (binary o a b) k
-settle_binary l a b o k h = rw (le_true l (strength o) h) refl
-
--- what binds no tighter than the operator finds the whole operation
-pub role_binary : (r : Role) (t : Word) (a b : Phrase) (o : BinaryOperator) (k : Cont) → grip_of r ≤ strength o → have r b (right_of a o k) t ≡ have r (binary o a b) k t
-role_binary (Operating q) t a b o k h = ap (λ (s : Phrase × Cont). shift q s.0 s.1) (settle_binary (strength q) a b o k h)
-role_binary Ending t a b o k h = ap (λ (s : Phrase × Cont). end_at s.0 s.1 t) (settle_binary 0 a b o k h)
-role_binary Calling t a b o k h = absurd (omega (arith, weak o))
-role_binary Indexing t a b o k h = absurd (omega (arith, weak o))
-role_binary (Accessing w) t a b o k h = absurd (omega (arith, weak o))
-
-pub role_unary : (r : Role) (t : Word) (u : UnaryOperator) (a : Phrase) (k : Cont) → grip_of r ≤ 11 → have r a (beneath u k) t ≡ have r (unary u a) k t
-role_unary (Operating q) t u a k h = refl
-role_unary Ending t u a k h = refl
-role_unary Calling t u a k h = absurd (omega arith)
-role_unary Indexing t u a k h = absurd (omega arith)
-role_unary (Accessing w) t u a k h = absurd (omega arith)
 
 pub whole_binary : (y : List Word) (a b : Phrase) (o : BinaryOperator) (k : Cont) → grip y ≤ strength o → reads_at y (Have b (right_of a o k)) ≡ reads_at y (Have (binary o a b) k)
 whole_binary [] a b o k h = refl

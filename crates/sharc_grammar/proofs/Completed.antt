@@ -11,7 +11,8 @@ use Rattle.sharc_grammar.specs.Grammar.{Word, name, keyword, mark, number, chara
 use Rattle.sharc_grammar.specs.Machine.{Outer, body, items, inside, LinePlace, as_statement, as_first, DoingPlace, in_line, as_step, ValuePlace, of_doing, of_local, Asked, by_if, by_while, Place, condition, returning, testing, subject, valued, counting, Cont, part, beneath, right_of, fronted, indexing, arguments, NamePlace, on_top, field_of, parameter_of, local, TypePlace, naming, casting, sizing, ModePlace, before_base, at_level, Core, Want, Have, Called, Dotted, Spawning, Start, Done, Returning, ForOpen, ForTest, ForStep, Malloced, Valued, TypeWant, ModeFirst, StructWant, Typed, PathWant, PathNamed, PathThrough, Named, Fields, ArrayWant, InitialWant, InitialNegative, Top, with_last, floor, loop, local_line, typing_of, takes_modes, moded, based, declaring_of, with_part, with_declaring, fields, with_item, function_of, may_declare}
 use Rattle.sharc_grammar.specs.Limits.{height, highest, FewStars, FewFront, Few, FewAll, Low, LowOption, LowValue, LowDoing, LowInitial, LowLine, LowStep, LowSentence, LowAll, LowOpening, line_nesting, nesting, deepest, nesting_before, FewGiven, LowPart, LowProgram, depth, around_it}
 use Rattle.sharc_grammar.proofs.CompleteProgram.{MayStand}
-use Rattle.sharc_grammar.proofs.Sound.{outside, line_place_words, doing_place_words, value_place_words, around, struct_words, name_place_words, type_place_words, mode_place_words, so_far, Outside, DoingAt, ValueAt, Around, NameAt, TypeAt, ModeAt, BaseAt, Sound, program_more, is_program_more, parameters_more, declaring_more, some_field, list_more, all_more, items_more, fit_more, floor_most, may, moded_sound, moded_says, fields_more, based_sound, is_statement}
+use Rattle.sharc_grammar.specs.Operators.{floor_most}
+use Rattle.sharc_grammar.proofs.Sound.{outside, line_place_words, doing_place_words, value_place_words, around, struct_words, name_place_words, type_place_words, mode_place_words, so_far, Outside, DoingAt, ValueAt, Around, NameAt, TypeAt, ModeAt, BaseAt, Sound, program_more, is_program_more, parameters_more, declaring_more, some_field, list_more, all_more, items_more, fit_more, may, moded_sound, moded_says, fields_more, based_sound, is_statement}
 
 -- what stands around is within the limits
 

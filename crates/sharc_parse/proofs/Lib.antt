@@ -1,4 +1,3 @@
-pub mod Operators
 pub mod Steps
 pub mod TypeSteps
 pub mod RightSteps

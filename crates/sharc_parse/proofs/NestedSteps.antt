@@ -3,6 +3,7 @@ use Rattle.std.proofs.Common.{◌≡◌, ℕ, ◌+◌, ◌-◌, ◌≤◌, ◌<�
 use Rattle.std.specs.Prelude.{Result, Ok, Err}
 use Rattle.std.proofs.lemmas.Bool.{lt-leb, le-leb, false≢true, true≢false}
 use Rattle.sharc_tree.specs.Tree as tree
+use Rattle.sharc_tree.specs.Children.{view_statements-push}
 use Rattle.sharc_tree.specs.View.{view_stmt, view_statements}
 use Rattle.sharc_tree.specs.declared.token.Token.{Token}
 use Rattle.sharc_tree.specs.declared.token.Site.{Site}
@@ -181,10 +182,6 @@ all_size_more : (all : Sentences) (s : Sentence) → all_size (with_item all s) 
 all_size_more no_more s = omega arith
 all_size_more (sentence a rest) s = omega (arith, all_size_more rest s)
 
-view_more : (list : List Stmt) (s : Stmt) → view_statements (list ++ s ∷ []) ≡ tree.with_statement (view_statements list) (view_stmt s)
-view_more [] s = refl
-view_more (a ∷ rest) s = ap (tree.statement (view_stmt a)) (view_more rest s)
-
 statements_more : (s : ℕ → Site) (n m : ℕ) (all : Sentences) (a : Sentence) → m ≡ n + all_size all → statements_at s n (with_item all a) ≡ tree.with_statement (statements_at s n all) (statement_at s m a)
 statements_more s n m no_more a h = ap (λ i. tree.statement (statement_at s i a) tree.no_statements) (omega (arith, h))
 statements_more s n m (sentence x rest) a h = ap (tree.statement (statement_at s n x)) (statements_more s (n + sentence_size x) m rest a (omega (arith, h)))
@@ -208,7 +205,7 @@ one_statement_more room tokens n old new list all s is z r p q =
           ∙ ap (λ f. reads_within (from tokens new) (At [] (Start (holding o f)))) (sym longer);
       placed =
           ap view_statements is
-          ∙ view_more list s
+          ∙ view_statements-push list s
           ∙ ap (λ v. tree.with_statement v (view_stmt s)) z.placed
           ∙ ap (tree.with_statement (statements_at (site_in tokens) n (sentences_of list))) p
           ∙ sym (statements_more (site_in tokens) n old (sentences_of list) (sentence_of s) z.at_is)

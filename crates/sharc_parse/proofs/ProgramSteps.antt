@@ -1,5 +1,5 @@
 -- The machine's steps over the items of a program, and its first fault.
-use Rattle.std.proofs.Common.{◌≡◌, ℕ, ◌+◌, ◌-◌, ◌<◌, ◌≤◌, List, [], ◌∷◌, ◌++◌, length, drop, refl, sym, ap, ◌∙◌, arith, subst, Bool, true, false, length-drop}
+use Rattle.std.proofs.Common.{◌≡◌, ℕ, ◌+◌, ◌-◌, ◌<◌, ◌≤◌, List, [], ◌∷◌, ◌++◌, length, drop, refl, sym, ap, ◌∙◌, arith, subst, length-drop}
 use Rattle.std.specs.Prelude.{Result, Ok, Err}
 use Rattle.std.proofs.lemmas.List.{drop_all, length-map}
 use Rattle.sharc_tree.specs.View.{view_item, view_items, view_program}
@@ -20,6 +20,8 @@ use Rattle.sharc_parse.specs.declared.program.ParseFault.{ParseFault}
 use Rattle.sharc_parse.specs.declared.program.ParseFault.TheVariants.{At as FaultOf, Memory}
 use Rattle.sharc_parse.specs.Goes.{from}
 use Rattle.sharc_parse.specs.Items.{part_of, ReadsItem, IsItemPlaced}
+use Rattle.sharc_parse.specs.declared.program.Refusal.{Refusal}
+use Rattle.sharc_parse.specs.declared.program.Refusal.TheVariants as refusals
 use Rattle.sharc_parse.specs.Programs.{parts_of, code_of, ReadsItems, Refuses, Completes, Parses}
 
 -- at a word, a step from the top is one of a type there
@@ -105,16 +107,16 @@ OverAtFault = (all rest : List Word) (n : ℕ) → n ≡ length all - length res
 words_before : (tokens : List Token) (n : ℕ) → n ≤ length tokens → n ≡ length (words_of tokens) - length (from tokens n)
 words_before tokens n h = omega (arith, h, words_left tokens 0, words_left tokens n)
 
-pub stuck_there : (law : StuckAtFault) (tokens : List Token) (n : ℕ) → n ≤ length tokens → reads_within (words_of tokens) first_state ≡ StuckAt (from tokens n) → IsFault (words_of tokens) (code_of false (from tokens n)) n
+pub stuck_there : (law : StuckAtFault) (tokens : List Token) (n : ℕ) → n ≤ length tokens → reads_within (words_of tokens) first_state ≡ StuckAt (from tokens n) → IsFault (words_of tokens) (code_of refusals.Wrong (from tokens n)) n
 stuck_there law tokens n h e = law (words_of tokens) (from tokens n) n (words_before tokens n h) e
 
-pub over_there : (law : OverAtFault) (tokens : List Token) (n : ℕ) → n ≤ length tokens → reads_within (words_of tokens) first_state ≡ Over (from tokens n) → IsFault (words_of tokens) (code_of true (from tokens n)) n
+pub over_there : (law : OverAtFault) (tokens : List Token) (n : ℕ) → n ≤ length tokens → reads_within (words_of tokens) first_state ≡ Over (from tokens n) → IsFault (words_of tokens) (code_of refusals.Deep (from tokens n)) n
 over_there law tokens n h e = law (words_of tokens) (from tokens n) n (words_before tokens n h) e
 
-pub parses_refused : (result : Result Program ParseFault) (tokens : Tokens) (n : ℕ) (deep : Bool) → IsFault (words_of tokens.list) (code_of deep (from tokens.list n)) n → Refuses result tokens n deep → Parses result tokens
-parses_refused (Ok p) tokens n deep f h = absurd h
-parses_refused (Err (FaultOf fault back)) tokens n deep f h = (record { number = n; is = subst (λ code. IsFault (words_of tokens.list) code n) (sym h.1) f; told = h.0 }, h.2)
-parses_refused (Err Memory) tokens n deep f h = tt
+pub parses_refused : (result : Result Program ParseFault) (tokens : Tokens) (n : ℕ) (refusal : Refusal) → IsFault (words_of tokens.list) (code_of refusal (from tokens.list n)) n → Refuses result tokens n refusal → Parses result tokens
+parses_refused (Ok p) tokens n refusal f h = absurd h
+parses_refused (Err (FaultOf fault back)) tokens n refusal f h = (record { number = n; is = subst (λ code. IsFault (words_of tokens.list) code n) (sym h.1) f; told = h.0 }, h.2)
+parses_refused (Err Memory) tokens n refusal f h = tt
 
 reads_program : (law : ReadsOnlyWithin) (tokens : Tokens) (p : tree.Program) (parts : List Part) → reads_within (words_of tokens.list) first_state ≡ ReadWithin parts → p.items ≡ items_at (site_in tokens.list) 0 parts → p.tokens ≡ tokens → p.files ≡ tokens.files → Reads tokens p
 reads_program law tokens p parts e placed keeps_tokens keeps_files =

@@ -4,7 +4,7 @@ use Rattle.sharc_tree.specs.declared.token.Punctuator.TheVariants.{Assign, Semic
 use Rattle.sharc_grammar.specs.Grammar.{Word, mark, Phrase, Value, Doing, assign, invoke, is_call}
 use Rattle.sharc_grammar.specs.Machine.{Outer, DoingPlace, in_line, as_step, of_doing, part, subject, valued, Want, Have, At, Role, Calling, Indexing, Accessing, Operating, Ending, role, grip_of, grip, have, subject_end, doing_end}
 use Rattle.sharc_grammar.specs.Limits.{StuckAt, next_within, reads_within}
-use Rattle.sharc_parse.proofs.Operators.{weak}
+use Rattle.sharc_grammar.specs.Operators.{weak}
 use Rattle.sharc_parse.specs.Goes.{NotAt}
 use Rattle.sharc_parse.specs.Rights.{value_within}
 use Rattle.sharc_parse.specs.Simples.{doing_state, EndsDoing, doing_within}

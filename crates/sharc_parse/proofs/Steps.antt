@@ -17,9 +17,10 @@ use Rattle.sharc_tree.specs.declared.tree.expression.Constant.TheVariants as con
 use Rattle.sharc_grammar.specs.Grammar.{Word, name, keyword, mark, number, character, Front, of_place, Phrase, identifier, constant, enclosed, call, index, field, unary, binary, Phrases, none, more, operator_mark, unary_mark, access_mark, constant_word, strength, front_level}
 use Rattle.sharc_grammar.specs.Machine.{condition, returning, testing, subject, valued, counting, Cont, part, beneath, right_of, fronted, indexing, arguments, Core, Want, Have, Called, Dotted, Fixed, an_open, a_close, a_semicolon, a_comma, a_brace, a_bracket, an_ampersand, a_sizeof, State, At, fixed_word, is_fixed, to, Role, Calling, Indexing, Accessing, Operating, Ending, role, grip_of, grip, with_last, floor, settle, mallocs, want, open_call, front_end, end_at, counted, shift, have}
 use Rattle.sharc_grammar.specs.Limits.{height, highest, depth, crowded, over_core, over, Limited, StuckAt, Over, next_within, reads_within}
-use Rattle.sharc_parse.proofs.Operators.{weak, operating, settle_stops, role_binary, role_unary, floor_most, highest_more}
+use Rattle.sharc_grammar.specs.Operators.{weak, operating, settle_stops, role_binary, role_unary, floor_most}
 use Rattle.sharc_tree.specs.Tree as tree
 use Rattle.sharc_tree.specs.View.{view_expr, view_arguments}
+use Rattle.sharc_tree.specs.Children.{view_arguments-push}
 use Rattle.sharc_tree.specs.declared.token.Site.{Site}
 use Rattle.sharc_tree.specs.declared.tree.expression.Expr.{Expr}
 use Rattle.sharc_grammar.specs.Places.{size, sizes, rest_size, expression_at, arguments_at}
@@ -383,9 +384,9 @@ pub phrases_more : (list : List Expr) (e : Expr) → phrases_of (list ++ e ∷ [
 phrases_more [] e = refl
 phrases_more (a ∷ rest) e = ap (more (phrase_of a)) (phrases_more rest e)
 
-pub views_more : (list : List Expr) (e : Expr) → view_arguments (list ++ e ∷ []) ≡ tree.with_argument (view_arguments list) (view_expr e)
-views_more [] e = refl
-views_more (a ∷ rest) e = ap (tree.argument (view_expr a)) (views_more rest e)
+highest_more : (all : Phrases) (x : Phrase) → highest (with_last all x) ≡ max (highest all) (height x)
+highest_more none x = omega arith
+highest_more (more a rest) x = omega (arith, highest_more rest x)
 
 pub rest_size_more : (all : Phrases) (x : Phrase) → rest_size (with_last all x) ≡ rest_size all + size x + 1
 rest_size_more none x = omega arith
@@ -413,7 +414,7 @@ longer s n m list all e is placed at stands =
     record {
       phrases = p;
       stands =
-          ap view_arguments is ∙ views_more list e
+          ap view_arguments is ∙ view_arguments-push list e
           ∙ ap (λ v. tree.with_argument v (view_expr e)) placed
           ∙ ap (tree.with_argument (arguments_at s n (phrases_of list))) stands
           ∙ sym (arguments_more s n m (phrases_of list) (phrase_of e) at)

@@ -12,6 +12,8 @@ use Rattle.sharc_grammar.specs.Limits.{Limited, StuckAt, next_within, reads_with
 use Rattle.sharc_grammar.specs.Places.{site_in, line_size, first_at}
 use Rattle.sharc_parse.specs.declared.token.Fault.{Fault}
 use Rattle.sharc_parse.specs.declared.types.BaseWord.{BaseWord}
+use Rattle.sharc_parse.specs.declared.line.MayDeclare.{MayDeclare}
+use Rattle.sharc_parse.specs.declared.line.MayDeclare.TheVariants.{Yes, No}
 use Rattle.sharc_parse.specs.Goes.{Goes}
 use Rattle.sharc_parse.specs.Types.{HasMode, NoMode, base_word, NoBase}
 use Rattle.sharc_parse.specs.Simples.{bare_doing}
@@ -28,6 +30,10 @@ line_of l = bare_line (view_first l)
 abbrev pub HasBase : List Word → Type 0
 HasBase [] = ⊥
 HasBase (t ∷ rest) = (w : BaseWord) × (t ≡ base_word w)
+
+abbrev pub is_yes : MayDeclare → Bool
+is_yes Yes = true
+is_yes No = false
 
 -- whether a type begins there
 abbrev pub MeetsType : Bool → List Word → Type 0

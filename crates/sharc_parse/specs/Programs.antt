@@ -1,5 +1,5 @@
 -- What the parser answers: the program, or the first fault.
-use Rattle.std.specs.Prelude.{◌≡◌, ℕ, Bool, true, false, List, [], ◌∷◌, drop, map, slice_index_or, Result, Ok, Err, IfOk, ◌==◌, if◌then◌else◌}
+use Rattle.std.specs.Prelude.{◌≡◌, ℕ, List, [], ◌∷◌, drop, map, slice_index_or, Result, Ok, Err, IfOk, ◌==◌, if◌then◌else◌}
 use Rattle.sharc_tree.specs.View.{view_items, view_program}
 use Rattle.sharc_tree.specs.declared.token.Token.{Token}
 use Rattle.sharc_tree.specs.declared.token.Tokens.{Tokens}
@@ -12,6 +12,8 @@ use Rattle.sharc_grammar.specs.Machine.{first_state}
 use Rattle.sharc_grammar.specs.Limits.{ReadWithin, reads_within}
 use Rattle.sharc_grammar.specs.Places.{words_of, site_in, items_at, Reads}
 use Rattle.sharc_grammar.specs.Faults.{IsFault, wrong_code}
+use Rattle.sharc_parse.specs.declared.program.Refusal.{Refusal}
+use Rattle.sharc_parse.specs.declared.program.Refusal.TheVariants.{Wrong, Deep}
 use Rattle.sharc_parse.specs.declared.token.Fault.{Fault}
 use Rattle.sharc_parse.specs.declared.program.ParseFault.{ParseFault}
 use Rattle.sharc_parse.specs.declared.program.ParseFault.TheVariants.{At as FaultOf, Memory}
@@ -36,9 +38,9 @@ abbrev pub told_of : ℕ → List Token → List ℕ
 told_of code all = if code == 2 then [] else text_of all
 
 -- the digit of the code of a fault at the first of the words: P2 over a limit, else P1 or P3
-abbrev pub code_of : Bool → List Word → ℕ
-code_of true all = 2
-code_of false all = wrong_code all
+abbrev pub code_of : Refusal → List Word → ℕ
+code_of Deep all = 2
+code_of Wrong all = wrong_code all
 
 -- what the fault says of token number n, or of the end of input
 pub record IsToldAt (tokens : Tokens) (fault : FaultAt) (n : ℕ) : Type 0 where
@@ -70,10 +72,10 @@ abbrev pub AreItemsPlaced : {A : Type 0} → (A → List Item) → Result A Faul
 AreItemsPlaced list result tokens = IfOk result (λ v. view_items (list v) ≡ items_at (site_in tokens) 0 (parts_of (list v)))
 
 -- a refusal at that token
-abbrev pub Refuses : Result Program ParseFault → Tokens → ℕ → Bool → Type 0
-Refuses (Ok p) tokens n deep = ⊥
-Refuses (Err (FaultOf fault back)) tokens n deep = IsToldAt tokens fault n × (fault.code ≡ code_of deep (from tokens.list n)) × (back ≡ tokens)
-Refuses (Err Memory) tokens n deep = Unit {0}
+abbrev pub Refuses : Result Program ParseFault → Tokens → ℕ → Refusal → Type 0
+Refuses (Ok p) tokens n refusal = ⊥
+Refuses (Err (FaultOf fault back)) tokens n refusal = IsToldAt tokens fault n × (fault.code ≡ code_of refusal (from tokens.list n)) × (back ≡ tokens)
+Refuses (Err Memory) tokens n refusal = Unit {0}
 
 -- the program of these items
 abbrev pub Completes : Result Program ParseFault → Tokens → List Item → Type 0

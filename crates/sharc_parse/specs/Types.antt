@@ -15,6 +15,8 @@ use Rattle.sharc_grammar.specs.Limits.{Limited, StuckAt, Over, next_within, read
 use Rattle.sharc_grammar.specs.Places.{site_in, sharing_size, level_size, base_size, base_name, type_size, mode_at, level_at, bottom_at, base_place, type_at}
 use Rattle.sharc_parse.specs.declared.token.Fault.{Fault}
 use Rattle.sharc_parse.specs.declared.token.Fault.TheVariants.{Memory, Wrong, Deep}
+use Rattle.sharc_parse.specs.declared.types.Modes.{Modes}
+use Rattle.sharc_parse.specs.declared.types.Modes.TheVariants as allowed
 use Rattle.sharc_parse.specs.declared.types.ModeWord.{ModeWord}
 use Rattle.sharc_parse.specs.declared.types.ModeWord.TheVariants as modes
 use Rattle.sharc_parse.specs.declared.types.BaseWord.{BaseWord}
@@ -88,6 +90,11 @@ abbrev pub ReadsLevel : Bool → Result (Option Mode) Fault → List Word → Li
 ReadsLevel true result old new = ReadsMode result old new
 ReadsLevel false (Ok None) old new = old ≡ new
 ReadsLevel false _ old new = ⊥
+
+-- whether modes may stand there
+abbrev pub may_stand : Modes → Bool
+may_stand allowed.Allowed = true
+may_stand allowed.LeftOut = false
 
 -- bases
 

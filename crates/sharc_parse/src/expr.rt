@@ -11,7 +11,7 @@ ghost use Rattle.sharc_grammar.specs.Places.{sizes, site_in, span_at, arguments_
 ghost use Rattle.sharc_parse.specs.View.{phrase_of, phrases_of};
 ghost use Rattle.sharc_parse.specs.Goes.{from, Goes, ReadsFrom, IsHigh, IsPlaced, ReadsFront, IsFrontPlaced, NoUnary, NoCall, Builds, front_tree, bare_front};
 
-use crate::held::{both, boxed_beside, boxes, expect_behind};
+use crate::held::{both, box_beside, boxes, expect_behind};
 use crate::token::{
     Fault, FrontWord, Piece, access, constant, enter, expect, front_word, is_at, name, operator,
     site, span, strength_of, take, unary_operator,
@@ -125,7 +125,7 @@ fn field_of(
     ensures { Builds result (field span (view_expr base.expr) access name) (base.height + 1) }
 {
     let height = base.height + 1;
-    let (base, name) = boxed_beside(alloc, base.expr, name)?;
+    let (base, name) = box_beside(alloc, base.expr, name)?;
     let expr = Expr::Field {
         span,
         base,
@@ -156,14 +156,14 @@ fn front_of(alloc: Global, span: Span, front: Front, inner: Piece) -> Result<Pie
     ensures { Builds result (front_tree span front (view_expr inner.expr)) (inner.height + 1) }
 {
     let height = inner.height + 1;
-    let (inner, front) = boxed_beside(alloc, inner.expr, front)?;
+    let (inner, front) = box_beside(alloc, inner.expr, front)?;
     let expr = match front {
         Front::Parenthesis => Expr::Parentheses(span, inner),
         Front::Spawn(function) => Expr::Spawn(span, function, inner),
         Front::Value(call) => Expr::OnValue(span, call, inner),
         Front::Place(call) => Expr::OnPlace(span, call, inner),
         Front::Cast(written) => {
-            let (written, inner) = boxed_beside(alloc, written, inner)?;
+            let (written, inner) = box_beside(alloc, written, inner)?;
             Expr::Cast(span, written, inner)
         }
     };

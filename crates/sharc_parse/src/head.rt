@@ -6,7 +6,7 @@ ghost use Rattle.sharc_parse.specs.Heads.{ReadsTail, IsTailPlaced, ReadsStep, Is
 
 use crate::expr::binary;
 use crate::held::{both, expect_behind};
-use crate::line::line;
+use crate::line::{MayDeclare, line};
 use crate::simple::simple;
 use crate::token::{Fault, expect, take};
 use sharc_tree::token::{Punctuator, Token};
@@ -60,7 +60,7 @@ pub(crate) fn head(alloc: Global, tokens: &[Token], at: &mut usize) -> Result<Fo
     ensures within { at.new ≤ length tokens.now }
 {
     expect(tokens, at, Punctuator::OpenParenthesis)?;
-    let first = line(alloc, tokens, at, true, false)?;
+    let first = line(alloc, tokens, at, MayDeclare::Yes, 64)?;
     let (first, test) = both(first, tail(alloc, tokens, at))?;
     let ((first, test), step) = both((first, test), step(alloc, tokens, at))?;
     Ok(ForHead { first, test, step })

@@ -51,7 +51,7 @@ pub(crate) fn boxes<A: Drop, B: Drop>(
 }
 
 /// The first value in a box, beside the other.
-pub(crate) fn boxed_beside<A: Drop, B: Drop>(
+pub(crate) fn box_beside<A: Drop, B: Drop>(
     alloc: Global,
     first: A,
     other: B,

@@ -1,8 +1,8 @@
 // Reading what a `;` ends in a block, and in the head of a `for`.
 
-ghost use Rattle.std.specs.Prelude.{◌≡◌, ◌≤◌, ◌^◌, length};
+ghost use Rattle.std.specs.Prelude.{◌≡◌, ◌==◌, ◌≤◌, ◌^◌, length};
 ghost use Rattle.sharc_parse.specs.Goes.{from};
-ghost use Rattle.sharc_parse.specs.Lines.{MeetsType, MeetsLocal, starts_line, ReadsDeclaredLine, ReadsSimpleLine, ReadsLine, IsLinePlaced};
+ghost use Rattle.sharc_parse.specs.Lines.{is_yes, MeetsType, MeetsLocal, starts_line, ReadsDeclaredLine, ReadsSimpleLine, ReadsLine, IsLinePlaced};
 
 use crate::held::expect_behind;
 use crate::local::local;
@@ -28,14 +28,20 @@ fn begins_type(tokens: &[Token], at: usize) -> bool
     false
 }
 
+/// Whether a declaration may stand somewhere.
+#[derive(Clone, Copy)]
+pub(crate) enum MayDeclare {
+    Yes,
+    No,
+}
+
 /// Whether a local begins there, where that says whether one may.
-fn begins_local(tokens: &[Token], at: usize, declares: bool) -> bool
-    ensures { MeetsLocal declares result (from tokens.now at) }
+fn begins_local(tokens: &[Token], at: usize, declares: MayDeclare) -> bool
+    ensures { MeetsLocal (is_yes declares) result (from tokens.now at) }
 {
-    if declares {
-        begins_type(tokens, at)
-    } else {
-        false
+    match declares {
+        MayDeclare::Yes => begins_type(tokens, at),
+        MayDeclare::No => false,
     }
 }
 
@@ -91,18 +97,18 @@ fn simple_line(alloc: Global, tokens: &[Token], at: &mut usize) -> Result<ForFir
     Ok(ForFirst::Does(simple))
 }
 
-/// A line, where declarations may stand if that says so, and, where it is crowded, nothing else.
+/// A line. Where there is no room, a declaration alone may stand there.
 #[tactic(auto, using(crate::proofs::LineSteps::line_declares, crate::proofs::LineSteps::line_empty, crate::proofs::LineSteps::line_simple, crate::proofs::LineSteps::line_deep, crate::proofs::LineSteps::line_wrong))]
 pub(crate) fn line(
     alloc: Global,
     tokens: &[Token],
     at: &mut usize,
-    declares: bool,
-    crowded: bool,
+    declares: MayDeclare,
+    room: u8,
 ) -> Result<ForFirst, Fault>
     requires few { length tokens.now ≤ 2 ^ 20 }
     requires there { at.old ≤ length tokens.now }
-    ensures reads { ReadsLine declares crowded result (from tokens.now at.old) (from tokens.now at.new) }
+    ensures reads { ReadsLine (is_yes declares) (room == 0) result (from tokens.now at.old) (from tokens.now at.new) }
     ensures placed { IsLinePlaced result tokens.now at.old at.new }
     ensures onward { at.old ≤ at.new }
     ensures within { at.new ≤ length tokens.now }
@@ -110,7 +116,8 @@ pub(crate) fn line(
     if begins_local(tokens, *at, declares) {
         return declared_line(alloc, tokens, at);
     }
-    if crowded {
+    let is_full = room == 0;
+    if is_full {
         return if begins_line(tokens, *at) {
             Err(Fault::Deep)
         } else {

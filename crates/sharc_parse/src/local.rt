@@ -7,7 +7,7 @@ ghost use Rattle.sharc_parse.specs.Locals.{ReadsName, IsNamePlaced, ReadsDeclara
 use crate::held::both;
 use crate::right::right;
 use crate::token::{Fault, name, span, take};
-use crate::types::written;
+use crate::types::{Modes, written};
 use sharc_tree::token::{Punctuator, Token};
 use sharc_tree::tree::{Declaration, Identifier, Local, Right};
 use std::alloc::Global;
@@ -47,7 +47,7 @@ pub(crate) fn declaration(
     ensures within { at.new ≤ length tokens.now }
 {
     let first = *at;
-    let written = written(alloc, tokens, at, true)?;
+    let written = written(alloc, tokens, at, Modes::Allowed)?;
     let (written, name) = both(written, name_there(alloc, tokens, at))?;
     Ok(Declaration {
         span: span(tokens, first, *at),

@@ -4,10 +4,11 @@ ghost use Rattle.std.specs.Prelude.{◌≡◌, ◌+◌, ◌≤◌, ◌^◌, leng
 ghost use Rattle.sharc_parse.specs.Goes.{from};
 ghost use Rattle.sharc_tree.specs.Tree.{return};
 ghost use Rattle.sharc_tree.specs.View.{view_expr, view_option, view_first};
+ghost use Rattle.sharc_parse.specs.Lines.{is_yes};
 ghost use Rattle.sharc_parse.specs.Statements.{ReadsLineStatement, BuildsStatement, line_statement, ReadsReturn, ReadsJump, EndsStatement, IsStatementPlaced, IsRestPlaced};
 
 use crate::head::tail;
-use crate::line::line;
+use crate::line::{MayDeclare, line};
 use crate::token::{Fault, expect, span};
 use sharc_tree::token::{Punctuator, Span, Token};
 use sharc_tree::tree::{Expr, ForFirst, Jump, Stmt};
@@ -30,20 +31,20 @@ pub(crate) fn line_statement(
     alloc: Global,
     tokens: &[Token],
     at: &mut usize,
-    declares: bool,
+    declares: MayDeclare,
     room: u8,
 ) -> Result<Stmt, Fault>
     requires room { room ≤ 64 }
     requires few { length tokens.now ≤ 2 ^ 20 }
     requires there { at.old ≤ length tokens.now }
-    ensures reads { ReadsLineStatement declares room result (from tokens.now at.old) (from tokens.now at.new) }
+    ensures reads { ReadsLineStatement (is_yes declares) room result (from tokens.now at.old) (from tokens.now at.new) }
     ensures ends { EndsStatement result (from tokens.now at.new) }
     ensures placed { IsStatementPlaced result tokens.now at.old at.new }
     ensures onward { at.old ≤ at.new }
     ensures within { at.new ≤ length tokens.now }
 {
     let first = *at;
-    let line = line(alloc, tokens, at, declares, room == 0)?;
+    let line = line(alloc, tokens, at, declares, room)?;
     statement_of(alloc, span(tokens, first, *at), line)
 }
 

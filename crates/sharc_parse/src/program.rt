@@ -48,11 +48,20 @@ fn items(alloc: Global, tokens: &[Token], at: &mut usize) -> Result<Vec<Item>, F
     Ok(items)
 }
 
+/// What is wrong with a token.
+#[derive(Clone, Copy)]
+enum Refusal {
+    /// No program goes on with it.
+    Wrong,
+    /// No program within the limits goes on with it.
+    Deep,
+}
+
 /// The digit of the code of a fault at that token.
-fn code_at(tokens: &[Token], at: usize, deep: bool) -> u8
-    ensures { result ≡ code_of deep (from tokens.now at) }
+fn code_at(tokens: &[Token], at: usize, refusal: Refusal) -> u8
+    ensures { result ≡ code_of refusal (from tokens.now at) }
 {
-    if deep {
+    if matches!(refusal, Refusal::Deep) {
         return 2;
     }
     if at >= tokens.len() {
@@ -77,13 +86,18 @@ fn told_at(alloc: Global, tokens: &[Token], at: usize, code: u8) -> Result<Name,
 }
 
 /// The fault at that token, or at the end of input.
-fn fault_at(alloc: Global, tokens: &Tokens, at: usize, deep: bool) -> Result<FaultAt, AllocError>
+fn fault_at(
+    alloc: Global,
+    tokens: &Tokens,
+    at: usize,
+    refusal: Refusal,
+) -> Result<FaultAt, AllocError>
     requires files { All (λ t. t.file < length tokens.now.files) tokens.now.list }
     requires end_file { tokens.now.end.file < length tokens.now.files }
-    ensures { IfOk result (λ fault. IsToldAt tokens.now fault at × (fault.code ≡ code_of deep (from tokens.now.list at))) }
+    ensures { IfOk result (λ fault. IsToldAt tokens.now fault at × (fault.code ≡ code_of refusal (from tokens.now.list at))) }
 {
     let list = tokens.list.as_slice();
-    let code = code_at(list, at, deep);
+    let code = code_at(list, at, refusal);
     let text = told_at(alloc, list, at, code)?;
     let (file, line) = if at < list.len() {
         let token = &list[at];
@@ -102,12 +116,12 @@ fn fault_at(alloc: Global, tokens: &Tokens, at: usize, deep: bool) -> Result<Fau
 }
 
 /// The refusal at that token, or at the end of input.
-fn refuse(alloc: Global, tokens: Tokens, at: usize, deep: bool) -> Result<Program, ParseFault>
+fn refuse(alloc: Global, tokens: Tokens, at: usize, refusal: Refusal) -> Result<Program, ParseFault>
     requires files { All (λ t. t.file < length tokens.files) tokens.list }
     requires end_file { tokens.end.file < length tokens.files }
-    ensures { Refuses result tokens at deep }
+    ensures { Refuses result tokens at refusal }
 {
-    let fault = fault_at(alloc, &tokens, at, deep)?;
+    let fault = fault_at(alloc, &tokens, at, refusal)?;
     Err(ParseFault::At(fault, tokens))
 }
 
@@ -142,8 +156,8 @@ pub fn parse(alloc: Global, tokens: Tokens) -> Result<Program, ParseFault>
     let mut at = 0;
     match items(alloc, tokens.list.as_slice(), &mut at) {
         Ok(items) => complete(alloc, tokens, items),
-        Err(Fault::Wrong) => refuse(alloc, tokens, at, false),
-        Err(Fault::Deep) => refuse(alloc, tokens, at, true),
+        Err(Fault::Wrong) => refuse(alloc, tokens, at, Refusal::Wrong),
+        Err(Fault::Deep) => refuse(alloc, tokens, at, Refusal::Deep),
         Err(Fault::Memory) => Err(ParseFault::Memory),
     }
 }

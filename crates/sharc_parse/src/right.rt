@@ -7,7 +7,7 @@ ghost use Rattle.sharc_parse.specs.Rights.{ReadsCount, IsCountPlaced, ReadsSized
 use crate::expr::{binary, unary};
 use crate::held::{both, expect_behind};
 use crate::token::{Fault, expect, expect_keyword, span, take_keyword};
-use crate::types::written;
+use crate::types::{Modes, written};
 use sharc_tree::token::{Keyword, Punctuator, Token};
 use sharc_tree::tree::{Expr, Right, WrittenType};
 use std::alloc::Global;
@@ -42,7 +42,7 @@ fn sized(alloc: Global, tokens: &[Token], at: &mut usize) -> Result<WrittenType,
     ensures within { at.new ≤ length tokens.now }
 {
     expect(tokens, at, Punctuator::OpenParenthesis)?;
-    let plain = written(alloc, tokens, at, false)?;
+    let plain = written(alloc, tokens, at, Modes::LeftOut)?;
     let plain = expect_behind(tokens, at, plain, Punctuator::CloseParenthesis)?;
     let plain = expect_behind(tokens, at, plain, Punctuator::CloseParenthesis)?;
     Ok(plain)

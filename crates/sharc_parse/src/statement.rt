@@ -6,11 +6,13 @@ ghost use Rattle.sharc_tree.specs.View.{view_expr, view_stmt, view_head};
 ghost use Rattle.sharc_parse.specs.declared.word.StatementWord.TheVariants.{If, While, For};
 ghost use Rattle.sharc_parse.specs.Goes.{from};
 ghost use Rattle.sharc_parse.specs.Words.{room_of};
+ghost use Rattle.sharc_parse.specs.Lines.{is_yes};
 ghost use Rattle.sharc_parse.specs.Statements.{BuildsStatement, ReadsStatement, EndsStatement, IsStatementPlaced, IsRestPlaced};
 ghost use Rattle.sharc_parse.specs.Nested.{IsOpen, ReadsRest, ReadsStatements, AreStatementsPlaced};
 
 use crate::head::head;
-use crate::held::{both, boxed_beside, boxes};
+use crate::held::{both, box_beside, boxes};
+use crate::line::MayDeclare;
 use crate::plain::{line_statement, rest_of_jump, rest_of_return};
 use crate::token::{Fault, enter, span, take, take_keyword};
 use crate::word::{StatementWord, condition, statement_word};
@@ -36,9 +38,8 @@ fn else_of(
 ) -> Result<Stmt, Fault>
     ensures { BuildsStatement result (if_then_else span (view_expr test) (view_stmt then) (view_stmt otherwise)) }
 {
-    let (test, (then, otherwise)) = boxed_beside(alloc, test, (then, otherwise))?;
-    let (then, (otherwise, test)) = boxed_beside(alloc, then, (otherwise, test))?;
-    let (otherwise, (then, test)) = boxed_beside(alloc, otherwise, (then, test))?;
+    let (test, branches) = both(test, boxes(alloc, then, otherwise))?;
+    let (test, (then, otherwise)) = box_beside(alloc, test, branches)?;
     Ok(Stmt::IfElse {
         span,
         test,
@@ -70,14 +71,14 @@ pub(crate) fn statement(
     alloc: Global,
     tokens: &[Token],
     at: &mut usize,
-    declares: bool,
+    declares: MayDeclare,
     room: u8,
 ) -> Result<Stmt, Fault>
     requires room { room ≤ 64 }
     requires few { length tokens.now ≤ 2 ^ 20 }
     requires there { at.old ≤ length tokens.now }
-    requires open { IsOpen declares (from tokens.now at.old) }
-    ensures reads { ReadsStatement declares room result (from tokens.now at.old) (from tokens.now at.new) }
+    requires open { IsOpen (is_yes declares) (from tokens.now at.old) }
+    ensures reads { ReadsStatement (is_yes declares) room result (from tokens.now at.old) (from tokens.now at.new) }
     ensures ends { EndsStatement result (from tokens.now at.new) }
     ensures placed { IsStatementPlaced result tokens.now at.old at.new }
     ensures further { IfOk result (λ _. at.old < at.new) }
@@ -142,9 +143,9 @@ fn rest_of_if(alloc: Global, tokens: &[Token], at: &mut usize, room: u8) -> Resu
 {
     let first = *at - 1;
     let test = condition(alloc, tokens, at)?;
-    let (test, then) = both(test, statement(alloc, tokens, at, false, room - 1))?;
+    let (test, then) = both(test, statement(alloc, tokens, at, MayDeclare::No, room - 1))?;
     if take_keyword(tokens, at, Keyword::Else) {
-        let otherwise = statement(alloc, tokens, at, false, room - 1);
+        let otherwise = statement(alloc, tokens, at, MayDeclare::No, room - 1);
         let ((test, then), otherwise) = both((test, then), otherwise)?;
         return else_of(alloc, span(tokens, first, *at), test, then, otherwise);
     }
@@ -168,7 +169,7 @@ fn rest_of_while(alloc: Global, tokens: &[Token], at: &mut usize, room: u8) -> R
 {
     let first = *at - 1;
     let test = condition(alloc, tokens, at)?;
-    let (test, body) = both(test, statement(alloc, tokens, at, false, room - 1))?;
+    let (test, body) = both(test, statement(alloc, tokens, at, MayDeclare::No, room - 1))?;
     while_of(alloc, span(tokens, first, *at), test, body)
 }
 
@@ -189,7 +190,7 @@ fn rest_of_for(alloc: Global, tokens: &[Token], at: &mut usize, room: u8) -> Res
 {
     let first = *at - 1;
     let head = head(alloc, tokens, at)?;
-    let (head, body) = both(head, statement(alloc, tokens, at, false, room - 1))?;
+    let (head, body) = both(head, statement(alloc, tokens, at, MayDeclare::No, room - 1))?;
     for_of(alloc, span(tokens, first, *at), head, body)
 }
 
@@ -212,7 +213,7 @@ pub(crate) fn statements(
 {
     let mut list = Vec::new(alloc);
     while !take(tokens, at, Punctuator::CloseBrace) {
-        let statement = statement(alloc, tokens, at, true, room)?;
+        let statement = statement(alloc, tokens, at, MayDeclare::Yes, room)?;
         list.push(statement)?;
     }
     Ok(list)

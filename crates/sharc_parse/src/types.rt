@@ -3,7 +3,7 @@
 ghost use Rattle.std.specs.Prelude.{◌≤◌, ◌<◌, ◌^◌, length, IfOk};
 ghost use Rattle.sharc_parse.specs.Goes.{from};
 ghost use Rattle.sharc_parse.specs.View.{bare_type};
-ghost use Rattle.sharc_parse.specs.Types.{TakesMode, ReadsPath, IsPathPlaced, ReadsModeRest, IsModeRestPlaced, ReadsMode, IsModePlaced, ReadsLevel, TakesBase, ReadsBase, IsBasePlaced, ReadsBottom, IsBottomPlaced, EndsBottom, ReadsType, IsTypePlaced, EndsType, IsBare, ReadsCast, IsCastPlaced};
+ghost use Rattle.sharc_parse.specs.Types.{may_stand, TakesMode, ReadsPath, IsPathPlaced, ReadsModeRest, IsModeRestPlaced, ReadsMode, IsModePlaced, ReadsLevel, TakesBase, ReadsBase, IsBasePlaced, ReadsBottom, IsBottomPlaced, EndsBottom, ReadsType, IsTypePlaced, EndsType, IsBare, ReadsCast, IsCastPlaced};
 
 use crate::held::{both, expect_behind};
 use crate::token::{Fault, enter, expect, name, site, span, take};
@@ -108,24 +108,30 @@ fn mode(alloc: Global, tokens: &[Token], at: &mut usize) -> Result<Option<Mode>,
     Ok(Some(mode))
 }
 
+/// Whether sharing modes may stand in a type.
+#[derive(Clone, Copy)]
+pub(crate) enum Modes {
+    Allowed,
+    LeftOut,
+}
+
 /// A sharing mode, if modes may stand there and one does.
 fn level(
     alloc: Global,
     tokens: &[Token],
     at: &mut usize,
-    modes: bool,
+    modes: Modes,
 ) -> Result<Option<Mode>, Fault>
     requires few { length tokens.now ≤ 2 ^ 20 }
     requires there { at.old ≤ length tokens.now }
-    ensures reads { ReadsLevel modes result (from tokens.now at.old) (from tokens.now at.new) }
+    ensures reads { ReadsLevel (may_stand modes) result (from tokens.now at.old) (from tokens.now at.new) }
     ensures placed { IsModePlaced result tokens.now at.old at.new }
     ensures onward { at.old ≤ at.new }
     ensures within { at.new ≤ length tokens.now }
 {
-    if modes {
-        mode(alloc, tokens, at)
-    } else {
-        Ok(None)
+    match modes {
+        Modes::Allowed => mode(alloc, tokens, at),
+        Modes::LeftOut => Ok(None),
     }
 }
 
@@ -201,11 +207,16 @@ pub(crate) struct Bottom {
 
 /// A base with its mode before it or behind it, or without.
 #[tactic(auto, using(crate::proofs::TypeSteps::begins_moded, crate::proofs::TypeSteps::mode_first, crate::proofs::TypeSteps::begins_bare, crate::proofs::TypeSteps::begins_plain, crate::proofs::TypeSteps::mode_behind))]
-fn moded_base(alloc: Global, tokens: &[Token], at: &mut usize, modes: bool) -> Result<Bottom, Fault>
+fn moded_base(
+    alloc: Global,
+    tokens: &[Token],
+    at: &mut usize,
+    modes: Modes,
+) -> Result<Bottom, Fault>
     requires few { length tokens.now ≤ 2 ^ 20 }
     requires there { at.old ≤ length tokens.now }
-    ensures reads { ReadsBottom modes result (from tokens.now at.old) (from tokens.now at.new) }
-    ensures ends { EndsBottom modes result (from tokens.now at.new) }
+    ensures reads { ReadsBottom (may_stand modes) result (from tokens.now at.old) (from tokens.now at.new) }
+    ensures ends { EndsBottom (may_stand modes) result (from tokens.now at.new) }
     ensures placed { IsBottomPlaced result tokens.now at.old at.new }
     ensures onward { at.old ≤ at.new }
     ensures within { at.new ≤ length tokens.now }
@@ -230,18 +241,18 @@ fn moded_base(alloc: Global, tokens: &[Token], at: &mut usize, modes: bool) -> R
     }
 }
 
-/// A type as it is written, with sharing modes or, where that says so, without.
+/// A type as it is written.
 #[tactic(auto, using(crate::proofs::TypeSteps::first_level, crate::proofs::TypeSteps::levels_more, crate::proofs::TypeSteps::levels_deep, crate::proofs::TypeSteps::level_wrong, crate::proofs::TypeSteps::type_reads, crate::proofs::TypeSteps::type_ends, crate::proofs::TypeSteps::type_stands))]
 pub(crate) fn written(
     alloc: Global,
     tokens: &[Token],
     at: &mut usize,
-    modes: bool,
+    modes: Modes,
 ) -> Result<WrittenType, Fault>
     requires few { length tokens.now ≤ 2 ^ 20 }
     requires there { at.old ≤ length tokens.now }
-    ensures reads { ReadsType modes result (from tokens.now at.old) (from tokens.now at.new) }
-    ensures ends { EndsType modes result (from tokens.now at.new) }
+    ensures reads { ReadsType (may_stand modes) result (from tokens.now at.old) (from tokens.now at.new) }
+    ensures ends { EndsType (may_stand modes) result (from tokens.now at.new) }
     ensures placed { IsTypePlaced result tokens.now at.old at.new }
     ensures onward { IfOk result (λ _. at.old < at.new) }
     ensures forward { at.old ≤ at.new }
@@ -295,7 +306,7 @@ pub(crate) fn cast_type(
     ensures within { at.new ≤ length tokens.now }
 {
     expect(tokens, at, Punctuator::OpenParenthesis)?;
-    let written = written(alloc, tokens, at, true)?;
+    let written = written(alloc, tokens, at, Modes::Allowed)?;
     let written = expect_behind(tokens, at, written, Punctuator::Comma)?;
     Ok(written)
 }

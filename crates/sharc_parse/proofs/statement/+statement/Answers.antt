@@ -13,6 +13,7 @@ use Rattle.sharc_grammar.specs.Grammar.{mark, for_of}
 use Rattle.sharc_grammar.specs.Places.{site_in, size, sentence_size, opening_size, expression_at, statement_at}
 use Rattle.sharc_parse.specs.View.{phrase_of}
 use Rattle.sharc_parse.specs.Goes.{from, Past}
+use Rattle.sharc_parse.specs.Lines.{is_yes}
 use Rattle.sharc_parse.specs.Heads.{head_of, IsHeadPlaced}
 use Rattle.sharc_parse.specs.Statements.{sentence_of, ReadsStatement, IsStatementPlaced}
 use Rattle.sharc_parse.proofs.NestedSteps.{rest_placed, if_stands, else_stands, while_stands, for_stands, block_wrong, block_reads, one_statement_more}
@@ -94,14 +95,14 @@ statement-returns-in_err-list-clause-reads t c =
     let is : c.from_residual-in_err-list.result ≡ Err c.in_err-list.field-0.0 = search rules in
     let opens : Past (mark OpenBrace) c.args.tokens.now c.args.at.now c.enter.new.at = search rules in
     let room : 0 < c.args.room = search rules in
-    subst (λ r. ReadsStatement c.args.declares c.args.room r (from c.args.tokens.now c.args.at.now) (from c.args.tokens.now c.statements.new.at)) (sym is)
-    (block_wrong (λ (v : Vec Stmt Global). v.items) c.in_err-list.field-0.0 c.args.declares c.args.room c.args.tokens.now c.args.at.now c.enter.new.at c.statements.new.at opens room c.in_err-list.ensures.reads)
+    subst (λ r. ReadsStatement (is_yes c.args.declares) c.args.room r (from c.args.tokens.now c.args.at.now) (from c.args.tokens.now c.statements.new.at)) (sym is)
+    (block_wrong (λ (v : Vec Stmt Global). v.items) c.in_err-list.field-0.0 (is_yes c.args.declares) c.args.room c.args.tokens.now c.args.at.now c.enter.new.at c.statements.new.at opens room c.in_err-list.ensures.reads)
 
 pub statement-returns-then-branch-clause-reads : goal.statement-returns-then-branch-clause-reads
 statement-returns-then-branch-clause-reads t c =
     let opens : Past (mark OpenBrace) c.args.tokens.now c.args.at.now c.enter.new.at = search rules in
     let room : 0 < c.args.room = search rules in
-    block_reads (λ v. v.items) c.in_ok-list.list c.block.result c.span.result c.args.declares c.args.room c.args.tokens.now c.args.at.now c.enter.new.at c.statements.new.at c.block.ensures opens room c.in_ok-list.ensures.reads
+    block_reads (λ v. v.items) c.in_ok-list.list c.block.result c.span.result (is_yes c.args.declares) c.args.room c.args.tokens.now c.args.at.now c.enter.new.at c.statements.new.at c.block.ensures opens room c.in_ok-list.ensures.reads
 
 pub statements-loop-alloc-preserved : goal.statements-loop-alloc-preserved
 statements-loop-alloc-preserved t c =

@@ -2,7 +2,7 @@ use Rattle.std.proofs.Common.{rules, ◌≡◌, ◌<◌, length, sym, subst, Err
 use Rattle.sharc_grammar.specs.Grammar.{mark}
 use Rattle.sharc_tree.specs.declared.token.Punctuator.TheVariants.{Star}
 use Rattle.sharc_parse.specs.Goes.{Past, from}
-use Rattle.sharc_parse.specs.Types.{ReadsType}
+use Rattle.sharc_parse.specs.Types.{may_stand, ReadsType}
 use Rattle.sharc_parse.proofs.TypeSteps.{levels_more, level_wrong}
 use Rattle.sharc_parse.proofs.types.written.Goals as goal
 
@@ -11,8 +11,8 @@ returns-in_err-above-clause-reads c =
     let star : Past (mark Star) c.args.tokens.now c.loop-levels.at c.enter.new.at = search rules in
     let few : length c.loop-levels.levels.items < 9 = search rules in
     let is : c.from_residual-in_err-above.result ≡ Err c.in_err-above.field-0.0 = search rules in
-    subst (λ r. ReadsType c.args.modes r (from c.args.tokens.now c.args.at.now) (from c.args.tokens.now c.level.new.at)) (sym is)
-    (level_wrong c.args.modes c.args.tokens.now c.args.at.now c.loop-levels.at c.enter.new.at c.level.new.at c.in_ok-mode_first.field-0.mode_first _ c.in_ok-mode_first.field-0.place c.loop-levels.levels.items c.in_err-above.field-0.0 c.loop-levels.invariant.so_far star few c.in_err-above.ensures.reads)
+    subst (λ r. ReadsType (may_stand c.args.modes) r (from c.args.tokens.now c.args.at.now) (from c.args.tokens.now c.level.new.at)) (sym is)
+    (level_wrong (may_stand c.args.modes) c.args.tokens.now c.args.at.now c.loop-levels.at c.enter.new.at c.level.new.at c.in_ok-mode_first.field-0.mode_first _ c.in_ok-mode_first.field-0.place c.loop-levels.levels.items c.in_err-above.field-0.0 c.loop-levels.invariant.so_far star few c.in_err-above.ensures.reads)
 
 pub loop-levels-preserved : goal.loop-levels-preserved
 loop-levels-preserved c =
@@ -20,7 +20,7 @@ loop-levels-preserved c =
     let few : length c.loop-levels.levels.items < 9 = search rules in
     record {
       so_far =
-          levels_more c.args.modes c.args.tokens.now c.args.at.now c.loop-levels.at c.enter.new.at c.level.new.at c.in_ok-mode_first.field-0.mode_first _ c.in_ok-mode_first.field-0.place c.loop-levels.levels.items _ c.in_ok-above.above
+          levels_more (may_stand c.args.modes) c.args.tokens.now c.args.at.now c.loop-levels.at c.enter.new.at c.level.new.at c.in_ok-mode_first.field-0.mode_first _ c.in_ok-mode_first.field-0.place c.loop-levels.levels.items _ c.in_ok-above.above
           c.in_ok-insert.ensures.items c.loop-levels.invariant.so_far star few c.in_ok-above.ensures.reads c.in_ok-above.ensures.placed;
       onward = search rules;
       within = search rules;

@@ -1,10 +1,11 @@
 use Rattle.std.proofs.Common.{◌≤◌, length, ◌-◌}
+use Rattle.sharc_parse.specs.Types.{may_stand}
 use Rattle.sharc_parse.proofs.TypeSteps.{SoFar}
 use Rattle.sharc_parse.proofs.types.written.Given as goal
 
 abbrev pub invariant-loop-levels : goal.invariant-loop-levels
 invariant-loop-levels l = record {
-  so_far : SoFar l.modes l.tokens l.fn.at l.at l.mode_first l.base l.place l.levels.items;
+  so_far : SoFar (may_stand l.modes) l.tokens l.fn.at l.at l.mode_first l.base l.place l.levels.items;
   onward : l.fn.at ≤ l.at;
   within : l.at ≤ length l.tokens;
 }
