@@ -1,0 +1,4 @@
+pub mod Ending
+pub mod Grown
+pub mod Made
+pub mod Sitting

@@ -1,0 +1,28 @@
+use Rattle.std.proofs.Common.{◌∙◌}
+use Rattle.std.proofs.lemmas.Result.{IfOk-weaker}
+use Rattle.sharc_code.specs.Whole.{place_after}
+use Rattle.sharc_seq.specs.Run.{Standing, IsSeqRun}
+use Rattle.sharc_seq.specs.Seats.{IsOver, Ends}
+use Rattle.sharc_seq.proofs.run.run_seq.Goals as goal
+
+pub returns-then-not-branch : goal.returns-then-not-branch
+returns-then-not-branch g c =
+    let code = c.args.code.now in
+    let s = c.args.shape.now in
+    let over : IsOver (goal.F-post g c.args.chooser.now.f) code s c.args.limit c.turn.new.self = c.in_ok-turn.ensures.over c.if-not-branch.true in
+    let table = over.table_is in
+    let place : Standing = place_after code s table.turns in
+    IfOk-weaker c.finish.result _ (IsSeqRun (goal.F-post g c.args.chooser.now.f) code s c.args.limit)
+    (λ run h.
+    let ends : Ends code s place c.turn.new.self.schedule.items run = h code s place record { words_are = table.words; are = table.seats } in
+    record {
+      turns = table.turns;
+      checked = (c.run_laws.ensures.checked code s table.turns).1 table.run;
+      chosen = table.chosen;
+      over = over.over;
+      schedule = ends.schedule_is ∙ table.schedule;
+      words = ends.words;
+      threads = ends.threads;
+      end_is = ends.end_is;
+    })
+    c.finish.ensures
