@@ -15,6 +15,8 @@ mod limits;
 #[cfg(test)]
 mod nodes;
 #[cfg(test)]
+mod reach;
+#[cfg(test)]
 mod sources;
 #[cfg(test)]
 mod statements;
@@ -29,8 +31,16 @@ mod typing_conditions;
 #[cfg(test)]
 mod typing_items;
 #[cfg(test)]
+mod typing_limits;
+#[cfg(test)]
+mod typing_names;
+#[cfg(test)]
+mod typing_orders;
+#[cfg(test)]
 mod typing_paths;
 #[cfg(test)]
 mod typing_scopes;
+#[cfg(test)]
+mod typing_sizes;
 #[cfg(test)]
 mod typing_values;

@@ -54,6 +54,12 @@ pub(crate) fn typed(rt: &(impl Abort + AllocGlobal), source: &str) -> Result<Typ
     }
 }
 
+/// Asserts that a source is typed.
+pub(crate) fn assert_typed(rt: &(impl Abort + AllocGlobal), source: &str) -> Result<(), Fail> {
+    typed(rt, source)?;
+    Ok(())
+}
+
 /// The first fault of a source.
 pub(crate) fn refused(rt: &(impl Abort + AllocGlobal), source: &str) -> Result<FaultAt, Fail> {
     match answer(rt, source.as_bytes())? {

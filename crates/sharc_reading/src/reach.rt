@@ -1,0 +1,348 @@
+//! Which functions threads may run, and which globals they may touch: tables of sources.
+
+ghost use Rattle.sharc_reach.specs.Reaching.{AreReached};
+
+use crate::typing::typed;
+use sharc_ctype::typed::Typed;
+use sharc_reach::{Reached, reach};
+use std::alloc::{AllocError, Global};
+use std::process::Abort;
+use std::test::Fail;
+
+/// Adds `1` for each function that is reached, and `0` for each other one.
+fn add_functions(
+    rt: &impl Abort,
+    t: &Typed,
+    reached: &Reached,
+    text: &mut Vec<u8>,
+) -> Result<(), AllocError>
+    requires { AreReached t.now reached.now }
+{
+    let count = t.function_count();
+    assert!(rt; count <= 65_536);
+    for number in 0..count {
+        text.push(if reached.function(number as u32) {
+            b'1'
+        } else {
+            b'0'
+        })?;
+    }
+    Ok(())
+}
+
+/// Adds for each global the function that is answered, or `-`.
+fn add_globals(
+    rt: &(impl Abort + AllocGlobal),
+    t: &Typed,
+    reached: &Reached,
+    text: &mut Vec<u8>,
+) -> Result<(), AllocError>
+    requires { AreReached t.now reached.now }
+{
+    let count = t.global_count();
+    assert!(rt; count <= 65_536);
+    for number in 0..count {
+        match reached.touched(number as u32) {
+            None => text.extend_from_slice(b" -")?,
+            Some(function) => {
+                let by = format!(in rt.alloc(); " {function}")?;
+                text.extend_from_slice(by.as_bytes())?;
+            }
+        }
+    }
+    Ok(())
+}
+
+/// What is answered of the functions and then of the globals, in source order.
+fn answers_of(rt: &(impl Abort + AllocGlobal), t: &Typed) -> Result<Vec<u8>, Fail> {
+    let reached = reach(rt.alloc(), t)?;
+    let mut text = Vec::new(rt.alloc());
+    add_functions(rt, t, &reached, &mut text)?;
+    add_globals(rt, t, &reached, &mut text)?;
+    Ok(text)
+}
+
+/// What is answered for a source.
+fn answers(rt: &(impl Abort + AllocGlobal), source: &str) -> Result<Vec<u8>, Fail> {
+    let t = typed(rt, source)?;
+    answers_of(rt, &t)
+}
+
+/// Asserts what is answered for each source.
+fn assert_answers(rt: &(impl Abort + AllocGlobal), table: &[(&str, &str)]) -> Result<(), Fail> {
+    for (source, want) in table {
+        let text = answers(rt, source)?;
+        assert_eq!(rt; text.as_slice(), want.as_bytes(), "{source}");
+    }
+    Ok(())
+}
+
+/// Asserts what is answered for each of these bodies of a spawned function, before which three globals and two functions stand.
+fn assert_bodies(rt: &(impl Abort + AllocGlobal), bodies: &[&str], want: &str) -> Result<(), Fail> {
+    for body in bodies {
+        let source = format!(in rt.alloc();
+            "int g; int * p; int a[3]; int h(void) {{ return 0; }} int id(int n) {{ return n; }} \
+void f(int n) {{ {body} }} int main(void) {{ join(spawn(f, 1)); return 0; }}"
+        )?;
+        let text = answers(rt, source.as_str())?;
+        assert_eq!(rt; text.as_slice(), want.as_bytes(), "{body}");
+    }
+    Ok(())
+}
+
+/// A source of so many functions, each of which names one global and calls the next; `main` spawns the first.
+fn chain(alloc: Global, functions: u32) -> Result<String, AllocError> {
+    let mut source = String::new(alloc);
+    source.push_str("int g; ")?;
+    for number in 1..functions {
+        let function = format!(in alloc; "void f{number}(int n) {{ g = n; f")?;
+        source.push_str(function.as_str())?;
+        let next = format!(in alloc; "{}(n); }} ", number + 1)?;
+        source.push_str(next.as_str())?;
+    }
+    let last = format!(in alloc;
+        "void f{functions}(int n) {{ g = n; }} int main(void) {{ join(spawn(f1, 1)); return 0; }}"
+    )?;
+    source.push_str(last.as_str())?;
+    Ok(source)
+}
+
+/// Asserts that all functions of a chain are reached but `main`, and that the first is the first that names the global.
+fn assert_chain(rt: &(impl Abort + AllocGlobal), functions: u32) -> Result<(), Fail> {
+    assert!(rt; functions <= 16_000);
+    let source = chain(rt.alloc(), functions)?;
+    let mut want = vec![in rt.alloc(); b'1'; functions as usize]?;
+    want.extend_from_slice(b"0 0")?;
+    let text = answers(rt, source.as_str())?;
+    assert!(rt; text == want);
+    Ok(())
+}
+
+#[test]
+fn reached_functions(rt: HostRuntime) -> Result<(), Fail> {
+    assert_answers(
+        &rt,
+        &[
+            ("int main(void) { return 0; }", "0"),
+            ("void f(int n) { } int main(void) { f(1); return 0; }", "00"),
+            (
+                "void f(int n) { } int main(void) { spawn(f, 1); return 0; }",
+                "10",
+            ),
+            (
+                "void f(int n) { if (n) f(n - 1); } int main(void) { join(spawn(f, 3)); return 0; }",
+                "10",
+            ),
+            (
+                "void f(int n) { g(n); } void g(int n) { f(n); } int main(void) { join(spawn(g, 3)); return 0; }",
+                "110",
+            ),
+            (
+                "void f(int n) { } void g(int n) { spawn(f, n); } int main(void) { return 0; }",
+                "100",
+            ),
+            (
+                "void f(int n) { } void g(int n) { spawn(f, n); } int main(void) { spawn(g, 1); return 0; }",
+                "110",
+            ),
+            (
+                "int k(int n) { return n; } int h(int n) { return n; } void f(int n) { n = h(k(n)); } int main(void) { spawn(f, 1); return 0; }",
+                "1110",
+            ),
+            (
+                "int k(int n) { return n; } int h(int n) { return k(n); } void f(int n) { } int main(void) { spawn(f, h(1)); return 0; }",
+                "0010",
+            ),
+            (
+                "int k(int n) { return n; } void f(int n) { spawn(f, k(n)); } int main(void) { return 0; }",
+                "110",
+            ),
+        ],
+    )
+}
+
+#[test]
+fn touched_globals(rt: HostRuntime) -> Result<(), Fail> {
+    assert_answers(
+        &rt,
+        &[
+            // Two spawned functions share a global; a reached one that stands before them names it, too.
+            (
+                "int g; void f(int n) { g = n; } void h(int n) { g = n; } int main(void) { spawn(h, 1); spawn(f, 1); return 0; }",
+                "110 0",
+            ),
+            (
+                "int g; void k(void) { g = 0; } void f(int n) { g = n; k(); } int main(void) { spawn(f, 1); return 0; }",
+                "110 0",
+            ),
+            // Functions that are not reached name it.
+            (
+                "int g; void f(int n) { n = 1; } int main(void) { spawn(f, 1); g = 1; return 0; }",
+                "10 -",
+            ),
+            (
+                "int g; void k(void) { g = 0; } void f(int n) { g = n; } int main(void) { spawn(f, 1); k(); g = 1; return 0; }",
+                "010 1",
+            ),
+            // Each global for itself.
+            (
+                "int a; int b; int c; void f(int n) { b = n; } void h(int n) { c = b; } int main(void) { spawn(f, 1); spawn(h, a); return 0; }",
+                "110 - 0 1",
+            ),
+            // A local or a parameter of the name hides it.
+            (
+                "int g; void f(int n) { int g; g = n; } int main(void) { spawn(f, 1); return 0; }",
+                "10 -",
+            ),
+            (
+                "int g; void f(int g) { g = 1; } int main(void) { spawn(f, 1); return 0; }",
+                "10 -",
+            ),
+            (
+                "int g; void f(int n) { { int g; g = n; } g = n; } int main(void) { spawn(f, 1); return 0; }",
+                "10 0",
+            ),
+            // A field of the name is another thing.
+            (
+                "int g; struct s { int g; }; void f(struct s * x) { x->g = 1; } int main(void) { struct s * x = NULL; spawn(f, x); return 0; }",
+                "10 -",
+            ),
+        ],
+    )
+}
+
+#[test]
+fn globals_in_lock_paths(rt: HostRuntime) -> Result<(), Fail> {
+    assert_answers(
+        &rt,
+        &[
+            // In the type of a cast, a parameter, a local, the local of a `for`, and the result of a function that is called.
+            (
+                "mutex m; void f(int * x) { x = SCAST(int locked(m) *, x); } int main(void) { int * x = NULL; spawn(f, x); return 0; }",
+                "10 0",
+            ),
+            (
+                "mutex m; void f(int locked(m) * x) { } int main(void) { int * x = NULL; spawn(f, x); return 0; }",
+                "10 0",
+            ),
+            (
+                "mutex m; void f(int n) { int locked(m) * x; x = NULL; } int main(void) { spawn(f, 1); return 0; }",
+                "10 0",
+            ),
+            (
+                "mutex m; void f(int n) { for (int locked(m) * x = NULL; ; ) break; } int main(void) { spawn(f, 1); return 0; }",
+                "10 0",
+            ),
+            (
+                "mutex m; int locked(m) * k(void) { return NULL; } void f(int n) { k(); } int main(void) { spawn(f, 1); return 0; }",
+                "110 0",
+            ),
+            // At each level, and before the base.
+            (
+                "mutex m; mutex k; mutex l; void f(locked(m) int * locked(k) * locked(l) x) { } int main(void) { int * * x = NULL; spawn(f, x); return 0; }",
+                "10 0 0 0",
+            ),
+            // The second name of a path is a field; the first may be a global.
+            (
+                "mutex m; struct s { mutex m; }; void f(struct s * x) { int locked(x->m) * y; y = NULL; } int main(void) { struct s * x = NULL; spawn(f, x); return 0; }",
+                "10 -",
+            ),
+            (
+                "struct s { mutex m; }; struct s * x; mutex m; void f(int n) { int locked(x->m) * y; y = NULL; } int main(void) { spawn(f, 1); return 0; }",
+                "10 0 -",
+            ),
+            // In a function that is not reached, and in a struct.
+            (
+                "mutex m; void f(int n) { } int main(void) { int locked(m) * x = NULL; spawn(f, 1); return 0; }",
+                "10 -",
+            ),
+            (
+                "mutex m; struct s { int locked(m) n; }; void f(struct s * x) { x->n = 1; } int main(void) { struct s * x = NULL; spawn(f, x); return 0; }",
+                "10 -",
+            ),
+        ],
+    )
+}
+
+#[test]
+fn globals_in_each_construct(rt: HostRuntime) -> Result<(), Fail> {
+    assert_bodies(
+        &rt,
+        &[
+            "g = 1;",
+            "n = (g);",
+            "n = -g;",
+            "n = n + g;",
+            "n = g + n;",
+            "print(g);",
+            "join(g);",
+            "spawn(f, g);",
+            "if (g) ;",
+            "if (n) g = 1;",
+            "if (n) ; else g = 1;",
+            "while (g) ;",
+            "while (n) g = 1;",
+            "for (g = 0; ; ) break;",
+            "for (int k = g; ; ) break;",
+            "for (; g; ) break;",
+            "for (; ; n = g) break;",
+            "for (; ; ) g = 1;",
+            "{ ; { n = g; } }",
+            "int k = g;",
+            "int * k = malloc(g * sizeof(int));",
+        ],
+        "0010 2 - -",
+    )?;
+    assert_bodies(
+        &rt,
+        &[
+            "*p = 1;",
+            "p[0] = 1;",
+            "n = *p;",
+            "free(p);",
+            "int * q = SCAST(int *, p);",
+        ],
+        "0010 - 2 -",
+    )?;
+    assert_bodies(&rt, &["a[0] = 1;", "n = a[n];"], "0010 - - 2")?;
+    assert_bodies(&rt, &["a[g] = 1;", "n = a[1 + g];"], "0010 2 - 2")
+}
+
+#[test]
+fn calls_in_each_construct(rt: HostRuntime) -> Result<(), Fail> {
+    assert_bodies(
+        &rt,
+        &[
+            "h();",
+            "n = (h());",
+            "n = -h();",
+            "n = n + h();",
+            "n = h() + n;",
+            "print(h());",
+            "spawn(f, h());",
+            "if (h()) ;",
+            "if (n) ; else h();",
+            "while (h()) ;",
+            "for (h(); ; ) break;",
+            "for (int k = h(); ; ) break;",
+            "for (; h(); ) break;",
+            "for (; ; h()) break;",
+            "for (; ; ) h();",
+            "{ ; { h(); } }",
+            "int k = h();",
+            "int * k = malloc(h() * sizeof(int));",
+        ],
+        "1010 - - -",
+    )?;
+    assert_bodies(&rt, &["n = id(h());", "id(n + h());"], "1110 - - -")
+}
+
+#[test]
+fn chain_of_a_thousand(rt: HostRuntime) -> Result<(), Fail> {
+    assert_chain(&rt, 1_000)
+}
+
+#[test]
+fn chain_as_long_as_may_be(rt: HostRuntime) -> Result<(), Fail> {
+    assert_chain(&rt, 16_000)
+}
