@@ -1,7 +1,7 @@
 //! One thread: arithmetic, calls, cells, objects, counts.
 
-use crate::bench::{LIMIT, code, run};
-use sharc_code::{Cell, Instr, Operator, TOP, Width};
+use crate::bench::{LIMIT, run};
+use sharc_code::{Cell, Instr, Operator, Width};
 use sharc_cpu::{Pause, Stop};
 use std::alloc::Global;
 use std::process::Abort;
@@ -16,8 +16,8 @@ fn computed(alloc: Global, compute: Instr, left: i64, right: i64) -> Result<Resu
         Instr::Print(2, 6),
         Instr::Return(7),
     ];
-    let ran = run(alloc, &code(alloc, &body, &[])?, 20, LIMIT)?;
-    match (ran.printed()[0], ran.trap()) {
+    let ran = run(alloc, &body, &[], 20, LIMIT)?;
+    match (ran.printed[0], ran.trap()) {
         (Some(value), None) => Ok(Ok(value)),
         (None, Some((number, 5))) => Ok(Err(number)),
         _ => Ok(Err(99)),
@@ -185,11 +185,11 @@ fn counts_in_a_loop(rt: HostRuntime) -> Result<(), Fail> {
         Instr::Print(4, 0),
         Instr::Return(0),
     ];
-    let ran = run(rt.alloc(), &code(rt.alloc(), &body, &[])?, 100, LIMIT)?;
-    assert_eq!(rt; ran.printed(), [Some(-15), Some(14), Some(1)]);
+    let ran = run(rt.alloc(), &body, &[], 100, LIMIT)?;
+    assert_eq!(rt; ran.printed, [Some(-15), Some(14), Some(1)]);
     assert_eq!(rt; ran.answers.0, Pause::Ended);
     // Start two, three constants, five rounds of four, the last test, seven more, and Exit two.
-    assert_eq!(rt; ran.first.made(), 35);
+    assert_eq!(rt; ran.made, 35);
     Ok(())
 }
 
@@ -217,23 +217,13 @@ fn object(last: Instr) -> [Instr; 16] {
 
 #[test]
 fn objects(rt: HostRuntime) -> Result<(), Fail> {
-    let sole = run(
-        rt.alloc(),
-        &code(rt.alloc(), &object(Instr::Lower(1)), &[])?,
-        100,
-        LIMIT,
-    )?;
-    assert_eq!(rt; sole.printed(), [Some(5), Some(77), Some(1)]);
+    let sole = run(rt.alloc(), &object(Instr::Lower(1)), &[], 100, LIMIT)?;
+    assert_eq!(rt; sole.printed, [Some(5), Some(77), Some(1)]);
     assert_eq!(rt; sole.answers.0, Pause::Ended);
     // Six cells take three data granules and the header, so a block of four behind the globals.
-    assert_eq!(rt; sole.words.get(TOP as usize).copied(), Some(15));
-    let two = run(
-        rt.alloc(),
-        &code(rt.alloc(), &object(Instr::Jump(16)), &[])?,
-        100,
-        LIMIT,
-    )?;
-    assert!(rt; matches!(two.first.stop(), Some(Stop::NotSole(9, 2))));
+    assert_eq!(rt; sole.top, 15);
+    let two = run(rt.alloc(), &object(Instr::Jump(16)), &[], 100, LIMIT)?;
+    assert!(rt; matches!(two.stops.0, Some(Stop::NotSole(9, 2))));
     assert_eq!(rt; two.answers.0, Pause::Stopped);
     Ok(())
 }
@@ -249,7 +239,7 @@ fn bounds(rt: HostRuntime) -> Result<(), Fail> {
             Instr::Bounds(1, 0, 3, 2, 3),
             Instr::Return(0),
         ];
-        let ran = run(rt.alloc(), &code(rt.alloc(), &body, &[])?, 100, LIMIT)?;
+        let ran = run(rt.alloc(), &body, &[], 100, LIMIT)?;
         assert_eq!(rt; ran.trap(), Some((2, 3)), "at {index}");
     }
     Ok(())
@@ -270,10 +260,10 @@ fn frees_and_takes_again(rt: HostRuntime) -> Result<(), Fail> {
         Instr::ChkNull(0, 8),
         Instr::Return(0),
     ];
-    let ran = run(rt.alloc(), &code(rt.alloc(), &body, &[])?, 100, LIMIT)?;
-    assert_eq!(rt; ran.printed(), [Some(1), None, None]);
+    let ran = run(rt.alloc(), &body, &[], 100, LIMIT)?;
+    assert_eq!(rt; ran.printed, [Some(1), None, None]);
     assert_eq!(rt; ran.trap(), Some((1, 8)));
-    assert_eq!(rt; ran.words.get(TOP as usize).copied(), Some(13));
+    assert_eq!(rt; ran.top, 13);
     Ok(())
 }
 
@@ -285,7 +275,7 @@ fn heap_full(rt: HostRuntime) -> Result<(), Fail> {
         Instr::New(0, 0, 1000, 2),
         Instr::Return(0),
     ];
-    let ran = run(rt.alloc(), &code(rt.alloc(), &body, &[])?, 100, LIMIT)?;
+    let ran = run(rt.alloc(), &body, &[], 100, LIMIT)?;
     assert_eq!(rt; ran.trap(), Some((9, 2)));
     Ok(())
 }
@@ -304,7 +294,7 @@ fn widths(rt: HostRuntime) -> Result<(), Fail> {
             Instr::ChkWidth(width, 0, 3),
             Instr::Return(0),
         ];
-        let ran = run(rt.alloc(), &code(rt.alloc(), &body, &[])?, 100, LIMIT)?;
+        let ran = run(rt.alloc(), &body, &[], 100, LIMIT)?;
         assert_eq!(rt;
             ran.trap(),
             if fits { None } else { Some((4, 3)) },

@@ -8,6 +8,10 @@ mod alone;
 #[cfg(test)]
 mod bench;
 #[cfg(test)]
+mod chosen;
+#[cfg(test)]
 mod limits;
+#[cfg(test)]
+mod references;
 #[cfg(test)]
 mod together;

@@ -1,6 +1,6 @@
 //! Frames, mutexes and events up to their limits and past them.
 
-use crate::bench::{LIMIT, code, run};
+use crate::bench::{LIMIT, run};
 use sharc_code::{Cell, Instr, Operator};
 use sharc_cpu::Pause;
 use std::process::Abort;
@@ -21,7 +21,7 @@ fn frames(rt: HostRuntime) -> Result<(), Fail> {
             Instr::Call(5, 1, 1, 5),
             Instr::Return(0),
         ];
-        let ran = run(rt.alloc(), &code(rt.alloc(), &body, &[])?, 2000, LIMIT)?;
+        let ran = run(rt.alloc(), &body, &[], 2000, LIMIT)?;
         assert_eq!(rt; ran.trap(), trap, "{calls} calls");
     }
     Ok(())
@@ -42,7 +42,7 @@ fn mutexes(rt: HostRuntime) -> Result<(), Fail> {
             body.push(Instr::Unlock(0, Cell::Global(0, 2 + mutex), 8))?;
         }
         body.push(Instr::Return(11))?;
-        let ran = run(rt.alloc(), &code(rt.alloc(), &body, &[])?, 200, LIMIT)?;
+        let ran = run(rt.alloc(), &body, &[], 200, LIMIT)?;
         assert_eq!(rt; ran.trap(), trap, "{mutexes} mutexes");
     }
     Ok(())
@@ -59,11 +59,11 @@ fn held(rt: HostRuntime) -> Result<(), Fail> {
         Instr::Return(11),
     ];
     let kept = [lock, Instr::Return(11)];
-    let ran = run(rt.alloc(), &code(rt.alloc(), &unheld, &[])?, 100, LIMIT)?;
+    let ran = run(rt.alloc(), &unheld, &[], 100, LIMIT)?;
     assert_eq!(rt; ran.trap(), Some((5, 5)));
-    let ran = run(rt.alloc(), &code(rt.alloc(), &twice, &[])?, 100, LIMIT)?;
+    let ran = run(rt.alloc(), &twice, &[], 100, LIMIT)?;
     assert_eq!(rt; ran.trap(), Some((6, 6)));
-    let ran = run(rt.alloc(), &code(rt.alloc(), &kept, &[])?, 100, LIMIT)?;
+    let ran = run(rt.alloc(), &kept, &[], 100, LIMIT)?;
     assert_eq!(rt; ran.trap(), Some((11, 11)));
     Ok(())
 }
@@ -72,8 +72,8 @@ fn held(rt: HostRuntime) -> Result<(), Fail> {
 #[test]
 fn events(rt: HostRuntime) -> Result<(), Fail> {
     let body = [Instr::Jump(2)];
-    let ran = run(rt.alloc(), &code(rt.alloc(), &body, &[])?, 100, 50)?;
+    let ran = run(rt.alloc(), &body, &[], 100, 50)?;
     assert_eq!(rt; ran.answers.0, Pause::Spent);
-    assert_eq!(rt; ran.first.made(), 50);
+    assert_eq!(rt; ran.made, 50);
     Ok(())
 }

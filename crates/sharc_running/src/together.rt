@@ -1,6 +1,6 @@
 //! Two threads, a turn of each in turn.
 
-use crate::bench::{LIMIT, code, function, run};
+use crate::bench::{LIMIT, function, run};
 use sharc_code::{Cell, Instr, Parameter, Register};
 use sharc_cpu::{Pause, Stop, Wait};
 use sharc_shadow::Kind;
@@ -27,11 +27,9 @@ fn spawns_and_joins(rt: HostRuntime) -> Result<(), Fail> {
         Instr::Print(0, 7),
         Instr::Return(8),
     ];
-    let code = code(rt.alloc(), &body, &[function(7, Parameter::Int)])?;
-    let ran = run(rt.alloc(), &code, 60, LIMIT)?;
-    assert_eq!(rt; ran.printed(), [Some(6), Some(1), None]);
+    let ran = run(rt.alloc(), &body, &[function(7, Parameter::Int)], 60, LIMIT)?;
+    assert_eq!(rt; ran.printed, [Some(6), Some(1), None]);
     assert_eq!(rt; ran.answers, (Pause::Ended, Pause::Ended));
-    assert_eq!(rt; ran.second.number(), 1);
     Ok(())
 }
 
@@ -40,7 +38,7 @@ fn spawns_and_joins(rt: HostRuntime) -> Result<(), Fail> {
 fn joins_nobody(rt: HostRuntime) -> Result<(), Fail> {
     for number in [-1, 31, 5] {
         let body = [Instr::Constant(0, number), Instr::Join(0, 4)];
-        let ran = run(rt.alloc(), &code(rt.alloc(), &body, &[])?, 20, LIMIT)?;
+        let ran = run(rt.alloc(), &body, &[], 20, LIMIT)?;
         assert_eq!(rt; ran.trap(), Some((7, 4)), "{number}");
     }
     Ok(())
@@ -50,10 +48,10 @@ fn joins_nobody(rt: HostRuntime) -> Result<(), Fail> {
 #[test]
 fn waits_for_ever(rt: HostRuntime) -> Result<(), Fail> {
     let body = [Instr::Constant(0, 0), Instr::Join(0, 4)];
-    let ran = run(rt.alloc(), &code(rt.alloc(), &body, &[])?, 20, LIMIT)?;
+    let ran = run(rt.alloc(), &body, &[], 20, LIMIT)?;
     assert_eq!(rt; ran.answers.0, Pause::Blocked);
-    assert_eq!(rt; ran.first.made(), 3);
-    assert!(rt; matches!(ran.first.wait(), Some(Wait::Join(0, 4))));
+    assert_eq!(rt; ran.made, 3);
+    assert!(rt; matches!(ran.wait, Some(Wait::Join(0, 4))));
     Ok(())
 }
 
@@ -79,9 +77,14 @@ fn one_mutex(rt: HostRuntime) -> Result<(), Fail> {
     body.extend_from_slice(&one_more)?;
     body.push(Instr::Return(6))?;
     // The thread begins behind the twelve of `main`, at place 14.
-    let code = code(rt.alloc(), &body, &[function(14, Parameter::None)])?;
-    let ran = run(rt.alloc(), &code, 100, LIMIT)?;
-    assert_eq!(rt; ran.printed(), [Some(2), None, None]);
+    let ran = run(
+        rt.alloc(),
+        &body,
+        &[function(14, Parameter::None)],
+        100,
+        LIMIT,
+    )?;
+    assert_eq!(rt; ran.printed, [Some(2), None, None]);
     assert_eq!(rt; ran.answers, (Pause::Ended, Pause::Ended));
     Ok(())
 }
@@ -108,9 +111,14 @@ fn waits_and_signals(rt: HostRuntime) -> Result<(), Fail> {
         Instr::Unlock(0, MUTEX, 7),
         Instr::Return(8),
     ];
-    let code = code(rt.alloc(), &body, &[function(12, Parameter::None)])?;
-    let ran = run(rt.alloc(), &code, 100, LIMIT)?;
-    assert_eq!(rt; ran.printed(), [Some(1), Some(2), None]);
+    let ran = run(
+        rt.alloc(),
+        &body,
+        &[function(12, Parameter::None)],
+        100,
+        LIMIT,
+    )?;
+    assert_eq!(rt; ran.printed, [Some(1), Some(2), None]);
     assert_eq!(rt; ran.answers, (Pause::Ended, Pause::Ended));
     Ok(())
 }
@@ -129,10 +137,15 @@ fn conflicts(rt: HostRuntime) -> Result<(), Fail> {
         Instr::Load(0, VALUE, 9),
         Instr::Return(8),
     ];
-    let code = code(rt.alloc(), &body, &[function(7, Parameter::None)])?;
-    let ran = run(rt.alloc(), &code, 60, LIMIT)?;
+    let ran = run(
+        rt.alloc(),
+        &body,
+        &[function(7, Parameter::None)],
+        60,
+        LIMIT,
+    )?;
     assert_eq!(rt; ran.answers, (Pause::Blocked, Pause::Stopped));
-    let stop = match ran.second.stop() {
+    let stop = match ran.stops.1 {
         Some(Stop::Conflict(at)) => Some((at.kind, at.site, at.granule, at.epoch, at.old)),
         _ => None,
     };
@@ -154,8 +167,13 @@ fn withdraws(rt: HostRuntime) -> Result<(), Fail> {
         Instr::Load(0, VALUE, 9),
         Instr::Return(8),
     ];
-    let code = code(rt.alloc(), &body, &[function(7, Parameter::None)])?;
-    let ran = run(rt.alloc(), &code, 60, LIMIT)?;
+    let ran = run(
+        rt.alloc(),
+        &body,
+        &[function(7, Parameter::None)],
+        60,
+        LIMIT,
+    )?;
     assert_eq!(rt; ran.answers, (Pause::Ended, Pause::Ended));
     Ok(())
 }
