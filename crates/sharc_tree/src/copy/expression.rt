@@ -96,16 +96,8 @@ pub fn copy_expr(alloc: Global, expr: &Expr) -> Result<Expr, AllocError>
         Expr::Parentheses(span, inner) => Ok(Expr::Parentheses(*span, copy_box(alloc, inner)?)),
         Expr::Call(span, name, list) => copy_call(alloc, *span, name, copy_arguments(alloc, list)?),
         Expr::Spawn(span, name, value) => copy_spawn(alloc, *span, name, copy_box(alloc, value)?),
-        Expr::OnValue(span, word, value) => Ok(Expr::OnValue(
-            *span,
-            *word,
-            copy_box(alloc, value)?,
-        )),
-        Expr::OnPlace(span, word, place) => Ok(Expr::OnPlace(
-            *span,
-            *word,
-            copy_box(alloc, place)?,
-        )),
+        Expr::OnValue(span, word, expr) => Ok(Expr::OnValue(*span, *word, copy_box(alloc, expr)?)),
+        Expr::OnPlace(span, word, expr) => Ok(Expr::OnPlace(*span, *word, copy_box(alloc, expr)?)),
         Expr::Cast(span, to, source) => copy_cast(alloc, *span, to, copy_box(alloc, source)?),
         Expr::Index(span, base, index) => {
             let base = copy_box(alloc, base)?;
@@ -117,10 +109,7 @@ pub fn copy_expr(alloc: Global, expr: &Expr) -> Result<Expr, AllocError>
             access,
             name,
         } => copy_field(alloc, *span, copy_box(alloc, base)?, *access, name),
-        Expr::Unary(span, operator, operand) => {
-            let operand = copy_box(alloc, operand)?;
-            Ok(Expr::Unary(*span, *operator, operand))
-        }
+        Expr::Unary(span, sign, inner) => Ok(Expr::Unary(*span, *sign, copy_box(alloc, inner)?)),
         Expr::Binary {
             span,
             operator,
