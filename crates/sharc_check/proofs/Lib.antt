@@ -1,0 +1,10 @@
+pub mod CallLemmas
+pub mod LevelLemmas
+pub mod OnceLemmas
+pub mod OnlyLemmas
+pub mod OrderLemmas
+pub mod RowLemmas
+pub mod SettleLemmas
+pub mod SpawnLemmas
+pub mod ThreadLemmas
+pub mod TouchedLemmas

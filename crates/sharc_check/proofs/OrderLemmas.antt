@@ -1,0 +1,35 @@
+-- No case in order is no case.
+use Rattle.std.proofs.Common.{◌≡◌, ℕ, ◌==◌, Bool, true, false, List, [], ◌∷◌, length, refl, ap, sym, ◌∙◌, subst, arith}
+use Rattle.std.proofs.lemmas.Bool.Decides.{nat_tests}
+use Rattle.std.proofs.lemmas.List.Sorted.{length_permutation}
+use Rattle.sharc_mode.specs.declared.error.ModeError.{ModeError}
+use Rattle.sharc_mode.specs.Laws.{ModeLaws}
+use Rattle.sharc_mode.specs.Moded.{Assignment}
+use Rattle.sharc_mode.specs.WellModed.{AreModeErrors, WellModed}
+use Rattle.sharc_check.specs.Checks.{AreAll, IsRefused}
+
+empty_of_length : (l : List ModeError) → length l ≡ 0 → l ≡ []
+empty_of_length [] h = refl
+empty_of_length (e ∷ rest) h = grind arith
+
+-- where none is listed, none arises
+pub well : (m : Assignment) (errors : List ModeError) → AreAll m errors → length errors ≡ 0 → WellModed m
+well m errors all none =
+    let same = length_permutation all.found errors all.ordered.each_once in
+    subst (AreModeErrors m) (empty_of_length all.found (sym same ∙ none)) all.arise
+
+-- where some are listed, the program is refused
+pub refused : (laws : ModeLaws) (m : Assignment) (errors : List ModeError) → AreAll m errors → (length errors ≡ 0 → ⊥) → IsRefused m errors
+refused laws m errors all some =
+    let same = length_permutation all.found errors all.ordered.each_once in
+    record {
+      all = all;
+      some = λ h. some (ap length h);
+      not_well_moded = λ w. some (same ∙ ap length (laws.one m all.found [] all.arise w));
+    }
+
+pub none_listed : (empty : Bool) (n : ℕ) → empty ≡ (n == 0) → empty ≡ true → n ≡ 0
+none_listed empty n is holds = let e : (n == 0) ≡ true = sym is ∙ holds in grind (arith, nat_tests, e)
+
+pub some_listed : (empty : Bool) (n : ℕ) → empty ≡ (n == 0) → empty ≡ false → n ≡ 0 → ⊥
+some_listed empty n is holds none = let e : (n == 0) ≡ false = sym is ∙ holds in grind (arith, nat_tests, e, none)

@@ -1,0 +1,13 @@
+use Rattle.std.proofs.Common.{◌≡◌, List, subst}
+use Rattle.sharc_mode.specs.declared.error.ModeError.{ModeError}
+use Rattle.sharc_check.specs.Orders.{IsInOrder}
+use Rattle.sharc_check.proofs.OnlyLemmas.{only}
+use Rattle.sharc_check.proofs.laws.check_laws.Goals as goal
+
+pub returns : goal.returns
+returns c = record {
+  order = only;
+  list = λ m a b all others.
+      let one : others.found ≡ all.found = c.mode_laws.ensures.one m others.found all.found others.arise all.arise in
+      only all.found a b all.ordered (subst (λ (l : List ModeError). IsInOrder l b) one others.ordered);
+}

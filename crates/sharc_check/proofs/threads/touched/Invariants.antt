@@ -1,0 +1,10 @@
+use Rattle.std.proofs.Common.{◌≡◌, ◌++◌, drop}
+use Rattle.sharc_ctype.specs.Resolved.{globals_in}
+use Rattle.sharc_mode.specs.WellModed.{touched_notes}
+use Rattle.sharc_check.specs.Threads.{touched_by}
+use Rattle.sharc_check.proofs.threads.touched.Given as goal
+
+abbrev pub invariant-loop-n : goal.invariant-loop-n
+invariant-loop-n l =
+    l.notes.items ++ touched_notes (touched_by l.reached) l.n (drop l.n (globals_in l.m.typed.program.items))
+    ≡ l.fn.notes.items ++ touched_notes (touched_by l.reached) 0 (globals_in l.m.typed.program.items)

@@ -1,0 +1,7 @@
+use Rattle.std.proofs.Common.{◌≡◌, drop}
+use Rattle.std.specs.List.{list_any}
+use Rattle.sharc_mode.specs.Notes.{is_private_level}
+use Rattle.sharc_check.proofs.types.any_private.Given as goal
+
+abbrev pub invariant-loop-level : goal.invariant-loop-level
+invariant-loop-level l = list_any is_private_level (drop l.level-index l.levels) ≡ list_any is_private_level l.levels

@@ -1,0 +1,8 @@
+use Rattle.std.proofs.Common.{◌≡◌, drop}
+use Rattle.sharc_mode.specs.Notes.{levels_of, position_levels}
+use Rattle.sharc_mode.specs.WellFormed.{holds_private}
+use Rattle.sharc_check.specs.Levels.{holds_below}
+use Rattle.sharc_check.proofs.types.holds_private.Given as goal
+
+abbrev pub invariant-loop-i : goal.invariant-loop-i
+invariant-loop-i l = holds_below l.above (drop l.i (position_levels l.m l.numbered)) ≡ holds_private (levels_of l.m l.numbered)

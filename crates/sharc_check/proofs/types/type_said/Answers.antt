@@ -1,0 +1,31 @@
+use Rattle.std.proofs.Common.{◌≡◌, ◌++◌, List, ap, ◌∙◌, OnOk, subst}
+use Rattle.std.specs.List.{flat_map}
+use Rattle.sharc_ctype.specs.Resolved.{Resolution}
+use Rattle.sharc_mode.specs.declared.note.Note.{Note}
+use Rattle.sharc_mode.specs.Notes.{private_notes, path_notes, mode_notes, private_field_notes, names_in_level}
+use Rattle.sharc_mode.specs.WellFormed.{place_of, first_unfit_path, first_unfit_mode}
+use Rattle.sharc_check.proofs.LevelLemmas.{five}
+use Rattle.sharc_check.proofs.types.type_said.Goals as goal
+
+pub returns : goal.returns
+returns c =
+    let m = c.args.m.now in
+    let n = c.args.numbered.now in
+    let typed = c.typed-t.ensures in
+    let span = n.entity.written.span in
+    let base = n.entity.written.ctype.base in
+    let levels = n.entity.written.ctype.levels in
+    let P : Resolution → List Note = λ r. path_notes span (first_unfit_path r (place_of n.entity.role) base levels) in
+    let F : Resolution → List Note = λ r. private_field_notes r n in
+    let N : Resolution → List Note = λ r. flat_map (names_in_level r) levels in
+    let n1 = c.private.new.notes.items in
+    let n2 = c.path.new.notes.items in
+    let n3 = c.mode.new.notes.items in
+    let n4 = c.private_field.new.notes.items in
+    let said =
+    five c.args.notes.now.items n1 n2 n3 n4 (private_notes m n) (P m.typed) (mode_notes span (first_unfit_mode (place_of n.entity.role) base levels)) (F m.typed) (N m.typed) c.in_ok-private.ensures
+    (c.in_ok-path.ensures ∙ ap (λ r. n1 ++ P r) typed) c.in_ok-mode.ensures (c.in_ok-private_field.ensures ∙ ap (λ r. n3 ++ F r) typed)
+    in
+    subst (λ l. OnOk c.names.result (c.names.new.notes.items ≡ l))
+    (ap (λ l. n4 ++ flat_map (names_in_level c.typed-t.result.now) l) c.as_slice.ensures ∙ ap (λ r. n4 ++ N r) typed ∙ said)
+    c.names.ensures

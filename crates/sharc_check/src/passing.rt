@@ -1,0 +1,66 @@
+// What is passed at a call or a spawn, and to which parameters.
+
+ghost use Rattle.std.specs.Prelude.{◌≡◌};
+ghost use Rattle.sharc_ctype.specs.Transfers.{parameters_named};
+ghost use Rattle.sharc_mode.specs.Rows.{at_call, argument_use};
+ghost use Rattle.sharc_mode.specs.View.{view_reading};
+ghost use Rattle.sharc_check.specs.Passed.{view_passed};
+
+use sharc_ctype::typed::Typed;
+use sharc_mode::read::spawn_argument_use;
+use sharc_mode::row::{Reading, argument_use};
+use sharc_names::fault::Named;
+use sharc_tree::tree::{Declaration, Expr};
+
+/// The arguments of a call, or the one of a spawn.
+#[derive(Clone, Copy)]
+pub(crate) enum Passed<'a> {
+    All(&'a [Expr]),
+    One(&'a Expr),
+}
+
+/// The parameters of what is called or spawned, and what is passed.
+#[derive(Clone, Copy)]
+pub(crate) struct Passing<'a> {
+    pub(crate) parameters: &'a [Declaration],
+    pub(crate) passed: Passed<'a>,
+}
+
+/// The parameters of what a name names.
+pub(crate) fn parameters_named(t: &Typed, named: Named) -> &[Declaration]
+    ensures { result.now ≡ parameters_named t.now named }
+{
+    match named {
+        Named::Function(number) => match t.function_at(number) {
+            None => &[],
+            Some(function) => function.parameters.as_slice(),
+        },
+        Named::Struct(_) => &[],
+        Named::Global(_) => &[],
+        Named::Variable(_) => &[],
+        Named::Field(_) => &[],
+        Named::Known => &[],
+    }
+}
+
+impl<'a> Passing<'a> {
+    /// How the lock paths of the parameters' types are read there.
+    pub(crate) fn reading(self) -> Reading<'a>
+        ensures { view_reading result ≡ at_call self.entry.parameters.now (view_passed self.entry.passed) }
+    {
+        match self.passed {
+            Passed::All(arguments) => Reading::Call(self.parameters, arguments),
+            Passed::One(value) => Reading::Spawn(self.parameters, value),
+        }
+    }
+
+    /// What is passed for the parameter that this token declares, where it is a constant variable.
+    pub(crate) fn argument_use(self, t: &Typed, wanted: u32) -> Option<u32>
+        ensures { result ≡ argument_use t.now self.entry.parameters.now (view_passed self.entry.passed) wanted }
+    {
+        match self.passed {
+            Passed::All(arguments) => argument_use(t, self.parameters, arguments, wanted),
+            Passed::One(value) => spawn_argument_use(t, self.parameters, value, wanted),
+        }
+    }
+}

@@ -1,0 +1,438 @@
+// What is said of one construct.
+
+ghost use Rattle.std.specs.Prelude.{◌≡◌, ◌+◌, ◌≤◌, ◌++◌, ◌∷◌, [], drop, IfOk, OnOk};
+ghost use Rattle.std.specs.List.{list_any};
+ghost use Rattle.std.specs.Option.{option_map, option_or};
+ghost use Rattle.sharc_tree.specs.Spans.{span_of};
+ghost use Rattle.sharc_tree.specs.View.{view_expr};
+ghost use Rattle.sharc_names.specs.View.{view_root};
+ghost use Rattle.sharc_mode.specs.Cells.{cell_at};
+ghost use Rattle.sharc_mode.specs.Expressions.{expected, place_notes};
+ghost use Rattle.sharc_mode.specs.Moded.{position_count};
+ghost use Rattle.sharc_mode.specs.Notes.{error, error_where, mismatch, shown, no_type, span_text, agree_notes, write_notes, cast_notes, taken_variable, takes, source_notes, names_of, names_in, names_in_all, sibling_notes, field_notes, unmet, unmet_in, first_unmet, unmet_notes, names_at_call, call_notes};
+ghost use Rattle.sharc_mode.specs.Rows.{modes_of, modes_at, cast_row};
+ghost use Rattle.sharc_mode.specs.Sharings.{is_readonly, is_sibling};
+ghost use Rattle.sharc_mode.specs.View.{view_row, view_rows, view_sharing, EndsWithin};
+ghost use Rattle.sharc_check.specs.Passed.{view_passed, view_locks};
+
+use crate::passing::Passing;
+use sharc_ctype::typed::Typed;
+use sharc_mode::cell::{cell_of, pointed};
+use sharc_mode::error::ModeError;
+use sharc_mode::moded::Moded;
+use sharc_mode::note::Note;
+use sharc_mode::read::path_variable;
+use sharc_mode::row::{Reading, Row, cast_row, declared_row, row_of};
+use sharc_mode::sharing::{Lock, Sharing, is_readonly, is_sibling, variable_named, variable_of};
+use sharc_mode::shown::{path_of, root_of_kind, row_laws, same_rows, shown};
+use sharc_mode::text::{path_text, span_text};
+use sharc_names::kind::{Root, root_of};
+use sharc_tree::ctype::{Base, CType};
+use sharc_tree::listed::Listed;
+use sharc_tree::name::Name;
+use sharc_tree::token::Span;
+use sharc_tree::tree::{Declaration, Expr, PlaceCall, WrittenType};
+use std::alloc::{AllocError, Global};
+
+/// `void` with no levels, where no type is shown.
+fn no_type(alloc: Global) -> CType
+    ensures { result ≡ no_type }
+{
+    CType {
+        base: Base::Void,
+        levels: Listed::of(Vec::new(alloc)),
+    }
+}
+
+/// A case that shows no types.
+pub(crate) fn error(alloc: Global, code: u8, span: Span, subject: Name) -> Note
+    ensures { result ≡ error code span subject }
+{
+    Note::Wrong(ModeError {
+        code,
+        site: span.first,
+        expected: no_type(alloc),
+        found: no_type(alloc),
+        subject,
+    })
+}
+
+/// A case that shows two types.
+pub(crate) fn mismatch(alloc: Global, code: u8, span: Span, expected: CType, found: CType) -> Note
+    ensures { result ≡ mismatch code span expected found }
+{
+    Note::Wrong(ModeError {
+        code,
+        site: span.first,
+        expected,
+        found,
+        subject: Name::of(Vec::new(alloc)),
+    })
+}
+
+/// Says that the modes of two rows differ.
+fn differ(
+    alloc: Global,
+    m: &Moded,
+    code: u8,
+    span: Span,
+    root: Root<'_>,
+    rows: (Row<'_>, Row<'_>),
+    notes: &mut Vec<Note>,
+) -> Result<(), AllocError>
+    requires expected { rows.0.first + rows.0.count ≤ position_count m.now.typed }
+    requires found { rows.1.first + rows.1.count ≤ position_count m.now.typed }
+    ensures { OnOk result (notes.new.items ≡ notes.old.items ++ mismatch code span (shown m.now.typed (view_root root.entry) (modes_of m.now (view_row rows.entry.0))) (shown m.now.typed (view_root root.entry) (modes_of m.now (view_row rows.entry.1))) ∷ []) }
+{
+    let (expected, found) = rows;
+    let expected = shown(alloc, m, root, expected)?;
+    let found = shown(alloc, m, root, found)?;
+    notes.push(mismatch(alloc, code, span, expected, found))?;
+    Ok(())
+}
+
+/// M1: the modes of an expression are those that are expected; NULL agrees with every pointer type.
+pub(crate) fn agree(
+    alloc: Global,
+    m: &Moded,
+    expected: Option<Row<'_>>,
+    expr: &Expr,
+    notes: &mut Vec<Note>,
+) -> Result<(), AllocError>
+    requires { EndsWithin m.now.typed expected }
+    ensures { OnOk result (notes.new.items ≡ notes.old.items ++ agree_notes m.now (option_map (modes_of m.now) (view_rows expected.entry)) (view_expr expr.now)) }
+{
+    let t = m.typed();
+    match (expected, row_of(t, expr)) {
+        (Some(expected), Some(found)) => {
+            if same_rows(m, expected, found) {
+                Ok(())
+            } else {
+                let root = root_of_kind(t.kind_at(expr));
+                differ(alloc, m, 1, expr.span(), root, (expected, found), notes)
+            }
+        }
+        _ => Ok(()),
+    }
+}
+
+/// Says that a place is readonly, where it is.
+fn readonly(
+    alloc: Global,
+    m: &Moded,
+    code: u8,
+    place: &Expr,
+    notes: &mut Vec<Note>,
+) -> Result<(), AllocError>
+    ensures { OnOk result (notes.new.items ≡ notes.old.items ++ error_where (is_readonly (cell_at m.now (view_expr place.now))) code (span_of (view_expr place.now)) (span_text m.now.typed (span_of (view_expr place.now)))) }
+{
+    if is_readonly(cell_of(m, place)) {
+        let span = place.span();
+        let text = span_text(alloc, m.typed(), span)?;
+        notes.push(error(alloc, code, span, text))?;
+    }
+    Ok(())
+}
+
+/// M2
+pub(crate) fn write(
+    alloc: Global,
+    m: &Moded,
+    place: &Expr,
+    notes: &mut Vec<Note>,
+) -> Result<(), AllocError>
+    ensures { OnOk result (notes.new.items ≡ notes.old.items ++ write_notes m.now (view_expr place.now)) }
+{
+    readonly(alloc, m, 2, place, notes)
+}
+
+/// M8: the modes of the targets from depth 2 on are those of the source.
+pub(crate) fn cast(
+    alloc: Global,
+    m: &Moded,
+    span: Span,
+    to: &WrittenType,
+    from: &Expr,
+    notes: &mut Vec<Note>,
+) -> Result<(), AllocError>
+    ensures { OnOk result (notes.new.items ≡ notes.old.items ++ cast_notes m.now.typed to.now.span to.now.ctype.base (modes_of m.now (cast_row m.now.typed span)) (modes_at m.now (view_expr from.now))) }
+{
+    let t = m.typed();
+    let _all = m.position_count();
+    row_laws();
+    match row_of(t, from) {
+        None => Ok(()),
+        Some(found) => {
+            let expected = cast_row(t, span);
+            if same_rows(m, expected.deeper(), found.deeper()) {
+                Ok(())
+            } else {
+                let root = root_of(&to.ctype.base);
+                differ(alloc, m, 8, to.span, root, (expected, found), notes)
+            }
+        }
+    }
+}
+
+fn taken_variable(t: &Typed, place: &Expr) -> Option<u32>
+    ensures { result ≡ taken_variable t.now (view_expr place.now) }
+{
+    match place {
+        Expr::Identifier(_, name) => variable_named(t.named(name.site.token)),
+        _ => None,
+    }
+}
+
+fn takes(span: Span, variable: Option<u32>, notes: &mut Vec<Note>) -> Result<(), AllocError>
+    ensures { OnOk result (notes.new.items ≡ notes.old.items ++ takes span variable) }
+{
+    if let Some(variable) = variable {
+        notes.push(Note::Takes(span, variable))?;
+    }
+    Ok(())
+}
+
+/// M9, and what M10 asks for.
+pub(crate) fn source(
+    alloc: Global,
+    m: &Moded,
+    place: &Expr,
+    notes: &mut Vec<Note>,
+) -> Result<(), AllocError>
+    ensures { OnOk result (notes.new.items ≡ notes.old.items ++ source_notes m.now (view_expr place.now)) }
+{
+    readonly(alloc, m, 9, place, notes)?;
+    let variable = taken_variable(m.typed(), place.without_parentheses());
+    takes(place.span(), variable, notes)
+}
+
+/// The argument of `lock`, `unlock` or `free`.
+pub(crate) fn place(
+    alloc: Global,
+    m: &Moded,
+    call: PlaceCall,
+    place: &Expr,
+    notes: &mut Vec<Note>,
+) -> Result<(), AllocError>
+    ensures { OnOk result (notes.new.items ≡ notes.old.items ++ place_notes m.now call (view_expr place.now)) }
+{
+    match call {
+        PlaceCall::Lock => Ok(()),
+        PlaceCall::Unlock => Ok(()),
+        PlaceCall::Free => source(alloc, m, place, notes),
+    }
+}
+
+fn name(variable: Option<u32>, notes: &mut Vec<Note>) -> Result<(), AllocError>
+    ensures { OnOk result (notes.new.items ≡ notes.old.items ++ names_of variable) }
+{
+    if let Some(variable) = variable {
+        notes.push(Note::Names(variable))?;
+    }
+    Ok(())
+}
+
+/// The variable that the path of a mode names.
+pub(crate) fn name_in(t: &Typed, s: Sharing<'_>, notes: &mut Vec<Note>) -> Result<(), AllocError>
+    ensures { OnOk result (notes.new.items ≡ notes.old.items ++ names_in t.now (view_sharing s.entry)) }
+{
+    match s {
+        Sharing::Locked(lock) => name(variable_of(t, lock), notes),
+        Sharing::Private => Ok(()),
+        Sharing::Readonly => Ok(()),
+        Sharing::Racy => Ok(()),
+        Sharing::Dynamic => Ok(()),
+    }
+}
+
+/// The variables that the paths of a row name.
+fn names_in_row(m: &Moded, row: Row<'_>, notes: &mut Vec<Note>) -> Result<(), AllocError>
+    requires { row.first + row.count ≤ position_count m.now.typed }
+    ensures { OnOk result (notes.new.items ≡ notes.old.items ++ names_in_all m.now.typed (modes_of m.now (view_row row.entry))) }
+{
+    let t = m.typed();
+    let _all = m.position_count();
+    row_laws();
+    let mut left = row;
+    while left.count > 0 {
+        name_in(t, pointed(m, Some(left)), notes)?;
+        left = left.deeper();
+    }
+    Ok(())
+}
+
+/// Whether some target is locked by a sibling.
+fn any_sibling(m: &Moded, row: Row<'_>) -> bool
+    requires { row.first + row.count ≤ position_count m.now.typed }
+    ensures { result ≡ list_any (is_sibling m.now.typed) (modes_of m.now (view_row row.entry)) }
+{
+    let t = m.typed();
+    let _all = m.position_count();
+    row_laws();
+    let mut left = row;
+    while left.count > 0 {
+        if is_sibling(t, pointed(m, Some(left))) {
+            return true;
+        }
+        left = left.deeper();
+    }
+    false
+}
+
+fn sibling(
+    alloc: Global,
+    t: &Typed,
+    span: Span,
+    base: Option<u32>,
+    notes: &mut Vec<Note>,
+) -> Result<(), AllocError>
+    ensures { OnOk result (notes.new.items ≡ notes.old.items ++ sibling_notes t.now span base) }
+{
+    match base {
+        None => {
+            let text = span_text(alloc, t, span)?;
+            notes.push(error(alloc, 11, span, text))?;
+            Ok(())
+        }
+        Some(at) => name(variable_named(t.named(at)), notes),
+    }
+}
+
+/// M11: a field with these targets is used through the constant variable that stands at this token, or otherwise.
+pub(crate) fn field(
+    alloc: Global,
+    m: &Moded,
+    span: Span,
+    base: Option<u32>,
+    targets: Row<'_>,
+    notes: &mut Vec<Note>,
+) -> Result<(), AllocError>
+    requires { targets.first + targets.count ≤ position_count m.now.typed }
+    ensures { OnOk result (notes.new.items ≡ notes.old.items ++ field_notes m.now.typed span base (modes_of m.now (view_row targets.entry))) }
+{
+    if any_sibling(m, targets) {
+        sibling(alloc, m.typed(), span, base, notes)
+    } else {
+        Ok(())
+    }
+}
+
+/// A path whose argument is no constant variable.
+fn unmet<'a>(t: &Typed, passing: Passing<'_>, s: Sharing<'a>) -> Option<Lock<'a>>
+    ensures { view_locks result ≡ unmet t.now passing.entry.parameters.now (view_passed passing.entry.passed) (view_sharing s.entry) }
+{
+    match s {
+        Sharing::Locked(lock) => match path_variable(t, lock) {
+            None => None,
+            Some(variable) => match passing.argument_use(t, variable) {
+                None => Some(lock),
+                Some(_) => None,
+            },
+        },
+        Sharing::Private => None,
+        Sharing::Readonly => None,
+        Sharing::Racy => None,
+        Sharing::Dynamic => None,
+    }
+}
+
+fn or_else<'a>(first: Option<Lock<'a>>, second: Option<Lock<'a>>) -> Option<Lock<'a>>
+    ensures { view_locks result ≡ option_or (view_locks first.entry) (view_locks second.entry) }
+{
+    match first {
+        Some(lock) => Some(lock),
+        None => second,
+    }
+}
+
+/// The first of them in the source, where the deepest target stands first.
+fn unmet_in<'a>(m: &'a Moded, passing: Passing<'_>, row: Row<'a>) -> Option<Lock<'a>>
+    requires { row.first + row.count ≤ position_count m.now.typed }
+    ensures { view_locks result ≡ unmet_in m.now.typed passing.entry.parameters.now (view_passed passing.entry.passed) (modes_of m.now (view_row row.entry)) }
+{
+    let t = m.typed();
+    let _all = m.position_count();
+    row_laws();
+    let mut left = row;
+    let mut found = None;
+    while left.count > 0 {
+        found = or_else(unmet(t, passing, pointed(m, Some(left))), found);
+        left = left.deeper();
+    }
+    found
+}
+
+fn first_unmet<'a>(m: &'a Moded, passing: Passing<'_>) -> Option<Lock<'a>>
+    ensures { view_locks result ≡ first_unmet m.now passing.entry.parameters.now (view_passed passing.entry.passed) passing.entry.parameters.now }
+{
+    for parameter in passing.parameters {
+        let token = parameter.name.site.token;
+        let row = declared_row(m.typed(), Reading::Written, token);
+        let lock = unmet_in(m, passing, row);
+        if lock.is_some() {
+            return lock;
+        }
+    }
+    None
+}
+
+fn said_unmet(
+    alloc: Global,
+    t: &Typed,
+    span: Span,
+    lock: Option<Lock<'_>>,
+    notes: &mut Vec<Note>,
+) -> Result<(), AllocError>
+    ensures { OnOk result (notes.new.items ≡ notes.old.items ++ unmet_notes t.now span (view_locks lock.entry)) }
+{
+    if let Some(lock) = lock {
+        let path = path_of(alloc, t, lock)?;
+        let text = path_text(alloc, &path)?;
+        notes.push(error(alloc, 4, span, text))?;
+    }
+    Ok(())
+}
+
+/// The variables that the substituted paths name.
+fn names_at_call(m: &Moded, passing: Passing<'_>, notes: &mut Vec<Note>) -> Result<(), AllocError>
+    ensures { OnOk result (notes.new.items ≡ notes.old.items ++ names_at_call m.now passing.entry.parameters.now (view_passed passing.entry.passed) passing.entry.parameters.now) }
+{
+    for parameter in passing.parameters {
+        let token = parameter.name.site.token;
+        let row = declared_row(m.typed(), passing.reading(), token);
+        names_in_row(m, row, notes)?;
+    }
+    Ok(())
+}
+
+/// M4 of a call, and the variables that its paths name.
+pub(crate) fn call(
+    alloc: Global,
+    m: &Moded,
+    span: Span,
+    passing: Passing<'_>,
+    notes: &mut Vec<Note>,
+) -> Result<(), AllocError>
+    ensures { OnOk result (notes.new.items ≡ notes.old.items ++ call_notes m.now span passing.entry.parameters.now (view_passed passing.entry.passed)) }
+{
+    said_unmet(alloc, m.typed(), span, first_unmet(m, passing), notes)?;
+    names_at_call(m, passing, notes)
+}
+
+/// What the first of the parameters that are left expects.
+pub(crate) fn expected<'a>(
+    m: &'a Moded,
+    passing: Passing<'a>,
+    left: &[Declaration],
+) -> Option<Row<'a>>
+    ensures row { option_map (modes_of m.now) (view_rows result) ≡ expected m.now passing.entry.parameters.now (view_passed passing.entry.passed) left.now }
+    ensures within { EndsWithin m.now.typed result }
+{
+    match left {
+        [] => None,
+        [parameter, ..] => {
+            let token = parameter.name.site.token;
+            Some(declared_row(m.typed(), passing.reading(), token))
+        }
+    }
+}
