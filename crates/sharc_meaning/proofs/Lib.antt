@@ -1,0 +1,6 @@
+mod Asking
+mod Closed
+mod Counting
+mod Going
+mod Growing
+mod Legal
