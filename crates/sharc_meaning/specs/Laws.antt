@@ -1,12 +1,15 @@
 -- What the definitions of this crate are to those who argue with them.
-use Rattle.std.specs.Prelude.{◌≡◌, ◌≢◌, ℕ, ℤ, pos, ◌+◌, ◌≤◌, List, [], ◌∷◌, ◌++◌, length}
+use Rattle.std.specs.Prelude.{◌≡◌, ◌≢◌, ℕ, ℤ, pos, ◌+◌, ◌≤◌, List, [], ◌∷◌, ◌++◌, length, map, ◌⊎◌}
 use Rattle.sharc_tree.specs.declared.event.Act.{Act}
-use Rattle.sharc_tree.specs.declared.event.Act.TheVariants.{Read, New, Take, Spawn, Signal}
+use Rattle.sharc_tree.specs.declared.event.Act.TheVariants.{Read, New, Take, Spawn, Started, Signal}
 use Rattle.sharc_tree.specs.declared.event.Taken.TheVariants.{Cell, Local}
 use Rattle.sharc_tree.specs.declared.event.SourceEvent.{SourceEvent}
-use Rattle.sharc_ctype.specs.Resolved.{Resolution}
+use Rattle.sharc_ctype.specs.Resolved.{Resolution, function_at}
 use Rattle.sharc_mode.specs.Moded.{Assignment}
+use Rattle.sharc_meaning.specs.Events.{events_of}
 use Rattle.sharc_meaning.specs.Meaning.{Asked, asks_for}
+use Rattle.sharc_meaning.specs.Obeys.{Until, Obeys}
+use Rattle.sharc_meaning.specs.Runs.{by, answers_of, IsNamedAt, IsFirst, IsSpawned, Asks, SourceRun, SourceRunWith}
 use Rattle.sharc_meaning.specs.State.{wants, spent}
 use Rattle.sharc_meaning.specs.Store.{MayCome, LegalStore}
 
@@ -84,3 +87,44 @@ pub record AskLaws : Type 0 where
 pub record StoreLaws : Type 0 where
   pub prefixes : PrefixesAreLegal
   pub grow : StoresGrow
+
+-- what comes before in a source run is one
+abbrev pub RunPrefixes : Type 0
+RunPrefixes = (m : Assignment) (R S : List SourceEvent) → SourceRun m (R ++ S) → SourceRun m R
+
+abbrev pub RunPrefixesWith : Type 0
+RunPrefixesWith = (fuel : ℕ) (m : Assignment) (R S : List SourceEvent) → SourceRunWith fuel m (R ++ S) → SourceRunWith fuel m R
+
+-- and what comes before in a run that obeys obeys
+abbrev pub ObeyingPrefixes : Type 0
+ObeyingPrefixes = (until : Until) (R S : List SourceEvent) → Obeys (R ++ S) until → Obeys R until
+
+-- the event is the next of a thread that was started: it asks for it, and for no other, with one answer more
+pub record Next (m : Assignment) (R : List SourceEvent) (e : SourceEvent) : Type 0 where
+  pub fuel : ℕ
+  pub asks : Asks m R fuel e.thread
+  pub comes : map (by e.thread) (asks_for m asks.function asks.argument (answers_of (events_of e.thread asks.after) ++ e.answer ∷ []) fuel).events ≡ events_of e.thread asks.after ++ e ∷ []
+
+-- a source run goes on with an event that is the next of its thread and may come
+abbrev pub RunsGrow : Type 0
+RunsGrow = (m : Assignment) (R : List SourceEvent) (e : SourceEvent) → SourceRun m R → MayCome m.typed R e e.act → Next m R e → SourceRun m (R ++ e ∷ [])
+
+-- the event is the first of a thread that has the right to start
+pub record Starts (m : Assignment) (R : List SourceEvent) (e : SourceEvent) : Type 0 where
+  pub function : ℕ
+  pub argument : ℤ
+  pub first : events_of e.thread R ≡ []
+  pub act : e.act ≡ Started argument
+  pub answer : e.answer ≡ pos 0
+  pub site : IsNamedAt (function_at m.typed function) e.site
+  pub by_right : IsFirst m.typed e.thread function argument ⊎ IsSpawned R e.thread function argument
+
+abbrev pub RunsStart : Type 0
+RunsStart = (m : Assignment) (R : List SourceEvent) (e : SourceEvent) → SourceRun m R → MayCome m.typed R e e.act → Starts m R e → SourceRun m (R ++ e ∷ [])
+
+pub record RunLaws : Type 0 where
+  pub prefixes : RunPrefixes
+  pub prefixes_with : RunPrefixesWith
+  pub obeying : ObeyingPrefixes
+  pub grow : RunsGrow
+  pub start : RunsStart
