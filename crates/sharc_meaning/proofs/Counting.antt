@@ -3,7 +3,7 @@ use Rattle.std.proofs.Common.{◌≡◌, ℕ, zero, suc, ◌+◌, Bool, true, fa
 use Rattle.std.specs.Prelude.{ℤ}
 use Rattle.sharc_tree.specs.declared.event.Act.{Act}
 use Rattle.sharc_tree.specs.declared.token.Site.{Site}
-use Rattle.sharc_meaning.specs.State.{Frame, State, Outcome, wants, ended, stopped, spent, Out, go, over, Run, Step, then_on, give, entered_with, happens, answer_of, value_of, event_of, ends_temporaries, ends_variables, without_temporaries}
+use Rattle.sharc_meaning.specs.State.{Frame, State, Outcome, wants, ended, stopped, spent, Out, go, over, Run, Step, then_on, give, enters_with, happens, answer_of, value_of, event_of, ends_temporaries, ends_variables, without_temporaries}
 use Rattle.sharc_meaning.specs.Statements.{Flow, next, broken, continued, returned, on_turn, turns}
 use Rattle.sharc_meaning.specs.Meaning.{back_in, with_frame}
 use Rattle.sharc_meaning.proofs.Closed.{Closed}
@@ -25,7 +25,7 @@ Counts n (over o s) = (both s ≡ n) × NoneLeft o s.answers
 abbrev pub Counting : Bool → (A : Type 0) → Run A → Type 0
 Counting b A m = (s : State) → Counts (both s) (m s)
 
-counts_entered : {A : Type 0} (k : ℕ) (m : Run A) (s : State) → Counting false A m → Counts (both s) (entered_with k m s)
+counts_entered : {A : Type 0} (k : ℕ) (m : Run A) (s : State) → Counting false A m → Counts (both s) (then_on (enters_with k s) (λ _. m))
 counts_entered zero m s h = (refl, tt)
 counts_entered (suc k) m s h = h (record s { fuel = k })
 

@@ -7,7 +7,7 @@ use Rattle.sharc_tree.specs.declared.token.Site.{Site}
 use Rattle.sharc_tree.specs.declared.event.Act.TheVariants as acts
 use Rattle.sharc_tree.specs.declared.event.Taken.TheVariants as taken
 use Rattle.sharc_meaning.specs.Laws.{IsPrefix, IsAnswer}
-use Rattle.sharc_meaning.specs.State.{Frame, State, Outcome, wants, ended, stopped, spent, Out, go, over, Run, Step, then_on, ◌>>◌, give, entered_with, happens, answer_of, event_of, ends_temporaries, value_of, ends_variables, without_temporaries}
+use Rattle.sharc_meaning.specs.State.{Frame, State, Outcome, wants, ended, stopped, spent, Out, go, over, Run, Step, then_on, ◌>>◌, give, enters_with, happens, answer_of, event_of, ends_temporaries, value_of, ends_variables, without_temporaries}
 use Rattle.sharc_meaning.specs.Statements.{Flow, next, broken, continued, returned, on_turn, turns}
 use Rattle.sharc_meaning.specs.Meaning.{back_in, with_frame}
 use Rattle.sharc_meaning.proofs.Closed.{Closed}
@@ -90,11 +90,11 @@ module _ (d : ℕ) (ys : List ℤ) where
   goes_then (go x s) o' g g' h k l = subst (λ z. GoesOn d ys (g x s) (then_on z g')) (sym h) (l x s)
   goes_then (over o s) o' g g' h k l = past_then o s o' g' h k
 
-  past_entered : {A : Type 0} (m : Run A) (s : State) → Growing false A m → (k : ℕ) → k ≡ d → GoesPast d ys spent s (entered_with k m (with_more d ys s))
+  past_entered : {A : Type 0} (m : Run A) (s : State) → Growing false A m → (k : ℕ) → k ≡ d → GoesPast d ys spent s (then_on (enters_with k (with_more d ys s)) (λ _. m))
   past_entered m s h zero e = record { grows = grows_refl s; comes = tt; same = λ n. refl }
   past_entered m s h (suc k) e = record { grows = h (record (with_more d ys s) { fuel = k }); comes = tt; same = λ n. absurd (omega arith) }
 
-  goes_entered : {A : Type 0} (n : ℕ) (m : Run A) (s : State) → Going false A m → GoesOn d ys (entered_with n m s) (entered_with (n + d) m (with_more d ys s))
+  goes_entered : {A : Type 0} (n : ℕ) (m : Run A) (s : State) → Going false A m → GoesOn d ys (then_on (enters_with n s) (λ _. m)) (then_on (enters_with (n + d) (with_more d ys s)) (λ _. m))
   goes_entered zero m s h = let z : zero + d ≡ d = omega arith in rw z (past_entered m s h.0 d refl)
   goes_entered (suc n) m s h = let z : suc n + d ≡ suc (n + d) = omega arith in rw z (h.1 (record s { fuel = n }))
 

@@ -5,7 +5,7 @@ use Rattle.sharc_tree.specs.declared.event.Act.{Act}
 use Rattle.sharc_tree.specs.declared.event.SourceEvent.{SourceEvent}
 use Rattle.sharc_tree.specs.declared.token.Site.{Site}
 use Rattle.sharc_meaning.specs.Laws.{IsPrefix}
-use Rattle.sharc_meaning.specs.State.{Frame, Traced, State, Out, go, over, Run, Step, then_on, give, entered_with, happens, answer_of, event_of, ends_temporaries, value_of, ends_variables, without_temporaries}
+use Rattle.sharc_meaning.specs.State.{Frame, Traced, State, Out, go, over, Run, Step, then_on, give, enters_with, happens, answer_of, event_of, ends_temporaries, value_of, ends_variables, without_temporaries}
 use Rattle.sharc_meaning.specs.Statements.{Flow, next, broken, continued, returned, on_turn, turns}
 use Rattle.sharc_meaning.specs.Meaning.{back_in, with_frame}
 use Rattle.sharc_meaning.proofs.Closed.{Closed}
@@ -36,7 +36,7 @@ state_of (over o s) = s
 abbrev pub Growing : Bool → (A : Type 0) → Run A → Type 0
 Growing b A m = (s : State) → Grows s (state_of (m s))
 
-grows_entered : {A : Type 0} (n : ℕ) (m : Run A) (s : State) → Growing false A m → Grows s (state_of (entered_with n m s))
+grows_entered : {A : Type 0} (n : ℕ) (m : Run A) (s : State) → Growing false A m → Grows s (state_of (then_on (enters_with n s) (λ _. m)))
 grows_entered zero m s h = grows_refl s
 grows_entered (suc n) m s h = h (record s { fuel = n })
 

@@ -108,12 +108,17 @@ unless_stop false code site = stop code site
 
 -- one more statement or expression is entered
 
-abbrev pub entered_with : {A : Type 0} → ℕ → Run A → Run A
-entered_with zero m s = over spent s
-entered_with (suc n) m s = m (record s { fuel = n })
+abbrev pub enters_with : ℕ → Step
+enters_with zero s = over spent s
+enters_with (suc n) s = go tt (record s { fuel = n })
+
+abbrev pub enters : Step
+enters s = enters_with s.fuel s
 
 abbrev pub entered : {A : Type 0} → Run A → Run A
-entered m s = entered_with s.fuel m s
+entered m = do
+  enters
+  m
 
 -- ---- events
 
