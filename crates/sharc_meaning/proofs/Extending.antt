@@ -1,0 +1,92 @@
+-- Source runs grow by events that are wanted and may come.
+use Rattle.std.proofs.Common.{◌≡◌, ◌⊎◌, inl, inr, ℕ, ◌≤◌, Bool, true, false, cond, List, [], ◌∷◌, ◌++◌, map, refl, sym, ap, ◌∙◌, subst, arith, append-nil, length}
+use Rattle.std.specs.Prelude.{◌==◌}
+use Rattle.std.proofs.lemmas.Bool.Decides.{nat_tests}
+use Rattle.sharc_tree.specs.declared.event.SourceEvent.{SourceEvent}
+use Rattle.sharc_mode.specs.Moded.{Assignment}
+use Rattle.sharc_meaning.specs.Events.{events_of, is_of}
+use Rattle.sharc_meaning.specs.Laws.{Next, RunsGrow, RunsStart}
+use Rattle.sharc_meaning.specs.Meaning.{asks_for}
+use Rattle.sharc_meaning.specs.Runs.{by, answers_of, Asks}
+use Rattle.sharc_meaning.proofs.Asking.{no_more_than_answers}
+use Rattle.sharc_meaning.proofs.Legal.{stores_grow}
+use Rattle.sharc_meaning.proofs.Obeying.{further}
+use Rattle.sharc_meaning.proofs.Running.{events_append, map_both}
+
+same_thread : (t u : ℕ) → (t == u) ≡ true → t ≡ u
+same_thread t u h = search (nat_tests, arith)
+
+-- the events of a thread, with one more at the end of the list
+module _ (e : SourceEvent) (u : ℕ) where
+  one_own : is_of u e ≡ true → (l : List SourceEvent) → events_of u (l ++ e ∷ []) ≡ events_of u l ++ e ∷ []
+  one_own h l = events_append u l (e ∷ []) ∙ ap (λ b. events_of u l ++ cond b (e ∷ []) []) h
+
+  one_other : is_of u e ≡ false → (l : List SourceEvent) → events_of u (l ++ e ∷ []) ≡ events_of u l
+  one_other h l = events_append u l (e ∷ []) ∙ ap (λ b. events_of u l ++ cond b (e ∷ []) []) h ∙ append-nil (events_of u l)
+
+module _ (m : Assignment) (R : List SourceEvent) (e : SourceEvent) where
+  with_more : (fuel u : ℕ) (a : Asks m R fuel u) → map (by u) (asks_for m a.function a.argument (answers_of (events_of u (a.after ++ e ∷ []))) fuel).events ≡ events_of u (a.after ++ e ∷ []) → Asks m (R ++ e ∷ []) fuel u
+  with_more fuel u a h = record {
+    function = a.function;
+    argument = a.argument;
+    before = a.before;
+    begins = a.begins;
+    after = a.after ++ e ∷ [];
+    stands = further R (e ∷ []) a.before a.begins a.after a.stands;
+    own = a.own;
+    first = a.first;
+    act = a.act;
+    answer = a.answer;
+    site = a.site;
+    by_right = a.by_right;
+    asked = h;
+  }
+
+  other_asks : (u : ℕ) → is_of u e ≡ false → (events_of u R ≡ []) ⊎ ((fuel : ℕ) × Asks m R fuel u) → (events_of u (R ++ e ∷ []) ≡ []) ⊎ ((fuel : ℕ) × Asks m (R ++ e ∷ []) fuel u)
+  other_asks u h (inl none) = inl (one_other e u h R ∙ none)
+  other_asks u h (inr (fuel, a)) = inr (fuel, with_more fuel u a (subst (λ l. map (by u) (asks_for m a.function a.argument (answers_of l) fuel).events ≡ l) (sym (one_other e u h a.after)) a.asked))
+
+  own_asks : (n : Next m R e) → is_of e.thread e ≡ true → Asks m (R ++ e ∷ []) n.fuel e.thread
+  own_asks n h =
+      let a = n.asks in
+      let answers : answers_of (events_of e.thread (a.after ++ e ∷ [])) ≡ answers_of (events_of e.thread a.after) ++ e.answer ∷ [] = ap answers_of (one_own e e.thread h a.after) ∙ map_both (λ x. x.answer) (events_of e.thread a.after) (e ∷ []) in
+      with_more n.fuel e.thread a (ap (λ l. map (by e.thread) (asks_for m a.function a.argument l n.fuel).events) answers ∙ n.comes ∙ sym (one_own e e.thread h a.after))
+
+is_itself : (e : SourceEvent) → is_of e.thread e ≡ true
+is_itself e = search (nat_tests, arith)
+
+pub runs_grow : RunsGrow
+runs_grow m R e run may n = record { legal = stores_grow m.typed R e run.legal may; threads = λ u. thread u (is_of u e) refl }
+  where
+    thread : (u : ℕ) (b : Bool) → is_of u e ≡ b → (events_of u (R ++ e ∷ []) ≡ []) ⊎ ((fuel : ℕ) × Asks m (R ++ e ∷ []) fuel u)
+    thread u true h = subst (λ t. (events_of t (R ++ e ∷ []) ≡ []) ⊎ ((fuel : ℕ) × Asks m (R ++ e ∷ []) fuel t)) (same_thread e.thread u h) (inr (n.fuel, own_asks m R e n (is_itself e)))
+    thread u false h = other_asks m R e u h (run.threads u)
+
+-- a list that is not longer than nothing
+nothing_in : {A : Type 0} (a : List A) → length a ≤ 0 → a ≡ []
+nothing_in [] h = refl
+nothing_in (x ∷ a) h = absurd (omega arith)
+
+pub runs_start : RunsStart
+runs_start m R e run may s = record { legal = stores_grow m.typed R e run.legal may; threads = λ u. thread u (is_of u e) refl }
+  where
+    asks : Asks m (R ++ e ∷ []) 0 e.thread
+    asks = record {
+      function = s.function;
+      argument = s.argument;
+      before = R;
+      begins = e;
+      after = [];
+      stands = refl;
+      own = refl;
+      first = s.first;
+      act = s.act;
+      answer = s.answer;
+      site = s.site;
+      by_right = s.by_right;
+      asked = ap (map (by e.thread)) (nothing_in (asks_for m s.function s.argument [] 0).events (no_more_than_answers m s.function s.argument [] 0));
+    }
+
+    thread : (u : ℕ) (b : Bool) → is_of u e ≡ b → (events_of u (R ++ e ∷ []) ≡ []) ⊎ ((fuel : ℕ) × Asks m (R ++ e ∷ []) fuel u)
+    thread u true h = subst (λ t. (events_of t (R ++ e ∷ []) ≡ []) ⊎ ((fuel : ℕ) × Asks m (R ++ e ∷ []) fuel t)) (same_thread e.thread u h) (inr (0, asks))
+    thread u false h = other_asks m R e u h (run.threads u)

@@ -1,0 +1,9 @@
+mod Asking
+mod Closed
+mod Counting
+mod Extending
+mod Going
+mod Growing
+mod Legal
+mod Obeying
+mod Running

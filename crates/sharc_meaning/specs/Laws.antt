@@ -1,0 +1,130 @@
+-- What the definitions of this crate are to those who argue with them.
+use Rattle.std.specs.Prelude.{◌≡◌, ◌≢◌, ℕ, ℤ, pos, ◌+◌, ◌≤◌, List, [], ◌∷◌, ◌++◌, length, map, ◌⊎◌}
+use Rattle.sharc_tree.specs.declared.event.Act.{Act}
+use Rattle.sharc_tree.specs.declared.event.Act.TheVariants.{Read, New, Take, Spawn, Started, Signal}
+use Rattle.sharc_tree.specs.declared.event.Taken.TheVariants.{Cell, Local}
+use Rattle.sharc_tree.specs.declared.event.SourceEvent.{SourceEvent}
+use Rattle.sharc_ctype.specs.Resolved.{Resolution, function_at}
+use Rattle.sharc_mode.specs.Moded.{Assignment}
+use Rattle.sharc_meaning.specs.Events.{events_of}
+use Rattle.sharc_meaning.specs.Meaning.{Asked, asks_for}
+use Rattle.sharc_meaning.specs.Obeys.{Until, Obeys}
+use Rattle.sharc_meaning.specs.Runs.{by, answers_of, IsNamedAt, IsFirst, IsSpawned, Asks, SourceRun, SourceRunWith}
+use Rattle.sharc_meaning.specs.State.{wants, spent}
+use Rattle.sharc_meaning.specs.Store.{MayCome, LegalStore}
+
+abbrev pub IsPrefix : {A : Type 0} → List A → List A → Type 0
+IsPrefix {A} some all = (rest : List A) × (all ≡ some ++ rest)
+
+-- it came so far at least, with the same events and the same uses of variables before
+pub record GoesOn (a b : Asked) : Type 0 where
+  pub events : IsPrefix a.events b.events
+  pub trace : IsPrefix a.trace b.trace
+
+-- more fuel goes on, and changes nothing but the end for want of it
+abbrev pub MoreFuel : Type 0
+MoreFuel = (m : Assignment) (f : ℕ) (argument : ℤ) (answers : List ℤ) (fuel more : ℕ)
+    → GoesOn (asks_for m f argument answers fuel) (asks_for m f argument answers (fuel + more))
+
+abbrev pub MoreFuelChangesNothing : Type 0
+MoreFuelChangesNothing = (m : Assignment) (f : ℕ) (argument : ℤ) (answers : List ℤ) (fuel more : ℕ)
+    → (asks_for m f argument answers fuel).outcome ≢ spent → asks_for m f argument answers (fuel + more) ≡ asks_for m f argument answers fuel
+
+-- more answers go on, and change nothing but the end for want of them
+abbrev pub MoreAnswers : Type 0
+MoreAnswers = (m : Assignment) (f : ℕ) (argument : ℤ) (answers more : List ℤ) (fuel : ℕ)
+    → GoesOn (asks_for m f argument answers fuel) (asks_for m f argument (answers ++ more) fuel)
+
+abbrev pub MoreAnswersChangeNothing : Type 0
+MoreAnswersChangeNothing = (m : Assignment) (f : ℕ) (argument : ℤ) (answers more : List ℤ) (fuel : ℕ)
+    → ((e : SourceEvent) → (asks_for m f argument answers fuel).outcome ≢ wants e) → asks_for m f argument (answers ++ more) fuel ≡ asks_for m f argument answers fuel
+
+-- as many events as there are answers, where it wants one more, else at most as many
+abbrev pub NoMoreThanAnswers : Type 0
+NoMoreThanAnswers = (m : Assignment) (f : ℕ) (argument : ℤ) (answers : List ℤ) (fuel : ℕ) → length (asks_for m f argument answers fuel).events ≤ length answers
+
+abbrev pub WantsBehindAnswers : Type 0
+WantsBehindAnswers = (m : Assignment) (f : ℕ) (argument : ℤ) (answers : List ℤ) (fuel : ℕ) (e : SourceEvent)
+    → (asks_for m f argument answers fuel).outcome ≡ wants e → length (asks_for m f argument answers fuel).events ≡ length answers
+
+-- what an event answers where the list says this; a Take of a local answers what the local holds
+abbrev pub IsAnswer : Act → ℤ → ℤ → Type 0
+IsAnswer (Read c mode) told answer = answer ≡ told
+IsAnswer (New cells elements mode) told answer = answer ≡ told
+IsAnswer (Take (Cell c mode) kind) told answer = answer ≡ told
+IsAnswer (Take (Local x) kind) told answer = Unit {0}
+IsAnswer (Spawn f v) told answer = answer ≡ told
+IsAnswer (Signal c) told answer = answer ≡ told
+IsAnswer _ told answer = answer ≡ pos 0
+
+-- what is wanted comes with one answer more, and no other event
+pub record Comes (e : SourceEvent) (told : ℤ) (a b : Asked) : Type 0 where
+  pub answer : ℤ
+  pub is : IsAnswer e.act told answer
+  pub events : b.events ≡ a.events ++ record e { answer = answer } ∷ []
+
+abbrev pub OneAnswerMore : Type 0
+OneAnswerMore = (m : Assignment) (f : ℕ) (argument : ℤ) (answers : List ℤ) (answer : ℤ) (fuel : ℕ) (e : SourceEvent)
+    → (asks_for m f argument answers fuel).outcome ≡ wants e → Comes e answer (asks_for m f argument answers fuel) (asks_for m f argument (answers ++ answer ∷ []) fuel)
+
+-- what comes before in a legal store is one
+abbrev pub PrefixesAreLegal : Type 0
+PrefixesAreLegal = (r : Resolution) (R S : List SourceEvent) → LegalStore r (R ++ S) → LegalStore r R
+
+-- an event that may come behind a legal store makes it one with one event more
+abbrev pub StoresGrow : Type 0
+StoresGrow = (r : Resolution) (R : List SourceEvent) (e : SourceEvent) → LegalStore r R → MayCome r R e e.act → LegalStore r (R ++ e ∷ [])
+
+pub record AskLaws : Type 0 where
+  pub fuel : MoreFuel
+  pub fuel_same : MoreFuelChangesNothing
+  pub answers : MoreAnswers
+  pub answers_same : MoreAnswersChangeNothing
+  pub events : NoMoreThanAnswers
+  pub wanted : WantsBehindAnswers
+  pub comes : OneAnswerMore
+
+pub record StoreLaws : Type 0 where
+  pub prefixes : PrefixesAreLegal
+  pub grow : StoresGrow
+
+-- what comes before in a source run is one
+abbrev pub RunPrefixes : Type 0
+RunPrefixes = (m : Assignment) (R S : List SourceEvent) → SourceRun m (R ++ S) → SourceRun m R
+
+abbrev pub RunPrefixesWith : Type 0
+RunPrefixesWith = (fuel : ℕ) (m : Assignment) (R S : List SourceEvent) → SourceRunWith fuel m (R ++ S) → SourceRunWith fuel m R
+
+-- and what comes before in a run that obeys obeys
+abbrev pub ObeyingPrefixes : Type 0
+ObeyingPrefixes = (until : Until) (R S : List SourceEvent) → Obeys (R ++ S) until → Obeys R until
+
+-- the event is the next of a thread that was started: it asks for it, and for no other, with one answer more
+pub record Next (m : Assignment) (R : List SourceEvent) (e : SourceEvent) : Type 0 where
+  pub fuel : ℕ
+  pub asks : Asks m R fuel e.thread
+  pub comes : map (by e.thread) (asks_for m asks.function asks.argument (answers_of (events_of e.thread asks.after) ++ e.answer ∷ []) fuel).events ≡ events_of e.thread asks.after ++ e ∷ []
+
+-- a source run goes on with an event that is the next of its thread and may come
+abbrev pub RunsGrow : Type 0
+RunsGrow = (m : Assignment) (R : List SourceEvent) (e : SourceEvent) → SourceRun m R → MayCome m.typed R e e.act → Next m R e → SourceRun m (R ++ e ∷ [])
+
+-- the event is the first of a thread that has the right to start
+pub record Starts (m : Assignment) (R : List SourceEvent) (e : SourceEvent) : Type 0 where
+  pub function : ℕ
+  pub argument : ℤ
+  pub first : events_of e.thread R ≡ []
+  pub act : e.act ≡ Started argument
+  pub answer : e.answer ≡ pos 0
+  pub site : IsNamedAt (function_at m.typed function) e.site
+  pub by_right : IsFirst m.typed e.thread function argument ⊎ IsSpawned R e.thread function argument
+
+abbrev pub RunsStart : Type 0
+RunsStart = (m : Assignment) (R : List SourceEvent) (e : SourceEvent) → SourceRun m R → MayCome m.typed R e e.act → Starts m R e → SourceRun m (R ++ e ∷ [])
+
+pub record RunLaws : Type 0 where
+  pub prefixes : RunPrefixes
+  pub prefixes_with : RunPrefixesWith
+  pub obeying : ObeyingPrefixes
+  pub grow : RunsGrow
+  pub start : RunsStart

@@ -1,0 +1,15 @@
+pub mod Arithmetic
+pub mod Cells
+pub mod Events
+pub mod Expressions
+pub mod Laws
+pub mod Meaning
+pub mod Obeys
+pub mod Places
+pub mod Reference
+pub mod References
+pub mod Runs
+pub mod State
+pub mod Statements
+pub mod Store
+pub mod Waiting

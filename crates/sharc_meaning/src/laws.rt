@@ -1,0 +1,20 @@
+// Laws of the definitions. A proof above has them where its function calls one of these.
+
+ghost use Rattle.sharc_meaning.specs.Laws.{AskLaws, RunLaws, StoreLaws};
+
+/// What a thread asks for goes on where there is more fuel or there are more answers, and changes only where it ended for want of them. Each event uses
+/// up one answer. An event is wanted where they are used up, and it comes with one answer more.
+pub fn ask_laws()
+    ensures { AskLaws }
+{}
+
+/// What comes before in a legal store is one.
+pub fn store_laws()
+    ensures { StoreLaws }
+{}
+
+/// What comes before in a source run is one, with the same fuel; and what comes before in a run that obeys obeys. A source run goes on with an event that
+/// is the next of its thread, or the first of a thread that has the right to start, and that may come.
+pub fn run_laws()
+    ensures { RunLaws }
+{}
