@@ -7,10 +7,10 @@ use Rattle.sharc_tree.specs.declared.event.SourceEvent.{SourceEvent}
 use Rattle.sharc_ctype.specs.Resolved.{Resolution, function_at}
 use Rattle.sharc_mode.specs.Moded.{Assignment}
 use Rattle.sharc_meaning.specs.Events.{events_of}
-use Rattle.sharc_meaning.specs.Meaning.{Asked, asks_for}
+use Rattle.sharc_meaning.specs.Meaning.{Asked, run_thread, start, asks_for}
 use Rattle.sharc_meaning.specs.Obeys.{Until, Obeys}
 use Rattle.sharc_meaning.specs.Runs.{by, answers_of, IsNamedAt, IsFirst, IsSpawned, Asks, SourceRun, SourceRunWith}
-use Rattle.sharc_meaning.specs.State.{wants, spent}
+use Rattle.sharc_meaning.specs.State.{State, wants, spent, over}
 use Rattle.sharc_meaning.specs.Store.{MayCome, LegalStore}
 
 abbrev pub IsPrefix : {A : Type 0} → List A → List A → Type 0
@@ -38,6 +38,11 @@ MoreAnswers = (m : Assignment) (f : ℕ) (argument : ℤ) (answers more : List �
 abbrev pub MoreAnswersChangeNothing : Type 0
 MoreAnswersChangeNothing = (m : Assignment) (f : ℕ) (argument : ℤ) (answers more : List ℤ) (fuel : ℕ)
     → ((e : SourceEvent) → (asks_for m f argument answers fuel).outcome ≢ wants e) → asks_for m f argument (answers ++ more) fuel ≡ asks_for m f argument answers fuel
+
+-- it ends for want of fuel only where all of it is used up: so a loop's turns are never too few
+abbrev pub SpentIsNone : Type 0
+SpentIsNone = (m : Assignment) (f : ℕ) (argument : ℤ) (answers : List ℤ) (fuel : ℕ) (s : State)
+    → run_thread m (function_at m.typed f) argument (start answers fuel) ≡ over spent s → s.fuel ≡ 0
 
 -- as many events as there are answers, where it wants one more, else at most as many
 abbrev pub NoMoreThanAnswers : Type 0
@@ -80,6 +85,7 @@ pub record AskLaws : Type 0 where
   pub fuel_same : MoreFuelChangesNothing
   pub answers : MoreAnswers
   pub answers_same : MoreAnswersChangeNothing
+  pub spent_is_none : SpentIsNone
   pub events : NoMoreThanAnswers
   pub wanted : WantsBehindAnswers
   pub comes : OneAnswerMore
