@@ -5,7 +5,7 @@ use Rattle.sharc_tree.specs.declared.event.SourceEvent.{SourceEvent}
 use Rattle.sharc_ctype.specs.Resolved.{function_at}
 use Rattle.sharc_mode.specs.Moded.{Assignment}
 use Rattle.sharc_meaning.specs.Laws.{GoesOn, MoreFuel, MoreFuelChangesNothing, MoreAnswers, MoreAnswersChangeNothing, NoMoreThanAnswers, WantsBehindAnswers, Comes, OneAnswerMore}
-use Rattle.sharc_meaning.specs.Meaning.{Asked, asked_by, asks_for, run_thread, start}
+use Rattle.sharc_meaning.specs.Meaning.{Asked, asked_by, asks, run_thread, start}
 use Rattle.sharc_meaning.specs.State.{Outcome, wants, ended, stopped, spent, Out, go, over}
 use Rattle.sharc_meaning.proofs.Closed.{thread_kept}
 use Rattle.sharc_meaning.proofs.Growing.{prefix_refl}
@@ -43,17 +43,17 @@ no_more_answers (stopped code site) ys n = tt
 no_more_answers spent ys n = refl
 
 pub more_fuel : MoreFuel
-more_fuel m f v answers fuel more = subst (λ l. GoesOn (asks_for m f v answers fuel) (asks_for m f v l (fuel + more))) (append-nil answers) (grown more [] _ _ (ran m f v answers [] fuel more))
+more_fuel m f v answers fuel more = subst (λ l. GoesOn (asks m f v answers fuel) (asks m f v l (fuel + more))) (append-nil answers) (grown more [] _ _ (ran m f v answers [] fuel more))
 
 pub more_fuel_same : MoreFuelChangesNothing
-more_fuel_same m f v answers fuel more n = subst (λ l. asks_for m f v l (fuel + more) ≡ asks_for m f v answers fuel) (append-nil answers)
+more_fuel_same m f v answers fuel more n = subst (λ l. asks m f v l (fuel + more) ≡ asks m f v answers fuel) (append-nil answers)
     (same more [] _ _ (ran m f v answers [] fuel more) (no_more_fuel _ more n))
 
 pub more_answers : MoreAnswers
-more_answers m f v answers more fuel = let e : fuel + 0 ≡ fuel = omega arith in subst (λ k. GoesOn (asks_for m f v answers fuel) (asks_for m f v (answers ++ more) k)) e (grown 0 more _ _ (ran m f v answers more fuel 0))
+more_answers m f v answers more fuel = let e : fuel + 0 ≡ fuel = omega arith in subst (λ k. GoesOn (asks m f v answers fuel) (asks m f v (answers ++ more) k)) e (grown 0 more _ _ (ran m f v answers more fuel 0))
 
 pub more_answers_same : MoreAnswersChangeNothing
-more_answers_same m f v answers more fuel n = let e : fuel + 0 ≡ fuel = omega arith in subst (λ k. asks_for m f v (answers ++ more) k ≡ asks_for m f v answers fuel) e
+more_answers_same m f v answers more fuel n = let e : fuel + 0 ≡ fuel = omega arith in subst (λ k. asks m f v (answers ++ more) k ≡ asks m f v answers fuel) e
     (same 0 more _ _ (ran m f v answers more fuel 0) (no_more_answers _ more n))
 
 came : {A : Type 0} (d : ℕ) (y : ℤ) (e : SourceEvent) (o o' : Out A) → going.GoesOn d (y ∷ []) o o' → (asked_by o).outcome ≡ wants e → ComesIn e y (asked_by o).events (asked_by o').events
@@ -66,14 +66,14 @@ counted n (go x s) h = omega arith
 counted n (over o s) h = let e = h.0 in omega arith
 
 pub no_more_than_answers : NoMoreThanAnswers
-no_more_than_answers m f v answers fuel = let h : length (asks_for m f v answers fuel).events ≤ 0 + length answers = counted _ _ (thread_kept Counting counting m (function_at m.typed f) v (start answers fuel)) in omega arith
+no_more_than_answers m f v answers fuel = let h : length (asks m f v answers fuel).events ≤ 0 + length answers = counted _ _ (thread_kept Counting counting m (function_at m.typed f) v (start answers fuel)) in omega arith
 
 used : {A : Type 0} (n : ℕ) (o : Out A) (e : SourceEvent) → Counts n o → (asked_by o).outcome ≡ wants e → length (asked_by o).events ≡ n
 used n (go x s) e h w = absurd (cc)
 used n (over o s) e h w = let l : length s.answers ≡ 0 = ap length (subst (λ z. NoneLeft z s.answers) w h.1) in let k = h.0 in omega arith
 
 pub wants_behind_answers : WantsBehindAnswers
-wants_behind_answers m f v answers fuel e w = let h : length (asks_for m f v answers fuel).events ≡ 0 + length answers = used _ _ e (thread_kept Counting counting m (function_at m.typed f) v (start answers fuel)) w in omega arith
+wants_behind_answers m f v answers fuel e w = let h : length (asks m f v answers fuel).events ≡ 0 + length answers = used _ _ e (thread_kept Counting counting m (function_at m.typed f) v (start answers fuel)) w in omega arith
 
 -- a list that is no longer than its prefix is it
 nothing_more : {A : Type 0} (a all rest : List A) → all ≡ a ++ rest → length all ≤ length a → all ≡ a
@@ -91,8 +91,8 @@ came_alone e y a b h le = record {
 pub one_answer_more : OneAnswerMore
 one_answer_more m f v answers answer fuel e w =
     let z : fuel + 0 ≡ fuel = omega arith in
-    let used : length (asks_for m f v answers fuel).events ≡ length answers = wants_behind_answers m f v answers fuel e w in
-    let few : length (asks_for m f v (answers ++ answer ∷ []) (fuel + 0)).events ≤ length (answers ++ answer ∷ []) = no_more_than_answers m f v (answers ++ answer ∷ []) (fuel + 0) in
+    let used : length (asks m f v answers fuel).events ≡ length answers = wants_behind_answers m f v answers fuel e w in
+    let few : length (asks m f v (answers ++ answer ∷ []) (fuel + 0)).events ≤ length (answers ++ answer ∷ []) = no_more_than_answers m f v (answers ++ answer ∷ []) (fuel + 0) in
     let one : length (answers ++ answer ∷ []) ≡ length answers + 1 = length-append answers (answer ∷ []) in
-    subst (λ k. Comes e answer (asks_for m f v answers fuel) (asks_for m f v (answers ++ answer ∷ []) k)) z
-    (came_alone e answer (asks_for m f v answers fuel) (asks_for m f v (answers ++ answer ∷ []) (fuel + 0)) (came 0 answer e _ _ (ran m f v answers (answer ∷ []) fuel 0) w) (omega arith))
+    subst (λ k. Comes e answer (asks m f v answers fuel) (asks m f v (answers ++ answer ∷ []) k)) z
+    (came_alone e answer (asks m f v answers fuel) (asks m f v (answers ++ answer ∷ []) (fuel + 0)) (came 0 answer e _ _ (ran m f v answers (answer ∷ []) fuel 0) w) (omega arith))

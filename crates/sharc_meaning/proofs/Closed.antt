@@ -37,7 +37,7 @@ use Rattle.sharc_mode.specs.Rows.{written, row_at, declared_row, cast_row}
 use Rattle.sharc_meaning.specs.Arithmetic.{null_base, out_of_range, mutex_not_held, mutex_already_held, calls_too_deep, returns_with_a_lock, size_not_positive, too_many_locks, bits_of, fits, is_zero, truth, operated, negated, complement}
 use Rattle.sharc_meaning.specs.Events.{held_mutexes, holds_mutex}
 use Rattle.sharc_meaning.specs.Reference.{NULL, is_null, number_of, elements_of, constant_value}
-use Rattle.sharc_meaning.specs.State.{Frame, GivenUp, released, replaced, emptied, Use, writes, nulls, go, new_variable, with_value, with_temporary, without_temporaries, Run, Step, ◌>>=◌, give, stop, unless_stop, entered, asks, performs, gives_up, drops, holds, holds_reference, moves, moves_on, is_reference, temporarily, value_of, looks_at, traces, sets, reads_variable, writes_variable, begins_with, in_block}
+use Rattle.sharc_meaning.specs.State.{Frame, GivenUp, released, replaced, emptied, Use, writes, nulls, go, new_variable, with_value, with_temporary, without_temporaries, Run, Step, ◌>>=◌, give, stop, unless_stop, entered, answered, performs, gives_up, drops, holds, holds_reference, moves, moves_on, is_reference, temporarily, value_of, looks_at, traces, sets, reads_variable, writes_variable, begins_with, in_block}
 use Rattle.sharc_meaning.specs.Places.{Place, variable, cell, no_place, place_named, pointee, based, element, element_of_array, index_place, pointee_place, field_place, unary_place, guarding, access_mode, fetched, stored, taken_from, cast_to, freed}
 use Rattle.sharc_meaning.specs.Waiting.{cell_at_place, moves_base, gives_up_base, lock_call, unlock_call, wait_call, signal_call, broadcast_call, condition_call}
 use Rattle.sharc_meaning.specs.Expressions.{Calls, resulting, tested, operand, fitting, passed, named_value, called, number_named, value_act, spawned, value_called, taking, place_called, cast_value, place_value, unary_value, binary_value, eval, eval_all, place_of}
@@ -50,7 +50,7 @@ pub record Closed (Q : Bool → (A : Type 0) → Run A → Type 0) : Type 1 wher
   pub give : (A : Type 0) (x : A) → Q false A (give x)
   pub stop : (A : Type 0) (code : ℕ) (site : Site) → Q false A (stop code site)
   pub enters : (A : Type 0) (m : Run A) → Q false A m → Q true A (entered m)
-  pub event : (site : Site) (act : Act) → Q false ℤ (asks site act)
+  pub event : (site : Site) (act : Act) → Q false ℤ (answered site act)
   pub events : Q false _ (looks_at (λ s. s.events))
   pub values : Q false (ℕ → ℤ) (looks_at value_of)
   pub trace : (u : Use) (token : ℕ) (site : Site) → Q false (Unit {0}) (traces u token site)

@@ -6,8 +6,8 @@ use Rattle.sharc_tree.specs.declared.event.SourceEvent.{SourceEvent}
 use Rattle.sharc_mode.specs.Moded.{Assignment}
 use Rattle.sharc_meaning.specs.Events.{events_of, is_of}
 use Rattle.sharc_meaning.specs.Laws.{Next, RunsGrow, RunsStart}
-use Rattle.sharc_meaning.specs.Meaning.{asks_for}
-use Rattle.sharc_meaning.specs.Runs.{by, answers_of, Asks}
+use Rattle.sharc_meaning.specs.Meaning.{asks}
+use Rattle.sharc_meaning.specs.Runs.{by, answers_of, Follows}
 use Rattle.sharc_meaning.proofs.Asking.{no_more_than_answers}
 use Rattle.sharc_meaning.proofs.Legal.{stores_grow}
 use Rattle.sharc_meaning.proofs.Obeying.{further}
@@ -25,7 +25,7 @@ module _ (e : SourceEvent) (u : ℕ) where
   one_other h l = events_append u l (e ∷ []) ∙ ap (λ b. events_of u l ++ cond b (e ∷ []) []) h ∙ append-nil (events_of u l)
 
 module _ (m : Assignment) (R : List SourceEvent) (e : SourceEvent) where
-  with_more : (fuel u : ℕ) (a : Asks m R fuel u) → map (by u) (asks_for m a.function a.argument (answers_of (events_of u (a.after ++ e ∷ []))) fuel).events ≡ events_of u (a.after ++ e ∷ []) → Asks m (R ++ e ∷ []) fuel u
+  with_more : (fuel u : ℕ) (a : Follows m R fuel u) → map (by u) (asks m a.function a.argument (answers_of (events_of u (a.after ++ e ∷ []))) fuel).events ≡ events_of u (a.after ++ e ∷ []) → Follows m (R ++ e ∷ []) fuel u
   with_more fuel u a h = record {
     function = a.function;
     argument = a.argument;
@@ -42,15 +42,15 @@ module _ (m : Assignment) (R : List SourceEvent) (e : SourceEvent) where
     asked = h;
   }
 
-  other_asks : (u : ℕ) → is_of u e ≡ false → (events_of u R ≡ []) ⊎ ((fuel : ℕ) × Asks m R fuel u) → (events_of u (R ++ e ∷ []) ≡ []) ⊎ ((fuel : ℕ) × Asks m (R ++ e ∷ []) fuel u)
+  other_asks : (u : ℕ) → is_of u e ≡ false → (events_of u R ≡ []) ⊎ ((fuel : ℕ) × Follows m R fuel u) → (events_of u (R ++ e ∷ []) ≡ []) ⊎ ((fuel : ℕ) × Follows m (R ++ e ∷ []) fuel u)
   other_asks u h (inl none) = inl (one_other e u h R ∙ none)
-  other_asks u h (inr (fuel, a)) = inr (fuel, with_more fuel u a (subst (λ l. map (by u) (asks_for m a.function a.argument (answers_of l) fuel).events ≡ l) (sym (one_other e u h a.after)) a.asked))
+  other_asks u h (inr (fuel, a)) = inr (fuel, with_more fuel u a (subst (λ l. map (by u) (asks m a.function a.argument (answers_of l) fuel).events ≡ l) (sym (one_other e u h a.after)) a.asked))
 
-  own_asks : (n : Next m R e) → is_of e.thread e ≡ true → Asks m (R ++ e ∷ []) n.fuel e.thread
+  own_asks : (n : Next m R e) → is_of e.thread e ≡ true → Follows m (R ++ e ∷ []) n.fuel e.thread
   own_asks n h =
-      let a = n.asks in
+      let a = n.own in
       let answers : answers_of (events_of e.thread (a.after ++ e ∷ [])) ≡ answers_of (events_of e.thread a.after) ++ e.answer ∷ [] = ap answers_of (one_own e e.thread h a.after) ∙ map_both (λ x. x.answer) (events_of e.thread a.after) (e ∷ []) in
-      with_more n.fuel e.thread a (ap (λ l. map (by e.thread) (asks_for m a.function a.argument l n.fuel).events) answers ∙ n.comes ∙ sym (one_own e e.thread h a.after))
+      with_more n.fuel e.thread a (ap (λ l. map (by e.thread) (asks m a.function a.argument l n.fuel).events) answers ∙ n.comes ∙ sym (one_own e e.thread h a.after))
 
 is_itself : (e : SourceEvent) → is_of e.thread e ≡ true
 is_itself e = search (nat_tests, arith)
@@ -58,8 +58,8 @@ is_itself e = search (nat_tests, arith)
 pub runs_grow : RunsGrow
 runs_grow m R e run may n = record { legal = stores_grow m.typed R e run.legal may; threads = λ u. thread u (is_of u e) refl }
   where
-    thread : (u : ℕ) (b : Bool) → is_of u e ≡ b → (events_of u (R ++ e ∷ []) ≡ []) ⊎ ((fuel : ℕ) × Asks m (R ++ e ∷ []) fuel u)
-    thread u true h = subst (λ t. (events_of t (R ++ e ∷ []) ≡ []) ⊎ ((fuel : ℕ) × Asks m (R ++ e ∷ []) fuel t)) (same_thread e.thread u h) (inr (n.fuel, own_asks m R e n (is_itself e)))
+    thread : (u : ℕ) (b : Bool) → is_of u e ≡ b → (events_of u (R ++ e ∷ []) ≡ []) ⊎ ((fuel : ℕ) × Follows m (R ++ e ∷ []) fuel u)
+    thread u true h = subst (λ t. (events_of t (R ++ e ∷ []) ≡ []) ⊎ ((fuel : ℕ) × Follows m (R ++ e ∷ []) fuel t)) (same_thread e.thread u h) (inr (n.fuel, own_asks m R e n (is_itself e)))
     thread u false h = other_asks m R e u h (run.threads u)
 
 -- a list that is not longer than nothing
@@ -70,8 +70,8 @@ nothing_in (x ∷ a) h = absurd (omega arith)
 pub runs_start : RunsStart
 runs_start m R e run may s = record { legal = stores_grow m.typed R e run.legal may; threads = λ u. thread u (is_of u e) refl }
   where
-    asks : Asks m (R ++ e ∷ []) 0 e.thread
-    asks = record {
+    started : Follows m (R ++ e ∷ []) 0 e.thread
+    started = record {
       function = s.function;
       argument = s.argument;
       before = R;
@@ -84,9 +84,9 @@ runs_start m R e run may s = record { legal = stores_grow m.typed R e run.legal 
       answer = s.answer;
       site = s.site;
       by_right = s.by_right;
-      asked = ap (map (by e.thread)) (nothing_in (asks_for m s.function s.argument [] 0).events (no_more_than_answers m s.function s.argument [] 0));
+      asked = ap (map (by e.thread)) (nothing_in (asks m s.function s.argument [] 0).events (no_more_than_answers m s.function s.argument [] 0));
     }
 
-    thread : (u : ℕ) (b : Bool) → is_of u e ≡ b → (events_of u (R ++ e ∷ []) ≡ []) ⊎ ((fuel : ℕ) × Asks m (R ++ e ∷ []) fuel u)
-    thread u true h = subst (λ t. (events_of t (R ++ e ∷ []) ≡ []) ⊎ ((fuel : ℕ) × Asks m (R ++ e ∷ []) fuel t)) (same_thread e.thread u h) (inr (0, asks))
+    thread : (u : ℕ) (b : Bool) → is_of u e ≡ b → (events_of u (R ++ e ∷ []) ≡ []) ⊎ ((fuel : ℕ) × Follows m (R ++ e ∷ []) fuel u)
+    thread u true h = subst (λ t. (events_of t (R ++ e ∷ []) ≡ []) ⊎ ((fuel : ℕ) × Follows m (R ++ e ∷ []) fuel t)) (same_thread e.thread u h) (inr (0, started))
     thread u false h = other_asks m R e u h (run.threads u)

@@ -7,3 +7,4 @@ mod Growing
 mod Legal
 mod Obeying
 mod Running
+mod Spending

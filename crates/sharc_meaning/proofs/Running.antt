@@ -5,8 +5,8 @@ use Rattle.sharc_tree.specs.declared.event.SourceEvent.{SourceEvent}
 use Rattle.sharc_mode.specs.Moded.{Assignment}
 use Rattle.sharc_meaning.specs.Events.{Stands, events_of, is_of}
 use Rattle.sharc_meaning.specs.Laws.{RunPrefixes, RunPrefixesWith}
-use Rattle.sharc_meaning.specs.Meaning.{Asked, asks_for}
-use Rattle.sharc_meaning.specs.Runs.{by, answers_of, Asks}
+use Rattle.sharc_meaning.specs.Meaning.{Asked, asks}
+use Rattle.sharc_meaning.specs.Runs.{by, answers_of, Follows}
 use Rattle.sharc_meaning.specs.State.{Outcome, wants, ended, stopped, spent}
 use Rattle.sharc_meaning.proofs.Asking.{more_answers, more_answers_same, no_more_than_answers, wants_behind_answers}
 use Rattle.sharc_meaning.proofs.Legal.{prefixes_legal}
@@ -62,7 +62,7 @@ stands_where (r ∷ R) S (b ∷ before) e after h = let same : r ≡ b = cc in l
 -- ---- one thread
 module _ (m : Assignment) (f : ℕ) (v : ℤ) (fuel t : ℕ) where
   abbrev asked : List ℤ → Asked
-  asked answers = asks_for m f v answers fuel
+  asked answers = asks m f v answers fuel
 
   not_wanting : (X Y : List SourceEvent) → map (by t) (asked (answers_of X ++ answers_of Y)).events ≡ X ++ Y → ((e : SourceEvent) → (asked (answers_of X)).outcome ≢ wants e) → length (asked (answers_of X)).events ≡ length X
   not_wanting X Y h n =
@@ -90,7 +90,7 @@ module _ (m : Assignment) (f : ℕ) (v : ℤ) (fuel t : ℕ) where
       fronts (map (by t) (asked (answers_of X)).events) (map (by t) p.events.0) X Y parts (map_length (by t) (asked (answers_of X)).events ∙ as_many X Y k (asked (answers_of X)).outcome refl)
 
 module _ (m : Assignment) (R S : List SourceEvent) (fuel t : ℕ) where
-  asks_in_first : (a : Asks m (R ++ S) fuel t) → InFirst R S a.before a.begins a.after → Asks m R fuel t
+  asks_in_first : (a : Follows m (R ++ S) fuel t) → InFirst R S a.before a.begins a.after → Follows m R fuel t
   asks_in_first a i =
       let both : events_of t a.after ≡ events_of t i.rest ++ events_of t S = ap (events_of t) i.behind ∙ events_append t i.rest S in
       record {
@@ -107,13 +107,13 @@ module _ (m : Assignment) (R S : List SourceEvent) (fuel t : ℕ) where
         site = a.site;
         by_right = a.by_right;
         asked = asked_before m a.function a.argument fuel t (events_of t i.rest) (events_of t S)
-            (subst (λ l. map (by t) (asks_for m a.function a.argument (answers_of l) fuel).events ≡ l) both a.asked);
+            (subst (λ l. map (by t) (asks m a.function a.argument (answers_of l) fuel).events ≡ l) both a.asked);
       }
 
-  asks_before : Asks m (R ++ S) fuel t → (events_of t R ≡ []) ⊎ Asks m R fuel t
+  asks_before : Follows m (R ++ S) fuel t → (events_of t R ≡ []) ⊎ Follows m R fuel t
   asks_before a = by_place (stands_where R S a.before a.begins a.after a.stands)
     where
-      by_place : InFirst R S a.before a.begins a.after ⊎ InSecond R a.before → (events_of t R ≡ []) ⊎ Asks m R fuel t
+      by_place : InFirst R S a.before a.begins a.after ⊎ InSecond R a.before → (events_of t R ≡ []) ⊎ Follows m R fuel t
       by_place (inl i) = inr (asks_in_first a i)
       by_place (inr i) = inl (no_front (events_of t R) (events_of t i.rest) (sym (events_append t R i.rest) ∙ ap (events_of t) (sym i.is) ∙ a.first))
 
@@ -123,17 +123,17 @@ none_before R S t h = no_front (events_of t R) (events_of t S) (sym (events_appe
 pub run_prefixes : RunPrefixes
 run_prefixes m R S run = record { legal = prefixes_legal m.typed R S run.legal; threads = λ t. thread t (run.threads t) }
   where
-    with_fuel : (t fuel : ℕ) → (events_of t R ≡ []) ⊎ Asks m R fuel t → (events_of t R ≡ []) ⊎ ((fuel : ℕ) × Asks m R fuel t)
+    with_fuel : (t fuel : ℕ) → (events_of t R ≡ []) ⊎ Follows m R fuel t → (events_of t R ≡ []) ⊎ ((fuel : ℕ) × Follows m R fuel t)
     with_fuel t fuel (inl h) = inl h
     with_fuel t fuel (inr a) = inr (fuel, a)
 
-    thread : (t : ℕ) → (events_of t (R ++ S) ≡ []) ⊎ ((fuel : ℕ) × Asks m (R ++ S) fuel t) → (events_of t R ≡ []) ⊎ ((fuel : ℕ) × Asks m R fuel t)
+    thread : (t : ℕ) → (events_of t (R ++ S) ≡ []) ⊎ ((fuel : ℕ) × Follows m (R ++ S) fuel t) → (events_of t R ≡ []) ⊎ ((fuel : ℕ) × Follows m R fuel t)
     thread t (inl h) = inl (none_before R S t h)
     thread t (inr (fuel, a)) = with_fuel t fuel (asks_before m R S fuel t a)
 
 pub run_prefixes_with : RunPrefixesWith
 run_prefixes_with fuel m R S run = record { legal = prefixes_legal m.typed R S run.legal; threads = λ t. thread t (run.threads t) }
   where
-    thread : (t : ℕ) → (events_of t (R ++ S) ≡ []) ⊎ Asks m (R ++ S) fuel t → (events_of t R ≡ []) ⊎ Asks m R fuel t
+    thread : (t : ℕ) → (events_of t (R ++ S) ≡ []) ⊎ Follows m (R ++ S) fuel t → (events_of t R ≡ []) ⊎ Follows m R fuel t
     thread t (inl h) = inl (none_before R S t h)
     thread t (inr a) = asks_before m R S fuel t a

@@ -29,7 +29,7 @@ use Rattle.sharc_mode.specs.Rows.{cast_row}
 use Rattle.sharc_mode.specs.Sharings.{Sharing}
 use Rattle.sharc_meaning.specs.Arithmetic.{out_of_range, bits_of, fits, is_zero, truth, operated, negated, complement}
 use Rattle.sharc_meaning.specs.Reference.{is_null, constant_value}
-use Rattle.sharc_meaning.specs.State.{Run, Step, ◌>>=◌, ◌>>◌, give, done, stop, unless_stop, entered, asks, performs, drops, holds, moves, temporarily, reads_variable}
+use Rattle.sharc_meaning.specs.State.{Run, Step, ◌>>=◌, ◌>>◌, give, done, stop, unless_stop, entered, answered, performs, drops, holds, moves, temporarily, reads_variable}
 use Rattle.sharc_meaning.specs.Places.{Place, cell, no_place, place_named, index_place, pointee_place, field_place, unary_place, fetched, taken_from, cast_to, freed}
 use Rattle.sharc_meaning.specs.Waiting.{lock_call, unlock_call, condition_call}
 
@@ -88,7 +88,7 @@ number_named _ = 0
 abbrev pub spawned : Resolution → Site → Named → Expression → Run ℤ → Run ℤ
 spawned r site f a of_a = temporarily (do
   v ← passed r (declared_kinds (parameters_named r f)) a of_a
-  t ← asks site (acts.Spawn (number_named f) v)
+  t ← answered site (acts.Spawn (number_named f) v)
   moves (kind_at r a)
   give t)
 

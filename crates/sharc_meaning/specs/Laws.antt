@@ -7,10 +7,10 @@ use Rattle.sharc_tree.specs.declared.event.SourceEvent.{SourceEvent}
 use Rattle.sharc_ctype.specs.Resolved.{Resolution, function_at}
 use Rattle.sharc_mode.specs.Moded.{Assignment}
 use Rattle.sharc_meaning.specs.Events.{events_of}
-use Rattle.sharc_meaning.specs.Meaning.{Asked, asks_for}
+use Rattle.sharc_meaning.specs.Meaning.{Asked, run_thread, start, asks}
 use Rattle.sharc_meaning.specs.Obeys.{Until, Obeys}
-use Rattle.sharc_meaning.specs.Runs.{by, answers_of, IsNamedAt, IsFirst, IsSpawned, Asks, SourceRun, SourceRunWith}
-use Rattle.sharc_meaning.specs.State.{wants, spent}
+use Rattle.sharc_meaning.specs.Runs.{by, answers_of, IsNamedAt, IsFirst, IsSpawned, Follows, SourceRun, SourceRunWith}
+use Rattle.sharc_meaning.specs.State.{State, wants, spent, over}
 use Rattle.sharc_meaning.specs.Store.{MayCome, LegalStore}
 
 abbrev pub IsPrefix : {A : Type 0} → List A → List A → Type 0
@@ -24,28 +24,33 @@ pub record GoesOn (a b : Asked) : Type 0 where
 -- more fuel goes on, and changes nothing but the end for want of it
 abbrev pub MoreFuel : Type 0
 MoreFuel = (m : Assignment) (f : ℕ) (argument : ℤ) (answers : List ℤ) (fuel more : ℕ)
-    → GoesOn (asks_for m f argument answers fuel) (asks_for m f argument answers (fuel + more))
+    → GoesOn (asks m f argument answers fuel) (asks m f argument answers (fuel + more))
 
 abbrev pub MoreFuelChangesNothing : Type 0
 MoreFuelChangesNothing = (m : Assignment) (f : ℕ) (argument : ℤ) (answers : List ℤ) (fuel more : ℕ)
-    → (asks_for m f argument answers fuel).outcome ≢ spent → asks_for m f argument answers (fuel + more) ≡ asks_for m f argument answers fuel
+    → (asks m f argument answers fuel).outcome ≢ spent → asks m f argument answers (fuel + more) ≡ asks m f argument answers fuel
 
 -- more answers go on, and change nothing but the end for want of them
 abbrev pub MoreAnswers : Type 0
 MoreAnswers = (m : Assignment) (f : ℕ) (argument : ℤ) (answers more : List ℤ) (fuel : ℕ)
-    → GoesOn (asks_for m f argument answers fuel) (asks_for m f argument (answers ++ more) fuel)
+    → GoesOn (asks m f argument answers fuel) (asks m f argument (answers ++ more) fuel)
 
 abbrev pub MoreAnswersChangeNothing : Type 0
 MoreAnswersChangeNothing = (m : Assignment) (f : ℕ) (argument : ℤ) (answers more : List ℤ) (fuel : ℕ)
-    → ((e : SourceEvent) → (asks_for m f argument answers fuel).outcome ≢ wants e) → asks_for m f argument (answers ++ more) fuel ≡ asks_for m f argument answers fuel
+    → ((e : SourceEvent) → (asks m f argument answers fuel).outcome ≢ wants e) → asks m f argument (answers ++ more) fuel ≡ asks m f argument answers fuel
+
+-- it ends for want of fuel only where all of it is used up: so a loop's turns are never too few
+abbrev pub SpentIsNone : Type 0
+SpentIsNone = (m : Assignment) (f : ℕ) (argument : ℤ) (answers : List ℤ) (fuel : ℕ) (s : State)
+    → run_thread m (function_at m.typed f) argument (start answers fuel) ≡ over spent s → s.fuel ≡ 0
 
 -- as many events as there are answers, where it wants one more, else at most as many
 abbrev pub NoMoreThanAnswers : Type 0
-NoMoreThanAnswers = (m : Assignment) (f : ℕ) (argument : ℤ) (answers : List ℤ) (fuel : ℕ) → length (asks_for m f argument answers fuel).events ≤ length answers
+NoMoreThanAnswers = (m : Assignment) (f : ℕ) (argument : ℤ) (answers : List ℤ) (fuel : ℕ) → length (asks m f argument answers fuel).events ≤ length answers
 
 abbrev pub WantsBehindAnswers : Type 0
 WantsBehindAnswers = (m : Assignment) (f : ℕ) (argument : ℤ) (answers : List ℤ) (fuel : ℕ) (e : SourceEvent)
-    → (asks_for m f argument answers fuel).outcome ≡ wants e → length (asks_for m f argument answers fuel).events ≡ length answers
+    → (asks m f argument answers fuel).outcome ≡ wants e → length (asks m f argument answers fuel).events ≡ length answers
 
 -- what an event answers where the list says this; a Take of a local answers what the local holds
 abbrev pub IsAnswer : Act → ℤ → ℤ → Type 0
@@ -65,7 +70,7 @@ pub record Comes (e : SourceEvent) (told : ℤ) (a b : Asked) : Type 0 where
 
 abbrev pub OneAnswerMore : Type 0
 OneAnswerMore = (m : Assignment) (f : ℕ) (argument : ℤ) (answers : List ℤ) (answer : ℤ) (fuel : ℕ) (e : SourceEvent)
-    → (asks_for m f argument answers fuel).outcome ≡ wants e → Comes e answer (asks_for m f argument answers fuel) (asks_for m f argument (answers ++ answer ∷ []) fuel)
+    → (asks m f argument answers fuel).outcome ≡ wants e → Comes e answer (asks m f argument answers fuel) (asks m f argument (answers ++ answer ∷ []) fuel)
 
 -- what comes before in a legal store is one
 abbrev pub PrefixesAreLegal : Type 0
@@ -80,6 +85,7 @@ pub record AskLaws : Type 0 where
   pub fuel_same : MoreFuelChangesNothing
   pub answers : MoreAnswers
   pub answers_same : MoreAnswersChangeNothing
+  pub spent_is_none : SpentIsNone
   pub events : NoMoreThanAnswers
   pub wanted : WantsBehindAnswers
   pub comes : OneAnswerMore
@@ -102,8 +108,8 @@ ObeyingPrefixes = (until : Until) (R S : List SourceEvent) → Obeys (R ++ S) un
 -- the event is the next of a thread that was started: it asks for it, and for no other, with one answer more
 pub record Next (m : Assignment) (R : List SourceEvent) (e : SourceEvent) : Type 0 where
   pub fuel : ℕ
-  pub asks : Asks m R fuel e.thread
-  pub comes : map (by e.thread) (asks_for m asks.function asks.argument (answers_of (events_of e.thread asks.after) ++ e.answer ∷ []) fuel).events ≡ events_of e.thread asks.after ++ e ∷ []
+  pub own : Follows m R fuel e.thread
+  pub comes : map (by e.thread) (asks m own.function own.argument (answers_of (events_of e.thread own.after) ++ e.answer ∷ []) fuel).events ≡ events_of e.thread own.after ++ e ∷ []
 
 -- a source run goes on with an event that is the next of its thread and may come
 abbrev pub RunsGrow : Type 0

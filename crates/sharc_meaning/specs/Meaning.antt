@@ -108,5 +108,5 @@ abbrev pub start : List ℤ → ℕ → State
 start answers fuel = record { frame = no_frame; callers = []; answers = answers; events = []; fuel = fuel; calls = 0; given_up = []; trace = [] }
 
 -- of a thread with this function and argument, by these answers and with this fuel
-abbrev pub asks_for : Assignment → ℕ → ℤ → List ℤ → ℕ → Asked
-asks_for m f v answers fuel = asked_by (run_thread m (function_at m.typed f) v (start answers fuel))
+abbrev pub asks : Assignment → ℕ → ℤ → List ℤ → ℕ → Asked
+asks m f v answers fuel = asked_by (run_thread m (function_at m.typed f) v (start answers fuel))

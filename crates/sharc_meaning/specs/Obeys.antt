@@ -34,7 +34,7 @@ ends _ _ = false
 
 -- The access stands in the access set of a granule of an object, behind these events: it is of mode dynamic, the object had no New and no Give since,
 -- and neither had its thread the end that is told.
-pub record InAccessSet (R : History) (o : Object) (granule : ℕ) (until : Until) (e : SourceEvent) (a : Access) : Type 0 where
+pub record AccessSet (R : History) (o : Object) (granule : ℕ) (until : Until) (e : SourceEvent) (a : Access) : Type 0 where
   pub before : History
   pub after : History
   pub stands : Stands R before e after
@@ -84,7 +84,7 @@ UnderLock R = (before : History) (e : SourceEvent) (after : History) (a : Access
 -- 6: at no place does an access set hold accesses by two threads of which one is a write
 abbrev pub ReadSharedOrOwn : History → Until → Type 0
 ReadSharedOrOwn R until = (earlier later : History) (o : Object) (granule : ℕ) (d e : SourceEvent) (a b : Access) → R ≡ earlier ++ later
-    → InAccessSet earlier o granule until d a → InAccessSet earlier o granule until e b → d.thread ≢ e.thread → (a.is_write || b.is_write) ≡ false
+    → AccessSet earlier o granule until d a → AccessSet earlier o granule until e b → d.thread ≢ e.thread → (a.is_write || b.is_write) ≡ false
 
 pub record Obeys (R : History) (until : Until) : Type 0 where
   pub live : ToLive R

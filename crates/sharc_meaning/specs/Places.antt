@@ -22,7 +22,7 @@ use Rattle.sharc_mode.specs.Sharings.{Sharing, private, readonly, locked, racy, 
 use Rattle.sharc_meaning.specs.Arithmetic.{null_base, out_of_bounds}
 use Rattle.sharc_meaning.specs.Cells.{cell_of, element_cells, global_elements, field_place_named, Guard, mutex, behind, nothing as no_mutex, guard_of, instance_mode}
 use Rattle.sharc_meaning.specs.Reference.{NULL, is_null, number_of, elements_of}
-use Rattle.sharc_meaning.specs.State.{replaced, emptied, nulls, Run, Step, ◌>>=◌, ◌>>◌, give, done, stop, unless_stop, asks, performs, gives_up, drops, holds, holds_reference, moves, moves_on, value_of, looks_at, traces, sets, reads_variable, writes_variable}
+use Rattle.sharc_meaning.specs.State.{replaced, emptied, nulls, Run, Step, ◌>>=◌, ◌>>◌, give, done, stop, unless_stop, answered, performs, gives_up, drops, holds, holds_reference, moves, moves_on, value_of, looks_at, traces, sets, reads_variable, writes_variable}
 
 -- ---- places
 
@@ -103,7 +103,7 @@ unary_place r site _ a pointer = give no_place
 abbrev pub guarding : Site → Guard → Run CellAt
 guarding site (mutex c) = give c
 guarding site (behind c) = do
-  p ← asks site (acts.Read c Readonly)
+  p ← answered site (acts.Read c Readonly)
   unless_stop (not (is_null p)) null_base site
   give (cell_of (Made (number_of p)) 0)
 guarding site no_mutex = stop null_base site
@@ -124,7 +124,7 @@ abbrev pub fetched : Resolution → Site → Sharing → Place → Run ℤ
 fetched r site mode (variable x) = reads_variable site x
 fetched r site mode (cell o first c) = do
   under ← access_mode r site mode o first
-  asks site (acts.Read (cell_of o c) under)
+  answered site (acts.Read (cell_of o c) under)
 
 -- a value of this type to a place; the old one is given up, the reference moves in
 abbrev pub stored : Resolution → Site → Kind → Sharing → Place → ℤ → Step
@@ -149,12 +149,12 @@ nulled token x = do
 abbrev pub taken_from : Resolution → Site → Site → Sharing → TakeKind → Place → Run ℤ
 taken_from r token site mode kind (variable x) = do
   v ← looks_at (λ s. value_of s x)
-  if is_null v then give v else asks site (acts.Take (taken.Local x) kind)
+  if is_null v then give v else answered site (acts.Take (taken.Local x) kind)
   nulled token x
   give v
 taken_from r token site mode kind (cell o first c) = do
   under ← access_mode r site mode o first
-  asks site (acts.Take (taken.Cell (cell_of o c) under) kind)
+  answered site (acts.Take (taken.Cell (cell_of o c) under) kind)
 
 -- the reference that was taken goes on under its new mode
 abbrev pub cast_to : Resolution → Site → Sharing → ℤ → Run ℤ

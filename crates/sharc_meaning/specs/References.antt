@@ -20,9 +20,9 @@ use Rattle.sharc_ctype.specs.Transfers.{function_transfers}
 use Rattle.sharc_mode.specs.Moded.{Assignment}
 use Rattle.sharc_mode.specs.WellFormed.{fields_named}
 use Rattle.sharc_meaning.specs.Events.{makes, frees, events_of, latest}
-use Rattle.sharc_meaning.specs.Meaning.{Asked, asks_for}
+use Rattle.sharc_meaning.specs.Meaning.{Asked, asks}
 use Rattle.sharc_meaning.specs.Reference.{is_null, number_of}
-use Rattle.sharc_meaning.specs.Runs.{Asks, answers_of}
+use Rattle.sharc_meaning.specs.Runs.{Follows, answers_of}
 use Rattle.sharc_meaning.specs.State.{spent}
 use Rattle.sharc_meaning.specs.Store.{value_after, meets, is_locked, spawns}
 
@@ -83,10 +83,10 @@ Counts R (Made n) = meets (makes (Made n)) (latest (λ e. makes (Made n) e || (f
 -- what a thread asks for that was started: this function, this argument, and the events behind its Started
 pub record Begun (m : Assignment) (R : List SourceEvent) (thread : ℕ) : Type 0 where
   pub fuel : ℕ
-  pub asks : Asks m R fuel thread
+  pub own : Follows m R fuel thread
 
 abbrev pub asked_with : {m : Assignment} {R : List SourceEvent} {thread : ℕ} → Begun m R thread → ℕ → Asked
-asked_with {m} {R} {thread} b fuel = asks_for m b.asks.function b.asks.argument (answers_of (events_of thread b.asks.after)) fuel
+asked_with {m} {R} {thread} b fuel = asks m b.own.function b.own.argument (answers_of (events_of thread b.own.after)) fuel
 
 -- the pointer at this place of what it holds refers to the object
 abbrev pub HoldsAt : Asked → ℕ → ℕ → Type 0

@@ -8,7 +8,7 @@ use Rattle.sharc_tree.specs.Tree.{Function}
 use Rattle.sharc_ctype.specs.Resolved.{Resolution, function_at}
 use Rattle.sharc_mode.specs.Moded.{Assignment}
 use Rattle.sharc_meaning.specs.Events.{Stands, events_of}
-use Rattle.sharc_meaning.specs.Meaning.{asks_for}
+use Rattle.sharc_meaning.specs.Meaning.{asks}
 use Rattle.sharc_meaning.specs.Store.{LegalStore}
 
 -- the same event, of this thread
@@ -39,7 +39,7 @@ IsNamedAt (Some f) site = site ≡ f.name.site
 
 -- With this fuel a thread that was started asks for exactly the events that it has behind its Started, by their answers. Its Started stands at the name of
 -- its function.
-pub record Asks (m : Assignment) (R : List SourceEvent) (fuel thread : ℕ) : Type 0 where
+pub record Follows (m : Assignment) (R : List SourceEvent) (fuel thread : ℕ) : Type 0 where
   pub function : ℕ
   pub argument : ℤ
   pub before : List SourceEvent
@@ -52,14 +52,14 @@ pub record Asks (m : Assignment) (R : List SourceEvent) (fuel thread : ℕ) : Ty
   pub answer : begins.answer ≡ pos 0
   pub site : IsNamedAt (function_at m.typed function) begins.site
   pub by_right : IsFirst m.typed thread function argument ⊎ IsSpawned before thread function argument
-  pub asked : map (by thread) (asks_for m function argument (answers_of (events_of thread after)) fuel).events ≡ events_of thread after
+  pub asked : map (by thread) (asks m function argument (answers_of (events_of thread after)) fuel).events ≡ events_of thread after
 
 -- a thread has no event, or there is a fuel with which it asks for what it has
 pub record SourceRun (m : Assignment) (R : List SourceEvent) : Type 0 where
   pub legal : LegalStore m.typed R
-  pub threads : (thread : ℕ) → (events_of thread R ≡ []) ⊎ ((fuel : ℕ) × Asks m R fuel thread)
+  pub threads : (thread : ℕ) → (events_of thread R ≡ []) ⊎ ((fuel : ℕ) × Follows m R fuel thread)
 
 -- the same, with one fuel for all threads
 pub record SourceRunWith (fuel : ℕ) (m : Assignment) (R : List SourceEvent) : Type 0 where
   pub legal : LegalStore m.typed R
-  pub threads : (thread : ℕ) → (events_of thread R ≡ []) ⊎ Asks m R fuel thread
+  pub threads : (thread : ℕ) → (events_of thread R ≡ []) ⊎ Follows m R fuel thread

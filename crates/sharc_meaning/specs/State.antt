@@ -151,12 +151,12 @@ happens (x ∷ rest) site act s =
 
 -- an event with its answer, and one that answers nothing
 
-abbrev pub asks : Site → Act → Run ℤ
-asks site act s = happens s.answers site act s
+abbrev pub answered : Site → Act → Run ℤ
+answered site act s = happens s.answers site act s
 
 abbrev pub performs : Site → Act → Step
 performs site act = do
-  asks site act
+  answered site act
   done
 
 -- ---- references that are held, and given up

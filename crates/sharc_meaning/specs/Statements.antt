@@ -15,7 +15,7 @@ use Rattle.sharc_mode.specs.Rows.{written, row_at, declared_row}
 use Rattle.sharc_mode.specs.Sharings.{Sharing, private}
 use Rattle.sharc_meaning.specs.Arithmetic.{size_not_positive}
 use Rattle.sharc_meaning.specs.Cells.{element_cells, instance_mode}
-use Rattle.sharc_meaning.specs.State.{spent, over, Run, Step, ◌>>=◌, ◌>>◌, give, done, unless_stop, entered, asks, drops, temporarily, value_of, looks_at, begins_with, in_block}
+use Rattle.sharc_meaning.specs.State.{spent, over, Run, Step, ◌>>=◌, ◌>>◌, give, done, unless_stop, entered, answered, drops, temporarily, value_of, looks_at, begins_with, in_block}
 use Rattle.sharc_meaning.specs.Places.{variable, stored}
 use Rattle.sharc_meaning.specs.Expressions.{Calls, tested, fitting, eval, place_of}
 
@@ -70,7 +70,7 @@ right_value on_call m kind target (malloc s n w) = entered (do
   elements ← elements_made on_call m n
   unless_stop (is_positive elements) size_not_positive s.first
   held ← looks_at value_of
-  asks s.first (acts.New (element_cells m.typed (declared_kind w)) (unsigned_abs elements) (instance_mode m.typed held target)))
+  answered s.first (acts.New (element_cells m.typed (declared_kind w)) (unsigned_abs elements) (instance_mode m.typed held target)))
 
 abbrev pub done_simple : Calls → Assignment → Simple → Step
 done_simple on_call m (assign s u x) = temporarily (do

@@ -9,7 +9,7 @@ use Rattle.sharc_meaning.specs.Arithmetic.{null_base, mutex_not_held, mutex_alre
 use Rattle.sharc_meaning.specs.Cells.{cell_of}
 use Rattle.sharc_meaning.specs.Events.{held_mutexes, holds_mutex}
 use Rattle.sharc_meaning.specs.Reference.{NULL, is_null}
-use Rattle.sharc_meaning.specs.State.{released, Step, ◌>>=◌, ◌>>◌, done, unless_stop, asks, performs, gives_up, holds_reference, moves_on, looks_at}
+use Rattle.sharc_meaning.specs.State.{released, Step, ◌>>=◌, ◌>>◌, done, unless_stop, answered, performs, gives_up, holds_reference, moves_on, looks_at}
 use Rattle.sharc_meaning.specs.Places.{Place, variable, cell, pointee}
 
 abbrev pub cell_at_place : Place → CellAt
@@ -59,7 +59,7 @@ wait_call site c m = do
 abbrev pub signal_call : Site → ℤ → Step
 signal_call site c = do
   unless_stop (not (is_null c)) null_base site
-  asks site (acts.Signal (cell_at_place (pointee c)))
+  answered site (acts.Signal (cell_at_place (pointee c)))
   done
 
 abbrev pub broadcast_call : Site → ℤ → Step

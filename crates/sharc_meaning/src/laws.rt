@@ -2,13 +2,13 @@
 
 ghost use Rattle.sharc_meaning.specs.Laws.{AskLaws, RunLaws, StoreLaws};
 
-/// What a thread asks for goes on where there is more fuel or there are more answers, and changes only where it ended for want of them. Each event uses
-/// up one answer. An event is wanted where they are used up, and it comes with one answer more.
+/// What a thread asks for goes on where there is more fuel or there are more answers, and changes only where it ended for want of them. It ends for
+/// want of fuel only where all is used up. Each event uses up one answer. An event is wanted where they are used up, and it comes with one answer more.
 pub fn ask_laws()
     ensures { AskLaws }
 {}
 
-/// What comes before in a legal store is one.
+/// What comes before in a legal store is one, and an event that may come makes it one with one event more.
 pub fn store_laws()
     ensures { StoreLaws }
 {}

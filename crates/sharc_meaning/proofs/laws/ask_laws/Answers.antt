@@ -1,4 +1,5 @@
 use Rattle.sharc_meaning.proofs.Asking.{more_fuel, more_fuel_same, more_answers, more_answers_same, no_more_than_answers, wants_behind_answers, one_answer_more}
+use Rattle.sharc_meaning.proofs.Spending.{spent_is_none}
 use Rattle.sharc_meaning.proofs.laws.ask_laws.Goals as goal
 
 pub returns : goal.returns
@@ -7,6 +8,7 @@ returns c = record {
   fuel_same = more_fuel_same;
   answers = more_answers;
   answers_same = more_answers_same;
+  spent_is_none = spent_is_none;
   events = no_more_than_answers;
   wanted = wants_behind_answers;
   comes = one_answer_more;
