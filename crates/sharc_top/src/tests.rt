@@ -34,11 +34,29 @@ fn answered(
     room: usize,
 ) -> Result<Outcome, AllocError> {
     let words = words_of(alloc, words)?;
+    outcome_of(alloc, &words, input, room)
+}
+
+fn outcome_of(
+    alloc: Global,
+    words: &[String],
+    input: &[u8],
+    room: usize,
+) -> Result<Outcome, AllocError> {
     let mut source = SureSource::new(input.to_vec(alloc)?);
     let mut sink = SureSink::new(alloc, room)?;
-    let status = sharc_top(alloc, &words, &mut source, &mut sink);
+    let status = sharc_top(alloc, words, &mut source, &mut sink);
     let text = sink.bytes().to_vec(alloc)?;
     Ok(Outcome { status, text })
+}
+
+// The outcome for the words of a line, which are parted by single spaces, over the program that prints 42.
+fn answered_line(alloc: Global, line: &str) -> Result<Outcome, AllocError> {
+    let mut words = Vec::new(alloc);
+    for word in line.split(' ') {
+        words.push(String::from_str(alloc, word)?)?;
+    }
+    outcome_of(alloc, &words, ANSWER.as_bytes(), 200)
 }
 
 // The outcome of `run` where these calls of the source and of the sink fail.
@@ -56,77 +74,31 @@ fn failing(
     Ok(Outcome { status, text })
 }
 
-#[test]
-fn each_source_has_its_text_and_status(rt: HostRuntime) -> Result<(), Fail> {
-    for (source, status, text) in [
-        ("int main(void) { return 0; }", 0, ""),
-        (
-            "# 7 \"a.c\"\nint\tmain ( void ) {\r\nprint(0x10 + 010 * 1);\nprint(2147483646 + 1);return 00;}",
-            0,
-            "24\n2147483647\n",
-        ),
-        ("# 5 \"t.c\"\nint @", 2, "t.c:5: L1 byte 64 at offset 14\n"),
-        (
-            "# 5 \"t.c\"\nint main(void) { print(1 +); return 0; }",
-            2,
-            "t.c:5: P1 unexpected ')'\n",
-        ),
-        ("", 2, "input:1: C8 no int main(void)\n"),
-        (
-            "# 5 \"t.c\"\nint main(void) { int x = 1;\nprint(y); return 0; }",
-            2,
-            "t.c:6: C1 unknown name y\n",
-        ),
-        (
-            "int f(int a) { return a; } int main(void) { print(f()); return 0; }",
-            2,
-            "input:1: C4 wrong number of arguments for f\n",
-        ),
-        (
-            "int a[65537]; int main(void) { return 0; }",
-            2,
-            "input:1: C9 limit passed by a\n",
-        ),
-        (
-            "int main(void) { print(1); return 0; } int main(void) { return 0; }",
-            2,
-            "input:1: C2 main defined twice\n",
-        ),
-        (
-            "int main(void) { print(2147483647 + 1); return 0; }",
-            7,
-            "form not built\n",
-        ),
-        (
-            "int main(void) { int x = 1; print(x); return 0; }",
-            7,
-            "form not built\n",
-        ),
-    ] {
-        let found = answered(rt.alloc(), &["run"], source.as_bytes(), 100)?;
-        assert_eq!(rt; found.status, status, "{source}");
-        assert_eq!(rt; found.text.as_slice(), text.as_bytes(), "{source}");
-    }
+// Writes the status and the text behind what was written, and ends them with a bar.
+fn add_outcome(alloc: Global, all: &mut Vec<u8>, found: &Outcome) -> Result<(), AllocError> {
+    let status = format!(in alloc; "{} ", found.status)?;
+    all.extend_from_slice(status.as_bytes())?;
+    all.extend_from_slice(&found.text)?;
+    all.push(b'|')?;
     Ok(())
 }
 
+/// Sources, parted by bars: programs of printed sums, faults of each stage, also several in one source, and programs of a form that is not built.
+const SOURCES: &str =
+    "int main(void) { return 0; }|# 7 \"a.c\"\nint\tmain ( void ) {\r\nprint(0x10 + 010 * 1);\nprint(2147483646 + 1);return 00;}|# 5 \"t.c\"\nint @|# 5 \"t.c\"\nint main(void) { print(1 +); return 0; }||# 5 \"t.c\"\nint main(void) { int x = 1;\nprint(y); return 0; }|int f(int a) { return a; } int main(void) { print(f()); return 0; }|int a[65537]; int main(void) { return 0; }|int main(void) { print(1); return 0; } int main(void) { return 0; }|int f(void) { nope(); } )\n@|int f(void) { nope(); }\n)|int f(void) {\nnope(); }|int main(void) { print(2147483647 + 1); return 0; }|int main(void) { int x = 1; print(x); return 0; }";
+
+/// What each is answered: the status, and the text.
+const REPLIES: &[u8] =
+    b"0 |0 24\n2147483647\n|2 t.c:5: L1 byte 64 at offset 14\n|2 t.c:5: P1 unexpected ')'\n|2 input:1: C8 no int main(void)\n|2 t.c:6: C1 unknown name y\n|2 input:1: C4 wrong number of arguments for f\n|2 input:1: C9 limit passed by a\n|2 input:1: C2 main defined twice\n|2 input:2: L1 byte 64 at offset 26\n|2 input:2: P1 unexpected ')'\n|2 input:2: C1 unknown name nope\n|7 form not built\n|7 form not built\n|";
+
 #[test]
-fn the_earlier_stage_refuses_first(rt: HostRuntime) -> Result<(), Fail> {
-    for (source, text) in [
-        (
-            "int f(void) { nope(); } )\n@",
-            "input:2: L1 byte 64 at offset 26\n",
-        ),
-        ("int f(void) { nope(); }\n)", "input:2: P1 unexpected ')'\n"),
-        (
-            "int f(void) {\nnope(); }",
-            "input:2: C1 unknown name nope\n",
-        ),
-    ] {
-        let found = answered(rt.alloc(), &["run"], source.as_bytes(), 100)?;
-        assert_eq!(rt; found.status, 2, "{source}");
-        assert_eq!(rt; found.text.as_slice(), text.as_bytes(), "{source}");
+fn each_source_has_its_text_and_status(rt: HostRuntime) -> Result<(), Fail> {
+    let mut found = Vec::new(rt.alloc());
+    for source in SOURCES.split('|') {
+        let outcome = answered(rt.alloc(), &["run"], source.as_bytes(), 100)?;
+        add_outcome(rt.alloc(), &mut found, &outcome)?;
     }
+    assert_eq!(rt; found.as_slice(), REPLIES);
     Ok(())
 }
 
@@ -148,48 +120,32 @@ fn a_hundred_thousand_prints_are_written(rt: HostRuntime) -> Result<(), Fail> {
 const USAGE: &str =
     "usage: check | explain | run [--workers N] [--granules N] [--events N] [--seed N] | load N [--workers N] | record [--workers N] [--granules N] [--events N] | replay | audit\n";
 
-// Whether the words are answered with the usage and status 8.
-fn is_no_command(alloc: Global, words: &[&str]) -> Result<bool, AllocError> {
-    let found = answered(alloc, words, ANSWER.as_bytes(), 200)?;
-    Ok(found.status == 8 && found.text.as_slice() == USAGE.as_bytes())
-}
+/// Words, parted by bars: six that are no command, two that are `run`, and the other commands.
+const COMMANDS: &str =
+    "help|run run|Run||run --workers 17|load|run|run --seed=7 --workers 2|check|explain|load 8|record|replay|audit";
 
 #[test]
-fn other_words_are_no_command(rt: HostRuntime) -> Result<(), Fail> {
-    let alloc = rt.alloc();
-    assert!(rt; is_no_command(alloc, &[])?);
-    assert!(rt; is_no_command(alloc, &["help"])?);
-    assert!(rt; is_no_command(alloc, &["run", "run"])?);
-    assert!(rt; is_no_command(alloc, &["Run"])?);
-    assert!(rt; is_no_command(alloc, &[""])?);
-    assert!(rt; is_no_command(alloc, &["run", "--workers", "17"])?);
-    assert!(rt; !is_no_command(alloc, &["run"])?);
-    Ok(())
-}
-
-#[test]
-fn options_of_run_are_taken(rt: HostRuntime) -> Result<(), Fail> {
-    let words = ["run", "--seed=7", "--workers", "2"];
-    let found = answered(rt.alloc(), &words, ANSWER.as_bytes(), 100)?;
-    assert_eq!(rt; found.status, 0);
-    assert_eq!(rt; found.text.as_slice(), b"42\n".as_slice());
-    Ok(())
-}
-
-#[test]
-fn other_commands_are_not_built(rt: HostRuntime) -> Result<(), Fail> {
-    for words in [
-        ["check"].as_slice(),
-        &["explain"],
-        &["load", "8"],
-        &["record"],
-        &["replay"],
-        &["audit"],
-    ] {
-        let found = answered(rt.alloc(), words, ANSWER.as_bytes(), 100)?;
-        assert_eq!(rt; found.status, 7);
-        assert_eq!(rt; found.text.as_slice(), b"form not built\n".as_slice());
+fn words_have_their_reply(rt: HostRuntime) -> Result<(), Fail> {
+    let mut codes = Vec::new(rt.alloc());
+    for line in COMMANDS.split('|') {
+        let found = answered_line(rt.alloc(), line)?;
+        let text = match found.status {
+            0 => "42\n",
+            7 => "form not built\n",
+            _ => USAGE,
+        };
+        assert_eq!(rt; found.text.as_slice(), text.as_bytes(), "{line}");
+        codes.push(b'0' + found.status % 10)?;
     }
+    assert_eq!(rt; codes.as_slice(), b"88888800777777".as_slice());
+    Ok(())
+}
+
+#[test]
+fn no_words_are_no_command(rt: HostRuntime) -> Result<(), Fail> {
+    let found = answered(rt.alloc(), &[], ANSWER.as_bytes(), 200)?;
+    assert_eq!(rt; found.status, 8);
+    assert_eq!(rt; found.text.as_slice(), USAGE.as_bytes());
     Ok(())
 }
 
@@ -205,16 +161,15 @@ fn a_failed_read_is_no_want_of_memory(rt: HostRuntime) -> Result<(), Fail> {
 
 #[test]
 fn a_sink_that_fails_has_whole_lines(rt: HostRuntime) -> Result<(), Fail> {
-    for (call, status, text) in [
-        (0, 10, ""),
-        (1, 10, "9\n"),
-        (2, 10, "9\n9\n"),
-        (3, 0, "9\n9\n9\n"),
-    ] {
-        let found = failing(rt.alloc(), NINES, &[], &[call])?;
-        assert_eq!(rt; found.status, status);
-        assert_eq!(rt; found.text.as_slice(), text.as_bytes());
+    let mut found = Vec::new(rt.alloc());
+    for call in 0..4 {
+        let outcome = failing(rt.alloc(), NINES, &[], &[call])?;
+        add_outcome(rt.alloc(), &mut found, &outcome)?;
     }
+    assert_eq!(rt;
+        found.as_slice(),
+        b"10 |10 9\n|10 9\n9\n|0 9\n9\n9\n|".as_slice()
+    );
     Ok(())
 }
 
