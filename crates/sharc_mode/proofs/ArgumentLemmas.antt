@@ -1,5 +1,5 @@
 -- A call's parameters and arguments, side by side.
-use Rattle.std.proofs.Common.{◌≡◌, ◌≢◌, ℕ, ◌+◌, ◌<◌, ◌≤◌, ◌==◌, Bool, false, subst, arith, List, [], ◌∷◌, length, drop, get_or, refl, ap, sym, ◌∙◌, None, if◌then◌else◌, add-one, drop-cons}
+use Rattle.std.proofs.Common.{◌≡◌, ◌≢◌, ℕ, ◌+◌, ◌<◌, ◌≤◌, ◌==◌, false, subst, arith, List, [], ◌∷◌, length, drop, get_or, refl, ap, sym, ◌∙◌, None, if◌then◌else◌, add-one, drop-cons}
 use Rattle.std.proofs.lemmas.List.{drop_all}
 use Rattle.std.proofs.lemmas.Bool.Decides.{nat_tests}
 use Rattle.sharc_tree.specs.declared.tree.declaration.Declaration.{Declaration}

@@ -1,5 +1,5 @@
 -- What the least assignment is among all that are enough.
-use Rattle.std.proofs.Common.{◌≡◌, ◌⊎◌, ℕ, ◌+◌, ◌<◌, ◌≤◌, Bool, true, false, List, [], ◌∷◌, ◌++◌, length, length-append, Option, Some, None, refl, ap, sym, ◌∙◌, subst, inl, inr, arith}
+use Rattle.std.proofs.Common.{◌≡◌, ◌⊎◌, ℕ, ◌+◌, ◌<◌, Bool, true, false, List, [], ◌∷◌, length, length-append, Option, Some, None, refl, ap, sym, ◌∙◌, subst, inl, inr, arith}
 use Rattle.std.specs.Prelude.{slice_index_or}
 use Rattle.std.proofs.lemmas.Bool.{cases_lt, false≢true}
 use Rattle.std.proofs.lemmas.List.{get_or_past}
@@ -12,7 +12,7 @@ use Rattle.sharc_graph.specs.Paths.{IsWithin, edge_of}
 use Rattle.sharc_flow.specs.declared.place.Place.{Place}
 use Rattle.sharc_flow.specs.declared.place.Place.TheVariants as place
 use Rattle.sharc_flow.specs.declared.place.Link.{Link}
-use Rattle.sharc_flow.specs.Flow.{Flow, flow_of, link_of, place_at, is_unwritten, is_source, IsUnwritten, IsSource, IsOther, IsFirstFor, HasEdge}
+use Rattle.sharc_flow.specs.Flow.{flow_of, link_of, place_at, is_unwritten, is_source, IsUnwritten, IsSource, IsFirstFor, HasEdge}
 use Rattle.sharc_flow.specs.Laws.{FlowLaws, IsClosed, IsDynamic}
 use Rattle.sharc_tree.specs.declared.ctype.Base.{Base}
 use Rattle.sharc_tree.specs.declared.ctype.Mode.{Mode}

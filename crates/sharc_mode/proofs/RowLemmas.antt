@@ -1,5 +1,5 @@
 -- The positions of an entity are positions of the program.
-use Rattle.std.proofs.Common.{◌≡◌, ℕ, ◌+◌, ◌≤◌, Bool, true, false, List, [], ◌∷◌, Option, Some, None, refl, ap, sym, ◌∙◌, subst, cond, arith}
+use Rattle.std.proofs.Common.{◌≡◌, ℕ, ◌+◌, ◌≤◌, Bool, true, false, List, [], ◌∷◌, Option, Some, None, sym, subst, cond, arith}
 use Rattle.std.specs.List.{find}
 use Rattle.sharc_ctype.specs.Resolved.{Resolution}
 use Rattle.sharc_ctype.specs.declared.entity.Entity.{Entity}

@@ -1,5 +1,5 @@
 -- Types compared level by level.
-use Rattle.std.proofs.Common.{◌≡◌, ◌≢◌, ℕ, ◌+◌, ◌<◌, ◌≤◌, Bool, true, false, ◌&&◌, List, [], ◌∷◌, length, drop, get_or, Option, refl, ap, sym, ◌∙◌, suc, add-one, drop-cons, arith}
+use Rattle.std.proofs.Common.{◌≡◌, ◌≢◌, ℕ, ◌+◌, ◌<◌, ◌≤◌, Bool, true, false, ◌&&◌, List, [], ◌∷◌, length, drop, get_or, Option, refl, ap, sym, ◌∙◌, add-one, drop-cons, arith}
 use Rattle.std.proofs.lemmas.List.{drop_all}
 use Rattle.sharc_tree.specs.declared.ctype.Mode.{Mode}
 use Rattle.sharc_ctype.specs.Resolved.{Resolution}

@@ -1,6 +1,6 @@
 -- The links join positions of the program.
-use Rattle.std.proofs.Common.{◌≡◌, ℕ, zero, suc, ◌+◌, ◌-◌, ◌<◌, ◌≤◌, ◌==◌, min, Bool, true, false, cond, List, [], ◌∷◌, ◌++◌, Option, Some, None, refl, ap, subst, arith}
-use Rattle.std.specs.List.{flat_map, All, find}
+use Rattle.std.proofs.Common.{◌≡◌, ℕ, zero, suc, ◌+◌, ◌-◌, ◌<◌, ◌≤◌, min, Bool, true, false, cond, List, [], ◌∷◌, ◌++◌, Option, Some, None, subst, arith}
+use Rattle.std.specs.List.{flat_map, All}
 use Rattle.std.proofs.lemmas.Bool.{ne_eqb}
 use Rattle.std.proofs.lemmas.List.Elements.{All-nil, All-cons, All-append}
 use Rattle.sharc_graph.specs.Paths.{IsWithin}
@@ -21,10 +21,10 @@ use Rattle.sharc_names.specs.declared.types.Role.TheVariants as role
 use Rattle.sharc_names.specs.Kinds.{is_array}
 use Rattle.sharc_ctype.specs.Entities.{entities_in, entity_at, numbered_from, positions_of, positions_in, is_told_by}
 use Rattle.sharc_ctype.specs.Resolved.{Resolution, named_at, global_at, function_at, kind_at}
-use Rattle.sharc_ctype.specs.Transfers.{Receiver, lvalue, variable, result, Transfer, function_transfers}
+use Rattle.sharc_ctype.specs.Transfers.{Receiver, lvalue, variable, result, function_transfers}
 use Rattle.sharc_ctype.specs.declared.entity.Entity.{Entity}
 use Rattle.sharc_ctype.specs.declared.entity.Numbered.{Numbered}
-use Rattle.sharc_mode.specs.Flows.{equal_rows, levels_down, receiver_row, source_row, transfer_links, cast_links, function_links, item_links, links_of}
+use Rattle.sharc_mode.specs.Flows.{equal_rows, levels_down, receiver_row, source_row, transfer_links, cast_links, item_links, links_of}
 use Rattle.sharc_mode.specs.Moded.{position_count}
 use Rattle.sharc_mode.specs.Rows.{Reading, written, Row, no_row, deeper, targets_from, entity_row, declared_row, cast_row, global_row, named_row, result_row, called_row, behind, constant_row, reading_through, base_use, unary_row, row_at}
 use Rattle.sharc_mode.proofs.RowLemmas.{EndsBy, ends_by}

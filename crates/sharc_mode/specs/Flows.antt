@@ -1,5 +1,5 @@
 -- The places and links of a typed program, and the least assignment: which unwritten positions are dynamic.
-use Rattle.std.specs.Prelude.{◌≡◌, ◌⊎◌, ℕ, ◌+◌, ◌-◌, ◌<◌, ◌≤◌, min, List, [], ◌∷◌, ◌++◌, length, slice_index_or, Option, Some, None, IsSomeAnd, Contains}
+use Rattle.std.specs.Prelude.{◌≡◌, ◌⊎◌, ℕ, ◌-◌, ◌<◌, ◌≤◌, min, List, [], ◌++◌, length, slice_index_or, Option, Some, None, IsSomeAnd, Contains}
 use Rattle.std.specs.List.{flat_map}
 use Rattle.sharc_tree.specs.declared.ctype.Mode.{Mode}
 use Rattle.sharc_tree.specs.declared.ctype.Mode.TheVariants.{Private, Readonly, Locked, Racy, Dynamic}
@@ -14,8 +14,6 @@ use Rattle.sharc_flow.specs.declared.place.Place.TheVariants as place
 use Rattle.sharc_flow.specs.declared.place.Link.{Link}
 use Rattle.sharc_flow.specs.Flow.{flow_of, place_at, AreInferred}
 use Rattle.sharc_flow.specs.Make.{equal_links, below_links}
-use Rattle.sharc_names.specs.declared.fault.Named.{Named}
-use Rattle.sharc_names.specs.declared.fault.Named.TheVariants as named
 use Rattle.sharc_ctype.specs.Reaches.{Spawns, IsReached, NamesGlobal}
 use Rattle.sharc_ctype.specs.Resolved.{Resolution, global_at, function_at}
 use Rattle.sharc_ctype.specs.Transfers.{Receiver, lvalue, variable, result, Transfer, function_transfers}

@@ -1,5 +1,5 @@
 -- What is to be said of each construct: the cases M1 to M11, and which variables lock paths name (own).
-use Rattle.std.specs.Prelude.{ℕ, ◌+◌, ◌==◌, Bool, true, false, ◌||◌, List, [], ◌∷◌, ◌++◌, drop, take, map, slice_range, slice_index_or, Option, Some, None, unwrap_or, if◌then◌else◌}
+use Rattle.std.specs.Prelude.{ℕ, ◌+◌, ◌==◌, Bool, true, false, ◌||◌, List, [], ◌∷◌, ◌++◌, drop, take, map, slice_range, Option, Some, None, if◌then◌else◌}
 use Rattle.std.specs.List.{flat_map, list_any}
 use Rattle.std.specs.Option.{option_or}
 use Rattle.sharc_tree.specs.declared.ctype.Base.{Base}
@@ -14,7 +14,6 @@ use Rattle.sharc_tree.specs.Forms.{without_parentheses}
 use Rattle.sharc_tree.specs.Spans.{span_of}
 use Rattle.sharc_tree.specs.Texts.{path_text, mode_text, tokens_text}
 use Rattle.sharc_tree.specs.Tree.{Expression, identifier, Arguments}
-use Rattle.sharc_names.specs.declared.fault.Named.{Named}
 use Rattle.sharc_names.specs.declared.types.Role.{Role}
 use Rattle.sharc_names.specs.declared.types.Role.TheVariants as role
 use Rattle.sharc_names.specs.Kinds.{Kind, object, array, null, function}
@@ -26,8 +25,8 @@ use Rattle.sharc_mode.specs.declared.note.Note.TheVariants.{Wrong, Names, Takes}
 use Rattle.sharc_mode.specs.Cells.{cell_at, top_of}
 use Rattle.sharc_ctype.specs.Entities.{positions_of}
 use Rattle.sharc_mode.specs.Moded.{Assignment}
-use Rattle.sharc_mode.specs.Rows.{Row, written, at_call, modes_of, modes_at, declared_row, cast_row, argument_use, path_variable}
-use Rattle.sharc_mode.specs.Sharings.{Lock, Sharing, private, readonly, locked, racy, dynamic, lock_of, sharing_of, path_of, mode_of, text_at, same_all, is_private, is_readonly, is_sibling, variable_named, variable_of}
+use Rattle.sharc_mode.specs.Rows.{written, at_call, modes_of, modes_at, declared_row, argument_use, path_variable}
+use Rattle.sharc_mode.specs.Sharings.{Lock, Sharing, private, readonly, locked, racy, dynamic, sharing_of, path_of, mode_of, text_at, same_all, is_readonly, is_sibling, variable_named, variable_of}
 use Rattle.sharc_mode.specs.WellFormed.{place_of, holds_private, first_unfit_path, first_unfit_mode, is_private_mode}
 
 -- ---- what a case tells

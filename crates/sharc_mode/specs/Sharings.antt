@@ -1,5 +1,5 @@
 -- Sharing modes with what their lock paths name, and when two are the same (own).
-use Rattle.std.specs.Prelude.{ℕ, ◌==◌, Bool, true, false, ◌&&◌, List, [], ◌∷◌, slice_get, option_map, Option, Some, None, is_none, is_some}
+use Rattle.std.specs.Prelude.{ℕ, ◌==◌, Bool, true, false, ◌&&◌, List, [], ◌∷◌, slice_get, Option, Some, None, is_none}
 use Rattle.std.specs.Str.{bytes_eq}
 use Rattle.sharc_tree.specs.declared.ctype.Path.{Path}
 use Rattle.sharc_tree.specs.declared.ctype.Path.TheVariants.{One, Through}

@@ -35,7 +35,7 @@ use Rattle.sharc_ctype.specs.declared.expr.OperatorClass.{OperatorClass}
 use Rattle.sharc_ctype.specs.Heads.{Heading as Heads}
 use Rattle.sharc_ctype.specs.declared.expr.Standing.{Standing}
 use Rattle.sharc_ctype.specs.declared.expr.Standing.TheVariants.{AsValue, AsLvalue}
-use Rattle.sharc_ctype.specs.Expressions.{uncalled_notes, type_of, notes_at, notes_of, notes_of_all, is_place, access_need, operand_need, place_notes, place_kind, place_call_notes, cast_notes, count, count_notes as arguments_count_notes, callee_notes, wanted, spawn_notes, spawn_wanted, class_of, operands_need, binary_notes}
+use Rattle.sharc_ctype.specs.Expressions.{uncalled_notes, type_of, notes_at, notes_of_all, is_place, access_need, operand_need, place_notes, place_kind, place_call_notes, cast_notes, count, count_notes as arguments_count_notes, callee_notes, wanted, spawn_notes, spawn_wanted, class_of, operands_need, binary_notes}
 use Rattle.sharc_ctype.specs.Globals.{length_notes, initial_notes as constant_notes, base_initial_notes, item_size_notes, sizes_notes, item_cells}
 use Rattle.sharc_ctype.specs.Heads.{head_notes as item_head_notes, heads_notes, behind as heads_behind, no_heads, twice}
 use Rattle.sharc_ctype.specs.Items.{in_body, fields_notes, field_notes as one_field_notes, parameters_notes, beyond, item_notes, items_notes, file_scope, has_main, program_notes}

@@ -28,7 +28,7 @@ use Rattle.sharc_names.specs.Wants.{first_wanted}
 use Rattle.sharc_ctype.specs.Heads.{Heading as Heads}
 use Rattle.sharc_ctype.specs.declared.expr.Standing.{Standing}
 use Rattle.sharc_ctype.specs.declared.expr.Standing.TheVariants.{AsValue, AsLvalue}
-use Rattle.sharc_ctype.specs.Expressions.{notes_at, type_of, notes_of, notes_of_all, access_need, operand_need, place_kind, count, callee_notes, wanted, spawn_notes, spawn_wanted, class_of, operands_need}
+use Rattle.sharc_ctype.specs.Expressions.{notes_at, type_of, notes_of_all, access_need, operand_need, place_kind, count, callee_notes, wanted, spawn_notes, spawn_wanted, class_of, operands_need}
 use Rattle.sharc_ctype.specs.Heads.{head_notes as item_head_notes, heads_notes, behind as heads_behind, no_heads}
 use Rattle.sharc_ctype.specs.Items.{in_body, fields_notes, field_notes as one_field_notes, parameters_notes, item_notes, items_notes, file_scope, has_main, program_notes}
 use Rattle.sharc_ctype.specs.Resolved.{Resolution, declarations_of, declarations_in}

@@ -1,15 +1,14 @@
 -- Where an lvalue is needed and no fault is noted, there is none where the value is needed.
-use Rattle.std.proofs.Common.{◌≡◌, Bool, true, false, ◌&&◌, not}
-use Rattle.sharc_tree.specs.Forms.{without_parentheses, is_lvalue}
+use Rattle.std.proofs.Common.{◌≡◌, true, false}
 use Rattle.sharc_tree.specs.Tree.{Expression}
 use Rattle.sharc_tree.specs.Tree as tree
 use Rattle.sharc_names.specs.declared.fault.FaultCode.TheVariants.{NoLvalue}
 use Rattle.sharc_names.specs.declared.scope.Scope.{Scope}
 use Rattle.sharc_names.specs.Needs.{place}
-use Rattle.sharc_ctype.specs.declared.expr.Standing.TheVariants.{AsValue, AsLvalue}
-use Rattle.sharc_ctype.specs.Expressions.{notes_at, notes_of, is_place, place_notes, names_function}
+use Rattle.sharc_ctype.specs.declared.expr.Standing.TheVariants.{AsLvalue}
+use Rattle.sharc_ctype.specs.Expressions.{notes_at, notes_of, is_place, place_notes}
 use Rattle.sharc_ctype.specs.Resolved.{Resolution}
-use Rattle.sharc_resolved.proofs.Held.{Held, left, right, well}
+use Rattle.sharc_resolved.proofs.Held.{Held, well}
 
 no_call : false ≡ true → ⊥
 no_call e = cc

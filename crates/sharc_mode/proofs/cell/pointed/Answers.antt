@@ -1,4 +1,4 @@
-use Rattle.std.proofs.Common.{◌≡◌, ◌<◌, ap, sym, ◌∙◌, arith}
+use Rattle.std.proofs.Common.{◌<◌, ap, sym, ◌∙◌, arith}
 use Rattle.sharc_mode.specs.Cells.{pointed}
 use Rattle.sharc_mode.specs.Rows.{read}
 use Rattle.sharc_mode.specs.View.{view_reading, view_row, view_rows, view_sharing}

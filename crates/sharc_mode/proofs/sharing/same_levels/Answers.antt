@@ -1,5 +1,4 @@
-use Rattle.std.proofs.Common.{sym, ◌∙◌, arith}
-use Rattle.sharc_mode.proofs.SameLemmas.{other_length, none_left, differ_at, agree_at}
+use Rattle.sharc_mode.proofs.SameLemmas.{other_length}
 use Rattle.sharc_mode.proofs.sharing.same_levels.Goals as goal
 
 pub returns-then-a-b : goal.returns-then-a-b
