@@ -1,1 +1,5 @@
+pub mod Explanations
+pub mod FirstCasts
+pub mod Places
 pub mod Refusals
+pub mod Verdicts

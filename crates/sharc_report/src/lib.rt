@@ -1,10 +1,20 @@
 //! The texts that the program writes.
 //!
-//! The layer above uses [`fault_text`]: the line of `refusal_line` of specs/Refusals.antt.
+//! The layer above uses [`fault_text`], the line of `refusal_line` of specs/Refusals.antt; [`check_text`] and [`accepted_text`], the texts of
+//! specs/Verdicts.antt; and [`explain_text`], that of specs/Explanations.antt.
 #![tactic(auto)]
 
+mod accepted;
+mod casts;
+mod explained;
+mod owners;
+mod put;
 mod refusal;
+mod refused;
 #[cfg(test)]
 mod tests;
 
+pub use accepted::accepted_text;
+pub use explained::explain_text;
 pub use refusal::{Stage, fault_text};
+pub use refused::check_text;

@@ -3,7 +3,7 @@
 ghost use Rattle.std.specs.Prelude.{◌≡◌, ◌++◌, [], codes, decimal, unwrap_or, IsSome, IfOk, OnOk, OnErr};
 ghost use Rattle.sharc_report.specs.Refusals.{message_of, lexer_message, parser_message, typing_message, at_offset, unexpected, letter_of, quoted, refusal_line};
 
-use itoa::Buffer;
+use crate::put::{put_number, put_two};
 use sharc_tree::token::FaultAt;
 use std::alloc::{AllocError, Global};
 
@@ -33,13 +33,6 @@ pub fn fault_text(alloc: Global, stage: Stage, at: &FaultAt) -> Result<Vec<u8>, 
     put_message(&mut text, stage, at)?;
     text.extend_from_slice(b"\n")?;
     Ok(text)
-}
-
-fn put_number(text: &mut Vec<u8>, number: u64) -> Result<(), AllocError>
-    ensures { OnOk result (text.new.items ≡ text.old.items ++ decimal number) }
-{
-    let mut buffer = Buffer::new();
-    text.extend_from_slice(buffer.format(number).as_bytes())
 }
 
 fn letter(stage: Stage) -> &'static [u8]
@@ -141,11 +134,4 @@ fn put_typing_message(text: &mut Vec<u8>, at: &FaultAt) -> Result<(), AllocError
         9 => put_two(text, b"limit passed by ", name),
         _ => unreachable!(),
     }
-}
-
-fn put_two(text: &mut Vec<u8>, first: &[u8], second: &[u8]) -> Result<(), AllocError>
-    ensures { OnOk result (text.new.items ≡ text.old.items ++ (first.now ++ second.now)) }
-{
-    text.extend_from_slice(first)?;
-    text.extend_from_slice(second)
 }

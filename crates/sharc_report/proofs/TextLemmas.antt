@@ -1,0 +1,30 @@
+-- Texts that were added piece by piece.
+use Rattle.std.proofs.Common.{◌≡◌, ℕ, ◌+◌, ◌<◌, List, [], ◌∷◌, ◌++◌, length, drop, get_or, ap, sym, subst, ◌∙◌, append_assoc, cond, Result, Ok, Err, OnOk}
+use Rattle.std.specs.Result.{is_ok}
+use Rattle.std.proofs.lemmas.List.{drop_more}
+use Rattle.std.specs.List.{flat_map}
+
+pub three : {T E : Type 0} (answer : Result T E) (old m1 m2 new a b c : List ℕ) → m1 ≡ old ++ a → m2 ≡ m1 ++ b → OnOk answer (new ≡ m2 ++ c) → OnOk answer (new ≡ old ++ (a ++ (b ++ c)))
+three answer old m1 m2 new a b c p q last =
+    let e : m2 ++ c ≡ old ++ (a ++ (b ++ c)) = ap (λ l. l ++ c) (q ∙ ap (λ l. l ++ b) p) ∙ append_assoc (old ++ a) b c ∙ append_assoc old a (b ++ c) in
+    subst (λ l. OnOk answer (new ≡ l)) e last
+
+pub six : {T E : Type 0} (answer : Result T E) (old m1 m2 m3 new a b c d e f : List ℕ) → m1 ≡ old ++ a → m2 ≡ m1 ++ b → m3 ≡ m2 ++ c → OnOk answer (new ≡ m3 ++ ((d ++ e) ++ f)) → OnOk answer (new ≡ old ++ (((((a ++ b) ++ c) ++ d) ++ e) ++ f))
+six answer old m1 m2 m3 new a b c d e f p q r last =
+    let y : List ℕ = (a ++ b) ++ c in
+    let first : m3 ≡ old ++ y = r ∙ ap (λ l. l ++ c) (q ∙ ap (λ l. l ++ b) p ∙ append_assoc old a b) ∙ append_assoc old (a ++ b) c in
+    let all : m3 ++ ((d ++ e) ++ f) ≡ old ++ (((y ++ d) ++ e) ++ f) =
+    ap (λ l. l ++ ((d ++ e) ++ f)) first ∙ append_assoc old y ((d ++ e) ++ f) ∙ ap (λ l. old ++ l) (sym (append_assoc y (d ++ e) f)) ∙ ap (λ l. old ++ (l ++ f)) (sym (append_assoc y d e)) in
+    subst (λ l. OnOk answer (new ≡ l)) all last
+
+-- what a call that extends a text says of its success
+pub taken : {T E : Type 0} (answer : Result T E) (new a b : List ℕ) → new ≡ cond (is_ok answer) a b → OnOk answer (new ≡ a)
+taken (Ok x) new a b h = h
+taken (Err e) new a b h = tt
+
+-- what is made of one element more of a list
+pub one_more : {A : Type 0} (f : A → List ℕ) (items list : List A) (i : ℕ) (x : A) (old new all : List ℕ) → items ≡ list → i < length items → x ≡ get_or items i x → new ≡ old ++ f x → old ++ flat_map f (drop i list) ≡ all → new ++ flat_map f (drop (i + 1) list) ≡ all
+one_more f items list i x old new all are below is added before =
+    let at : drop i items ≡ x ∷ drop (i + 1) items = drop_more items i x below ∙ ap (λ y. y ∷ drop (i + 1) items) (sym is) in
+    let here : drop i list ≡ x ∷ drop (i + 1) list = subst (λ l. drop i l ≡ x ∷ drop (i + 1) l) are at in
+    ap (λ l. l ++ flat_map f (drop (i + 1) list)) added ∙ append_assoc old (f x) (flat_map f (drop (i + 1) list)) ∙ ap (λ l. old ++ flat_map f l) (sym here) ∙ before

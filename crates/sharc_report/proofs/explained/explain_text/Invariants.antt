@@ -1,0 +1,8 @@
+use Rattle.std.proofs.Common.{◌≡◌, ◌++◌, drop}
+use Rattle.std.specs.List.{flat_map}
+use Rattle.sharc_ctype.specs.Entities.{entities_in, numbered}
+use Rattle.sharc_report.specs.Explanations.{explanation}
+use Rattle.sharc_report.proofs.explained.explain_text.Given as goal
+
+abbrev pub invariant-loop-n : goal.invariant-loop-n
+invariant-loop-n l = l.text.items ++ flat_map (explanation l.m) (drop l.n-index (numbered (entities_in l.m.typed.program.items))) ≡ flat_map (explanation l.m) (numbered (entities_in l.m.typed.program.items))

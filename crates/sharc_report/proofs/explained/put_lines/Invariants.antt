@@ -1,0 +1,6 @@
+use Rattle.std.proofs.Common.{◌≡◌, ◌++◌}
+use Rattle.sharc_report.specs.Explanations.{reason_lines}
+use Rattle.sharc_report.proofs.explained.put_lines.Given as goal
+
+abbrev pub invariant-loop-i : goal.invariant-loop-i
+invariant-loop-i l = l.text.items ≡ l.fn.text.items ++ reason_lines l.m l.n l.i

@@ -1,0 +1,171 @@
+// The text of errors of modes.
+
+ghost use Rattle.std.specs.Prelude.{◌≡◌, ◌++◌, codes, Some, IfOk, OnOk};
+ghost use Rattle.std.specs.Option.{option_copied};
+ghost use Rattle.sharc_tree.specs.Texts.{type_text, Appends};
+ghost use Rattle.sharc_report.specs.Places.{tokens_between};
+ghost use Rattle.sharc_report.specs.Verdicts.{without_top, target_text, expected_found, error_message, error_line, suggestion, refusal, check_text};
+
+use crate::casts::{cast_for, first_casts};
+use crate::put::{put_number, put_place, put_three, put_tokens, put_two};
+use sharc_ctype::typed::Typed;
+use sharc_mode::error::{Cast, Casts, ModeError, ModeErrors};
+use sharc_mode::moded::Moded;
+use sharc_tree::ctype::CType;
+use sharc_tree::listed::Listed;
+use sharc_tree::print::print_type;
+use std::alloc::{AllocError, Global};
+
+/// A type without the mode of its top.
+fn without_top(alloc: Global, t: &CType) -> Result<CType, AllocError>
+    ensures { IfOk result (λ c. c ≡ without_top t.now) }
+{
+    let base = t.base.copy(alloc)?;
+    let mut levels = t.levels.copy(alloc)?.into_vec();
+    if !levels.is_empty() {
+        levels[0] = None;
+    }
+    Ok(CType {
+        base,
+        levels: Listed::of(levels),
+    })
+}
+
+fn put_target(alloc: Global, text: &mut Vec<u8>, t: &CType) -> Result<(), AllocError>
+    ensures { Appends result (target_text t.now) text.old.items text.new.items }
+{
+    let shown = without_top(alloc, t)?;
+    let target = print_type(alloc, &shown)?;
+    text.extend_from_slice(&target)
+}
+
+fn put_expected(
+    alloc: Global,
+    text: &mut Vec<u8>,
+    before: &[u8],
+    e: &ModeError,
+) -> Result<(), AllocError>
+    ensures { Appends result (before.now ++ expected_found e.now) text.old.items text.new.items }
+{
+    put_two(text, before, b"expected ")?;
+    put_target(alloc, text, &e.expected)?;
+    text.extend_from_slice(b", found ")?;
+    put_target(alloc, text, &e.found)
+}
+
+fn put_type(alloc: Global, text: &mut Vec<u8>, t: &CType, behind: &[u8]) -> Result<(), AllocError>
+    ensures { Appends result (type_text t.now ++ behind.now) text.old.items text.new.items }
+{
+    let whole = print_type(alloc, t)?;
+    put_two(text, &whole, behind)
+}
+
+fn put_subject(text: &mut Vec<u8>, before: &[u8], e: &ModeError) -> Result<(), AllocError>
+    ensures { Appends result (before.now ++ e.now.subject) text.old.items text.new.items }
+{
+    put_two(text, before, e.subject.as_slice())
+}
+
+fn put_between(
+    text: &mut Vec<u8>,
+    before: &[u8],
+    e: &ModeError,
+    behind: &[u8],
+) -> Result<(), AllocError>
+    ensures { Appends result (before.now ++ e.now.subject ++ behind.now) text.old.items text.new.items }
+{
+    put_three(text, before, e.subject.as_slice(), behind)
+}
+
+fn put_message(alloc: Global, text: &mut Vec<u8>, e: &ModeError) -> Result<(), AllocError>
+    ensures { Appends result (error_message e.now) text.old.items text.new.items }
+{
+    match e.code {
+        1 => put_expected(alloc, text, b"mode mismatch: ", e),
+        2 => put_subject(text, b"write to readonly ", e),
+        3 => put_type(alloc, text, &e.expected, b" holds a private target"),
+        4 => put_between(text, b"lock path ", e, b" is not constant"),
+        5 => put_between(text, b"mode ", e, b" not allowed"),
+        6 => put_subject(text, b"private in field ", e),
+        7 => put_subject(text, b"private data reaches a thread: ", e),
+        8 => put_expected(alloc, text, b"cast changes an inner mode: ", e),
+        9 => put_subject(text, b"readonly source ", e),
+        10 => put_between(text, b"", e, b" is named by a lock path"),
+        11 => put_between(text, b"target of ", e, b" needs a constant base"),
+        _ => Ok(()),
+    }
+}
+
+fn put_error(alloc: Global, text: &mut Vec<u8>, t: &Typed, e: &ModeError) -> Result<(), AllocError>
+    ensures { Appends result (error_line t.now e.now) text.old.items text.new.items }
+{
+    put_place(text, t, e.site.file, e.site.line)?;
+    text.extend_from_slice(b": M")?;
+    put_number(text, u64::from(e.code))?;
+    text.extend_from_slice(b" ")?;
+    put_message(alloc, text, e)?;
+    text.extend_from_slice(b"\n")
+}
+
+fn put_lvalue(alloc: Global, text: &mut Vec<u8>, t: &Typed, c: &Cast) -> Result<(), AllocError>
+    ensures { Appends result (codes ", " ++ tokens_between t.now c.now.from c.now.until ++ codes ")\n") text.old.items text.new.items }
+{
+    text.extend_from_slice(b", ")?;
+    put_tokens(alloc, text, t, c.from, c.until)?;
+    text.extend_from_slice(b")\n")
+}
+
+fn put_cast(alloc: Global, text: &mut Vec<u8>, t: &Typed, c: &Cast) -> Result<(), AllocError>
+    ensures { Appends result (suggestion t.now (Some c.now)) text.old.items text.new.items }
+{
+    put_place(text, t, c.site.file, c.site.line)?;
+    text.extend_from_slice(b": suggest SCAST(")?;
+    put_target(alloc, text, &c.to)?;
+    put_lvalue(alloc, text, t, c)
+}
+
+fn put_suggestion(
+    alloc: Global,
+    text: &mut Vec<u8>,
+    t: &Typed,
+    c: Option<&Cast>,
+) -> Result<(), AllocError>
+    ensures { Appends result (suggestion t.now (option_copied c.entry)) text.old.items text.new.items }
+{
+    match c {
+        None => Ok(()),
+        Some(c) => put_cast(alloc, text, t, c),
+    }
+}
+
+fn put_refusal(
+    alloc: Global,
+    text: &mut Vec<u8>,
+    t: &Typed,
+    e: &ModeError,
+    c: Option<&Cast>,
+) -> Result<(), AllocError>
+    ensures { Appends result (error_line t.now e.now ++ suggestion t.now (option_copied c.entry)) text.old.items text.new.items }
+{
+    put_error(alloc, text, t, e)?;
+    put_suggestion(alloc, text, t, c)
+}
+
+/// The errors of a program's modes, a line each, `file:line: code message`, and behind an M1 the cast that would repair it, where one is handed in:
+/// that at its place. Codes past 11 have no message.
+pub fn check_text(
+    alloc: Global,
+    m: &Moded,
+    errors: &ModeErrors,
+    casts: &Casts,
+) -> Result<Vec<u8>, AllocError>
+    ensures { IfOk result (λ text. text.items ≡ check_text m.now.typed errors.now casts.now) }
+{
+    let first = first_casts(alloc, casts)?;
+    let mut text = Vec::new(alloc);
+    for error in errors.as_slice() {
+        let cast = cast_for(casts, &first, error);
+        put_refusal(alloc, &mut text, m.typed(), error, cast)?;
+    }
+    Ok(text)
+}
