@@ -1,5 +1,6 @@
 pub mod CallLemmas
 pub mod LevelLemmas
+pub mod NamedLemmas
 pub mod OnceLemmas
 pub mod OnlyLemmas
 pub mod OrderLemmas

@@ -56,7 +56,7 @@ flag_is flags (Names y ∷ rest) n x all =
 none_at_first : (n x : ℕ) → get_or (replicate n false) x false ≡ false
 none_at_first n x = grind (arith, get_or-replicate, common_steps)
 
-marks_are : (notes : List Note) (x : ℕ) → slice_index_or (marks notes) x false ≡ is_named x notes
+pub marks_are : (notes : List Note) (x : ℕ) → slice_index_or (marks notes) x false ≡ is_named x notes
 marks_are notes x =
     let size = length-replicate (past_all notes) false in
     flag_is (replicate (past_all notes) false) notes 0 x (omega (arith, size))

@@ -1,6 +1,7 @@
 pub mod Checks
 pub mod Laws
 pub mod Levels
+pub mod Named
 pub mod Orders
 pub mod Passed
 pub mod Settles

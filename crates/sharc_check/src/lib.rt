@@ -6,9 +6,10 @@
 mod answer;
 mod expr;
 pub mod laws;
+pub mod named;
 mod order;
-mod passing;
-mod say;
+pub mod passing;
+pub mod say;
 mod settle;
 mod spawned;
 mod statement;

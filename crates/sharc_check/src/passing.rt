@@ -14,20 +14,20 @@ use sharc_tree::tree::{Declaration, Expr};
 
 /// The arguments of a call, or the one of a spawn.
 #[derive(Clone, Copy)]
-pub(crate) enum Passed<'a> {
+pub enum Passed<'a> {
     All(&'a [Expr]),
     One(&'a Expr),
 }
 
 /// The parameters of what is called or spawned, and what is passed.
 #[derive(Clone, Copy)]
-pub(crate) struct Passing<'a> {
-    pub(crate) parameters: &'a [Declaration],
-    pub(crate) passed: Passed<'a>,
+pub struct Passing<'a> {
+    pub parameters: &'a [Declaration],
+    pub passed: Passed<'a>,
 }
 
 /// The parameters of what a name names.
-pub(crate) fn parameters_named(t: &Typed, named: Named) -> &[Declaration]
+pub fn parameters_named(t: &Typed, named: Named) -> &[Declaration]
     ensures { result.now ≡ parameters_named t.now named }
 {
     match named {
@@ -45,7 +45,7 @@ pub(crate) fn parameters_named(t: &Typed, named: Named) -> &[Declaration]
 
 impl<'a> Passing<'a> {
     /// How the lock paths of the parameters' types are read there.
-    pub(crate) fn reading(self) -> Reading<'a>
+    pub fn reading(self) -> Reading<'a>
         ensures { view_reading result ≡ at_call self.entry.parameters.now (view_passed self.entry.passed) }
     {
         match self.passed {

@@ -420,11 +420,7 @@ pub(crate) fn call(
 }
 
 /// What the first of the parameters that are left expects.
-pub(crate) fn expected<'a>(
-    m: &'a Moded,
-    passing: Passing<'a>,
-    left: &[Declaration],
-) -> Option<Row<'a>>
+pub fn expected<'a>(m: &'a Moded, passing: Passing<'a>, left: &[Declaration]) -> Option<Row<'a>>
     ensures row { option_map (modes_of m.now) (view_rows result) ≡ expected m.now passing.entry.parameters.now (view_passed passing.entry.passed) left.now }
     ensures within { EndsWithin m.now.typed result }
 {

@@ -53,7 +53,7 @@ fn mark(flags: &mut Vec<bool>, note: &Note)
 }
 
 /// Which variables paths name, by the token that declares them.
-fn marks(alloc: Global, notes: &[Note]) -> Result<Vec<bool>, AllocError>
+pub(crate) fn marks(alloc: Global, notes: &[Note]) -> Result<Vec<bool>, AllocError>
     ensures { IfOk result (λ flags. flags.items ≡ marks notes.now) }
 {
     let mut flags = vec![in alloc; false; past_all(notes)]?;

@@ -1,0 +1,5 @@
+pub mod CallLemmas
+pub mod FirstLemmas
+pub mod LawLemmas
+pub mod RowLemmas
+pub mod ScopeLemmas

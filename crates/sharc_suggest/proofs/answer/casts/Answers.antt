@@ -1,0 +1,16 @@
+use Rattle.std.proofs.Common.{ap, ◌∙◌}
+use Rattle.sharc_tree.specs.View.{view_items}
+use Rattle.sharc_suggest.specs.Repairs.{told}
+use Rattle.sharc_suggest.proofs.CallLemmas.{casts_are}
+use Rattle.sharc_suggest.proofs.answer.casts.Goals as goal
+
+pub returns : goal.returns
+returns c =
+    let flags = c.in_ok-named.named.items in
+    record {
+      named = told flags;
+      tells = c.in_ok-named.ensures;
+      are = casts_are c.args.m.now flags c.as_slice.result.now c.new-casts.result.items c.items.new.casts.items (view_items c.as_slice-2.result.now) c.new-casts.ensures.items c.as_slice.ensures.value
+          (ap view_items c.as_slice-2.ensures ∙ ap (λ p. p.items) c.program.ensures.program ∙ ap (λ r. r.program.items) c.typed.ensures)
+          c.in_ok-items.ensures;
+    }

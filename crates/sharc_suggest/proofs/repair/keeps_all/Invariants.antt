@@ -1,0 +1,15 @@
+use Rattle.std.proofs.Common.{◌≡◌, ◌+◌, ◌≤◌}
+use Rattle.sharc_mode.specs.Moded.{position_count}
+use Rattle.sharc_mode.specs.Rows.{modes_of}
+use Rattle.sharc_mode.specs.View.{view_row}
+use Rattle.sharc_suggest.specs.Repairs.{keeps_all}
+use Rattle.sharc_suggest.proofs.repair.keeps_all.Given as goal
+
+abbrev pub invariant-loop-left : goal.invariant-loop-left
+invariant-loop-left l = record {
+  ends : l.left.first + l.left.count ≤ position_count l.m.typed;
+  kept : keeps_all l.m.typed l.scope (modes_of l.m (view_row l.left)) ≡ keeps_all l.m.typed l.scope (modes_of l.m (view_row l.fn.row));
+}
+
+abbrev pub decreases-loop-left : goal.decreases-loop-left
+decreases-loop-left l = l.left.count

@@ -1,0 +1,8 @@
+use Rattle.std.proofs.Common.{◌≡◌, ◌++◌, drop}
+use Rattle.sharc_tree.specs.View.{view_items}
+use Rattle.sharc_suggest.specs.Casts.{items_casts}
+use Rattle.sharc_suggest.specs.Repairs.{told}
+use Rattle.sharc_suggest.proofs.statement.items.Given as goal
+
+abbrev pub invariant-loop-one : goal.invariant-loop-one
+invariant-loop-one l = l.casts.items ++ items_casts l.k.moded.now (told l.k.named.now) (view_items (drop l.one-index l.items)) ≡ l.fn.casts.items ++ items_casts l.k.moded.now (told l.k.named.now) (view_items l.items)

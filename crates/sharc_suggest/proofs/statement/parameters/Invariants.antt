@@ -1,0 +1,6 @@
+use Rattle.std.proofs.Common.{◌≡◌, drop}
+use Rattle.sharc_suggest.specs.Casts.{with_parameters}
+use Rattle.sharc_suggest.proofs.statement.parameters.Given as goal
+
+abbrev pub invariant-loop-parameter : goal.invariant-loop-parameter
+invariant-loop-parameter l = with_parameters l.scope (drop l.parameter-index l.list) ≡ with_parameters l.fn.scope l.list

@@ -1,0 +1,4 @@
+pub mod Casts
+pub mod Firsts
+pub mod Laws
+pub mod Repairs

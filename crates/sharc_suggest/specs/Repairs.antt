@@ -1,0 +1,73 @@
+-- Which mismatch of modes a sharing cast repairs, where an expression stands beside the modes that are expected of it.
+use Rattle.std.specs.Prelude.{ℕ, Bool, true, false, not, ◌&&◌, List, [], ◌∷◌, drop, slice_index_or, Option, Some, None, if◌then◌else◌}
+use Rattle.sharc_tree.specs.Forms.{without_parentheses, is_lvalue}
+use Rattle.sharc_tree.specs.Spans.{span_of}
+use Rattle.sharc_tree.specs.Tree.{Expression}
+use Rattle.sharc_tree.specs.declared.tree.declaration.Declaration.{Declaration}
+use Rattle.sharc_names.specs.Names.{Entry, variable, look_up, named_of}
+use Rattle.sharc_names.specs.declared.fault.Named.{Named}
+use Rattle.sharc_names.specs.declared.fault.Named.TheVariants as named
+use Rattle.sharc_ctype.specs.Resolved.{Resolution, named_at, kind_at}
+use Rattle.sharc_mode.specs.declared.error.Cast.{Cast}
+use Rattle.sharc_mode.specs.Cells.{cell_at}
+use Rattle.sharc_mode.specs.Moded.{Assignment}
+use Rattle.sharc_mode.specs.Notes.{shown, base_of, taken_variable}
+use Rattle.sharc_mode.specs.Rows.{modes_at}
+use Rattle.sharc_mode.specs.Sharings.{Sharing, private, readonly, locked, racy, dynamic, same_all, same_named, is_readonly, text_at}
+
+-- ---- the two types differ only in the mode at depth 1
+abbrev pub differ_first : Resolution → List Sharing → List Sharing → Bool
+differ_first r expected found = not (same_all r expected found) && same_all r (drop 1 expected) (drop 1 found)
+
+-- ---- a cast of the expression: it is an lvalue, no cell of mode readonly (M9), and no variable that a lock path names (M10)
+
+abbrev pub is_free : (ℕ → Bool) → Option ℕ → Bool
+is_free named None = true
+is_free named (Some x) = not (named x)
+
+abbrev pub may_be_cast : Assignment → (ℕ → Bool) → Expression → Bool
+may_be_cast m named e = is_lvalue e && (not (is_readonly (cell_at m e)) && is_free named (taken_variable m.typed (without_parentheses e)))
+
+-- a test by flags, one for each token below their number
+abbrev pub told : List Bool → ℕ → Bool
+told flags x = slice_index_or flags x false
+
+-- ---- the lock paths of a type name the same things when they are written where these variables are in scope, the last declared first
+
+abbrev pub entry_of : Declaration → Entry
+entry_of d = record { name = d.name.text; block = 0; meaning = variable d }
+
+-- a variable is the one that its name means there; a global is hidden by no variable; a field is no name outside of its struct
+abbrev pub keeps_named : Named → Option Entry → Bool
+keeps_named (named.Variable x) (Some e) = same_named (named.Variable x) (named_of e.meaning)
+keeps_named (named.Global g) None = true
+keeps_named _ _ = false
+
+-- the second name of `x->m` is a field of the struct that `x` points to, wherever it stands
+abbrev pub keeps : Resolution → List Entry → Sharing → Bool
+keeps r scope private = true
+keeps r scope readonly = true
+keeps r scope (locked l) = keeps_named (named_at r l.first) (look_up scope (text_at r l.first))
+keeps r scope racy = true
+keeps r scope dynamic = true
+
+abbrev pub keeps_all : Resolution → List Entry → List Sharing → Bool
+keeps_all r scope [] = true
+keeps_all r scope (s ∷ below) = keeps r scope s && keeps_all r scope below
+
+-- ---- the cast that is suggested, if one is: around the expression, to the type that is expected
+
+abbrev pub cast_to : Assignment → Expression → List Sharing → Cast
+cast_to m e expected = record { site = (span_of e).first; to = shown m.typed (base_of (kind_at m.typed e)) expected; from = (span_of e).first.token; until = (span_of e).last.token }
+
+abbrev pub is_repairable : Assignment → (ℕ → Bool) → List Entry → Expression → List Sharing → List Sharing → Bool
+is_repairable m named scope e expected found = differ_first m.typed expected found && (may_be_cast m named e && keeps_all m.typed scope expected)
+
+abbrev pub repair_with : Assignment → (ℕ → Bool) → List Entry → Expression → Option (List Sharing) → Option (List Sharing) → List Cast
+repair_with m named scope e None found = []
+repair_with m named scope e (Some expected) None = []
+repair_with m named scope e (Some expected) (Some found) = if is_repairable m named scope e expected found then cast_to m e expected ∷ [] else []
+
+-- by a test of which variables lock paths name
+abbrev pub repair : Assignment → (ℕ → Bool) → List Entry → Option (List Sharing) → Expression → List Cast
+repair m named scope want e = repair_with m named scope e want (modes_at m e)
