@@ -1,4 +1,4 @@
-use Rattle.std.proofs.Common.{◌≡◌, ap, refl, sym, ◌∙◌, length, arith, Some, None}
+use Rattle.std.proofs.Common.{◌≡◌, ap, refl, sym, ◌∙◌, length, Some, None}
 use Rattle.std.proofs.lemmas.Option.{slice_get_read}
 use Rattle.std.specs.List.{position_from}
 use Rattle.std.specs.Option.{option_copied}
