@@ -5,6 +5,8 @@
 #![tactic(auto)]
 
 #[cfg(test)]
+mod explanations;
+#[cfg(test)]
 mod expressions;
 #[cfg(test)]
 mod faults;
@@ -12,6 +14,8 @@ mod faults;
 mod items;
 #[cfg(test)]
 mod limits;
+#[cfg(test)]
+mod moded;
 #[cfg(test)]
 mod nodes;
 #[cfg(test)]
@@ -44,3 +48,5 @@ mod typing_scopes;
 mod typing_sizes;
 #[cfg(test)]
 mod typing_values;
+#[cfg(test)]
+mod verdicts;
