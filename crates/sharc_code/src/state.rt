@@ -25,7 +25,7 @@ pub struct At {
     pub pc: usize,
     pub ints: u32,
     pub refs: u32,
-    pub depth: usize,
+    pub depth: u32,
     pub state: State,
 }
 

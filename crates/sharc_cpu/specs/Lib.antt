@@ -1,4 +1,5 @@
 pub mod Quantum
+pub mod Rare
 pub mod Shifts
 pub mod Thread
 pub mod View

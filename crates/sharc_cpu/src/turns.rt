@@ -88,7 +88,8 @@ pub(crate) fn rests(at: At, parts: &mut Parts) -> At
 fn has_room(at: At, parts: &Parts, ints: u32, refs: u32) -> bool
     ensures { result ≡ has_room (machine_of at parts.now) ints refs }
 {
-    at.depth < parts.frames.len()
+    (at.depth as usize) < parts.frames.len()
+        && at.depth < u32::MAX
         && (at.ints as usize + ints as usize) < 4294967296
         && (at.refs as usize + refs as usize) < 4294967296
 }
@@ -101,7 +102,7 @@ pub(crate) fn called(at: At, parts: &mut Parts, pc: u32, ints: u32, refs: u32, s
 {
     if has_room(at, parts, ints, refs) {
         parts.set_frame(
-            at.depth,
+            at.depth as usize,
             Frame {
                 pc: at.pc + 1,
                 ints: at.ints,
@@ -139,7 +140,7 @@ pub(crate) fn returned(code: &Code, at: At, parts: &mut Parts, site: u32) -> At
         return trapped(at, parts, 11, site);
     }
     let depth = at.depth - 1;
-    let frame = parts.frame(depth);
+    let frame = parts.frame(depth as usize);
     At {
         pc: frame.pc,
         ints: frame.ints,
