@@ -5,8 +5,6 @@
 #![tactic(auto)]
 
 #[cfg(test)]
-mod explanations;
-#[cfg(test)]
 mod expressions;
 #[cfg(test)]
 mod faults;
@@ -14,8 +12,6 @@ mod faults;
 mod items;
 #[cfg(test)]
 mod limits;
-#[cfg(test)]
-mod moded;
 #[cfg(test)]
 mod nodes;
 #[cfg(test)]
@@ -48,5 +44,3 @@ mod typing_scopes;
 mod typing_sizes;
 #[cfg(test)]
 mod typing_values;
-#[cfg(test)]
-mod verdicts;
