@@ -17,7 +17,7 @@ module _ (f : Flow) where
   last_more p [] q = refl
   last_more p (x ∷ rest) q = last_more x rest q
 
-  path_more : (first : ℕ) (rest : List ℕ) (p q : ℕ) → LeadsTo f first rest p → HasEdge f p q → IsUnwritten f q → LeadsTo f first (rest ++ q ∷ []) q
+  pub path_more : (first : ℕ) (rest : List ℕ) (p q : ℕ) → LeadsTo f first rest p → HasEdge f p q → IsUnwritten f q → LeadsTo f first (rest ++ q ∷ []) q
   path_more first [] p q path edge unwritten =
       let here = subst (λ x. HasEdge f x q) (sym path.ends) edge in
       record { begins = inl (path.begins, here); follow = (here, unwritten, tt); ends = refl }
@@ -28,7 +28,7 @@ module _ (f : Flow) where
         ends = last_more first (x ∷ rest) q;
       }
 
-  edge_of_first : (p q : ℕ) → IsFirstFor f p q → HasEdge f p q
+  pub edge_of_first : (p q : ℕ) → IsFirstFor f p q → HasEdge f p q
   edge_of_first p q (inl has) = has.1
   edge_of_first p q (inr has) = inl has.1
 

@@ -9,9 +9,11 @@ pub mod laws;
 mod least;
 mod make;
 mod place;
+mod rounds;
 #[cfg(test)]
 mod tests;
 
 pub use least::least_assignment;
 pub use make::{lead_down, make_equal};
 pub use place::{Link, Place};
+pub use rounds::least_by_rounds;

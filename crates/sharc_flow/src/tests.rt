@@ -1,4 +1,4 @@
-//! Two kinds of sources, and a chain of equal positions.
+//! Two kinds of sources, and random positions and links beside a plain program.
 
 ghost use Rattle.std.specs.Prelude.{IsTrue};
 ghost use Rattle.std.specs.List.{All};
@@ -6,6 +6,7 @@ ghost use Rattle.sharc_graph.specs.Paths.{IsWithin};
 
 use super::*;
 use sharc_graph::{Edge, Finding};
+use std::alloc::{AllocError, Global};
 use std::process::Abort;
 use std::test::Fail;
 
@@ -69,5 +70,84 @@ fn kinds_of_sources(rt: HostRuntime) -> Result<(), Fail> {
         behind(1, 7),
     ]?;
     assert!(rt; findings == want);
+    Ok(())
+}
+
+// The next of some numbers that look random, below this one.
+fn random(state: &mut u64, below: u32) -> u32 {
+    *state = state
+        .wrapping_mul(6364136223846793005)
+        .wrapping_add(1442695040888963407);
+    ((*state >> 33) % u64::from(below.max(1))) as u32
+}
+
+fn random_place(state: &mut u64) -> Place {
+    match random(state, 12) {
+        0 => Place::Root,
+        1 => Place::Dynamic,
+        2 => Place::Private,
+        3 => Place::Other,
+        _ => Place::Unwritten,
+    }
+}
+
+fn random_places(alloc: Global, state: &mut u64, count: u32) -> Result<Vec<Place>, AllocError> {
+    let mut places = Vec::new(alloc);
+    for _ in 0..count {
+        places.push(random_place(state))?;
+    }
+    Ok(places)
+}
+
+// Links in one direction, in both, and to the position below.
+fn random_links(alloc: Global, state: &mut u64, count: u32) -> Result<Vec<Link>, AllocError> {
+    let mut links = Vec::new(alloc);
+    for _ in 0..random(state, 25) {
+        let from = random(state, count);
+        let to = random(state, count);
+        match random(state, 3) {
+            0 => links.push(link(from, to, false))?,
+            1 => make_equal(&mut links, from % 16, to % 16, 1)?,
+            _ => lead_down(
+                &mut links,
+                from % 16,
+                u32::from(from.saturating_add(1) < count),
+            )?,
+        }
+    }
+    Ok(links)
+}
+
+// Whether both found the same of the positions without a written mode.
+fn agree(places: &[Place], fast: &[Finding], plain: &[Finding]) -> bool {
+    let unwritten = |place: &Place| matches!(place, Place::Root | Place::Unwritten);
+    fast.len() == places.len()
+        && plain.len() == places.len()
+        && places.iter().zip(fast.iter().zip(plain)).all(|(place, (fast, plain))| !unwritten(place)
+            || fast == plain)
+}
+
+fn behind_count(findings: &[Finding]) -> usize {
+    findings
+        .iter()
+        .filter(|finding| matches!(finding, Finding::Behind { rank, .. } if *rank > 2))
+        .count()
+}
+
+#[test]
+fn as_by_rounds(rt: HostRuntime) -> Result<(), Fail> {
+    let mut state = 11;
+    let mut far = 0_usize;
+    for turn in 0..600 {
+        let count = random(&mut state, 12).saturating_add(1);
+        let places = random_places(rt.alloc(), &mut state, count)?;
+        let links = random_links(rt.alloc(), &mut state, count)?;
+        assert!(rt; places.len() < 100 && links.len() < 100 && are_within(places.len(), &links));
+        let fast = least_assignment(rt.alloc(), &places, &links)?;
+        let plain = least_by_rounds(rt.alloc(), &places, &links)?;
+        assert!(rt; agree(&places, &fast, &plain), "at {turn}");
+        far = far.saturating_add(behind_count(&plain));
+    }
+    assert!(rt; far > 100, "only {far} positions of a rank above 2");
     Ok(())
 }
