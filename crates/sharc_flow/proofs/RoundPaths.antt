@@ -7,9 +7,9 @@ use Rattle.sharc_graph.specs.Paths.{last_of}
 use Rattle.sharc_flow.specs.declared.place.Place.{Place}
 use Rattle.sharc_flow.specs.declared.place.Place.TheVariants.{Root, Unwritten, Dynamic, Private, Other}
 use Rattle.sharc_flow.specs.declared.place.Link.{Link}
-use Rattle.sharc_flow.specs.Flow.{Flow, place_at, link_of, is_unwritten, is_source, IsUnwritten, IsSource, IsOther, LeadsDown, HasEdge, IsFirstFor, Follow, LeadsTo, IsRank, IsRankFor, IsReason}
-use Rattle.sharc_flow.specs.Rounds.{Ranks, rank_at, link_at, rank_by, rank_for, IsBehind, IsFound, HasRank, IsServed, AreFinal, IsLowest, IsSome}
-use Rattle.sharc_flow.proofs.Closed.{path_more, edge_of_first}
+use Rattle.sharc_flow.specs.Flow.{Flow, place_at, link_of, is_unwritten, is_source, IsUnwritten, IsSource, LeadsDown, HasEdge, IsFirstFor, Follow, LeadsTo, IsRank, IsRankFor, IsReason}
+use Rattle.sharc_flow.specs.Rounds.{Ranks, rank_at, link_at, rank_by, rank_for, IsFound, HasRank, IsServed, AreFinal, IsLowest, IsSome}
+use Rattle.sharc_flow.proofs.Closed.{path_more}
 use Rattle.sharc_flow.proofs.SamePaths.{end_unwritten}
 use Rattle.sharc_flow.proofs.RoundSteps.{none_some, same_rank}
 

@@ -1,16 +1,14 @@
 -- What following a link, a round and all rounds make of the ranks.
-use Rattle.std.proofs.Common.{◌≡◌, ℕ, zero, suc, ◌+◌, ◌<◌, ◌≤◌, ◌⊎◌, min, Bool, true, false, cond, ◌&&◌, List, [], ◌∷◌, length, get_or, map, Option, Some, None, refl, sym, ap, ◌∙◌, subst, inl, inr, arith}
-use Rattle.std.specs.Prelude.{nat_eq, count_by, slice_set}
-use Rattle.std.specs.List.{All}
+use Rattle.std.proofs.Common.{◌≡◌, ℕ, zero, suc, ◌+◌, ◌<◌, ◌≤◌, ◌⊎◌, min, Bool, true, false, cond, ◌&&◌, List, [], ◌∷◌, length, map, Option, Some, None, refl, sym, ap, ◌∙◌, subst, inl, inr, arith}
+use Rattle.std.specs.Prelude.{nat_eq, slice_set}
 use Rattle.std.proofs.lemmas.Bool.{cases_eq, cases_lt, cases_Bool, and_parts, and_cases, eq-eqb, eqb-true, false≢true}
 use Rattle.std.proofs.lemmas.List.{length-set, get_or-set_same, get_or-set_other, length-map}
 use Rattle.std.proofs.lemmas.List.Sums.{sum_by-set, count_by-le-length}
-use Rattle.sharc_graph.specs.Paths.{IsWithin}
 use Rattle.sharc_flow.specs.declared.place.Place.{Place}
 use Rattle.sharc_flow.specs.declared.place.Place.TheVariants.{Root, Unwritten, Dynamic, Private, Other}
 use Rattle.sharc_flow.specs.declared.place.Link.{Link}
-use Rattle.sharc_flow.specs.Flow.{Flow, flow_of, place_at, link_of, is_unwritten}
-use Rattle.sharc_flow.specs.Rounds.{Ranks, rank_at, link_at, first_rank, rank_by, rank_for, is_none, is_rank, is_next, ranks_behind, IsBehind, IsFound, HasRank, IsServed, AreRanks, AreUpTo, unranked, AreFinal, IsLowest, IsSome}
+use Rattle.sharc_flow.specs.Flow.{Flow, flow_of, place_at, is_unwritten}
+use Rattle.sharc_flow.specs.Rounds.{Ranks, rank_at, link_at, first_rank, rank_by, rank_for, is_none, is_rank, is_next, ranks_behind, IsFound, IsServed, AreRanks, AreUpTo, unranked, AreFinal, IsLowest, IsSome}
 
 -- ---- tests
 three_true : (a b c : Bool) → (a && (b && c)) ≡ true → (a ≡ true) × (b ≡ true) × (c ≡ true)

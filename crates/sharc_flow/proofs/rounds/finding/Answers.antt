@@ -1,6 +1,6 @@
 use Rattle.std.proofs.Common.{◌≡◌, ℕ, suc, ◌-◌, ◌<◌, false, length, Some, sym, ap, ◌∙◌, subst, arith}
-use Rattle.sharc_flow.specs.Flow.{flow_of, link_of, IsRank, IsReason}
-use Rattle.sharc_flow.specs.Rounds.{link_at, rank_at}
+use Rattle.sharc_flow.specs.Flow.{flow_of, link_of, IsReason}
+use Rattle.sharc_flow.specs.Rounds.{link_at}
 use Rattle.sharc_flow.proofs.RoundPaths.{none_leads, source_of, is_rank_of, reason_of}
 use Rattle.sharc_flow.proofs.rounds.finding.Goals as goal
 

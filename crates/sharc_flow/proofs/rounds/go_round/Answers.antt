@@ -1,5 +1,5 @@
-use Rattle.std.proofs.Common.{◌≡◌, ◌<◌, true, false, length, ap, sym, ◌∙◌, subst, arith}
-use Rattle.std.proofs.lemmas.Bool.{cases_Bool, false≢true}
+use Rattle.std.proofs.Common.{◌<◌, false, length, sym, ◌∙◌, subst}
+use Rattle.std.proofs.lemmas.Bool.{false≢true}
 use Rattle.sharc_flow.specs.Flow.{flow_of, link_of}
 use Rattle.sharc_flow.specs.Rounds.{unranked}
 use Rattle.sharc_flow.proofs.RoundSteps.{stepped, fewer_still}

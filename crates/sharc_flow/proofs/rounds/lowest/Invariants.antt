@@ -1,5 +1,4 @@
 use Rattle.sharc_flow.specs.Flow.{flow_of}
-use Rattle.std.proofs.Common.{◌-◌, ◌^◌}
 use Rattle.sharc_flow.specs.Rounds.{IsLowest, IsSome}
 use Rattle.sharc_flow.proofs.rounds.lowest.Given as goal
 
