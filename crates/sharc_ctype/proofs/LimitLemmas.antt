@@ -11,7 +11,7 @@ use Rattle.sharc_names.specs.declared.fault.Fault.{Fault}
 use Rattle.sharc_names.specs.declared.fault.FaultCode.TheVariants.{LimitPassed}
 use Rattle.sharc_names.specs.declared.types.Role.TheVariants as role
 use Rattle.sharc_names.specs.declared.scope.Scope.{Scope}
-use Rattle.sharc_names.specs.Notes.{Note, fault, refers, faults, fault_unless}
+use Rattle.sharc_names.specs.Notes.{Note, fault, refers, yields, faults, fault_unless}
 use Rattle.sharc_names.specs.Types.{type_notes}
 use Rattle.sharc_ctype.specs.Globals.{sizes_notes, global_notes}
 use Rattle.sharc_ctype.specs.Heads.{twice, within, heads_notes, no_heads}
@@ -22,6 +22,7 @@ pub faults_append : (a b : List Note) → faults (a ++ b) ≡ faults a ++ faults
 faults_append [] b = refl
 faults_append (fault place code ∷ rest) b = ap (λ l. record { place = place; code = code } ∷ l) (faults_append rest b)
 faults_append (refers token what ∷ rest) b = faults_append rest b
+faults_append (yields token what ∷ rest) b = faults_append rest b
 
 none_first : (a b : List Fault) → a ++ b ≡ [] → a ≡ []
 none_first [] b e = refl

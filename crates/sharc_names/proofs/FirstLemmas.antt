@@ -3,12 +3,13 @@ use Rattle.std.proofs.Common.{◌≡◌, ◌⊎◌, inl, inr, ℕ, ◌==◌, nat
 use Rattle.std.proofs.lemmas.Bool.Decides.{nat_tests}
 use Rattle.std.specs.List.{AllByRecursion}
 use Rattle.sharc_names.specs.declared.fault.Fault.{Fault}
-use Rattle.sharc_names.specs.Notes.{Note, fault, refers, Findings, digit, is_before, first_of, noted, faults, IsAmong, IsAnswer}
+use Rattle.sharc_names.specs.Notes.{Note, fault, refers, yields, Findings, digit, is_before, first_of, noted, faults, IsAmong, IsAnswer}
 
 pub first_of_notes : (f : Findings) (list : List Note) → (fold noted f list).first ≡ fold first_of f.first (faults list)
 first_of_notes f [] = refl
 first_of_notes f (fault place code ∷ rest) = first_of_notes (noted f (fault place code)) rest
 first_of_notes f (refers token what ∷ rest) = first_of_notes (noted f (refers token what)) rest
+first_of_notes f (yields token what ∷ rest) = first_of_notes (noted f (yields token what)) rest
 
 abbrev earlier : ℕ → ℕ → ℕ → ℕ → Bool
 earlier p a q b = nat_lt p q || (p == q && nat_lt a b)

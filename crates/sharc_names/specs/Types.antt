@@ -15,7 +15,7 @@ use Rattle.sharc_names.specs.declared.fault.Named.TheVariants as named
 use Rattle.sharc_names.specs.declared.scope.Scope.{Scope}
 use Rattle.sharc_names.specs.Kinds.{Kind, object, declared_kind, stars_of, is_struct_behind}
 use Rattle.sharc_names.specs.Names.{Entry, Meaning, look_up, StructTable, StructMeaning, struct_of, fields_of, field_of, named_struct, kind_of, named_of, is_main}
-use Rattle.sharc_names.specs.Notes.{Note, fault, refers, fault_unless, fault_where}
+use Rattle.sharc_names.specs.Notes.{Note, fault, refers, yields, fault_unless, fault_where}
 
 -- A use of a name (6.5.1p2). A use of the function `main` has no type.
 
@@ -70,11 +70,17 @@ abbrev pub second_in : StructTable → List ℕ → Option Kind → Option (Opti
 second_in structs name None = None
 second_in structs name (Some k) = second_among structs name k
 
--- the second name stands two tokens behind the first
+-- a second name yields to the name that stands at its token
+abbrev pub second_notes : ℕ → Option (Option Declaration) → List Note
+second_notes token None = []
+second_notes token (Some None) = fault token UnknownName ∷ []
+second_notes token (Some (Some d)) = yields token (named.Field d.name.site.token) ∷ []
+
+-- it stands two tokens behind the first
 abbrev pub path_notes : Scope → List Declaration → Path → List Note
 path_notes scope siblings (One m token) = first_notes token (field_of siblings m) (look_up scope.names m)
 path_notes scope siblings (Through x token m) = first_notes token (field_of siblings x) (look_up scope.names x)
-    ++ field_notes (token + 2) (second_in scope.structs m (first_kind (field_of siblings x) (look_up scope.names x)))
+    ++ second_notes (token + 2) (second_in scope.structs m (first_kind (field_of siblings x) (look_up scope.names x)))
 
 abbrev pub mode_notes : Scope → List Declaration → Option Mode → List Note
 mode_notes scope siblings None = []

@@ -2,7 +2,7 @@
 
 ghost use Rattle.std.specs.Prelude.{◌≡◌, replicate, fold, IfOk};
 ghost use Rattle.sharc_names.specs.declared.fault.Named.TheVariants.{Known};
-ghost use Rattle.sharc_names.specs.Notes.{fault, refers, noted, first_of, is_before, digit, fault_unless, fault_where};
+ghost use Rattle.sharc_names.specs.Notes.{fault, refers, yields, noted, first_of, is_before, is_free, digit, fault_unless, fault_where};
 
 use std::alloc::{AllocError, Global};
 use std::marker::Model;
@@ -94,6 +94,20 @@ fn first_of(old: Option<Fault>, new: Fault) -> Option<Fault>
     }
 }
 
+/// Whether a token that names this may still be the second name of a lock path.
+fn is_free(named: Named) -> bool
+    ensures { result ≡ is_free named }
+{
+    match named {
+        Named::Known => true,
+        Named::Struct(_) => false,
+        Named::Global(_) => false,
+        Named::Function(_) => false,
+        Named::Variable(_) => false,
+        Named::Field(_) => false,
+    }
+}
+
 /// What a pass has found so far: the first fault, and what each name token names. A contract sees it as these two.
 #[derive(Drop)]
 pub struct Found {
@@ -176,6 +190,15 @@ impl Found {
         ensures { self.new ≡ noted self.old (refers place what) }
     {
         if place < self.named.len() {
+            self.named[place] = what;
+        }
+    }
+
+    /// Takes note of what the token at a place names, where it names nothing yet.
+    pub fn name_if_free(&mut self, place: usize, what: Named)
+        ensures { self.new ≡ noted self.old (yields place what) }
+    {
+        if place < self.named.len() && is_free(self.named[place]) {
             self.named[place] = what;
         }
     }

@@ -4,7 +4,7 @@ ghost use Rattle.std.specs.Prelude.{◌≡◌, ◌+◌, fold};
 ghost use Rattle.sharc_names.specs.Names.{look_up, field_of};
 ghost use Rattle.sharc_names.specs.Notes.{noted};
 ghost use Rattle.sharc_names.specs.Seen.{found_field, found_field_in, siblings_seen};
-ghost use Rattle.sharc_names.specs.Types.{name_kind, name_notes, main_notes, field_in, field_kind, field_notes, first_kind, first_notes, second_in, path_notes, mode_notes, modes_notes, is_known, base_notes, holds_struct, holds_mutex, holds_void, is_allowed, allowed_there, type_notes, is_fine};
+ghost use Rattle.sharc_names.specs.Types.{name_kind, name_notes, main_notes, field_in, field_kind, field_notes, first_kind, first_notes, second_in, second_notes, path_notes, mode_notes, modes_notes, is_known, base_notes, holds_struct, holds_mutex, holds_void, is_allowed, allowed_there, type_notes, is_fine};
 ghost use Rattle.sharc_names.specs.View.{view_kinds, view_bounds, view_meaning};
 
 use crate::fault::{FaultCode, Found, Named};
@@ -146,6 +146,19 @@ fn second_in<'a>(
     }
 }
 
+/// Takes note of what the second name of a lock path means that was looked up.
+fn second_use(place: usize, field: Option<Option<&Declaration>>, found: &mut Found)
+    ensures { found.new ≡ fold noted found.old (second_notes place (found_field_in field.entry)) }
+{
+    match field {
+        None => {}
+        Some(None) => found.fault_at(place, FaultCode::UnknownName),
+        Some(Some(declaration)) => {
+            found.name_if_free(place, Named::Field(declaration.name.site.token));
+        }
+    }
+}
+
 /// The field of that name, where the type stands in a field.
 fn sibling<'a>(siblings: Option<&Fields<'a>>, name: &[u8]) -> Option<&'a Declaration>
     ensures { found_field result ≡ field_of (siblings_seen siblings.entry) name.now }
@@ -173,7 +186,7 @@ fn path<'a>(scope: &Scope<'a>, siblings: Option<&Fields<'a>>, path: &Path, found
             first_use(*token, sibling, bound, found);
             let kind = first_kind(sibling, bound);
             let field = second_in(&scope.structs, second.as_slice(), kind);
-            field_use(*token as usize + 2, field, found);
+            second_use(*token as usize + 2, field, found);
         }
     }
 }

@@ -21,6 +21,7 @@ use Rattle.sharc_tree.specs.Tree as tree
 use Rattle.sharc_names.specs.declared.fault.FaultCode.{FaultCode}
 use Rattle.sharc_names.specs.declared.fault.FaultCode.TheVariants.{TypeNotAllowed, NoLvalue, BadForm, LimitPassed, NoMain}
 use Rattle.sharc_names.specs.declared.fault.Named.{Named}
+use Rattle.sharc_names.specs.declared.fault.Named.TheVariants.{Field}
 use Rattle.sharc_names.specs.declared.need.Need.TheVariants as need
 use Rattle.sharc_names.specs.declared.scope.Scope.{Scope}
 use Rattle.sharc_names.specs.declared.types.Role.{Role}
@@ -29,7 +30,7 @@ use Rattle.sharc_names.specs.Kinds.{Kind, void, is_pointer, same_kind, declared_
 use Rattle.sharc_names.specs.Names.{StructTable, StructMeaning, Entry, Meaning, look_up, struct_of, field_of, parameters_of}
 use Rattle.sharc_names.specs.Needs.{place, met}
 use Rattle.sharc_names.specs.Notes.{Note, fault, refers, fault_unless}
-use Rattle.sharc_names.specs.Types.{name_notes, main_notes, field_in, field_notes, first_kind, first_notes, second_in, path_notes, mode_notes, modes_notes, struct_note, base_notes, allowed_there, type_notes, is_fine}
+use Rattle.sharc_names.specs.Types.{name_notes, main_notes, field_in, field_notes, first_kind, first_notes, second_in, second_notes, path_notes, mode_notes, modes_notes, struct_note, base_notes, allowed_there, type_notes, is_fine}
 use Rattle.sharc_names.specs.Wants.{first_wanted}
 use Rattle.sharc_ctype.specs.declared.expr.OperatorClass.{OperatorClass}
 use Rattle.sharc_ctype.specs.Heads.{Heading as Heads}
@@ -40,7 +41,7 @@ use Rattle.sharc_ctype.specs.Globals.{length_notes, initial_notes as constant_no
 use Rattle.sharc_ctype.specs.Heads.{head_notes as item_head_notes, heads_notes, behind as heads_behind, no_heads, twice}
 use Rattle.sharc_ctype.specs.Items.{in_body, fields_notes, field_notes as one_field_notes, parameters_notes, beyond, item_notes, items_notes, file_scope, has_main, program_notes}
 use Rattle.sharc_ctype.specs.Statements.{Around, is_here, is_aggregate, returned_as, locals_in_all, opened, looping, with_names, declared, declared_notes, test_notes, count_notes, right_notes, simple_notes, local_notes, initial_notes, return_notes, first_notes as first_part_notes, behind_first, tests_notes, step_notes, in_head, head_notes, after, notes_in, notes_in_all}
-use Rattle.sharc_resolved.proofs.Counts.{one, told, written, told-append, written-append, told_refers, told_none, written_one, written_cast, written_none, quiet_fault, quiet_unless, quiet_where, quiet_if, quiet_unmet, quiet_unagreed, quiet_both, side, crossed, behind, before, none_most}
+use Rattle.sharc_resolved.proofs.Counts.{one, told, written, told-append, written-append, told_refers, told_yields, told_none, written_one, written_cast, written_none, quiet_fault, quiet_unless, quiet_where, quiet_if, quiet_unmet, quiet_unagreed, quiet_both, side, crossed, behind, before, none_most}
 
 -- quiet parts
 
@@ -88,6 +89,11 @@ member_most t token None = none_most t _
 member_most t token (Some None) = fault_most t _ _ _
 member_most t token (Some (Some d)) = one_most t token _ [] token refl (told_none t)
 
+second_most : (t token : ℕ) (o : Option (Option Declaration)) → told t (second_notes token o) ≤ one t token
+second_most t token None = none_most t _
+second_most t token (Some None) = fault_most t _ _ _
+second_most t token (Some (Some d)) = let e = told_yields t token (Field d.name.site.token) [] in let f = told_none t in omega (arith, e, f)
+
 callee_most : (stands : Standing) (t token n : ℕ) (o : Option Entry) → told t (callee_notes stands token n o) ≤ one t token
 callee_most stands t token n None = fault_most t _ _ _
 callee_most stands t token n (Some e) = one_most t token _ _ token refl (quiet_both t _ _ (quiet_main t token e.meaning) (quiet_count stands t token n (parameters_of e.meaning)))
@@ -122,7 +128,7 @@ path_most t scope siblings (One m token) = of_name t token m _ (first_most t tok
 path_most t scope siblings (Through x token m) =
     side t _ _ (a_name token x ∷ []) (a_name (token + 2) m ∷ [])
     (of_name t token x _ (first_most t token (field_of siblings x) (look_up scope.names x)))
-    (of_name t (token + 2) m _ (member_most t (token + 2) (second_in scope.structs m (first_kind (field_of siblings x) (look_up scope.names x)))))
+    (of_name t (token + 2) m _ (second_most t (token + 2) (second_in scope.structs m (first_kind (field_of siblings x) (look_up scope.names x)))))
 
 mode_most : (t : ℕ) (scope : Scope) (siblings : List Declaration) (m : Option Mode) → told t (mode_notes scope siblings m) ≤ written t (level_marks m)
 mode_most t scope siblings None = none_most t _

@@ -10,7 +10,7 @@ use Rattle.sharc_names.specs.declared.need.Need.{Need}
 use Rattle.sharc_names.specs.Kinds.{Kind, object, array, null}
 use Rattle.sharc_names.specs.Kinds as kinds
 use Rattle.sharc_names.specs.Needs.{called, used_call, misfit_of, misfit, fits, unmet, unagreed}
-use Rattle.sharc_names.specs.Notes.{Note, fault, refers, fault_unless, fault_where}
+use Rattle.sharc_names.specs.Notes.{Note, fault, refers, yields, fault_unless, fault_where}
 
 unfoldable pub one : ℕ → ℕ → ℕ
 one token n = cond (n == token) 1 0
@@ -19,6 +19,7 @@ unfoldable pub told : ℕ → List Note → ℕ
 told token [] = 0
 told token (fault place code ∷ rest) = told token rest
 told token (refers n what ∷ rest) = one token n + told token rest
+told token (yields n what ∷ rest) = one token n + told token rest
 
 unfoldable pub written : ℕ → List Mark → ℕ
 written token [] = 0
@@ -30,6 +31,7 @@ unfolding told
 told-append t [] b = omega arith
 told-append t (fault place code ∷ rest) b = told-append t rest b
 told-append t (refers n what ∷ rest) b = let e = told-append t rest b in omega (arith, e)
+told-append t (yields n what ∷ rest) b = let e = told-append t rest b in omega (arith, e)
 
 pub written-append : (t : ℕ) (a b : List Mark) → written t (a ++ b) ≡ written t a + written t b
 unfolding written
@@ -40,6 +42,14 @@ written-append t (a_cast n ∷ rest) b = written-append t rest b
 pub told_refers : (t n : ℕ) (what : Named) (rest : List Note) → told t (refers n what ∷ rest) ≡ one t n + told t rest
 unfolding told
 told_refers t n what rest = refl
+
+pub told_yields : (t n : ℕ) (what : Named) (rest : List Note) → told t (yields n what ∷ rest) ≡ one t n + told t rest
+unfolding told
+told_yields t n what rest = refl
+
+pub told_second : (t n : ℕ) (what : Named) → told t (yields n what ∷ []) ≡ one t n
+unfolding told
+told_second t n what = omega arith
 
 pub told_one : (t n : ℕ) (what : Named) → told t (refers n what ∷ []) ≡ one t n
 unfolding told

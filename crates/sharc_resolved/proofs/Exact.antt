@@ -23,7 +23,7 @@ use Rattle.sharc_names.specs.Kinds.{Kind, void, is_struct_behind, same_kind, dec
 use Rattle.sharc_names.specs.Names.{StructTable, StructMeaning, Entry, look_up, struct_of, field_of, parameters_of, kind_of, is_main}
 use Rattle.sharc_names.specs.Needs.{met}
 use Rattle.sharc_names.specs.Notes.{Note, refers, fault_unless}
-use Rattle.sharc_names.specs.Types.{name_kind, name_notes, field_in, field_notes, first_kind, first_notes, second_in, path_notes, mode_notes, modes_notes, struct_note, base_notes, allowed_there, type_notes, is_fine}
+use Rattle.sharc_names.specs.Types.{name_kind, name_notes, field_in, field_notes, first_kind, first_notes, second_in, second_notes, path_notes, mode_notes, modes_notes, struct_note, base_notes, allowed_there, type_notes, is_fine}
 use Rattle.sharc_names.specs.Wants.{first_wanted}
 use Rattle.sharc_ctype.specs.Heads.{Heading as Heads}
 use Rattle.sharc_ctype.specs.declared.expr.Standing.{Standing}
@@ -35,9 +35,9 @@ use Rattle.sharc_ctype.specs.Resolved.{Resolution, declarations_of, declarations
 use Rattle.sharc_ctype.specs.Statements.{Around, is_here, is_aggregate, returned_as, locals_in, locals_in_all, first_locals, opened, looping, with_names, declared, declared_notes, test_notes, count_notes, right_notes, simple_notes, local_notes, initial_notes, return_notes, first_notes as first_part_notes, behind_first, tests_notes, step_notes, in_head, head_notes, after, notes_in, notes_in_all}
 use Rattle.sharc_resolved.proofs.AllLemmas.{front, back}
 use Rattle.sharc_resolved.proofs.AtMost.{quiet_main, quiet_place, quiet_place_call, quiet_cast, quiet_binary, quiet_count, quiet_twice, quiet_beyond, quiet_constant, quiet_length, quiet_sizes, all_levels, type_written, other_marks, item_written, head_told}
-use Rattle.sharc_resolved.proofs.Counts.{one, told, written, told-append, written-append, told_refers, told_one, told_none, written_one, written_cast, written_none, quiet_unless, quiet_where, quiet_unmet, quiet_unagreed, quiet_both, side_is, crossed_is, behind_is, before_is, none_is}
+use Rattle.sharc_resolved.proofs.Counts.{one, told, written, told-append, written-append, told_refers, told_one, told_second, told_none, written_one, written_cast, written_none, quiet_unless, quiet_where, quiet_unmet, quiet_unagreed, quiet_both, side_is, crossed_is, behind_is, before_is, none_is}
 use Rattle.sharc_resolved.proofs.FileScene.{fields_are, body_scene}
-use Rattle.sharc_resolved.proofs.Held.{Held, left, right, no_fault, not_wrong, behind_head}
+use Rattle.sharc_resolved.proofs.Held.{Held, left, right, no_fault, not_wrong, behind_head, second_held}
 use Rattle.sharc_resolved.proofs.Judged.{solid_meaning, member_of, struct_behind_is, judged, field_member}
 use Rattle.sharc_resolved.proofs.Scenes.{IsSolid, IsField, IsScene, found_name, found_field, type_solid}
 use Rattle.sharc_resolved.proofs.Walked.{AreDeclared, scene_with, declared_meant, local_scene, head_scene, after_scene}
@@ -53,6 +53,9 @@ named_is t r token (Some e) h = one_is t token _ _ (quiet_main t token e.meaning
 
 member_is : (t token : ℕ) (o : Option (Option Declaration)) (d : Declaration) → o ≡ Some (Some d) → told t (field_notes token o) ≡ one t token
 member_is t token o d is = ap (λ z. told t (field_notes token z)) is ∙ told_one t token _
+
+second_told : (t token : ℕ) (o : Option (Option Declaration)) (d : Declaration) → o ≡ Some (Some d) → told t (second_notes token o) ≡ one t token
+second_told t token o d is = ap (λ z. told t (second_notes token z)) is ∙ told_second t token _
 
 callee_is : (stands : Standing) (t : ℕ) (r : Resolution) (token n : ℕ) (o : Option Entry) → Held r (callee_notes stands token n o) → told t (callee_notes stands token n o) ≡ one t token
 callee_is stands t r token n None h = absurd (no_fault r _ _ _ h)
@@ -102,20 +105,20 @@ first_is : (t : ℕ) (r : Resolution) (token : ℕ) (sibling : Option Declaratio
 first_is t r token (Some d) o h = told_one t token _
 first_is t r token None o h = named_is t r token o h
 
-second_by : (t : ℕ) (r : Resolution) (scope : Scope) → IsScene r scope → (token : ℕ) (name : List ℕ) (k : Kind) (b : Bool) → is_struct_behind 1 k ≡ b → IsSolid scope.structs k → Held r (field_notes token (cond b (field_in scope.structs name (Some k)) (Some None)))
-    → told t (field_notes token (cond b (field_in scope.structs name (Some k)) (Some None))) ≡ one t token
+second_by : (t : ℕ) (r : Resolution) (scope : Scope) → IsScene r scope → (token : ℕ) (name : List ℕ) (k : Kind) (b : Bool) → is_struct_behind 1 k ≡ b → IsSolid scope.structs k → Held r (second_notes token (cond b (field_in scope.structs name (Some k)) (Some None)))
+    → told t (second_notes token (cond b (field_in scope.structs name (Some k)) (Some None))) ≡ one t token
 second_by t r scope scene token name k false is s h = absurd (no_fault r _ _ _ h)
 second_by t r scope scene token name k true is s h =
     let b = struct_behind_is 1 k is in
     let m = subst (IsSolid scope.structs) b.1 s in
-    let f = member_of r scope.structs token name b.0 1 m.0 scene.structs m.1 (subst (λ z. Held r (field_notes token (field_in scope.structs name (Some z)))) b.1 h) in
-    member_is t token _ f.member (ap (λ z. field_in scope.structs name (Some z)) b.1 ∙ f.found)
+    let f = member_of r scope.structs token name b.0 1 m.0 scene.structs m.1 (subst (λ z. Held r (field_notes token (field_in scope.structs name (Some z)))) b.1 (second_held r token (field_in scope.structs name (Some k)) h)) in
+    second_told t token _ f.member (ap (λ z. field_in scope.structs name (Some z)) b.1 ∙ f.found)
 
-second_is : (t : ℕ) (r : Resolution) (scope : Scope) → IsScene r scope → (token : ℕ) (name : List ℕ) (o : Option Kind) → IsFirstKind scope.structs o → Held r (field_notes token (second_in scope.structs name o))
-    → told t (field_notes token (second_in scope.structs name o)) ≡ one t token
+second_is : (t : ℕ) (r : Resolution) (scope : Scope) → IsScene r scope → (token : ℕ) (name : List ℕ) (o : Option Kind) → IsFirstKind scope.structs o → Held r (second_notes token (second_in scope.structs name o))
+    → told t (second_notes token (second_in scope.structs name o)) ≡ one t token
 second_is t r scope scene token name o k h =
-    ap (λ z. told t (field_notes token (second_in scope.structs name z))) k.is
-    ∙ second_by t r scope scene token name k.kind (is_struct_behind 1 k.kind) refl k.solid (subst (λ z. Held r (field_notes token (second_in scope.structs name z))) k.is h)
+    ap (λ z. told t (second_notes token (second_in scope.structs name z))) k.is
+    ∙ second_by t r scope scene token name k.kind (is_struct_behind 1 k.kind) refl k.solid (subst (λ z. Held r (second_notes token (second_in scope.structs name z))) k.is h)
 
 path_is : (t : ℕ) (r : Resolution) (scope : Scope) → IsScene r scope → (siblings : List Declaration) → AllByRecursion (IsField r scope.structs) siblings → (p : Path) → Held r (path_notes scope siblings p) → told t (path_notes scope siblings p) ≡ written t (path_marks p)
 path_is t r scope scene siblings all (One m token) h = of_name t token m _ (first_is t r token (field_of siblings m) (look_up scope.names m) h)

@@ -1,27 +1,32 @@
 -- Notes without a fault, each of which says what its token names.
-use Rattle.std.proofs.Common.{◌≡◌, ℕ, Bool, true, false, List, [], ◌∷◌, ◌++◌, refl}
+use Rattle.std.proofs.Common.{◌≡◌, ℕ, Bool, true, false, List, [], ◌∷◌, ◌++◌, Option, Some, None, refl}
 use Rattle.sharc_names.specs.declared.fault.Fault.{Fault}
 use Rattle.sharc_names.specs.declared.fault.FaultCode.{FaultCode}
 use Rattle.sharc_names.specs.declared.fault.Named.{Named}
-use Rattle.sharc_names.specs.Notes.{Note, fault, refers, fault_unless, fault_where, faults}
+use Rattle.sharc_names.specs.Notes.{Note, fault, refers, yields, fault_unless, fault_where, faults}
+use Rattle.sharc_names.specs.Types.{field_notes, second_notes}
+use Rattle.sharc_tree.specs.declared.tree.declaration.Declaration.{Declaration}
 use Rattle.sharc_ctype.specs.Resolved.{Resolution, named_at}
 
 unfoldable pub Held : Resolution → List Note → Type 0
 Held r [] = Unit {0}
 Held r (fault place code ∷ rest) = ⊥
 Held r (refers token what ∷ rest) = (named_at r token ≡ what) × Held r rest
+Held r (yields token what ∷ rest) = (named_at r token ≡ what) × Held r rest
 
 pub left : (r : Resolution) (a b : List Note) → Held r (a ++ b) → Held r a
 unfolding Held
 left r [] b h = tt
 left r (fault place code ∷ rest) b h = h
 left r (refers token what ∷ rest) b h = (h.0, left r rest b h.1)
+left r (yields token what ∷ rest) b h = (h.0, left r rest b h.1)
 
 pub right : (r : Resolution) (a b : List Note) → Held r (a ++ b) → Held r b
 unfolding Held
 right r [] b h = h
 right r (fault place code ∷ rest) b h = absurd h
 right r (refers token what ∷ rest) b h = right r rest b h.1
+right r (yields token what ∷ rest) b h = right r rest b h.1
 
 pub no_fault : (r : Resolution) (place : ℕ) (code : FaultCode) (rest : List Note) → Held r (fault place code ∷ rest) → ⊥
 unfolding Held
@@ -30,6 +35,21 @@ no_fault r place code rest h = h
 pub head_named : (r : Resolution) (token : ℕ) (what : Named) (rest : List Note) → Held r (refers token what ∷ rest) → named_at r token ≡ what
 unfolding Held
 head_named r token what rest h = h.0
+
+-- where nothing else is told of its token, the second name of a lock path is held as the name of a field
+pub second_held : (r : Resolution) (token : ℕ) (o : Option (Option Declaration)) → Held r (second_notes token o) → Held r (field_notes token o)
+unfolding Held
+second_held r token None h = h
+second_held r token (Some None) h = h
+second_held r token (Some (Some d)) h = h
+
+pub yielded : (r : Resolution) (token : ℕ) (what : Named) (rest : List Note) → Held r (yields token what ∷ rest) → named_at r token ≡ what
+unfolding Held
+yielded r token what rest h = h.0
+
+pub behind_yielded : (r : Resolution) (token : ℕ) (what : Named) (rest : List Note) → Held r (yields token what ∷ rest) → Held r rest
+unfolding Held
+behind_yielded r token what rest h = h.1
 
 pub behind_head : (r : Resolution) (token : ℕ) (what : Named) (rest : List Note) → Held r (refers token what ∷ rest) → Held r rest
 unfolding Held
@@ -51,6 +71,7 @@ unfoldable pub Clean : List Note → Type 0
 Clean [] = Unit {0}
 Clean (fault place code ∷ rest) = ⊥
 Clean (refers token what ∷ rest) = Clean rest
+Clean (yields token what ∷ rest) = Clean rest
 
 no_faults : (f : Fault) (rest : List Fault) → f ∷ rest ≡ [] → ⊥
 no_faults f rest h = cc
@@ -60,18 +81,21 @@ unfolding Clean
 clean [] h = tt
 clean (fault place code ∷ rest) h = absurd (no_faults _ _ h)
 clean (refers token what ∷ rest) h = clean rest h
+clean (yields token what ∷ rest) h = clean rest h
 
 pub clean_left : (a b : List Note) → Clean (a ++ b) → Clean a
 unfolding Clean
 clean_left [] b h = tt
 clean_left (fault place code ∷ rest) b h = h
 clean_left (refers token what ∷ rest) b h = clean_left rest b h
+clean_left (yields token what ∷ rest) b h = clean_left rest b h
 
 pub clean_right : (a b : List Note) → Clean (a ++ b) → Clean b
 unfolding Clean
 clean_right [] b h = h
 clean_right (fault place code ∷ rest) b h = absurd h
 clean_right (refers token what ∷ rest) b h = clean_right rest b h
+clean_right (yields token what ∷ rest) b h = clean_right rest b h
 
 pub clean_behind : (token : ℕ) (what : Named) (rest : List Note) → Clean (refers token what ∷ rest) → Clean rest
 unfolding Clean

@@ -1,5 +1,5 @@
 -- In a tree at its tokens no two names have one token: so notes without a fault say what the tokens name, and each declaration is found by its token.
-use Rattle.std.proofs.Common.{◌≡◌, ⊎_elim, ℕ, ◌+◌, ◌≤◌, ◌<◌, cond, List, [], ◌∷◌, ◌++◌, length, fold, get_or, refl, ap, sym, ◌∙◌, subst, arith, Some, eq-eqb, ne_eqb, get_or-set_other, get_or-set_same, length-set}
+use Rattle.std.proofs.Common.{◌≡◌, ⊎_elim, ℕ, ◌+◌, ◌≤◌, ◌<◌, zero, suc, Bool, true, false, cond, List, [], ◌∷◌, ◌++◌, length, fold, get_or, replicate, refl, ap, sym, ◌∙◌, subst, arith, Some, eq-eqb, ne_eqb, get_or-set_other, get_or-set_same, length-set, set}
 use Rattle.std.proofs.lemmas.Bool.{cases_eq, cases_lt}
 use Rattle.std.proofs.lemmas.List.{length-replicate}
 use Rattle.std.specs.List.{AllByRecursion}
@@ -17,12 +17,12 @@ use Rattle.sharc_tree.specs.Tree as tree
 use Rattle.sharc_names.specs.declared.fault.Named.{Named}
 use Rattle.sharc_names.specs.declared.fault.Named.TheVariants as named
 use Rattle.sharc_names.specs.declared.fault.Fault.{Fault}
-use Rattle.sharc_names.specs.Notes.{Note, fault, refers, Findings, noted, faults}
+use Rattle.sharc_names.specs.Notes.{Note, fault, refers, yields, Findings, is_free, noted, faults}
 use Rattle.sharc_ctype.specs.Items.{notes_about, nothing_found}
 use Rattle.sharc_ctype.specs.Resolved.{Resolution, IsResolved, declarations_of, declarations_in, declared_at, named_at}
 use Rattle.sharc_ctype.specs.Statements.{first_locals, locals_in, locals_in_all}
 use Rattle.sharc_resolved.proofs.AtMost.{program_most}
-use Rattle.sharc_resolved.proofs.Counts.{one, told, written, written-append, told_refers, written_one, written_cast, written_none}
+use Rattle.sharc_resolved.proofs.Counts.{one, told, written, written-append, told_refers, told_yields, written_one, written_cast, written_none}
 use Rattle.sharc_resolved.proofs.Held.{Held}
 use Rattle.sharc_resolved.proofs.Walked.{AreDeclared}
 
@@ -87,9 +87,18 @@ own_tokens p placed = record {
 
 -- what is noted stays: no later note is of the same token
 
+free_length : (b : Bool) (all : List Named) (n : ℕ) (what : Named) → length (cond b (set all n what) all) ≡ length all
+free_length true all n what = length-set all n what
+free_length false all n what = refl
+
+free_other : (b : Bool) (all : List Named) (n t : ℕ) (what d : Named) → (t ≡ n → ⊥) → get_or (cond b (set all n what) all) t d ≡ get_or all t d
+free_other true all n t what d other = get_or-set_other all n t what d other
+free_other false all n t what d other = refl
+
 length_kept : (f : Findings) (n : Note) → length (noted f n).named ≡ length f.named
 length_kept f (fault place code) = refl
 length_kept f (refers token what) = length-set f.named token what
+length_kept f (yields token what) = free_length (is_free (get_or f.named token named.Known)) f.named token what
 
 untold : (t : ℕ) (d : Named) (f : Findings) (list : List Note) → told t list ≡ 0 → get_or (fold noted f list).named t d ≡ get_or f.named t d
 unfolding told
@@ -98,29 +107,55 @@ untold t d f (fault place code ∷ rest) h = untold t d (noted f (fault place co
 untold t d f (refers n what ∷ rest) h =
     untold t d (noted f (refers n what)) rest (omega (arith, h))
     ∙ get_or-set_other f.named n t what d (λ is. let e = one_same t in let g = ap (one t) (sym is) in omega (arith, h, e, g))
+untold t d f (yields n what ∷ rest) h =
+    untold t d (noted f (yields n what)) rest (omega (arith, h))
+    ∙ free_other (is_free (get_or f.named n named.Known)) f.named n t what d (λ is. let e = one_same t in let g = ap (one t) (sym is) in omega (arith, h, e, g))
 
 no_faults : (f : Fault) (rest : List Fault) → f ∷ rest ≡ [] → ⊥
 no_faults f rest h = cc
 
-held_by : (r : Resolution) (f : Findings) (list : List Note) → ((t : ℕ) → told t list ≤ 1) → ((t : ℕ) → 0 < told t list → t < length f.named) → faults list ≡ []
+apart_from : (n t : ℕ) (rest : List Note) → told n rest ≡ 0 → 0 < told t rest → (t ≡ n → ⊥)
+apart_from n t rest none some is = let e = ap (λ x. told x rest) is in omega (arith, none, some, e)
+
+-- nothing is named where nothing is told yet
+abbrev IsOpen : Findings → List Note → Type 0
+IsOpen f list = (t : ℕ) → 0 < told t list → get_or f.named t named.Known ≡ named.Known
+
+held_by : (r : Resolution) (f : Findings) (list : List Note) → ((t : ℕ) → told t list ≤ 1) → ((t : ℕ) → 0 < told t list → t < length f.named) → IsOpen f list → faults list ≡ []
     → ((t : ℕ) → named_at r t ≡ get_or (fold noted f list).named t named.Known) → Held r list
 unfolding Held
-held_by r f [] once within clean is = tt
-held_by r f (fault place code ∷ rest) once within clean is = absurd (no_faults _ _ clean)
-held_by r f (refers n what ∷ rest) once within clean is =
+held_by r f [] once within free clean is = tt
+held_by r f (fault place code ∷ rest) once within free clean is = absurd (no_faults _ _ clean)
+held_by r f (refers n what ∷ rest) once within free clean is =
     let more : (t : ℕ) → told t (refers n what ∷ rest) ≡ one t n + told t rest = λ t. told_refers t n what rest in
     let none : told n rest ≡ 0 = let e = more n in let o = once n in let s = one_same n in omega (arith, e, o, s) in
     let low : n < length f.named = within n (let e = more n in let s = one_same n in omega (arith, e, s)) in (
       is n ∙ untold n named.Known (noted f (refers n what)) rest none ∙ get_or-set_same f.named n what named.Known low,
       held_by r (noted f (refers n what)) rest (λ t. let e = more t in let o = once t in omega (arith, e, o))
-          (λ t h. let l = length_kept f (refers n what) in let w = within t (let e = more t in omega (arith, e, h)) in omega (arith, l, w)) clean is,
+          (λ t h. let l = length_kept f (refers n what) in let w = within t (let e = more t in omega (arith, e, h)) in omega (arith, l, w))
+          (λ t h. get_or-set_other f.named n t what named.Known (apart_from n t rest none h) ∙ free t (let e = more t in omega (arith, e, h))) clean is,
     )
+held_by r f (yields n what ∷ rest) once within free clean is =
+    let more : (t : ℕ) → told t (yields n what ∷ rest) ≡ one t n + told t rest = λ t. told_yields t n what rest in
+    let none : told n rest ≡ 0 = let e = more n in let o = once n in let s = one_same n in omega (arith, e, o, s) in
+    let some : 0 < told n (yields n what ∷ rest) = let e = more n in let s = one_same n in omega (arith, e, s) in (
+      is n ∙ untold n named.Known (noted f (yields n what)) rest none ∙ ap (λ x. get_or (cond (is_free x) (set f.named n what) f.named) n named.Known) (free n some) ∙ get_or-set_same f.named n what named.Known (within n some),
+      held_by r (noted f (yields n what)) rest (λ t. let e = more t in let o = once t in omega (arith, e, o))
+          (λ t h. let l = length_kept f (yields n what) in let w = within t (let e = more t in omega (arith, e, h)) in omega (arith, l, w))
+          (λ t h. free_other (is_free (get_or f.named n named.Known)) f.named n t what named.Known (apart_from n t rest none h) ∙ free t (let e = more t in omega (arith, e, h))) clean is,
+    )
+
+blank : (n t : ℕ) → get_or (replicate n named.Known) t named.Known ≡ named.Known
+blank zero t = refl
+blank (suc n) zero = refl
+blank (suc n) (suc t) = blank n t
 
 pub all_held : (r : Resolution) → IsResolved r → HasOwnTokens r.program → IsLow r.program → Held r (notes_about r.program)
 all_held r resolved own low =
     held_by r (nothing_found (length r.program.tokens.list)) (notes_about r.program)
     (λ t. let m = program_most t (length r.program.tokens.list) r.program.items low in let o = own.once t in omega (arith, m, o))
     (λ t h. let m = program_most t (length r.program.tokens.list) r.program.items low in let w = own.within t (omega (arith, m, h)) in let l = length-replicate (length r.program.tokens.list) named.Known in omega (arith, w, l))
+    (λ t h. blank (length r.program.tokens.list) t)
     resolved.typed
     (λ t. ap (λ l. get_or l t named.Known) resolved.named)
 

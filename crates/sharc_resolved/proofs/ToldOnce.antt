@@ -1,15 +1,15 @@
 -- From how often notes refer to a token to the one note that does.
-use Rattle.std.proofs.Common.{◌≡◌, ⊎_elim, ℕ, zero, suc, ◌<◌, List, [], ◌∷◌, ◌++◌, length, get_or, ap, sym, ◌∙◌, arith, Contains}
+use Rattle.std.proofs.Common.{◌≡◌, ⊎_elim, ℕ, zero, suc, ◌<◌, List, [], ◌∷◌, ◌++◌, length, get_or, refl, ap, sym, ◌∙◌, arith, Contains}
 use Rattle.std.proofs.lemmas.Bool.{cases_eq}
 use Rattle.sharc_tree.specs.Marks.{Mark, a_name, a_cast}
 use Rattle.sharc_names.specs.declared.fault.Named.{Named}
-use Rattle.sharc_names.specs.Notes.{Note, fault, refers, referred}
+use Rattle.sharc_names.specs.Notes.{Note, fault, refers, yields, referred}
 use Rattle.sharc_ctype.specs.Items.{notes_about}
-use Rattle.sharc_resolved.specs.Laws.{IsToldOnce}
+use Rattle.sharc_resolved.specs.Laws.{Tells, IsToldOnce}
 use Rattle.sharc_ctype.specs.Reaches.{name_tokens}
 use Rattle.sharc_ctype.specs.Resolved.{Resolution, named_at}
-use Rattle.sharc_resolved.proofs.Counts.{one, told, written, told_refers, told_fault, told_none, written_name, written_cast, written_none}
-use Rattle.sharc_resolved.proofs.Held.{Held, no_fault, head_named, behind_head}
+use Rattle.sharc_resolved.proofs.Counts.{one, told, written, told-append, told_refers, told_yields, told_fault, told_none, written_name, written_cast, written_none}
+use Rattle.sharc_resolved.proofs.Held.{Held, no_fault, head_named, behind_head, yielded, behind_yielded}
 use Rattle.sharc_resolved.proofs.OwnTokens.{one_same, one_other}
 
 -- what is in a list is counted in it, and what is counted is in it
@@ -19,6 +19,8 @@ in_referred t [] k low is = absurd (omega (arith, low))
 in_referred t (fault place code ∷ rest) k low is = let e = told_fault t place code rest in let f = in_referred t rest k low is in omega (arith, e, f)
 in_referred t (refers n what ∷ rest) zero low is = let e = told_refers t n what rest in let f = one_same t in let g = ap (one t) is in omega (arith, e, f, g)
 in_referred t (refers n what ∷ rest) (suc k) low is = let e = told_refers t n what rest in let f = in_referred t rest k (omega (arith, low)) is in omega (arith, e, f)
+in_referred t (yields n what ∷ rest) zero low is = let e = told_yields t n what rest in let f = one_same t in let g = ap (one t) is in omega (arith, e, f, g)
+in_referred t (yields n what ∷ rest) (suc k) low is = let e = told_yields t n what rest in let f = in_referred t rest k (omega (arith, low)) is in omega (arith, e, f)
 
 pub counted : (t : ℕ) (list : List Note) → Contains (referred list) t → 0 < told t list
 counted t list (k, low, is) = in_referred t list k low is
@@ -49,12 +51,42 @@ name_there t (a_cast n ∷ rest) h = let e = written_cast t n rest in name_there
 
 record IsSplit (r : Resolution) (t : ℕ) (list : List Note) : Type 0 where
   what : Named
+  note : Note
+  tells : Tells note t what
   before : List Note
   after : List Note
-  notes : list ≡ before ++ refers t what ∷ after
+  notes : list ≡ before ++ note ∷ after
   none_before : told t before ≡ 0
   none_after : told t after ≡ 0
   named : named_at r t ≡ what
+
+-- behind a note that tells nothing of the token
+further : (r : Resolution) (t : ℕ) (n : Note) (rest : List Note) → told t (n ∷ []) ≡ 0 → IsSplit r t rest → IsSplit r t (n ∷ rest)
+further r t n rest none p = record {
+  what = p.what;
+  note = p.note;
+  tells = p.tells;
+  before = n ∷ p.before;
+  after = p.after;
+  notes = ap (λ l. n ∷ l) p.notes;
+  none_before = told-append t (n ∷ []) p.before ∙ (let y = p.none_before in omega (arith, y, none));
+  none_after = p.none_after;
+  named = p.named;
+}
+
+-- at the first note that tells of it
+here : (r : Resolution) (t : ℕ) (what : Named) (n : Note) (rest : List Note) → Tells n t what → told t rest ≡ 0 → named_at r t ≡ what → IsSplit r t (n ∷ rest)
+here r t what n rest tells none is = record {
+  what = what;
+  note = n;
+  tells = tells;
+  before = [];
+  after = rest;
+  notes = refl;
+  none_before = told_none t;
+  none_after = none;
+  named = is;
+}
 
 split : (r : Resolution) (t : ℕ) (list : List Note) → Held r list → told t list ≡ 1 → IsSplit r t list
 split r t [] held h = let e = told_none t in absurd (omega (arith, e, h))
@@ -62,30 +94,22 @@ split r t (fault place code ∷ rest) held h = absurd (no_fault r _ _ _ held)
 split r t (refers n what ∷ rest) held h =
     let e = told_refers t n what rest in
     let s = one_same t in
-    ⊎_elim
-    (λ is.
-    let g = ap (one t) is in
-    record {
-      what = what;
-      before = [];
-      after = rest;
-      notes = ap (λ m. refers m what ∷ rest) is;
-      none_before = told_none t;
-      none_after = omega (arith, e, s, g, h);
-      named = ap (named_at r) (sym is) ∙ head_named r n what rest held;
-    })
+    ⊎_elim (λ is. let g = ap (one t) is in here r t what (refers n what) rest (is, refl) (omega (arith, e, s, g, h)) (ap (named_at r) (sym is) ∙ head_named r n what rest held))
     (λ other.
     let z = one_other t n other in
-    let p = split r t rest (behind_head r n what rest held) (omega (arith, e, z, h)) in
-    record {
-      what = p.what;
-      before = refers n what ∷ p.before;
-      after = p.after;
-      notes = ap (λ l. refers n what ∷ l) p.notes;
-      none_before = told_refers t n what p.before ∙ (let y = p.none_before in omega (arith, y, z));
-      none_after = p.none_after;
-      named = p.named;
-    })
+    let x = told_refers t n what [] in
+    let y = told_none t in
+    further r t (refers n what) rest (omega (arith, x, y, z)) (split r t rest (behind_head r n what rest held) (omega (arith, e, z, h))))
+    (cases_eq n t)
+split r t (yields n what ∷ rest) held h =
+    let e = told_yields t n what rest in
+    let s = one_same t in
+    ⊎_elim (λ is. let g = ap (one t) is in here r t what (yields n what) rest (is, refl) (omega (arith, e, s, g, h)) (ap (named_at r) (sym is) ∙ yielded r n what rest held))
+    (λ other.
+    let z = one_other t n other in
+    let x = told_yields t n what [] in
+    let y = told_none t in
+    further r t (yields n what) rest (omega (arith, x, y, z)) (split r t rest (behind_yielded r n what rest held) (omega (arith, e, z, h))))
     (cases_eq n t)
 
 pub told_once : (r : Resolution) (t : ℕ) → Held r (notes_about r.program) → told t (notes_about r.program) ≡ 1 → IsToldOnce r t
@@ -93,6 +117,8 @@ told_once r t held h =
     let p = split r t (notes_about r.program) held h in
     record {
       what = p.what;
+      note = p.note;
+      tells = p.tells;
       before = p.before;
       after = p.after;
       notes = p.notes;

@@ -21,7 +21,7 @@ use Rattle.sharc_names.specs.declared.types.Role.TheVariants as role
 use Rattle.sharc_names.specs.Kinds.{Kind, object, is_struct_behind, declared_kind}
 use Rattle.sharc_names.specs.Names.{is_main, StructTable, StructMeaning, defined, known, struct_of, Entry, Meaning, look_up, field_of, named_of, named_struct, kind_of}
 use Rattle.sharc_names.specs.Names as meaning
-use Rattle.sharc_names.specs.Types.{name_kind, name_notes, field_in, field_notes, first_kind, first_notes, second_in, path_notes, mode_notes, modes_notes, struct_note, base_notes, type_notes}
+use Rattle.sharc_names.specs.Types.{name_kind, name_notes, field_in, field_notes, first_kind, first_notes, second_in, second_notes, path_notes, mode_notes, modes_notes, struct_note, base_notes, type_notes}
 use Rattle.sharc_ctype.specs.Expressions.{notes_of, notes_of_all, count, wanted}
 use Rattle.sharc_ctype.specs.Items.{in_body, fields_notes, parameters_notes, item_notes, items_notes}
 use Rattle.sharc_ctype.specs.Resolved.{Resolution, named_at, declarations_of, declarations_in}
@@ -31,7 +31,7 @@ use Rattle.sharc_resolved.specs.WrittenTypes.{types_in, types_in_arguments, type
 use Rattle.sharc_resolved.proofs.AllLemmas.{both, front, back}
 use Rattle.sharc_resolved.proofs.Exact.{path_kind}
 use Rattle.sharc_resolved.proofs.FileScene.{fields_are, body_scene}
-use Rattle.sharc_resolved.proofs.Held.{Held, left, right, no_fault, not_wrong, head_named, behind_head}
+use Rattle.sharc_resolved.proofs.Held.{Held, left, right, no_fault, not_wrong, head_named, behind_head, second_held}
 use Rattle.sharc_resolved.proofs.Judged.{not_main_text, struct_behind_is, member_of}
 use Rattle.sharc_resolved.proofs.Scenes.{IsSolid, IsMeant, IsField, IsStruct, IsScene, found_or_later, found_name, found_struct, found_field, type_solid}
 use Rattle.sharc_resolved.proofs.Walked.{AreDeclared, scene_with, declared_meant, local_scene, head_scene, after_scene}
@@ -93,12 +93,12 @@ record IsSecond (r : Resolution) (token : ℕ) (name : List ℕ) (k : Kind) : Ty
   of : IsMemberOf r struct name member
   names : named_at r token ≡ named.Field member.name.site.token
 
-second_by : (r : Resolution) (scope : Scope) → IsScene r scope → (token : ℕ) (name : List ℕ) (k : Kind) (b : Bool) → is_struct_behind 1 k ≡ b → IsSolid scope.structs k → Held r (field_notes token (cond b (field_in scope.structs name (Some k)) (Some None))) → IsSecond r token name k
+second_by : (r : Resolution) (scope : Scope) → IsScene r scope → (token : ℕ) (name : List ℕ) (k : Kind) (b : Bool) → is_struct_behind 1 k ≡ b → IsSolid scope.structs k → Held r (second_notes token (cond b (field_in scope.structs name (Some k)) (Some None))) → IsSecond r token name k
 second_by r scope scene token name k false is s h = absurd (no_fault r _ _ _ h)
 second_by r scope scene token name k true is s h =
     let b = struct_behind_is 1 k is in
     let m = subst (IsSolid scope.structs) b.1 s in
-    let f = member_of r scope.structs token name b.0 1 m.0 scene.structs m.1 (subst (λ z. Held r (field_notes token (field_in scope.structs name (Some z)))) b.1 h) in
+    let f = member_of r scope.structs token name b.0 1 m.0 scene.structs m.1 (subst (λ z. Held r (field_notes token (field_in scope.structs name (Some z)))) b.1 (second_held r token (field_in scope.structs name (Some k)) h)) in
     record { struct = b.0; is = b.1; member = f.member; of = f.of; names = f.names }
 
 path_named : (r : Resolution) (scope : Scope) → IsScene r scope → (siblings : List Declaration) → AllByRecursion (IsField r scope.structs) siblings → (p : Path) → Held r (path_notes scope siblings p) → IsNamedPath r p
@@ -107,7 +107,7 @@ path_named r scope scene siblings all (One m token) h =
     (k.kind, first_names r scope scene siblings all token m k.kind (field_of siblings m) refl k.is h)
 path_named r scope scene siblings all (Through x token m) h =
     let k = path_kind r scope scene siblings all token x (field_of siblings x) refl (left r _ _ h) in
-    let s = second_by r scope scene (token + 2) m k.kind (is_struct_behind 1 k.kind) refl k.solid (subst (λ z. Held r (field_notes (token + 2) (second_in scope.structs m z))) k.is (right r _ _ h)) in
+    let s = second_by r scope scene (token + 2) m k.kind (is_struct_behind 1 k.kind) refl k.solid (subst (λ z. Held r (second_notes (token + 2) (second_in scope.structs m z))) k.is (right r _ _ h)) in
     (s.struct, s.member, subst (FirstNames r token x) s.is (first_names r scope scene siblings all token x k.kind (field_of siblings x) refl k.is (left r _ _ h)), s.of, s.names)
 
 level_named : (r : Resolution) (scope : Scope) → IsScene r scope → (siblings : List Declaration) → AllByRecursion (IsField r scope.structs) siblings → (m : Option Mode) → Held r (mode_notes scope siblings m) → IsNamedLevel r m

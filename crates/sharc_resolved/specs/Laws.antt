@@ -8,7 +8,7 @@ use Rattle.sharc_tree.specs.Placed.{IsPlaced}
 use Rattle.sharc_tree.specs.Tree.{Expression, Function, Program}
 use Rattle.sharc_names.specs.declared.fault.Named.{Named}
 use Rattle.sharc_names.specs.Kinds.{Kind}
-use Rattle.sharc_names.specs.Notes.{Note, refers, referred}
+use Rattle.sharc_names.specs.Notes.{Note, fault, refers, yields, referred}
 use Rattle.sharc_ctype.specs.Expressions.{type_of}
 use Rattle.sharc_ctype.specs.Items.{IsTyped, notes_about, file_scope}
 use Rattle.sharc_resolved.specs.Places.{places_of_all}
@@ -23,12 +23,20 @@ use Rattle.sharc_resolved.specs.Limits.{IsWithinLimits, IsMain}
 use Rattle.sharc_ctype.specs.Reaches.{name_tokens, Spawns, IsReached}
 use Rattle.sharc_resolved.specs.Callable.{IsCallable, IsThread}
 
+-- it says of the token what that names
+abbrev pub Tells : Note → ℕ → Named → Type 0
+Tells (fault place code) token what = ⊥
+Tells (refers n named) token what = (n ≡ token) × (named ≡ what)
+Tells (yields n named) token what = (n ≡ token) × (named ≡ what)
+
 -- one note refers to a token, and none before it or behind it does; the resolved program names what that note says
 pub record IsToldOnce (r : Resolution) (token : ℕ) : Type 0 where
   pub what : Named
+  pub note : Note
+  pub tells : Tells note token what
   pub before : List Note
   pub after : List Note
-  pub notes : notes_about r.program ≡ before ++ refers token what ∷ after
+  pub notes : notes_about r.program ≡ before ++ note ∷ after
   pub not_before : Contains (referred before) token → ⊥
   pub not_after : Contains (referred after) token → ⊥
   pub named : named_at r token ≡ what
