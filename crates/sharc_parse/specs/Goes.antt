@@ -110,14 +110,18 @@ Goes see (Err Wrong) was on new = was ≡ StuckAt new
 Goes see (Err Deep) was on new = was ≡ Over new
 Goes see (Err Memory) was on new = Unit {0}
 
--- an operand that holds together as tightly as that, and is no higher than there is room
 -- a `malloc` was looked for, where one may stand
 abbrev pub NoMalloc : Cont → List Word → Type 0
 NoMalloc (part (valued v) o) all = NotAt (keyword key.Malloc) all
 NoMalloc _ all = Unit {0}
 
+-- an operand that holds together as tightly as that, and is no higher than there is room
 abbrev pub ReadsFrom : ℕ → ℕ → Result Piece Fault → List Word → List Word → Type 0
 ReadsFrom least room result old new = (k : Cont) → floor k ≤ least → depth k + room ≡ 64 → crowded k ≡ false → NoMalloc k old → Goes (λ r. phrase_of r.expr) result (reads_within old (At [] (Want k))) (λ x. reads_within new (At [] (Have x k))) new
+
+-- what begins with the name that was read just before
+abbrev pub ReadsBehindName : List ℕ → ℕ → Result Piece Fault → List Word → List Word → Type 0
+ReadsBehindName n room result old new = (k : Cont) → depth k + room ≡ 64 → crowded k ≡ false → Goes (λ r. phrase_of r.expr) result (reads_within old (At [] (Have (identifier n) k))) (λ x. reads_within new (At [] (Have x k))) new
 
 abbrev pub IsHigh : ℕ → Result Piece Fault → Type 0
 IsHigh room result = IfOk result (λ r. (r.height ≡ height (phrase_of r.expr)) × (r.height ≤ room))

@@ -9,7 +9,8 @@ ghost use Rattle.sharc_grammar.specs.Machine.{Cont, Have, Called, At, grip};
 ghost use Rattle.sharc_grammar.specs.Limits.{reads_within, depth, crowded, highest};
 ghost use Rattle.sharc_grammar.specs.Places.{sizes, site_in, span_at, arguments_at};
 ghost use Rattle.sharc_parse.specs.View.{phrase_of, phrases_of};
-ghost use Rattle.sharc_parse.specs.Goes.{from, Goes, ReadsFrom, IsHigh, IsPlaced, ReadsFront, IsFrontPlaced, NoUnary, NoCall, Builds, front_tree, bare_front};
+ghost use Rattle.sharc_parse.specs.declared.token.FrontWord.TheVariants.{Spawn, Place};
+ghost use Rattle.sharc_parse.specs.Goes.{from, Goes, ReadsFrom, ReadsBehindName, IsHigh, IsPlaced, ReadsFront, IsFrontPlaced, NoUnary, NoCall, Builds, front_tree, bare_front};
 
 use crate::held::{both, box_beside, boxes, expect_behind};
 use crate::token::{
@@ -33,7 +34,51 @@ pub(crate) enum Front {
     Cast(WrittenType),
 }
 
-/// The words behind `spawn`, `join`, `print`, `lock`, `unlock`, `free` and `SCAST`, up to the expression.
+/// `( name ,` behind `spawn`.
+fn spawn_front(alloc: Global, tokens: &[Token], at: &mut usize) -> Result<Front, Fault>
+    requires few { length tokens.now ≤ 2 ^ 20 }
+    requires there { at.old ≤ length tokens.now }
+    ensures reads { ReadsFront result Spawn (from tokens.now at.old) (from tokens.now at.new) }
+    ensures placed { IsFrontPlaced result tokens.now at.old at.new }
+    ensures onward { at.old ≤ at.new }
+    ensures within { at.new ≤ length tokens.now }
+{
+    expect(tokens, at, Punctuator::OpenParenthesis)?;
+    let Some(function) = name(alloc, tokens, at)? else {
+        return Err(Fault::Wrong);
+    };
+    let function = expect_behind(tokens, at, function, Punctuator::Comma)?;
+    Ok(Front::Spawn(function))
+}
+
+/// `( &` behind `lock` and `unlock`, and `(` behind `free`.
+fn place_front(tokens: &[Token], at: &mut usize, call: PlaceCall) -> Result<Front, Fault>
+    requires few { length tokens.now ≤ 2 ^ 20 }
+    requires there { at.old ≤ length tokens.now }
+    ensures reads { ReadsFront result (Place call) (from tokens.now at.old) (from tokens.now at.new) }
+    ensures placed { IsFrontPlaced result tokens.now at.old at.new }
+    ensures onward { at.old ≤ at.new }
+    ensures within { at.new ≤ length tokens.now }
+{
+    match call {
+        PlaceCall::Free => {
+            expect(tokens, at, Punctuator::OpenParenthesis)?;
+            Ok(Front::Place(PlaceCall::Free))
+        }
+        PlaceCall::Lock => {
+            expect(tokens, at, Punctuator::OpenParenthesis)?;
+            expect(tokens, at, Punctuator::Ampersand)?;
+            Ok(Front::Place(PlaceCall::Lock))
+        }
+        PlaceCall::Unlock => {
+            expect(tokens, at, Punctuator::OpenParenthesis)?;
+            expect(tokens, at, Punctuator::Ampersand)?;
+            Ok(Front::Place(PlaceCall::Unlock))
+        }
+    }
+}
+
+/// What stands behind the first word of an expression that a `)` ends, up to the expression inside.
 fn rest_of_front(
     alloc: Global,
     tokens: &[Token],
@@ -49,32 +94,12 @@ fn rest_of_front(
 {
     match word {
         FrontWord::Parenthesis => Ok(Front::Parenthesis),
-        FrontWord::Spawn => {
-            expect(tokens, at, Punctuator::OpenParenthesis)?;
-            let Some(function) = name(alloc, tokens, at)? else {
-                return Err(Fault::Wrong);
-            };
-            let function = expect_behind(tokens, at, function, Punctuator::Comma)?;
-            Ok(Front::Spawn(function))
-        }
+        FrontWord::Spawn => spawn_front(alloc, tokens, at),
         FrontWord::Value(call) => {
             expect(tokens, at, Punctuator::OpenParenthesis)?;
             Ok(Front::Value(call))
         }
-        FrontWord::Place(PlaceCall::Free) => {
-            expect(tokens, at, Punctuator::OpenParenthesis)?;
-            Ok(Front::Place(PlaceCall::Free))
-        }
-        FrontWord::Place(PlaceCall::Lock) => {
-            expect(tokens, at, Punctuator::OpenParenthesis)?;
-            expect(tokens, at, Punctuator::Ampersand)?;
-            Ok(Front::Place(PlaceCall::Lock))
-        }
-        FrontWord::Place(PlaceCall::Unlock) => {
-            expect(tokens, at, Punctuator::OpenParenthesis)?;
-            expect(tokens, at, Punctuator::Ampersand)?;
-            Ok(Front::Place(PlaceCall::Unlock))
-        }
+        FrontWord::Place(call) => place_front(tokens, at, call),
         FrontWord::Cast => Ok(Front::Cast(cast_type(alloc, tokens, at)?)),
     }
 }
@@ -278,7 +303,7 @@ fn postfix(alloc: Global, tokens: &[Token], at: &mut usize, room: u8) -> Result<
 
 /// The innermost part of an operand.
 #[cycle(expr)]
-#[tactic(auto, using(crate::proofs::Steps::front_goes, crate::proofs::Steps::front_deep, crate::proofs::Steps::no_operand, crate::proofs::Steps::call_deep, crate::proofs::Steps::front_missing))]
+#[tactic(auto, using(crate::proofs::Steps::front_goes, crate::proofs::Steps::front_deep, crate::proofs::Steps::no_operand, crate::proofs::Steps::front_missing))]
 fn primary(alloc: Global, tokens: &[Token], at: &mut usize, room: u8) -> Result<Piece, Fault>
     requires room { room ≤ 64 }
     requires few { length tokens.now ≤ 2 ^ 20 }
@@ -304,19 +329,7 @@ fn primary(alloc: Global, tokens: &[Token], at: &mut usize, room: u8) -> Result<
         )?;
         front_of(alloc, span(tokens, first, *at), front, inner)
     } else if let Some(name) = name(alloc, tokens, at)? {
-        let (name, opens) = both(name, enter(tokens, at, Punctuator::OpenParenthesis, room))?;
-        if opens {
-            let (name, (arguments, highest)) = both(name, arguments(alloc, tokens, at, room - 1))?;
-            Ok(Piece {
-                expr: Expr::call(span(tokens, first, *at), name, arguments),
-                height: highest + 1,
-            })
-        } else {
-            Ok(Piece {
-                expr: Expr::Identifier(span(tokens, first, *at), name),
-                height: 0,
-            })
-        }
+        name_or_call(alloc, tokens, at, first, name, room)
     } else if let Some(constant) = constant(tokens, at) {
         Ok(Piece {
             expr: Expr::Constant(span(tokens, first, *at), constant),
@@ -324,6 +337,44 @@ fn primary(alloc: Global, tokens: &[Token], at: &mut usize, room: u8) -> Result<
         })
     } else {
         Err(Fault::Wrong)
+    }
+}
+
+/// The name that is token number `first`, or a call of it where a `(` follows.
+#[cycle(expr)]
+#[tactic(auto, using(crate::proofs::Steps::call_deep))]
+fn name_or_call(
+    alloc: Global,
+    tokens: &[Token],
+    at: &mut usize,
+    first: usize,
+    name: Identifier,
+    room: u8,
+) -> Result<Piece, Fault>
+    requires room { room ≤ 64 }
+    requires few { length tokens.now ≤ 2 ^ 20 }
+    requires behind { at.old ≡ first + 1 }
+    requires there { at.old ≤ length tokens.now }
+    requires named { name.site ≡ site_in tokens.now first }
+    ensures reads { ReadsBehindName name.text room result (from tokens.now at.old) (from tokens.now at.new) }
+    ensures height { IsHigh room result }
+    ensures placed { IsPlaced result tokens.now first at.new }
+    ensures call { IfOk result (λ r. NoCall (phrase_of r.expr) (from tokens.now at.new)) }
+    ensures onward { at.old ≤ at.new }
+    ensures within { at.new ≤ length tokens.now }
+{
+    let (name, opens) = both(name, enter(tokens, at, Punctuator::OpenParenthesis, room))?;
+    if opens {
+        let (name, (arguments, highest)) = both(name, arguments(alloc, tokens, at, room - 1))?;
+        Ok(Piece {
+            expr: Expr::call(span(tokens, first, *at), name, arguments),
+            height: highest + 1,
+        })
+    } else {
+        Ok(Piece {
+            expr: Expr::Identifier(span(tokens, first, *at), name),
+            height: 0,
+        })
     }
 }
 

@@ -26,7 +26,7 @@ fn number(tokens: &[Token], at: &mut usize) -> Option<Number>
 }
 
 /// Goes past a constant that a `-` may stand before.
-fn signed(tokens: &[Token], at: &mut usize) -> Option<Constant>
+fn signed_constant(tokens: &[Token], at: &mut usize) -> Option<Constant>
     ensures { TakesSigned result tokens.now at.old at.new }
 {
     if *at >= tokens.len() {
@@ -72,7 +72,7 @@ fn constant_form(tokens: &[Token], at: &mut usize) -> Result<GlobalForm, Fault>
 {
     let first = *at;
     if take(tokens, at, Punctuator::Minus) {
-        let Some(constant) = signed(tokens, at) else {
+        let Some(constant) = signed_constant(tokens, at) else {
             return Err(Fault::Wrong);
         };
         return Ok(GlobalForm::Initial(span(tokens, first, *at), true, constant));

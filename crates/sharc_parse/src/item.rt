@@ -13,7 +13,7 @@ use crate::local::name_there;
 use crate::parameter::parameters;
 use crate::statement::statements;
 use crate::token::{Fault, span, take};
-use crate::types::{Modes, is_bare, written};
+use crate::types::{Modes, is_bare, written_type};
 use sharc_tree::ctype::Base;
 use sharc_tree::token::{Punctuator, Token};
 use sharc_tree::tree::{
@@ -144,7 +144,7 @@ pub(crate) fn item(alloc: Global, tokens: &[Token], at: &mut usize) -> Result<It
     ensures within { at.new ≤ length tokens.now }
 {
     let first = *at;
-    let written = written(alloc, tokens, at, Modes::Allowed)?;
+    let written = written_type(alloc, tokens, at, Modes::Allowed)?;
     if let Some(name) = opens_struct(alloc, tokens, at, &written)? {
         return rest_of_struct(alloc, tokens, at, name);
     }

@@ -7,7 +7,7 @@ ghost use Rattle.sharc_parse.specs.Locals.{ReadsName, IsNamePlaced, ReadsDeclara
 use crate::held::both;
 use crate::right::right;
 use crate::token::{Fault, name, span, take};
-use crate::types::{Modes, written};
+use crate::types::{Modes, written_type};
 use sharc_tree::token::{Punctuator, Token};
 use sharc_tree::tree::{Declaration, Identifier, Local, Right};
 use std::alloc::Global;
@@ -47,7 +47,7 @@ pub(crate) fn declaration(
     ensures within { at.new ≤ length tokens.now }
 {
     let first = *at;
-    let written = written(alloc, tokens, at, Modes::Allowed)?;
+    let written = written_type(alloc, tokens, at, Modes::Allowed)?;
     let (written, name) = both(written, name_there(alloc, tokens, at))?;
     Ok(Declaration {
         span: span(tokens, first, *at),
@@ -58,7 +58,7 @@ pub(crate) fn declaration(
 
 /// What stands right of `=`, if that is there.
 #[tactic(auto, using(crate::proofs::LocalSteps::initial_goes))]
-fn initial(alloc: Global, tokens: &[Token], at: &mut usize) -> Result<Option<Right>, Fault>
+fn initial_value(alloc: Global, tokens: &[Token], at: &mut usize) -> Result<Option<Right>, Fault>
     requires few { length tokens.now ≤ 2 ^ 20 }
     requires there { at.old ≤ length tokens.now }
     ensures reads { ReadsInitial result (from tokens.now at.old) (from tokens.now at.new) }
@@ -87,7 +87,7 @@ pub(crate) fn local(alloc: Global, tokens: &[Token], at: &mut usize) -> Result<L
 {
     let first = *at;
     let declaration = declaration(alloc, tokens, at)?;
-    let (declaration, initial) = both(declaration, initial(alloc, tokens, at))?;
+    let (declaration, initial) = both(declaration, initial_value(alloc, tokens, at))?;
     Ok(Local {
         span: span(tokens, first, *at),
         declaration,

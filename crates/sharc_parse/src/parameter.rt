@@ -8,7 +8,7 @@ ghost use Rattle.sharc_parse.specs.Parameters.{ClosesVoid, ReadsFirst, IsFirstPl
 use crate::held::both;
 use crate::local::{declaration, name_there};
 use crate::token::{Fault, expect, span, take};
-use crate::types::{Modes, is_bare, written};
+use crate::types::{Modes, is_bare, written_type};
 use sharc_tree::ctype::Base;
 use sharc_tree::token::{Punctuator, Token};
 use sharc_tree::tree::{Declaration, WrittenType};
@@ -38,7 +38,7 @@ fn first_parameter(
     ensures within { at.new ≤ length tokens.now }
 {
     let first = *at;
-    let written = written(alloc, tokens, at, Modes::Allowed)?;
+    let written = written_type(alloc, tokens, at, Modes::Allowed)?;
     if closes_void(tokens, at, &written) {
         return Ok(None);
     }

@@ -7,7 +7,7 @@ ghost use Rattle.sharc_parse.specs.Rights.{ReadsCount, IsCountPlaced, ReadsSized
 use crate::expr::{binary, unary};
 use crate::held::{both, expect_behind};
 use crate::token::{Fault, expect, expect_keyword, span, take_keyword};
-use crate::types::{Modes, written};
+use crate::types::{Modes, written_type};
 use sharc_tree::token::{Keyword, Punctuator, Token};
 use sharc_tree::tree::{Expr, Right, WrittenType};
 use std::alloc::Global;
@@ -33,7 +33,7 @@ fn count(alloc: Global, tokens: &[Token], at: &mut usize) -> Result<Option<Expr>
 
 /// `( plain ) )` behind `sizeof`.
 #[tactic(auto, using(crate::proofs::RightSteps::size_closes, crate::proofs::RightSteps::size_stuck, crate::proofs::RightSteps::size_opens, crate::proofs::RightSteps::malloc_closes, crate::proofs::Steps::fixed_stuck))]
-fn sized(alloc: Global, tokens: &[Token], at: &mut usize) -> Result<WrittenType, Fault>
+fn sized_type(alloc: Global, tokens: &[Token], at: &mut usize) -> Result<WrittenType, Fault>
     requires few { length tokens.now ≤ 2 ^ 20 }
     requires there { at.old ≤ length tokens.now }
     ensures reads { ReadsSized result (from tokens.now at.old) (from tokens.now at.new) }
@@ -42,7 +42,7 @@ fn sized(alloc: Global, tokens: &[Token], at: &mut usize) -> Result<WrittenType,
     ensures within { at.new ≤ length tokens.now }
 {
     expect(tokens, at, Punctuator::OpenParenthesis)?;
-    let plain = written(alloc, tokens, at, Modes::LeftOut)?;
+    let plain = written_type(alloc, tokens, at, Modes::LeftOut)?;
     let plain = expect_behind(tokens, at, plain, Punctuator::CloseParenthesis)?;
     let plain = expect_behind(tokens, at, plain, Punctuator::CloseParenthesis)?;
     Ok(plain)
@@ -63,7 +63,7 @@ pub(crate) fn right(alloc: Global, tokens: &[Token], at: &mut usize) -> Result<R
     if take_keyword(tokens, at, Keyword::Malloc) {
         expect(tokens, at, Punctuator::OpenParenthesis)?;
         let count = count(alloc, tokens, at)?;
-        let (count, written) = both(count, sized(alloc, tokens, at))?;
+        let (count, written) = both(count, sized_type(alloc, tokens, at))?;
         Ok(Right::Malloc(span(tokens, first, *at), count, written))
     } else {
         let piece = binary(alloc, tokens, at, 1, 64)?;

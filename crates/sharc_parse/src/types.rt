@@ -243,7 +243,7 @@ fn moded_base(
 
 /// A type as it is written.
 #[tactic(auto, using(crate::proofs::TypeSteps::first_level, crate::proofs::TypeSteps::levels_more, crate::proofs::TypeSteps::levels_deep, crate::proofs::TypeSteps::level_wrong, crate::proofs::TypeSteps::type_reads, crate::proofs::TypeSteps::type_ends, crate::proofs::TypeSteps::type_stands))]
-pub(crate) fn written(
+pub(crate) fn written_type(
     alloc: Global,
     tokens: &[Token],
     at: &mut usize,
@@ -306,7 +306,7 @@ pub(crate) fn cast_type(
     ensures within { at.new ≤ length tokens.now }
 {
     expect(tokens, at, Punctuator::OpenParenthesis)?;
-    let written = written(alloc, tokens, at, Modes::Allowed)?;
+    let written = written_type(alloc, tokens, at, Modes::Allowed)?;
     let written = expect_behind(tokens, at, written, Punctuator::Comma)?;
     Ok(written)
 }

@@ -14,6 +14,9 @@ decreases-arguments l = 8 * (length l.tokens.now - l.at.now) + 4
 abbrev pub decreases-binary : goal.decreases-binary
 decreases-binary l = 8 * (length l.tokens.now - l.at.now) + 3
 
+abbrev pub decreases-name_or_call : goal.decreases-name_or_call
+decreases-name_or_call l = 8 * (length l.tokens.now - l.at.now)
+
 abbrev pub decreases-postfix : goal.decreases-postfix
 decreases-postfix l = 8 * (length l.tokens.now - l.at.now) + 1
 

@@ -11,7 +11,7 @@ pub returns-in_err-written-2-clause-reads : goal.returns-in_err-written-2-clause
 returns-in_err-written-2-clause-reads c =
     let is : c.from_residual-in_err-written-2.result ≡ Err Wrong = search rules in
     let opens : Past (mark OpenParenthesis) c.args.tokens.now c.args.at.now c.expect.new.at = search rules in
-    let stays : c.expect_behind.new.at ≡ c.written.new.at = search rules in
+    let stays : c.expect_behind.new.at ≡ c.written_type.new.at = search rules in
     let missing : NotAt (mark Comma) (from c.args.tokens.now c.expect_behind.new.at) = search rules in
     subst (λ r. ReadsCast r (from c.args.tokens.now c.args.at.now) (from c.args.tokens.now c.expect_behind.new.at)) (sym is)
-    (cast_missed c.args.tokens.now c.args.at.now c.expect.new.at c.written.new.at c.expect_behind.new.at c.in_ok-written.written opens c.in_ok-written.ensures.reads c.in_ok-written.ensures.ends stays missing)
+    (cast_missed c.args.tokens.now c.args.at.now c.expect.new.at c.written_type.new.at c.expect_behind.new.at c.in_ok-written.written opens c.in_ok-written.ensures.reads c.in_ok-written.ensures.ends stays missing)

@@ -4,7 +4,7 @@ use Rattle.sharc_tree.specs.declared.token.Punctuator.TheVariants.{Star}
 use Rattle.sharc_parse.specs.Goes.{Past, from}
 use Rattle.sharc_parse.specs.Types.{may_stand, ReadsType}
 use Rattle.sharc_parse.proofs.TypeSteps.{levels_more, level_wrong}
-use Rattle.sharc_parse.proofs.types.written.Goals as goal
+use Rattle.sharc_parse.proofs.types.written_type.Goals as goal
 
 pub returns-in_err-above-clause-reads : goal.returns-in_err-above-clause-reads
 returns-in_err-above-clause-reads c =

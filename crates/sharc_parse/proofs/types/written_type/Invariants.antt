@@ -1,7 +1,7 @@
 use Rattle.std.proofs.Common.{◌≤◌, length, ◌-◌}
 use Rattle.sharc_parse.specs.Types.{may_stand}
 use Rattle.sharc_parse.proofs.TypeSteps.{SoFar}
-use Rattle.sharc_parse.proofs.types.written.Given as goal
+use Rattle.sharc_parse.proofs.types.written_type.Given as goal
 
 abbrev pub invariant-loop-levels : goal.invariant-loop-levels
 invariant-loop-levels l = record {
