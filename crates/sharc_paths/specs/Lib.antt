@@ -1,0 +1,7 @@
+pub mod Code
+pub mod Flow
+pub mod Orders
+pub mod Passes
+pub mod Sums
+pub mod Uses
+pub mod Views
