@@ -1,0 +1,8 @@
+use Rattle.std.proofs.Common.{◌≡◌, ◌++◌, drop}
+use Rattle.sharc_tree.specs.View.{view_statements}
+use Rattle.sharc_paths.specs.Code.{listing}
+use Rattle.sharc_live.specs.Flows.{statements_flow}
+use Rattle.sharc_live.proofs.statement.+statement.Given as goal
+
+abbrev pub invariant-statements-loop-stmt : goal.invariant-statements-loop-stmt
+invariant-statements-loop-stmt l = l.steps.items ++ listing (statements_flow l.t (view_statements (drop l.stmt-index l.all))) ≡ l.fn.steps.items ++ listing (statements_flow l.t (view_statements l.all))

@@ -1,0 +1,7 @@
+use Rattle.std.proofs.Common.{◌≡◌, ◌++◌, drop}
+use Rattle.sharc_paths.specs.Code.{listing}
+use Rattle.sharc_live.specs.Flows.{parameters_flow}
+use Rattle.sharc_live.proofs.statement.parameters.Given as goal
+
+abbrev pub invariant-loop-of : goal.invariant-loop-of
+invariant-loop-of l = l.steps.items ++ listing (parameters_flow (drop l.of-index l.all)) ≡ l.fn.steps.items ++ listing (parameters_flow l.all)

@@ -1,0 +1,9 @@
+use Rattle.std.proofs.Common.{[], List, drop}
+use Rattle.sharc_tree.specs.View.{view_items}
+use Rattle.sharc_ctype.specs.Resolved.{functions_in}
+use Rattle.sharc_paths.specs.declared.way.Warning.{Warning}
+use Rattle.sharc_live.specs.Gathers.{AddsAll}
+use Rattle.sharc_live.proofs.warnings.gathered.Given as goal
+
+abbrev pub invariant-loop-item : goal.invariant-loop-item
+invariant-loop-item l = (last : List Warning) → AddsAll l.t (functions_in (view_items (drop l.item-index l.items))) l.found.items last → AddsAll l.t (functions_in (view_items l.items)) [] last

@@ -1,0 +1,6 @@
+use Rattle.std.proofs.Common.{◌≡◌, ◌++◌, drop, map}
+use Rattle.sharc_live.specs.Uses.{warning_at}
+use Rattle.sharc_live.proofs.warnings.told.Given as goal
+
+abbrev pub invariant-loop-w : goal.invariant-loop-w
+invariant-loop-w l = l.list.items ++ map (warning_at l.t) (drop l.w-index l.found) ≡ map (warning_at l.t) l.found

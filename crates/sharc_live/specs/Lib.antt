@@ -1,0 +1,4 @@
+pub mod Flows
+pub mod Gathers
+pub mod Turns
+pub mod Uses

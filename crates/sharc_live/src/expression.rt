@@ -1,0 +1,147 @@
+// The steps of expressions.
+
+ghost use Rattle.std.specs.Prelude.{◌≡◌, ◌++◌, OnOk};
+ghost use Rattle.sharc_tree.specs.View.{view_expr, view_arguments};
+ghost use Rattle.sharc_paths.specs.Code.{listing};
+ghost use Rattle.sharc_live.specs.Flows.{goes_on, nulls, variable_of, of_operands, of_place_call, of_base, flow, flow_all, place_flow};
+
+use crate::variable::{nulls, reads, through, variable_named, variable_of};
+use sharc_ctype::typed::Typed;
+use sharc_paths::step::Step;
+use sharc_tree::tree::{Access, BinaryOperator, Expr, PlaceCall, UnaryOperator};
+use std::alloc::AllocError;
+
+/// The source of `free` is nulled.
+fn on_place(
+    t: &Typed,
+    token: u32,
+    call: PlaceCall,
+    source: &Expr,
+    steps: &mut Vec<Step>,
+) -> Result<(), AllocError>
+    ensures { OnOk result (steps.new.items ≡ steps.old.items ++ listing (of_place_call call goes_on (nulls (variable_of t.now (view_expr source.now)) token))) }
+{
+    match call {
+        PlaceCall::Free => nulls(variable_of(t, source), token, steps),
+        PlaceCall::Lock => Ok(()),
+        PlaceCall::Unlock => Ok(()),
+    }
+}
+
+/// Adds the steps of a value.
+#[cycle(expression)]
+pub(crate) fn expression(t: &Typed, expr: &Expr, steps: &mut Vec<Step>) -> Result<(), AllocError>
+    ensures { OnOk result (steps.new.items ≡ steps.old.items ++ listing (flow t.now (view_expr expr.now))) }
+{
+    match expr {
+        Expr::Identifier(_, name) => {
+            let token = name.site.token;
+            reads(variable_named(t.named(token)), token, steps)
+        }
+        Expr::Constant(_, _) => Ok(()),
+        Expr::Parentheses(_, inner) => expression(t, inner, steps),
+        Expr::Call(_, _, all) => arguments(t, all.as_slice(), steps),
+        Expr::Spawn(_, _, value) => expression(t, value, steps),
+        Expr::OnValue(_, _, value) => expression(t, value, steps),
+        Expr::OnPlace(span, call, source) => {
+            place(t, source, steps)?;
+            on_place(t, span.first.token, *call, source, steps)
+        }
+        Expr::Cast(span, _, source) => {
+            place(t, source, steps)?;
+            nulls(variable_of(t, source), span.first.token, steps)
+        }
+        Expr::Index(_, base, index) => {
+            expression(t, base, steps)?;
+            expression(t, index, steps)
+        }
+        Expr::Field {
+            span,
+            base,
+            access,
+            ..
+        } => {
+            field_base(t, *access, base, steps)?;
+            reads(
+                through(*access, variable_of(t, base)),
+                span.first.token,
+                steps,
+            )
+        }
+        Expr::Unary(_, _, operand) => expression(t, operand, steps),
+        Expr::Binary {
+            operator,
+            left,
+            right,
+            ..
+        } => {
+            expression(t, left, steps)?;
+            right_operand(t, *operator, right, steps)
+        }
+    }
+}
+
+#[cycle(expression)]
+fn arguments(t: &Typed, all: &[Expr], steps: &mut Vec<Step>) -> Result<(), AllocError>
+    ensures { OnOk result (steps.new.items ≡ steps.old.items ++ listing (flow_all t.now (view_arguments all.now))) }
+{
+    for expr in all {
+        expression(t, expr, steps)?;
+    }
+    Ok(())
+}
+
+/// The right operand, which is evaluated or not by `&&` and `||`.
+#[cycle(expression)]
+fn right_operand(
+    t: &Typed,
+    operator: BinaryOperator,
+    operand: &Expr,
+    steps: &mut Vec<Step>,
+) -> Result<(), AllocError>
+    ensures { OnOk result (steps.new.items ≡ steps.old.items ++ listing (of_operands operator goes_on (flow t.now (view_expr operand.now)))) }
+{
+    match operator {
+        BinaryOperator::LogicalAnd | BinaryOperator::LogicalOr => {
+            steps.push(Step::Fork)?;
+            steps.push(Step::Other)?;
+            expression(t, operand, steps)?;
+            steps.push(Step::Join)?;
+            Ok(())
+        }
+        _ => expression(t, operand, steps),
+    }
+}
+
+/// What stands before `.` is a place, before `->` a value.
+#[cycle(expression)]
+fn field_base(
+    t: &Typed,
+    access: Access,
+    base: &Expr,
+    steps: &mut Vec<Step>,
+) -> Result<(), AllocError>
+    ensures { OnOk result (steps.new.items ≡ steps.old.items ++ listing (of_base access (place_flow t.now (view_expr base.now)) (flow t.now (view_expr base.now)))) }
+{
+    match access {
+        Access::Dot => place(t, base, steps),
+        Access::Arrow => expression(t, base, steps),
+    }
+}
+
+/// Adds the steps by which the place that an lvalue names is found.
+#[cycle(expression)]
+pub(crate) fn place(t: &Typed, expr: &Expr, steps: &mut Vec<Step>) -> Result<(), AllocError>
+    ensures { OnOk result (steps.new.items ≡ steps.old.items ++ listing (place_flow t.now (view_expr expr.now))) }
+{
+    match expr {
+        Expr::Parentheses(_, inner) => place(t, inner, steps),
+        Expr::Index(_, base, index) => {
+            expression(t, base, steps)?;
+            expression(t, index, steps)
+        }
+        Expr::Field { base, access, .. } => field_base(t, *access, base, steps),
+        Expr::Unary(_, UnaryOperator::Dereference, operand) => expression(t, operand, steps),
+        _ => Ok(()),
+    }
+}
