@@ -1,0 +1,60 @@
+//! Tables of sources with what is told of them, as one text: a source, a line `--`, and what is wanted; a line `==` stands between two cases.
+
+use crate::told::{Telling, Untold, told};
+use std::alloc::{AllocError, Global};
+use std::process::Abort;
+use std::test::Fail;
+
+/// What tables of items stand behind, on one line.
+pub(crate) const FILE: &str =
+    "struct s { int n; struct s * next; mutex m; int locked(m) * q; }; mutex m; int main(void) { return 0; }\n";
+
+/// The text, or an end of the test that says why there is none.
+pub(crate) fn text_or_end(
+    rt: &(impl Abort + AllocGlobal),
+    source: &str,
+    told: Result<Vec<u8>, Untold>,
+) -> Vec<u8> {
+    match told {
+        Ok(text) => text,
+        Err(Untold::Large) => panic!(rt; "no memory: {source}"),
+        Err(Untold::Faulty(fault)) => {
+            panic!(rt; "fault {} at line {}: {source}", fault.code, fault.line)
+        }
+    }
+}
+
+fn joined(alloc: Global, file: &str, items: &str) -> Result<String, AllocError> {
+    format!(in alloc; "{file}{items}")
+}
+
+/// Asserts what is told of a source.
+fn assert_case(
+    rt: &(impl Abort + AllocGlobal),
+    telling: Telling,
+    source: &str,
+    wanted: &str,
+) -> Result<(), Fail> {
+    let found = text_or_end(rt, source, told(rt.alloc(), telling, source.as_bytes()));
+    assert_eq!(rt; String::from_utf8(found)?.as_str(), wanted, "{source}");
+    Ok(())
+}
+
+/// Asserts what is told of each source of a table, which stands behind the file.
+pub(crate) fn assert_table(
+    rt: &(impl Abort + AllocGlobal),
+    telling: Telling,
+    file: &str,
+    table: &str,
+) -> Result<(), Fail> {
+    for case in table.split("==\n") {
+        match case.split_once("--\n") {
+            None => panic!(rt; "no case: {case}"),
+            Some((items, wanted)) => {
+                let source = joined(rt.alloc(), file, items)?;
+                assert_case(rt, telling, source.as_str(), wanted)?;
+            }
+        }
+    }
+    Ok(())
+}

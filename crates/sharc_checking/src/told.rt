@@ -1,0 +1,166 @@
+//! What `check` and `explain` write of a source.
+//!
+//! What is large is let go of by `drop`, which is proved once for any value: a value that goes out of scope is proved to be dropped part by part.
+
+use sharc_check::{CheckFault, check};
+use sharc_ctype::typed::{TypeFault, Typed, type_program};
+use sharc_infer::infer;
+use sharc_lex::{LexFault, lex};
+use sharc_mode::error::ModeErrors;
+use sharc_mode::moded::Moded;
+use sharc_parse::{ParseFault, parse};
+use sharc_reach::reach;
+use sharc_report::{accepted_text, check_text, explain_text};
+use sharc_suggest::suggest_all;
+use sharc_tree::listed::Listed;
+use sharc_tree::token::FaultAt;
+use std::alloc::{AllocError, Global};
+
+/// Why nothing is said of the modes of a source.
+#[derive(Drop)]
+pub(crate) enum Untold {
+    /// It is no program; this is its first fault.
+    Faulty(FaultAt),
+    /// It is too large, or memory was wanting.
+    Large,
+}
+
+impl From<AllocError> for Untold {
+    fn from(_: AllocError) -> Untold {
+        Untold::Large
+    }
+}
+
+impl From<LexFault> for Untold {
+    fn from(fault: LexFault) -> Untold {
+        match fault {
+            LexFault::At(fault) => Untold::Faulty(fault),
+            LexFault::Memory => Untold::Large,
+        }
+    }
+}
+
+impl From<TypeFault> for Untold {
+    fn from(fault: TypeFault) -> Untold {
+        match fault {
+            TypeFault::At(fault) => Untold::Faulty(fault),
+            TypeFault::Memory => Untold::Large,
+        }
+    }
+}
+
+/// The typed program of a source.
+fn typed(alloc: Global, source: &[u8]) -> Result<Typed, Untold> {
+    if source.len() > 1_048_576 {
+        return Err(Untold::Large);
+    }
+    let tokens = lex(alloc, source)?;
+    match parse(alloc, tokens) {
+        Err(ParseFault::At(fault, tokens)) => {
+            drop(tokens);
+            Err(Untold::Faulty(fault))
+        }
+        Err(ParseFault::Memory) => Err(Untold::Large),
+        Ok(program) => {
+            if program.items.len() > 1_048_576 {
+                drop(program);
+                Err(Untold::Large)
+            } else {
+                Ok(type_program(alloc, program)?)
+            }
+        }
+    }
+}
+
+/// A typed program with the modes that it is inferred to have.
+fn inferred(alloc: Global, t: Typed) -> Result<Moded, Untold> {
+    match reach(alloc, &t) {
+        Err(_) => {
+            drop(t);
+            Err(Untold::Large)
+        }
+        Ok(reached) => match infer(alloc, t, &reached) {
+            Ok(m) => Ok(m),
+            Err(t) => {
+                drop(t);
+                Err(Untold::Large)
+            }
+        },
+    }
+}
+
+/// The program of a source, with its modes.
+pub(crate) fn moded(alloc: Global, source: &[u8]) -> Result<Moded, Untold> {
+    inferred(alloc, typed(alloc, source)?)
+}
+
+/// The errors of a program, each with the cast that repairs it.
+fn refused(alloc: Global, m: &Moded, errors: &ModeErrors) -> Result<Vec<u8>, AllocError> {
+    let casts = suggest_all(alloc, m, errors)?;
+    let text = check_text(alloc, m, errors, &casts);
+    drop(casts);
+    text
+}
+
+/// A program that is accepted. Which pointers may have been nulled is not told yet.
+fn accepted(alloc: Global, m: &Moded) -> Result<Vec<u8>, AllocError> {
+    let warnings = Listed::of(Vec::new(alloc));
+    accepted_text(alloc, m, &warnings)
+}
+
+/// The verdict over a program.
+fn judged(alloc: Global, m: Moded) -> Result<Vec<u8>, AllocError> {
+    match check(alloc, m) {
+        Ok(checked) => {
+            let text = accepted(alloc, checked.moded());
+            drop(checked);
+            text
+        }
+        Err(CheckFault::Memory(m)) => {
+            drop(m);
+            Err(AllocError)
+        }
+        Err(CheckFault::Modes(m, errors)) => {
+            let text = refused(alloc, &m, &errors);
+            drop(m);
+            drop(errors);
+            text
+        }
+    }
+}
+
+/// What `check` writes of a source.
+fn verdict(alloc: Global, source: &[u8]) -> Result<Vec<u8>, Untold> {
+    Ok(judged(alloc, moded(alloc, source)?)?)
+}
+
+/// What `explain` writes of a program before its verdict.
+fn types(alloc: Global, m: Moded) -> Result<Vec<u8>, AllocError> {
+    let text = explain_text(alloc, &m);
+    drop(m);
+    text
+}
+
+/// What `explain` writes of a source.
+fn explanation(alloc: Global, source: &[u8]) -> Result<Vec<u8>, Untold> {
+    let mut text = types(alloc, moded(alloc, source)?)?;
+    text.extend_from_slice(verdict(alloc, source)?.as_slice())?;
+    Ok(text)
+}
+
+/// What is told of a source.
+#[derive(Clone, Copy)]
+pub(crate) enum Telling {
+    /// What `check` writes.
+    Verdict,
+    /// What `explain` writes.
+    Explanation,
+}
+
+/// What is told of a source.
+pub(crate) fn told(alloc: Global, telling: Telling, source: &[u8]) -> Result<Vec<u8>, Untold> {
+    match telling {
+        Telling::Verdict => verdict(alloc, source),
+        Telling::Explanation => explanation(alloc, source),
+    }
+}
