@@ -1,4 +1,3 @@
 pub mod Lines
 pub mod Replies
-pub mod Faults
-pub mod Typing
+pub mod Verdicts

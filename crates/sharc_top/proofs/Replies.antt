@@ -1,11 +1,17 @@
 -- What a reply is a reply to.
-use Rattle.std.proofs.Common.{◌≡◌, ℕ, ◌+◌, ◌<◌, ◌≤◌, List, [], length, Option, Some, None, IfSome, unwrap_or, refl, arith, replicate, codes, false, inl, inr}
+use Rattle.std.proofs.Common.{◌≡◌, ℕ, ◌+◌, ◌<◌, ◌≤◌, List, [], length, Option, Some, None, IfSome, unwrap_or, refl, arith, replicate, codes, inl, inr}
 use Rattle.std.proofs.lemmas.List.{length-replicate}
+use Rattle.sharc_mode.specs.Moded.{Assignment}
 use Rattle.sharc_command.specs.Commands.{commands}
 use Rattle.sharc_command.specs.declared.command.Command.{Command}
+use Rattle.sharc_top.specs.declared.status.Status.{Status}
+use Rattle.sharc_top.specs.declared.status.Status.TheVariants as status
+use Rattle.sharc_top.specs.declared.task.Task.{Task}
+use Rattle.sharc_top.specs.declared.task.Task.TheVariants as task
 use Rattle.sharc_top.specs.Text.{line}
-use Rattle.sharc_top.specs.Reply.{is_run, IsRun, usage_text, Runs, not_lexed, not_parsed, not_typed, printed, not_built, Replies, IsReply, usage, unbuilt, too_long, run}
-use Rattle.sharc_top.specs.Status.{IsOfReply, IsOfSilence}
+use Rattle.sharc_top.specs.Verdict.{Checks, accepted, refused, Explains, explained, Runs, not_run, printed, not_built, Does}
+use Rattle.sharc_top.specs.Reply.{task_of, task_in, ReadsSource, usage_text, Answers, faulty, program, Replies, IsReply, usage, unbuilt, too_long, answered}
+use Rattle.sharc_top.specs.Status.{code_of, IsOfReply, IsOfSilence}
 
 -- what a source has left, where it tells it
 pub told_left : (left : Option (List ℕ)) → IfSome left (λ bytes. unwrap_or left [] ≡ bytes)
@@ -22,58 +28,85 @@ pub long_input : (left : Option (List ℕ)) (limit : ℕ) → IfSome left (λ by
 long_input None limit h = record { input = replicate (limit + 1) 0; told = tt; long = omega (arith, length-replicate {A = ℕ} (limit + 1) 0) }
 long_input (Some bytes) limit h = record { input = bytes; told = refl; long = h }
 
-pub reply_usage : (words : List (List ℕ)) (left : Option (List ℕ)) (code : ℕ) (text : List ℕ) → commands words ≡ None
-    → code ≡ 8 → text ≡ line usage_text → IsReply words left code text
-reply_usage words left code text none c t =
-    record { input = unwrap_or left []; told = told_left left; reply = rw (c, t) (usage none) }
+pub reply_usage : (words : List (List ℕ)) (left : Option (List ℕ)) (s : Status) (text : List ℕ) → commands words ≡ None
+    → s ≡ status.Usage → text ≡ line usage_text → IsReply words left s text
+reply_usage words left s text none e t =
+    record { input = unwrap_or left []; told = told_left left; reply = rw (e, t) (usage none) }
 
-pub reply_unbuilt : (words : List (List ℕ)) (left : Option (List ℕ)) (code : ℕ) (text : List ℕ) (command : Command) → commands words ≡ Some command
-    → is_run (Some command) ≡ false → code ≡ 7 → text ≡ line (codes "form not built") → IsReply words left code text
-reply_unbuilt words left code text command is other c t =
-    record { input = unwrap_or left []; told = told_left left; reply = rw (c, t) (unbuilt (record { command = command; is = is; other = other })) }
+pub reply_unbuilt : (words : List (List ℕ)) (left : Option (List ℕ)) (s : Status) (text : List ℕ) (command : Command) → commands words ≡ Some command
+    → task_of command ≡ None → s ≡ status.NotBuilt → text ≡ line (codes "form not built") → IsReply words left s text
+reply_unbuilt words left s text command is other e t =
+    record { input = unwrap_or left []; told = told_left left; reply = rw (e, t) (unbuilt (record { command = command; is = is; other = other })) }
 
-pub reply_too_long : (words : List (List ℕ)) (left : Option (List ℕ)) (code : ℕ) (text : List ℕ) → IsRun words
-    → IfSome left (λ bytes. 1048576 < length bytes) → code ≡ 2 → text ≡ line (codes "source over 1048576 bytes") → IsReply words left code text
-reply_too_long words left code text h long c t =
+pub reply_too_long : (words : List (List ℕ)) (left : Option (List ℕ)) (s : Status) (text : List ℕ) → ReadsSource words
+    → IfSome left (λ bytes. 1048576 < length bytes) → s ≡ status.SourceRefused → text ≡ line (codes "source over 1048576 bytes") → IsReply words left s text
+reply_too_long words left s text h long e t =
     let l = long_input left 1048576 long in
-    record { input = l.input; told = l.told; reply = rw (c, t) (too_long h l.long) }
+    record { input = l.input; told = l.told; reply = rw (e, t) (too_long h l.long) }
 
-pub reply_run : (words : List (List ℕ)) (left : Option (List ℕ)) (source : List ℕ) (code : ℕ) (text : List ℕ) → IsRun words
-    → IfSome left (λ bytes. source ≡ bytes) → length source ≤ 1048576 → Runs source code text → IsReply words left code text
-reply_run words left source code text h told short runs = record { input = source; told = told; reply = run code text h short runs }
+pub reply_answered : (words : List (List ℕ)) (left : Option (List ℕ)) (t : Task) (source : List ℕ) (s : Status) (text : List ℕ) → task_in (commands words) ≡ Some t
+    → IfSome left (λ bytes. source ≡ bytes) → length source ≤ 1048576 → Answers t source s text → IsReply words left s text
+reply_answered words left t source s text h told short a = record { input = source; told = told; reply = answered t s text h short a }
 
-run_status : (source : List ℕ) (n : ℕ) (text : List ℕ) → Runs source n text → IsOfReply n
-run_status source n text (not_lexed at h) = inr (inl refl)
-run_status source n text (not_parsed tokens at h f) = inr (inl refl)
-run_status source n text (not_typed tokens p at h r f) = inr (inl refl)
-run_status source n text (printed tokens p numbers h r t w) = inl refl
-run_status source n text (not_built tokens p h r t none) = inr (inr (inl refl))
+-- ---- a reply has none of the statuses of failures
 
-reply_status : (words : List (List ℕ)) (input : List ℕ) (n : ℕ) (text : List ℕ) → Replies words input n text → IsOfReply n
-reply_status words input n text (usage h) = inr (inr (inr refl))
-reply_status words input n text (unbuilt h) = inr (inr (inl refl))
-reply_status words input n text (too_long h long) = inr (inl refl)
-reply_status words input n text (run m t h short runs) = run_status input m t runs
+checks_status : (m : Assignment) (s : Status) (text : List ℕ) → Checks m s text → IsOfReply (code_of s)
+checks_status m s text (accepted warnings well are) = inl refl
+checks_status m s text (refused t is) = inr (inl refl)
+
+explains_status : (m : Assignment) (s : Status) (text : List ℕ) → Explains m s text → IsOfReply (code_of s)
+explains_status m s text (explained x verdict is) = checks_status m x verdict is
+
+runs_status : (m : Assignment) (s : Status) (text : List ℕ) → Runs m s text → IsOfReply (code_of s)
+runs_status m s text (not_run t is) = inr (inl refl)
+runs_status m s text (printed numbers well are) = inl refl
+runs_status m s text (not_built well none) = inr (inr (inr (inl refl)))
+
+does_status : (t : Task) (m : Assignment) (s : Status) (text : List ℕ) → Does t m s text → IsOfReply (code_of s)
+does_status task.Check m s text d = checks_status m s text d
+does_status task.Explain m s text d = explains_status m s text d
+does_status task.Run m s text d = runs_status m s text d
+
+answers_status : (t : Task) (source : List ℕ) (s : Status) (text : List ℕ) → Answers t source s text → IsOfReply (code_of s)
+answers_status t source s text (faulty stage at fault) = inr (inr (inl refl))
+answers_status t source s text (program m x y front d) = does_status t m x y d
+
+reply_status : (words : List (List ℕ)) (input : List ℕ) (s : Status) (text : List ℕ) → Replies words input s text → IsOfReply (code_of s)
+reply_status words input s text (usage h) = inr (inr (inr (inr refl)))
+reply_status words input s text (unbuilt h) = inr (inr (inr (inl refl)))
+reply_status words input s text (too_long h long) = inr (inr (inl refl))
+reply_status words input s text (answered t x y h short a) = answers_status t input x y a
 
 not_ten : (n : ℕ) → IsOfReply n → n ≡ 10 → ⊥
 not_ten n (inl a) e = omega arith
 not_ten n (inr (inl a)) e = omega arith
 not_ten n (inr (inr (inl a))) e = omega arith
-not_ten n (inr (inr (inr a))) e = omega arith
+not_ten n (inr (inr (inr (inl a)))) e = omega arith
+not_ten n (inr (inr (inr (inr a)))) e = omega arith
+
+not_nine : (n : ℕ) → IsOfReply n → n ≡ 9 → ⊥
+not_nine n (inl a) e = omega arith
+not_nine n (inr (inl a)) e = omega arith
+not_nine n (inr (inr (inl a))) e = omega arith
+not_nine n (inr (inr (inr (inl a)))) e = omega arith
+not_nine n (inr (inr (inr (inr a)))) e = omega arith
+
+not_eleven : (n : ℕ) → IsOfReply n → n ≡ 11 → ⊥
+not_eleven n (inl a) e = omega arith
+not_eleven n (inr (inl a)) e = omega arith
+not_eleven n (inr (inr (inl a))) e = omega arith
+not_eleven n (inr (inr (inr (inl a)))) e = omega arith
+not_eleven n (inr (inr (inr (inr a)))) e = omega arith
 
 not_silent : (n : ℕ) → IsOfReply n → IsOfSilence n → ⊥
-not_silent n (inl a) (inl e) = omega arith
-not_silent n (inl a) (inr e) = omega arith
-not_silent n (inr (inl a)) (inl e) = omega arith
-not_silent n (inr (inl a)) (inr e) = omega arith
-not_silent n (inr (inr (inl a))) (inl e) = omega arith
-not_silent n (inr (inr (inl a))) (inr e) = omega arith
-not_silent n (inr (inr (inr a))) (inl e) = omega arith
-not_silent n (inr (inr (inr a))) (inr e) = omega arith
+not_silent n r (inl e) = not_nine n r e
+not_silent n r (inr e) = not_eleven n r e
 
--- a reply has none of the statuses of failures
-pub reply_not_ten : (words : List (List ℕ)) (left : Option (List ℕ)) (n : ℕ) (text : List ℕ) → IsReply words left n text → n ≡ 10 → ⊥
-reply_not_ten words left n text r = not_ten n (reply_status words r.input n text r.reply)
+pub reply_of : (words : List (List ℕ)) (left : Option (List ℕ)) (s : Status) (text : List ℕ) → IsReply words left s text → IsOfReply (code_of s)
+reply_of words left s text r = reply_status words r.input s text r.reply
 
-pub reply_not_silent : (words : List (List ℕ)) (left : Option (List ℕ)) (n : ℕ) (text : List ℕ) → IsReply words left n text → IsOfSilence n → ⊥
-reply_not_silent words left n text r = not_silent n (reply_status words r.input n text r.reply)
+pub reply_not_ten : (words : List (List ℕ)) (left : Option (List ℕ)) (s : Status) (text : List ℕ) → IsReply words left s text → code_of s ≡ 10 → ⊥
+reply_not_ten words left s text r = not_ten (code_of s) (reply_of words left s text r)
+
+pub reply_not_silent : (words : List (List ℕ)) (left : Option (List ℕ)) (s : Status) (text : List ℕ) → IsReply words left s text → IsOfSilence (code_of s) → ⊥
+reply_not_silent words left s text r = not_silent (code_of s) (reply_of words left s text r)

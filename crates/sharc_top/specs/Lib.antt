@@ -3,3 +3,4 @@ pub mod Reply
 pub mod Status
 pub mod Text
 pub mod TreeSums
+pub mod Verdict

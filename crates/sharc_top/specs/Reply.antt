@@ -1,76 +1,86 @@
 -- What the program writes for its words and its input, and with which status it ends.
-use Rattle.std.specs.Prelude.{◌≡◌, ℕ, ◌<◌, ◌≤◌, Bool, true, false, List, length, take, codes, Option, Some, None, IfSome, Ok, Err}
+use Rattle.std.specs.Prelude.{◌≡◌, ℕ, ◌<◌, ◌≤◌, List, length, take, codes, Option, Some, None, IfSome, IsSome}
 use Rattle.std.specs.Io.KnownBytes.{Appends}
 use Rattle.sharc_tree.specs.declared.token.FaultAt.{FaultAt}
-use Rattle.sharc_tree.specs.declared.token.Tokens.{Tokens}
-use Rattle.sharc_tree.specs.Tree.{Program}
+use Rattle.sharc_mode.specs.Moded.{Assignment}
 use Rattle.sharc_command.specs.Commands.{commands}
 use Rattle.sharc_command.specs.declared.command.Command.{Command}
 use Rattle.sharc_command.specs.declared.command.Command.TheVariants as command
-use Rattle.sharc_lex.specs.Grammar.{reading}
-use Rattle.sharc_grammar.specs.Places.{Reads}
-use Rattle.sharc_parse.specs.Programs.{IsFaultOf}
-use Rattle.sharc_ctype.specs.Items.{IsTyped}
-use Rattle.sharc_ctype.specs.Typings as typing
 use Rattle.sharc_report.specs.Refusals.{refusal_line}
-use Rattle.sharc_report.specs.declared.refusal.Stage.TheVariants.{Lexer, Parser, Typing}
-use Rattle.sharc_top.specs.Text.{line, numbers_text}
-use Rattle.sharc_top.specs.TreeSums.{program_values}
+use Rattle.sharc_report.specs.declared.refusal.Stage.{Stage}
+use Rattle.sharc_sound.specs.Front.{IsFront, IsFaultAt}
+use Rattle.sharc_top.specs.declared.status.Status.{Status}
+use Rattle.sharc_top.specs.declared.status.Status.TheVariants as status
+use Rattle.sharc_top.specs.declared.task.Task.{Task}
+use Rattle.sharc_top.specs.declared.task.Task.TheVariants as task
+use Rattle.sharc_top.specs.Status.{code_of}
+use Rattle.sharc_top.specs.Text.{line}
+use Rattle.sharc_top.specs.Verdict.{Does}
 
--- a command of the command line, or none
-abbrev pub is_run : Option Command → Bool
-is_run (Some (command.Run workers granules events seed)) = true
-is_run _ = false
+-- ---- the words
 
--- the words are `run`, with options or without
-abbrev pub IsRun : List (List ℕ) → Type 0
-IsRun words = is_run (commands words) ≡ true
+-- what a command does with a source; none of the commands that are not built yet
+abbrev pub task_of : Command → Option Task
+task_of command.Check = Some task.Check
+task_of command.Explain = Some task.Explain
+task_of (command.Run workers granules events seed) = Some task.Run
+task_of _ = None
+
+abbrev pub task_in : Option Command → Option Task
+task_in None = None
+task_in (Some c) = task_of c
+
+-- the words are `check`, `explain`, or `run` with options or without
+abbrev pub ReadsSource : List (List ℕ) → Type 0
+ReadsSource words = IsSome (task_in (commands words))
 
 -- the words are a command that is not built yet
 pub record IsUnbuilt (words : List (List ℕ)) : Type 0 where
   pub command : Command
   pub is : commands words ≡ Some command
-  pub other : is_run (Some command) ≡ false
+  pub other : task_of command ≡ None
 
 abbrev pub usage_text : List ℕ
 usage_text = codes "usage: check | explain | run [--workers N] [--granules N] [--events N] [--seed N] | load N [--workers N] | record [--workers N] [--granules N] [--events N] | replay | audit"
+
+-- ---- the source
 
 -- how many bytes a source has at most
 abbrev pub source_limit : ℕ
 source_limit = 1048576
 
--- what `run` writes for a source within the limit, and its status
-pub data Runs (source : List ℕ) : ℕ → List ℕ → Type 0 where
-  not_lexed : (at : FaultAt) → reading source ≡ Err at → Runs source 2 (refusal_line Lexer at)
-  not_parsed : (tokens : Tokens) (at : FaultAt) → reading source ≡ Ok tokens → IsFaultOf tokens at → Runs source 2 (refusal_line Parser at)
-  not_typed : (tokens : Tokens) (p : Program) (at : FaultAt) → reading source ≡ Ok tokens → Reads tokens p → typing.IsFaultOf p at → Runs source 2 (refusal_line Typing at)
-  printed : (tokens : Tokens) (p : Program) (numbers : List ℕ) → reading source ≡ Ok tokens → Reads tokens p → IsTyped p → program_values p ≡ Some numbers
-      → Runs source 0 (numbers_text numbers)
-  not_built : (tokens : Tokens) (p : Program) → reading source ≡ Ok tokens → Reads tokens p → IsTyped p → program_values p ≡ None
-      → Runs source 7 (line (codes "form not built"))
+-- What is written for a source within the limit, and the status: the first fault of the first stage that has one, else what becomes of the program that
+-- it is, with the least modes.
+pub data Answers (t : Task) (source : List ℕ) : Status → List ℕ → Type 0 where
+  faulty : (stage : Stage) (at : FaultAt) → IsFaultAt source stage at → Answers t source status.SourceRefused (refusal_line stage at)
+  program : (m : Assignment) (s : Status) (text : List ℕ) → IsFront source m → Does t m s text → Answers t source s text
+
+-- ---- the reply
 
 -- what is written for the words and the input, and the status
-pub data Replies (words : List (List ℕ)) (input : List ℕ) : ℕ → List ℕ → Type 0 where
-  usage : commands words ≡ None → Replies words input 8 (line usage_text)
-  unbuilt : IsUnbuilt words → Replies words input 7 (line (codes "form not built"))
-  too_long : IsRun words → source_limit < length input → Replies words input 2 (line (codes "source over 1048576 bytes"))
-  run : (status : ℕ) (text : List ℕ) → IsRun words → length input ≤ source_limit → Runs input status text → Replies words input status text
+pub data Replies (words : List (List ℕ)) (input : List ℕ) : Status → List ℕ → Type 0 where
+  usage : commands words ≡ None → Replies words input status.Usage (line usage_text)
+  unbuilt : IsUnbuilt words → Replies words input status.NotBuilt (line (codes "form not built"))
+  too_long : ReadsSource words → source_limit < length input → Replies words input status.SourceRefused (line (codes "source over 1048576 bytes"))
+  answered : (t : Task) (s : Status) (text : List ℕ) → task_in (commands words) ≡ Some t → length input ≤ source_limit → Answers t input s text → Replies words input s text
 
 -- The reply to the words and to what the source had left. Of a source that does not tell its bytes it is the reply to some input.
-pub record IsReply (words : List (List ℕ)) (left : Option (List ℕ)) (status : ℕ) (text : List ℕ) : Type 0 where
+pub record IsReply (words : List (List ℕ)) (left : Option (List ℕ)) (s : Status) (text : List ℕ) : Type 0 where
   pub input : List ℕ
   pub told : IfSome left (λ bytes. input ≡ bytes)
-  pub reply : Replies words input status text
+  pub reply : Replies words input s text
 
--- the whole reply was written
-pub record Replied (words : List (List ℕ)) (left old new : Option (List ℕ)) (status : ℕ) : Type 0 where
+-- the whole reply was written, and this is its exit status
+pub record Replied (words : List (List ℕ)) (left old new : Option (List ℕ)) (code : ℕ) : Type 0 where
+  pub status : Status
+  pub ends : code ≡ code_of status
   pub text : List ℕ
   pub reply : IsReply words left status text
   pub written : Appends old new text
 
 -- a front part of the reply was written, and not all of it
 pub record RepliedInPart (words : List (List ℕ)) (left old new : Option (List ℕ)) : Type 0 where
-  pub status : ℕ
+  pub status : Status
   pub text : List ℕ
   pub reply : IsReply words left status text
   pub count : ℕ

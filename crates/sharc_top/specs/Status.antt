@@ -1,11 +1,12 @@
 -- The exit statuses.
 use Rattle.std.specs.Prelude.{ℕ, ◌≡◌, ◌⊎◌}
-use Rattle.sharc_top.specs.declared.reply.Status.{Status}
-use Rattle.sharc_top.specs.declared.reply.Status.TheVariants as status
+use Rattle.sharc_top.specs.declared.status.Status.{Status}
+use Rattle.sharc_top.specs.declared.status.Status.TheVariants as status
 
 abbrev pub code_of : Status → ℕ
 code_of status.Done = 0
-code_of status.Refused = 2
+code_of status.ModesRefused = 1
+code_of status.SourceRefused = 2
 code_of status.NotBuilt = 7
 code_of status.Usage = 8
 code_of status.ReadFault = 9
@@ -14,7 +15,7 @@ code_of status.NoMemory = 11
 
 -- the reply was written whole
 abbrev pub IsOfReply : ℕ → Type 0
-IsOfReply code = (code ≡ 0) ⊎ (code ≡ 2) ⊎ (code ≡ 7) ⊎ (code ≡ 8)
+IsOfReply code = (code ≡ 0) ⊎ (code ≡ 1) ⊎ (code ≡ 2) ⊎ (code ≡ 7) ⊎ (code ≡ 8)
 
 -- nothing was written
 abbrev pub IsOfSilence : ℕ → Type 0

@@ -5,10 +5,14 @@
 
 mod arithmetic;
 mod reply;
+mod status;
+mod task;
 #[cfg(test)]
 mod tests;
 mod text;
 mod top;
 mod tree_sums;
+mod verdict;
+mod words;
 
 pub use top::sharc_top;

@@ -2,11 +2,12 @@
 
 ghost use Rattle.std.specs.Prelude.{◌≡◌, ◌≤◌, ◌⊎◌, map, string_bytes};
 ghost use Rattle.sharc_io.specs.Causes.{Rose, EitherRose};
-ghost use Rattle.sharc_top.specs.Reply.{IsRun, Replied, RepliedInPart};
+ghost use Rattle.sharc_top.specs.Reply.{ReadsSource, Replied, RepliedInPart};
 ghost use Rattle.sharc_top.specs.Status.{IsOfReply, IsOfSilence};
 
-use crate::reply::{Failure, Status, reply_to};
+use crate::status::Status;
 use crate::text::write_lines;
+use crate::words::{Failure, reply_to};
 use sharc_io::{Sink, Source};
 use std::alloc::Global;
 
@@ -30,12 +31,12 @@ pub fn sharc_top<S: Source, O: Sink>(
 
     // The source failed, behind `run`.
     ensures source_failed { result ≡ 9 → Rose (S.faults input.old) (S.faults input.new) }
-    ensures source_read { result ≡ 9 → IsRun (map string_bytes words.now) }
+    ensures source_read { result ≡ 9 → ReadsSource (map string_bytes words.now) }
 
     ensures silent { IsOfSilence result → O.held out.new ≡ O.held out.old }
 
     // Where the words are not `run`, nothing is read.
-    ensures unread { ¬ (IsRun (map string_bytes words.now)) → (S.left input.new ≡ S.left input.old) × (S.faults input.new ≡ S.faults input.old) }
+    ensures unread { ¬ (ReadsSource (map string_bytes words.now)) → (S.left input.new ≡ S.left input.old) × (S.faults input.new ≡ S.faults input.old) }
 
     ensures source_faults { S.faults input.old ≤ S.faults input.new }
     ensures sink_faults { O.faults out.old ≤ O.faults out.new }

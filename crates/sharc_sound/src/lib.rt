@@ -1,0 +1,8 @@
+//! The front end as one call: from the bytes of a source to a program with its modes.
+//!
+//! The layer above uses `front`. What it answers stands in specs/Front.antt, in terms of the grammars, of C typing and of the least assignment.
+#![tactic(auto)]
+
+mod program;
+
+pub use program::{Refusal, SourceFault, front};

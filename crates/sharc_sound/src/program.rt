@@ -1,0 +1,84 @@
+//! From bytes to a program with its modes.
+
+ghost use Rattle.std.specs.Prelude.{◌≤◌, length};
+ghost use Rattle.sharc_sound.specs.Front.{Types, Fronts};
+
+use sharc_ctype::typed::{TypeFault, Typed, type_program};
+use sharc_grammar::laws::programs_are_placed;
+use sharc_infer::infer;
+use sharc_lex::{LexFault, lex};
+use sharc_mode::error::ModeErrors;
+use sharc_mode::moded::Moded;
+use sharc_parse::{ParseFault, parse};
+use sharc_reach::reach;
+use sharc_report::Stage;
+use sharc_tree::token::FaultAt;
+use std::alloc::{AllocError, Global};
+
+/// A fault of the lexer, of the parser or of C typing.
+#[derive(Drop)]
+pub struct SourceFault {
+    pub stage: Stage,
+    pub at: FaultAt,
+}
+
+/// Why a source is refused.
+#[derive(Drop)]
+pub enum Refusal {
+    /// The first fault of the first stage that has one.
+    Source(SourceFault),
+    /// All cases of M1 to M11 that arise, and the program, which is handed back. `front` does not look for them.
+    Modes(Moded, ModeErrors),
+    /// Memory was wanting.
+    Memory,
+}
+
+/// The typed program of a source.
+fn typed(alloc: Global, source: &[u8]) -> Result<Typed, Refusal>
+    requires { length source.now ≤ 1_048_576 }
+    ensures { Types source.now result }
+{
+    let tokens = match lex(alloc, source) {
+        Ok(tokens) => tokens,
+        Err(LexFault::At(at)) => return Err(Refusal::Source(SourceFault {
+            stage: Stage::Lexer,
+            at,
+        })),
+        Err(LexFault::Memory) => return Err(Refusal::Memory),
+    };
+    let program = match parse(alloc, tokens) {
+        Ok(program) => program,
+        Err(ParseFault::At(at, _)) => return Err(Refusal::Source(SourceFault {
+            stage: Stage::Parser,
+            at,
+        })),
+        Err(ParseFault::Memory) => return Err(Refusal::Memory),
+    };
+    programs_are_placed();
+    match type_program(alloc, program) {
+        Ok(typed) => {
+            let _resolved = typed.program();
+            Ok(typed)
+        }
+        Err(TypeFault::At(at)) => Err(Refusal::Source(SourceFault {
+            stage: Stage::Typing,
+            at,
+        })),
+        Err(TypeFault::Memory) => Err(Refusal::Memory),
+    }
+}
+
+/// The program that a source is, with the least assignment of modes, or the first fault of the first stage that has one (own).
+pub fn front(alloc: Global, source: &[u8]) -> Result<Moded, Refusal>
+    requires { length source.now ≤ 1_048_576 }
+    ensures { Fronts source.now result }
+{
+    let typed = typed(alloc, source)?;
+    let Ok(reached) = reach(alloc, &typed) else {
+        return Err(Refusal::Memory);
+    };
+    match infer(alloc, typed, &reached) {
+        Ok(moded) => Ok(moded),
+        Err(_) => Err(Refusal::Memory),
+    }
+}

@@ -1,0 +1,7 @@
+use Rattle.std.proofs.Common.{refl, ◌∙◌, ap}
+use Rattle.sharc_report.specs.Verdicts.{accepted_text}
+use Rattle.sharc_top.proofs.Verdicts.{checks_accepted}
+use Rattle.sharc_top.proofs.verdict.acceptance.Goals as goal
+
+pub returns : goal.returns
+returns c = checks_accepted _ _ _ _ c.moded.ensures.well c.in_ok-warnings.ensures refl (c.in_ok-text.ensures ∙ ap (λ m. accepted_text m.typed c.in_ok-warnings.warnings) c.moded.ensures.moded)

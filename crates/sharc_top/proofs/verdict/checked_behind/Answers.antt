@@ -1,0 +1,8 @@
+use Rattle.std.proofs.Common.{ap, ◌∙◌, ◌++◌}
+use Rattle.sharc_report.specs.Explanations.{explain_text}
+use Rattle.sharc_top.proofs.Verdicts.{explains_both}
+use Rattle.sharc_top.proofs.verdict.checked_behind.Goals as goal
+
+pub returns : goal.returns
+returns c = explains_both _ _ _ _ c.in_ok-verdict.ensures
+    (c.in_ok-extend_from_slice.ensures.items ∙ (ap (λ text. text ++ c.deref.result.now) c.requires ∙ ap (λ text. explain_text c.args.m ++ text) c.deref.ensures.value))

@@ -1,0 +1,43 @@
+//! The exit statuses.
+
+ghost use Rattle.std.specs.Prelude.{◌≡◌};
+ghost use Rattle.sharc_top.specs.Status.{code_of};
+
+/// How a call ends.
+#[derive(Clone, Copy, Debug, PartialEq, Eq)]
+pub enum Status {
+    /// The program ran to its end, or its modes are accepted.
+    Done,
+    /// The modes of the source are refused.
+    ModesRefused,
+    /// The source is too long, or the lexer, the parser or C typing refuses it.
+    SourceRefused,
+    /// The command, or the form of the source, is not built yet.
+    NotBuilt,
+    /// The words are no command.
+    Usage,
+    /// Reading failed.
+    ReadFault,
+    /// Writing failed, or stalled.
+    WriteFault,
+    /// Memory was wanting.
+    NoMemory,
+}
+
+impl Status {
+    /// The exit status.
+    pub fn code(self) -> u8
+        ensures { result ≡ code_of self }
+    {
+        match self {
+            Status::Done => 0,
+            Status::ModesRefused => 1,
+            Status::SourceRefused => 2,
+            Status::NotBuilt => 7,
+            Status::Usage => 8,
+            Status::ReadFault => 9,
+            Status::WriteFault => 10,
+            Status::NoMemory => 11,
+        }
+    }
+}
