@@ -13,9 +13,9 @@ use std::alloc::Global;
 
 /// Does what the words say with the input, writes the reply line by line, and answers the exit status.
 ///
-/// 0: the program ran to its end. 2: the source is too long, or is refused. 7: its form is not built yet, or the command is not, and then
-/// nothing was read. 8: the words are no command, and nothing was read. 9: reading failed. 10: writing failed or stalled, and a front part of the reply was written, but
-/// not all of it. 11: memory was wanting.
+/// 0: the modes are accepted, or the program ran to its end. 1: the modes are refused. 2: the source is too long, or is no program. 7: its form is not built
+/// yet, or the command is not, and then nothing was read. 8: the words are no command, and nothing was read. 9: reading failed. 10: writing failed or stalled, and
+/// a front part of the reply was written, but not all of it. 11: memory was wanting.
 pub fn sharc_top<S: Source, O: Sink>(
     alloc: Global,
     words: &[String],
@@ -29,13 +29,13 @@ pub fn sharc_top<S: Source, O: Sink>(
     ensures cut_short { result ≡ 10 → RepliedInPart (map string_bytes words.now) (S.left input.old) (O.held out.old) (O.held out.new) }
     ensures sink_failed { result ≡ 10 → EitherRose (O.faults out.old) (O.faults out.new) (O.stalls out.old) (O.stalls out.new) }
 
-    // The source failed, behind `run`.
+    // The source failed, of a command that reads it.
     ensures source_failed { result ≡ 9 → Rose (S.faults input.old) (S.faults input.new) }
     ensures source_read { result ≡ 9 → ReadsSource (map string_bytes words.now) }
 
     ensures silent { IsOfSilence result → O.held out.new ≡ O.held out.old }
 
-    // Where the words are not `run`, nothing is read.
+    // Where the words are no such command, nothing is read.
     ensures unread { ¬ (ReadsSource (map string_bytes words.now)) → (S.left input.new ≡ S.left input.old) × (S.faults input.new ≡ S.faults input.old) }
 
     ensures source_faults { S.faults input.old ≤ S.faults input.new }
