@@ -82,7 +82,7 @@ fn add_mode(m: &Moded, position: u32, text: &mut Vec<u8>) -> Result<(), AllocErr
 }
 
 /// The modes of all positions, in their order.
-fn modes_text(alloc: Global, m: &Moded) -> Result<Vec<u8>, AllocError> {
+pub(crate) fn modes_text(alloc: Global, m: &Moded) -> Result<Vec<u8>, AllocError> {
     let mut text = Vec::new(alloc);
     for position in 0..m.typed().position_count() {
         if position > 0 {
@@ -97,7 +97,7 @@ fn modes_text(alloc: Global, m: &Moded) -> Result<Vec<u8>, AllocError> {
 
 /// Sources with the modes of all their positions in source order: the name and the depth of each, and its mode or, where it was inferred to be dynamic,
 /// the reason. What is expected was worked out by hand.
-static INFERRED: [(&str, &str); 13] = [
+pub(crate) static INFERRED: [(&str, &str); 13] = [
     (
         "int g; void w(int * p) { int * q = p; g = *q; } int main(void) { int * x = malloc(sizeof(int)); int t = spawn(w, x); join(t); return 0; }",
         "g0 touched w, p1 passed w, q1 from p1, x1 from p1",

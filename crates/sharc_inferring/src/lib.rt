@@ -8,4 +8,6 @@ mod inferred;
 #[cfg(test)]
 mod long;
 #[cfg(test)]
+mod plain;
+#[cfg(test)]
 mod sources;
