@@ -1,5 +1,5 @@
 -- The least assignment, from what is settled, why positions are roots and what is found.
-use Rattle.std.proofs.Common.{◌≡◌, ◌⊎◌, ℕ, ◌<◌, ◌≤◌, Bool, true, false, List, Option, Some, None, length, get_or, refl, ap, sym, ◌∙◌, subst, inl, inr, arith}
+use Rattle.std.proofs.Common.{◌≡◌, ℕ, ◌<◌, ◌≤◌, true, List, Option, Some, None, length, refl, ap, sym, ◌∙◌, subst, inl, inr, arith}
 use Rattle.std.specs.Prelude.{slice_index_or}
 use Rattle.std.proofs.lemmas.Bool.{cases_lt, false≢true}
 use Rattle.std.proofs.lemmas.List.{get_or_default, get_or_past}
@@ -11,12 +11,12 @@ use Rattle.sharc_flow.specs.declared.place.Place.TheVariants as place
 use Rattle.sharc_flow.specs.Flow.{flow_of, place_at, is_unwritten, is_source, IsUnwritten, IsSource, IsInferred, AreInferred}
 use Rattle.sharc_tree.specs.declared.ctype.Mode.{Mode}
 use Rattle.sharc_tree.specs.declared.ctype.Mode.TheVariants.{Private}
-use Rattle.sharc_ctype.specs.Entities.{entities_in, positions_in}
+use Rattle.sharc_ctype.specs.Entities.{entities_in}
 use Rattle.sharc_ctype.specs.Resolved.{Resolution}
 use Rattle.sharc_mode.specs.declared.position.Reason.{Reason}
 use Rattle.sharc_mode.specs.declared.position.Reason.TheVariants.{Touched, Spawned, From}
-use Rattle.sharc_mode.specs.Flows.{IsRoot, IsRootReason, IsPlaceFor, ArePlaces, IsReasonFor, IsLeastAssignment, written_place, mode_found, links_of}
-use Rattle.sharc_mode.specs.Moded.{Assignment, position_count}
+use Rattle.sharc_mode.specs.Flows.{IsRoot, IsRootReason, IsPlaceFor, ArePlaces, IsReasonFor, IsLeastAssignment, mode_found, links_of}
+use Rattle.sharc_mode.specs.Moded.{position_count}
 use Rattle.sharc_mode.specs.Settled.{settled_in, settled_at}
 use Rattle.sharc_reach.specs.Reaching.{Reaching, AreReached}
 use Rattle.sharc_infer.specs.Positions.{place_of, reason_of, settled_of, root_of, ArePlacesOf, AreModesOf, AreReasonsOf}

@@ -1,13 +1,12 @@
 -- The links of what follows other things.
 use Rattle.std.proofs.Common.{◌≡◌, ℕ, zero, suc, ◌+◌, ◌<◌, ◌≤◌, min, map, length, drop, get_or, arith, Some, inl, inr, List, [], ◌∷◌, ◌++◌, Result, OnOk, refl, ap, sym, ◌∙◌, subst, append_assoc}
-use Rattle.std.specs.List.{flat_map}
 use Rattle.std.proofs.lemmas.Grind.{flat_map-append}
 use Rattle.std.proofs.lemmas.Bool.{cases_lt}
 use Rattle.std.proofs.lemmas.List.{drop_more, drop_all, append-nil, get_or-map, length-map}
 use Rattle.sharc_flow.specs.declared.place.Link.{Link}
 use Rattle.sharc_tree.specs.declared.tree.declaration.Declaration.{Declaration}
 use Rattle.sharc_tree.specs.declared.tree.expression.Expr.{Expr}
-use Rattle.sharc_tree.specs.Tree.{Expression, Arguments, no_arguments, argument, value}
+use Rattle.sharc_tree.specs.Tree.{Expression, no_arguments, argument, value}
 use Rattle.sharc_tree.specs.View.{view_arguments}
 use Rattle.sharc_ctype.specs.Resolved.{Resolution}
 use Rattle.sharc_ctype.specs.Entities.{numbered_from, positions_of, positions_in}

@@ -1,5 +1,5 @@
 -- The list of roots has a reason exactly where a position is a root.
-use Rattle.std.proofs.Common.{◌≡◌, ◌≢◌, ◌⊎◌, ℕ, zero, suc, ◌<◌, ◌≤◌, Bool, true, false, cond, List, [], ◌∷◌, Option, Some, None, length, get_or, set, replicate, refl, ap, sym, ◌∙◌, subst, inl, inr, arith}
+use Rattle.std.proofs.Common.{◌≡◌, ◌⊎◌, ℕ, zero, suc, ◌<◌, ◌≤◌, Bool, true, false, List, [], ◌∷◌, Option, Some, None, length, get_or, set, replicate, refl, ap, sym, ◌∙◌, subst, inl, inr, arith}
 use Rattle.std.specs.Prelude.{IsSomeAnd, Contains, nat_lt}
 use Rattle.std.specs.List.{slice_get}
 use Rattle.std.proofs.lemmas.Bool.{cases_eq, cases_lt, cases_Bool, ltb-true, lt-ltb}
@@ -12,7 +12,7 @@ use Rattle.sharc_ctype.specs.Entities.{entity_at, positions_of}
 use Rattle.sharc_ctype.specs.Reaches.{IsReached, NamesGlobal}
 use Rattle.sharc_ctype.specs.Resolved.{Resolution, global_at, function_at, globals_in, functions_in}
 use Rattle.sharc_mode.specs.declared.position.Reason.{Reason}
-use Rattle.sharc_mode.specs.declared.position.Reason.TheVariants.{Touched, Spawned, From}
+use Rattle.sharc_mode.specs.declared.position.Reason.TheVariants.{Touched, Spawned}
 use Rattle.sharc_mode.specs.Flows.{IsFirst, IsTouchedIn, IsPassedTo, IsRoot, IsRootReason}
 use Rattle.sharc_mode.specs.Moded.{position_count}
 use Rattle.sharc_reach.specs.Reaching.{Reaching, first_of, is_chosen, IsFirstOf, AreReached}

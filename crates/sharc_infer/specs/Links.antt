@@ -1,9 +1,8 @@
 -- The links of what is given, with the token of the function whose result is meant.
-use Rattle.std.specs.Prelude.{ℕ, List, [], ◌∷◌, Option, Some, None}
+use Rattle.std.specs.Prelude.{ℕ, List, Option, Some}
 use Rattle.std.specs.List.{flat_map}
 use Rattle.sharc_flow.specs.declared.place.Link.{Link}
 use Rattle.sharc_tree.specs.Tree.{Expression}
-use Rattle.sharc_ctype.specs.Entities.{numbered_from, positions_of}
 use Rattle.sharc_ctype.specs.Resolved.{Resolution}
 use Rattle.sharc_ctype.specs.Transfers.{Receiver, lvalue, variable, result, Transfer}
 use Rattle.sharc_mode.specs.Flows.{equal_rows, source_row, cast_links}

@@ -82,7 +82,7 @@ fn add_mode(m: &Moded, position: u32, text: &mut Vec<u8>) -> Result<(), AllocErr
 }
 
 /// The modes of all positions, in their order.
-pub(crate) fn modes_text(alloc: Global, m: &Moded) -> Result<Vec<u8>, AllocError> {
+fn modes_text(alloc: Global, m: &Moded) -> Result<Vec<u8>, AllocError> {
     let mut text = Vec::new(alloc);
     for position in 0..m.typed().position_count() {
         if position > 0 {
@@ -158,16 +158,29 @@ int main(void) { int * readonly * x = NULL; join(spawn(w, x)); return 0; }",
     ),
 ];
 
+/// The modes of a program, which ends here.
+pub(crate) fn text_of_program(alloc: Global, moded: Moded) -> Result<Vec<u8>, Fail> {
+    let text = modes_text(alloc, &moded);
+    drop(moded);
+    Ok(text?)
+}
+
+/// A copy of a program, which ends here.
+fn copy_of(alloc: Global, moded: Moded) -> Result<Moded, Fail> {
+    let copy = moded.copy(alloc);
+    drop(moded);
+    Ok(copy?)
+}
+
 /// The modes of a source.
-fn text_of(rt: &(impl Abort + AllocGlobal), source: &str) -> Result<Vec<u8>, Fail> {
-    let moded = inferred(rt, source)?;
-    Ok(modes_text(rt.alloc(), &moded)?)
+pub(crate) fn text_of(rt: &(impl Abort + AllocGlobal), source: &str) -> Result<Vec<u8>, Fail> {
+    text_of_program(rt.alloc(), inferred(rt, source)?)
 }
 
 /// The same of a copy.
 fn text_of_copy(rt: &(impl Abort + AllocGlobal), source: &str) -> Result<Vec<u8>, Fail> {
-    let moded = inferred(rt, source)?.copy(rt.alloc())?;
-    Ok(modes_text(rt.alloc(), &moded)?)
+    let copy = copy_of(rt.alloc(), inferred(rt, source)?)?;
+    text_of_program(rt.alloc(), copy)
 }
 
 #[test]

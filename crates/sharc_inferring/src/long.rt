@@ -35,16 +35,23 @@ fn long_chain(alloc: Global, functions: u32) -> Result<String, AllocError> {
     Ok(text)
 }
 
-/// How many positions have been inferred to be dynamic, and why the first of all is.
-fn told(rt: &(impl Abort + AllocGlobal), source: &str) -> Result<(u32, Option<Reason>), Fail> {
-    let moded = inferred(rt, source)?;
+/// How many positions have been inferred to be dynamic.
+fn dynamic_count(m: &Moded) -> u32 {
     let mut count = 0_u32;
-    for position in 0..moded.typed().position_count() {
-        if moded.reason(position).is_some() {
+    for position in 0..m.typed().position_count() {
+        if m.reason(position).is_some() {
             count = count.saturating_add(1);
         }
     }
-    Ok((count, first_reason(&moded)))
+    count
+}
+
+/// How many positions have been inferred to be dynamic, and why the first of all is.
+fn told(rt: &(impl Abort + AllocGlobal), source: &str) -> Result<(u32, Option<Reason>), Fail> {
+    let moded = inferred(rt, source)?;
+    let found = (dynamic_count(&moded), first_reason(&moded));
+    drop(moded);
+    Ok(found)
 }
 
 fn first_reason(m: &Moded) -> Option<Reason> {

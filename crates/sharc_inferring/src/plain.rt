@@ -1,17 +1,21 @@
 //! The inference beside the plain program, on the sources of the table and on random ones.
 
-use crate::inferred::{INFERRED, modes_text};
-use crate::sources::{inferred, inferred_by_rounds};
+use crate::inferred::{INFERRED, text_of, text_of_program};
+use crate::sources::inferred_by_rounds;
 use std::alloc::{AllocError, Global};
 use std::process::Abort;
 use std::test::Fail;
 
 /// Asserts that both give a source the same modes and reasons. How many positions were inferred by a link.
 fn assert_same(rt: &(impl Abort + AllocGlobal), source: &str) -> Result<usize, Fail> {
-    let text = modes_text(rt.alloc(), &inferred(rt, source)?)?;
-    let plain = modes_text(rt.alloc(), &inferred_by_rounds(rt, source)?)?;
+    let text = text_of(rt, source)?;
+    let plain = text_of_program(rt.alloc(), inferred_by_rounds(rt, source)?)?;
     assert_eq!(rt; text.as_slice(), plain.as_slice(), "{source}");
-    Ok(text.windows(5).filter(|part| *part == b"from ".as_slice()).count())
+    Ok(
+        text.windows(5)
+            .filter(|part| *part == b"from ".as_slice())
+            .count(),
+    )
 }
 
 #[test]
@@ -114,6 +118,9 @@ fn random_sources_are_inferred_so_by_the_plain_program(rt: HostRuntime) -> Resul
         let source = random_source(rt.alloc(), &mut state)?;
         linked = linked.saturating_add(assert_same(&rt, source.as_str())?);
     }
-    assert!(rt; linked > 1_000, "only {linked} positions were inferred by a link");
+    assert!(rt;
+        linked > 1_000,
+        "only {linked} positions were inferred by a link"
+    );
     Ok(())
 }

@@ -1,5 +1,5 @@
-use Rattle.std.proofs.Common.{◌≡◌, ◌<◌, length, get_or, ap, ◌∙◌, subst, arith}
-use Rattle.sharc_ctype.specs.Entities.{entities_in, numbered}
+use Rattle.std.proofs.Common.{◌<◌, length, get_or, ap, ◌∙◌, subst, arith}
+use Rattle.sharc_ctype.specs.Entities.{entities_in}
 use Rattle.sharc_infer.proofs.LinkLemmas.{numbered_within}
 use Rattle.sharc_infer.proofs.links.all_levels.Goals as goal
 
