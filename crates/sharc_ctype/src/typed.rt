@@ -25,11 +25,24 @@ use std::alloc::{AllocError, Global};
 use std::marker::Model;
 
 /// A typed program, and what each of its name tokens names. A contract sees it as these two, of a program that is typed. Each look-up takes one step.
-#[derive(Drop)]
 pub struct Typed {
     program: Program,
     named: Vec<Named>,
     tables: Tables,
+}
+
+/// A drop that is written out is proved here once; one that is derived is proved in each crate that drops a typed program.
+impl Drop for Typed {
+    fn drop(self) {
+        let Typed {
+            program,
+            named,
+            tables,
+        } = self;
+        drop(program);
+        drop(named);
+        drop(tables);
+    }
 }
 
 impl Model for Typed {

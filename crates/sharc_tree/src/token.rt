@@ -210,13 +210,21 @@ impl Listed<Token> {
 }
 
 /// A source read into tokens.
-#[derive(Drop)]
 pub struct Tokens {
     pub list: TokenList,
     /// The files that the source names, `input` first.
     pub files: Names,
     /// The place of the end of input, with the number of tokens.
     pub end: Site,
+}
+
+/// A drop that is written out is proved here once; one that is derived is proved in each crate that drops tokens.
+impl Drop for Tokens {
+    fn drop(self) {
+        let Tokens { list, files, end: _ } = self;
+        drop(list);
+        drop(files);
+    }
 }
 
 impl Tokens {

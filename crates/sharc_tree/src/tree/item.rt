@@ -108,10 +108,23 @@ impl Item {
 pub type Items = Listed<Item>;
 
 /// A source read into a tree.
-#[derive(Drop)]
 pub struct Program {
     /// The files that the source names, as its tokens have them.
     pub files: Names,
     pub items: Items,
     pub tokens: Tokens,
+}
+
+/// A drop that is written out is proved here once; one that is derived is proved in each crate that drops a program.
+impl Drop for Program {
+    fn drop(self) {
+        let Program {
+            files,
+            items,
+            tokens,
+        } = self;
+        drop(files);
+        drop(items);
+        drop(tokens);
+    }
 }
