@@ -7,8 +7,6 @@ mod arithmetic;
 mod reply;
 mod status;
 mod task;
-#[cfg(test)]
-mod tests;
 mod text;
 mod top;
 mod tree_sums;

@@ -1,86 +1,9 @@
-//! The top call over sources and sinks in memory.
+//! Whole replies to sources.
 
-use crate::sharc_top;
-use sharc_io::{MemSink, MemSource, SureSink, SureSource};
+use crate::outcome::{add_outcome, answered};
 use std::alloc::{AllocError, Global};
 use std::process::Abort;
 use std::test::Fail;
-
-/// The program that prints 6 * 7.
-const ANSWER: &str = "int main(void) { print(6 * 7); return 0; }";
-
-/// A program that prints 9 three times.
-const NINES: &str = "int main(void) { print(9); print(3 * 3); print(4 + 5); return 0; }";
-
-// What a call answered, and what its sink then held.
-#[derive(Debug, Drop)]
-struct Outcome {
-    status: u8,
-    text: Vec<u8>,
-}
-
-fn words_of(alloc: Global, words: &[&str]) -> Result<Vec<String>, AllocError> {
-    let mut all = Vec::new(alloc);
-    for word in words {
-        all.push(String::from_str(alloc, word)?)?;
-    }
-    Ok(all)
-}
-
-// The outcome of the call over an input that never fails, and a sink with so much room.
-fn answered(
-    alloc: Global,
-    words: &[&str],
-    input: &[u8],
-    room: usize,
-) -> Result<Outcome, AllocError> {
-    let words = words_of(alloc, words)?;
-    outcome_of(alloc, &words, input, room)
-}
-
-fn outcome_of(
-    alloc: Global,
-    words: &[String],
-    input: &[u8],
-    room: usize,
-) -> Result<Outcome, AllocError> {
-    let mut source = SureSource::new(input.to_vec(alloc)?);
-    let mut sink = SureSink::new(alloc, room)?;
-    let status = sharc_top(alloc, words, &mut source, &mut sink);
-    let text = sink.bytes().to_vec(alloc)?;
-    Ok(Outcome { status, text })
-}
-
-// The outcome for the words of a line, which are parted by single spaces, over the program that prints 42.
-fn answered_line(alloc: Global, line: &str) -> Result<Outcome, AllocError> {
-    let mut words = Vec::new(alloc);
-    for word in line.split(' ') {
-        words.push(String::from_str(alloc, word)?)?;
-    }
-    outcome_of(alloc, &words, ANSWER.as_bytes(), 200)
-}
-
-// The outcome of `run` where these calls of the source and of the sink fail.
-fn failing(
-    alloc: Global,
-    source: &str,
-    read_fails: &[u64],
-    write_fails: &[u64],
-) -> Result<Outcome, AllocError> {
-    let words = words_of(alloc, &["run"])?;
-    let mut source = MemSource::new(source.as_bytes().to_vec(alloc)?, read_fails.to_vec(alloc)?);
-    let mut sink = MemSink::new(alloc, 100, write_fails.to_vec(alloc)?)?;
-    let status = sharc_top(alloc, &words, &mut source, &mut sink);
-    let text = sink.bytes().to_vec(alloc)?;
-    Ok(Outcome { status, text })
-}
-
-// Writes the status and the text behind what was written.
-fn add_outcome(alloc: Global, all: &mut Vec<u8>, found: &Outcome) -> Result<(), AllocError> {
-    let status = format!(in alloc; "{} ", found.status)?;
-    all.extend_from_slice(status.as_bytes())?;
-    all.extend_from_slice(&found.text)
-}
 
 /// Cases, parted by tildes, each of words, a source, and the status and the text that answer it, parted by bars.
 const CASES: &str = "run|int main(void) { return 0; }|0 \
@@ -118,128 +41,6 @@ const CASES: &str = "run|int main(void) { return 0; }|0 \
 input:1: M1 mode mismatch: expected int dynamic *, found int private *\ninput:1: suggest SCAST(int dynamic *, p)\n\
 ~run|int main(void) { int private * p = NULL; int dynamic * d = p; return 0; }|1 input:1: M1 mode mismatch: expected int dynamic *, found int private *\n\
 input:1: suggest SCAST(int dynamic *, p)\n\
-~check|# 1 \"pipe.c\"
-struct buf { int n; };
-struct stage {
-  mutex m;
-  struct buf locked(m) * locked(m) b;
-};
-void twice(struct stage dynamic * s) {
-  lock(&s->m);
-  struct buf private * p = SCAST(struct buf private *, s->b);
-  p->n = p->n * 2;
-  s->b = SCAST(struct buf locked(s->m) *, p);
-  unlock(&s->m);
-}
-int main(void) {
-  struct stage dynamic * s = malloc(sizeof(struct stage));
-  struct buf private * p = malloc(sizeof(struct buf));
-  p->n = 21;
-  lock(&s->m);
-  s->b = SCAST(struct buf locked(s->m) *, p);
-  unlock(&s->m);
-  int t = spawn(twice, s);
-  join(t);
-  lock(&s->m);
-  p = SCAST(struct buf private *, s->b);
-  unlock(&s->m);
-  print(p->n);
-  free(p);
-  return 0;
-}
-|0 accepted
-~check|# 1 \"pipe.c\"
-struct buf { int n; };
-struct stage {
-  mutex m;
-  struct buf locked(m) * locked(m) b;
-};
-void twice(struct stage dynamic * s) {
-  lock(&s->m);
-  struct buf private * p = SCAST(struct buf private *, s->b);
-  p->n = p->n * 2;
-  s->b = SCAST(struct buf locked(s->m) *, p);
-  unlock(&s->m);
-}
-int main(void) {
-  struct stage dynamic * s = malloc(sizeof(struct stage));
-  struct buf private * p = malloc(sizeof(struct buf));
-  p->n = 21;
-  lock(&s->m);
-  s->b = p;
-  unlock(&s->m);
-  int t = spawn(twice, s);
-  join(t);
-  lock(&s->m);
-  p = SCAST(struct buf private *, s->b);
-  unlock(&s->m);
-  print(p->n);
-  free(p);
-  return 0;
-}
-|1 pipe.c:18: M1 mode mismatch: expected struct buf locked(s->m) *, found struct buf private *
-pipe.c:18: suggest SCAST(struct buf locked(s->m) *, p)
-~run|# 1 \"pipe.c\"
-struct buf { int n; };
-struct stage {
-  mutex m;
-  struct buf locked(m) * locked(m) b;
-};
-void twice(struct stage dynamic * s) {
-  lock(&s->m);
-  struct buf private * p = SCAST(struct buf private *, s->b);
-  p->n = p->n * 2;
-  s->b = SCAST(struct buf locked(s->m) *, p);
-  unlock(&s->m);
-}
-int main(void) {
-  struct stage dynamic * s = malloc(sizeof(struct stage));
-  struct buf private * p = malloc(sizeof(struct buf));
-  p->n = 21;
-  lock(&s->m);
-  s->b = p;
-  unlock(&s->m);
-  int t = spawn(twice, s);
-  join(t);
-  lock(&s->m);
-  p = SCAST(struct buf private *, s->b);
-  unlock(&s->m);
-  print(p->n);
-  free(p);
-  return 0;
-}
-|1 pipe.c:18: M1 mode mismatch: expected struct buf locked(s->m) *, found struct buf private *
-pipe.c:18: suggest SCAST(struct buf locked(s->m) *, p)
-~run|# 1 \"pipe.c\"
-struct buf { int n; };
-struct stage {
-  mutex m;
-  struct buf locked(m) * locked(m) b;
-};
-void twice(struct stage dynamic * s) {
-  lock(&s->m);
-  struct buf private * p = SCAST(struct buf private *, s->b);
-  p->n = p->n * 2;
-  s->b = SCAST(struct buf locked(s->m) *, p);
-  unlock(&s->m);
-}
-int main(void) {
-  struct stage dynamic * s = malloc(sizeof(struct stage));
-  struct buf private * p = malloc(sizeof(struct buf));
-  p->n = 21;
-  lock(&s->m);
-  s->b = SCAST(struct buf locked(s->m) *, p);
-  unlock(&s->m);
-  int t = spawn(twice, s);
-  join(t);
-  lock(&s->m);
-  p = SCAST(struct buf private *, s->b);
-  unlock(&s->m);
-  print(p->n);
-  free(p);
-  return 0;
-}
-|7 form not built
 ~explain|int g;
 void w(int * p) {
   int * q = p;
@@ -389,6 +190,18 @@ fn outcome_text(alloc: Global, words: &str, source: &str) -> Result<Vec<u8>, All
     Ok(text)
 }
 
+/// Asserts the status and the text of one case.
+fn assert_reply(
+    rt: &(impl Abort + AllocGlobal),
+    words: &str,
+    source: &str,
+    wanted: &str,
+) -> Result<(), Fail> {
+    let found = outcome_text(rt.alloc(), words, source)?;
+    assert_eq!(rt; found.as_slice(), wanted.as_bytes(), "{words} of {source}");
+    Ok(())
+}
+
 /// Asserts one of the cases.
 fn assert_case(rt: &(impl Abort + AllocGlobal), case: &str) -> Result<(), Fail> {
     let mut parts = case.split('|');
@@ -396,9 +209,7 @@ fn assert_case(rt: &(impl Abort + AllocGlobal), case: &str) -> Result<(), Fail> 
     else {
         panic!(rt; "a case of three parts: {case}");
     };
-    let found = outcome_text(rt.alloc(), words, source)?;
-    assert_eq!(rt; found.as_slice(), wanted.as_bytes(), "{case}");
-    Ok(())
+    assert_reply(rt, words, source, wanted)
 }
 
 #[test]
@@ -409,82 +220,62 @@ fn each_case_has_its_text_and_status(rt: HostRuntime) -> Result<(), Fail> {
     Ok(())
 }
 
+/// A buffer that is handed to a thread and back under a lock, with what `main` hands over left out.
+const PIPE: &str = "# 1 \"pipe.c\"
+struct buf { int n; };
+struct stage {
+  mutex m;
+  struct buf locked(m) * locked(m) b;
+};
+void twice(struct stage dynamic * s) {
+  lock(&s->m);
+  struct buf private * p = SCAST(struct buf private *, s->b);
+  p->n = p->n * 2;
+  s->b = SCAST(struct buf locked(s->m) *, p);
+  unlock(&s->m);
+}
+int main(void) {
+  struct stage dynamic * s = malloc(sizeof(struct stage));
+  struct buf private * p = malloc(sizeof(struct buf));
+  p->n = 21;
+  lock(&s->m);
+  s->b = @;
+  unlock(&s->m);
+  int t = spawn(twice, s);
+  join(t);
+  lock(&s->m);
+  p = SCAST(struct buf private *, s->b);
+  unlock(&s->m);
+  print(p->n);
+  free(p);
+  return 0;
+}
+";
+
+/// What stands in the place left out, with the words and the reply.
+const HANDED: &str = "check|SCAST(struct buf locked(s->m) *, p)|0 accepted\n\
+~run|SCAST(struct buf locked(s->m) *, p)|7 form not built\n\
+~check|p|1 pipe.c:18: M1 mode mismatch: expected struct buf locked(s->m) *, found struct buf private *\npipe.c:18: suggest SCAST(struct buf locked(s->m) *, p)\n\
+~run|p|1 pipe.c:18: M1 mode mismatch: expected struct buf locked(s->m) *, found struct buf private *\npipe.c:18: suggest SCAST(struct buf locked(s->m) *, p)\n";
+
+/// Asserts one case of what is handed over.
+fn assert_handed(rt: &(impl Abort + AllocGlobal), case: &str) -> Result<(), Fail> {
+    let mut parts = case.split('|');
+    let (Some(words), Some(handed), Some(wanted)) = (parts.next(), parts.next(), parts.next())
+    else {
+        panic!(rt; "a case of three parts: {case}");
+    };
+    let Some((before, behind)) = PIPE.split_once('@') else {
+        panic!(rt; "a place that is left out");
+    };
+    let source = format!(in rt.alloc(); "{before}{handed}{behind}")?;
+    assert_reply(rt, words, source.as_str(), wanted)
+}
+
 #[test]
-fn a_hundred_thousand_prints_are_written(rt: HostRuntime) -> Result<(), Fail> {
-    let alloc = rt.alloc();
-    let mut source = b"int main(void) {".to_vec(alloc)?;
-    for _ in 0..100_000 {
-        source.extend_from_slice(b"print(7);")?;
+fn a_buffer_is_handed_over_by_a_cast(rt: HostRuntime) -> Result<(), Fail> {
+    for case in HANDED.split('~') {
+        assert_handed(&rt, case)?;
     }
-    source.extend_from_slice(b"return 0;}")?;
-    let found = answered(alloc, &["run"], &source, 200_000)?;
-    assert_eq!(rt; found.status, 0);
-    assert_eq!(rt; found.text.len(), 200_000);
-    Ok(())
-}
-
-/// The line for words that are no command.
-const USAGE: &str =
-    "usage: check | explain | run [--workers N] [--granules N] [--events N] [--seed N] | load N [--workers N] | record [--workers N] [--granules N] [--events N] | replay | audit\n";
-
-/// Words, parted by bars: six that are no command, two that are `run`, and those that are not built yet.
-const COMMANDS: &str =
-    "help|run run|Run||run --workers 17|load|run|run --seed=7 --workers 2|load 8|record|replay|audit";
-
-#[test]
-fn words_have_their_reply(rt: HostRuntime) -> Result<(), Fail> {
-    let mut codes = Vec::new(rt.alloc());
-    for line in COMMANDS.split('|') {
-        let found = answered_line(rt.alloc(), line)?;
-        let text = match found.status {
-            0 => "42\n",
-            7 => "form not built\n",
-            _ => USAGE,
-        };
-        assert_eq!(rt; found.text.as_slice(), text.as_bytes(), "{line}");
-        codes.push(b'0' + found.status % 10)?;
-    }
-    assert_eq!(rt; codes.as_slice(), b"888888007777".as_slice());
-    Ok(())
-}
-
-#[test]
-fn no_words_are_no_command(rt: HostRuntime) -> Result<(), Fail> {
-    let found = answered(rt.alloc(), &[], ANSWER.as_bytes(), 200)?;
-    assert_eq!(rt; found.status, 8);
-    assert_eq!(rt; found.text.as_slice(), USAGE.as_bytes());
-    Ok(())
-}
-
-#[test]
-fn a_failed_read_is_no_want_of_memory(rt: HostRuntime) -> Result<(), Fail> {
-    for fails in [[0], [1]] {
-        let found = failing(rt.alloc(), ANSWER, &fails, &[])?;
-        assert_eq!(rt; found.status, 9);
-        assert_eq!(rt; found.text.as_slice(), b"".as_slice());
-    }
-    Ok(())
-}
-
-#[test]
-fn a_sink_that_fails_has_whole_lines(rt: HostRuntime) -> Result<(), Fail> {
-    let mut found = Vec::new(rt.alloc());
-    for call in 0..4 {
-        let outcome = failing(rt.alloc(), NINES, &[], &[call])?;
-        add_outcome(rt.alloc(), &mut found, &outcome)?;
-        found.push(b'|')?;
-    }
-    assert_eq!(rt;
-        found.as_slice(),
-        b"10 |10 9\n|10 9\n9\n|0 9\n9\n9\n|".as_slice()
-    );
-    Ok(())
-}
-
-#[test]
-fn a_sink_without_room_has_a_front_part(rt: HostRuntime) -> Result<(), Fail> {
-    let found = answered(rt.alloc(), &["run"], NINES.as_bytes(), 3)?;
-    assert_eq!(rt; found.status, 10);
-    assert_eq!(rt; found.text.as_slice(), b"9\n9".as_slice());
     Ok(())
 }

@@ -1,0 +1,11 @@
+//! Whole replies of the top call: tests alone, over sources and sinks in memory.
+//!
+//! Nothing stands on this crate, and it has no code of its own.
+#![tactic(auto)]
+
+#[cfg(test)]
+mod cases;
+#[cfg(test)]
+mod edges;
+#[cfg(test)]
+mod outcome;
