@@ -1,13 +1,13 @@
 #!/bin/sh
-# Makes a crate of main.rt.txt in a temporary folder, over this checkout's crates, proves it and runs it; then the loop of the local turns in C, plain
-# and under helgrind.
+# Makes a crate of the files here in a temporary folder, over this checkout's crates, proves it and runs it; then the same loops in C, plain and under
+# helgrind.
 set -e
 top=$(cd "$(dirname "$0")/../.." && pwd)
+here=$top/benches/machine
 scratch=$(mktemp -d)
 trap 'rm -rf "$scratch"' EXIT
-mkdir -p "$scratch/crates/machine_bench/src"
-for crate in word shadow granule count cond locks tree code cpu seq; do
-    mkdir "$scratch/crates/sharc_$crate"
+for crate in word shadow granule count cond locks tree code cpu seq bus; do
+    mkdir -p "$scratch/crates/sharc_$crate"
     for part in src specs proofs; do
         if [ -d "$top/crates/sharc_$crate/$part" ]; then
             cp -R "$top/crates/sharc_$crate/$part" "$scratch/crates/sharc_$crate/"
@@ -15,18 +15,23 @@ for crate in word shadow granule count cond locks tree code cpu seq; do
     done
     grep "^sharc_$crate[ :]" "$top/crates.txt" >>"$scratch/crates.txt"
 done
-echo 'machine_bench: sharc_code sharc_cpu sharc_seq sharc_tree sharc_word' >>"$scratch/crates.txt"
-cp "$top/benches/machine/main.rt.txt" "$scratch/crates/machine_bench/src/main.rt"
-mkdir -p "$scratch/crates/machine_bench/proofs/time_quanta"
-cp "$top/benches/machine/Invariants.antt.txt" "$scratch/crates/machine_bench/proofs/time_quanta/Invariants.antt"
-cp "$top/benches/machine/Answers.antt.txt" "$scratch/crates/machine_bench/proofs/time_quanta/Answers.antt"
+echo 'machine_bench tests_may=Threads: sharc_bus sharc_code sharc_cpu sharc_seq sharc_tree sharc_word' >>"$scratch/crates.txt"
 cp "$top/HANDLES" "$scratch/HANDLES"
-cd "$scratch/crates/machine_bench"
+bench=$scratch/crates/machine_bench
+(cd "$here" && find src proofs -name '*.txt') | while read -r file; do
+    mkdir -p "$bench/$(dirname "$file")"
+    cp "$here/$file" "$bench/${file%.txt}"
+done
+cd "$bench"
 rt run
-cc -O0 -o "$scratch/local" "$top/benches/machine/local.c"
-echo 'the same loop in C at -O0:'
-"$scratch/local" 16000000
+cc -O0 -pthread -o "$scratch/loops" "$here/loops.c"
+echo 'the same loops in C at -O0:'
+"$scratch/loops" count 16000000
+"$scratch/loops" global 16000000
+"$scratch/loops" locked 200000
 if command -v valgrind >/dev/null; then
     echo 'and under helgrind:'
-    valgrind --tool=helgrind "$scratch/local" 16000000 2>/dev/null
+    valgrind --tool=helgrind "$scratch/loops" count 16000000 2>/dev/null
+    valgrind --tool=helgrind "$scratch/loops" global 16000000 2>/dev/null
+    valgrind --tool=helgrind "$scratch/loops" locked 20000 2>/dev/null
 fi
