@@ -11,7 +11,7 @@ import subprocess
 import sys
 import tempfile
 
-RUNS = 9
+RUNS = 5
 
 # What makes the C of a program of the checked language that has the modes and calls of `load`.
 PRELUDE = """\
@@ -66,8 +66,8 @@ LARGE = {
     "uses of one name": "int a; int main(void) {" + "a=1;" * 262_000 + "}",
     "calls of 16,000 functions": numbered("void f", range(16_000), "(void){}")
     + "int main(void){" + numbered("f", range(16_000), "();") * 4 + "}",
-    "uses of 16,000 globals": numbered("int g", range(16_000), ";")
-    + "int main(void){" + numbered("g", range(16_000), "=1;") * 4 + "}",
+    "uses of 4,096 globals": numbered("int g", range(4_096), ";")
+    + "int main(void){" + numbered("g", range(4_096), "=1;") * 28 + "}",
     "200 locals at 63 depths": shadowing(),
     "accepted calls and sums": body("f(d);x=x+1;\n", 87_000),
     "10,000 errors with casts": body("f(p);\n", 10_000),
