@@ -1,3 +1,4 @@
+pub mod Applied
 pub mod Casts
 pub mod Firsts
 pub mod Laws
