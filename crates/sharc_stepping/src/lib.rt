@@ -1,0 +1,23 @@
+//! Single instructions over chosen words, and a step of another thread between two turns of one: tests alone.
+//!
+//! Nothing stands on this crate, and it has no code of its own, so that the machine is not proved once more with its tests.
+#![tactic(auto)]
+
+#[cfg(test)]
+mod bench;
+#[cfg(test)]
+mod between;
+#[cfg(test)]
+mod checks;
+#[cfg(test)]
+mod code;
+#[cfg(test)]
+mod numbers;
+#[cfg(test)]
+mod objects;
+#[cfg(test)]
+mod registers;
+#[cfg(test)]
+mod script;
+#[cfg(test)]
+mod threads;
