@@ -8,15 +8,10 @@ use Rattle.sharc_tree.specs.declared.event.SourceEvent.{SourceEvent}
 use Rattle.sharc_tree.specs.declared.token.Site.{Site}
 use Rattle.sharc_tree.specs.declared.tree.declaration.Declaration.{Declaration}
 use Rattle.sharc_names.specs.Kinds.{Kind, is_pointer, is_null, declared_kind}
+use Rattle.sharc_meaning.specs.declared.variable.Variable.{Variable}
 use Rattle.sharc_meaning.specs.Reference.{number_of}
 
 -- ---- what it has
-
--- a parameter or a local, told by the token that declares it
-pub record Variable : Type 0 where
-  pub token : ℕ
-  pub is_pointer : Bool
-  pub value : ℤ
 
 -- the frame of a call: the number of the call, the variables that stand, in the order of their declarations, and the pointers that temporaries hold
 pub record Frame : Type 0 where

@@ -1,0 +1,4 @@
+mod Doubling
+mod Held
+mod NextAnswer
+mod Variables
