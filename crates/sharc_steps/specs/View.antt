@@ -1,20 +1,17 @@
 -- What the code's values stand for, and what it is that the code does a run.
-use Rattle.std.specs.Prelude.{◌≡◌, ℕ, ℤ, Bool, not, nat_lt, length, List, [], ◌∷◌, ◌++◌, ◌+◌, ◌==◌, filter, reverse, flat_map, Result, Ok, Err, if◌then◌else◌}
+use Rattle.std.specs.Prelude.{◌≡◌, ℕ, ℤ, not, List, [], ◌∷◌, ◌++◌, ◌+◌, ◌==◌, filter, reverse, flat_map, Result, Ok, Err, if◌then◌else◌}
 use Rattle.sharc_tree.specs.declared.event.Act.{Act}
 use Rattle.sharc_tree.specs.declared.event.Act.TheVariants.{Write, Lock, Unlock}
-use Rattle.sharc_tree.specs.declared.event.Act.TheVariants as acts
 use Rattle.sharc_tree.specs.declared.event.CellAt.{CellAt}
 use Rattle.sharc_tree.specs.declared.event.CellMode.{CellMode}
 use Rattle.sharc_tree.specs.declared.event.SourceEvent.{SourceEvent}
 use Rattle.sharc_tree.specs.declared.token.Site.{Site}
 use Rattle.sharc_names.specs.Kinds.{Kind, is_pointer}
 use Rattle.sharc_meaning.specs.declared.variable.Variable.{Variable}
-use Rattle.sharc_meaning.specs.Arithmetic.{mutex_not_held, mutex_already_held, too_many_locks}
 use Rattle.sharc_meaning.specs.Cells.{Guard, mutex, behind, nothing}
-use Rattle.sharc_meaning.specs.Events.{same_cell, holds_mutex, held_mutexes}
-use Rattle.sharc_meaning.specs.Places.{Place, variable, cell, pointee}
-use Rattle.sharc_meaning.specs.State.{Frame, State, Outcome, wants, stopped, spent, Out, go, over, Run, Step, ◌>>=◌, ◌>>◌, replaced, performs, moves, moves_on, holds_reference, gives_up, done, unless_stop, looks_at, held_by_frame}
-use Rattle.sharc_meaning.specs.Waiting.{cell_at_place}
+use Rattle.sharc_meaning.specs.Events.{same_cell, held_mutexes}
+use Rattle.sharc_meaning.specs.Places.{Place, variable, cell}
+use Rattle.sharc_meaning.specs.State.{Frame, State, Outcome, wants, stopped, spent, Out, go, over, Run, Step, ◌>>=◌, ◌>>◌, replaced, performs, moves, gives_up, done, held_by_frame}
 use Rattle.sharc_steps.specs.declared.cells.Guard.{Guard as RustGuard}
 use Rattle.sharc_steps.specs.declared.cells.Guard.TheVariants as guards
 use Rattle.sharc_steps.specs.declared.places.Place.{Place as RustPlace}
@@ -110,26 +107,3 @@ stored_in_cell site kind c under v = do
   performs site (Write c under v)
   moves kind
   if is_pointer kind then gives_up (replaced c ∷ []) else done
-
--- a mutex that is not held stops
-abbrev pub stops_unless_held : CellAt → Site → Step
-stops_unless_held c site = do
-  own ← looks_at (λ s. s.events)
-  unless_stop (holds_mutex own c) mutex_not_held site
-
--- a mutex that is held stops, and so does a seventeenth
-abbrev pub stops_where_held : CellAt → Site → Step
-stops_where_held c site = do
-  own ← looks_at (λ s. s.events)
-  unless_stop (not (holds_mutex own c)) mutex_already_held site
-  unless_stop (nat_lt (length (held_mutexes own)) 16) too_many_locks site
-
--- a wait from its Enter on
-abbrev pub waits : Site → ℤ → ℤ → Step
-waits site c m = do
-  performs site (acts.Enter (cell_at_place (pointee c)))
-  performs site (acts.Unlock (cell_at_place (pointee m)))
-  holds_reference m
-  performs site (acts.Woken (cell_at_place (pointee c)))
-  performs site (acts.Lock (cell_at_place (pointee m)))
-  moves_on 1

@@ -1,4 +1,4 @@
-use Rattle.std.proofs.Common.{◌≡◌, List, ap, ◌∙◌, sym, subst, refl, w64, arith, slice_index_or, slice_set}
+use Rattle.std.proofs.Common.{List, ap, ◌∙◌, refl, w64, arith}
 use Rattle.std.proofs.lemmas.Int.{to_z-of_z}
 use Rattle.sharc_meaning.specs.declared.variable.Variable.{Variable}
 use Rattle.sharc_meaning.specs.State.{with_value}
