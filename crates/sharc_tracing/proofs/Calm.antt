@@ -15,7 +15,8 @@ use Rattle.sharc_meaning.specs.Arithmetic.{null_base, mutex_not_held, mutex_alre
 use Rattle.sharc_meaning.specs.Cells.{cell_of, Guard, mutex, behind, nothing, guard_of, instance_mode}
 use Rattle.sharc_meaning.specs.Events.{held_mutexes, holds_mutex}
 use Rattle.sharc_meaning.specs.Reference.{NULL, is_null, number_of}
-use Rattle.sharc_meaning.specs.State.{GivenUp, released, emptied, Variable, State, Out, go, over, Run, then_on, ◌>>=◌, give, done, stop, unless_stop, enters, enters_with, happens, answered, performs, gives_up, drops, holds, holds_reference, moves, moves_on, is_reference, value_of, looks_at, sets, stands}
+use Rattle.sharc_meaning.specs.State.{GivenUp, released, emptied, State, Out, go, over, Run, then_on, ◌>>=◌, give, done, stop, unless_stop, enters, enters_with, happens, answered, performs, gives_up, drops, holds, holds_reference, moves, moves_on, is_reference, value_of, looks_at, sets, stands}
+use Rattle.sharc_meaning.specs.declared.variable.Variable.{Variable}
 use Rattle.sharc_meaning.specs.Places.{Place, variable, cell, pointee, based, guarding, access_mode, cast_to, freed}
 use Rattle.sharc_meaning.specs.Waiting.{cell_at_place, moves_base, gives_up_base, lock_call, unlock_call, wait_call, signal_call, broadcast_call, condition_call}
 use Rattle.sharc_meaning.specs.Expressions.{resulting}
