@@ -13,6 +13,8 @@ mod paths;
 #[cfg(test)]
 mod programs;
 #[cfg(test)]
+mod repaired;
+#[cfg(test)]
 mod rules;
 #[cfg(test)]
 mod single;

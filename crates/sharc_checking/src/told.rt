@@ -2,17 +2,17 @@
 //!
 //! What is large is let go of by `drop`, which is proved once for any value: a value that goes out of scope is proved to be dropped part by part.
 
-use sharc_check::{CheckFault, check};
+use sharc_check::{CheckFault, Checked, check};
 use sharc_ctype::typed::{TypeFault, Typed, type_program};
 use sharc_infer::infer;
 use sharc_lex::{LexFault, lex};
+use sharc_live::nulled_uses;
 use sharc_mode::error::ModeErrors;
 use sharc_mode::moded::Moded;
 use sharc_parse::{ParseFault, parse};
 use sharc_reach::reach;
 use sharc_report::{accepted_text, check_text, explain_text};
 use sharc_suggest::suggest_all;
-use sharc_tree::listed::Listed;
 use sharc_tree::token::FaultAt;
 use std::alloc::{AllocError, Global};
 
@@ -102,17 +102,19 @@ fn refused(alloc: Global, m: &Moded, errors: &ModeErrors) -> Result<Vec<u8>, All
     text
 }
 
-/// A program that is accepted. Which pointers may have been nulled is not told yet.
-fn accepted(alloc: Global, m: &Moded) -> Result<Vec<u8>, AllocError> {
-    let warnings = Listed::of(Vec::new(alloc));
-    accepted_text(alloc, m, &warnings)
+/// A program that is accepted, with its warnings.
+fn accepted(alloc: Global, c: &Checked) -> Result<Vec<u8>, AllocError> {
+    let warnings = nulled_uses(alloc, c)?;
+    let text = accepted_text(alloc, c.moded(), &warnings);
+    drop(warnings);
+    text
 }
 
 /// The verdict over a program.
-fn judged(alloc: Global, m: Moded) -> Result<Vec<u8>, AllocError> {
+pub(crate) fn judged(alloc: Global, m: Moded) -> Result<Vec<u8>, AllocError> {
     match check(alloc, m) {
         Ok(checked) => {
-            let text = accepted(alloc, checked.moded());
+            let text = accepted(alloc, &checked);
             drop(checked);
             text
         }
@@ -135,7 +137,7 @@ fn verdict(alloc: Global, source: &[u8]) -> Result<Vec<u8>, Untold> {
 }
 
 /// What `explain` writes of a program before its verdict.
-fn types(alloc: Global, m: Moded) -> Result<Vec<u8>, AllocError> {
+pub(crate) fn types(alloc: Global, m: Moded) -> Result<Vec<u8>, AllocError> {
     let text = explain_text(alloc, &m);
     drop(m);
     text
