@@ -74,7 +74,11 @@ pub(crate) fn failing(
 }
 
 /// Writes the status and the text behind what was written.
-pub(crate) fn add_outcome(alloc: Global, all: &mut Vec<u8>, found: &Outcome) -> Result<(), AllocError> {
+pub(crate) fn add_outcome(
+    alloc: Global,
+    all: &mut Vec<u8>,
+    found: &Outcome,
+) -> Result<(), AllocError> {
     let status = format!(in alloc; "{} ", found.status)?;
     all.extend_from_slice(status.as_bytes())?;
     all.extend_from_slice(&found.text)

@@ -221,7 +221,11 @@ pub struct Tokens {
 /// A drop that is written out is proved here once; one that is derived is proved in each crate that drops tokens.
 impl Drop for Tokens {
     fn drop(self) {
-        let Tokens { list, files, end: _ } = self;
+        let Tokens {
+            list,
+            files,
+            end: _,
+        } = self;
         drop(list);
         drop(files);
     }
