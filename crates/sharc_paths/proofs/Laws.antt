@@ -47,7 +47,7 @@ or_assoc : (a b d : Bool) → (a || b) || d ≡ a || (b || d)
 or_assoc true b d = refl
 or_assoc false b d = refl
 
-kept_none : (b : Bool) → kept b None ≡ None
+pub kept_none : (b : Bool) → kept b None ≡ None
 kept_none true = refl
 kept_none false = refl
 

@@ -9,4 +9,7 @@ pub mod Summed
 pub mod Told
 pub mod Named
 pub mod Found
+pub mod Alike
+pub mod Narrows
+pub mod Halved
 pub mod OrderLemmas

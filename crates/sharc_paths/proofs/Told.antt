@@ -26,7 +26,7 @@ same_standing n n2 b b2 c c2 e f g = rw (e, f, g) refl
 abbrev from : Option ℕ → Way
 from v = record { least = v; clear = true }
 
-behind_follow : (p q : Way) (v : Option ℕ) → behind (follow p q) v ≡ behind q (behind p v)
+pub behind_follow : (p q : Way) (v : Option ℕ) → behind (follow p q) v ≡ behind q (behind p v)
 behind_follow p q v = ap (λ (z : Way). z.least) (sym (follow_assoc (from v) p q))
 
 behind_either : (p q : Way) (v : Option ℕ) → behind (either p q) v ≡ lower (behind p v) (behind q v)

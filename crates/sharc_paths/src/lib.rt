@@ -6,7 +6,9 @@
 #![tactic(auto)]
 
 mod back;
+pub mod exits;
 mod forth;
+pub mod narrow;
 mod ordered;
 mod stack;
 pub mod step;

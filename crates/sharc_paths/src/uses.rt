@@ -1,12 +1,14 @@
 // The reads of nulled variables.
 
-ghost use Rattle.std.specs.Prelude.{◌≡◌, ℕ, ◌++◌, Contains, None, IfOk, OnOk};
+ghost use Rattle.std.specs.Prelude.{◌≡◌, ℕ, max, ◌++◌, Contains, None, IfOk, OnOk};
 ghost use Rattle.sharc_paths.specs.Code.{Code, listing};
 ghost use Rattle.sharc_paths.specs.Sums.{warns};
 ghost use Rattle.sharc_paths.specs.Uses.{AddsUses, nulled_at, all_nulled, all_warns};
+ghost use Rattle.sharc_paths.specs.Narrow.{AreBetween};
 
 use crate::back::heads_of;
 use crate::forth::tell;
+use crate::narrow::{Variables, narrowed};
 use crate::step::Step;
 use crate::way::Warning;
 use std::alloc::{AllocError, Global};
@@ -56,7 +58,26 @@ fn nulled(alloc: Global, steps: &[Step]) -> Result<Vec<u32>, AllocError>
     Ok(list)
 }
 
-/// Adds the warnings about some variables.
+fn greater(a: u32, b: u32) -> u32
+    ensures { result ≡ max a b }
+{
+    if a < b { b } else { a }
+}
+
+/// From the least of these variables to the greatest.
+fn all_between(list: &[u32]) -> Variables
+    ensures { AreBetween result.first result.last list.now }
+{
+    let mut first = u32::MAX;
+    let mut last = 0;
+    for x in list {
+        first = first.min(*x);
+        last = greater(last, *x);
+    }
+    Variables { first, last }
+}
+
+/// Adds the warnings about some variables: of one by two passes over the steps, of more by halves, each by the steps that matter to it.
 fn about_all(
     alloc: Global,
     list: &[u32],
@@ -65,15 +86,23 @@ fn about_all(
 ) -> Result<Vec<Warning>, AllocError>
     ensures { IfOk result (λ v. (c : Code) → steps.now ≡ listing c → v.items ≡ found.items ++ all_warns c list.now) }
 {
-    let mut found = found;
-    for x in list {
-        found = about(alloc, *x, steps, found)?;
+    match list {
+        [] => Ok(found),
+        [x] => about(alloc, *x, steps, found),
+        [_, _, ..] => {
+            let (these, others) = list.split_at(list.len() / 2);
+            let matter = narrowed(alloc, all_between(these), steps)?;
+            let found = about_all(alloc, these, matter.as_slice(), found)?;
+            drop(matter);
+            let matter = narrowed(alloc, all_between(others), steps)?;
+            let found = about_all(alloc, others, matter.as_slice(), found)?;
+            Ok(found)
+        }
     }
-    Ok(found)
 }
 
-/// Adds the reads of nulled variables in code that is written down as these steps, in any order. It goes over the steps twice for each variable that they
-/// null. It is refused for want of memory only.
+/// Adds the reads of nulled variables in code that is written down as these steps, in any order. It goes over the steps as often as the variables that they
+/// null can be halved. It is refused for want of memory only.
 pub fn nulled_reads(
     alloc: Global,
     steps: &[Step],
@@ -82,6 +111,7 @@ pub fn nulled_reads(
     ensures { IfOk result (λ v. (c : Code) → steps.now ≡ listing c → AddsUses c found.items v.items) }
 {
     let list = nulled(alloc, steps)?;
-    let told = about_all(alloc, list.as_slice(), steps, found)?;
+    let matter = narrowed(alloc, all_between(list.as_slice()), steps)?;
+    let told = about_all(alloc, list.as_slice(), matter.as_slice(), found)?;
     Ok(told)
 }
