@@ -51,16 +51,14 @@ fn tested(way: Step, steps: &mut Vec<Step>) -> Result<(), AllocError> {
 }
 
 // while (a) { read x; if (b) continue; if (c) break; null x; do { if (d) return; } while (e); }
-fn turns(x: u32, read: u32, steps: &mut Vec<Step>) -> Result<(), AllocError>
-    requires { read < 2 ^ 31 }
-{
+fn turns(x: u32, read: u32, null: u32, steps: &mut Vec<Step>) -> Result<(), AllocError> {
     steps.push(Step::Head)?;
     tested(Step::Break, steps)?;
     steps.push(Step::Catch)?;
     steps.push(Step::Read(x, read))?;
     tested(Step::Continue, steps)?;
     tested(Step::Break, steps)?;
-    steps.push(Step::Null(x, read + 1))?;
+    steps.push(Step::Null(x, null))?;
     steps.push(Step::Head)?;
     tested(Step::Return, steps)?;
     tested(Step::Break, steps)?;
@@ -76,7 +74,7 @@ fn tells_reads_of_many_variables(rt: HostRuntime) -> Result<(), Fail> {
     let alloc = rt.alloc();
     let mut steps = Vec::new(alloc);
     for x in 0..1000u32 {
-        turns(x, 2 * x, &mut steps)?;
+        turns(x, 2 * x, 2 * x + 1, &mut steps)?;
     }
     for x in 0..1000u32 {
         steps.push(Step::Read(x, 2000 + x))?;
