@@ -1,0 +1,174 @@
+// What an event does to cells, objects, mutexes, threads and waiters.
+
+ghost use Rattle.std.specs.Prelude.{◌≡◌, ◌+◌, option_map};
+ghost use Rattle.sharc_meaning.specs.Events.{granule_of, access_by, makes, gives, frees, begins, locks, unlocks, is_cell};
+ghost use Rattle.sharc_meaning.specs.Reference.{number_of};
+ghost use Rattle.sharc_meaning.specs.Store.{cell_changed, changes, value_left, is_natural, is_spawn, spawns, is_gone, enters, takes_away};
+ghost use Rattle.sharc_judge.specs.Deciding.{view_access};
+
+use crate::same::{is_cell, same_object};
+use sharc_tree::event::{Act, CellAt, CellMode, Object, SourceEvent, Taken};
+
+/// An access of a cell: a Read, a Write or a Take.
+#[derive(Clone, Copy, Drop)]
+pub struct CellAccess {
+    pub cell: CellAt,
+    pub mode: CellMode,
+    pub is_write: bool,
+}
+
+pub(crate) fn access_by(act: Act) -> Option<CellAccess>
+    ensures { option_map view_access result ≡ access_by act }
+{
+    match act {
+        Act::Read(cell, mode) => Some(CellAccess {
+            cell,
+            mode,
+            is_write: false,
+        }),
+        Act::Write(cell, mode, _) | Act::Take(Taken::Cell(cell, mode), _) => Some(CellAccess {
+            cell,
+            mode,
+            is_write: true,
+        }),
+        _ => None,
+    }
+}
+
+/// A granule has two cells.
+pub(crate) fn granule_of(cell: CellAt) -> u64
+    ensures { result ≡ granule_of cell }
+{
+    cell.cell / 2
+}
+
+/// The number of the object of a reference that is not NULL.
+pub(crate) fn number_of(reference: i64) -> u32
+    ensures { result ≡ number_of reference }
+{
+    (reference.unsigned_abs() % 4294967296) as u32
+}
+
+pub(crate) fn makes(object: Object, e: &SourceEvent) -> bool
+    ensures { result ≡ makes object e.now }
+{
+    match (object, e.act) {
+        (Object::Made(n), Act::New(_, _, _)) => n == number_of(e.answer),
+        _ => false,
+    }
+}
+
+fn gives(object: Object, e: &SourceEvent) -> bool
+    ensures { result ≡ gives object e.now }
+{
+    match (object, e.act) {
+        (Object::Made(n), Act::Give(reference, _)) => n == number_of(reference),
+        _ => false,
+    }
+}
+
+pub(crate) fn frees(object: Object, e: &SourceEvent) -> bool
+    ensures { result ≡ frees object e.now }
+{
+    match (object, e.act) {
+        (Object::Made(n), Act::Freed(reference)) => n == number_of(reference),
+        _ => false,
+    }
+}
+
+pub(crate) fn begins(object: Object, e: &SourceEvent) -> bool
+    ensures { result ≡ begins object e.now }
+{
+    makes(object, e) || gives(object, e)
+}
+
+pub(crate) fn locks(c: CellAt, e: &SourceEvent) -> bool
+    ensures { result ≡ locks c e.now }
+{
+    match e.act {
+        Act::Lock(d) => is_cell(c, Some(d)),
+        _ => false,
+    }
+}
+
+pub(crate) fn unlocks(c: CellAt, e: &SourceEvent) -> bool
+    ensures { result ≡ unlocks c e.now }
+{
+    match e.act {
+        Act::Unlock(d) => is_cell(c, Some(d)),
+        _ => false,
+    }
+}
+
+fn cell_changed(act: Act) -> Option<CellAt>
+    ensures { result ≡ cell_changed act }
+{
+    match act {
+        Act::Write(c, _, _) => Some(c),
+        Act::Take(Taken::Cell(c, _), _) => Some(c),
+        _ => None,
+    }
+}
+
+/// Whether the event gives the cell a value.
+pub(crate) fn changes(c: CellAt, e: &SourceEvent) -> bool
+    ensures { result ≡ changes c e.now }
+{
+    is_cell(c, cell_changed(e.act)) || makes(c.object, e)
+}
+
+/// The value that it gives.
+pub(crate) fn value_left(act: Act) -> i64
+    ensures { result ≡ value_left act }
+{
+    match act {
+        Act::Write(_, _, value) => value,
+        _ => 0,
+    }
+}
+
+pub(crate) fn is_natural(n: u64, value: i64) -> bool
+    ensures { result ≡ is_natural n value }
+{
+    value >= 0 && value.unsigned_abs() == n
+}
+
+/// Whether the event is a Spawn that answered this number.
+pub(crate) fn spawns(thread: u64, e: &SourceEvent) -> bool
+    ensures { result ≡ spawns thread e.now }
+{
+    match e.act {
+        Act::Spawn(_, _) => is_natural(thread, e.answer),
+        _ => false,
+    }
+}
+
+pub(crate) fn is_gone(act: Act) -> bool
+    ensures { result ≡ is_gone act }
+{
+    match act {
+        Act::Gone => true,
+        _ => false,
+    }
+}
+
+/// Whether the thread makes itself a waiter of the cell by the event.
+pub(crate) fn enters(c: CellAt, thread: u32, e: &SourceEvent) -> bool
+    ensures { result ≡ enters c thread e.now }
+{
+    match e.act {
+        Act::Enter(d) => is_cell(c, Some(d)) && e.thread == thread,
+        _ => false,
+    }
+}
+
+/// Whether it is taken away from there by the event.
+pub(crate) fn takes_away(c: CellAt, thread: u32, e: &SourceEvent) -> bool
+    ensures { result ≡ takes_away c thread e.now }
+{
+    match e.act {
+        Act::Signal(d) => is_cell(c, Some(d)) && is_natural(thread as u64 + 1, e.answer),
+        Act::Broadcast(d) => is_cell(c, Some(d)),
+        _ => false,
+    }
+}

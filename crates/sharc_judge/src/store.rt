@@ -1,0 +1,166 @@
+// What the events before leave: the value of a cell, which objects are live, which mutexes are locked, which threads there are, and who waits.
+
+ghost use Rattle.std.specs.Prelude.{◌≡◌, IsTrue, ◌↔◌, false, true};
+ghost use Rattle.std.specs.Option.{option_copied};
+ghost use Rattle.sharc_meaning.specs.Reference.{constant_value};
+ghost use Rattle.sharc_meaning.specs.Store.{form_value, global_value, initial_value, value_after, is_live, is_locked, was_locked_by, was_spawned, went, is_waiter, IsFresh, IsNewThread, Signals};
+ghost use Rattle.sharc_judge.specs.Deciding.{lower_waiter, lowest_waiter, waiter_answer};
+
+use crate::access::{number_of, value_left};
+use crate::history::{Test, any, latest, meets_latest};
+use sharc_ctype::typed::Typed;
+use sharc_tree::event::{CellAt, Object, SourceEvent};
+use sharc_tree::tree::{Constant, GlobalDefinition, GlobalForm};
+
+fn constant_value(constant: Constant) -> i64
+    ensures { result ≡ constant_value constant }
+{
+    match constant {
+        Constant::Number(number) => number.value,
+        Constant::Character(byte) => byte as i64,
+        Constant::Null => 0,
+    }
+}
+
+fn form_value(form: &GlobalForm) -> i128
+    ensures { result ≡ form_value form.now }
+{
+    match form {
+        GlobalForm::Plain => 0,
+        GlobalForm::Array(_, _) => 0,
+        GlobalForm::Initial(_, minus, constant) => {
+            let value = constant_value(*constant) as i128;
+            if *minus { -value } else { value }
+        }
+    }
+}
+
+fn global_value(global: Option<&GlobalDefinition>) -> i128
+    ensures { result ≡ global_value (option_copied global.entry) }
+{
+    match global {
+        None => 0,
+        Some(definition) => form_value(&definition.form),
+    }
+}
+
+fn initial_value(t: &Typed, object: Object) -> i128
+    ensures { result ≡ initial_value t.now object }
+{
+    match object {
+        Object::Global(number) => global_value(t.global_at(number)),
+        Object::Made(_) => 0,
+    }
+}
+
+/// The last value that was given to the cell, else its initial value.
+pub(crate) fn value_after(t: &Typed, before: &[SourceEvent], c: CellAt) -> i128
+    ensures { result ≡ value_after t.now before.now c }
+{
+    match latest(Test::Changes(c), before) {
+        None => initial_value(t, c.object),
+        Some(e) => value_left(e.act) as i128,
+    }
+}
+
+/// Whether the answer is the cell's value.
+pub(crate) fn tells_value(t: &Typed, before: &[SourceEvent], c: CellAt, answer: i64) -> bool
+    ensures { IsTrue result ↔ (answer ≡ value_after t.now before.now c) }
+{
+    value_after(t, before, c) == answer as i128
+}
+
+pub(crate) fn is_live(before: &[SourceEvent], o: Object) -> bool
+    ensures { result ≡ is_live before.now o }
+{
+    meets_latest(Test::Makes(o), Test::MakesOrFrees(o), before)
+}
+
+pub(crate) fn is_locked(before: &[SourceEvent], c: CellAt) -> bool
+    ensures { result ≡ is_locked before.now c }
+{
+    meets_latest(Test::Locks(c), Test::LocksOrUnlocks(c), before)
+}
+
+pub(crate) fn was_locked_by(before: &[SourceEvent], c: CellAt, thread: u32) -> bool
+    ensures { result ≡ was_locked_by before.now c thread }
+{
+    meets_latest(Test::IsOf(thread), Test::Locks(c), before)
+}
+
+/// Whether the thread of this number is gone.
+pub(crate) fn went(before: &[SourceEvent], thread: i64) -> bool
+    ensures { result ≡ went before.now thread }
+{
+    any(Test::Goes(thread), before)
+}
+
+pub(crate) fn is_waiter(before: &[SourceEvent], c: CellAt, thread: u32) -> bool
+    ensures { result ≡ is_waiter before.now c thread }
+{
+    meets_latest(Test::Enters(c, thread), Test::EntersOrLeaves(c, thread), before)
+}
+
+/// Whether the answer is a reference to an object that is not live, with these elements.
+pub(crate) fn is_fresh(before: &[SourceEvent], elements: u64, answer: i64) -> bool
+    ensures { IsTrue result ↔ IsFresh before.now elements answer }
+{
+    let number = number_of(answer);
+    answer > 0
+        && number > 0
+        && answer.unsigned_abs() / 4294967296 == elements
+        && !is_live(before, Object::Made(number))
+}
+
+/// Whether the answer is the number of a thread that was not spawned before, and is not the first.
+pub(crate) fn is_new_thread(before: &[SourceEvent], answer: i64) -> bool
+    ensures { IsTrue result ↔ IsNewThread before.now answer }
+{
+    answer > 0 && !any(Test::Spawns(answer.unsigned_abs()), before)
+}
+
+fn lower_waiter(before: &[SourceEvent], c: CellAt, e: &SourceEvent, least: Option<u32>) -> Option<u32>
+    ensures { result ≡ lower_waiter before.now c e.now least }
+{
+    if !is_waiter(before, c, e.thread) {
+        return least;
+    }
+    match least {
+        None => Some(e.thread),
+        Some(other) => Some(if e.thread < other { e.thread } else { other }),
+    }
+}
+
+/// The lowest of the threads that wait at the cell.
+fn lowest_waiter(before: &[SourceEvent], c: CellAt) -> Option<u32>
+    ensures { result ≡ lowest_waiter before.now c before.now }
+{
+    let mut least = None;
+    for e in before {
+        least = lower_waiter(before, c, e, least);
+    }
+    least
+}
+
+/// What a Signal answers: the lowest waiter plus 1, or 0 where nobody waits.
+fn signal_answer(before: &[SourceEvent], c: CellAt) -> i128
+    ensures { result ≡ waiter_answer (lowest_waiter before.now c before.now) }
+{
+    match lowest_waiter(before, c) {
+        None => 0,
+        Some(thread) => thread as i128 + 1,
+    }
+}
+
+fn tells_waiter(before: &[SourceEvent], c: CellAt, answer: i64) -> bool
+    ensures { IsTrue result ↔ (answer ≡ waiter_answer (lowest_waiter before.now c before.now)) }
+{
+    signal_answer(before, c) == answer as i128
+}
+
+/// Whether a Signal may answer this.
+pub(crate) fn signals(before: &[SourceEvent], c: CellAt, answer: i64) -> bool
+    ensures { IsTrue result ↔ Signals before.now c answer }
+{
+    tells_waiter(before, c, answer)
+}
