@@ -1,4 +1,7 @@
 mod Doubling
 mod Held
+mod Locks
 mod NextAnswer
+mod Steps
 mod Variables
+mod Waits
