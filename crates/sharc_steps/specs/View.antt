@@ -11,7 +11,7 @@ use Rattle.sharc_meaning.specs.declared.variable.Variable.{Variable}
 use Rattle.sharc_meaning.specs.Cells.{Guard, mutex, behind, nothing}
 use Rattle.sharc_meaning.specs.Events.{same_cell, held_mutexes}
 use Rattle.sharc_meaning.specs.Places.{Place, variable, cell}
-use Rattle.sharc_meaning.specs.State.{Frame, State, Outcome, wants, stopped, spent, Out, go, over, Run, Step, ◌>>=◌, ◌>>◌, replaced, performs, moves, gives_up, done, held_by_frame}
+use Rattle.sharc_meaning.specs.State.{Frame, State, Outcome, wants, stopped, spent, Out, go, over, Run, Step, ◌>>◌, replaced, performs, moves, gives_up, done, held_by_frame}
 use Rattle.sharc_steps.specs.declared.cells.Guard.{Guard as RustGuard}
 use Rattle.sharc_steps.specs.declared.cells.Guard.TheVariants as guards
 use Rattle.sharc_steps.specs.declared.places.Place.{Place as RustPlace}

@@ -1,4 +1,4 @@
-use Rattle.std.proofs.Common.{rules, ◌≡◌, ℤ, true, bytes_eq, codes, slice_index_or, to_z, of_z, w64}
+use Rattle.std.proofs.Common.{rules, ◌≡◌, true, bytes_eq, codes, slice_index_or, to_z, of_z, w64}
 use Rattle.sharc_meaning.specs.Reference.{NULL}
 use Rattle.sharc_steps.specs.View.{view_state}
 use Rattle.sharc_steps.proofs.Waits.{wait_named}
