@@ -8,3 +8,4 @@ mod Legal
 mod Obeying
 mod Running
 mod Spending
+pub mod Moded

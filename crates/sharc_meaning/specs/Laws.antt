@@ -5,7 +5,10 @@ use Rattle.sharc_tree.specs.declared.event.Act.TheVariants.{Read, New, Take, Spa
 use Rattle.sharc_tree.specs.declared.event.Taken.TheVariants.{Cell, Local}
 use Rattle.sharc_tree.specs.declared.event.SourceEvent.{SourceEvent}
 use Rattle.sharc_ctype.specs.Resolved.{Resolution, function_at}
+use Rattle.sharc_tree.specs.Tree.{Expression}
+use Rattle.sharc_mode.specs.Cells.{cell_at}
 use Rattle.sharc_mode.specs.Moded.{Assignment}
+use Rattle.sharc_mode.specs.Rows.{modes_at}
 use Rattle.sharc_meaning.specs.Events.{events_of}
 use Rattle.sharc_meaning.specs.Meaning.{Asked, run_thread, start, asks}
 use Rattle.sharc_meaning.specs.Obeys.{Until, Obeys}
@@ -134,3 +137,12 @@ pub record RunLaws : Type 0 where
   pub obeying : ObeyingPrefixes
   pub grow : RunsGrow
   pub start : RunsStart
+
+-- What a cell's mode is depends on the resolved program and the modes alone, and so do the modes of what an expression points to: why a mode is dynamic says
+-- nothing of it.
+pub record SameModes (m n : Assignment) : Type 0 where
+  pub cells : (e : Expression) → cell_at m e ≡ cell_at n e
+  pub targets : (e : Expression) → modes_at m e ≡ modes_at n e
+
+abbrev pub ModesAlone : Type 0
+ModesAlone = (m n : Assignment) → m.typed ≡ n.typed → m.modes ≡ n.modes → SameModes m n

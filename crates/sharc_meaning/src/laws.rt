@@ -1,6 +1,6 @@
 // Laws of the definitions. A proof above has them where its function calls one of these.
 
-ghost use Rattle.sharc_meaning.specs.Laws.{AskLaws, RunLaws, StoreLaws};
+ghost use Rattle.sharc_meaning.specs.Laws.{AskLaws, ModesAlone, RunLaws, StoreLaws};
 
 /// What a thread asks for goes on where there is more fuel or there are more answers, and changes only where it ended for want of them. It ends for
 /// want of fuel only where all is used up. Each event uses up one answer. An event is wanted where they are used up, and it comes with one answer more.
@@ -17,4 +17,9 @@ pub fn store_laws()
 /// is the next of its thread, or the first of a thread that has the right to start, and that may come.
 pub fn run_laws()
     ensures { RunLaws }
+{}
+
+/// What a cell's mode is depends on the resolved program and the modes alone, and so do the modes of what an expression points to.
+pub fn mode_laws()
+    ensures { ModesAlone }
 {}
