@@ -61,6 +61,7 @@ impl<'a, A: Allocator> Port for BusPort<'a, A> {
 
     ghost serves_some = { λ p. (p.seat.number, refl) };
 
+    #[inline(always)]
     fn step(&mut self, step: WordStep) -> u64
         requires { step.word < length self.old.bus.opening }
         ensures bus { self.new.bus ≡ self.old.bus }

@@ -53,6 +53,7 @@ impl BusSeat {
     }
 
     // Makes one step on the bus, and answers the word that it found.
+    #[inline(always)]
     pub(crate) fn step<A: Allocator>(&mut self, bus: &Bus<A>, step: WordStep) -> u64
         requires bus { self.old.bus ≡ bus.now.id }
         requires word { step.word < length bus.now.opening }

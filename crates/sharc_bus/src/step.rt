@@ -12,6 +12,7 @@ use std::alloc::Allocator;
 type Words<A> = Shared<(), Parts, Opening<A>, BusLaw>;
 
 // One atomic step on a word, which its seat then has at the end of its part. It answers the word that it found.
+#[inline(always)]
 pub(crate) fn make_step<A: Allocator>(
     words: &Words<A>,
     seat: &mut Seat<(), Parts>,

@@ -10,7 +10,7 @@ ghost use Rattle.sharc_cpu.specs.View.{machine_of, Makes, KeepsPort};
 
 use crate::arithmetic::{int_of, word_of};
 use crate::parts::Parts;
-use crate::places::{Done, next};
+use crate::places::{Done, go_on, next};
 use crate::turns::indexed;
 use sharc_code::{At, Cell, Shape, cell_of};
 use sharc_word::{Port, WordOp, WordStep};
@@ -101,20 +101,20 @@ pub(crate) fn give_up_base(at: At, parts: &mut Parts, cell: Cell)
 #[inline(always)]
 pub(crate) fn load<P: Port>(
     shape: Shape,
-    at: At,
+    at: &mut At,
     parts: &mut Parts,
     port: &mut P,
     register: u32,
     cell: Cell,
-) -> Done
+) -> u64
     requires shape { IsShape shape }
-    requires place { at.pc + 1 < 2 ^ 64 }
+    requires place { at.old.pc + 1 < 2 ^ 64 }
     requires words { P.count port.old ≡ words_of shape }
-    ensures turn { Makes (P.serves port.old) P.leads (Asks (step_of (word shape (machine_of at parts.old) cell) ops.Load) (λ found. goes (accessed (set_int (machine_of at parts.old) register (int_of found))))) parts.old.number (machine_of result.at parts.new) result.found (P.place port.old) (P.place port.new) }
+    ensures turn { Makes (P.serves port.old) P.leads (Asks (step_of (word shape (machine_of at.old parts.old) cell) ops.Load) (λ found. goes (accessed (set_int (machine_of at.old parts.old) register (int_of found))))) parts.old.number (machine_of at.new parts.new) result (P.place port.old) (P.place port.new) }
     ensures port { KeepsPort P.count P.name P.serves port.old port.new }
     ensures room { vec_capacity parts.new.prints ≡ vec_capacity parts.old.prints }
 {
-    let word = word(shape, at, parts, cell);
+    let word = word(shape, *at, parts, cell);
     let found = ask(
         port,
         WordStep {
@@ -122,33 +122,31 @@ pub(crate) fn load<P: Port>(
             op: WordOp::Load,
         },
     );
-    parts.set_int(at, register, int_of(found));
+    parts.set_int(*at, register, int_of(found));
     parts.set_pending(0);
-    Done {
-        at: next(at),
-        found,
-    }
+    go_on(at);
+    found
 }
 
 /// To this cell, the value of this integer register.
 #[inline(always)]
 pub(crate) fn store<P: Port>(
     shape: Shape,
-    at: At,
+    at: &mut At,
     parts: &mut Parts,
     port: &mut P,
     register: u32,
     cell: Cell,
-) -> Done
+) -> u64
     requires shape { IsShape shape }
-    requires place { at.pc + 1 < 2 ^ 64 }
+    requires place { at.old.pc + 1 < 2 ^ 64 }
     requires words { P.count port.old ≡ words_of shape }
-    ensures turn { Makes (P.serves port.old) P.leads (Asks (step_of (word shape (machine_of at parts.old) cell) (ops.Swap (word_of (int (machine_of at parts.old) register)))) (λ found. goes (accessed (machine_of at parts.old)))) parts.old.number (machine_of result.at parts.new) result.found (P.place port.old) (P.place port.new) }
+    ensures turn { Makes (P.serves port.old) P.leads (Asks (step_of (word shape (machine_of at.old parts.old) cell) (ops.Swap (word_of (int (machine_of at.old parts.old) register)))) (λ found. goes (accessed (machine_of at.old parts.old)))) parts.old.number (machine_of at.new parts.new) result (P.place port.old) (P.place port.new) }
     ensures port { KeepsPort P.count P.name P.serves port.old port.new }
     ensures room { vec_capacity parts.new.prints ≡ vec_capacity parts.old.prints }
 {
-    let word = word(shape, at, parts, cell);
-    let value = word_of(parts.int(at, register));
+    let word = word(shape, *at, parts, cell);
+    let value = word_of(parts.int(*at, register));
     let found = ask(
         port,
         WordStep {
@@ -157,10 +155,8 @@ pub(crate) fn store<P: Port>(
         },
     );
     parts.set_pending(0);
-    Done {
-        at: next(at),
-        found,
-    }
+    go_on(at);
+    found
 }
 
 /// The reference in this cell is loaded, and not counted.

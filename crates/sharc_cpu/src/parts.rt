@@ -151,7 +151,8 @@ impl Parts {
         self.function = function;
     }
 
-    #[inline(always)]
+    #[cold]
+    #[inline(never)]
     pub(crate) fn set_stop(&mut self, stop: Stop)
         ensures rest { rest_of self.new ≡ record (rest_of self.old) { own = record (rest_of self.old).own { stop = Some stop } } }
         ensures room { vec_capacity self.new.prints ≡ vec_capacity self.old.prints }

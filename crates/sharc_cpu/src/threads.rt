@@ -12,7 +12,7 @@ use crate::arithmetic::{int_of, word_of};
 use crate::cells::ask;
 use crate::checks::wrote;
 use crate::parts::Parts;
-use crate::places::{Done, ends, local, next, tries};
+use crate::places::{Done, ends, local, next, settle, tries};
 use crate::turns::{at_stage, called, rests, trapped};
 use sharc_code::{
     At, Code, NEXT_THREAD, PRINTS, Parameter, Register, Shape, Stage, argument_word, function_word,
@@ -449,4 +449,17 @@ pub(crate) fn exit<P: Port>(shape: Shape, at: At, parts: &mut Parts, port: &mut 
             Done { at, found }
         }
     }
+}
+
+/// The same, where the thread stands. It is not in line, so that the loop over turns stays small.
+#[inline(never)]
+pub(crate) fn leave<P: Port>(shape: Shape, at: &mut At, parts: &mut Parts, port: &mut P) -> u64
+    requires shape { IsShape shape }
+    requires within { IsWithin shape (rest_of parts.old).own }
+    requires words { P.count port.old ≡ words_of shape }
+    ensures turn { Makes (P.serves port.old) P.leads (exit shape (machine_of at.old parts.old) parts.old.stage) parts.old.number (machine_of at.new parts.new) result (P.place port.old) (P.place port.new) }
+    ensures port { KeepsPort P.count P.name P.serves port.old port.new }
+    ensures room { vec_capacity parts.new.prints ≡ vec_capacity parts.old.prints }
+{
+    settle(exit(shape, *at, parts, port), at)
 }

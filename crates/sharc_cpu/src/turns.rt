@@ -10,6 +10,7 @@ use crate::places::{jumps, next, stays, stops};
 use sharc_code::{At, Code, Frame, Stage, State, Stop};
 
 /// Stops.
+#[inline(always)]
 pub(crate) fn stopped(at: At, parts: &mut Parts, stop: Stop) -> At
     ensures turn { machine_of result parts.new ≡ stopped (machine_of at parts.old) stop }
     ensures room { vec_capacity parts.new.prints ≡ vec_capacity parts.old.prints }
@@ -19,6 +20,7 @@ pub(crate) fn stopped(at: At, parts: &mut Parts, stop: Stop) -> At
 }
 
 /// Stops with the X of this number.
+#[inline(always)]
 pub(crate) fn trapped(at: At, parts: &mut Parts, number: u8, site: u32) -> At
     ensures turn { machine_of result parts.new ≡ trapped (machine_of at parts.old) number site }
     ensures room { vec_capacity parts.new.prints ≡ vec_capacity parts.old.prints }
