@@ -1,0 +1,7 @@
+pub mod Expected
+pub mod Givings
+pub mod Gone
+pub mod Kept
+pub mod Mismatches
+pub mod Once
+pub mod Values
