@@ -79,10 +79,10 @@ some_once c from until n (inl none) some =
 some_once c from until n (inr w) some = w.0
 
 -- only what begins at the first token of the cast has its tokens
-has_first : (r : Recast) (e : Expression) → is_there r e ≡ true → (span_of e).first.token ≡ r.from
+pub has_first : (r : Recast) (e : Expression) → is_there r e ≡ true → (span_of e).first.token ≡ r.from
 has_first r e is = eqb-true (span_of e).first.token r.from (and_parts ((span_of e).first.token == r.from) ((span_of e).last.token == r.until) is).0
 
-abbrev at_tokens : Recast → Test
+abbrev pub at_tokens : Recast → Test
 at_tokens r = record { token = r.from; test = is_there r; begins = has_first r }
 
 -- what it is suggested for has its tokens

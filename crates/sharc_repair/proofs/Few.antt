@@ -304,7 +304,7 @@ few_items all c (i ∷ rest) placed = joined all c (span_of_item i ∷ []) (item
 pub begins_once : (all : List Token) (c : Test) (items : List Item) (until : ℕ) → Follow all 0 until (item_spans items) → PlacedItems all items → AtMostOnce c 0 until (met_in_items c.test items)
 begins_once all c items until follow placed = few_items all c items placed 0 until (omega arith) follow
 
-at_most_one : (c : Test) (from until n : ℕ) → AtMostOnce c from until n → n ≤ 1
+pub at_most_one : (c : Test) (from until n : ℕ) → AtMostOnce c from until n → n ≤ 1
 at_most_one c from until n (inl none) =
     let zero_many : n ≡ 0 = none in
     omega (arith, zero_many)

@@ -4,8 +4,11 @@ ghost use Rattle.sharc_repair.specs.Expected.{CastHasExpected};
 ghost use Rattle.sharc_repair.specs.Gone.{GoneWhereExpected};
 ghost use Rattle.sharc_repair.specs.Kept.{DeclarationsStay, PositionsStay, TypesStay};
 ghost use Rattle.sharc_repair.specs.Mismatches.{OneMismatch};
+ghost use Rattle.sharc_repair.specs.Names.{NamesStay};
 ghost use Rattle.sharc_repair.specs.Once.{SuggestedIsAddedOnce};
 ghost use Rattle.sharc_repair.specs.Values.{ValuesBeginApart};
+
+use sharc_resolved::laws::{each_name_once, names_in_types, only_names};
 
 /// The structs, the globals and all that is declared are as they were, and functions have their bodies with the cast.
 pub fn declarations_stay()
@@ -46,3 +49,12 @@ pub fn cast_has_expected()
 pub fn gone_where_expected()
     ensures { GoneWhereExpected }
 {}
+
+/// Where the program with a suggested cast is typed, each token that named a variable, a global or a function names it still, and one that named a field names one.
+pub fn names_stay()
+    ensures { NamesStay }
+{
+    each_name_once();
+    only_names();
+    names_in_types();
+}
