@@ -107,7 +107,7 @@ mutual
   in_statement test scope f (tree.for s h a) =
       both test (head_givings scope h) (givings_in (behind_first scope h.first) f a) (met_in_head test h) (met_in_statement test a) (in_head test scope h) (in_statement test (behind_first scope h.first) f a)
 
-  in_statements : (test : Expression → Bool) (scope : List Entry) (f : ℕ) (all : Statements) → met_in_statements test all ≡ counted test (givings_in_all scope f all)
+  pub in_statements : (test : Expression → Bool) (scope : List Entry) (f : ℕ) (all : Statements) → met_in_statements test all ≡ counted test (givings_in_all scope f all)
   in_statements test scope f no_statements = refl
   in_statements test scope f (statement a rest) =
       both test (givings_in scope f a) (givings_in_all (after scope a) f rest) (met_in_statement test a) (met_in_statements test rest) (in_statement test scope f a) (in_statements test (after scope a) f rest)

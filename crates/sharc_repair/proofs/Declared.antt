@@ -48,19 +48,19 @@ same_structs c (structure s ∷ rest) = ap (λ (all : List StructDefinition). s 
 same_structs c (global g ∷ rest) = same_structs c rest
 same_structs c (function f ∷ rest) = same_structs c rest
 
-same_globals : (c : Recast) (items : List Item) → globals_in (map (item_with_cast c) items) ≡ globals_in items
+pub same_globals : (c : Recast) (items : List Item) → globals_in (map (item_with_cast c) items) ≡ globals_in items
 same_globals c [] = refl
 same_globals c (structure s ∷ rest) = same_globals c rest
 same_globals c (global g ∷ rest) = ap (λ (all : List GlobalDefinition). g ∷ all) (same_globals c rest)
 same_globals c (function f ∷ rest) = same_globals c rest
 
-same_functions : (c : Recast) (items : List Item) → functions_in (map (item_with_cast c) items) ≡ map (function_with_cast c) (functions_in items)
+pub same_functions : (c : Recast) (items : List Item) → functions_in (map (item_with_cast c) items) ≡ map (function_with_cast c) (functions_in items)
 same_functions c [] = refl
 same_functions c (structure s ∷ rest) = same_functions c rest
 same_functions c (global g ∷ rest) = same_functions c rest
 same_functions c (function f ∷ rest) = ap (λ (all : List Function). function_with_cast c f ∷ all) (same_functions c rest)
 
-same_declarations : (c : Recast) (items : List Item) → declarations_in (map (item_with_cast c) items) ≡ declarations_in items
+pub same_declarations : (c : Recast) (items : List Item) → declarations_in (map (item_with_cast c) items) ≡ declarations_in items
 same_declarations c [] = refl
 same_declarations c (i ∷ rest) =
     both (declarations_of (item_with_cast c i)) (declarations_in (map (item_with_cast c) rest)) (declarations_of i) (declarations_in rest) (declarations_same c i) (same_declarations c rest)

@@ -52,11 +52,11 @@ side_by_side c from mid until n k (inr w) (inr v) le ge =
 
 -- ---- in spans that follow one another
 
-abbrev Few : List Token → Test → List Span → ℕ → Type 0
+abbrev pub Few : List Token → Test → List Span → ℕ → Type 0
 Few all c spans n = (from until : ℕ) → from ≤ until → Follow all from until spans → AtMostOnce c from until n
 
-joined : (all : List Token) (c : Test) (xs ys : List Span) (n k : ℕ) → Few all c xs n → Few all c ys k → Few all c (xs ++ ys) (n + k)
-joined all c xs ys n k left right from until le follow =
+pub few_both : (all : List Token) (c : Test) (xs ys : List Span) (n k : ℕ) → Few all c xs n → Few all c ys k → Few all c (xs ++ ys) (n + k)
+few_both all c xs ys n k left right from until le follow =
     let w = split all from until xs ys le follow in
     side_by_side c from w.0 until n k (left from w.0 w.1 w.3) (right w.0 until w.2 w.4) w.1 w.2
 
@@ -186,19 +186,19 @@ mutual
   inside_all : (all : List Token) (c : Test) (args : Arguments) → AllPlaced all args → Few all c (argument_spans args) (met_inside_all c.test args)
   inside_all all c no_arguments placed = none all c []
   inside_all all c (argument a rest) placed =
-      joined all c (span_of a ∷ []) (argument_spans rest) (met_at c.test a) (met_inside_all c.test rest) (value_few all c a placed.0 (inside all c a placed.0)) (inside_all all c rest placed.1)
+      few_both all c (span_of a ∷ []) (argument_spans rest) (met_at c.test a) (met_inside_all c.test rest) (value_few all c a placed.0 (inside all c a placed.0)) (inside_all all c rest placed.1)
 
-few_in : (all : List Token) (c : Test) (e : Expression) → Placed all e → Few all c (span_of e ∷ []) (met_inside c.test e)
+pub few_in : (all : List Token) (c : Test) (e : Expression) → Placed all e → Few all c (span_of e ∷ []) (met_inside c.test e)
 few_in all c e placed = inside_few all c (span_of e) (met_inside c.test e) (inside all c e placed)
 
-few_value : (all : List Token) (c : Test) (e : Expression) → Placed all e → Few all c (span_of e ∷ []) (met_at c.test e)
+pub few_value : (all : List Token) (c : Test) (e : Expression) → Placed all e → Few all c (span_of e ∷ []) (met_at c.test e)
 few_value all c e placed = value_few all c e placed (inside all c e placed)
 
-few_option : (all : List Token) (c : Test) (e : Option Expression) → IfSome e (Placed all) → Few all c (option_spans span_of e) (of_option (met_inside c.test) e)
+pub few_option : (all : List Token) (c : Test) (e : Option Expression) → IfSome e (Placed all) → Few all c (option_spans span_of e) (of_option (met_inside c.test) e)
 few_option all c None placed = none all c []
 few_option all c (Some e) placed = few_in all c e placed
 
-few_returned : (all : List Token) (c : Test) (e : Option Expression) → IfSome e (Placed all) → Few all c (option_spans span_of e) (of_option (met_at c.test) e)
+pub few_returned : (all : List Token) (c : Test) (e : Option Expression) → IfSome e (Placed all) → Few all c (option_spans span_of e) (of_option (met_at c.test) e)
 few_returned all c None placed = none all c []
 few_returned all c (Some e) placed = few_value all c e placed
 
@@ -209,22 +209,22 @@ alone all c xs ys n few from until le follow =
     let low : from ≤ from = omega arith in
     wider c from w.0 from until n (few from w.0 w.1 w.3) low w.2
 
-few_right : (all : List Token) (c : Test) (r : Right) → PlacedRight all r → Few all c (span_of_right r ∷ []) (met_in_right c.test r)
+pub few_right : (all : List Token) (c : Test) (r : Right) → PlacedRight all r → Few all c (span_of_right r ∷ []) (met_in_right c.test r)
 few_right all c (value e) placed = few_value all c e placed
 few_right all c (malloc s n t) placed =
     whole all c s (option_spans span_of n ++ (t.span ∷ [])) (of_option (met_inside c.test) n) placed.0 (alone all c (option_spans span_of n) (t.span ∷ []) (of_option (met_inside c.test) n) (few_option all c n placed.1))
 
-few_simple : (all : List Token) (c : Test) (x : Simple) → PlacedSimple all x → Few all c (span_of_simple x ∷ []) (met_in_simple c.test x)
+pub few_simple : (all : List Token) (c : Test) (x : Simple) → PlacedSimple all x → Few all c (span_of_simple x ∷ []) (met_in_simple c.test x)
 few_simple all c (assign s u r) placed =
     whole all c s (span_of u ∷ (span_of_right r ∷ [])) (met_inside c.test u + met_in_right c.test r) placed.0
-    (joined all c (span_of u ∷ []) (span_of_right r ∷ []) (met_inside c.test u) (met_in_right c.test r) (few_in all c u placed.1) (few_right all c r placed.2))
+    (few_both all c (span_of u ∷ []) (span_of_right r ∷ []) (met_inside c.test u) (met_in_right c.test r) (few_in all c u placed.1) (few_right all c r placed.2))
 few_simple all c (does_call e) placed = few_in all c e placed
 
-few_step : (all : List Token) (c : Test) (x : Option Simple) → IfSome x (PlacedSimple all) → Few all c (option_spans span_of_simple x) (of_option (met_in_simple c.test) x)
+pub few_step : (all : List Token) (c : Test) (x : Option Simple) → IfSome x (PlacedSimple all) → Few all c (option_spans span_of_simple x) (of_option (met_in_simple c.test) x)
 few_step all c None placed = none all c []
 few_step all c (Some x) placed = few_simple all c x placed
 
-few_initial : (all : List Token) (c : Test) (x : Option Right) → IfSome x (PlacedRight all) → Few all c (option_spans span_of_right x) (of_option (met_in_right c.test) x)
+pub few_initial : (all : List Token) (c : Test) (x : Option Right) → IfSome x (PlacedRight all) → Few all c (option_spans span_of_right x) (of_option (met_in_right c.test) x)
 few_initial all c None placed = none all c []
 few_initial all c (Some r) placed = few_right all c r placed
 
@@ -236,24 +236,24 @@ behind_span all c s ys n few from until le follow =
     let ends : s.last.token < until = follow.2 in
     wider c (s.last.token + 1) until from until n (few (s.last.token + 1) until (omega (arith, ends)) follow.3) (omega (arith, order, begins)) (omega arith)
 
-few_local : (all : List Token) (c : Test) (l : Local) → PlacedLocal all l → Few all c (l.span ∷ []) (met_in_local c.test l)
+pub few_local : (all : List Token) (c : Test) (l : Local) → PlacedLocal all l → Few all c (l.span ∷ []) (met_in_local c.test l)
 few_local all c l placed =
     whole all c l.span (l.declaration.span ∷ option_spans span_of_right l.initial) (met_in_local c.test l) placed.0
     (behind_span all c l.declaration.span (option_spans span_of_right l.initial) (met_in_local c.test l) (few_initial all c l.initial placed.2))
 
-few_first : (all : List Token) (c : Test) (f : First) → PlacedFirst all f → Few all c (first_spans f) (met_in_first c.test f)
+pub few_first : (all : List Token) (c : Test) (f : First) → PlacedFirst all f → Few all c (first_spans f) (met_in_first c.test f)
 few_first all c nothing placed = none all c []
 few_first all c (declares l) placed = few_local all c l placed
 few_first all c (does x) placed = few_simple all c x placed
 
-few_head : (all : List Token) (c : Test) (h : Head) → PlacedHead all h → Few all c (head_spans h) (met_in_head c.test h)
+pub few_head : (all : List Token) (c : Test) (h : Head) → PlacedHead all h → Few all c (head_spans h) (met_in_head c.test h)
 few_head all c h placed =
-    joined all c (first_spans h.first ++ option_spans span_of h.test) (option_spans span_of_simple h.step) (met_in_first c.test h.first + of_option (met_inside c.test) h.test) (of_option (met_in_simple c.test) h.step)
-    (joined all c (first_spans h.first) (option_spans span_of h.test) (met_in_first c.test h.first) (of_option (met_inside c.test) h.test) (few_first all c h.first placed.0) (few_option all c h.test placed.1))
+    few_both all c (first_spans h.first ++ option_spans span_of h.test) (option_spans span_of_simple h.step) (met_in_first c.test h.first + of_option (met_inside c.test) h.test) (of_option (met_in_simple c.test) h.step)
+    (few_both all c (first_spans h.first) (option_spans span_of h.test) (met_in_first c.test h.first) (of_option (met_inside c.test) h.test) (few_first all c h.first placed.0) (few_option all c h.test placed.1))
     (few_step all c h.step placed.2)
 
 mutual
-  few_statement : (all : List Token) (c : Test) (s : Statement) → PlacedStatement all s → Few all c (span_of_statement s ∷ []) (met_in_statement c.test s)
+  pub few_statement : (all : List Token) (c : Test) (s : Statement) → PlacedStatement all s → Few all c (span_of_statement s ∷ []) (met_in_statement c.test s)
   few_statement all c (tree.empty s) placed = none all c (s ∷ [])
   few_statement all c (tree.block s inner) placed = whole all c s (statement_spans inner) (met_in_statements c.test inner) placed.0 (few_statements all c inner placed.1)
   few_statement all c (tree.declare s l) placed = whole all c s (l.span ∷ []) (met_in_local c.test l) placed.0 (few_local all c l placed.1)
@@ -262,29 +262,29 @@ mutual
   few_statement all c (tree.return s e) placed = whole all c s (option_spans span_of e) (of_option (met_at c.test) e) placed.0 (few_returned all c e placed.1)
   few_statement all c (tree.if_then s e a) placed =
       whole all c s (span_of e ∷ (span_of_statement a ∷ [])) (met_inside c.test e + met_in_statement c.test a) placed.0
-      (joined all c (span_of e ∷ []) (span_of_statement a ∷ []) (met_inside c.test e) (met_in_statement c.test a) (few_in all c e placed.1) (few_statement all c a placed.2))
+      (few_both all c (span_of e ∷ []) (span_of_statement a ∷ []) (met_inside c.test e) (met_in_statement c.test a) (few_in all c e placed.1) (few_statement all c a placed.2))
   few_statement all c (tree.if_then_else s e a b) placed =
       whole all c s (span_of e ∷ (span_of_statement a ∷ (span_of_statement b ∷ []))) (met_inside c.test e + met_in_statement c.test a + met_in_statement c.test b) placed.0
-      (joined all c (span_of e ∷ (span_of_statement a ∷ [])) (span_of_statement b ∷ []) (met_inside c.test e + met_in_statement c.test a) (met_in_statement c.test b)
-      (joined all c (span_of e ∷ []) (span_of_statement a ∷ []) (met_inside c.test e) (met_in_statement c.test a) (few_in all c e placed.1) (few_statement all c a placed.2)) (few_statement all c b placed.3))
+      (few_both all c (span_of e ∷ (span_of_statement a ∷ [])) (span_of_statement b ∷ []) (met_inside c.test e + met_in_statement c.test a) (met_in_statement c.test b)
+      (few_both all c (span_of e ∷ []) (span_of_statement a ∷ []) (met_inside c.test e) (met_in_statement c.test a) (few_in all c e placed.1) (few_statement all c a placed.2)) (few_statement all c b placed.3))
   few_statement all c (tree.while s e a) placed =
       whole all c s (span_of e ∷ (span_of_statement a ∷ [])) (met_inside c.test e + met_in_statement c.test a) placed.0
-      (joined all c (span_of e ∷ []) (span_of_statement a ∷ []) (met_inside c.test e) (met_in_statement c.test a) (few_in all c e placed.1) (few_statement all c a placed.2))
+      (few_both all c (span_of e ∷ []) (span_of_statement a ∷ []) (met_inside c.test e) (met_in_statement c.test a) (few_in all c e placed.1) (few_statement all c a placed.2))
   few_statement all c (tree.for s h a) placed =
       whole all c s (head_spans h ++ (span_of_statement a ∷ [])) (met_in_head c.test h + met_in_statement c.test a) placed.0
-      (joined all c (head_spans h) (span_of_statement a ∷ []) (met_in_head c.test h) (met_in_statement c.test a) (few_head all c h placed.1) (few_statement all c a placed.2))
+      (few_both all c (head_spans h) (span_of_statement a ∷ []) (met_in_head c.test h) (met_in_statement c.test a) (few_head all c h placed.1) (few_statement all c a placed.2))
 
-  few_statements : (all : List Token) (c : Test) (inner : Statements) → PlacedStatements all inner → Few all c (statement_spans inner) (met_in_statements c.test inner)
+  pub few_statements : (all : List Token) (c : Test) (inner : Statements) → PlacedStatements all inner → Few all c (statement_spans inner) (met_in_statements c.test inner)
   few_statements all c no_statements placed = none all c []
   few_statements all c (statement a rest) placed =
-      joined all c (span_of_statement a ∷ []) (statement_spans rest) (met_in_statement c.test a) (met_in_statements c.test rest) (few_statement all c a placed.0) (few_statements all c rest placed.1)
+      few_both all c (span_of_statement a ∷ []) (statement_spans rest) (met_in_statement c.test a) (met_in_statements c.test rest) (few_statement all c a placed.0) (few_statements all c rest placed.1)
 
 -- behind other spans
 behind_spans : (all : List Token) (c : Test) (xs ys : List Span) (n : ℕ) → Few all c ys n → Few all c (xs ++ ys) n
 behind_spans all c [] ys n few = few
 behind_spans all c (s ∷ xs) ys n few = behind_span all c s (xs ++ ys) n (behind_spans all c xs ys n few)
 
-few_function : (all : List Token) (c : Test) (f : Function) → PlacedItem all (function f) → Few all c (f.span ∷ []) (met_in_statements c.test f.statements)
+pub few_function : (all : List Token) (c : Test) (f : Function) → PlacedItem all (function f) → Few all c (f.span ∷ []) (met_in_statements c.test f.statements)
 few_function all c f placed =
     let inner : Few all c (f.body ∷ []) (met_in_statements c.test f.statements) = whole all c f.body (statement_spans f.statements) (met_in_statements c.test f.statements) placed.4 (few_statements all c f.statements placed.5) in
     let n : ℕ = met_in_statements c.test f.statements in
@@ -292,14 +292,14 @@ few_function all c f placed =
     (behind_span all c f.result.span (point f.name.site ∷ (declaration_spans f.parameters ++ (f.body ∷ []))) n
     (behind_span all c (point f.name.site) (declaration_spans f.parameters ++ (f.body ∷ [])) n (behind_spans all c (declaration_spans f.parameters) (f.body ∷ []) n inner)))
 
-few_item : (all : List Token) (c : Test) (i : Item) → PlacedItem all i → Few all c (span_of_item i ∷ []) (met_in_item c.test i)
+pub few_item : (all : List Token) (c : Test) (i : Item) → PlacedItem all i → Few all c (span_of_item i ∷ []) (met_in_item c.test i)
 few_item all c (structure s) placed = none all c (s.span ∷ [])
 few_item all c (global g) placed = none all c (g.span ∷ [])
 few_item all c (function f) placed = few_function all c f placed
 
-few_items : (all : List Token) (c : Test) (items : List Item) → PlacedItems all items → Few all c (item_spans items) (met_in_items c.test items)
+pub few_items : (all : List Token) (c : Test) (items : List Item) → PlacedItems all items → Few all c (item_spans items) (met_in_items c.test items)
 few_items all c [] placed = none all c []
-few_items all c (i ∷ rest) placed = joined all c (span_of_item i ∷ []) (item_spans rest) (met_in_item c.test i) (met_in_items c.test rest) (few_item all c i placed.0) (few_items all c rest placed.1)
+few_items all c (i ∷ rest) placed = few_both all c (span_of_item i ∷ []) (item_spans rest) (met_in_item c.test i) (met_in_items c.test rest) (few_item all c i placed.0) (few_items all c rest placed.1)
 
 pub begins_once : (all : List Token) (c : Test) (items : List Item) (until : ℕ) → Follow all 0 until (item_spans items) → PlacedItems all items → AtMostOnce c 0 until (met_in_items c.test items)
 begins_once all c items until follow placed = few_items all c items placed 0 until (omega arith) follow

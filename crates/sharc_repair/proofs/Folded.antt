@@ -93,7 +93,7 @@ field_dull (named.Variable x) is = absurd (false≢true is)
 field_dull (named.Field f) is = refl
 field_dull named.Known is = refl
 
-field_taken : (v : Named) → is_field v ≡ true → is_free v ≡ false
+pub field_taken : (v : Named) → is_field v ≡ true → is_free v ≡ false
 field_taken (named.Struct n) is = refl
 field_taken (named.Global n) is = refl
 field_taken (named.Function n) is = refl

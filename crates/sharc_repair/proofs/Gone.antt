@@ -1,4 +1,5 @@
 -- The mismatch is gone where the same is expected of the cast as was of what stood there.
+use Rattle.sharc_suggest.specs.Casts.{IsSuggested}
 use Rattle.std.proofs.Common.{◌≡◌, ℕ, ◌+◌, ◌≤◌, ◌==◌, ◌&&◌, Bool, true, false, cond, List, [], ◌∷◌, ◌++◌, length, Some, refl, ap, subst, ◌∙◌, eq-eqb, arith}
 use Rattle.std.specs.List.{filter}
 use Rattle.std.proofs.lemmas.Bool.{and_from, cond-true}
@@ -14,7 +15,7 @@ use Rattle.sharc_recast.specs.Recast.{type_at, is_there, around, with_cast}
 use Rattle.sharc_mode.specs.declared.error.Cast.{Cast}
 use Rattle.sharc_mode.specs.declared.error.ModeError.{ModeError}
 use Rattle.sharc_mode.specs.declared.note.Note.{Note}
-use Rattle.sharc_mode.specs.Moded.{Assignment}
+use Rattle.sharc_mode.specs.Moded.{Assignment, IsWhole}
 use Rattle.sharc_mode.specs.Notes.{agree_notes}
 use Rattle.sharc_mode.specs.Sharings.{Sharing}
 use Rattle.sharc_mode.specs.WellModed.{notes_about}
@@ -140,15 +141,20 @@ gone_by m e c placed before behind g split begins quiet errors says =
     nothing [] is = refl
     nothing (x ∷ rest) is = absurd (omega (arith, is))
 
-pub gone_where_expected : GoneWhereExpected
-gone_where_expected m e c whole placed says =
+pub gone_again : (m : Assignment) (e : ModeError) (c : Cast) → IsWhole m → IsPlaced m.typed.program → (says : IsSuggested m e (Some c)) → IsExpectedAgain m c (has_site m e c says).for.giving (has_site m e c says).for.expected → IsGone (assignment_with c m) e.site.token
+gone_again m e c whole placed says again =
     let site : HasSite m e c says = has_site m e c says in
     let g : Giving = site.for.giving in
     let stands = suggested_stands m e c whole placed says in
-    let begins : (span_of g.given).first.token ≡ e.site.token = ap (λ (x : Cast). x.site.token) site.for.is ∙ site.there in (
-      g,
+    let begins : (span_of g.given).first.token ≡ e.site.token = ap (λ (x : Cast). x.site.token) site.for.is ∙ site.there in
+    gone_by m e c placed site.for.before site.for.behind g site.for.split begins
+    (ap (ones e.site.token) (cast_quiet m g.given site.for.expected stands.0 c site.for.is stands.1 g refl again))
+
+pub gone_where_expected : GoneWhereExpected
+gone_where_expected m e c whole placed says =
+    let site : HasSite m e c says = has_site m e c says in (
+      site.for.giving,
       site.for.expected,
       record { before = site.for.before; behind = site.for.behind; given = site.for.split; wants = site.for.wants; is = site.for.is },
-      λ again. gone_by m e c placed site.for.before site.for.behind g site.for.split begins
-          (ap (ones e.site.token) (cast_quiet m g.given site.for.expected stands.0 c site.for.is stands.1 g refl again)),
+      gone_again m e c whole placed says,
     )

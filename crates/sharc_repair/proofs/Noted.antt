@@ -61,6 +61,10 @@ pub behind_head : (token : ℕ) (what : Named) (rest : List Note) → Clean (ref
 unfolding Clean
 behind_head token what rest h = h
 
+pub behind_yields : (token : ℕ) (what : Named) (rest : List Note) → Clean (yields token what ∷ rest) → Clean rest
+unfolding Clean
+behind_yields token what rest h = h
+
 some_fault : (place : ℕ) (code : FaultCode) (rest : List Note) → faults (fault place code ∷ rest) ≡ [] → ⊥
 some_fault place code rest is = cc
 

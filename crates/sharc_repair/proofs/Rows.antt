@@ -37,10 +37,10 @@ row_modes m first count = all_read m.typed (take count (drop first m.modes))
 -- ---- it has the modes that it had
 
 -- so many positions from p on stand from q on now
-abbrev IsShifted : ℕ → ℕ → ℕ → ℕ → ℕ → Type 0
+abbrev pub IsShifted : ℕ → ℕ → ℕ → ℕ → ℕ → Type 0
 IsShifted first count p q n = ((p + n ≤ first) × (q ≡ p)) ⊎ ((first ≤ p) × (q ≡ p + count))
 
-same_stretch : (first : ℕ) (new old : List Mode) (p q n : ℕ) → first ≤ length old → IsShifted first (length new) p q n → take n (drop q (inserted first new old)) ≡ take n (drop p old)
+pub same_stretch : (first : ℕ) (new old : List Mode) (p q n : ℕ) → first ≤ length old → IsShifted first (length new) p q n → take n (drop q (inserted first new old)) ≡ take n (drop p old)
 same_stretch first new old p q n within (inl w) = ap (λ (k : ℕ). take n (drop k (inserted first new old))) w.1 ∙ stretch_before first new old p n within w.0
 same_stretch first new old p q n within (inr w) = ap (λ (k : ℕ). take n (drop k (inserted first new old))) w.1 ∙ stretch_behind first new old p n within w.0
 

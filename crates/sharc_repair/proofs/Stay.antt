@@ -1,5 +1,8 @@
 -- Each token names what it named, where the program with a suggested cast is typed.
-use Rattle.std.proofs.Common.{◌≡◌, ℕ, ◌+◌, ◌≤◌, ◌==◌, ◌&&◌, Bool, true, List, [], ◌∷◌, length, refl, ap, sym, subst, ◌∙◌, eq-eqb, arith}
+use Rattle.sharc_tree.specs.Low.{IsLow}
+use Rattle.sharc_suggest.specs.Casts.{IsSuggested}
+use Rattle.sharc_mode.specs.declared.error.ModeError.{ModeError}
+use Rattle.std.proofs.Common.{Some, ◌≡◌, ℕ, ◌+◌, ◌≤◌, ◌==◌, ◌&&◌, Bool, true, List, [], ◌∷◌, length, refl, ap, sym, subst, ◌∙◌, eq-eqb, arith}
 use Rattle.std.specs.List.{AllByRecursion}
 use Rattle.std.proofs.lemmas.Bool.{and_parts, and_from}
 use Rattle.sharc_tree.specs.declared.token.Span.{Span}
@@ -11,13 +14,13 @@ use Rattle.sharc_recast.specs.declared.written.Recast.{Recast}
 use Rattle.sharc_recast.specs.Recast.{type_at, is_there, program_with_cast}
 use Rattle.sharc_ctype.specs.declared.entity.Entity.{Entity}
 use Rattle.sharc_ctype.specs.Entities.{entities_in, numbered}
-use Rattle.sharc_ctype.specs.Items.{file_scope, notes_about}
-use Rattle.sharc_ctype.specs.Resolved.{Resolution}
+use Rattle.sharc_ctype.specs.Items.{file_scope, notes_about, IsTyped}
+use Rattle.sharc_ctype.specs.Resolved.{Resolution, IsResolved}
 use Rattle.sharc_mode.specs.declared.error.Cast.{Cast}
 use Rattle.sharc_mode.specs.Moded.{Assignment}
 use Rattle.sharc_resolved.specs.Laws.{EachNameOnce, OnlyNames, NamesInTypes}
 use Rattle.sharc_resolved.specs.WrittenTypes.{IsNamedType}
-use Rattle.sharc_suggest.specs.Applied.{recast_of, base_site}
+use Rattle.sharc_suggest.specs.Applied.{recast_of, base_site, program_with}
 use Rattle.sharc_suggest.specs.Repairs.{differ_first, may_be_cast, keeps_all}
 use Rattle.sharc_repair.specs.Givings.{Giving, items_givings}
 use Rattle.sharc_repair.specs.Names.{NamesStay}
@@ -100,13 +103,19 @@ mild m c named placed types spelt site =
 
 -- ---- so
 
-pub names_stay : EachNameOnce → OnlyNames → NamesInTypes → NamesStay
-names_stay once only in_types m e c resolved placed low says typed token =
+-- the notes of the program with the cast
+pub notes_grown : NamesInTypes → (m : Assignment) (e : ModeError) (c : Cast) → IsResolved m.typed → IsPlaced m.typed.program → IsLow m.typed.program → IsSuggested m e (Some c) → IsTyped (program_with c m.typed)
+    → Noted m.typed (notes_about m.typed.program) (notes_about (program_with c m.typed))
+notes_grown in_types m e c resolved placed low says typed =
     let r : Resolution = m.typed in
     let rc : Recast = recast_of r c in
     let site : HasSite m e c says = has_site m e c says in
     let old : Clean (notes_about r.program) = clean_from (notes_about r.program) resolved.typed in
     let new : Clean (notes_about (program_with_cast rc r.program)) = clean_from (notes_about (program_with_cast rc r.program)) typed in
     let types : Have (IsNamedType r) (entities_in r.program.items) = of_items (IsNamedType r) r.program.items (in_types r resolved placed low) in
-    let said : Noted r (notes_about r.program) (notes_about (program_with_cast rc r.program)) = in_program r rc (mild m c says.are.named placed types (spelled r resolved placed old) site.for) new in
-    keeps r (program_with_cast rc r.program) token resolved refl (all_own r token (only r resolved placed low token) (once r resolved placed low token)) said
+    in_program r rc (mild m c says.are.named placed types (spelled r resolved placed old) site.for) new
+
+pub names_stay : EachNameOnce → OnlyNames → NamesInTypes → NamesStay
+names_stay once only in_types m e c resolved placed low says typed token =
+    let r : Resolution = m.typed in
+    keeps r (program_with c r) token resolved refl (all_own r token (only r resolved placed low token) (once r resolved placed low token)) (notes_grown in_types m e c resolved placed low says typed)

@@ -5,4 +5,5 @@ pub mod Kept
 pub mod Mismatches
 pub mod Names
 pub mod Once
+pub mod Repaired
 pub mod Values

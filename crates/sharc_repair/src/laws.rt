@@ -6,9 +6,10 @@ ghost use Rattle.sharc_repair.specs.Kept.{DeclarationsStay, PositionsStay, Types
 ghost use Rattle.sharc_repair.specs.Mismatches.{OneMismatch};
 ghost use Rattle.sharc_repair.specs.Names.{NamesStay};
 ghost use Rattle.sharc_repair.specs.Once.{SuggestedIsAddedOnce};
+ghost use Rattle.sharc_repair.specs.Repaired.{Repairs};
 ghost use Rattle.sharc_repair.specs.Values.{ValuesBeginApart};
 
-use sharc_resolved::laws::{each_name_once, names_in_types, only_names};
+use sharc_resolved::laws::{each_name_once, names_in_types, only_names, same_kinds};
 
 /// The structs, the globals and all that is declared are as they were, and functions have their bodies with the cast.
 pub fn declarations_stay()
@@ -57,4 +58,14 @@ pub fn names_stay()
     each_name_once();
     only_names();
     names_in_types();
+}
+
+/// A cast that is suggested repairs its mismatch: where the program with the cast is typed, no M1 is at its place.
+pub fn repairs()
+    ensures { Repairs }
+{
+    each_name_once();
+    only_names();
+    names_in_types();
+    same_kinds();
 }
