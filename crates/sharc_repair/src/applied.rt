@@ -13,11 +13,7 @@ use sharc_mode::moded::Moded;
 
 /// Of a program that was read, what `apply` answers of the cast that is suggested for an error has no M1 at the place of that error.
 pub fn is_repaired(m: &Moded, e: &ModeError, c: &Cast, new: &Moded)
-    requires placed { IsPlaced m.now.typed.program }
-    requires low { IsLow m.now.typed.program }
-    requires suggested { IsSuggested m.now e.now (Some c.now) }
-    requires answered { new.now ≡ assignment_with c.now m.now }
-    ensures { IsGone new.now e.now.site.token }
+    ensures { IsPlaced m.now.typed.program → IsLow m.now.typed.program → IsSuggested m.now e.now (Some c.now) → new.now ≡ assignment_with c.now m.now → IsGone new.now e.now.site.token }
 {
     repairs();
     m.typed().program();

@@ -8,12 +8,12 @@ use Rattle.sharc_repair.proofs.applied.is_repaired.Goals as goal
 
 -- src/applied.rt:15:1
 pub returns : goal.returns
-returns c =
+returns c = λ placed low suggested answered.
     let m = c.args.m.now in
     let e = c.args.e.now in
     let resolved : IsResolved m.typed = subst IsResolved c.typed.ensures c.program.ensures.resolved in
     let again : IsResolved c.args.new.now.typed = subst IsResolved c.typed-2.ensures c.program-2.ensures.resolved in
-    let same : c.args.new.now.typed ≡ resolution_with c.args.c.now m.typed = ap (λ (a : Assignment). a.typed) c.requires.answered in
+    let same : c.args.new.now.typed ≡ resolution_with c.args.c.now m.typed = ap (λ (a : Assignment). a.typed) answered in
     let typed : IsTyped (program_with c.args.c.now m.typed) = subst (λ (r : Resolution). IsTyped r.program) same again.typed in
-    subst (λ (a : Assignment). IsGone a e.site.token) (sym c.requires.answered)
-    (c.repairs.ensures m e c.args.c.now resolved c.requires.placed c.requires.low c.position_count.ensures.whole c.requires.suggested typed)
+    subst (λ (a : Assignment). IsGone a e.site.token) (sym answered)
+    (c.repairs.ensures m e c.args.c.now resolved placed low c.position_count.ensures.whole suggested typed)
