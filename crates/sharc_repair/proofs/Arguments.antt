@@ -50,21 +50,21 @@ some_met test (argument x rest) (suc k) a is holds =
     sum
 
 pub one_nth : (test : Expression → Bool) (all : Arguments) → args_met test all ≤ 1 → (j k : ℕ) (a b : Expression) → nth j all ≡ Some a → nth k all ≡ Some b → test a ≡ true → test b ≡ true → a ≡ b
-one_nth test no_arguments few j k a b at there yes_a yes_b = absurd (no_expression a at)
-one_nth test (argument x rest) few zero zero a b at there yes_a yes_b = sym (one_expression x a at) ∙ one_expression x b there
-one_nth test (argument x rest) few zero (suc k) a b at there yes_a yes_b =
+one_nth test no_arguments few j k a b at there holds_a holds_b = absurd (no_expression a at)
+one_nth test (argument x rest) few zero zero a b at there holds_a holds_b = sym (one_expression x a at) ∙ one_expression x b there
+one_nth test (argument x rest) few zero (suc k) a b at there holds_a holds_b =
     let sum : met_by test x + args_met test rest ≤ 1 = few in
-    let one : met_by test x ≡ 1 = ap (met_by test) (one_expression x a at) ∙ met_one test a yes_a in
-    let more : 0 < args_met test rest = some_met test rest k b there yes_b in
+    let one : met_by test x ≡ 1 = ap (met_by test) (one_expression x a at) ∙ met_one test a holds_a in
+    let more : 0 < args_met test rest = some_met test rest k b there holds_b in
     absurd (omega (arith, sum, one, more))
-one_nth test (argument x rest) few (suc j) zero a b at there yes_a yes_b =
+one_nth test (argument x rest) few (suc j) zero a b at there holds_a holds_b =
     let sum : met_by test x + args_met test rest ≤ 1 = few in
-    let one : met_by test x ≡ 1 = ap (met_by test) (one_expression x b there) ∙ met_one test b yes_b in
-    let more : 0 < args_met test rest = some_met test rest j a at yes_a in
+    let one : met_by test x ≡ 1 = ap (met_by test) (one_expression x b there) ∙ met_one test b holds_b in
+    let more : 0 < args_met test rest = some_met test rest j a at holds_a in
     absurd (omega (arith, sum, one, more))
-one_nth test (argument x rest) few (suc j) (suc k) a b at there yes_a yes_b =
+one_nth test (argument x rest) few (suc j) (suc k) a b at there holds_a holds_b =
     let sum : met_by test x + args_met test rest ≤ 1 = few in
-    one_nth test rest (omega (arith, sum)) j k a b at there yes_a yes_b
+    one_nth test rest (omega (arith, sum)) j k a b at there holds_a holds_b
 
 -- ---- what is given to a parameter
 

@@ -152,10 +152,10 @@ in_assigned r now f σ scope s u (value e) placed typed strong =
           (back (IsStrong r now) (notes_at AsLvalue σ u ++ place_notes σ.names u) (unmet Value u (place_kind σ.names u (type_of σ u))) heads);
     })
 
-in_simple_ : (r now : Resolution) (f : ℕ) (σ : Scope) (scope : List Entry) (x : Simple) → PlacedSimple r.program.tokens.list x → AreTyped r (at σ (in_simple x)) → AreStrong r now (simple_notes σ x) → AreReceived r now f (simple_givings scope x)
-in_simple_ r now f σ scope (assign s u x) placed typed strong =
+in_simple_statement : (r now : Resolution) (f : ℕ) (σ : Scope) (scope : List Entry) (x : Simple) → PlacedSimple r.program.tokens.list x → AreTyped r (at σ (in_simple x)) → AreStrong r now (simple_notes σ x) → AreReceived r now f (simple_givings scope x)
+in_simple_statement r now f σ scope (assign s u x) placed typed strong =
     joint (IsReceived r now f) (givings scope u) (right_givings scope (of_left u) x) (plain r now f scope u) (in_assigned r now f σ scope s u x placed typed strong)
-in_simple_ r now f σ scope (does_call e) placed typed strong = plain r now f scope e
+in_simple_statement r now f σ scope (does_call e) placed typed strong = plain r now f scope e
 
 in_local : (r now : Resolution) (f : ℕ) (scope : List Entry) (l : Local) → PlacedLocal r.program.tokens.list l → AreReceived r now f (local_givings scope l)
 in_local r now f scope l placed = by l.initial placed.0.1
@@ -179,12 +179,12 @@ in_local r now f scope l placed = by l.initial placed.0.1
 in_first : (r now : Resolution) (f : ℕ) (around : Around) (σ : Scope) (scope : List Entry) (x : First) → PlacedFirst r.program.tokens.list x → AreTyped r (places_in_first around σ x) → AreStrong r now (first_notes around σ x) → AreReceived r now f (first_givings scope x)
 in_first r now f around σ scope nothing placed typed strong = tt
 in_first r now f around σ scope (declares l) placed typed strong = in_local r now f scope l placed
-in_first r now f around σ scope (does x) placed typed strong = in_simple_ r now f σ scope x placed typed strong
+in_first r now f around σ scope (does x) placed typed strong = in_simple_statement r now f σ scope x placed typed strong
 
 in_step : (r now : Resolution) (f : ℕ) (σ : Scope) (scope : List Entry) (x : Option Simple) → IfSome x (PlacedSimple r.program.tokens.list) → AllByRecursion (IsTypedIn r σ) (in_option in_simple x) → AreStrong r now (step_notes σ x)
     → AreReceived r now f (option_givings (simple_givings scope) x)
 in_step r now f σ scope None placed typed strong = tt
-in_step r now f σ scope (Some x) placed typed strong = in_simple_ r now f σ scope x placed (replaced r σ (in_simple x) typed) strong
+in_step r now f σ scope (Some x) placed typed strong = in_simple_statement r now f σ scope x placed (replaced r σ (in_simple x) typed) strong
   where
     replaced : (r : Resolution) (σ : Scope) (list : List Expression) → AllByRecursion (IsTypedIn r σ) list → AreTyped r (at σ list)
     replaced r σ [] h = tt
@@ -199,7 +199,7 @@ mutual
   in_statement r now f around σ scope (tree.empty s) placed typed strong = tt
   in_statement r now f around σ scope (tree.block s all) placed typed strong = in_statements r now f (opened around σ.names) σ scope all placed.1 typed strong
   in_statement r now f around σ scope (tree.declare s l) placed typed strong = in_local r now f scope l placed.1
-  in_statement r now f around σ scope (tree.simple s x) placed typed strong = in_simple_ r now f σ scope x placed.1 typed strong
+  in_statement r now f around σ scope (tree.simple s x) placed typed strong = in_simple_statement r now f σ scope x placed.1 typed strong
   in_statement r now f around σ scope (tree.jump s j) placed typed strong = tt
   in_statement r now f around σ scope (tree.return s e) placed typed strong = in_returned r now f scope e
   in_statement r now f around σ scope (tree.if_then s e a) placed typed strong =

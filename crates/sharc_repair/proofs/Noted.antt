@@ -274,9 +274,9 @@ base_tame scope token base.Mutex = tt
 base_tame scope token base.Void = tt
 base_tame scope token (base.Struct name) = struct_tame token (struct_of scope.structs name)
 
-pub type_tame : (scope : Scope) (siblings : List Declaration) (where_ : Role) (w : WrittenType) → AllByRecursion IsTame (type_notes scope siblings where_ w)
-type_tame scope siblings where_ w =
-    append_tame (base_notes scope.structs w.base.token w.ctype.base ++ fault_unless (allowed_there where_ w) w.span.first.token TypeNotAllowed) (modes_notes scope siblings w.ctype.levels)
-    (append_tame (base_notes scope.structs w.base.token w.ctype.base) (fault_unless (allowed_there where_ w) w.span.first.token TypeNotAllowed)
-    (base_tame scope w.base.token w.ctype.base) (faults_tame _ (unless_faults (allowed_there where_ w) w.span.first.token TypeNotAllowed)))
+pub type_tame : (scope : Scope) (siblings : List Declaration) (where_it_stands : Role) (w : WrittenType) → AllByRecursion IsTame (type_notes scope siblings where_it_stands w)
+type_tame scope siblings where_it_stands w =
+    append_tame (base_notes scope.structs w.base.token w.ctype.base ++ fault_unless (allowed_there where_it_stands w) w.span.first.token TypeNotAllowed) (modes_notes scope siblings w.ctype.levels)
+    (append_tame (base_notes scope.structs w.base.token w.ctype.base) (fault_unless (allowed_there where_it_stands w) w.span.first.token TypeNotAllowed)
+    (base_tame scope w.base.token w.ctype.base) (faults_tame _ (unless_faults (allowed_there where_it_stands w) w.span.first.token TypeNotAllowed)))
     (modes_tame scope siblings w.ctype.levels)

@@ -83,21 +83,21 @@ in_initial w names scope scoped d r (Some x) mild clean =
 pub declared_tame : (from : ℕ) (d : Declaration) (names : List Entry) → AllByRecursion IsTame (declared_notes from d names)
 declared_tame from d names = (tt, faults_tame _ (where_faults (is_here from names d) d.name.site.token DefinedTwice))
 
-in_local : (w : Setting) (names scope : List Entry) → Scoped w.file.names names scope → (around_ : Around) (l : Local) → AreMild w (local_givings scope l) → Clean (local_notes around_ (with_names w.file names) (local_with_cast w.recast l))
-    → Noted w.resolution (local_notes around_ (with_names w.file names) l) (local_notes around_ (with_names w.file names) (local_with_cast w.recast l))
-in_local w names scope scoped around_ l mild clean =
+in_local : (w : Setting) (names scope : List Entry) → Scoped w.file.names names scope → (surroundings : Around) (l : Local) → AreMild w (local_givings scope l) → Clean (local_notes surroundings (with_names w.file names) (local_with_cast w.recast l))
+    → Noted w.resolution (local_notes surroundings (with_names w.file names) l) (local_notes surroundings (with_names w.file names) (local_with_cast w.recast l))
+in_local w names scope scoped surroundings l mild clean =
     let d : Declaration = l.declaration in
-    let inner : List Entry = declared around_.block d names in
+    let inner : List Entry = declared surroundings.block d names in
     both w.resolution _ _ _ _
-    (same w.resolution (type_notes (with_names w.file names) [] role.Local d.written ++ declared_notes around_.block d names)
-    (append_tame (type_notes (with_names w.file names) [] role.Local d.written) _ (type_tame (with_names w.file names) [] role.Local d.written) (declared_tame around_.block d names)))
-    (in_initial w inner (entry_of d ∷ scope) (scoped_with w.file.names names scope d around_.block scoped (right _ _ (left _ _ clean))) d (of_declared d.name.site.token) l.initial mild (right _ _ clean))
+    (same w.resolution (type_notes (with_names w.file names) [] role.Local d.written ++ declared_notes surroundings.block d names)
+    (append_tame (type_notes (with_names w.file names) [] role.Local d.written) _ (type_tame (with_names w.file names) [] role.Local d.written) (declared_tame surroundings.block d names)))
+    (in_initial w inner (entry_of d ∷ scope) (scoped_with w.file.names names scope d surroundings.block scoped (right _ _ (left _ _ clean))) d (of_declared d.name.site.token) l.initial mild (right _ _ clean))
 
-in_first : (w : Setting) (names scope : List Entry) → Scoped w.file.names names scope → (around_ : Around) (f : First) → AreMild w (first_givings scope f) → Clean (first_notes around_ (with_names w.file names) (first_with_cast w.recast f))
-    → Noted w.resolution (first_notes around_ (with_names w.file names) f) (first_notes around_ (with_names w.file names) (first_with_cast w.recast f))
-in_first w names scope scoped around_ nothing mild clean = done
-in_first w names scope scoped around_ (declares l) mild clean = in_local w names scope scoped around_ l mild clean
-in_first w names scope scoped around_ (does x) mild clean = in_simple w names scope scoped x mild clean
+in_first : (w : Setting) (names scope : List Entry) → Scoped w.file.names names scope → (surroundings : Around) (f : First) → AreMild w (first_givings scope f) → Clean (first_notes surroundings (with_names w.file names) (first_with_cast w.recast f))
+    → Noted w.resolution (first_notes surroundings (with_names w.file names) f) (first_notes surroundings (with_names w.file names) (first_with_cast w.recast f))
+in_first w names scope scoped surroundings nothing mild clean = done
+in_first w names scope scoped surroundings (declares l) mild clean = in_local w names scope scoped surroundings l mild clean
+in_first w names scope scoped surroundings (does x) mild clean = in_simple w names scope scoped x mild clean
 
 in_tests : (w : Setting) (names scope : List Entry) → Scoped w.file.names names scope → (e : Option Expression) → AreMild w (option_givings (givings scope) e) → Clean (tests_notes (with_names w.file names) (option_map (with_cast w.recast) e))
     → Noted w.resolution (tests_notes (with_names w.file names) e) (tests_notes (with_names w.file names) (option_map (with_cast w.recast) e))
@@ -111,28 +111,28 @@ in_step w names scope scoped (Some x) mild clean = in_simple w names scope scope
 
 -- what is in scope behind
 
-pub first_names : (c : Recast) (around_ : Around) (names : List Entry) (f : First) → behind_first around_ names (first_with_cast c f) ≡ behind_first around_ names f
-first_names c around_ names nothing = refl
-first_names c around_ names (declares l) = refl
-first_names c around_ names (does x) = refl
+pub first_names : (c : Recast) (surroundings : Around) (names : List Entry) (f : First) → behind_first surroundings names (first_with_cast c f) ≡ behind_first surroundings names f
+first_names c surroundings names nothing = refl
+first_names c surroundings names (declares l) = refl
+first_names c surroundings names (does x) = refl
 
-pub first_scoped : (w : Setting) (names scope : List Entry) → Scoped w.file.names names scope → (around_ : Around) (f : First) → Clean (first_notes around_ (with_names w.file names) (first_with_cast w.recast f))
-    → Scoped w.file.names (behind_first around_ names f) (casts.behind_first scope f)
-first_scoped w names scope scoped around_ nothing clean = scoped
-first_scoped w names scope scoped around_ (declares l) clean = scoped_with w.file.names names scope l.declaration around_.block scoped (right _ _ (left _ _ clean))
-first_scoped w names scope scoped around_ (does x) clean = scoped
+pub first_scoped : (w : Setting) (names scope : List Entry) → Scoped w.file.names names scope → (surroundings : Around) (f : First) → Clean (first_notes surroundings (with_names w.file names) (first_with_cast w.recast f))
+    → Scoped w.file.names (behind_first surroundings names f) (casts.behind_first scope f)
+first_scoped w names scope scoped surroundings nothing clean = scoped
+first_scoped w names scope scoped surroundings (declares l) clean = scoped_with w.file.names names scope l.declaration surroundings.block scoped (right _ _ (left _ _ clean))
+first_scoped w names scope scoped surroundings (does x) clean = scoped
 
-in_head_ : (w : Setting) (names scope : List Entry) → Scoped w.file.names names scope → (around_ : Around) (h : Head) → AreMild w (head_givings scope h) → Clean (head_notes around_ (with_names w.file names) (head_with_cast w.recast h))
-    → Noted w.resolution (head_notes around_ (with_names w.file names) h) (head_notes around_ (with_names w.file names) (head_with_cast w.recast h))
-in_head_ w names scope scoped around_ h mild clean =
-    let inner : List Entry = behind_first around_ names h.first in
+in_for_head : (w : Setting) (names scope : List Entry) → Scoped w.file.names names scope → (surroundings : Around) (h : Head) → AreMild w (head_givings scope h) → Clean (head_notes surroundings (with_names w.file names) (head_with_cast w.recast h))
+    → Noted w.resolution (head_notes surroundings (with_names w.file names) h) (head_notes surroundings (with_names w.file names) (head_with_cast w.recast h))
+in_for_head w names scope scoped surroundings h mild clean =
+    let inner : List Entry = behind_first surroundings names h.first in
     let below : List Entry = casts.behind_first scope h.first in
-    let same_names : behind_first around_ names (first_with_cast w.recast h.first) ≡ inner = first_names w.recast around_ names h.first in
+    let same_names : behind_first surroundings names (first_with_cast w.recast h.first) ≡ inner = first_names w.recast surroundings names h.first in
     let fronts = front (IsMild w) (first_givings scope h.first ++ option_givings (givings below) h.test) (option_givings (simple_givings below) h.step) mild in
-    let first_clean : Clean (first_notes around_ (with_names w.file names) (first_with_cast w.recast h.first)) = left _ _ (left _ _ clean) in
-    let in_scope : Scoped w.file.names inner below = first_scoped w names scope scoped around_ h.first first_clean in
+    let first_clean : Clean (first_notes surroundings (with_names w.file names) (first_with_cast w.recast h.first)) = left _ _ (left _ _ clean) in
+    let in_scope : Scoped w.file.names inner below = first_scoped w names scope scoped surroundings h.first first_clean in
     both w.resolution _ _ _ _
-    (both w.resolution _ _ _ _ (in_first w names scope scoped around_ h.first (front (IsMild w) (first_givings scope h.first) (option_givings (givings below) h.test) fronts) first_clean)
+    (both w.resolution _ _ _ _ (in_first w names scope scoped surroundings h.first (front (IsMild w) (first_givings scope h.first) (option_givings (givings below) h.test) fronts) first_clean)
     (subst (λ (l : List Entry). Noted w.resolution (tests_notes (with_names w.file inner) h.test) (tests_notes (with_names w.file l) (option_map (with_cast w.recast) h.test))) (sym same_names)
     (in_tests w inner below in_scope h.test (back (IsMild w) (first_givings scope h.first) (option_givings (givings below) h.test) fronts)
     (subst (λ (l : List Entry). Clean (tests_notes (with_names w.file l) (option_map (with_cast w.recast) h.test))) same_names (right _ _ (left _ _ clean))))))
@@ -140,87 +140,87 @@ in_head_ w names scope scoped around_ h mild clean =
     (in_step w inner below in_scope h.step (back (IsMild w) (first_givings scope h.first ++ option_givings (givings below) h.test) (option_givings (simple_givings below) h.step) mild)
     (subst (λ (l : List Entry). Clean (step_notes (with_names w.file l) (option_map (simple_with_cast w.recast) h.step))) same_names (right _ _ clean))))
 
-in_returned : (w : Setting) (names scope : List Entry) → Scoped w.file.names names scope → (around_ : Around) (word f : ℕ) (e : Option Expression) → AreMild w (option_givings (value_givings scope (of_declared f)) e)
-    → Clean (return_notes around_ (with_names w.file names) word (option_map (λ a. around w.recast (with_cast w.recast a)) e))
-    → Noted w.resolution (return_notes around_ (with_names w.file names) word e) (return_notes around_ (with_names w.file names) word (option_map (λ a. around w.recast (with_cast w.recast a)) e))
-in_returned w names scope scoped around_ word f None mild clean = quiet w.resolution _ _ (unless_faults (same_kind around_.result void) word BadForm) (unless_faults (same_kind around_.result void) word BadForm)
-in_returned w names scope scoped around_ word f (Some e) mild clean =
+in_returned : (w : Setting) (names scope : List Entry) → Scoped w.file.names names scope → (surroundings : Around) (word f : ℕ) (e : Option Expression) → AreMild w (option_givings (value_givings scope (of_declared f)) e)
+    → Clean (return_notes surroundings (with_names w.file names) word (option_map (λ a. around w.recast (with_cast w.recast a)) e))
+    → Noted w.resolution (return_notes surroundings (with_names w.file names) word e) (return_notes surroundings (with_names w.file names) word (option_map (λ a. around w.recast (with_cast w.recast a)) e))
+in_returned w names scope scoped surroundings word f None mild clean = quiet w.resolution _ _ (unless_faults (same_kind surroundings.result void) word BadForm) (unless_faults (same_kind surroundings.result void) word BadForm)
+in_returned w names scope scoped surroundings word f (Some e) mild clean =
     let σ : Scope = with_names w.file names in
     let new : Expression = around w.recast (with_cast w.recast e) in
     with_faults w.resolution _ _ _ _
     (with_faults w.resolution _ _ _ _
-    (both w.resolution _ _ _ _ (quiet w.resolution _ _ (where_faults (same_kind around_.result void) word BadForm) (where_faults (same_kind around_.result void) word BadForm))
+    (both w.resolution _ _ _ _ (quiet w.resolution _ _ (where_faults (same_kind surroundings.result void) word BadForm) (where_faults (same_kind surroundings.result void) word BadForm))
     (value_in w names scope scoped (of_declared f) e mild (right _ _ (left _ _ (left _ _ clean)))).noted)
     (unmet_faults Value e (type_of σ e)) (unmet_faults Value new (type_of σ new)))
-    (unagreed_faults (returned_as around_.result) e (met Value (type_of σ e))) (unagreed_faults (returned_as around_.result) new (met Value (type_of σ new)))
+    (unagreed_faults (returned_as surroundings.result) e (met Value (type_of σ e))) (unagreed_faults (returned_as surroundings.result) new (met Value (type_of σ new)))
 
-pub after_names : (c : Recast) (around_ : Around) (names : List Entry) (s : Statement) → after around_ names (statement_with_cast c s) ≡ after around_ names s
-after_names c around_ names (tree.empty s) = refl
-after_names c around_ names (tree.block s all) = refl
-after_names c around_ names (tree.declare s l) = refl
-after_names c around_ names (tree.simple s x) = refl
-after_names c around_ names (tree.jump s j) = refl
-after_names c around_ names (tree.return s e) = refl
-after_names c around_ names (tree.if_then s e a) = refl
-after_names c around_ names (tree.if_then_else s e a b) = refl
-after_names c around_ names (tree.while s e a) = refl
-after_names c around_ names (tree.for s h a) = refl
+pub after_names : (c : Recast) (surroundings : Around) (names : List Entry) (s : Statement) → after surroundings names (statement_with_cast c s) ≡ after surroundings names s
+after_names c surroundings names (tree.empty s) = refl
+after_names c surroundings names (tree.block s all) = refl
+after_names c surroundings names (tree.declare s l) = refl
+after_names c surroundings names (tree.simple s x) = refl
+after_names c surroundings names (tree.jump s j) = refl
+after_names c surroundings names (tree.return s e) = refl
+after_names c surroundings names (tree.if_then s e a) = refl
+after_names c surroundings names (tree.if_then_else s e a b) = refl
+after_names c surroundings names (tree.while s e a) = refl
+after_names c surroundings names (tree.for s h a) = refl
 
-pub after_scoped : (w : Setting) (names scope : List Entry) → Scoped w.file.names names scope → (around_ : Around) (s : Statement) → Clean (notes_in around_ (with_names w.file names) (statement_with_cast w.recast s))
-    → Scoped w.file.names (after around_ names s) (casts.after scope s)
-after_scoped w names scope scoped around_ (tree.empty s) clean = scoped
-after_scoped w names scope scoped around_ (tree.block s all) clean = scoped
-after_scoped w names scope scoped around_ (tree.declare s l) clean = scoped_with w.file.names names scope l.declaration around_.block scoped (right _ _ (left _ _ clean))
-after_scoped w names scope scoped around_ (tree.simple s x) clean = scoped
-after_scoped w names scope scoped around_ (tree.jump s j) clean = scoped
-after_scoped w names scope scoped around_ (tree.return s e) clean = scoped
-after_scoped w names scope scoped around_ (tree.if_then s e a) clean = scoped
-after_scoped w names scope scoped around_ (tree.if_then_else s e a b) clean = scoped
-after_scoped w names scope scoped around_ (tree.while s e a) clean = scoped
-after_scoped w names scope scoped around_ (tree.for s h a) clean = scoped
+pub after_scoped : (w : Setting) (names scope : List Entry) → Scoped w.file.names names scope → (surroundings : Around) (s : Statement) → Clean (notes_in surroundings (with_names w.file names) (statement_with_cast w.recast s))
+    → Scoped w.file.names (after surroundings names s) (casts.after scope s)
+after_scoped w names scope scoped surroundings (tree.empty s) clean = scoped
+after_scoped w names scope scoped surroundings (tree.block s all) clean = scoped
+after_scoped w names scope scoped surroundings (tree.declare s l) clean = scoped_with w.file.names names scope l.declaration surroundings.block scoped (right _ _ (left _ _ clean))
+after_scoped w names scope scoped surroundings (tree.simple s x) clean = scoped
+after_scoped w names scope scoped surroundings (tree.jump s j) clean = scoped
+after_scoped w names scope scoped surroundings (tree.return s e) clean = scoped
+after_scoped w names scope scoped surroundings (tree.if_then s e a) clean = scoped
+after_scoped w names scope scoped surroundings (tree.if_then_else s e a b) clean = scoped
+after_scoped w names scope scoped surroundings (tree.while s e a) clean = scoped
+after_scoped w names scope scoped surroundings (tree.for s h a) clean = scoped
 
 mutual
-  in_statement : (w : Setting) (names scope : List Entry) → Scoped w.file.names names scope → (around_ : Around) (f : ℕ) (s : Statement) → AreMild w (givings_in scope f s)
-      → Clean (notes_in around_ (with_names w.file names) (statement_with_cast w.recast s)) → Noted w.resolution (notes_in around_ (with_names w.file names) s) (notes_in around_ (with_names w.file names) (statement_with_cast w.recast s))
-  in_statement w names scope scoped around_ f (tree.empty s) mild clean = done
-  in_statement w names scope scoped around_ f (tree.block s all) mild clean = in_statements w names scope scoped (opened around_ names) f all mild clean
-  in_statement w names scope scoped around_ f (tree.declare s l) mild clean = in_local w names scope scoped around_ l mild clean
-  in_statement w names scope scoped around_ f (tree.simple s x) mild clean = in_simple w names scope scoped x mild clean
-  in_statement w names scope scoped around_ f (tree.jump s j) mild clean = quiet w.resolution _ _ (unless_faults around_.in_loop s.first.token BadForm) (unless_faults around_.in_loop s.first.token BadForm)
-  in_statement w names scope scoped around_ f (tree.return s e) mild clean = in_returned w names scope scoped around_ s.first.token f e mild clean
-  in_statement w names scope scoped around_ f (tree.if_then s e a) mild clean =
+  in_statement : (w : Setting) (names scope : List Entry) → Scoped w.file.names names scope → (surroundings : Around) (f : ℕ) (s : Statement) → AreMild w (givings_in scope f s)
+      → Clean (notes_in surroundings (with_names w.file names) (statement_with_cast w.recast s)) → Noted w.resolution (notes_in surroundings (with_names w.file names) s) (notes_in surroundings (with_names w.file names) (statement_with_cast w.recast s))
+  in_statement w names scope scoped surroundings f (tree.empty s) mild clean = done
+  in_statement w names scope scoped surroundings f (tree.block s all) mild clean = in_statements w names scope scoped (opened surroundings names) f all mild clean
+  in_statement w names scope scoped surroundings f (tree.declare s l) mild clean = in_local w names scope scoped surroundings l mild clean
+  in_statement w names scope scoped surroundings f (tree.simple s x) mild clean = in_simple w names scope scoped x mild clean
+  in_statement w names scope scoped surroundings f (tree.jump s j) mild clean = quiet w.resolution _ _ (unless_faults surroundings.in_loop s.first.token BadForm) (unless_faults surroundings.in_loop s.first.token BadForm)
+  in_statement w names scope scoped surroundings f (tree.return s e) mild clean = in_returned w names scope scoped surroundings s.first.token f e mild clean
+  in_statement w names scope scoped surroundings f (tree.if_then s e a) mild clean =
       both w.resolution _ _ _ _ (in_test w names scope scoped e (front (IsMild w) (givings scope e) (givings_in scope f a) mild) (left _ _ clean))
-      (in_statement w names scope scoped (opened around_ names) f a (back (IsMild w) (givings scope e) (givings_in scope f a) mild) (right _ _ clean))
-  in_statement w names scope scoped around_ f (tree.if_then_else s e a b) mild clean =
+      (in_statement w names scope scoped (opened surroundings names) f a (back (IsMild w) (givings scope e) (givings_in scope f a) mild) (right _ _ clean))
+  in_statement w names scope scoped surroundings f (tree.if_then_else s e a b) mild clean =
       let fronts = front (IsMild w) (givings scope e ++ givings_in scope f a) (givings_in scope f b) mild in
       both w.resolution _ _ _ _
       (both w.resolution _ _ _ _ (in_test w names scope scoped e (front (IsMild w) (givings scope e) (givings_in scope f a) fronts) (left _ _ (left _ _ clean)))
-      (in_statement w names scope scoped (opened around_ names) f a (back (IsMild w) (givings scope e) (givings_in scope f a) fronts) (right _ _ (left _ _ clean))))
-      (in_statement w names scope scoped (opened around_ names) f b (back (IsMild w) (givings scope e ++ givings_in scope f a) (givings_in scope f b) mild) (right _ _ clean))
-  in_statement w names scope scoped around_ f (tree.while s e a) mild clean =
+      (in_statement w names scope scoped (opened surroundings names) f a (back (IsMild w) (givings scope e) (givings_in scope f a) fronts) (right _ _ (left _ _ clean))))
+      (in_statement w names scope scoped (opened surroundings names) f b (back (IsMild w) (givings scope e ++ givings_in scope f a) (givings_in scope f b) mild) (right _ _ clean))
+  in_statement w names scope scoped surroundings f (tree.while s e a) mild clean =
       both w.resolution _ _ _ _ (in_test w names scope scoped e (front (IsMild w) (givings scope e) (givings_in scope f a) mild) (left _ _ clean))
-      (in_statement w names scope scoped (looping (opened around_ names)) f a (back (IsMild w) (givings scope e) (givings_in scope f a) mild) (right _ _ clean))
-  in_statement w names scope scoped around_ f (tree.for s h a) mild clean =
-      let outer : Around = opened around_ names in
+      (in_statement w names scope scoped (looping (opened surroundings names)) f a (back (IsMild w) (givings scope e) (givings_in scope f a) mild) (right _ _ clean))
+  in_statement w names scope scoped surroundings f (tree.for s h a) mild clean =
+      let outer : Around = opened surroundings names in
       let inner : List Entry = behind_first outer names h.first in
       let below : List Entry = casts.behind_first scope h.first in
       let same_names : behind_first outer names (first_with_cast w.recast h.first) ≡ inner = first_names w.recast outer names h.first in
       let head_clean : Clean (head_notes outer (with_names w.file names) (head_with_cast w.recast h)) = left _ _ clean in
-      both w.resolution _ _ _ _ (in_head_ w names scope scoped outer h (front (IsMild w) (head_givings scope h) (givings_in below f a) mild) head_clean)
+      both w.resolution _ _ _ _ (in_for_head w names scope scoped outer h (front (IsMild w) (head_givings scope h) (givings_in below f a) mild) head_clean)
       (subst (λ (l : List Entry). Noted w.resolution (notes_in (looping (opened outer inner)) (with_names w.file inner) a) (notes_in (looping (opened outer l)) (with_names w.file l) (statement_with_cast w.recast a))) (sym same_names)
       (in_statement w inner below (first_scoped w names scope scoped outer h.first (left _ _ (left _ _ head_clean))) (looping (opened outer inner)) f a (back (IsMild w) (head_givings scope h) (givings_in below f a) mild)
       (subst (λ (l : List Entry). Clean (notes_in (looping (opened outer l)) (with_names w.file l) (statement_with_cast w.recast a))) same_names (right _ _ clean))))
 
-  pub in_statements : (w : Setting) (names scope : List Entry) → Scoped w.file.names names scope → (around_ : Around) (f : ℕ) (all : Statements) → AreMild w (givings_in_all scope f all)
-      → Clean (notes_in_all around_ (with_names w.file names) (statements_with_cast w.recast all))
-      → Noted w.resolution (notes_in_all around_ (with_names w.file names) all) (notes_in_all around_ (with_names w.file names) (statements_with_cast w.recast all))
-  in_statements w names scope scoped around_ f no_statements mild clean = done
-  in_statements w names scope scoped around_ f (statement a rest) mild clean =
-      let inner : List Entry = after around_ names a in
+  pub in_statements : (w : Setting) (names scope : List Entry) → Scoped w.file.names names scope → (surroundings : Around) (f : ℕ) (all : Statements) → AreMild w (givings_in_all scope f all)
+      → Clean (notes_in_all surroundings (with_names w.file names) (statements_with_cast w.recast all))
+      → Noted w.resolution (notes_in_all surroundings (with_names w.file names) all) (notes_in_all surroundings (with_names w.file names) (statements_with_cast w.recast all))
+  in_statements w names scope scoped surroundings f no_statements mild clean = done
+  in_statements w names scope scoped surroundings f (statement a rest) mild clean =
+      let inner : List Entry = after surroundings names a in
       let below : List Entry = casts.after scope a in
-      let same_names : after around_ names (statement_with_cast w.recast a) ≡ inner = after_names w.recast around_ names a in
-      let first_clean : Clean (notes_in around_ (with_names w.file names) (statement_with_cast w.recast a)) = left _ _ clean in
-      both w.resolution _ _ _ _ (in_statement w names scope scoped around_ f a (front (IsMild w) (givings_in scope f a) (givings_in_all below f rest) mild) first_clean)
-      (subst (λ (l : List Entry). Noted w.resolution (notes_in_all around_ (with_names w.file inner) rest) (notes_in_all around_ (with_names w.file l) (statements_with_cast w.recast rest))) (sym same_names)
-      (in_statements w inner below (after_scoped w names scope scoped around_ a first_clean) around_ f rest (back (IsMild w) (givings_in scope f a) (givings_in_all below f rest) mild)
-      (subst (λ (l : List Entry). Clean (notes_in_all around_ (with_names w.file l) (statements_with_cast w.recast rest))) same_names (right _ _ clean))))
+      let same_names : after surroundings names (statement_with_cast w.recast a) ≡ inner = after_names w.recast surroundings names a in
+      let first_clean : Clean (notes_in surroundings (with_names w.file names) (statement_with_cast w.recast a)) = left _ _ clean in
+      both w.resolution _ _ _ _ (in_statement w names scope scoped surroundings f a (front (IsMild w) (givings_in scope f a) (givings_in_all below f rest) mild) first_clean)
+      (subst (λ (l : List Entry). Noted w.resolution (notes_in_all surroundings (with_names w.file inner) rest) (notes_in_all surroundings (with_names w.file l) (statements_with_cast w.recast rest))) (sym same_names)
+      (in_statements w inner below (after_scoped w names scope scoped surroundings a first_clean) surroundings f rest (back (IsMild w) (givings_in scope f a) (givings_in_all below f rest) mild)
+      (subst (λ (l : List Entry). Clean (notes_in_all surroundings (with_names w.file l) (statements_with_cast w.recast rest))) same_names (right _ _ clean))))

@@ -276,10 +276,10 @@ deeper_by first count how o n h false is = record { counted = ap (λ (k : ℕ). 
     some : o.count ≡ 0 → ⊥
     some = eqb-false o.count 0 is
 
-    Placed_ : ℕ → ℕ → ℕ → Type 0
-    Placed_ p q k = ((p + k ≤ first) × (q ≡ p)) ⊎ ((first ≤ p) × (q ≡ p + count))
+    IsShiftedBy : ℕ → ℕ → ℕ → Type 0
+    IsShiftedBy p q k = ((p + k ≤ first) × (q ≡ p)) ⊎ ((first ≤ p) × (q ≡ p + count))
 
-    shift : Placed_ o.first n.first o.count → Placed_ (o.first + 1) (n.first + 1) (o.count - 1)
+    shift : IsShiftedBy o.first n.first o.count → IsShiftedBy (o.first + 1) (n.first + 1) (o.count - 1)
     shift (inl w) =
         let ends : o.first + o.count ≤ first = w.0 in
         let same : n.first ≡ o.first = w.1 in
@@ -290,7 +290,7 @@ deeper_by first count how o n h false is = record { counted = ap (λ (k : ℕ). 
         let same : n.first ≡ o.first + count = w.1 in
         inr (omega (arith, low), omega (arith, same))
 
-    by : (o.count ≡ 0) ⊎ (Placed_ o.first n.first o.count × (o.reading ≡ how) × (n.reading ≡ how)) → (o.count - 1 ≡ 0) ⊎ (Placed_ (o.first + 1) (n.first + 1) (o.count - 1) × (o.reading ≡ how) × (n.reading ≡ how))
+    by : (o.count ≡ 0) ⊎ (IsShiftedBy o.first n.first o.count × (o.reading ≡ how) × (n.reading ≡ how)) → (o.count - 1 ≡ 0) ⊎ (IsShiftedBy (o.first + 1) (n.first + 1) (o.count - 1) × (o.reading ≡ how) × (n.reading ≡ how))
     by (inl none) = absurd (some none)
     by (inr w) = inr (shift w.0, w.1, w.2)
 

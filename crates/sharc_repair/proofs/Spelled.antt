@@ -196,8 +196,8 @@ base_spelt r file scope token base.Mutex = tt
 base_spelt r file scope token base.Void = tt
 base_spelt r file scope token (base.Struct name) = struct_spelt r file token (struct_of scope.structs name)
 
-pub type_spelt : (r : Resolution) (file : List Entry) (scope : Scope) → IsOver file scope.names → (siblings : List Declaration) (where_ : Role) (w : WrittenType) → PlacedType r.program.tokens.list w → AreSpelt r file (type_notes scope siblings where_ w)
-type_spelt r file scope over siblings where_ w placed =
+pub type_spelt : (r : Resolution) (file : List Entry) (scope : Scope) → IsOver file scope.names → (siblings : List Declaration) (where_it_stands : Role) (w : WrittenType) → PlacedType r.program.tokens.list w → AreSpelt r file (type_notes scope siblings where_it_stands w)
+type_spelt r file scope over siblings where_it_stands w placed =
     joint (IsSpelt r file) _ (modes_notes scope siblings w.ctype.levels)
     (joint (IsSpelt r file) (base_notes scope.structs w.base.token w.ctype.base) _ (base_spelt r file scope w.base.token w.ctype.base) (faults_spelt r file _ (unless_faults _ w.span.first.token _)))
     (modes_spelt r file scope over siblings w.mode_first (base_marks w.ctype.base w.base.token) w.ctype.levels placed.1)

@@ -276,7 +276,7 @@ seen_spelt r file t (yields n w ∷ rest) x all is =
 
 pub spelled : (r : Resolution) → IsResolved r → IsPlaced r.program → Clean (notes_about r.program) → IsSpelled r (file_scope r.program.items).names
 spelled r resolved placed clean token n is e found =
-    ⊎_elim inside_ outside (cases_lt token (length r.program.tokens.list))
+    ⊎_elim of_a_token outside (cases_lt token (length r.program.tokens.list))
   where
     old : named_at r token ≡ get_or (named_in r.program) token named.Known
     old = ap (λ (l : List Named). get_or l token named.Known) resolved.named
@@ -284,8 +284,8 @@ spelled r resolved placed clean token n is e found =
     one_some : (a b : Entry) → Some a ≡ Some b → a ≡ b
     one_some a b h = cc
 
-    inside_ : token < length r.program.tokens.list → named_of e.meaning ≡ named.Global n
-    inside_ low =
+    of_a_token : token < length r.program.tokens.list → named_of e.meaning ≡ named.Global n
+    of_a_token low =
         let all : IsGlobalOf r (file_scope r.program.items).names token (seen token (notes_about r.program) named.Known) =
         seen_spelt r (file_scope r.program.items).names token (notes_about r.program) named.Known (in_program r placed clean) (no_global r (file_scope r.program.items).names token named.Known refl) in
         let there = all n (sym (old ∙ named_seen r.program token low) ∙ is) in
