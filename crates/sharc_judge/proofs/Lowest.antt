@@ -23,7 +23,7 @@ module _ (R : List SourceEvent) (until : Until) where
   below_1 ReadSharedOrOneThread less = absurd (omega (arith, less))
 
   pub lowest_1 : (Holds R until Live → ⊥) → IsLowestBroken R until Live
-  lowest_1 broken = record { broken = broken; lower = below_1  }
+  lowest_1 broken = record { broken = broken; lower = below_1 }
 
   below_2 : (h1 : Holds R until Live) (other : Rule) → number other < 2 → Holds R until other
   below_2 h1 Live less = h1

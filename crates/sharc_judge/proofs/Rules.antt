@@ -143,14 +143,15 @@ agrees_pair b d between h = by_access (access_by d.act) refl
 
 one_mode_is : (u : Until) (R : List SourceEvent) → Unbroken rule.OneMode u R ↔ UnderOneMode R
 one_mode_is u R = (
-    λ h before d between e after a b stands is_a is_b same quiet.
-        pair_agrees b a d between
-        (at_each_pair (pair_of (pair.OtherMode (of_access b))) (before ++ d ∷ between) (h (before ++ d ∷ between) e after b (stands ∙ sym (append_assoc before (d ∷ between) (e ∷ after))) is_b) before d between refl)
-        is_a same quiet,
-    λ h before e after b stands is_b.
-        from_each_pair (pair_of (pair.OtherMode (of_access b))) before
-        (λ first d between parts. agrees_pair b d between (λ a is_a same quiet.
-            h first d between e after a b (stands ∙ ap (λ z. z ++ e ∷ after) parts ∙ append_assoc first (d ∷ between) (e ∷ after)) is_a is_b same quiet)))
+  λ h before d between e after a b stands is_a is_b same quiet.
+      pair_agrees b a d between
+      (at_each_pair (pair_of (pair.OtherMode (of_access b))) (before ++ d ∷ between) (h (before ++ d ∷ between) e after b (stands ∙ sym (append_assoc before (d ∷ between) (e ∷ after))) is_b) before d between refl)
+      is_a same quiet,
+  λ h before e after b stands is_b.
+      from_each_pair (pair_of (pair.OtherMode (of_access b))) before
+      (λ first d between parts. agrees_pair b d between (λ a is_a same quiet.
+      h first d between e after a b (stands ∙ ap (λ z. z ++ e ∷ after) parts ∙ append_assoc first (d ∷ between) (e ∷ after)) is_a is_b same quiet)),
+)
 
 -- ---- 3 and 4
 
@@ -169,8 +170,10 @@ not_owned Racy before o thread h = refl
 not_owned Dynamic before o thread h = refl
 
 owner_is : (u : Until) (R : List SourceEvent) → Unbroken rule.Owner u R ↔ ByOwner R
-owner_is u R = (λ h before e after a stands is m. owned a.mode before a.cell.object e.thread (h before e after a stands is) m,
-    λ h before e after a stands is. not_owned a.mode before a.cell.object e.thread (h before e after a stands is))
+owner_is u R = (
+  λ h before e after a stands is m. owned a.mode before a.cell.object e.thread (h before e after a stands is) m,
+  λ h before e after a stands is. not_owned a.mode before a.cell.object e.thread (h before e after a stands is),
+)
 
 unwritten : (m : CellMode) (w : Bool) → is_written m w ≡ false → m ≡ Readonly → w ≡ false
 unwritten Readonly w h e = h
@@ -252,8 +255,10 @@ is_under Racy before thread h = refl
 is_under Dynamic before thread h = refl
 
 under_lock_is : (u : Until) (R : List SourceEvent) → Unbroken rule.UnderItsLock u R ↔ UnderLock R
-under_lock_is u R = (λ h before e after a mutex stands is m. under a.mode before e.thread (h before e after a stands is) mutex m,
-    λ h before e after a stands is. is_under a.mode before e.thread (λ c m. h before e after a c stands is m))
+under_lock_is u R = (
+  λ h before e after a mutex stands is m. under a.mode before e.thread (h before e after a stands is) mutex m,
+  λ h before e after a stands is. is_under a.mode before e.thread (λ c m. h before e after a c stands is m),
+)
 
 -- ---- 6
 
@@ -304,7 +309,8 @@ conflict u thread b d between h = by_access (access_by d.act) refl (and_parts _ 
         let places = and_parts _ _ same.1 in
         let last = and_parts _ _ places.1 in
         record {
-          access = a; is = i;
+          access = a;
+          is = i;
           other = λ e. both_ways _ (not-true _ first.0) (eq-eqb d.thread thread e);
           mode = dynamic a.mode same.0;
           object = equal_objects a.cell.object b.cell.object places.0;
@@ -350,7 +356,10 @@ later_breaks u R o granule earlier later d e a b parts x y other order h = no_co
 
     pair : a.is_write || b.is_write ≡ true → Conflict u e.thread b d order.between
     pair w = record {
-      access = a; is = x.access; other = other; mode = x.is_dynamic;
+      access = a;
+      is = x.access;
+      other = other;
+      mode = x.is_dynamic;
       object = x.object ∙ sym y.object;
       granule = x.granule_is ∙ sym y.granule_is;
       write = w;
@@ -384,15 +393,26 @@ shared_is u R = (there_is_none, none_is_there)
             let p = plain e b is in
             let o = b.cell.object in
             let early : AccessSet (before ++ e ∷ []) o (granule_of b.cell) (view_until u) d c.access = record {
-              before = first; after = between ++ e ∷ [];
+              before = first;
+              after = between ++ e ∷ [];
               stands = ap (λ z. z ++ e ∷ []) parts ∙ append_assoc first (d ∷ between) (e ∷ []);
-              access = c.is; object = c.object; granule_is = c.granule; is_dynamic = c.mode;
+              access = c.is;
+              object = c.object;
+              granule_is = c.granule;
+              is_dynamic = c.mode;
               begun = with_one (begins o) between e c.begun (p.begins_none o);
               ended = own_ends u d.thread (between ++ e ∷ []) ∙ with_one (test_of (test.Ends u d.thread)) between e c.ended (and_right _ _ (p.ends_none (view_until u)));
             } in
             let late : AccessSet (before ++ e ∷ []) o (granule_of b.cell) (view_until u) e b = record {
-              before = before; after = [];
-              stands = refl; access = is; object = refl; granule_is = refl; is_dynamic = m; begun = refl; ended = refl;
+              before = before;
+              after = [];
+              stands = refl;
+              access = is;
+              object = refl;
+              granule_is = refl;
+              is_dynamic = m;
+              begun = refl;
+              ended = refl;
             } in
             both_ways _ (h (before ++ e ∷ []) after o (granule_of b.cell) d e c.access b (stands ∙ sym (append_assoc before (e ∷ []) after)) early late c.other) c.write
 

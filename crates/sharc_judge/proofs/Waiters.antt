@@ -109,11 +109,11 @@ module _ (before : List SourceEvent) (c : CellAt) where
       by_cases thread false h = h
       by_cases thread true h = absurd (subst (λ z. IsAtMost z thread) (sym e) (below_from None before thread h (waiter_is_there thread h)))
   lowest_is (Some least) e = inr (record {
-      thread = least;
-      tells = refl;
-      waits = subst Waits (sym e) (waits_from None before tt);
-      lowest = λ lower less. by_cases lower less (is_waiter before c lower) refl;
-    })
+    thread = least;
+    tells = refl;
+    waits = subst Waits (sym e) (waits_from None before tt);
+    lowest = λ lower less. by_cases lower less (is_waiter before c lower) refl;
+  })
     where
       by_cases : (lower : ℕ) → lower < least → (b : Bool) → is_waiter before c lower ≡ b → is_waiter before c lower ≡ false
       by_cases lower less false h = h

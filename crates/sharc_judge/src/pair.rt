@@ -61,8 +61,7 @@ impl Pair {
                 d.thread == thread && locks(c, d) && !any(Test::Unlocks(c, thread), between)
             }
             Pair::OtherMode(b) => {
-                disagrees(b, access_by(d.act))
-                    && !any(Test::BeginsOrFrees(b.cell.object), between)
+                disagrees(b, access_by(d.act)) && !any(Test::BeginsOrFrees(b.cell.object), between)
             }
             Pair::Conflicts(until, thread, b) => {
                 d.thread != thread

@@ -98,7 +98,11 @@ pub(crate) fn went(before: &[SourceEvent], thread: i64) -> bool
 pub(crate) fn is_waiter(before: &[SourceEvent], c: CellAt, thread: u32) -> bool
     ensures { result ≡ is_waiter before.now c thread }
 {
-    meets_latest(Test::Enters(c, thread), Test::EntersOrLeaves(c, thread), before)
+    meets_latest(
+        Test::Enters(c, thread),
+        Test::EntersOrLeaves(c, thread),
+        before,
+    )
 }
 
 /// Whether the answer is a reference to an object that is not live, with these elements.
@@ -119,7 +123,12 @@ pub(crate) fn is_new_thread(before: &[SourceEvent], answer: i64) -> bool
     answer > 0 && !any(Test::Spawns(answer.unsigned_abs()), before)
 }
 
-fn lower_waiter(before: &[SourceEvent], c: CellAt, e: &SourceEvent, least: Option<u32>) -> Option<u32>
+fn lower_waiter(
+    before: &[SourceEvent],
+    c: CellAt,
+    e: &SourceEvent,
+    least: Option<u32>,
+) -> Option<u32>
     ensures { result ≡ lower_waiter before.now c e.now least }
 {
     if !is_waiter(before, c, e.thread) {
