@@ -8,7 +8,7 @@ use Rattle.sharc_tree.specs.declared.token.Span.{Span}
 use Rattle.sharc_tree.specs.declared.tree.declaration.WrittenType.{WrittenType}
 use Rattle.sharc_tree.specs.Placed.{IsPlaced}
 use Rattle.sharc_tree.specs.Spans.{span_of}
-use Rattle.sharc_tree.specs.Tree.{Expression, identifier, constant, parentheses, call, spawn, on_value, on_place, cast, index, field, unary, binary}
+use Rattle.sharc_tree.specs.Tree.{Expression, cast}
 use Rattle.sharc_names.specs.Names.{Entry}
 use Rattle.sharc_recast.specs.declared.written.Recast.{Recast}
 use Rattle.sharc_recast.specs.Recast.{type_at, is_there, around, with_cast}
@@ -30,27 +30,12 @@ use Rattle.sharc_repair.proofs.Agreed.{told_of, told_in, told_append, in_program
 use Rattle.sharc_repair.proofs.Counted.{counted, counted_append, in_items as items_counted}
 use Rattle.sharc_repair.proofs.Expected.{agrees}
 use Rattle.sharc_repair.proofs.Few.{values_begin_apart}
+use Rattle.sharc_repair.proofs.Grown.{span_same}
 use Rattle.sharc_repair.proofs.Mismatches.{at_value, told_at, told_all}
 use Rattle.sharc_repair.proofs.Quiet.{ones}
 use Rattle.sharc_repair.proofs.Site.{HasSite, has_site}
 use Rattle.sharc_repair.proofs.Stands.{suggested_stands}
 use Rattle.sharc_repair.proofs.Written.{givings_with, in_items as items_written}
-
--- ---- a cast leaves all tokens as they are
-
-pub span_same : (c : Recast) (e : Expression) → span_of (with_cast c e) ≡ span_of e
-span_same c (identifier s i) = refl
-span_same c (constant s k) = refl
-span_same c (parentheses s a) = refl
-span_same c (call s f all) = refl
-span_same c (spawn s f a) = refl
-span_same c (on_value s w a) = refl
-span_same c (on_place s w a) = refl
-span_same c (cast s t a) = refl
-span_same c (index s a i) = refl
-span_same c (field s a w n) = refl
-span_same c (unary s o a) = refl
-span_same c (binary s o at a b) = refl
 
 around_by : (c : Recast) (e : Expression) (b : Bool) → span_of (cond b (cast (span_of e) (type_at c (span_of e)) e) e) ≡ span_of e
 around_by c e true = refl

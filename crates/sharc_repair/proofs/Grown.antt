@@ -135,7 +135,7 @@ joined_casts all c xs ys n k old new old' new' left right from until le follow =
     subst₂ (λ (l m : List Entity). Grown c (n + k) from until l m) (sym (casts_append old old')) (sym (casts_append new new'))
     (joined all c xs ys n k (casts old) (casts new) (casts old') (casts new') left right from until le follow)
 
-span_same : (c : Recast) (e : Expression) → span_of (with_cast c e) ≡ span_of e
+pub span_same : (c : Recast) (e : Expression) → span_of (with_cast c e) ≡ span_of e
 span_same c (identifier s i) = refl
 span_same c (constant s k) = refl
 span_same c (parentheses s a) = refl

@@ -30,7 +30,7 @@ use Rattle.sharc_ctype.specs.Expressions.{element_of, access_need, operand_need,
 use Rattle.sharc_ctype.specs.Resolved.{Resolution}
 use Rattle.sharc_ctype.specs.Statements.{with_names}
 use Rattle.sharc_repair.specs.Givings.{Receiver, of_parameter, Giving, one_giving, givings, all_givings, value_givings}
-use Rattle.sharc_repair.proofs.Gone.{span_same}
+use Rattle.sharc_repair.proofs.Grown.{span_same}
 use Rattle.sharc_repair.proofs.Listed.{front, back}
 use Rattle.sharc_repair.proofs.Noted.{Clean, left, right, no_fault, well, Noted, done, kept, old_fault, new_fault, both, same, AreFaults, more_faults, IsTame, quiet, unless_faults, unmet_faults, unagreed_faults, place_faults, place_call_faults, cast_faults, count_faults, main_faults, binary_faults, append_tame, faults_tame, name_tame, field_tame, type_tame}
 use Rattle.sharc_repair.proofs.Scoped.{Scoped}

@@ -28,7 +28,7 @@ use Rattle.sharc_repair.specs.Givings.{beyond}
 use Rattle.sharc_repair.specs.Names.{is_dull, KeepsName}
 use Rattle.sharc_repair.proofs.Arguments.{nth, args_met, one_nth}
 use Rattle.sharc_repair.proofs.CallNames.{named_left, named_right}
-use Rattle.sharc_repair.proofs.Gone.{span_same}
+use Rattle.sharc_repair.proofs.Grown.{span_same}
 use Rattle.sharc_repair.proofs.Rows.{IsShifted, same_stretch}
 use Rattle.sharc_repair.proofs.RowsStay.{Frame, now, many, first_at, IsRowMoved, AreRowsMoved, IsClearOf, clear_moved, functions_same, use_same}
 use Rattle.sharc_repair.proofs.Stands.{first_is}
