@@ -37,7 +37,9 @@ use Rattle.sharc_mode.specs.Rows.{written, row_at, declared_row, cast_row}
 use Rattle.sharc_meaning.specs.Arithmetic.{null_base, out_of_range, mutex_not_held, mutex_already_held, calls_too_deep, returns_with_a_lock, size_not_positive, too_many_locks, bits_of, fits, is_zero, truth, operated, negated, complement}
 use Rattle.sharc_meaning.specs.Events.{held_mutexes, holds_mutex}
 use Rattle.sharc_meaning.specs.Reference.{NULL, is_null, number_of, elements_of, constant_value}
-use Rattle.sharc_meaning.specs.State.{Frame, GivenUp, released, replaced, emptied, Use, writes, nulls, go, new_variable, with_value, with_temporary, without_temporaries, Run, Step, ◌>>=◌, give, stop, unless_stop, entered, answered, performs, gives_up, drops, holds, holds_reference, moves, moves_on, is_reference, temporarily, value_of, looks_at, traces, sets, reads_variable, writes_variable, begins_with, in_block}
+use Rattle.sharc_meaning.specs.declared.given.GivenUp.{GivenUp}
+use Rattle.sharc_meaning.specs.declared.given.GivenUp.TheVariants.{Released, Replaced, Emptied}
+use Rattle.sharc_meaning.specs.State.{Frame, Use, writes, nulls, go, new_variable, with_value, with_temporary, without_temporaries, Run, Step, ◌>>=◌, give, stop, unless_stop, entered, answered, performs, gives_up, drops, holds, holds_reference, moves, moves_on, is_reference, temporarily, value_of, looks_at, traces, sets, reads_variable, writes_variable, begins_with, in_block}
 use Rattle.sharc_meaning.specs.Places.{Place, variable, cell, no_place, place_named, pointee, based, element, element_of_array, index_place, pointee_place, field_place, unary_place, guarding, access_mode, fetched, stored, taken_from, cast_to, freed}
 use Rattle.sharc_meaning.specs.Waiting.{cell_at_place, moves_base, gives_up_base, lock_call, unlock_call, wait_call, signal_call, broadcast_call, condition_call}
 use Rattle.sharc_meaning.specs.Expressions.{Calls, resulting, tested, operand, fitting, passed, named_value, called, number_named, value_act, spawned, value_called, taking, place_called, cast_value, place_value, unary_value, binary_value, eval, eval_all, place_of}
@@ -158,7 +160,7 @@ module _ (Q : Bool → (A : Type 0) → Run A → Type 0) (q : Closed Q) where
   stored_kept : (r : Resolution) (site : Site) (kind : Kind) (mode : Sharing) (p : Place) (v : ℤ) → Keeps (stored r site kind mode p v)
   stored_kept r site kind mode (variable x) v = q.binds _ _ _ _ (looks x) (λ old. q.binds _ _ _ _ (writes_kept site x v) (λ _. drops_kept kind old))
   stored_kept r site kind mode (cell o first c) v = q.binds _ _ _ _ (holds_kept kind v) (λ _. q.binds _ _ _ _ (mode_kept r site mode o first) (λ under.
-      q.binds _ _ _ _ (performs_kept site (acts.Write (cell_of o c) under v)) (λ _. q.binds _ _ _ _ (moves_kept kind) (λ _. either (is_pointer kind) _ _ _ (q.given (replaced (cell_of o c) ∷ [])) (q.give _ tt)))))
+      q.binds _ _ _ _ (performs_kept site (acts.Write (cell_of o c) under v)) (λ _. q.binds _ _ _ _ (moves_kept kind) (λ _. either (is_pointer kind) _ _ _ (q.given (Replaced (cell_of o c) ∷ [])) (q.give _ tt)))))
 
   taken_kept : (r : Resolution) (token site : Site) (mode : Sharing) (kind : TakeKind) (p : Place) → Keeps (taken_from r token site mode kind p)
   taken_kept r token site mode kind (variable x) = q.binds _ _ _ _ (looks x) (λ v. q.binds _ _ _ _ (either (is_null v) _ _ _ (q.give _ v) (q.event site (acts.Take (taken.Local x) kind))) (λ _.
@@ -169,7 +171,7 @@ module _ (Q : Bool → (A : Type 0) → Run A → Type 0) (q : Closed Q) where
   cast_kept r site mode v = q.binds _ _ _ _ (held_kept v) (λ _. q.binds _ _ _ _ q.values (λ held. q.binds _ _ _ _ (performs_kept site (acts.Give v (instance_mode r held mode))) (λ _. q.binds _ _ _ _ (moved_kept 1) (λ _. q.give _ v))))
 
   freed_kept : (site : Site) (v : ℤ) → Keeps (freed site v)
-  freed_kept site v = q.binds _ _ _ _ (q.given (emptied (number_of v) ∷ [])) (λ _. q.binds _ _ _ _ (held_kept v) (λ _. q.binds _ _ _ _ (performs_kept site (acts.Freed v)) (λ _. moved_kept 1)))
+  freed_kept site v = q.binds _ _ _ _ (q.given (Emptied (number_of v) ∷ [])) (λ _. q.binds _ _ _ _ (held_kept v) (λ _. q.binds _ _ _ _ (performs_kept site (acts.Freed v)) (λ _. moved_kept 1)))
 
   -- ---- mutexes and condition variables
   moves_base_kept : (p : Place) → Keeps (moves_base p)
@@ -178,7 +180,7 @@ module _ (Q : Bool → (A : Type 0) → Run A → Type 0) (q : Closed Q) where
   moves_base_kept (variable x) = q.give _ tt
 
   gives_up_base_kept : (p : Place) → Keeps (gives_up_base p)
-  gives_up_base_kept (cell (Made n) first c) = q.given (released n ∷ [])
+  gives_up_base_kept (cell (Made n) first c) = q.given (Released n ∷ [])
   gives_up_base_kept (cell (Global g) first c) = q.give _ tt
   gives_up_base_kept (variable x) = q.give _ tt
 

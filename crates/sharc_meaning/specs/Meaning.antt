@@ -8,9 +8,10 @@ use Rattle.sharc_tree.specs.Tree.{Function}
 use Rattle.sharc_names.specs.Kinds.{is_pointer, declared_kind}
 use Rattle.sharc_ctype.specs.Resolved.{function_at}
 use Rattle.sharc_mode.specs.Moded.{Assignment}
+use Rattle.sharc_meaning.specs.declared.given.GivenUp.{GivenUp}
 use Rattle.sharc_meaning.specs.Arithmetic.{calls_too_deep, returns_with_a_lock}
 use Rattle.sharc_meaning.specs.Events.{held_mutexes}
-use Rattle.sharc_meaning.specs.State.{Frame, GivenUp, Traced, State, Outcome, ended, Out, go, over, Run, Step, ◌>>=◌, ◌>>◌, give, done, stop, unless_stop, entered, performs, without_temporaries, looks_at, begins_with, in_block, held_references}
+use Rattle.sharc_meaning.specs.State.{Frame, Traced, State, Outcome, ended, Out, go, over, Run, Step, ◌>>=◌, ◌>>◌, give, done, stop, unless_stop, entered, performs, without_temporaries, looks_at, begins_with, in_block, held_references}
 use Rattle.sharc_meaning.specs.Expressions.{Calls}
 use Rattle.sharc_meaning.specs.Statements.{Flow, returned, exec_all}
 

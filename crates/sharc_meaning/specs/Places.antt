@@ -22,7 +22,8 @@ use Rattle.sharc_mode.specs.Sharings.{Sharing, private, readonly, locked, racy, 
 use Rattle.sharc_meaning.specs.Arithmetic.{null_base, out_of_bounds}
 use Rattle.sharc_meaning.specs.Cells.{cell_of, element_cells, global_elements, field_place_named, Guard, mutex, behind, nothing as no_mutex, guard_of, instance_mode}
 use Rattle.sharc_meaning.specs.Reference.{NULL, is_null, number_of, elements_of}
-use Rattle.sharc_meaning.specs.State.{replaced, emptied, nulls, Run, Step, ◌>>=◌, ◌>>◌, give, done, stop, unless_stop, answered, performs, gives_up, drops, holds, holds_reference, moves, moves_on, value_of, looks_at, traces, sets, reads_variable, writes_variable}
+use Rattle.sharc_meaning.specs.declared.given.GivenUp.TheVariants.{Replaced, Emptied}
+use Rattle.sharc_meaning.specs.State.{nulls, Run, Step, ◌>>=◌, ◌>>◌, give, done, stop, unless_stop, answered, performs, gives_up, drops, holds, holds_reference, moves, moves_on, value_of, looks_at, traces, sets, reads_variable, writes_variable}
 
 -- ---- places
 
@@ -137,7 +138,7 @@ stored r site kind mode (cell o first c) v = do
   under ← access_mode r site mode o first
   performs site (acts.Write (cell_of o c) under v)
   moves kind
-  if is_pointer kind then gives_up (replaced (cell_of o c) ∷ []) else done
+  if is_pointer kind then gives_up (Replaced (cell_of o c) ∷ []) else done
 
 -- What a sharing cast or `free` takes away; the place is NULL from then on. A variable that is NULL asks for nothing, and the answer of its Take is the
 -- reference that it holds. The nulling is placed at the token of the construct.
@@ -168,7 +169,7 @@ cast_to r site mode v = do
 -- the object ends, and the references in its pointer cells are given up on the way
 abbrev pub freed : Site → ℤ → Step
 freed site v = do
-  gives_up (emptied (number_of v) ∷ [])
+  gives_up (Emptied (number_of v) ∷ [])
   holds_reference v
   performs site (acts.Freed v)
   moves_on 1

@@ -8,6 +8,8 @@ use Rattle.sharc_tree.specs.declared.event.SourceEvent.{SourceEvent}
 use Rattle.sharc_tree.specs.declared.token.Site.{Site}
 use Rattle.sharc_tree.specs.declared.tree.declaration.Declaration.{Declaration}
 use Rattle.sharc_names.specs.Kinds.{Kind, is_pointer, is_null, declared_kind}
+use Rattle.sharc_meaning.specs.declared.given.GivenUp.{GivenUp}
+use Rattle.sharc_meaning.specs.declared.given.GivenUp.TheVariants.{Released}
 use Rattle.sharc_meaning.specs.declared.variable.Variable.{Variable}
 use Rattle.sharc_meaning.specs.Reference.{number_of}
 
@@ -19,15 +21,8 @@ pub record Frame : Type 0 where
   pub variables : List Variable
   pub temporaries : List ℤ
 
--- What is given up: a reference to the object of this number (0 for NULL) by a temporary, a variable or the log of held mutexes; the reference that this
--- pointer cell held before its last write; and those that the pointer cells of the object of this number hold, which is being freed.
-pub data GivenUp : Type 0 where
-  released : ℕ → GivenUp
-  replaced : CellAt → GivenUp
-  emptied : ℕ → GivenUp
-
 abbrev pub all_released : List ℤ → List GivenUp
-all_released = map (λ r. released (number_of r))
+all_released = map (λ r. Released (number_of r))
 
 -- what is done with a variable, where, and in which call
 pub data Use : Type 0 where

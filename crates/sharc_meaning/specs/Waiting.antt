@@ -9,7 +9,8 @@ use Rattle.sharc_meaning.specs.Arithmetic.{null_base, mutex_not_held, mutex_alre
 use Rattle.sharc_meaning.specs.Cells.{cell_of}
 use Rattle.sharc_meaning.specs.Events.{held_mutexes, holds_mutex}
 use Rattle.sharc_meaning.specs.Reference.{NULL, is_null}
-use Rattle.sharc_meaning.specs.State.{released, Step, ◌>>=◌, ◌>>◌, done, unless_stop, answered, performs, gives_up, holds_reference, moves_on, looks_at}
+use Rattle.sharc_meaning.specs.declared.given.GivenUp.TheVariants.{Released}
+use Rattle.sharc_meaning.specs.State.{Step, ◌>>=◌, ◌>>◌, done, unless_stop, answered, performs, gives_up, holds_reference, moves_on, looks_at}
 use Rattle.sharc_meaning.specs.Places.{Place, variable, cell, pointee}
 
 abbrev pub cell_at_place : Place → CellAt
@@ -22,7 +23,7 @@ moves_base (cell (Made n) first c) = moves_on 1
 moves_base _ = done
 
 abbrev pub gives_up_base : Place → Step
-gives_up_base (cell (Made n) first c) = gives_up (released n ∷ [])
+gives_up_base (cell (Made n) first c) = gives_up (Released n ∷ [])
 gives_up_base _ = done
 
 -- a mutex that the thread holds already stops, and so does a seventeenth

@@ -5,5 +5,6 @@
 //! of a function that does nothing, say what these are to those who argue with them.
 #![tactic(auto)]
 
+pub mod given;
 pub mod laws;
 pub mod variable;

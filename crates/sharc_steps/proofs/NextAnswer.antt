@@ -16,14 +16,14 @@ all_left (x ∷ xs) = sym (take_all (length (x ∷ xs) - 1) xs (omega arith))
 
 -- the state behind the event
 abbrev pub behind : Known → Site → Act → ℤ → List ℤ → Known
-behind k site act answer rest = record k { answers = rest; events = k.events ++ event_of site act answer ∷ []; held = held_after act k.held }
+behind k site act answer rest = record k { answers = rest; events = k.events ++ event_of site act answer ∷ []; held = held_after act k.held; given_up = [] }
 
 at_state : (s : State) (site : Site) (act : Act) (xs : List ℤ) → s.answers ≡ xs → 0 < length xs
     → Went (answer_of (value_in s.frame.variables) act (slice_index_or xs 0 (pos 0))) (behind (known s) site act (answer_of (value_in s.frame.variables) act (slice_index_or xs 0 (pos 0))) (drop 1 xs)) (answered site act s)
 at_state s site act [] e h = absurd (omega arith)
 at_state s site act (x ∷ rest) e h =
     let answer : ℤ = answer_of (value_in s.frame.variables) act x in
-    let with_held : List CellAt → Known = λ l. record (known s) { answers = rest; events = s.events ++ event_of site act answer ∷ []; held = l } in
+    let with_held : List CellAt → Known = λ l. record (known s) { answers = rest; events = s.events ++ event_of site act answer ∷ []; held = l; given_up = [] } in
     record { state = _; is = ap (λ l. happens l site act s) e; looks = ap with_held (held_behind s.events (event_of site act answer)) }
 
 pub event_does : (s : State) (k : Known) (site : Site) (act : Act) (answer : ℤ) (rest : List ℤ) → known s ≡ k → 0 < length k.answers → answer ≡ answer_of (value_in k.variables) act (slice_index_or k.answers 0 (pos 0)) → rest ≡ drop 1 k.answers

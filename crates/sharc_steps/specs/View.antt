@@ -7,11 +7,13 @@ use Rattle.sharc_tree.specs.declared.event.CellMode.{CellMode}
 use Rattle.sharc_tree.specs.declared.event.SourceEvent.{SourceEvent}
 use Rattle.sharc_tree.specs.declared.token.Site.{Site}
 use Rattle.sharc_names.specs.Kinds.{Kind, is_pointer}
+use Rattle.sharc_meaning.specs.declared.given.GivenUp.{GivenUp}
+use Rattle.sharc_meaning.specs.declared.given.GivenUp.TheVariants.{Replaced}
 use Rattle.sharc_meaning.specs.declared.variable.Variable.{Variable}
 use Rattle.sharc_meaning.specs.Cells.{Guard, mutex, behind, nothing}
 use Rattle.sharc_meaning.specs.Events.{same_cell, held_mutexes}
 use Rattle.sharc_meaning.specs.Places.{Place, variable, cell}
-use Rattle.sharc_meaning.specs.State.{Frame, State, Outcome, wants, stopped, spent, Out, go, over, Run, Step, ◌>>◌, replaced, performs, moves, gives_up, done, held_by_frame}
+use Rattle.sharc_meaning.specs.State.{Frame, State, Outcome, wants, stopped, spent, Out, go, over, Run, Step, ◌>>◌, performs, moves, gives_up, done, held_by_frame}
 use Rattle.sharc_steps.specs.declared.cells.Guard.{Guard as RustGuard}
 use Rattle.sharc_steps.specs.declared.cells.Guard.TheVariants as guards
 use Rattle.sharc_steps.specs.declared.places.Place.{Place as RustPlace}
@@ -20,7 +22,7 @@ use Rattle.sharc_steps.specs.declared.state.End.{End}
 use Rattle.sharc_steps.specs.declared.state.End.TheVariants as ends
 use Rattle.sharc_steps.specs.declared.state.State.{State as RustState}
 
--- what the code knows of a thread on its way: all but the numbers of calls, what was given up, and the trace
+-- what the code knows of a thread on its way: all but the numbers of calls and the trace
 pub record Known : Type 0 where
   pub variables : List Variable
   pub temporaries : List ℤ
@@ -29,16 +31,17 @@ pub record Known : Type 0 where
   pub events : List SourceEvent
   pub held : List CellAt
   pub fuel : ℕ
+  pub given_up : List GivenUp
 
 -- the callers hold these pointers
 abbrev pub held_below : List Frame → List ℤ
 held_below callers = flat_map held_by_frame (reverse callers)
 
 abbrev pub known : State → Known
-known s = record { variables = s.frame.variables; temporaries = s.frame.temporaries; below = held_below s.callers; answers = s.answers; events = s.events; held = held_mutexes s.events; fuel = s.fuel }
+known s = record { variables = s.frame.variables; temporaries = s.frame.temporaries; below = held_below s.callers; answers = s.answers; events = s.events; held = held_mutexes s.events; fuel = s.fuel; given_up = s.given_up }
 
 abbrev pub view_state : RustState → Known
-view_state s = record { variables = s.frame.variables.items; temporaries = s.frame.temporaries.items; below = s.below.items; answers = s.answers.now; events = s.events.items; held = s.held.items; fuel = s.fuel }
+view_state s = record { variables = s.frame.variables.items; temporaries = s.frame.temporaries.items; below = s.below.items; answers = s.answers.now; events = s.events.items; held = s.held.items; fuel = s.fuel; given_up = s.given_up.items }
 
 -- an end of a run is the outcome that the code tells
 abbrev pub IsEnd : End → Outcome → Type 0
@@ -106,4 +109,4 @@ abbrev pub stored_in_cell : Site → Kind → CellAt → CellMode → ℤ → St
 stored_in_cell site kind c under v = do
   performs site (Write c under v)
   moves kind
-  if is_pointer kind then gives_up (replaced c ∷ []) else done
+  if is_pointer kind then gives_up (Replaced c ∷ []) else done

@@ -6,8 +6,9 @@ ghost use Rattle.sharc_steps.specs.View.{view_state, view_place, Does};
 ghost use Rattle.sharc_steps.specs.Waking.{stops_where_held};
 
 use crate::places::Place;
-use crate::state::{End, State, is_among, move_on, perform, unless};
+use crate::state::{End, State, give_up, is_among, move_on, perform, unless};
 use crate::waiting::unless_held;
+use sharc_meaning::given::GivenUp;
 use sharc_tree::event::{Act, CellAt, Object};
 use sharc_tree::token::Site;
 
@@ -41,11 +42,12 @@ fn moves_base(place: Place, st: &mut State) -> Result<(), End>
     }
 }
 
-fn gives_up_base(place: Place, st: &State) -> Result<(), End>
-    ensures { Does (view_state st.now) result (view_state st.now) (gives_up_base (view_place place)) }
+fn gives_up_base(place: Place, st: &mut State) -> Result<(), End>
+    ensures does { Does (view_state st.old) result (view_state st.new) (gives_up_base (view_place place)) }
+    ensures fuel { st.new.fuel ≤ st.old.fuel }
 {
     match place {
-        Place::Cell(Object::Made(_), _, _) => Ok(()),
+        Place::Cell(Object::Made(number), _, _) => give_up(GivenUp::Released(number), st),
         Place::Cell(Object::Global(_), _, _) => Ok(()),
         Place::Variable(_) => Ok(()),
     }

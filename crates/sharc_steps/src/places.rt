@@ -11,15 +11,17 @@ ghost use Rattle.sharc_mode.specs.View.{view_lock, view_sharing};
 ghost use Rattle.sharc_meaning.specs.Cells.{guard_of, instance_mode, global_elements};
 ghost use Rattle.sharc_meaning.specs.Places.{based, element, element_of_array, field_in, place_named, pointee, guarding, access_mode, fetched, stored, taken_from, cast_to, freed};
 ghost use Rattle.sharc_meaning.specs.Reference.{is_null};
-ghost use Rattle.sharc_meaning.specs.State.{give, answered, drops, gives_up, replaced, done};
+ghost use Rattle.sharc_meaning.specs.declared.given.GivenUp.TheVariants.{Replaced};
+ghost use Rattle.sharc_meaning.specs.State.{give, answered, gives_up, done};
 ghost use Rattle.sharc_steps.specs.View.{view_state, view_guard, view_place, Does, DoesAs, stored_in_cell};
 
 use crate::arithmetic::is_zero;
 use crate::cells::{Guard, global_elements, guard_of, instance_mode, number_of};
 use crate::state::{
-    End, State, ask_event, hold, hold_reference, is_reference, move_on, moves, perform, set,
+    End, State, ask_event, dropped, give_up, hold, hold_reference, move_on, moves, perform, set,
     unless, value_in,
 };
+use sharc_meaning::given::GivenUp;
 use sharc_mode::moded::Moded;
 use sharc_mode::sharing::{Lock, Sharing};
 use sharc_names::fault::Named;
@@ -213,17 +215,16 @@ pub fn fetched(
     }
 }
 
-/// A value of this type is used no more.
-pub fn dropped(kind: Kind<'_>, value: i64, st: &State) -> Result<(), End>
-    ensures { Does (view_state st.now) result (view_state st.now) (drops (view_kind kind.entry) value) }
+/// A cell of this type was written: if it is a pointer, what it held before is given up.
+fn replaced_in(kind: Kind<'_>, cell: CellAt, st: &mut State) -> Result<(), End>
+    ensures does { Does (view_state st.old) result (view_state st.new) (if is_pointer (view_kind kind.entry) then gives_up (Replaced cell ∷ []) else done) }
+    ensures fuel { st.new.fuel ≤ st.old.fuel }
 {
-    if is_reference(kind) { Ok(()) } else { Ok(()) }
-}
-
-fn emptied_cell(kind: Kind<'_>, cell: CellAt, st: &State) -> Result<(), End>
-    ensures { Does (view_state st.now) result (view_state st.now) (if is_pointer (view_kind kind.entry) then gives_up (replaced cell ∷ []) else done) }
-{
-    if is_pointer(kind) { Ok(()) } else { Ok(()) }
+    if is_pointer(kind) {
+        give_up(GivenUp::Replaced(cell), st)
+    } else {
+        Ok(())
+    }
 }
 
 fn stored_in_cell(
@@ -239,7 +240,7 @@ fn stored_in_cell(
 {
     match perform(site, Act::Write(cell, under, value), st) {
         Ok(()) => match moves(kind, st) {
-            Ok(()) => emptied_cell(kind, cell, st),
+            Ok(()) => replaced_in(kind, cell, st),
             Err(end) => Err(end),
         },
         Err(end) => Err(end),
@@ -355,14 +356,17 @@ pub fn cast_to(
     }
 }
 
-/// The object ends.
+/// The object ends, and what its pointer cells hold is given up on the way.
 pub fn freed(site: Site, value: i64, st: &mut State) -> Result<(), End>
     ensures does { Does (view_state st.old) result (view_state st.new) (freed site value) }
     ensures fuel { st.new.fuel ≤ st.old.fuel }
 {
-    match hold_reference(value, st) {
-        Ok(()) => match perform(site, Act::Freed(value), st) {
-            Ok(()) => move_on(st),
+    match give_up(GivenUp::Emptied(number_of(value)), st) {
+        Ok(()) => match hold_reference(value, st) {
+            Ok(()) => match perform(site, Act::Freed(value), st) {
+                Ok(()) => move_on(st),
+                Err(end) => Err(end),
+            },
             Err(end) => Err(end),
         },
         Err(end) => Err(end),

@@ -1,12 +1,14 @@
 // A thread on its way through its text.
 
-ghost use Rattle.std.specs.Prelude.{◌≡◌, ◌≤◌, ◌<◌, ◌++◌, pos, length, slice_index_or, not, filter, IfOk, OnOk};
+ghost use Rattle.std.specs.Prelude.{◌≡◌, ◌≤◌, ◌<◌, ◌++◌, [], ◌∷◌, pos, length, slice_index_or, not, filter, IfOk, OnOk};
 ghost use Rattle.std.specs.List.{list_any};
 ghost use Rattle.sharc_names.specs.View.{view_kind};
 ghost use Rattle.sharc_meaning.specs.Events.{same_cell, holds_mutex};
-ghost use Rattle.sharc_meaning.specs.State.{enters, answered, performs, unless_stop, holds, holds_reference, moves, moves_on, is_reference, begins_with, sets, value_in, answer_of, event_of, with_value};
+ghost use Rattle.sharc_meaning.specs.State.{enters, answered, performs, unless_stop, holds, holds_reference, moves, moves_on, is_reference, begins_with, sets, value_in, answer_of, event_of, with_value, gives_up, all_released, drops};
 ghost use Rattle.sharc_steps.specs.View.{view_state, Does, place_of, held_after};
 
+use crate::cells::number_of;
+use sharc_meaning::given::GivenUp;
 use sharc_meaning::variable::Variable;
 use sharc_names::kind::{Kind, declared_kind, is_null, is_pointer};
 use sharc_tree::event::{Act, CellAt, Object, SourceEvent, Taken};
@@ -41,6 +43,8 @@ pub struct State<'a> {
     /// The mutexes that the thread holds by its events.
     pub held: Vec<CellAt>,
     pub fuel: u64,
+    /// What it gave up since its last event.
+    pub given_up: Vec<GivenUp>,
 }
 
 /// Whether a value of this type may be NULL, the constant itself too.
@@ -186,6 +190,37 @@ pub fn moves(kind: Kind<'_>, st: &mut State) -> Result<(), End>
     }
 }
 
+/// References are given up.
+pub fn give_up(given: GivenUp, st: &mut State) -> Result<(), End>
+    ensures does { Does (view_state st.old) result (view_state st.new) (gives_up (given ∷ [])) }
+    ensures fuel { st.new.fuel ≤ st.old.fuel }
+{
+    match st.given_up.push(given) {
+        Ok(()) => Ok(()),
+        Err(_) => Err(End::Memory),
+    }
+}
+
+/// This reference is given up.
+pub fn release(reference: i64, st: &mut State) -> Result<(), End>
+    ensures does { Does (view_state st.old) result (view_state st.new) (gives_up (all_released (reference ∷ []))) }
+    ensures fuel { st.new.fuel ≤ st.old.fuel }
+{
+    give_up(GivenUp::Released(number_of(reference)), st)
+}
+
+/// A value of this type is used no more.
+pub fn dropped(kind: Kind<'_>, value: i64, st: &mut State) -> Result<(), End>
+    ensures does { Does (view_state st.old) result (view_state st.new) (drops (view_kind kind.entry) value) }
+    ensures fuel { st.new.fuel ≤ st.old.fuel }
+{
+    if is_reference(kind) {
+        release(value, st)
+    } else {
+        Ok(())
+    }
+}
+
 /// Whether both are one cell.
 pub fn same_cell(a: CellAt, b: CellAt) -> bool
     ensures { result ≡ same_cell a b }
@@ -301,6 +336,7 @@ pub fn ask_event(site: Site, act: Act, st: &mut State) -> Result<i64, End>
         Err(_) => return Err(End::Memory),
     }
     st.answers = &st.answers[1..];
+    st.given_up = Vec::new(st.alloc);
     Ok(answer)
 }
 

@@ -15,7 +15,9 @@ use Rattle.sharc_meaning.specs.Arithmetic.{null_base, mutex_not_held, mutex_alre
 use Rattle.sharc_meaning.specs.Cells.{cell_of, Guard, mutex, behind, nothing, guard_of, instance_mode}
 use Rattle.sharc_meaning.specs.Events.{held_mutexes, holds_mutex}
 use Rattle.sharc_meaning.specs.Reference.{NULL, is_null, number_of}
-use Rattle.sharc_meaning.specs.State.{GivenUp, released, emptied, State, Out, go, over, Run, then_on, ◌>>=◌, give, done, stop, unless_stop, enters, enters_with, happens, answered, performs, gives_up, drops, holds, holds_reference, moves, moves_on, is_reference, value_of, looks_at, sets, stands}
+use Rattle.sharc_meaning.specs.declared.given.GivenUp.{GivenUp}
+use Rattle.sharc_meaning.specs.declared.given.GivenUp.TheVariants.{Released, Emptied}
+use Rattle.sharc_meaning.specs.State.{State, Out, go, over, Run, then_on, ◌>>=◌, give, done, stop, unless_stop, enters, enters_with, happens, answered, performs, gives_up, drops, holds, holds_reference, moves, moves_on, is_reference, value_of, looks_at, sets, stands}
 use Rattle.sharc_meaning.specs.declared.variable.Variable.{Variable}
 use Rattle.sharc_meaning.specs.Places.{Place, variable, cell, pointee, based, guarding, access_mode, cast_to, freed}
 use Rattle.sharc_meaning.specs.Waiting.{cell_at_place, moves_base, gives_up_base, lock_call, unlock_call, wait_call, signal_call, broadcast_call, condition_call}
@@ -142,7 +144,7 @@ pub calm_cast : (r : Resolution) (site : Site) (mode : Sharing) (v : ℤ) → Ca
 calm_cast r site mode v = calm_then (calm_holds_reference v) (λ a. calm_then (calm_looks value_of) (λ held. calm_then (calm_performs site (events.Give v (instance_mode r held mode))) (λ b. calm_then (calm_moves_on 1) (λ c. calm_give v))))
 
 pub calm_freed : (site : Site) (v : ℤ) → Calm (freed site v)
-calm_freed site v = calm_then (calm_gives_up (emptied (number_of v) ∷ [])) (λ a. calm_then (calm_holds_reference v) (λ b. calm_then (calm_performs site (events.Freed v)) (λ c. calm_moves_on 1)))
+calm_freed site v = calm_then (calm_gives_up (Emptied (number_of v) ∷ [])) (λ a. calm_then (calm_holds_reference v) (λ b. calm_then (calm_performs site (events.Freed v)) (λ c. calm_moves_on 1)))
 
 -- ---- mutexes and condition variables
 
@@ -152,7 +154,7 @@ calm_moves_base (cell (Global g) first c) = calm_done
 calm_moves_base (variable x) = calm_done
 
 calm_gives_up_base : (p : Place) → Calm (gives_up_base p)
-calm_gives_up_base (cell (Made n) first c) = calm_gives_up (released n ∷ [])
+calm_gives_up_base (cell (Made n) first c) = calm_gives_up (Released n ∷ [])
 calm_gives_up_base (cell (Global g) first c) = calm_done
 calm_gives_up_base (variable x) = calm_done
 

@@ -4,8 +4,8 @@ use Rattle.sharc_steps.proofs.locking.unlock_call.Goals as goal
 
 pub returns-in-Ok-perform-clause-does : goal.returns-in-Ok-perform-clause-does
 returns-in-Ok-perform-clause-does c =
-    unlock_goes (view_state c.args.st.now) (view_state c.perform.new.st) (view_state c.perform.new.st) c.args.site (view_place c.args.place) c.cell_at_place-cell.result _ _ c.gives_up_base.result
-    c.cell_at_place-cell.ensures c.in-Ok.ensures c.in-Ok-perform.ensures.does c.gives_up_base.ensures
+    unlock_goes (view_state c.args.st.now) (view_state c.perform.new.st) (view_state c.gives_up_base.new.st) c.args.site (view_place c.args.place) c.cell_at_place-cell.result _ _ c.gives_up_base.result
+    c.cell_at_place-cell.ensures c.in-Ok.ensures c.in-Ok-perform.ensures.does c.gives_up_base.ensures.does
 
 pub returns-in-Err-perform-clause-does : goal.returns-in-Err-perform-clause-does
 returns-in-Err-perform-clause-does c =
