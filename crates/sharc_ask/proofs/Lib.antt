@@ -1,0 +1,10 @@
+mod Expressing
+mod Fitting
+mod Framing
+mod Loops
+mod Outs
+mod Resuming
+mod Stating
+mod Steps
+mod Telling
+mod Walking

@@ -1,0 +1,5 @@
+use Rattle.std.proofs.Common.{length}
+use Rattle.sharc_ask.proofs.endings.+release_all.Given as goal
+
+abbrev pub decreases-release_all : goal.decreases-release_all
+decreases-release_all l = length l.references.now

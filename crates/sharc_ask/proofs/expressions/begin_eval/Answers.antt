@@ -1,0 +1,10 @@
+use Rattle.sharc_tree.specs.View.{view_expr}
+use Rattle.sharc_steps.specs.View.{view_state}
+use Rattle.sharc_meaning.specs.Expressions.{eval}
+use Rattle.sharc_ask.specs.Values.{gives, number}
+use Rattle.sharc_ask.proofs.Outs.{entered_plans}
+use Rattle.sharc_ask.proofs.expressions.begin_eval.Goals as goal
+
+pub returns-in-Ok-clause-means : goal.returns-in-Ok-clause-means
+returns-in-Ok-clause-means c = λ on_call.
+    entered_plans on_call c.args.m.now (view_state c.args.st.now) (view_state c.enter.new.st) (view_state c.eval_plan.new.st) c.in-Ok.field-0 c.eval_plan.result (gives number (eval on_call c.args.m.now (view_expr c.args.e.now))) c.in-Ok.ensures.does (c.eval_plan.ensures.means on_call)

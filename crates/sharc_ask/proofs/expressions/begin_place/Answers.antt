@@ -1,0 +1,14 @@
+use Rattle.std.proofs.Common.{Ok}
+use Rattle.sharc_tree.specs.View.{view_expr}
+use Rattle.sharc_steps.specs.View.{view_state}
+use Rattle.sharc_meaning.specs.Expressions.{place_of}
+use Rattle.sharc_ask.specs.Values.{gives, place}
+use Rattle.sharc_ask.specs.Plans.{inside}
+use Rattle.sharc_ask.proofs.Outs.{entered_plans, lead_plans}
+use Rattle.sharc_ask.proofs.expressions.begin_place.Goals as goal
+
+pub returns-in-Ok-clause-means : goal.returns-in-Ok-clause-means
+returns-in-Ok-clause-means c = λ on_call.
+    let k = view_state c.enter.new.st in
+    let run = gives place (place_of on_call c.args.m.now c.args.site (view_expr c.args.e.now)) in
+    entered_plans on_call c.args.m.now (view_state c.args.st.now) k k c.in-Ok.field-0 (Ok c.place_plan.result) run c.in-Ok.ensures.does (lead_plans on_call c.args.m.now k c.place_plan.result (inside run) (λ s is. c.place_plan.ensures.means on_call s))

@@ -1,0 +1,20 @@
+use Rattle.sharc_tree.specs.View.{view_expr}
+use Rattle.std.proofs.Common.{◌≡◌, length, arith, refl, ap, ◌∙◌}
+use Rattle.sharc_steps.specs.View.{Known}
+use Rattle.sharc_tree.specs.declared.tree.expression.UnaryOperator.TheVariants.{Negate, Dereference}
+use Rattle.sharc_tree.specs.Tree.{unary}
+use Rattle.sharc_meaning.specs.Expressions.{eval}
+use Rattle.sharc_meaning.specs.Places.{pointee_place}
+use Rattle.sharc_ask.proofs.Expressing.{unary_is, negate_begins, place_is}
+use Rattle.sharc_ask.proofs.expressions.unary_plan.Goals as goal
+
+pub returns-in-Negate-clause-means : goal.returns-in-Negate-clause-means
+returns-in-Negate-clause-means c = λ on_call m s is.
+    let a = view_expr c.args.a.now in
+    unary_is on_call m (view_expr c.args.e.now) c.args.span c.args.operator Negate a c.requires.form c.in-Negate.is s ∙ negate_begins m c.args.span a (eval on_call m a) s
+
+pub returns-in-Dereference-clause-means : goal.returns-in-Dereference-clause-means
+returns-in-Dereference-clause-means c = λ on_call m s is.
+    let a = view_expr c.args.a.now in
+    let many : length s.frame.temporaries ≡ c.len-mark.result = ap (λ (z : Known). length z.temporaries) is ∙ omega (arith, c.len-mark.ensures) in
+    place_is on_call m (view_expr c.args.e.now) (unary c.args.span Dereference a) (pointee_place m.typed c.args.span.first a (eval on_call m a)) c.len-mark.result (c.requires.form ∙ ap (λ o. unary c.args.span o a) c.in-Dereference.is) s refl many

@@ -1,0 +1,5 @@
+use Rattle.std.proofs.Common.{length}
+use Rattle.sharc_ask.proofs.frames.+pointers_passed.Given as goal
+
+abbrev pub decreases-pointers_passed : goal.decreases-pointers_passed
+decreases-pointers_passed l = length l.parameters.now

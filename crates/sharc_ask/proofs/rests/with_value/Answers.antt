@@ -1,0 +1,223 @@
+use Rattle.std.proofs.Common.{◌≡◌, ap, sym, ◌∙◌, subst, to_z, of_z, w64, rules, to_z-of_z}
+use Rattle.std.specs.Prelude.{ℤ, pos}
+use Rattle.sharc_tree.specs.View.{view_expr}
+use Rattle.sharc_names.specs.Kinds.{declared_kinds, promoted}
+use Rattle.sharc_names.specs.View.{view_kind}
+use Rattle.sharc_ctype.specs.Resolved.{kind_at}
+use Rattle.sharc_mode.specs.View.{view_sharing}
+use Rattle.sharc_meaning.specs.Arithmetic.{bits_of, negated}
+use Rattle.sharc_meaning.specs.Expressions.{tested, passed, value_called, resulting, fitting, eval}
+use Rattle.sharc_meaning.specs.Places.{based, pointee_place}
+use Rattle.sharc_meaning.specs.State.{Run, ◌>>=◌, give, holds, drops}
+use Rattle.sharc_steps.specs.View.{view_state, Does}
+use Rattle.sharc_steps.specs.Width.{value_bits}
+use Rattle.sharc_ask.specs.View.{made}
+use Rattle.sharc_ask.specs.Values.{number, place, number_in, gives}
+use Rattle.sharc_ask.specs.Plans.{Plans, value_means, ends_above, test_then, step_then, spawned_with, inverted_with, truth_with, returned_with, and_with, or_with, left_with, joined_with, element_behind, behind_pointer}
+use Rattle.sharc_ask.proofs.Outs.{same_plans}
+use Rattle.sharc_ask.proofs.Resuming.{and_goes, or_goes, left_goes, pointer_goes}
+use Rattle.sharc_ask.proofs.rests.with_value.Goals as goal
+
+pub returns-in-Tested-clause-means : goal.returns-in-Tested-clause-means
+returns-in-Tested-clause-means c = λ on_call.
+    let m = c.args.m.now in
+    let e = view_expr c.args.e.now in
+    let x = c.args.x in
+    let k = view_state c.args.st.now in
+    let k1 = view_state c.tested_value.new.st in
+    let fits = c.ranges.x in
+    let w = c.in-Tested in
+    subst (λ z. Plans on_call m k c.done_test.result k1 (value_means on_call m e z x)) (sym w.is) (c.done_test.ensures.means on_call m k k1 (tested m.typed e (give x)) (simp to_z-of_z at c.tested_value.ensures.does))
+
+pub returns-in-Passed-clause-means : goal.returns-in-Passed-clause-means
+returns-in-Passed-clause-means c = λ on_call.
+    let m = c.args.m.now in
+    let e = view_expr c.args.e.now in
+    let x = c.args.x in
+    let k = view_state c.args.st.now in
+    let k1 = view_state c.passed_value.new.st in
+    let fits = c.ranges.x in
+    let w = c.in-Passed in
+    subst (λ z. Plans on_call m k c.done_number.result k1 (value_means on_call m e z x)) (sym w.is) (c.done_number.ensures.means on_call m k k1 (passed m.typed (declared_kinds w.parameters.now) e (give x)) (simp to_z-of_z at c.passed_value.ensures.does))
+
+pub returns-in-Spawned-clause-means : goal.returns-in-Spawned-clause-means
+returns-in-Spawned-clause-means c = λ on_call.
+    let m = c.args.m.now in
+    let e = view_expr c.args.e.now in
+    let x = c.args.x in
+    let k = view_state c.args.st.now in
+    let k1 = view_state c.spawned.new.st in
+    let fits = c.ranges.x in
+    let w = c.in-Spawned in
+    subst (λ z. Plans on_call m k c.done_number-in-Spawned.result k1 (value_means on_call m e z x)) (sym w.is) (c.done_number-in-Spawned.ensures.means on_call m k k1 (ends_above w.mark (spawned_with m.typed w.site w.named e x)) (simp to_z-of_z at c.spawned.ensures.does))
+
+pub returns-in-Performs-clause-means : goal.returns-in-Performs-clause-means
+returns-in-Performs-clause-means c = λ on_call.
+    let m = c.args.m.now in
+    let e = view_expr c.args.e.now in
+    let x = c.args.x in
+    let k = view_state c.args.st.now in
+    let k1 = view_state c.value_called.new.st in
+    let fits = c.ranges.x in
+    let w = c.in-Performs in
+    subst (λ z. Plans on_call m k c.done_number-in-Performs.result k1 (value_means on_call m e z x)) (sym w.is) (c.done_number-in-Performs.ensures.means on_call m k k1 (value_called w.site w.word (give x)) (simp to_z-of_z at c.value_called.ensures.does))
+
+pub returns-in-Inverted-clause-means : goal.returns-in-Inverted-clause-means
+returns-in-Inverted-clause-means c = λ on_call.
+    let m = c.args.m.now in
+    let e = view_expr c.args.e.now in
+    let x = c.args.x in
+    let k = view_state c.args.st.now in
+    let k1 = view_state c.inverted.new.st in
+    let fits = c.ranges.x in
+    let w = c.in-Inverted in
+    subst (λ z. Plans on_call m k c.done_number-in-Inverted.result k1 (value_means on_call m e z x)) (sym w.is) (c.done_number-in-Inverted.ensures.means on_call m k k1 (inverted_with m.typed e x) (simp to_z-of_z at c.inverted.ensures.does))
+
+pub returns-in-TruthOf-clause-means : goal.returns-in-TruthOf-clause-means
+returns-in-TruthOf-clause-means c = λ on_call.
+    let m = c.args.m.now in
+    let e = view_expr c.args.e.now in
+    let x = c.args.x in
+    let k = view_state c.args.st.now in
+    let k1 = view_state c.truth_of.new.st in
+    let fits = c.ranges.x in
+    let w = c.in-TruthOf in
+    subst (λ z. Plans on_call m k c.done_number-in-TruthOf.result k1 (value_means on_call m e z x)) (sym w.is) (c.done_number-in-TruthOf.ensures.means on_call m k k1 (truth_with m.typed e x) (simp to_z-of_z at c.truth_of.ensures.does))
+
+pub returns-in-Fitted-clause-means : goal.returns-in-Fitted-clause-means
+returns-in-Fitted-clause-means c = λ on_call.
+    let m = c.args.m.now in
+    let e = view_expr c.args.e.now in
+    let x = c.args.x in
+    let k = view_state c.args.st.now in
+    let k1 = k in
+    let fits = c.ranges.x in
+    let w = c.in-Fitted in
+    subst (λ z. Plans on_call m k c.done_number-in-Fitted.result k1 (value_means on_call m e z x)) (sym w.is) (c.done_number-in-Fitted.ensures.means on_call m k k1 (fitting (view_kind w.kind) e (give x)) (simp to_z-of_z at c.fitted.ensures))
+
+pub returns-in-Made-clause-means : goal.returns-in-Made-clause-means
+returns-in-Made-clause-means c = λ on_call.
+    let m = c.args.m.now in
+    let e = view_expr c.args.e.now in
+    let x = c.args.x in
+    let k = view_state c.args.st.now in
+    let k1 = view_state c.made.new.st in
+    let fits = c.ranges.x in
+    let w = c.in-Made in
+    subst (λ z. Plans on_call m k c.done_number-in-Made.result k1 (value_means on_call m e z x)) (sym w.is) (c.done_number-in-Made.ensures.means on_call m k k1 (made m.typed w.site (view_sharing w.target) x w.written.now) (simp to_z-of_z at c.made.ensures.does))
+
+pub returns-in-Based-clause-means : goal.returns-in-Based-clause-means
+returns-in-Based-clause-means c = λ on_call.
+    let m = c.args.m.now in
+    let e = view_expr c.args.e.now in
+    let x = c.args.x in
+    let k = view_state c.args.st.now in
+    let k1 = view_state c.first_behind.new.st in
+    let fits = c.ranges.x in
+    let w = c.in-Based in
+    subst (λ z. Plans on_call m k c.done_place.result k1 (value_means on_call m e z x)) (sym w.is) (c.done_place.ensures.means on_call m k k1 (pointee_place m.typed w.site e (give x)) (simp to_z-of_z at c.first_behind.ensures.does))
+
+pub returns-in-Dropped-clause-means : goal.returns-in-Dropped-clause-means
+returns-in-Dropped-clause-means c = λ on_call.
+    let m = c.args.m.now in
+    let e = view_expr c.args.e.now in
+    let x = c.args.x in
+    let k = view_state c.args.st.now in
+    let k1 = view_state c.let_go.new.st in
+    let fits = c.ranges.x in
+    let w = c.in-Dropped in
+    subst (λ z. Plans on_call m k c.done_step.result k1 (value_means on_call m e z x)) (sym w.is) (c.done_step.ensures.means on_call m k k1 (drops (kind_at m.typed e) x) (simp to_z-of_z at c.let_go.ensures.does))
+
+pub returns-in-Returns-clause-means : goal.returns-in-Returns-clause-means
+returns-in-Returns-clause-means c = λ on_call.
+    let m = c.args.m.now in
+    let e = view_expr c.args.e.now in
+    let x = c.args.x in
+    let k = view_state c.args.st.now in
+    let k1 = k in
+    let fits = c.ranges.x in
+    let w = c.in-Returns in
+    subst (λ z. Plans on_call m k c.done_flow.result k1 (value_means on_call m e z x)) (sym w.is) (c.done_flow.ensures.means on_call m k k1 (returned_with (view_kind w.kind) w.site e x) (simp to_z-of_z at c.returned.ensures))
+
+pub returns-in-Negated-clause-means : goal.returns-in-Negated-clause-means
+returns-in-Negated-clause-means c = λ on_call.
+    let m = c.args.m.now in
+    let e = view_expr c.args.e.now in
+    let x = c.args.x in
+    let k = view_state c.args.st.now in
+    let k1 = k in
+    let fits = c.ranges.x in
+    let w = c.in-Negated in
+    subst (λ z. Plans on_call m k c.done_number-in-Negated.result k1 (value_means on_call m e z x)) (sym w.is) (let bits = bits_of (promoted (kind_at m.typed e)) in
+    let width : value_bits c.width_of.result ≡ bits = c.width_of.ensures ∙ ap bits_of (c.promoted.ensures ∙ ap promoted c.kind_of.ensures) in
+    let same : c.negated.result ≡ negated bits x = c.negated.ensures ∙ ap (λ b. negated b (to_z w64 (of_z w64 x))) width ∙ ap (negated bits) (to_z-of_z fits) in
+    c.done_number-in-Negated.ensures.means on_call m k k1 (resulting w.site (negated (bits_of (promoted (kind_at m.typed e))) x)) (subst (λ z. Does k c.resulting.result k (resulting w.site z)) same c.resulting.ensures))
+
+pub returns-in-AndLeft-clause-means : goal.returns-in-AndLeft-clause-means
+returns-in-AndLeft-clause-means c = λ on_call.
+    let m = c.args.m.now in
+    let e = view_expr c.args.e.now in
+    let x = c.args.x in
+    let k = view_state c.args.st.now in
+    let k1 = view_state c.tested_value-in-AndLeft.new.st in
+    let fits = c.ranges.x in
+    let w = c.in-AndLeft in
+    subst (λ z. Plans on_call m k c.by_truth.result k1 (value_means on_call m e z x)) (sym w.is) (let b = view_expr w.right.now in
+    same_plans on_call m k k1 c.by_truth.result (gives number (and_with m.typed e b (eval on_call m b) x)) (test_then (tested m.typed e (give x)) (gives number (eval on_call m b) >>= (λ v. gives number (truth_with m.typed b (number_in v)))) (give (number (pos 0)))) (λ s is. and_goes m.typed e b (eval on_call m b) x s)
+    (c.by_truth.ensures.means on_call m k k1 (tested m.typed e (give x)) (simp to_z-of_z at c.tested_value-in-AndLeft.ensures.does)))
+
+pub returns-in-OrLeft-clause-means : goal.returns-in-OrLeft-clause-means
+returns-in-OrLeft-clause-means c = λ on_call.
+    let m = c.args.m.now in
+    let e = view_expr c.args.e.now in
+    let x = c.args.x in
+    let k = view_state c.args.st.now in
+    let k1 = view_state c.tested_value-in-OrLeft.new.st in
+    let fits = c.ranges.x in
+    let w = c.in-OrLeft in
+    subst (λ z. Plans on_call m k c.by_truth-in-OrLeft.result k1 (value_means on_call m e z x)) (sym w.is) (let b = view_expr w.right.now in
+    same_plans on_call m k k1 c.by_truth-in-OrLeft.result (gives number (or_with m.typed e b (eval on_call m b) x)) (test_then (tested m.typed e (give x)) (give (number (pos 1))) (gives number (eval on_call m b) >>= (λ v. gives number (truth_with m.typed b (number_in v))))) (λ s is. or_goes m.typed e b (eval on_call m b) x s)
+    (c.by_truth-in-OrLeft.ensures.means on_call m k k1 (tested m.typed e (give x)) (simp to_z-of_z at c.tested_value-in-OrLeft.ensures.does)))
+
+pub returns-in-LeftOperand-clause-means : goal.returns-in-LeftOperand-clause-means
+returns-in-LeftOperand-clause-means c = λ on_call.
+    let m = c.args.m.now in
+    let e = view_expr c.args.e.now in
+    let x = c.args.x in
+    let k = view_state c.args.st.now in
+    let k1 = view_state c.held.new.st in
+    let fits = c.ranges.x in
+    let w = c.in-LeftOperand in
+    subst (λ z. Plans on_call m k c.then.result k1 (value_means on_call m e z x)) (sym w.is) (let b = view_expr w.right.now in
+    let o = w.operation in
+    let bits = value_bits o.width in
+    same_plans on_call m k k1 c.then.result (gives number (ends_above o.mark (left_with m.typed bits o.site o.operator e b (eval on_call m b) x))) (step_then (holds (kind_at m.typed e) x) (gives number (eval on_call m b) >>= (λ v. gives number (ends_above o.mark (joined_with m.typed bits o.site o.operator b x (give (number_in v)))))))
+    (λ s is. left_goes m.typed bits o.site o.operator e b (eval on_call m b) x o.mark s) (simp to_z-of_z at (c.then.ensures.means on_call m k k1 (holds (kind_at m.typed e) x) (simp to_z-of_z at c.held.ensures.does))))
+
+pub returns-in-PointerBase-clause-means : goal.returns-in-PointerBase-clause-means
+returns-in-PointerBase-clause-means c = λ on_call.
+    let m = c.args.m.now in
+    let e = view_expr c.args.e.now in
+    let x = c.args.x in
+    let k = view_state c.args.st.now in
+    let k1 = view_state c.based.new.st in
+    let fits = c.ranges.x in
+    let w = c.in-PointerBase in
+    subst (λ z. Plans on_call m k c.then-in-PointerBase.result k1 (value_means on_call m e z x)) (sym w.is) (let i = eval on_call m (view_expr w.index.now) in
+    same_plans on_call m k k1 c.then-in-PointerBase.result (gives place (behind_pointer m.typed w.site e x i)) (step_then (based w.site (kind_at m.typed e) x) (gives number i >>= (λ v. gives place (element_behind m.typed w.site e x (number_in v)))))
+    (λ s is. pointer_goes m.typed w.site e i x s) (simp to_z-of_z at (c.then-in-PointerBase.ensures.means on_call m k k1 (based w.site (kind_at m.typed e) x) (simp to_z-of_z at c.based.ensures.does))))
+
+pub returns-in-RightOperand-clause-means : goal.returns-in-RightOperand-clause-means
+returns-in-RightOperand-clause-means c = λ on_call.
+    let m = c.args.m.now in
+    let e = view_expr c.args.e.now in
+    let x = c.args.x in
+    let k = view_state c.args.st.now in
+    let k1 = view_state c.joined.new.st in
+    let fits = c.ranges.x in
+    let w = c.in-RightOperand in
+    let o = w.operation in
+    let same : to_z w64 (of_z w64 w.left) ≡ w.left = search rules in
+    let run : ℤ → ℤ → Run ℤ = λ y z. ends_above o.mark (joined_with m.typed (value_bits o.width) o.site o.operator e y (give z)) in
+    let done : Does k c.joined.result k1 (run w.left x) = subst (λ z. Does k c.joined.result k1 (run z x)) same (subst (λ z. Does k c.joined.result k1 (run (to_z w64 (of_z w64 w.left)) z)) (to_z-of_z fits) c.joined.ensures.does) in
+    subst (λ z. Plans on_call m k c.done_number-in-RightOperand.result k1 (value_means on_call m e z x)) (sym w.is) (c.done_number-in-RightOperand.ensures.means on_call m k k1 (run w.left x) done)

@@ -1,0 +1,25 @@
+use Rattle.sharc_tree.specs.View.{view_simple, view_local, view_first}
+use Rattle.std.proofs.Common.{ap, ◌∙◌, Ok, suc}
+use Rattle.sharc_steps.specs.View.{view_state}
+use Rattle.sharc_meaning.specs.Statements.{done_first, done_simple, declared}
+use Rattle.sharc_ask.specs.Values.{gives, as_nothing}
+use Rattle.sharc_ask.proofs.Outs.{entered_plans}
+use Rattle.sharc_ask.proofs.Stating.{out_given}
+use Rattle.sharc_ask.proofs.statements.begin_first.Goals as goal
+
+pub returns-in-Ok-clause-means : goal.returns-in-Ok-clause-means
+returns-in-Ok-clause-means c = λ on_call m.
+    let run = gives as_nothing (done_first on_call m (view_first c.args.first.now)) in
+    let k1 = view_state c.enter.new.st in
+    entered_plans on_call m (view_state c.args.st.now) k1 k1 c.in-Ok.field-0 (Ok _) run c.in-Ok.ensures.does (λ s is. record {
+      state = s;
+      is = ap (λ x. gives as_nothing (done_first on_call m (view_first x)) (record s { fuel = suc s.fuel })) c.in-Declares.is ∙ out_given (gives as_nothing (declared on_call m (view_local c.in-Declares.local)) s);
+      looks = is;
+    })
+
+pub returns-in-Does-clause-means : goal.returns-in-Does-clause-means
+returns-in-Does-clause-means c = λ on_call m s is. record {
+  state = s;
+  is = ap (λ x. gives as_nothing (done_first on_call m (view_first x)) s) c.in-Does.is ∙ out_given (gives as_nothing (done_simple on_call m (view_simple c.in-Does.simple)) s);
+  looks = is;
+}

@@ -1,0 +1,28 @@
+use Rattle.sharc_tree.specs.View.{view_option, view_right, view_local}
+use Rattle.std.proofs.Common.{arith}
+use Rattle.sharc_steps.specs.View.{view_state}
+use Rattle.std.specs.Prelude.{pos}
+use Rattle.std.proofs.lemmas.Result.{IfOk-weaker}
+use Rattle.sharc_meaning.specs.State.{begins_with}
+use Rattle.sharc_meaning.specs.Statements.{declared, initialised}
+use Rattle.sharc_ask.specs.Values.{gives, as_nothing}
+use Rattle.sharc_ask.specs.Plans.{Fits, Begins, step_then, plan_means}
+use Rattle.sharc_ask.proofs.Outs.{same_plans}
+use Rattle.sharc_ask.proofs.Stating.{step_begins}
+use Rattle.sharc_ask.proofs.statements.begin_local.Goals as goal
+
+pub returns-clause-means : goal.returns-clause-means
+returns-clause-means c = λ on_call.
+    let m = c.args.m.now in
+    let l = c.args.local.now in
+    let k = view_state c.args.st.now in
+    let k1 = view_state c.begin.new.st in
+    let step = begins_with l.declaration (pos 0) in
+    let run = initialised on_call m l.declaration (view_option view_right l.initial) in
+    same_plans on_call m k k1 c.then.result (gives as_nothing (declared on_call m (view_local l))) (step_then step (plan_means on_call m c.initial_plan.result))
+    (λ s is. step_begins on_call m step as_nothing run c.initial_plan.result (c.initial_plan.ensures.means on_call) s) (c.then.ensures.means on_call m k k1 step c.begin.ensures.does)
+
+pub returns-clause-begins : goal.returns-clause-begins
+returns-clause-begins c =
+    let fuel = c.begin.ensures.fuel in
+    IfOk-weaker c.then.result (Fits 2) (Begins 4 0 c.args.st.now.fuel c.begin.new.st.fuel) (λ p h. record { sound = h.sound; spends = omega arith; falls = omega (arith, h.within) }) (c.then.ensures.fits 2 c.initial_plan.ensures.fits)

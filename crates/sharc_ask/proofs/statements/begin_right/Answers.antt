@@ -1,0 +1,33 @@
+use Rattle.std.proofs.Common.{ap, ◌∙◌}
+use Rattle.sharc_steps.specs.View.{view_state}
+use Rattle.sharc_tree.specs.View.{view_expr, view_right}
+use Rattle.sharc_names.specs.View.{view_kind}
+use Rattle.sharc_mode.specs.View.{view_sharing}
+use Rattle.sharc_meaning.specs.Expressions.{eval}
+use Rattle.sharc_meaning.specs.Statements.{right_value}
+use Rattle.sharc_tree.specs.Tree.{malloc}
+use Rattle.sharc_tree.specs.View.{view_option}
+use Rattle.sharc_ask.specs.Values.{gives, number}
+use Rattle.sharc_ask.proofs.Outs.{same_plans}
+use Rattle.sharc_ask.proofs.Stating.{fit_begins}
+use Rattle.sharc_ask.proofs.statements.begin_right.Goals as goal
+
+pub returns-in-Value-clause-means : goal.returns-in-Value-clause-means
+returns-in-Value-clause-means c = λ on_call s is.
+    let m = c.args.m.now in
+    let kind = view_kind c.args.kind in
+    let e = view_expr c.in-Value.e in
+    record {
+      state = s;
+      is = ap (λ x. gives number (right_value on_call m kind (view_sharing c.args.target) (view_right x)) s) c.in-Value.is ∙ fit_begins kind e (eval on_call m e) s;
+      looks = is;
+    }
+
+pub returns-in-Malloc-clause-means : goal.returns-in-Malloc-clause-means
+returns-in-Malloc-clause-means c = λ on_call.
+    let m = c.args.m.now in
+    let kind = view_kind c.args.kind in
+    let target = view_sharing c.args.target in
+    let w = c.in-Malloc in
+    same_plans on_call m (view_state c.args.st.now) (view_state c.begin_malloc.new.st) c.begin_malloc.result (gives number (right_value on_call m kind target (view_right c.args.right.now))) (gives number (right_value on_call m kind target (malloc w.span (view_option view_expr w.count) w.written)))
+    (λ s is. ap (λ x. gives number (right_value on_call m kind target (view_right x)) s) w.is) (c.begin_malloc.ensures.means on_call kind)

@@ -1,0 +1,30 @@
+use Rattle.sharc_tree.specs.View.{view_option, view_right}
+use Rattle.std.proofs.Common.{◌≡◌, ap, sym, ◌∙◌, Some}
+use Rattle.sharc_names.specs.Kinds.{declared_kind}
+use Rattle.sharc_mode.specs.Cells.{pointed}
+use Rattle.sharc_mode.specs.Rows.{written, declared_row}
+use Rattle.sharc_meaning.specs.Statements.{initialised, right_value}
+use Rattle.sharc_names.specs.View.{view_kind}
+use Rattle.sharc_mode.specs.Sharings.{private}
+use Rattle.sharc_mode.specs.View.{view_sharing}
+use Rattle.sharc_meaning.specs.Places.{variable, stored}
+use Rattle.sharc_meaning.specs.State.{Run, then_on}
+use Rattle.sharc_ask.specs.Values.{Value, gives, number, number_in, as_nothing}
+use Rattle.sharc_ask.proofs.Stating.{initial_begins}
+use Rattle.sharc_ask.proofs.statements.initial_plan.Goals as goal
+
+pub returns-in-None-clause-means : goal.returns-in-None-clause-means
+returns-in-None-clause-means c = λ on_call s. ap (λ o. gives as_nothing (initialised on_call c.args.m.now c.args.declaration.now (view_option view_right o)) s) c.in-None.is
+
+pub returns-in-Some-clause-means : goal.returns-in-Some-clause-means
+returns-in-Some-clause-means c = λ on_call s.
+    let m = c.args.m.now in
+    let d = c.args.declaration.now in
+    let x = view_right c.in-Some.right in
+    let rest : Value → Run Value = λ v. gives as_nothing (stored m.typed d.name.site (declared_kind d.written) private (variable d.name.site.token) (number_in v)) in
+    let target : view_sharing c.pointed.result ≡ pointed m (Some (declared_row m.typed written d.name.site.token)) =
+    c.pointed.ensures ∙ ap (λ z. pointed m (Some z)) (c.declared_row-row.ensures.row ∙ ap (λ z. declared_row z written d.name.site.token) c.typed.ensures) in
+    ap (λ o. gives as_nothing (initialised on_call m d (view_option view_right o)) s) c.in-Some.is
+    ∙ initial_begins on_call m d x s
+    ∙ ap (λ z. then_on (gives number (right_value on_call m z (pointed m (Some (declared_row m.typed written d.name.site.token))) x) s) rest) (sym c.declared_kind.ensures)
+    ∙ ap (λ z. then_on (gives number (right_value on_call m (view_kind c.declared_kind.result) z x) s) rest) (sym target)

@@ -1,0 +1,319 @@
+-- The walk in steps: what tasks mean, and what goes on with their values.
+use Rattle.std.specs.Prelude.{◌≡◌, ℕ, suc, ℤ, pos, not, ◌+◌, ◌*◌, ◌<◌, ◌≤◌, Bool, true, false, Some, Result, Ok, Err, if◌then◌else◌}
+use Rattle.sharc_tree.specs.declared.event.Act.TheVariants as acts
+use Rattle.sharc_tree.specs.declared.event.Object.TheVariants.{Made}
+use Rattle.sharc_tree.specs.declared.event.TakeKind.TheVariants.{Cast, Free as ToFree}
+use Rattle.sharc_tree.specs.declared.token.Site.{Site}
+use Rattle.sharc_tree.specs.declared.tree.expression.BinaryOperator.{BinaryOperator}
+use Rattle.sharc_tree.specs.Spans.{span_of}
+use Rattle.sharc_tree.specs.Tree.{Expression}
+use Rattle.sharc_tree.specs.View.{view_expr, view_arguments, view_option, view_right, view_simple, view_local, view_first}
+use Rattle.sharc_names.specs.declared.fault.Named.{Named}
+use Rattle.sharc_names.specs.Kinds.{Kind, declared_kind, declared_kinds, element_kind, promoted}
+use Rattle.sharc_names.specs.View.{view_kind}
+use Rattle.sharc_ctype.specs.Resolved.{Resolution, kind_at}
+use Rattle.sharc_ctype.specs.Transfers.{parameters_named}
+use Rattle.sharc_mode.specs.Cells.{cell_at, pointed}
+use Rattle.sharc_mode.specs.Moded.{Assignment}
+use Rattle.sharc_mode.specs.Rows.{row_at, cast_row}
+use Rattle.sharc_mode.specs.Sharings.{private}
+use Rattle.sharc_mode.specs.View.{view_sharing}
+use Rattle.sharc_meaning.specs.Arithmetic.{bits_of, truth, operated, negated, complement}
+use Rattle.sharc_meaning.specs.Cells.{element_cells}
+use Rattle.sharc_meaning.specs.Expressions.{Calls, resulting, tested, operand, fitting, passed, number_named, value_called, eval, place_of}
+use Rattle.sharc_meaning.specs.Places.{Place, variable, field_in, based, element, element_of_array, index_place, pointee_place, field_place, stored, taken_from, cast_to, freed}
+use Rattle.sharc_meaning.specs.Cells.{field_place_named}
+use Rattle.sharc_meaning.specs.Reference.{is_null, number_of, elements_of}
+use Rattle.sharc_meaning.specs.State.{State, Out, Run, Step, ◌>>=◌, ◌>>◌, give, done, answered, drops, moves, ends_temporaries, ends_variables}
+use Rattle.sharc_meaning.specs.Statements.{Flow, next, returned, right_value, done_simple, declared, done_first, done_test, return_with}
+use Rattle.sharc_meaning.specs.Waiting.{lock_call, unlock_call}
+use Rattle.sharc_steps.specs.declared.state.End.{End}
+use Rattle.sharc_steps.specs.declared.state.End.TheVariants as ends
+use Rattle.sharc_steps.specs.View.{Known, known, view_place, Over}
+use Rattle.sharc_steps.specs.Width.{value_bits}
+use Rattle.sharc_ask.specs.declared.plan.Plan.{Plan}
+use Rattle.sharc_ask.specs.declared.plan.Plan.TheVariants as plans
+use Rattle.sharc_ask.specs.declared.plan.Rest.{Rest}
+use Rattle.sharc_ask.specs.declared.plan.Rest.TheVariants as rests
+use Rattle.sharc_ask.specs.declared.plan.Task.{Task}
+use Rattle.sharc_ask.specs.declared.plan.Task.TheVariants as tasks
+use Rattle.sharc_ask.specs.declared.plan.WithNumber.{WithNumber}
+use Rattle.sharc_ask.specs.declared.plan.WithNumber.TheVariants as numbers
+use Rattle.sharc_ask.specs.declared.plan.WithValue.{WithValue}
+use Rattle.sharc_ask.specs.declared.plan.WithValue.TheVariants as with_values
+use Rattle.sharc_ask.specs.declared.plan.WithPlace.{WithPlace}
+use Rattle.sharc_ask.specs.declared.plan.WithPlace.TheVariants as with_places
+use Rattle.sharc_ask.specs.Values.{Value, number, test, place, flow, number_in, place_in, view_value, gives, as_nothing}
+use Rattle.sharc_ask.specs.View.{view_test, place_fetched, calling, made}
+
+-- ---- parts of runs
+
+-- the temporaries but the first so many end with a run, and so do the variables
+abbrev pub ends_above : {A : Type 0} → ℕ → Run A → Run A
+ends_above n m s = ends_temporaries n (m s)
+
+abbrev pub ends_block : {A : Type 0} → ℕ → Run A → Run A
+ends_block n m s = ends_variables n (m s)
+
+-- what comes behind a step or a test
+
+abbrev pub zero_behind : Step → Run ℤ
+zero_behind step = do
+  step
+  give (pos 0)
+
+abbrev pub next_behind : Step → Run Flow
+next_behind step = do
+  step
+  give next
+
+abbrev pub step_then : Step → Run Value → Run Value
+step_then step run = do
+  step
+  run
+
+abbrev pub test_then : Run Bool → Run Value → Run Value → Run Value
+test_then of_b on_true on_false = do
+  b ← of_b
+  if b then on_true else on_false
+
+-- with the value of an expression
+
+abbrev pub truth_with : Resolution → Expression → ℤ → Run ℤ
+truth_with r e x = do
+  b ← tested r e (give x)
+  give (truth b)
+
+abbrev pub inverted_with : Resolution → Expression → ℤ → Run ℤ
+inverted_with r e x = do
+  b ← tested r e (give x)
+  give (truth (not b))
+
+abbrev pub returned_with : Kind → Site → Expression → ℤ → Run Flow
+returned_with kind site e x = do
+  v ← fitting kind e (give x)
+  give (returned site v)
+
+-- a new thread, given the value of its argument
+abbrev pub spawned_with : Resolution → Site → Named → Expression → ℤ → Run ℤ
+spawned_with r site f a x = do
+  v ← passed r (declared_kinds (parameters_named r f)) a (give x)
+  t ← answered site (acts.Spawn (number_named f) v)
+  moves (kind_at r a)
+  give t
+
+abbrev pub free_unless_null : Site → ℤ → Run ℤ
+free_unless_null site x = do
+  if is_null x then done else freed site x
+  give (pos 0)
+
+abbrev pub and_with : Resolution → Expression → Expression → Run ℤ → ℤ → Run ℤ
+and_with r a b of_b x = do
+  left ← tested r a (give x)
+  right ← (if left then tested r b of_b else give false)
+  give (truth right)
+
+abbrev pub or_with : Resolution → Expression → Expression → Run ℤ → ℤ → Run ℤ
+or_with r a b of_b x = do
+  left ← tested r a (give x)
+  right ← (if left then give true else tested r b of_b)
+  give (truth right)
+
+-- an operator with the values of both operands, and of the right one where the left one stands in a temporary
+
+abbrev pub joined_with : Resolution → ℕ → Site → BinaryOperator → Expression → ℤ → Run ℤ → Run ℤ
+joined_with r bits at o b x of_b = do
+  y ← operand r b of_b
+  resulting at (operated bits o x y)
+
+abbrev pub left_with : Resolution → ℕ → Site → BinaryOperator → Expression → Expression → Run ℤ → ℤ → Run ℤ
+left_with r bits at o a b of_b x0 = do
+  x ← operand r a (give x0)
+  joined_with r bits at o b x of_b
+
+abbrev pub element_behind : Resolution → Site → Expression → ℤ → ℤ → Run Place
+element_behind r site a p n = element site (Made (number_of p)) (element_cells r (element_kind (kind_at r a))) (elements_of p) n
+
+abbrev pub behind_pointer : Resolution → Site → Expression → ℤ → Run ℤ → Run Place
+behind_pointer r site a p i = do
+  based site (kind_at r a) p
+  n ← i
+  element_behind r site a p n
+
+abbrev pub element_in : Resolution → Site → Expression → Place → ℤ → Run Place
+element_in r site a base n = element_of_array r site (element_cells r (element_kind (kind_at r a))) base n
+
+-- ---- what tasks mean
+
+abbrev pub task_means : Calls → Assignment → Task → Run Value
+task_means on_call m (tasks.Eval e) = gives number (eval on_call m (view_expr e.now))
+task_means on_call m (tasks.Test e) = gives test (tested m.typed (view_expr e.now) (eval on_call m (view_expr e.now)))
+task_means on_call m (tasks.Argument parameters e) = gives number (passed m.typed (declared_kinds parameters.now) (view_expr e.now) (eval on_call m (view_expr e.now)))
+task_means on_call m (tasks.PlaceOf site e) = gives place (place_of on_call m site (view_expr e.now))
+task_means on_call m (tasks.Index site a i) = gives place (index_place m.typed site (view_expr a.now) (place_of on_call m site (view_expr a.now)) (eval on_call m (view_expr a.now)) (eval on_call m (view_expr i.now)))
+task_means on_call m (tasks.Pointee site a) = gives place (pointee_place m.typed site (view_expr a.now) (eval on_call m (view_expr a.now)))
+task_means on_call m (tasks.Field site a w n) = gives place (field_place m.typed site (view_expr a.now) w n (place_of on_call m site (view_expr a.now)) (eval on_call m (view_expr a.now)))
+task_means on_call m (tasks.Right kind target x) = gives number (right_value on_call m (view_kind kind) (view_sharing target) (view_right x.now))
+task_means on_call m (tasks.Simple x) = gives as_nothing (done_simple on_call m (view_simple x.now))
+task_means on_call m (tasks.Declare l) = gives as_nothing (declared on_call m (view_local l.now))
+task_means on_call m (tasks.First x) = gives as_nothing (done_first on_call m (view_first x.now))
+task_means on_call m (tasks.LoopTest e) = gives test (done_test on_call m (view_test e))
+task_means on_call m (tasks.Return kind site e) = gives flow (return_with on_call m (view_kind kind) site (view_option (λ b. view_expr b.value) e.now))
+
+-- ---- what goes on with their values
+
+abbrev pub assigned_to : Assignment → Expression → Place → Run ℤ → Step
+assigned_to m u p right = do
+  v ← right
+  stored m.typed (span_of u).first (kind_at m.typed u) (cell_at m u) p v
+
+-- with the value x of the expression e
+abbrev pub value_means : Calls → Assignment → Expression → WithValue → ℤ → Run Value
+value_means on_call m e with_values.Tested x = gives test (tested m.typed e (give x))
+value_means on_call m e (with_values.Passed parameters) x = gives number (passed m.typed (declared_kinds parameters.now) e (give x))
+value_means on_call m e (with_values.Spawned site f mark) x = gives number (ends_above mark (spawned_with m.typed site f e x))
+value_means on_call m e (with_values.Performs site w) x = gives number (value_called site w (give x))
+value_means on_call m e (with_values.Negated site) x = gives number (resulting site (negated (bits_of (promoted (kind_at m.typed e))) x))
+value_means on_call m e with_values.Inverted x = gives number (inverted_with m.typed e x)
+value_means on_call m e with_values.Complemented x = gives number (give (complement x))
+value_means on_call m e (with_values.AndLeft b) x = gives number (and_with m.typed e (view_expr b.now) (eval on_call m (view_expr b.now)) x)
+value_means on_call m e (with_values.OrLeft b) x = gives number (or_with m.typed e (view_expr b.now) (eval on_call m (view_expr b.now)) x)
+value_means on_call m e with_values.TruthOf x = gives number (truth_with m.typed e x)
+value_means on_call m e (with_values.LeftOperand o b) x = gives number (ends_above o.mark (left_with m.typed (value_bits o.width) o.site o.operator e (view_expr b.now) (eval on_call m (view_expr b.now)) x))
+value_means on_call m e (with_values.RightOperand o x) y = gives number (ends_above o.mark (joined_with m.typed (value_bits o.width) o.site o.operator e x (give y)))
+value_means on_call m e (with_values.Fitted kind) x = gives number (fitting (view_kind kind) e (give x))
+value_means on_call m e (with_values.Made site target w) x = gives number (made m.typed site (view_sharing target) x w.now)
+value_means on_call m e (with_values.PointerBase site i) p = gives place (behind_pointer m.typed site e p (eval on_call m (view_expr i.now)))
+value_means on_call m e (with_values.Based site) p = gives place (pointee_place m.typed site e (give p))
+value_means on_call m e with_values.Dropped x = gives as_nothing (drops (kind_at m.typed e) x)
+value_means on_call m e (with_values.Returns kind site) x = gives flow (returned_with (view_kind kind) site e x)
+
+-- with the place p of the expression e, or of what it is read from
+abbrev pub place_means : Calls → Assignment → Expression → WithPlace → Place → Run Value
+place_means on_call m e (with_places.Locks site mark) p = gives number (zero_behind (ends_above mark (lock_call site p)))
+place_means on_call m e (with_places.Unlocks site mark) p = gives number (zero_behind (ends_above mark (unlock_call site p)))
+place_means on_call m e (with_places.Frees s mark) p = gives number (do
+  x ← ends_above mark (taken_from m.typed s.first (span_of e).first (cell_at m e) ToFree p)
+  free_unless_null (span_of e).first x)
+place_means on_call m e (with_places.Casts s mark) p = gives number (do
+  x ← ends_above mark (taken_from m.typed s.first (span_of e).first (cell_at m e) Cast p)
+  if is_null x then give x else cast_to m.typed (span_of e).first (pointed m (Some (cast_row m.typed s))) x)
+place_means on_call m e (with_places.Fetched mark) p = gives number (ends_above mark (place_fetched m e p))
+place_means on_call m e (with_places.ArrayBase site i) p = gives place (do
+  n ← eval on_call m (view_expr i.now)
+  element_in m.typed site e p n)
+place_means on_call m e (with_places.FieldIn f) p = gives place (give (field_in (field_place_named m.typed f) p))
+place_means on_call m e (with_places.Assigned x mark) p = gives as_nothing (ends_above mark (assigned_to m e p (right_value on_call m (kind_at m.typed e) (pointed m (row_at m.typed e)) (view_right x.now))))
+
+-- with an index, or a value that goes somewhere
+abbrev pub number_means : Assignment → WithNumber → ℤ → Run Value
+number_means m (numbers.ArrayElement site a base) n = gives place (element_in m.typed site (view_expr a.now) (view_place base) n)
+number_means m (numbers.PointerElement site a p) n = gives place (element_behind m.typed site (view_expr a.now) p n)
+number_means m (numbers.Stored u p mark) x = gives as_nothing (ends_above mark (assigned_to m (view_expr u.now) (view_place p) (give x)))
+number_means m (numbers.Initialised d) x = gives as_nothing (stored m.typed d.now.name.site (declared_kind d.now.written) private (variable d.now.name.site.token) x)
+
+abbrev pub rest_means : Calls → Assignment → Rest → Value → Run Value
+rest_means on_call m rests.Same v = give v
+rest_means on_call m (rests.Value e w) v = value_means on_call m (view_expr e.now) w (number_in v)
+rest_means on_call m (rests.Place e w) v = place_means on_call m (view_expr e.now) w (place_in v)
+rest_means on_call m (rests.Number w) v = number_means m w (number_in v)
+
+abbrev pub plan_means : Calls → Assignment → Plan → Run Value
+plan_means on_call m (plans.Done v) = give (view_value v)
+plan_means on_call m (plans.Goes t w) = task_means on_call m t >>= rest_means on_call m w
+plan_means on_call m (plans.Calls c) = gives number (calling on_call m c.site c.named c.name.now (view_arguments c.arguments.now))
+
+-- ---- what the code's functions do with plans
+
+-- a run comes to the state from which the plan goes on, which looks like this
+pub record GoesOn (on_call : Calls) (m : Assignment) (p : Plan) (k : Known) (out : Out Value) : Type 0 where
+  pub state : State
+  pub is : out ≡ plan_means on_call m p state
+  pub looks : known state ≡ k
+
+abbrev pub PlanEnds : Calls → Assignment → Result Plan End → Known → Out Value → Type 0
+PlanEnds on_call m (Ok p) k out = GoesOn on_call m p k out
+PlanEnds on_call m (Err ends.Memory) k out = Unit {0}
+PlanEnds on_call m (Err e) k out = Over e k out
+
+-- from whatever state looks so
+abbrev pub Plans : Calls → Assignment → Known → Result Plan End → Known → Run Value → Type 0
+Plans on_call m before result after run = (s : State) → known s ≡ before → PlanEnds on_call m result after (run s)
+
+-- a plan that is that of a run, from each state or from those that look so
+
+abbrev pub Leads : Calls → Assignment → Run Value → Plan → Type 0
+Leads on_call m run p = (s : State) → run s ≡ plan_means on_call m p s
+
+abbrev pub LeadsFrom : Calls → Assignment → Known → Run Value → Plan → Type 0
+LeadsFrom on_call m k run p = (s : State) → known s ≡ k → run s ≡ plan_means on_call m p s
+
+-- a run that is entered already
+abbrev pub inside : {A : Type 0} → Run A → Run A
+inside m s = m (record s { fuel = suc s.fuel })
+
+-- ---- that the walk ends
+
+-- at least so much fuel is spent by a task
+abbrev pub cost : Task → ℕ
+cost (tasks.Declare l) = 0
+cost (tasks.First x) = 0
+cost (tasks.LoopTest e) = 0
+cost (tasks.Return kind site e) = 0
+cost _ = 1
+
+abbrev pub plan_cost : Plan → ℕ
+plan_cost (plans.Goes t w) = cost t
+plan_cost _ = 0
+
+-- of tasks that are begun without fuel the later are above the earlier
+abbrev pub rank : Task → ℕ
+rank (tasks.Eval e) = 1
+rank (tasks.PlaceOf site e) = 1
+rank (tasks.Test e) = 2
+rank (tasks.Argument parameters e) = 2
+rank (tasks.Pointee site a) = 2
+rank (tasks.Index site a i) = 2
+rank (tasks.Right kind target x) = 2
+rank (tasks.Simple x) = 2
+rank (tasks.Return kind site e) = 2
+rank (tasks.Field site a w n) = 3
+rank (tasks.LoopTest e) = 3
+rank (tasks.Declare l) = 4
+rank (tasks.First x) = 5
+
+abbrev pub size : Plan → ℕ
+size (plans.Done v) = 0
+size (plans.Goes t w) = rank t
+size (plans.Calls c) = 12
+
+-- what goes on with a value needs that fuel was spent for it, but where it is that value
+abbrev pub need : Rest → ℕ
+need rests.Same = 0
+need _ = 1
+
+abbrev pub Sound : Plan → Type 0
+Sound (plans.Goes t w) = need w ≤ cost t
+Sound _ = Unit {0}
+
+-- a plan of at most this size
+pub record Fits (n : ℕ) (p : Plan) : Type 0 where
+  pub sound : Sound p
+  pub within : size p ≤ n
+
+-- a task of this rank and cost is begun by a plan
+
+pub record Starts (rank_of cost_of : ℕ) (p : Plan) : Type 0 where
+  pub sound : Sound p
+  pub spends : cost_of ≤ plan_cost p
+  pub falls : size p < rank_of
+
+pub record Begins (rank_of cost_of before after : ℕ) (p : Plan) : Type 0 where
+  pub sound : Sound p
+  pub spends : after + cost_of ≤ before + plan_cost p
+  pub falls : 16 * after + size p < 16 * before + rank_of
+
+-- the size of what goes on
+abbrev pub limit : Rest → ℕ
+limit rests.Same = 0
+limit _ = 15

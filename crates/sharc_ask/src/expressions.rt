@@ -1,0 +1,269 @@
+// Expressions are begun: what comes first, and what goes on with its value.
+
+ghost use Rattle.std.specs.Prelude.{◌≡◌, ◌≤◌, IfOk};
+ghost use Rattle.sharc_tree.specs.declared.token.Span.{Span};
+ghost use Rattle.sharc_tree.specs.Tree.{on_place, unary, binary};
+ghost use Rattle.sharc_tree.specs.View.{view_expr};
+ghost use Rattle.sharc_mode.specs.Moded.{Assignment};
+ghost use Rattle.sharc_meaning.specs.Expressions.{Calls, eval, place_of};
+ghost use Rattle.sharc_meaning.specs.Places.{index_place, pointee_place, field_place, unary_place};
+ghost use Rattle.sharc_steps.specs.View.{view_state};
+ghost use Rattle.sharc_ask.specs.Values.{number, place, gives};
+ghost use Rattle.sharc_ask.specs.Plans.{inside, Leads, LeadsFrom, Plans, Fits, Starts, Begins};
+
+use crate::plan::{Call, Operation, Plan, Rest, Task, Value, WithPlace, WithValue};
+use crate::plans::done_number;
+use crate::values::{constant_value, kind_of, logic_of, named, named_value};
+use sharc_mode::moded::Moded;
+use sharc_names::fault::Named;
+use sharc_names::kind::is_array;
+use sharc_steps::arithmetic::width_of;
+use sharc_steps::places::{Place, place_named};
+use sharc_steps::state::{End, State, enter};
+use sharc_tree::token::{Site, Span};
+use sharc_tree::tree::{Access, BinaryOperator, Expr, PlaceCall, UnaryOperator};
+
+fn on_place_plan<'a>(e: &'a Expr, span: Span, word: PlaceCall, a: &'a Expr, st: &State) -> Plan<'a>
+    requires form { view_expr e.now ≡ on_place span word (view_expr a.now) }
+    ensures means { (on_call : Calls) (m : Assignment) → LeadsFrom on_call m (view_state st.now) (inside (gives number (eval on_call m (view_expr e.now)))) result }
+    ensures fits { Fits 15 result }
+{
+    let mark = st.frame.temporaries.len();
+    let place = Task::PlaceOf(a.span().first, a);
+    match word {
+        PlaceCall::Lock => Plan::Goes(place, Rest::Place(a, WithPlace::Locks(span.first, mark))),
+        PlaceCall::Unlock => Plan::Goes(
+            place,
+            Rest::Place(a, WithPlace::Unlocks(span.first, mark)),
+        ),
+        PlaceCall::Free => Plan::Goes(place, Rest::Place(a, WithPlace::Frees(span, mark))),
+    }
+}
+
+fn unary_plan<'a>(
+    e: &'a Expr,
+    span: Span,
+    operator: UnaryOperator,
+    a: &'a Expr,
+    st: &State,
+) -> Plan<'a>
+    requires form { view_expr e.now ≡ unary span operator (view_expr a.now) }
+    ensures means { (on_call : Calls) (m : Assignment) → LeadsFrom on_call m (view_state st.now) (inside (gives number (eval on_call m (view_expr e.now)))) result }
+    ensures fits { Fits 15 result }
+{
+    let mark = st.frame.temporaries.len();
+    let value = Task::Eval(a);
+    match operator {
+        UnaryOperator::Negate => {
+            Plan::Goes(value, Rest::Value(a, WithValue::Negated(span.first)))
+        }
+        UnaryOperator::Not => Plan::Goes(value, Rest::Value(a, WithValue::Inverted)),
+        UnaryOperator::Complement => Plan::Goes(value, Rest::Value(a, WithValue::Complemented)),
+        UnaryOperator::Dereference => Plan::Goes(
+            Task::Pointee(span.first, a),
+            Rest::Place(e, WithPlace::Fetched(mark)),
+        ),
+    }
+}
+
+fn binary_plan<'a>(
+    m: &'a Moded,
+    e: &'a Expr,
+    site: Site,
+    operator: BinaryOperator,
+    left: &'a Expr,
+    right: &'a Expr,
+    st: &State,
+) -> Plan<'a>
+    requires form { (s : Span) × (view_expr e.now ≡ binary s operator site (view_expr left.now) (view_expr right.now)) }
+    ensures means { (on_call : Calls) → LeadsFrom on_call m.now (view_state st.now) (inside (gives number (eval on_call m.now (view_expr e.now)))) result }
+    ensures fits { Fits 15 result }
+{
+    let mark = st.frame.temporaries.len();
+    let value = Task::Eval(left);
+    match logic_of(operator) {
+        None => {
+            let operation = Operation {
+                width: width_of(kind_of(m, e)),
+                site,
+                operator,
+                mark,
+            };
+            Plan::Goes(
+                value,
+                Rest::Value(left, WithValue::LeftOperand(operation, right)),
+            )
+        }
+        Some(is_and) => {
+            if is_and {
+                Plan::Goes(value, Rest::Value(left, WithValue::AndLeft(right)))
+            } else {
+                Plan::Goes(value, Rest::Value(left, WithValue::OrLeft(right)))
+            }
+        }
+    }
+}
+
+fn eval_plan<'a>(m: &'a Moded, e: &'a Expr, st: &mut State) -> Result<Plan<'a>, End>
+    ensures means { (on_call : Calls) → Plans on_call m.now (view_state st.old) result (view_state st.new) (inside (gives number (eval on_call m.now (view_expr e.now)))) }
+    ensures fits { IfOk result (Fits 15) }
+    ensures fuel { st.new.fuel ≤ st.old.fuel }
+{
+    let mark = st.frame.temporaries.len();
+    match e {
+        Expr::Identifier(_, name) => {
+            done_number(named_value(m, e, name.site, name.site.token, st))
+        }
+        Expr::Constant(_, constant) => { Ok(Plan::Done(Value::Number(constant_value(constant)))) }
+        Expr::Parentheses(_, inner) => Ok(Plan::Goes(Task::Eval(inner), Rest::Same)),
+        Expr::Call(span, name, all) => Ok(Plan::Calls(Call {
+            site: span.first,
+            named: named(m, name.site.token),
+            name: name.text.as_slice(),
+            arguments: all.as_slice(),
+        })),
+        Expr::Spawn(span, name, a) => {
+            let a: &'a Expr = a;
+            let rest = WithValue::Spawned(span.first, named(m, name.site.token), mark);
+            Ok(Plan::Goes(Task::Eval(a), Rest::Value(a, rest)))
+        }
+        Expr::OnValue(span, word, a) => Ok(Plan::Goes(
+            Task::Eval(a),
+            Rest::Value(a, WithValue::Performs(span.first, *word)),
+        )),
+        Expr::OnPlace(span, word, a) => Ok(on_place_plan(e, *span, *word, a, st)),
+        Expr::Cast(span, _, a) => {
+            let a: &'a Expr = a;
+            let place = Task::PlaceOf(a.span().first, a);
+            Ok(Plan::Goes(place, Rest::Place(a, WithPlace::Casts(*span, mark))))
+        }
+        Expr::Index(span, a, i) => Ok(Plan::Goes(
+            Task::Index(span.first, a, i),
+            Rest::Place(e, WithPlace::Fetched(mark)),
+        )),
+        Expr::Field {
+            span,
+            base,
+            access,
+            name,
+        } => Ok(Plan::Goes(
+            Task::Field(span.first, base, *access, named(m, name.site.token)),
+            Rest::Place(e, WithPlace::Fetched(mark)),
+        )),
+        Expr::Unary(span, operator, a) => Ok(unary_plan(e, *span, *operator, a, st)),
+        Expr::Binary {
+            operator,
+            site,
+            left,
+            right,
+            ..
+        } => Ok(binary_plan(m, e, *site, *operator, left, right, st)),
+    }
+}
+
+/// The value of an expression.
+pub fn begin_eval<'a>(m: &'a Moded, e: &'a Expr, st: &mut State) -> Result<Plan<'a>, End>
+    ensures means { (on_call : Calls) → Plans on_call m.now (view_state st.old) result (view_state st.new) (gives number (eval on_call m.now (view_expr e.now))) }
+    ensures begins { IfOk result (Begins 1 1 st.old.fuel st.new.fuel) }
+{
+    match enter(st) {
+        Ok(()) => eval_plan(m, e, st),
+        Err(end) => Err(end),
+    }
+}
+
+fn unary_place_plan<'a>(site: Site, operator: UnaryOperator, a: &'a Expr) -> Plan<'a>
+    ensures means { (on_call : Calls) (m : Assignment) → Leads on_call m (gives place (unary_place m.typed site operator (view_expr a.now) (eval on_call m (view_expr a.now)))) result }
+    ensures fits { Fits 15 result }
+{
+    match operator {
+        UnaryOperator::Dereference => Plan::Goes(Task::Pointee(site, a), Rest::Same),
+        UnaryOperator::Negate => Plan::Done(Value::Place(Place::Variable(0))),
+        UnaryOperator::Not => Plan::Done(Value::Place(Place::Variable(0))),
+        UnaryOperator::Complement => Plan::Done(Value::Place(Place::Variable(0))),
+    }
+}
+
+fn place_plan<'a>(m: &'a Moded, site: Site, e: &'a Expr) -> Plan<'a>
+    ensures means { (on_call : Calls) → Leads on_call m.now (inside (gives place (place_of on_call m.now site (view_expr e.now)))) result }
+    ensures fits { Fits 15 result }
+{
+    match e {
+        Expr::Identifier(_, name) => {
+            Plan::Done(Value::Place(place_named(named(m, name.site.token))))
+        }
+        Expr::Parentheses(_, inner) => Plan::Goes(Task::PlaceOf(site, inner), Rest::Same),
+        Expr::Index(_, a, i) => Plan::Goes(Task::Index(site, a, i), Rest::Same),
+        Expr::Field {
+            base,
+            access,
+            name,
+            ..
+        } => Plan::Goes(
+            Task::Field(site, base, *access, named(m, name.site.token)),
+            Rest::Same,
+        ),
+        Expr::Unary(_, operator, a) => unary_place_plan(site, *operator, a),
+        Expr::Constant(_, _) => Plan::Done(Value::Place(Place::Variable(0))),
+        Expr::Call(_, _, _) => Plan::Done(Value::Place(Place::Variable(0))),
+        Expr::Spawn(_, _, _) => Plan::Done(Value::Place(Place::Variable(0))),
+        Expr::OnValue(_, _, _) => Plan::Done(Value::Place(Place::Variable(0))),
+        Expr::OnPlace(_, _, _) => Plan::Done(Value::Place(Place::Variable(0))),
+        Expr::Cast(_, _, _) => Plan::Done(Value::Place(Place::Variable(0))),
+        Expr::Binary { .. } => Plan::Done(Value::Place(Place::Variable(0))),
+    }
+}
+
+/// The place that an lvalue names.
+pub fn begin_place<'a>(
+    m: &'a Moded,
+    site: Site,
+    e: &'a Expr,
+    st: &mut State,
+) -> Result<Plan<'a>, End>
+    ensures means { (on_call : Calls) → Plans on_call m.now (view_state st.old) result (view_state st.new) (gives place (place_of on_call m.now site (view_expr e.now))) }
+    ensures begins { IfOk result (Begins 1 1 st.old.fuel st.new.fuel) }
+{
+    match enter(st) {
+        Ok(()) => Ok(place_plan(m, site, e)),
+        Err(end) => Err(end),
+    }
+}
+
+/// `a[i]`
+pub fn index_plan<'a>(m: &'a Moded, site: Site, a: &'a Expr, i: &'a Expr) -> Plan<'a>
+    ensures means { (on_call : Calls) → Leads on_call m.now (gives place (index_place m.now.typed site (view_expr a.now) (place_of on_call m.now site (view_expr a.now)) (eval on_call m.now (view_expr a.now)) (eval on_call m.now (view_expr i.now)))) result }
+    ensures starts { Starts 2 1 result }
+{
+    if is_array(kind_of(m, a)) {
+        Plan::Goes(
+            Task::PlaceOf(site, a),
+            Rest::Place(a, WithPlace::ArrayBase(site, i)),
+        )
+    } else {
+        Plan::Goes(
+            Task::Eval(a),
+            Rest::Value(a, WithValue::PointerBase(site, i)),
+        )
+    }
+}
+
+/// `a.n` and `a->n`
+pub fn field_plan<'a>(site: Site, a: &'a Expr, access: Access, named: Named) -> Plan<'a>
+    ensures means { (on_call : Calls) (m : Assignment) → Leads on_call m (gives place (field_place m.typed site (view_expr a.now) access named (place_of on_call m site (view_expr a.now)) (eval on_call m (view_expr a.now)))) result }
+    ensures starts { Starts 3 1 result }
+{
+    let rest = Rest::Place(a, WithPlace::FieldIn(named));
+    match access {
+        Access::Dot => Plan::Goes(Task::PlaceOf(site, a), rest),
+        Access::Arrow => Plan::Goes(Task::Pointee(site, a), rest),
+    }
+}
+
+/// `*a`
+pub fn pointee_plan<'a>(site: Site, a: &'a Expr) -> Plan<'a>
+    ensures means { (on_call : Calls) (m : Assignment) → Leads on_call m (gives place (pointee_place m.typed site (view_expr a.now) (eval on_call m (view_expr a.now)))) result }
+    ensures starts { Starts 2 1 result }
+{
+    Plan::Goes(Task::Eval(a), Rest::Value(a, WithValue::Based(site)))
+}

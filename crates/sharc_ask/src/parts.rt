@@ -1,0 +1,440 @@
+// What is done with a value, or at a place, once it is known: no other expression is looked at.
+
+ghost use Rattle.std.specs.Prelude.{◌≡◌, ◌≤◌, ℕ, ℤ, Bool, IfOk};
+ghost use Rattle.sharc_tree.specs.View.{view_expr};
+ghost use Rattle.sharc_names.specs.Kinds.{declared_kinds, declared_kind};
+ghost use Rattle.sharc_names.specs.View.{view_kind};
+ghost use Rattle.sharc_mode.specs.Sharings.{private};
+ghost use Rattle.sharc_meaning.specs.Expressions.{tested, operand, fitting, passed, value_called};
+ghost use Rattle.sharc_meaning.specs.Places.{variable, pointee_place, stored};
+ghost use Rattle.sharc_meaning.specs.State.{Run, Step, give};
+ghost use Rattle.sharc_meaning.specs.Statements.{Flow as LeftBy};
+ghost use Rattle.sharc_steps.specs.View.{Known, view_state, view_place, Does, DoesAs};
+ghost use Rattle.sharc_steps.specs.Width.{value_bits};
+ghost use Rattle.sharc_ask.specs.View.{view_flow};
+ghost use Rattle.sharc_ask.specs.Values.{number, test, flow, view_value, as_nothing, gives};
+ghost use Rattle.sharc_ask.specs.Plans.{ends_above, ends_block, zero_behind, next_behind, truth_with, inverted_with, returned_with, spawned_with, free_unless_null, joined_with, element_behind, element_in, assigned_to};
+
+use crate::endings::{end_temporaries, end_variables};
+use crate::plan::{Operation, Value, flow_in, number_in, test_in};
+use crate::values::{
+    Flow, based, cells_of, freed_unless_null, held, kind_of, let_go, number_named,
+    parameters_named, resulting, value_act,
+};
+use sharc_mode::cell::cell_of;
+use sharc_mode::moded::Moded;
+use sharc_mode::sharing::Sharing;
+use sharc_names::fault::Named;
+use sharc_names::kind::{Kind, declared_kind};
+use sharc_steps::arithmetic::{fits, is_zero, operated, truth};
+use sharc_steps::cells::{elements_of, number_of};
+use sharc_steps::places::{Place, element, element_of_array, pointee, stored};
+use sharc_steps::state::{End, State, ask_event, moves, perform, unless};
+use sharc_tree::event::{Act, Object};
+use sharc_tree::token::Site;
+use sharc_tree::tree::{Declaration, Expr, ValueCall};
+
+/// The temporaries behind the mark end, where a number came.
+pub fn end_above(answer: Result<i64, End>, mark: usize, st: &mut State) -> Result<i64, End>
+    ensures does { (before : Known) (run : Run ℤ) → Does before answer (view_state st.old) run → Does before result (view_state st.new) (ends_above mark run) }
+    ensures fuel { st.new.fuel ≤ st.old.fuel }
+    ensures kept { (n m : ℕ) → IfOk answer (λ _. n ≤ m) → IfOk result (λ _. n ≤ m) }
+{
+    match answer {
+        Ok(value) => match end_temporaries(mark, st) {
+            Ok(()) => Ok(value),
+            Err(_) => Err(End::Memory),
+        },
+        Err(end) => Err(end),
+    }
+}
+
+/// Likewise, of a step.
+pub fn end_step(answer: Result<(), End>, mark: usize, st: &mut State) -> Result<(), End>
+    ensures does { (before : Known) (run : Step) → Does before answer (view_state st.old) run → Does before result (view_state st.new) (ends_above mark run) }
+    ensures fuel { st.new.fuel ≤ st.old.fuel }
+    ensures kept { (n m : ℕ) → IfOk answer (λ _. n ≤ m) → IfOk result (λ _. n ≤ m) }
+{
+    match answer {
+        Ok(()) => match end_temporaries(mark, st) {
+            Ok(()) => Ok(()),
+            Err(_) => Err(End::Memory),
+        },
+        Err(end) => Err(end),
+    }
+}
+
+/// A step, and then 0.
+pub fn zero_behind(answer: Result<(), End>) -> Result<i64, End>
+    ensures does { (before after : Known) (run : Step) → Does before answer after run → Does before result after (zero_behind run) }
+    ensures kept { (n m : ℕ) → IfOk answer (λ _. n ≤ m) → IfOk result (λ _. n ≤ m) }
+{
+    match answer {
+        Ok(()) => Ok(0),
+        Err(end) => Err(end),
+    }
+}
+
+/// Whether a value is neither 0 nor NULL.
+pub fn tested_value(m: &Moded, e: &Expr, value: i64, st: &mut State) -> Result<bool, End>
+    ensures does { Does (view_state st.old) result (view_state st.new) (tested m.now.typed (view_expr e.now) (give value)) }
+    ensures fuel { st.new.fuel ≤ st.old.fuel }
+{
+    match let_go(m, e, value, st) {
+        Ok(()) => Ok(!is_zero(value)),
+        Err(end) => Err(end),
+    }
+}
+
+pub fn truth_of(m: &Moded, e: &Expr, value: i64, st: &mut State) -> Result<i64, End>
+    ensures does { Does (view_state st.old) result (view_state st.new) (truth_with m.now.typed (view_expr e.now) value) }
+    ensures fuel { st.new.fuel ≤ st.old.fuel }
+{
+    match tested_value(m, e, value, st) {
+        Ok(is_true) => Ok(truth(is_true)),
+        Err(end) => Err(end),
+    }
+}
+
+pub fn inverted(m: &Moded, e: &Expr, value: i64, st: &mut State) -> Result<i64, End>
+    ensures does { Does (view_state st.old) result (view_state st.new) (inverted_with m.now.typed (view_expr e.now) value) }
+    ensures fuel { st.new.fuel ≤ st.old.fuel }
+{
+    match tested_value(m, e, value, st) {
+        Ok(is_true) => Ok(truth(!is_true)),
+        Err(end) => Err(end),
+    }
+}
+
+/// A value that stands in a temporary.
+pub fn operand_value(m: &Moded, e: &Expr, value: i64, st: &mut State) -> Result<i64, End>
+    ensures does { Does (view_state st.old) result (view_state st.new) (operand m.now.typed (view_expr e.now) (give value)) }
+    ensures fuel { st.new.fuel ≤ st.old.fuel }
+{
+    match held(m, e, value, st) {
+        Ok(()) => Ok(value),
+        Err(end) => Err(end),
+    }
+}
+
+/// A value that what it goes to has to hold.
+pub fn fitted(kind: Kind<'_>, e: &Expr, value: i64, st: &State) -> Result<i64, End>
+    ensures { Does (view_state st.now) result (view_state st.now) (fitting (view_kind kind.entry) (view_expr e.now) (give value)) }
+{
+    match unless(fits(kind, value), 4, e.span().first, st) {
+        Ok(()) => Ok(value),
+        Err(end) => Err(end),
+    }
+}
+
+pub fn returned(kind: Kind<'_>, site: Site, e: &Expr, value: i64, st: &State) -> Result<Flow, End>
+    ensures { DoesAs view_flow (view_state st.now) result (view_state st.now) (returned_with (view_kind kind.entry) site (view_expr e.now) value) }
+{
+    match unless(fits(kind, value), 4, e.span().first, st) {
+        Ok(()) => Ok(Flow::Returned(site, value)),
+        Err(end) => Err(end),
+    }
+}
+
+fn fitted_operand(
+    m: &Moded,
+    kind: Kind<'_>,
+    e: &Expr,
+    value: i64,
+    st: &mut State,
+) -> Result<i64, End>
+    ensures does { Does (view_state st.old) result (view_state st.new) (operand m.now.typed (view_expr e.now) (fitting (view_kind kind.entry) (view_expr e.now) (give value))) }
+    ensures fuel { st.new.fuel ≤ st.old.fuel }
+{
+    match unless(fits(kind, value), 4, e.span().first, st) {
+        Ok(()) => operand_value(m, e, value, st),
+        Err(end) => Err(end),
+    }
+}
+
+/// An argument for the first of these parameters.
+pub fn passed_value(
+    m: &Moded,
+    parameters: &[Declaration],
+    e: &Expr,
+    value: i64,
+    st: &mut State,
+) -> Result<i64, End>
+    ensures does { Does (view_state st.old) result (view_state st.new) (passed m.now.typed (declared_kinds parameters.now) (view_expr e.now) (give value)) }
+    ensures fuel { st.new.fuel ≤ st.old.fuel }
+{
+    match parameters {
+        [] => operand_value(m, e, value, st),
+        [parameter, ..] => fitted_operand(m, declared_kind(&parameter.written), e, value, st),
+    }
+}
+
+fn spawned_value(
+    m: &Moded,
+    site: Site,
+    named: Named,
+    e: &Expr,
+    value: i64,
+    st: &mut State,
+) -> Result<i64, End>
+    ensures does { Does (view_state st.old) result (view_state st.new) (spawned_with m.now.typed site named (view_expr e.now) value) }
+    ensures fuel { st.new.fuel ≤ st.old.fuel }
+{
+    match passed_value(m, parameters_named(m, named), e, value, st) {
+        Ok(value) => match ask_event(site, Act::Spawn(number_named(named), value), st) {
+            Ok(thread) => match moves(kind_of(m, e), st) {
+                Ok(()) => Ok(thread),
+                Err(end) => Err(end),
+            },
+            Err(end) => Err(end),
+        },
+        Err(end) => Err(end),
+    }
+}
+
+/// A new thread gets the argument.
+pub fn spawned(
+    m: &Moded,
+    site: Site,
+    named: Named,
+    e: &Expr,
+    value: i64,
+    mark: usize,
+    st: &mut State,
+) -> Result<i64, End>
+    ensures does { Does (view_state st.old) result (view_state st.new) (ends_above mark (spawned_with m.now.typed site named (view_expr e.now) value)) }
+    ensures fuel { st.new.fuel ≤ st.old.fuel }
+{
+    end_above(spawned_value(m, site, named, e, value, st), mark, st)
+}
+
+/// `join` and `print`
+pub fn value_called(site: Site, word: ValueCall, value: i64, st: &mut State) -> Result<i64, End>
+    ensures does { Does (view_state st.old) result (view_state st.new) (value_called site word (give value)) }
+    ensures fuel { st.new.fuel ≤ st.old.fuel }
+{
+    zero_behind(perform(site, value_act(word, value), st))
+}
+
+/// `free` of what was taken.
+pub fn freed_with(site: Site, value: i64, st: &mut State) -> Result<i64, End>
+    ensures does { Does (view_state st.old) result (view_state st.new) (free_unless_null site value) }
+    ensures fuel { st.new.fuel ≤ st.old.fuel }
+{
+    zero_behind(freed_unless_null(site, value, st))
+}
+
+fn joined_value(
+    m: &Moded,
+    operation: Operation,
+    left: i64,
+    e: &Expr,
+    right: i64,
+    st: &mut State,
+) -> Result<i64, End>
+    ensures does { Does (view_state st.old) result (view_state st.new) (joined_with m.now.typed (value_bits operation.width) operation.site operation.operator (view_expr e.now) left (give right)) }
+    ensures fuel { st.new.fuel ≤ st.old.fuel }
+{
+    match operand_value(m, e, right, st) {
+        Ok(right) => resulting(
+            operation.site,
+            operated(operation.width, operation.operator, left, right),
+            st,
+        ),
+        Err(end) => Err(end),
+    }
+}
+
+/// An operator with the values of both operands, of which the right one is that of the expression.
+pub fn joined(
+    m: &Moded,
+    operation: Operation,
+    left: i64,
+    e: &Expr,
+    right: i64,
+    st: &mut State,
+) -> Result<i64, End>
+    ensures does { Does (view_state st.old) result (view_state st.new) (ends_above operation.mark (joined_with m.now.typed (value_bits operation.width) operation.site operation.operator (view_expr e.now) left (give right))) }
+    ensures fuel { st.new.fuel ≤ st.old.fuel }
+{
+    end_above(
+        joined_value(m, operation, left, e, right, st),
+        operation.mark,
+        st,
+    )
+}
+
+/// An element of a global array.
+pub fn element_in(
+    m: &Moded,
+    site: Site,
+    a: &Expr,
+    base: Place,
+    n: i64,
+    st: &State,
+) -> Result<Place, End>
+    ensures { DoesAs view_place (view_state st.now) result (view_state st.now) (element_in m.now.typed site (view_expr a.now) (view_place base) n) }
+{
+    element_of_array(m, site, cells_of(m, a), base, n, st)
+}
+
+/// An element behind a pointer.
+pub fn element_behind(
+    m: &Moded,
+    site: Site,
+    a: &Expr,
+    pointer: i64,
+    n: i64,
+    st: &State,
+) -> Result<Place, End>
+    ensures { DoesAs view_place (view_state st.now) result (view_state st.now) (element_behind m.now.typed site (view_expr a.now) pointer n) }
+{
+    element(
+        site,
+        Object::Made(number_of(pointer)),
+        cells_of(m, a),
+        elements_of(pointer),
+        n,
+        st,
+    )
+}
+
+/// The first element behind a pointer.
+pub fn first_behind(
+    m: &Moded,
+    site: Site,
+    a: &Expr,
+    pointer: i64,
+    st: &mut State,
+) -> Result<Place, End>
+    ensures does { DoesAs view_place (view_state st.old) result (view_state st.new) (pointee_place m.now.typed site (view_expr a.now) (give pointer)) }
+    ensures fuel { st.new.fuel ≤ st.old.fuel }
+{
+    match based(m, site, a, pointer, st) {
+        Ok(()) => Ok(pointee(pointer)),
+        Err(end) => Err(end),
+    }
+}
+
+/// A value goes to the place that an expression names.
+pub fn stored_at(
+    m: &Moded,
+    e: &Expr,
+    place: Place,
+    value: i64,
+    mark: usize,
+    st: &mut State,
+) -> Result<(), End>
+    ensures does { Does (view_state st.old) result (view_state st.new) (ends_above mark (assigned_to m.now (view_expr e.now) (view_place place) (give value))) }
+    ensures fuel { st.new.fuel ≤ st.old.fuel }
+{
+    let site = e.span().first;
+    end_step(
+        stored(m, site, kind_of(m, e), cell_of(m, e), place, value, st),
+        mark,
+        st,
+    )
+}
+
+/// A local gets its first value.
+pub fn initialised(
+    m: &Moded,
+    declaration: &Declaration,
+    value: i64,
+    st: &mut State,
+) -> Result<(), End>
+    ensures does { Does (view_state st.old) result (view_state st.new) (stored m.now.typed declaration.now.name.site (declared_kind declaration.now.written) private (variable declaration.now.name.site.token) value) }
+    ensures fuel { st.new.fuel ≤ st.old.fuel }
+{
+    let site = declaration.name.site;
+    stored(
+        m,
+        site,
+        declared_kind(&declaration.written),
+        Sharing::Private,
+        Place::Variable(site.token),
+        value,
+        st,
+    )
+}
+
+/// The variables behind the mark end with a block.
+pub fn end_block(answer: Result<Flow, End>, mark: usize, st: &mut State) -> Result<Flow, End>
+    ensures does { (before : Known) (run : Run LeftBy) → DoesAs view_flow before answer (view_state st.old) run → DoesAs view_flow before result (view_state st.new) (ends_block mark run) }
+    ensures fuel { st.new.fuel ≤ st.old.fuel }
+    ensures kept { (n m : ℕ) → IfOk answer (λ _. n ≤ m) → IfOk result (λ _. n ≤ m) }
+{
+    match answer {
+        Ok(flow) => match end_variables(mark, st) {
+            Ok(()) => Ok(flow),
+            Err(_) => Err(End::Memory),
+        },
+        Err(end) => Err(end),
+    }
+}
+
+/// A statement is done, and the next one follows.
+pub fn next_behind(answer: Result<Value, End>) -> Result<Flow, End>
+    ensures does { (before after : Known) (run : Step) → DoesAs view_value before answer after (gives as_nothing run) → DoesAs view_flow before result after (next_behind run) }
+    ensures kept { (n m : ℕ) → IfOk answer (λ _. n ≤ m) → IfOk result (λ _. n ≤ m) }
+{
+    match answer {
+        Ok(_) => Ok(Flow::Next),
+        Err(end) => Err(end),
+    }
+}
+
+/// How a statement is left.
+pub fn flow_behind(answer: Result<Value, End>) -> Result<Flow, End>
+    ensures does { (before after : Known) (run : Run LeftBy) → DoesAs view_value before answer after (gives flow run) → DoesAs view_flow before result after run }
+    ensures kept { (n m : ℕ) → IfOk answer (λ _. n ≤ m) → IfOk result (λ _. n ≤ m) }
+{
+    match answer {
+        Ok(value) => Ok(flow_in(value)),
+        Err(end) => Err(end),
+    }
+}
+
+/// The number that a task comes to.
+pub fn number_behind(answer: Result<Value, End>) -> Result<i64, End>
+    ensures does { (before after : Known) (run : Run ℤ) → DoesAs view_value before answer after (gives number run) → Does before result after run }
+    ensures kept { (n m : ℕ) → IfOk answer (λ _. n ≤ m) → IfOk result (λ _. n ≤ m) }
+{
+    match answer {
+        Ok(value) => Ok(number_in(value)),
+        Err(end) => Err(end),
+    }
+}
+
+/// The truth that a task comes to.
+pub fn test_behind(answer: Result<Value, End>) -> Result<bool, End>
+    ensures does { (before after : Known) (run : Run Bool) → DoesAs view_value before answer after (gives test run) → Does before result after run }
+    ensures kept { (n m : ℕ) → IfOk answer (λ _. n ≤ m) → IfOk result (λ _. n ≤ m) }
+{
+    match answer {
+        Ok(value) => Ok(test_in(value)),
+        Err(end) => Err(end),
+    }
+}
+
+/// A task that is a step.
+pub fn step_behind(answer: Result<Value, End>) -> Result<(), End>
+    ensures does { (before after : Known) (run : Step) → DoesAs view_value before answer after (gives as_nothing run) → Does before result after run }
+    ensures kept { (n m : ℕ) → IfOk answer (λ _. n ≤ m) → IfOk result (λ _. n ≤ m) }
+{
+    match answer {
+        Ok(_) => Ok(()),
+        Err(end) => Err(end),
+    }
+}
+
+/// A number as a value.
+pub fn numbered(answer: Result<i64, End>) -> Result<Value, End>
+    ensures does { (before after : Known) (run : Run ℤ) → Does before answer after run → DoesAs view_value before result after (gives number run) }
+    ensures kept { (n m : ℕ) → IfOk answer (λ _. n ≤ m) → IfOk result (λ _. n ≤ m) }
+{
+    match answer {
+        Ok(number) => Ok(Value::Number(number)),
+        Err(end) => Err(end),
+    }
+}

@@ -1,0 +1,194 @@
+// What is to be done next, and what with its value.
+
+ghost use Rattle.std.specs.Prelude.{◌≡◌};
+ghost use Rattle.sharc_steps.specs.View.{view_place};
+ghost use Rattle.sharc_ask.specs.View.{view_flow};
+ghost use Rattle.sharc_ask.specs.Values.{view_value, number_in, test_in, place_in, flow_in};
+
+use crate::values::Flow;
+use sharc_mode::sharing::Sharing;
+use sharc_names::fault::Named;
+use sharc_names::kind::Kind;
+use sharc_steps::arithmetic::Width;
+use sharc_steps::places::Place;
+use sharc_tree::token::{Site, Span};
+use sharc_tree::tree::{
+    Access, BinaryOperator, Declaration, Expr, ForFirst, Local, Right, Simple, Stmt, ValueCall,
+    WrittenType,
+};
+
+/// What a task comes to.
+#[derive(Clone, Copy)]
+pub enum Value {
+    Nothing,
+    Number(i64),
+    Truth(bool),
+    Place(Place),
+    Flow(Flow),
+}
+
+pub fn number_in(value: Value) -> i64
+    ensures { result ≡ number_in (view_value value) }
+{
+    match value {
+        Value::Number(number) => number,
+        Value::Nothing => 0,
+        Value::Truth(_) => 0,
+        Value::Place(_) => 0,
+        Value::Flow(_) => 0,
+    }
+}
+
+pub fn test_in(value: Value) -> bool
+    ensures { result ≡ test_in (view_value value) }
+{
+    match value {
+        Value::Truth(is_true) => is_true,
+        Value::Nothing => false,
+        Value::Number(_) => false,
+        Value::Place(_) => false,
+        Value::Flow(_) => false,
+    }
+}
+
+pub fn place_in(value: Value) -> Place
+    ensures { view_place result ≡ place_in (view_value value) }
+{
+    match value {
+        Value::Place(place) => place,
+        Value::Nothing => Place::Variable(0),
+        Value::Truth(_) => Place::Variable(0),
+        Value::Number(_) => Place::Variable(0),
+        Value::Flow(_) => Place::Variable(0),
+    }
+}
+
+pub fn flow_in(value: Value) -> Flow
+    ensures { view_flow result ≡ flow_in (view_value value) }
+{
+    match value {
+        Value::Flow(flow) => flow,
+        Value::Nothing => Flow::Next,
+        Value::Truth(_) => Flow::Next,
+        Value::Number(_) => Flow::Next,
+        Value::Place(_) => Flow::Next,
+    }
+}
+
+/// A loop in a function with a result of this type.
+#[derive(Clone, Copy)]
+pub struct Loop<'a> {
+    pub kind: Kind<'a>,
+    pub test: Option<&'a Expr>,
+    pub step: Option<&'a Simple>,
+    pub body: &'a Stmt,
+}
+
+/// What is to be done.
+#[derive(Clone, Copy)]
+pub enum Task<'a> {
+    /// The value of an expression.
+    Eval(&'a Expr),
+    /// Whether it is neither 0 nor NULL.
+    Test(&'a Expr),
+    /// An argument for the first of these parameters.
+    Argument(&'a [Declaration], &'a Expr),
+    /// The place that an lvalue names; its stops are placed at the site.
+    PlaceOf(Site, &'a Expr),
+    /// `a[i]`
+    Index(Site, &'a Expr, &'a Expr),
+    /// `*a`
+    Pointee(Site, &'a Expr),
+    /// `a.n` and `a->n`
+    Field(Site, &'a Expr, Access, Named),
+    /// What stands right of `=`, for this type and the mode of its target.
+    Right(Kind<'a>, Sharing<'a>, &'a Right),
+    Simple(&'a Simple),
+    Declare(&'a Local),
+    /// What stands first, and the test, in the head of a loop.
+    First(&'a ForFirst),
+    LoopTest(Option<&'a Expr>),
+    /// A `return` in a function with a result of this type.
+    Return(Kind<'a>, Site, &'a Option<Box<Expr>>),
+}
+
+/// An operator that looks at both operands. Temporaries behind the mark end with it.
+#[derive(Clone, Copy)]
+pub struct Operation {
+    pub width: Width,
+    pub site: Site,
+    pub operator: BinaryOperator,
+    pub mark: usize,
+}
+
+/// What goes on with the value of an expression.
+#[derive(Clone, Copy)]
+pub enum WithValue<'a> {
+    Tested,
+    Passed(&'a [Declaration]),
+    Spawned(Site, Named, usize),
+    Performs(Site, ValueCall),
+    Negated(Site),
+    Inverted,
+    Complemented,
+    AndLeft(&'a Expr),
+    OrLeft(&'a Expr),
+    TruthOf,
+    LeftOperand(Operation, &'a Expr),
+    RightOperand(Operation, i64),
+    Fitted(Kind<'a>),
+    Made(Site, Sharing<'a>, &'a WrittenType),
+    PointerBase(Site, &'a Expr),
+    Based(Site),
+    Dropped,
+    Returns(Kind<'a>, Site),
+}
+
+/// What goes on with the place that an expression names, or that of what it is read from.
+#[derive(Clone, Copy)]
+pub enum WithPlace<'a> {
+    Locks(Site, usize),
+    Unlocks(Site, usize),
+    Frees(Span, usize),
+    Casts(Span, usize),
+    Fetched(usize),
+    ArrayBase(Site, &'a Expr),
+    FieldIn(Named),
+    Assigned(&'a Right, usize),
+}
+
+/// What goes on with an index or with a value that goes somewhere.
+#[derive(Clone, Copy)]
+pub enum WithNumber<'a> {
+    ArrayElement(Site, &'a Expr, Place),
+    PointerElement(Site, &'a Expr, i64),
+    Stored(&'a Expr, Place, usize),
+    Initialised(&'a Declaration),
+}
+
+/// What goes on with the value of a task.
+#[derive(Clone, Copy)]
+pub enum Rest<'a> {
+    /// It is the value of the whole.
+    Same,
+    Value(&'a Expr, WithValue<'a>),
+    Place(&'a Expr, WithPlace<'a>),
+    Number(WithNumber<'a>),
+}
+
+/// A call of what a name names.
+#[derive(Clone, Copy)]
+pub struct Call<'a> {
+    pub site: Site,
+    pub named: Named,
+    pub name: &'a [u8],
+    pub arguments: &'a [Expr],
+}
+
+/// How it goes on: with this value it is done; or with a task, and then with what is made of its value; or with a call.
+#[derive(Clone, Copy)]
+pub enum Plan<'a> {
+    Done(Value),
+    Goes(Task<'a>, Rest<'a>),
+    Calls(Call<'a>),
+}

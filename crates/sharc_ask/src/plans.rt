@@ -1,0 +1,94 @@
+// Plans of steps that are done.
+
+ghost use Rattle.std.specs.Prelude.{ℕ, ℤ, Bool, IfOk};
+ghost use Rattle.sharc_mode.specs.Moded.{Assignment};
+ghost use Rattle.sharc_meaning.specs.Expressions.{Calls};
+ghost use Rattle.sharc_meaning.specs.Places.{Place as NamedPlace};
+ghost use Rattle.sharc_meaning.specs.State.{Run, Step};
+ghost use Rattle.sharc_meaning.specs.Statements.{Flow as LeftBy};
+ghost use Rattle.sharc_steps.specs.View.{Known, Does, DoesAs, view_place};
+ghost use Rattle.sharc_ask.specs.View.{view_flow};
+ghost use Rattle.sharc_ask.specs.Values.{number, test, place, flow, gives, as_nothing};
+ghost use Rattle.sharc_ask.specs.Plans.{step_then, test_then, plan_means, Plans, Fits};
+
+use crate::plan::{Plan, Value};
+use crate::values::Flow;
+use sharc_steps::places::Place;
+use sharc_steps::state::End;
+
+/// A number came.
+pub fn done_number<'a>(answer: Result<i64, End>) -> Result<Plan<'a>, End>
+    ensures means { (on_call : Calls) (m : Assignment) (before after : Known) (run : Run ℤ) → Does before answer after run → Plans on_call m before result after (gives number run) }
+    ensures fits { IfOk result (Fits 0) }
+{
+    match answer {
+        Ok(number) => Ok(Plan::Done(Value::Number(number))),
+        Err(end) => Err(end),
+    }
+}
+
+/// A place came.
+pub fn done_place<'a>(answer: Result<Place, End>) -> Result<Plan<'a>, End>
+    ensures means { (on_call : Calls) (m : Assignment) (before after : Known) (run : Run NamedPlace) → DoesAs view_place before answer after run → Plans on_call m before result after (gives place run) }
+    ensures fits { IfOk result (Fits 0) }
+{
+    match answer {
+        Ok(place) => Ok(Plan::Done(Value::Place(place))),
+        Err(end) => Err(end),
+    }
+}
+
+/// A test was made.
+pub fn done_test<'a>(answer: Result<bool, End>) -> Result<Plan<'a>, End>
+    ensures means { (on_call : Calls) (m : Assignment) (before after : Known) (run : Run Bool) → Does before answer after run → Plans on_call m before result after (gives test run) }
+    ensures fits { IfOk result (Fits 0) }
+{
+    match answer {
+        Ok(is_true) => Ok(Plan::Done(Value::Truth(is_true))),
+        Err(end) => Err(end),
+    }
+}
+
+/// A statement was left.
+pub fn done_flow<'a>(answer: Result<Flow, End>) -> Result<Plan<'a>, End>
+    ensures means { (on_call : Calls) (m : Assignment) (before after : Known) (run : Run LeftBy) → DoesAs view_flow before answer after run → Plans on_call m before result after (gives flow run) }
+    ensures fits { IfOk result (Fits 0) }
+{
+    match answer {
+        Ok(flow) => Ok(Plan::Done(Value::Flow(flow))),
+        Err(end) => Err(end),
+    }
+}
+
+/// A step was done.
+pub fn done_step<'a>(answer: Result<(), End>) -> Result<Plan<'a>, End>
+    ensures means { (on_call : Calls) (m : Assignment) (before after : Known) (run : Step) → Does before answer after run → Plans on_call m before result after (gives as_nothing run) }
+    ensures fits { IfOk result (Fits 0) }
+{
+    match answer {
+        Ok(()) => Ok(Plan::Done(Value::Nothing)),
+        Err(end) => Err(end),
+    }
+}
+
+/// A step was done, and it goes on.
+pub fn then<'a>(answer: Result<(), End>, plan: Plan<'a>) -> Result<Plan<'a>, End>
+    ensures means { (on_call : Calls) (m : Assignment) (before after : Known) (run : Step) → Does before answer after run → Plans on_call m before result after (step_then run (plan_means on_call m plan.entry)) }
+    ensures fits { (n : ℕ) → Fits n plan.entry → IfOk result (Fits n) }
+{
+    match answer {
+        Ok(()) => Ok(plan),
+        Err(end) => Err(end),
+    }
+}
+
+/// A test was made, and it goes on by its truth.
+pub fn by_truth<'a>(answer: Result<bool, End>, yes: Plan<'a>, no: Plan<'a>) -> Result<Plan<'a>, End>
+    ensures means { (on_call : Calls) (m : Assignment) (before after : Known) (run : Run Bool) → Does before answer after run → Plans on_call m before result after (test_then run (plan_means on_call m yes.entry) (plan_means on_call m no.entry)) }
+    ensures fits { (n : ℕ) → Fits n yes.entry → Fits n no.entry → IfOk result (Fits n) }
+{
+    match answer {
+        Ok(is_true) => { if is_true { Ok(yes) } else { Ok(no) } }
+        Err(end) => Err(end),
+    }
+}

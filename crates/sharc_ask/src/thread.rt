@@ -1,0 +1,99 @@
+// What a thread of a function asks for.
+
+ghost use Rattle.std.specs.Prelude.{◌≡◌, ◌≤◌, IfOk};
+ghost use Rattle.sharc_ctype.specs.Resolved.{function_at};
+ghost use Rattle.sharc_meaning.specs.Meaning.{asks, goes_away, run_thread};
+ghost use Rattle.sharc_steps.specs.View.{view_state, Does};
+ghost use Rattle.sharc_ask.specs.View.{leaves, Tells};
+
+use crate::asked::{Asked, Outcome};
+use crate::frames::held_by;
+use crate::walk::run_function;
+use sharc_mode::moded::Moded;
+use sharc_steps::state::{End, Frame, State, perform, unless};
+use sharc_tree::event::Act;
+use sharc_tree::listed::Listed;
+use sharc_tree::token::Site;
+use std::alloc::{AllocError, Global};
+
+fn leaves(name: Site, st: &mut State) -> Result<(), End>
+    ensures { Does (view_state st.old) result (view_state st.new) (leaves name) }
+{
+    match perform(name, Act::Return, st) {
+        Ok(()) => perform(name, Act::Gone, st),
+        Err(end) => Err(end),
+    }
+}
+
+/// A thread returns where it holds no mutex, and is then gone.
+fn goes_away(name: Site, site: Site, st: &mut State) -> Result<(), End>
+    ensures { Does (view_state st.old) result (view_state st.new) (goes_away name site) }
+{
+    let free = st.held.is_empty();
+    match unless(free, 11, site, st) {
+        Ok(()) => leaves(name, st),
+        Err(end) => Err(end),
+    }
+}
+
+fn run_thread(m: &Moded, number: u32, argument: i64, st: &mut State) -> Result<(), End>
+    ensures { Does (view_state st.old) result (view_state st.new) (run_thread m.now (function_at m.now.typed number) argument) }
+{
+    match m.typed().function_at(number) {
+        None => Ok(()),
+        Some(function) => match run_function(m, 255, function, &[argument], st) {
+            Ok(left) => goes_away(function.name.site, left.0, st),
+            Err(end) => Err(end),
+        },
+    }
+}
+
+/// What a thread of the function with this number asks for, given its argument and the answers of its events, with so much fuel. A thread of a function
+/// that there is not asks for nothing and is over. Its only fault is want of memory.
+pub fn ask(
+    alloc: Global,
+    m: &Moded,
+    function: u32,
+    argument: i64,
+    answers: &[i64],
+    fuel: u64,
+) -> Result<Asked, AllocError>
+    ensures { IfOk result (λ a. Tells a (asks m.now function argument answers.now fuel)) }
+{
+    let frame = Frame {
+        variables: Vec::new(alloc),
+        temporaries: Vec::new(alloc),
+    };
+    let mut st = State {
+        alloc,
+        frame,
+        below: Vec::new(alloc),
+        answers,
+        events: Vec::new(alloc),
+        held: Vec::new(alloc),
+        fuel,
+        given_up: Vec::new(alloc),
+    };
+    match run_thread(m, function, argument, &mut st) {
+        Ok(()) => Ok(told(st, Outcome::Ended)),
+        Err(End::Memory) => Err(AllocError),
+        Err(End::Stopped(code, site)) => Ok(told(st, Outcome::StoppedX(code, site))),
+        Err(End::Spent) => Ok(told(st, Outcome::Fuel)),
+        Err(End::Wants(event)) => match held_by(alloc, st.below.as_slice(), &st.frame) {
+            None => Err(AllocError),
+            Some(held) => Ok(told(st, Outcome::Wants(event, Listed::of(held)))),
+        },
+    }
+}
+
+fn told(st: State, outcome: Outcome) -> Asked
+    ensures events { result.events ≡ st.entry.events.items }
+    ensures outcome { result.outcome ≡ outcome }
+    ensures given_up { result.given_up ≡ st.entry.given_up.items }
+{
+    Asked {
+        events: Listed::of(st.events),
+        outcome,
+        given_up: Listed::of(st.given_up),
+    }
+}

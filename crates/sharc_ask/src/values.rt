@@ -1,0 +1,294 @@
+// What is done with values beside the walk: nothing here looks at an expression or a statement within another.
+
+ghost use Rattle.std.specs.Prelude.{◌≡◌, ◌≤◌, ◌<◌, ◌-◌, drop, [], ◌∷◌, IfSome, Some, if◌then◌else◌};
+ghost use Rattle.sharc_tree.specs.Spans.{span_of};
+ghost use Rattle.sharc_tree.specs.View.{view_expr, view_option, view_simple};
+ghost use Rattle.sharc_names.specs.Kinds.{declared_kinds, element_kind};
+ghost use Rattle.sharc_names.specs.View.{view_kind};
+ghost use Rattle.sharc_ctype.specs.Resolved.{named_at, kind_at};
+ghost use Rattle.sharc_ctype.specs.Transfers.{parameters_named};
+ghost use Rattle.sharc_mode.specs.Cells.{cell_at, pointed};
+ghost use Rattle.sharc_mode.specs.Rows.{cast_row};
+ghost use Rattle.sharc_mode.specs.View.{view_sharing};
+ghost use Rattle.sharc_meaning.specs.Cells.{element_cells};
+ghost use Rattle.sharc_meaning.specs.Places.{based, freed, cast_to};
+ghost use Rattle.sharc_meaning.specs.Expressions.{resulting, named_value, number_named, value_act};
+ghost use Rattle.sharc_meaning.specs.Reference.{is_null, constant_value};
+ghost use Rattle.sharc_meaning.specs.State.{give, done, drops, holds};
+ghost use Rattle.sharc_meaning.specs.Statements.{left_by};
+ghost use Rattle.sharc_steps.specs.View.{view_state, view_place, Does};
+ghost use Rattle.sharc_ask.specs.View.{view_flow, view_test, view_step, logic_of, made, place_fetched};
+
+use sharc_mode::cell::{cell_of, pointed};
+use sharc_mode::moded::Moded;
+use sharc_mode::row::cast_row;
+use sharc_mode::sharing::Sharing;
+use sharc_names::fault::Named;
+use sharc_names::kind::{Kind, declared_kind, element_kind};
+use sharc_steps::arithmetic::{is_positive, is_zero};
+use sharc_steps::cells::{element_cells, instance_mode};
+use sharc_steps::places::{Place, base, cast_to, element, fetched, freed};
+use sharc_steps::state::{End, State, ask_event, dropped, hold, unless, value_in};
+use sharc_tree::event::{Act, Object};
+use sharc_tree::token::{Site, Span};
+use sharc_tree::tree::{
+    BinaryOperator, Constant, Declaration, Expr, ForHead, Jump, Simple, ValueCall, WrittenType,
+};
+use std::alloc::Global;
+
+/// How a statement is left.
+#[derive(Clone, Copy, Drop)]
+pub enum Flow {
+    Next,
+    Broken,
+    Continued,
+    Returned(Site, i64),
+}
+
+pub fn kind_of<'a>(m: &'a Moded, e: &'a Expr) -> Kind<'a>
+    ensures { view_kind result ≡ kind_at m.now.typed (view_expr e.now) }
+{
+    m.typed().kind_at(e)
+}
+
+pub fn named(m: &Moded, token: u32) -> Named
+    ensures { result ≡ named_at m.now.typed token }
+{
+    m.typed().named(token)
+}
+
+// The cells of an element behind an expression.
+pub fn cells_of(m: &Moded, e: &Expr) -> u64
+    ensures { result ≡ element_cells m.now.typed (element_kind (kind_at m.now.typed (view_expr e.now))) }
+{
+    element_cells(m.typed(), element_kind(m.typed().kind_at(e)))
+}
+
+pub fn number_named(named: Named) -> u32
+    ensures { result ≡ number_named named }
+{
+    match named {
+        Named::Function(number) => number,
+        _ => 0,
+    }
+}
+
+pub fn parameters_named(m: &Moded, named: Named) -> &[Declaration]
+    ensures { result.now ≡ parameters_named m.now.typed named }
+{
+    match named {
+        Named::Function(number) => match m.typed().function_at(number) {
+            None => &[],
+            Some(function) => function.parameters.as_slice(),
+        },
+        Named::Struct(_) => &[],
+        Named::Global(_) => &[],
+        Named::Variable(_) => &[],
+        Named::Field(_) => &[],
+        Named::Known => &[],
+    }
+}
+
+pub fn rest_of(parameters: &[Declaration]) -> &[Declaration]
+    ensures { declared_kinds result.now ≡ drop 1 (declared_kinds parameters.now) }
+{
+    match parameters {
+        [] => &[],
+        [_, rest @ ..] => rest,
+    }
+}
+
+// A value that a temporary holds, if it is a pointer.
+pub fn held(m: &Moded, e: &Expr, value: i64, st: &mut State) -> Result<(), End>
+    ensures does { Does (view_state st.old) result (view_state st.new) (holds (kind_at m.now.typed (view_expr e.now)) value) }
+    ensures fuel { st.new.fuel ≤ st.old.fuel }
+{
+    hold(kind_of(m, e), value, st)
+}
+
+pub fn let_go(m: &Moded, e: &Expr, value: i64, st: &mut State) -> Result<(), End>
+    ensures does { Does (view_state st.old) result (view_state st.new) (drops (kind_at m.now.typed (view_expr e.now)) value) }
+    ensures fuel { st.new.fuel ≤ st.old.fuel }
+{
+    dropped(kind_of(m, e), value, st)
+}
+
+pub fn based(m: &Moded, site: Site, e: &Expr, pointer: i64, st: &mut State) -> Result<(), End>
+    ensures does { Does (view_state st.old) result (view_state st.new) (based site (kind_at m.now.typed (view_expr e.now)) pointer) }
+    ensures fuel { st.new.fuel ≤ st.old.fuel }
+{
+    base(site, kind_of(m, e), pointer, st)
+}
+
+pub fn resulting(site: Site, value: Result<i64, u8>, st: &State) -> Result<i64, End>
+    ensures { Does (view_state st.now) result (view_state st.now) (resulting site value) }
+{
+    match value {
+        Ok(value) => Ok(value),
+        Err(code) => Err(End::Stopped(code, site)),
+    }
+}
+
+// The value in the place that an expression names.
+pub fn place_fetched(m: &Moded, e: &Expr, place: Place, st: &mut State) -> Result<i64, End>
+    ensures does { Does (view_state st.old) result (view_state st.new) (place_fetched m.now (view_expr e.now) (view_place place)) }
+    ensures fuel { st.new.fuel ≤ st.old.fuel }
+{
+    fetched(m, e.span().first, cell_of(m, e), place, st)
+}
+
+pub fn named_value(m: &Moded, e: &Expr, site: Site, token: u32, st: &mut State) -> Result<i64, End>
+    ensures does { Does (view_state st.old) result (view_state st.new) (named_value m.now.typed (cell_at m.now (view_expr e.now)) site (named_at m.now.typed token)) }
+    ensures fuel { st.new.fuel ≤ st.old.fuel }
+{
+    match named(m, token) {
+        Named::Variable(token) => Ok(value_in(st.frame.variables.as_slice(), token)),
+        Named::Global(number) => fetched(
+            m,
+            site,
+            cell_of(m, e),
+            Place::Cell(Object::Global(number), 0, 0),
+            st,
+        ),
+        Named::Struct(_) => Ok(0),
+        Named::Function(_) => Ok(0),
+        Named::Field(_) => Ok(0),
+        Named::Known => Ok(0),
+    }
+}
+
+pub fn constant_value(constant: &Constant) -> i64
+    ensures { result ≡ constant_value constant.now }
+{
+    match constant {
+        Constant::Number(number) => number.value,
+        Constant::Character(byte) => i64::from(*byte),
+        Constant::Null => 0,
+    }
+}
+
+pub fn with_first(value: i64, values: Vec<i64>) -> Option<Vec<i64>>
+    ensures { IfSome result (λ v. v.items ≡ value ∷ values.items) }
+{
+    let mut all = values;
+    match all.insert(0, value) {
+        Ok(()) => Some(all),
+        Err(_) => None,
+    }
+}
+
+pub fn value_act(word: ValueCall, value: i64) -> Act
+    ensures { result ≡ value_act word value }
+{
+    match word {
+        ValueCall::Join => Act::Join(value),
+        ValueCall::Print => Act::Print(value),
+    }
+}
+
+pub fn freed_unless_null(site: Site, value: i64, st: &mut State) -> Result<(), End>
+    ensures does { Does (view_state st.old) result (view_state st.new) (if is_null value then done else freed site value) }
+    ensures fuel { st.new.fuel ≤ st.old.fuel }
+{
+    if is_zero(value) {
+        Ok(())
+    } else {
+        freed(site, value, st)
+    }
+}
+
+pub fn cast_unless_null(
+    m: &Moded,
+    span: Span,
+    e: &Expr,
+    value: i64,
+    st: &mut State,
+) -> Result<i64, End>
+    ensures does { Does (view_state st.old) result (view_state st.new) (if is_null value then give value else cast_to m.now.typed (span_of (view_expr e.now)).first (pointed m.now (Some (cast_row m.now.typed span))) value) }
+    ensures fuel { st.new.fuel ≤ st.old.fuel }
+{
+    if is_zero(value) {
+        Ok(value)
+    } else {
+        cast_to(
+            m,
+            e.span().first,
+            pointed(m, Some(cast_row(m.typed(), span))),
+            value,
+            st,
+        )
+    }
+}
+
+pub fn logic_of(operator: BinaryOperator) -> Option<bool>
+    ensures { result ≡ logic_of operator }
+{
+    match operator {
+        BinaryOperator::LogicalAnd => Some(true),
+        BinaryOperator::LogicalOr => Some(false),
+        BinaryOperator::BitOr => None,
+        BinaryOperator::BitXor => None,
+        BinaryOperator::BitAnd => None,
+        BinaryOperator::Equal => None,
+        BinaryOperator::NotEqual => None,
+        BinaryOperator::Less => None,
+        BinaryOperator::Greater => None,
+        BinaryOperator::LessOrEqual => None,
+        BinaryOperator::GreaterOrEqual => None,
+        BinaryOperator::ShiftLeft => None,
+        BinaryOperator::ShiftRight => None,
+        BinaryOperator::Add => None,
+        BinaryOperator::Subtract => None,
+        BinaryOperator::Multiply => None,
+        BinaryOperator::Divide => None,
+        BinaryOperator::Remainder => None,
+    }
+}
+
+pub fn made(
+    m: &Moded,
+    site: Site,
+    target: Sharing<'_>,
+    elements: i64,
+    written: &WrittenType,
+    st: &mut State,
+) -> Result<i64, End>
+    ensures does { Does (view_state st.old) result (view_state st.new) (made m.now.typed site (view_sharing target.entry) elements written.now) }
+    ensures fuel { st.new.fuel ≤ st.old.fuel }
+{
+    match unless(is_positive(elements), 12, site, st) {
+        Ok(()) => {
+            let cells = element_cells(m.typed(), declared_kind(written));
+            let mode = instance_mode(m.typed(), st.frame.variables.as_slice(), target);
+            ask_event(site, Act::New(cells, elements.unsigned_abs(), mode), st)
+        }
+        Err(end) => Err(end),
+    }
+}
+
+pub fn test_of(head: &ForHead) -> Option<&Expr>
+    ensures { view_test result ≡ view_option view_expr head.now.test }
+{
+    match &head.test {
+        None => None,
+        Some(test) => Some(test),
+    }
+}
+
+pub fn step_of(head: &ForHead) -> Option<&Simple>
+    ensures { view_step result ≡ view_option view_simple head.now.step }
+{
+    match &head.step {
+        None => None,
+        Some(step) => Some(step),
+    }
+}
+
+pub fn left_by(jump: Jump) -> Flow
+    ensures { view_flow result ≡ left_by jump }
+{
+    match jump {
+        Jump::Break => Flow::Broken,
+        Jump::Continue => Flow::Continued,
+    }
+}

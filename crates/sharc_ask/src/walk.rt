@@ -1,0 +1,473 @@
+// What a thread does on its way: tasks, one after the other, and calls.
+
+ghost use Rattle.std.specs.Prelude.{◌≡◌, ◌≤◌, ◌+◌, IfOk};
+ghost use Rattle.sharc_tree.specs.View.{view_expr, view_arguments, view_simple, view_first, view_stmt, view_statements, view_function};
+ghost use Rattle.sharc_names.specs.Kinds.{declared_kinds};
+ghost use Rattle.sharc_names.specs.View.{view_kind};
+ghost use Rattle.sharc_meaning.specs.Expressions.{Calls, tested, called, passed, eval, eval_all};
+ghost use Rattle.sharc_meaning.specs.Meaning.{run_function, calls};
+ghost use Rattle.sharc_meaning.specs.State.{in_block, entered};
+ghost use Rattle.sharc_meaning.specs.Statements.{done_simple, turns, exec, exec_all};
+ghost use Rattle.sharc_steps.specs.View.{view_state, Does, DoesAs};
+ghost use Rattle.sharc_ask.specs.View.{view_flow, view_otherwise, calling, loop_test, loop_step, loop_body, next_turns, turn, for_loop, choice, body_block};
+ghost use Rattle.sharc_ask.specs.Values.{view_value};
+ghost use Rattle.sharc_ask.specs.Plans.{task_means, plan_means, plan_cost, Plans, Begins, Sound, cost, rank};
+
+use crate::endings::end_variables;
+use crate::expressions::{begin_eval, begin_place, field_plan, index_plan, pointee_plan};
+use crate::frames::{begin_parameters, left_at, pointers_passed, push_frame};
+use crate::parts::{
+    end_above, end_block, flow_behind, next_behind, number_behind, numbered, step_behind,
+    test_behind, zero_behind,
+};
+use crate::plan::{Call, Loop, Plan, Rest, Task, Value, WithValue};
+use crate::rests::resume;
+use crate::statements::{
+    begin_first, begin_local, begin_right, return_plan, simple_plan, test_plan,
+};
+use crate::values::{Flow, left_by, parameters_named, rest_of, step_of, test_of, with_first};
+use sharc_mode::moded::Moded;
+use sharc_names::fault::Named;
+use sharc_names::kind::{Kind, declared_kind};
+use sharc_steps::state::{End, State, enter};
+use sharc_steps::waiting::condition_call;
+use sharc_tree::token::Site;
+use sharc_tree::tree::{Declaration, Expr, ForFirst, FunctionDefinition, Simple, Stmt};
+
+fn begin<'a>(m: &'a Moded, task: Task<'a>, st: &mut State) -> Result<Plan<'a>, End>
+    ensures means { (on_call : Calls) → Plans on_call m.now (view_state st.old) result (view_state st.new) (task_means on_call m.now task.entry) }
+    ensures begins { IfOk result (Begins (rank task.entry) (cost task.entry) st.old.fuel st.new.fuel) }
+{
+    match task {
+        Task::Eval(e) => begin_eval(m, e, st),
+        Task::Test(e) => Ok(Plan::Goes(Task::Eval(e), Rest::Value(e, WithValue::Tested))),
+        Task::Argument(parameters, e) => Ok(Plan::Goes(
+            Task::Eval(e),
+            Rest::Value(e, WithValue::Passed(parameters)),
+        )),
+        Task::PlaceOf(site, e) => begin_place(m, site, e, st),
+        Task::Index(site, a, i) => Ok(index_plan(m, site, a, i)),
+        Task::Pointee(site, a) => Ok(pointee_plan(site, a)),
+        Task::Field(site, a, access, named) => Ok(field_plan(site, a, access, named)),
+        Task::Right(kind, target, right) => begin_right(m, kind, target, right, st),
+        Task::Simple(simple) => Ok(simple_plan(simple, st)),
+        Task::Declare(local) => begin_local(m, local, st),
+        Task::First(first) => begin_first(first, st),
+        Task::LoopTest(test) => Ok(test_plan(test)),
+        Task::Return(kind, site, value) => Ok(return_plan(kind, site, value)),
+    }
+}
+
+#[cycle(walk)]
+fn run<'a>(m: &'a Moded, frames: u32, plan: Plan<'a>, st: &mut State) -> Result<Value, End>
+    requires { Sound plan }
+    ensures does { DoesAs view_value (view_state st.old) result (view_state st.new) (plan_means (calls m.now frames) m.now plan.entry) }
+    ensures fuel { IfOk result (λ _. st.new.fuel + plan_cost plan.entry ≤ st.old.fuel) }
+{
+    match plan {
+        Plan::Done(value) => Ok(value),
+        Plan::Calls(call) => numbered(calling(m, frames, call, st)),
+        Plan::Goes(task, rest) => match begin(m, task, st) {
+            Ok(first) => match run(m, frames, first, st) {
+                Ok(value) => match resume(m, rest, value, st) {
+                    Ok(later) => run(m, frames, later, st),
+                    Err(end) => Err(end),
+                },
+                Err(end) => Err(end),
+            },
+            Err(end) => Err(end),
+        },
+    }
+}
+
+// A task alone.
+#[cycle(walk)]
+fn alone<'a>(m: &'a Moded, frames: u32, task: Task<'a>, st: &mut State) -> Result<Value, End>
+    ensures does { DoesAs view_value (view_state st.old) result (view_state st.new) (task_means (calls m.now frames) m.now task.entry) }
+    ensures fuel { IfOk result (λ _. st.new.fuel + cost task.entry ≤ st.old.fuel) }
+{
+    run(m, frames, Plan::Goes(task, Rest::Same), st)
+}
+
+#[cycle(walk)]
+fn argument<'a>(
+    m: &'a Moded,
+    frames: u32,
+    parameters: &'a [Declaration],
+    e: &'a Expr,
+    st: &mut State,
+) -> Result<i64, End>
+    ensures does { Does (view_state st.old) result (view_state st.new) (passed m.now.typed (declared_kinds parameters.now) (view_expr e.now) (eval (calls m.now frames) m.now (view_expr e.now))) }
+    ensures fuel { IfOk result (λ _. st.new.fuel + 1 ≤ st.old.fuel) }
+{
+    number_behind(alone(m, frames, Task::Argument(parameters, e), st))
+}
+
+#[cycle(walk)]
+fn tested<'a>(m: &'a Moded, frames: u32, e: &'a Expr, st: &mut State) -> Result<bool, End>
+    ensures does { Does (view_state st.old) result (view_state st.new) (tested m.now.typed (view_expr e.now) (eval (calls m.now frames) m.now (view_expr e.now))) }
+    ensures fuel { IfOk result (λ _. st.new.fuel + 1 ≤ st.old.fuel) }
+{
+    test_behind(alone(m, frames, Task::Test(e), st))
+}
+
+#[cycle(walk)]
+fn simple<'a>(m: &'a Moded, frames: u32, simple: &'a Simple, st: &mut State) -> Result<(), End>
+    ensures does { Does (view_state st.old) result (view_state st.new) (done_simple (calls m.now frames) m.now (view_simple simple.now)) }
+    ensures fuel { IfOk result (λ _. st.new.fuel ≤ st.old.fuel) }
+{
+    step_behind(alone(m, frames, Task::Simple(simple), st))
+}
+
+#[cycle(walk)]
+fn arguments<'a>(
+    m: &'a Moded,
+    frames: u32,
+    parameters: &'a [Declaration],
+    all: &'a [Expr],
+    st: &mut State,
+) -> Result<Vec<i64>, End>
+    ensures does { DoesAs (λ v. v.items) (view_state st.old) result (view_state st.new) (eval_all (calls m.now frames) m.now (declared_kinds parameters.now) (view_arguments all.now)) }
+    ensures fuel { IfOk result (λ _. st.new.fuel ≤ st.old.fuel) }
+{
+    match all {
+        [] => Ok(Vec::new(st.alloc)),
+        [first, rest @ ..] => match argument(m, frames, parameters, first, st) {
+            Ok(value) => match arguments(m, frames, rest_of(parameters), rest, st) {
+                Ok(values) => match with_first(value, values) {
+                    Some(all) => Ok(all),
+                    None => Err(End::Memory),
+                },
+                Err(end) => Err(end),
+            },
+            Err(end) => Err(end),
+        },
+    }
+}
+
+#[cycle(walk)]
+fn called<'a>(
+    m: &'a Moded,
+    frames: u32,
+    call: Call<'a>,
+    values: &[i64],
+    st: &mut State,
+) -> Result<i64, End>
+    ensures does { Does (view_state st.old) result (view_state st.new) (called (calls m.now frames) call.entry.site call.entry.named call.entry.name.now values.now) }
+    ensures fuel { IfOk result (λ _. st.new.fuel ≤ st.old.fuel) }
+{
+    match call.named {
+        Named::Function(number) => function(m, frames, number, call.site, values, st),
+        Named::Known => zero_behind(condition_call(call.site, call.name, values, st)),
+        Named::Struct(_) => Ok(0),
+        Named::Global(_) => Ok(0),
+        Named::Variable(_) => Ok(0),
+        Named::Field(_) => Ok(0),
+    }
+}
+
+#[cycle(walk)]
+fn calling<'a>(m: &'a Moded, frames: u32, call: Call<'a>, st: &mut State) -> Result<i64, End>
+    ensures does { Does (view_state st.old) result (view_state st.new) (calling (calls m.now frames) m.now call.entry.site call.entry.named call.entry.name.now (view_arguments call.entry.arguments.now)) }
+    ensures fuel { IfOk result (λ _. st.new.fuel ≤ st.old.fuel) }
+{
+    let mark = st.frame.temporaries.len();
+    match arguments(
+        m,
+        frames,
+        parameters_named(m, call.named),
+        call.arguments,
+        st,
+    ) {
+        Ok(values) => end_above(called(m, frames, call, values.as_slice(), st), mark, st),
+        Err(end) => Err(end),
+    }
+}
+
+#[cycle(walk)]
+fn exec_all<'a>(
+    m: &'a Moded,
+    frames: u32,
+    kind: Kind<'a>,
+    all: &'a [Stmt],
+    st: &mut State,
+) -> Result<Flow, End>
+    ensures does { DoesAs view_flow (view_state st.old) result (view_state st.new) (exec_all (calls m.now frames) m.now (view_kind kind.entry) (view_statements all.now)) }
+    ensures fuel { IfOk result (λ _. st.new.fuel ≤ st.old.fuel) }
+{
+    match all {
+        [] => Ok(Flow::Next),
+        [first, rest @ ..] => match exec(m, frames, kind, first, st) {
+            Ok(Flow::Next) => exec_all(m, frames, kind, rest, st),
+            Ok(Flow::Continued) => Ok(Flow::Continued),
+            Ok(Flow::Broken) => Ok(Flow::Broken),
+            Ok(Flow::Returned(site, value)) => Ok(Flow::Returned(site, value)),
+            Err(end) => Err(end),
+        },
+    }
+}
+
+#[cycle(walk)]
+fn block<'a>(
+    m: &'a Moded,
+    frames: u32,
+    kind: Kind<'a>,
+    all: &'a [Stmt],
+    st: &mut State,
+) -> Result<Flow, End>
+    ensures does { DoesAs view_flow (view_state st.old) result (view_state st.new) (in_block (exec_all (calls m.now frames) m.now (view_kind kind.entry) (view_statements all.now))) }
+    ensures fuel { IfOk result (λ _. st.new.fuel ≤ st.old.fuel) }
+{
+    let mark = st.frame.variables.len();
+    end_block(exec_all(m, frames, kind, all, st), mark, st)
+}
+
+#[cycle(walk)]
+fn goes_on<'a>(m: &'a Moded, frames: u32, l: Loop<'a>, st: &mut State) -> Result<bool, End>
+    ensures does { Does (view_state st.old) result (view_state st.new) (loop_test (calls m.now frames) m.now l.entry) }
+    ensures fuel { IfOk result (λ _. st.new.fuel ≤ st.old.fuel) }
+{
+    test_behind(alone(m, frames, Task::LoopTest(l.test), st))
+}
+
+#[cycle(walk)]
+fn turns<'a>(m: &'a Moded, frames: u32, n: u64, l: Loop<'a>, st: &mut State) -> Result<Flow, End>
+    ensures does { DoesAs view_flow (view_state st.old) result (view_state st.new) (turns n (loop_test (calls m.now frames) m.now l.entry) (loop_step (calls m.now frames) m.now l.entry) (loop_body (calls m.now frames) m.now l.entry)) }
+    ensures fuel { IfOk result (λ _. st.new.fuel ≤ st.old.fuel) }
+{
+    if n == 0 {
+        return Err(End::Spent);
+    }
+    match goes_on(m, frames, l, st) {
+        Ok(goes_on) => {
+            if goes_on {
+                turn(m, frames, n - 1, l, st)
+            } else {
+                Ok(Flow::Next)
+            }
+        }
+        Err(end) => Err(end),
+    }
+}
+
+// The body of a loop, and what is behind it.
+#[cycle(walk)]
+fn turn<'a>(m: &'a Moded, frames: u32, n: u64, l: Loop<'a>, st: &mut State) -> Result<Flow, End>
+    ensures does { DoesAs view_flow (view_state st.old) result (view_state st.new) (turn n (loop_test (calls m.now frames) m.now l.entry) (loop_step (calls m.now frames) m.now l.entry) (loop_body (calls m.now frames) m.now l.entry)) }
+    ensures fuel { IfOk result (λ _. st.new.fuel ≤ st.old.fuel) }
+{
+    match exec(m, frames, l.kind, l.body, st) {
+        Ok(Flow::Next) => again(m, frames, n, l, st),
+        Ok(Flow::Continued) => again(m, frames, n, l, st),
+        Ok(Flow::Broken) => Ok(Flow::Next),
+        Ok(Flow::Returned(site, value)) => Ok(Flow::Returned(site, value)),
+        Err(end) => Err(end),
+    }
+}
+
+#[cycle(walk)]
+fn again<'a>(m: &'a Moded, frames: u32, n: u64, l: Loop<'a>, st: &mut State) -> Result<Flow, End>
+    ensures does { DoesAs view_flow (view_state st.old) result (view_state st.new) (next_turns n (loop_test (calls m.now frames) m.now l.entry) (loop_step (calls m.now frames) m.now l.entry) (loop_body (calls m.now frames) m.now l.entry)) }
+    ensures fuel { IfOk result (λ _. st.new.fuel ≤ st.old.fuel) }
+{
+    match l.step {
+        None => turns(m, frames, n, l, st),
+        Some(step) => match simple(m, frames, step, st) {
+            Ok(()) => turns(m, frames, n, l, st),
+            Err(end) => Err(end),
+        },
+    }
+}
+
+#[cycle(walk)]
+fn for_loop<'a>(
+    m: &'a Moded,
+    frames: u32,
+    first: &'a ForFirst,
+    l: Loop<'a>,
+    st: &mut State,
+) -> Result<Flow, End>
+    ensures does { DoesAs view_flow (view_state st.old) result (view_state st.new) (for_loop (calls m.now frames) m.now (view_first first.now) l.entry) }
+    ensures fuel { IfOk result (λ _. st.new.fuel ≤ st.old.fuel) }
+{
+    let mark = st.frame.variables.len();
+    match step_behind(alone(m, frames, Task::First(first), st)) {
+        Ok(()) => end_block(turns(m, frames, st.fuel, l, st), mark, st),
+        Err(end) => Err(end),
+    }
+}
+
+#[cycle(walk)]
+fn choice<'a>(
+    m: &'a Moded,
+    frames: u32,
+    kind: Kind<'a>,
+    test: &'a Expr,
+    body: &'a Stmt,
+    otherwise: Option<&'a Stmt>,
+    st: &mut State,
+) -> Result<Flow, End>
+    ensures does { DoesAs view_flow (view_state st.old) result (view_state st.new) (choice (calls m.now frames) m.now (view_kind kind.entry) (view_expr test.now) (view_stmt body.now) (view_otherwise otherwise.entry)) }
+    ensures fuel { IfOk result (λ _. st.new.fuel ≤ st.old.fuel) }
+{
+    match tested(m, frames, test, st) {
+        Ok(is_true) => {
+            if is_true {
+                exec(m, frames, kind, body, st)
+            } else {
+                match otherwise {
+                    None => Ok(Flow::Next),
+                    Some(otherwise) => exec(m, frames, kind, otherwise, st),
+                }
+            }
+        }
+        Err(end) => Err(end),
+    }
+}
+
+#[cycle(walk)]
+fn exec<'a>(
+    m: &'a Moded,
+    frames: u32,
+    kind: Kind<'a>,
+    statement: &'a Stmt,
+    st: &mut State,
+) -> Result<Flow, End>
+    ensures does { DoesAs view_flow (view_state st.old) result (view_state st.new) (exec (calls m.now frames) m.now (view_kind kind.entry) (view_stmt statement.now)) }
+    ensures fuel { IfOk result (λ _. st.new.fuel + 1 ≤ st.old.fuel) }
+{
+    match enter(st) {
+        Ok(()) => match statement {
+            Stmt::Empty(_) => Ok(Flow::Next),
+            Stmt::Block(_, all) => block(m, frames, kind, all.as_slice(), st),
+            Stmt::Declare(_, local) => next_behind(alone(m, frames, Task::Declare(local), st)),
+            Stmt::Simple(_, simple) => next_behind(alone(m, frames, Task::Simple(simple), st)),
+            Stmt::Jump(_, jump) => Ok(left_by(*jump)),
+            Stmt::Return(span, value) => {
+                flow_behind(alone(m, frames, Task::Return(kind, span.first, value), st))
+            }
+            Stmt::If(_, test, body) => choice(m, frames, kind, test, body, None, st),
+            Stmt::IfElse {
+                test,
+                then,
+                otherwise,
+                ..
+            } => choice(m, frames, kind, test, then, Some(otherwise), st),
+            Stmt::While(_, test, body) => {
+                let l = Loop {
+                    kind,
+                    test: Some(test),
+                    step: None,
+                    body,
+                };
+                turns(m, frames, st.fuel, l, st)
+            }
+            Stmt::For(_, head, body) => {
+                let l = Loop {
+                    kind,
+                    test: test_of(head),
+                    step: step_of(head),
+                    body,
+                };
+                for_loop(m, frames, &head.first, l, st)
+            }
+        },
+        Err(end) => Err(end),
+    }
+}
+
+#[cycle(walk)]
+fn body<'a>(
+    m: &'a Moded,
+    frames: u32,
+    kind: Kind<'a>,
+    all: &'a [Stmt],
+    st: &mut State,
+) -> Result<Flow, End>
+    ensures does { DoesAs view_flow (view_state st.old) result (view_state st.new) (entered (exec_all (calls m.now frames) m.now (view_kind kind.entry) (view_statements all.now))) }
+    ensures fuel { IfOk result (λ _. st.new.fuel ≤ st.old.fuel) }
+{
+    match enter(st) {
+        Ok(()) => exec_all(m, frames, kind, all, st),
+        Err(end) => Err(end),
+    }
+}
+
+#[cycle(walk)]
+fn body_block<'a>(
+    m: &'a Moded,
+    frames: u32,
+    function: &'a FunctionDefinition,
+    values: &[i64],
+    st: &mut State,
+) -> Result<(Site, i64), End>
+    ensures does { Does (view_state st.old) result (view_state st.new) (body_block (calls m.now frames) m.now (view_function function.now) values.now) }
+    ensures fuel { IfOk result (λ _. st.new.fuel ≤ st.old.fuel) }
+{
+    let mark = st.frame.variables.len();
+    match begin_parameters(function.parameters.as_slice(), values, st) {
+        Ok(()) => match body(
+            m,
+            frames,
+            declared_kind(&function.result),
+            function.statements.as_slice(),
+            st,
+        ) {
+            Ok(flow) => match end_variables(mark, st) {
+                Ok(()) => Ok(left_at(function, flow)),
+                Err(_) => Err(End::Memory),
+            },
+            Err(end) => Err(end),
+        },
+        Err(end) => Err(end),
+    }
+}
+
+/// A function of a frame of its own: where it is left, and its result.
+#[cycle(walk)]
+pub fn run_function<'a>(
+    m: &'a Moded,
+    frames: u32,
+    function: &'a FunctionDefinition,
+    values: &[i64],
+    st: &mut State,
+) -> Result<(Site, i64), End>
+    ensures does { Does (view_state st.old) result (view_state st.new) (run_function (calls m.now frames) m.now (view_function function.now) values.now) }
+    ensures fuel { IfOk result (λ _. st.new.fuel ≤ st.old.fuel) }
+{
+    match push_frame(pointers_passed(function.parameters.as_slice()), st) {
+        Some(kept) => match body_block(m, frames, function, values, st) {
+            Ok(left) => {
+                st.frame = kept.frame;
+                st.below = kept.below;
+                Ok(left)
+            }
+            Err(end) => Err(end),
+        },
+        None => Err(End::Memory),
+    }
+}
+
+#[cycle(walk)]
+fn function<'a>(
+    m: &'a Moded,
+    frames: u32,
+    number: u32,
+    site: Site,
+    values: &[i64],
+    st: &mut State,
+) -> Result<i64, End>
+    ensures does { Does (view_state st.old) result (view_state st.new) (calls m.now frames number site values.now) }
+    ensures fuel { IfOk result (λ _. st.new.fuel ≤ st.old.fuel) }
+{
+    if frames == 0 {
+        return Err(End::Stopped(10, site));
+    }
+    match m.typed().function_at(number) {
+        None => Ok(0),
+        Some(function) => match run_function(m, frames - 1, function, values, st) {
+            Ok(left) => Ok(left.1),
+            Err(end) => Err(end),
+        },
+    }
+}

@@ -1,0 +1,15 @@
+//! Tables of sources, and what their threads ask for: tests alone, over the front end and `ask`.
+//!
+//! Nothing stands on this crate, and it has no code of its own.
+#![tactic(auto)]
+
+#[cfg(test)]
+mod asked;
+#[cfg(test)]
+mod question;
+#[cfg(test)]
+mod sources;
+#[cfg(test)]
+mod tables;
+#[cfg(test)]
+mod told;
