@@ -1,5 +1,5 @@
 -- Runs that begin with the value of another.
-use Rattle.std.proofs.Common.{◌≡◌, ℕ, zero, suc, List, take, Bool, Result, Ok, Err, refl, sym, ap, ◌∙◌, subst}
+use Rattle.std.proofs.Common.{◌≡◌, ℕ, zero, suc, Bool, Result, Ok, Err, refl, sym, ap, ◌∙◌, subst}
 use Rattle.std.specs.Prelude.{ℤ, if◌then◌else◌}
 use Rattle.sharc_mode.specs.Moded.{Assignment}
 use Rattle.sharc_meaning.specs.Expressions.{Calls}

@@ -1,5 +1,5 @@
 -- How far a thread came, as the code tells it.
-use Rattle.std.proofs.Common.{◌≡◌, ℕ, zero, suc, Bool, true, false, Result, Ok, List, ◌++◌, length, refl, sym, ap, ◌∙◌, subst, arith}
+use Rattle.std.proofs.Common.{◌≡◌, ℕ, zero, suc, Bool, true, false, Result, List, ◌++◌, length, refl, sym, ap, ◌∙◌, subst, arith}
 use Rattle.std.proofs.lemmas.Bool.{lt-ltb, ne_eqb}
 use Rattle.std.specs.Prelude.{ℤ, ◌==◌, nat_lt, not}
 use Rattle.sharc_meaning.specs.Arithmetic.{returns_with_a_lock}

@@ -1,4 +1,4 @@
-use Rattle.std.proofs.Common.{◌≡◌, length, Ok, Err, rules}
+use Rattle.std.proofs.Common.{◌≡◌, length, Err, rules}
 use Rattle.std.specs.Prelude.{◌==◌}
 use Rattle.sharc_meaning.specs.Arithmetic.{returns_with_a_lock}
 use Rattle.sharc_meaning.specs.State.{unless_stop}
