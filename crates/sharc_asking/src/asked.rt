@@ -1,6 +1,6 @@
 //! What threads of sources ask for. What is wanted was worked out by hand.
 
-use crate::tables::{assert_table, assert_values};
+use crate::tables::{assert_lines, assert_table, assert_values};
 use std::test::Fail;
 
 /// Each operator, at the edges of its type.
@@ -177,6 +177,10 @@ f 256 100000 = X10 at line 1
 int f(int n) { if (n) return 5; } int main(void) { print(f(0) + f(1)); ; return 0; }
 --
 main 0 100 0 0 0 = print 5; return; gone; ended
+==
+int main(void) { int i = 0; while (i < 100000) i = i + 1; print(i); return 0; }
+--
+main 0 10000000 = wants print 100000, holds
 ";
 
 /// What is held where an event is wanted; objects, casts and frees.
@@ -342,6 +346,20 @@ fn order(rt: HostRuntime) -> Result<(), Fail> {
 #[test]
 fn flow(rt: HostRuntime) -> Result<(), Fail> {
     assert_table(&rt, FLOW)
+}
+
+#[test]
+fn a_long_block(rt: HostRuntime) -> Result<(), Fail> {
+    let mut source = String::from_str(rt.alloc(), "int main(void) { int x = 0; ")?;
+    for _ in 0..20_000 {
+        source.push_str("x = x + 1; ")?;
+    }
+    source.push_str("print(x); return 0; }")?;
+    assert_lines(
+        &rt,
+        source.as_str(),
+        "main 0 1000000 = wants print 20000, holds",
+    )
 }
 
 #[test]

@@ -64,7 +64,11 @@ fn assert_asked(
 }
 
 /// Asserts what is asked for in these lines.
-fn assert_lines(rt: &(impl Abort + AllocGlobal), source: &str, lines: &str) -> Result<(), Fail> {
+pub(crate) fn assert_lines(
+    rt: &(impl Abort + AllocGlobal),
+    source: &str,
+    lines: &str,
+) -> Result<(), Fail> {
     let m = inferred(rt, source)?;
     for line in lines.lines() {
         match line.split_once(" = ") {
