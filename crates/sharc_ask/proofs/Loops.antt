@@ -1,21 +1,25 @@
 -- Loops, blocks, choices and what is entered, put together.
-use Rattle.std.proofs.Common.{◌≡◌, ℕ, zero, suc, ◌-◌, ◌≤◌, List, [], ◌∷◌, length, take, arith, Bool, Option, Result, Ok, Err, refl, sym, ap, ◌∙◌, subst}
-use Rattle.std.specs.Prelude.{slice_index_or, drop, if◌then◌else◌}
-use Rattle.std.proofs.lemmas.List.{take_all}
+use Rattle.std.proofs.Common.{◌≡◌, ℕ, zero, suc, ◌+◌, ◌-◌, ◌≤◌, List, [], ◌∷◌, length, take, ◌<◌, arith, Bool, true, false, Option, None, Some, Result, Ok, Err, refl, sym, ap, ◌∙◌, subst}
+use Rattle.std.specs.Prelude.{get_or, slice_index_or, drop, if◌then◌else◌}
+use Rattle.std.proofs.lemmas.List.{drop_more, drop_all, take_all}
+use Rattle.sharc_tree.specs.declared.tree.statement.Stmt.{Stmt}
 use Rattle.sharc_tree.specs.Tree.{Expression, Statement}
+use Rattle.sharc_tree.specs.View.{view_stmt, view_statements}
 use Rattle.sharc_names.specs.Kinds.{Kind}
 use Rattle.sharc_mode.specs.Moded.{Assignment}
 use Rattle.sharc_meaning.specs.Expressions.{Calls, tested, eval}
-use Rattle.sharc_meaning.specs.State.{State, Run, Step, then_on, ◌>>=◌, give, enters, ends_variables, in_block}
-use Rattle.sharc_meaning.specs.Statements.{Flow, next, turns, loop, exec}
+use Rattle.sharc_meaning.specs.State.{State, Out, go, over, Run, Step, then_on, ◌>>=◌, ◌>>◌, give, enters, ends_variables, in_block}
+use Rattle.sharc_meaning.specs.Statements.{Flow, next, continued, broken, returned, on_next, on_turn, turns, loop, exec, exec_all}
 use Rattle.sharc_steps.specs.declared.state.End.{End}
 use Rattle.sharc_steps.specs.declared.state.End.TheVariants as ends
 use Rattle.sharc_steps.specs.View.{Known, EndsAs, Does, DoesAs}
 use Rattle.sharc_ask.specs.declared.values.Flow.{Flow as RustFlow}
-use Rattle.sharc_ask.specs.View.{view_flow, turn, other_done, choice}
+use Rattle.sharc_ask.specs.declared.values.Flow.TheVariants as flows
+use Rattle.sharc_ask.specs.View.{view_flow, view_left, left_turn, around, turn, other_done, choice}
 use Rattle.sharc_ask.specs.Plans.{inside, ends_block}
 use Rattle.sharc_ask.proofs.Outs.{entered_from}
-use Rattle.sharc_ask.proofs.Steps.{does_then_as, ends_as_same}
+use Rattle.sharc_ask.proofs.Steps.{does_then_as, does_as_then}
+use Rattle.sharc_ask.proofs.Walking.{as_bound}
 
 -- ---- a run that begins with another
 
@@ -31,21 +35,84 @@ same_as v k k1 r run run1 same h = subst (λ z. DoesAs v k r k1 z) (sym same) h
 
 -- ---- loops
 
-turns_is : (n : ℕ) (test : Run Bool) (step : Step) (body : Run Flow) (s : State) → (n ≡ 0 → ⊥) → turns n test step body s ≡ then_on (test s) (λ b. if b then turn (n - 1) test step body else give next)
-turns_is zero test step body s some = absurd (some refl)
-turns_is (suc n) test step body s some = let e : suc n - 1 ≡ n = omega arith in ap (λ k. then_on (test s) (λ b. if b then turn k test step body else give next)) (sym e)
+-- what follows a turn
+abbrev pub followed : Run Flow → Option Flow → Run Flow
+followed more None = more
+followed more (Some f) = give f
+
+step_split : (more : Run Flow) (out : Out (Unit {0})) → then_on out (λ u. more) ≡ then_on (then_on out (λ u. give None)) (followed more)
+step_split more (go tt s) = refl
+step_split more (over o s) = refl
+
+body_split : (more : Run Flow) (step : Step) (out : Out Flow) → then_on out (λ f. on_turn f (step >> more)) ≡ then_on (then_on out (λ f. left_turn f step)) (followed more)
+body_split more step (go next s) = step_split more (step s)
+body_split more step (go continued s) = step_split more (step s)
+body_split more step (go broken s) = refl
+body_split more step (go (returned site v) s) = refl
+body_split more step (over o s) = refl
+
+test_split : (more : Run Flow) (step : Step) (body : Run Flow) (out : Out Bool) → then_on out (λ b. if b then (body >>= (λ f. on_turn f (step >> more))) else give next) ≡ then_on (then_on out (λ b. if b then around step body else give (Some next))) (followed more)
+test_split more step body (go true s) = body_split more step (body s)
+test_split more step body (go false s) = refl
+test_split more step body (over o s) = refl
+
+-- one turn, and those behind it
+turns_split : (n : ℕ) (test : Run Bool) (step : Step) (body : Run Flow) (s : State) → turns (suc n) test step body s ≡ then_on (turn test step body s) (followed (turns n test step body))
+turns_split n test step body s = test_split (turns n test step body) step body (test s)
+
+turns_is : (n : ℕ) (test : Run Bool) (step : Step) (body : Run Flow) (s : State) → 0 < n → turns n test step body s ≡ then_on (turn test step body s) (followed (turns (n - 1) test step body))
+turns_is zero test step body s some = absurd (omega (arith, some))
+turns_is (suc n) test step body s some = let e : suc n - 1 ≡ n = omega arith in turns_split n test step body s ∙ ap (λ k. then_on (turn test step body s) (followed (turns k test step body))) (sym e)
 
 pub turns_stop : (n : ℕ) (test : Run Bool) (step : Step) (body : Run Flow) (k : Known) → n ≡ 0 → DoesAs view_flow k (Err ends.Spent) k (turns n test step body)
 turns_stop n test step body k none = subst (λ n. DoesAs view_flow k (Err ends.Spent) k (turns n test step body)) (sym none) (λ s is. record { outcome = _; state = s; is = refl; ends_so = refl; looks = is })
 
-pub turns_go : (n : ℕ) (test : Run Bool) (step : Step) (body : Run Flow) (k k1 k2 : Known) (b : Bool) (r : Result RustFlow End) → (n ≡ 0 → ⊥) → Does k (Ok b) k1 test → DoesAs view_flow k1 r k2 (if b then turn (n - 1) test step body else give next) → DoesAs view_flow k r k2 (turns n test step body)
-turns_go n test step body k k1 k2 b r some h later = λ s is.
+pub turns_go : (n : ℕ) (test : Run Bool) (step : Step) (body : Run Flow) (k k1 k2 : Known) (r : Result RustFlow End) → 0 < n → DoesAs view_left k (Ok None) k1 (turn test step body) → DoesAs view_flow k1 r k2 (turns (n - 1) test step body) → DoesAs view_flow k r k2 (turns n test step body)
+turns_go n test step body k k1 k2 r some h later = λ s is.
     let w = h s is in
-    subst (λ o. EndsAs view_flow r k2 o) (sym (turns_is n test step body s some ∙ ap (λ o. then_on o (λ z. if z then turn (n - 1) test step body else give next)) w.is)) (later w.state w.looks)
+    subst (λ o. EndsAs view_flow r k2 o) (sym (turns_is n test step body s some ∙ ap (λ o. then_on o (followed (turns (n - 1) test step body))) w.is)) (later w.state w.looks)
 
-pub turns_over : (n : ℕ) (test : Run Bool) (step : Step) (body : Run Flow) (k k1 : Known) (e : End) → (n ≡ 0 → ⊥) → Does {A = Bool} k (Err e) k1 test → DoesAs view_flow k (Err e) k1 (turns n test step body)
+pub turns_left : (n : ℕ) (test : Run Bool) (step : Step) (body : Run Flow) (k k1 : Known) (f : RustFlow) → 0 < n → DoesAs view_left k (Ok (Some f)) k1 (turn test step body) → DoesAs view_flow k (Ok f) k1 (turns n test step body)
+turns_left n test step body k k1 f some h = λ s is.
+    let w = h s is in
+    record { state = w.state; is = turns_is n test step body s some ∙ ap (λ o. then_on o (followed (turns (n - 1) test step body))) w.is; looks = w.looks }
+
+pub turns_over : (n : ℕ) (test : Run Bool) (step : Step) (body : Run Flow) (k k1 : Known) (e : End) → 0 < n → DoesAs view_left k (Err e) k1 (turn test step body) → DoesAs view_flow k (Err e) k1 (turns n test step body)
 turns_over n test step body k k1 e some h = λ s is.
-    subst (λ o. EndsAs view_flow (Err e) k1 o) (sym (turns_is n test step body s some)) (ends_as_same view_flow e k1 (test s) (then_on (test s) (λ b. if b then turn (n - 1) test step body else give next)) (λ o t is_over. ap (λ z. then_on z (λ b. if b then turn (n - 1) test step body else give next)) is_over) (h s is))
+    subst (λ o. EndsAs view_flow (Err e) k1 o) (sym (turns_is n test step body s some)) (as_bound view_left view_flow e k1 (turn test step body s) (followed (turns (n - 1) test step body)) (h s is))
+
+-- what a loop of the code keeps: how the rest of a run ends, the whole does
+abbrev pub LeadsOn : Known → Run Flow → Known → Run Flow → Type 0
+LeadsOn before whole now rest = (r : Result RustFlow End) (after : Known) → DoesAs view_flow now r after rest → DoesAs view_flow before r after whole
+
+pub turn_leads : (n i : ℕ) (test : Run Bool) (step : Step) (body : Run Flow) (k k1 k2 : Known) → i < n → LeadsOn k (turns n test step body) k1 (turns (n - i) test step body) → DoesAs view_left k1 (Ok None) k2 (turn test step body) → LeadsOn k (turns n test step body) k2 (turns (n - (i + 1)) test step body)
+turn_leads n i test step body k k1 k2 less so_far h = λ r after later.
+    let one : n - (i + 1) ≡ n - i - 1 = omega (arith, less) in
+    let some : 0 < n - i = omega (arith, less) in
+    so_far r after (turns_go (n - i) test step body k1 k2 after r some h (subst (λ j. DoesAs view_flow k2 r after (turns j test step body)) one later))
+
+-- the statements of a list
+abbrev pub of_all : Calls → Assignment → Kind → List Stmt → Run Flow
+of_all on_call m kind list = exec_all on_call m kind (view_statements list)
+
+pub statement_leads : (on_call : Calls) (m : Assignment) (kind : Kind) (list : List Stmt) (i : ℕ) (a : Stmt) (k k1 k2 : Known) → i < length list → a ≡ get_or list i a → LeadsOn k (of_all on_call m kind list) k1 (of_all on_call m kind (drop i list))
+    → DoesAs view_flow k1 (Ok flows.Next) k2 (exec on_call m kind (view_stmt a)) → LeadsOn k (of_all on_call m kind list) k2 (of_all on_call m kind (drop (i + 1) list))
+statement_leads on_call m kind list i a k k1 k2 less is so_far h = λ r after later.
+    let rest : List Stmt = drop (i + 1) list in
+    let there : drop i list ≡ a ∷ rest = drop_more list i a less ∙ ap (λ x. x ∷ rest) (sym is) in
+    so_far r after (subst (λ l. DoesAs view_flow k1 r after (of_all on_call m kind l)) (sym there)
+    (does_as_then view_flow view_flow k1 k2 after flows.Next r (exec on_call m kind (view_stmt a)) (λ f. on_next f (of_all on_call m kind rest)) h later))
+
+-- a statement that leaves the list
+pub statement_leaves : (on_call : Calls) (m : Assignment) (kind : Kind) (list : List Stmt) (i : ℕ) (a : Stmt) (k k1 k2 : Known) (r : Result RustFlow End) → i < length list → a ≡ get_or list i a → LeadsOn k (of_all on_call m kind list) k1 (of_all on_call m kind (drop i list))
+    → ((rest : Run Flow) → DoesAs view_flow k1 r k2 (exec on_call m kind (view_stmt a) >>= (λ f. on_next f rest))) → DoesAs view_flow k r k2 (of_all on_call m kind list)
+statement_leaves on_call m kind list i a k k1 k2 r less is so_far h =
+    let rest : List Stmt = drop (i + 1) list in
+    let there : drop i list ≡ a ∷ rest = drop_more list i a less ∙ ap (λ x. x ∷ rest) (sym is) in
+    so_far r k2 (subst (λ l. DoesAs view_flow k1 r k2 (of_all on_call m kind l)) (sym there) (h (of_all on_call m kind rest)))
+
+pub list_ends : (on_call : Calls) (m : Assignment) (kind : Kind) (list : List Stmt) (i : ℕ) (k : Known) → length list ≤ i → DoesAs view_flow k (Ok flows.Next) k (of_all on_call m kind (drop i list))
+list_ends on_call m kind list i k past = subst (λ l. DoesAs view_flow k (Ok flows.Next) k (of_all on_call m kind l)) (sym (drop_all i list past)) (λ s is. record { state = s; is = refl; looks = is })
 
 pub loop_goes : (n : ℕ) (test : Run Bool) (step : Step) (body : Run Flow) (k k1 : Known) (r : Result RustFlow End) → n ≡ k.fuel → DoesAs view_flow k r k1 (turns n test step body) → DoesAs view_flow k r k1 (loop test step body)
 loop_goes n test step body k k1 r same h = λ s is. subst (λ n. EndsAs view_flow r k1 (turns n test step body s)) (same ∙ sym (ap (λ (z : Known). z.fuel) is)) (h s is)

@@ -1,6 +1,7 @@
 -- How far a thread came, as the code tells it, and parts of runs, as the code's functions have them.
 use Rattle.std.specs.Prelude.{◌≡◌, ℕ, ℤ, Bool, true, false, Option, Some, None, take, drop, ◌-◌, unsigned_abs, length, List, [], ◌++◌, if◌then◌else◌}
 use Rattle.std.specs.Borrow.{Bor}
+use Rattle.std.specs.Option.{option_map}
 use Rattle.sharc_tree.specs.declared.event.Act.TheVariants as acts
 use Rattle.sharc_tree.specs.declared.token.Site.{Site}
 use Rattle.sharc_tree.specs.declared.tree.declaration.WrittenType.{WrittenType}
@@ -28,7 +29,7 @@ use Rattle.sharc_meaning.specs.Expressions.{Calls, called, resulting, tested, op
 use Rattle.sharc_meaning.specs.Meaning.{Asked, parameters_begin, left_at}
 use Rattle.sharc_meaning.specs.Places.{Place, fetched}
 use Rattle.sharc_meaning.specs.State.{Outcome, wants, ended, stopped, spent, Run, Step, ◌>>=◌, ◌>>◌, give, unless_stop, answered, performs, looks_at, temporarily, in_block, entered, value_of, all_released, pointers_among}
-use Rattle.sharc_meaning.specs.Statements.{Flow, next, broken, continued, returned, is_positive, on_turn, turns, loop, done_first, done_step, done_test, exec, exec_all}
+use Rattle.sharc_meaning.specs.Statements.{Flow, next, broken, continued, returned, is_positive, loop, done_first, done_step, done_test, exec, exec_all}
 use Rattle.sharc_steps.specs.View.{Known}
 use Rattle.sharc_ask.specs.declared.asked.Asked.{Asked as RustAsked}
 use Rattle.sharc_ask.specs.declared.asked.Outcome.{Outcome as RustOutcome}
@@ -107,17 +108,31 @@ loop_step on_call m l = done_step on_call m (view_step l.step)
 abbrev pub loop_body : Calls → Assignment → Loop → Run Flow
 loop_body on_call m l = exec on_call m (view_kind l.kind) (view_stmt l.body.now)
 
--- the turns behind one, and one whose test was met, with at most n behind it
+-- one turn of a loop: how the loop is left by it, none where another turn follows
 
-abbrev pub next_turns : ℕ → Run Bool → Step → Run Flow → Run Flow
-next_turns n test step body = do
+abbrev pub another : Step → Run (Option Flow)
+another step = do
   step
-  turns n test step body
+  give None
 
-abbrev pub turn : ℕ → Run Bool → Step → Run Flow → Run Flow
-turn n test step body = do
+abbrev pub left_turn : Flow → Step → Run (Option Flow)
+left_turn next step = another step
+left_turn continued step = another step
+left_turn broken step = give (Some next)
+left_turn (returned site v) step = give (Some (returned site v))
+
+abbrev pub around : Step → Run Flow → Run (Option Flow)
+around step body = do
   f ← body
-  on_turn f (next_turns n test step body)
+  left_turn f step
+
+abbrev pub turn : Run Bool → Step → Run Flow → Run (Option Flow)
+turn test step body = do
+  goes_on ← test
+  if goes_on then around step body else give (Some next)
+
+abbrev pub view_left : Option RustFlow → Option Flow
+view_left = option_map view_flow
 
 abbrev pub for_loop : Calls → Assignment → First → Loop → Run Flow
 for_loop on_call m first l = in_block (do

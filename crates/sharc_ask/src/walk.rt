@@ -9,7 +9,7 @@ ghost use Rattle.sharc_meaning.specs.Meaning.{run_function, calls};
 ghost use Rattle.sharc_meaning.specs.State.{in_block, entered};
 ghost use Rattle.sharc_meaning.specs.Statements.{done_simple, turns, exec, exec_all};
 ghost use Rattle.sharc_steps.specs.View.{view_state, Does, DoesAs};
-ghost use Rattle.sharc_ask.specs.View.{view_flow, view_otherwise, calling, loop_test, loop_step, loop_body, next_turns, turn, for_loop, choice, body_block};
+ghost use Rattle.sharc_ask.specs.View.{view_flow, view_otherwise, calling, view_left, loop_test, loop_step, loop_body, another, around, turn, for_loop, choice, body_block};
 ghost use Rattle.sharc_ask.specs.Values.{view_value};
 ghost use Rattle.sharc_ask.specs.Plans.{task_means, plan_means, plan_cost, Plans, Begins, Sound, cost, rank};
 
@@ -195,16 +195,16 @@ fn exec_all<'a>(
     ensures does { DoesAs view_flow (view_state st.old) result (view_state st.new) (exec_all (calls m.now frames) m.now (view_kind kind.entry) (view_statements all.now)) }
     ensures fuel { IfOk result (λ _. st.new.fuel ≤ st.old.fuel) }
 {
-    match all {
-        [] => Ok(Flow::Next),
-        [first, rest @ ..] => match exec(m, frames, kind, first, st) {
-            Ok(Flow::Next) => exec_all(m, frames, kind, rest, st),
-            Ok(Flow::Continued) => Ok(Flow::Continued),
-            Ok(Flow::Broken) => Ok(Flow::Broken),
-            Ok(Flow::Returned(site, value)) => Ok(Flow::Returned(site, value)),
-            Err(end) => Err(end),
-        },
+    for statement in all {
+        match exec(m, frames, kind, statement, st) {
+            Ok(Flow::Next) => {}
+            Ok(Flow::Continued) => return Ok(Flow::Continued),
+            Ok(Flow::Broken) => return Ok(Flow::Broken),
+            Ok(Flow::Returned(site, value)) => return Ok(Flow::Returned(site, value)),
+            Err(end) => return Err(end),
+        }
     }
+    Ok(Flow::Next)
 }
 
 #[cycle(walk)]
@@ -235,15 +235,28 @@ fn turns<'a>(m: &'a Moded, frames: u32, n: u64, l: Loop<'a>, st: &mut State) -> 
     ensures does { DoesAs view_flow (view_state st.old) result (view_state st.new) (turns n (loop_test (calls m.now frames) m.now l.entry) (loop_step (calls m.now frames) m.now l.entry) (loop_body (calls m.now frames) m.now l.entry)) }
     ensures fuel { IfOk result (λ _. st.new.fuel ≤ st.old.fuel) }
 {
-    if n == 0 {
-        return Err(End::Spent);
+    for _ in 0..n {
+        match turn(m, frames, l, st) {
+            Ok(None) => {}
+            Ok(Some(flow)) => return Ok(flow),
+            Err(end) => return Err(end),
+        }
     }
+    Err(End::Spent)
+}
+
+// One turn of a loop: how the loop is left by it, `None` where another turn follows.
+#[cycle(walk)]
+fn turn<'a>(m: &'a Moded, frames: u32, l: Loop<'a>, st: &mut State) -> Result<Option<Flow>, End>
+    ensures does { DoesAs view_left (view_state st.old) result (view_state st.new) (turn (loop_test (calls m.now frames) m.now l.entry) (loop_step (calls m.now frames) m.now l.entry) (loop_body (calls m.now frames) m.now l.entry)) }
+    ensures fuel { IfOk result (λ _. st.new.fuel ≤ st.old.fuel) }
+{
     match goes_on(m, frames, l, st) {
         Ok(goes_on) => {
             if goes_on {
-                turn(m, frames, n - 1, l, st)
+                around(m, frames, l, st)
             } else {
-                Ok(Flow::Next)
+                Ok(Some(Flow::Next))
             }
         }
         Err(end) => Err(end),
@@ -252,28 +265,28 @@ fn turns<'a>(m: &'a Moded, frames: u32, n: u64, l: Loop<'a>, st: &mut State) -> 
 
 // The body of a loop, and what is behind it.
 #[cycle(walk)]
-fn turn<'a>(m: &'a Moded, frames: u32, n: u64, l: Loop<'a>, st: &mut State) -> Result<Flow, End>
-    ensures does { DoesAs view_flow (view_state st.old) result (view_state st.new) (turn n (loop_test (calls m.now frames) m.now l.entry) (loop_step (calls m.now frames) m.now l.entry) (loop_body (calls m.now frames) m.now l.entry)) }
+fn around<'a>(m: &'a Moded, frames: u32, l: Loop<'a>, st: &mut State) -> Result<Option<Flow>, End>
+    ensures does { DoesAs view_left (view_state st.old) result (view_state st.new) (around (loop_step (calls m.now frames) m.now l.entry) (loop_body (calls m.now frames) m.now l.entry)) }
     ensures fuel { IfOk result (λ _. st.new.fuel ≤ st.old.fuel) }
 {
     match exec(m, frames, l.kind, l.body, st) {
-        Ok(Flow::Next) => again(m, frames, n, l, st),
-        Ok(Flow::Continued) => again(m, frames, n, l, st),
-        Ok(Flow::Broken) => Ok(Flow::Next),
-        Ok(Flow::Returned(site, value)) => Ok(Flow::Returned(site, value)),
+        Ok(Flow::Next) => another(m, frames, l, st),
+        Ok(Flow::Continued) => another(m, frames, l, st),
+        Ok(Flow::Broken) => Ok(Some(Flow::Next)),
+        Ok(Flow::Returned(site, value)) => Ok(Some(Flow::Returned(site, value))),
         Err(end) => Err(end),
     }
 }
 
 #[cycle(walk)]
-fn again<'a>(m: &'a Moded, frames: u32, n: u64, l: Loop<'a>, st: &mut State) -> Result<Flow, End>
-    ensures does { DoesAs view_flow (view_state st.old) result (view_state st.new) (next_turns n (loop_test (calls m.now frames) m.now l.entry) (loop_step (calls m.now frames) m.now l.entry) (loop_body (calls m.now frames) m.now l.entry)) }
+fn another<'a>(m: &'a Moded, frames: u32, l: Loop<'a>, st: &mut State) -> Result<Option<Flow>, End>
+    ensures does { DoesAs view_left (view_state st.old) result (view_state st.new) (another (loop_step (calls m.now frames) m.now l.entry)) }
     ensures fuel { IfOk result (λ _. st.new.fuel ≤ st.old.fuel) }
 {
     match l.step {
-        None => turns(m, frames, n, l, st),
+        None => Ok(None),
         Some(step) => match simple(m, frames, step, st) {
-            Ok(()) => turns(m, frames, n, l, st),
+            Ok(()) => Ok(None),
             Err(end) => Err(end),
         },
     }

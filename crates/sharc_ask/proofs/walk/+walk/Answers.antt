@@ -1,4 +1,4 @@
-use Rattle.std.proofs.Common.{◌≡◌, length, arith, ◌+◌, ◌≤◌, List, to_z, of_z, w64, rules, true, false, Some, None, Ok, Err, refl, ap, sym, ◌∙◌, subst}
+use Rattle.std.proofs.Common.{◌≡◌, length, arith, ◌+◌, ◌≤◌, ◌<◌, List, to_z, of_z, w64, rules, true, false, Some, None, Ok, Err, refl, ap, sym, ◌∙◌, subst}
 use Rattle.std.specs.Prelude.{ℤ, ◌-◌, ◌∷◌, take, drop, count_by, Option, if◌then◌else◌}
 use Rattle.std.proofs.lemmas.Result.{IfOk-weaker}
 use Rattle.sharc_tree.specs.declared.tree.declaration.Declaration.{Declaration}
@@ -15,7 +15,7 @@ use Rattle.sharc_meaning.specs.State.{Run, go, then_on, ◌>>=◌, ◌>>◌, don
 use Rattle.sharc_meaning.specs.Waiting.{condition_call}
 use Rattle.sharc_steps.specs.View.{Known, view_state, Ends, Does, DoesAs}
 use Rattle.sharc_ask.specs.declared.values.Flow.TheVariants as flows
-use Rattle.sharc_ask.specs.View.{view_flow, view_step, view_otherwise, calling, loop_test, loop_step, loop_body, next_turns, other_done, choice}
+use Rattle.sharc_ask.specs.View.{view_flow, view_step, view_otherwise, calling, loop_test, loop_step, loop_body, other_done, choice}
 use Rattle.sharc_ask.specs.Values.{view_value}
 use Rattle.sharc_ask.specs.Plans.{plan_means, inside}
 use Rattle.std.specs.Option.{option_map}
@@ -34,11 +34,11 @@ use Rattle.sharc_meaning.specs.Meaning.{parameters_begin, left_at, pointers_pass
 use Rattle.sharc_meaning.specs.State.{Step, give, entered}
 use Rattle.sharc_meaning.specs.Statements.{on_next, done_test}
 use Rattle.sharc_ask.specs.declared.plan.Loop.{Loop}
-use Rattle.sharc_ask.specs.View.{view_test, for_loop, body_block}
+use Rattle.sharc_ask.specs.View.{view_test, view_left, turn, for_loop, body_block}
+use Rattle.sharc_steps.specs.declared.state.End.TheVariants as ends
 use Rattle.sharc_ask.proofs.Framing.{frame_goes, frame_ends}
 use Rattle.sharc_ask.proofs.Steps.{argument_goes, does_then, over_then, plainly_over, block_goes, block_over}
-use Rattle.sharc_ask.proofs.Loops.{first_and_rest}
-use Rattle.sharc_ask.proofs.Loops.{entered_as, turns_stop, turns_go, turns_over, loop_goes, block_as, chosen}
+use Rattle.sharc_ask.proofs.Loops.{entered_as, turns_stop, turns_left, turns_over, turn_leads, statement_leads, statement_leaves, list_ends, loop_goes, block_as, chosen, first_and_rest}
 use Rattle.sharc_ask.proofs.Steps.{does_as_then, does_then_as, over_then_as, exec_stops, ends_as_same}
 use Rattle.sharc_ask.proofs.Walking.{walk_goes, walk_over, walk_rest_over, walk_begin_over, as_bound, alone_goes}
 use Rattle.sharc_ask.proofs.walk.+walk.Goals as goal
@@ -209,117 +209,6 @@ calling-returns-in-Ok-clause-does t c =
     let many : c.len-mark.result ≡ length k.temporaries = omega (arith, c.len-mark.ensures) in
     λ s is. subst (λ j. Ends c.end_above.result k3 (ends_temporaries j (run s))) (many ∙ sym (ap (λ (z : Known). length z.temporaries) is)) (c.end_above.ensures.does k run all s is)
 
-pub turn-returns-in-Ok-Next-clause-does : goal.turn-returns-in-Ok-Next-clause-does
-turn-returns-in-Ok-Next-clause-does t c =
-    let m = c.args.m.now in
-    let on_call = calls m c.args.frames in
-    let k = view_state c.args.st.now in
-    let l = c.args.l in
-    let test = loop_test on_call m l in
-    let step = loop_step on_call m l in
-    let body = loop_body on_call m l in
-    let n = c.args.n in
-    let k1 = view_state c.exec.new.st in
-    let rest : Flow → Run Flow = λ f. on_turn f (next_turns n test step body) in
-    does_as_then view_flow view_flow k k1 (view_state c.again.new.st) flows.Next c.again.result body rest (subst (λ f. DoesAs view_flow k (Ok f) k1 body) c.in-Ok-Next.field-0-is c.in-Ok-Next.ensures.does) c.again.ensures.does
-
-pub turn-returns-in-Ok-Continued-clause-does : goal.turn-returns-in-Ok-Continued-clause-does
-turn-returns-in-Ok-Continued-clause-does t c =
-    let m = c.args.m.now in
-    let on_call = calls m c.args.frames in
-    let k = view_state c.args.st.now in
-    let l = c.args.l in
-    let test = loop_test on_call m l in
-    let step = loop_step on_call m l in
-    let body = loop_body on_call m l in
-    let n = c.args.n in
-    let k1 = view_state c.exec.new.st in
-    let rest : Flow → Run Flow = λ f. on_turn f (next_turns n test step body) in
-    does_as_then view_flow view_flow k k1 (view_state c.again-in-Ok-Continued.new.st) flows.Continued c.again-in-Ok-Continued.result body rest (subst (λ f. DoesAs view_flow k (Ok f) k1 body) c.in-Ok-Continued.field-0-is c.in-Ok-Continued.ensures.does) c.again-in-Ok-Continued.ensures.does
-
-pub turn-returns-in-Ok-Broken-clause-does : goal.turn-returns-in-Ok-Broken-clause-does
-turn-returns-in-Ok-Broken-clause-does t c =
-    let m = c.args.m.now in
-    let on_call = calls m c.args.frames in
-    let k = view_state c.args.st.now in
-    let l = c.args.l in
-    let test = loop_test on_call m l in
-    let step = loop_step on_call m l in
-    let body = loop_body on_call m l in
-    let n = c.args.n in
-    let k1 = view_state c.exec.new.st in
-    let rest : Flow → Run Flow = λ f. on_turn f (next_turns n test step body) in
-    does_as_then view_flow view_flow k k1 k1 flows.Broken (Ok flows.Next) body rest (subst (λ f. DoesAs view_flow k (Ok f) k1 body) c.in-Ok-Broken.field-0-is c.in-Ok-Broken.ensures.does) (λ s is. record { state = s; is = refl; looks = is })
-
-pub exec_all-returns-in-Ok-Returned-clause-does : goal.exec_all-returns-in-Ok-Returned-clause-does
-exec_all-returns-in-Ok-Returned-clause-does t c =
-    let m = c.args.m.now in
-    let on_call = calls m c.args.frames in
-    let k = view_state c.args.st.now in
-    let kind = view_kind c.args.kind in
-    let list = c.args.all.now in
-    let first = c.first-item.result in
-    let more = take (length list - 1) (drop 1 list) in
-    let same : list ≡ first ∷ more = first_and_rest list first c.in-len1-up.len_at_least c.first-item.is in
-    let of = λ (l : List Stmt). exec_all on_call m kind (view_statements l) in
-    let run = exec on_call m kind (view_stmt first) in
-    let later : Flow → Run Flow = λ f. on_next f (exec_all on_call m kind (view_statements more)) in
-    let k1 = view_state c.exec.new.st in
-    let w = c.in-Ok-Returned in
-    let whole : to_z w64 (of_z w64 w.value) ≡ w.value = search rules in
-    let r = Ok (flows.Returned w.site (to_z w64 (of_z w64 w.value))) in
-    subst (λ l. DoesAs view_flow k r k1 (of l)) (sym same)
-    (does_as_then view_flow view_flow k k1 k1 (flows.Returned w.site w.value) r run later (subst (λ f. DoesAs view_flow k (Ok f) k1 run) w.field-0-is w.ensures.does) (λ s is. record { state = s; is = ap (λ z. go (returned w.site z) s) (sym whole); looks = is }))
-
-pub exec_all-returns-in-Ok-Next-clause-does : goal.exec_all-returns-in-Ok-Next-clause-does
-exec_all-returns-in-Ok-Next-clause-does t c =
-    let m = c.args.m.now in
-    let on_call = calls m c.args.frames in
-    let k = view_state c.args.st.now in
-    let kind = view_kind c.args.kind in
-    let list = c.args.all.now in
-    let first = c.first-item.result in
-    let more = take (length list - 1) (drop 1 list) in
-    let same : list ≡ first ∷ more = first_and_rest list first c.in-len1-up.len_at_least c.first-item.is in
-    let of = λ (l : List Stmt). exec_all on_call m kind (view_statements l) in
-    let run = exec on_call m kind (view_stmt first) in
-    let later : Flow → Run Flow = λ f. on_next f (exec_all on_call m kind (view_statements more)) in
-    let k1 = view_state c.exec.new.st in
-    let w = c.in-Ok-Next in
-    let k2 = view_state c.exec_all.new.st in
-    subst (λ l. DoesAs view_flow k c.exec_all.result k2 (of l)) (sym same)
-    (does_as_then view_flow view_flow k k1 k2 flows.Next c.exec_all.result run later (subst (λ f. DoesAs view_flow k (Ok f) k1 run) w.field-0-is w.ensures.does) c.exec_all.ensures.does)
-
-pub turn-returns-in-Ok-Returned-clause-does : goal.turn-returns-in-Ok-Returned-clause-does
-turn-returns-in-Ok-Returned-clause-does t c =
-    let m = c.args.m.now in
-    let on_call = calls m c.args.frames in
-    let k = view_state c.args.st.now in
-    let l = c.args.l in
-    let test = loop_test on_call m l in
-    let step = loop_step on_call m l in
-    let body = loop_body on_call m l in
-    let k1 = view_state c.exec.new.st in
-    let w = c.in-Ok-Returned in
-    let rest : Flow → Run Flow = λ f. on_turn f (next_turns c.args.n test step body) in
-    let same : to_z w64 (of_z w64 w.value) ≡ w.value = search rules in
-    does_as_then view_flow view_flow k k1 k1 (flows.Returned w.site w.value) (Ok (flows.Returned w.site (to_z w64 (of_z w64 w.value)))) body rest (subst (λ f. DoesAs view_flow k (Ok f) k1 body) w.field-0-is w.ensures.does)
-    (λ s is. record { state = s; is = ap (λ z. go (returned w.site z) s) (sym same); looks = is })
-
-pub turn-returns-in-Err-clause-does : goal.turn-returns-in-Err-clause-does
-turn-returns-in-Err-clause-does t c =
-    let m = c.args.m.now in
-    let on_call = calls m c.args.frames in
-    let k = view_state c.args.st.now in
-    let l = c.args.l in
-    let test = loop_test on_call m l in
-    let step = loop_step on_call m l in
-    let body = loop_body on_call m l in
-    let n = c.args.n in
-    let k1 = view_state c.exec.new.st in
-    let rest : Flow → Run Flow = λ f. on_turn f (next_turns n test step body) in
-    λ s is. as_bound view_flow view_flow c.in-Err.end k1 (body s) rest (c.in-Err.ensures.does s is)
-
 pub block-returns-clause-does : goal.block-returns-clause-does
 block-returns-clause-does t c =
     let m = c.args.m.now in
@@ -327,93 +216,6 @@ block-returns-clause-does t c =
     let k = view_state c.args.st.now in
     let run = exec_all on_call m (view_kind c.args.kind) (view_statements c.args.all.now) in
     block_as k (view_state c.end_block.new.st) c.end_block.result run c.len-mark.result (omega (arith, c.len-mark.ensures)) (c.end_block.ensures.does k run c.exec_all.ensures.does)
-
-pub turns-returns-then-n-eq0-clause-does : goal.turns-returns-then-n-eq0-clause-does
-turns-returns-then-n-eq0-clause-does t c =
-    let m = c.args.m.now in
-    let on_call = calls m c.args.frames in
-    let k = view_state c.args.st.now in
-    let l = c.args.l in
-    let test = loop_test on_call m l in
-    let step = loop_step on_call m l in
-    let body = loop_body on_call m l in
-    turns_stop c.args.n test step body k c.if-n-eq0.true
-
-pub turns-returns-then-goes_on-clause-does : goal.turns-returns-then-goes_on-clause-does
-turns-returns-then-goes_on-clause-does t c =
-    let m = c.args.m.now in
-    let on_call = calls m c.args.frames in
-    let k = view_state c.args.st.now in
-    let l = c.args.l in
-    let test = loop_test on_call m l in
-    let step = loop_step on_call m l in
-    let body = loop_body on_call m l in
-    let k1 = view_state c.goes_on.new.st in
-    turns_go c.args.n test step body k k1 (view_state c.turn.new.st) true c.turn.result c.if-n-eq0.false (subst (λ b. Does k (Ok b) k1 test) c.if-goes_on.true c.in-Ok.ensures.does) c.turn.ensures.does
-
-pub turns-returns-else-goes_on-clause-does : goal.turns-returns-else-goes_on-clause-does
-turns-returns-else-goes_on-clause-does t c =
-    let m = c.args.m.now in
-    let on_call = calls m c.args.frames in
-    let k = view_state c.args.st.now in
-    let l = c.args.l in
-    let test = loop_test on_call m l in
-    let step = loop_step on_call m l in
-    let body = loop_body on_call m l in
-    let k1 = view_state c.goes_on.new.st in
-    turns_go c.args.n test step body k k1 k1 false (Ok flows.Next) c.if-n-eq0.false (subst (λ b. Does k (Ok b) k1 test) c.if-goes_on.false c.in-Ok.ensures.does) (λ s is. record { state = s; is = refl; looks = is })
-
-pub turns-returns-in-Err-clause-does : goal.turns-returns-in-Err-clause-does
-turns-returns-in-Err-clause-does t c =
-    let m = c.args.m.now in
-    let on_call = calls m c.args.frames in
-    let k = view_state c.args.st.now in
-    let l = c.args.l in
-    let test = loop_test on_call m l in
-    let step = loop_step on_call m l in
-    let body = loop_body on_call m l in
-    turns_over c.args.n test step body k (view_state c.goes_on.new.st) c.in-Err.end c.if-n-eq0.false c.in-Err.ensures.does
-
-pub again-returns-in-None-clause-does : goal.again-returns-in-None-clause-does
-again-returns-in-None-clause-does t c =
-    let m = c.args.m.now in
-    let on_call = calls m c.args.frames in
-    let k = view_state c.args.st.now in
-    let l = c.args.l in
-    let test = loop_test on_call m l in
-    let step = loop_step on_call m l in
-    let body = loop_body on_call m l in
-    let n = c.args.n in
-    subst (λ z. DoesAs view_flow k c.turns.result (view_state c.turns.new.st) (done_step on_call m (view_step z) >> turns n test step body)) (sym c.in-None.is) c.turns.ensures.does
-
-pub again-returns-in-Ok-clause-does : goal.again-returns-in-Ok-clause-does
-again-returns-in-Ok-clause-does t c =
-    let m = c.args.m.now in
-    let on_call = calls m c.args.frames in
-    let k = view_state c.args.st.now in
-    let l = c.args.l in
-    let test = loop_test on_call m l in
-    let step = loop_step on_call m l in
-    let body = loop_body on_call m l in
-    let n = c.args.n in
-    let k1 = view_state c.simple.new.st in
-    let k2 = view_state c.turns-in-Ok.new.st in
-    subst (λ z. DoesAs view_flow k c.turns-in-Ok.result k2 (done_step on_call m (view_step z) >> turns n test step body)) (sym c.in-Some.is)
-    (does_then_as view_flow k k1 k2 c.in-Ok.field-0 c.turns-in-Ok.result (done_simple on_call m (view_simple c.in-Some.step.now)) (λ u. turns n test step body) c.in-Ok.ensures.does c.turns-in-Ok.ensures.does)
-
-pub again-returns-in-Err-clause-does : goal.again-returns-in-Err-clause-does
-again-returns-in-Err-clause-does t c =
-    let m = c.args.m.now in
-    let on_call = calls m c.args.frames in
-    let k = view_state c.args.st.now in
-    let l = c.args.l in
-    let test = loop_test on_call m l in
-    let step = loop_step on_call m l in
-    let body = loop_body on_call m l in
-    let n = c.args.n in
-    let k1 = view_state c.simple.new.st in
-    subst (λ z. DoesAs view_flow k (Err c.in-Err.end) k1 (done_step on_call m (view_step z) >> turns n test step body)) (sym c.in-Some.is)
-    (over_then_as view_flow k k1 c.in-Err.end (done_simple on_call m (view_simple c.in-Some.step.now)) (λ u. turns n test step body) c.in-Err.ensures.does)
 
 pub for_loop-returns-in-Ok-clause-does : goal.for_loop-returns-in-Ok-clause-does
 for_loop-returns-in-Ok-clause-does t c =
@@ -767,3 +569,134 @@ for_loop-returns-in-Ok-clause-fuel t c =
     let fuel : c.alone.new.st.fuel + 0 ≤ all = c.in-Ok.ensures.kept (c.alone.new.st.fuel + 0) all c.alone.ensures.fuel in
     let less : n ≤ c.turns.new.st.fuel = c.end_block.ensures.fuel in
     c.end_block.ensures.kept n all (IfOk-weaker c.turns.result (λ f. c.turns.new.st.fuel ≤ c.alone.new.st.fuel) (λ f. n ≤ all) (λ f h. omega arith) c.turns.ensures.fuel)
+
+pub exec_all-returns-in-Ok-Continued-clause-does : goal.exec_all-returns-in-Ok-Continued-clause-does
+exec_all-returns-in-Ok-Continued-clause-does t c =
+    let m = c.args.m.now in
+    let on_call = calls m c.args.frames in
+    let kind = view_kind c.args.kind in
+    let now = c.loop-statement in
+    let a = c.statement-item.result in
+    let k1 = view_state now.st in
+    let k2 = view_state c.exec.new.st in
+    let run = exec on_call m kind (view_stmt a) in
+    statement_leaves on_call m kind c.args.all.now now.statement-index a (view_state c.args.st.now) k1 k2 (Ok flows.Continued) c.loop-statement-test.true c.statement-item.is now.invariant.so_far
+    (λ rest. does_as_then view_flow view_flow k1 k2 k2 flows.Continued (Ok flows.Continued) run (λ f. on_next f rest) (subst (λ f. DoesAs view_flow k1 (Ok f) k2 run) c.in-Ok-Continued.field-0-is c.in-Ok-Continued.ensures.does) (λ s is. record { state = s; is = refl; looks = is }))
+
+pub exec_all-returns-in-Ok-Broken-clause-does : goal.exec_all-returns-in-Ok-Broken-clause-does
+exec_all-returns-in-Ok-Broken-clause-does t c =
+    let m = c.args.m.now in
+    let on_call = calls m c.args.frames in
+    let kind = view_kind c.args.kind in
+    let now = c.loop-statement in
+    let a = c.statement-item.result in
+    let k1 = view_state now.st in
+    let k2 = view_state c.exec.new.st in
+    let run = exec on_call m kind (view_stmt a) in
+    statement_leaves on_call m kind c.args.all.now now.statement-index a (view_state c.args.st.now) k1 k2 (Ok flows.Broken) c.loop-statement-test.true c.statement-item.is now.invariant.so_far
+    (λ rest. does_as_then view_flow view_flow k1 k2 k2 flows.Broken (Ok flows.Broken) run (λ f. on_next f rest) (subst (λ f. DoesAs view_flow k1 (Ok f) k2 run) c.in-Ok-Broken.field-0-is c.in-Ok-Broken.ensures.does) (λ s is. record { state = s; is = refl; looks = is }))
+
+pub exec_all-returns-in-Ok-Returned-clause-does : goal.exec_all-returns-in-Ok-Returned-clause-does
+exec_all-returns-in-Ok-Returned-clause-does t c =
+    let m = c.args.m.now in
+    let on_call = calls m c.args.frames in
+    let kind = view_kind c.args.kind in
+    let now = c.loop-statement in
+    let a = c.statement-item.result in
+    let k1 = view_state now.st in
+    let k2 = view_state c.exec.new.st in
+    let run = exec on_call m kind (view_stmt a) in
+    let w = c.in-Ok-Returned in
+    let whole : to_z w64 (of_z w64 w.value) ≡ w.value = search rules in
+    let r = Ok (flows.Returned w.site (to_z w64 (of_z w64 w.value))) in
+    statement_leaves on_call m kind c.args.all.now now.statement-index a (view_state c.args.st.now) k1 k2 r c.loop-statement-test.true c.statement-item.is now.invariant.so_far
+    (λ rest. does_as_then view_flow view_flow k1 k2 k2 (flows.Returned w.site w.value) r run (λ f. on_next f rest) (subst (λ f. DoesAs view_flow k1 (Ok f) k2 run) w.field-0-is w.ensures.does) (λ s is. record { state = s; is = ap (λ z. go (returned w.site z) s) (sym whole); looks = is }))
+
+pub exec_all-returns-in-Err-clause-does : goal.exec_all-returns-in-Err-clause-does
+exec_all-returns-in-Err-clause-does t c =
+    let m = c.args.m.now in
+    let on_call = calls m c.args.frames in
+    let kind = view_kind c.args.kind in
+    let now = c.loop-statement in
+    let a = c.statement-item.result in
+    let k1 = view_state now.st in
+    let k2 = view_state c.exec.new.st in
+    let run = exec on_call m kind (view_stmt a) in
+    statement_leaves on_call m kind c.args.all.now now.statement-index a (view_state c.args.st.now) k1 k2 (Err c.in-Err.end) c.loop-statement-test.true c.statement-item.is now.invariant.so_far
+    (λ rest s is. as_bound view_flow view_flow c.in-Err.end k2 (run s) (λ f. on_next f rest) (c.in-Err.ensures.does s is))
+
+pub exec_all-returns-clause-does : goal.exec_all-returns-clause-does
+exec_all-returns-clause-does t c =
+    let m = c.args.m.now in
+    let now = c.loop-statement in
+    let k1 = view_state now.st in
+    now.invariant.so_far (Ok flows.Next) k1 (list_ends (calls m c.args.frames) m (view_kind c.args.kind) c.args.all.now now.statement-index k1 (omega (arith, c.loop-statement-test.false)))
+
+pub turns-returns-in-Ok-Some-clause-does : goal.turns-returns-in-Ok-Some-clause-does
+turns-returns-in-Ok-Some-clause-does t c =
+    let m = c.args.m.now in
+    let on_call = calls m c.args.frames in
+    let l = c.args.l in
+    let test = loop_test on_call m l in
+    let step = loop_step on_call m l in
+    let body = loop_body on_call m l in
+    let i = c.loop.counter in
+    let k1 = view_state c.loop.st in
+    let k2 = view_state c.turn.new.st in
+    let f = c.in-Ok-Some.flow in
+    let some : 0 < c.args.n - i = omega (arith, c.loop-test.true) in
+    c.loop.invariant.so_far (Ok f) k2 (turns_left (c.args.n - i) test step body k1 k2 f some (subst (λ o. DoesAs view_left k1 (Ok o) k2 (turn test step body)) c.in-Ok-Some.field-0-is c.in-Ok-Some.ensures.does))
+
+pub turns-returns-in-Err-clause-does : goal.turns-returns-in-Err-clause-does
+turns-returns-in-Err-clause-does t c =
+    let m = c.args.m.now in
+    let on_call = calls m c.args.frames in
+    let l = c.args.l in
+    let test = loop_test on_call m l in
+    let step = loop_step on_call m l in
+    let body = loop_body on_call m l in
+    let i = c.loop.counter in
+    let k1 = view_state c.loop.st in
+    let k2 = view_state c.turn.new.st in
+    let some : 0 < c.args.n - i = omega (arith, c.loop-test.true) in
+    c.loop.invariant.so_far (Err c.in-Err.end) k2 (turns_over (c.args.n - i) test step body k1 k2 c.in-Err.end some c.in-Err.ensures.does)
+
+pub turns-returns-clause-does : goal.turns-returns-clause-does
+turns-returns-clause-does t c =
+    let m = c.args.m.now in
+    let on_call = calls m c.args.frames in
+    let l = c.args.l in
+    let k1 = view_state c.loop.st in
+    let none : c.args.n - c.loop.counter ≡ 0 = omega (arith, c.loop-test.false) in
+    c.loop.invariant.so_far (Err ends.Spent) k1 (turns_stop (c.args.n - c.loop.counter) (loop_test on_call m l) (loop_step on_call m l) (loop_body on_call m l) k1 none)
+
+pub exec_all-loop-statement-preserved : goal.exec_all-loop-statement-preserved
+exec_all-loop-statement-preserved t c =
+    let m = c.args.m.now in
+    let on_call = calls m c.args.frames in
+    let kind = view_kind c.args.kind in
+    let now = c.loop-statement in
+    let a = c.statement-item.result in
+    let k1 = view_state now.st in
+    let k2 = view_state c.exec.new.st in
+    let went : DoesAs view_flow k1 (Ok flows.Next) k2 (exec on_call m kind (view_stmt a)) = subst (λ f. DoesAs view_flow k1 (Ok f) k2 (exec on_call m kind (view_stmt a))) c.in-Ok-Next.field-0-is c.in-Ok-Next.ensures.does in
+    record {
+      so_far = statement_leads on_call m kind c.args.all.now now.statement-index a (view_state c.args.st.now) k1 k2 c.loop-statement-test.true c.statement-item.is now.invariant.so_far went;
+      fuel = omega (arith, c.in-Ok-Next.ensures.fuel, now.invariant.fuel);
+    }
+
+pub turns-loop-preserved : goal.turns-loop-preserved
+turns-loop-preserved t c =
+    let m = c.args.m.now in
+    let on_call = calls m c.args.frames in
+    let l = c.args.l in
+    let test = loop_test on_call m l in
+    let step = loop_step on_call m l in
+    let body = loop_body on_call m l in
+    let k1 = view_state c.loop.st in
+    let k2 = view_state c.turn.new.st in
+    let went : DoesAs view_left k1 (Ok None) k2 (turn test step body) = subst (λ o. DoesAs view_left k1 (Ok o) k2 (turn test step body)) c.in-Ok-None.field-0-is c.in-Ok-None.ensures.does in
+    record {
+      so_far = turn_leads c.args.n c.loop.counter test step body (view_state c.args.st.now) k1 k2 c.loop-test.true c.loop.invariant.so_far went;
+      fuel = omega (arith, c.in-Ok-None.ensures.fuel, c.loop.invariant.fuel);
+    }

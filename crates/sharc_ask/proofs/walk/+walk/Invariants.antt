@@ -1,5 +1,11 @@
-use Rattle.std.proofs.Common.{◌*◌, ◌+◌}
+use Rattle.std.proofs.Common.{◌*◌, ◌+◌, ◌-◌, ◌≤◌, drop}
+use Rattle.sharc_names.specs.View.{view_kind}
+use Rattle.sharc_meaning.specs.Meaning.{calls}
+use Rattle.sharc_meaning.specs.Statements.{turns}
+use Rattle.sharc_steps.specs.View.{view_state}
+use Rattle.sharc_ask.specs.View.{loop_test, loop_step, loop_body}
 use Rattle.sharc_ask.specs.Plans.{rank, size}
+use Rattle.sharc_ask.proofs.Loops.{LeadsOn, of_all}
 use Rattle.sharc_ask.proofs.walk.+walk.Given as goal
 
 abbrev pub decreases-run : goal.decreases-run
@@ -36,13 +42,16 @@ abbrev pub decreases-goes_on : goal.decreases-goes_on
 decreases-goes_on l = 32 * l.st.now.fuel + 8
 
 abbrev pub decreases-turns : goal.decreases-turns
-decreases-turns l = 32 * l.st.now.fuel + 9
+decreases-turns l = 32 * l.st.now.fuel + 10
 
 abbrev pub decreases-turn : goal.decreases-turn
-decreases-turn l = 32 * l.st.now.fuel + 8
+decreases-turn l = 32 * l.st.now.fuel + 9
 
-abbrev pub decreases-again : goal.decreases-again
-decreases-again l = 32 * l.st.now.fuel + 10
+abbrev pub decreases-around : goal.decreases-around
+decreases-around l = 32 * l.st.now.fuel + 8
+
+abbrev pub decreases-another : goal.decreases-another
+decreases-another l = 32 * l.st.now.fuel + 7
 
 abbrev pub decreases-for_loop : goal.decreases-for_loop
 decreases-for_loop l = 32 * l.st.now.fuel + 12
@@ -64,3 +73,15 @@ decreases-run_function l = 32 * l.st.now.fuel + 20
 
 abbrev pub decreases-function : goal.decreases-function
 decreases-function l = 32 * l.st.now.fuel + 21
+
+abbrev pub invariant-exec_all-loop-statement : goal.invariant-exec_all-loop-statement
+invariant-exec_all-loop-statement l = record {
+  so_far : LeadsOn (view_state l.fn.st) (of_all (calls l.m l.frames) l.m (view_kind l.kind) l.all) (view_state l.st) (of_all (calls l.m l.frames) l.m (view_kind l.kind) (drop l.statement-index l.all));
+  fuel : l.st.fuel ≤ l.fn.st.fuel;
+}
+
+abbrev pub invariant-turns-loop : goal.invariant-turns-loop
+invariant-turns-loop l = record {
+  so_far : LeadsOn (view_state l.fn.st) (turns l.n (loop_test (calls l.m l.frames) l.m l.l) (loop_step (calls l.m l.frames) l.m l.l) (loop_body (calls l.m l.frames) l.m l.l)) (view_state l.st) (turns (l.n - l.counter) (loop_test (calls l.m l.frames) l.m l.l) (loop_step (calls l.m l.frames) l.m l.l) (loop_body (calls l.m l.frames) l.m l.l));
+  fuel : l.st.fuel ≤ l.fn.st.fuel;
+}
