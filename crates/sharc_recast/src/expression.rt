@@ -5,6 +5,7 @@ ghost use Rattle.sharc_tree.specs.Tree.{identifier, call, spawn, cast, field, bi
 ghost use Rattle.sharc_tree.specs.View.{view_expr, view_arguments};
 ghost use Rattle.sharc_recast.specs.Recast.{type_at, is_there, around, with_cast, all_with_cast};
 
+use crate::held::{both, in_box};
 use crate::written::Recast;
 use sharc_tree::token::{Site, Span};
 use sharc_tree::tree::{Access, BinaryOperator, Expr, Identifier, WrittenType};
@@ -31,7 +32,8 @@ fn cast_of(
 ) -> Result<Expr, AllocError>
     ensures { IfOk result (λ e. view_expr e ≡ cast span to (view_expr source.value)) }
 {
-    Ok(Expr::Cast(span, Box::new(alloc, to)?, source))
+    let (source, to) = both(source, in_box(alloc, to))?;
+    Ok(Expr::Cast(span, to, source))
 }
 
 /// Whether the expression has the tokens of the cast.
@@ -46,7 +48,7 @@ fn is_there(c: &Recast, expr: &Expr) -> bool
 fn in_cast(alloc: Global, c: &Recast, span: Span, source: Box<Expr>) -> Result<Expr, AllocError>
     ensures { IfOk result (λ e. view_expr e ≡ cast span (type_at c.now span) (view_expr source.value)) }
 {
-    let to = type_at(alloc, c, span)?;
+    let (source, to) = both(source, type_at(alloc, c, span))?;
     cast_of(alloc, span, to, source)
 }
 
@@ -56,7 +58,7 @@ fn around(alloc: Global, c: &Recast, expr: Expr) -> Result<Expr, AllocError>
 {
     let span = expr.span();
     if is_there(c, &expr) {
-        in_cast(alloc, c, span, Box::new(alloc, expr)?)
+        in_cast(alloc, c, span, in_box(alloc, expr)?)
     } else {
         Ok(expr)
     }
@@ -76,7 +78,7 @@ fn call_of(
 ) -> Result<Expr, AllocError>
     ensures { IfOk result (λ e. view_expr e ≡ call span name.now (view_arguments arguments.items)) }
 {
-    let name = name.copy(alloc)?;
+    let (arguments, name) = both(arguments, name.copy(alloc))?;
     Ok(Expr::call(span, name, arguments))
 }
 
@@ -88,7 +90,8 @@ fn spawn_of(
 ) -> Result<Expr, AllocError>
     ensures { IfOk result (λ e. view_expr e ≡ spawn span name.now (view_expr argument.value)) }
 {
-    Ok(Expr::Spawn(span, name.copy(alloc)?, argument))
+    let (argument, name) = both(argument, name.copy(alloc))?;
+    Ok(Expr::Spawn(span, name, argument))
 }
 
 fn old_cast(
@@ -99,7 +102,7 @@ fn old_cast(
 ) -> Result<Expr, AllocError>
     ensures { IfOk result (λ e. view_expr e ≡ cast span to.now (view_expr source.value)) }
 {
-    let to = to.copy(alloc)?;
+    let (source, to) = both(source, to.copy(alloc))?;
     cast_of(alloc, span, to, source)
 }
 
@@ -112,7 +115,7 @@ fn field_of(
 ) -> Result<Expr, AllocError>
     ensures { IfOk result (λ e. view_expr e ≡ field span (view_expr base.value) access name.now) }
 {
-    let name = name.copy(alloc)?;
+    let (base, name) = both(base, name.copy(alloc))?;
     Ok(Expr::Field {
         span,
         base,
@@ -160,7 +163,8 @@ pub(crate) fn expression(alloc: Global, c: &Recast, expr: &Expr) -> Result<Expr,
         Expr::Cast(span, to, source) => old_cast(alloc, *span, to, boxed(alloc, c, source)?),
         Expr::Index(span, base, index) => {
             let base = boxed(alloc, c, base)?;
-            Ok(Expr::Index(*span, base, boxed(alloc, c, index)?))
+            let (base, index) = both(base, boxed(alloc, c, index))?;
+            Ok(Expr::Index(*span, base, index))
         }
         Expr::Field {
             span,
@@ -177,7 +181,7 @@ pub(crate) fn expression(alloc: Global, c: &Recast, expr: &Expr) -> Result<Expr,
             right,
         } => {
             let left = boxed(alloc, c, left)?;
-            let right = boxed(alloc, c, right)?;
+            let (left, right) = both(left, boxed(alloc, c, right))?;
             Ok(binary_of(*span, *operator, *site, left, right))
         }
     }
@@ -189,7 +193,7 @@ pub(crate) fn boxed(alloc: Global, c: &Recast, expr: &Expr) -> Result<Box<Expr>,
     ensures { IfOk result (λ b. view_expr b.value ≡ with_cast c.now (view_expr expr.now)) }
 {
     let written = expression(alloc, c, expr)?;
-    Ok(Box::new(alloc, written)?)
+    in_box(alloc, written)
 }
 
 /// An expression whose value is passed, assigned or returned.
@@ -207,7 +211,7 @@ pub(crate) fn boxed_value(alloc: Global, c: &Recast, expr: &Expr) -> Result<Box<
     ensures { IfOk result (λ b. view_expr b.value ≡ around c.now (with_cast c.now (view_expr expr.now))) }
 {
     let written = value(alloc, c, expr)?;
-    Ok(Box::new(alloc, written)?)
+    in_box(alloc, written)
 }
 
 #[cycle(expr)]

@@ -4,6 +4,7 @@ ghost use Rattle.std.specs.Prelude.{◌≡◌, map, IfOk};
 ghost use Rattle.sharc_tree.specs.View.{view_function, view_item, view_items, view_program};
 ghost use Rattle.sharc_recast.specs.Recast.{function_with_cast, item_with_cast, program_with_cast};
 
+use crate::held::both;
 use crate::statement::statements;
 use crate::written::Recast;
 use sharc_tree::tree::{FunctionDefinition, Item, Items, Program};
@@ -17,9 +18,13 @@ fn function(
     ensures { IfOk result (λ f. view_function f ≡ function_with_cast c.now (view_function function.now)) }
 {
     let result = function.result.copy(alloc)?;
-    let name = function.name.copy(alloc)?;
-    let parameters = function.parameters.copy(alloc)?;
-    let statements = statements(alloc, c, &function.statements)?;
+    let (result, name) = both(result, function.name.copy(alloc))?;
+    let (named, parameters) = both((result, name), function.parameters.copy(alloc))?;
+    let (head, statements) = both(
+        (named, parameters),
+        statements(alloc, c, &function.statements),
+    )?;
+    let ((result, name), parameters) = head;
     Ok(FunctionDefinition {
         span: function.span,
         result,
@@ -56,8 +61,8 @@ impl Recast {
         ensures { IfOk result (λ p. view_program p ≡ program_with_cast self.now (view_program program.now)) }
     {
         let files = program.files.copy(alloc)?;
-        let items = items(alloc, self, program.items.as_slice())?;
-        let tokens = program.tokens.copy(alloc)?;
+        let (files, items) = both(files, items(alloc, self, program.items.as_slice()))?;
+        let ((files, items), tokens) = both((files, items), program.tokens.copy(alloc))?;
         Ok(Program {
             files,
             items: Items::of(items),

@@ -4,6 +4,7 @@
 #![tactic(auto)]
 
 mod expression;
+mod held;
 mod item;
 mod statement;
 mod written;

@@ -6,6 +6,7 @@ ghost use Rattle.sharc_tree.specs.View.{view_expr, view_option, view_right, view
 ghost use Rattle.sharc_recast.specs.Recast.{around, with_cast, right_with_cast, simple_with_cast, local_with_cast, first_with_cast, head_with_cast, statement_with_cast, statements_with_cast};
 
 use crate::expression::{boxed, boxed_value, expression, value};
+use crate::held::{both, in_box};
 use crate::written::Recast;
 use sharc_tree::token::Span;
 use sharc_tree::tree::{Expr, ForFirst, ForHead, Local, Right, Simple, Stmt};
@@ -27,7 +28,8 @@ fn right(alloc: Global, c: &Recast, right: &Right) -> Result<Right, AllocError>
         Right::Value(expr) => Ok(Right::Value(value(alloc, c, expr)?)),
         Right::Malloc(span, count, of) => {
             let count = optional(alloc, c, count)?;
-            Ok(Right::Malloc(*span, count, of.copy(alloc)?))
+            let (count, of) = both(count, of.copy(alloc))?;
+            Ok(Right::Malloc(*span, count, of))
         }
     }
 }
@@ -38,7 +40,8 @@ fn simple_of(alloc: Global, c: &Recast, simple: &Simple) -> Result<Simple, Alloc
     match simple {
         Simple::Assign(span, place, x) => {
             let place = expression(alloc, c, place)?;
-            Ok(Simple::Assign(*span, place, right(alloc, c, x)?))
+            let (place, x) = both(place, right(alloc, c, x))?;
+            Ok(Simple::Assign(*span, place, x))
         }
         Simple::Call(call) => Ok(Simple::Call(expression(alloc, c, call)?)),
     }
@@ -57,7 +60,7 @@ fn local_of(alloc: Global, c: &Recast, local: &Local) -> Result<Local, AllocErro
     ensures { IfOk result (λ l. view_local l ≡ local_with_cast c.now (view_local local.now)) }
 {
     let declaration = local.declaration.copy(alloc)?;
-    let initial = initial(alloc, c, &local.initial)?;
+    let (declaration, initial) = both(declaration, initial(alloc, c, &local.initial))?;
     Ok(Local {
         span: local.span,
         declaration,
@@ -84,20 +87,6 @@ fn step(alloc: Global, c: &Recast, step: &Option<Simple>) -> Result<Option<Simpl
     }
 }
 
-// Each function holds one part of a head at most while it writes the next: a proof goes through the drop of every part that is held.
-fn step_behind(
-    alloc: Global,
-    c: &Recast,
-    test: Option<Expr>,
-    next: &Option<Simple>,
-) -> Result<(Option<Expr>, Option<Simple>), AllocError>
-    ensures test { IfOk result (λ r. r.0 ≡ test) }
-    ensures step { IfOk result (λ r. view_option view_simple r.1 ≡ option_map (simple_with_cast c.now) (view_option view_simple next.now)) }
-{
-    let next = step(alloc, c, next)?;
-    Ok((test, next))
-}
-
 fn test_and_step(
     alloc: Global,
     c: &Recast,
@@ -107,14 +96,14 @@ fn test_and_step(
     ensures step { IfOk result (λ r. view_option view_simple r.1 ≡ option_map (simple_with_cast c.now) (view_option view_simple head.now.step)) }
 {
     let test = optional(alloc, c, &head.test)?;
-    step_behind(alloc, c, test, &head.step)
+    both(test, step(alloc, c, &head.step))
 }
 
 fn head_of(alloc: Global, c: &Recast, head: &ForHead) -> Result<ForHead, AllocError>
     ensures { IfOk result (λ h. view_head h ≡ head_with_cast c.now (view_head head.now)) }
 {
     let first = first(alloc, c, &head.first)?;
-    let (test, step) = test_and_step(alloc, c, head)?;
+    let (first, (test, step)) = both(first, test_and_step(alloc, c, head))?;
     Ok(ForHead { first, test, step })
 }
 
@@ -122,7 +111,7 @@ fn declare_of(alloc: Global, c: &Recast, span: Span, local: &Local) -> Result<St
     ensures { IfOk result (λ s. view_stmt s ≡ declare span (local_with_cast c.now (view_local local.now))) }
 {
     let local = local_of(alloc, c, local)?;
-    Ok(Stmt::Declare(span, Box::new(alloc, local)?))
+    Ok(Stmt::Declare(span, in_box(alloc, local)?))
 }
 
 fn simple_statement(
@@ -134,7 +123,7 @@ fn simple_statement(
     ensures { IfOk result (λ s. view_stmt s ≡ simple span (simple_with_cast c.now (view_simple does.now))) }
 {
     let does = simple_of(alloc, c, does)?;
-    Ok(Stmt::Simple(span, Box::new(alloc, does)?))
+    Ok(Stmt::Simple(span, in_box(alloc, does)?))
 }
 
 fn return_of(
@@ -160,7 +149,8 @@ fn if_of(
 ) -> Result<Stmt, AllocError>
     ensures { IfOk result (λ s. view_stmt s ≡ if_then span (with_cast c.now (view_expr test.now)) (view_stmt then.value)) }
 {
-    Ok(Stmt::If(span, boxed(alloc, c, test)?, then))
+    let (then, test) = both(then, boxed(alloc, c, test))?;
+    Ok(Stmt::If(span, test, then))
 }
 
 fn if_else_of(
@@ -173,7 +163,7 @@ fn if_else_of(
 ) -> Result<Stmt, AllocError>
     ensures { IfOk result (λ s. view_stmt s ≡ if_then_else span (with_cast c.now (view_expr test.now)) (view_stmt then.value) (view_stmt otherwise.value)) }
 {
-    let test = boxed(alloc, c, test)?;
+    let ((then, otherwise), test) = both((then, otherwise), boxed(alloc, c, test))?;
     Ok(Stmt::IfElse {
         span,
         test,
@@ -191,14 +181,15 @@ fn while_of(
 ) -> Result<Stmt, AllocError>
     ensures { IfOk result (λ s. view_stmt s ≡ while span (with_cast c.now (view_expr test.now)) (view_stmt body.value)) }
 {
-    Ok(Stmt::While(span, boxed(alloc, c, test)?, body))
+    let (body, test) = both(body, boxed(alloc, c, test))?;
+    Ok(Stmt::While(span, test, body))
 }
 
 fn boxed_head(alloc: Global, c: &Recast, head: &ForHead) -> Result<Box<ForHead>, AllocError>
     ensures { IfOk result (λ b. view_head b.value ≡ head_with_cast c.now (view_head head.now)) }
 {
     let head = head_of(alloc, c, head)?;
-    Ok(Box::new(alloc, head)?)
+    in_box(alloc, head)
 }
 
 fn for_of(
@@ -210,7 +201,8 @@ fn for_of(
 ) -> Result<Stmt, AllocError>
     ensures { IfOk result (λ s. view_stmt s ≡ for span (head_with_cast c.now (view_head head.now)) (view_stmt body.value)) }
 {
-    Ok(Stmt::For(span, boxed_head(alloc, c, head)?, body))
+    let (body, head) = both(body, boxed_head(alloc, c, head))?;
+    Ok(Stmt::For(span, head, body))
 }
 
 /// A statement with the cast written in it.
@@ -239,7 +231,7 @@ fn statement(alloc: Global, c: &Recast, stmt: &Stmt) -> Result<Stmt, AllocError>
             otherwise,
         } => {
             let then = boxed_statement(alloc, c, then)?;
-            let otherwise = boxed_statement(alloc, c, otherwise)?;
+            let (then, otherwise) = both(then, boxed_statement(alloc, c, otherwise))?;
             if_else_of(alloc, c, *span, test, then, otherwise)
         }
         Stmt::While(span, test, body) => {
@@ -257,7 +249,7 @@ fn boxed_statement(alloc: Global, c: &Recast, stmt: &Stmt) -> Result<Box<Stmt>, 
     ensures { IfOk result (λ b. view_stmt b.value ≡ statement_with_cast c.now (view_stmt stmt.now)) }
 {
     let written = statement(alloc, c, stmt)?;
-    Ok(Box::new(alloc, written)?)
+    in_box(alloc, written)
 }
 
 /// Statements with the cast written in them.

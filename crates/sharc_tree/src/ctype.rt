@@ -7,12 +7,23 @@ use crate::name::Name;
 use std::alloc::{AllocError, Global};
 
 /// A lock path. The number is that of the token of its first name, so that two variables of one name are told apart.
-#[derive(Drop)]
 pub enum Path {
     /// `m`: a global mutex, or in a field the sibling of that name.
     One(Name, u32),
     /// `x->m`: the mutex `m` of what the variable `x` refers to.
     Through(Name, u32, Name),
+}
+
+impl Drop for Path {
+    fn drop(self) {
+        match self {
+            Path::One(mutex, _) => drop(mutex),
+            Path::Through(variable, _, mutex) => {
+                drop(variable);
+                drop(mutex);
+            }
+        }
+    }
 }
 
 impl Path {
@@ -44,7 +55,6 @@ impl Path {
 }
 
 /// A sharing mode (the SharC paper).
-#[derive(Drop)]
 pub enum Mode {
     /// Accessed by its owner thread alone.
     Private,
@@ -56,6 +66,15 @@ pub enum Mode {
     Racy,
     /// Checked at run time: only read, or accessed by one thread.
     Dynamic,
+}
+
+impl Drop for Mode {
+    fn drop(self) {
+        match self {
+            Mode::Locked(path) => drop(path),
+            Mode::Private | Mode::Readonly | Mode::Racy | Mode::Dynamic => {}
+        }
+    }
 }
 
 impl Mode {
@@ -88,7 +107,6 @@ impl Mode {
 }
 
 /// What stands at the bottom of a type.
-#[derive(Drop)]
 pub enum Base {
     Int,
     Char,
@@ -97,6 +115,15 @@ pub enum Base {
     Void,
     /// `struct` with this name
     Struct(Name),
+}
+
+impl Drop for Base {
+    fn drop(self) {
+        match self {
+            Base::Struct(name) => drop(name),
+            Base::Int | Base::Char | Base::Long | Base::Mutex | Base::Void => {}
+        }
+    }
 }
 
 impl Base {
@@ -185,10 +212,17 @@ impl Listed<Option<Mode>> {
 }
 
 /// A C type with the modes of its levels where they are known.
-#[derive(Drop)]
 pub struct CType {
     pub base: Base,
     pub levels: Levels,
+}
+
+impl Drop for CType {
+    fn drop(self) {
+        let CType { base, levels } = self;
+        drop(base);
+        drop(levels);
+    }
 }
 
 impl CType {

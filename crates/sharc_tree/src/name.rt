@@ -7,9 +7,16 @@ use std::alloc::{AllocError, Global};
 use std::marker::Model;
 
 /// The text of a name, of a file's name or of a token. A contract sees it as the list of its bytes.
-#[derive(Debug, Drop)]
+#[derive(Debug)]
 pub struct Name {
     bytes: Vec<u8>,
+}
+
+impl Drop for Name {
+    fn drop(self) {
+        let Name { bytes } = self;
+        drop(bytes);
+    }
 }
 
 impl Model for Name {
@@ -69,7 +76,8 @@ impl Name {
     pub fn into_vec(self) -> Vec<u8>
         ensures { result.items ≡ self }
     {
-        self.bytes
+        let Name { bytes } = self;
+        bytes
     }
 
     /// Whether the names have the same bytes.

@@ -160,7 +160,6 @@ pub enum TokenKind {
 }
 
 /// A token of the source.
-#[derive(Drop)]
 pub struct Token {
     pub kind: TokenKind,
     /// The slice of the source at the span.
@@ -173,6 +172,20 @@ pub struct Token {
     pub file: u32,
     /// The line, as in a site.
     pub line: u32,
+}
+
+impl Drop for Token {
+    fn drop(self) {
+        let Token {
+            kind: _,
+            text,
+            from: _,
+            until: _,
+            file: _,
+            line: _,
+        } = self;
+        drop(text);
+    }
 }
 
 impl Token {
@@ -247,7 +260,7 @@ impl Tokens {
 }
 
 /// Where and why a source is refused: a fault of the lexer (L), of the grammar (P) or of C typing (C).
-#[derive(Debug, Drop)]
+#[derive(Debug)]
 pub struct FaultAt {
     /// The digit of the code.
     pub code: u8,
@@ -258,4 +271,18 @@ pub struct FaultAt {
     pub offset: u64,
     /// The byte of L1, the token of P1 and P3 (empty at the end of input), the name that C1, C2, C4, C7 and C9 print, else empty.
     pub text: Name,
+}
+
+impl Drop for FaultAt {
+    fn drop(self) {
+        let FaultAt {
+            code: _,
+            file,
+            line: _,
+            offset: _,
+            text,
+        } = self;
+        drop(file);
+        drop(text);
+    }
 }

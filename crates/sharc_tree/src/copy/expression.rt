@@ -4,6 +4,7 @@ ghost use Rattle.std.specs.Prelude.{◌≡◌, IfOk};
 ghost use Rattle.sharc_tree.specs.Tree.{identifier, call, spawn, cast, field, binary};
 ghost use Rattle.sharc_tree.specs.View.{view_expr, view_arguments};
 
+use crate::held::{both, in_box};
 use crate::token::{Site, Span};
 use crate::tree::{Access, BinaryOperator, Expr, Identifier, WrittenType};
 use std::alloc::{AllocError, Global};
@@ -22,7 +23,7 @@ fn copy_call(
 ) -> Result<Expr, AllocError>
     ensures { IfOk result (λ e. view_expr e ≡ call span name.now (view_arguments arguments.items)) }
 {
-    let name = name.copy(alloc)?;
+    let (arguments, name) = both(arguments, name.copy(alloc))?;
     Ok(Expr::call(span, name, arguments))
 }
 
@@ -34,7 +35,8 @@ fn copy_spawn(
 ) -> Result<Expr, AllocError>
     ensures { IfOk result (λ e. view_expr e ≡ spawn span name.now (view_expr argument.value)) }
 {
-    Ok(Expr::Spawn(span, name.copy(alloc)?, argument))
+    let (argument, name) = both(argument, name.copy(alloc))?;
+    Ok(Expr::Spawn(span, name, argument))
 }
 
 fn copy_cast(
@@ -45,7 +47,8 @@ fn copy_cast(
 ) -> Result<Expr, AllocError>
     ensures { IfOk result (λ e. view_expr e ≡ cast span to.now (view_expr source.value)) }
 {
-    let to = Box::new(alloc, to.copy(alloc)?)?;
+    let (source, to) = both(source, to.copy(alloc))?;
+    let (source, to) = both(source, in_box(alloc, to))?;
     Ok(Expr::Cast(span, to, source))
 }
 
@@ -58,7 +61,7 @@ fn copy_field(
 ) -> Result<Expr, AllocError>
     ensures { IfOk result (λ e. view_expr e ≡ field span (view_expr base.value) access name.now) }
 {
-    let name = name.copy(alloc)?;
+    let (base, name) = both(base, name.copy(alloc))?;
     Ok(Expr::Field {
         span,
         base,
@@ -101,7 +104,8 @@ pub fn copy_expr(alloc: Global, expr: &Expr) -> Result<Expr, AllocError>
         Expr::Cast(span, to, source) => copy_cast(alloc, *span, to, copy_box(alloc, source)?),
         Expr::Index(span, base, index) => {
             let base = copy_box(alloc, base)?;
-            Ok(Expr::Index(*span, base, copy_box(alloc, index)?))
+            let (base, index) = both(base, copy_box(alloc, index))?;
+            Ok(Expr::Index(*span, base, index))
         }
         Expr::Field {
             span,
@@ -118,7 +122,7 @@ pub fn copy_expr(alloc: Global, expr: &Expr) -> Result<Expr, AllocError>
             right,
         } => {
             let left = copy_box(alloc, left)?;
-            let right = copy_box(alloc, right)?;
+            let (left, right) = both(left, copy_box(alloc, right))?;
             Ok(binary_of(*span, *operator, *site, left, right))
         }
     }
@@ -130,7 +134,7 @@ pub(crate) fn copy_box(alloc: Global, expr: &Expr) -> Result<Box<Expr>, AllocErr
     ensures { IfOk result (λ b. view_expr b.value ≡ view_expr expr.now) }
 {
     let copied = copy_expr(alloc, expr)?;
-    Ok(Box::new(alloc, copied)?)
+    in_box(alloc, copied)
 }
 
 #[cycle(expr)]

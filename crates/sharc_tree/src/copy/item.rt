@@ -4,6 +4,7 @@ ghost use Rattle.std.specs.Prelude.{◌≡◌, IfOk};
 ghost use Rattle.sharc_tree.specs.View.{view_function, view_item, view_items, view_program};
 
 use crate::copy::statement::copy_statements;
+use crate::held::both;
 use crate::tree::{FunctionDefinition, Item, Items, Program};
 use std::alloc::{AllocError, Global};
 
@@ -15,9 +16,13 @@ pub fn copy_function(
     ensures { IfOk result (λ f. view_function f ≡ view_function function.now) }
 {
     let result = function.result.copy(alloc)?;
-    let name = function.name.copy(alloc)?;
-    let parameters = function.parameters.copy(alloc)?;
-    let statements = copy_statements(alloc, &function.statements)?;
+    let (result, name) = both(result, function.name.copy(alloc))?;
+    let (named, parameters) = both((result, name), function.parameters.copy(alloc))?;
+    let (head, statements) = both(
+        (named, parameters),
+        copy_statements(alloc, &function.statements),
+    )?;
+    let ((result, name), parameters) = head;
     Ok(FunctionDefinition {
         span: function.span,
         result,
@@ -55,8 +60,8 @@ impl Program {
         ensures { IfOk result (λ p. view_program p ≡ view_program self.now) }
     {
         let files = self.files.copy(alloc)?;
-        let items = copy_items(alloc, self.items.as_slice())?;
-        let tokens = self.tokens.copy(alloc)?;
+        let (files, items) = both(files, copy_items(alloc, self.items.as_slice()))?;
+        let ((files, items), tokens) = both((files, items), self.tokens.copy(alloc))?;
         Ok(Program {
             files,
             items: Items::of(items),

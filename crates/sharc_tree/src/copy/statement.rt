@@ -5,6 +5,7 @@ ghost use Rattle.sharc_tree.specs.Tree.{declare, simple, return, if_then, if_the
 ghost use Rattle.sharc_tree.specs.View.{view_expr, view_option, view_right, view_simple, view_local, view_first, view_head, view_stmt, view_statements};
 
 use crate::copy::expression::{copy_box, copy_expr};
+use crate::held::{both, in_box};
 use crate::token::Span;
 use crate::tree::{Expr, ForFirst, ForHead, Local, Right, Simple, Stmt};
 use std::alloc::{AllocError, Global};
@@ -26,7 +27,8 @@ pub fn copy_right(alloc: Global, right: &Right) -> Result<Right, AllocError>
         Right::Value(expr) => Ok(Right::Value(copy_expr(alloc, expr)?)),
         Right::Malloc(span, count, of) => {
             let count = copy_option(alloc, count)?;
-            Ok(Right::Malloc(*span, count, of.copy(alloc)?))
+            let (count, of) = both(count, of.copy(alloc))?;
+            Ok(Right::Malloc(*span, count, of))
         }
     }
 }
@@ -38,7 +40,8 @@ pub fn copy_simple(alloc: Global, simple: &Simple) -> Result<Simple, AllocError>
     match simple {
         Simple::Assign(span, place, right) => {
             let place = copy_expr(alloc, place)?;
-            Ok(Simple::Assign(*span, place, copy_right(alloc, right)?))
+            let (place, right) = both(place, copy_right(alloc, right))?;
+            Ok(Simple::Assign(*span, place, right))
         }
         Simple::Call(call) => Ok(Simple::Call(copy_expr(alloc, call)?)),
     }
@@ -58,7 +61,7 @@ pub fn copy_local(alloc: Global, local: &Local) -> Result<Local, AllocError>
     ensures { IfOk result (λ l. view_local l ≡ view_local local.now) }
 {
     let declaration = local.declaration.copy(alloc)?;
-    let initial = copy_initial(alloc, &local.initial)?;
+    let (declaration, initial) = both(declaration, copy_initial(alloc, &local.initial))?;
     Ok(Local {
         span: local.span,
         declaration,
@@ -85,19 +88,6 @@ fn copy_step(alloc: Global, step: &Option<Simple>) -> Result<Option<Simple>, All
     }
 }
 
-// Each function holds one part of a head at most while it copies the next: a proof goes through the drop of every part that is held.
-fn copy_step_behind(
-    alloc: Global,
-    test: Option<Expr>,
-    step: &Option<Simple>,
-) -> Result<(Option<Expr>, Option<Simple>), AllocError>
-    ensures test { IfOk result (λ r. r.0 ≡ test) }
-    ensures step { IfOk result (λ r. view_option view_simple r.1 ≡ view_option view_simple step.now) }
-{
-    let step = copy_step(alloc, step)?;
-    Ok((test, step))
-}
-
 fn copy_test_and_step(
     alloc: Global,
     head: &ForHead,
@@ -106,7 +96,7 @@ fn copy_test_and_step(
     ensures step { IfOk result (λ r. view_option view_simple r.1 ≡ view_option view_simple head.now.step) }
 {
     let test = copy_option(alloc, &head.test)?;
-    copy_step_behind(alloc, test, &head.step)
+    both(test, copy_step(alloc, &head.step))
 }
 
 /// The head of a `for` once more.
@@ -114,7 +104,7 @@ pub fn copy_head(alloc: Global, head: &ForHead) -> Result<ForHead, AllocError>
     ensures { IfOk result (λ h. view_head h ≡ view_head head.now) }
 {
     let first = copy_first(alloc, &head.first)?;
-    let (test, step) = copy_test_and_step(alloc, head)?;
+    let (first, (test, step)) = both(first, copy_test_and_step(alloc, head))?;
     Ok(ForHead { first, test, step })
 }
 
@@ -122,14 +112,14 @@ fn copy_declare(alloc: Global, span: Span, local: &Local) -> Result<Stmt, AllocE
     ensures { IfOk result (λ s. view_stmt s ≡ declare span (view_local local.now)) }
 {
     let local = copy_local(alloc, local)?;
-    Ok(Stmt::Declare(span, Box::new(alloc, local)?))
+    Ok(Stmt::Declare(span, in_box(alloc, local)?))
 }
 
 fn copy_simple_stmt(alloc: Global, span: Span, does: &Simple) -> Result<Stmt, AllocError>
     ensures { IfOk result (λ s. view_stmt s ≡ simple span (view_simple does.now)) }
 {
     let does = copy_simple(alloc, does)?;
-    Ok(Stmt::Simple(span, Box::new(alloc, does)?))
+    Ok(Stmt::Simple(span, in_box(alloc, does)?))
 }
 
 fn copy_return(alloc: Global, span: Span, value: &Option<Box<Expr>>) -> Result<Stmt, AllocError>
@@ -144,7 +134,8 @@ fn copy_return(alloc: Global, span: Span, value: &Option<Box<Expr>>) -> Result<S
 fn copy_if(alloc: Global, span: Span, test: &Expr, then: Box<Stmt>) -> Result<Stmt, AllocError>
     ensures { IfOk result (λ s. view_stmt s ≡ if_then span (view_expr test.now) (view_stmt then.value)) }
 {
-    Ok(Stmt::If(span, copy_box(alloc, test)?, then))
+    let (then, test) = both(then, copy_box(alloc, test))?;
+    Ok(Stmt::If(span, test, then))
 }
 
 fn copy_if_else(
@@ -156,7 +147,7 @@ fn copy_if_else(
 ) -> Result<Stmt, AllocError>
     ensures { IfOk result (λ s. view_stmt s ≡ if_then_else span (view_expr test.now) (view_stmt then.value) (view_stmt otherwise.value)) }
 {
-    let test = copy_box(alloc, test)?;
+    let ((then, otherwise), test) = both((then, otherwise), copy_box(alloc, test))?;
     Ok(Stmt::IfElse {
         span,
         test,
@@ -168,20 +159,22 @@ fn copy_if_else(
 fn copy_while(alloc: Global, span: Span, test: &Expr, body: Box<Stmt>) -> Result<Stmt, AllocError>
     ensures { IfOk result (λ s. view_stmt s ≡ while span (view_expr test.now) (view_stmt body.value)) }
 {
-    Ok(Stmt::While(span, copy_box(alloc, test)?, body))
+    let (body, test) = both(body, copy_box(alloc, test))?;
+    Ok(Stmt::While(span, test, body))
 }
 
 fn copy_head_box(alloc: Global, head: &ForHead) -> Result<Box<ForHead>, AllocError>
     ensures { IfOk result (λ b. view_head b.value ≡ view_head head.now) }
 {
     let head = copy_head(alloc, head)?;
-    Ok(Box::new(alloc, head)?)
+    in_box(alloc, head)
 }
 
 fn copy_for(alloc: Global, span: Span, head: &ForHead, body: Box<Stmt>) -> Result<Stmt, AllocError>
     ensures { IfOk result (λ s. view_stmt s ≡ for span (view_head head.now) (view_stmt body.value)) }
 {
-    Ok(Stmt::For(span, copy_head_box(alloc, head)?, body))
+    let (body, head) = both(body, copy_head_box(alloc, head))?;
+    Ok(Stmt::For(span, head, body))
 }
 
 /// A statement once more.
@@ -206,7 +199,7 @@ pub fn copy_stmt(alloc: Global, stmt: &Stmt) -> Result<Stmt, AllocError>
             otherwise,
         } => {
             let then = copy_stmt_box(alloc, then)?;
-            let otherwise = copy_stmt_box(alloc, otherwise)?;
+            let (then, otherwise) = both(then, copy_stmt_box(alloc, otherwise))?;
             copy_if_else(alloc, *span, test, then, otherwise)
         }
         Stmt::While(span, test, body) => copy_while(
@@ -225,7 +218,7 @@ fn copy_stmt_box(alloc: Global, stmt: &Stmt) -> Result<Box<Stmt>, AllocError>
     ensures { IfOk result (λ b. view_stmt b.value ≡ view_stmt stmt.now) }
 {
     let copied = copy_stmt(alloc, stmt)?;
-    Ok(Box::new(alloc, copied)?)
+    in_box(alloc, copied)
 }
 
 /// Statements once more.

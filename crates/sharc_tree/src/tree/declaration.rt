@@ -29,7 +29,6 @@ impl Identifier {
 }
 
 /// A type as it is written. `type = (mode base | base [mode]) { "*" [mode] }`, and without modes what `sizeof` takes.
-#[derive(Drop)]
 pub struct WrittenType {
     pub span: Span,
     /// Whether the mode of the base stands before the base.
@@ -39,6 +38,18 @@ pub struct WrittenType {
     /// The type, each level with the mode that is written there or none. A lock path has the number of the token of its first name, and its second
     /// name is told by its text alone; a struct is told by its name.
     pub ctype: CType,
+}
+
+impl Drop for WrittenType {
+    fn drop(self) {
+        let WrittenType {
+            span: _,
+            mode_first: _,
+            base: _,
+            ctype,
+        } = self;
+        drop(ctype);
+    }
 }
 
 impl WrittenType {
@@ -57,11 +68,22 @@ impl WrittenType {
 }
 
 /// `type id`: what a field, a parameter and a local declare.
-#[derive(Drop)]
 pub struct Declaration {
     pub span: Span,
     pub written: WrittenType,
     pub name: Identifier,
+}
+
+impl Drop for Declaration {
+    fn drop(self) {
+        let Declaration {
+            span: _,
+            written,
+            name,
+        } = self;
+        drop(written);
+        drop(name);
+    }
 }
 
 impl Declaration {

@@ -11,11 +11,22 @@ use crate::tree::statement::Stmt;
 use std::alloc::{AllocError, Global};
 
 /// `struct id { field { field } } ;`
-#[derive(Drop)]
 pub struct StructDefinition {
     pub span: Span,
     pub name: Identifier,
     pub fields: Declarations,
+}
+
+impl Drop for StructDefinition {
+    fn drop(self) {
+        let StructDefinition {
+            span: _,
+            name,
+            fields,
+        } = self;
+        drop(name);
+        drop(fields);
+    }
 }
 
 impl StructDefinition {
@@ -45,11 +56,21 @@ pub enum GlobalForm {
 }
 
 /// `type id [ [ number ] | = const ] ;`
-#[derive(Drop)]
 pub struct GlobalDefinition {
     pub span: Span,
     pub declaration: Declaration,
     pub form: GlobalForm,
+}
+
+impl Drop for GlobalDefinition {
+    fn drop(self) {
+        let GlobalDefinition {
+            span: _,
+            declaration,
+            form: _,
+        } = self;
+        drop(declaration);
+    }
 }
 
 impl GlobalDefinition {
@@ -67,7 +88,6 @@ impl GlobalDefinition {
 }
 
 /// `type id ( void | type id { , type id } ) block`
-#[derive(Drop)]
 pub struct FunctionDefinition {
     pub span: Span,
     pub result: WrittenType,
@@ -77,6 +97,23 @@ pub struct FunctionDefinition {
     /// The tokens of the body, its braces included.
     pub body: Span,
     pub statements: Vec<Stmt>,
+}
+
+impl Drop for FunctionDefinition {
+    fn drop(self) {
+        let FunctionDefinition {
+            span: _,
+            result,
+            name,
+            parameters,
+            body: _,
+            statements,
+        } = self;
+        drop(result);
+        drop(name);
+        drop(parameters);
+        drop(statements);
+    }
 }
 
 /// What a program is made of.

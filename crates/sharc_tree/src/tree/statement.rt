@@ -5,12 +5,23 @@ use crate::tree::declaration::{Declaration, WrittenType};
 use crate::tree::expression::Expr;
 
 /// What stands right of `=`.
-#[derive(Drop)]
 pub enum Right {
     /// `expr`
     Value(Expr),
     /// `malloc ( [ unary * ] sizeof ( plain ) )`
     Malloc(Span, Option<Expr>, WrittenType),
+}
+
+impl Drop for Right {
+    fn drop(self) {
+        match self {
+            Right::Value(value) => drop(value),
+            Right::Malloc(_, count, of) => {
+                drop(count);
+                drop(of);
+            }
+        }
+    }
 }
 
 impl Right {
@@ -30,12 +41,23 @@ impl Right {
 }
 
 /// An assignment or a call.
-#[derive(Drop)]
 pub enum Simple {
     /// `unary = right`
     Assign(Span, Expr, Right),
     /// `call`
     Call(Expr),
+}
+
+impl Drop for Simple {
+    fn drop(self) {
+        match self {
+            Simple::Assign(_, place, right) => {
+                drop(place);
+                drop(right);
+            }
+            Simple::Call(call) => drop(call),
+        }
+    }
 }
 
 impl Simple {
@@ -55,11 +77,22 @@ impl Simple {
 }
 
 /// `type id [ = right ]`
-#[derive(Drop)]
 pub struct Local {
     pub span: Span,
     pub declaration: Declaration,
     pub initial: Option<Right>,
+}
+
+impl Drop for Local {
+    fn drop(self) {
+        let Local {
+            span: _,
+            declaration,
+            initial,
+        } = self;
+        drop(declaration);
+        drop(initial);
+    }
 }
 
 /// What stands first in the head of a `for`.
@@ -71,11 +104,19 @@ pub enum ForFirst {
 }
 
 /// The head of a `for`.
-#[derive(Drop)]
 pub struct ForHead {
     pub first: ForFirst,
     pub test: Option<Expr>,
     pub step: Option<Simple>,
+}
+
+impl Drop for ForHead {
+    fn drop(self) {
+        let ForHead { first, test, step } = self;
+        drop(first);
+        drop(test);
+        drop(step);
+    }
 }
 
 /// `break` or `continue`.
