@@ -9,7 +9,7 @@ use sharc_tree::token::FaultAt;
 use std::alloc::{AllocError, AllocFailed, Global};
 
 /// What is wrong where a token or a line marker should stand.
-#[derive(Clone, Copy, PartialEq, Eq, Debug)]
+#[derive(Clone, Copy)]
 pub enum Fault {
     /// L1: this byte begins no token.
     Byte(u8),
@@ -50,14 +50,14 @@ impl Fault {
 }
 
 /// A fault at an offset of the source.
-#[derive(Clone, Copy, PartialEq, Eq, Debug)]
+#[derive(Clone, Copy)]
 pub struct LineFault {
     pub offset: usize,
     pub fault: Fault,
 }
 
 /// Where a line stands.
-#[derive(Clone, Copy, PartialEq, Eq, Debug)]
+#[derive(Clone, Copy)]
 pub struct Place {
     /// The file's place in the list of files.
     pub file: u32,
@@ -65,7 +65,7 @@ pub struct Place {
 }
 
 /// Why a line was not read.
-#[derive(Debug, Drop)]
+#[derive(Drop)]
 pub enum Failure {
     At(LineFault),
     Memory,

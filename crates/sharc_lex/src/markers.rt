@@ -9,7 +9,7 @@ use crate::bytes::{is_blank, is_digit, is_printable};
 use crate::numbers::digits;
 
 /// The place that a line marker gives to the next line.
-#[derive(Clone, Copy, Debug)]
+#[derive(Clone, Copy)]
 pub struct MarkedPlace<'a> {
     pub line: u32,
     pub file: &'a [u8],

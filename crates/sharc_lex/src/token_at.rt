@@ -13,7 +13,7 @@ use crate::words::word;
 use sharc_tree::token::TokenKind;
 
 /// A token at the front of some bytes.
-#[derive(Clone, Copy, PartialEq, Eq, Debug)]
+#[derive(Clone, Copy)]
 pub struct Lexeme {
     /// How many bytes it has.
     pub len: usize,
