@@ -8,7 +8,7 @@ use std::alloc::{AllocError, Global};
 use std::marker::Model;
 
 /// The nine faults, C1 to C9.
-#[derive(Clone, Copy, PartialEq, Eq, Debug)]
+#[derive(Clone, Copy)]
 pub enum FaultCode {
     /// C1
     UnknownName,
@@ -31,14 +31,14 @@ pub enum FaultCode {
 }
 
 /// A fault: the number of the token where it stands, and what it is.
-#[derive(Clone, Copy, PartialEq, Eq, Debug)]
+#[derive(Clone, Copy)]
 pub struct Fault {
     pub place: usize,
     pub code: FaultCode,
 }
 
 /// What a name token names.
-#[derive(Clone, Copy, PartialEq, Eq, Debug)]
+#[derive(Clone, Copy)]
 pub enum Named {
     /// The struct with this number.
     Struct(u32),

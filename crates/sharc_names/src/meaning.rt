@@ -18,7 +18,7 @@ pub struct Signature<'a> {
 }
 
 /// A call that the language knows where the program defines none of `struct cond`, `wait`, `signal` and `broadcast` (own).
-#[derive(Clone, Copy, PartialEq, Eq, Debug)]
+#[derive(Clone, Copy)]
 pub enum ConditionCall {
     /// `void wait(struct cond * c, mutex * m)`
     Wait,

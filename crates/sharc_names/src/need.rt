@@ -13,7 +13,7 @@ use crate::kind::{
 use sharc_tree::tree::Expr;
 
 /// What is needed.
-#[derive(Clone, Copy, PartialEq, Eq, Debug)]
+#[derive(Clone, Copy)]
 pub enum Need {
     /// An integer, a pointer or `NULL`.
     Value,

@@ -17,7 +17,7 @@ use sharc_tree::ctype::{Base, Mode, Path};
 use sharc_tree::tree::{Declaration, WrittenType};
 
 /// Where a type stands.
-#[derive(Clone, Copy, PartialEq, Eq, Debug)]
+#[derive(Clone, Copy)]
 pub enum Role {
     Field,
     Global,
