@@ -28,7 +28,7 @@ use sharc_tree::tree::{
 };
 
 /// What an expression stands for.
-#[derive(Clone, Copy, PartialEq, Eq, Debug)]
+#[derive(Clone, Copy)]
 pub enum Standing {
     /// For its value, or for nothing.
     AsValue,
@@ -37,7 +37,7 @@ pub enum Standing {
 }
 
 /// The kinds of operators between two operands (C11 6.5.5 to 6.5.14).
-#[derive(Clone, Copy, PartialEq, Eq, Debug)]
+#[derive(Clone, Copy)]
 pub enum OperatorClass {
     /// `||` and `&&`
     Logical,

@@ -8,7 +8,7 @@ use sharc_names::kind::{declared_kind, is_pointer};
 use sharc_tree::tree::Declaration;
 
 /// The cells of an element of a struct.
-#[derive(Clone, Copy, Debug)]
+#[derive(Clone, Copy)]
 pub struct StructCells {
     /// The number of cells.
     pub cells: u32,

@@ -185,17 +185,39 @@ fn heads<'a>(alloc: Global, items: &'a [Item], found: &mut Found) -> Result<Head
     Ok(known)
 }
 
+/// What is found in items whose heads are known.
+fn behind_heads<'a>(
+    alloc: Global,
+    tokens: u32,
+    scope: &mut Scope<'a>,
+    list: &'a [Item],
+    found: &mut Found,
+) -> Result<(), AllocError>
+    ensures { OnOk result (found.new ≡ fold noted found.old (items_notes (known_in scope.old) (view_items list.now) ++ sizes_notes (known_in scope.old).structs 0 (view_items list.now) ++ main_missing tokens (known_in scope.old).names)) }
+{
+    known_in(scope)?;
+    items(alloc, scope, list, found)?;
+    sizes(&scope.structs, list, found);
+    main_missing(tokens, &scope.names, found);
+    Ok(())
+}
+
+/// What is found in these items, behind what was found before.
+fn find(alloc: Global, tokens: u32, list: &[Item], found: &mut Found) -> Result<(), AllocError>
+    requires few { length list.now + 1 < 2 ^ 32 }
+    ensures { OnOk result (found.new ≡ fold noted found.old (program_notes tokens (view_items list.now))) }
+{
+    let mut scope = heads(alloc, list, found)?.scope;
+    behind_heads(alloc, tokens, &mut scope, list, found)
+}
+
 /// What is found in the items of a program of so many tokens.
 pub(crate) fn pass(alloc: Global, tokens: u32, list: &[Item]) -> Result<Found, AllocError>
     requires few { length list.now + 1 < 2 ^ 32 }
     ensures { IfOk result (λ f. f ≡ fold noted (nothing_found tokens) (program_notes tokens (view_items list.now))) }
 {
     let mut found = Found::new(alloc, tokens as usize)?;
-    let mut scope = heads(alloc, list, &mut found)?.scope;
-    known_in(&mut scope)?;
-    items(alloc, &mut scope, list, &mut found)?;
-    sizes(&scope.structs, list, &mut found);
-    main_missing(tokens, &scope.names, &mut found);
+    find(alloc, tokens, list, &mut found)?;
     Ok(found)
 }
 

@@ -62,7 +62,7 @@ impl Model for Typed {
 }
 
 /// Why a program is not typed.
-#[derive(Debug, Drop)]
+#[derive(Drop)]
 pub enum TypeFault {
     /// The first fault.
     At(FaultAt),
