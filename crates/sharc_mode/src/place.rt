@@ -1,7 +1,7 @@
 // Where a type stands, as far as modes are concerned.
 
 /// Where a type stands.
-#[derive(Clone, Copy, PartialEq, Eq, Debug)]
+#[derive(Clone, Copy)]
 pub enum Place {
     Global,
     Field,

@@ -4,7 +4,7 @@ use sharc_tree::ctype::Mode;
 use sharc_tree::listed::Listed;
 
 /// A level of the type of a local, parameter, result, global, cast or field: a pointer's target, or the top of a global.
-#[derive(Clone, Copy, PartialEq, Eq, Debug)]
+#[derive(Clone, Copy)]
 pub struct Position {
     /// The token of the declared name, of a cast the token `SCAST`.
     pub entity: u32,
@@ -13,7 +13,7 @@ pub struct Position {
 }
 
 /// Why a position without a written mode is dynamic (own).
-#[derive(Clone, Copy, PartialEq, Eq, Debug)]
+#[derive(Clone, Copy, PartialEq, Eq)]
 pub enum Reason {
     /// It is the top of a global that this function names, the first one that threads may run.
     Touched(u32),
