@@ -8,7 +8,7 @@ use sharc_tree::token::FaultAt;
 use std::alloc::{AllocError, Global};
 
 /// The part of the front end that refuses a source.
-#[derive(Clone, Copy, Debug, PartialEq, Eq)]
+#[derive(Clone, Copy)]
 pub enum Stage {
     /// It reads bytes into tokens: L1 to L5.
     Lexer,
