@@ -10,7 +10,7 @@ use Rattle.sharc_names.specs.Kinds.{declared_kinds}
 use Rattle.sharc_names.specs.View.{view_kind}
 use Rattle.sharc_meaning.specs.Expressions.{tested, called, passed, eval, eval_all}
 use Rattle.sharc_meaning.specs.Meaning.{calls}
-use Rattle.sharc_meaning.specs.Statements.{Flow, returned, on_turn, turns, loop, done_first, return_with, done_simple, done_step, declared, exec, exec_all}
+use Rattle.sharc_meaning.specs.Statements.{Flow, returned, loop, done_first, return_with, done_simple, done_step, declared, exec, exec_all}
 use Rattle.sharc_meaning.specs.State.{Run, go, then_on, ◌>>=◌, ◌>>◌, done, enters, in_block, ends_variables, ends_temporaries}
 use Rattle.sharc_meaning.specs.Waiting.{condition_call}
 use Rattle.sharc_steps.specs.View.{Known, view_state, Ends, Does, DoesAs}
@@ -25,7 +25,6 @@ use Rattle.sharc_ask.proofs.Framing.{call_stops, call_of_none, call_goes, call_e
 use Rattle.std.proofs.Common.{Vec, Global}
 use Rattle.sharc_tree.specs.declared.token.Site.{Site}
 use Rattle.sharc_tree.specs.declared.tree.expression.Expr.{Expr}
-use Rattle.sharc_tree.specs.declared.tree.statement.Stmt.{Stmt}
 use Rattle.sharc_tree.specs.declared.tree.statement.ForHead.{ForHead}
 use Rattle.sharc_tree.specs.Tree.{Expression, Simple, First, for}
 use Rattle.sharc_tree.specs.View.{view_head}
