@@ -8,8 +8,6 @@
 mod command;
 pub mod laws;
 mod reader;
-#[cfg(test)]
-mod tests;
 
 pub use command::Command;
 pub use reader::read_words;

@@ -13,8 +13,6 @@ mod source;
 mod standard;
 mod store;
 mod sure;
-#[cfg(test)]
-mod tests;
 mod unread;
 mod writing;
 
