@@ -21,6 +21,8 @@ mod sources;
 #[cfg(test)]
 mod statements;
 #[cfg(test)]
+mod tables;
+#[cfg(test)]
 mod tokens;
 #[cfg(test)]
 mod tree_tests;

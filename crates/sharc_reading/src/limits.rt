@@ -6,18 +6,23 @@ use std::alloc::{AllocError, Global};
 use std::process::Abort;
 use std::test::Fail;
 
-/// A text with so many of another before it, and so many of a third behind it.
+/// What stands before a text, the text, and what stands behind it.
+type Parts<'a> = (&'a str, &'a str, &'a str);
+
+/// A source with so many openings, a text and so many closings in its midst.
 fn wrapped(
     alloc: Global,
-    opening: &str,
-    middle: &str,
-    closing: &str,
+    before: &str,
+    parts: Parts<'_>,
     times: usize,
+    after: &str,
 ) -> Result<String, AllocError> {
-    let mut text = String::new(alloc);
+    let (opening, middle, closing) = parts;
+    let mut text = String::from_str(alloc, before)?;
     add_times(&mut text, opening, times)?;
     text.push_str(middle)?;
     add_times(&mut text, closing, times)?;
+    text.push_str(after)?;
     Ok(text)
 }
 
@@ -28,83 +33,111 @@ fn add_times(text: &mut String, part: &str, times: usize) -> Result<(), AllocErr
     Ok(())
 }
 
-/// Asserts that a program of the one text is read, and one of the other is over a limit.
-fn assert_last(
+/// Asserts that a source is read.
+fn assert_read(rt: &(impl Abort + AllocGlobal), source: &str) -> Result<(), Fail> {
+    drop(program(rt, source.as_bytes())?);
+    Ok(())
+}
+
+/// Asserts that a source is over a limit.
+fn assert_over(rt: &(impl Abort + AllocGlobal), source: &str) -> Result<(), Fail> {
+    assert_fault(rt, source.as_bytes(), 2, "")
+}
+
+/// Asserts that a program with so many openings and closings is read, and that one with one more is over a limit.
+fn assert_most(
     rt: &(impl Abort + AllocGlobal),
     before: &str,
-    fits: &str,
-    over: &str,
+    parts: Parts<'_>,
+    most: usize,
     after: &str,
 ) -> Result<(), Fail> {
-    let read = format!(in rt.alloc(); "{before}{fits}{after}")?;
-    let _program = program(rt, read.as_bytes())?;
-    let refused = format!(in rt.alloc(); "{before}{over}{after}")?;
-    assert_fault(rt, refused.as_bytes(), 2, "")
+    let over = most.saturating_add(1);
+    assert_read(
+        rt,
+        wrapped(rt.alloc(), before, parts, most, after)?.as_str(),
+    )?;
+    assert_over(
+        rt,
+        wrapped(rt.alloc(), before, parts, over, after)?.as_str(),
+    )
 }
+
+/// What stands before and behind an operand that is one lower.
+static HIGH: [(&str, &str); 10] = [
+    ("(", ")"),
+    ("- ", ""),
+    ("", "[0]"),
+    ("", ".b"),
+    ("", "->b"),
+    ("", " + a"),
+    ("g(", ")"),
+    ("join(", ")"),
+    ("a[", "]"),
+    ("SCAST(int, ", ")"),
+];
 
 #[test]
 fn expressions_are_at_most_64_high(rt: HostRuntime) -> Result<(), Fail> {
-    for (opening, closing) in [
-        ("(", ")"),
-        ("- ", ""),
-        ("", "[0]"),
-        ("", ".b"),
-        ("", "->b"),
-        ("", " + a"),
-        ("g(", ")"),
-        ("join(", ")"),
-        ("a[", "]"),
-        ("SCAST(int, ", ")"),
-    ] {
-        let fits = wrapped(rt.alloc(), opening, "a", closing, 64)?;
-        let over = wrapped(rt.alloc(), opening, "a", closing, 65)?;
-        assert_last(&rt, "int f(void) { return ", &fits, &over, "; }")?;
+    for (opening, closing) in &HIGH {
+        let parts = (*opening, "a", *closing);
+        assert_most(&rt, "int f(void) { return ", parts, 64, "; }")?;
     }
     Ok(())
 }
+
+/// What stands before and behind a statement in another, the innermost one, and how many may stand round it.
+static DEEP: [(&str, &str, &str, usize); 7] = [
+    ("{", "", "}", 63),
+    ("{", ";", "}", 62),
+    ("{", "int a;", "}", 63),
+    ("if (a) ", ";", "", 62),
+    ("while (a) ", "a = 1;", "", 62),
+    ("for (;;) ", "break;", "", 62),
+    ("if (a) ; else ", ";", "", 62),
+];
 
 #[test]
 fn statements_are_at_most_64_deep(rt: HostRuntime) -> Result<(), Fail> {
-    for (opening, middle, closing, most) in [
-        ("{", "", "}", 63),
-        ("{", ";", "}", 62),
-        ("{", "int a;", "}", 63),
-        ("if (a) ", ";", "", 62),
-        ("while (a) ", "a = 1;", "", 62),
-        ("for (;;) ", "break;", "", 62),
-        ("if (a) ; else ", ";", "", 62),
-    ] {
-        let fits = wrapped(rt.alloc(), opening, middle, closing, most)?;
-        let over = wrapped(rt.alloc(), opening, middle, closing, most + 1)?;
-        assert_last(&rt, "int f(void) { ", &fits, &over, "}")?;
+    for (opening, middle, closing, most) in &DEEP {
+        let parts = (*opening, *middle, *closing);
+        assert_most(&rt, "int f(void) { ", parts, *most, "}")?;
     }
     Ok(())
 }
 
+/// What stands before and behind a type.
+static STARRED: [(&str, &str); 3] = [
+    ("", "p;"),
+    ("int f(void) { a = SCAST(", ", p); }"),
+    ("int f(void) { a = malloc(sizeof(", ")); }"),
+];
+
 #[test]
 fn types_have_at_most_8_stars(rt: HostRuntime) -> Result<(), Fail> {
-    let fits = wrapped(rt.alloc(), "", "int", " *", 8)?;
-    let over = wrapped(rt.alloc(), "", "int", " *", 9)?;
-    for (before, after) in [
-        ("", "p;"),
-        ("int f(void) { a = SCAST(", ", p); }"),
-        ("int f(void) { a = malloc(sizeof(", ")); }"),
-    ] {
-        assert_last(&rt, before, &fits, &over, after)?;
+    for (before, after) in &STARRED {
+        assert_most(&rt, before, ("", "int", " *"), 8, after)?;
     }
+    Ok(())
+}
+
+/// Asserts that a function of so many statements is read.
+fn assert_statements(
+    rt: &(impl Abort + AllocGlobal),
+    statement: &str,
+    times: usize,
+) -> Result<(), Fail> {
+    let parts = ("", "int f(void) {", statement);
+    let source = wrapped(rt.alloc(), "", parts, times, "}")?;
+    let program = program(rt, source.as_bytes())?;
+    let count = last_function(rt, &program).statements.len();
+    drop(program);
+    assert_eq!(rt; count, times);
     Ok(())
 }
 
 #[test]
 fn a_megabyte_is_read(rt: HostRuntime) -> Result<(), Fail> {
-    for (statement, times) in [
-        ("a=1;", 262_000),
-        ("if(a)if(b){;{{}}}else while(c)f(-1);", 29_000),
-    ] {
-        let source = wrapped(rt.alloc(), "", "int f(void) {", statement, times)?;
-        let source = format!(in rt.alloc(); "{source}}}")?;
-        let program = program(&rt, source.as_bytes())?;
-        assert_eq!(rt; last_function(&rt, &program).statements.len(), times);
-    }
-    Ok(())
+    assert_statements(&rt, "a=1;", 262_000)?;
+    assert_statements(&rt, "if(a)if(b){;{{}}}else while(c)f(-1);", 29_000)
 }

@@ -2,6 +2,7 @@
 
 ghost use Rattle.sharc_reach.specs.Reaching.{AreReached};
 
+use crate::tables::two_parts;
 use crate::typing::typed;
 use sharc_ctype::typed::Typed;
 use sharc_reach::{Reached, reach};
@@ -65,21 +66,25 @@ fn answers_of(rt: &(impl Abort + AllocGlobal), t: &Typed) -> Result<Vec<u8>, Fai
 /// What is answered for a source.
 fn answers(rt: &(impl Abort + AllocGlobal), source: &str) -> Result<Vec<u8>, Fail> {
     let t = typed(rt, source)?;
-    answers_of(rt, &t)
+    let text = answers_of(rt, &t);
+    drop(t);
+    text
 }
 
-/// Asserts what is answered for each source.
-fn assert_answers(rt: &(impl Abort + AllocGlobal), table: &[(&str, &str)]) -> Result<(), Fail> {
-    for (source, want) in table {
+/// Asserts what is answered for each source of a table.
+fn assert_answers(rt: &(impl Abort + AllocGlobal), table: &str) -> Result<(), Fail> {
+    for case in table.lines() {
+        let (source, want) = two_parts(rt, case);
         let text = answers(rt, source)?;
         assert_eq!(rt; text.as_slice(), want.as_bytes(), "{source}");
     }
     Ok(())
 }
 
-/// Asserts what is answered for each of these bodies of a spawned function, before which three globals and two functions stand.
-fn assert_bodies(rt: &(impl Abort + AllocGlobal), bodies: &[&str], want: &str) -> Result<(), Fail> {
-    for body in bodies {
+/// Asserts what is answered for each body of a spawned function, before which three globals and two functions stand.
+fn assert_bodies(rt: &(impl Abort + AllocGlobal), table: &str) -> Result<(), Fail> {
+    for case in table.lines() {
+        let (body, want) = two_parts(rt, case);
         let source = format!(in rt.alloc();
             "int g; int * p; int a[3]; int h(void) {{ return 0; }} int id(int n) {{ return n; }} \
 void f(int n) {{ {body} }} int main(void) {{ join(spawn(f, 1)); return 0; }}"
@@ -118,223 +123,129 @@ fn assert_chain(rt: &(impl Abort + AllocGlobal), functions: u32) -> Result<(), F
     Ok(())
 }
 
+/// Sources, and which of their functions are reached.
+const REACHED: &str = "int main(void) { return 0; } => 0
+void f(int n) { } int main(void) { f(1); return 0; } => 00
+void f(int n) { } int main(void) { spawn(f, 1); return 0; } => 10
+void f(int n) { if (n) f(n - 1); } int main(void) { join(spawn(f, 3)); return 0; } => 10
+void f(int n) { g(n); } void g(int n) { f(n); } int main(void) { join(spawn(g, 3)); return 0; } => 110
+void f(int n) { } void g(int n) { spawn(f, n); } int main(void) { return 0; } => 100
+void f(int n) { } void g(int n) { spawn(f, n); } int main(void) { spawn(g, 1); return 0; } => 110
+int k(int n) { return n; } int h(int n) { return n; } void f(int n) { n = h(k(n)); } int main(void) { spawn(f, 1); return 0; } => 1110
+int k(int n) { return n; } int h(int n) { return k(n); } void f(int n) { } int main(void) { spawn(f, h(1)); return 0; } => 0010
+int k(int n) { return n; } void f(int n) { spawn(f, k(n)); } int main(void) { return 0; } => 110
+";
+
 #[test]
 fn reached_functions(rt: HostRuntime) -> Result<(), Fail> {
-    assert_answers(
-        &rt,
-        &[
-            ("int main(void) { return 0; }", "0"),
-            ("void f(int n) { } int main(void) { f(1); return 0; }", "00"),
-            (
-                "void f(int n) { } int main(void) { spawn(f, 1); return 0; }",
-                "10",
-            ),
-            (
-                "void f(int n) { if (n) f(n - 1); } int main(void) { join(spawn(f, 3)); return 0; }",
-                "10",
-            ),
-            (
-                "void f(int n) { g(n); } void g(int n) { f(n); } int main(void) { join(spawn(g, 3)); return 0; }",
-                "110",
-            ),
-            (
-                "void f(int n) { } void g(int n) { spawn(f, n); } int main(void) { return 0; }",
-                "100",
-            ),
-            (
-                "void f(int n) { } void g(int n) { spawn(f, n); } int main(void) { spawn(g, 1); return 0; }",
-                "110",
-            ),
-            (
-                "int k(int n) { return n; } int h(int n) { return n; } void f(int n) { n = h(k(n)); } int main(void) { spawn(f, 1); return 0; }",
-                "1110",
-            ),
-            (
-                "int k(int n) { return n; } int h(int n) { return k(n); } void f(int n) { } int main(void) { spawn(f, h(1)); return 0; }",
-                "0010",
-            ),
-            (
-                "int k(int n) { return n; } void f(int n) { spawn(f, k(n)); } int main(void) { return 0; }",
-                "110",
-            ),
-        ],
-    )
+    assert_answers(&rt, REACHED)
 }
+
+/// Sources, which of their functions are reached, and the first of these that touches each global. In order: two spawned functions share a global, or a
+/// reached one that stands before them names it, too; functions that are not reached name it; each global for itself; a local or a parameter of the
+/// name hides it; a field of the name is another thing.
+const TOUCHED: &str =
+    "int g; void f(int n) { g = n; } void h(int n) { g = n; } int main(void) { spawn(h, 1); spawn(f, 1); return 0; } => 110 0
+int g; void k(void) { g = 0; } void f(int n) { g = n; k(); } int main(void) { spawn(f, 1); return 0; } => 110 0
+int g; void f(int n) { n = 1; } int main(void) { spawn(f, 1); g = 1; return 0; } => 10 -
+int g; void k(void) { g = 0; } void f(int n) { g = n; } int main(void) { spawn(f, 1); k(); g = 1; return 0; } => 010 1
+int a; int b; int c; void f(int n) { b = n; } void h(int n) { c = b; } int main(void) { spawn(f, 1); spawn(h, a); return 0; } => 110 - 0 1
+int g; void f(int n) { int g; g = n; } int main(void) { spawn(f, 1); return 0; } => 10 -
+int g; void f(int g) { g = 1; } int main(void) { spawn(f, 1); return 0; } => 10 -
+int g; void f(int n) { { int g; g = n; } g = n; } int main(void) { spawn(f, 1); return 0; } => 10 0
+int g; struct s { int g; }; void f(struct s * x) { x->g = 1; } int main(void) { struct s * x = NULL; spawn(f, x); return 0; } => 10 -
+";
 
 #[test]
 fn touched_globals(rt: HostRuntime) -> Result<(), Fail> {
-    assert_answers(
-        &rt,
-        &[
-            // Two spawned functions share a global; a reached one that stands before them names it, too.
-            (
-                "int g; void f(int n) { g = n; } void h(int n) { g = n; } int main(void) { spawn(h, 1); spawn(f, 1); return 0; }",
-                "110 0",
-            ),
-            (
-                "int g; void k(void) { g = 0; } void f(int n) { g = n; k(); } int main(void) { spawn(f, 1); return 0; }",
-                "110 0",
-            ),
-            // Functions that are not reached name it.
-            (
-                "int g; void f(int n) { n = 1; } int main(void) { spawn(f, 1); g = 1; return 0; }",
-                "10 -",
-            ),
-            (
-                "int g; void k(void) { g = 0; } void f(int n) { g = n; } int main(void) { spawn(f, 1); k(); g = 1; return 0; }",
-                "010 1",
-            ),
-            // Each global for itself.
-            (
-                "int a; int b; int c; void f(int n) { b = n; } void h(int n) { c = b; } int main(void) { spawn(f, 1); spawn(h, a); return 0; }",
-                "110 - 0 1",
-            ),
-            // A local or a parameter of the name hides it.
-            (
-                "int g; void f(int n) { int g; g = n; } int main(void) { spawn(f, 1); return 0; }",
-                "10 -",
-            ),
-            (
-                "int g; void f(int g) { g = 1; } int main(void) { spawn(f, 1); return 0; }",
-                "10 -",
-            ),
-            (
-                "int g; void f(int n) { { int g; g = n; } g = n; } int main(void) { spawn(f, 1); return 0; }",
-                "10 0",
-            ),
-            // A field of the name is another thing.
-            (
-                "int g; struct s { int g; }; void f(struct s * x) { x->g = 1; } int main(void) { struct s * x = NULL; spawn(f, x); return 0; }",
-                "10 -",
-            ),
-        ],
-    )
+    assert_answers(&rt, TOUCHED)
 }
+
+/// The same, with globals in the paths of locks. In order: in the type of a cast, a parameter, a local, the local of a `for`, and the result of a function
+/// that is called; at each level, and before the base; the second name of a path, which is a field, and the first, which may be a global; in a function
+/// that is not reached, and in a struct.
+const IN_PATHS: &str =
+    "mutex m; void f(int * x) { x = SCAST(int locked(m) *, x); } int main(void) { int * x = NULL; spawn(f, x); return 0; } => 10 0
+mutex m; void f(int locked(m) * x) { } int main(void) { int * x = NULL; spawn(f, x); return 0; } => 10 0
+mutex m; void f(int n) { int locked(m) * x; x = NULL; } int main(void) { spawn(f, 1); return 0; } => 10 0
+mutex m; void f(int n) { for (int locked(m) * x = NULL; ; ) break; } int main(void) { spawn(f, 1); return 0; } => 10 0
+mutex m; int locked(m) * k(void) { return NULL; } void f(int n) { k(); } int main(void) { spawn(f, 1); return 0; } => 110 0
+mutex m; mutex k; mutex l; void f(locked(m) int * locked(k) * locked(l) x) { } int main(void) { int * * x = NULL; spawn(f, x); return 0; } => 10 0 0 0
+mutex m; struct s { mutex m; }; void f(struct s * x) { int locked(x->m) * y; y = NULL; } int main(void) { struct s * x = NULL; spawn(f, x); return 0; } => 10 -
+struct s { mutex m; }; struct s * x; mutex m; void f(int n) { int locked(x->m) * y; y = NULL; } int main(void) { spawn(f, 1); return 0; } => 10 0 -
+mutex m; void f(int n) { } int main(void) { int locked(m) * x = NULL; spawn(f, 1); return 0; } => 10 -
+mutex m; struct s { int locked(m) n; }; void f(struct s * x) { x->n = 1; } int main(void) { struct s * x = NULL; spawn(f, x); return 0; } => 10 -
+";
 
 #[test]
 fn globals_in_lock_paths(rt: HostRuntime) -> Result<(), Fail> {
-    assert_answers(
-        &rt,
-        &[
-            // In the type of a cast, a parameter, a local, the local of a `for`, and the result of a function that is called.
-            (
-                "mutex m; void f(int * x) { x = SCAST(int locked(m) *, x); } int main(void) { int * x = NULL; spawn(f, x); return 0; }",
-                "10 0",
-            ),
-            (
-                "mutex m; void f(int locked(m) * x) { } int main(void) { int * x = NULL; spawn(f, x); return 0; }",
-                "10 0",
-            ),
-            (
-                "mutex m; void f(int n) { int locked(m) * x; x = NULL; } int main(void) { spawn(f, 1); return 0; }",
-                "10 0",
-            ),
-            (
-                "mutex m; void f(int n) { for (int locked(m) * x = NULL; ; ) break; } int main(void) { spawn(f, 1); return 0; }",
-                "10 0",
-            ),
-            (
-                "mutex m; int locked(m) * k(void) { return NULL; } void f(int n) { k(); } int main(void) { spawn(f, 1); return 0; }",
-                "110 0",
-            ),
-            // At each level, and before the base.
-            (
-                "mutex m; mutex k; mutex l; void f(locked(m) int * locked(k) * locked(l) x) { } int main(void) { int * * x = NULL; spawn(f, x); return 0; }",
-                "10 0 0 0",
-            ),
-            // The second name of a path is a field; the first may be a global.
-            (
-                "mutex m; struct s { mutex m; }; void f(struct s * x) { int locked(x->m) * y; y = NULL; } int main(void) { struct s * x = NULL; spawn(f, x); return 0; }",
-                "10 -",
-            ),
-            (
-                "struct s { mutex m; }; struct s * x; mutex m; void f(int n) { int locked(x->m) * y; y = NULL; } int main(void) { spawn(f, 1); return 0; }",
-                "10 0 -",
-            ),
-            // In a function that is not reached, and in a struct.
-            (
-                "mutex m; void f(int n) { } int main(void) { int locked(m) * x = NULL; spawn(f, 1); return 0; }",
-                "10 -",
-            ),
-            (
-                "mutex m; struct s { int locked(m) n; }; void f(struct s * x) { x->n = 1; } int main(void) { struct s * x = NULL; spawn(f, x); return 0; }",
-                "10 -",
-            ),
-        ],
-    )
+    assert_answers(&rt, IN_PATHS)
 }
+
+/// Bodies that name globals in each construct, with what is answered.
+const NAMES: &str = "g = 1; => 0010 2 - -
+n = (g); => 0010 2 - -
+n = -g; => 0010 2 - -
+n = n + g; => 0010 2 - -
+n = g + n; => 0010 2 - -
+print(g); => 0010 2 - -
+join(g); => 0010 2 - -
+spawn(f, g); => 0010 2 - -
+if (g) ; => 0010 2 - -
+if (n) g = 1; => 0010 2 - -
+if (n) ; else g = 1; => 0010 2 - -
+while (g) ; => 0010 2 - -
+while (n) g = 1; => 0010 2 - -
+for (g = 0; ; ) break; => 0010 2 - -
+for (int k = g; ; ) break; => 0010 2 - -
+for (; g; ) break; => 0010 2 - -
+for (; ; n = g) break; => 0010 2 - -
+for (; ; ) g = 1; => 0010 2 - -
+{ ; { n = g; } } => 0010 2 - -
+int k = g; => 0010 2 - -
+int * k = malloc(g * sizeof(int)); => 0010 2 - -
+*p = 1; => 0010 - 2 -
+p[0] = 1; => 0010 - 2 -
+n = *p; => 0010 - 2 -
+free(p); => 0010 - 2 -
+int * q = SCAST(int *, p); => 0010 - 2 -
+a[0] = 1; => 0010 - - 2
+n = a[n]; => 0010 - - 2
+a[g] = 1; => 0010 2 - 2
+n = a[1 + g]; => 0010 2 - 2
+";
 
 #[test]
 fn globals_in_each_construct(rt: HostRuntime) -> Result<(), Fail> {
-    assert_bodies(
-        &rt,
-        &[
-            "g = 1;",
-            "n = (g);",
-            "n = -g;",
-            "n = n + g;",
-            "n = g + n;",
-            "print(g);",
-            "join(g);",
-            "spawn(f, g);",
-            "if (g) ;",
-            "if (n) g = 1;",
-            "if (n) ; else g = 1;",
-            "while (g) ;",
-            "while (n) g = 1;",
-            "for (g = 0; ; ) break;",
-            "for (int k = g; ; ) break;",
-            "for (; g; ) break;",
-            "for (; ; n = g) break;",
-            "for (; ; ) g = 1;",
-            "{ ; { n = g; } }",
-            "int k = g;",
-            "int * k = malloc(g * sizeof(int));",
-        ],
-        "0010 2 - -",
-    )?;
-    assert_bodies(
-        &rt,
-        &[
-            "*p = 1;",
-            "p[0] = 1;",
-            "n = *p;",
-            "free(p);",
-            "int * q = SCAST(int *, p);",
-        ],
-        "0010 - 2 -",
-    )?;
-    assert_bodies(&rt, &["a[0] = 1;", "n = a[n];"], "0010 - - 2")?;
-    assert_bodies(&rt, &["a[g] = 1;", "n = a[1 + g];"], "0010 2 - 2")
+    assert_bodies(&rt, NAMES)
 }
+
+/// The same with calls.
+const CALLS: &str = "h(); => 1010 - - -
+n = (h()); => 1010 - - -
+n = -h(); => 1010 - - -
+n = n + h(); => 1010 - - -
+n = h() + n; => 1010 - - -
+print(h()); => 1010 - - -
+spawn(f, h()); => 1010 - - -
+if (h()) ; => 1010 - - -
+if (n) ; else h(); => 1010 - - -
+while (h()) ; => 1010 - - -
+for (h(); ; ) break; => 1010 - - -
+for (int k = h(); ; ) break; => 1010 - - -
+for (; h(); ) break; => 1010 - - -
+for (; ; h()) break; => 1010 - - -
+for (; ; ) h(); => 1010 - - -
+{ ; { h(); } } => 1010 - - -
+int k = h(); => 1010 - - -
+int * k = malloc(h() * sizeof(int)); => 1010 - - -
+n = id(h()); => 1110 - - -
+id(n + h()); => 1110 - - -
+";
 
 #[test]
 fn calls_in_each_construct(rt: HostRuntime) -> Result<(), Fail> {
-    assert_bodies(
-        &rt,
-        &[
-            "h();",
-            "n = (h());",
-            "n = -h();",
-            "n = n + h();",
-            "n = h() + n;",
-            "print(h());",
-            "spawn(f, h());",
-            "if (h()) ;",
-            "if (n) ; else h();",
-            "while (h()) ;",
-            "for (h(); ; ) break;",
-            "for (int k = h(); ; ) break;",
-            "for (; h(); ) break;",
-            "for (; ; h()) break;",
-            "for (; ; ) h();",
-            "{ ; { h(); } }",
-            "int k = h();",
-            "int * k = malloc(h() * sizeof(int));",
-        ],
-        "1010 - - -",
-    )?;
-    assert_bodies(&rt, &["n = id(h());", "id(n + h());"], "1110 - - -")
+    assert_bodies(&rt, CALLS)
 }
 
 #[test]

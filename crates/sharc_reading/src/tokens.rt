@@ -23,6 +23,7 @@ fn assert_kind(
     let token = tokens.list.at(0);
     assert_eq!(rt; token.kind, kind, "{source:?}");
     assert_eq!(rt; token.text.as_slice(), source);
+    drop(tokens);
     Ok(())
 }
 

@@ -56,7 +56,7 @@ pub(crate) fn typed(rt: &(impl Abort + AllocGlobal), source: &str) -> Result<Typ
 
 /// Asserts that a source is typed.
 pub(crate) fn assert_typed(rt: &(impl Abort + AllocGlobal), source: &str) -> Result<(), Fail> {
-    typed(rt, source)?;
+    drop(typed(rt, source)?);
     Ok(())
 }
 
@@ -101,7 +101,7 @@ pub(crate) fn assert_items_typed(
     table: &[&str],
 ) -> Result<(), Fail> {
     for items in table {
-        let _typed = typed(rt, with_items(rt.alloc(), items)?.as_str())?;
+        assert_typed(rt, with_items(rt.alloc(), items)?.as_str())?;
     }
     Ok(())
 }
@@ -123,7 +123,7 @@ pub(crate) fn assert_statements_typed(
     table: &[&str],
 ) -> Result<(), Fail> {
     for statements in table {
-        let _typed = typed(rt, with_statements(rt.alloc(), statements)?.as_str())?;
+        assert_typed(rt, with_statements(rt.alloc(), statements)?.as_str())?;
     }
     Ok(())
 }

@@ -1,6 +1,6 @@
 //! `struct cond`, `wait`, `signal` and `broadcast`: all four are known where the program defines none of them.
 
-use crate::typing::{assert_refused, typed};
+use crate::typing::{assert_refused, assert_typed};
 use std::alloc::{AllocError, Global};
 use std::process::Abort;
 use std::test::Fail;
@@ -30,7 +30,7 @@ static USES: [&str; 11] = [
 #[test]
 fn condition_variables_are_known(rt: HostRuntime) -> Result<(), Fail> {
     for statements in &USES {
-        let _typed = typed(&rt, with_statements(rt.alloc(), statements)?.as_str())?;
+        assert_typed(&rt, with_statements(rt.alloc(), statements)?.as_str())?;
     }
     Ok(())
 }
@@ -51,7 +51,7 @@ static NOT_DEFINED: [&str; 9] = [
 #[test]
 fn other_names_define_no_condition_variables(rt: HostRuntime) -> Result<(), Fail> {
     for source in &NOT_DEFINED {
-        let _typed = typed(&rt, source)?;
+        assert_typed(&rt, source)?;
     }
     Ok(())
 }
@@ -221,7 +221,7 @@ static OWN: [&str; 8] = [
 #[test]
 fn definitions_of_the_program_are_its_own(rt: HostRuntime) -> Result<(), Fail> {
     for source in &OWN {
-        let _typed = typed(&rt, source)?;
+        assert_typed(&rt, source)?;
     }
     Ok(())
 }

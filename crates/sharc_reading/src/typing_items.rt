@@ -1,8 +1,8 @@
 //! Structs and globals, their initial values, and names that are defined twice.
 
 use crate::typing::{
-    assert_items_refused, assert_items_typed, assert_refused, assert_statements_refused, refused,
-    typed,
+    assert_items_refused, assert_items_typed, assert_refused, assert_statements_refused,
+    assert_typed, refused,
 };
 use std::test::Fail;
 
@@ -215,35 +215,37 @@ fn programs_have_a_main(rt: HostRuntime) -> Result<(), Fail> {
     for (source, fault) in &NO_MAIN {
         assert_refused(&rt, source, fault)?;
     }
-    let _least = typed(&rt, "int main(void) { }")?;
-    let _last = typed(
+    assert_typed(&rt, "int main(void) { }")?;
+    assert_typed(
         &rt,
         "void f(void) { } int x; struct s { int n; };\nint main(void) { return 0; }\n",
-    )?;
-    Ok(())
+    )
 }
+
+/// Sources of several files, with the code, the file and the line of their first fault.
+static IN_FILES: [(&str, u8, &str, u32); 3] = [
+    (
+        "# 7 \"a.c\"\nint x;\n# 3 \"b.h\" 1\n\nint y = NULL;\n# 9 \"a.c\" 2\nint main(void) { }",
+        3,
+        "b.h",
+        4,
+    ),
+    (
+        "# 7 \"a.c\"\nint x;\n# 3 \"b.h\" 1\nint y;\n# 9 \"a.c\" 2\n\nint x; int main(void) { }",
+        2,
+        "a.c",
+        10,
+    ),
+    ("int x;\n# 5 \"t.c\"\n\n", 8, "t.c", 6),
+];
 
 #[test]
 fn faults_are_told_in_their_files(rt: HostRuntime) -> Result<(), Fail> {
-    for (source, code, file, line) in [
-        (
-            "# 7 \"a.c\"\nint x;\n# 3 \"b.h\" 1\n\nint y = NULL;\n# 9 \"a.c\" 2\nint main(void) { }",
-            3,
-            "b.h",
-            4,
-        ),
-        (
-            "# 7 \"a.c\"\nint x;\n# 3 \"b.h\" 1\nint y;\n# 9 \"a.c\" 2\n\nint x; int main(void) { }",
-            2,
-            "a.c",
-            10,
-        ),
-        ("int x;\n# 5 \"t.c\"\n\n", 8, "t.c", 6),
-    ] {
+    for (source, code, file, line) in &IN_FILES {
         let found = refused(&rt, source)?;
-        assert_eq!(rt; found.code, code, "{source}");
+        assert_eq!(rt; found.code, *code, "{source}");
         assert_eq!(rt; found.file.as_slice(), file.as_bytes(), "{source}");
-        assert_eq!(rt; found.line, line, "{source}");
+        assert_eq!(rt; found.line, *line, "{source}");
     }
     Ok(())
 }

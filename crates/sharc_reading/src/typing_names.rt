@@ -124,7 +124,9 @@ fn assert_names(rt: &(impl Abort + AllocGlobal), typed: &Typed, names: &str) -> 
 /// Asserts it of a copy.
 fn assert_copied(rt: &(impl Abort + AllocGlobal), typed: &Typed, names: &str) -> Result<(), Fail> {
     let copy = typed.copy(rt.alloc())?;
-    assert_names(rt, &copy, names)
+    let asserted = assert_names(rt, &copy, names);
+    drop(copy);
+    asserted
 }
 
 /// Asserts it of a program and of a copy.
@@ -136,7 +138,9 @@ fn assert_both(rt: &(impl Abort + AllocGlobal), typed: &Typed, names: &str) -> R
 /// Asserts it of a source.
 fn assert_named(rt: &(impl Abort + AllocGlobal), source: &str, names: &str) -> Result<(), Fail> {
     let typed = typed(rt, source)?;
-    assert_both(rt, &typed, names)
+    let asserted = assert_both(rt, &typed, names);
+    drop(typed);
+    asserted
 }
 
 #[test]
@@ -152,25 +156,30 @@ fn cells_of(rt: &(impl Abort + AllocGlobal), fields: &str) -> Result<StructCells
     let source = format!(in rt.alloc(); "struct s {{ {fields} }}; int main(void) {{ }}")?;
     let typed = typed(rt, source.as_str())?;
     assert!(rt; typed.struct_at(0).is_some());
-    Ok(layout(&typed, 0))
+    let cells = layout(&typed, 0);
+    drop(typed);
+    Ok(cells)
 }
+
+/// Fields, with their cells and, bit by bit, which of these are pointers.
+static CELLS: [(&str, u32, u64); 5] = [
+    ("int n;", 1, 0),
+    ("int * n;", 1, 1),
+    ("char n; long k; mutex m;", 3, 0),
+    (
+        "int n; int * k; mutex m; struct s * next; char c; mutex * p;",
+        6,
+        42,
+    ),
+    ("int * * n; int k; char * * * c; struct cond * w;", 4, 13),
+];
 
 #[test]
 fn structs_have_a_cell_for_each_field(rt: HostRuntime) -> Result<(), Fail> {
-    for (fields, cells, pointers) in [
-        ("int n;", 1, 0),
-        ("int * n;", 1, 1),
-        ("char n; long k; mutex m;", 3, 0),
-        (
-            "int n; int * k; mutex m; struct s * next; char c; mutex * p;",
-            6,
-            42,
-        ),
-        ("int * * n; int k; char * * * c; struct cond * w;", 4, 13),
-    ] {
+    for (fields, cells, pointers) in &CELLS {
         let found = cells_of(&rt, fields)?;
-        assert_eq!(rt; found.cells, cells, "{fields}");
-        assert_eq!(rt; found.pointers, [pointers, 0, 0, 0], "{fields}");
+        assert_eq!(rt; found.cells, *cells, "{fields}");
+        assert_eq!(rt; found.pointers, [*pointers, 0, 0, 0], "{fields}");
     }
     Ok(())
 }
@@ -189,22 +198,25 @@ fn many_fields(
     Ok(text)
 }
 
+/// How many fields there are before, between and at the end, of which those between are pointers, and the bits of these.
+static POINTERS: [(usize, usize, usize, [u64; 4]); 6] = [
+    (0, 256, 256, [u64::MAX, u64::MAX, u64::MAX, u64::MAX]),
+    (0, 0, 256, [0, 0, 0, 0]),
+    (63, 65, 256, [1 << 63, 1, 0, 0]),
+    (127, 129, 130, [0, 1 << 63, 1, 0]),
+    (191, 193, 256, [0, 0, 1 << 63, 1]),
+    (255, 256, 256, [0, 0, 0, 1 << 63]),
+];
+
 #[test]
 fn pointers_of_large_structs_are_told(rt: HostRuntime) -> Result<(), Fail> {
-    for (before, between, until, pointers) in [
-        (0, 256, 256, [u64::MAX, u64::MAX, u64::MAX, u64::MAX]),
-        (0, 0, 256, [0, 0, 0, 0]),
-        (63, 65, 256, [1 << 63, 1, 0, 0]),
-        (127, 129, 130, [0, 1 << 63, 1, 0]),
-        (191, 193, 256, [0, 0, 1 << 63, 1]),
-        (255, 256, 256, [0, 0, 0, 1 << 63]),
-    ] {
+    for (before, between, until, pointers) in &POINTERS {
         let found = cells_of(
             &rt,
-            many_fields(rt.alloc(), before, between, until)?.as_str(),
+            many_fields(rt.alloc(), *before, *between, *until)?.as_str(),
         )?;
-        assert_eq!(rt; found.cells as usize, until);
-        assert_eq!(rt; found.pointers, pointers);
+        assert_eq!(rt; found.cells as usize, *until);
+        assert_eq!(rt; found.pointers, *pointers);
     }
     Ok(())
 }

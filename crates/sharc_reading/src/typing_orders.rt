@@ -135,16 +135,19 @@ fn assert_with_locals(
     assert_refused(rt, source.as_str(), fault)
 }
 
+/// What stands before and behind 201 locals, and the first fault.
+static AMONG_LOCALS: [(&str, &str, &str); 6] = [
+    ("", "", "2: C9 v200"),
+    ("", "nope();", "2: C9 v200"),
+    ("nope();", "", "1: C1 nope"),
+    ("break;", "nope();", "1: C7 break"),
+    ("", "int v0;", "2: C9 v200"),
+    ("int v200;", "", "2: C9 v199"),
+];
+
 #[test]
 fn limits_and_other_faults_are_told_by_place(rt: HostRuntime) -> Result<(), Fail> {
-    for (before, behind, fault) in [
-        ("", "", "2: C9 v200"),
-        ("", "nope();", "2: C9 v200"),
-        ("nope();", "", "1: C1 nope"),
-        ("break;", "nope();", "1: C7 break"),
-        ("", "int v0;", "2: C9 v200"),
-        ("int v200;", "", "2: C9 v199"),
-    ] {
+    for (before, behind, fault) in &AMONG_LOCALS {
         assert_with_locals(&rt, before, behind, fault)?;
     }
     Ok(())
