@@ -11,8 +11,6 @@ ghost use Rattle.sharc_word.specs.Words.{word_after};
 use sharc_word::{WordOp, WordStep};
 
 mod laws;
-#[cfg(test)]
-mod tests;
 
 pub use laws::count_laws;
 

@@ -11,8 +11,6 @@ mod least;
 mod make;
 mod place;
 mod rounds;
-#[cfg(test)]
-mod tests;
 
 pub use least::least_assignment;
 pub use make::{lead_down, make_equal};

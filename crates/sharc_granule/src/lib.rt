@@ -11,8 +11,6 @@ mod blocks;
 mod laws;
 mod new_state;
 mod stage;
-#[cfg(test)]
-mod tests;
 
 pub use blocks::block;
 pub use laws::new_laws;

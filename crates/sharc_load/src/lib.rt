@@ -5,7 +5,5 @@
 #![tactic(auto)]
 
 mod source;
-#[cfg(test)]
-mod tests;
 
 pub use source::make;

@@ -5,7 +5,5 @@
 #![tactic(auto)]
 
 mod held_log;
-#[cfg(test)]
-mod tests;
 
 pub use held_log::{HeldLog, HeldMutex, LIMIT};

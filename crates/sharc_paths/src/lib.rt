@@ -12,8 +12,6 @@ pub mod narrow;
 mod ordered;
 mod stack;
 pub mod step;
-#[cfg(test)]
-mod tests;
 mod uses;
 pub mod way;
 

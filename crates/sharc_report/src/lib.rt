@@ -11,8 +11,6 @@ mod owners;
 mod put;
 mod refusal;
 mod refused;
-#[cfg(test)]
-mod tests;
 
 pub use accepted::accepted_text;
 pub use explained::explain_text;

@@ -9,8 +9,6 @@
 mod access_table;
 mod laws;
 mod shadow_word;
-#[cfg(test)]
-mod tests;
 
 pub use access_table::{AccessTable, GranuleNotes, Note};
 pub use laws::shadow_laws;

@@ -11,8 +11,6 @@ mod laws;
 mod mem_port;
 mod port;
 mod step;
-#[cfg(test)]
-mod tests;
 
 pub use laws::{history_laws, place_laws, port_laws};
 pub use mem_port::MemPort;

@@ -1,8 +1,8 @@
-// Reads in loops, behind tests and behind a return, of one variable and of many, with ample memory.
+//! Reads in loops, behind tests and behind a return, of one variable and of many, with ample memory.
 
-use crate::step::Step;
-use crate::way::Warning;
-use crate::{firsts, nulled_reads};
+use sharc_paths::step::Step;
+use sharc_paths::way::Warning;
+use sharc_paths::{firsts, nulled_reads};
 use std::alloc::AllocError;
 use std::test::Fail;
 

@@ -1,6 +1,6 @@
 //! A log that is filled and emptied.
 
-use super::*;
+use sharc_locks::HeldLog;
 use std::test::Fail;
 
 #[test]

@@ -1,6 +1,8 @@
 //! The words of a granule that threads access in turn, and a table that is filled.
 
-use super::*;
+use sharc_shadow::{
+    AccessTable, Kind, bits, cleared, conflicts, epoch, first, is_written, stands, withdrawn,
+};
 use std::test::Fail;
 
 #[test]

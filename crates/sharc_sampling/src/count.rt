@@ -1,6 +1,7 @@
 //! The steps, and the counts at which a cast may go on.
 
-use super::*;
+use sharc_count::{lower, raise, sole, test};
+use sharc_word::{WordOp, WordStep};
 
 #[test]
 fn steps_and_counts(rt: HostRuntime) {

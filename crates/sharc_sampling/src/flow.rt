@@ -4,7 +4,7 @@ ghost use Rattle.std.specs.Prelude.{IsTrue};
 ghost use Rattle.std.specs.List.{All};
 ghost use Rattle.sharc_graph.specs.Paths.{IsWithin};
 
-use super::*;
+use sharc_flow::{Link, Place, lead_down, least_assignment, least_by_rounds, make_equal};
 use sharc_graph::{Edge, Finding};
 use std::alloc::{AllocError, Global};
 use std::process::Abort;

@@ -2,7 +2,7 @@
 
 ghost use Rattle.std.specs.Prelude.{◌≡◌, IfOk};
 
-use crate::{Stage, fault_text};
+use sharc_report::{Stage, fault_text};
 use sharc_tree::name::Name;
 use sharc_tree::token::FaultAt;
 use std::alloc::{AllocError, Global};

@@ -1,6 +1,6 @@
-//! The sizes of the text, and the shortest whole.
+//! The sizes of the text.
 
-use super::make;
+use sharc_load::make;
 use std::test::Fail;
 
 #[test]
