@@ -38,6 +38,13 @@ const VALUES: &str = "\
 0 << 31 = 0
 0 << 32 = X4
 1 << -1 = X4
+1 >> -1 = X4
+1l << -1 = X4
+1073741824 << 1 = X4
+-1073741824 << 1 = -2147483648
+-1073741825 << 1 = X4
+4611686018427387904 << 1 = X4
+-4611686018427387904 << 1 = -9223372036854775808
 1l << 62 = 4611686018427387904
 1l << 63 = X4
 -1l << 63 = -9223372036854775808
@@ -49,17 +56,29 @@ const VALUES: &str = "\
 1 >> 32 = X4
 1l >> 63 = 0
 1l >> 64 = X4
+-1l >> 63 = -1
+9223372036854775807 >> 62 = 1
 ~0 = -1
 ~5 = -6
+~2147483647 = -2147483648
+~9223372036854775807 = -9223372036854775808
 !0 = 1
 !7 = 0
 -(-2147483647 - 1) = X4
+-(-2147483647l - 1) = 2147483648
+-(-9223372036854775807 - 1) = X4
 -(-5) = 5
 6 & 3 = 2
 -1 & 255 = 255
 6 | 3 = 7
 6 ^ 3 = 5
 -1 ^ 5 = -6
+4294967296 | 0 = 4294967296
+-1 & 4294967296 = 4294967296
+4294967296 ^ -1 = -4294967297
+-2147483647 - 1 < 2147483647 = 1
+4294967296 > 1 = 1
+-9223372036854775807 - 1 <= 9223372036854775807 = 1
 1 < 2 = 1
 2 < 2 = 0
 2 <= 2 = 1
@@ -139,6 +158,23 @@ return 0; }
 --
 main 0 100 0 = print 127; X4 at line 5
 f 127 100 = X4 at line 1
+==
+char f(char c) { return c - 1; } int main(void) { return 0; }
+--
+f -127 100 = wants return, holds
+f -128 100 = X4 at line 1
+==
+int racy h; void f(char c, int n) { } void g(int n, char c) { } int main(void) { int i = 300; if (h) f(i, h); else
+g(h, i); return 0; }
+--
+main 0 100 1 = read g0.0 racy is 1; X4 at line 1
+main 0 100 0 5 = read g0.0 racy is 0; read g0.0 racy is 5; X4 at line 2
+==
+int racy i; void f(int dynamic * p) { print(p[i]); } int main(void) { return 0; }
+--
+f 0 100 = X1 at line 1
+f 1:3 100 3 = read g0.0 racy is 3; X2 at line 1
+f 1:3 100 2 = read g0.0 racy is 2; wants read o1.2 dynamic, holds 1:3 1:3
 ";
 
 /// Jumps in loops, blocks and what they hide.
@@ -177,10 +213,6 @@ f 256 100000 = X10 at line 1
 int f(int n) { if (n) return 5; } int main(void) { print(f(0) + f(1)); ; return 0; }
 --
 main 0 100 0 0 0 = print 5; return; gone; ended
-==
-int main(void) { int i = 0; while (i < 100000) i = i + 1; print(i); return 0; }
---
-main 0 10000000 = wants print 100000, holds
 ";
 
 /// What is held where an event is wanted; objects, casts and frees.
@@ -276,6 +308,17 @@ print(p->n); return 0; }
 main 0 100 3:1 2:1 7 = new 2x1 dynamic is 3:1; read o3.0 readonly is 2:1; read o3.1 locked by o2.0 is 7; wants print 7, holds 3:1
 main 0 100 3:1 0 = new 2x1 dynamic is 3:1; read o3.0 readonly is 0; X1 at line 3
 ==
+struct s { mutex racy * readonly m; char locked(m) c; }; void f(struct s dynamic * p) { int i = 300; p->c = i; } int main(void) { return 0; }
+--
+f 3:1 100 = X4 at line 1
+==
+struct s { mutex m; int n; }; void f(struct s dynamic * p) { int locked(p->m) * q = malloc(sizeof(int));
+*q = 1; } int main(void) { return 0; }
+--
+f 3:1 100 = wants new 1x1 locked by o3.0, holds 3:1 0
+f 3:1 100 5:1 = new 1x1 locked by o3.0 is 5:1; wants write o5.0 locked by o3.0 1, holds 3:1 5:1 5:1
+f 0 100 5:1 = new 1x1 locked by none is 5:1; X1 at line 2
+==
 int main(void) { struct cond dynamic * c = malloc(sizeof(struct cond)); mutex racy * m = malloc(sizeof(mutex));
 lock(&*m); wait(c, m); signal(c); broadcast(c); unlock(&*m);
 wait(c, m); return 0; }
@@ -346,6 +389,15 @@ fn order(rt: HostRuntime) -> Result<(), Fail> {
 #[test]
 fn flow(rt: HostRuntime) -> Result<(), Fail> {
     assert_table(&rt, FLOW)
+}
+
+#[test]
+fn a_long_loop(rt: HostRuntime) -> Result<(), Fail> {
+    assert_lines(
+        &rt,
+        "int main(void) { int i = 0; while (i < 100000) i = i + 1; print(i); return 0; }",
+        "main 0 10000000 = wants print 100000, holds",
+    )
 }
 
 #[test]
