@@ -16,8 +16,8 @@ use Rattle.sharc_meaning.specs.Arithmetic.{fits, out_of_range, size_not_positive
 use Rattle.sharc_meaning.specs.Expressions.{fitting, operand}
 use Rattle.sharc_meaning.specs.State.{Run, Step, then_on, ◌>>=◌, ◌>>◌, give, unless_stop, holds, answered, looks_at, value_of, value_in}
 use Rattle.sharc_meaning.specs.Statements.{returned, is_positive}
-use Rattle.sharc_steps.specs.declared.state.End.{End}
-use Rattle.sharc_steps.specs.View.{Known, Ends, Does, DoesAs}
+use Rattle.sharc_ask_steps.specs.declared.state.End.{End}
+use Rattle.sharc_ask_steps.specs.View.{Known, Ends, Does, DoesAs}
 use Rattle.sharc_ask.specs.declared.values.Flow.{Flow as RustFlow}
 use Rattle.sharc_ask.specs.View.{view_flow, made}
 use Rattle.sharc_ask.specs.Plans.{returned_with}

@@ -10,9 +10,9 @@ use Rattle.sharc_mode.specs.Moded.{Assignment}
 use Rattle.sharc_meaning.specs.declared.variable.Variable.{Variable}
 use Rattle.sharc_meaning.specs.Meaning.{with_frame, back_in, in_frame, run_function, call_value, calls}
 use Rattle.sharc_meaning.specs.State.{Frame, State, Run, then_on, give, without_temporaries, held_by_frame, pointers_among}
-use Rattle.sharc_steps.specs.declared.state.End.{End}
-use Rattle.sharc_steps.specs.declared.state.End.TheVariants as ends
-use Rattle.sharc_steps.specs.View.{Known, known, held_below, Does}
+use Rattle.sharc_ask_steps.specs.declared.state.End.{End}
+use Rattle.sharc_ask_steps.specs.declared.state.End.TheVariants as ends
+use Rattle.sharc_ask_steps.specs.View.{Known, known, held_below, Does}
 use Rattle.sharc_ask.specs.View.{WasKept}
 use Rattle.sharc_ask.proofs.Steps.{ends_same}
 

@@ -10,9 +10,9 @@ use Rattle.sharc_mode.specs.Moded.{Assignment}
 use Rattle.sharc_meaning.specs.Expressions.{Calls, tested, eval}
 use Rattle.sharc_meaning.specs.State.{State, Out, go, over, Run, Step, then_on, ◌>>=◌, ◌>>◌, give, enters, ends_variables, in_block}
 use Rattle.sharc_meaning.specs.Statements.{Flow, next, continued, broken, returned, on_next, on_turn, turns, loop, exec, exec_all}
-use Rattle.sharc_steps.specs.declared.state.End.{End}
-use Rattle.sharc_steps.specs.declared.state.End.TheVariants as ends
-use Rattle.sharc_steps.specs.View.{Known, EndsAs, Does, DoesAs}
+use Rattle.sharc_ask_steps.specs.declared.state.End.{End}
+use Rattle.sharc_ask_steps.specs.declared.state.End.TheVariants as ends
+use Rattle.sharc_ask_steps.specs.View.{Known, EndsAs, Does, DoesAs}
 use Rattle.sharc_ask.specs.declared.values.Flow.{Flow as RustFlow}
 use Rattle.sharc_ask.specs.declared.values.Flow.TheVariants as flows
 use Rattle.sharc_ask.specs.View.{view_flow, view_left, left_turn, around, turn, other_done, choice}

@@ -4,9 +4,9 @@ use Rattle.std.specs.Prelude.{ℤ, if◌then◌else◌}
 use Rattle.sharc_mode.specs.Moded.{Assignment}
 use Rattle.sharc_meaning.specs.Expressions.{Calls}
 use Rattle.sharc_meaning.specs.State.{State, Outcome, Out, go, over, Run, then_on, ◌>>=◌, give, enters_with, enters, ends_temporaries, ends_variables}
-use Rattle.sharc_steps.specs.declared.state.End.{End}
-use Rattle.sharc_steps.specs.declared.state.End.TheVariants as ends
-use Rattle.sharc_steps.specs.View.{Known, known, Over, Ends, EndsAs, Does, DoesAs}
+use Rattle.sharc_ask_steps.specs.declared.state.End.{End}
+use Rattle.sharc_ask_steps.specs.declared.state.End.TheVariants as ends
+use Rattle.sharc_ask_steps.specs.View.{Known, known, Over, Ends, EndsAs, Does, DoesAs}
 use Rattle.sharc_ask.specs.declared.plan.Plan.{Plan}
 use Rattle.sharc_ask.specs.Values.{Value, number, gives}
 use Rattle.sharc_ask.specs.View.{temporaries_ended, variables_ended}

@@ -9,14 +9,14 @@ use Rattle.sharc_names.specs.Kinds.{Kind}
 use Rattle.sharc_ctype.specs.Expressions.{class_of, binary_result}
 use Rattle.sharc_ctype.specs.Resolved.{Resolution, kind_at}
 use Rattle.sharc_mode.specs.Moded.{Assignment}
-use Rattle.sharc_steps.specs.declared.state.End.{End}
-use Rattle.sharc_steps.specs.declared.state.End.TheVariants as ends
+use Rattle.sharc_ask_steps.specs.declared.state.End.{End}
+use Rattle.sharc_ask_steps.specs.declared.state.End.TheVariants as ends
 use Rattle.sharc_meaning.specs.Arithmetic.{bits_of}
 use Rattle.sharc_meaning.specs.Expressions.{Calls, binary_value, eval, place_of}
 use Rattle.sharc_meaning.specs.Places.{Place}
 use Rattle.sharc_meaning.specs.State.{State, Outcome, Out, go, over, Run, then_on, ◌>>=◌, give, enters, ends_variables, in_block}
 use Rattle.sharc_meaning.specs.Statements.{Flow, exec}
-use Rattle.sharc_steps.specs.View.{Known, Over, Ends, EndsAs, Does, DoesAs}
+use Rattle.sharc_ask_steps.specs.View.{Known, Over, Ends, EndsAs, Does, DoesAs}
 use Rattle.sharc_ask.specs.View.{logic_of, binary_by, variables_ended}
 
 -- one step, and the next with its value

@@ -6,16 +6,16 @@ use Rattle.sharc_meaning.specs.Arithmetic.{returns_with_a_lock}
 use Rattle.sharc_meaning.specs.Events.{held_mutexes}
 use Rattle.sharc_meaning.specs.Meaning.{goes_away}
 use Rattle.sharc_meaning.specs.State.{then_on, ◌>>◌, unless_stop}
-use Rattle.sharc_steps.specs.View.{Ends, Does}
+use Rattle.sharc_ask_steps.specs.View.{Ends, Does}
 use Rattle.sharc_tree.specs.declared.event.SourceEvent.{SourceEvent}
 use Rattle.sharc_tree.specs.declared.token.Site.{Site}
 use Rattle.sharc_ask.specs.declared.asked.Asked.{Asked as RustAsked}
 use Rattle.sharc_ask.specs.declared.asked.Outcome.TheVariants.{Wants, Ended, StoppedX, Fuel}
-use Rattle.sharc_steps.specs.declared.state.End.{End}
-use Rattle.sharc_steps.specs.declared.state.End.TheVariants as ends
+use Rattle.sharc_ask_steps.specs.declared.state.End.{End}
+use Rattle.sharc_ask_steps.specs.declared.state.End.TheVariants as ends
 use Rattle.sharc_meaning.specs.Meaning.{asked_by}
 use Rattle.sharc_meaning.specs.State.{Out, held_references, pointers_among}
-use Rattle.sharc_steps.specs.View.{Known, Went, Over}
+use Rattle.sharc_ask_steps.specs.View.{Known, Went, Over}
 use Rattle.sharc_ask.specs.View.{leaves, told, Tells}
 
 abbrev pub held_of : Known → List ℤ

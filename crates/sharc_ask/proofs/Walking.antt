@@ -3,9 +3,9 @@ use Rattle.std.proofs.Common.{Result, Ok, Err, sym, ap, ◌∙◌, subst}
 use Rattle.sharc_mode.specs.Moded.{Assignment}
 use Rattle.sharc_meaning.specs.Expressions.{Calls}
 use Rattle.sharc_meaning.specs.State.{Out, Run, then_on}
-use Rattle.sharc_steps.specs.declared.state.End.{End}
-use Rattle.sharc_steps.specs.declared.state.End.TheVariants as ends
-use Rattle.sharc_steps.specs.View.{Known, Over, EndsAs, DoesAs}
+use Rattle.sharc_ask_steps.specs.declared.state.End.{End}
+use Rattle.sharc_ask_steps.specs.declared.state.End.TheVariants as ends
+use Rattle.sharc_ask_steps.specs.View.{Known, Over, EndsAs, DoesAs}
 use Rattle.sharc_ask.specs.declared.plan.Plan.{Plan}
 use Rattle.sharc_ask.specs.declared.plan.Plan.TheVariants as plans
 use Rattle.sharc_ask.specs.declared.plan.Rest.{Rest}

@@ -27,10 +27,10 @@ use Rattle.sharc_meaning.specs.Reference.{is_null, number_of, elements_of}
 use Rattle.sharc_meaning.specs.State.{State, Out, Run, Step, ◌>>=◌, ◌>>◌, give, done, answered, drops, moves, ends_temporaries, ends_variables}
 use Rattle.sharc_meaning.specs.Statements.{Flow, next, returned, right_value, done_simple, declared, done_first, done_test, return_with}
 use Rattle.sharc_meaning.specs.Waiting.{lock_call, unlock_call}
-use Rattle.sharc_steps.specs.declared.state.End.{End}
-use Rattle.sharc_steps.specs.declared.state.End.TheVariants as ends
-use Rattle.sharc_steps.specs.View.{Known, known, view_place, Over}
-use Rattle.sharc_steps.specs.Width.{value_bits}
+use Rattle.sharc_ask_steps.specs.declared.state.End.{End}
+use Rattle.sharc_ask_steps.specs.declared.state.End.TheVariants as ends
+use Rattle.sharc_ask_steps.specs.View.{Known, known, view_place, Over}
+use Rattle.sharc_ask_steps.specs.Width.{value_bits}
 use Rattle.sharc_ask.specs.declared.plan.Plan.{Plan}
 use Rattle.sharc_ask.specs.declared.plan.Plan.TheVariants as plans
 use Rattle.sharc_ask.specs.declared.plan.Rest.{Rest}

@@ -3,7 +3,7 @@ use Rattle.std.specs.Prelude.{ℤ, pos, Bool, false}
 use Rattle.sharc_meaning.specs.Places.{Place, no_place}
 use Rattle.sharc_meaning.specs.State.{Run, ◌>>=◌, give}
 use Rattle.sharc_meaning.specs.Statements.{Flow, next}
-use Rattle.sharc_steps.specs.View.{view_place}
+use Rattle.sharc_ask_steps.specs.View.{view_place}
 use Rattle.sharc_ask.specs.declared.plan.Value.{Value as RustValue}
 use Rattle.sharc_ask.specs.declared.plan.Value.TheVariants as values
 use Rattle.sharc_ask.specs.View.{view_flow}

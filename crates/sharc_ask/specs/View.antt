@@ -30,7 +30,7 @@ use Rattle.sharc_meaning.specs.Meaning.{Asked, parameters_begin, left_at}
 use Rattle.sharc_meaning.specs.Places.{Place, fetched}
 use Rattle.sharc_meaning.specs.State.{Outcome, wants, ended, stopped, spent, Run, Step, ◌>>=◌, ◌>>◌, give, unless_stop, answered, performs, looks_at, temporarily, in_block, entered, value_of, all_released, pointers_among}
 use Rattle.sharc_meaning.specs.Statements.{Flow, next, broken, continued, returned, is_positive, loop, done_first, done_step, done_test, exec, exec_all}
-use Rattle.sharc_steps.specs.View.{Known}
+use Rattle.sharc_ask_steps.specs.View.{Known}
 use Rattle.sharc_ask.specs.declared.asked.Asked.{Asked as RustAsked}
 use Rattle.sharc_ask.specs.declared.asked.Outcome.{Outcome as RustOutcome}
 use Rattle.sharc_ask.specs.declared.asked.Outcome.TheVariants.{Wants, Ended, StoppedX, Fuel}

@@ -2,13 +2,13 @@
 
 ghost use Rattle.std.specs.Prelude.{◌≡◌, ◌≤◌, ◌++◌, drop, OnOk};
 ghost use Rattle.sharc_meaning.specs.State.{all_released, pointers_among};
-ghost use Rattle.sharc_steps.specs.View.{view_state};
+ghost use Rattle.sharc_ask_steps.specs.View.{view_state};
 ghost use Rattle.sharc_ask.specs.View.{temporaries_ended, variables_ended};
 
+use sharc_ask_steps::cells::number_of;
+use sharc_ask_steps::state::State;
 use sharc_meaning::given::GivenUp;
 use sharc_meaning::variable::Variable;
-use sharc_steps::cells::number_of;
-use sharc_steps::state::State;
 use std::alloc::AllocError;
 
 fn references_behind(all: &[i64], mark: usize) -> &[i64]

@@ -7,19 +7,19 @@ ghost use Rattle.sharc_tree.specs.View.{view_expr};
 ghost use Rattle.sharc_mode.specs.Moded.{Assignment};
 ghost use Rattle.sharc_meaning.specs.Expressions.{Calls, eval, place_of};
 ghost use Rattle.sharc_meaning.specs.Places.{index_place, pointee_place, field_place, unary_place};
-ghost use Rattle.sharc_steps.specs.View.{view_state};
+ghost use Rattle.sharc_ask_steps.specs.View.{view_state};
 ghost use Rattle.sharc_ask.specs.Values.{number, place, gives};
 ghost use Rattle.sharc_ask.specs.Plans.{inside, Leads, LeadsFrom, Plans, Fits, Starts, Begins};
 
 use crate::plan::{Call, Operation, Plan, Rest, Task, Value, WithPlace, WithValue};
 use crate::plans::done_number;
 use crate::values::{constant_value, kind_of, logic_of, named, named_value};
+use sharc_ask_steps::arithmetic::width_of;
+use sharc_ask_steps::places::{Place, place_named};
+use sharc_ask_steps::state::{End, State, enter};
 use sharc_mode::moded::Moded;
 use sharc_names::fault::Named;
 use sharc_names::kind::is_array;
-use sharc_steps::arithmetic::width_of;
-use sharc_steps::places::{Place, place_named};
-use sharc_steps::state::{End, State, enter};
 use sharc_tree::token::{Site, Span};
 use sharc_tree::tree::{Access, BinaryOperator, Expr, PlaceCall, UnaryOperator};
 

@@ -9,8 +9,8 @@ ghost use Rattle.sharc_meaning.specs.Expressions.{tested, operand, fitting, pass
 ghost use Rattle.sharc_meaning.specs.Places.{variable, pointee_place, stored};
 ghost use Rattle.sharc_meaning.specs.State.{Run, Step, give};
 ghost use Rattle.sharc_meaning.specs.Statements.{Flow as LeftBy};
-ghost use Rattle.sharc_steps.specs.View.{Known, view_state, view_place, Does, DoesAs};
-ghost use Rattle.sharc_steps.specs.Width.{value_bits};
+ghost use Rattle.sharc_ask_steps.specs.View.{Known, view_state, view_place, Does, DoesAs};
+ghost use Rattle.sharc_ask_steps.specs.Width.{value_bits};
 ghost use Rattle.sharc_ask.specs.View.{view_flow};
 ghost use Rattle.sharc_ask.specs.Values.{number, test, flow, view_value, as_nothing, gives};
 ghost use Rattle.sharc_ask.specs.Plans.{ends_above, ends_block, zero_behind, next_behind, truth_with, inverted_with, returned_with, spawned_with, free_unless_null, joined_with, element_behind, element_in, assigned_to};
@@ -21,15 +21,15 @@ use crate::values::{
     Flow, based, cells_of, freed_unless_null, held, kind_of, let_go, number_named,
     parameters_named, resulting, value_act,
 };
+use sharc_ask_steps::arithmetic::{fits, is_zero, operated, truth};
+use sharc_ask_steps::cells::{elements_of, number_of};
+use sharc_ask_steps::places::{Place, element, element_of_array, pointee, stored};
+use sharc_ask_steps::state::{End, State, ask_event, moves, perform, unless};
 use sharc_mode::cell::cell_of;
 use sharc_mode::moded::Moded;
 use sharc_mode::sharing::Sharing;
 use sharc_names::fault::Named;
 use sharc_names::kind::{Kind, declared_kind};
-use sharc_steps::arithmetic::{fits, is_zero, operated, truth};
-use sharc_steps::cells::{elements_of, number_of};
-use sharc_steps::places::{Place, element, element_of_array, pointee, stored};
-use sharc_steps::state::{End, State, ask_event, moves, perform, unless};
 use sharc_tree::event::{Act, Object};
 use sharc_tree::token::Site;
 use sharc_tree::tree::{Declaration, Expr, ValueCall};

@@ -1,16 +1,16 @@
 // What is to be done next, and what with its value.
 
 ghost use Rattle.std.specs.Prelude.{◌≡◌};
-ghost use Rattle.sharc_steps.specs.View.{view_place};
+ghost use Rattle.sharc_ask_steps.specs.View.{view_place};
 ghost use Rattle.sharc_ask.specs.View.{view_flow};
 ghost use Rattle.sharc_ask.specs.Values.{view_value, number_in, test_in, place_in, flow_in};
 
 use crate::values::Flow;
+use sharc_ask_steps::arithmetic::Width;
+use sharc_ask_steps::places::Place;
 use sharc_mode::sharing::Sharing;
 use sharc_names::fault::Named;
 use sharc_names::kind::Kind;
-use sharc_steps::arithmetic::Width;
-use sharc_steps::places::Place;
 use sharc_tree::token::{Site, Span};
 use sharc_tree::tree::{
     Access, BinaryOperator, Declaration, Expr, ForFirst, Local, Right, Simple, Stmt, ValueCall,

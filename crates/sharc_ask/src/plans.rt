@@ -6,15 +6,15 @@ ghost use Rattle.sharc_meaning.specs.Expressions.{Calls};
 ghost use Rattle.sharc_meaning.specs.Places.{Place as NamedPlace};
 ghost use Rattle.sharc_meaning.specs.State.{Run, Step};
 ghost use Rattle.sharc_meaning.specs.Statements.{Flow as LeftBy};
-ghost use Rattle.sharc_steps.specs.View.{Known, Does, DoesAs, view_place};
+ghost use Rattle.sharc_ask_steps.specs.View.{Known, Does, DoesAs, view_place};
 ghost use Rattle.sharc_ask.specs.View.{view_flow};
 ghost use Rattle.sharc_ask.specs.Values.{number, test, place, flow, gives, as_nothing};
 ghost use Rattle.sharc_ask.specs.Plans.{step_then, test_then, plan_means, Plans, Fits};
 
 use crate::plan::{Plan, Value};
 use crate::values::Flow;
-use sharc_steps::places::Place;
-use sharc_steps::state::End;
+use sharc_ask_steps::places::Place;
+use sharc_ask_steps::state::End;
 
 /// A number came.
 pub fn done_number<'a>(answer: Result<i64, End>) -> Result<Plan<'a>, End>

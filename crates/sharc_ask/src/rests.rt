@@ -6,7 +6,7 @@ ghost use Rattle.sharc_tree.specs.View.{view_expr};
 ghost use Rattle.sharc_mode.specs.Cells.{cell_at};
 ghost use Rattle.sharc_meaning.specs.Expressions.{Calls};
 ghost use Rattle.sharc_meaning.specs.Places.{taken_from};
-ghost use Rattle.sharc_steps.specs.View.{view_state, view_place, Does};
+ghost use Rattle.sharc_ask_steps.specs.View.{view_state, view_place, Does};
 ghost use Rattle.sharc_ask.specs.View.{view_flow};
 ghost use Rattle.sharc_ask.specs.declared.plan.WithPlace.TheVariants.{Frees, Casts};
 ghost use Rattle.sharc_ask.specs.Values.{view_value};
@@ -22,15 +22,15 @@ use crate::plans::{by_truth, done_flow, done_number, done_place, done_step, done
 use crate::values::{
     Flow, based, cast_unless_null, held, kind_of, let_go, made, place_fetched, resulting,
 };
+use sharc_ask_steps::arithmetic::{complement, negated, width_of};
+use sharc_ask_steps::cells::field_place_named;
+use sharc_ask_steps::locking::{lock_call, unlock_call};
+use sharc_ask_steps::places::{Place, field_in, taken_from};
+use sharc_ask_steps::state::{End, State};
 use sharc_mode::cell::{cell_of, pointed};
 use sharc_mode::moded::Moded;
 use sharc_mode::row::row_of;
 use sharc_names::kind::promoted;
-use sharc_steps::arithmetic::{complement, negated, width_of};
-use sharc_steps::cells::field_place_named;
-use sharc_steps::locking::{lock_call, unlock_call};
-use sharc_steps::places::{Place, field_in, taken_from};
-use sharc_steps::state::{End, State};
 use sharc_tree::event::TakeKind;
 use sharc_tree::token::Span;
 use sharc_tree::tree::Expr;

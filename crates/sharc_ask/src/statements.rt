@@ -9,7 +9,7 @@ ghost use Rattle.sharc_mode.specs.Moded.{Assignment};
 ghost use Rattle.sharc_mode.specs.View.{view_sharing};
 ghost use Rattle.sharc_meaning.specs.Expressions.{Calls};
 ghost use Rattle.sharc_meaning.specs.Statements.{right_value, done_simple, initialised, declared, done_first, done_test, return_with};
-ghost use Rattle.sharc_steps.specs.View.{view_state};
+ghost use Rattle.sharc_ask_steps.specs.View.{view_state};
 ghost use Rattle.sharc_ask.specs.View.{view_test};
 ghost use Rattle.sharc_ask.specs.Values.{number, test, flow, gives, as_nothing};
 ghost use Rattle.sharc_ask.specs.Plans.{inside, Leads, LeadsFrom, Plans, Fits, Starts, Begins};
@@ -17,12 +17,12 @@ ghost use Rattle.sharc_ask.specs.Plans.{inside, Leads, LeadsFrom, Plans, Fits, S
 use crate::plan::{Plan, Rest, Task, Value, WithNumber, WithPlace, WithValue};
 use crate::plans::{done_number, then};
 use crate::values::{Flow, made};
+use sharc_ask_steps::state::{End, State, begin, enter};
 use sharc_mode::cell::pointed;
 use sharc_mode::moded::Moded;
 use sharc_mode::row::{Reading, declared_row};
 use sharc_mode::sharing::Sharing;
 use sharc_names::kind::{Kind, declared_kind};
-use sharc_steps::state::{End, State, begin, enter};
 use sharc_tree::token::{Site, Span};
 use sharc_tree::tree::{Declaration, Expr, ForFirst, Local, Right, Simple, WrittenType};
 

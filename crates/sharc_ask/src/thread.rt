@@ -2,15 +2,16 @@
 
 ghost use Rattle.std.specs.Prelude.{◌≡◌, ◌≤◌, IfOk};
 ghost use Rattle.sharc_ctype.specs.Resolved.{function_at};
-ghost use Rattle.sharc_meaning.specs.Meaning.{asks, goes_away, run_thread};
-ghost use Rattle.sharc_steps.specs.View.{view_state, Does};
+ghost use Rattle.sharc_meaning.specs.Meaning.{asks, goes_away, run_thread, start};
+ghost use Rattle.sharc_ask_steps.specs.View.{known, view_state, Does};
+ghost use Rattle.sharc_ask.specs.Held.{all_held};
 ghost use Rattle.sharc_ask.specs.View.{leaves, Tells};
 
-use crate::asked::{Asked, Outcome};
+use crate::asked::{Asked, Holds, Outcome};
 use crate::frames::held_by;
 use crate::walk::run_function;
+use sharc_ask_steps::state::{End, Frame, State, perform, unless};
 use sharc_mode::moded::Moded;
-use sharc_steps::state::{End, Frame, State, perform, unless};
 use sharc_tree::event::Act;
 use sharc_tree::listed::Listed;
 use sharc_tree::token::Site;
@@ -95,5 +96,54 @@ fn told(st: State, outcome: Outcome) -> Asked
         events: Listed::of(st.events),
         outcome,
         given_up: Listed::of(st.given_up),
+    }
+}
+
+fn started(alloc: Global, answers: &[i64], fuel: u64) -> State<'_>
+    ensures { view_state result ≡ known (start answers.now fuel) }
+{
+    State {
+        alloc,
+        frame: Frame {
+            variables: Vec::new(alloc),
+            temporaries: Vec::new(alloc),
+        },
+        below: Vec::new(alloc),
+        answers,
+        events: Vec::new(alloc),
+        held: Vec::new(alloc),
+        fuel,
+        given_up: Vec::new(alloc),
+    }
+}
+
+fn held_in(alloc: Global, st: State) -> Result<Holds, AllocError>
+    ensures { IfOk result (λ all. all ≡ all_held (view_state st.entry)) }
+{
+    match held_by(alloc, st.below.as_slice(), &st.frame) {
+        None => Err(AllocError),
+        Some(held) => Ok(Listed::of(held)),
+    }
+}
+
+/// The pointers that the frames and temporaries of such a thread hold as far as it comes: at the event that it wants, at its stop or its end, or where its fuel
+/// is spent. Its only fault is want of memory.
+pub fn held(
+    alloc: Global,
+    m: &Moded,
+    function: u32,
+    argument: i64,
+    answers: &[i64],
+    fuel: u64,
+) -> Result<Holds, AllocError>
+    ensures { IfOk result (λ all. all ≡ (asks m.now function argument answers.now fuel).held) }
+{
+    let mut st = started(alloc, answers, fuel);
+    match run_thread(m, function, argument, &mut st) {
+        Err(End::Memory) => Err(AllocError),
+        Ok(()) => held_in(alloc, st),
+        Err(End::Stopped(_, _)) => held_in(alloc, st),
+        Err(End::Spent) => held_in(alloc, st),
+        Err(End::Wants(_)) => held_in(alloc, st),
     }
 }

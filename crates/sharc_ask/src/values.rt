@@ -16,19 +16,19 @@ ghost use Rattle.sharc_meaning.specs.Expressions.{resulting, named_value, number
 ghost use Rattle.sharc_meaning.specs.Reference.{is_null, constant_value};
 ghost use Rattle.sharc_meaning.specs.State.{give, done, drops, holds};
 ghost use Rattle.sharc_meaning.specs.Statements.{left_by};
-ghost use Rattle.sharc_steps.specs.View.{view_state, view_place, Does};
+ghost use Rattle.sharc_ask_steps.specs.View.{view_state, view_place, Does};
 ghost use Rattle.sharc_ask.specs.View.{view_flow, view_test, view_step, logic_of, made, place_fetched};
 
+use sharc_ask_steps::arithmetic::{is_positive, is_zero};
+use sharc_ask_steps::cells::{element_cells, instance_mode};
+use sharc_ask_steps::places::{Place, base, cast_to, element, fetched, freed};
+use sharc_ask_steps::state::{End, State, ask_event, dropped, hold, unless, value_in};
 use sharc_mode::cell::{cell_of, pointed};
 use sharc_mode::moded::Moded;
 use sharc_mode::row::cast_row;
 use sharc_mode::sharing::Sharing;
 use sharc_names::fault::Named;
 use sharc_names::kind::{Kind, declared_kind, element_kind};
-use sharc_steps::arithmetic::{is_positive, is_zero};
-use sharc_steps::cells::{element_cells, instance_mode};
-use sharc_steps::places::{Place, base, cast_to, element, fetched, freed};
-use sharc_steps::state::{End, State, ask_event, dropped, hold, unless, value_in};
 use sharc_tree::event::{Act, Object};
 use sharc_tree::token::{Site, Span};
 use sharc_tree::tree::{

@@ -8,7 +8,7 @@ ghost use Rattle.sharc_meaning.specs.Expressions.{Calls, tested, called, passed,
 ghost use Rattle.sharc_meaning.specs.Meaning.{run_function, calls};
 ghost use Rattle.sharc_meaning.specs.State.{in_block, entered};
 ghost use Rattle.sharc_meaning.specs.Statements.{done_simple, turns, exec, exec_all};
-ghost use Rattle.sharc_steps.specs.View.{view_state, Does, DoesAs};
+ghost use Rattle.sharc_ask_steps.specs.View.{view_state, Does, DoesAs};
 ghost use Rattle.sharc_ask.specs.View.{view_flow, view_otherwise, calling, view_left, loop_test, loop_step, loop_body, another, around, turn, for_loop, choice, body_block};
 ghost use Rattle.sharc_ask.specs.Values.{view_value};
 ghost use Rattle.sharc_ask.specs.Plans.{task_means, plan_means, plan_cost, Plans, Begins, Sound, cost, rank};
@@ -26,11 +26,11 @@ use crate::statements::{
     begin_first, begin_local, begin_right, return_plan, simple_plan, test_plan,
 };
 use crate::values::{Flow, left_by, parameters_named, rest_of, step_of, test_of, with_first};
+use sharc_ask_steps::state::{End, State, enter};
+use sharc_ask_steps::waiting::condition_call;
 use sharc_mode::moded::Moded;
 use sharc_names::fault::Named;
 use sharc_names::kind::{Kind, declared_kind};
-use sharc_steps::state::{End, State, enter};
-use sharc_steps::waiting::condition_call;
 use sharc_tree::token::Site;
 use sharc_tree::tree::{Declaration, Expr, ForFirst, FunctionDefinition, Simple, Stmt};
 

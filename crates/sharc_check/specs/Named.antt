@@ -1,4 +1,4 @@
--- Which variables lock paths name.
+-- Which variables and globals lock paths name.
 use Rattle.std.specs.Prelude.{◌≡◌, ℕ, Bool, false, List, ◌++◌, slice_index_or}
 use Rattle.std.specs.List.{flat_map}
 use Rattle.sharc_ctype.specs.Entities.{entities_in, numbered}

@@ -1,4 +1,4 @@
-// Which variables lock paths name.
+// Which variables and globals lock paths name.
 
 ghost use Rattle.std.specs.Prelude.{◌≡◌, IfOk};
 ghost use Rattle.sharc_check.specs.Named.{TellNamed, said_of_paths};
@@ -20,7 +20,7 @@ fn paths_said(alloc: Global, m: &Moded) -> Result<Vec<Note>, AllocError>
     Ok(notes)
 }
 
-/// Which variables the lock paths of a program name, those that are written, those that a call substitutes and those that a field makes: a flag for
+/// Which variables and globals the lock paths of a program name, those that are written, those that a call substitutes and those that a field makes: a flag for
 /// each token that may declare one, and none for the tokens past the last that is named.
 pub fn named_variables(alloc: Global, m: &Moded) -> Result<Vec<bool>, AllocError>
     ensures { IfOk result (λ flags. TellNamed m.now flags.items) }

@@ -1,7 +1,7 @@
 // What is said of one construct.
 
 ghost use Rattle.std.specs.Prelude.{◌≡◌, ◌+◌, ◌≤◌, ◌++◌, ◌∷◌, [], drop, IfOk, OnOk};
-ghost use Rattle.std.specs.List.{list_any};
+ghost use Rattle.std.specs.List.{flat_map, list_any};
 ghost use Rattle.std.specs.Option.{option_map, option_or};
 ghost use Rattle.sharc_tree.specs.Spans.{span_of};
 ghost use Rattle.sharc_tree.specs.View.{view_expr};
@@ -9,10 +9,10 @@ ghost use Rattle.sharc_names.specs.View.{view_root};
 ghost use Rattle.sharc_mode.specs.Cells.{cell_at};
 ghost use Rattle.sharc_mode.specs.Expressions.{expected, place_notes};
 ghost use Rattle.sharc_mode.specs.Moded.{position_count};
-ghost use Rattle.sharc_mode.specs.Notes.{error, error_where, mismatch, shown, no_type, span_text, agree_notes, write_notes, cast_notes, taken_variable, takes, source_notes, names_of, names_in, names_in_all, sibling_notes, field_notes, unmet, unmet_in, first_unmet, unmet_notes, names_at_call, call_notes};
-ghost use Rattle.sharc_mode.specs.Rows.{modes_of, modes_at, cast_row};
+ghost use Rattle.sharc_mode.specs.Notes.{error, error_where, mismatch, shown, no_type, span_text, agree_notes, write_notes, cast_notes, taken_variable, takes, source_notes, names_of, names_in, names_in_all, sibling_notes, field_notes, unmet, unmet_in, unmet_level, unmet_written, unmet_parameter, first_unmet, unmet_notes, names_read, parameter_names, names_at_call, call_notes};
+ghost use Rattle.sharc_mode.specs.Rows.{at_call, modes_of, modes_at, cast_row};
 ghost use Rattle.sharc_mode.specs.Sharings.{is_readonly, is_sibling};
-ghost use Rattle.sharc_mode.specs.View.{view_row, view_rows, view_sharing, EndsWithin};
+ghost use Rattle.sharc_mode.specs.View.{view_reading, view_row, view_rows, view_sharing, EndsWithin};
 ghost use Rattle.sharc_check.specs.Passed.{view_passed, view_locks};
 
 use crate::passing::Passing;
@@ -21,13 +21,15 @@ use sharc_mode::cell::{cell_of, pointed};
 use sharc_mode::error::ModeError;
 use sharc_mode::moded::Moded;
 use sharc_mode::note::Note;
-use sharc_mode::read::path_variable;
+use sharc_mode::read::{path_variable, read};
 use sharc_mode::row::{Reading, Row, cast_row, declared_row, row_of};
-use sharc_mode::sharing::{Lock, Sharing, is_readonly, is_sibling, variable_named, variable_of};
+use sharc_mode::sharing::{
+    Lock, Sharing, is_readonly, is_sibling, object_named, object_of, sharing_of, variable_named,
+};
 use sharc_mode::shown::{path_of, root_of_kind, row_laws, same_rows, shown};
 use sharc_mode::text::{path_text, span_text};
 use sharc_names::kind::{Root, root_of};
-use sharc_tree::ctype::{Base, CType};
+use sharc_tree::ctype::{Base, CType, Mode};
 use sharc_tree::listed::Listed;
 use sharc_tree::name::Name;
 use sharc_tree::token::Span;
@@ -178,7 +180,7 @@ fn taken_variable(t: &Typed, place: &Expr) -> Option<u32>
     ensures { result ≡ taken_variable t.now (view_expr place.now) }
 {
     match place {
-        Expr::Identifier(_, name) => variable_named(t.named(name.site.token)),
+        Expr::Identifier(_, name) => object_named(t, t.named(name.site.token)),
         _ => None,
     }
 }
@@ -232,12 +234,12 @@ fn name(variable: Option<u32>, notes: &mut Vec<Note>) -> Result<(), AllocError>
     Ok(())
 }
 
-/// The variable that the path of a mode names.
+/// The variable or the global that the path of a mode names.
 pub(crate) fn name_in(t: &Typed, s: Sharing<'_>, notes: &mut Vec<Note>) -> Result<(), AllocError>
     ensures { OnOk result (notes.new.items ≡ notes.old.items ++ names_in t.now (view_sharing s.entry)) }
 {
     match s {
-        Sharing::Locked(lock) => name(variable_of(t, lock), notes),
+        Sharing::Locked(lock) => name(object_of(t, lock), notes),
         Sharing::Private => Ok(()),
         Sharing::Readonly => Ok(()),
         Sharing::Racy => Ok(()),
@@ -245,7 +247,7 @@ pub(crate) fn name_in(t: &Typed, s: Sharing<'_>, notes: &mut Vec<Note>) -> Resul
     }
 }
 
-/// The variables that the paths of a row name.
+/// The variables and globals that the paths of a row name.
 fn names_in_row(m: &Moded, row: Row<'_>, notes: &mut Vec<Note>) -> Result<(), AllocError>
     requires { row.first + row.count ≤ position_count m.now.typed }
     ensures { OnOk result (notes.new.items ≡ notes.old.items ++ names_in_all m.now.typed (modes_of m.now (view_row row.entry))) }
@@ -362,13 +364,51 @@ fn unmet_in<'a>(m: &'a Moded, passing: Passing<'_>, row: Row<'a>) -> Option<Lock
     found
 }
 
-fn first_unmet<'a>(m: &'a Moded, passing: Passing<'_>) -> Option<Lock<'a>>
+fn unmet_level<'a>(t: &Typed, passing: Passing<'_>, level: &'a Option<Mode>) -> Option<Lock<'a>>
+    ensures { view_locks result ≡ unmet_level t.now passing.entry.parameters.now (view_passed passing.entry.passed) level.now }
+{
+    match level {
+        None => None,
+        Some(mode) => unmet(t, passing, sharing_of(mode)),
+    }
+}
+
+/// The first of those that are written in a type, at whatever level.
+fn unmet_written<'a>(
+    t: &Typed,
+    passing: Passing<'_>,
+    levels: &'a [Option<Mode>],
+) -> Option<Lock<'a>>
+    ensures { view_locks result ≡ unmet_written t.now passing.entry.parameters.now (view_passed passing.entry.passed) levels.now }
+{
+    match levels {
+        [] => None,
+        [level, below @ ..] => {
+            let deeper = unmet_written(t, passing, below);
+            or_else(deeper, unmet_level(t, passing, level))
+        }
+    }
+}
+
+/// The first of a parameter's type.
+fn unmet_parameter<'a>(
+    m: &'a Moded,
+    passing: Passing<'_>,
+    parameter: &'a Declaration,
+) -> Option<Lock<'a>>
+    ensures { view_locks result ≡ unmet_parameter m.now passing.entry.parameters.now (view_passed passing.entry.passed) parameter.now }
+{
+    let t = m.typed();
+    let row = declared_row(t, Reading::Written, parameter.name.site.token);
+    let levels = parameter.written.ctype.levels.as_slice();
+    or_else(unmet_written(t, passing, levels), unmet_in(m, passing, row))
+}
+
+fn first_unmet<'a>(m: &'a Moded, passing: Passing<'a>) -> Option<Lock<'a>>
     ensures { view_locks result ≡ first_unmet m.now passing.entry.parameters.now (view_passed passing.entry.passed) passing.entry.parameters.now }
 {
     for parameter in passing.parameters {
-        let token = parameter.name.site.token;
-        let row = declared_row(m.typed(), Reading::Written, token);
-        let lock = unmet_in(m, passing, row);
+        let lock = unmet_parameter(m, passing, parameter);
         if lock.is_some() {
             return lock;
         }
@@ -393,19 +433,62 @@ fn said_unmet(
     Ok(())
 }
 
-/// The variables that the substituted paths name.
-fn names_at_call(m: &Moded, passing: Passing<'_>, notes: &mut Vec<Note>) -> Result<(), AllocError>
-    ensures { OnOk result (notes.new.items ≡ notes.old.items ++ names_at_call m.now passing.entry.parameters.now (view_passed passing.entry.passed) passing.entry.parameters.now) }
+fn name_read(
+    t: &Typed,
+    reading: Reading<'_>,
+    level: &Option<Mode>,
+    notes: &mut Vec<Note>,
+) -> Result<(), AllocError>
+    ensures { OnOk result (notes.new.items ≡ notes.old.items ++ names_read t.now (view_reading reading.entry) level.now) }
 {
-    for parameter in passing.parameters {
-        let token = parameter.name.site.token;
-        let row = declared_row(m.typed(), passing.reading(), token);
-        names_in_row(m, row, notes)?;
+    match level {
+        None => Ok(()),
+        Some(mode) => name_in(t, read(t, reading, sharing_of(mode)), notes),
+    }
+}
+
+/// The variables and globals that the paths name which are written in a type, as they are read there.
+fn names_read(
+    t: &Typed,
+    reading: Reading<'_>,
+    levels: &[Option<Mode>],
+    notes: &mut Vec<Note>,
+) -> Result<(), AllocError>
+    ensures { OnOk result (notes.new.items ≡ notes.old.items ++ flat_map (names_read t.now (view_reading reading.entry)) levels.now) }
+{
+    for level in levels {
+        name_read(t, reading, level, notes)?;
     }
     Ok(())
 }
 
-/// M4 of a call, and the variables that its paths name.
+/// The variables and globals that the paths of a parameter's type name, as they are read at the call.
+fn parameter_names(
+    m: &Moded,
+    passing: Passing<'_>,
+    parameter: &Declaration,
+    notes: &mut Vec<Note>,
+) -> Result<(), AllocError>
+    ensures { OnOk result (notes.new.items ≡ notes.old.items ++ parameter_names m.now (at_call passing.entry.parameters.now (view_passed passing.entry.passed)) parameter.now) }
+{
+    let t = m.typed();
+    let row = declared_row(t, passing.reading(), parameter.name.site.token);
+    let levels = parameter.written.ctype.levels.as_slice();
+    names_in_row(m, row, notes)?;
+    names_read(t, passing.reading(), levels, notes)
+}
+
+/// The variables and globals that the substituted paths name.
+fn names_at_call(m: &Moded, passing: Passing<'_>, notes: &mut Vec<Note>) -> Result<(), AllocError>
+    ensures { OnOk result (notes.new.items ≡ notes.old.items ++ names_at_call m.now passing.entry.parameters.now (view_passed passing.entry.passed) passing.entry.parameters.now) }
+{
+    for parameter in passing.parameters {
+        parameter_names(m, passing, parameter, notes)?;
+    }
+    Ok(())
+}
+
+/// M4 of a call, and the variables and globals that its paths name.
 pub(crate) fn call(
     alloc: Global,
     m: &Moded,

@@ -9,7 +9,7 @@ use crate::say::error;
 use sharc_ctype::typed::Typed;
 use sharc_mode::error::ModeError;
 use sharc_mode::note::Note;
-use sharc_mode::read::text_at;
+use sharc_mode::text::text_at;
 use sharc_tree::name::Name;
 use sharc_tree::token::Span;
 use std::alloc::{AllocError, Global};
@@ -52,7 +52,7 @@ fn mark(flags: &mut Vec<bool>, note: &Note)
     }
 }
 
-/// Which variables paths name, by the token that declares them.
+/// Which variables and globals paths name, by the token that declares them.
 pub(crate) fn marks(alloc: Global, notes: &[Note]) -> Result<Vec<bool>, AllocError>
     ensures { IfOk result (λ flags. flags.items ≡ marks notes.now) }
 {
@@ -75,7 +75,7 @@ pub(crate) fn is_marked(flags: &[bool], variable: u32) -> bool
     }
 }
 
-/// The case that a variable is taken whom a path names.
+/// The case that a variable or a global is taken that a path names.
 fn taken(
     alloc: Global,
     t: &Typed,

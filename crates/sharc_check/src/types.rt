@@ -15,10 +15,9 @@ use sharc_mode::cell::top_of;
 use sharc_mode::moded::Moded;
 use sharc_mode::note::Note;
 use sharc_mode::place::Place;
-use sharc_mode::read::text_at;
 use sharc_mode::sharing::sharing_of;
 use sharc_mode::shown::printed_type;
-use sharc_mode::text::{mode_text, path_text};
+use sharc_mode::text::{mode_text, path_text, text_at};
 use sharc_mode::types::{first_unfit_mode, first_unfit_path, is_private_mode};
 use sharc_names::types::Role;
 use sharc_tree::ctype::Mode;
@@ -182,7 +181,7 @@ fn name_in_level(t: &Typed, level: &Option<Mode>, notes: &mut Vec<Note>) -> Resu
     }
 }
 
-/// The variables that the paths of a type name.
+/// The variables and globals that the paths of a type name.
 fn names(t: &Typed, levels: &[Option<Mode>], notes: &mut Vec<Note>) -> Result<(), AllocError>
     ensures { OnOk result (notes.new.items ≡ notes.old.items ++ flat_map (names_in_level t.now) levels.now) }
 {

@@ -6,8 +6,11 @@ pub mod Machine
 pub mod Opening
 pub mod Paced
 pub mod Path
+pub mod Ranges
 pub mod Runs
 pub mod Says
+pub mod Stages
+pub mod StandingLaws
 pub mod ThreadLaws
 pub mod Waits
 pub mod Whole

@@ -2,6 +2,8 @@
 
 ghost use Rattle.sharc_code.specs.Layout.{Fits, IsShape};
 ghost use Rattle.sharc_code.specs.Laws.{RunLaws};
+ghost use Rattle.sharc_code.specs.Ranges.{RangeLaws};
+ghost use Rattle.sharc_code.specs.StandingLaws.{StandingLaws};
 ghost use Rattle.sharc_code.specs.ThreadLaws.{ThreadLaws};
 
 use crate::code::Code;
@@ -24,9 +26,25 @@ pub fn fits_law(code: &Code, shape: &Shape)
     ensures { IsShape shape.now }
 {}
 
-/// What holds of each turn of a thread: its number stays; it waits exactly where its next turn would be a failed try; and a failed try
-/// changes nothing else.
+/// What holds of each turn of a thread: its number stays, and so do the rows of its table, its prints and that its stage is one of the
+/// shape; it waits exactly where its next turn would be a failed try; a failed try changes nothing else and leaves the words as they
+/// are; and a turn does not look at whether the one before was a failed try.
 #[inline(always)]
 pub fn thread_laws()
     ensures { ThreadLaws }
+{}
+
+/// What holds wherever a run of a code stands: each thread has its number and a stage of the shape; a state word that is 1 stays so but
+/// for turns of its own thread, and becomes 1 by the last turn of a Spawn alone, so who was started since is told by the words where
+/// only threads that had been started go on; and where no thread makes an event the words stay, and whoever made a turn waits.
+#[inline(always)]
+pub fn standing_laws()
+    ensures { StandingLaws }
+{}
+
+/// What follows of the ranges that the numbers of a code keep (`NumbersFit`): no cell is one of two globals, and no count of references
+/// passes a word.
+#[inline(always)]
+pub fn range_laws()
+    ensures { RangeLaws }
 {}

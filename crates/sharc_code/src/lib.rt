@@ -17,7 +17,7 @@ mod words;
 
 pub use code::{Code, Function, GlobalCells, Layout, Parameter, PlaceMode, SourcePlace, Text, Use};
 pub use instr::{Cell, Instr, Operator, Register, Width};
-pub use laws::{fits_law, run_laws, thread_laws};
+pub use laws::{fits_law, range_laws, run_laws, standing_laws, thread_laws};
 pub use layout::{NEXT_THREAD, PRINTS, TOP, argument_word, cell_of, function_word, state_word};
 pub use lines::{Operand, listing};
 pub use shape::Shape;

@@ -2,7 +2,6 @@ pub mod Begun
 pub mod Doubling
 pub mod Held
 pub mod Joined
-pub mod Keeps
 pub mod Paths
 pub mod Settling
 pub mod OnPath

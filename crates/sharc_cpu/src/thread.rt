@@ -3,7 +3,7 @@
 use crate::begin::begun;
 use crate::parts::Parts;
 use crate::waits::wait_of;
-use sharc_code::{At, Code, Print, Shape, State, Stop, Wait, fits_law};
+use sharc_code::{At, Code, Print, Shape, Stage, State, Stop, Wait, fits_law};
 use sharc_shadow::Kind;
 use std::alloc::{AllocError, Global};
 use std::marker::Model;
@@ -33,6 +33,7 @@ impl Thread {
     ghost use Rattle.sharc_shadow.specs.Accesses.{note_of, site_at};
     ghost use Rattle.sharc_code.specs.Layout.{Fits};
     ghost use Rattle.sharc_code.specs.Path.{begun};
+    ghost use Rattle.sharc_code.specs.Stages.{begins_of};
     ghost use Rattle.sharc_cpu.specs.Thread.{IsThread};
 
     /// The thread of this number, which made no turn.
@@ -83,6 +84,23 @@ impl Thread {
         self.parts.number
     }
 
+    /// What its last turn was, and whether another may come.
+    pub fn state(&self) -> State
+        ensures { result ≡ self.now.machine.at.state }
+    {
+        self.at.state
+    }
+
+    /// The number of the thread that its next turn starts, where that is the last of a Spawn.
+    pub fn begins(&self) -> Option<u32>
+        ensures { result ≡ begins_of self.now.machine.own.stage }
+    {
+        match self.parts.stage {
+            Stage::Begins(number) => Some(number),
+            _ => None,
+        }
+    }
+
     /// The events that it has made.
     pub fn made(&self) -> u64
         ensures { result ≡ self.now.made }
@@ -113,9 +131,12 @@ impl Thread {
 
     /// The site of its last check of the granule and kind, if that was made in this epoch.
     pub fn noted(&self, granule: u32, kind: Kind, epoch: u32) -> Option<u32>
-        requires { granule < length self.now.machine.own.table.notes }
         ensures { result ≡ site_at (note_of self.now.machine.own.table granule kind) epoch }
     {
-        self.parts.table.site(granule, kind, epoch)
+        if granule < self.parts.table.granules() {
+            self.parts.table.site(granule, kind, epoch)
+        } else {
+            None
+        }
     }
 }

@@ -6,9 +6,9 @@ use Rattle.std.proofs.lemmas.List.{get_or_default, get_or_past}
 use Rattle.sharc_graph.specs.declared.graph.Finding.{Finding}
 use Rattle.sharc_graph.specs.declared.graph.Finding.TheVariants.{Apart, Source, Behind}
 use Rattle.sharc_graph.specs.Findings.{finding_at}
-use Rattle.sharc_flow.specs.declared.place.Place.{Place}
-use Rattle.sharc_flow.specs.declared.place.Place.TheVariants as place
-use Rattle.sharc_flow.specs.Flow.{flow_of, place_at, is_unwritten, is_source, IsUnwritten, IsSource, IsInferred, AreInferred}
+use Rattle.sharc_constraints.specs.declared.place.Place.{Place}
+use Rattle.sharc_constraints.specs.declared.place.Place.TheVariants as place
+use Rattle.sharc_constraints.specs.Flow.{flow_of, place_at, is_unwritten, is_source, IsUnwritten, IsSource, IsInferred, AreInferred}
 use Rattle.sharc_tree.specs.declared.ctype.Mode.{Mode}
 use Rattle.sharc_tree.specs.declared.ctype.Mode.TheVariants.{Private}
 use Rattle.sharc_ctype.specs.Entities.{entities_in}

@@ -3,7 +3,7 @@ use Rattle.std.proofs.Common.{◌≡◌, ℕ, zero, suc, ◌+◌, ◌<◌, ◌�
 use Rattle.std.proofs.lemmas.Grind.{flat_map-append}
 use Rattle.std.proofs.lemmas.Bool.{cases_lt}
 use Rattle.std.proofs.lemmas.List.{drop_more, drop_all, append-nil, get_or-map, length-map}
-use Rattle.sharc_flow.specs.declared.place.Link.{Link}
+use Rattle.sharc_constraints.specs.declared.place.Link.{Link}
 use Rattle.sharc_tree.specs.declared.tree.declaration.Declaration.{Declaration}
 use Rattle.sharc_tree.specs.declared.tree.expression.Expr.{Expr}
 use Rattle.sharc_tree.specs.Tree.{Expression, no_arguments, argument, value}

@@ -1,7 +1,7 @@
 -- The links of what is given, with the token of the function whose result is meant.
 use Rattle.std.specs.Prelude.{ℕ, List, Option, Some}
 use Rattle.std.specs.List.{flat_map}
-use Rattle.sharc_flow.specs.declared.place.Link.{Link}
+use Rattle.sharc_constraints.specs.declared.place.Link.{Link}
 use Rattle.sharc_tree.specs.Tree.{Expression}
 use Rattle.sharc_ctype.specs.Resolved.{Resolution}
 use Rattle.sharc_ctype.specs.Transfers.{Receiver, lvalue, variable, result, Transfer}

@@ -5,9 +5,9 @@ use Rattle.sharc_tree.specs.declared.ctype.Mode.TheVariants.{Private}
 use Rattle.sharc_graph.specs.declared.graph.Finding.{Finding}
 use Rattle.sharc_graph.specs.declared.graph.Finding.TheVariants.{Apart, Source, Behind}
 use Rattle.sharc_graph.specs.Findings.{finding_at}
-use Rattle.sharc_flow.specs.declared.place.Place.{Place}
-use Rattle.sharc_flow.specs.declared.place.Place.TheVariants as place
-use Rattle.sharc_flow.specs.Flow.{place_at}
+use Rattle.sharc_constraints.specs.declared.place.Place.{Place}
+use Rattle.sharc_constraints.specs.declared.place.Place.TheVariants as place
+use Rattle.sharc_constraints.specs.Flow.{place_at}
 use Rattle.sharc_mode.specs.declared.position.Reason.{Reason}
 use Rattle.sharc_mode.specs.declared.position.Reason.TheVariants.{From}
 use Rattle.sharc_mode.specs.Flows.{written_place, mode_found}

@@ -3,7 +3,7 @@
 ghost use Rattle.std.specs.Prelude.{◌≡◌, ◌^◌, ◌<◌, length, IfOk, IfErr};
 ghost use Rattle.std.specs.List.{All};
 ghost use Rattle.sharc_graph.specs.Paths.{IsWithin};
-ghost use Rattle.sharc_flow.specs.Flow.{flow_of, AreInferred};
+ghost use Rattle.sharc_constraints.specs.Flow.{flow_of, AreInferred};
 ghost use Rattle.sharc_mode.specs.Flows.{IsLeastAssignment};
 ghost use Rattle.sharc_reach.specs.Reaching.{AreReached};
 
@@ -12,8 +12,8 @@ use crate::links::links;
 use crate::places::places;
 use crate::roots::roots;
 use crate::settled::settled;
+use sharc_constraints::{Link, Place, least_assignment, least_by_rounds};
 use sharc_ctype::typed::Typed;
-use sharc_flow::{Link, Place, least_assignment, least_by_rounds};
 use sharc_graph::Finding;
 use sharc_mode::laws::link_laws;
 use sharc_mode::moded::Moded;

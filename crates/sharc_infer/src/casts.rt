@@ -6,8 +6,8 @@ ghost use Rattle.sharc_tree.specs.View.{view_expr, view_arguments, view_option, 
 ghost use Rattle.sharc_infer.specs.Links.{casts_in};
 
 use crate::links::equate_cast;
+use sharc_constraints::Link;
 use sharc_ctype::typed::Typed;
-use sharc_flow::Link;
 use sharc_tree::tree::{Expr, ForFirst, ForHead, Local, Right, Simple, Stmt};
 use std::alloc::AllocError;
 

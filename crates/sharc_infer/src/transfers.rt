@@ -10,8 +10,8 @@ ghost use Rattle.sharc_mode.specs.View.{view_rows, EndsWithin};
 ghost use Rattle.sharc_infer.specs.Links.{given};
 
 use crate::links::{equate, source_row};
+use sharc_constraints::Link;
 use sharc_ctype::typed::Typed;
-use sharc_flow::Link;
 use sharc_mode::row::{Reading, declared_row, row_of};
 use sharc_names::fault::Named;
 use sharc_tree::tree::{

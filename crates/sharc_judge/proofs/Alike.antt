@@ -1,5 +1,5 @@
 -- Objects, cells and modes that are found to be the same are equal.
-use Rattle.std.proofs.Common.{◌≡◌, true, Option, Some, None, refl, ap, ◌∙◌}
+use Rattle.std.proofs.Common.{◌≡◌, ◌↔◌, true, subst, Option, Some, None, refl, ap, ◌∙◌}
 use Rattle.std.proofs.lemmas.Bool.{eqb-true, eq-eqb, and_parts, and_from}
 use Rattle.sharc_tree.specs.declared.event.CellAt.{CellAt}
 use Rattle.sharc_tree.specs.declared.event.CellMode.{CellMode}
@@ -8,6 +8,7 @@ use Rattle.sharc_tree.specs.declared.event.Object.{Object}
 use Rattle.sharc_tree.specs.declared.event.Object.TheVariants.{Global, Made}
 use Rattle.sharc_meaning.specs.Events.{same_object, same_cell}
 use Rattle.sharc_judge.specs.Deciding.{same_mutex, same_mode}
+use Rattle.sharc_judge.specs.Laws.{EqualObjects, EqualCells, EqualModes}
 
 pub equal_objects : (a b : Object) → same_object a b ≡ true → a ≡ b
 equal_objects (Global g) (Global h) e = ap Global (eqb-true g h e)
@@ -75,3 +76,12 @@ same_mode_itself Readonly = refl
 same_mode_itself (Locked c) = same_mutex_itself c
 same_mode_itself Racy = refl
 same_mode_itself Dynamic = refl
+
+pub objects : EqualObjects
+objects a b = (equal_objects a b, λ e. subst (λ z. same_object a z ≡ true) e (same_as_itself a))
+
+pub cells : EqualCells
+cells a b = (equal_cells a b, λ e. subst (λ z. same_cell a z ≡ true) e (same_cell_itself a))
+
+pub modes : EqualModes
+modes a b = (equal_modes a b, λ e. subst (λ z. same_mode a z ≡ true) e (same_mode_itself a))

@@ -6,6 +6,7 @@ use Rattle.sharc_meaning.specs.Obeys.{Until, Obeys}
 use Rattle.sharc_judge.specs.declared.rule.Rule.{Rule}
 use Rattle.sharc_judge.specs.declared.rule.Rule.TheVariants.{Live, OneMode, Owner, NotWritten, UnderItsLock, ReadSharedOrOneThread}
 use Rattle.sharc_judge.specs.Judged.{Holds, number, IsLowestBroken}
+use Rattle.sharc_judge.specs.Laws.{ObeysEach}
 
 pub broken_by : {b : Bool} {P : Type 0} → (IsTrue b ↔ P) → b ≡ false → P → ⊥
 broken_by {b = b} h e p = both_ways b e (h.1 p)
@@ -82,3 +83,14 @@ module _ (R : List SourceEvent) (until : Until) where
 
   pub obeys_all : Holds R until Live → Holds R until OneMode → Holds R until Owner → Holds R until NotWritten → Holds R until UnderItsLock → Holds R until ReadSharedOrOneThread → Obeys R until
   obeys_all h1 h2 h3 h4 h5 h6 = record { live = h1; one_mode = h2; owner = h3; unwritten = h4; under_lock = h5; shared = h6 }
+
+each_of : (R : List SourceEvent) (until : Until) → Obeys R until → (rule : Rule) → Holds R until rule
+each_of R until o Live = o.live
+each_of R until o OneMode = o.one_mode
+each_of R until o Owner = o.owner
+each_of R until o NotWritten = o.unwritten
+each_of R until o UnderItsLock = o.under_lock
+each_of R until o ReadSharedOrOneThread = o.shared
+
+pub obeys_each : ObeysEach
+obeys_each R until = (λ h. obeys_all R until (h Live) (h OneMode) (h Owner) (h NotWritten) (h UnderItsLock) (h ReadSharedOrOneThread), each_of R until)

@@ -21,12 +21,9 @@ use Rattle.sharc_judge.specs.declared.rule.Rule.{Rule}
 use Rattle.sharc_judge.specs.declared.rule.Rule.TheVariants as rule
 use Rattle.sharc_judge.specs.Deciding.{view_until, same_mode, is_dynamic, test_of, any_place, any_pair, pair_of, disagrees, conflicts, is_there, not_by_owner, is_written, without_lock, beside, breaks, of_access, breaks_with, breaks_by}
 use Rattle.sharc_judge.specs.Judged.{Holds}
+use Rattle.sharc_judge.specs.Laws.{Unbroken, HoldsUnbroken}
 use Rattle.sharc_judge.proofs.Alike.{equal_objects, same_as_itself, equal_cells, same_cell_itself, equal_modes, same_mode_itself}
 use Rattle.sharc_judge.proofs.Pairs.{at_each, from_each, at_each_pair, from_each_pair, Behind, in_order}
-
--- no access at any place breaks the rule
-abbrev pub Unbroken : Rule → Until → List SourceEvent → Type 0
-Unbroken rule u R = (before : List SourceEvent) (e : SourceEvent) (after : List SourceEvent) (a : Access) → Stands R before e after → IsAccess e a → breaks rule u before e.thread (of_access a) ≡ false
 
 unbroken : (rule : Rule) (u : Until) (R : List SourceEvent) → any_place (breaks_by rule u) [] R ≡ false → Unbroken rule u R
 unbroken rule u R h before e after a stands is = ap (breaks_with rule u before e.thread) (sym is) ∙ at_each (breaks_by rule u) [] R h before e after stands
@@ -418,7 +415,7 @@ shared_is u R = (there_is_none, none_is_there)
 
 -- ---- all
 
-rule_is : (rule : Rule) (u : Until) (R : List SourceEvent) → Unbroken rule u R ↔ Holds R (view_until u) rule
+pub rule_is : HoldsUnbroken
 rule_is rule.Live u R = live_is u R
 rule_is rule.OneMode u R = one_mode_is u R
 rule_is rule.Owner u R = owner_is u R

@@ -17,7 +17,8 @@ pub struct CellAccess {
     pub is_write: bool,
 }
 
-pub(crate) fn access_by(act: Act) -> Option<CellAccess>
+/// The access that the act is: a Read, a Write or a Take of a cell, else none.
+pub fn access_by(act: Act) -> Option<CellAccess>
     ensures { option_map view_access result ≡ access_by act }
 {
     match act {
@@ -36,20 +37,21 @@ pub(crate) fn access_by(act: Act) -> Option<CellAccess>
 }
 
 /// A granule has two cells.
-pub(crate) fn granule_of(cell: CellAt) -> u64
+pub fn granule_of(cell: CellAt) -> u64
     ensures { result ≡ granule_of cell }
 {
     cell.cell / 2
 }
 
 /// The number of the object of a reference that is not NULL.
-pub(crate) fn number_of(reference: i64) -> u32
+pub fn number_of(reference: i64) -> u32
     ensures { result ≡ number_of reference }
 {
     (reference.unsigned_abs() % 4294967296) as u32
 }
 
-pub(crate) fn makes(object: Object, e: &SourceEvent) -> bool
+/// Whether the event is a New of the object.
+pub fn makes(object: Object, e: &SourceEvent) -> bool
     ensures { result ≡ makes object e.now }
 {
     match (object, e.act) {
@@ -67,7 +69,8 @@ fn gives(object: Object, e: &SourceEvent) -> bool
     }
 }
 
-pub(crate) fn frees(object: Object, e: &SourceEvent) -> bool
+/// Whether it is a Freed of the object.
+pub fn frees(object: Object, e: &SourceEvent) -> bool
     ensures { result ≡ frees object e.now }
 {
     match (object, e.act) {
@@ -76,13 +79,15 @@ pub(crate) fn frees(object: Object, e: &SourceEvent) -> bool
     }
 }
 
-pub(crate) fn begins(object: Object, e: &SourceEvent) -> bool
+/// Whether it is a New or a Give of the object: from there on the object has its mode and its owner.
+pub fn begins(object: Object, e: &SourceEvent) -> bool
     ensures { result ≡ begins object e.now }
 {
     makes(object, e) || gives(object, e)
 }
 
-pub(crate) fn locks(c: CellAt, e: &SourceEvent) -> bool
+/// Whether it is a Lock of the mutex in this cell.
+pub fn locks(c: CellAt, e: &SourceEvent) -> bool
     ensures { result ≡ locks c e.now }
 {
     match e.act {
@@ -91,7 +96,8 @@ pub(crate) fn locks(c: CellAt, e: &SourceEvent) -> bool
     }
 }
 
-pub(crate) fn unlocks(c: CellAt, e: &SourceEvent) -> bool
+/// Whether it is an Unlock of the mutex in this cell.
+pub fn unlocks(c: CellAt, e: &SourceEvent) -> bool
     ensures { result ≡ unlocks c e.now }
 {
     match e.act {
@@ -111,14 +117,14 @@ fn cell_changed(act: Act) -> Option<CellAt>
 }
 
 /// Whether the event gives the cell a value.
-pub(crate) fn changes(c: CellAt, e: &SourceEvent) -> bool
+pub fn changes(c: CellAt, e: &SourceEvent) -> bool
     ensures { result ≡ changes c e.now }
 {
     is_cell(c, cell_changed(e.act)) || makes(c.object, e)
 }
 
 /// The value that it gives.
-pub(crate) fn value_left(act: Act) -> i64
+pub fn value_left(act: Act) -> i64
     ensures { result ≡ value_left act }
 {
     match act {
@@ -127,14 +133,15 @@ pub(crate) fn value_left(act: Act) -> i64
     }
 }
 
-pub(crate) fn is_natural(n: u64, value: i64) -> bool
+/// Whether the value is this number.
+pub fn is_natural(n: u64, value: i64) -> bool
     ensures { result ≡ is_natural n value }
 {
     value >= 0 && value.unsigned_abs() == n
 }
 
 /// Whether the event is a Spawn that answered this number.
-pub(crate) fn spawns(thread: u64, e: &SourceEvent) -> bool
+pub fn spawns(thread: u64, e: &SourceEvent) -> bool
     ensures { result ≡ spawns thread e.now }
 {
     match e.act {
@@ -143,7 +150,8 @@ pub(crate) fn spawns(thread: u64, e: &SourceEvent) -> bool
     }
 }
 
-pub(crate) fn is_gone(act: Act) -> bool
+/// Whether its thread is gone by the act.
+pub fn is_gone(act: Act) -> bool
     ensures { result ≡ is_gone act }
 {
     match act {
@@ -153,7 +161,7 @@ pub(crate) fn is_gone(act: Act) -> bool
 }
 
 /// Whether the thread makes itself a waiter of the cell by the event.
-pub(crate) fn enters(c: CellAt, thread: u32, e: &SourceEvent) -> bool
+pub fn enters(c: CellAt, thread: u32, e: &SourceEvent) -> bool
     ensures { result ≡ enters c thread e.now }
 {
     match e.act {
@@ -163,7 +171,7 @@ pub(crate) fn enters(c: CellAt, thread: u32, e: &SourceEvent) -> bool
 }
 
 /// Whether it is taken away from there by the event.
-pub(crate) fn takes_away(c: CellAt, thread: u32, e: &SourceEvent) -> bool
+pub fn takes_away(c: CellAt, thread: u32, e: &SourceEvent) -> bool
     ensures { result ≡ takes_away c thread e.now }
 {
     match e.act {

@@ -56,7 +56,8 @@ fn ends(until: Until, act: Act) -> bool
 }
 
 impl Test {
-    pub(crate) fn is_met(self, e: &SourceEvent) -> bool
+    /// Whether the event meets the test.
+    pub fn is_met(self, e: &SourceEvent) -> bool
         ensures { result ≡ test_of self e.now }
     {
         match self {
@@ -79,7 +80,7 @@ impl Test {
 }
 
 /// The last event that meets the test.
-pub(crate) fn latest(test: Test, events: &[SourceEvent]) -> Option<SourceEvent>
+pub fn latest(test: Test, events: &[SourceEvent]) -> Option<SourceEvent>
     ensures { result ≡ latest (test_of test) events.now }
 {
     let mut last = None;
@@ -92,7 +93,7 @@ pub(crate) fn latest(test: Test, events: &[SourceEvent]) -> Option<SourceEvent>
 }
 
 /// Whether any event meets the test.
-pub(crate) fn any(test: Test, events: &[SourceEvent]) -> bool
+pub fn any(test: Test, events: &[SourceEvent]) -> bool
     ensures { result ≡ list_any (test_of test) events.now }
 {
     for e in events {
@@ -104,7 +105,7 @@ pub(crate) fn any(test: Test, events: &[SourceEvent]) -> bool
 }
 
 /// Whether the last event that meets the one test is there and meets the other.
-pub(crate) fn meets_latest(test: Test, among: Test, events: &[SourceEvent]) -> bool
+pub fn meets_latest(test: Test, among: Test, events: &[SourceEvent]) -> bool
     ensures { result ≡ meets_latest test among events.now }
 {
     match latest(among, events) {

@@ -12,7 +12,7 @@ use sharc_meaning::laws::store_laws;
 use sharc_tree::event::{Act, SourceEvent, Taken};
 
 /// Whether the event may come behind those before it.
-fn may_come(t: &Typed, before: &[SourceEvent], e: &SourceEvent) -> bool
+pub fn may_come(t: &Typed, before: &[SourceEvent], e: &SourceEvent) -> bool
     ensures { IsTrue result ↔ MayCome t.now before.now e.now e.now.act }
 {
     match e.act {

@@ -53,7 +53,8 @@ fn conflicts(b: CellAccess, with: Option<CellAccess>) -> bool
 }
 
 impl Pair {
-    fn is_met(self, d: &SourceEvent, between: &[SourceEvent]) -> bool
+    /// Whether the event meets the test with those between it and the place.
+    pub fn is_met(self, d: &SourceEvent, between: &[SourceEvent]) -> bool
         ensures { result ≡ pair_of self d.now between.now }
     {
         match self {
@@ -74,7 +75,7 @@ impl Pair {
 }
 
 /// Whether any event meets the test with those behind it.
-pub(crate) fn any_pair(pair: Pair, events: &[SourceEvent]) -> bool
+pub fn any_pair(pair: Pair, events: &[SourceEvent]) -> bool
     ensures { result ≡ any_pair (pair_of pair) events.now }
 {
     match events {

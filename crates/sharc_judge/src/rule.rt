@@ -29,7 +29,8 @@ pub enum Rule {
     ReadSharedOrOneThread,
 }
 
-fn is_there(before: &[SourceEvent], o: Object) -> bool
+/// Whether the object is a global, or live.
+pub fn is_there(before: &[SourceEvent], o: Object) -> bool
     ensures { result ≡ is_there before.now o }
 {
     match o {
@@ -38,7 +39,8 @@ fn is_there(before: &[SourceEvent], o: Object) -> bool
     }
 }
 
-fn is_owner(before: &[SourceEvent], o: Object, thread: u32) -> bool
+/// Whether the thread made the last New or Give of the object; a global is owned by thread 0.
+pub fn is_owner(before: &[SourceEvent], o: Object, thread: u32) -> bool
     ensures { result ≡ is_owner before.now o thread }
 {
     match o {

@@ -6,7 +6,8 @@ ghost use Rattle.sharc_judge.specs.Deciding.{same_mutex, same_mode, is_dynamic};
 
 use sharc_tree::event::{CellAt, CellMode, Object};
 
-pub(crate) fn same_object(a: Object, b: Object) -> bool
+/// Whether both are one object.
+pub fn same_object(a: Object, b: Object) -> bool
     ensures { result ≡ same_object a b }
 {
     match (a, b) {
@@ -16,13 +17,15 @@ pub(crate) fn same_object(a: Object, b: Object) -> bool
     }
 }
 
-pub(crate) fn same_cell(a: CellAt, b: CellAt) -> bool
+/// Whether both are one cell of one object.
+pub fn same_cell(a: CellAt, b: CellAt) -> bool
     ensures { result ≡ same_cell a b }
 {
     same_object(a.object, b.object) && a.cell == b.cell
 }
 
-pub(crate) fn is_cell(c: CellAt, of: Option<CellAt>) -> bool
+/// Whether there is a cell, and it is this one.
+pub fn is_cell(c: CellAt, of: Option<CellAt>) -> bool
     ensures { result ≡ is_cell c of }
 {
     match of {
@@ -41,7 +44,8 @@ fn same_mutex(a: Option<CellAt>, b: Option<CellAt>) -> bool
     }
 }
 
-pub(crate) fn same_mode(a: CellMode, b: CellMode) -> bool
+/// Whether both are one mode; locked ones, where both name the same mutex or none.
+pub fn same_mode(a: CellMode, b: CellMode) -> bool
     ensures { result ≡ same_mode a b }
 {
     match (a, b) {
@@ -54,7 +58,8 @@ pub(crate) fn same_mode(a: CellMode, b: CellMode) -> bool
     }
 }
 
-pub(crate) fn is_dynamic(mode: CellMode) -> bool
+/// Whether it is mode dynamic.
+pub fn is_dynamic(mode: CellMode) -> bool
     ensures { result ≡ is_dynamic mode }
 {
     match mode {

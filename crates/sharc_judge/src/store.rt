@@ -54,7 +54,7 @@ fn initial_value(t: &Typed, object: Object) -> i128
 }
 
 /// The last value that was given to the cell, else its initial value.
-pub(crate) fn value_after(t: &Typed, before: &[SourceEvent], c: CellAt) -> i128
+pub fn value_after(t: &Typed, before: &[SourceEvent], c: CellAt) -> i128
     ensures { result ≡ value_after t.now before.now c }
 {
     match latest(Test::Changes(c), before) {
@@ -64,38 +64,42 @@ pub(crate) fn value_after(t: &Typed, before: &[SourceEvent], c: CellAt) -> i128
 }
 
 /// Whether the answer is the cell's value.
-pub(crate) fn tells_value(t: &Typed, before: &[SourceEvent], c: CellAt, answer: i64) -> bool
+pub fn tells_value(t: &Typed, before: &[SourceEvent], c: CellAt, answer: i64) -> bool
     ensures { IsTrue result ↔ (answer ≡ value_after t.now before.now c) }
 {
     value_after(t, before, c) == answer as i128
 }
 
-pub(crate) fn is_live(before: &[SourceEvent], o: Object) -> bool
+/// Whether the object is live: of its events New and Freed the last is a New.
+pub fn is_live(before: &[SourceEvent], o: Object) -> bool
     ensures { result ≡ is_live before.now o }
 {
     meets_latest(Test::Makes(o), Test::MakesOrFrees(o), before)
 }
 
-pub(crate) fn is_locked(before: &[SourceEvent], c: CellAt) -> bool
+/// Whether the last event of the mutex is a Lock.
+pub fn is_locked(before: &[SourceEvent], c: CellAt) -> bool
     ensures { result ≡ is_locked before.now c }
 {
     meets_latest(Test::Locks(c), Test::LocksOrUnlocks(c), before)
 }
 
-pub(crate) fn was_locked_by(before: &[SourceEvent], c: CellAt, thread: u32) -> bool
+/// Whether the last Lock of the mutex is this thread's.
+pub fn was_locked_by(before: &[SourceEvent], c: CellAt, thread: u32) -> bool
     ensures { result ≡ was_locked_by before.now c thread }
 {
     meets_latest(Test::IsOf(thread), Test::Locks(c), before)
 }
 
 /// Whether the thread of this number is gone.
-pub(crate) fn went(before: &[SourceEvent], thread: i64) -> bool
+pub fn went(before: &[SourceEvent], thread: i64) -> bool
     ensures { result ≡ went before.now thread }
 {
     any(Test::Goes(thread), before)
 }
 
-pub(crate) fn is_waiter(before: &[SourceEvent], c: CellAt, thread: u32) -> bool
+/// Whether the thread made itself a waiter of the cell and was not taken away since.
+pub fn is_waiter(before: &[SourceEvent], c: CellAt, thread: u32) -> bool
     ensures { result ≡ is_waiter before.now c thread }
 {
     meets_latest(
@@ -106,7 +110,7 @@ pub(crate) fn is_waiter(before: &[SourceEvent], c: CellAt, thread: u32) -> bool
 }
 
 /// Whether the answer is a reference to an object that is not live, with these elements.
-pub(crate) fn is_fresh(before: &[SourceEvent], elements: u64, answer: i64) -> bool
+pub fn is_fresh(before: &[SourceEvent], elements: u64, answer: i64) -> bool
     ensures { IsTrue result ↔ IsFresh before.now elements answer }
 {
     let number = number_of(answer);
@@ -117,7 +121,7 @@ pub(crate) fn is_fresh(before: &[SourceEvent], elements: u64, answer: i64) -> bo
 }
 
 /// Whether the answer is the number of a thread that was not spawned before, and is not the first.
-pub(crate) fn is_new_thread(before: &[SourceEvent], answer: i64) -> bool
+pub fn is_new_thread(before: &[SourceEvent], answer: i64) -> bool
     ensures { IsTrue result ↔ IsNewThread before.now answer }
 {
     answer > 0 && !any(Test::Spawns(answer.unsigned_abs()), before)
@@ -168,7 +172,7 @@ fn tells_waiter(before: &[SourceEvent], c: CellAt, answer: i64) -> bool
 }
 
 /// Whether a Signal may answer this.
-pub(crate) fn signals(before: &[SourceEvent], c: CellAt, answer: i64) -> bool
+pub fn signals(before: &[SourceEvent], c: CellAt, answer: i64) -> bool
     ensures { IsTrue result ↔ Signals before.now c answer }
 {
     tells_waiter(before, c, answer)

@@ -1,8 +1,8 @@
 -- The steps of a loop, piece by piece.
 use Rattle.std.proofs.Common.{◌≡◌, List, [], ◌∷◌, ◌++◌, Option, Some, None, refl, ap, ◌∙◌, append_assoc}
-use Rattle.sharc_paths.specs.declared.step.Step.{Step}
-use Rattle.sharc_paths.specs.declared.step.Step.TheVariants as steps
-use Rattle.sharc_paths.specs.Code.{Code, repeats, listing}
+use Rattle.sharc_dataflow.specs.declared.step.Step.{Step}
+use Rattle.sharc_dataflow.specs.declared.step.Step.TheVariants as steps
+use Rattle.sharc_dataflow.specs.Code.{Code, repeats, listing}
 use Rattle.sharc_tree.specs.Tree.{Expression, Head}
 use Rattle.sharc_ctype.specs.Resolved.{Resolution}
 use Rattle.sharc_live.specs.Flows.{of_option, simple_flow, first_flow, test_flow, turn_flow, for_flow}

@@ -9,8 +9,8 @@ use Rattle.sharc_tree.specs.declared.tree.item.Item.{Item}
 use Rattle.sharc_tree.specs.View.{view_item, view_items}
 use Rattle.sharc_ctype.specs.Resolved.{Resolution, functions_in}
 use Rattle.sharc_mode.specs.declared.error.Warning.{Warning}
-use Rattle.sharc_paths.specs.declared.way.Warning.{Warning as Found}
-use Rattle.sharc_paths.specs.Uses.{warning, HasWarning, IsUse, AddsUses, Rising, AreFirsts}
+use Rattle.sharc_dataflow.specs.declared.way.Warning.{Warning as Found}
+use Rattle.sharc_dataflow.specs.Uses.{warning, HasWarning, IsUse, AddsUses, Rising, AreFirsts}
 use Rattle.sharc_live.specs.Flows.{function_flow}
 use Rattle.sharc_live.specs.Gathers.{AddsAll}
 use Rattle.sharc_live.specs.Uses.{site_of, site_at, warning_at, IsUseAmong, IsUseIn, IsWarned, InOrder, IsWarning, AreWarnings}

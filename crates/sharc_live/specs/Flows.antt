@@ -15,8 +15,8 @@ use Rattle.sharc_tree.specs.Tree.{Expression, identifier, constant, parentheses,
 use Rattle.sharc_names.specs.declared.fault.Named.{Named}
 use Rattle.sharc_names.specs.declared.fault.Named.TheVariants as named
 use Rattle.sharc_ctype.specs.Resolved.{Resolution, named_at}
-use Rattle.sharc_paths.specs.Flow.{Reads, Nulls, Writes, Next, Broken, Continued, Ends}
-use Rattle.sharc_paths.specs.Code.{Code, goes_to, acts, first_then, one_of, catches, repeats}
+use Rattle.sharc_dataflow.specs.Flow.{Reads, Nulls, Writes, Next, Broken, Continued, Ends}
+use Rattle.sharc_dataflow.specs.Code.{Code, goes_to, acts, first_then, one_of, catches, repeats}
 
 -- ---- what is done with a local, which is told by the token that declares it
 

@@ -6,8 +6,8 @@ use Rattle.sharc_tree.specs.Tree.{Function}
 use Rattle.sharc_ctype.specs.Resolved.{Resolution, functions_in}
 use Rattle.sharc_mode.specs.declared.error.Warning.{Warning}
 use Rattle.sharc_mode.specs.Sharings.{text_at}
-use Rattle.sharc_paths.specs.Uses.{IsUse}
-use Rattle.sharc_paths.specs.declared.way.Warning.{Warning as Found}
+use Rattle.sharc_dataflow.specs.Uses.{IsUse}
+use Rattle.sharc_dataflow.specs.declared.way.Warning.{Warning as Found}
 use Rattle.sharc_live.specs.Flows.{function_flow}
 
 -- the place of a token, by its number

@@ -2,12 +2,12 @@
 
 ghost use Rattle.std.specs.Prelude.{◌≡◌, ◌++◌, OnOk};
 ghost use Rattle.sharc_tree.specs.View.{view_expr, view_arguments};
-ghost use Rattle.sharc_paths.specs.Code.{listing};
+ghost use Rattle.sharc_dataflow.specs.Code.{listing};
 ghost use Rattle.sharc_live.specs.Flows.{goes_on, nulls, variable_of, of_operands, of_place_call, of_base, flow, flow_all, place_flow};
 
 use crate::variable::{nulls, reads, through, variable_named, variable_of};
 use sharc_ctype::typed::Typed;
-use sharc_paths::step::Step;
+use sharc_dataflow::step::Step;
 use sharc_tree::tree::{Access, BinaryOperator, Expr, PlaceCall, UnaryOperator};
 use std::alloc::AllocError;
 

@@ -2,15 +2,15 @@
 
 ghost use Rattle.std.specs.Prelude.{◌≡◌, ◌++◌, OnOk, IfOk};
 ghost use Rattle.sharc_tree.specs.View.{view_expr, view_option, view_right, view_simple, view_local, view_first, view_head, view_stmt, view_statements, view_function};
-ghost use Rattle.sharc_paths.specs.Code.{goes_to, first_then, listing};
-ghost use Rattle.sharc_paths.specs.Flow.{Ends};
+ghost use Rattle.sharc_dataflow.specs.Code.{goes_to, first_then, listing};
+ghost use Rattle.sharc_dataflow.specs.Flow.{Ends};
 ghost use Rattle.sharc_live.specs.Turns.{body_begins, tested_loop_ends, turn_begins, turn_ends};
 ghost use Rattle.sharc_live.specs.Flows.{of_option, flow, right_flow, simple_flow, declares_flow, local_flow, first_flow, turn_flow, test_flow, jump_flow, for_flow, statement_flow, statements_flow, parameters_flow, function_flow};
 
 use crate::expression::{expression, place};
 use crate::variable::{variable_of, writes};
 use sharc_ctype::typed::Typed;
-use sharc_paths::step::Step;
+use sharc_dataflow::step::Step;
 use sharc_tree::tree::{
     Declaration, Expr, ForFirst, ForHead, FunctionDefinition, Jump, Local, Right, Simple, Stmt,
 };

@@ -2,12 +2,12 @@
 
 ghost use Rattle.std.specs.Prelude.{◌≡◌, ◌++◌, OnOk};
 ghost use Rattle.sharc_tree.specs.View.{view_expr};
-ghost use Rattle.sharc_paths.specs.Code.{listing};
+ghost use Rattle.sharc_dataflow.specs.Code.{listing};
 ghost use Rattle.sharc_live.specs.Flows.{reads, nulls, writes, through, variable_named, variable_of};
 
 use sharc_ctype::typed::Typed;
+use sharc_dataflow::step::Step;
 use sharc_names::fault::Named;
-use sharc_paths::step::Step;
 use sharc_tree::tree::{Access, Expr};
 use std::alloc::AllocError;
 

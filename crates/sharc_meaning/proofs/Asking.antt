@@ -4,7 +4,7 @@ use Rattle.std.specs.Prelude.{ℤ, ◌≢◌}
 use Rattle.sharc_tree.specs.declared.event.SourceEvent.{SourceEvent}
 use Rattle.sharc_ctype.specs.Resolved.{function_at}
 use Rattle.sharc_mode.specs.Moded.{Assignment}
-use Rattle.sharc_meaning.specs.Laws.{GoesOn, MoreFuel, MoreFuelChangesNothing, MoreAnswers, MoreAnswersChangeNothing, NoMoreThanAnswers, WantsBehindAnswers, Comes, OneAnswerMore}
+use Rattle.sharc_meaning.specs.Laws.{IsPrefix, GoesOn, MoreIsGivenUp, MoreFuel, MoreFuelChangesNothing, MoreAnswers, MoreAnswersChangeNothing, NoMoreThanAnswers, WantsBehindAnswers, Comes, OneAnswerMore}
 use Rattle.sharc_meaning.specs.Meaning.{Asked, asked_by, asks, run_thread, start}
 use Rattle.sharc_meaning.specs.State.{Outcome, wants, ended, stopped, spent, Out, go, over}
 use Rattle.sharc_meaning.proofs.Closed.{thread_kept}
@@ -48,6 +48,15 @@ more_fuel m f v answers fuel more = subst (λ l. GoesOn (asks m f v answers fuel
 pub more_fuel_same : MoreFuelChangesNothing
 more_fuel_same m f v answers fuel more n = subst (λ l. asks m f v l (fuel + more) ≡ asks m f v answers fuel) (append-nil answers)
     (same more [] _ _ (ran m f v answers [] fuel more) (no_more_fuel _ more n))
+
+given : {A : Type 0} (d : ℕ) (ys : List ℤ) (o o' : Out A) → going.GoesOn d ys o o' → (asked_by o').events ≡ (asked_by o).events → IsPrefix (asked_by o).given_up (asked_by o').given_up
+given d ys (go x s) o' h e = subst (λ z. IsPrefix s.given_up (asked_by z).given_up) (sym h) (prefix_refl s.given_up)
+given d ys (over o s) (go x t) h e = h.grows.given e
+given d ys (over o s) (over o2 t) h e = h.grows.given e
+
+pub more_given_up : MoreIsGivenUp
+more_given_up m f v answers fuel more = subst (λ l. (asks m f v l (fuel + more)).events ≡ (asks m f v answers fuel).events → IsPrefix (asks m f v answers fuel).given_up (asks m f v l (fuel + more)).given_up) (append-nil answers)
+    (given more [] _ _ (ran m f v answers [] fuel more))
 
 pub more_answers : MoreAnswers
 more_answers m f v answers more fuel = let e : fuel + 0 ≡ fuel = omega arith in subst (λ k. GoesOn (asks m f v answers fuel) (asks m f v (answers ++ more) k)) e (grown 0 more _ _ (ran m f v answers more fuel 0))

@@ -13,19 +13,19 @@ use Rattle.sharc_meaning.proofs.Legal.{stores_grow}
 use Rattle.sharc_meaning.proofs.Obeying.{further}
 use Rattle.sharc_meaning.proofs.Running.{events_append, map_both}
 
-same_thread : (t u : ℕ) → (t == u) ≡ true → t ≡ u
+pub same_thread : (t u : ℕ) → (t == u) ≡ true → t ≡ u
 same_thread t u h = search (nat_tests, arith)
 
 -- the events of a thread, with one more at the end of the list
 module _ (e : SourceEvent) (u : ℕ) where
-  one_own : is_of u e ≡ true → (l : List SourceEvent) → events_of u (l ++ e ∷ []) ≡ events_of u l ++ e ∷ []
+  pub one_own : is_of u e ≡ true → (l : List SourceEvent) → events_of u (l ++ e ∷ []) ≡ events_of u l ++ e ∷ []
   one_own h l = events_append u l (e ∷ []) ∙ ap (λ b. events_of u l ++ cond b (e ∷ []) []) h
 
-  one_other : is_of u e ≡ false → (l : List SourceEvent) → events_of u (l ++ e ∷ []) ≡ events_of u l
+  pub one_other : is_of u e ≡ false → (l : List SourceEvent) → events_of u (l ++ e ∷ []) ≡ events_of u l
   one_other h l = events_append u l (e ∷ []) ∙ ap (λ b. events_of u l ++ cond b (e ∷ []) []) h ∙ append-nil (events_of u l)
 
 module _ (m : Assignment) (R : List SourceEvent) (e : SourceEvent) where
-  with_more : (fuel u : ℕ) (a : Follows m R fuel u) → map (by u) (asks m a.function a.argument (answers_of (events_of u (a.after ++ e ∷ []))) fuel).events ≡ events_of u (a.after ++ e ∷ []) → Follows m (R ++ e ∷ []) fuel u
+  pub with_more : (fuel u : ℕ) (a : Follows m R fuel u) → map (by u) (asks m a.function a.argument (answers_of (events_of u (a.after ++ e ∷ []))) fuel).events ≡ events_of u (a.after ++ e ∷ []) → Follows m (R ++ e ∷ []) fuel u
   with_more fuel u a h = record {
     function = a.function;
     argument = a.argument;
@@ -52,7 +52,7 @@ module _ (m : Assignment) (R : List SourceEvent) (e : SourceEvent) where
       let answers : answers_of (events_of e.thread (a.after ++ e ∷ [])) ≡ answers_of (events_of e.thread a.after) ++ e.answer ∷ [] = ap answers_of (one_own e e.thread h a.after) ∙ map_both (λ x. x.answer) (events_of e.thread a.after) (e ∷ []) in
       with_more n.fuel e.thread a (ap (λ l. map (by e.thread) (asks m a.function a.argument l n.fuel).events) answers ∙ n.comes ∙ sym (one_own e e.thread h a.after))
 
-is_itself : (e : SourceEvent) → is_of e.thread e ≡ true
+pub is_itself : (e : SourceEvent) → is_of e.thread e ≡ true
 is_itself e = search (nat_tests, arith)
 
 pub runs_grow : RunsGrow
@@ -63,7 +63,7 @@ runs_grow m R e run may n = record { legal = stores_grow m.typed R e run.legal m
     thread u false h = other_asks m R e u h (run.threads u)
 
 -- a list that is not longer than nothing
-nothing_in : {A : Type 0} (a : List A) → length a ≤ 0 → a ≡ []
+pub nothing_in : {A : Type 0} (a : List A) → length a ≤ 0 → a ≡ []
 nothing_in [] h = refl
 nothing_in (x ∷ a) h = absurd (omega arith)
 

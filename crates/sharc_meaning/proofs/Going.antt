@@ -1,17 +1,18 @@
 -- More fuel and more answers change nothing but an end for want of them, and what was wanted then comes.
-use Rattle.std.proofs.Common.{◌≡◌, ℕ, zero, suc, ◌+◌, Bool, true, false, cond, List, [], ◌∷◌, ◌++◌, refl, sym, ap, ◌∙◌, subst, arith, length}
+use Rattle.std.proofs.Common.{◌≡◌, ℕ, zero, suc, ◌+◌, Bool, true, false, cond, List, [], ◌∷◌, ◌++◌, refl, sym, ap, ◌∙◌, subst, arith, length, append-nil, drop}
 use Rattle.std.specs.Prelude.{ℤ, pos}
 use Rattle.sharc_tree.specs.declared.event.Act.{Act}
 use Rattle.sharc_tree.specs.declared.event.SourceEvent.{SourceEvent}
 use Rattle.sharc_tree.specs.declared.token.Site.{Site}
 use Rattle.sharc_tree.specs.declared.event.Act.TheVariants as acts
 use Rattle.sharc_tree.specs.declared.event.Taken.TheVariants as taken
+use Rattle.sharc_meaning.specs.declared.given.GivenUp.{GivenUp}
 use Rattle.sharc_meaning.specs.Laws.{IsPrefix, IsAnswer}
-use Rattle.sharc_meaning.specs.State.{Frame, State, Outcome, wants, ended, stopped, spent, Out, go, over, Run, Step, then_on, ◌>>◌, give, enters_with, happens, answer_of, event_of, ends_temporaries, value_of, ends_variables, without_temporaries}
+use Rattle.sharc_meaning.specs.State.{Frame, State, all_released, pointers_among, Outcome, wants, ended, stopped, spent, Out, go, over, Run, Step, then_on, ◌>>◌, give, enters_with, happens, answer_of, event_of, ends_temporaries, value_of, ends_variables, without_temporaries}
 use Rattle.sharc_meaning.specs.Statements.{Flow, next, broken, continued, returned, on_turn, turns}
 use Rattle.sharc_meaning.specs.Meaning.{back_in, with_frame}
 use Rattle.sharc_meaning.proofs.Closed.{Closed}
-use Rattle.sharc_meaning.proofs.Growing.{Grows, grows_refl, grows_on, prefix_refl, prefix_on, state_of, Growing, growing, grows_then, grows_turn, grows_turns, grows_cond}
+use Rattle.sharc_meaning.proofs.Growing.{Grows, grows_refl, grows_on, one_more, prefix_refl, prefix_on, state_of, Growing, growing, grows_then, grows_turn, grows_turns, grows_cond, gives_more}
 
 abbrev pub with_more : ℕ → List ℤ → State → State
 with_more d ys s = record s { answers = s.answers ++ ys; fuel = s.fuel + d }
@@ -74,6 +75,13 @@ abbrev pub GoesOn : {A : Type 0} → ℕ → List ℤ → Out A → Out A → Ty
 GoesOn d ys (go x s) o' = o' ≡ go x (with_more d ys s)
 GoesOn d ys (over o s) o' = GoesPast d ys o s o'
 
+-- the same events and trace, and more is given up
+record Behind (s t : State) : Type 0 where
+  more : List GivenUp
+  events : t.events ≡ s.events
+  trace : t.trace ≡ s.trace
+  given : t.given_up ≡ s.given_up ++ more
+
 module _ (d : ℕ) (ys : List ℤ) where
   abbrev pub Going : Bool → (A : Type 0) → Run A → Type 0
   Going b A m = Growing b A m × ((s : State) → GoesOn d ys (m s) (m (with_more d ys s)))
@@ -101,7 +109,7 @@ module _ (d : ℕ) (ys : List ℤ) where
   past_event : (zs : List ℤ) → zs ≡ ys → (site : Site) (act : Act) (s : State) → GoesPast d ys (wants (event_of site act (pos 0))) s (happens zs site act (with_more d ys s))
   past_event [] e site act s = record { grows = grows_refl s; comes = subst (λ l. Comes (wants (event_of site act (pos 0))) l s.events s.events) e tt; same = λ n. refl }
   past_event (z ∷ zs) e site act s = record {
-    grows = record { events = (event_of site act (answer_of (value_of s) act z) ∷ [], refl); trace = prefix_refl s.trace };
+    grows = one_more (event_of site act (answer_of (value_of s) act z)) s [];
     comes = subst (λ l. Comes (wants (event_of site act (pos 0))) l s.events (s.events ++ event_of site act (answer_of (value_of s) act z) ∷ [])) e
         (record { answer = answer_of (value_of s) act z; is = is_answer (value_of s) act z; events = prefix_refl _ });
     same = λ n. absurd (cc);
@@ -139,37 +147,37 @@ module _ (d : ℕ) (ys : List ℤ) where
       again : ((t : State) → GoesOn d ys (turns n test step body t) (turns (n + d) test step body (with_more d ys t))) → (u : State) → GoesOn d ys ((step >> turns n test step body) u) ((step >> turns (n + d) test step body) (with_more d ys u))
       again ih u = goes_then (step u) (step (with_more d ys u)) (λ _. turns n test step body) (λ _. turns (n + d) test step body) (hs.1 u) (λ _. grows_turns (n + d) test step body ht.0 hs.0 hb.0) (λ _ t. ih t)
 
-  -- what is done to the state behind a run
+  -- what is done to the state after a run
   module _ {A : Type 0} (W : Out A → Out A) (w : State → State) (on_go : (x : A) (s : State) → W (go x s) ≡ go x (w s)) (on_over : (o : Outcome) (s : State) → W (over o s) ≡ over o s)
-      (same : (o : Out A) → ((state_of (W o)).events ≡ (state_of o).events) × ((state_of (W o)).trace ≡ (state_of o).trace)) (commutes : (s : State) → w (with_more d ys s) ≡ with_more d ys (w s)) where
+      (same : (o : Out A) → Behind (state_of o) (state_of (W o))) (commutes : (s : State) → w (with_more d ys s) ≡ with_more d ys (w s)) where
     goes_behind : (o o' : Out A) → GoesOn d ys o o' → GoesOn d ys (W o) (W o')
     goes_behind (go x s) o' h = rw (on_go x s) (ap W h ∙ on_go x (with_more d ys s) ∙ ap (go x) (commutes s))
     goes_behind (over o s) o' h = rw (on_over o s) (record {
-      grows = record { events = rw ((same o').0) h.grows.events; trace = rw ((same o').1) h.grows.trace };
-      comes = rw ((same o').0) h.comes;
+      grows = gives_more s (state_of o') (state_of (W o')) (same o').more h.grows (same o').events (same o').trace (same o').given;
+      comes = rw ((same o').events) h.comes;
       same = λ n. ap W (h.same n) ∙ on_over o (with_more d ys s);
     })
 
   goes_temporaries : {A : Type 0} (n : ℕ) (o o' : Out A) → GoesOn d ys o o' → GoesOn d ys (ends_temporaries n o) (ends_temporaries n o')
   goes_temporaries n o o' h = goes_behind (ends_temporaries n) (λ s. state_of (ends_temporaries n (go (pos 0) s))) (λ x s. refl) (λ o s. refl) (same n) (λ s. refl) o o' h
     where
-      same : {A : Type 0} (n : ℕ) (o : Out A) → ((state_of (ends_temporaries n o)).events ≡ (state_of o).events) × ((state_of (ends_temporaries n o)).trace ≡ (state_of o).trace)
-      same n (go x s) = (refl, refl)
-      same n (over o s) = (refl, refl)
+      same : {A : Type 0} (n : ℕ) (o : Out A) → Behind (state_of o) (state_of (ends_temporaries n o))
+      same n (go x s) = record { more = all_released (drop n s.frame.temporaries); events = refl; trace = refl; given = refl }
+      same n (over o s) = record { more = []; events = refl; trace = refl; given = sym (append-nil s.given_up) }
 
   goes_variables : {A : Type 0} (n : ℕ) (o o' : Out A) → GoesOn d ys o o' → GoesOn d ys (ends_variables n o) (ends_variables n o')
   goes_variables n o o' h = goes_behind (ends_variables n) (λ s. state_of (ends_variables n (go (pos 0) s))) (λ x s. refl) (λ o s. refl) (same n) (λ s. refl) o o' h
     where
-      same : {A : Type 0} (n : ℕ) (o : Out A) → ((state_of (ends_variables n o)).events ≡ (state_of o).events) × ((state_of (ends_variables n o)).trace ≡ (state_of o).trace)
-      same n (go x s) = (refl, refl)
-      same n (over o s) = (refl, refl)
+      same : {A : Type 0} (n : ℕ) (o : Out A) → Behind (state_of o) (state_of (ends_variables n o))
+      same n (go x s) = record { more = all_released (pointers_among (drop n s.frame.variables)); events = refl; trace = refl; given = refl }
+      same n (over o s) = record { more = []; events = refl; trace = refl; given = sym (append-nil s.given_up) }
 
   goes_back : {A : Type 0} (caller : Frame) (others : List Frame) (o o' : Out A) → GoesOn d ys o o' → GoesOn d ys (back_in caller others o) (back_in caller others o')
   goes_back caller others o o' h = goes_behind (back_in caller others) (λ s. state_of (back_in caller others (go (pos 0) s))) (λ x s. refl) (λ o s. refl) (same caller others) (λ s. refl) o o' h
     where
-      same : {A : Type 0} (caller : Frame) (others : List Frame) (o : Out A) → ((state_of (back_in caller others o)).events ≡ (state_of o).events) × ((state_of (back_in caller others o)).trace ≡ (state_of o).trace)
-      same caller others (go x s) = (refl, refl)
-      same caller others (over o s) = (refl, refl)
+      same : {A : Type 0} (caller : Frame) (others : List Frame) (o : Out A) → Behind (state_of o) (state_of (back_in caller others o))
+      same caller others (go x s) = record { more = []; events = refl; trace = refl; given = sym (append-nil s.given_up) }
+      same caller others (over o s) = record { more = []; events = refl; trace = refl; given = sym (append-nil s.given_up) }
 
   pub going : Closed Going
   going = record {

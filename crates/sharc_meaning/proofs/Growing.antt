@@ -1,11 +1,12 @@
--- No event is taken back, and nothing of the trace.
-use Rattle.std.proofs.Common.{ℕ, zero, suc, Bool, true, false, cond, List, [], ◌∷◌, ◌++◌, refl, sym, ap, ◌∙◌, append_assoc, append-nil, length}
+-- No event is taken back, and nothing of the trace; nor is anything that was given up before the next event comes.
+use Rattle.std.proofs.Common.{◌≡◌, ℕ, zero, suc, Bool, true, false, cond, List, [], ◌∷◌, ◌++◌, refl, sym, ap, ◌∙◌, append_assoc, append-nil, length, drop}
 use Rattle.std.specs.Prelude.{ℤ}
 use Rattle.sharc_tree.specs.declared.event.Act.{Act}
 use Rattle.sharc_tree.specs.declared.event.SourceEvent.{SourceEvent}
 use Rattle.sharc_tree.specs.declared.token.Site.{Site}
+use Rattle.sharc_meaning.specs.declared.given.GivenUp.{GivenUp}
 use Rattle.sharc_meaning.specs.Laws.{IsPrefix}
-use Rattle.sharc_meaning.specs.State.{Frame, Traced, State, Out, go, over, Run, Step, then_on, give, enters_with, happens, answer_of, event_of, ends_temporaries, value_of, ends_variables, without_temporaries}
+use Rattle.sharc_meaning.specs.State.{Frame, Traced, State, all_released, pointers_among, Out, go, over, Run, Step, then_on, give, enters_with, happens, answer_of, event_of, ends_temporaries, value_of, ends_variables, without_temporaries}
 use Rattle.sharc_meaning.specs.Statements.{Flow, next, broken, continued, returned, on_turn, turns}
 use Rattle.sharc_meaning.specs.Meaning.{back_in, with_frame}
 use Rattle.sharc_meaning.proofs.Closed.{Closed}
@@ -16,18 +17,45 @@ prefix_refl a = ([], sym (append-nil a))
 pub prefix_on : {A : Type 0} (a b c : List A) → IsPrefix a b → IsPrefix b c → IsPrefix a c
 prefix_on a b c (h, e) (k, f) = (h ++ k, f ∙ ap (λ l. l ++ k) e ∙ append_assoc a h k)
 
-pub record GrowsBy (es es' : List SourceEvent) (us us' : List Traced) : Type 0 where
+added_nothing : {A : Type 0} (a l : List A) → a ++ l ≡ a → l ≡ []
+added_nothing [] l h = h
+added_nothing (x ∷ a) l h = added_nothing a l (cc)
+
+first_nothing : {A : Type 0} (a b : List A) → a ++ b ≡ [] → a ≡ []
+first_nothing [] b h = refl
+first_nothing (x ∷ a) b h = absurd (cc)
+
+-- what stands between two that are the same is the same
+between : {A : Type 0} (a b c : List A) → IsPrefix a b → IsPrefix b c → c ≡ a → b ≡ a
+between a b c (h, e) (k, f) is =
+    let none : h ++ k ≡ [] = added_nothing a (h ++ k) (sym (append_assoc a h k) ∙ ap (λ l. l ++ k) (sym e) ∙ sym f ∙ is) in
+    e ∙ ap (λ l. a ++ l) (first_nothing h k none) ∙ append-nil a
+
+pub record GrowsBy (es es' : List SourceEvent) (us us' : List Traced) (gs gs' : List GivenUp) : Type 0 where
   pub events : IsPrefix es es'
   pub trace : IsPrefix us us'
+  pub given : es' ≡ es → IsPrefix gs gs'
 
 abbrev pub Grows : State → State → Type 0
-Grows s t = GrowsBy s.events t.events s.trace t.trace
+Grows s t = GrowsBy s.events t.events s.trace t.trace s.given_up t.given_up
 
 pub grows_refl : (s : State) → Grows s s
-grows_refl s = record { events = prefix_refl s.events; trace = prefix_refl s.trace }
+grows_refl s = record { events = prefix_refl s.events; trace = prefix_refl s.trace; given = λ _. prefix_refl s.given_up }
 
 pub grows_on : (s t u : State) → Grows s t → Grows t u → Grows s u
-grows_on s t u h k = record { events = prefix_on s.events t.events u.events h.events k.events; trace = prefix_on s.trace t.trace u.trace h.trace k.trace }
+grows_on s t u h k = record {
+  events = prefix_on s.events t.events u.events h.events k.events;
+  trace = prefix_on s.trace t.trace u.trace h.trace k.trace;
+  given = λ e. let same = between s.events t.events u.events h.events k.events e in prefix_on s.given_up t.given_up u.given_up (h.given same) (k.given (e ∙ sym same));
+}
+
+-- where no event comes more is given up
+pub gives_more : (s t u : State) (more : List GivenUp) → Grows s t → u.events ≡ t.events → u.trace ≡ t.trace → u.given_up ≡ t.given_up ++ more → Grows s u
+gives_more s t u more h e r g = grows_on s t u h (record { events = ([], e ∙ sym (append-nil t.events)); trace = ([], r ∙ sym (append-nil t.trace)); given = λ _. (more, g) })
+
+-- an event more
+pub one_more : (e : SourceEvent) (s : State) (gs : List GivenUp) → GrowsBy s.events (s.events ++ e ∷ []) s.trace s.trace s.given_up gs
+one_more e s gs = record { events = (e ∷ [], refl); trace = prefix_refl s.trace; given = λ h. absurd (let none = added_nothing s.events (e ∷ []) h in cc) }
 
 abbrev pub state_of : {A : Type 0} → Out A → State
 state_of (go x s) = s
@@ -42,7 +70,7 @@ grows_entered (suc n) m s h = h (record s { fuel = n })
 
 pub grows_event : (xs : List ℤ) (site : Site) (act : Act) (s : State) → Grows s (state_of (happens xs site act s))
 grows_event [] site act s = grows_refl s
-grows_event (x ∷ xs) site act s = record { events = (event_of site act (answer_of (value_of s) act x) ∷ [], refl); trace = prefix_refl s.trace }
+grows_event (x ∷ xs) site act s = one_more (event_of site act (answer_of (value_of s) act x)) s []
 
 pub grows_then : {A B : Type 0} (s : State) (o : Out A) (g : A → Run B) → Grows s (state_of o) → ((x : A) → Growing false B (g x)) → Grows s (state_of (then_on o g))
 grows_then s (go x t) g h k = grows_on s t (state_of (g x t)) h (k x t)
@@ -65,11 +93,11 @@ grows_turns (suc n) test step body ht hs hb s = grows_then s (test s) _ (ht s) (
     (λ t. grows_refl t))
 
 pub grows_temporaries : {A : Type 0} (s : State) (n : ℕ) (o : Out A) → Grows s (state_of o) → Grows s (state_of (ends_temporaries n o))
-grows_temporaries s n (go x t) h = h
+grows_temporaries s n (go x t) h = gives_more s t (state_of (ends_temporaries n (go x t))) (all_released (drop n t.frame.temporaries)) h refl refl refl
 grows_temporaries s n (over o t) h = h
 
 pub grows_variables : {A : Type 0} (s : State) (n : ℕ) (o : Out A) → Grows s (state_of o) → Grows s (state_of (ends_variables n o))
-grows_variables s n (go x t) h = h
+grows_variables s n (go x t) h = gives_more s t (state_of (ends_variables n (go x t))) (all_released (pointers_among (drop n t.frame.variables))) h refl refl refl
 grows_variables s n (over o t) h = h
 
 pub grows_back : {A : Type 0} (s : State) (caller : Frame) (others : List Frame) (o : Out A) → Grows s (state_of o) → Grows s (state_of (back_in caller others o))
@@ -85,9 +113,9 @@ growing = record {
   event = λ site act s. grows_event s.answers site act s;
   events = λ s. grows_refl s;
   values = λ s. grows_refl s;
-  trace = λ u token site s. record { events = prefix_refl s.events; trace = (record { use_made = u; variable = token; site = site; call = s.frame.call } ∷ [], refl) };
-  frame = λ f s. record { events = prefix_refl s.events; trace = prefix_refl s.trace };
-  given = λ more s. record { events = prefix_refl s.events; trace = prefix_refl s.trace };
+  trace = λ u token site s. record { events = prefix_refl s.events; trace = (record { use_made = u; variable = token; site = site; call = s.frame.call } ∷ [], refl); given = λ _. prefix_refl s.given_up };
+  frame = λ f s. record { events = prefix_refl s.events; trace = prefix_refl s.trace; given = λ _. prefix_refl s.given_up };
+  given = λ more s. record { events = prefix_refl s.events; trace = prefix_refl s.trace; given = λ _. (more, refl) };
   binds = λ A B m g hm hg s. grows_then s (m s) g (hm s) hg;
   scope = λ A m h s. grows_temporaries s (length s.frame.temporaries) (m s) (h s);
   block = λ A m h s. grows_variables s (length s.frame.variables) (m s) (h s);

@@ -4,8 +4,10 @@ mod Counting
 mod Extending
 mod Going
 mod Growing
+mod GrowingWith
 mod Legal
 mod Obeying
+mod Resting
 mod Running
 mod Spending
 pub mod Moded

@@ -49,11 +49,11 @@ pub record InSecond (R before : List SourceEvent) : Type 0 where
   pub rest : List SourceEvent
   pub is : before ≡ R ++ rest
 
-first_longer : (r : SourceEvent) (R S before : List SourceEvent) (e : SourceEvent) (after : List SourceEvent) → InFirst R S before e after ⊎ InSecond R before → InFirst (r ∷ R) S (r ∷ before) e after ⊎ InSecond (r ∷ R) (r ∷ before)
+pub first_longer : (r : SourceEvent) (R S before : List SourceEvent) (e : SourceEvent) (after : List SourceEvent) → InFirst R S before e after ⊎ InSecond R before → InFirst (r ∷ R) S (r ∷ before) e after ⊎ InSecond (r ∷ R) (r ∷ before)
 first_longer r R S before e after (inl h) = inl (record { rest = h.rest; stands = ap (λ z. r ∷ z) h.stands; behind = h.behind })
 first_longer r R S before e after (inr h) = inr (record { rest = h.rest; is = ap (λ z. r ∷ z) h.is })
 
-stands_where : (R S before : List SourceEvent) (e : SourceEvent) (after : List SourceEvent) → R ++ S ≡ before ++ e ∷ after → InFirst R S before e after ⊎ InSecond R before
+pub stands_where : (R S before : List SourceEvent) (e : SourceEvent) (after : List SourceEvent) → R ++ S ≡ before ++ e ∷ after → InFirst R S before e after ⊎ InSecond R before
 stands_where [] S before e after h = inr (record { rest = before; is = refl })
 stands_where (r ∷ R) S [] e after h = let same : r ≡ e = cc in let tails : R ++ S ≡ after = cc in inl (record { rest = R; stands = ap (λ z. z ∷ R) same; behind = sym tails })
 stands_where (r ∷ R) S (b ∷ before) e after h = let same : r ≡ b = cc in let tails : R ++ S ≡ before ++ e ∷ after = cc in
@@ -82,7 +82,7 @@ module _ (m : Assignment) (f : ℕ) (v : ℤ) (fuel t : ℕ) where
   as_many X Y h (stopped code site) o = not_wanting X Y h (λ e w. absurd (cc))
   as_many X Y h spent o = not_wanting X Y h (λ e w. absurd (cc))
 
-  asked_before : (X Y : List SourceEvent) → map (by t) (asked (answers_of (X ++ Y))).events ≡ X ++ Y → map (by t) (asked (answers_of X)).events ≡ X
+  pub asked_before : (X Y : List SourceEvent) → map (by t) (asked (answers_of (X ++ Y))).events ≡ X ++ Y → map (by t) (asked (answers_of X)).events ≡ X
   asked_before X Y h =
       let k : map (by t) (asked (answers_of X ++ answers_of Y)).events ≡ X ++ Y = subst (λ l. map (by t) (asked l).events ≡ X ++ Y) (map_both (λ e. e.answer) X Y) h in
       let p = more_answers m f v (answers_of X) (answers_of Y) fuel in
@@ -90,7 +90,7 @@ module _ (m : Assignment) (f : ℕ) (v : ℤ) (fuel t : ℕ) where
       fronts (map (by t) (asked (answers_of X)).events) (map (by t) p.events.0) X Y parts (map_length (by t) (asked (answers_of X)).events ∙ as_many X Y k (asked (answers_of X)).outcome refl)
 
 module _ (m : Assignment) (R S : List SourceEvent) (fuel t : ℕ) where
-  asks_in_first : (a : Follows m (R ++ S) fuel t) → InFirst R S a.before a.begins a.after → Follows m R fuel t
+  abbrev pub asks_in_first : (a : Follows m (R ++ S) fuel t) → InFirst R S a.before a.begins a.after → Follows m R fuel t
   asks_in_first a i =
       let both : events_of t a.after ≡ events_of t i.rest ++ events_of t S = ap (events_of t) i.behind ∙ events_append t i.rest S in
       record {

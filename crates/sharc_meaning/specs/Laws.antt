@@ -1,5 +1,5 @@
 -- What the definitions of this crate are to those who argue with them.
-use Rattle.std.specs.Prelude.{◌≡◌, ◌≢◌, ℕ, ℤ, pos, ◌+◌, ◌≤◌, List, [], ◌∷◌, ◌++◌, length, map, ◌⊎◌}
+use Rattle.std.specs.Prelude.{◌≡◌, ◌≢◌, ◌↔◌, ℕ, ℤ, pos, ◌+◌, ◌≤◌, List, [], ◌∷◌, ◌++◌, length, map, ◌⊎◌}
 use Rattle.sharc_tree.specs.declared.event.Act.{Act}
 use Rattle.sharc_tree.specs.declared.event.Act.TheVariants.{Read, New, Take, Spawn, Started, Signal}
 use Rattle.sharc_tree.specs.declared.event.Taken.TheVariants.{Cell, Local}
@@ -12,6 +12,7 @@ use Rattle.sharc_mode.specs.Rows.{modes_at}
 use Rattle.sharc_meaning.specs.Events.{events_of}
 use Rattle.sharc_meaning.specs.Meaning.{Asked, run_thread, start, asks}
 use Rattle.sharc_meaning.specs.Obeys.{Until, Obeys}
+use Rattle.sharc_meaning.specs.References.{Begun, asked_with, Holder, References, ReferencesWith}
 use Rattle.sharc_meaning.specs.Runs.{by, answers_of, IsNamedAt, IsFirst, IsSpawned, Follows, SourceRun, SourceRunWith}
 use Rattle.sharc_meaning.specs.State.{State, wants, spent, over}
 use Rattle.sharc_meaning.specs.Store.{MayCome, LegalStore}
@@ -32,6 +33,11 @@ MoreFuel = (m : Assignment) (f : ℕ) (argument : ℤ) (answers : List ℤ) (fue
 abbrev pub MoreFuelChangesNothing : Type 0
 MoreFuelChangesNothing = (m : Assignment) (f : ℕ) (argument : ℤ) (answers : List ℤ) (fuel more : ℕ)
     → (asks m f argument answers fuel).outcome ≢ spent → asks m f argument answers (fuel + more) ≡ asks m f argument answers fuel
+
+-- with more fuel and no event more, what was given up stands in front of what is given up then
+abbrev pub MoreIsGivenUp : Type 0
+MoreIsGivenUp = (m : Assignment) (f : ℕ) (argument : ℤ) (answers : List ℤ) (fuel more : ℕ)
+    → (asks m f argument answers (fuel + more)).events ≡ (asks m f argument answers fuel).events → IsPrefix (asks m f argument answers fuel).given_up (asks m f argument answers (fuel + more)).given_up
 
 -- more answers go on, and change nothing but the end for want of them
 abbrev pub MoreAnswers : Type 0
@@ -86,6 +92,7 @@ StoresGrow = (r : Resolution) (R : List SourceEvent) (e : SourceEvent) → Legal
 pub record AskLaws : Type 0 where
   pub fuel : MoreFuel
   pub fuel_same : MoreFuelChangesNothing
+  pub given_up : MoreIsGivenUp
   pub answers : MoreAnswers
   pub answers_same : MoreAnswersChangeNothing
   pub spent_is_none : SpentIsNone
@@ -131,12 +138,31 @@ pub record Starts (m : Assignment) (R : List SourceEvent) (e : SourceEvent) : Ty
 abbrev pub RunsStart : Type 0
 RunsStart = (m : Assignment) (R : List SourceEvent) (e : SourceEvent) → SourceRun m R → MayCome m.typed R e e.act → Starts m R e → SourceRun m (R ++ e ∷ [])
 
+-- the same with a fuel that is told: the event is the next of a thread that was started
+pub record IsNext (m : Assignment) (fuel : ℕ) (R : List SourceEvent) (e : SourceEvent) : Type 0 where
+  pub own : Follows m R fuel e.thread
+  pub comes : map (by e.thread) (asks m own.function own.argument (answers_of (events_of e.thread own.after) ++ e.answer ∷ []) fuel).events ≡ events_of e.thread own.after ++ e ∷ []
+
+-- it is that, or the first of a thread that has the right to start
+abbrev pub AskedFor : Assignment → ℕ → List SourceEvent → SourceEvent → Type 0
+AskedFor m fuel R e = Starts m R e ⊎ IsNext m fuel R e
+
+-- a source run with a fuel goes on with an event that is asked for and may come
+abbrev pub RunsGrowWith : Type 0
+RunsGrowWith = (m : Assignment) (fuel : ℕ) (R : List SourceEvent) (e : SourceEvent) → SourceRunWith fuel m R → MayCome m.typed R e e.act → AskedFor m fuel R e → SourceRunWith fuel m (R ++ e ∷ [])
+
+-- and by no other: its last event was asked for
+abbrev pub LastAsked : Type 0
+LastAsked = (m : Assignment) (fuel : ℕ) (R : List SourceEvent) (e : SourceEvent) → SourceRunWith fuel m (R ++ e ∷ []) → AskedFor m fuel R e
+
 pub record RunLaws : Type 0 where
   pub prefixes : RunPrefixes
   pub prefixes_with : RunPrefixesWith
   pub obeying : ObeyingPrefixes
   pub grow : RunsGrow
   pub start : RunsStart
+  pub grow_with : RunsGrowWith
+  pub last_asked : LastAsked
 
 -- What a cell's mode is depends on the resolved program and the modes alone, and so do the modes of what an expression points to: why a mode is dynamic says
 -- nothing of it.
@@ -146,3 +172,23 @@ pub record SameModes (m n : Assignment) : Type 0 where
 
 abbrev pub ModesAlone : Type 0
 ModesAlone = (m n : Assignment) → m.typed ≡ n.typed → m.modes ≡ n.modes → SameModes m n
+
+-- with this fuel each thread that was started comes to its next want, its stop or its end
+abbrev pub AllRest : ℕ → Assignment → List SourceEvent → Type 0
+AllRest fuel m R = (thread : ℕ) (b : Begun m R thread) → (asked_with b fuel).outcome ≢ spent
+
+-- then the references are those with this fuel
+abbrev pub ReferencesAtRest : Type 0
+ReferencesAtRest = (fuel : ℕ) (m : Assignment) (R : List SourceEvent) (n : ℕ) (h : Holder) → AllRest fuel m R → References m R n h ↔ ReferencesWith fuel m R n h
+
+-- and each reference is one with every fuel from some fuel on
+pub record FromSomeFuel (m : Assignment) (R : List SourceEvent) (n : ℕ) (h : Holder) : Type 0 where
+  pub from : ℕ
+  pub with_each : (fuel : ℕ) → from ≤ fuel → ReferencesWith fuel m R n h
+
+abbrev pub ReferencesFromSomeFuel : Type 0
+ReferencesFromSomeFuel = (m : Assignment) (R : List SourceEvent) (n : ℕ) (h : Holder) → References m R n h → FromSomeFuel m R n h
+
+pub record ReferenceLaws : Type 0 where
+  pub at_rest : ReferencesAtRest
+  pub from_some_fuel : ReferencesFromSomeFuel

@@ -1,6 +1,9 @@
 -- The references to an object: what holds one behind a list of events, by a scan of the whole state (own).
-use Rattle.std.specs.Prelude.{◌≡◌, ◌⊎◌, ◌≢◌, ℕ, ℤ, ◌≤◌, ◌==◌, ◌%◌, Bool, true, false, not, ◌&&◌, ◌||◌, List, [], ◌∷◌, length, filter_map, flat_map, Any, slice_get, slice_index_or, Option, Some, None, IsSomeAnd, if◌then◌else◌}
+use Rattle.std.specs.Prelude.{◌≡◌, ◌⊎◌, ℕ, ℤ, ◌≤◌, ◌<◌, ◌==◌, ◌%◌, Bool, true, false, not, ◌&&◌, ◌||◌, List, [], ◌∷◌, length, count_by, filter_map, flat_map, Any, slice_index_or, Option, Some, None, if◌then◌else◌}
 use Rattle.std.specs.List.{list_any}
+use Rattle.std.specs.Str.{bytes_eq}
+use Rattle.sharc_tree.specs.declared.ctype.Base.{Base}
+use Rattle.sharc_tree.specs.declared.ctype.Base.TheVariants.{Struct}
 use Rattle.sharc_tree.specs.declared.event.Act.{Act}
 use Rattle.sharc_tree.specs.declared.event.Act.TheVariants.{Take, Spawn}
 use Rattle.sharc_tree.specs.declared.event.CellAt.{CellAt}
@@ -12,19 +15,18 @@ use Rattle.sharc_tree.specs.declared.event.TakeKind.TheVariants.{Cast, Free}
 use Rattle.sharc_tree.specs.declared.tree.declaration.Declaration.{Declaration}
 use Rattle.sharc_tree.specs.declared.tree.declaration.WrittenType.{WrittenType}
 use Rattle.sharc_tree.specs.declared.tree.item.GlobalDefinition.{GlobalDefinition}
+use Rattle.sharc_tree.specs.declared.tree.item.StructDefinition.{StructDefinition}
 use Rattle.sharc_tree.specs.Tree.{Right, value, malloc, Function}
 use Rattle.sharc_names.specs.Kinds.{declared_kind, is_pointer}
 use Rattle.sharc_ctype.specs.Layouts.{pointer_cells}
-use Rattle.sharc_ctype.specs.Resolved.{Resolution, named_at, functions_in, function_at, global_at}
+use Rattle.sharc_ctype.specs.Resolved.{Resolution, structs_in, functions_in, function_at, global_at}
 use Rattle.sharc_ctype.specs.Transfers.{function_transfers}
 use Rattle.sharc_mode.specs.Moded.{Assignment}
-use Rattle.sharc_mode.specs.WellFormed.{fields_named}
-use Rattle.sharc_meaning.specs.Events.{makes, frees, events_of, latest}
+use Rattle.sharc_meaning.specs.Events.{makes, events_of, latest}
 use Rattle.sharc_meaning.specs.Meaning.{Asked, asks}
 use Rattle.sharc_meaning.specs.Reference.{is_null, number_of}
 use Rattle.sharc_meaning.specs.Runs.{Follows, answers_of}
-use Rattle.sharc_meaning.specs.State.{spent}
-use Rattle.sharc_meaning.specs.Store.{value_after, meets, is_locked, spawns}
+use Rattle.sharc_meaning.specs.Store.{value_after, meets, is_live, is_locked, spawns}
 
 -- the value is a reference to the object of this number
 abbrev pub refers : ℕ → ℤ → Bool
@@ -32,10 +34,18 @@ refers n v = not (is_null v) && number_of v == n
 
 -- ---- which cells are pointers
 
+abbrev pub fields_called : List StructDefinition → List ℕ → List Declaration
+fields_called [] name = []
+fields_called (s ∷ rest) name = if bytes_eq s.name.text name then s.fields else fields_called rest name
+
+abbrev pub base_fields : Resolution → Base → List Declaration
+base_fields r (Struct name) = fields_called (structs_in r.program.items) name
+base_fields r _ = []
+
 -- a cell of an object whose elements have this type
 abbrev pub is_pointer_in : Resolution → WrittenType → ℕ → Bool
 is_pointer_in r w cell =
-    let fields = fields_named r (named_at r w.base.token) in
+    let fields = base_fields r w.ctype.base in
     is_pointer (declared_kind w) || slice_index_or (pointer_cells fields) (cell % length fields) false
 
 abbrev pub made_at : ℕ → Right → Option WrittenType
@@ -73,10 +83,15 @@ abbrev pub takes_to_free : Object → SourceEvent → Bool
 takes_to_free (Global g) e = false
 takes_to_free (Made n) e = taken_to_free e.act && refers n e.answer
 
--- its cells count: it is a global, or live and not taken by a `free`
-abbrev pub Counts : List SourceEvent → Object → Type 0
-Counts R (Global g) = Unit {0}
-Counts R (Made n) = meets (makes (Made n)) (latest (λ e. makes (Made n) e || (frees (Made n) e || takes_to_free (Made n) e)) R) ≡ true
+-- a `free` has taken the object, and it was not made again since
+abbrev pub is_taken_to_free : List SourceEvent → ℕ → Bool
+is_taken_to_free R n = meets (takes_to_free (Made n)) (latest (λ e. makes (Made n) e || takes_to_free (Made n) e) R)
+
+-- The cells of this object count among the references to the object of this number: it is a global, or it is live. The cells of an object that a `free` has
+-- taken are left out, but for those that refer to itself.
+abbrev pub Counts : List SourceEvent → ℕ → Object → Type 0
+Counts R n (Global g) = Unit {0}
+Counts R n (Made k) = (is_live R (Made k) ≡ true) × ((k ≡ n) ⊎ (is_taken_to_free R k ≡ false))
 
 -- ---- what threads hold
 
@@ -88,30 +103,21 @@ pub record Begun (m : Assignment) (R : List SourceEvent) (thread : ℕ) : Type 0
 abbrev pub asked_with : {m : Assignment} {R : List SourceEvent} {thread : ℕ} → Begun m R thread → ℕ → Asked
 asked_with {m} {R} {thread} b fuel = asks m b.own.function b.own.argument (answers_of (events_of thread b.own.after)) fuel
 
--- the pointer at this place of what it holds refers to the object
-abbrev pub HoldsAt : Asked → ℕ → ℕ → Type 0
-HoldsAt a place n = IsSomeAnd (slice_get a.held place) (λ v. refers n v ≡ true)
+-- how many of the pointers that it holds refer to the object
+abbrev pub held_count : Asked → ℕ → ℕ
+held_count a n = count_by (refers n) a.held
 
-abbrev pub HoldsOne : Asked → ℕ → Type 0
-HoldsOne a n = list_any (refers n) a.held ≡ true
-
--- at its next want, its stop or its end
-pub record HoldsAtRest (m : Assignment) (R : List SourceEvent) (thread place n : ℕ) : Type 0 where
+-- It holds one more reference to the object than so many where there is a fuel from which on it holds more than so many, at every fuel. At its next want, its
+-- stop or its end more fuel changes nothing, so these are the references that it holds there; and a thread that comes to none of these holds what it never gives up.
+pub record ThreadHolds (m : Assignment) (R : List SourceEvent) (thread which n : ℕ) : Type 0 where
   pub begun : Begun m R thread
-  pub fuel : ℕ
-  pub rests : (asked_with begun fuel).outcome ≢ spent
-  pub holds : HoldsAt (asked_with begun fuel) place n
-
--- a thread that comes to none of these with any fuel holds a reference where there is a fuel from which on it holds one at every fuel
-pub record HoldsOnAndOn (m : Assignment) (R : List SourceEvent) (thread n : ℕ) : Type 0 where
-  pub begun : Begun m R thread
-  pub goes_on : (fuel : ℕ) → (asked_with begun fuel).outcome ≡ spent
   pub from : ℕ
-  pub holds : (fuel : ℕ) → from ≤ fuel → HoldsOne (asked_with begun fuel) n
+  pub holds : (fuel : ℕ) → from ≤ fuel → which < held_count (asked_with begun fuel) n
 
 -- ---- the references
 
--- what may hold a reference: a pointer cell, the argument of a thread that is not started, a mutex that is held, and a thread, at a place of what it holds
+-- what may hold a reference: a pointer cell, the argument of a thread that is not started, a mutex that is held, and a thread, which may hold several: these are
+-- counted from 0
 pub data Holder : Type 0 where
   in_cell : CellAt → Holder
   in_argument : ℕ → Holder
@@ -133,7 +139,7 @@ passes r n _ = false
 -- the cell is one of a pointer
 pub record CellRefers (m : Assignment) (R : List SourceEvent) (n : ℕ) (c : CellAt) : Type 0 where
   pub pointer : is_pointer_of m.typed R c.object c.cell ≡ true
-  pub counts : Counts R c.object
+  pub counts : Counts R n c.object
   pub refers_there : refers n (value_after m.typed R c) ≡ true
 
 pub record ArgumentRefers (m : Assignment) (R : List SourceEvent) (n thread : ℕ) : Type 0 where
@@ -145,4 +151,17 @@ abbrev pub References : Assignment → List SourceEvent → ℕ → Holder → T
 References m R n (in_cell c) = CellRefers m R n c
 References m R n (in_argument thread) = ArgumentRefers m R n thread
 References m R n (in_mutex c) = (c.object ≡ Made n) × (is_locked R c ≡ true)
-References m R n (in_thread thread place) = HoldsAtRest m R thread place n ⊎ ((place ≡ 0) × HoldsOnAndOn m R thread n)
+References m R n (in_thread thread which) = ThreadHolds m R thread which n
+
+-- ---- with a fuel that is told
+
+-- what a thread holds where it has come with this fuel
+pub record ThreadHoldsWith (fuel : ℕ) (m : Assignment) (R : List SourceEvent) (thread which n : ℕ) : Type 0 where
+  pub begun : Begun m R thread
+  pub holds : which < held_count (asked_with begun fuel) n
+
+abbrev pub ReferencesWith : ℕ → Assignment → List SourceEvent → ℕ → Holder → Type 0
+ReferencesWith fuel m R n (in_thread thread which) = ThreadHoldsWith fuel m R thread which n
+ReferencesWith fuel m R n (in_cell c) = References m R n (in_cell c)
+ReferencesWith fuel m R n (in_argument thread) = References m R n (in_argument thread)
+ReferencesWith fuel m R n (in_mutex c) = References m R n (in_mutex c)

@@ -9,11 +9,11 @@ use Rattle.sharc_graph.specs.declared.graph.Finding.{Finding}
 use Rattle.sharc_graph.specs.declared.graph.Finding.TheVariants.{Apart, Source, Behind}
 use Rattle.sharc_graph.specs.Findings.{finding_at}
 use Rattle.sharc_graph.specs.Paths.{IsWithin, edge_of}
-use Rattle.sharc_flow.specs.declared.place.Place.{Place}
-use Rattle.sharc_flow.specs.declared.place.Place.TheVariants as place
-use Rattle.sharc_flow.specs.declared.place.Link.{Link}
-use Rattle.sharc_flow.specs.Flow.{flow_of, link_of, place_at, is_unwritten, is_source, IsUnwritten, IsSource, IsFirstFor, HasEdge}
-use Rattle.sharc_flow.specs.Laws.{FlowLaws, IsClosed, IsDynamic}
+use Rattle.sharc_constraints.specs.declared.place.Place.{Place}
+use Rattle.sharc_constraints.specs.declared.place.Place.TheVariants as place
+use Rattle.sharc_constraints.specs.declared.place.Link.{Link}
+use Rattle.sharc_constraints.specs.Flow.{flow_of, link_of, place_at, is_unwritten, is_source, IsUnwritten, IsSource, IsFirstFor, HasEdge}
+use Rattle.sharc_constraints.specs.Laws.{FlowLaws, IsClosed, IsDynamic}
 use Rattle.sharc_tree.specs.declared.ctype.Base.{Base}
 use Rattle.sharc_tree.specs.declared.ctype.Mode.{Mode}
 use Rattle.sharc_tree.specs.declared.ctype.Mode.TheVariants.{Private, Readonly, Locked, Racy, Dynamic}

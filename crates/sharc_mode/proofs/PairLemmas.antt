@@ -3,9 +3,9 @@ use Rattle.std.proofs.Common.{◌≡◌, ◌⊎◌, ℕ, zero, suc, ◌+◌, ◌
 use Rattle.std.specs.Prelude.{Contains}
 use Rattle.std.specs.List.{flat_map}
 use Rattle.std.proofs.lemmas.Bool.{cases_lt, false≢true}
-use Rattle.sharc_flow.specs.declared.place.Link.{Link}
-use Rattle.sharc_flow.specs.Flow.{link_of}
-use Rattle.sharc_flow.specs.Make.{equal_links, below_links}
+use Rattle.sharc_constraints.specs.declared.place.Link.{Link}
+use Rattle.sharc_constraints.specs.Flow.{link_of}
+use Rattle.sharc_constraints.specs.Make.{equal_links, below_links}
 use Rattle.sharc_tree.specs.declared.token.Span.{Span}
 use Rattle.sharc_tree.specs.declared.tree.declaration.WrittenType.{WrittenType}
 use Rattle.sharc_tree.specs.Measures.{in_function}

@@ -4,9 +4,9 @@ use Rattle.std.specs.List.{flat_map, All}
 use Rattle.std.proofs.lemmas.Bool.{ne_eqb}
 use Rattle.std.proofs.lemmas.List.Elements.{All-nil, All-cons, All-append}
 use Rattle.sharc_graph.specs.Paths.{IsWithin}
-use Rattle.sharc_flow.specs.declared.place.Link.{Link}
-use Rattle.sharc_flow.specs.Flow.{link_of}
-use Rattle.sharc_flow.specs.Make.{equal_links, below_links}
+use Rattle.sharc_constraints.specs.declared.place.Link.{Link}
+use Rattle.sharc_constraints.specs.Flow.{link_of}
+use Rattle.sharc_constraints.specs.Make.{equal_links, below_links}
 use Rattle.sharc_tree.specs.declared.tree.expression.Constant.{Constant}
 use Rattle.sharc_tree.specs.declared.tree.expression.Constant.TheVariants.{Number, Character, Null}
 use Rattle.sharc_tree.specs.declared.tree.expression.UnaryOperator.{UnaryOperator}

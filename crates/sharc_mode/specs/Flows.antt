@@ -9,11 +9,11 @@ use Rattle.sharc_tree.specs.Tree.{Expression, cast, Right, value, malloc, Functi
 use Rattle.sharc_graph.specs.declared.graph.Finding.{Finding}
 use Rattle.sharc_graph.specs.declared.graph.Finding.TheVariants.{Apart, Source, Behind}
 use Rattle.sharc_graph.specs.Findings.{finding_at}
-use Rattle.sharc_flow.specs.declared.place.Place.{Place}
-use Rattle.sharc_flow.specs.declared.place.Place.TheVariants as place
-use Rattle.sharc_flow.specs.declared.place.Link.{Link}
-use Rattle.sharc_flow.specs.Flow.{flow_of, place_at, AreInferred}
-use Rattle.sharc_flow.specs.Make.{equal_links, below_links}
+use Rattle.sharc_constraints.specs.declared.place.Place.{Place}
+use Rattle.sharc_constraints.specs.declared.place.Place.TheVariants as place
+use Rattle.sharc_constraints.specs.declared.place.Link.{Link}
+use Rattle.sharc_constraints.specs.Flow.{flow_of, place_at, AreInferred}
+use Rattle.sharc_constraints.specs.Make.{equal_links, below_links}
 use Rattle.sharc_ctype.specs.Reaches.{Spawns, IsReached, NamesGlobal}
 use Rattle.sharc_ctype.specs.Resolved.{Resolution, global_at, function_at}
 use Rattle.sharc_ctype.specs.Transfers.{Receiver, lvalue, variable, result, Transfer, function_transfers}

@@ -5,8 +5,8 @@ use Rattle.sharc_tree.specs.declared.ctype.Mode.TheVariants.{Private, Dynamic}
 use Rattle.sharc_ctype.specs.Entities.{entities_in}
 use Rattle.sharc_ctype.specs.Resolved.{Resolution}
 use Rattle.sharc_graph.specs.Paths.{IsWithin}
-use Rattle.sharc_flow.specs.declared.place.Link.{Link}
-use Rattle.sharc_flow.specs.Flow.{link_of}
+use Rattle.sharc_constraints.specs.declared.place.Link.{Link}
+use Rattle.sharc_constraints.specs.Flow.{link_of}
 use Rattle.sharc_mode.specs.declared.error.ModeError.{ModeError}
 use Rattle.sharc_mode.specs.Flows.{IsLeastAssignment, links_of}
 use Rattle.sharc_mode.specs.Moded.{Assignment, position_count, reason_at}

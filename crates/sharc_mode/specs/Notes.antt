@@ -1,4 +1,4 @@
--- What is to be said of each construct: the cases M1 to M11, and which variables lock paths name (own).
+-- What is to be said of each construct: the cases M1 to M11, and which variables and globals lock paths name (own).
 use Rattle.std.specs.Prelude.{ℕ, ◌+◌, ◌==◌, Bool, true, false, ◌||◌, List, [], ◌∷◌, ◌++◌, drop, take, map, slice_range, Option, Some, None, if◌then◌else◌}
 use Rattle.std.specs.List.{flat_map, list_any}
 use Rattle.std.specs.Option.{option_or}
@@ -25,8 +25,8 @@ use Rattle.sharc_mode.specs.declared.note.Note.TheVariants.{Wrong, Names, Takes}
 use Rattle.sharc_mode.specs.Cells.{cell_at, top_of}
 use Rattle.sharc_ctype.specs.Entities.{positions_of}
 use Rattle.sharc_mode.specs.Moded.{Assignment}
-use Rattle.sharc_mode.specs.Rows.{written, at_call, modes_of, modes_at, declared_row, argument_use, path_variable}
-use Rattle.sharc_mode.specs.Sharings.{Lock, Sharing, private, readonly, locked, racy, dynamic, sharing_of, path_of, mode_of, text_at, same_all, is_readonly, is_sibling, variable_named, variable_of}
+use Rattle.sharc_mode.specs.Rows.{Reading, written, at_call, read, modes_of, modes_at, declared_row, argument_use, path_variable}
+use Rattle.sharc_mode.specs.Sharings.{Lock, Sharing, private, readonly, locked, racy, dynamic, sharing_of, path_of, mode_of, text_at, same_all, is_readonly, is_sibling, variable_named, object_named, object_of}
 use Rattle.sharc_mode.specs.WellFormed.{place_of, holds_private, first_unfit_path, first_unfit_mode, is_private_mode}
 
 -- ---- what a case tells
@@ -78,7 +78,7 @@ error_where wrong code s subject = if wrong then error code s subject ∷ [] els
 abbrev pub write_notes : Assignment → Expression → List Note
 write_notes m u = error_where (is_readonly (cell_at m u)) 2 (span_of u) (span_text m.typed (span_of u))
 
--- ---- M3 to M6 of a type, and the variables that its paths name
+-- ---- M3 to M6 of a type, and the variables and globals that its paths name
 
 -- its modes by depth: of the top what is written, a local's and a parameter's else private; a global's top is a position
 
@@ -133,7 +133,7 @@ is_field_role _ = false
 abbrev pub private_field_notes : Resolution → Numbered → List Note
 private_field_notes r n = if is_field_role n.entity.role then error_where (list_any is_private_level n.entity.written.ctype.levels) 6 n.entity.written.span (text_at r n.entity.token) else []
 
--- the variables that paths name
+-- the variables and globals that paths name, whether or not they are allowed
 
 abbrev pub names_of : Option ℕ → List Note
 names_of None = []
@@ -142,7 +142,7 @@ names_of (Some x) = Names x ∷ []
 abbrev pub names_in : Resolution → Sharing → List Note
 names_in r private = []
 names_in r readonly = []
-names_in r (locked l) = names_of (variable_of r l)
+names_in r (locked l) = names_of (object_of r l)
 names_in r racy = []
 names_in r dynamic = []
 
@@ -182,17 +182,39 @@ abbrev pub unmet_in : Resolution → List Declaration → Arguments → List Sha
 unmet_in r ds all [] = None
 unmet_in r ds all (s ∷ below) = option_or (unmet_in r ds all below) (unmet r ds all s)
 
+-- a path counts at each level at which it is written, on the top of a type, on what is no pointer and on a mutex, too
+
+abbrev pub unmet_level : Resolution → List Declaration → Arguments → Option Mode → Option Lock
+unmet_level r ds all None = None
+unmet_level r ds all (Some mode) = unmet r ds all (sharing_of mode)
+
+abbrev pub unmet_written : Resolution → List Declaration → Arguments → List (Option Mode) → Option Lock
+unmet_written r ds all [] = None
+unmet_written r ds all (level ∷ below) = option_or (unmet_written r ds all below) (unmet_level r ds all level)
+
+-- of a parameter: what is written in its type, and the modes of its targets
+abbrev pub unmet_parameter : Assignment → List Declaration → Arguments → Declaration → Option Lock
+unmet_parameter m ds all d = option_or (unmet_written m.typed ds all d.written.ctype.levels) (unmet_in m.typed ds all (modes_of m (declared_row m.typed written d.name.site.token)))
+
 abbrev pub first_unmet : Assignment → List Declaration → Arguments → List Declaration → Option Lock
 first_unmet m ds all [] = None
-first_unmet m ds all (d ∷ rest) = option_or (unmet_in m.typed ds all (modes_of m (declared_row m.typed written d.name.site.token))) (first_unmet m ds all rest)
+first_unmet m ds all (d ∷ rest) = option_or (unmet_parameter m ds all d) (first_unmet m ds all rest)
 
 abbrev pub unmet_notes : Resolution → Span → Option Lock → List Note
 unmet_notes r s None = []
 unmet_notes r s (Some l) = error 4 s (path_text (path_of r l)) ∷ []
 
--- the variables that the substituted paths name
+-- the variables and globals that the substituted paths name
+
+abbrev pub names_read : Resolution → Reading → Option Mode → List Note
+names_read r how None = []
+names_read r how (Some mode) = names_in r (read r how (sharing_of mode))
+
+abbrev pub parameter_names : Assignment → Reading → Declaration → List Note
+parameter_names m how d = names_in_all m.typed (modes_of m (declared_row m.typed how d.name.site.token)) ++ flat_map (names_read m.typed how) d.written.ctype.levels
+
 abbrev pub names_at_call : Assignment → List Declaration → Arguments → List Declaration → List Note
-names_at_call m ds all = flat_map (λ d. names_in_all m.typed (modes_of m (declared_row m.typed (at_call ds all) d.name.site.token)))
+names_at_call m ds all = flat_map (parameter_names m (at_call ds all))
 
 abbrev pub call_notes : Assignment → Span → List Declaration → Arguments → List Note
 call_notes m s ds all = unmet_notes m.typed s (first_unmet m ds all ds) ++ names_at_call m ds all ds
@@ -203,10 +225,10 @@ abbrev pub cast_notes : Resolution → Span → Base → List Sharing → Option
 cast_notes r s b to None = []
 cast_notes r s b to (Some from) = if same_all r (drop 1 to) (drop 1 from) then [] else mismatch 8 s (shown r b to) (shown r b from) ∷ []
 
--- ---- M9: the source of SCAST or `free` is a cell of mode readonly. A variable may be one that some lock path names (M10)
+-- ---- M9: the source of SCAST or `free` is a cell of mode readonly. A variable or a global may be one that some lock path names (M10)
 
 abbrev pub taken_variable : Resolution → Expression → Option ℕ
-taken_variable r (identifier s i) = variable_named (named_at r i.site.token)
+taken_variable r (identifier s i) = object_named r (named_at r i.site.token)
 taken_variable r _ = None
 
 abbrev pub takes : Span → Option ℕ → List Note
@@ -226,7 +248,7 @@ sibling_notes r s (Some at) = names_of (variable_named (named_at r at))
 abbrev pub field_notes : Resolution → Span → Option ℕ → List Sharing → List Note
 field_notes r s base_at modes = if list_any (is_sibling r) modes then sibling_notes r s base_at else []
 
--- ---- M10: the source of SCAST or `free` is a variable that some lock path names; it is told by its name
+-- ---- M10: the source of SCAST or `free` is a variable or a global that some lock path names; it is told by its name
 
 abbrev pub is_named : ℕ → List Note → Bool
 is_named x [] = false

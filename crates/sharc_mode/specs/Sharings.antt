@@ -6,9 +6,10 @@ use Rattle.sharc_tree.specs.declared.ctype.Path.TheVariants.{One, Through}
 use Rattle.sharc_tree.specs.declared.ctype.Mode.{Mode}
 use Rattle.sharc_tree.specs.declared.ctype.Mode.TheVariants.{Private, Readonly, Locked, Racy, Dynamic}
 use Rattle.sharc_tree.specs.declared.token.Token.{Token}
+use Rattle.sharc_tree.specs.declared.tree.item.GlobalDefinition.{GlobalDefinition}
 use Rattle.sharc_names.specs.declared.fault.Named.{Named}
 use Rattle.sharc_names.specs.declared.fault.Named.TheVariants as named
-use Rattle.sharc_ctype.specs.Resolved.{Resolution, named_at}
+use Rattle.sharc_ctype.specs.Resolved.{Resolution, named_at, global_at}
 
 -- a lock path: the token of its first name, which tells what that names, and its second name, where it has one
 pub record Lock : Type 0 where
@@ -59,13 +60,25 @@ mode_of r racy = Racy
 mode_of r dynamic = Dynamic
 
 -- Two paths are equal where they name the same global, or the same variable and the same field; a field's own paths where they name the same sibling.
--- The fields behind one variable are told by their names.
+-- A path that names what no path may name is equal to one that names the same. The fields behind one variable, and what the program does not define, are
+-- told by their names.
 
 abbrev pub same_named : Named → Named → Bool
+same_named (named.Struct n) (named.Struct k) = n == k
 same_named (named.Global g) (named.Global h) = g == h
+same_named (named.Function f) (named.Function g) = f == g
 same_named (named.Variable x) (named.Variable y) = x == y
 same_named (named.Field f) (named.Field g) = f == g
+same_named named.Known named.Known = true
 same_named _ _ = false
+
+abbrev pub same_text : Named → List ℕ → List ℕ → Bool
+same_text named.Known a b = bytes_eq a b
+same_text _ a b = true
+
+-- the first names of two paths
+abbrev pub same_first : Resolution → ℕ → ℕ → Bool
+same_first r a b = same_named (named_at r a) (named_at r b) && same_text (named_at r a) (text_at r a) (text_at r b)
 
 abbrev pub same_second : Option (List ℕ) → Option (List ℕ) → Bool
 same_second None None = true
@@ -74,7 +87,7 @@ same_second (Some m) None = false
 same_second (Some m) (Some n) = bytes_eq m n
 
 abbrev pub same_lock : Resolution → Lock → Lock → Bool
-same_lock r l k = same_named (named_at r l.first) (named_at r k.first) && same_second l.second k.second
+same_lock r l k = same_first r l.first k.first && same_second l.second k.second
 
 abbrev pub is_private : Sharing → Bool
 is_private private = true
@@ -144,3 +157,21 @@ variable_named _ = None
 -- the variable that its first name names
 abbrev pub variable_of : Resolution → Lock → Option ℕ
 variable_of r l = variable_named (named_at r l.first)
+
+-- the token that declares a global
+abbrev pub global_token : Option GlobalDefinition → Option ℕ
+global_token None = None
+global_token (Some g) = Some g.declaration.name.site.token
+
+-- the variable or the global that a name names, by the token that declares it
+abbrev pub object_named : Resolution → Named → Option ℕ
+object_named r (named.Struct n) = None
+object_named r (named.Global n) = global_token (global_at r n)
+object_named r (named.Function n) = None
+object_named r (named.Variable x) = Some x
+object_named r (named.Field f) = None
+object_named r named.Known = None
+
+-- the variable or the global that its first name names
+abbrev pub object_of : Resolution → Lock → Option ℕ
+object_of r l = object_named r (named_at r l.first)

@@ -4,26 +4,13 @@ ghost use Rattle.std.specs.Prelude.{◌≡◌};
 ghost use Rattle.sharc_tree.specs.Tree.{argument, no_arguments};
 ghost use Rattle.sharc_tree.specs.View.{view_expr};
 ghost use Rattle.sharc_mode.specs.Rows.{argument_use, lock_through, with_base, path_variable, read_lock, read};
-ghost use Rattle.sharc_mode.specs.Sharings.{text_at};
 ghost use Rattle.sharc_mode.specs.View.{view_lock, view_reading, view_sharing};
 
 use crate::row::{Reading, argument_use, constant_use};
 use crate::sharing::{Lock, Sharing, is_sibling_lock, variable_of};
+use crate::text::text_at;
 use sharc_ctype::typed::Typed;
 use sharc_tree::tree::{Declaration, Expr};
-
-/// What stands at a token; nothing past the last one.
-pub fn text_at(t: &Typed, token: u32) -> &[u8]
-    ensures { result.now ≡ text_at t.now token }
-{
-    let tokens = t.program().tokens.list.as_slice();
-    let token = token as usize;
-    if token < tokens.len() {
-        tokens[token].text.as_slice()
-    } else {
-        &[]
-    }
-}
 
 /// A path of a field's type through `x->f`, where `x` stands at that token: a sibling's name `m` becomes `x->m`.
 fn lock_through<'a>(t: &'a Typed, at: u32, lock: Lock<'a>) -> Lock<'a>

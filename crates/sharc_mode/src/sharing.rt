@@ -1,12 +1,15 @@
 // Sharing modes with what their lock paths name, and when two are the same.
 
 ghost use Rattle.std.specs.Prelude.{◌≡◌};
-ghost use Rattle.sharc_mode.specs.Sharings.{lock_of, sharing_of, same_named, same_second, same_lock, same, same_level, same_levels, is_private, is_readonly, is_field, is_sibling_lock, is_sibling, variable_named, variable_of};
+ghost use Rattle.std.specs.Option.{option_copied};
+ghost use Rattle.sharc_mode.specs.Sharings.{lock_of, sharing_of, same_named, same_text, same_first, same_second, same_lock, same, same_level, same_levels, is_private, is_readonly, is_field, is_sibling_lock, is_sibling, variable_named, variable_of, global_token, object_named, object_of};
 ghost use Rattle.sharc_mode.specs.View.{view_name, view_lock, view_sharing};
 
+use crate::text::text_at;
 use sharc_ctype::typed::Typed;
 use sharc_names::fault::Named;
 use sharc_tree::ctype::{CType, Mode, Path};
+use sharc_tree::tree::GlobalDefinition;
 
 /// A lock path: the token of its first name, which tells what that names, and its second name, where it has one.
 #[derive(Clone, Copy)]
@@ -54,16 +57,37 @@ pub fn sharing_of(mode: &Mode) -> Sharing<'_>
     }
 }
 
-/// Whether two names name the same global, variable or field.
+/// Whether two names name the same.
 fn same_named(a: Named, b: Named) -> bool
     ensures { result ≡ same_named a b }
 {
     match (a, b) {
+        (Named::Struct(a), Named::Struct(b)) => a == b,
         (Named::Global(a), Named::Global(b)) => a == b,
+        (Named::Function(a), Named::Function(b)) => a == b,
         (Named::Variable(a), Named::Variable(b)) => a == b,
         (Named::Field(a), Named::Field(b)) => a == b,
+        (Named::Known, Named::Known) => true,
         _ => false,
     }
+}
+
+/// Whether two names are spelled alike, where what the first one names is told by its name.
+fn same_text(named: Named, a: &[u8], b: &[u8]) -> bool
+    ensures { result ≡ same_text named a.now b.now }
+{
+    match named {
+        Named::Known => a == b,
+        _ => true,
+    }
+}
+
+/// Whether the first names of two paths, which stand at these tokens, name the same.
+fn same_first(t: &Typed, a: u32, b: u32) -> bool
+    ensures { result ≡ same_first t.now a b }
+{
+    let named = t.named(a);
+    same_named(named, t.named(b)) && same_text(named, text_at(t, a), text_at(t, b))
 }
 
 fn same_second(a: Option<&[u8]>, b: Option<&[u8]>) -> bool
@@ -80,7 +104,7 @@ fn same_second(a: Option<&[u8]>, b: Option<&[u8]>) -> bool
 pub fn same_lock(t: &Typed, a: Lock<'_>, b: Lock<'_>) -> bool
     ensures { result ≡ same_lock t.now (view_lock a.entry) (view_lock b.entry) }
 {
-    same_named(t.named(a.first), t.named(b.first)) && same_second(a.second, b.second)
+    same_first(t, a.first, b.first) && same_second(a.second, b.second)
 }
 
 /// Whether two modes are the same.
@@ -121,8 +145,8 @@ fn same_levels(t: &Typed, a: &[Option<Mode>], b: &[Option<Mode>]) -> bool
     true
 }
 
-/// Whether two types have the same modes, level by level. Two paths are equal where they name the same global, or the same variable and the same
-/// field; modes that are not known are the same.
+/// Whether two types have the same modes, level by level. Two paths are equal where they name the same, as the same global, or the same variable and the
+/// same field; modes that are not known are the same.
 pub fn same_modes(t: &Typed, a: &CType, b: &CType) -> bool
     ensures { result ≡ same_levels t.now a.now.levels b.now.levels }
 {
@@ -190,4 +214,32 @@ pub fn variable_of(t: &Typed, lock: Lock<'_>) -> Option<u32>
     ensures { result ≡ variable_of t.now (view_lock lock.entry) }
 {
     variable_named(t.named(lock.first))
+}
+
+/// The token that declares a global.
+fn global_token(global: Option<&GlobalDefinition>) -> Option<u32>
+    ensures { result ≡ global_token (option_copied global.entry) }
+{
+    match global {
+        None => None,
+        Some(global) => Some(global.declaration.name.site.token),
+    }
+}
+
+/// The variable or the global that a name names, by the token that declares it.
+pub fn object_named(t: &Typed, named: Named) -> Option<u32>
+    ensures { result ≡ object_named t.now named }
+{
+    match named {
+        Named::Global(number) => global_token(t.global_at(number)),
+        Named::Variable(token) => Some(token),
+        Named::Struct(_) | Named::Function(_) | Named::Field(_) | Named::Known => None,
+    }
+}
+
+/// The variable or the global that the first name of a path names, by the token that declares it.
+pub fn object_of(t: &Typed, lock: Lock<'_>) -> Option<u32>
+    ensures { result ≡ object_of t.now (view_lock lock.entry) }
+{
+    object_named(t, t.named(lock.first))
 }

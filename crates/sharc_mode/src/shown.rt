@@ -15,9 +15,9 @@ ghost use Rattle.sharc_mode.specs.View.{view_lock, view_sharing, view_row};
 
 use crate::cell::{pointed, top_of};
 use crate::moded::Moded;
-use crate::read::text_at;
 use crate::row::Row;
 use crate::sharing::{Lock, Sharing, same};
+use crate::text::text_at;
 use sharc_ctype::entity::Numbered;
 use sharc_ctype::typed::Typed;
 use sharc_names::kind::{Kind, Root};

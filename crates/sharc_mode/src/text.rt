@@ -1,9 +1,10 @@
-// The texts of lock paths, of modes and of the tokens of a construct.
+// The texts of lock paths, of modes and of tokens.
 
 ghost use Rattle.std.specs.Prelude.{◌≡◌, IfOk};
 ghost use Rattle.sharc_tree.specs.Texts.{path_text, mode_text};
 ghost use Rattle.sharc_tree.specs.declared.ctype.Mode.TheVariants.{Locked as LockedMode};
 ghost use Rattle.sharc_mode.specs.Notes.{span_text};
+ghost use Rattle.sharc_mode.specs.Sharings.{text_at};
 
 use sharc_ctype::typed::Typed;
 use sharc_tree::ctype::{Mode, Path};
@@ -11,6 +12,19 @@ use sharc_tree::name::Name;
 use sharc_tree::print::print_span;
 use sharc_tree::token::Span;
 use std::alloc::{AllocError, Global};
+
+/// What stands at a token; nothing past the last one.
+pub fn text_at(t: &Typed, token: u32) -> &[u8]
+    ensures { result.now ≡ text_at t.now token }
+{
+    let tokens = t.program().tokens.list.as_slice();
+    let token = token as usize;
+    if token < tokens.len() {
+        tokens[token].text.as_slice()
+    } else {
+        &[]
+    }
+}
 
 /// The text of a lock path: `m` or `x->m`.
 pub fn path_text(alloc: Global, path: &Path) -> Result<Name, AllocError>

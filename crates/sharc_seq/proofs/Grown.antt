@@ -1,7 +1,7 @@
 -- A run grows by the turn that was made.
-use Rattle.std.proofs.Common.{◌≡◌, ℕ, suc, ◌+◌, ◌-◌, ◌<◌, ◌≤◌, true, false, List, [], ◌∷◌, ◌++◌, length, get_or, set, refl, sym, ap, ◌∙◌, subst, arith, ⊎_elim}
-use Rattle.std.specs.Prelude.{nat_eq, nat_lt, ◌||◌, reverse}
-use Rattle.std.specs.List.{fold}
+use Rattle.std.proofs.Common.{◌≡◌, ℕ, suc, ◌+◌, ◌-◌, ◌<◌, ◌≤◌, Bool, true, false, List, [], ◌∷◌, ◌++◌, length, get_or, set, filter, Option, Some, None, refl, sym, ap, ◌∙◌, subst, arith, ⊎_elim}
+use Rattle.std.specs.Prelude.{nat_eq, nat_lt, ◌||◌, is_some, reverse}
+use Rattle.std.specs.List.{range_with_len}
 use Rattle.std.proofs.lemmas.Bool.Decides.{nat_tests}
 use Rattle.std.proofs.lemmas.Bool.{cases_eq}
 use Rattle.std.proofs.lemmas.List.{get_or-set_same, get_or-set_other, length-set, length-reverse, reverse-append}
@@ -13,13 +13,18 @@ use Rattle.sharc_code.specs.declared.shape.Shape.{Shape}
 use Rattle.sharc_code.specs.Machine.{Machine, Turn as Act, Local, Asks}
 use Rattle.sharc_code.specs.Path.{turn, after, asked_by, TurnLeads, may_go, counted}
 use Rattle.sharc_code.specs.Runs.{Turn, turn_with, result_of, step_of, IsOf, put, words_now, state_now, made_now, after_turn, Answered, MayTurn, is_started, threads_of}
+use Rattle.sharc_code.specs.Stages.{begins_of}
+use Rattle.sharc_code.specs.StandingLaws.{StandingLaws}
 use Rattle.sharc_code.specs.Whole.{one_thread, bounds, place_after, event_in}
-use Rattle.sharc_seq.specs.declared.seat.Seat.{Seat}
+use Rattle.sharc_cpu.specs.Thread.{ThreadView}
+use Rattle.sharc_threads.specs.Ends.{Standing, is_enabled}
+use Rattle.sharc_threads.specs.Laws.{TableLaws}
+use Rattle.sharc_threads.specs.Seats.{Sits, IsSeat, AreSeats, AreOf, may_turn_at, left, left_to}
 use Rattle.sharc_seq.specs.declared.table.Table.{Table}
-use Rattle.sharc_seq.specs.Run.{Standing, is_enabled, enabled, IsChosen}
-use Rattle.sharc_seq.specs.Seats.{IsSeat, AreSeats, MadeTurn, IsTable, is_on, may_turn, marked, left, left_to}
+use Rattle.sharc_seq.specs.Run.{enabled, IsChosen}
+use Rattle.sharc_seq.specs.Table.{IsThreadAt, MadeTurn, MadeTurnAt, Began, HaveBegun, IsTable, numbers_of}
 use Rattle.sharc_seq.proofs.Made.{both, lt_true}
-use Rattle.sharc_seq.proofs.Sitting.{marks, same_started, picked, any_default, enabled_is}
+use Rattle.sharc_seq.proofs.Choosing.{picked, any_default, filter_same, filter_less}
 
 -- ---- functions changed at one place
 eq_refl : (n : ℕ) → nat_eq n n ≡ true
@@ -56,22 +61,22 @@ words_are t (Local m) found words now h = ap (λ (p : Place). p.words) h
 words_are t (Asks step go) found words now h = sym (ap (λ (p : Place). p.words) h.to_is)
 
 -- ---- the turn of a seat that is enabled, as one of the run
-module _ (code : Code) (s : Shape) (g : Standing) (t : ℕ) (old new : Seat) (now : List ℕ)
-    (is : IsSeat code s g.threads g.made g.started t old) (made : MadeTurn code s g.words now old new) where
+module _ (code : Code) (s : Shape) (g : Standing) (t : ℕ) (old new : ThreadView) (now : List ℕ)
+    (started_t : g.started t ≡ true) (is : Sits code s g.threads g.made t old) (made : MadeTurn code s g.words now old new) where
   abbrev pub this_turn : Turn
   this_turn = turn_with t (event_in t (turn code s (g.threads t)) made.found)
 
   led : TurnLeads LeadsInWords t (turn code s (g.threads t)) made.found (place_of_words g.words) (place_of_words now)
   led = subst (λ (m : Machine). TurnLeads LeadsInWords t (turn code s m) made.found (place_of_words g.words) (place_of_words now)) is.machine
-      (subst (λ (n : ℕ). TurnLeads LeadsInWords n (turn code s old.thread.machine) made.found (place_of_words g.words) (place_of_words now)) is.number made.led)
+      (subst (λ (n : ℕ). TurnLeads LeadsInWords n (turn code s old.machine) made.found (place_of_words g.words) (place_of_words now)) is.number made.led)
 
-  stands : new.thread.machine ≡ state_now (one_thread code s) g this_turn
+  stands : new.machine ≡ state_now (one_thread code s) g this_turn
   stands = made.machine ∙ ap (λ (m : Machine). after (turn code s m) made.found) is.machine ∙ sym (after_found t (turn code s (g.threads t)) made.found)
 
   made_more : made_now (one_thread code s) g this_turn ≡ g.made t + 1
   made_more = ap (λ (m : Machine). g.made t + counted m.at.state) (sym stands) ∙ ap (λ n. g.made t + n) made.event
 
-  new_made : new.thread.made ≡ made_now (one_thread code s) g this_turn
+  new_made : new.made ≡ made_now (one_thread code s) g this_turn
   new_made = made.made ∙ ap (λ n. n + 1) is.made_is ∙ sym made_more
 
   pub new_words : words_now g.words this_turn.event ≡ now
@@ -85,58 +90,47 @@ module _ (code : Code) (s : Shape) (g : Standing) (t : ℕ) (old new : Seat) (no
     room = omega (arith, made_more);
   }
 
-  here : IsSeat code s (after_turn bounds (one_thread code s) g this_turn).threads (after_turn bounds (one_thread code s) g this_turn).made g.started t new
-  here = record {
-    thread = made.thread;
-    number = made.number ∙ is.number;
-    machine = stands ∙ sym (put_same g.threads t (state_now (one_thread code s) g this_turn));
-    made_is = new_made ∙ sym (put_same g.made t (made_now (one_thread code s) g this_turn));
-    started_is = made.started ∙ is.started_is;
-    done = made.done;
-  }
+  abbrev pub then_ : Standing
+  then_ = after_turn bounds (one_thread code s) g this_turn
 
-  there : (k : ℕ) (seat : Seat) → (k ≡ t → ⊥) → IsSeat code s g.threads g.made g.started k seat
-      → IsSeat code s (after_turn bounds (one_thread code s) g this_turn).threads (after_turn bounds (one_thread code s) g this_turn).made g.started k seat
-  there k seat ne at_k = record {
-    thread = at_k.thread;
-    number = at_k.number;
-    machine = at_k.machine ∙ sym (put_other g.threads t k (state_now (one_thread code s) g this_turn) ne);
-    made_is = at_k.made_is ∙ sym (put_other g.made t k (made_now (one_thread code s) g this_turn) ne);
-    started_is = at_k.started_is;
-    done = at_k.done;
-  }
+  here : IsSeat code s then_.threads then_.made g.started t (Some new)
+  here = (
+    started_t,
+    record {
+      thread_is = made.thread;
+      number = made.number ∙ is.number;
+      machine = stands ∙ sym (put_same g.threads t (state_now (one_thread code s) g this_turn));
+      made_is = new_made ∙ sym (put_same g.made t (made_now (one_thread code s) g this_turn));
+    },
+  )
 
-  pub seats_now : (seats : List Seat) → t < length seats → AreSeats code s g.threads g.made g.started seats
-      → AreSeats code s (after_turn bounds (one_thread code s) g this_turn).threads (after_turn bounds (one_thread code s) g this_turn).made g.started (set seats t new)
-  seats_now seats low are = record {
-    count = length-set seats t new ∙ are.count;
+  there : (k : ℕ) (x : Option ThreadView) → (k ≡ t → ⊥) → IsSeat code s g.threads g.made g.started k x → IsSeat code s then_.threads then_.made g.started k x
+  there k None ne at_k = (
+    at_k.0,
+    put_other g.threads t k (state_now (one_thread code s) g this_turn) ne ∙ at_k.1,
+    put_other g.made t k (made_now (one_thread code s) g this_turn) ne ∙ at_k.2,
+  )
+  there k (Some thread) ne at_k = (
+    at_k.0,
+    record {
+      thread_is = at_k.1.thread_is;
+      number = at_k.1.number;
+      machine = at_k.1.machine ∙ sym (put_other g.threads t k (state_now (one_thread code s) g this_turn) ne);
+      made_is = at_k.1.made_is ∙ sym (put_other g.made t k (made_now (one_thread code s) g this_turn) ne);
+    },
+  )
+
+  pub seats_now : (seats : List (Option ThreadView)) → AreSeats code s g.threads g.made g.started seats → AreSeats code s then_.threads then_.made g.started (set seats t (Some new))
+  seats_now seats are = record {
+    count = length-set seats t (Some new) ∙ are.count;
     few = are.few;
-    each = λ k seat h.
-        let g' = after_turn bounds (one_thread code s) g this_turn in
-        let within : k < length seats = subst (λ n. k < n) (length-set seats t new) h in
+    each = λ k low.
         ⊎_elim
-        (λ (e : k ≡ t). subst (λ j. IsSeat code s g'.threads g'.made g.started j (get_or (set seats t new) j seat)) (sym e) (subst (IsSeat code s g'.threads g'.made g.started t) (sym (get_or-set_same seats t new seat low)) here))
-        (λ (ne : k ≡ t → ⊥). subst (IsSeat code s g'.threads g'.made g.started k) (sym (get_or-set_other seats t k new seat ne)) (there k (get_or seats k seat) ne (are.each k seat within)))
+        (λ (e : k ≡ t). subst (λ j. IsSeat code s then_.threads then_.made g.started j (get_or (set seats t (Some new)) j None)) (sym e)
+        (subst (IsSeat code s then_.threads then_.made g.started t) (sym (get_or-set_same seats t (Some new) None (omega (arith, low, e, are.count)))) here))
+        (λ (ne : k ≡ t → ⊥). subst (IsSeat code s then_.threads then_.made g.started k) (sym (get_or-set_other seats t k (Some new) None ne)) (there k (get_or seats k None) ne (are.each k low)))
         (cases_eq k t);
   }
-
--- ---- what is left
-fold_same : {X : Type 0} (f : X → ℕ) (xs ys : List X) (n : ℕ) → length ys ≡ length xs → ((t : ℕ) (d : X) → t < length xs → f (get_or ys t d) ≡ f (get_or xs t d))
-    → fold (λ a x. a + f x) n ys ≡ fold (λ a x. a + f x) n xs
-fold_same f [] [] n e same = refl
-fold_same f [] (y ∷ ys) n e same = absurd (omega (arith, e))
-fold_same f (x ∷ xs) [] n e same = absurd (omega (arith, e))
-fold_same f (x ∷ xs) (y ∷ ys) n e same =
-    ap (λ k. fold (λ a z. a + f z) (n + k) ys) (same 0 x (omega arith)) ∙ fold_same f xs ys (n + f x) (omega (arith, e)) (λ t d h. same (suc t) d (omega (arith, h)))
-
-pub less : (limit : ℕ) (seats marked_too : List Seat) (t : ℕ) (old new : Seat) → t < length seats → old ≡ get_or seats t old → old.thread.made < limit → new.thread.made ≡ old.thread.made + 1
-    → length marked_too ≡ length (set seats t new) → ((k : ℕ) (seat : Seat) → k < length (set seats t new) → left_to limit (get_or marked_too k seat) ≡ left_to limit (get_or (set seats t new) k seat))
-    → left limit marked_too < left limit seats
-less limit seats marked_too t old new low is below made count same =
-    let e : left limit marked_too ≡ left limit (set seats t new) = fold_same (left_to limit) (set seats t new) marked_too 0 count same in
-    let f : left limit (set seats t new) + left_to limit (get_or seats t old) ≡ left limit seats + left_to limit new = sum_by-set (left_to limit) seats t new old low in
-    let h : left_to limit (get_or seats t old) ≡ limit - old.thread.made = ap (left_to limit) (sym is) in
-    omega (arith, e, f, h, made, below)
 
 -- ---- the schedule
 threads_many : (turns : List Turn) → length (threads_of turns) ≡ length turns
@@ -148,6 +142,18 @@ as_many schedule turns e = ap (λ (xs : List ℕ). length xs) e ∙ length-rever
 
 pub one_later : (schedule more : List ℕ) (turns : List Turn) (turn : Turn) → schedule ≡ reverse (threads_of turns) → more ≡ schedule ++ turn.thread ∷ [] → more ≡ reverse (threads_of (turn ∷ turns))
 one_later schedule more turns turn e f = f ∙ ap (λ (xs : List ℕ). xs ++ turn.thread ∷ []) e ∙ sym (reverse-append (turn.thread ∷ []) (threads_of turns))
+
+-- ---- who is enabled
+enabled_started : (code : Code) (s : Shape) (limit : ℕ) (g : Standing) (t : ℕ) → is_enabled code s limit g t ≡ true → g.started t ≡ true
+enabled_started code s limit g t e = (both (g.started t) _ e).0
+
+-- the threads that may make a turn among those that are there are those that are enabled
+pub enabled_are : (laws : TableLaws) (code : Code) (s : Shape) (limit : ℕ) (g : Standing) (words : List ℕ) (seats : List (Option ThreadView)) → s.threads ≡ THREADS → AreOf code s g words seats
+    → filter (λ t. may_turn_at words limit (get_or seats t None)) (numbers_of seats) ≡ enabled code s limit g
+enabled_are laws code s limit g words seats fits of =
+    filter_same (λ t. may_turn_at words limit (get_or seats t None)) (is_enabled code s limit g) (numbers_of seats) (laws.enabled code s limit g words seats of)
+    ∙ filter_less (is_enabled code s limit g) (λ t. is_some (get_or seats t None)) (range_with_len 0 THREADS) (λ t e. laws.there code s g.threads g.made g.started seats of.are t ∙ enabled_started code s limit g t e)
+    ∙ ap (λ n. filter (is_enabled code s limit g) (range_with_len 0 n)) (sym fits)
 
 -- ---- the table behind the turn
 pub record Chose (answers : ℕ → ℕ → ℕ → Type 0) (code : Code) (s : Shape) (limit : ℕ) (g : Standing) (count t : ℕ) : Type 0 where
@@ -170,56 +176,141 @@ chose answers code s limit g count among place t all low is answered =
       yes = p.yes;
     }
 
--- the seat of that thread
-pub record Sits (code : Code) (s : Shape) (limit : ℕ) (port : List ℕ) (seats : List Seat) (g : Standing) (t : ℕ) (seat : Seat) : Type 0 where
+-- the place of that thread
+thread_at : (code : Code) (s : Shape) (threads : ℕ → Machine) (made : ℕ → ℕ) (started : ℕ → Bool) (t : ℕ) (x : Option ThreadView) → IsSeat code s threads made started t x → IsThreadAt code s x
+thread_at code s threads made started t None is = tt
+thread_at code s threads made started t (Some thread) is = is.1.thread_is
+
+pub record SitsAt (code : Code) (s : Shape) (limit : ℕ) (words : List ℕ) (seats : List (Option ThreadView)) (g : Standing) (t : ℕ) (x : Option ThreadView) : Type 0 where
   pub low : t < length seats
-  pub is : IsSeat code s g.threads g.made g.started t seat
-  pub may : may_turn port limit seat ≡ true
-  pub left : seat.thread.made < limit
+  pub is : IsSeat code s g.threads g.made g.started t x
+  pub thread : IsThreadAt code s x
+  pub may : may_turn_at words limit x ≡ true
 
-pub sits : (answers : ℕ → ℕ → ℕ → Type 0) (code : Code) (s : Shape) (limit : ℕ) (g : Standing) (count : ℕ) (port : List ℕ) (seats : List Seat) (t : ℕ) (seat : Seat) → port ≡ g.words
-    → AreSeats code s g.threads g.made g.started seats → Chose answers code s limit g count t → seat ≡ get_or seats t seat → Sits code s limit port seats g t seat
-sits answers code s limit g count port seats t seat words are chosen e =
-    let low : t < length seats = omega (arith, chosen.low, are.count) in
-    let is : IsSeat code s g.threads g.made g.started t seat = subst (IsSeat code s g.threads g.made g.started t) (sym e) (are.each t seat low) in
-    let may : may_turn port limit seat ≡ true = enabled_is code s limit g port t seat words is ∙ chosen.yes in
+pub sits : (laws : TableLaws) (answers : ℕ → ℕ → ℕ → Type 0) (code : Code) (s : Shape) (limit : ℕ) (g : Standing) (count : ℕ) (words : List ℕ) (seats : List (Option ThreadView)) (t : ℕ) (x : Option ThreadView)
+    → s.threads ≡ THREADS → AreOf code s g words seats → Chose answers code s limit g count t → x ≡ get_or seats t None → SitsAt code s limit words seats g t x
+sits laws answers code s limit g count words seats t x fits of chosen e =
+    let low : t < THREADS = omega (arith, chosen.low, fits) in
+    let is : IsSeat code s g.threads g.made g.started t x = subst (IsSeat code s g.threads g.made g.started t) (sym e) (of.are.each t low) in
     record {
-      low = low;
+      low = omega (arith, low, of.are.count);
       is = is;
-      may = may;
-      left = lt_true seat.thread.made limit (both (nat_lt seat.thread.made limit) _ (both (is_on seat) _ may).1).0;
+      thread = thread_at code s g.threads g.made g.started t x is;
+      may = ap (may_turn_at words limit) e ∙ laws.enabled code s limit g words seats of t ∙ chosen.yes;
     }
 
--- a mark changes nothing of what is left
-pub as_left : (limit : ℕ) (words : List ℕ) (k : ℕ) (seat : Seat) → left_to limit (marked words k seat) ≡ left_to limit seat
-as_left limit words k seat = refl
+or_known : (a b : Bool) → (a ≡ true → b ≡ true) → (a || b) ≡ b
+or_known true b h = sym (h refl)
+or_known false b h = refl
 
-pub grown : (answers : ℕ → ℕ → ℕ → Type 0) (code : Code) (s : Shape) (limit : ℕ) (old new : Table) (t : ℕ) (was seat : Seat) → s.threads ≡ THREADS → limit ≤ 100000000
-    → (table : IsTable answers code s limit old) → Chose answers code s limit (place_after code s table.turns) (length old.schedule.items) t
-    → was ≡ get_or old.seats.items t was → MadeTurn code s old.port new.port was seat
-    → new.schedule.items ≡ old.schedule.items ++ t ∷ []
-    → length new.seats.items ≡ length (set old.seats.items t seat)
-    → ((k : ℕ) (d : Seat) → k < length (set old.seats.items t seat) → get_or new.seats.items k d ≡ marked new.port k (get_or (set old.seats.items t seat) k d))
-    → IsTable answers code s limit new
-grown answers code s limit old new t was seat fits few table chose is made schedule count each =
-    let g = place_after code s table.turns in
-    let low : t < length old.seats.items = omega (arith, chose.low, table.seats.count) in
-    let at_t : IsSeat code s g.threads g.made g.started t was = subst (IsSeat code s g.threads g.made g.started t) (sym is) (table.seats.each t was low) in
-    let turned : MadeTurn code s g.words new.port was seat = subst (λ (ws : List ℕ). MadeTurn code s ws new.port was seat) table.words made in
-    let this = this_turn code s g t was seat new.port at_t turned in
-    let started = both (g.started t) _ chose.yes in
-    let may = both (may_go (g.threads t).at.state) _ started.1 in
-    let left = both (nat_lt (g.made t) limit) _ may.1 in
-    let words : words_now g.words this.event ≡ new.port = new_words code s g t was seat new.port at_t turned in
-    let are = marks code s (after_turn bounds (one_thread code s) g this).threads (after_turn bounds (one_thread code s) g this).made g.started new.port (set old.seats.items t seat) new.seats.items fits
-    (seats_now code s g t was seat new.port at_t turned old.seats.items low table.seats) count each in
-    record {
-      turns = this ∷ table.turns;
-      count = made.count ∙ table.count;
-      run = (table.run, may_turn_now code s g t was seat new.port at_t turned limit few started.0 may.0 (lt_true (g.made t) limit left.0));
-      chosen = (table.chosen, subst (λ n. IsChosen answers n (enabled code s limit g) t) (as_many old.schedule.items table.turns table.schedule) chose.chosen);
-      schedule = one_later old.schedule.items new.schedule.items table.turns this table.schedule schedule;
-      words = sym words;
-      seats = same_started code s (after_turn bounds (one_thread code s) g this).threads (after_turn bounds (one_thread code s) g this).made (λ k. is_started bounds new.port k || g.started k)
-          (λ k. is_started bounds (words_now g.words this.event) k || g.started k) new.seats.items (λ k. ap (λ (ws : List ℕ). is_started bounds ws k || g.started k) (sym words)) are;
+same_some : (seats : List (Option ThreadView)) (t : ℕ) (old new : ThreadView) → t < length seats → get_or seats t None ≡ Some old → (k : ℕ) → is_some (get_or (set seats t (Some new)) k None) ≡ is_some (get_or seats k None)
+same_some seats t old new low is k =
+    ⊎_elim
+    (λ (e : k ≡ t). subst (λ j. is_some (get_or (set seats t (Some new)) j None) ≡ is_some (get_or seats j None)) (sym e)
+    (ap is_some (get_or-set_same seats t (Some new) None low) ∙ sym (ap is_some is)))
+    (λ (ne : k ≡ t → ⊥). ap is_some (get_or-set_other seats t k (Some new) None ne))
+    (cases_eq k t)
+
+module _ (standing : StandingLaws) (laws : TableLaws) (answers : ℕ → ℕ → ℕ → Type 0) (code : Code) (s : Shape) (limit : ℕ) (old new : Table) (t : ℕ) (fits : s.threads ≡ THREADS) (few : limit ≤ 100000000)
+    (table : IsTable answers code s limit old) (one : Chose answers code s limit (place_after code s table.turns) (length old.schedule.items) t)
+    (schedule : new.schedule.items ≡ old.schedule.items ++ t ∷ []) where
+  abbrev g : Standing
+  g = place_after code s table.turns
+
+  started_g : g.started t ≡ true
+  started_g = (both (g.started t) _ one.yes).0
+
+  module _ (was now : ThreadView) (at : get_or old.threads.seats.items t None ≡ Some was) (made : MadeTurn code s g.words new.port was now) where
+    sits_t : Sits code s g.threads g.made t was
+    sits_t = (subst (IsSeat code s g.threads g.made g.started t) at (table.seats.each t (omega (arith, one.low, fits)))).1
+
+    abbrev this : Turn
+    this = this_turn code s g t was now new.port started_g sits_t made
+
+    abbrev place : Standing
+    place = after_turn bounds (one_thread code s) g this
+
+    abbrev seats : List (Option ThreadView)
+    seats = set old.threads.seats.items t (Some now)
+
+    words : words_now g.words this.event ≡ new.port
+    words = new_words code s g t was now new.port started_g sits_t made
+
+    set_seats : AreSeats code s place.threads place.made g.started seats
+    set_seats = seats_now code s g t was now new.port started_g sits_t made old.threads.seats.items table.seats
+
+    may : MayTurn bounds (one_thread code s) g this
+    may =
+        let parts = both (g.started t) _ one.yes in
+        let goes = both (may_go (g.threads t).at.state) _ parts.1 in
+        let left = both (nat_lt (g.made t) limit) _ goes.1 in
+        may_turn_now code s g t was now new.port started_g sits_t made limit few started_g goes.0 (lt_true (g.made t) limit left.0)
+
+    -- a turn that starts no thread
+    unstarted : begins_of was.machine.own.stage ≡ None → (k : ℕ) → g.started k ≡ place.started k
+    unstarted none k = sym (or_known (is_started bounds (words_now g.words this.event) k) (g.started k)
+        (λ e. standing.started code s table.turns k
+        (standing.spawns code s table.turns this k may (λ is. let f : None ≡ Some k = sym none ∙ ap (λ (m : Machine). begins_of m.own.stage) sits_t.machine ∙ is in cc) e)))
+
+    same_now : (k : ℕ) → (is_started bounds new.port k || g.started k) ≡ place.started k
+    same_now k = ap (λ (ws : List ℕ). is_started bounds ws k || g.started k) (sym words)
+
+    low_t : t < length old.threads.seats.items
+    low_t = omega (arith, one.low, fits, table.seats.count)
+
+    record Then_ : Type 0 where
+      seats_are : AreSeats code s place.threads place.made place.started new.threads.seats.items
+      numbers : new.started.items ≡ numbers_of new.threads.seats.items
+
+    began : (begins : Option ℕ) → begins ≡ begins_of was.machine.own.stage → Began code s new.port begins seats new.threads.seats.items old.started.items new.started.items → Then_
+    began None is all = record {
+      seats_are = subst (AreSeats code s place.threads place.made place.started) (sym all.0) (laws.same code s place.threads place.made g.started place.started seats (unstarted (sym is)) set_seats);
+      numbers = all.1 ∙ table.numbers
+          ∙ sym (filter_same (λ k. is_some (get_or seats k None)) (λ k. is_some (get_or old.threads.seats.items k None)) (range_with_len 0 THREADS) (same_some old.threads.seats.items t was now low_t at))
+          ∙ ap numbers_of (sym all.0);
     }
+    began (Some n) is all = record {
+      seats_are = laws.same code s place.threads place.made (λ k. is_started bounds new.port k || g.started k) place.started new.threads.seats.items same_now
+          (laws.begin code s place.threads place.made g.started new.port seats new.threads.seats.items set_seats all.count all.each).0;
+      numbers = all.numbers;
+    }
+
+    grown_by : (begins : Option ℕ) → begins ≡ begins_of was.machine.own.stage → Began code s new.port begins seats new.threads.seats.items old.started.items new.started.items → IsTable answers code s limit new
+    grown_by begins is all =
+        let then = began begins is all in
+        record {
+          turns = this ∷ table.turns;
+          count = made.count ∙ ap (λ (ws : List ℕ). length ws) (sym table.words) ∙ table.count;
+          run = (table.run, may);
+          chosen = (table.chosen, subst (λ n. IsChosen answers n (enabled code s limit g) t) (as_many old.schedule.items table.turns table.schedule) one.chosen);
+          schedule = one_later old.schedule.items new.schedule.items table.turns this table.schedule schedule;
+          words = sym words;
+          seats = then.seats_are;
+          numbers = then.numbers;
+        }
+
+    -- what is left
+    left_begun : (begins : Option ℕ) → Began code s new.port begins seats new.threads.seats.items old.started.items new.started.items → left limit new.threads.seats.items ≡ left limit seats
+    left_begun None all = ap (left limit) all.0
+    left_begun (Some n) all = (laws.begin code s place.threads place.made g.started new.port seats new.threads.seats.items set_seats all.count all.each).1 limit
+
+    less_by : (begins : Option ℕ) → Began code s new.port begins seats new.threads.seats.items old.started.items new.started.items → left limit new.threads.seats.items < left limit old.threads.seats.items
+    less_by begins all =
+        let e = left_begun begins all in
+        let f : left limit seats + left_to limit (get_or old.threads.seats.items t None) ≡ left limit old.threads.seats.items + left_to limit (Some now) = sum_by-set (left_to limit) old.threads.seats.items t (Some now) None low_t in
+        let h : left_to limit (get_or old.threads.seats.items t None) ≡ limit - was.made = ap (left_to limit) at in
+        let parts = both (g.started t) _ one.yes in
+        let goes = both (may_go (g.threads t).at.state) _ parts.1 in
+        let left = both (nat_lt (g.made t) limit) _ goes.1 in
+        let low : g.made t < limit = lt_true (g.made t) limit left.0 in
+        omega (arith, e, f, h, made.made, sits_t.made_is, low)
+
+  pub record Grown : Type 0 where
+    pub table_is : IsTable answers code s limit new
+    pub less : left limit new.threads.seats.items < left limit old.threads.seats.items
+
+  pub grown : (x y : Option ThreadView) (begins : Option ℕ) → get_or old.threads.seats.items t None ≡ x → MadeTurnAt code s g.words new.port x y begins
+      → Began code s new.port begins (set old.threads.seats.items t y) new.threads.seats.items old.started.items new.started.items → Grown
+  grown None y begins at made all = absurd made
+  grown (Some was) None begins at made all = absurd made
+  grown (Some was) (Some now) begins at made all = record { table_is = grown_by was now at made.0 begins made.1 all; less = less_by was now at made.0 begins all }

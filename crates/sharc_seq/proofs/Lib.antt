@@ -1,4 +1,3 @@
-pub mod Ending
+pub mod Choosing
 pub mod Grown
 pub mod Made
-pub mod Sitting

@@ -16,24 +16,8 @@ use Rattle.sharc_cpu.specs.Thread.{ThreadView}
 use Rattle.sharc_cpu.specs.Quantum.{IsQuantum, ran_or_blocked, pause_of}
 use Rattle.sharc_cpu.specs.declared.quantum.Pause.{Pause}
 use Rattle.sharc_cpu.specs.declared.quantum.Pause.TheVariants.{Ran, Spent}
-use Rattle.sharc_seq.specs.Seats.{ends}
 
 -- ---- answers
--- a quantum answers Ended or Stopped exactly where no turn may come
-spent_or : (b : Bool) (x : Pause) → ends x ≡ false → ends (if b then Spent else x) ≡ false
-spent_or true x e = refl
-spent_or false x e = e
-
-tried : (turns : ℕ) → ends (ran_or_blocked Tries turns) ≡ false
-tried zero = refl
-tried (suc turns) = refl
-
-pub ends_where : (state : State) (turns made limit : ℕ) → ends (pause_of state turns made limit) ≡ not (may_go state)
-ends_where states.Ended turns made limit = refl
-ends_where states.Stopped turns made limit = refl
-ends_where states.Runs turns made limit = spent_or (made == limit) Ran refl
-ends_where states.Tries turns made limit = spent_or (made == limit) (ran_or_blocked Tries turns) (tried turns)
-
 -- below the limit no turn at all is answered with Ran where one may come
 below : (made limit : ℕ) → made < limit → (made == limit) ≡ false
 below made limit h = grind (arith, nat_tests)
@@ -71,7 +55,6 @@ pub record OneTurn (code : Code) (s : Shape) (words now : List ℕ) (old new : T
   pub led : TurnLeads LeadsInWords old.machine.own.number (turn code s old.machine) found (place_of_words words) (place_of_words now)
   pub event : counted new.machine.at.state ≡ 1
   pub made : new.made ≡ old.made + 1
-  pub done : ends pause ≡ not (may_go new.machine.at.state)
 
 module _ (laws : ThreadLaws) (code : Code) (s : Shape) (limit : ℕ) (words now : List ℕ) (old new : ThreadView) (pause : Pause) where
   by_founds : (q : IsQuantum (λ thread. Unit {0}) LeadsInWords code s 1 limit old new (place_of_words words) (place_of_words now) pause)
@@ -101,7 +84,6 @@ module _ (laws : ThreadLaws) (code : Code) (s : Shape) (limit : ℕ) (words now 
         led = led;
         event = event;
         made = omega (arith, q.made, events, event_too);
-        done = ap ends q.pause_is ∙ ends_where new.machine.at.state q.turns new.made limit;
       }
   by_founds q may below off (one ∷ other ∷ more) e =
       let many : q.turns ≡ suc (suc (length more)) = q.goes.turns_are ∙ ap (λ (xs : List ℕ). length xs) e in
@@ -122,7 +104,3 @@ not_true false e = refl
 
 pub lt_true : (m n : ℕ) → nat_lt m n ≡ true → m < n
 lt_true m n e = grind (arith, nat_tests)
-
-pub not_not : (a b : Bool) → a ≡ not b → a ≡ false → b ≡ true
-not_not a true e f = refl
-not_not a false e f = absurd (let h : true ≡ false = sym e ∙ f in cc)

@@ -1,3 +1,3 @@
 pub mod Choice
 pub mod Run
-pub mod Seats
+pub mod Table

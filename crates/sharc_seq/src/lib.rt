@@ -1,17 +1,17 @@
 //! Runs of which one chooser chooses each turn.
 //!
 //! `run_seq` runs a code: among the threads that are enabled the `Chooser` says who makes the next turn, until none is. `specs/Run.antt` says
-//! who is enabled, who is chosen, and how a run ends; a run is a checked run of `sharc_code`. `seeded` is the choice by a number.
+//! who is chosen, and what a run is that was chosen: a checked run of `sharc_code`, with the threads and the end of `sharc_threads`.
+//! `seeded` is the choice by a number.
 #![tactic(auto)]
 
 mod choice;
 mod chooser;
-mod end;
 mod run;
-mod seat;
 mod table;
+mod turn;
 
 pub use choice::seeded;
 pub use chooser::Chooser;
-pub use end::End;
 pub use run::{SeqRun, run_seq};
+pub use sharc_threads::End;

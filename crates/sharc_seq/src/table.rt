@@ -1,86 +1,101 @@
 //! A run between two turns.
 
-ghost use Rattle.std.specs.Prelude.{◌≡◌, ◌<◌, ◌≤◌, ℕ, true, false, length, IfOk, OnOk, slice_index_or};
+ghost use Rattle.std.specs.Prelude.{◌≡◌, ◌<◌, ◌≤◌, ℕ, None, true, false, length, filter, is_some, IfOk, OnOk, slice_index, slice_index_or};
+ghost use Rattle.std.specs.List.{range_with_len};
 ghost use Rattle.sharc_word.specs.declared.step.TheConstants.{THREADS as threads};
-ghost use Rattle.sharc_code.specs.declared.code.Code.{Code};
-ghost use Rattle.sharc_code.specs.declared.shape.Shape.{Shape};
-ghost use Rattle.sharc_code.specs.Layout.{Fits, IsShape, words_of};
-ghost use Rattle.sharc_code.specs.Path.{begun};
+ghost use Rattle.sharc_code.specs.Layout.{Fits};
+ghost use Rattle.sharc_threads.specs.Seats.{has_number, may_turn_at, left};
 ghost use Rattle.sharc_seq.specs.Choice.{Chooses};
-ghost use Rattle.sharc_seq.specs.declared.seat.Seat.{Seat};
-ghost use Rattle.sharc_seq.specs.Run.{Standing, enabled};
-ghost use Rattle.sharc_seq.specs.Seats.{AreSeats, AreOf, IsOpen, IsTable, IsOver, marked, left};
+ghost use Rattle.sharc_seq.specs.Table.{Began, HaveBegun, IsOpen, IsTable, IsOver};
 
 use crate::chooser::Chooser;
-use crate::seat::{Seat, word};
-use sharc_code::{Code, Shape, fits_law, opening};
-use sharc_cpu::Thread;
-use sharc_word::MemPort;
+use crate::turn::turn_at;
+use sharc_code::{Code, Shape, fits_law, opening, standing_laws};
+use sharc_threads::{ThreadTable, may_turn_at, table_laws};
+use sharc_word::{MemPort, THREADS};
 use std::alloc::{AllocError, Global};
 
-/// The seats of all threads by their numbers, the words, and the numbers of those who made the turns so far.
+/// The threads, the numbers of those that were started in rising order, the words, and the numbers of those that made the turns so far.
 #[derive(Drop)]
 pub(crate) struct Table {
-    pub(crate) seats: Vec<Seat>,
+    pub(crate) threads: ThreadTable,
+    pub(crate) started: Vec<u8>,
     pub(crate) port: MemPort,
     pub(crate) schedule: Vec<u8>,
 }
 
-// A seat for each thread, none of which was started or made a turn.
-fn seats(alloc: Global, code: &Code, shape: &Shape) -> Result<Vec<Seat>, AllocError>
-    requires { Fits code.now shape.now }
-    ensures { IfOk result (λ seats. AreSeats code.now shape.now (begun code.now shape.now) (λ t. 0) (λ t. false) seats.items) }
+// Lists the numbers of the threads that were started, in rising order.
+fn list_started(table: &ThreadTable, started: &mut Vec<u8>) -> Result<(), AllocError>
+    requires { length table.now.seats.items ≡ threads }
+    ensures { OnOk result (started.new.items ≡ filter (λ t. is_some (slice_index_or table.now.seats.items t None)) (range_with_len 0 threads)) }
 {
-    let mut seats = Vec::new(alloc);
-    for number in 0..shape.threads {
-        let thread = Thread::new(alloc, code, shape, number)?;
-        seats.push(Seat {
-            thread,
-            started: false,
-            done: false,
-        })?;
-    }
-    Ok(seats)
-}
-
-// Marks the threads whose state word is 1.
-fn mark(shape: &Shape, seats: &mut Vec<Seat>, port: &mut MemPort)
-    requires shape { IsShape shape.now }
-    requires few { length seats.old.items < 256 }
-    requires words { length port.old ≡ words_of shape.now }
-    ensures count { length seats.new.items ≡ length seats.old.items }
-    ensures each { (t : ℕ) (seat : Seat) → t < length seats.old.items → slice_index_or seats.new.items t seat ≡ marked port.old t (slice_index_or seats.old.items t seat) }
-    ensures same { port.new ≡ port.old }
-{
-    for number in 0..seats.len() {
-        let state = word(shape, port, 4 + 3 * number as u64);
-        let seat = &mut seats[number];
-        seat.started = number < 31 && state == 1 || seat.started;
-    }
-}
-
-// The numbers of the threads that are enabled, in rising order.
-fn collect(
-    shape: &Shape,
-    seats: &Vec<Seat>,
-    port: &mut MemPort,
-    limit: u64,
-    among: &mut Vec<u8>,
-) -> Result<(), AllocError>
-    requires shape { IsShape shape.now }
-    requires words { length port.old ≡ words_of shape.now }
-    requires few { length seats.now.items < 256 }
-    requires numbers { (t : ℕ) (seat : Seat) → t < length seats.now.items → (slice_index_or seats.now.items t seat).thread.machine.own.number < threads }
-    ensures enabled { OnOk result ((code : Code) (s : Shape) (g : Standing) → AreOf code s g port.old seats.now.items → among.new.items ≡ enabled code s limit g) }
-    ensures same { port.new ≡ port.old }
-{
-    among.clear();
-    for (number, seat) in seats.iter().enumerate() {
-        if seat.may_turn(shape, port, limit) {
-            among.push(number as u8)?;
+    started.clear();
+    for number in 0..table.seats.len() {
+        if table.seats[number].is_some() {
+            started.push(number as u8)?;
         }
     }
     Ok(())
+}
+
+// The numbers of the threads that are enabled, among those that were started, in their order.
+fn collect(
+    table: &ThreadTable,
+    started: &Vec<u8>,
+    words: &[u64],
+    limit: u64,
+    among: &mut Vec<u8>,
+) -> Result<(), AllocError>
+    requires numbers { (t : ℕ) → has_number (slice_index_or table.now.seats.items t None) }
+    requires within { (i : ℕ) → i < length started.now.items → slice_index started.now.items i < length table.now.seats.items }
+    ensures { OnOk result (among.new.items ≡ filter (λ t. may_turn_at words.now limit (slice_index_or table.now.seats.items t None)) started.now.items) }
+{
+    among.clear();
+    for index in 0..started.len() {
+        let number = started[index];
+        if may_turn_at(&table.seats[number as usize], words, limit) {
+            among.push(number)?;
+        }
+    }
+    Ok(())
+}
+
+// Makes the threads that have been started, and lists all anew.
+fn begin_all(
+    alloc: Global,
+    code: &Code,
+    shape: &Shape,
+    words: &[u64],
+    table: &mut ThreadTable,
+    started: &mut Vec<u8>,
+) -> Result<(), AllocError>
+    requires fits { Fits code.now shape.now }
+    requires count { length table.old.seats.items ≡ threads }
+    ensures { OnOk result (HaveBegun code.now shape.now words.now table.old.seats.items table.new.seats.items started.new.items) }
+{
+    table.begin(alloc, code, shape, words)?;
+    list_started(table, started)?;
+    Ok(())
+}
+
+// So it does after a turn that starts the thread of this number, and nothing after one that starts none.
+fn begin(
+    begins: Option<u32>,
+    alloc: Global,
+    code: &Code,
+    shape: &Shape,
+    words: &[u64],
+    table: &mut ThreadTable,
+    started: &mut Vec<u8>,
+) -> Result<(), AllocError>
+    requires fits { Fits code.now shape.now }
+    requires count { length table.old.seats.items ≡ threads }
+    ensures { OnOk result (Began code.now shape.now words.now begins table.old.seats.items table.new.seats.items started.old.items started.new.items) }
+{
+    match begins {
+        None => Ok(()),
+        Some(_) => begin_all(alloc, code, shape, words, table, started),
+    }
 }
 
 impl Table {
@@ -91,12 +106,15 @@ impl Table {
         requires { Fits code.now shape.now }
         ensures { IfOk result (IsOpen code.now shape.now) }
     {
-        fits_law(code, shape);
-        let mut port = MemPort::new(opening(alloc, code, shape)?);
-        let mut seats = seats(alloc, code, shape)?;
-        mark(shape, &mut seats, &mut port);
+        table_laws();
+        let port = MemPort::new(opening(alloc, code, shape)?);
+        let words = port.words();
+        let threads = ThreadTable::open(alloc, code, shape, words)?;
+        let mut started = Vec::with_capacity(alloc, THREADS as usize)?;
+        list_started(&threads, &mut started)?;
         Ok(Table {
-            seats,
+            threads,
+            started,
             port,
             schedule: Vec::new(alloc),
         })
@@ -107,6 +125,7 @@ impl Table {
     /// An `Err` says that memory was not found.
     pub(crate) fn turn<F: Fn(u64, u64) -> u64>(
         &mut self,
+        alloc: Global,
         code: &Code,
         shape: &Shape,
         chooser: &Chooser<F>,
@@ -118,11 +137,14 @@ impl Table {
         requires limit { limit ≤ 100000000 }
         requires table { IsTable (F.post chooser.now.f) code.now shape.now limit self.old }
         ensures table { IfOk result (λ more. more ≡ true → IsTable (F.post chooser.now.f) code.now shape.now limit self.new) }
-        ensures less { IfOk result (λ more. more ≡ true → left limit self.new.seats.items < left limit self.old.seats.items) }
+        ensures less { IfOk result (λ more. more ≡ true → left limit self.new.threads.seats.items < left limit self.old.threads.seats.items) }
         ensures over { IfOk result (λ more. more ≡ false → IsOver (F.post chooser.now.f) code.now shape.now limit self.new) }
     {
         fits_law(code, shape);
-        collect(shape, &self.seats, &mut self.port, limit, among)?;
+        standing_laws();
+        table_laws();
+        let words = self.port.words();
+        collect(&self.threads, &self.started, words, limit, among)?;
         let count = among.len();
         if count == 0 {
             return Ok(false);
@@ -130,9 +152,23 @@ impl Table {
         let place = chooser.place(self.schedule.len() as u64, count as u64);
         let number = among[place as usize];
         self.schedule.push(number)?;
-        let seat = &mut self.seats[number as usize];
-        seat.turn(code, shape, &mut self.port, limit)?;
-        mark(shape, &mut self.seats, &mut self.port);
+        let begins = turn_at(
+            &mut self.threads.seats[number as usize],
+            code,
+            shape,
+            &mut self.port,
+            limit,
+        )?;
+        let now = self.port.words();
+        begin(
+            begins,
+            alloc,
+            code,
+            shape,
+            now,
+            &mut self.threads,
+            &mut self.started,
+        )?;
         Ok(true)
     }
 }

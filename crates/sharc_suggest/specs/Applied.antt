@@ -7,8 +7,8 @@ use Rattle.sharc_tree.specs.declared.ctype.Mode.{Mode}
 use Rattle.sharc_tree.specs.declared.ctype.Mode.TheVariants.{Private}
 use Rattle.sharc_tree.specs.declared.token.Site.{Site}
 use Rattle.sharc_tree.specs.Tree.{Program}
-use Rattle.sharc_recast.specs.declared.written.Recast.{Recast}
-use Rattle.sharc_recast.specs.Recast.{program_with_cast}
+use Rattle.sharc_rewrite.specs.declared.written.Recast.{Recast}
+use Rattle.sharc_rewrite.specs.Recast.{program_with_cast}
 use Rattle.sharc_ctype.specs.declared.entity.Numbered.{Numbered}
 use Rattle.sharc_ctype.specs.Entities.{entities_in, numbered, entity_at}
 use Rattle.sharc_ctype.specs.Items.{named_in}

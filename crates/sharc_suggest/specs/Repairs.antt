@@ -37,10 +37,11 @@ told flags x = slice_index_or flags x false
 abbrev pub entry_of : Declaration → Entry
 entry_of d = record { name = d.name.text; block = 0; meaning = variable d }
 
--- a variable is the one that its name means there; a global is hidden by no variable; a field is no name outside of its struct
+-- a variable is the one that its name means there; a global or a function is hidden by no variable; a field is no name outside of its struct
 abbrev pub keeps_named : Named → Option Entry → Bool
 keeps_named (named.Variable x) (Some e) = same_named (named.Variable x) (named_of e.meaning)
 keeps_named (named.Global g) None = true
+keeps_named (named.Function f) None = true
 keeps_named _ _ = false
 
 -- the second name of `x->m` is a field of the struct that `x` points to, wherever it stands

@@ -12,7 +12,7 @@ use sharc_ctype::typed::{Typed, type_program};
 use sharc_mode::error::Cast;
 use sharc_mode::moded::Moded;
 use sharc_mode::position::Reason;
-use sharc_recast::Recast;
+use sharc_rewrite::Recast;
 use sharc_tree::ctype::{Base, Mode};
 use sharc_tree::listed::Listed;
 use sharc_tree::token::{Site, Token};

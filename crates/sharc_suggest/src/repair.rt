@@ -14,10 +14,10 @@ use sharc_ctype::typed::Typed;
 use sharc_mode::cell::{cell_of, pointed};
 use sharc_mode::error::Cast;
 use sharc_mode::moded::Moded;
-use sharc_mode::read::text_at;
 use sharc_mode::row::{Row, row_of};
-use sharc_mode::sharing::{Sharing, is_readonly, variable_named};
+use sharc_mode::sharing::{Sharing, is_readonly, object_named};
 use sharc_mode::shown::{root_of_kind, row_laws, same_rows, shown};
+use sharc_mode::text::text_at;
 use sharc_names::fault::Named;
 use sharc_names::meaning::{Bound, named_of};
 use sharc_names::names::Names;
@@ -78,6 +78,7 @@ fn keeps_named(named: Named, bound: Option<Bound<'_>>) -> bool
             _ => false,
         },
         (Named::Global(_), None) => true,
+        (Named::Function(_), None) => true,
         _ => false,
     }
 }
@@ -115,18 +116,18 @@ fn keeps_all(m: &Moded, scope: &Names<'_>, row: Row<'_>) -> bool
     true
 }
 
-/// The variable that an expression is, if it is one, by the token that declares it.
+/// The variable or the global that an expression is, if it is one, by the token that declares it.
 fn taken_variable(t: &Typed, place: &Expr) -> Option<u32>
     ensures { result ≡ taken_variable t.now (view_expr place.now) }
 {
     match place {
-        Expr::Identifier(_, name) => variable_named(t.named(name.site.token)),
+        Expr::Identifier(_, name) => object_named(t, t.named(name.site.token)),
         _ => None,
     }
 }
 
-/// Whether a cast of the expression raises neither C5, nor M9, nor M10: it is an lvalue, no cell of mode readonly, and no variable that a lock path
-/// names.
+/// Whether a cast of the expression raises neither C5, nor M9, nor M10: it is an lvalue, no cell of mode readonly, and no variable or global that a
+/// lock path names.
 fn may_be_cast(k: Known<'_>, expr: &Expr) -> bool
     ensures { result ≡ may_be_cast k.entry.moded.now (told k.entry.named.now) (view_expr expr.now) }
 {

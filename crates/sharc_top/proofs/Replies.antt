@@ -2,8 +2,8 @@
 use Rattle.std.proofs.Common.{◌≡◌, ℕ, ◌+◌, ◌<◌, ◌≤◌, List, [], length, Option, Some, None, IfSome, unwrap_or, refl, arith, replicate, codes, inl, inr}
 use Rattle.std.proofs.lemmas.List.{length-replicate}
 use Rattle.sharc_mode.specs.Moded.{Assignment}
-use Rattle.sharc_command.specs.Commands.{commands}
-use Rattle.sharc_command.specs.declared.command.Command.{Command}
+use Rattle.sharc_cli.specs.Commands.{commands}
+use Rattle.sharc_cli.specs.declared.command.Command.{Command}
 use Rattle.sharc_top.specs.declared.status.Status.{Status}
 use Rattle.sharc_top.specs.declared.status.Status.TheVariants as status
 use Rattle.sharc_top.specs.declared.task.Task.{Task}

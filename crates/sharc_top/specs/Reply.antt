@@ -3,9 +3,9 @@ use Rattle.std.specs.Prelude.{◌≡◌, ℕ, ◌<◌, ◌≤◌, List, length, 
 use Rattle.std.specs.Io.KnownBytes.{Appends}
 use Rattle.sharc_tree.specs.declared.token.FaultAt.{FaultAt}
 use Rattle.sharc_mode.specs.Moded.{Assignment}
-use Rattle.sharc_command.specs.Commands.{commands}
-use Rattle.sharc_command.specs.declared.command.Command.{Command}
-use Rattle.sharc_command.specs.declared.command.Command.TheVariants as command
+use Rattle.sharc_cli.specs.Commands.{commands}
+use Rattle.sharc_cli.specs.declared.command.Command.{Command}
+use Rattle.sharc_cli.specs.declared.command.Command.TheVariants as command
 use Rattle.sharc_report.specs.Refusals.{refusal_line}
 use Rattle.sharc_report.specs.declared.refusal.Stage.{Stage}
 use Rattle.sharc_sound.specs.Front.{IsFront, IsFaultAt}

@@ -3,7 +3,7 @@
 ghost use Rattle.std.specs.Prelude.{◌≡◌};
 ghost use Rattle.sharc_top.specs.Reply.{task_of};
 
-use sharc_command::Command;
+use sharc_cli::Command;
 
 /// What is to be done with a source.
 #[derive(Clone, Copy, Debug, PartialEq, Eq)]

@@ -10,7 +10,7 @@ use crate::reply::{Reply, line_reply};
 use crate::status::Status;
 use crate::task::{Task, task_of};
 use crate::verdict::done;
-use sharc_command::read_words;
+use sharc_cli::read_words;
 use sharc_io::{ReadError, Source, read_all};
 use sharc_report::fault_text;
 use sharc_sound::{Refusal, SourceFault, front};

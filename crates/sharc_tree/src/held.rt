@@ -7,7 +7,7 @@ ghost use Rattle.std.specs.Prelude.{◌≡◌, Ok, IfOk};
 use std::alloc::{AllocError, Global};
 
 /// The value, and what was made beside it.
-pub(crate) fn both<A: Drop, B>(value: A, made: Result<B, AllocError>) -> Result<(A, B), AllocError>
+pub fn both<A: Drop, B>(value: A, made: Result<B, AllocError>) -> Result<(A, B), AllocError>
     ensures { IfOk result (λ r. (r.0 ≡ value) × (made ≡ Ok r.1)) }
 {
     match made {
@@ -17,7 +17,7 @@ pub(crate) fn both<A: Drop, B>(value: A, made: Result<B, AllocError>) -> Result<
 }
 
 /// The value in a box.
-pub(crate) fn in_box<A: Drop>(alloc: Global, value: A) -> Result<Box<A>, AllocError>
+pub fn in_box<A: Drop>(alloc: Global, value: A) -> Result<Box<A>, AllocError>
     ensures { IfOk result (λ b. b.value ≡ value) }
 {
     Ok(Box::new(alloc, value)?)

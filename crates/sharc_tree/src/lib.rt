@@ -4,7 +4,7 @@
 pub mod copy;
 pub mod ctype;
 pub mod event;
-mod held;
+pub mod held;
 pub mod listed;
 pub mod name;
 pub mod print;

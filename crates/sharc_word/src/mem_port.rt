@@ -29,7 +29,14 @@ impl<A: Allocator> MemPort<A> {
         MemPort { words }
     }
 
-    /// Gives the words as they now are.
+    /// The words as they now are.
+    pub fn words(&self) -> &[u64]
+        ensures { result.now ≡ self.now }
+    {
+        self.words.as_slice()
+    }
+
+    /// Gives the words, as they now are, back.
     pub fn into_words(self) -> Vec<u64, A>
         ensures { result.items ≡ self }
     {

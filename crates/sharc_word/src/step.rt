@@ -44,8 +44,8 @@ pub struct WordEvent {
 }
 
 impl WordOp {
-    // The word that the operation leaves where it found this one.
-    pub(crate) fn word_after(self, found: u64) -> u64
+    /// The word that the operation leaves where it found this one.
+    pub fn word_after(self, found: u64) -> u64
         ensures { result ≡ word_after self found }
     {
         match self {

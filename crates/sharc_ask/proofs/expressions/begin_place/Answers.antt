@@ -1,6 +1,6 @@
 use Rattle.std.proofs.Common.{Ok}
 use Rattle.sharc_tree.specs.View.{view_expr}
-use Rattle.sharc_steps.specs.View.{view_state}
+use Rattle.sharc_ask_steps.specs.View.{view_state}
 use Rattle.sharc_meaning.specs.Expressions.{place_of}
 use Rattle.sharc_ask.specs.Values.{gives, place}
 use Rattle.sharc_ask.specs.Plans.{inside}

@@ -1,6 +1,6 @@
 use Rattle.sharc_tree.specs.View.{view_expr}
 use Rattle.std.proofs.Common.{◌≡◌, length, arith, refl, ap, sym, ◌∙◌}
-use Rattle.sharc_steps.specs.View.{Known, view_state}
+use Rattle.sharc_ask_steps.specs.View.{Known, view_state}
 use Rattle.sharc_tree.specs.declared.tree.expression.Expr.{Expr}
 use Rattle.sharc_tree.specs.Children.{view_call}
 use Rattle.sharc_tree.specs.Tree.{index, field, spawn, cast}

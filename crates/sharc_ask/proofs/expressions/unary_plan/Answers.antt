@@ -1,6 +1,6 @@
 use Rattle.sharc_tree.specs.View.{view_expr}
 use Rattle.std.proofs.Common.{◌≡◌, length, arith, refl, ap, ◌∙◌}
-use Rattle.sharc_steps.specs.View.{Known}
+use Rattle.sharc_ask_steps.specs.View.{Known}
 use Rattle.sharc_tree.specs.declared.tree.expression.UnaryOperator.TheVariants.{Negate, Dereference}
 use Rattle.sharc_tree.specs.Tree.{unary}
 use Rattle.sharc_meaning.specs.Expressions.{eval}

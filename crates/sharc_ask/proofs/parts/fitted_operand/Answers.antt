@@ -2,7 +2,7 @@ use Rattle.std.proofs.Common.{ap, ◌∙◌, to_z-of_z}
 use Rattle.sharc_tree.specs.View.{view_expr}
 use Rattle.sharc_names.specs.View.{view_kind}
 use Rattle.sharc_meaning.specs.Arithmetic.{fits}
-use Rattle.sharc_steps.specs.View.{view_state}
+use Rattle.sharc_ask_steps.specs.View.{view_state}
 use Rattle.sharc_ask.proofs.Fitting.{fitted_goes, fitted_over}
 use Rattle.sharc_ask.proofs.parts.fitted_operand.Goals as goal
 

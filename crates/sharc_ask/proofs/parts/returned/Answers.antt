@@ -3,7 +3,7 @@ use Rattle.sharc_tree.specs.View.{view_expr}
 use Rattle.sharc_names.specs.View.{view_kind}
 use Rattle.sharc_meaning.specs.Arithmetic.{fits}
 use Rattle.sharc_meaning.specs.Statements.{returned}
-use Rattle.sharc_steps.specs.View.{view_state}
+use Rattle.sharc_ask_steps.specs.View.{view_state}
 use Rattle.sharc_ask.specs.declared.values.Flow.TheVariants as flows
 use Rattle.sharc_ask.proofs.Fitting.{returned_goes, returned_over}
 use Rattle.sharc_ask.proofs.parts.returned.Goals as goal

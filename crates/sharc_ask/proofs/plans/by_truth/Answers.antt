@@ -1,6 +1,6 @@
 use Rattle.std.proofs.Common.{true, false, Bool, Result, Ok, refl, ap, ◌∙◌, subst}
-use Rattle.sharc_steps.specs.declared.state.End.{End}
-use Rattle.sharc_steps.specs.View.{Does}
+use Rattle.sharc_ask_steps.specs.declared.state.End.{End}
+use Rattle.sharc_ask_steps.specs.View.{Does}
 use Rattle.sharc_ask.proofs.Outs.{truth_plans, step_over}
 use Rattle.sharc_ask.proofs.plans.by_truth.Goals as goal
 

@@ -3,7 +3,7 @@ use Rattle.std.specs.Prelude.{ℤ, Some}
 use Rattle.sharc_tree.specs.View.{view_expr}
 use Rattle.sharc_mode.specs.Cells.{cell_at, pointed}
 use Rattle.sharc_meaning.specs.State.{Run, give}
-use Rattle.sharc_steps.specs.View.{view_state, view_place, Does}
+use Rattle.sharc_ask_steps.specs.View.{view_state, view_place, Does}
 use Rattle.sharc_ask.specs.Plans.{ends_above}
 use Rattle.sharc_tree.specs.declared.event.TakeKind.TheVariants.{Cast}
 use Rattle.sharc_tree.specs.Spans.{span_of}

@@ -11,7 +11,7 @@ use Rattle.sharc_meaning.specs.Places.{field_in}
 use Rattle.sharc_meaning.specs.State.{Run, then_on, give}
 use Rattle.sharc_meaning.specs.Statements.{right_value}
 use Rattle.sharc_meaning.specs.Waiting.{lock_call, unlock_call}
-use Rattle.sharc_steps.specs.View.{view_state, view_place, DoesAs}
+use Rattle.sharc_ask_steps.specs.View.{view_state, view_place, DoesAs}
 use Rattle.sharc_ask.specs.View.{place_fetched}
 use Rattle.sharc_ask.specs.Values.{Value, number, number_in, gives, as_nothing}
 use Rattle.sharc_ask.specs.Plans.{Plans, place_means, ends_above, zero_behind, assigned_to}

@@ -9,8 +9,8 @@ use Rattle.sharc_meaning.specs.Arithmetic.{bits_of, negated}
 use Rattle.sharc_meaning.specs.Expressions.{tested, passed, value_called, resulting, fitting, eval}
 use Rattle.sharc_meaning.specs.Places.{based, pointee_place}
 use Rattle.sharc_meaning.specs.State.{Run, ◌>>=◌, give, holds, drops}
-use Rattle.sharc_steps.specs.View.{view_state, Does}
-use Rattle.sharc_steps.specs.Width.{value_bits}
+use Rattle.sharc_ask_steps.specs.View.{view_state, Does}
+use Rattle.sharc_ask_steps.specs.Width.{value_bits}
 use Rattle.sharc_ask.specs.View.{made}
 use Rattle.sharc_ask.specs.Values.{number, place, number_in, gives}
 use Rattle.sharc_ask.specs.Plans.{Plans, value_means, ends_above, test_then, step_then, spawned_with, inverted_with, truth_with, returned_with, and_with, or_with, left_with, joined_with, element_behind, behind_pointer}

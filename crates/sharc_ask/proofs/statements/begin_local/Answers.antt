@@ -1,6 +1,6 @@
 use Rattle.sharc_tree.specs.View.{view_option, view_right, view_local}
 use Rattle.std.proofs.Common.{arith}
-use Rattle.sharc_steps.specs.View.{view_state}
+use Rattle.sharc_ask_steps.specs.View.{view_state}
 use Rattle.std.specs.Prelude.{pos}
 use Rattle.std.proofs.lemmas.Result.{IfOk-weaker}
 use Rattle.sharc_meaning.specs.State.{begins_with}

@@ -1,4 +1,4 @@
-use Rattle.sharc_steps.specs.View.{view_state}
+use Rattle.sharc_ask_steps.specs.View.{view_state}
 use Rattle.sharc_tree.specs.Tree.{malloc}
 use Rattle.sharc_tree.specs.View.{view_expr, view_option}
 use Rattle.sharc_mode.specs.View.{view_sharing}

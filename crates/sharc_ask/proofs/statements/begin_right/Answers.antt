@@ -1,5 +1,5 @@
 use Rattle.std.proofs.Common.{ap, ◌∙◌}
-use Rattle.sharc_steps.specs.View.{view_state}
+use Rattle.sharc_ask_steps.specs.View.{view_state}
 use Rattle.sharc_tree.specs.View.{view_expr, view_right}
 use Rattle.sharc_names.specs.View.{view_kind}
 use Rattle.sharc_mode.specs.View.{view_sharing}

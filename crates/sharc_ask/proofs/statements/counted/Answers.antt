@@ -1,5 +1,5 @@
 use Rattle.std.proofs.Common.{ap, ◌∙◌}
-use Rattle.sharc_steps.specs.View.{view_state}
+use Rattle.sharc_ask_steps.specs.View.{view_state}
 use Rattle.std.specs.Prelude.{pos}
 use Rattle.sharc_tree.specs.Tree.{malloc}
 use Rattle.sharc_tree.specs.View.{view_expr, view_option}

@@ -1,6 +1,6 @@
 use Rattle.sharc_tree.specs.View.{view_expr, view_right, view_simple}
 use Rattle.std.proofs.Common.{◌≡◌, length, arith, ap, sym, ◌∙◌}
-use Rattle.sharc_steps.specs.View.{Known}
+use Rattle.sharc_ask_steps.specs.View.{Known}
 use Rattle.sharc_ctype.specs.Resolved.{kind_at}
 use Rattle.sharc_mode.specs.Cells.{pointed}
 use Rattle.sharc_mode.specs.Rows.{row_at}

@@ -3,8 +3,8 @@ use Rattle.std.proofs.lemmas.Int.{to_z-of_z}
 use Rattle.sharc_ctype.specs.Resolved.{function_at}
 use Rattle.sharc_meaning.specs.Meaning.{run_thread, start}
 use Rattle.sharc_meaning.specs.State.{pointers_among}
-use Rattle.sharc_steps.specs.declared.state.End.TheVariants as ends
-use Rattle.sharc_steps.specs.View.{Known, known, view_state, Over, Does}
+use Rattle.sharc_ask_steps.specs.declared.state.End.TheVariants as ends
+use Rattle.sharc_ask_steps.specs.View.{Known, known, view_state, Over, Does}
 use Rattle.sharc_ask.specs.declared.asked.Outcome.TheVariants.{Wants}
 use Rattle.sharc_ask.proofs.Telling.{held_of, tells_wants}
 use Rattle.sharc_ask.proofs.thread.ask.Goals as goal

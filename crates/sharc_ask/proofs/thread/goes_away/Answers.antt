@@ -2,7 +2,7 @@ use Rattle.std.proofs.Common.{◌≡◌, length, Err, rules}
 use Rattle.std.specs.Prelude.{◌==◌}
 use Rattle.sharc_meaning.specs.Arithmetic.{returns_with_a_lock}
 use Rattle.sharc_meaning.specs.State.{unless_stop}
-use Rattle.sharc_steps.specs.View.{view_state}
+use Rattle.sharc_ask_steps.specs.View.{view_state}
 use Rattle.sharc_ask.specs.View.{leaves}
 use Rattle.sharc_ask.proofs.Steps.{does_then, over_then}
 use Rattle.sharc_ask.proofs.Telling.{goes_when_free}

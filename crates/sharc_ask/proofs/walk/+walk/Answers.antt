@@ -13,7 +13,7 @@ use Rattle.sharc_meaning.specs.Meaning.{calls}
 use Rattle.sharc_meaning.specs.Statements.{Flow, returned, loop, done_first, return_with, done_simple, done_step, declared, exec, exec_all}
 use Rattle.sharc_meaning.specs.State.{Run, go, then_on, ◌>>=◌, ◌>>◌, done, enters, in_block, ends_variables, ends_temporaries}
 use Rattle.sharc_meaning.specs.Waiting.{condition_call}
-use Rattle.sharc_steps.specs.View.{Known, view_state, Ends, Does, DoesAs}
+use Rattle.sharc_ask_steps.specs.View.{Known, view_state, Ends, Does, DoesAs}
 use Rattle.sharc_ask.specs.declared.values.Flow.TheVariants as flows
 use Rattle.sharc_ask.specs.View.{view_flow, view_step, view_otherwise, calling, loop_test, loop_step, loop_body, other_done, choice}
 use Rattle.sharc_ask.specs.Values.{view_value}
@@ -34,7 +34,7 @@ use Rattle.sharc_meaning.specs.State.{Step, give, entered}
 use Rattle.sharc_meaning.specs.Statements.{on_next, done_test}
 use Rattle.sharc_ask.specs.declared.plan.Loop.{Loop}
 use Rattle.sharc_ask.specs.View.{view_test, view_left, turn, for_loop, body_block}
-use Rattle.sharc_steps.specs.declared.state.End.TheVariants as ends
+use Rattle.sharc_ask_steps.specs.declared.state.End.TheVariants as ends
 use Rattle.sharc_ask.proofs.Framing.{frame_goes, frame_ends}
 use Rattle.sharc_ask.proofs.Steps.{argument_goes, does_then, over_then, plainly_over, block_goes, block_over}
 use Rattle.sharc_ask.proofs.Loops.{entered_as, turns_stop, turns_left, turns_over, turn_leads, statement_leads, statement_leaves, list_ends, loop_goes, block_as, chosen, first_and_rest}

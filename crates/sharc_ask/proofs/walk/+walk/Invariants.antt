@@ -2,7 +2,7 @@ use Rattle.std.proofs.Common.{◌*◌, ◌+◌, ◌-◌, ◌≤◌, drop}
 use Rattle.sharc_names.specs.View.{view_kind}
 use Rattle.sharc_meaning.specs.Meaning.{calls}
 use Rattle.sharc_meaning.specs.Statements.{turns}
-use Rattle.sharc_steps.specs.View.{view_state}
+use Rattle.sharc_ask_steps.specs.View.{view_state}
 use Rattle.sharc_ask.specs.View.{loop_test, loop_step, loop_body}
 use Rattle.sharc_ask.specs.Plans.{rank, size}
 use Rattle.sharc_ask.proofs.Loops.{LeadsOn, of_all}

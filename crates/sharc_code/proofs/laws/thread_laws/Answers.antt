@@ -1,4 +1,7 @@
 use Rattle.sharc_code.specs.Machine.{instr_at}
+use Rattle.sharc_code.proofs.Failing.{failed_stays}
+use Rattle.sharc_code.proofs.Keeps.{keeps_turn}
+use Rattle.sharc_code.proofs.Settled.{same_turn}
 use Rattle.sharc_code.proofs.Trying.{trying, waits_where}
 use Rattle.sharc_code.proofs.laws.thread_laws.Goals as goal
 
@@ -7,4 +10,7 @@ returns c = record {
   number = λ code s m found. (trying code s m (instr_at code m.at.pc) found).number;
   tries = λ code s m found is. (trying code s m (instr_at code m.at.pc) found).same is;
   waits = λ code s words m on. waits_where code s words m on;
+  words = λ code s words m event asks answered is. failed_stays code s words m event asks answered is;
+  forgets = λ code s m. same_turn code s m;
+  keeps = λ code s m found. keeps_turn code s m found;
 }

@@ -41,7 +41,7 @@ returns-in-Ended-clause-quantum g c =
 
 pub go-went-requires-clause-within : goal.go-went-requires-clause-within
 go-went-requires-clause-within g c =
-    subst (λ (v : ThreadView). IsWithin c.args.shape.now v.machine.own) (sym c.thread.view_is) (thread_within c.args.code.now c.args.shape.now c.args.thread.now c.requires.thread)
+    subst (λ (v : ThreadView). IsWithin c.args.shape.now v.machine.own) (sym c.thread.view_is) (thread_within c.thread_laws.ensures c.args.code.now c.args.shape.now c.args.thread.now c.requires.thread)
 
 pub returns-clause-thread : goal.returns-clause-thread
 returns-clause-thread g c =

@@ -1,6 +1,6 @@
 use Rattle.std.proofs.Common.{◌≡◌, ◌++◌, drop}
 use Rattle.sharc_tree.specs.View.{view_arguments}
-use Rattle.sharc_paths.specs.Code.{listing}
+use Rattle.sharc_dataflow.specs.Code.{listing}
 use Rattle.sharc_live.specs.Flows.{flow_all}
 use Rattle.sharc_live.proofs.expression.+expression.Given as goal
 

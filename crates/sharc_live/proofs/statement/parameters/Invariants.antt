@@ -1,5 +1,5 @@
 use Rattle.std.proofs.Common.{◌≡◌, ◌++◌, drop}
-use Rattle.sharc_paths.specs.Code.{listing}
+use Rattle.sharc_dataflow.specs.Code.{listing}
 use Rattle.sharc_live.specs.Flows.{parameters_flow}
 use Rattle.sharc_live.proofs.statement.parameters.Given as goal
 

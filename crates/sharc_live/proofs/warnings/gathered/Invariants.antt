@@ -1,7 +1,7 @@
 use Rattle.std.proofs.Common.{[], List, drop}
 use Rattle.sharc_tree.specs.View.{view_items}
 use Rattle.sharc_ctype.specs.Resolved.{functions_in}
-use Rattle.sharc_paths.specs.declared.way.Warning.{Warning}
+use Rattle.sharc_dataflow.specs.declared.way.Warning.{Warning}
 use Rattle.sharc_live.specs.Gathers.{AddsAll}
 use Rattle.sharc_live.proofs.warnings.gathered.Given as goal
 

@@ -1,9 +1,18 @@
 use Rattle.std.proofs.Common.{◌∙◌}
 use Rattle.std.proofs.lemmas.Result.{IfOk-weaker}
 use Rattle.sharc_code.specs.Whole.{place_after}
-use Rattle.sharc_seq.specs.Run.{Standing, IsSeqRun}
-use Rattle.sharc_seq.specs.Seats.{IsOver, Ends}
+use Rattle.sharc_threads.specs.Ends.{Standing}
+use Rattle.sharc_seq.specs.Run.{IsSeqRun}
+use Rattle.sharc_seq.specs.Table.{IsOver, Ends}
 use Rattle.sharc_seq.proofs.run.run_seq.Goals as goal
+
+pub finish-requires : goal.finish-requires
+finish-requires g c = λ t.
+    let code = c.args.code.now in
+    let s = c.args.shape.now in
+    let over : IsOver (goal.F-post g c.args.chooser.now.f) code s c.args.limit c.turn.new.self = c.in_ok-turn.ensures.over c.if-not-branch.true in
+    let place : Standing = place_after code s over.table_is.turns in
+    c.table_laws.ensures.numbers code s place.threads place.made place.started c.turn.new.self.threads.seats.items over.table_is.seats t
 
 pub returns-then-not-branch : goal.returns-then-not-branch
 returns-then-not-branch g c =
@@ -14,7 +23,7 @@ returns-then-not-branch g c =
     let place : Standing = place_after code s table.turns in
     IfOk-weaker c.finish.result _ (IsSeqRun (goal.F-post g c.args.chooser.now.f) code s c.args.limit)
     (λ run h.
-    let ends : Ends code s place c.turn.new.self.schedule.items run = h code s place record { words_are = table.words; are = table.seats } in
+    let ends : Ends code s place c.turn.new.self.schedule.items run = h code s place c.requires.fits.threads record { words_are = table.words; are = table.seats } in
     record {
       turns = table.turns;
       checked = (c.run_laws.ensures.checked code s table.turns).1 table.run;

@@ -1,26 +1,30 @@
-use Rattle.std.proofs.Common.{◌≡◌, ℕ, ◌<◌, ◌++◌, ◌∷◌, [], List, length, get_or, sym, ap, ◌∙◌, subst, arith}
-use Rattle.sharc_seq.specs.declared.seat.Seat.{Seat}
-use Rattle.sharc_seq.specs.Run.{is_enabled}
-use Rattle.sharc_seq.specs.Seats.{IsSeat, may_turn}
-use Rattle.sharc_seq.proofs.Sitting.{enabled_is, up_to_yes, up_to_no}
+use Rattle.std.proofs.Common.{◌≡◌, ℕ, ◌<◌, ◌++◌, ◌∷◌, [], List, Option, None, length, filter, get_or, sym, ap, ◌∙◌, subst, arith}
+use Rattle.sharc_cpu.specs.Thread.{ThreadView}
+use Rattle.sharc_threads.specs.Seats.{may_turn_at}
+use Rattle.sharc_seq.proofs.Choosing.{any_default, firsts, firsts_all, filter_yes, filter_no}
 use Rattle.sharc_seq.proofs.table.collect.Goals as goal
-use Rattle.sharc_seq.proofs.table.collect.Goals.{then-may_turn+in_ok-push, else-may_turn}
+use Rattle.sharc_seq.proofs.table.collect.Goals.{then-may_turn_at+in_ok-push, else-may_turn_at}
 
-pub loop-number-preserved : goal.loop-number-preserved
-loop-number-preserved c = record {
-  enabled = λ code s g h.
-      let n = c.loop-number.number in
-      let seat : Seat = c.seat-item.result in
-      let p = is_enabled code s c.args.limit g in
-      let all : c.deref-seat-items.result.now ≡ c.args.seats.now.items = c.deref-seat-items.ensures.value in
-      let low : n < length c.args.seats.now.items = omega (arith, ap (λ (xs : List Seat). length xs) all) in
-      let is = subst (IsSeat code s g.threads g.made g.started n) (sym (c.seat-item.is ∙ ap (λ (xs : List Seat). get_or xs n seat) all)) (h.are.each n seat low) in
-      let same : may_turn c.loop-number.port c.args.limit seat ≡ p n =
-      ap (λ (ws : List ℕ). may_turn ws c.args.limit seat) c.loop-number.invariant.same ∙ enabled_is code s c.args.limit g c.args.port.now n seat h.words_are is in
-      let told : c.may_turn.result ≡ p n = c.may_turn.ensures.is ∙ same in
-      elim c.if-may_turn.branch [
-        | then-may_turn+in_ok-push w ↦ ap (λ v. v.items) w.among-is ∙ w.in_ok-push.ensures.items ∙ ap (λ (xs : List ℕ). xs ++ n ∷ []) (c.loop-number.invariant.enabled code s g h) ∙ sym (up_to_yes p n (sym told ∙ w.if-may_turn.true))
-        | else-may_turn w ↦ ap (λ v. v.items) w.among-is ∙ c.loop-number.invariant.enabled code s g h ∙ sym (up_to_no p n (sym told ∙ w.if-may_turn.false))
-      ];
-  same = c.may_turn.ensures.same ∙ c.loop-number.invariant.same;
-}
+pub loop-index-preserved : goal.loop-index-preserved
+loop-index-preserved c =
+    let seats : List (Option ThreadView) = c.args.table.now.seats.items in
+    let p = λ (t : ℕ). may_turn_at c.args.words.now c.args.limit (get_or seats t None) in
+    let xs : List ℕ = c.args.started.now.items in
+    let n = c.loop-index.index in
+    let number : ℕ = c.index-number.result.now in
+    let x : Option ThreadView = c.index.result.now in
+    let low : n < length xs = omega (arith, c.loop-index-test.true, c.len-index-end.ensures) in
+    let e : number ≡ get_or xs n 0 = c.index-number.ensures ∙ any_default xs n number 0 low in
+    let within : number < length seats = subst (λ k. k < length seats) (sym e) (c.requires.within n low) in
+    let told : c.may_turn_at.result ≡ p number = c.may_turn_at.ensures ∙ ap (may_turn_at c.args.words.now c.args.limit) (c.index.ensures ∙ any_default seats number x None within) in
+    elim c.if-may_turn_at.branch [
+      | then-may_turn_at+in_ok-push w ↦
+          ap (λ v. v.items) w.among-is ∙ w.in_ok-push.ensures.items ∙ ap (λ (ys : List ℕ). ys ++ number ∷ []) c.loop-index.invariant ∙ ap (λ k. filter p (firsts n xs) ++ k ∷ []) e
+          ∙ sym (filter_yes p xs n 0 low (ap p (sym e) ∙ sym told ∙ w.if-may_turn_at.true))
+      | else-may_turn_at w ↦ ap (λ v. v.items) w.among-is ∙ c.loop-index.invariant ∙ sym (filter_no p xs n 0 low (ap p (sym e) ∙ sym told ∙ w.if-may_turn_at.false))
+    ]
+
+pub returns : goal.returns
+returns c =
+    let p = λ (t : ℕ). may_turn_at c.args.words.now c.args.limit (get_or c.args.table.now.seats.items t None) in
+    c.loop-index.invariant ∙ ap (filter p) (firsts_all c.args.started.now.items c.loop-index.index (omega (arith, c.loop-index-test.false, c.len-index-end.ensures)))

@@ -1,13 +1,7 @@
-use Rattle.std.proofs.Common.{◌≡◌, filter}
-use Rattle.std.specs.List.{range_with_len}
-use Rattle.sharc_code.specs.declared.code.Code.{Code}
-use Rattle.sharc_code.specs.declared.shape.Shape.{Shape}
-use Rattle.sharc_seq.specs.Run.{Standing, is_enabled}
-use Rattle.sharc_seq.specs.Seats.{AreOf}
+use Rattle.std.proofs.Common.{◌≡◌, None, filter, get_or}
+use Rattle.sharc_threads.specs.Seats.{may_turn_at}
+use Rattle.sharc_seq.proofs.Choosing.{firsts}
 use Rattle.sharc_seq.proofs.table.collect.Given as goal
 
-abbrev pub invariant-loop-number : goal.invariant-loop-number
-invariant-loop-number l = record {
-  enabled : (code : Code) (s : Shape) (g : Standing) → AreOf code s g l.fn.port l.seats.items → l.among.items ≡ filter (is_enabled code s l.limit g) (range_with_len 0 l.number);
-  same : l.port ≡ l.fn.port;
-}
+abbrev pub invariant-loop-index : goal.invariant-loop-index
+invariant-loop-index l = l.among.items ≡ filter (λ t. may_turn_at l.words l.limit (get_or l.table.seats.items t None)) (firsts l.index l.started.items)

@@ -1,0 +1,87 @@
+// Mutexes: what is asked for, and where it stops.
+
+ghost use Rattle.std.specs.Prelude.{◌≡◌, ◌≤◌};
+ghost use Rattle.sharc_meaning.specs.Waiting.{cell_at_place, moves_base, gives_up_base, lock_call, unlock_call};
+ghost use Rattle.sharc_ask_steps.specs.View.{view_state, view_place, Does};
+ghost use Rattle.sharc_ask_steps.specs.Waking.{stops_where_held};
+
+use crate::places::Place;
+use crate::state::{End, State, give_up, is_among, move_on, perform, unless};
+use crate::waiting::unless_held;
+use sharc_meaning::given::GivenUp;
+use sharc_tree::event::{Act, CellAt, Object};
+use sharc_tree::token::Site;
+
+fn cell_at_place(place: Place) -> CellAt
+    ensures { result ≡ cell_at_place (view_place place) }
+{
+    match place {
+        Place::Variable(_) => CellAt {
+            object: Object::Global(0),
+            cell: 0,
+        },
+        Place::Cell(object, _, cell) => CellAt { object, cell },
+    }
+}
+
+// The run stops where the thread holds the mutex.
+fn unless_held_already(cell: CellAt, site: Site, st: &State) -> Result<(), End>
+    ensures { Does (view_state st.now) result (view_state st.now) (stops_where_held cell site) }
+{
+    unless(!is_among(st.held.as_slice(), cell), 6, site, st)
+}
+
+fn moves_base(place: Place, st: &mut State) -> Result<(), End>
+    ensures does { Does (view_state st.old) result (view_state st.new) (moves_base (view_place place)) }
+    ensures fuel { st.new.fuel ≤ st.old.fuel }
+{
+    match place {
+        Place::Cell(Object::Made(_), _, _) => move_on(st),
+        Place::Cell(Object::Global(_), _, _) => Ok(()),
+        Place::Variable(_) => Ok(()),
+    }
+}
+
+fn gives_up_base(place: Place, st: &mut State) -> Result<(), End>
+    ensures does { Does (view_state st.old) result (view_state st.new) (gives_up_base (view_place place)) }
+    ensures fuel { st.new.fuel ≤ st.old.fuel }
+{
+    match place {
+        Place::Cell(Object::Made(number), _, _) => give_up(GivenUp::Released(number), st),
+        Place::Cell(Object::Global(_), _, _) => Ok(()),
+        Place::Variable(_) => Ok(()),
+    }
+}
+
+/// A mutex that the thread holds already stops, and so does a seventeenth.
+pub fn lock_call(site: Site, place: Place, st: &mut State) -> Result<(), End>
+    ensures does { Does (view_state st.old) result (view_state st.new) (lock_call site (view_place place)) }
+    ensures fuel { st.new.fuel ≤ st.old.fuel }
+{
+    let cell = cell_at_place(place);
+    match unless_held_already(cell, site, st) {
+        Ok(()) => match unless(st.held.len() < 16, 13, site, st) {
+            Ok(()) => match perform(site, Act::Lock(cell), st) {
+                Ok(()) => moves_base(place, st),
+                Err(end) => Err(end),
+            },
+            Err(end) => Err(end),
+        },
+        Err(end) => Err(end),
+    }
+}
+
+/// A mutex that it does not hold stops.
+pub fn unlock_call(site: Site, place: Place, st: &mut State) -> Result<(), End>
+    ensures does { Does (view_state st.old) result (view_state st.new) (unlock_call site (view_place place)) }
+    ensures fuel { st.new.fuel ≤ st.old.fuel }
+{
+    let cell = cell_at_place(place);
+    match unless_held(cell, site, st) {
+        Ok(()) => match perform(site, Act::Unlock(cell), st) {
+            Ok(()) => gives_up_base(place, st),
+            Err(end) => Err(end),
+        },
+        Err(end) => Err(end),
+    }
+}

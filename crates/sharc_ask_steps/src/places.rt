@@ -1,0 +1,374 @@
+// What lvalues name, and what is done at the places that they name.
+
+ghost use Rattle.std.specs.Prelude.{◌≡◌, ◌≤◌, pos, [], ◌∷◌, if◌then◌else◌};
+ghost use Rattle.sharc_tree.specs.declared.event.Act.TheVariants as acts;
+ghost use Rattle.sharc_tree.specs.declared.event.Taken.TheVariants as taken;
+ghost use Rattle.sharc_names.specs.View.{view_kind};
+ghost use Rattle.sharc_names.specs.Kinds.{is_pointer};
+ghost use Rattle.sharc_ctype.specs.Resolved.{global_at};
+ghost use Rattle.sharc_mode.specs.Sharings.{locked};
+ghost use Rattle.sharc_mode.specs.View.{view_lock, view_sharing};
+ghost use Rattle.sharc_meaning.specs.Cells.{guard_of, instance_mode, global_elements};
+ghost use Rattle.sharc_meaning.specs.Places.{based, element, element_of_array, field_in, place_named, pointee, guarding, access_mode, fetched, stored, taken_from, cast_to, freed};
+ghost use Rattle.sharc_meaning.specs.Reference.{is_null};
+ghost use Rattle.sharc_meaning.specs.declared.given.GivenUp.TheVariants.{Replaced};
+ghost use Rattle.sharc_meaning.specs.State.{give, answered, gives_up, done};
+ghost use Rattle.sharc_ask_steps.specs.View.{view_state, view_guard, view_place, Does, DoesAs, stored_in_cell};
+
+use crate::arithmetic::is_zero;
+use crate::cells::{Guard, global_elements, guard_of, instance_mode, number_of};
+use crate::state::{
+    End, State, ask_event, dropped, give_up, hold, hold_reference, move_on, moves, perform, set,
+    unless, value_in,
+};
+use sharc_meaning::given::GivenUp;
+use sharc_mode::moded::Moded;
+use sharc_mode::sharing::{Lock, Sharing};
+use sharc_names::fault::Named;
+use sharc_names::kind::{Kind, is_pointer};
+use sharc_tree::event::{Act, CellAt, CellMode, Object, TakeKind, Taken};
+use sharc_tree::token::Site;
+
+/// What an lvalue names: a variable, or a cell of an object in the element that begins at the cell told first.
+#[derive(Clone, Copy, Drop)]
+pub enum Place {
+    Variable(u32),
+    Cell(Object, u64, u64),
+}
+
+/// What a name names.
+pub fn place_named(named: Named) -> Place
+    ensures { view_place result ≡ place_named named }
+{
+    match named {
+        Named::Variable(token) => Place::Variable(token),
+        Named::Global(number) => Place::Cell(Object::Global(number), 0, 0),
+        _ => Place::Variable(0),
+    }
+}
+
+/// The first element of what a pointer refers to.
+pub fn pointee(pointer: i64) -> Place
+    ensures { view_place result ≡ pointee pointer }
+{
+    Place::Cell(Object::Made(number_of(pointer)), 0, 0)
+}
+
+/// The place of the field so many cells behind the element's first. A cell that has no number of 64 bits is want of memory.
+pub fn field_in(n: u64, place: Place, st: &State) -> Result<Place, End>
+    ensures { DoesAs view_place (view_state st.now) result (view_state st.now) (give (field_in n (view_place place))) }
+{
+    match place {
+        Place::Variable(token) => Ok(Place::Variable(token)),
+        Place::Cell(object, first, _) => match first.checked_add(n) {
+            Some(cell) => Ok(Place::Cell(object, first, cell)),
+            None => Err(End::Memory),
+        },
+    }
+}
+
+/// A base that is a pointer is held by a temporary, and NULL stops.
+pub fn base(site: Site, kind: Kind<'_>, pointer: i64, st: &mut State) -> Result<(), End>
+    ensures does { Does (view_state st.old) result (view_state st.new) (based site (view_kind kind.entry) pointer) }
+    ensures fuel { st.new.fuel ≤ st.old.fuel }
+{
+    match hold(kind, pointer, st) {
+        Ok(()) => unless(!is_zero(pointer), 1, site, st),
+        Err(end) => Err(end),
+    }
+}
+
+/// An element with so many cells, of so many; an index outside stops.
+pub fn element(
+    site: Site,
+    object: Object,
+    cells: u64,
+    elements: u64,
+    index: i64,
+    st: &State,
+) -> Result<Place, End>
+    ensures { DoesAs view_place (view_state st.now) result (view_state st.now) (element site object cells elements index) }
+{
+    if index < 0 {
+        return Err(End::Stopped(2, site));
+    }
+    let n = index.unsigned_abs();
+    if n >= elements {
+        return Err(End::Stopped(2, site));
+    }
+    match n.checked_mul(cells) {
+        Some(first) => Ok(Place::Cell(object, first, first)),
+        None => Err(End::Memory),
+    }
+}
+
+/// The element of a global array.
+pub fn element_of_array(
+    m: &Moded,
+    site: Site,
+    cells: u64,
+    array: Place,
+    index: i64,
+    st: &State,
+) -> Result<Place, End>
+    ensures { DoesAs view_place (view_state st.now) result (view_state st.now) (element_of_array m.now.typed site cells (view_place array) index) }
+{
+    match array {
+        Place::Cell(Object::Global(number), _, _) => element(
+            site,
+            Object::Global(number),
+            cells,
+            global_elements(m.typed(), number),
+            index,
+            st,
+        ),
+        Place::Cell(Object::Made(_), _, _) => Ok(Place::Variable(0)),
+        Place::Variable(_) => Ok(Place::Variable(0)),
+    }
+}
+
+/// The mutex that guards; where it is found by a Read of the pointer cell, NULL stops.
+pub fn guarding(site: Site, guard: Guard, st: &mut State) -> Result<CellAt, End>
+    ensures does { Does (view_state st.old) result (view_state st.new) (guarding site (view_guard guard)) }
+    ensures fuel { st.new.fuel ≤ st.old.fuel }
+{
+    match guard {
+        Guard::Mutex(cell) => Ok(cell),
+        Guard::Behind(cell) => match ask_event(site, Act::Read(cell, CellMode::Readonly), st) {
+            Ok(pointer) => match unless(!is_zero(pointer), 1, site, st) {
+                Ok(()) => Ok(CellAt {
+                    object: Object::Made(number_of(pointer)),
+                    cell: 0,
+                }),
+                Err(end) => Err(end),
+            },
+            Err(end) => Err(end),
+        },
+        Guard::Nothing => Err(End::Stopped(1, site)),
+    }
+}
+
+fn locked_mode(
+    m: &Moded,
+    site: Site,
+    lock: Lock<'_>,
+    object: Object,
+    first: u64,
+    st: &mut State,
+) -> Result<CellMode, End>
+    ensures does { Does (view_state st.old) result (view_state st.new) (access_mode m.now.typed site (locked (view_lock lock.entry)) object first) }
+    ensures fuel { st.new.fuel ≤ st.old.fuel }
+{
+    match guard_of(
+        m.typed(),
+        st.frame.variables.as_slice(),
+        object,
+        first,
+        lock,
+    ) {
+        None => Err(End::Memory),
+        Some(guard) => match guarding(site, guard, st) {
+            Ok(cell) => Ok(CellMode::Locked(Some(cell))),
+            Err(end) => Err(end),
+        },
+    }
+}
+
+/// The mode in the event of an access to a cell in this element.
+pub fn access_mode(
+    m: &Moded,
+    site: Site,
+    mode: Sharing<'_>,
+    object: Object,
+    first: u64,
+    st: &mut State,
+) -> Result<CellMode, End>
+    ensures does { Does (view_state st.old) result (view_state st.new) (access_mode m.now.typed site (view_sharing mode.entry) object first) }
+    ensures fuel { st.new.fuel ≤ st.old.fuel }
+{
+    match mode {
+        Sharing::Private => Ok(CellMode::Private),
+        Sharing::Readonly => Ok(CellMode::Readonly),
+        Sharing::Locked(lock) => locked_mode(m, site, lock, object, first, st),
+        Sharing::Racy => Ok(CellMode::Racy),
+        Sharing::Dynamic => Ok(CellMode::Dynamic),
+    }
+}
+
+/// The value at a place.
+pub fn fetched(
+    m: &Moded,
+    site: Site,
+    mode: Sharing<'_>,
+    place: Place,
+    st: &mut State,
+) -> Result<i64, End>
+    ensures does { Does (view_state st.old) result (view_state st.new) (fetched m.now.typed site (view_sharing mode.entry) (view_place place)) }
+    ensures fuel { st.new.fuel ≤ st.old.fuel }
+{
+    match place {
+        Place::Variable(token) => Ok(value_in(st.frame.variables.as_slice(), token)),
+        Place::Cell(object, first, cell) => match access_mode(m, site, mode, object, first, st) {
+            Ok(under) => ask_event(site, Act::Read(CellAt { object, cell }, under), st),
+            Err(end) => Err(end),
+        },
+    }
+}
+
+/// A cell of this type was written: if it is a pointer, what it held before is given up.
+fn replaced_in(kind: Kind<'_>, cell: CellAt, st: &mut State) -> Result<(), End>
+    ensures does { Does (view_state st.old) result (view_state st.new) (if is_pointer (view_kind kind.entry) then gives_up (Replaced cell ∷ []) else done) }
+    ensures fuel { st.new.fuel ≤ st.old.fuel }
+{
+    if is_pointer(kind) {
+        give_up(GivenUp::Replaced(cell), st)
+    } else {
+        Ok(())
+    }
+}
+
+fn stored_in_cell(
+    site: Site,
+    kind: Kind<'_>,
+    cell: CellAt,
+    under: CellMode,
+    value: i64,
+    st: &mut State,
+) -> Result<(), End>
+    ensures does { Does (view_state st.old) result (view_state st.new) (stored_in_cell site (view_kind kind.entry) cell under value) }
+    ensures fuel { st.new.fuel ≤ st.old.fuel }
+{
+    match perform(site, Act::Write(cell, under, value), st) {
+        Ok(()) => match moves(kind, st) {
+            Ok(()) => replaced_in(kind, cell, st),
+            Err(end) => Err(end),
+        },
+        Err(end) => Err(end),
+    }
+}
+
+/// A value of this type to a place; the old one is given up, the reference moves in.
+pub fn stored(
+    m: &Moded,
+    site: Site,
+    kind: Kind<'_>,
+    mode: Sharing<'_>,
+    place: Place,
+    value: i64,
+    st: &mut State,
+) -> Result<(), End>
+    ensures does { Does (view_state st.old) result (view_state st.new) (stored m.now.typed site (view_kind kind.entry) (view_sharing mode.entry) (view_place place) value) }
+    ensures fuel { st.new.fuel ≤ st.old.fuel }
+{
+    match place {
+        Place::Variable(token) => {
+            let old = value_in(st.frame.variables.as_slice(), token);
+            match set(token, value, st) {
+                Ok(()) => dropped(kind, old, st),
+                Err(end) => Err(end),
+            }
+        }
+        Place::Cell(object, first, cell) => match hold(kind, value, st) {
+            Ok(()) => match access_mode(m, site, mode, object, first, st) {
+                Ok(under) => stored_in_cell(site, kind, CellAt { object, cell }, under, value, st),
+                Err(end) => Err(end),
+            },
+            Err(end) => Err(end),
+        },
+    }
+}
+
+fn taken_of_local(
+    site: Site,
+    kind: TakeKind,
+    token: u32,
+    value: i64,
+    st: &mut State,
+) -> Result<i64, End>
+    ensures does { Does (view_state st.old) result (view_state st.new) (if is_null value then give value else answered site (acts.Take (taken.Local token) kind)) }
+    ensures fuel { st.new.fuel ≤ st.old.fuel }
+{
+    if is_zero(value) {
+        Ok(value)
+    } else {
+        ask_event(site, Act::Take(Taken::Local(token), kind), st)
+    }
+}
+
+/// What a sharing cast or `free` takes away; the place is NULL from then on.
+pub fn taken_from(
+    m: &Moded,
+    token_site: Site,
+    site: Site,
+    mode: Sharing<'_>,
+    kind: TakeKind,
+    place: Place,
+    st: &mut State,
+) -> Result<i64, End>
+    ensures does { Does (view_state st.old) result (view_state st.new) (taken_from m.now.typed token_site site (view_sharing mode.entry) kind (view_place place)) }
+    ensures fuel { st.new.fuel ≤ st.old.fuel }
+{
+    match place {
+        Place::Variable(token) => {
+            let value = value_in(st.frame.variables.as_slice(), token);
+            match taken_of_local(site, kind, token, value, st) {
+                Ok(_) => match set(token, 0, st) {
+                    Ok(()) => Ok(value),
+                    Err(end) => Err(end),
+                },
+                Err(end) => Err(end),
+            }
+        }
+        Place::Cell(object, first, cell) => match access_mode(m, site, mode, object, first, st) {
+            Ok(under) => ask_event(
+                site,
+                Act::Take(Taken::Cell(CellAt { object, cell }, under), kind),
+                st,
+            ),
+            Err(end) => Err(end),
+        },
+    }
+}
+
+/// The reference that was taken goes on under its new mode.
+pub fn cast_to(
+    m: &Moded,
+    site: Site,
+    mode: Sharing<'_>,
+    value: i64,
+    st: &mut State,
+) -> Result<i64, End>
+    ensures does { Does (view_state st.old) result (view_state st.new) (cast_to m.now.typed site (view_sharing mode.entry) value) }
+    ensures fuel { st.new.fuel ≤ st.old.fuel }
+{
+    match hold_reference(value, st) {
+        Ok(()) => {
+            let under = instance_mode(m.typed(), st.frame.variables.as_slice(), mode);
+            match perform(site, Act::Give(value, under), st) {
+                Ok(()) => match move_on(st) {
+                    Ok(()) => Ok(value),
+                    Err(end) => Err(end),
+                },
+                Err(end) => Err(end),
+            }
+        }
+        Err(end) => Err(end),
+    }
+}
+
+/// The object ends, and what its pointer cells hold is given up on the way.
+pub fn freed(site: Site, value: i64, st: &mut State) -> Result<(), End>
+    ensures does { Does (view_state st.old) result (view_state st.new) (freed site value) }
+    ensures fuel { st.new.fuel ≤ st.old.fuel }
+{
+    match give_up(GivenUp::Emptied(number_of(value)), st) {
+        Ok(()) => match hold_reference(value, st) {
+            Ok(()) => match perform(site, Act::Freed(value), st) {
+                Ok(()) => move_on(st),
+                Err(end) => Err(end),
+            },
+            Err(end) => Err(end),
+        },
+        Err(end) => Err(end),
+    }
+}

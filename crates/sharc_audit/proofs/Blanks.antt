@@ -1,0 +1,363 @@
+-- Lines of events, by their parts.
+use Rattle.std.proofs.Common.{◌≡◌, inl, inr, ℕ, ◌<◌, ◌^◌, true, false, [], ◌∷◌, ◌++◌, ◌||◌, suc, refl, ap, sym, subst, ◌∙◌, arith}
+use Rattle.std.specs.Prelude.{Option, Some, None, MatchOption, ℤ, pos, negsuc, nat_eq, decimal, codes, Bool}
+use Rattle.std.specs.List.{list_any, list_all}
+use Rattle.std.specs.Str.{bytes_eq}
+use Rattle.std.proofs.lemmas.Slice.Eq.{bytes_eq-Decides}
+use Rattle.std.proofs.lemmas.Bool.{or_from, or_parts, and_parts, eqb-true, ltb-true, false≢true}
+use Rattle.sharc_tree.specs.declared.event.CellAt.{CellAt}
+use Rattle.sharc_tree.specs.declared.event.Object.{Object}
+use Rattle.sharc_tree.specs.declared.event.Object.TheVariants.{Global, Made}
+use Rattle.sharc_audit.specs.declared.line.EventLine.{EventLine}
+use Rattle.sharc_audit.specs.declared.line.LineAct.{LineAct}
+use Rattle.sharc_audit.specs.declared.line.LineAct.TheVariants as line
+use Rattle.sharc_audit.specs.Grammar.{Text, IsCut, IsNumber, thread_most, IsObject, IsPair, IsSigned, is_letter, is_digit, Behind, Both, HasCell, HasValue, HasReference, IsThread, IsFunctionName, IsPlain, IsAct, IsEventLine}
+use Rattle.sharc_audit.proofs.Numerals.{decimal_free, parts_of, no_cut}
+use Rattle.sharc_audit.proofs.Parts.{held_small}
+
+free_append : (x : ℕ) (a b : Text) → list_any (nat_eq x) a ≡ false → list_any (nat_eq x) b ≡ false → list_any (nat_eq x) (a ++ b) ≡ false
+free_append x [] b p q = q
+free_append x (y ∷ a) b p q = let s = or_parts (nat_eq x y) (list_any (nat_eq x) a) p in or_from (nat_eq x y) (list_any (nat_eq x) (a ++ b)) s.0 (free_append x a b s.1 q)
+
+-- ---- no blank stands in a cell, a value or a name
+
+pub number_blank : (n : ℕ) → n < 2 ^ 64 → list_any (nat_eq 32) (decimal n) ≡ false
+number_blank n h = decimal_free 32 n (omega arith) h
+
+behind_byte : (x n : ℕ) → nat_eq 32 x ≡ false → n < 2 ^ 64 → list_any (nat_eq 32) (x ∷ decimal n) ≡ false
+behind_byte x n e h = or_from (nat_eq 32 x) (list_any (nat_eq 32) (decimal n)) e (number_blank n h)
+
+object_blank : (o : Object) (text : Text) → IsObject o text → list_any (nat_eq 32) text ≡ false
+object_blank (Global i) text h = ap (list_any (nat_eq 32)) h.1 ∙ behind_byte 103 i refl (let b = h.0 in omega (arith, b))
+object_blank (Made n) text h = ap (list_any (nat_eq 32)) h.2 ∙ behind_byte 111 n refl (let b = h.1 in omega (arith, b))
+
+pub cell_blank : (c : CellAt) (text : Text) → HasCell c text → list_any (nat_eq 32) text ≡ false
+cell_blank c text h = ap (list_any (nat_eq 32)) h.is ∙ free_append 32 h.object_text (46 ∷ decimal c.cell) (object_blank c.object h.object_text h.object) (behind_byte 46 c.cell refl (let s = h.cell in omega (arith, s)))
+
+pair_blank : (v : ℤ) (text : Text) → IsPair text v → list_any (nat_eq 32) text ≡ false
+pair_blank v text h = ap (list_any (nat_eq 32)) h.is ∙ free_append 32 (decimal h.number) (58 ∷ decimal h.elements) (number_blank h.number (let s = h.number_most in omega (arith, s))) (behind_byte 58 h.elements refl (let s = h.elements_most in omega (arith, s)))
+
+signed_blank : (v : ℤ) (text : Text) → IsSigned text v → list_any (nat_eq 32) text ≡ false
+signed_blank (pos n) text h = ap (list_any (nat_eq 32)) h.0 ∙ number_blank n (let s = held_small n h.1 in omega (arith, s))
+signed_blank (negsuc n) text h = ap (list_any (nat_eq 32)) h.0 ∙ behind_byte 45 (suc n) refl (let s = ltb-true n (2 ^ 63) h.1 in omega (arith, s))
+
+pub value_blank : (v : ℤ) (text : Text) → HasValue v text → list_any (nat_eq 32) text ≡ false
+value_blank v text (inl s) = signed_blank v text s
+value_blank v text (inr p) = pair_blank v text p
+
+letters_blank : (text : Text) → list_all (λ b. is_letter b || is_digit b) text ≡ true → list_any (nat_eq 32) text ≡ false
+letters_blank [] h = refl
+letters_blank (x ∷ text) h =
+    let p = and_parts (is_letter x || is_digit x) (list_all (λ b. is_letter b || is_digit b) text) h in
+    or_from (nat_eq 32 x) (list_any (nat_eq 32) text) (by_case (nat_eq 32 x) refl p.0) (letters_blank text p.1)
+  where
+    by_case : (b : Bool) → nat_eq 32 x ≡ b → (is_letter x || is_digit x) ≡ true → nat_eq 32 x ≡ false
+    by_case false e l = e
+    by_case true e l = let same : 32 ≡ x = eqb-true 32 x e in let z : false ≡ true = ap (λ b. is_letter b || is_digit b) same ∙ l in absurd (cc)
+
+pub name_blank : (name text : Text) → IsFunctionName name text → list_any (nat_eq 32) text ≡ false
+name_blank name text h = letters_blank text (let n = h.1 in n.letters)
+
+-- ---- two parts
+
+pub both_parts : (P Q : Text → Type 0) (text a b : Text) → ((t : Text) → P t → list_any (nat_eq 32) t ≡ false) → IsCut 32 text a b → Both P Q text → P a × Q b
+both_parts P Q text a b free cut h = let p = parts_of 32 text a b h.first h.second cut h.is (free h.first h.left) in (subst P (sym p.0) h.left, subst Q (sym p.1) h.right)
+
+pub both_cut : (P Q : Text → Type 0) (text : Text) → list_any (nat_eq 32) text ≡ false → Both P Q text → ⊥
+both_cut P Q text free h = no_cut 32 h.first h.second (sym (ap (list_any (nat_eq 32)) h.is) ∙ free)
+
+pub behind_parts : (w : Text) (P : Text → Type 0) (text a b : Text) → list_any (nat_eq 32) w ≡ false → IsCut 32 text a b → Behind w P text → (a ≡ w) × P b
+behind_parts w P text a b free cut h = let p = parts_of 32 text a b w h.rest cut h.is free in (p.0, subst P (sym p.1) h.holds)
+
+pub behind_cut : (w : Text) (P : Text → Type 0) (text : Text) → list_any (nat_eq 32) text ≡ false → Behind w P text → ⊥
+behind_cut w P text free h = no_cut 32 w h.rest (sym (ap (list_any (nat_eq 32)) h.is) ∙ free)
+
+pub behind_of : (w : Text) (P : Text → Type 0) (text a b : Text) → IsCut 32 text a b → a ≡ w → P b → Behind w P text
+behind_of w P text a b cut e p = record { rest = b; is = cut.is ∙ ap (λ z. z ++ 32 ∷ b) e; holds = p }
+
+-- ---- words
+
+differ : (a b : Text) → bytes_eq a b ≡ false → a ≡ b → ⊥
+differ a b d e = false≢true (sym d ∙ (bytes_eq-Decides a b).1 e)
+
+pub none_read : (kind text : Text) → kind ≡ codes "read" → ((c : CellAt) (v : ℤ) → Both (HasCell c) (HasValue v) text → ⊥) → (a : LineAct) → IsPlain kind a text → ⊥
+none_read kind text e none (line.Read c v) h = none c v h.1
+none_read kind text e none (line.Write c v) h = differ (codes "read") (codes "write") refl (sym e ∙ h.0)
+none_read kind text e none (line.New r) h = differ (codes "read") (codes "new") refl (sym e ∙ h.0)
+none_read kind text e none (line.Take r) h = differ (codes "read") (codes "take") refl (sym e ∙ h.0)
+none_read kind text e none (line.Give r) h = differ (codes "read") (codes "give") refl (sym e ∙ h.0)
+none_read kind text e none (line.Freed r) h = differ (codes "read") (codes "freed") refl (sym e ∙ h.0)
+none_read kind text e none (line.Lock c) h = differ (codes "read") (codes "lock") refl (sym e ∙ h.0)
+none_read kind text e none (line.Unlock c) h = differ (codes "read") (codes "unlock") refl (sym e ∙ h.0)
+none_read kind text e none (line.Spawn name v n) h = h
+none_read kind text e none (line.Started v) h = differ (codes "read") (codes "started") refl (sym e ∙ h.0)
+none_read kind text e none (line.Join n) h = differ (codes "read") (codes "join") refl (sym e ∙ h.0)
+none_read kind text e none (line.Print v) h = differ (codes "read") (codes "print") refl (sym e ∙ h.0)
+none_read kind text e none line.Return h = h
+none_read kind text e none line.Gone h = h
+
+pub none_write : (kind text : Text) → kind ≡ codes "write" → ((c : CellAt) (v : ℤ) → Both (HasCell c) (HasValue v) text → ⊥) → (a : LineAct) → IsPlain kind a text → ⊥
+none_write kind text e none (line.Read c v) h = differ (codes "write") (codes "read") refl (sym e ∙ h.0)
+none_write kind text e none (line.Write c v) h = none c v h.1
+none_write kind text e none (line.New r) h = differ (codes "write") (codes "new") refl (sym e ∙ h.0)
+none_write kind text e none (line.Take r) h = differ (codes "write") (codes "take") refl (sym e ∙ h.0)
+none_write kind text e none (line.Give r) h = differ (codes "write") (codes "give") refl (sym e ∙ h.0)
+none_write kind text e none (line.Freed r) h = differ (codes "write") (codes "freed") refl (sym e ∙ h.0)
+none_write kind text e none (line.Lock c) h = differ (codes "write") (codes "lock") refl (sym e ∙ h.0)
+none_write kind text e none (line.Unlock c) h = differ (codes "write") (codes "unlock") refl (sym e ∙ h.0)
+none_write kind text e none (line.Spawn name v n) h = h
+none_write kind text e none (line.Started v) h = differ (codes "write") (codes "started") refl (sym e ∙ h.0)
+none_write kind text e none (line.Join n) h = differ (codes "write") (codes "join") refl (sym e ∙ h.0)
+none_write kind text e none (line.Print v) h = differ (codes "write") (codes "print") refl (sym e ∙ h.0)
+none_write kind text e none line.Return h = h
+none_write kind text e none line.Gone h = h
+
+pub none_new : (kind text : Text) → kind ≡ codes "new" → ((r : ℤ) → HasReference r text → ⊥) → (a : LineAct) → IsPlain kind a text → ⊥
+none_new kind text e none (line.Read c v) h = differ (codes "new") (codes "read") refl (sym e ∙ h.0)
+none_new kind text e none (line.Write c v) h = differ (codes "new") (codes "write") refl (sym e ∙ h.0)
+none_new kind text e none (line.New r) h = none r h.1
+none_new kind text e none (line.Take r) h = differ (codes "new") (codes "take") refl (sym e ∙ h.0)
+none_new kind text e none (line.Give r) h = differ (codes "new") (codes "give") refl (sym e ∙ h.0)
+none_new kind text e none (line.Freed r) h = differ (codes "new") (codes "freed") refl (sym e ∙ h.0)
+none_new kind text e none (line.Lock c) h = differ (codes "new") (codes "lock") refl (sym e ∙ h.0)
+none_new kind text e none (line.Unlock c) h = differ (codes "new") (codes "unlock") refl (sym e ∙ h.0)
+none_new kind text e none (line.Spawn name v n) h = h
+none_new kind text e none (line.Started v) h = differ (codes "new") (codes "started") refl (sym e ∙ h.0)
+none_new kind text e none (line.Join n) h = differ (codes "new") (codes "join") refl (sym e ∙ h.0)
+none_new kind text e none (line.Print v) h = differ (codes "new") (codes "print") refl (sym e ∙ h.0)
+none_new kind text e none line.Return h = h
+none_new kind text e none line.Gone h = h
+
+pub none_take : (kind text : Text) → kind ≡ codes "take" → ((r : ℤ) → HasReference r text → ⊥) → (a : LineAct) → IsPlain kind a text → ⊥
+none_take kind text e none (line.Read c v) h = differ (codes "take") (codes "read") refl (sym e ∙ h.0)
+none_take kind text e none (line.Write c v) h = differ (codes "take") (codes "write") refl (sym e ∙ h.0)
+none_take kind text e none (line.New r) h = differ (codes "take") (codes "new") refl (sym e ∙ h.0)
+none_take kind text e none (line.Take r) h = none r h.1
+none_take kind text e none (line.Give r) h = differ (codes "take") (codes "give") refl (sym e ∙ h.0)
+none_take kind text e none (line.Freed r) h = differ (codes "take") (codes "freed") refl (sym e ∙ h.0)
+none_take kind text e none (line.Lock c) h = differ (codes "take") (codes "lock") refl (sym e ∙ h.0)
+none_take kind text e none (line.Unlock c) h = differ (codes "take") (codes "unlock") refl (sym e ∙ h.0)
+none_take kind text e none (line.Spawn name v n) h = h
+none_take kind text e none (line.Started v) h = differ (codes "take") (codes "started") refl (sym e ∙ h.0)
+none_take kind text e none (line.Join n) h = differ (codes "take") (codes "join") refl (sym e ∙ h.0)
+none_take kind text e none (line.Print v) h = differ (codes "take") (codes "print") refl (sym e ∙ h.0)
+none_take kind text e none line.Return h = h
+none_take kind text e none line.Gone h = h
+
+pub none_give : (kind text : Text) → kind ≡ codes "give" → ((r : ℤ) → HasReference r text → ⊥) → (a : LineAct) → IsPlain kind a text → ⊥
+none_give kind text e none (line.Read c v) h = differ (codes "give") (codes "read") refl (sym e ∙ h.0)
+none_give kind text e none (line.Write c v) h = differ (codes "give") (codes "write") refl (sym e ∙ h.0)
+none_give kind text e none (line.New r) h = differ (codes "give") (codes "new") refl (sym e ∙ h.0)
+none_give kind text e none (line.Take r) h = differ (codes "give") (codes "take") refl (sym e ∙ h.0)
+none_give kind text e none (line.Give r) h = none r h.1
+none_give kind text e none (line.Freed r) h = differ (codes "give") (codes "freed") refl (sym e ∙ h.0)
+none_give kind text e none (line.Lock c) h = differ (codes "give") (codes "lock") refl (sym e ∙ h.0)
+none_give kind text e none (line.Unlock c) h = differ (codes "give") (codes "unlock") refl (sym e ∙ h.0)
+none_give kind text e none (line.Spawn name v n) h = h
+none_give kind text e none (line.Started v) h = differ (codes "give") (codes "started") refl (sym e ∙ h.0)
+none_give kind text e none (line.Join n) h = differ (codes "give") (codes "join") refl (sym e ∙ h.0)
+none_give kind text e none (line.Print v) h = differ (codes "give") (codes "print") refl (sym e ∙ h.0)
+none_give kind text e none line.Return h = h
+none_give kind text e none line.Gone h = h
+
+pub none_freed : (kind text : Text) → kind ≡ codes "freed" → ((r : ℤ) → HasReference r text → ⊥) → (a : LineAct) → IsPlain kind a text → ⊥
+none_freed kind text e none (line.Read c v) h = differ (codes "freed") (codes "read") refl (sym e ∙ h.0)
+none_freed kind text e none (line.Write c v) h = differ (codes "freed") (codes "write") refl (sym e ∙ h.0)
+none_freed kind text e none (line.New r) h = differ (codes "freed") (codes "new") refl (sym e ∙ h.0)
+none_freed kind text e none (line.Take r) h = differ (codes "freed") (codes "take") refl (sym e ∙ h.0)
+none_freed kind text e none (line.Give r) h = differ (codes "freed") (codes "give") refl (sym e ∙ h.0)
+none_freed kind text e none (line.Freed r) h = none r h.1
+none_freed kind text e none (line.Lock c) h = differ (codes "freed") (codes "lock") refl (sym e ∙ h.0)
+none_freed kind text e none (line.Unlock c) h = differ (codes "freed") (codes "unlock") refl (sym e ∙ h.0)
+none_freed kind text e none (line.Spawn name v n) h = h
+none_freed kind text e none (line.Started v) h = differ (codes "freed") (codes "started") refl (sym e ∙ h.0)
+none_freed kind text e none (line.Join n) h = differ (codes "freed") (codes "join") refl (sym e ∙ h.0)
+none_freed kind text e none (line.Print v) h = differ (codes "freed") (codes "print") refl (sym e ∙ h.0)
+none_freed kind text e none line.Return h = h
+none_freed kind text e none line.Gone h = h
+
+pub none_lock : (kind text : Text) → kind ≡ codes "lock" → ((c : CellAt) → HasCell c text → ⊥) → (a : LineAct) → IsPlain kind a text → ⊥
+none_lock kind text e none (line.Read c v) h = differ (codes "lock") (codes "read") refl (sym e ∙ h.0)
+none_lock kind text e none (line.Write c v) h = differ (codes "lock") (codes "write") refl (sym e ∙ h.0)
+none_lock kind text e none (line.New r) h = differ (codes "lock") (codes "new") refl (sym e ∙ h.0)
+none_lock kind text e none (line.Take r) h = differ (codes "lock") (codes "take") refl (sym e ∙ h.0)
+none_lock kind text e none (line.Give r) h = differ (codes "lock") (codes "give") refl (sym e ∙ h.0)
+none_lock kind text e none (line.Freed r) h = differ (codes "lock") (codes "freed") refl (sym e ∙ h.0)
+none_lock kind text e none (line.Lock c) h = none c h.1
+none_lock kind text e none (line.Unlock c) h = differ (codes "lock") (codes "unlock") refl (sym e ∙ h.0)
+none_lock kind text e none (line.Spawn name v n) h = h
+none_lock kind text e none (line.Started v) h = differ (codes "lock") (codes "started") refl (sym e ∙ h.0)
+none_lock kind text e none (line.Join n) h = differ (codes "lock") (codes "join") refl (sym e ∙ h.0)
+none_lock kind text e none (line.Print v) h = differ (codes "lock") (codes "print") refl (sym e ∙ h.0)
+none_lock kind text e none line.Return h = h
+none_lock kind text e none line.Gone h = h
+
+pub none_unlock : (kind text : Text) → kind ≡ codes "unlock" → ((c : CellAt) → HasCell c text → ⊥) → (a : LineAct) → IsPlain kind a text → ⊥
+none_unlock kind text e none (line.Read c v) h = differ (codes "unlock") (codes "read") refl (sym e ∙ h.0)
+none_unlock kind text e none (line.Write c v) h = differ (codes "unlock") (codes "write") refl (sym e ∙ h.0)
+none_unlock kind text e none (line.New r) h = differ (codes "unlock") (codes "new") refl (sym e ∙ h.0)
+none_unlock kind text e none (line.Take r) h = differ (codes "unlock") (codes "take") refl (sym e ∙ h.0)
+none_unlock kind text e none (line.Give r) h = differ (codes "unlock") (codes "give") refl (sym e ∙ h.0)
+none_unlock kind text e none (line.Freed r) h = differ (codes "unlock") (codes "freed") refl (sym e ∙ h.0)
+none_unlock kind text e none (line.Lock c) h = differ (codes "unlock") (codes "lock") refl (sym e ∙ h.0)
+none_unlock kind text e none (line.Unlock c) h = none c h.1
+none_unlock kind text e none (line.Spawn name v n) h = h
+none_unlock kind text e none (line.Started v) h = differ (codes "unlock") (codes "started") refl (sym e ∙ h.0)
+none_unlock kind text e none (line.Join n) h = differ (codes "unlock") (codes "join") refl (sym e ∙ h.0)
+none_unlock kind text e none (line.Print v) h = differ (codes "unlock") (codes "print") refl (sym e ∙ h.0)
+none_unlock kind text e none line.Return h = h
+none_unlock kind text e none line.Gone h = h
+
+pub none_started : (kind text : Text) → kind ≡ codes "started" → ((v : ℤ) → HasValue v text → ⊥) → (a : LineAct) → IsPlain kind a text → ⊥
+none_started kind text e none (line.Read c v) h = differ (codes "started") (codes "read") refl (sym e ∙ h.0)
+none_started kind text e none (line.Write c v) h = differ (codes "started") (codes "write") refl (sym e ∙ h.0)
+none_started kind text e none (line.New r) h = differ (codes "started") (codes "new") refl (sym e ∙ h.0)
+none_started kind text e none (line.Take r) h = differ (codes "started") (codes "take") refl (sym e ∙ h.0)
+none_started kind text e none (line.Give r) h = differ (codes "started") (codes "give") refl (sym e ∙ h.0)
+none_started kind text e none (line.Freed r) h = differ (codes "started") (codes "freed") refl (sym e ∙ h.0)
+none_started kind text e none (line.Lock c) h = differ (codes "started") (codes "lock") refl (sym e ∙ h.0)
+none_started kind text e none (line.Unlock c) h = differ (codes "started") (codes "unlock") refl (sym e ∙ h.0)
+none_started kind text e none (line.Spawn name v n) h = h
+none_started kind text e none (line.Started v) h = none v h.1
+none_started kind text e none (line.Join n) h = differ (codes "started") (codes "join") refl (sym e ∙ h.0)
+none_started kind text e none (line.Print v) h = differ (codes "started") (codes "print") refl (sym e ∙ h.0)
+none_started kind text e none line.Return h = h
+none_started kind text e none line.Gone h = h
+
+pub none_join : (kind text : Text) → kind ≡ codes "join" → ((n : ℕ) → IsNumber 0 thread_most text n → ⊥) → (a : LineAct) → IsPlain kind a text → ⊥
+none_join kind text e none (line.Read c v) h = differ (codes "join") (codes "read") refl (sym e ∙ h.0)
+none_join kind text e none (line.Write c v) h = differ (codes "join") (codes "write") refl (sym e ∙ h.0)
+none_join kind text e none (line.New r) h = differ (codes "join") (codes "new") refl (sym e ∙ h.0)
+none_join kind text e none (line.Take r) h = differ (codes "join") (codes "take") refl (sym e ∙ h.0)
+none_join kind text e none (line.Give r) h = differ (codes "join") (codes "give") refl (sym e ∙ h.0)
+none_join kind text e none (line.Freed r) h = differ (codes "join") (codes "freed") refl (sym e ∙ h.0)
+none_join kind text e none (line.Lock c) h = differ (codes "join") (codes "lock") refl (sym e ∙ h.0)
+none_join kind text e none (line.Unlock c) h = differ (codes "join") (codes "unlock") refl (sym e ∙ h.0)
+none_join kind text e none (line.Spawn name v n) h = h
+none_join kind text e none (line.Started v) h = differ (codes "join") (codes "started") refl (sym e ∙ h.0)
+none_join kind text e none (line.Join n) h = let t = h.1 in none t.number t.is
+none_join kind text e none (line.Print v) h = differ (codes "join") (codes "print") refl (sym e ∙ h.0)
+none_join kind text e none line.Return h = h
+none_join kind text e none line.Gone h = h
+
+pub none_print : (kind text : Text) → kind ≡ codes "print" → ((v : ℤ) → HasValue v text → ⊥) → (a : LineAct) → IsPlain kind a text → ⊥
+none_print kind text e none (line.Read c v) h = differ (codes "print") (codes "read") refl (sym e ∙ h.0)
+none_print kind text e none (line.Write c v) h = differ (codes "print") (codes "write") refl (sym e ∙ h.0)
+none_print kind text e none (line.New r) h = differ (codes "print") (codes "new") refl (sym e ∙ h.0)
+none_print kind text e none (line.Take r) h = differ (codes "print") (codes "take") refl (sym e ∙ h.0)
+none_print kind text e none (line.Give r) h = differ (codes "print") (codes "give") refl (sym e ∙ h.0)
+none_print kind text e none (line.Freed r) h = differ (codes "print") (codes "freed") refl (sym e ∙ h.0)
+none_print kind text e none (line.Lock c) h = differ (codes "print") (codes "lock") refl (sym e ∙ h.0)
+none_print kind text e none (line.Unlock c) h = differ (codes "print") (codes "unlock") refl (sym e ∙ h.0)
+none_print kind text e none (line.Spawn name v n) h = h
+none_print kind text e none (line.Started v) h = differ (codes "print") (codes "started") refl (sym e ∙ h.0)
+none_print kind text e none (line.Join n) h = differ (codes "print") (codes "join") refl (sym e ∙ h.0)
+none_print kind text e none (line.Print v) h = none v h.1
+none_print kind text e none line.Return h = h
+none_print kind text e none line.Gone h = h
+
+pub none_other : (kind text : Text) → (kind ≡ codes "read" → ⊥) → (kind ≡ codes "write" → ⊥) → (kind ≡ codes "new" → ⊥) → (kind ≡ codes "take" → ⊥) → (kind ≡ codes "give" → ⊥) → (kind ≡ codes "freed" → ⊥) → (kind ≡ codes "lock" → ⊥) → (kind ≡ codes "unlock" → ⊥) → (kind ≡ codes "started" → ⊥) → (kind ≡ codes "join" → ⊥) → (kind ≡ codes "print" → ⊥) → (a : LineAct) → IsPlain kind a text → ⊥
+none_other kind text no_read no_write no_new no_take no_give no_freed no_lock no_unlock no_started no_join no_print (line.Read c v) h = no_read h.0
+none_other kind text no_read no_write no_new no_take no_give no_freed no_lock no_unlock no_started no_join no_print (line.Write c v) h = no_write h.0
+none_other kind text no_read no_write no_new no_take no_give no_freed no_lock no_unlock no_started no_join no_print (line.New r) h = no_new h.0
+none_other kind text no_read no_write no_new no_take no_give no_freed no_lock no_unlock no_started no_join no_print (line.Take r) h = no_take h.0
+none_other kind text no_read no_write no_new no_take no_give no_freed no_lock no_unlock no_started no_join no_print (line.Give r) h = no_give h.0
+none_other kind text no_read no_write no_new no_take no_give no_freed no_lock no_unlock no_started no_join no_print (line.Freed r) h = no_freed h.0
+none_other kind text no_read no_write no_new no_take no_give no_freed no_lock no_unlock no_started no_join no_print (line.Lock c) h = no_lock h.0
+none_other kind text no_read no_write no_new no_take no_give no_freed no_lock no_unlock no_started no_join no_print (line.Unlock c) h = no_unlock h.0
+none_other kind text no_read no_write no_new no_take no_give no_freed no_lock no_unlock no_started no_join no_print (line.Spawn name v n) h = h
+none_other kind text no_read no_write no_new no_take no_give no_freed no_lock no_unlock no_started no_join no_print (line.Started v) h = no_started h.0
+none_other kind text no_read no_write no_new no_take no_give no_freed no_lock no_unlock no_started no_join no_print (line.Join n) h = no_join h.0
+none_other kind text no_read no_write no_new no_take no_give no_freed no_lock no_unlock no_started no_join no_print (line.Print v) h = no_print h.0
+none_other kind text no_read no_write no_new no_take no_give no_freed no_lock no_unlock no_started no_join no_print line.Return h = h
+none_other kind text no_read no_write no_new no_take no_give no_freed no_lock no_unlock no_started no_join no_print line.Gone h = h
+
+-- ---- acts
+
+pub act_of : (text kind rest : Text) → IsCut 32 text kind rest → (a : LineAct) → IsPlain kind a rest → IsAct a text
+act_of text kind rest cut (line.Read c v) h = behind_of (codes "read") (Both (HasCell c) (HasValue v)) text kind rest cut h.0 h.1
+act_of text kind rest cut (line.Write c v) h = behind_of (codes "write") (Both (HasCell c) (HasValue v)) text kind rest cut h.0 h.1
+act_of text kind rest cut (line.New r) h = behind_of (codes "new") (HasReference r) text kind rest cut h.0 h.1
+act_of text kind rest cut (line.Take r) h = behind_of (codes "take") (HasReference r) text kind rest cut h.0 h.1
+act_of text kind rest cut (line.Give r) h = behind_of (codes "give") (HasReference r) text kind rest cut h.0 h.1
+act_of text kind rest cut (line.Freed r) h = behind_of (codes "freed") (HasReference r) text kind rest cut h.0 h.1
+act_of text kind rest cut (line.Lock c) h = behind_of (codes "lock") (HasCell c) text kind rest cut h.0 h.1
+act_of text kind rest cut (line.Unlock c) h = behind_of (codes "unlock") (HasCell c) text kind rest cut h.0 h.1
+act_of text kind rest cut (line.Spawn name v n) h = absurd h
+act_of text kind rest cut (line.Started v) h = behind_of (codes "started") (HasValue v) text kind rest cut h.0 h.1
+act_of text kind rest cut (line.Join n) h = behind_of (codes "join") (IsThread n) text kind rest cut h.0 h.1
+act_of text kind rest cut (line.Print v) h = behind_of (codes "print") (HasValue v) text kind rest cut h.0 h.1
+act_of text kind rest cut line.Return h = absurd h
+act_of text kind rest cut line.Gone h = absurd h
+
+pub spawn_of : (text kind rest name : Text) (v n : ℤ) → IsCut 32 text kind rest → kind ≡ codes "spawn" → Both (IsFunctionName name) (Both (HasValue v) (IsThread n)) rest → IsAct (line.Spawn name v n) text
+spawn_of text kind rest name v n cut e h = behind_of (codes "spawn") (Both (IsFunctionName name) (Both (HasValue v) (IsThread n))) text kind rest cut e h
+
+pub no_act_cut : (text : Text) → (text ≡ codes "return" → ⊥) → (text ≡ codes "gone" → ⊥) → list_any (nat_eq 32) text ≡ false → (a : LineAct) → IsAct a text → ⊥
+no_act_cut text no_return no_gone free (line.Read c v) h = behind_cut (codes "read") (Both (HasCell c) (HasValue v)) text free h
+no_act_cut text no_return no_gone free (line.Write c v) h = behind_cut (codes "write") (Both (HasCell c) (HasValue v)) text free h
+no_act_cut text no_return no_gone free (line.New r) h = behind_cut (codes "new") (HasReference r) text free h
+no_act_cut text no_return no_gone free (line.Take r) h = behind_cut (codes "take") (HasReference r) text free h
+no_act_cut text no_return no_gone free (line.Give r) h = behind_cut (codes "give") (HasReference r) text free h
+no_act_cut text no_return no_gone free (line.Freed r) h = behind_cut (codes "freed") (HasReference r) text free h
+no_act_cut text no_return no_gone free (line.Lock c) h = behind_cut (codes "lock") (HasCell c) text free h
+no_act_cut text no_return no_gone free (line.Unlock c) h = behind_cut (codes "unlock") (HasCell c) text free h
+no_act_cut text no_return no_gone free (line.Spawn name v n) h = behind_cut (codes "spawn") (Both (IsFunctionName name) (Both (HasValue v) (IsThread n))) text free h
+no_act_cut text no_return no_gone free (line.Started v) h = behind_cut (codes "started") (HasValue v) text free h
+no_act_cut text no_return no_gone free (line.Join n) h = behind_cut (codes "join") (IsThread n) text free h
+no_act_cut text no_return no_gone free (line.Print v) h = behind_cut (codes "print") (HasValue v) text free h
+no_act_cut text no_return no_gone free line.Return h = no_return h
+no_act_cut text no_return no_gone free line.Gone h = no_gone h
+
+pub no_act_spawn : (text kind rest : Text) → (text ≡ codes "return" → ⊥) → (text ≡ codes "gone" → ⊥) → IsCut 32 text kind rest → kind ≡ codes "spawn" → ((name : Text) (v n : ℤ) → Both (IsFunctionName name) (Both (HasValue v) (IsThread n)) rest → ⊥) → (a : LineAct) → IsAct a text → ⊥
+no_act_spawn text kind rest no_return no_gone cut e none (line.Read c v) h = differ (codes "spawn") (codes "read") refl (sym e ∙ (behind_parts (codes "read") (Both (HasCell c) (HasValue v)) text kind rest refl cut h).0)
+no_act_spawn text kind rest no_return no_gone cut e none (line.Write c v) h = differ (codes "spawn") (codes "write") refl (sym e ∙ (behind_parts (codes "write") (Both (HasCell c) (HasValue v)) text kind rest refl cut h).0)
+no_act_spawn text kind rest no_return no_gone cut e none (line.New r) h = differ (codes "spawn") (codes "new") refl (sym e ∙ (behind_parts (codes "new") (HasReference r) text kind rest refl cut h).0)
+no_act_spawn text kind rest no_return no_gone cut e none (line.Take r) h = differ (codes "spawn") (codes "take") refl (sym e ∙ (behind_parts (codes "take") (HasReference r) text kind rest refl cut h).0)
+no_act_spawn text kind rest no_return no_gone cut e none (line.Give r) h = differ (codes "spawn") (codes "give") refl (sym e ∙ (behind_parts (codes "give") (HasReference r) text kind rest refl cut h).0)
+no_act_spawn text kind rest no_return no_gone cut e none (line.Freed r) h = differ (codes "spawn") (codes "freed") refl (sym e ∙ (behind_parts (codes "freed") (HasReference r) text kind rest refl cut h).0)
+no_act_spawn text kind rest no_return no_gone cut e none (line.Lock c) h = differ (codes "spawn") (codes "lock") refl (sym e ∙ (behind_parts (codes "lock") (HasCell c) text kind rest refl cut h).0)
+no_act_spawn text kind rest no_return no_gone cut e none (line.Unlock c) h = differ (codes "spawn") (codes "unlock") refl (sym e ∙ (behind_parts (codes "unlock") (HasCell c) text kind rest refl cut h).0)
+no_act_spawn text kind rest no_return no_gone cut e none (line.Spawn name v n) h = none name v n (behind_parts (codes "spawn") (Both (IsFunctionName name) (Both (HasValue v) (IsThread n))) text kind rest refl cut h).1
+no_act_spawn text kind rest no_return no_gone cut e none (line.Started v) h = differ (codes "spawn") (codes "started") refl (sym e ∙ (behind_parts (codes "started") (HasValue v) text kind rest refl cut h).0)
+no_act_spawn text kind rest no_return no_gone cut e none (line.Join n) h = differ (codes "spawn") (codes "join") refl (sym e ∙ (behind_parts (codes "join") (IsThread n) text kind rest refl cut h).0)
+no_act_spawn text kind rest no_return no_gone cut e none (line.Print v) h = differ (codes "spawn") (codes "print") refl (sym e ∙ (behind_parts (codes "print") (HasValue v) text kind rest refl cut h).0)
+no_act_spawn text kind rest no_return no_gone cut e none line.Return h = no_return h
+no_act_spawn text kind rest no_return no_gone cut e none line.Gone h = no_gone h
+
+pub no_act_plain : (text kind rest : Text) → (text ≡ codes "return" → ⊥) → (text ≡ codes "gone" → ⊥) → IsCut 32 text kind rest → (kind ≡ codes "spawn" → ⊥) → ((a : LineAct) → IsPlain kind a rest → ⊥) → (a : LineAct) → IsAct a text → ⊥
+no_act_plain text kind rest no_return no_gone cut no_spawn none (line.Read c v) h = none (line.Read c v) (behind_parts (codes "read") (Both (HasCell c) (HasValue v)) text kind rest refl cut h)
+no_act_plain text kind rest no_return no_gone cut no_spawn none (line.Write c v) h = none (line.Write c v) (behind_parts (codes "write") (Both (HasCell c) (HasValue v)) text kind rest refl cut h)
+no_act_plain text kind rest no_return no_gone cut no_spawn none (line.New r) h = none (line.New r) (behind_parts (codes "new") (HasReference r) text kind rest refl cut h)
+no_act_plain text kind rest no_return no_gone cut no_spawn none (line.Take r) h = none (line.Take r) (behind_parts (codes "take") (HasReference r) text kind rest refl cut h)
+no_act_plain text kind rest no_return no_gone cut no_spawn none (line.Give r) h = none (line.Give r) (behind_parts (codes "give") (HasReference r) text kind rest refl cut h)
+no_act_plain text kind rest no_return no_gone cut no_spawn none (line.Freed r) h = none (line.Freed r) (behind_parts (codes "freed") (HasReference r) text kind rest refl cut h)
+no_act_plain text kind rest no_return no_gone cut no_spawn none (line.Lock c) h = none (line.Lock c) (behind_parts (codes "lock") (HasCell c) text kind rest refl cut h)
+no_act_plain text kind rest no_return no_gone cut no_spawn none (line.Unlock c) h = none (line.Unlock c) (behind_parts (codes "unlock") (HasCell c) text kind rest refl cut h)
+no_act_plain text kind rest no_return no_gone cut no_spawn none (line.Spawn name v n) h = no_spawn (behind_parts (codes "spawn") (Both (IsFunctionName name) (Both (HasValue v) (IsThread n))) text kind rest refl cut h).0
+no_act_plain text kind rest no_return no_gone cut no_spawn none (line.Started v) h = none (line.Started v) (behind_parts (codes "started") (HasValue v) text kind rest refl cut h)
+no_act_plain text kind rest no_return no_gone cut no_spawn none (line.Join n) h = none (line.Join n) (behind_parts (codes "join") (IsThread n) text kind rest refl cut h)
+no_act_plain text kind rest no_return no_gone cut no_spawn none (line.Print v) h = none (line.Print v) (behind_parts (codes "print") (HasValue v) text kind rest refl cut h)
+no_act_plain text kind rest no_return no_gone cut no_spawn none line.Return h = no_return h
+no_act_plain text kind rest no_return no_gone cut no_spawn none line.Gone h = no_gone h
+
+pub act_by : (text kind rest : Text) → (text ≡ codes "return" → ⊥) → (text ≡ codes "gone" → ⊥) → IsCut 32 text kind rest → (kind ≡ codes "spawn" → ⊥) → (r : Option LineAct) → MatchOption r ((a : LineAct) → IsPlain kind a rest → ⊥) (λ a. IsPlain kind a rest) → MatchOption r ((a : LineAct) → IsAct a text → ⊥) (λ a. IsAct a text)
+act_by text kind rest no_return no_gone cut no_spawn None h = no_act_plain text kind rest no_return no_gone cut no_spawn h
+act_by text kind rest no_return no_gone cut no_spawn (Some a) h = act_of text kind rest cut a h
+
+pub none_act : (text : Text) (r : Option LineAct) → r ≡ None → MatchOption r ((a : LineAct) → IsAct a text → ⊥) (λ a. IsAct a text) → (a : LineAct) → IsAct a text → ⊥
+none_act text None e h = h
+none_act text (Some a) e h = absurd (let z : Some a ≡ None = e in cc)
+
+-- ---- lines
+
+pub line_of : (text n rest : Text) (l : EventLine) → IsCut 32 text n rest → IsNumber 0 thread_most n l.thread → IsAct l.act rest → IsEventLine text l
+line_of text n rest l cut number act = record { rest = rest; is = cut.is ∙ ap (λ z. z ++ 32 ∷ rest) number.is; small = number.below; act = act }
+
+pub no_line_cut : (text : Text) → list_any (nat_eq 32) text ≡ false → (l : EventLine) → IsEventLine text l → ⊥
+no_line_cut text free l h = no_cut 32 (decimal l.thread) h.rest (sym (ap (list_any (nat_eq 32)) h.is) ∙ free)
+
+pub line_parts : (text n rest : Text) → IsCut 32 text n rest → (l : EventLine) → IsEventLine text l → IsNumber 0 thread_most n l.thread × IsAct l.act rest
+line_parts text n rest cut l h =
+    let p = parts_of 32 text n rest (decimal l.thread) h.rest cut h.is (number_blank l.thread (let s = h.small in omega (arith, s))) in
+    (record { is = p.0; above = omega arith; below = h.small }, subst (IsAct l.act) (sym p.1) h.act)

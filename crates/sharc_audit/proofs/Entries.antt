@@ -1,0 +1,255 @@
+-- The function and the argument of a thread, behind the events of a legal store.
+use Rattle.std.proofs.Common.{◌≡◌, ◌⊎◌, inl, inr, ℕ, zero, suc, ◌+◌, Bool, true, false, cond, List, [], ◌∷◌, ◌++◌, length, length-append, Option, Some, None, refl, ap, sym, subst, ◌∙◌, arith, append_assoc}
+use Rattle.std.specs.Prelude.{ℤ, pos, ◌≢◌, ◌==◌, ◌||◌, ◌&&◌, slice_get, find, drop, slice_index_or, negsuc, Any, codes, IsTrue, if◌then◌else◌}
+use Rattle.std.specs.List.{list_any}
+use Rattle.std.specs.Str.{bytes_eq}
+use Rattle.std.proofs.lemmas.Bool.{eq-eqb, eqb-true, ne_eqb, and_parts}
+use Rattle.sharc_tree.specs.declared.event.Act.{Act}
+use Rattle.sharc_tree.specs.declared.event.Act.TheVariants as acts
+use Rattle.sharc_tree.specs.declared.event.SourceEvent.{SourceEvent}
+use Rattle.sharc_tree.specs.Tree.{Function}
+use Rattle.sharc_ctype.specs.Resolved.{Resolution, function_at, functions_in}
+use Rattle.sharc_mode.specs.Moded.{Assignment}
+use Rattle.sharc_meaning.specs.Events.{events_of, is_of}
+use Rattle.sharc_meaning.specs.Runs.{answers_of, is_named_main, IsFirst, IsSpawned, Follows}
+use Rattle.sharc_meaning.specs.Store.{spawns, is_natural, was_spawned, is_spawn, IsNewThread, MayCome, LegalStore}
+use Rattle.sharc_audit.specs.Judging.{main_from, main_of, with_zero, spawned_with, spawned_by_event, entry, has_begun, own_answers}
+use Rattle.sharc_audit.specs.Mains.{OneMain}
+use Rattle.sharc_audit.proofs.Lists.{events_append}
+
+-- ---- finding
+
+pub find_none : {A : Type 0} (p : A → Bool) (xs ys : List A) → list_any p xs ≡ false → find p (xs ++ ys) ≡ find p ys
+find_none p [] ys h = refl
+find_none p (x ∷ xs) ys h = by_case (find_none p xs ys) (p x) refl
+  where
+    by_case : (list_any p xs ≡ false → find p (xs ++ ys) ≡ find p ys) → (b : Bool) → p x ≡ b → (if p x then Some x else find p (xs ++ ys)) ≡ find p ys
+    by_case more true i = absurd (let z : true ≡ false = sym (ap (λ z. z || list_any p xs) i) ∙ h in cc)
+    by_case more false i = ap (λ z. if z then Some x else find p (xs ++ ys)) i ∙ more (sym (ap (λ z. z || list_any p xs) i) ∙ h)
+
+pub find_more : {A : Type 0} (p : A → Bool) (x : A) (xs ys : List A) → find p xs ≡ Some x → find p (xs ++ ys) ≡ Some x
+find_more p x [] ys h = absurd (cc)
+find_more p x (y ∷ xs) ys h = by_case (find_more p x xs ys) (p y) refl
+  where
+    by_case : (find p xs ≡ Some x → find p (xs ++ ys) ≡ Some x) → (b : Bool) → p y ≡ b → (if p y then Some y else find p (xs ++ ys)) ≡ Some x
+    by_case more true i = ap (λ z. if z then Some y else find p (xs ++ ys)) i ∙ (sym (ap (λ z. if z then Some y else find p xs) i) ∙ h)
+    by_case more false i = ap (λ z. if z then Some y else find p (xs ++ ys)) i ∙ more (sym (ap (λ z. if z then Some y else find p xs) i) ∙ h)
+
+-- an element with a property stands somewhere
+pub record Placed {A : Type 0} (P : A → Type 0) (xs : List A) : Type 0 where
+  pub before : List A
+  pub element : A
+  pub after : List A
+  pub stands : xs ≡ before ++ element ∷ after
+  pub is : P element
+
+pub behind_one : {A : Type 0} {P : A → Type 0} (y : A) (xs : List A) → Placed P xs → Placed P (y ∷ xs)
+behind_one y xs i = record { before = y ∷ i.before; element = i.element; after = i.after; stands = ap (λ z. y ∷ z) i.stands; is = i.is }
+
+pub found : {A : Type 0} (p : A → Bool) (x : A) (xs : List A) → find p xs ≡ Some x → Placed (λ y. (y ≡ x) × (p y ≡ true)) xs
+found p x [] h = absurd (cc)
+found {A} p x (y ∷ xs) h = by_case (found p x xs) (p y) refl
+  where
+    by_case : (find p xs ≡ Some x → Placed (λ y. (y ≡ x) × (p y ≡ true)) xs) → (b : Bool) → p y ≡ b → Placed (λ y. (y ≡ x) × (p y ≡ true)) (y ∷ xs)
+    by_case more true i =
+        let same : y ≡ x = let s : Some y ≡ Some x = sym (ap (λ z. if z then Some y else find p xs) i) ∙ h in cc in
+        record { before = []; element = y; after = xs; stands = refl; is = (same, i) }
+    by_case more false i = behind_one y xs (more (sym (ap (λ z. if z then Some y else find p xs) i) ∙ h))
+
+pub placed : {A : Type 0} (P : A → Type 0) (xs : List A) → Any P xs → Placed P xs
+placed P [] (k, x, less, at, is) = absurd (omega (arith, less))
+placed P (y ∷ xs) (zero, x, less, at, is) = record { before = []; element = y; after = xs; stands = refl; is = subst P (sym at) is }
+placed P (y ∷ xs) (suc k, x, less, at, is) = behind_one y xs (placed P xs (k, x, omega (arith, less), at, is))
+
+pub any_placed : {A : Type 0} (P : A → Type 0) (before : List A) (x : A) (after : List A) → P x → Any P (before ++ x ∷ after)
+any_placed {A = A} P before x after is = (length before, x, (let l = length-append before (x ∷ after) in omega (arith, l)), at before, is)
+  where
+    at : (b : List A) → slice_index_or (b ++ x ∷ after) (length b) x ≡ x
+    at [] = refl
+    at (y ∷ b) = at b
+
+-- ---- the threads that were spawned
+
+abbrev pub SpawnedBy : ℕ → ℕ → ℤ → SourceEvent → Type 0
+SpawnedBy thread f v e = (e.act ≡ acts.Spawn f v) × (e.answer ≡ pos thread)
+
+spawns_it : (thread f : ℕ) (v : ℤ) (e : SourceEvent) → SpawnedBy thread f v e → spawns thread e ≡ true
+spawns_it thread f v e (a, n) = ap (λ z. is_spawn z && is_natural thread e.answer) a ∙ ap (is_natural thread) n ∙ eq-eqb thread thread refl
+
+natural_is : (thread : ℕ) (v : ℤ) → is_natural thread v ≡ true → v ≡ pos thread
+natural_is thread (pos n) h = ap pos (sym (eqb-true thread n h))
+natural_is thread (negsuc n) h = absurd (cc)
+
+abbrev first_of_pair : Option (ℕ × ℤ) → ℕ
+first_of_pair None = 0
+first_of_pair (Some p) = p.0
+
+abbrev second_of_pair : Option (ℕ × ℤ) → ℤ
+second_of_pair None = pos 0
+second_of_pair (Some p) = p.1
+
+pub pair_of_some : (g f : ℕ) (w v : ℤ) → ◌≡◌ {A = Option (ℕ × ℤ)} (Some (g, w)) (Some (f, v)) → (g ≡ f) × (w ≡ v)
+pair_of_some g f w v h = (ap first_of_pair h, ap second_of_pair h)
+
+by_spawn : (a : Act) (f : ℕ) (v : ℤ) → spawned_with a ≡ Some (f, v) → a ≡ acts.Spawn f v
+by_spawn (acts.Spawn g w) f v h = let p = pair_of_some g f w v h in ap (λ z. acts.Spawn z w) p.0 ∙ ap (acts.Spawn f) p.1
+by_spawn (acts.Read c mode) f v h = absurd (cc)
+by_spawn (acts.Write c mode w) f v h = absurd (cc)
+by_spawn (acts.New cells elements mode) f v h = absurd (cc)
+by_spawn (acts.Take taken kind) f v h = absurd (cc)
+by_spawn (acts.Give reference mode) f v h = absurd (cc)
+by_spawn (acts.Freed reference) f v h = absurd (cc)
+by_spawn (acts.Lock c) f v h = absurd (cc)
+by_spawn (acts.Unlock c) f v h = absurd (cc)
+by_spawn (acts.Started w) f v h = absurd (cc)
+by_spawn (acts.Join w) f v h = absurd (cc)
+by_spawn (acts.Print w) f v h = absurd (cc)
+by_spawn acts.Return f v h = absurd (cc)
+by_spawn acts.Gone f v h = absurd (cc)
+by_spawn (acts.Enter c) f v h = absurd (cc)
+by_spawn (acts.Woken c) f v h = absurd (cc)
+by_spawn (acts.Signal c) f v h = absurd (cc)
+by_spawn (acts.Broadcast c) f v h = absurd (cc)
+
+module _ (r : Resolution) (R : List SourceEvent) (legal : LegalStore r R) (thread f : ℕ) (v : ℤ) where
+  new_thread : (p : Placed (SpawnedBy thread f v) R) → was_spawned p.before thread ≡ false
+  new_thread p =
+      let new : IsNewThread p.before p.element.answer = subst (MayCome r p.before p.element) p.is.0 (legal p.before p.element p.after p.stands) in
+      let same : pos new.thread ≡ pos thread = sym new.tells ∙ p.is.1 in
+      let is : new.thread ≡ thread = cc in
+      subst (λ n. was_spawned p.before n ≡ false) is new.fresh
+
+  pub spawn_found : (p : Placed (SpawnedBy thread f v) R) → find (spawns thread) R ≡ Some p.element
+  spawn_found p = ap (find (spawns thread)) p.stands ∙ find_none (spawns thread) p.before (p.element ∷ p.after) (new_thread p) ∙ ap (λ z. if z then Some p.element else find (spawns thread) p.after) (spawns_it thread f v p.element p.is)
+
+-- ---- main
+
+named_at_first : (f : Function) → is_named_main (Some f) ≡ bytes_eq f.name.text (codes "main")
+named_at_first f = refl
+
+pub record MainAt (n : ℕ) (functions : List Function) : Type 0 where
+  pub place : ℕ
+  pub is : main_from n functions ≡ Some (n + place)
+  pub named : IsTrue (is_named_main (slice_get functions place))
+
+pub main_found : (n : ℕ) (functions : List Function) (k : ℕ) → IsTrue (is_named_main (slice_get functions k)) → MainAt n functions
+main_found n [] zero h = absurd (cc)
+main_found n [] (suc k) h = absurd (cc)
+main_found n (f ∷ rest) k h = by_case k h (main_found (n + 1) rest) (bytes_eq f.name.text (codes "main")) refl
+  where
+    by_case : (k : ℕ) → IsTrue (is_named_main (slice_get (f ∷ rest) k)) → ((k : ℕ) → IsTrue (is_named_main (slice_get rest k)) → MainAt (n + 1) rest) → (b : Bool) → bytes_eq f.name.text (codes "main") ≡ b → MainAt n (f ∷ rest)
+    by_case k h more true i = record { place = 0; is = ap (λ z. if z then Some n else main_from (n + 1) rest) i ∙ ap Some (omega arith); named = i }
+    by_case zero h more false i = absurd (let z : true ≡ false = sym h ∙ i in cc)
+    by_case (suc k) h more false i = let p = more k h in
+        record { place = suc p.place; is = ap (λ z. if z then Some n else main_from (n + 1) rest) i ∙ p.is ∙ ap Some (omega arith); named = p.named }
+
+pub main_is : (n : ℕ) (functions : List Function) (g : ℕ) → main_from n functions ≡ Some g → (place : ℕ) × (g ≡ n + place) × IsTrue (is_named_main (slice_get functions place))
+main_is n [] g h = absurd (cc)
+main_is n (f ∷ rest) g h = by_case (main_is (n + 1) rest g) (bytes_eq f.name.text (codes "main")) refl
+  where
+    by_case : (main_from (n + 1) rest ≡ Some g → (place : ℕ) × (g ≡ (n + 1) + place) × IsTrue (is_named_main (slice_get rest place))) → (b : Bool) → bytes_eq f.name.text (codes "main") ≡ b → (place : ℕ) × (g ≡ n + place) × IsTrue (is_named_main (slice_get (f ∷ rest) place))
+    by_case more true i = let s : Some n ≡ Some g = sym (ap (λ z. if z then Some n else main_from (n + 1) rest) i) ∙ h in let same : n ≡ g = cc in (0, omega (arith, same), i)
+    by_case more false i = let p = more (sym (ap (λ z. if z then Some n else main_from (n + 1) rest) i) ∙ h) in (suc p.0, (let e = p.1 in omega (arith, e)), p.2)
+
+-- ---- the entry of a thread
+
+module _ (r : Resolution) (one : OneMain r) (R : List SourceEvent) (legal : LegalStore r R) (thread f : ℕ) (v : ℤ) where
+  abbrev chosen : Bool → Option (ℕ × ℤ)
+  chosen b = if b then with_zero (main_of r) else spawned_by_event (find (spawns thread) R)
+
+  of_first : IsFirst r thread f v → entry r R thread ≡ Some (f, v)
+  of_first h =
+      let p = main_found 0 (functions_in r.program.items) f h.main in
+      let same : p.place ≡ f = one p.place f p.named h.main in
+      ap chosen (eq-eqb thread 0 h.first) ∙ ap with_zero p.is ∙ ap (λ z. Some (z, pos 0)) (let i : 0 + p.place ≡ f = omega (arith, same) in i) ∙ ap (λ z. Some (f, z)) (sym h.nothing)
+
+  of_spawned : (R0 S : List SourceEvent) → R ≡ R0 ++ S → IsSpawned R0 thread f v → entry r R thread ≡ Some (f, v)
+  of_spawned R0 S parts h =
+      let p = placed (SpawnedBy thread f v) R0 h.spawned in
+      let q : Placed (SpawnedBy thread f v) R = record { before = p.before; element = p.element; after = p.after ++ S; stands = parts ∙ ap (λ z. z ++ S) p.stands ∙ append_assoc p.before (p.element ∷ p.after) S; is = p.is } in
+      ap chosen (ne_eqb thread 0 h.other) ∙ ap spawned_by_event (spawn_found r R legal thread f v q) ∙ ap spawned_with p.is.0
+
+  pub entry_by_right : (R0 S : List SourceEvent) → R ≡ R0 ++ S → IsFirst r thread f v ⊎ IsSpawned R0 thread f v → entry r R thread ≡ Some (f, v)
+  entry_by_right R0 S parts (inl h) = of_first h
+  entry_by_right R0 S parts (inr h) = of_spawned R0 S parts h
+
+  first_of : thread ≡ 0 → with_zero (main_of r) ≡ Some (f, v) → IsFirst r thread f v
+  first_of z h = by_main (main_of r) refl h
+    where
+      by_main : (o : Option ℕ) → main_of r ≡ o → with_zero o ≡ Some (f, v) → IsFirst r thread f v
+      by_main None i h = absurd (cc)
+      by_main (Some g) i h =
+          let p = main_is 0 (functions_in r.program.items) g i in
+          let both = pair_of_some g f (pos 0) v h in
+          let is = both.0 in
+          let e = p.1 in
+          let place : p.0 ≡ f = omega (arith, e, is) in
+          record { first = z; main = subst (λ n. IsTrue (is_named_main (function_at r n))) place p.2; nothing = sym both.1 }
+
+  spawned_of : thread ≢ 0 → spawned_by_event (find (spawns thread) R) ≡ Some (f, v) → IsSpawned R thread f v
+  spawned_of other h = by_event (find (spawns thread) R) refl h
+    where
+      by_event : (o : Option SourceEvent) → find (spawns thread) R ≡ o → spawned_by_event o ≡ Some (f, v) → IsSpawned R thread f v
+      by_event None i h = absurd (cc)
+      by_event (Some e) i h =
+          let p = found (spawns thread) e R i in
+          let parts = and_parts (is_spawn p.element.act) (is_natural thread p.element.answer) p.is.1 in
+          let act : p.element.act ≡ acts.Spawn f v = ap (λ (z : SourceEvent). z.act) p.is.0 ∙ by_spawn e.act f v h in
+          record { other = other; spawned = subst (Any (SpawnedBy thread f v)) (sym p.stands) (any_placed (SpawnedBy thread f v) p.before p.element p.after (act, natural_is thread p.element.answer parts.1)) }
+
+  pub right_by_entry : entry r R thread ≡ Some (f, v) → IsFirst r thread f v ⊎ IsSpawned R thread f v
+  right_by_entry h = by_case (thread == 0) refl
+    where
+      by_case : (b : Bool) → (thread == 0) ≡ b → IsFirst r thread f v ⊎ IsSpawned R thread f v
+      by_case true i = inl (first_of (eqb-true thread 0 i) (sym (ap chosen i) ∙ h))
+      by_case false i = inr (spawned_of (λ z. let t : true ≡ false = sym (eq-eqb thread 0 z) ∙ i in absurd (cc)) (sym (ap chosen i) ∙ h))
+
+-- it stays
+pub entry_more : (r : Resolution) (R S : List SourceEvent) (thread f : ℕ) (v : ℤ) → entry r R thread ≡ Some (f, v) → entry r (R ++ S) thread ≡ Some (f, v)
+entry_more r R S thread f v h = by_case (thread == 0) refl
+  where
+    by_event : (o : Option SourceEvent) → find (spawns thread) R ≡ o → spawned_by_event o ≡ Some (f, v) → spawned_by_event (find (spawns thread) (R ++ S)) ≡ Some (f, v)
+    by_event None i k = absurd (cc)
+    by_event (Some e) i k = ap spawned_by_event (find_more (spawns thread) e R S i) ∙ k
+
+    by_case : (b : Bool) → (thread == 0) ≡ b → entry r (R ++ S) thread ≡ Some (f, v)
+    by_case true i = ap (λ b. if b then with_zero (main_of r) else spawned_by_event (find (spawns thread) (R ++ S))) i ∙ (sym (ap (λ b. if b then with_zero (main_of r) else spawned_by_event (find (spawns thread) R)) i) ∙ h)
+    by_case false i = ap (λ b. if b then with_zero (main_of r) else spawned_by_event (find (spawns thread) (R ++ S))) i
+        ∙ by_event (find (spawns thread) R) refl (sym (ap (λ b. if b then with_zero (main_of r) else spawned_by_event (find (spawns thread) R)) i) ∙ h)
+
+-- ---- a thread that has begun
+
+pub begun_events : (R : List SourceEvent) (thread : ℕ) → has_begun R thread ≡ false → events_of thread R ≡ []
+begun_events [] thread h = refl
+begun_events (e ∷ R) thread h = by_case (begun_events R thread) (is_of thread e) refl
+  where
+    by_case : (has_begun R thread ≡ false → events_of thread R ≡ []) → (b : Bool) → is_of thread e ≡ b → cond (is_of thread e) (e ∷ events_of thread R) (events_of thread R) ≡ []
+    by_case more true i = absurd (let z : true ≡ false = sym (ap (λ z. z || has_begun R thread) i) ∙ h in cc)
+    by_case more false i = ap (λ z. cond z (e ∷ events_of thread R) (events_of thread R)) i ∙ more (sym (ap (λ z. z || has_begun R thread) i) ∙ h)
+
+pub events_begun : (R : List SourceEvent) (thread : ℕ) → events_of thread R ≡ [] → has_begun R thread ≡ false
+events_begun [] thread h = refl
+events_begun (e ∷ R) thread h = by_case (events_begun R thread) (is_of thread e) refl
+  where
+    by_case : (events_of thread R ≡ [] → has_begun R thread ≡ false) → (b : Bool) → is_of thread e ≡ b → (is_of thread e || has_begun R thread) ≡ false
+    by_case more true i = absurd (let z : e ∷ events_of thread R ≡ [] = sym (ap (λ z. cond z (e ∷ events_of thread R) (events_of thread R)) i) ∙ h in cc)
+    by_case more false i = ap (λ z. z || has_begun R thread) i ∙ more (sym (ap (λ z. cond z (e ∷ events_of thread R) (events_of thread R)) i) ∙ h)
+
+module _ (m : Assignment) (R : List SourceEvent) (fuel thread : ℕ) (a : Follows m R fuel thread) where
+  pub own_events : events_of thread R ≡ a.begins ∷ events_of thread a.after
+  own_events =
+      let here : is_of thread a.begins ≡ true = eq-eqb a.begins.thread thread a.own in
+      ap (events_of thread) a.stands ∙ events_append thread a.before (a.begins ∷ a.after) ∙ ap (λ l. l ++ events_of thread (a.begins ∷ a.after)) a.first ∙ ap (λ z. cond z (a.begins ∷ events_of thread a.after) (events_of thread a.after)) here
+
+  pub own_told : own_answers R thread ≡ answers_of (events_of thread a.after)
+  own_told = ap (λ l. answers_of (drop 1 l)) own_events
+
+  pub follows_begun : has_begun R thread ≡ true
+  follows_begun = by_case (has_begun R thread) refl
+    where
+      by_case : (b : Bool) → has_begun R thread ≡ b → has_begun R thread ≡ true
+      by_case true i = i
+      by_case false i = absurd (let z : a.begins ∷ events_of thread a.after ≡ [] = sym own_events ∙ begun_events R thread i in cc)
+
+  pub follows_entry : OneMain m.typed → LegalStore m.typed R → entry m.typed R thread ≡ Some (a.function, a.argument)
+  follows_entry one legal = entry_by_right m.typed one R legal thread a.function a.argument a.before (a.begins ∷ a.after) a.stands a.by_right

@@ -1,0 +1,15 @@
+pub mod Lists
+pub mod Telling
+pub mod Entries
+pub mod Answering
+pub mod Breaking
+pub mod Auditing
+pub mod Opening
+pub mod Mains
+pub mod Knowing
+pub mod Numerals
+pub mod Parts
+pub mod Blanks
+pub mod Filing
+pub mod Alone
+pub mod OneFile

@@ -1,0 +1,12 @@
+pub mod Asked
+pub mod Audited
+pub mod Breaking
+pub mod FileLaws
+pub mod Files
+pub mod Grammar
+pub mod Judging
+pub mod Known
+pub mod Lines
+pub mod Mains
+pub mod Open
+pub mod Texts

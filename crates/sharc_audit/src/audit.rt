@@ -1,0 +1,108 @@
+// The auditor.
+
+ghost use Rattle.std.specs.Prelude.{◌≡◌, ◌<◌, ◌^◌, IfOk, length, MatchOption};
+ghost use Rattle.sharc_judge.specs.Judged.{number};
+ghost use Rattle.sharc_audit.specs.Audited.{Audits};
+ghost use Rattle.sharc_audit.specs.Breaking.{IsPassed, IsFault};
+
+use crate::line::EventLines;
+use crate::matching::is_line;
+use crate::past::Past;
+use crate::threads::{Next, accept, main_of, next_asked};
+use sharc_check::Checked;
+use sharc_judge::laws::rule_laws;
+use sharc_judge::legal::may_come;
+use sharc_judge::rule::Rule;
+use sharc_meaning::laws::{ask_laws, run_laws, store_laws};
+use sharc_mode::moded::Moded;
+use sharc_tree::event::SourceEvent;
+use std::alloc::{AllocError, Global};
+
+/// Why an event is not accepted.
+#[derive(Clone, Copy, PartialEq, Eq, Debug, Drop)]
+pub enum EventFault {
+    /// Its thread does not ask for it.
+    NotAsked,
+    /// What the events before left refuses it.
+    NotLegal,
+    /// It breaks a rule of the modes: the lowest, by its number from 1.
+    Rule(u8),
+}
+
+/// What is answered of a list of event lines. Lines are counted from 1.
+#[derive(Clone, Copy, PartialEq, Eq, Debug, Drop)]
+pub enum Verdict {
+    /// They are a run at this fuel that obeys the modes: so many events.
+    Obeys(u32),
+    /// This event is the first that is not accepted.
+    Fails(u32, EventFault),
+    /// This event is, since its thread's fuel is spent before it.
+    Fuel(u32),
+}
+
+fn digit(rule: Rule) -> u8
+    ensures { result ≡ number rule }
+{
+    match rule {
+        Rule::Live => 1,
+        Rule::OneMode => 2,
+        Rule::Owner => 3,
+        Rule::NotWritten => 4,
+        Rule::UnderItsLock => 5,
+        Rule::ReadSharedOrOneThread => 6,
+    }
+}
+
+/// Why the event, which is asked for, is not accepted behind these.
+fn fault_of(m: &Moded, past: &Past, e: &SourceEvent) -> Option<EventFault>
+    ensures { MatchOption result (IsPassed m.now past.now e.now) (λ fault. IsFault m.now past.now e.now fault) }
+{
+    if !may_come(m.typed(), past.as_slice(), e) {
+        return Some(EventFault::NotLegal);
+    }
+    match past.broken_by(e) {
+        None => None,
+        Some(rule) => Some(EventFault::Rule(digit(rule))),
+    }
+}
+
+/// Audits a list of event lines with a fuel for each thread.
+pub fn audit(
+    alloc: Global,
+    c: &Checked,
+    lines: &EventLines,
+    fuel: u64,
+) -> Result<Verdict, AllocError>
+    requires { length lines.now < 2 ^ 32 }
+    ensures { IfOk result (λ v. Audits c.now fuel lines.now v) }
+{
+    ask_laws();
+    store_laws();
+    run_laws();
+    rule_laws();
+    let m = c.moded();
+    let main = main_of(m.typed())?;
+    let all = lines.as_slice();
+    let mut past = Past::new(alloc);
+    let mut runs = Vec::new(alloc);
+    for i in 0..all.len() {
+        let n = i as u32 + 1;
+        let line = &all[i];
+        let rest = &all[i + 1..];
+        match next_asked(m, main, fuel, past.as_slice(), line, rest, runs.as_slice()) {
+            Next::Spent => return Ok(Verdict::Fuel(n)),
+            Next::Nothing => return Ok(Verdict::Fails(n, EventFault::NotAsked)),
+            Next::Wants(e) => {
+                if !is_line(m.typed(), line, &e) {
+                    return Ok(Verdict::Fails(n, EventFault::NotAsked));
+                }
+                if let Some(fault) = fault_of(m, &past, &e) {
+                    return Ok(Verdict::Fails(n, fault));
+                }
+                accept(alloc, m, main, fuel, past.as_slice(), line, rest, &mut runs)?;
+                past.push(e)?;
+            }
+        }
+    }
+    Ok(Verdict::Obeys(all.len() as u32))
+}

@@ -1,0 +1,24 @@
+// Laws of the definitions.
+
+ghost use Rattle.sharc_audit.specs.Audited.{OneVerdict};
+ghost use Rattle.sharc_audit.specs.FileLaws.{FileLaws};
+
+use sharc_ctype_laws::laws::one_function_of_name;
+use sharc_judge::laws::rule_laws;
+use sharc_meaning::laws::{ask_laws, run_laws, store_laws};
+
+/// A list of event lines has one verdict at most.
+pub fn audit_laws()
+    ensures { OneVerdict }
+{
+    ask_laws();
+    store_laws();
+    run_laws();
+    rule_laws();
+    one_function_of_name();
+}
+
+/// A text is one event file at most, and then no line is the first that continues none; and that line is one.
+pub fn file_laws()
+    ensures { FileLaws }
+{}

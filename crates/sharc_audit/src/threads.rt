@@ -1,0 +1,254 @@
+// What threads ask for: each is asked once, when it starts, with all that the lines tell it.
+
+ghost use Rattle.std.specs.Prelude.{◌≡◌, ◌+◌, ◌-◌, ◌<◌, ◌==◌, ◌∷◌, ◌++◌, [], IfOk, OnOk, length, drop, find, MatchOption, IsTrue, true, false, slice_get, Some};
+ghost use Rattle.std.specs.Option.{option_copied};
+ghost use Rattle.sharc_meaning.specs.Events.{is_of, events_of};
+ghost use Rattle.sharc_meaning.specs.Meaning.{asks};
+ghost use Rattle.sharc_meaning.specs.Store.{spawns};
+ghost use Rattle.sharc_ctype.specs.Resolved.{Resolution, function_at};
+ghost use Rattle.sharc_audit.specs.Judging.{main_of, entry, has_begun, start_of, start_at, next_asked, own_answers, event_at, is_spent};
+ghost use Rattle.sharc_audit.specs.Known.{IsKnown, AreKnown};
+ghost use Rattle.sharc_audit.specs.Mains.{OneMain};
+ghost use Rattle.sharc_audit.specs.Lines.{told, told_to, IsLine};
+ghost use Rattle.sharc_audit.specs.declared.threads.Next.TheVariants.{Wants};
+ghost use Rattle.sharc_tree.specs.declared.event.SourceEvent.{SourceEvent};
+
+use crate::line::EventLine;
+use crate::matching::told;
+use sharc_ask::asked::Outcome;
+use sharc_ask::thread::ask;
+use sharc_ctype::typed::Typed;
+use sharc_ctype_laws::laws::one_function_of_name;
+use sharc_judge::access::spawns;
+use sharc_meaning::laws::ask_laws;
+use sharc_mode::moded::Moded;
+use sharc_tree::event::{Act, SourceEvent, SourceEvents};
+use std::alloc::{AllocError, Global};
+
+/// What a thread asks for.
+#[derive(Clone, Copy)]
+pub enum Next {
+    /// This event.
+    Wants(SourceEvent),
+    /// Its fuel is spent before.
+    Spent,
+    /// Nothing.
+    Nothing,
+}
+
+/// What a thread asks for with all that the lines tell it, and whether its fuel is spent behind that.
+#[derive(Drop)]
+pub struct ThreadRun {
+    pub thread: u32,
+    pub events: SourceEvents,
+    pub spent: bool,
+}
+
+/// The number of `main`. The answer of want of memory comes also where there are more functions than a number of 32 bits counts.
+pub(crate) fn main_of(t: &Typed) -> Result<Option<u32>, AllocError>
+    ensures main { IfOk result (λ f. f ≡ main_of t.now) }
+    ensures one { OnOk result (OneMain t.now) }
+{
+    one_function_of_name();
+    t.program();
+    for n in 0..u32::MAX {
+        match t.function_at(n) {
+            None => return Ok(None),
+            Some(f) => {
+                if f.name.text.as_slice() == b"main".as_slice() {
+                    return Ok(Some(n));
+                }
+            }
+        }
+    }
+    Err(AllocError)
+}
+
+/// The event by which the thread was spawned.
+fn spawn_of(thread: u32, before: &[SourceEvent]) -> Option<SourceEvent>
+    ensures { result ≡ find (spawns thread) before.now }
+{
+    for e in before {
+        if spawns(thread as u64, e) {
+            return Some(*e);
+        }
+    }
+    None
+}
+
+/// The function and the argument of a thread.
+fn entry(main: Option<u32>, before: &[SourceEvent], thread: u32) -> Option<(u32, i64)>
+    ensures { (r : Resolution) → main ≡ main_of r → result ≡ entry r before.now thread }
+{
+    if thread == 0 {
+        return match main {
+            None => None,
+            Some(f) => Some((f, 0)),
+        };
+    }
+    match spawn_of(thread, before) {
+        None => None,
+        Some(e) => match e.act {
+            Act::Spawn(f, v) => Some((f, v)),
+            _ => None,
+        },
+    }
+}
+
+fn start_at(t: &Typed, thread: u32, function: u32, argument: i64) -> Next
+    ensures { result ≡ start_at thread argument (function_at t.now function) }
+{
+    match t.function_at(function) {
+        None => Next::Nothing,
+        Some(f) => Next::Wants(SourceEvent {
+            thread,
+            site: f.name.site,
+            answer: 0,
+            act: Act::Started(argument),
+        }),
+    }
+}
+
+/// The first event of a thread.
+fn start_of(t: &Typed, main: Option<u32>, before: &[SourceEvent], thread: u32) -> Next
+    requires { main ≡ main_of t.now }
+    ensures { result ≡ start_of t.now thread (entry t.now before.now thread) }
+{
+    match entry(main, before, thread) {
+        None => Next::Nothing,
+        Some(with) => start_at(t, thread, with.0, with.1),
+    }
+}
+
+/// How many events the thread has.
+fn event_count(thread: u32, events: &[SourceEvent]) -> usize
+    ensures { result ≡ length (events_of thread events.now) }
+{
+    let mut count = 0;
+    for e in events {
+        if e.thread == thread {
+            count += 1;
+        }
+    }
+    count
+}
+
+/// What the lines tell the thread.
+fn told_to(alloc: Global, thread: u32, lines: &[EventLine]) -> Result<Vec<i64>, AllocError>
+    ensures { IfOk result (λ all. all.items ≡ told_to thread lines.now) }
+{
+    let mut all = Vec::new(alloc);
+    for line in lines {
+        if line.thread == thread {
+            all.push(told(line))?;
+        }
+    }
+    Ok(all)
+}
+
+fn event_at(run: &ThreadRun, place: usize) -> Next
+    ensures { result ≡ event_at run.now.thread run.now.spent (slice_get run.now.events place) }
+{
+    if place < run.events.len() {
+        let mut e = *run.events.at(place);
+        e.thread = run.thread;
+        Next::Wants(e)
+    } else if run.spent {
+        Next::Spent
+    } else {
+        Next::Nothing
+    }
+}
+
+/// The run of the thread, where it has begun.
+fn run_of(thread: u32, runs: &[ThreadRun]) -> Option<&ThreadRun>
+    ensures { option_copied result ≡ find (λ run. run.thread == thread) runs.now }
+{
+    for run in runs {
+        if run.thread == thread {
+            return Some(run);
+        }
+    }
+    None
+}
+
+/// What the thread of the line asks for behind these events.
+pub(crate) fn next_asked(
+    m: &Moded,
+    main: Option<u32>,
+    fuel: u64,
+    before: &[SourceEvent],
+    line: &EventLine,
+    rest: &[EventLine],
+    runs: &[ThreadRun],
+) -> Next
+    requires main { main ≡ main_of m.now.typed }
+    requires known { AreKnown m.now fuel before.now (line.now ∷ rest.now) runs.now }
+    ensures { result ≡ next_asked m.now fuel before.now line.now }
+{
+    ask_laws();
+    match run_of(line.thread, runs) {
+        None => start_of(m.typed(), main, before, line.thread),
+        Some(run) => {
+            let count = event_count(line.thread, before);
+            if count == 0 {
+                return Next::Nothing;
+            }
+            event_at(run, count - 1)
+        }
+    }
+}
+
+/// What a thread that starts asks for, told all that the lines tell it.
+fn begin(
+    alloc: Global,
+    m: &Moded,
+    fuel: u64,
+    thread: u32,
+    with: (u32, i64),
+    rest: &[EventLine],
+) -> Result<ThreadRun, AllocError>
+    ensures thread { IfOk result (λ run. run.thread ≡ thread) }
+    ensures events { IfOk result (λ run. run.events ≡ (asks m.now with.0 with.1 (told_to thread rest.now) fuel).events) }
+    ensures spent { IfOk result (λ run. run.spent ≡ is_spent (asks m.now with.0 with.1 (told_to thread rest.now) fuel).outcome) }
+{
+    let answers = told_to(alloc, thread, rest)?;
+    let asked = ask(alloc, m, with.0, with.1, answers.as_slice(), fuel)?;
+    let spent = match &asked.outcome {
+        Outcome::Fuel => true,
+        _ => false,
+    };
+    Ok(ThreadRun {
+        thread,
+        events: asked.events,
+        spent,
+    })
+}
+
+/// Takes note of an event that is accepted: where its thread starts by it, what it asks for.
+pub(crate) fn accept(
+    alloc: Global,
+    m: &Moded,
+    main: Option<u32>,
+    fuel: u64,
+    before: &[SourceEvent],
+    line: &EventLine,
+    rest: &[EventLine],
+    runs: &mut Vec<ThreadRun>,
+) -> Result<(), AllocError>
+    requires main { main ≡ main_of m.now.typed }
+    requires known { AreKnown m.now fuel before.now (line.now ∷ rest.now) runs.old.items }
+    ensures { OnOk result ((e : SourceEvent) → next_asked m.now fuel before.now line.now ≡ Wants e → line.now.thread ≡ e.thread → told line.now ≡ e.answer → AreKnown m.now fuel (before.now ++ e ∷ []) rest.now runs.new.items) }
+{
+    match run_of(line.thread, runs.as_slice()) {
+        Some(_) => Ok(()),
+        None => match entry(main, before, line.thread) {
+            None => Ok(()),
+            Some(with) => {
+                let run = begin(alloc, m, fuel, line.thread, with, rest)?;
+                runs.push(run)?;
+                Ok(())
+            }
+        },
+    }
+}

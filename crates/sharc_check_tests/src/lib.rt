@@ -1,0 +1,25 @@
+//! What `check` and `explain` write: tables of sources as tests, over the front end, the checker and the texts as they are together.
+//!
+//! Nothing stands on this crate, and it has no code of its own.
+#![tactic(auto)]
+
+#[cfg(test)]
+mod explained;
+#[cfg(test)]
+mod mismatches;
+#[cfg(test)]
+mod paths;
+#[cfg(test)]
+mod programs;
+#[cfg(test)]
+mod repaired;
+#[cfg(test)]
+mod rules;
+#[cfg(test)]
+mod single;
+#[cfg(test)]
+mod tables;
+#[cfg(test)]
+mod told;
+#[cfg(test)]
+mod warned;

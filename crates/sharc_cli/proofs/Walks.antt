@@ -1,0 +1,286 @@
+-- What clap makes of the words behind a command.
+use Rattle.std.proofs.Common.{◌≡◌, ◌∙◌, ap, ap₂, sym, subst, refl, ℕ, Bool, true, false, ◌&&◌, ◌||◌, List, [], ◌∷◌, ◌++◌, map, Option, Some, None}
+use Rattle.std.specs.Prelude.{if◌then◌else◌, fold, codes}
+use Rattle.std.specs.List.{list_any}
+use Rattle.std.specs.Str.{bytes_eq}
+use Rattle.std.proofs.lemmas.Slice.Eq.{bytes_eq-Decides}
+use Rattle.std.proofs.lemmas.Bool.{false≢true, true≢false}
+use Rattle.std.proofs.lemmas.List.{append-nil}
+use Rattle.clap.specs.Lexer.{long_of, short_of}
+use Rattle.clap.specs.Walk.{is_pending, more_values, reading_by, Held, Row, Rule, Text, Walk, arg_by_id, arg_by_index, arg_by_long, at_row, has_row, idle, option, settled, settled_rows, used, walked}
+use Rattle.clap.specs.Simple.{Shape, built, filled, is_simple, new_rule, new_shape, with_index}
+use Rattle.clap.specs.Faults.{is_simple_and_free, settle_fault, turn_fault, use_fault, walk_fault}
+use Rattle.clap.specs.Kinds.{Kinds, or_else}
+use Rattle.clap.specs.declared.error.kind.ErrorKind.{ErrorKind}
+use Rattle.clap.specs.declared.error.kind.ErrorKind.TheVariants as kind
+use Rattle.clap.specs.declared.parser.matches.ValueSource.TheVariants.{CommandLine}
+use Rattle.clap.proofs.OnLiterals.{clap_on_literals}
+use Rattle.sharc_cli.specs.Commands.{Entry, Form, forms, has, is_option, number}
+use Rattle.sharc_cli.specs.Line.{line, option_argument}
+
+pub line_is_simple : is_simple line ≡ true
+unfolding clap_on_literals
+line_is_simple = refl
+
+pub line_is_free : is_simple_and_free line ≡ true
+unfolding clap_on_literals
+line_is_free = refl
+
+-- ---- the built subcommands
+
+abbrev pub option_rule : Text → Rule
+option_rule name = filled (option_argument name)
+
+abbrev pub number_rule : Rule
+number_rule = with_index 1 (filled (new_rule number))
+
+abbrev pub rules_by : Bool → List Text → List Rule
+rules_by true options = number_rule ∷ map option_rule options
+rules_by false options = map option_rule options
+
+abbrev pub rules_of : Form → List Rule
+rules_of f = rules_by f.has_number f.options
+
+abbrev pub leaf : Form → Shape
+leaf f = record (new_shape f.name) {
+  rules = rules_of f;
+  is_built = true;
+  no_binary_name = true;
+  disable_help_flag = true;
+  disable_help_subcommand = true;
+  disable_version_flag = true;
+}
+
+pub built_subs : (built line).subs ≡ map leaf forms
+built_subs = refl
+
+-- ---- which argument a name finds
+
+options_by_long : (options : List Text) (name : Text) (is : Bool) → list_any (λ n. bytes_eq n name) options ≡ is
+    → arg_by_long (map option_rule options) name ≡ (if is then Some (option_rule name) else None)
+options_by_long [] name is e = rw (← e) refl
+options_by_long (n ∷ rest) name is e = go (bytes_eq n name) refl (options_by_long rest name is)
+  where
+    go : (b : Bool) → bytes_eq n name ≡ b → (list_any (λ n. bytes_eq n name) rest ≡ is → arg_by_long (map option_rule rest) name ≡ (if is then Some (option_rule name) else None))
+        → arg_by_long (map option_rule (n ∷ rest)) name ≡ (if is then Some (option_rule name) else None)
+    go true b rec = let same = (bytes_eq-Decides n name).0 b in rw (← e, b) (ap (λ x. Some (option_rule x)) same)
+    go false b rec = rw b (rec (rw b at e))
+
+pub by_long : (f : Form) (name : Text) (is : Bool) → is_option f name ≡ is → arg_by_long (rules_of f) name ≡ (if is then Some (option_rule name) else None)
+by_long f name is e = go f.has_number
+  where
+    go : (b : Bool) → arg_by_long (rules_by b f.options) name ≡ (if is then Some (option_rule name) else None)
+    go true = options_by_long f.options name is e
+    go false = options_by_long f.options name is e
+
+options_by_id : (options : List Text) (name : Text) → list_any (λ n. bytes_eq n name) options ≡ true
+    → arg_by_id (map option_rule options) name ≡ Some (option_rule name)
+options_by_id [] name e = absurd (false≢true e)
+options_by_id (n ∷ rest) name e = go (bytes_eq n name) refl (options_by_id rest name)
+  where
+    go : (b : Bool) → bytes_eq n name ≡ b → (list_any (λ n. bytes_eq n name) rest ≡ true → arg_by_id (map option_rule rest) name ≡ Some (option_rule name))
+        → arg_by_id (map option_rule (n ∷ rest)) name ≡ Some (option_rule name)
+    go true b rec = let same = (bytes_eq-Decides n name).0 b in rw b (ap (λ x. Some (option_rule x)) same)
+    go false b rec = rw b (rec (rw b at e))
+
+-- no option of the form is called `number`
+abbrev pub IsApart : Form → Type 0
+IsApart f = is_option f number ≡ false
+
+pub not_number : (f : Form) (name : Text) → IsApart f → is_option f name ≡ true → bytes_eq name number ≡ false
+not_number f name apart e = go (bytes_eq name number) refl
+  where
+    go : (b : Bool) → bytes_eq name number ≡ b → bytes_eq name number ≡ false
+    go true b =
+        let same = (bytes_eq-Decides name number).0 b in
+        absurd (false≢true (sym apart ∙ subst (λ n. is_option f n ≡ true) same e))
+    go false b = b
+
+pub by_id : (f : Form) (name : Text) → IsApart f → is_option f name ≡ true → arg_by_id (rules_of f) name ≡ Some (option_rule name)
+by_id f name apart e = go f.has_number
+  where
+    other : bytes_eq number name ≡ false
+    other = go2 (bytes_eq number name) refl
+      where
+        go2 : (b : Bool) → bytes_eq number name ≡ b → bytes_eq number name ≡ false
+        go2 true b = absurd (false≢true (sym (not_number f name apart e) ∙ (bytes_eq-Decides name number).1 (sym ((bytes_eq-Decides number name).0 b))))
+        go2 false b = b
+
+    go : (b : Bool) → arg_by_id (rules_by b f.options) name ≡ Some (option_rule name)
+    go true = rw other (options_by_id f.options name e)
+    go false = options_by_id f.options name e
+
+options_by_index : (options : List Text) (i : ℕ) → arg_by_index (map option_rule options) i ≡ None
+options_by_index [] i = refl
+options_by_index (n ∷ rest) i = options_by_index rest i
+
+pub no_index : (f : Form) (i : ℕ) → f.has_number ≡ false → arg_by_index (rules_of f) i ≡ None
+no_index f i e = rw e (options_by_index f.options i)
+
+pub first_index : (f : Form) → f.has_number ≡ true → arg_by_index (rules_of f) 1 ≡ Some number_rule
+first_index f e = rw e refl
+
+pub second_index : (f : Form) → f.has_number ≡ true → arg_by_index (rules_of f) 2 ≡ None
+second_index f e = rw e (options_by_index f.options 2)
+
+pub number_id : (f : Form) → f.has_number ≡ true → arg_by_id (rules_of f) number ≡ Some number_rule
+number_id f e = rw e refl
+
+-- ---- the rows
+
+abbrev pub entry_row : Entry → Row
+entry_row e = record { id = e.0; values = e.1 ∷ []; count = None; source = Some CommandLine; reading = reading_by (option_rule e.0) }
+
+absent : (id : Text) (change : Row → List Row) (missing rows : List Row) → has_row id rows ≡ false → at_row id change missing rows ≡ rows ++ missing
+absent id change missing [] e = refl
+absent id change missing (r ∷ rs) e = go (bytes_eq r.id id) refl (absent id change missing rs)
+  where
+    go : (b : Bool) → bytes_eq r.id id ≡ b → (has_row id rs ≡ false → at_row id change missing rs ≡ rs ++ missing) → at_row id change missing (r ∷ rs) ≡ r ∷ rs ++ missing
+    go true b rec = absurd (true≢false (rw b at e))
+    go false b rec = rw b (ap (λ t. r ∷ t) (rec (rw b at e)))
+
+pub used_adds : (name value : Text) (rows : List Row) → has_row name rows ≡ false → used (option_rule name) (value ∷ []) rows ≡ rows ++ entry_row (name, value) ∷ []
+used_adds name value rows e =
+    let same = absent name (λ _. []) [] rows e ∙ append-nil rows in
+    rw same (absent name (more_values CommandLine (value ∷ [])) (entry_row (name, value) ∷ []) rows e)
+
+pub has_entry_row : (name : Text) (entries : List Entry) → has_row name (map entry_row entries) ≡ has name entries
+has_entry_row name [] = refl
+has_entry_row name (e ∷ es) = ap (λ b. bytes_eq e.0 name || b) (has_entry_row name es)
+
+-- ---- faults
+
+abbrev pub gate : Kinds → Option (List Row) → Option (List Row)
+gate [] x = x
+gate (k ∷ ks) x = None
+
+pub gate_or : (a b : Kinds) (x : Option (List Row)) → gate (or_else a b) x ≡ gate a (gate b x)
+gate_or [] b x = refl
+gate_or (k ∷ ks) b x = refl
+
+pub gate_none : (a : Kinds) → gate a None ≡ None
+gate_none [] = refl
+gate_none (k ∷ ks) = refl
+
+abbrev pub repeated : Text → List Row → Kinds
+repeated name rows = if has_row name rows then kind.ArgumentConflict ∷ [] else []
+
+pub use_repeats : (name value : Text) (rows : List Row) → use_fault false (option_rule name) (value ∷ []) rows ≡ repeated name rows
+use_repeats name value rows = go (has_row name rows) refl
+  where
+    go : (b : Bool) → has_row name rows ≡ b → use_fault false (option_rule name) (value ∷ []) rows ≡ repeated name rows
+    go true b = rw b refl
+    go false b = rw b refl
+
+-- ---- the steps of the walk
+
+abbrev pub held : List Row → Option (Text × List Text) → Held
+held rows pending = record { rows = rows; pending = pending; skip = 0 }
+
+abbrev pub at_idle : List Row → Option (Text × List Text) → ℕ → Walk
+at_idle rows pending position = record { held = held rows pending; waiting = idle; position = position; is_trailing = false; stopped = None }
+
+abbrev pub at_option : List Row → Text → ℕ → Walk
+at_option rows name position = record { held = held rows (Some (name, [])); waiting = option name; position = position; is_trailing = false; stopped = None }
+
+-- the rows at the end of the walk over these words, where nothing fails
+abbrev pub rows_by : Form → Walk → List Text → Option (List Row)
+rows_by f w ws =
+    let end = (fold (walked (rules_of f) []) w ws).held in
+    gate (walk_fault (leaf f) [] w ws) (gate (settle_fault (rules_of f) false end) (Some (settled (rules_of f) end).rows))
+
+gate_two : (a b : Kinds) (x : Option (List Row)) → gate (or_else (or_else a b) []) x ≡ gate a (gate b x)
+gate_two [] [] x = refl
+gate_two [] (k ∷ ks) x = refl
+gate_two (k ∷ ks) b x = refl
+
+-- one more word, by its fault and the walk after it
+turned : (f : Form) (w after : Walk) (word : Text) (ws : List Text) (fault : Kinds)
+    → turn_fault (leaf f) [] w word ≡ fault → walked (rules_of f) [] w word ≡ after → rows_by f w (word ∷ ws) ≡ gate fault (rows_by f after ws)
+unfolding walk_fault
+turned f w after word ws fault is to =
+    gate_or (turn_fault (leaf f) [] w word) (walk_fault (leaf f) [] (walked (rules_of f) [] w word) ws) _
+    ∙ ap₂ (λ (k : Kinds) (v : Walk). gate k (rows_by f v ws)) is to
+
+pub and_false : (b : Bool) → (b && false) ≡ false
+and_false true = refl
+and_false false = refl
+
+abbrev pub dashes : Text
+dashes = codes "--"
+
+pub step_value : (f : Form) (w name value : Text) (rows : List Row) (p : Option (Text × List Text)) (position : ℕ) (ws : List Text)
+    → long_of w ≡ Some (name, Some value) → bytes_eq w dashes ≡ false → is_option f name ≡ true
+    → rows_by f (at_idle rows p position) (w ∷ ws)
+    ≡ gate (settle_fault (rules_of f) false (held rows p))
+    (gate (repeated name (settled_rows (rules_of f) p rows))
+    (rows_by f (at_idle (used (option_rule name) (value ∷ []) (settled_rows (rules_of f) p rows)) None position) ws))
+unfolding walked walk_fault
+step_value f w name value rows p position ws long dashed known =
+    turned f (at_idle rows p position) (at_idle (used (option_rule name) (value ∷ []) (settled_rows (rules_of f) p rows)) None position) w ws
+    (or_else (or_else (settle_fault (rules_of f) false (held rows p)) (repeated name (settled_rows (rules_of f) p rows))) [])
+    (rw (long, dashed, by_long f name true known, ← use_repeats name value (settled_rows (rules_of f) p rows)) refl)
+    (rw (long, dashed, by_long f name true known) refl)
+    ∙ gate_two (settle_fault (rules_of f) false (held rows p)) (repeated name (settled_rows (rules_of f) p rows)) _
+
+pub step_option : (f : Form) (w name : Text) (rows : List Row) (p : Option (Text × List Text)) (position : ℕ) (ws : List Text)
+    → long_of w ≡ Some (name, None) → bytes_eq w dashes ≡ false → is_option f name ≡ true
+    → rows_by f (at_idle rows p position) (w ∷ ws)
+    ≡ gate (settle_fault (rules_of f) false (held rows p)) (rows_by f (at_option (settled_rows (rules_of f) p rows) name position) ws)
+unfolding walked walk_fault
+step_option f w name rows p position ws long dashed known =
+    turned f (at_idle rows p position) (at_option (settled_rows (rules_of f) p rows) name position) w ws (or_else (settle_fault (rules_of f) false (held rows p)) [])
+    (rw (long, dashed, by_long f name true known) refl)
+    (rw (long, dashed, by_long f name true known) refl)
+    ∙ gate_or (settle_fault (rules_of f) false (held rows p)) [] _
+
+pub step_unknown : (f : Form) (w name : Text) (value : Option Text) (rows : List Row) (p : Option (Text × List Text)) (position : ℕ) (ws : List Text)
+    → long_of w ≡ Some (name, value) → bytes_eq w dashes ≡ false → is_option f name ≡ false
+    → rows_by f (at_idle rows p position) (w ∷ ws) ≡ None
+unfolding walked walk_fault
+step_unknown f w name value rows p position ws long dashed unknown = rw (long, dashed, by_long f name false unknown) refl
+
+-- a word that no flag could be
+pub record IsBare (w : Text) : Type 0 where
+  pub long : long_of w ≡ None
+  pub short : short_of w ≡ None
+  pub dashed : bytes_eq w dashes ≡ false
+
+pub step_stray : (f : Form) (w : Text) (rows : List Row) (p : Option (Text × List Text)) (position : ℕ) (ws : List Text)
+    → IsBare w → arg_by_index (rules_of f) position ≡ None
+    → rows_by f (at_idle rows p position) (w ∷ ws) ≡ None
+unfolding walked walk_fault
+step_stray f w rows p position ws bare none = rw (bare.long, bare.short, bare.dashed, none) refl
+
+pub step_number : (f : Form) (w : Text) (rows : List Row) (p : Option (Text × List Text)) (ws : List Text)
+    → IsBare w → f.has_number ≡ true
+    → rows_by f (at_idle rows p 1) (w ∷ ws)
+    ≡ gate (settle_fault (rules_of f) false (held rows p)) (rows_by f (at_idle (settled_rows (rules_of f) p rows) (Some (number, w ∷ [])) 2) ws)
+unfolding walked walk_fault
+step_number f w rows p ws bare is =
+    turned f (at_idle rows p 1) (at_idle (settled_rows (rules_of f) p rows) (Some (number, w ∷ [])) 2) w ws (settle_fault (rules_of f) false (held rows p))
+    (rw (bare.long, bare.short, bare.dashed, first_index f is, and_false (is_pending number_rule p)) refl)
+    (rw (bare.long, bare.short, bare.dashed, first_index f is, and_false (is_pending number_rule p)) refl)
+
+pub step_filled : (f : Form) (w name : Text) (rows : List Row) (position : ℕ) (ws : List Text)
+    → IsBare w → IsApart f → is_option f name ≡ true
+    → rows_by f (at_option rows name position) (w ∷ ws) ≡ rows_by f (at_idle rows (Some (name, w ∷ [])) position) ws
+unfolding walked walk_fault
+step_filled f w name rows position ws bare apart known =
+    turned f (at_option rows name position) (at_idle rows (Some (name, w ∷ [])) position) w ws []
+    (rw (bare.long, bare.short, bare.dashed) refl)
+    (rw (bare.long, bare.short, bare.dashed, by_id f name apart known, (bytes_eq-Decides name name).1 refl) refl)
+
+gate_first : (k : ErrorKind) (a : Kinds) (b : Kinds) (x : Option (List Row)) → a ≡ k ∷ [] → gate (or_else a b) x ≡ None
+gate_first k a b x e = rw e refl
+
+pub step_unfilled : (f : Form) (w name other : Text) (value : Option Text) (rows : List Row) (position : ℕ) (ws : List Text)
+    → long_of w ≡ Some (other, value) → bytes_eq w dashes ≡ false → IsApart f → is_option f name ≡ true
+    → rows_by f (at_option rows name position) (w ∷ ws) ≡ None
+unfolding walked walk_fault
+step_unfilled f w name other value rows position ws long dashed apart known = go value long (is_option f other) refl
+  where
+    go : (v : Option Text) → long_of w ≡ Some (other, v) → (b : Bool) → is_option f other ≡ b → rows_by f (at_option rows name position) (w ∷ ws) ≡ None
+    go v long false unknown = rw (long, dashed, by_long f other false unknown) refl
+    go None long true is = rw (long, dashed, by_long f other true is, by_id f name apart known) refl
+    go (Some v) long true is = rw (long, dashed, by_long f other true is, by_id f name apart known) refl

@@ -1,0 +1,10 @@
+use Rattle.std.proofs.Common.{◌∙◌, ap, sym}
+use Rattle.clap.specs.Matches.{found_of}
+use Rattle.clap.specs.Walk.{rows_of}
+use Rattle.sharc_cli.specs.Line.{command_in}
+use Rattle.sharc_cli.proofs.Arms.{met}
+use Rattle.sharc_cli.proofs.reader.command_in.Goals as goal
+
+pub returns-in-Some : goal.returns-in-Some
+returns-in-Some c =
+    c.command_of.ensures ∙ sym (ap command_in (met c.args.matches.now c.in-Some.name.now (rows_of (found_of c.in-Some.inner.now)) c.in-Some.ensures.name c.in-Some.ensures.rows))

@@ -1,0 +1,21 @@
+-- One depth more.
+use Rattle.std.proofs.Common.{◌≡◌, ℕ, suc, ◌+◌, true, false, List, [], ◌∷◌, ◌++◌, ap, ◌∙◌, arith, append_assoc}
+use Rattle.sharc_constraints.specs.declared.place.Link.{Link}
+use Rattle.sharc_constraints.specs.Flow.{link_of}
+use Rattle.sharc_constraints.specs.Make.{equal_links, below_links}
+
+next : (n : ℕ) → suc n ≡ n + 1
+next n = omega arith
+
+pub equal_more : (links new : List Link) (first second depth : ℕ) → new ≡ ((links ++ equal_links first second depth) ++ link_of (first + depth) (second + depth) false ∷ []) ++ link_of (second + depth) (first + depth) false ∷ [] → new ≡ links ++ equal_links first second (depth + 1)
+equal_more links new first second depth is =
+    is
+    ∙ append_assoc (links ++ equal_links first second depth) (link_of (first + depth) (second + depth) false ∷ []) (link_of (second + depth) (first + depth) false ∷ [])
+    ∙ append_assoc links (equal_links first second depth) (link_of (first + depth) (second + depth) false ∷ link_of (second + depth) (first + depth) false ∷ [])
+    ∙ ap (λ n. links ++ equal_links first second n) (next depth)
+
+pub below_more : (links new : List Link) (first depth : ℕ) → new ≡ (links ++ below_links first depth) ++ link_of (first + depth) (first + depth + 1) true ∷ [] → new ≡ links ++ below_links first (depth + 1)
+below_more links new first depth is =
+    is
+    ∙ append_assoc links (below_links first depth) (link_of (first + depth) (first + depth + 1) true ∷ [])
+    ∙ ap (λ n. links ++ below_links first n) (next depth)

@@ -1,0 +1,66 @@
+//! Positions and links.
+
+ghost use Rattle.std.specs.Prelude.{◌≡◌};
+ghost use Rattle.sharc_constraints.specs.Flow.{node_of, leads};
+
+use sharc_graph::{Edge, Node};
+
+/// What is known of a position before the inference.
+#[derive(Clone, Copy)]
+pub enum Place {
+    /// No mode is written, and it is a root.
+    Root,
+    /// No mode is written, and it is no root.
+    Unwritten,
+    /// It is written dynamic, or a field's target that is dynamic.
+    Dynamic,
+    /// It is written private.
+    Private,
+    /// It has another written mode.
+    Other,
+}
+
+/// An edge between positions.
+#[derive(Clone, Copy)]
+pub struct Link {
+    pub edge: Edge,
+    /// Whether it leads to the position directly below.
+    pub below: bool,
+}
+
+impl Place {
+    /// What it is to the paths.
+    pub(crate) fn node(self) -> Node
+        ensures { result ≡ node_of self }
+    {
+        match self {
+            Place::Root => Node {
+                source: true,
+                free: true,
+            },
+            Place::Unwritten => Node {
+                source: false,
+                free: true,
+            },
+            Place::Dynamic | Place::Other => Node {
+                source: true,
+                free: false,
+            },
+            Place::Private => Node {
+                source: false,
+                free: false,
+            },
+        }
+    }
+
+    /// Whether a path may go on from it by such a link.
+    pub(crate) fn leads(self, below: bool) -> bool
+        ensures { result ≡ leads self below }
+    {
+        match self {
+            Place::Root | Place::Unwritten | Place::Dynamic => true,
+            Place::Private => false,
+            Place::Other => below,
+        }
+    }
+}

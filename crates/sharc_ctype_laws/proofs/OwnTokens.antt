@@ -1,0 +1,257 @@
+-- In a tree at its tokens no two names have one token: so notes without a fault say what the tokens name, and each declaration is found by its token.
+use Rattle.std.proofs.Common.{◌≡◌, ⊎_elim, ℕ, ◌+◌, ◌≤◌, ◌<◌, zero, suc, Bool, true, false, cond, List, [], ◌∷◌, ◌++◌, length, fold, get_or, replicate, refl, ap, sym, ◌∙◌, subst, arith, Some, eq-eqb, ne_eqb, get_or-set_other, get_or-set_same, length-set, set}
+use Rattle.std.proofs.lemmas.Bool.{cases_eq, cases_lt}
+use Rattle.std.proofs.lemmas.List.{length-replicate}
+use Rattle.std.specs.List.{AllByRecursion}
+use Rattle.sharc_tree.specs.declared.token.Keyword.{Keyword}
+use Rattle.sharc_tree.specs.declared.token.Keyword.TheVariants.{Scast}
+use Rattle.sharc_tree.specs.declared.token.Token.{Token}
+use Rattle.sharc_tree.specs.declared.token.TokenKind.{TokenKind}
+use Rattle.sharc_tree.specs.declared.token.TokenKind.TheVariants as kind
+use Rattle.sharc_tree.specs.declared.tree.declaration.Declaration.{Declaration}
+use Rattle.sharc_tree.specs.Low.{IsLow}
+use Rattle.sharc_tree.specs.Marks.{Mark, keyword_marks, kind_marks, marks_from, name_marks, type_marks, declaration_marks, declarations_marks, marks, option_marks, right_marks, simple_marks, local_marks, first_marks, head_marks, statement_marks, statements_marks, item_marks, items_marks}
+use Rattle.sharc_tree.specs.Placed.{IsPlaced}
+use Rattle.sharc_tree.specs.Tree.{Local, First, nothing, declares, does, Statement, Statements, no_statements, statement, Item, Program}
+use Rattle.sharc_tree.specs.Tree as tree
+use Rattle.sharc_names.specs.declared.fault.Named.{Named}
+use Rattle.sharc_names.specs.declared.fault.Named.TheVariants as named
+use Rattle.sharc_names.specs.declared.fault.Fault.{Fault}
+use Rattle.sharc_names.specs.Notes.{Note, fault, refers, yields, Findings, is_free, noted, faults}
+use Rattle.sharc_ctype.specs.Items.{notes_about, nothing_found}
+use Rattle.sharc_ctype.specs.Resolved.{Resolution, IsResolved, declarations_of, declarations_in, declared_at, named_at}
+use Rattle.sharc_ctype.specs.Statements.{first_locals, locals_in, locals_in_all}
+use Rattle.sharc_ctype_laws.proofs.AtMost.{program_most}
+use Rattle.sharc_ctype_laws.proofs.Counts.{one, told, written, written-append, told_refers, told_yields, written_one, written_cast, written_none}
+use Rattle.sharc_ctype_laws.proofs.Held.{Held}
+use Rattle.sharc_ctype_laws.proofs.Walked.{AreDeclared}
+
+pub one_same : (t : ℕ) → one t t ≡ 1
+unfolding one
+one_same t = ap (λ b. cond b 1 0) (eq-eqb t t refl)
+
+pub one_other : (t n : ℕ) → (n ≡ t → ⊥) → one t n ≡ 0
+unfolding one
+one_other t n h = ap (λ b. cond b 1 0) (ne_eqb n t h)
+
+one_low : (t n : ℕ) → one t n ≤ 1
+one_low t n = ⊎_elim (λ e. let f = ap (one t) e in let g = one_same t in omega (arith, f, g)) (λ e. let f = one_other t n e in omega (arith, f)) (cases_eq n t)
+
+-- the marks among tokens
+
+keyword_low : (t n : ℕ) (k : Keyword) → written t (keyword_marks k n) ≡ 0
+keyword_low t n Scast = written_cast t n [] ∙ written_none t
+keyword_low t n _ = written_none t
+
+kind_low : (t n : ℕ) (k : TokenKind) (text : List ℕ) → written t (kind_marks k text n) ≤ one t n
+kind_low t n (kind.Keyword k) text = let e = keyword_low t n k in omega (arith, e)
+kind_low t n kind.Identifier text = let e = written_one t n text in omega (arith, e)
+kind_low t n (kind.Number v) text = let e = written_none t in omega (arith, e)
+kind_low t n (kind.Character c) text = let e = written_none t in omega (arith, e)
+kind_low t n (kind.Punctuator p) text = let e = written_none t in omega (arith, e)
+kind_low t n kind.LeftOut text = let e = written_none t in omega (arith, e)
+
+record AreFew (t n : ℕ) (list : List Token) : Type 0 where
+  once : written t (marks_from n list) ≤ 1
+  low : t < n → written t (marks_from n list) ≡ 0
+  high : n + length list ≤ t → written t (marks_from n list) ≡ 0
+
+few : (t n : ℕ) (list : List Token) → AreFew t n list
+few t n [] = let e = written_none t in record { once = omega (arith, e); low = λ h. e; high = λ h. e }
+few t n (x ∷ rest) =
+    let f = few t (n + 1) rest in
+    let e = written-append t (kind_marks x.kind x.text n) (marks_from (n + 1) rest) in
+    let k = kind_low t n x.kind x.text in
+    let f_once = f.once in
+    let one_is = one_low t n in
+    record {
+      once = ⊎_elim (λ is. let z = f.low (omega (arith, is)) in omega (arith, e, k, z, one_is)) (λ is. let z = one_other t n is in omega (arith, e, k, z, f_once)) (cases_eq n t);
+      low = λ h. let z = one_other t n (λ is. omega (arith, h, is)) in let y = f.low (omega (arith, h)) in omega (arith, e, k, z, y);
+      high = λ h. let z = one_other t n (λ is. omega (arith, h, is)) in let y = f.high (omega (arith, h)) in omega (arith, e, k, z, y);
+    }
+
+-- names of a tree at its tokens
+
+pub record HasOwnTokens (p : Program) : Type 0 where
+  pub once : (t : ℕ) → written t (items_marks p.items) ≤ 1
+  pub within : (t : ℕ) → 0 < written t (items_marks p.items) → t < length p.tokens.list
+
+pub own_tokens : (p : Program) → IsPlaced p → HasOwnTokens p
+own_tokens p placed = record {
+  once = λ t. subst (λ m. written t m ≤ 1) (sym placed.marked) (few t 0 p.tokens.list).once;
+  within = λ t h. below t (subst (λ m. 0 < written t m) placed.marked h);
+}
+  where
+    below : (t : ℕ) → 0 < written t (marks_from 0 p.tokens.list) → t < length p.tokens.list
+    below t h = ⊎_elim (λ less. less) (λ most. let z = (few t 0 p.tokens.list).high (omega (arith, most)) in absurd (omega (arith, z, h))) (cases_lt t (length p.tokens.list))
+
+-- what is noted stays: no later note is of the same token
+
+free_length : (b : Bool) (all : List Named) (n : ℕ) (what : Named) → length (cond b (set all n what) all) ≡ length all
+free_length true all n what = length-set all n what
+free_length false all n what = refl
+
+free_other : (b : Bool) (all : List Named) (n t : ℕ) (what d : Named) → (t ≡ n → ⊥) → get_or (cond b (set all n what) all) t d ≡ get_or all t d
+free_other true all n t what d other = get_or-set_other all n t what d other
+free_other false all n t what d other = refl
+
+length_kept : (f : Findings) (n : Note) → length (noted f n).named ≡ length f.named
+length_kept f (fault place code) = refl
+length_kept f (refers token what) = length-set f.named token what
+length_kept f (yields token what) = free_length (is_free (get_or f.named token named.Known)) f.named token what
+
+untold : (t : ℕ) (d : Named) (f : Findings) (list : List Note) → told t list ≡ 0 → get_or (fold noted f list).named t d ≡ get_or f.named t d
+unfolding told
+untold t d f [] h = refl
+untold t d f (fault place code ∷ rest) h = untold t d (noted f (fault place code)) rest h
+untold t d f (refers n what ∷ rest) h =
+    untold t d (noted f (refers n what)) rest (omega (arith, h))
+    ∙ get_or-set_other f.named n t what d (λ is. let e = one_same t in let g = ap (one t) (sym is) in omega (arith, h, e, g))
+untold t d f (yields n what ∷ rest) h =
+    untold t d (noted f (yields n what)) rest (omega (arith, h))
+    ∙ free_other (is_free (get_or f.named n named.Known)) f.named n t what d (λ is. let e = one_same t in let g = ap (one t) (sym is) in omega (arith, h, e, g))
+
+no_faults : (f : Fault) (rest : List Fault) → f ∷ rest ≡ [] → ⊥
+no_faults f rest h = cc
+
+apart_from : (n t : ℕ) (rest : List Note) → told n rest ≡ 0 → 0 < told t rest → (t ≡ n → ⊥)
+apart_from n t rest none some is = let e = ap (λ x. told x rest) is in omega (arith, none, some, e)
+
+-- nothing is named where nothing is told yet
+abbrev IsOpen : Findings → List Note → Type 0
+IsOpen f list = (t : ℕ) → 0 < told t list → get_or f.named t named.Known ≡ named.Known
+
+held_by : (r : Resolution) (f : Findings) (list : List Note) → ((t : ℕ) → told t list ≤ 1) → ((t : ℕ) → 0 < told t list → t < length f.named) → IsOpen f list → faults list ≡ []
+    → ((t : ℕ) → named_at r t ≡ get_or (fold noted f list).named t named.Known) → Held r list
+unfolding Held
+held_by r f [] once within free clean is = tt
+held_by r f (fault place code ∷ rest) once within free clean is = absurd (no_faults _ _ clean)
+held_by r f (refers n what ∷ rest) once within free clean is =
+    let more : (t : ℕ) → told t (refers n what ∷ rest) ≡ one t n + told t rest = λ t. told_refers t n what rest in
+    let none : told n rest ≡ 0 = let e = more n in let o = once n in let s = one_same n in omega (arith, e, o, s) in
+    let low : n < length f.named = within n (let e = more n in let s = one_same n in omega (arith, e, s)) in (
+      is n ∙ untold n named.Known (noted f (refers n what)) rest none ∙ get_or-set_same f.named n what named.Known low,
+      held_by r (noted f (refers n what)) rest (λ t. let e = more t in let o = once t in omega (arith, e, o))
+          (λ t h. let l = length_kept f (refers n what) in let w = within t (let e = more t in omega (arith, e, h)) in omega (arith, l, w))
+          (λ t h. get_or-set_other f.named n t what named.Known (apart_from n t rest none h) ∙ free t (let e = more t in omega (arith, e, h))) clean is,
+    )
+held_by r f (yields n what ∷ rest) once within free clean is =
+    let more : (t : ℕ) → told t (yields n what ∷ rest) ≡ one t n + told t rest = λ t. told_yields t n what rest in
+    let none : told n rest ≡ 0 = let e = more n in let o = once n in let s = one_same n in omega (arith, e, o, s) in
+    let some : 0 < told n (yields n what ∷ rest) = let e = more n in let s = one_same n in omega (arith, e, s) in (
+      is n ∙ untold n named.Known (noted f (yields n what)) rest none ∙ ap (λ x. get_or (cond (is_free x) (set f.named n what) f.named) n named.Known) (free n some) ∙ get_or-set_same f.named n what named.Known (within n some),
+      held_by r (noted f (yields n what)) rest (λ t. let e = more t in let o = once t in omega (arith, e, o))
+          (λ t h. let l = length_kept f (yields n what) in let w = within t (let e = more t in omega (arith, e, h)) in omega (arith, l, w))
+          (λ t h. free_other (is_free (get_or f.named n named.Known)) f.named n t what named.Known (apart_from n t rest none h) ∙ free t (let e = more t in omega (arith, e, h))) clean is,
+    )
+
+blank : (n t : ℕ) → get_or (replicate n named.Known) t named.Known ≡ named.Known
+blank zero t = refl
+blank (suc n) zero = refl
+blank (suc n) (suc t) = blank n t
+
+pub all_held : (r : Resolution) → IsResolved r → HasOwnTokens r.program → IsLow r.program → Held r (notes_about r.program)
+all_held r resolved own low =
+    held_by r (nothing_found (length r.program.tokens.list)) (notes_about r.program)
+    (λ t. let m = program_most t (length r.program.tokens.list) r.program.items low in let o = own.once t in omega (arith, m, o))
+    (λ t h. let m = program_most t (length r.program.tokens.list) r.program.items low in let w = own.within t (omega (arith, m, h)) in let l = length-replicate (length r.program.tokens.list) named.Known in omega (arith, w, l))
+    (λ t h. blank (length r.program.tokens.list) t)
+    resolved.typed
+    (λ t. ap (λ l. get_or l t named.Known) resolved.named)
+
+-- declarations
+
+times : ℕ → List Declaration → ℕ
+times t [] = 0
+times t (d ∷ rest) = one t d.name.site.token + times t rest
+
+times-append : (t : ℕ) (a b : List Declaration) → times t (a ++ b) ≡ times t a + times t b
+unfolding times
+times-append t [] b = omega arith
+times-append t (d ∷ rest) b = let e = times-append t rest b in omega (arith, e)
+
+declaration_written : (t : ℕ) (d : Declaration) → one t d.name.site.token ≤ written t (declaration_marks d)
+declaration_written t d = let e = written-append t (type_marks d.written) (name_marks d.name) in let f = written_one t d.name.site.token d.name.text in omega (arith, e, f)
+
+declarations_written : (t : ℕ) (list : List Declaration) → times t list ≤ written t (declarations_marks list)
+unfolding times
+declarations_written t [] = omega arith
+declarations_written t (d ∷ rest) = let e = declaration_written t d in let f = declarations_written t rest in let g = written-append t (declaration_marks d) (declarations_marks rest) in omega (arith, e, f, g)
+
+local_written : (t : ℕ) (l : Local) → times t (l.declaration ∷ []) ≤ written t (local_marks l)
+unfolding times
+local_written t l = let e = declaration_written t l.declaration in let f = written-append t (declaration_marks l.declaration) (option_marks right_marks l.initial) in omega (arith, e, f)
+
+first_written : (t : ℕ) (f : First) → times t (first_locals f) ≤ written t (first_marks f)
+unfolding times
+first_written t nothing = omega arith
+first_written t (declares l) = local_written t l
+first_written t (does x) = omega arith
+
+none_written : (t n : ℕ) → times t [] ≤ n
+unfolding times
+none_written t n = omega arith
+
+locals_side : (t : ℕ) (a b : List Declaration) (x y : List Mark) → times t a ≤ written t x → times t b ≤ written t y → times t (a ++ b) ≤ written t (x ++ y)
+locals_side t a b x y h k = let e = times-append t a b in let f = written-append t x y in omega (arith, e, f, h, k)
+
+locals_behind : (t : ℕ) (b : List Declaration) (x y : List Mark) → times t b ≤ written t y → times t b ≤ written t (x ++ y)
+locals_behind t b x y h = let f = written-append t x y in omega (arith, f, h)
+
+locals_before : (t : ℕ) (b : List Declaration) (x y : List Mark) → times t b ≤ written t x → times t b ≤ written t (x ++ y)
+locals_before t b x y h = let f = written-append t x y in omega (arith, f, h)
+
+mutual
+  locals_written : (t : ℕ) (a : Statement) → times t (locals_in a) ≤ written t (statement_marks a)
+  locals_written t (tree.empty s) = none_written t _
+  locals_written t (tree.block s all) = all_locals_written t all
+  locals_written t (tree.declare s l) = local_written t l
+  locals_written t (tree.simple s x) = none_written t _
+  locals_written t (tree.jump s j) = none_written t _
+  locals_written t (tree.return s e) = none_written t _
+  locals_written t (tree.if_then s e a) = locals_behind t (locals_in a) (marks e) (statement_marks a) (locals_written t a)
+  locals_written t (tree.if_then_else s e a b) = locals_side t (locals_in a) (locals_in b) (marks e ++ statement_marks a) (statement_marks b) (locals_behind t (locals_in a) (marks e) (statement_marks a) (locals_written t a)) (locals_written t b)
+  locals_written t (tree.while s e a) = locals_behind t (locals_in a) (marks e) (statement_marks a) (locals_written t a)
+  locals_written t (tree.for s h a) =
+      locals_side t (first_locals h.first) (locals_in a) (head_marks h) (statement_marks a)
+      (locals_before t (first_locals h.first) (first_marks h.first ++ option_marks marks h.test) (option_marks simple_marks h.step) (locals_before t (first_locals h.first) (first_marks h.first) (option_marks marks h.test) (first_written t h.first)))
+      (locals_written t a)
+
+  all_locals_written : (t : ℕ) (all : Statements) → times t (locals_in_all all) ≤ written t (statements_marks all)
+  all_locals_written t no_statements = none_written t _
+  all_locals_written t (statement a rest) = locals_side t (locals_in a) (locals_in_all rest) (statement_marks a) (statements_marks rest) (locals_written t a) (all_locals_written t rest)
+
+item_written : (t : ℕ) (i : Item) → times t (declarations_of i) ≤ written t (item_marks i)
+item_written t (tree.structure s) = locals_behind t s.fields (name_marks s.name) (declarations_marks s.fields) (declarations_written t s.fields)
+item_written t (tree.global g) = none_written t _
+item_written t (tree.function f) =
+    locals_side t f.parameters (locals_in_all f.statements) (type_marks f.result ++ name_marks f.name ++ declarations_marks f.parameters) (statements_marks f.statements)
+    (locals_behind t f.parameters (type_marks f.result ++ name_marks f.name) (declarations_marks f.parameters) (declarations_written t f.parameters)) (all_locals_written t f.statements)
+
+items_written : (t : ℕ) (items : List Item) → times t (declarations_in items) ≤ written t (items_marks items)
+items_written t [] = none_written t _
+items_written t (i ∷ rest) = locals_side t (declarations_of i) (declarations_in rest) (item_marks i) (items_marks rest) (item_written t i) (items_written t rest)
+
+apart : (t : ℕ) (list : List Declaration) → times t list ≡ 0 → AllByRecursion (λ d. t ≡ d.name.site.token → ⊥) list
+unfolding times
+apart t [] h = tt
+apart t (d ∷ rest) h = ((λ is. let e = one_same t in let g = ap (one t) is in omega (arith, h, e, g)), apart t rest (omega (arith, h)))
+
+pub together : {A : Type 0} (P Q R : A → Type 0) → ((x : A) → P x → Q x → R x) → (list : List A) → AllByRecursion P list → AllByRecursion Q list → AllByRecursion R list
+together P Q R f [] h k = tt
+together P Q R f (x ∷ rest) h k = (f x h.0 k.0, together P Q R f rest h.1 k.1)
+
+found_by_token : (list : List Declaration) → ((t : ℕ) → times t list ≤ 1) → AllByRecursion (λ d. declared_at list d.name.site.token ≡ Some d) list
+unfolding times
+found_by_token [] once = tt
+found_by_token (x ∷ rest) once =
+    let n = x.name.site.token in (
+      ap (λ b. cond b (Some x) (declared_at rest x.name.site.token)) (eq-eqb x.name.site.token x.name.site.token refl),
+      together (λ d. x.name.site.token ≡ d.name.site.token → ⊥) (λ d. declared_at rest d.name.site.token ≡ Some d) (λ d. declared_at (x ∷ rest) d.name.site.token ≡ Some d)
+          (λ d ne is. ap (λ b. cond b (Some x) (declared_at rest d.name.site.token)) (ne_eqb x.name.site.token d.name.site.token ne) ∙ is) rest
+          (apart x.name.site.token rest (let o = once x.name.site.token in let s = one_same x.name.site.token in omega (arith, o, s)))
+          (found_by_token rest (λ t. let o = once t in omega (arith, o))),
+    )
+
+pub all_declared : (r : Resolution) → HasOwnTokens r.program → AreDeclared r (declarations_in r.program.items)
+all_declared r own = found_by_token (declarations_in r.program.items) (λ t. let e = items_written t r.program.items in let o = own.once t in omega (arith, e, o))

@@ -1,0 +1,10 @@
+use Rattle.std.proofs.Common.{◌≡◌, ◌≤◌, length, drop}
+use Rattle.sharc_dataflow.specs.Passes.{summed, sum_start}
+use Rattle.sharc_dataflow.specs.Views.{view_sums}
+use Rattle.sharc_dataflow.proofs.back.heads_of.Given as goal
+
+abbrev pub invariant-loop-i : goal.invariant-loop-i
+invariant-loop-i l = (l.i ≤ length l.steps) × (view_sums l.sums ≡ summed l.x (drop l.i l.steps) sum_start)
+
+abbrev pub decreases-loop-i : goal.decreases-loop-i
+decreases-loop-i l = l.i

@@ -1,0 +1,10 @@
+use Rattle.std.proofs.Common.{sym, ap, ◌∙◌}
+use Rattle.sharc_dataflow.specs.Passes.{last_or, front}
+use Rattle.sharc_dataflow.proofs.Summed.{last_pushed, front_pushed}
+use Rattle.sharc_dataflow.proofs.stack.pop_ways.Goals as goal
+
+pub returns-in-Some-clause-last : goal.returns-in-Some-clause-last
+returns-in-Some-clause-last c = sym (ap (last_or c.args.default) c.in-Some.ensures.items ∙ last_pushed c.args.default c.in-Some.last c.pop.new.self.items)
+
+pub returns-in-Some-clause-front : goal.returns-in-Some-clause-front
+returns-in-Some-clause-front c = sym (ap front c.in-Some.ensures.items ∙ front_pushed c.in-Some.last c.pop.new.self.items)

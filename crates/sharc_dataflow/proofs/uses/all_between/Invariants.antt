@@ -1,0 +1,6 @@
+use Rattle.std.proofs.Common.{take}
+use Rattle.sharc_dataflow.specs.Narrow.{AreBetween}
+use Rattle.sharc_dataflow.proofs.uses.all_between.Given as goal
+
+abbrev pub invariant-loop-x : goal.invariant-loop-x
+invariant-loop-x l = AreBetween l.first l.last (take l.x-index l.list)

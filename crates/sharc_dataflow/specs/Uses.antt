@@ -1,0 +1,56 @@
+-- What is answered of code: its reads of nulled variables.
+use Rattle.std.specs.Prelude.{ℕ, ◌<◌, ◌≤◌, List, [], ◌∷◌, ◌++◌, Contains, None, ◌⊎◌}
+use Rattle.sharc_dataflow.specs.declared.step.Step.{Step}
+use Rattle.sharc_dataflow.specs.declared.step.Step.TheVariants as steps
+use Rattle.sharc_dataflow.specs.declared.way.Warning.{Warning}
+use Rattle.sharc_dataflow.specs.Flow.{Reaches}
+use Rattle.sharc_dataflow.specs.Code.{Code, paths}
+use Rattle.sharc_dataflow.specs.Sums.{warns}
+
+abbrev pub warning : ℕ → ℕ → Warning
+warning r k = record { read = r; since = k }
+
+-- the read at r has a warning that names the nulling at k, or an earlier one
+pub record HasWarning (found : List Warning) (k r : ℕ) : Type 0 where
+  pub since : ℕ
+  pub first : since ≤ k
+  pub has : Contains found (warning r since)
+
+-- some path in the code leads from a nulling of a variable at k to its read at r, with no write of it between
+pub record IsUse (c : Code) (k r : ℕ) : Type 0 where
+  pub variable : ℕ
+  pub reaches : Reaches (paths c) variable k r
+
+-- The warnings of the code are added to those before: each names a nulling from which a path leads to its read, with no write between; and each read to
+-- which such a path leads from some nulling has a warning that names this one or an earlier one.
+pub record AddsUses (c : Code) (before after : List Warning) : Type 0 where
+  pub kept : (w : Warning) → Contains before w → Contains after w
+  pub only : (k r : ℕ) → Contains after (warning r k) → Contains before (warning r k) ⊎ IsUse c k r
+  pub all : (k r : ℕ) → IsUse c k r → HasWarning after k r
+
+-- in the order of the reads, one for each
+abbrev pub Rising : List Warning → Type 0
+Rising [] = Unit {0}
+Rising (a ∷ []) = Unit {0}
+Rising (a ∷ (b ∷ l)) = (a.read < b.read) × Rising (b ∷ l)
+
+-- of each read the warning that names the first nulling
+pub record AreFirsts (found firsts : List Warning) : Type 0 where
+  pub rising : Rising firsts
+  pub only : (w : Warning) → Contains firsts w → Contains found w
+  pub all : (k r : ℕ) → Contains found (warning r k) → HasWarning firsts k r
+
+-- the variables that the steps null
+
+abbrev pub nulled_at : Step → List ℕ
+nulled_at (steps.Null x k) = x ∷ []
+nulled_at _ = []
+
+abbrev pub all_nulled : List Step → List ℕ
+all_nulled [] = []
+all_nulled (a ∷ rest) = nulled_at a ++ all_nulled rest
+
+-- the warnings about some variables
+abbrev pub all_warns : Code → List ℕ → List Warning
+all_warns c [] = []
+all_warns c (x ∷ rest) = warns x c None ++ all_warns c rest

@@ -1,0 +1,44 @@
+-- Globals lie one behind the other.
+use Rattle.std.proofs.Common.{◌≡◌, ℕ, zero, suc, ◌+◌, ◌*◌, ◌/◌, ◌<◌, ◌≤◌, List, [], ◌∷◌, length, refl, ap, arith}
+use Rattle.std.specs.Prelude.{slice_index_or}
+use Rattle.sharc_tree.specs.declared.tree.item.GlobalDefinition.{GlobalDefinition}
+use Rattle.sharc_code.specs.declared.code.GlobalCells.{GlobalCells}
+use Rattle.sharc_code.specs.Says.{no_global}
+use Rattle.sharc_ctype.specs.Resolved.{Resolution, globals_in}
+use Rattle.sharc_flat_form.specs.Framed.{IsInGlobal}
+use Rattle.sharc_flat.specs.Laws.{GlobalsLieApart}
+use Rattle.sharc_flat.specs.Tables.{cells_in, granules_in, globals_from, globals_of}
+
+half : (n : ℕ) → n ≤ 2 * ((n + 1) / 2)
+half n = omega arith
+
+-- the cells of a global lie behind the first
+behind : (r : Resolution) (at : ℕ) (gs : List GlobalDefinition) (g : ℕ) → g < length (globals_from r at gs) → at ≤ (slice_index_or (globals_from r at gs) g no_global).granule
+behind r at [] g lt = absurd (omega arith)
+behind r at (x ∷ rest) zero lt = omega arith
+behind r at (x ∷ rest) (suc g) lt = let b = behind r (at + granules_in r x) rest g (omega arith) in omega arith
+
+apart_from : (r : Resolution) (at : ℕ) (gs : List GlobalDefinition) (g h place : ℕ) → IsInGlobal (globals_from r at gs) g place → IsInGlobal (globals_from r at gs) h place → g ≡ h
+apart_from r at [] g h place a b = let lt = a.known in absurd (omega arith)
+apart_from r at (x ∷ rest) zero zero place a b = refl
+apart_from r at (x ∷ rest) zero (suc h) place a b =
+    let lt = b.known in
+    let low = b.low in
+    let high = a.high in
+    let far = behind r (at + granules_in r x) rest h (omega arith) in
+    let whole = half (cells_in r x) in
+    absurd (omega arith)
+apart_from r at (x ∷ rest) (suc g) zero place a b =
+    let lt = a.known in
+    let low = a.low in
+    let high = b.high in
+    let far = behind r (at + granules_in r x) rest g (omega arith) in
+    let whole = half (cells_in r x) in
+    absurd (omega arith)
+apart_from r at (x ∷ rest) (suc g) (suc h) place a b =
+    let la = a.known in
+    let lb = b.known in
+    ap suc (apart_from r (at + granules_in r x) rest g h place (record { known = omega arith; low = a.low; high = a.high }) (record { known = omega arith; low = b.low; high = b.high }))
+
+pub apart : GlobalsLieApart
+apart r g h place a b = apart_from r 1 (globals_in r.program.items) g h place a b

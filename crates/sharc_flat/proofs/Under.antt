@@ -1,0 +1,73 @@
+-- An access by its mode: under no lock, under one, or stopped.
+use Rattle.std.proofs.Common.{◌≡◌, ℕ, ◌+◌, ◌-◌, Bool, true, false, cond, List, Option, Some, None, refl, ap, ◌∙◌, arith}
+use Rattle.std.specs.Prelude.{ℤ, pos, negsuc, max, zero, suc, unsigned_abs}
+use Rattle.sharc_tree.specs.declared.event.Act.{Act}
+use Rattle.sharc_tree.specs.declared.event.CellAt.{CellAt}
+use Rattle.sharc_tree.specs.declared.event.CellMode.{CellMode}
+use Rattle.sharc_tree.specs.declared.event.CellMode.TheVariants as modes
+use Rattle.sharc_tree.specs.declared.event.Object.TheVariants as objects
+use Rattle.sharc_code.specs.declared.code.GlobalCells.{GlobalCells}
+use Rattle.sharc_code.specs.declared.code.PlaceMode.{PlaceMode}
+use Rattle.sharc_code.specs.declared.code.PlaceMode.TheVariants.{Private, Readonly, Racy, Dynamic, LockedGlobal, LockedSibling, LockedThrough, LockedLoaded}
+use Rattle.sharc_code.specs.declared.instr.Cell.{Cell}
+use Rattle.sharc_code.specs.Machine.{elements_of as elements_made}
+use Rattle.sharc_meaning.specs.Arithmetic.{null_base}
+use Rattle.sharc_meaning.specs.Cells.{cell_of, through}
+use Rattle.sharc_meaning.specs.Reference.{is_null, number_of}
+use Rattle.sharc_meaning.specs.Statements.{is_positive}
+use Rattle.sharc_flat_form.specs.declared.op.Spot.{Spot}
+use Rattle.sharc_flat_form.specs.Machine.{At, Turn, asks, ref, cell_at, global_cell, lock_is_null, is_of_null, mode_of, stops, accesses, accessed, next as on}
+
+-- the mutex of a place, if its mode is locked and the path does not lead through NULL
+abbrev pub mutex_of : List GlobalCells → At → CellAt → PlaceMode → Option CellAt
+mutex_of globals m c (LockedGlobal g place) = Some (global_cell globals g place)
+mutex_of globals m c (LockedSibling field mutex) = Some (record { object = c.object; cell = c.cell - field + mutex })
+mutex_of globals m c (LockedThrough r place) = through (ref m r) place
+mutex_of globals m c LockedLoaded = through m.pending 0
+mutex_of globals m c Private = None
+mutex_of globals m c Readonly = None
+mutex_of globals m c Racy = None
+mutex_of globals m c Dynamic = None
+
+-- under a lock, or X1 where the path leads through NULL
+abbrev pub under_lock : Option CellAt → Spot → (CellMode → Turn) → Turn
+under_lock None spot f = stops null_base spot
+under_lock (Some c) spot f = f (modes.Locked (Some c))
+
+abbrev pub under : PlaceMode → Option CellAt → Spot → (CellMode → Turn) → Turn
+under Private c spot f = f modes.Private
+under Readonly c spot f = f modes.Readonly
+under Racy c spot f = f modes.Racy
+under Dynamic c spot f = f modes.Dynamic
+under (LockedGlobal g place) c spot f = under_lock c spot f
+under (LockedSibling field mutex) c spot f = under_lock c spot f
+under (LockedThrough r place) c spot f = under_lock c spot f
+under LockedLoaded c spot f = under_lock c spot f
+
+through_by : (b : Bool) (c : CellAt) (spot : Spot) (f : CellMode → Turn) → cond b (stops null_base spot) (f (modes.Locked (cond b None (Some c)))) ≡ under_lock (cond b None (Some c)) spot f
+through_by true c spot f = refl
+through_by false c spot f = refl
+
+under_by : (globals : List GlobalCells) (m : At) (c : CellAt) (spot : Spot) (f : CellMode → Turn) (mode : PlaceMode) → is_of_null m spot.lock ≡ false
+    → cond (lock_is_null m spot mode) (stops null_base spot) (f (mode_of globals m c mode)) ≡ under mode (mutex_of globals m c mode) spot f
+under_by globals m c spot f Private e = refl
+under_by globals m c spot f Readonly e = refl
+under_by globals m c spot f Racy e = refl
+under_by globals m c spot f Dynamic e = refl
+under_by globals m c spot f (LockedGlobal g place) e = refl
+under_by globals m c spot f (LockedSibling field mutex) e = ap (λ b. cond b (stops null_base spot) (f (mode_of globals m c (LockedSibling field mutex)))) e
+under_by globals m c spot f (LockedThrough r place) e = through_by (is_null (ref m r)) (cell_of (objects.Made (number_of (ref m r))) place) spot f
+under_by globals m c spot f LockedLoaded e = through_by (is_null m.pending) (cell_of (objects.Made (number_of m.pending)) 0) spot f
+
+-- where the mutex beside what is accessed is not one of NULL
+pub accesses_under : (globals : List GlobalCells) (cell : Cell) (spot : Spot) (act : CellAt → CellMode → Act) (then_ : CellAt → ℤ → At → At) (m : At) → is_of_null m spot.lock ≡ false
+    → accesses globals cell spot act then_ m ≡ under spot.mode (mutex_of globals m (cell_at globals m cell) spot.mode) spot
+    (λ mode. asks m spot.site (act (cell_at globals m cell) mode) (pos 0) (λ v n. accessed (on (then_ (cell_at globals m cell) v n))))
+accesses_under globals cell spot act then_ m e =
+    under_by globals m (cell_at globals m cell) spot (λ mode. asks m spot.site (act (cell_at globals m cell) mode) (pos 0) (λ v n. accessed (on (then_ (cell_at globals m cell) v n)))) spot.mode e
+
+-- a size that is positive is the number of elements
+pub positive_elements : (v : ℤ) → is_positive v ≡ true → elements_made v ≡ unsigned_abs v
+positive_elements (pos zero) h = absurd (cc)
+positive_elements (pos (suc n)) h = let q : max 1 (suc n) ≡ suc n = omega arith in q
+positive_elements (negsuc n) h = absurd (cc)

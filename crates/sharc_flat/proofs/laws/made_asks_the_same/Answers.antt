@@ -1,0 +1,13 @@
+use Rattle.sharc_ctype.specs.Resolved.{functions_in}
+use Rattle.sharc_flat_form.specs.Made.{flat_of}
+use Rattle.sharc_flat.specs.Flattened.{flattened}
+use Rattle.sharc_flat.specs.Flattens.{names_of}
+use Rattle.sharc_flat.specs.Tables.{globals_of}
+use Rattle.sharc_flat.proofs.Flattening.{is_flattened}
+use Rattle.sharc_flat.proofs.Laying as laying
+use Rattle.sharc_flat.proofs.Threads as threads
+use Rattle.sharc_flat.proofs.laws.made_asks_the_same.Goals as goal
+
+pub returns : goal.returns
+returns c = λ m suits code is. laying.laid_asks_the_same m code.texts.items (names_of (functions_in m.typed.program.items)) (flattened m (globals_of m.typed)) (flat_of code) is.lays
+    (threads.asks_the_same m suits c.ask_laws.ensures.spent_is_none (flattened m (globals_of m.typed)) (is_flattened m (globals_of m.typed)))

@@ -1,0 +1,10 @@
+pub mod Frames
+pub mod Scope
+pub mod Places
+pub mod Suits
+pub mod Flattened
+pub mod Correct
+pub mod Laws
+pub mod Laid
+pub mod Tables
+pub mod Flattens

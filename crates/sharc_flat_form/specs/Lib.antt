@@ -1,0 +1,4 @@
+pub mod Machine
+pub mod Path
+pub mod Framed
+pub mod Made

@@ -1,0 +1,222 @@
+-- Each expression of a typed program suits.
+use Rattle.std.proofs.Common.{◌≡◌, inl, inr, ℕ, ◌+◌, Bool, true, false, List, [], ◌∷◌, ◌++◌, refl, ap, sym, ◌∙◌, subst, Option, Some, None, bytes_eq, codes, if◌then◌else◌}
+use Rattle.std.proofs.lemmas.Bool.{false≢true, true≢false}
+use Rattle.std.specs.List.{AllByRecursion}
+use Rattle.sharc_tree.specs.declared.ctype.Base.{Base}
+use Rattle.sharc_tree.specs.declared.ctype.Base.TheVariants as base
+use Rattle.sharc_tree.specs.declared.tree.declaration.Identifier.{Identifier}
+use Rattle.sharc_tree.specs.declared.tree.declaration.WrittenType.{WrittenType}
+use Rattle.sharc_tree.specs.declared.tree.expression.BinaryOperator.{BinaryOperator}
+use Rattle.sharc_tree.specs.declared.tree.expression.BinaryOperator.TheVariants.{LogicalOr, LogicalAnd, BitOr, BitXor, BitAnd, Equal, NotEqual, Less, Greater, LessOrEqual, GreaterOrEqual, ShiftLeft, ShiftRight, Add, Subtract, Multiply, Divide, Remainder}
+use Rattle.sharc_tree.specs.declared.tree.expression.Constant.{Constant}
+use Rattle.sharc_tree.specs.declared.tree.expression.Constant.TheVariants as constants
+use Rattle.sharc_tree.specs.declared.token.NumberType.{NumberType}
+use Rattle.sharc_tree.specs.declared.token.NumberType.TheVariants as width
+use Rattle.sharc_tree.specs.Forms.{is_lvalue}
+use Rattle.sharc_tree.specs.Measures.{expressions, in_arguments}
+use Rattle.sharc_tree.specs.Tree.{Expression, identifier, index, Arguments, no_arguments, argument, Function}
+use Rattle.sharc_names.specs.declared.fault.Named.{Named}
+use Rattle.sharc_names.specs.declared.fault.Named.TheVariants as named
+use Rattle.sharc_names.specs.Kinds.{Kind, object, array, is_array, is_integer, is_pointer, declared_kind, declared_kinds}
+use Rattle.sharc_names.specs.Kinds as kinds
+use Rattle.sharc_names.specs.declared.meaning.ConditionCall.{ConditionCall}
+use Rattle.sharc_names.specs.declared.meaning.ConditionCall.TheVariants.{Wait, Signal, Broadcast}
+use Rattle.sharc_names.specs.Names.{condition_parameters}
+use Rattle.sharc_ctype.specs.declared.expr.OperatorClass.{OperatorClass}
+use Rattle.sharc_ctype.specs.declared.expr.OperatorClass.TheVariants.{Logical, Equality, Relation, Shift, Arithmetic}
+use Rattle.sharc_ctype.specs.Expressions.{class_of, constant_kind, number_kind}
+use Rattle.sharc_ctype.specs.Resolved.{Resolution, named_at, kind_at, function_at, variable_kind}
+use Rattle.sharc_ctype.specs.Statements.{is_aggregate}
+use Rattle.sharc_ctype.specs.Transfers.{parameters_named, parameters_of}
+use Rattle.sharc_mode.specs.Cells.{cell_at, named_cell}
+use Rattle.sharc_mode.specs.Moded.{Assignment}
+use Rattle.sharc_mode.specs.Sharings.{Sharing}
+use Rattle.sharc_meaning.specs.State.{is_reference}
+use Rattle.sharc_ctype_laws.specs.Constraints.{HasType, HaveTypes, Callee, of_program, of_conditions, name_of, IsInteger, IsPointer, IsScalar, Common, both_shorter, left_long, right_long, Comparable, Assignable, a_variable, a_global, a_function, a_constant, in_parentheses, element_of_pointer, element_of_array, a_call, a_field, a_field_behind, negated, complemented, denied, pointed_to, arithmetic, shifted, related, equated, joined, spawned, printed_or_joined, locked, unlocked, freed, a_cast, none_left, one_more}
+use Rattle.sharc_ctype_laws.specs.Rules.{IsHeld}
+use Rattle.sharc_flat.specs.Places.{Target, variable, in_global, in_global_at, in_object, in_object_at, target, named_target, own_field, global_of, guard_field}
+use Rattle.sharc_flat.specs.Scope.{Context, slot_kind}
+use Rattle.sharc_flat.specs.Suits as flat
+use Rattle.sharc_flat.specs.Suits.{Suits, PlaceSuits, ArgumentsSuit, ReferencesSuit, IndexSuits, CallSuits, TakeSuits, LeftSuits, NameSuits, OperandsSuit, HandsOn, Passes, Either, PathStands, is_cell}
+use Rattle.sharc_flat_laws.specs.Stands.{AtPlace, GlobalsUnguarded}
+use Rattle.sharc_flat_laws.proofs.AllLemmas.{front, back}
+use Rattle.sharc_flat_laws.proofs.Sorts.{integer_yes, integer_reference, pointer_reference, pointer_plain, scalar, goes, passes, given, same_sort, declared_reference, held_same}
+
+-- what is known of the program
+pub record Facts (m : Assignment) : Type 0 where
+  pub one : (e : Expression) (k : Kind) → HasType m.typed e k → kind_at m.typed e ≡ k
+  pub results : (n : ℕ) (f : Function) → function_at m.typed n ≡ Some f → is_aggregate (declared_kind f.result) ≡ false
+  pub globals : GlobalsUnguarded m
+
+abbrev pub Stand : Context → List Expression → Type 0
+Stand c list = AllByRecursion (AtPlace c) list
+
+-- what has a struct or a mutex as its type is a cell
+
+constant_plain : (k : Constant) → is_aggregate (constant_kind k) ≡ false
+constant_plain (constants.Number n) = by n.number_type
+  where
+    by : (w : NumberType) → is_aggregate (number_kind w) ≡ false
+    by width.Int = refl
+    by width.Long = refl
+constant_plain (constants.Character byte) = refl
+constant_plain constants.Null = refl
+
+common_plain : (j k t : Kind) → Common j k t → is_aggregate t ≡ false
+common_plain _ _ _ (both_shorter a b) = refl
+common_plain _ _ _ left_long = refl
+common_plain _ _ _ right_long = refl
+
+result_plain : (m : Assignment) → Facts m → (i : Identifier) (ps : List Kind) (result : Kind) → Callee m.typed i ps result → is_aggregate result ≡ false
+result_plain m w i _ _ (of_program {n = n} f is at spelled other) = w.results n f at
+result_plain m w i _ _ (of_conditions c is spelled) = refl
+
+either_cell : (b : Bool) (g n k : ℕ) → is_cell (if b then in_global_at g n else in_object_at k) ≡ true
+either_cell true g n k = refl
+either_cell false g n k = refl
+
+no : (A : Type 0) (b : Bool) → b ≡ false → b ≡ true → A
+no A b f t = absurd (false≢true (sym f ∙ t))
+
+pub whole_cell : (c : Context) → Facts c.program → (e : Expression) (k : Kind) → HasType c.program.typed e k → is_aggregate k ≡ true → (f : Option ℕ) → Stand c (expressions e) → is_cell (target c.program.typed f e) ≡ true
+whole_cell c w _ _ (a_variable {token = token} is at spelled) h f all = no _ _ (ap (λ o. is_aggregate (variable_kind o)) (sym at) ∙ (all.0.name token is).held) h
+whole_cell c w _ _ (a_global is at spelled) h f all = ap (λ n. is_cell (named_target n (own_field f 0))) is
+whole_cell c w _ _ (a_function q) h f all = absurd (false≢true h)
+whole_cell c w _ _ (a_constant {c = k}) h f all = no _ _ (constant_plain k) h
+whole_cell c w _ _ (in_parentheses a) h f all = whole_cell c w _ _ a h f all.1
+whole_cell c w _ _ (element_of_pointer {a = a} x i t) h f all = either_cell (is_array (kind_at c.program.typed a)) _ _ _
+whole_cell c w _ _ (element_of_array {a = a} x i t) h f all = either_cell (is_array (kind_at c.program.typed a)) _ _ _
+whole_cell c w _ _ (a_call q x) h f all = no _ _ (result_plain c.program w _ _ _ q) h
+whole_cell c w _ _ (a_field a m is) h f all = whole_cell c w _ _ a refl (Some _) all.1
+whole_cell c w _ _ (a_field_behind a m is) h f all = refl
+whole_cell c w _ _ (negated a i x) h f all = no _ _ (common_plain _ _ _ x) h
+whole_cell c w _ _ (complemented a i x) h f all = no _ _ (common_plain _ _ _ x) h
+whole_cell c w _ _ (denied a s) h f all = absurd (false≢true h)
+whole_cell c w _ _ (pointed_to a) h f all = refl
+whole_cell c w _ _ (arithmetic is a b l m x) h f all = no _ _ (common_plain _ _ _ x) h
+whole_cell c w _ _ (shifted is a b l m x) h f all = no _ _ (common_plain _ _ _ x) h
+whole_cell c w _ _ (related is a b l m) h f all = absurd (false≢true h)
+whole_cell c w _ _ (equated is a b x) h f all = absurd (false≢true h)
+whole_cell c w _ _ (joined is a b l m) h f all = absurd (false≢true h)
+whole_cell c w _ _ (spawned q a) h f all = absurd (false≢true h)
+whole_cell c w _ _ (printed_or_joined a i) h f all = absurd (false≢true h)
+whole_cell c w _ _ (locked m a) h f all = absurd (false≢true h)
+whole_cell c w _ _ (unlocked m a) h f all = absurd (false≢true h)
+whole_cell c w _ _ (freed m a p) h f all = absurd (false≢true h)
+whole_cell c w _ _ (a_cast m a p) h f all = no _ _ (pointer_plain _ p) h
+
+-- an array is a global
+
+constant_no_array : (k : Constant) → is_array (constant_kind k) ≡ false
+constant_no_array (constants.Number n) = by n.number_type
+  where
+    by : (w : NumberType) → is_array (number_kind w) ≡ false
+    by width.Int = refl
+    by width.Long = refl
+constant_no_array (constants.Character byte) = refl
+constant_no_array constants.Null = refl
+
+common_no_array : (j k t : Kind) → Common j k t → is_array t ≡ false
+common_no_array _ _ _ (both_shorter a b) = refl
+common_no_array _ _ _ left_long = refl
+common_no_array _ _ _ right_long = refl
+
+result_no_array : (r : Resolution) (i : Identifier) (ps : List Kind) (result : Kind) → Callee r i ps result → is_array result ≡ false
+result_no_array r i _ _ (of_program f is at spelled other) = refl
+result_no_array r i _ _ (of_conditions c is spelled) = refl
+
+abbrev IsWholeGlobal : Target → Type 0
+IsWholeGlobal t = t ≡ in_global (global_of t) 0
+
+pub array_target : (r : Resolution) (e : Expression) (k : Kind) → HasType r e k → is_array k ≡ true → IsWholeGlobal (target r None e)
+array_target r _ _ (a_variable is at spelled) h = absurd (false≢true h)
+array_target r _ _ (a_global is at spelled) h = subst (λ n. IsWholeGlobal (named_target n 0)) (sym is) refl
+array_target r _ _ (a_function q) h = absurd (false≢true h)
+array_target r _ _ (a_constant {c = k}) h = no _ _ (constant_no_array k) h
+array_target r _ _ (in_parentheses a) h = array_target r _ _ a h
+array_target r _ _ (element_of_pointer x i t) h = absurd (false≢true h)
+array_target r _ _ (element_of_array x i t) h = absurd (false≢true h)
+array_target r _ _ (a_call q x) h = no _ _ (result_no_array r _ _ _ q) h
+array_target r _ _ (a_field a m is) h = absurd (false≢true h)
+array_target r _ _ (a_field_behind a m is) h = absurd (false≢true h)
+array_target r _ _ (negated a i x) h = no _ _ (common_no_array _ _ _ x) h
+array_target r _ _ (complemented a i x) h = no _ _ (common_no_array _ _ _ x) h
+array_target r _ _ (denied a s) h = absurd (false≢true h)
+array_target r _ _ (pointed_to a) h = absurd (false≢true h)
+array_target r _ _ (arithmetic is a b l m x) h = no _ _ (common_no_array _ _ _ x) h
+array_target r _ _ (shifted is a b l m x) h = no _ _ (common_no_array _ _ _ x) h
+array_target r _ _ (related is a b l m) h = absurd (false≢true h)
+array_target r _ _ (equated is a b x) h = absurd (false≢true h)
+array_target r _ _ (joined is a b l m) h = absurd (false≢true h)
+array_target r _ _ (spawned q a) h = absurd (false≢true h)
+array_target r _ _ (printed_or_joined a i) h = absurd (false≢true h)
+array_target r _ _ (locked m a) h = absurd (false≢true h)
+array_target r _ _ (unlocked m a) h = absurd (false≢true h)
+array_target r _ _ (freed m a p) h = absurd (false≢true h)
+array_target r _ _ (a_cast m a p) h = absurd (false≢true h)
+
+-- a variable that is an lvalue is in the bank of its type
+
+abbrev pub TargetFits : Context → Kind → Target → Type 0
+TargetFits c k (variable x) = slot_kind c.scope x ≡ Some (is_reference k)
+TargetFits c k _ = Unit {0}
+
+cell_fits : (c : Context) (k : Kind) (t : Target) → is_cell t ≡ true → TargetFits c k t
+cell_fits c k (variable x) h = absurd (false≢true h)
+cell_fits c k (in_global g n) h = tt
+cell_fits c k (in_global_at g n) h = tt
+cell_fits c k (in_object n) h = tt
+cell_fits c k (in_object_at n) h = tt
+
+pub target_fits : (c : Context) → Facts c.program → (e : Expression) (k : Kind) → HasType c.program.typed e k → is_lvalue e ≡ true → (k ≡ kinds.function → ⊥) → Stand c (expressions e) → TargetFits c k (target c.program.typed None e)
+target_fits c w _ _ (a_variable {token = token} {d = d} is at spelled) l n all =
+    subst (λ z. TargetFits c (declared_kind d.written) (named_target z 0)) (sym is)
+    ((all.0.name token is).slot ∙ ap (λ o. Some (is_pointer (variable_kind o))) at ∙ ap Some (sym (declared_reference d.written)))
+target_fits c w _ k (a_global is at spelled) l n all = subst (λ z. TargetFits c k (named_target z 0)) (sym is) tt
+target_fits c w _ _ (a_function q) l n all = absurd (n refl)
+target_fits c w _ _ a_constant l n all = absurd (false≢true l)
+target_fits c w _ _ (in_parentheses a) l n all = target_fits c w _ _ a l n all.1
+target_fits c w _ k (element_of_pointer {a = a} x i t) l n all = cell_fits c k _ (either_cell (is_array (kind_at c.program.typed a)) _ _ _)
+target_fits c w _ k (element_of_array {a = a} x i t) l n all = cell_fits c k _ (either_cell (is_array (kind_at c.program.typed a)) _ _ _)
+target_fits c w _ _ (a_call q x) l n all = absurd (false≢true l)
+target_fits c w _ k (a_field a m is) l n all = cell_fits c k _ (whole_cell c w _ _ a refl (Some _) all.1)
+target_fits c w _ _ (a_field_behind a m is) l n all = tt
+target_fits c w _ _ (negated a i x) l n all = absurd (false≢true l)
+target_fits c w _ _ (complemented a i x) l n all = absurd (false≢true l)
+target_fits c w _ _ (denied a s) l n all = absurd (false≢true l)
+target_fits c w _ _ (pointed_to a) l n all = tt
+target_fits c w _ _ (arithmetic is a b i m x) l n all = absurd (false≢true l)
+target_fits c w _ _ (shifted is a b i m x) l n all = absurd (false≢true l)
+target_fits c w _ _ (related is a b i m) l n all = absurd (false≢true l)
+target_fits c w _ _ (equated is a b x) l n all = absurd (false≢true l)
+target_fits c w _ _ (joined is a b i m) l n all = absurd (false≢true l)
+target_fits c w _ _ (spawned q a) l n all = absurd (false≢true l)
+target_fits c w _ _ (printed_or_joined a i) l n all = absurd (false≢true l)
+target_fits c w _ _ (locked m a) l n all = absurd (false≢true l)
+target_fits c w _ _ (unlocked m a) l n all = absurd (false≢true l)
+target_fits c w _ _ (freed m a p) l n all = absurd (false≢true l)
+target_fits c w _ _ (a_cast m a p) l n all = absurd (false≢true l)
+
+no_function_pointer : (k : Kind) → IsPointer k → k ≡ kinds.function → ⊥
+no_function_pointer k p is = false≢true (ap is_reference (sym is) ∙ pointer_reference k p)
+
+no_function_integer : (k : Kind) → IsInteger k → k ≡ kinds.function → ⊥
+no_function_integer k i is = false≢true (ap is_integer (sym is) ∙ integer_yes k i)
+
+pub no_function_held : (k : Kind) → IsHeld k → k ≡ kinds.function → ⊥
+no_function_held k (inl i) = no_function_integer k i
+no_function_held k (inr p) = no_function_pointer k p
+
+pub takes : (c : Context) (mode : Sharing) (k : Kind) (t : Target) → is_reference k ≡ true → TargetFits c k t → PathStands c.program.typed c.scope mode → TakeSuits c mode t
+takes c mode k (variable x) h f p = f ∙ ap Some h
+takes c mode k (in_global g n) h f p = p
+takes c mode k (in_global_at g n) h f p = p
+takes c mode k (in_object n) h f p = p
+takes c mode k (in_object_at n) h f p = p
+
+pub lefts : (c : Context) (mode : Sharing) (k : Kind) (t : Target) → IsHeld k → TargetFits c k t → PathStands c.program.typed c.scope mode → LeftSuits c k mode t
+lefts c mode k (variable x) h f p = f
+lefts c mode k (in_global g n) h f p = (held_same k h, p)
+lefts c mode k (in_global_at g n) h f p = (held_same k h, p)
+lefts c mode k (in_object n) h f p = (held_same k h, p)
+lefts c mode k (in_object_at n) h f p = (held_same k h, p)

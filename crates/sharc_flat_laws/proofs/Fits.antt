@@ -1,0 +1,63 @@
+-- The lock paths of a well-moded program are of the allowed forms.
+use Rattle.std.proofs.Common.{◌≡◌, ℕ, ◌+◌, List, [], ◌∷◌, ◌++◌, refl, sym, Option, Some, None}
+use Rattle.std.specs.List.{AllByRecursion, flat_map}
+use Rattle.sharc_tree.specs.declared.ctype.Path.{Path}
+use Rattle.sharc_tree.specs.declared.token.Span.{Span}
+use Rattle.sharc_ctype.specs.declared.entity.Entity.{Entity}
+use Rattle.sharc_ctype.specs.declared.entity.Numbered.{Numbered}
+use Rattle.sharc_ctype.specs.Entities.{entities_in, numbered, numbered_from, positions_of}
+use Rattle.sharc_ctype.specs.Resolved.{Resolution, globals_in, functions_in}
+use Rattle.sharc_mode.specs.declared.error.ModeError.{ModeError}
+use Rattle.sharc_mode.specs.declared.note.Note.{Note}
+use Rattle.sharc_mode.specs.Expressions.{items_notes}
+use Rattle.sharc_mode.specs.Moded.{Assignment}
+use Rattle.sharc_mode.specs.Notes.{type_notes, path_notes, errors_by, private_notes, mode_notes, private_field_notes, names_in_level}
+use Rattle.sharc_mode.specs.WellFormed.{first_unfit_path, first_unfit_mode, place_of}
+use Rattle.sharc_mode.specs.WellModed.{WellModed, spawned_notes, touched_notes, notes_about}
+use Rattle.sharc_flat_laws.specs.Stands.{IsFit}
+use Rattle.sharc_flat_laws.proofs.AllLemmas.{front, back}
+
+no_head : {A : Type 0} (x : A) (rest : List A) → x ∷ rest ≡ [] → ⊥
+no_head x rest h = cc
+
+parts : {A : Type 0} (a b : List A) → a ++ b ≡ [] → (a ≡ []) × (b ≡ [])
+parts [] b h = (refl, h)
+parts (x ∷ rest) b h = absurd (no_head x (rest ++ b) h)
+
+none_of : {A B : Type 0} (f : A → List B) (xs : List A) → flat_map f xs ≡ [] → AllByRecursion (λ x. f x ≡ []) xs
+none_of f [] h = tt
+none_of f (x ∷ xs) h = let p = parts (f x) (flat_map f xs) h in (p.0, none_of f xs p.1)
+
+from_all : {A B : Type 0} (P : B → Type 0) (f : A → List B) (xs : List A) → AllByRecursion P (flat_map f xs) → AllByRecursion (λ x. AllByRecursion P (f x)) xs
+from_all P f [] h = tt
+from_all P f (x ∷ xs) h = (front P (f x) (flat_map f xs) h, from_all P f xs (back P (f x) (flat_map f xs) h))
+
+no_path : (r : Resolution) (all : List Note) (s : Span) (o : Option Path) → AllByRecursion (λ n. errors_by r all n ≡ []) (path_notes s o) → o ≡ None
+no_path r all s None h = refl
+no_path r all s (Some path) h = absurd (no_head _ _ h.0)
+
+fit_from : (m : Assignment) (all : List Note) (k : ℕ) (list : List Entity) → AllByRecursion (λ n. AllByRecursion (λ z. errors_by m.typed all z ≡ []) (type_notes m n)) (numbered_from k list) → AllByRecursion (IsFit m.typed) list
+fit_from m all k [] h = tt
+fit_from m all k (e ∷ rest) h =
+    let n : Numbered = record { entity = e; first = k } in
+    let P : Note → Type 0 = λ z. errors_by m.typed all z ≡ [] in
+    let a = private_notes m n in
+    let b = path_notes e.written.span (first_unfit_path m.typed (place_of e.role) e.written.ctype.base e.written.ctype.levels) in
+    let d = mode_notes e.written.span (first_unfit_mode (place_of e.role) e.written.ctype.base e.written.ctype.levels) in
+    let f = private_field_notes m.typed n in
+    let g = flat_map (names_in_level m.typed) e.written.ctype.levels in (
+      no_path m.typed all e.written.span (first_unfit_path m.typed (place_of e.role) e.written.ctype.base e.written.ctype.levels)
+          (back P a b (front P (a ++ b) d (front P (a ++ b ++ d) f (front P (a ++ b ++ d ++ f) g h.0)))),
+      fit_from m all (k + positions_of e) rest h.1,
+    )
+
+pub well_moded_fit : (m : Assignment) → WellModed m → AllByRecursion (IsFit m.typed) (entities_in m.typed.program.items)
+well_moded_fit m well =
+    let all = notes_about m well.touched in
+    fit_from m all 0 (entities_in m.typed.program.items)
+    let P : Note → Type 0 = λ z. errors_by m.typed all z ≡ [] in
+    let a = flat_map (type_notes m) (numbered (entities_in m.typed.program.items)) in
+    let b = spawned_notes m 0 (functions_in m.typed.program.items) in
+    let d = touched_notes well.touched 0 (globals_in m.typed.program.items) in
+    (from_all P (type_notes m) (numbered (entities_in m.typed.program.items))
+    (front P a b (front P (a ++ b) d (front P (a ++ b ++ d) (items_notes m m.typed.program.items) (none_of (errors_by m.typed all) all (sym well.are))))))

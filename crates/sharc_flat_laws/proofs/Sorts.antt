@@ -1,0 +1,82 @@
+-- What the types of C11 are to flat code: integers, references, and what goes to what.
+use Rattle.std.proofs.Common.{◌≡◌, inl, inr, ℕ, ◌+◌, ◌==◌, Bool, true, false, ◌&&◌, ◌||◌, refl, ap, sym, ◌∙◌, subst, arith, lt-ltb, eqb-true}
+use Rattle.std.proofs.lemmas.Bool.{false≢true, true≢false, and_parts}
+use Rattle.sharc_tree.specs.declared.ctype.Base.{Base}
+use Rattle.sharc_tree.specs.declared.ctype.Base.TheVariants.{Mutex}
+use Rattle.sharc_ctype.specs.Statements.{is_aggregate}
+use Rattle.sharc_tree.specs.declared.tree.declaration.WrittenType.{WrittenType}
+use Rattle.sharc_names.specs.Kinds.{Kind, object, array, null, is_integer, is_pointer, is_null, is_integral, is_struct_base, same_base, mutex, declared_kind}
+use Rattle.sharc_meaning.specs.State.{is_reference}
+use Rattle.sharc_ctype_laws.specs.Constraints.{IsInteger, IsPointer, IsScalar, Comparable, integers, pointers, pointer_and_null, null_and_pointer, Assignable, integer, pointer, null_pointer}
+use Rattle.sharc_ctype_laws.specs.Rules.{IsHeld}
+use Rattle.sharc_flat.specs.Suits as suits
+use Rattle.sharc_flat.specs.Suits.{Goes, Passes, SameSort}
+
+pub or_false : (b : Bool) → (b || false) ≡ b
+or_false true = refl
+or_false false = refl
+
+pub integer_yes : (k : Kind) → IsInteger k → is_integer k ≡ true
+integer_yes k (b, t, is) = ap is_integer is ∙ t
+
+pub integer_pointer : (k : Kind) → IsInteger k → is_pointer k ≡ false
+integer_pointer k (b, t, is) = ap is_pointer is
+
+pub integer_reference : (k : Kind) → IsInteger k → is_reference k ≡ false
+integer_reference k (b, t, is) = ap is_reference is
+
+pub pointer_pointer : (k : Kind) → IsPointer k → is_pointer k ≡ true
+pointer_pointer k (b, n, is) = ap is_pointer is ∙ lt-ltb 0 (n + 1) (omega arith)
+
+pub pointer_reference : (k : Kind) → IsPointer k → is_reference k ≡ true
+pointer_reference k p = ap (λ b. b || is_null k) (pointer_pointer k p)
+
+pub some_star : (n : ℕ) → (n + 1 == 0) ≡ false
+some_star n = by (n + 1 == 0) refl
+  where
+    by : (z : Bool) → (n + 1 == 0) ≡ z → z ≡ false
+    by true h = let e = eqb-true (n + 1) 0 h in absurd (omega (arith, e))
+    by false h = refl
+
+pub pointer_integer : (k : Kind) → IsPointer k → is_integer k ≡ false
+pointer_integer k (b, n, is) = ap is_integer is ∙ ap (λ z. z && is_integral b) (some_star n)
+
+pub scalar : (k : Kind) → IsScalar k → suits.IsScalar k
+scalar k (inl i) = λ h. integer_yes k i
+scalar k (inr (inl p)) = λ h. absurd (true≢false (sym (pointer_reference k p) ∙ h))
+scalar k (inr (inr z)) = λ h. absurd (true≢false (ap is_reference (sym z) ∙ h))
+
+pub goes : (want k : Kind) → Assignable want k → Goes want k
+goes _ _ (integer {a = a} {b = b} i j) = (integer_reference b j ∙ sym (integer_reference a i), λ h. integer_yes b j, λ h. integer_yes b j)
+goes _ _ (pointer {a = a} p) = (refl, λ h. absurd (true≢false (sym (pointer_reference a p) ∙ h)), λ h. h)
+goes _ _ (null_pointer {a = a} p) = (sym (pointer_reference a p), λ h. absurd (true≢false (sym (pointer_reference a p) ∙ h)), λ h. absurd (true≢false (sym h ∙ pointer_integer a p)))
+
+pub passes : (want k : Kind) → Assignable want k → Passes want k
+passes _ _ (integer {a = a} {b = b} i j) = (integer_reference b j ∙ sym (integer_pointer a i), λ h. integer_yes b j, λ h. integer_yes b j)
+passes _ _ (pointer {a = a} p) = (pointer_reference a p ∙ sym (pointer_pointer a p), λ h. absurd (true≢false (sym (pointer_pointer a p) ∙ h)), λ h. h)
+passes _ _ (null_pointer {a = a} p) = (sym (pointer_pointer a p), λ h. absurd (true≢false (sym (pointer_pointer a p) ∙ h)), λ h. absurd (true≢false (sym h ∙ pointer_integer a p)))
+
+pub given : (want k : Kind) → Assignable want k → suits.IsScalar k
+given _ _ (integer {a = a} {b = b} i j) = scalar b (inl j)
+given _ _ (pointer {a = a} p) = scalar a (inr (inl p))
+given _ _ (null_pointer {a = a} p) = scalar null (inr (inr refl))
+
+pub same_sort : (j k : Kind) → Comparable j k → SameSort j k
+same_sort _ _ (integers {a = a} {b = b} i j) = subst (λ z. suits.Either z (is_reference b ≡ true) ((is_integer a ≡ true) × (is_integer b ≡ true))) (sym (integer_reference a i)) (integer_yes a i, integer_yes b j)
+same_sort _ _ (pointers {a = a} p) = subst (λ z. suits.Either z (is_reference a ≡ true) ((is_integer a ≡ true) × (is_integer a ≡ true))) (sym (pointer_reference a p)) (pointer_reference a p)
+same_sort _ _ (pointer_and_null {a = a} p) = subst (λ z. suits.Either z (is_reference null ≡ true) ((is_integer a ≡ true) × (is_integer null ≡ true))) (sym (pointer_reference a p)) refl
+same_sort _ _ (null_and_pointer {b = b} p) = pointer_reference b p
+
+pub declared_reference : (w : WrittenType) → is_reference (declared_kind w) ≡ is_pointer (declared_kind w)
+declared_reference w = or_false (is_pointer (declared_kind w))
+
+pub held_same : (k : Kind) → IsHeld k → is_pointer k ≡ is_reference k
+held_same k (inl i) = integer_pointer k i ∙ sym (integer_reference k i)
+held_same k (inr p) = pointer_pointer k p ∙ sym (pointer_reference k p)
+
+and_false : (b : Bool) → (b && false) ≡ false
+and_false true = refl
+and_false false = refl
+
+pub pointer_plain : (k : Kind) → IsPointer k → is_aggregate k ≡ false
+pointer_plain k (b, n, is) = ap is_aggregate is ∙ ap (λ z. (z && is_struct_base b) || (same_base b Mutex && z)) (some_star n) ∙ and_false (same_base b Mutex)

@@ -1,0 +1,126 @@
+-- Each function of a typed program suits.
+use Rattle.std.proofs.Common.{◌≡◌, ℕ, zero, suc, Bool, true, false, cond, List, [], ◌∷◌, ◌++◌, map, length, slice_get, refl, ap, sym, ◌∙◌, subst, Option, Some, None, is_some}
+use Rattle.std.proofs.lemmas.Bool.{false≢true}
+use Rattle.std.specs.List.{AllByRecursion}
+use Rattle.sharc_tree.specs.declared.tree.declaration.Declaration.{Declaration}
+use Rattle.sharc_tree.specs.Low.{LowItems, LowStatements}
+use Rattle.sharc_tree.specs.Tree.{Expression, Function, Item, structure, global, function}
+use Rattle.sharc_names.specs.declared.fault.Named.TheVariants as named
+use Rattle.sharc_names.specs.declared.scope.Scope.{Scope}
+use Rattle.sharc_names.specs.Kinds.{Kind, declared_kind}
+use Rattle.sharc_names.specs.Names.{Entry, Meaning, look_up}
+use Rattle.sharc_names.specs.Names as meaning
+use Rattle.sharc_code.specs.declared.code.GlobalCells.{GlobalCells}
+use Rattle.sharc_ctype.specs.Condition.{defines_condition, with_conditions}
+use Rattle.sharc_ctype.specs.Heads.{Heading as Heads, global_entry, function_entry, behind, behind_all, no_heads}
+use Rattle.sharc_ctype.specs.Items.{with_parameters, in_body, file_scope}
+use Rattle.sharc_ctype.specs.Resolved.{Resolution, functions_in, function_at, kind_at}
+use Rattle.sharc_ctype.specs.Statements.{declared, is_aggregate, locals_in_all}
+use Rattle.sharc_mode.specs.Moded.{Assignment}
+use Rattle.sharc_ctype_laws.specs.Constraints.{HasType}
+use Rattle.sharc_ctype_laws.specs.Declared.{NameThemselves, IsItself}
+use Rattle.sharc_ctype_laws.specs.Laws.{EachNamesItself, EachNamesFound, MeetsConstraints, OneType, MeetsStatements, AllFair, NamesFound, IsPlain, ArePlain}
+use Rattle.sharc_ctype_laws.specs.Places.{Placing, places_of, places_of_all}
+use Rattle.sharc_flat.specs.Flattened.{parameters_scope, in_function}
+use Rattle.sharc_flat.specs.Scope.{Context, slot_of}
+use Rattle.sharc_flat.specs.declared.slot.Slot.{Slot}
+use Rattle.sharc_ctype_laws.specs.Paths.{around_in}
+use Rattle.sharc_flat_laws.specs.Stands.{LocksAt, TypedSuits}
+use Rattle.sharc_flat_laws.proofs.AllLemmas.{front, back}
+use Rattle.sharc_flat_laws.proofs.Expressions.{Facts}
+use Rattle.sharc_flat_laws.proofs.Fits.{well_moded_fit}
+use Rattle.sharc_flat_laws.proofs.Unguarded.{globals_unguarded}
+use Rattle.sharc_flat_laws.proofs.Scoped.{AreHere, MeaningIsHere, Same, Own, with_variable}
+use Rattle.sharc_flat_laws.proofs.Walking.{AllGiven, statements_suit}
+
+-- in lists
+
+same_some : {A : Type 0} (x y : A) → Some x ≡ Some y → x ≡ y
+same_some x y h = cc
+
+at_place : {A : Type 0} (P : A → Type 0) (list : List A) (n : ℕ) (x : A) → AllByRecursion P list → slice_get list n ≡ Some x → P x
+at_place P [] n x all is = absurd (false≢true (ap is_some is))
+at_place P (y ∷ rest) zero x all is = subst P (same_some y x is) all.0
+at_place P (y ∷ rest) (suc n) x all is = at_place P rest n x all.1 is
+
+places_at : (P : Placing → Type 0) (file : Scope) (list : List Function) (n : ℕ) (f : Function) → AllByRecursion P (places_of_all file list) → slice_get list n ≡ Some f → AllByRecursion P (places_of file f)
+places_at P file [] n f all is = absurd (false≢true (ap is_some is))
+places_at P file (g ∷ rest) zero f all is = subst (λ z. AllByRecursion P (places_of file z)) (same_some g f is) (front P (places_of file g) (places_of_all file rest) all)
+places_at P file (g ∷ rest) (suc n) f all is = places_at P file rest n f (back P (places_of file g) (places_of_all file rest) all) is
+
+together : {A : Type 0} (P Q : A → Type 0) (list : List A) → AllByRecursion P list → AllByRecursion Q list → AllByRecursion (λ x. P x × Q x) list
+together P Q [] p q = tt
+together P Q (x ∷ rest) p q = ((p.0, q.0), together P Q rest p.1 q.1)
+
+low_functions : (items : List Item) → LowItems items → AllByRecursion (λ f. LowStatements f.statements) (functions_in items)
+low_functions [] h = tt
+low_functions (structure s ∷ rest) h = low_functions rest h.1
+low_functions (global g ∷ rest) h = low_functions rest h.1
+low_functions (function f ∷ rest) h = (h.0.2, low_functions rest h.1)
+
+owned : (r : Resolution) (list : List Declaration) → AllByRecursion (IsItself r named.Variable) list → AllByRecursion (λ d. is_aggregate (declared_kind d.written) ≡ false) list → AllByRecursion (Own r) list
+owned r [] h p = tt
+owned r (d ∷ rest) h p = (record { is = h.0.1; plain = p.0 }, owned r rest h.1 p.1)
+
+-- the file declares no variable
+
+either : (c : Context) (names : List Entry) (e : Entry) (b : Bool) → AreHere c names → MeaningIsHere c e.meaning → AreHere c (cond b names (e ∷ names))
+either c names e true all h = all
+either c names e false all h = (h, all)
+
+none_in_heads : (c : Context) (h : Heads) (items : List Item) → AreHere c h.scope.names → AreHere c (behind_all h items).scope.names
+none_in_heads c h [] all = all
+none_in_heads c h (structure s ∷ rest) all = none_in_heads c (behind h (structure s)) rest all
+none_in_heads c h (global g ∷ rest) all = none_in_heads c (behind h (global g)) rest (either c h.scope.names (global_entry h.globals g) (is_some (look_up h.scope.names g.declaration.name.text)) all tt)
+none_in_heads c h (function f ∷ rest) all = none_in_heads c (behind h (function f)) rest (either c h.scope.names (function_entry h.functions f) (is_some (look_up h.scope.names f.name.text)) all tt)
+
+none_known : (c : Context) (scope : Scope) (b : Bool) → AreHere c scope.names → AreHere c (cond b scope (with_conditions scope)).names
+none_known c scope true all = all
+none_known c scope false all = (tt, (tt, (tt, all)))
+
+none_in_file : (c : Context) (items : List Item) → AreHere c (file_scope items).names
+none_in_file c items = none_known c (behind_all no_heads items).scope (defines_condition (behind_all no_heads items).scope) (none_in_heads c no_heads items tt)
+
+-- parameters
+
+abbrev with_scope : Assignment → List GlobalCells → List Slot → Context
+with_scope m globals scope = record { program = m; globals = globals; scope = scope }
+
+moved : (a : List Slot) (s : Slot) (rest : List Slot) → (a ++ s ∷ []) ++ rest ≡ a ++ s ∷ rest
+moved [] s rest = refl
+moved (x ∷ a) s rest = ap (λ z. x ∷ z) (moved a s rest)
+
+nothing_more : (a : List Slot) → a ≡ a ++ []
+nothing_more [] = refl
+nothing_more (x ∷ a) = ap (λ z. x ∷ z) (nothing_more a)
+
+with_all : (m : Assignment) (globals : List GlobalCells) (scope : List Slot) (block : ℕ) (names : List Entry) (list : List Declaration) → Same (with_scope m globals scope) names → AllByRecursion (Own m.typed) list
+    → Same (with_scope m globals (scope ++ parameters_scope list)) (with_parameters block names list)
+with_all m globals scope block names [] same own = subst (λ z. Same (with_scope m globals z) names) (nothing_more scope) same
+with_all m globals scope block names (d ∷ rest) same own =
+    subst (λ z. Same (with_scope m globals z) (with_parameters block (declared block d names) rest)) (moved scope (slot_of d) (parameters_scope rest))
+    (with_all m globals (scope ++ slot_of d ∷ []) block (declared block d names) rest (with_variable (with_scope m globals scope) block d names same own.0) own.1)
+
+-- of the whole program
+
+pub typed_suits : EachNamesItself → EachNamesFound → OneType → MeetsConstraints → MeetsStatements → AllFair → ArePlain → TypedSuits
+typed_suits itself found one constraints statements fair are_plain m resolved placed low least well locks cells n f is =
+    let r = m.typed in
+    let items = r.program.items in
+    let file = file_scope items in
+    let plain = are_plain r resolved placed low in
+    let p = at_place IsPlain (functions_in items) n f plain is in
+    let names = at_place _ (functions_in items) n f (itself r resolved placed low).variables is in
+    let own = owned r (f.parameters ++ locals_in_all f.statements) names p.0 in
+    let same = with_all m cells [] (length file.names) file.names f.parameters (record { names = none_in_file (with_scope m cells []) items; slots = tt }) (front _ f.parameters (locals_in_all f.statements) own) in
+    statements_suit (in_function m cells f) (around_in file f) (in_body file f) same f.result false f.statements
+    (record {
+      facts = record { one = one r resolved placed low; results = λ k g at. (at_place IsPlain (functions_in items) k g plain at).1; globals = globals_unguarded m least (well_moded_fit m well) };
+      own = back _ f.parameters (locals_in_all f.statements) own;
+      known = together _ _ (places_of file f) (places_at _ file (functions_in items) n f (found r resolved placed low) is) (places_at _ file (functions_in items) n f locks.places is);
+      typed = at_place _ (functions_in items) n f (constraints r resolved placed low) is;
+      meets = at_place _ (functions_in items) n f (statements r resolved placed low) is;
+      low = at_place _ (functions_in items) n f (low_functions items low) is;
+      fair = at_place _ (functions_in items) n f (fair r resolved placed low) is;
+      locks = at_place _ (functions_in items) n f locks.locals is;
+    })

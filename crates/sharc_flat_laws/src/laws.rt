@@ -1,0 +1,43 @@
+// The laws, each the contract of a function that does nothing.
+
+ghost use Rattle.sharc_flat_laws.specs.Stands.{FitAreUnguarded, TypedAsksTheSame, TypedIsFramed, TypedSuits};
+
+use sharc_ctype_laws::laws::{
+    all_fair, are_plain, each_names_found, each_names_itself, meets_constraints, meets_statements,
+    one_type,
+};
+use sharc_flat::laws::{made_asks_the_same, made_is_framed};
+
+/// A typed program suits flat code, where its lock paths name variables in scope.
+pub fn typed_suits()
+    ensures { TypedSuits }
+{
+    each_names_itself();
+    each_names_found();
+    one_type();
+    meets_constraints();
+    meets_statements();
+    all_fair();
+    are_plain();
+}
+
+/// What flattening makes of it asks for what it asks for.
+pub fn typed_asks_the_same()
+    ensures { TypedAsksTheSame }
+{
+    typed_suits();
+    made_asks_the_same();
+}
+
+/// And it stays within its frames.
+pub fn typed_is_framed()
+    ensures { TypedIsFramed }
+{
+    typed_suits();
+    made_is_framed();
+}
+
+/// No global of a program with fit lock paths is locked behind a sibling pointer.
+pub fn fit_are_unguarded()
+    ensures { FitAreUnguarded }
+{}

@@ -1,0 +1,13 @@
+pub mod Registers
+pub mod Logs
+pub mod Numbers
+pub mod Inside
+pub mod Sames
+pub mod Turns
+pub mod Single
+pub mod Calls
+pub mod Asking
+pub mod Staged
+pub mod OneTurn
+pub mod Coming
+pub mod OnRuns

@@ -1,0 +1,118 @@
+-- What flat and guarded code have in common where the one stands beside the other.
+use Rattle.std.proofs.Common.{◌≡◌, ℕ, ℤ, pos, negsuc, zero, suc, ◌+◌, Bool, List, [], ◌∷◌, length, map, Some, None, refl, ap, cond}
+use Rattle.sharc_tree.specs.declared.event.CellAt.{CellAt}
+use Rattle.sharc_tree.specs.declared.event.CellMode.TheVariants as modes
+use Rattle.sharc_code.specs.declared.code.PlaceMode.{PlaceMode}
+use Rattle.sharc_code.specs.declared.code.PlaceMode.TheVariants.{Private, Readonly, Racy, Dynamic, LockedGlobal, LockedSibling, LockedThrough, LockedLoaded}
+use Rattle.sharc_code.specs.declared.code.SourcePlace.{SourcePlace}
+use Rattle.sharc_code.specs.declared.code.Use.{Use}
+use Rattle.sharc_code.specs.declared.code.Use.TheVariants as uses
+use Rattle.sharc_code.specs.declared.instr.Cell.{Cell}
+use Rattle.sharc_code.specs.declared.instr.Cell.TheVariants as cells
+use Rattle.sharc_code.specs.declared.instr.Register.{Register}
+use Rattle.sharc_code.specs.declared.instr.Register.TheVariants as registers
+use Rattle.sharc_code.specs.declared.state.Frame.{Frame}
+use Rattle.sharc_code.specs.Arithmetic as Code
+use Rattle.sharc_code.specs.Says as Says
+use Rattle.sharc_meaning.specs.Arithmetic.{is_zero}
+use Rattle.sharc_flat_form.specs.Machine.{Flat, Caller, At, cell_at, base_of, is_of_null, mode_of, instance_mode, kind_of, variable_of, argument}
+use Rattle.sharc_guarded_form.specs.Machine as Form
+use Rattle.sharc_guarded_form.specs.Machine.{Program, Thread, Running}
+use Rattle.sharc_guard.specs.Guard.{place, guarded}
+
+-- ---- the words of both
+pub zero_same : (z : ℤ) → Code.is_zero z ≡ is_zero z
+zero_same (pos zero) = refl
+zero_same (pos (suc n)) = refl
+zero_same (negsuc n) = refl
+
+pub kind_same : (u : Use) → Says.kind_of u ≡ kind_of u
+kind_same (uses.Free x) = refl
+kind_same (uses.Cast x) = refl
+kind_same uses.Read = refl
+kind_same uses.Write = refl
+kind_same uses.Other = refl
+
+pub variable_same : (u : Use) → Says.variable_of u ≡ variable_of u
+variable_same (uses.Cast (Some x)) = refl
+variable_same (uses.Free (Some x)) = refl
+variable_same (uses.Cast None) = refl
+variable_same (uses.Free None) = refl
+variable_same uses.Read = refl
+variable_same uses.Write = refl
+variable_same uses.Other = refl
+
+-- ---- guarded code beside flat code
+abbrev pub callers : (ℕ → ℕ) → List Caller → List Frame
+callers pl [] = record { pc = 1; ints = 0; refs = 0 } ∷ []
+callers pl (c ∷ rest) = record { pc = pl c.pc; ints = c.ints; refs = c.refs } ∷ callers pl rest
+
+pub callers_length : (pl : ℕ → ℕ) (cs : List Caller) → length (callers pl cs) ≡ suc (length cs)
+callers_length pl [] = refl
+callers_length pl (c ∷ rest) = ap suc (callers_length pl rest)
+
+-- at this place, with this log and what it lowered
+abbrev pub beside : (ℕ → ℕ) → At → ℕ → List CellAt → List ℕ → Thread
+beside pl m q held lowered = record {
+  pc = q;
+  ints_from = m.int_base;
+  refs_from = m.ref_base;
+  ints = m.ints;
+  refs = m.refs;
+  pending = m.pending;
+  frames = callers pl m.frames;
+  held = held;
+  function = m.function;
+  lowered = lowered;
+  events = m.events;
+  phase = Running;
+}
+
+module _ (dropped : ℕ → Bool) (flat : Flat) (m : At) (q : ℕ) (h : List CellAt) (l : List ℕ) where
+  abbrev p : Program
+  p = guarded dropped flat
+
+  abbrev me : Thread
+  me = beside (place dropped flat.lines) m q h l
+
+  pub cell_same : (c : Cell) → Form.cell_at p me c ≡ cell_at flat.globals m c
+  cell_same (cells.Global g n) = refl
+  cell_same (cells.GlobalAt g i) = refl
+  cell_same (cells.Object r n) = refl
+  cell_same (cells.ObjectAt r i) = refl
+
+  pub null_same : (c : Cell) → Form.is_of_null me c ≡ is_of_null m c
+  null_same (cells.Global g n) = refl
+  null_same (cells.GlobalAt g i) = refl
+  null_same (cells.Object r n) = refl
+  null_same (cells.ObjectAt r i) = refl
+
+  pub base_same : (c : Cell) → Form.base_of me c ≡ base_of m c
+  base_same (cells.Global g n) = refl
+  base_same (cells.GlobalAt g i) = refl
+  base_same (cells.Object r n) = refl
+  base_same (cells.ObjectAt r i) = refl
+
+  pub argument_same : (r : Register) → Form.argument me r ≡ argument m r
+  argument_same (registers.Int i) = refl
+  argument_same (registers.Reference r) = refl
+
+  pub mode_same : (c : CellAt) (mode : PlaceMode) → Form.mode_of p me c mode ≡ mode_of flat.globals m c mode
+  mode_same c Private = refl
+  mode_same c Readonly = refl
+  mode_same c Racy = refl
+  mode_same c Dynamic = refl
+  mode_same c (LockedGlobal g n) = refl
+  mode_same c (LockedSibling f n) = refl
+  mode_same c (LockedThrough r n) = refl
+  mode_same c LockedLoaded = refl
+
+  pub object_same : (mode : PlaceMode) → Form.mode_of p me (Says.made_cell 0 0) mode ≡ instance_mode flat.globals m mode
+  object_same Private = refl
+  object_same Readonly = refl
+  object_same Racy = refl
+  object_same Dynamic = refl
+  object_same (LockedGlobal g n) = refl
+  object_same (LockedSibling f n) = refl
+  object_same (LockedThrough r n) = refl
+  object_same LockedLoaded = refl

@@ -1,0 +1,132 @@
+-- Where the pieces of guarded code stand, and what the site of a line says.
+use Rattle.std.proofs.Common.{◌≡◌, ℕ, Bool, suc, ◌+◌, ◌<◌, ◌≤◌, List, [], ◌∷◌, ◌++◌, length, Option, Some, None, refl, sym, ap, ◌∙◌, subst, ⊎_elim, arith, append_assoc}
+use Rattle.std.specs.Prelude.{slice_get}
+use Rattle.std.proofs.lemmas.Bool.{cases_lt}
+use Rattle.std.proofs.lemmas.Option.{slice_get_past}
+use Rattle.sharc_tree.specs.declared.token.Site.{Site}
+use Rattle.sharc_code.specs.declared.code.PlaceMode.TheVariants.{Readonly}
+use Rattle.sharc_code.specs.declared.code.PlaceMode.{PlaceMode}
+use Rattle.sharc_code.specs.declared.code.SourcePlace.{SourcePlace}
+use Rattle.sharc_code.specs.declared.code.Use.{Use}
+use Rattle.sharc_code.specs.declared.instr.Instr.{Instr}
+use Rattle.sharc_flat_form.specs.declared.op.Op.{Op}
+use Rattle.sharc_flat_form.specs.declared.op.Spot.{Spot}
+use Rattle.sharc_flat_form.specs.declared.op.Op.TheVariants as op
+use Rattle.sharc_flat_form.specs.Machine.{Flat}
+use Rattle.sharc_guarded_form.specs.Machine.{source_at}
+use Rattle.sharc_guard.specs.Guard.{place, guarded, source_of, head, own, body, tail, expand}
+use Rattle.sharc_guard.proofs.Placing.{HasAt, stands as stands_at, place_next as next_at, source_is as source_of_line}
+
+-- where a value is
+pub within : {A : Type 0} (a : List A) (i : ℕ) (x : A) → slice_get a i ≡ Some x → i < length a
+within a i x h = ⊎_elim (λ (lt : i < length a). lt) (λ (le : length a ≤ i). let p = slice_get_past a i le in absurd (cc)) (cases_lt i (length a))
+
+pub has_back : (g : List Instr) (pc : ℕ) (a b : List Instr) → HasAt g pc (a ++ b) → HasAt g (pc + length a) b
+has_back g pc [] b h = let e : pc ≡ pc + 0 = omega arith in subst (λ n. HasAt g n b) e h
+has_back g pc (i ∷ a) b h =
+    let e : pc + 1 + length a ≡ pc + length (i ∷ a) = omega arith in
+    subst (λ n. HasAt g n b) e (has_back g (pc + 1) a b h.1)
+
+-- ---- sites
+-- what an operation is in the source, if it may stop, check or ask; the pointer to a mutex is readonly
+abbrev pub spot_of : Op → Option Spot
+spot_of (op.Compute width o i a b spot) = Some spot
+spot_of (op.Negate width i a spot) = Some spot
+spot_of (op.ChkWidth width i spot) = Some spot
+spot_of (op.Call f ints refs spot) = Some spot
+spot_of (op.Return spot) = Some spot
+spot_of (op.ChkNull r spot) = Some spot
+spot_of (op.ChkPositive i spot) = Some spot
+spot_of (op.ChkHeld cell spot) = Some spot
+spot_of (op.ChkNotHeld cell spot) = Some spot
+spot_of (op.ChkRoom spot) = Some spot
+spot_of (op.Bounds i r cells field spot) = Some spot
+spot_of (op.GlobalBounds i elements cells field spot) = Some spot
+spot_of (op.Load i cell spot) = Some spot
+spot_of (op.Store i cell spot) = Some spot
+spot_of (op.LoadRef r cell spot) = Some spot
+spot_of (op.StoreRef r cell spot) = Some spot
+spot_of (op.LoadGuard cell spot) = Some (record spot { mode = Readonly })
+spot_of (op.New r count cells spot) = Some spot
+spot_of (op.TakeCell r cell spot) = Some spot
+spot_of (op.TakeLocal r x spot) = Some spot
+spot_of (op.Give r cells spot) = Some spot
+spot_of (op.Free r layout spot) = Some spot
+spot_of (op.Lock cell spot) = Some spot
+spot_of (op.Unlock r cell spot) = Some spot
+spot_of (op.CondEnter cell spot) = Some spot
+spot_of (op.CondWait cell spot) = Some spot
+spot_of (op.CondSignal cell spot) = Some spot
+spot_of (op.CondBroadcast cell spot) = Some spot
+spot_of (op.Spawn i f from spot) = Some spot
+spot_of (op.Join i spot) = Some spot
+spot_of (op.Print i spot) = Some spot
+spot_of _ = None
+
+pub record IsPlaceOf (s : Spot) (p : SourcePlace) : Type 0 where
+  pub site : p.site ≡ s.site
+  pub mode : p.mode ≡ s.mode
+  pub at : p.at ≡ s.at
+
+some_spot : (a b : Spot) → Some a ≡ Some b → a ≡ b
+some_spot a b e = cc
+
+place_is : (a b : Spot) → Some a ≡ Some b → IsPlaceOf b (record { site = a.site; lvalue = a.lvalue; lock = a.lock_text; mode = a.mode; at = a.at })
+place_is a b e = let s = some_spot a b e in record { site = ap (λ (x : Spot). x.site) s; mode = ap (λ (x : Spot). x.mode) s; at = ap (λ (x : Spot). x.at) s }
+
+none : {A : Type 0} (s : Spot) → None ≡ Some s → A
+none s e = absurd (cc)
+
+source_is : (o : Op) (s : Spot) → spot_of o ≡ Some s → IsPlaceOf s (source_of o)
+source_is (op.Compute width o i a b spot) s e = place_is spot s e
+source_is (op.Negate width i a spot) s e = place_is spot s e
+source_is (op.ChkWidth width i spot) s e = place_is spot s e
+source_is (op.Call f ints refs spot) s e = place_is spot s e
+source_is (op.Return spot) s e = place_is spot s e
+source_is (op.ChkNull r spot) s e = place_is spot s e
+source_is (op.ChkPositive i spot) s e = place_is spot s e
+source_is (op.ChkHeld cell spot) s e = place_is spot s e
+source_is (op.ChkNotHeld cell spot) s e = place_is spot s e
+source_is (op.ChkRoom spot) s e = place_is spot s e
+source_is (op.Bounds i r cells field spot) s e = place_is spot s e
+source_is (op.GlobalBounds i elements cells field spot) s e = place_is spot s e
+source_is (op.Load i cell spot) s e = place_is spot s e
+source_is (op.Store i cell spot) s e = place_is spot s e
+source_is (op.LoadRef r cell spot) s e = place_is spot s e
+source_is (op.StoreRef r cell spot) s e = place_is spot s e
+source_is (op.LoadGuard cell spot) s e = place_is (record spot { mode = Readonly }) s e
+source_is (op.New r count cells spot) s e = place_is spot s e
+source_is (op.TakeCell r cell spot) s e = place_is spot s e
+source_is (op.TakeLocal r x spot) s e = place_is spot s e
+source_is (op.Give r cells spot) s e = place_is spot s e
+source_is (op.Free r layout spot) s e = place_is spot s e
+source_is (op.Lock cell spot) s e = place_is spot s e
+source_is (op.Unlock r cell spot) s e = place_is spot s e
+source_is (op.CondEnter cell spot) s e = place_is spot s e
+source_is (op.CondWait cell spot) s e = place_is spot s e
+source_is (op.CondSignal cell spot) s e = place_is spot s e
+source_is (op.CondBroadcast cell spot) s e = place_is spot s e
+source_is (op.Spawn i f from spot) s e = place_is spot s e
+source_is (op.Join i spot) s e = place_is spot s e
+source_is (op.Print i spot) s e = place_is spot s e
+source_is _ s e = none s e
+
+-- the statements of a line
+abbrev pub pieces : (ℕ → ℕ) → Bool → ℕ → Op → List Instr
+pieces pl dropped n o = head dropped n o ++ (own (body pl n o) ++ tail o)
+
+module _ (dropped : ℕ → Bool) (flat : Flat) where
+  abbrev pub pl : ℕ → ℕ
+  pl = place dropped flat.lines
+
+  same : (pc : ℕ) (o : Op) → expand pl (dropped pc) pc o ≡ pieces pl (dropped pc) pc o
+  same pc o = append_assoc (head (dropped pc) pc o) (own (body pl pc o)) (tail o)
+
+  pub stands : (pc : ℕ) (o : Op) → slice_get flat.lines pc ≡ Some o → HasAt (guarded dropped flat).statements (pl pc) (pieces pl (dropped pc) pc o)
+  stands pc o h = subst (HasAt (guarded dropped flat).statements (pl pc)) (same pc o) (stands_at dropped flat pc o h)
+
+  pub place_next : (pc : ℕ) (o : Op) → slice_get flat.lines pc ≡ Some o → pl (pc + 1) ≡ pl pc + length (pieces pl (dropped pc) pc o)
+  place_next pc o h = sym (next_at dropped flat pc o h) ∙ ap (λ l. pl pc + length l) (same pc o)
+
+  pub place_of : (pc : ℕ) (o : Op) (s : Spot) → slice_get flat.lines pc ≡ Some o → spot_of o ≡ Some s → IsPlaceOf s (source_at (guarded dropped flat) pc)
+  place_of pc o s h e = subst (IsPlaceOf s) (sym (source_of_line dropped flat pc o h)) (source_is o s e)

@@ -1,0 +1,7 @@
+-- Where flat code stands behind a turn.
+use Rattle.std.specs.Prelude.{ℤ}
+use Rattle.sharc_flat_form.specs.Machine.{At, Turn}
+use Rattle.sharc_flat_form.specs.Path.{after}
+
+abbrev pub behind : Turn → At → ℤ → At
+behind t m x = after m t x

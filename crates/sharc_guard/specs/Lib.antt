@@ -1,0 +1,12 @@
+pub mod Asked
+pub mod Checked
+pub mod Correct
+pub mod Counted
+pub mod Covered
+pub mod Example
+pub mod Framed
+pub mod Guard
+pub mod Known
+pub mod Level
+pub mod Made
+pub mod Repeated

@@ -1,0 +1,33 @@
+-- Guarded code as the program makes it.
+use Rattle.std.specs.Prelude.{ℕ, zero, suc, ◌-◌, ◌≡◌, Bool, false, List, [], ◌∷◌, ◌++◌, length, nat_lt, get_or, slice_index, if◌then◌else◌}
+use Rattle.sharc_flat_form.specs.declared.flat.Flat.{Flat as FlatCode}
+use Rattle.sharc_flat_form.specs.declared.op.Op.{Op}
+use Rattle.sharc_flat_form.specs.Made.{flat_of}
+use Rattle.sharc_guarded_form.specs.declared.guarded.Guarded.{Guarded}
+use Rattle.sharc_guard.specs.Guard.{place, guarded}
+
+-- which checks a list of marks drops
+abbrev pub marked : List Bool → ℕ → Bool
+marked marks n = get_or marks n false
+
+-- where a line goes, in a list of the places of all lines and of that after the last
+abbrev pub among : List ℕ → ℕ → ℕ
+among starts n = if nat_lt n (length starts) then slice_index starts n else slice_index starts (length starts - 1)
+
+-- the places of the first n lines
+abbrev pub places : (ℕ → Bool) → List Op → ℕ → List ℕ
+places dropped lines zero = []
+places dropped lines (suc n) = places dropped lines n ++ place dropped lines n ∷ []
+
+pub record IsMade (f : FlatCode) (marks : List Bool) (g : Guarded) : Type 0 where
+  pub statements : g.statements.items ≡ (guarded (marked marks) (flat_of f)).statements
+  pub functions : g.functions.items ≡ (guarded (marked marks) (flat_of f)).functions
+  pub sites : g.sites.items ≡ (guarded (marked marks) (flat_of f)).sites
+  pub globals : g.globals ≡ f.globals
+  pub main : g.main ≡ f.main
+  pub granules : g.granules ≡ f.granules
+  pub initial : g.initial ≡ f.initial
+  pub layouts : g.layouts ≡ f.layouts
+  pub pointers : g.pointers ≡ f.pointers
+  pub texts : g.texts ≡ f.texts
+  pub files : g.files ≡ f.files

@@ -1,0 +1,413 @@
+//! Guarded code from flat code: a pass for the places, one for the statements.
+
+ghost use Rattle.std.specs.Prelude.{◌≡◌, ◌≤◌, ◌<◌, ◌+◌, ◌*◌, ◌^◌, ℕ, ◌++◌, ◌∷◌, [], IfOk, OnOk, length, map};
+ghost use Rattle.sharc_code.specs.declared.instr.Instr.TheVariants.{Start, Exit};
+ghost use Rattle.sharc_code.specs.Says.{no_place};
+ghost use Rattle.sharc_guard.specs.Guard.{source_at_spot, source_of, check_under, head, compute, negate, body, tail, own, expand, expanded, width, entered_at};
+ghost use Rattle.sharc_guard.specs.Made.{IsMade, among, places, marked};
+
+use sharc_code::{Cell, Function, Instr, Operator, PlaceMode, SourcePlace, Text, Use, Width};
+use sharc_flat_form::{Flat, Op, Spot};
+use sharc_guarded_form::Guarded;
+use sharc_tree::token::Site;
+use std::alloc::{AllocError, Global};
+
+/// The guarded code of flat code. It takes over the tables. The marks say by the lines of which checks of integers of mode dynamic are
+/// dropped.
+///
+/// An `Err` says that memory was not found.
+pub(crate) fn guard_marked(
+    alloc: Global,
+    flat: Flat,
+    dropped: &[bool],
+) -> Result<Guarded, AllocError>
+    requires few { length flat.lines.items < 2 ^ 29 }
+    requires marks { length dropped.now ≡ length flat.lines.items }
+    ensures { IfOk result (λ g. IsMade flat dropped.now g) }
+{
+    let starts = starts_of(alloc, &flat.lines, dropped)?;
+    let statements = statements_of(alloc, &flat.lines, dropped, &starts)?;
+    let functions = functions_of(alloc, &flat.functions, &starts)?;
+    let sites = sites_of(alloc, &flat.lines)?;
+    Ok(Guarded {
+        statements,
+        functions,
+        main: flat.main,
+        globals: flat.globals,
+        granules: flat.granules,
+        initial: flat.initial,
+        layouts: flat.layouts,
+        pointers: flat.pointers,
+        sites,
+        texts: flat.texts,
+        files: flat.files,
+    })
+}
+
+// Where the statements of each line begin, and where those of the last end.
+fn starts_of(alloc: Global, lines: &[Op], dropped: &[bool]) -> Result<Vec<u32>, AllocError>
+    requires few { length lines.now < 2 ^ 29 }
+    requires marks { length dropped.now ≡ length lines.now }
+    ensures { IfOk result (λ starts. starts.items ≡ places (marked dropped.now) lines.now (length lines.now + 1)) }
+{
+    let mut starts = Vec::with_capacity(alloc, lines.len() + 1)?;
+    let mut at: u32 = 2;
+    for n in 0..lines.len() {
+        starts.push(at)?;
+        at += width(dropped[n], n as u32, lines[n]);
+    }
+    starts.push(at)?;
+    Ok(starts)
+}
+
+// The statements of all lines, after a Start and an Exit.
+fn statements_of(
+    alloc: Global,
+    lines: &[Op],
+    dropped: &[bool],
+    starts: &[u32],
+) -> Result<Vec<Instr>, AllocError>
+    requires few { length lines.now < 2 ^ 29 }
+    requires marks { length dropped.now ≡ length lines.now }
+    requires starts { 0 < length starts.now }
+    ensures { IfOk result (λ statements. statements.items ≡ Start 0 ∷ Exit ∷ expanded (among starts.now) (marked dropped.now) 0 lines.now) }
+{
+    let mut statements = Vec::with_capacity(alloc, lines.len() + 2)?;
+    statements.push(Instr::Start(0))?;
+    statements.push(Instr::Exit)?;
+    for n in 0..lines.len() {
+        put(&mut statements, starts, dropped[n], n as u32, lines[n])?;
+    }
+    Ok(statements)
+}
+
+fn functions_of(
+    alloc: Global,
+    functions: &[Function],
+    starts: &[u32],
+) -> Result<Vec<Function>, AllocError>
+    requires starts { 0 < length starts.now }
+    ensures { IfOk result (λ entered. entered.items ≡ map (entered_at (among starts.now)) functions.now) }
+{
+    let mut all = Vec::with_capacity(alloc, functions.len())?;
+    for function in functions {
+        all.push(entered(starts, *function))?;
+    }
+    Ok(all)
+}
+
+fn entered(starts: &[u32], function: Function) -> Function
+    requires starts { 0 < length starts.now }
+    ensures { result ≡ entered_at (among starts.now) function }
+{
+    Function {
+        entry: place_of(starts, function.entry as usize),
+        ..function
+    }
+}
+
+fn sites_of(alloc: Global, lines: &[Op]) -> Result<Vec<SourcePlace>, AllocError>
+    ensures { IfOk result (λ sites. sites.items ≡ map source_of lines.now) }
+{
+    let mut sites = Vec::with_capacity(alloc, lines.len())?;
+    for line in lines {
+        sites.push(source_of(*line))?;
+    }
+    Ok(sites)
+}
+
+// All statements of a line.
+fn put(
+    statements: &mut Vec<Instr>,
+    starts: &[u32],
+    dropped: bool,
+    n: u32,
+    op: Op,
+) -> Result<(), AllocError>
+    requires starts { 0 < length starts.now }
+    ensures { OnOk result (statements.new.items ≡ statements.old.items ++ expand (among starts.now) dropped n op) }
+{
+    let (first, second) = head_of(dropped, n, op);
+    put_one(statements, first)?;
+    put_one(statements, second)?;
+    put_one(statements, own_statement(starts, n, op))?;
+    put_one(statements, tail_of(op))
+}
+
+fn put_one(statements: &mut Vec<Instr>, statement: Option<Instr>) -> Result<(), AllocError>
+    ensures { OnOk result (statements.new.items ≡ statements.old.items ++ own statement) }
+{
+    match statement {
+        None => Ok(()),
+        Some(statement) => {
+            statements.push(statement)?;
+            Ok(())
+        }
+    }
+}
+
+// How many statements a line becomes.
+fn width(dropped: bool, n: u32, op: Op) -> u32
+    ensures few { result ≤ 4 }
+    ensures is { result ≡ width dropped n op }
+{
+    let (first, second) = head_of(dropped, n, op);
+    one(first) + one(second) + one_but_entering(op) + one(tail_of(op))
+}
+
+fn one(statement: Option<Instr>) -> u32
+    ensures few { result ≤ 1 }
+    ensures is { result ≡ length (own statement) }
+{
+    match statement {
+        None => 0,
+        Some(_) => 1,
+    }
+}
+
+fn one_but_entering(op: Op) -> u32
+    ensures few { result ≤ 1 }
+    ensures is { result ≡ length (own (body (λ k. 0) 0 op)) }
+{
+    match op {
+        Op::Enter => 0,
+        Op::BlockEnd => 0,
+        _ => 1,
+    }
+}
+
+// What comes before a line's own statement.
+fn head_of(dropped: bool, n: u32, op: Op) -> (Option<Instr>, Option<Instr>)
+    ensures { own result.0 ++ own result.1 ≡ head dropped n op }
+{
+    match op {
+        Op::Load(_, cell, spot) => (check_under(dropped, Instr::ChkRead(cell, n), spot, n), None),
+        Op::Store(_, cell, spot) => (
+            check_under(dropped, Instr::ChkWrite(cell, n), spot, n),
+            None,
+        ),
+        Op::LoadRef(_, cell, spot) => (check_under(false, Instr::ChkRead(cell, n), spot, n), None),
+        Op::StoreRef(_, cell, spot) => (
+            check_under(false, Instr::ChkWrite(cell, n), spot, n),
+            None,
+        ),
+        Op::TakeCell(_, cell, spot) => (
+            check_under(false, Instr::ChkWrite(cell, n), spot, n),
+            None,
+        ),
+        Op::Give(r, cells, _) => (Some(Instr::TestSole(r, n)), Some(Instr::Clear(r, cells))),
+        Op::Free(r, _, _) => (Some(Instr::TestSole(r, n)), None),
+        _ => (None, None),
+    }
+}
+
+// The check of an access by its mode.
+fn check_under(dropped: bool, dynamic: Instr, spot: Spot, n: u32) -> Option<Instr>
+    ensures { own result ≡ check_under dropped dynamic spot n spot.mode }
+{
+    match spot.mode {
+        PlaceMode::Private => None,
+        PlaceMode::Readonly => None,
+        PlaceMode::Racy => None,
+        PlaceMode::Dynamic => if dropped { None } else { Some(dynamic) },
+        PlaceMode::LockedGlobal(g, place) => Some(Instr::ChkLock(Cell::Global(g, place), n)),
+        PlaceMode::LockedSibling(_, _) => Some(Instr::ChkLock(spot.lock, n)),
+        PlaceMode::LockedThrough(r, place) => Some(Instr::ChkLock(Cell::Object(r, place), n)),
+        PlaceMode::LockedLoaded => Some(Instr::ChkLockLoaded(n)),
+    }
+}
+
+// What comes after it.
+fn tail_of(op: Op) -> Option<Instr>
+    ensures { own result ≡ tail op }
+{
+    match op {
+        Op::LoadRef(r, _, _) => Some(Instr::RaiseLoaded(r)),
+        Op::StoreRef(r, _, _) => Some(Instr::Lower(r)),
+        Op::Settle(x, from) => Some(Instr::MoveReference(x, from)),
+        _ => None,
+    }
+}
+
+fn source_at_spot(spot: Spot) -> SourcePlace
+    ensures { result ≡ source_at_spot spot }
+{
+    SourcePlace {
+        site: spot.site,
+        lvalue: spot.lvalue,
+        lock: spot.lock_text,
+        mode: spot.mode,
+        at: spot.at,
+    }
+}
+
+fn no_place() -> SourcePlace
+    ensures { result ≡ no_place }
+{
+    SourcePlace {
+        site: Site {
+            file: 0,
+            line: 0,
+            token: 0,
+        },
+        lvalue: Text { from: 0, until: 0 },
+        lock: Text { from: 0, until: 0 },
+        mode: PlaceMode::Racy,
+        at: Use::Other,
+    }
+}
+
+fn source_of(op: Op) -> SourcePlace
+    ensures { result ≡ source_of op }
+{
+    match op {
+        Op::Compute(_, _, _, _, _, spot) => source_at_spot(spot),
+        Op::Negate(_, _, _, spot) => source_at_spot(spot),
+        Op::ChkWidth(_, _, spot) => source_at_spot(spot),
+        Op::Call(_, _, _, spot) => source_at_spot(spot),
+        Op::Return(spot) => source_at_spot(spot),
+        Op::ChkNull(_, spot) => source_at_spot(spot),
+        Op::ChkPositive(_, spot) => source_at_spot(spot),
+        Op::ChkHeld(_, spot) => source_at_spot(spot),
+        Op::ChkNotHeld(_, spot) => source_at_spot(spot),
+        Op::ChkRoom(spot) => source_at_spot(spot),
+        Op::Bounds(_, _, _, _, spot) => source_at_spot(spot),
+        Op::GlobalBounds(_, _, _, _, spot) => source_at_spot(spot),
+        Op::Load(_, _, spot) => source_at_spot(spot),
+        Op::Store(_, _, spot) => source_at_spot(spot),
+        Op::LoadRef(_, _, spot) => source_at_spot(spot),
+        Op::StoreRef(_, _, spot) => source_at_spot(spot),
+        Op::New(_, _, _, spot) => source_at_spot(spot),
+        Op::TakeCell(_, _, spot) => source_at_spot(spot),
+        Op::TakeLocal(_, _, spot) => source_at_spot(spot),
+        Op::Give(_, _, spot) => source_at_spot(spot),
+        Op::Free(_, _, spot) => source_at_spot(spot),
+        Op::Lock(_, spot) => source_at_spot(spot),
+        Op::Unlock(_, _, spot) => source_at_spot(spot),
+        Op::CondEnter(_, spot) => source_at_spot(spot),
+        Op::CondWait(_, spot) => source_at_spot(spot),
+        Op::CondSignal(_, spot) => source_at_spot(spot),
+        Op::CondBroadcast(_, spot) => source_at_spot(spot),
+        Op::Spawn(_, _, _, spot) => source_at_spot(spot),
+        Op::Join(_, spot) => source_at_spot(spot),
+        Op::Print(_, spot) => source_at_spot(spot),
+        Op::LoadGuard(_, spot) => SourcePlace {
+            mode: PlaceMode::Readonly,
+            ..source_at_spot(spot)
+        },
+        Op::Enter => no_place(),
+        Op::BlockEnd => no_place(),
+        Op::Constant(_, _) => no_place(),
+        Op::Move(_, _) => no_place(),
+        Op::Complement(_, _) => no_place(),
+        Op::IsFalse(_, _) => no_place(),
+        Op::SameReference(_, _, _) => no_place(),
+        Op::Skip(_) => no_place(),
+        Op::SkipIfZero(_, _) => no_place(),
+        Op::SkipIfNull(_, _) => no_place(),
+        Op::Jump(_) => no_place(),
+        Op::Null(_) => no_place(),
+        Op::Local(_, _) => no_place(),
+        Op::MoveReference(_, _) => no_place(),
+        Op::Pop(_) => no_place(),
+        Op::Settle(_, _) => no_place(),
+    }
+}
+
+// An operation's own statement.
+fn own_statement(starts: &[u32], n: u32, op: Op) -> Option<Instr>
+    requires { 0 < length starts.now }
+    ensures { result ≡ body (among starts.now) n op }
+{
+    match op {
+        Op::Enter => None,
+        Op::BlockEnd => None,
+        Op::Constant(i, v) => Some(Instr::Constant(i, v)),
+        Op::Move(i, from) => Some(Instr::Move(i, from)),
+        Op::Compute(width, operator, i, a, b, _) => Some(compute(width, operator, i, a, b, n)),
+        Op::Negate(width, i, a, _) => Some(negate(width, i, a, n)),
+        Op::Complement(i, a) => Some(Instr::Complement(i, a)),
+        Op::IsFalse(i, a) => Some(Instr::Not(i, a)),
+        Op::SameReference(i, a, b) => Some(Instr::SameReference(i, a, b)),
+        Op::ChkWidth(width, i, _) => Some(Instr::ChkWidth(width, i, n)),
+        Op::Skip(k) => Some(Instr::Jump(over(starts, n, k))),
+        Op::SkipIfZero(i, k) => Some(Instr::JumpIfZero(i, over(starts, n, k))),
+        Op::SkipIfNull(r, k) => Some(Instr::JumpIfNull(r, over(starts, n, k))),
+        Op::Jump(to) => Some(Instr::Jump(place_of(starts, to as usize))),
+        Op::Call(f, ints, refs, _) => Some(Instr::Call(f, ints, refs, n)),
+        Op::Return(_) => Some(Instr::Return(n)),
+        Op::Null(r) => Some(Instr::Null(r)),
+        Op::Local(r, x) => Some(Instr::Raise(r, x)),
+        Op::MoveReference(r, from) => Some(Instr::MoveReference(r, from)),
+        Op::Pop(r) => Some(Instr::Lower(r)),
+        Op::Settle(x, _) => Some(Instr::Lower(x)),
+        Op::ChkNull(r, _) => Some(Instr::ChkNull(r, n)),
+        Op::ChkPositive(i, _) => Some(Instr::ChkPositive(i, n)),
+        Op::ChkHeld(cell, _) => Some(Instr::ChkHeld(cell, n)),
+        Op::ChkNotHeld(cell, _) => Some(Instr::ChkNotHeld(cell, n)),
+        Op::ChkRoom(_) => Some(Instr::ChkRoom(n)),
+        Op::Bounds(i, r, cells, field, _) => Some(Instr::Bounds(i, r, cells, field, n)),
+        Op::GlobalBounds(i, elements, cells, field, _) => Some(Instr::GlobalBounds(
+            i, elements, cells, field, n,
+        )),
+        Op::Load(i, cell, _) => Some(Instr::Load(i, cell, n)),
+        Op::Store(i, cell, _) => Some(Instr::Store(i, cell, n)),
+        Op::LoadRef(_, cell, _) => Some(Instr::LoadRef(cell, n)),
+        Op::StoreRef(r, cell, _) => Some(Instr::Exchange(r, cell, n)),
+        Op::LoadGuard(cell, _) => Some(Instr::LoadRef(cell, n)),
+        Op::New(r, count, cells, _) => Some(Instr::New(r, count, cells, n)),
+        Op::TakeCell(r, cell, _) => Some(Instr::TakeCell(r, cell, n)),
+        Op::TakeLocal(r, x, _) => Some(Instr::TakeLocal(r, x, n)),
+        Op::Give(r, _, _) => Some(Instr::Give(r, n)),
+        Op::Free(r, layout, _) => Some(Instr::Free(r, layout, n)),
+        Op::Lock(cell, _) => Some(Instr::Lock(cell, n)),
+        Op::Unlock(r, cell, _) => Some(Instr::Unlock(r, cell, n)),
+        Op::CondEnter(cell, _) => Some(Instr::CondEnter(cell, n)),
+        Op::CondWait(cell, _) => Some(Instr::CondWait(cell, n)),
+        Op::CondSignal(cell, _) => Some(Instr::CondSignal(cell, n)),
+        Op::CondBroadcast(cell, _) => Some(Instr::CondBroadcast(cell, n)),
+        Op::Spawn(i, f, from, _) => Some(Instr::Spawn(i, f, from, n)),
+        Op::Join(i, _) => Some(Instr::Join(i, n)),
+        Op::Print(i, _) => Some(Instr::Print(i, n)),
+    }
+}
+
+fn compute(width: Width, operator: Operator, i: u32, a: u32, b: u32, n: u32) -> Instr
+    ensures { result ≡ compute width operator i a b n }
+{
+    match width {
+        Width::Char => Instr::ComputeInt(operator, i, a, b, n),
+        Width::Int => Instr::ComputeInt(operator, i, a, b, n),
+        Width::Long => Instr::ComputeLong(operator, i, a, b, n),
+    }
+}
+
+fn negate(width: Width, i: u32, a: u32, n: u32) -> Instr
+    ensures { result ≡ negate width i a n }
+{
+    match width {
+        Width::Char => Instr::NegateInt(i, a, n),
+        Width::Int => Instr::NegateInt(i, a, n),
+        Width::Long => Instr::NegateLong(i, a, n),
+    }
+}
+
+// Where a line goes.
+fn place_of(starts: &[u32], to: usize) -> u32
+    requires { 0 < length starts.now }
+    ensures { result ≡ among starts.now to }
+{
+    if to < starts.len() {
+        starts[to]
+    } else {
+        starts[starts.len() - 1]
+    }
+}
+
+// Where the line goes that is so many after the next one.
+fn over(starts: &[u32], n: u32, k: u32) -> u32
+    requires { 0 < length starts.now }
+    ensures { result ≡ among starts.now (n + 1 + k) }
+{
+    place_of(starts, n as usize + 1 + k as usize)
+}

@@ -1,0 +1,4 @@
+pub mod Form
+pub mod Machine
+pub mod Path
+pub mod Tables

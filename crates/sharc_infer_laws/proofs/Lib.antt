@@ -1,0 +1,6 @@
+pub mod Findings
+pub mod Least
+pub mod Numbers
+pub mod Owners
+pub mod Roots
+pub mod Types

@@ -1,0 +1,105 @@
+-- A root is one thing to one function.
+use Rattle.std.proofs.Common.{◌≡◌, ℕ, zero, suc, ◌<◌, ◌==◌, List, [], ◌∷◌, ◌++◌, length, Option, Some, None, IsSomeAnd, refl, ap, sym, ◌∙◌, subst, arith, eqb-true, Contains}
+use Rattle.std.specs.List.{AllByRecursion}
+use Rattle.std.specs.Prelude.{slice_get}
+use Rattle.std.proofs.lemmas.Bool.{and_parts}
+use Rattle.std.proofs.lemmas.List.Elements.{All-from_recursion, All-contains, Contains-append_left}
+use Rattle.sharc_tree.specs.declared.tree.declaration.Declaration.{Declaration}
+use Rattle.sharc_tree.specs.declared.tree.item.GlobalDefinition.{GlobalDefinition}
+use Rattle.sharc_tree.specs.Placed.{IsPlaced}
+use Rattle.sharc_tree.specs.Tree.{Function}
+use Rattle.sharc_names.specs.declared.fault.Named.TheVariants as named
+use Rattle.sharc_ctype.specs.declared.entity.Numbered.{Numbered}
+use Rattle.sharc_ctype.specs.Entities.{entities_in, is_told_by, numbered, entity_at, positions_of}
+use Rattle.sharc_ctype.specs.Resolved.{Resolution, named_at, functions_in, function_at, global_at}
+use Rattle.sharc_ctype.specs.Statements.{locals_in_all}
+use Rattle.sharc_ctype_laws.specs.Declared.{IsItself, NameThemselves}
+use Rattle.sharc_mode.specs.Flows.{IsFirst, Touches, IsTouchedIn, IsPassedTo}
+use Rattle.sharc_infer_laws.proofs.Numbers.{passes, one_at}
+use Rattle.sharc_infer_laws.proofs.Owners.{one_owner}
+
+-- what there is, and that it is so
+some_and : {A : Type 0} (o : Option A) (P : A → Type 0) → IsSomeAnd o P → (x : A) × (o ≡ Some x) × P x
+some_and None P is = absurd is
+some_and (Some x) P is = (x, refl, is)
+
+none_some : {A : Type 0} (x : A) → None ≡ Some x → ⊥
+none_some x is = cc
+
+some_same : {A : Type 0} (x y : A) → Some x ≡ Some y → x ≡ y
+some_same x y is = cc
+
+at_get : {A : Type 0} (P : A → Type 0) (list : List A) (n : ℕ) (x : A) → AllByRecursion P list → slice_get list n ≡ Some x → P x
+at_get P [] n x all is = absurd (none_some x is)
+at_get P (y ∷ rest) zero x all is = subst P (some_same y x is) all.0
+at_get P (y ∷ rest) (suc n) x all is = at_get P rest n x all.1 is
+
+same_global : (n m : ℕ) → named.Global n ≡ named.Global m → n ≡ m
+same_global n m is = cc
+
+not_variable : (n m : ℕ) → named.Global n ≡ named.Variable m → ⊥
+not_variable n m is = cc
+
+module _ (r : Resolution) where
+  -- two tokens whose declarations begin at one position are one
+  one_token : (p s t : ℕ) → IsFirst r s p → IsFirst r t p → s ≡ t
+  one_token p s t a b =
+      let P : Numbered → Type 0 = λ n. (0 < positions_of n.entity) × (n.first ≡ p) in
+      let left = some_and (entity_at r s s) P a in
+      let right = some_and (entity_at r t t) P b in
+      let same = one_at (is_told_by s s) (is_told_by t t) 0 (entities_in r.program.items) left.0 right.0 left.1 right.1 left.2.0 right.2.0 (left.2.1 ∙ sym right.2.1) in
+      let first = passes (is_told_by s s) (numbered (entities_in r.program.items)) left.0 left.1 in
+      let second = passes (is_told_by t t) (numbered (entities_in r.program.items)) right.0 right.1 in
+      let here = eqb-true left.0.entity.token s (and_parts (left.0.entity.token == s) (left.0.entity.last == s) first).0 in
+      let there = eqb-true right.0.entity.token t (and_parts (right.0.entity.token == t) (right.0.entity.last == t) second).0 in
+      sym here ∙ ap (λ (n : Numbered). n.entity.token) same ∙ there
+
+  -- a global with its place
+  global_of : (p f : ℕ) (is : IsTouchedIn r p f) → (g : GlobalDefinition) × (global_at r is.global ≡ Some g) × IsFirst r g.declaration.name.site.token p
+  global_of p f is = some_and (global_at r is.global) (λ (g : GlobalDefinition). IsFirst r g.declaration.name.site.token p) is.top
+
+  pub touched : NameThemselves r → (p f g : ℕ) → IsTouchedIn r p f → IsTouchedIn r p g → f ≡ g
+  touched names p f g a b =
+      let left = global_of p f a in
+      let right = global_of p g b in
+      let token = one_token p left.0.declaration.name.site.token right.0.declaration.name.site.token left.2 right.2 in
+      let same = same_global a.global b.global (sym (names.globals a.global left.0 left.1) ∙ ap (named_at r) token ∙ names.globals b.global right.0 right.1) in
+      let low = a.least g (subst (Touches r g) (sym same) b.touches) in
+      let high = b.least f (subst (Touches r f) same a.touches) in
+      omega (arith, low, high)
+
+  -- a parameter with its function and its place
+  record HasParameter (p f : ℕ) : Type 0 where
+    owner : Function
+    declaration : Declaration
+    is : function_at r f ≡ Some owner
+    has : Contains owner.parameters declaration
+    first : IsFirst r declaration.name.site.token p
+
+  parameter_of : (p f : ℕ) → IsPassedTo r p f → HasParameter p f
+  parameter_of p f is =
+      let found = some_and (function_at r f) (λ (d : Function). (q : Declaration) × Contains d.parameters q × IsFirst r q.name.site.token p) is.parameter in
+      record { owner = found.0; declaration = found.2.0; is = found.1; has = found.2.1; first = found.2.2 }
+
+  pub passed : IsPlaced r.program → (p f g : ℕ) → IsPassedTo r p f → IsPassedTo r p g → f ≡ g
+  passed placed p f g a b =
+      let left = parameter_of p f a in
+      let right = parameter_of p g b in
+      let token = one_token p left.declaration.name.site.token right.declaration.name.site.token left.first right.first in
+      one_owner r.program.tokens.list 0 (length r.program.tokens.list) r.program.items placed.follow placed.items f g left.declaration right.declaration
+      (record { owner = left.owner; is = left.is; has = left.has }) (record { owner = right.owner; is = right.is; has = right.has }) token
+
+  -- the name of a parameter names a variable
+  is_variable : NameThemselves r → (p f : ℕ) (has : HasParameter p f) → named_at r has.declaration.name.site.token ≡ named.Variable has.declaration.name.site.token
+  is_variable names p f has =
+      let Own : Function → Type 0 = λ d. AllByRecursion (IsItself r named.Variable) (d.parameters ++ locals_in_all d.statements) in
+      let own = at_get Own (functions_in r.program.items) f has.owner names.variables has.is in
+      let all = All-from_recursion (IsItself r named.Variable) (has.owner.parameters ++ locals_in_all has.owner.statements) own in
+      (All-contains (IsItself r named.Variable) (has.owner.parameters ++ locals_in_all has.owner.statements) has.declaration all (Contains-append_left has.owner.parameters (locals_in_all has.owner.statements) has.declaration has.has)).0
+
+  pub apart : NameThemselves r → (p f g : ℕ) → IsTouchedIn r p f → IsPassedTo r p g → ⊥
+  apart names p f g a b =
+      let left = global_of p f a in
+      let right = parameter_of p g b in
+      let token = one_token p left.0.declaration.name.site.token right.declaration.name.site.token left.2 right.first in
+      not_variable a.global right.declaration.name.site.token (sym (names.globals a.global left.0 left.1) ∙ ap (named_at r) token ∙ is_variable names p g right)

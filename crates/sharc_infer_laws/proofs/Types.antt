@@ -1,0 +1,369 @@
+-- What `well_formed` says of the type of an entity is told of it.
+use Rattle.std.proofs.Common.{◌≡◌, ℕ, zero, suc, ◌+◌, ◌<◌, ◌≤◌, ◌==◌, Bool, true, false, not, ◌&&◌, ◌||◌, cond, List, [], ◌∷◌, ◌++◌, length, map, take, drop, get_or, Option, Some, None, is_some, refl, ap, sym, ◌∙◌, subst, arith}
+use Rattle.std.specs.Prelude.{Contains, slice_index_or}
+use Rattle.std.specs.List.{AllByRecursion, flat_map, list_any}
+use Rattle.std.specs.Option.{option_or}
+use Rattle.std.proofs.lemmas.Bool.{false≢true}
+use Rattle.std.proofs.lemmas.List.{drop-drop}
+use Rattle.sharc_tree.specs.declared.ctype.Base.{Base}
+use Rattle.sharc_tree.specs.declared.ctype.Base.TheVariants as base
+use Rattle.sharc_tree.specs.declared.ctype.CType.{CType}
+use Rattle.sharc_tree.specs.declared.ctype.Path.{Path}
+use Rattle.sharc_tree.specs.declared.ctype.Mode.{Mode}
+use Rattle.sharc_tree.specs.declared.ctype.Mode.TheVariants.{Private, Racy}
+use Rattle.sharc_tree.specs.declared.token.Span.{Span}
+use Rattle.sharc_tree.specs.Texts.{path_text, mode_text}
+use Rattle.sharc_names.specs.declared.types.Role.{Role}
+use Rattle.sharc_names.specs.declared.types.Role.TheVariants as role
+use Rattle.sharc_ctype.specs.declared.entity.Entity.{Entity}
+use Rattle.sharc_ctype.specs.declared.entity.Numbered.{Numbered}
+use Rattle.sharc_ctype.specs.Entities.{entities_in, first_depth, numbered, numbered_from, positions_of, written_modes}
+use Rattle.sharc_ctype.specs.Resolved.{Resolution}
+use Rattle.sharc_mode.specs.declared.error.ModeError.{ModeError}
+use Rattle.sharc_mode.specs.declared.note.Note.{Note}
+use Rattle.sharc_mode.specs.declared.note.Note.TheVariants.{Wrong, Names, Takes}
+use Rattle.sharc_mode.specs.Flows.{IsLeastAssignment}
+use Rattle.sharc_mode.specs.Laws.{SettledStay, SettledAreCounted}
+use Rattle.sharc_mode.specs.Moded.{Assignment, position_count}
+use Rattle.sharc_mode.specs.Notes.{error, mismatch, no_type, error_where, top_levels, position_levels, levels_of, printed_type, private_notes, path_notes, mode_notes, is_private_level, is_field_role, private_field_notes, names_of, names_in, names_in_level, type_notes}
+use Rattle.sharc_mode.specs.Settled.{is_mutex, settled, field_target, otherwise_of, settled_modes, settled_in, settled_at}
+use Rattle.sharc_mode.specs.Sharings.{Sharing, private, readonly, locked, racy, dynamic, sharing_of, text_at, object_of}
+use Rattle.sharc_mode.specs.WellFormed.{place_of, is_private_mode, begins_private, holds_private, meant, first_unfit_path, first_unfit_mode, lowest}
+use Rattle.sharc_infer_laws.specs.Types.{code_of, IsTold, IsToldOf, TypesAreTold}
+
+-- ---- levels that are known more of than others
+
+abbrev Agrees : List (Option Mode) → List (Option Mode) → Type 0
+Agrees [] [] = Unit {0}
+Agrees [] (y ∷ ys) = ⊥
+Agrees (None ∷ xs) [] = ⊥
+Agrees (Some x ∷ xs) [] = ⊥
+Agrees (None ∷ xs) (y ∷ ys) = Agrees xs ys
+Agrees (Some x ∷ xs) (y ∷ ys) = (y ≡ Some x) × Agrees xs ys
+
+or_left : (a b : Bool) → a ≡ true → (a || b) ≡ true
+or_left true b is = refl
+or_left false b is = absurd (false≢true is)
+
+or_right : (a b : Bool) → b ≡ true → (a || b) ≡ true
+or_right true b is = refl
+or_right false b is = is
+
+or_kept : (a b c d : Bool) → (a ≡ true → c ≡ true) → (b ≡ true → d ≡ true) → (a || b) ≡ true → (c || d) ≡ true
+or_kept true b c d left right is = or_left c d (left refl)
+or_kept false b c d left right is = or_right c d (right is)
+
+and_kept : (a b c : Bool) → (b ≡ true → c ≡ true) → (a && b) ≡ true → (a && c) ≡ true
+and_kept true b c more is = more is
+and_kept false b c more is = is
+
+begins_kept : (a b : List (Option Mode)) → Agrees a b → begins_private a ≡ true → begins_private b ≡ true
+begins_kept [] [] h is = is
+begins_kept [] (y ∷ b) h is = absurd h
+begins_kept (None ∷ a) b h is = absurd (false≢true is)
+begins_kept (Some x ∷ a) [] h is = absurd h
+begins_kept (Some x ∷ a) (y ∷ b) h is = ap (λ (l : Option Mode). begins_private (l ∷ b)) h.0 ∙ is
+
+holds_later : (y : Option Mode) (b : List (Option Mode)) → holds_private b ≡ true → holds_private (y ∷ b) ≡ true
+holds_later None b is = is
+holds_later (Some m) b is = or_right (not (is_private_mode m) && begins_private b) (holds_private b) is
+
+-- a private target below a level that is not stays one
+holds_kept : (a b : List (Option Mode)) → Agrees a b → holds_private a ≡ true → holds_private b ≡ true
+holds_kept [] [] h is = is
+holds_kept [] (y ∷ b) h is = absurd h
+holds_kept (None ∷ a) [] h is = absurd h
+holds_kept (None ∷ a) (y ∷ b) h is = holds_later y b (holds_kept a b h is)
+holds_kept (Some x ∷ a) [] h is = absurd h
+holds_kept (Some x ∷ a) (y ∷ b) h is =
+    ap (λ (l : Option Mode). holds_private (l ∷ b)) h.0
+    ∙ or_kept (not (is_private_mode x) && begins_private a) (holds_private a) (not (is_private_mode x) && begins_private b) (holds_private b)
+    (and_kept (not (is_private_mode x)) (begins_private a) (begins_private b) (begins_kept a b h.1)) (holds_kept a b h.1) is
+
+-- ---- the modes of the positions agree with what is settled of them
+
+abbrev known : List Mode → List (Option Mode)
+known = map (λ mode. Some mode)
+
+all_agree : (s : List (Option Mode)) (ms : List Mode) → length s ≡ length ms → ((i : ℕ) → i < length s → (x : Mode) → get_or s i (Some Private) ≡ Some x → get_or ms i Private ≡ x) → Agrees s (known ms)
+all_agree [] [] size h = tt
+all_agree [] (y ∷ ms) size h = absurd (omega (arith, size))
+all_agree (None ∷ s) [] size h = absurd (omega (arith, size))
+all_agree (Some x ∷ s) [] size h = absurd (omega (arith, size))
+all_agree (None ∷ s) (y ∷ ms) size h = all_agree s ms (omega (arith, size)) (λ i low x is. h (suc i) (omega (arith, low)) x is)
+all_agree (Some x ∷ s) (y ∷ ms) size h = (ap Some (h zero (omega arith) x refl), all_agree s ms (omega (arith, size)) (λ i low z is. h (suc i) (omega (arith, low)) z is))
+
+in_front : (a b : List (Option Mode)) (ms : List Mode) → Agrees (a ++ b) (known ms) → Agrees a (known (take (length a) ms))
+in_front [] b ms h = tt
+in_front (None ∷ a) b [] h = absurd h
+in_front (Some x ∷ a) b [] h = absurd h
+in_front (None ∷ a) b (y ∷ ms) h = in_front a b ms h
+in_front (Some x ∷ a) b (y ∷ ms) h = (h.0, in_front a b ms h.1)
+
+in_back : (a b : List (Option Mode)) (ms : List Mode) → Agrees (a ++ b) (known ms) → Agrees b (known (drop (length a) ms))
+in_back [] b ms h = h
+in_back (None ∷ a) b [] h = absurd h
+in_back (Some x ∷ a) b [] h = absurd h
+in_back (None ∷ a) b (y ∷ ms) h = in_back a b ms h
+in_back (Some x ∷ a) b (y ∷ ms) h = in_back a b ms h.1
+
+settled_size : (b : Base) (o : Option Mode) (l : List (Option Mode)) → length (settled b o l) ≡ length l
+settled_size b o [] = refl
+settled_size b o (x ∷ l) = ap suc (settled_size b o l)
+
+modes_size : (e : Entity) → length (settled_modes e) ≡ positions_of e
+modes_size e = settled_size e.written.ctype.base (otherwise_of e.role e.written.ctype.levels) (written_modes e)
+
+of_entity : (ms : List Mode) (k : ℕ) (es : List Entity) → Agrees (settled_in es) (known (drop k ms)) → (n : Numbered) (i : ℕ) → i < length (numbered_from k es) → get_or (numbered_from k es) i n ≡ n
+    → Agrees (settled_modes n.entity) (known (take (positions_of n.entity) (drop n.first ms)))
+of_entity ms k [] all n i low is = absurd (omega (arith, low))
+of_entity ms k (e ∷ rest) all n zero low is =
+    subst (λ (x : Numbered). Agrees (settled_modes x.entity) (known (take (positions_of x.entity) (drop x.first ms)))) is
+    (subst (λ (size : ℕ). Agrees (settled_modes e) (known (take size (drop k ms)))) (modes_size e) (in_front (settled_modes e) (settled_in rest) (drop k ms) all))
+of_entity ms k (e ∷ rest) all n (suc i) low is =
+    of_entity ms (k + positions_of e) rest
+    (subst (λ (l : List Mode). Agrees (settled_in rest) (known l)) (drop-drop (positions_of e) k ms)
+    (subst (λ (size : ℕ). Agrees (settled_in rest) (known (drop size (drop k ms)))) (modes_size e) (in_back (settled_modes e) (settled_in rest) (drop k ms) all)))
+    n i (omega (arith, low)) is
+
+positions_agree : SettledStay → SettledAreCounted → (m : Assignment) → IsLeastAssignment m → (n : Numbered) → Contains (numbered (entities_in m.typed.program.items)) n → Agrees (settled_modes n.entity) (position_levels m n)
+positions_agree stay counted m least n at =
+    let es : List Entity = entities_in m.typed.program.items in
+    let size : length (settled_in es) ≡ length m.modes = counted m.typed ∙ sym least.modes in
+    let total : length (settled_in es) ≡ position_count m.typed = counted m.typed in
+    let all : Agrees (settled_in es) (known m.modes) = all_agree (settled_in es) m.modes size (λ i low x is. (stay m least i (subst (λ (k : ℕ). i < k) total low) x is).0) in
+    of_entity m.modes 0 es all n at.0 at.1 at.2
+
+-- ---- M3
+
+no_mutex : (b : Base) (x : Option Mode) (l : List (Option Mode)) → is_mutex b (x ∷ l) ≡ false
+no_mutex base.Int x l = refl
+no_mutex base.Char x l = refl
+no_mutex base.Long x l = refl
+no_mutex base.Mutex x l = refl
+no_mutex base.Void x l = refl
+no_mutex (base.Struct name) x l = refl
+
+single_by : (b : Bool) → ((not b && false) || false) ≡ false
+single_by true = refl
+single_by false = refl
+
+single : (x : Option Mode) → holds_private (x ∷ []) ≡ false
+single None = refl
+single (Some m) = single_by (is_private_mode m)
+
+top_agrees : (top mine : Option Mode) (s ps : List (Option Mode)) → ((x : Mode) → top ≡ Some x → mine ≡ Some x) → Agrees s ps → Agrees (option_or top None ∷ s) (mine ∷ ps)
+top_agrees None mine s ps keep h = h
+top_agrees (Some x) mine s ps keep h = (keep x refl, h)
+
+-- what is meant at the levels of a type, beside the modes of its top and of its positions
+topped : (b : Base) (top mine o : Option Mode) (below ps : List (Option Mode)) → ((x : Mode) → top ≡ Some x → mine ≡ Some x) → Agrees (settled b o below) ps
+    → holds_private (cond (is_mutex b below) (Some Racy) (option_or top None) ∷ settled b o below) ≡ true → holds_private (mine ∷ ps) ≡ true
+topped b top mine o [] ps keep h is = absurd (false≢true (sym (single (cond (is_mutex b []) (Some Racy) (option_or top None))) ∙ is))
+topped b top mine o (next ∷ below) ps keep h is =
+    holds_kept (option_or top None ∷ settled b o (next ∷ below)) (mine ∷ ps) (top_agrees top mine (settled b o (next ∷ below)) ps keep h)
+    (ap (λ (c : Bool). holds_private (cond c (Some Racy) (option_or top None) ∷ settled b o (next ∷ below))) (sym (no_mutex b next below)) ∙ is)
+
+or_private : (top : Option Mode) (x : Mode) → top ≡ Some x → option_or top (Some Private) ≡ Some x
+or_private top x is = ap (λ (t : Option Mode). option_or t (Some Private)) is
+
+holds_by : (what : Role) (b : Base) (levels ps : List (Option Mode)) → Agrees (settled b (otherwise_of what levels) (drop (first_depth what) levels)) ps → holds_private (meant (place_of what) b levels) ≡ true
+    → holds_private (top_levels what levels ++ ps) ≡ true
+holds_by role.Global b [] ps h is = absurd (false≢true is)
+holds_by role.Global b (top ∷ below) ps h is = holds_kept (settled b None (top ∷ below)) ps h is
+holds_by role.Field b [] ps h is = absurd (false≢true is)
+holds_by role.Field b (top ∷ below) ps h is = topped b top top (Some (field_target (top ∷ below))) below ps (λ x same. same) h is
+holds_by role.Local b [] ps h is = absurd (false≢true is)
+holds_by role.Local b (top ∷ below) ps h is = topped b top (option_or top (Some Private)) None below ps (or_private top) h is
+holds_by role.Parameter b [] ps h is = absurd (false≢true is)
+holds_by role.Parameter b (top ∷ below) ps h is = topped b top (option_or top (Some Private)) None below ps (or_private top) h is
+holds_by role.Result b [] ps h is = absurd (false≢true is)
+holds_by role.Result b (top ∷ below) ps h is = topped b top top None below ps (λ x same. same) h is
+holds_by role.Cast b [] ps h is = absurd (false≢true is)
+holds_by role.Cast b (top ∷ below) ps h is = topped b top top None below ps (λ x same. same) h is
+holds_by role.Made b [] ps h is = absurd (false≢true is)
+holds_by role.Made b (top ∷ below) ps h is = topped b top top None below ps (λ x same. same) h is
+
+-- ---- what is told
+
+stands_front : (a b : List Note) (x : Note) (k : ℕ) → k < length a → get_or a k x ≡ x → Contains (a ++ b) x
+stands_front [] b x k low is = absurd (omega (arith, low))
+stands_front (y ∷ a) b x zero low is = (zero, omega arith, is)
+stands_front (y ∷ a) b x (suc k) low is =
+    let more : Contains (a ++ b) x = stands_front a b x k (omega (arith, low)) is in
+    let next : more.0 < length (a ++ b) = more.1 in
+    (suc more.0, omega (arith, next), more.2)
+
+stands_back : (a b : List Note) (x : Note) (k : ℕ) → k < length b → get_or b k x ≡ x → Contains (a ++ b) x
+stands_back [] b x k low is = (k, low, is)
+stands_back (y ∷ a) b x k low is =
+    let more : Contains (a ++ b) x = stands_back a b x k low is in
+    let next : more.0 < length (a ++ b) = more.1 in
+    (suc more.0, omega (arith, next), more.2)
+
+before : (a b : List Note) (x : Note) → Contains a x → Contains (a ++ b) x
+before a b x at = stands_front a b x at.0 at.1 at.2
+
+behind : (a b : List Note) (x : Note) → Contains b x → Contains (a ++ b) x
+behind a b x at = stands_back a b x at.0 at.1 at.2
+
+alone : (x : Note) → Contains (x ∷ []) x
+alone x = (zero, omega arith, refl)
+
+module _ (m : Assignment) (n : Numbered) where
+  abbrev span : Span
+  span = n.entity.written.span
+
+  abbrev levels : List (Option Mode)
+  levels = n.entity.written.ctype.levels
+
+  abbrev path : Option Path
+  path = first_unfit_path m.typed (place_of n.entity.role) n.entity.written.ctype.base levels
+
+  abbrev mode : Option Mode
+  mode = first_unfit_mode (place_of n.entity.role) n.entity.written.ctype.base levels
+
+  abbrev names : List Note
+  names = flat_map (names_in_level m.typed) levels
+
+  abbrev fields : List Note
+  fields = private_field_notes m.typed n
+
+  third : holds_private (levels_of m n) ≡ true → IsTold m n 3
+  third is =
+      let x : Note = mismatch 3 span (printed_type m n) (printed_type m n) in
+      let here : Contains (private_notes m n) x = subst (λ (b : Bool). Contains (cond b (x ∷ []) []) x) (sym is) (alone x) in
+      record {
+        error = record { code = 3; site = span.first; expected = printed_type m n; found = printed_type m n; subject = [] };
+        stands = before (private_notes m n ++ path_notes span path ++ mode_notes span mode ++ fields) names x
+            (before (private_notes m n ++ path_notes span path ++ mode_notes span mode) fields x (before (private_notes m n ++ path_notes span path) (mode_notes span mode) x (before (private_notes m n) (path_notes span path) x here)));
+        coded = refl;
+        placed = refl;
+      }
+
+  fourth : (p : Path) → path ≡ Some p → IsTold m n 4
+  fourth p is =
+      let x : Note = error 4 span (path_text p) in
+      let here : Contains (path_notes span path) x = subst (λ (o : Option Path). Contains (path_notes span o) x) (sym is) (alone x) in
+      record {
+        error = record { code = 4; site = span.first; expected = no_type; found = no_type; subject = path_text p };
+        stands = before (private_notes m n ++ path_notes span path ++ mode_notes span mode ++ fields) names x
+            (before (private_notes m n ++ path_notes span path ++ mode_notes span mode) fields x (before (private_notes m n ++ path_notes span path) (mode_notes span mode) x (behind (private_notes m n) (path_notes span path) x here)));
+        coded = refl;
+        placed = refl;
+      }
+
+  fifth : (x : Mode) → mode ≡ Some x → IsTold m n 5
+  fifth w is =
+      let x : Note = error 5 span (mode_text w) in
+      let here : Contains (mode_notes span mode) x = subst (λ (o : Option Mode). Contains (mode_notes span o) x) (sym is) (alone x) in
+      record {
+        error = record { code = 5; site = span.first; expected = no_type; found = no_type; subject = mode_text w };
+        stands = before (private_notes m n ++ path_notes span path ++ mode_notes span mode ++ fields) names x
+            (before (private_notes m n ++ path_notes span path ++ mode_notes span mode) fields x (behind (private_notes m n ++ path_notes span path) (mode_notes span mode) x here));
+        coded = refl;
+        placed = refl;
+      }
+
+  same_code : (a b : ℕ) → Some a ≡ Some b → a ≡ b
+  same_code a b is = cc
+
+  no_code : (b : ℕ) → None ≡ Some b → ⊥
+  no_code b is = cc
+
+  some_path : (o : Option Path) → is_some o ≡ true → (p : Path) × (o ≡ Some p)
+  some_path None is = absurd (false≢true is)
+  some_path (Some p) is = (p, refl)
+
+  some_mode : (o : Option Mode) → is_some o ≡ true → (x : Mode) × (o ≡ Some x)
+  some_mode None is = absurd (false≢true is)
+  some_mode (Some x) is = (x, refl)
+
+  told_by : (a b c : Bool) → (a ≡ true → IsTold m n 3) → is_some path ≡ b → is_some mode ≡ c → (code : ℕ) → lowest a b c ≡ Some code → IsTold m n code
+  told_by true b c first pathed moded code is = subst (IsTold m n) (same_code 3 code is) (first refl)
+  told_by false true c first pathed moded code is = let p = some_path path pathed in subst (IsTold m n) (same_code 4 code is) (fourth p.0 p.1)
+  told_by false false true first pathed moded code is = let x = some_mode mode moded in subst (IsTold m n) (same_code 5 code is) (fifth x.0 x.1)
+  told_by false false false first pathed moded code is = absurd (no_code code is)
+
+  -- ---- where none is told, there is neither an M4 nor an M5
+
+  abbrev IsOther : Note → Type 0
+  IsOther (Wrong e) = (e.code ≡ 4 → ⊥) × (e.code ≡ 5 → ⊥)
+  IsOther (Names x) = Unit {0}
+  IsOther (Takes s x) = Unit {0}
+
+  others_at : (l : List Note) (x : Note) (k : ℕ) → k < length l → get_or l k x ≡ x → AllByRecursion IsOther l → IsOther x
+  others_at [] x k low is all = absurd (omega (arith, low))
+  others_at (y ∷ l) x zero low is all = subst IsOther is all.0
+  others_at (y ∷ l) x (suc k) low is all = others_at l x k (omega (arith, low)) is all.1
+
+  both : (a b : List Note) → AllByRecursion IsOther a → AllByRecursion IsOther b → AllByRecursion IsOther (a ++ b)
+  both [] b first second = second
+  both (x ∷ a) b first second = (first.0, both a b first.1 second)
+
+  private_other : (b : Bool) → AllByRecursion IsOther (cond b (mismatch 3 span (printed_type m n) (printed_type m n) ∷ []) [])
+  private_other true = ((λ is. omega (arith, is), λ is. omega (arith, is)), tt)
+  private_other false = tt
+
+  path_other : (o : Option Path) → is_some o ≡ false → AllByRecursion IsOther (path_notes span o)
+  path_other None is = tt
+  path_other (Some p) is = absurd (false≢true (sym is))
+
+  mode_other : (o : Option Mode) → is_some o ≡ false → AllByRecursion IsOther (mode_notes span o)
+  mode_other None is = tt
+  mode_other (Some x) is = absurd (false≢true (sym is))
+
+  where_other : (b : Bool) (subject : List ℕ) → AllByRecursion IsOther (error_where b 6 span subject)
+  where_other true subject = ((λ is. omega (arith, is), λ is. omega (arith, is)), tt)
+  where_other false subject = tt
+
+  field_other : (b c : Bool) (subject : List ℕ) → AllByRecursion IsOther (cond b (error_where c 6 span subject) [])
+  field_other true c subject = where_other c subject
+  field_other false c subject = tt
+
+  name_other : (x : Option ℕ) → AllByRecursion IsOther (names_of x)
+  name_other None = tt
+  name_other (Some x) = (tt, tt)
+
+  sharing_other : (s : Sharing) → AllByRecursion IsOther (names_in m.typed s)
+  sharing_other private = tt
+  sharing_other readonly = tt
+  sharing_other (locked l) = name_other (object_of m.typed l)
+  sharing_other racy = tt
+  sharing_other dynamic = tt
+
+  level_other : (level : Option Mode) → AllByRecursion IsOther (names_in_level m.typed level)
+  level_other None = tt
+  level_other (Some x) = sharing_other (sharing_of x)
+
+  names_other : (l : List (Option Mode)) → AllByRecursion IsOther (flat_map (names_in_level m.typed) l)
+  names_other [] = tt
+  names_other (level ∷ l) = both (names_in_level m.typed level) (flat_map (names_in_level m.typed) l) (level_other level) (names_other l)
+
+  others : is_some path ≡ false → is_some mode ≡ false → AllByRecursion IsOther (type_notes m n)
+  others pathed moded =
+      both (private_notes m n ++ path_notes span path ++ mode_notes span mode ++ fields) names
+      (both (private_notes m n ++ path_notes span path ++ mode_notes span mode) fields
+      (both (private_notes m n ++ path_notes span path) (mode_notes span mode)
+      (both (private_notes m n) (path_notes span path) (private_other (holds_private (levels_of m n))) (path_other path pathed)) (mode_other mode moded))
+      (field_other (is_field_role n.entity.role) (list_any is_private_level levels) (text_at m.typed n.entity.token)))
+      (names_other levels)
+
+  neither : (a b c : Bool) → is_some path ≡ b → is_some mode ≡ c → lowest a b c ≡ None → (is_some path ≡ false) × (is_some mode ≡ false)
+  neither true b c pathed moded is = absurd (no_code 3 (sym is))
+  neither false true c pathed moded is = absurd (no_code 4 (sym is))
+  neither false false true pathed moded is = absurd (no_code 5 (sym is))
+  neither false false false pathed moded is = (pathed, moded)
+
+  none_other : code_of m n ≡ None → (told : (code : ℕ) × IsTold m n code) → IsOther (Wrong told.1.error)
+  none_other is told =
+      let no = neither (holds_private (meant (place_of n.entity.role) n.entity.written.ctype.base levels)) (is_some path) (is_some mode) refl refl is in
+      others_at (type_notes m n) (Wrong told.1.error) told.1.stands.0 told.1.stands.1 told.1.stands.2 (others no.0 no.1)
+
+pub types_are_told : SettledStay → SettledAreCounted → TypesAreTold
+types_are_told stay counted m least n at = record {
+  told = told_by m n (holds_private (meant (place_of n.entity.role) n.entity.written.ctype.base n.entity.written.ctype.levels)) (is_some (path m n)) (is_some (mode m n))
+      (λ is. third m n (holds_by n.entity.role n.entity.written.ctype.base n.entity.written.ctype.levels (position_levels m n) (positions_agree stay counted m least n at) is)) refl refl;
+  no_path = λ none told. (none_other m n none (4, told)).0 told.coded;
+  no_mode = λ none told. (none_other m n none (5, told)).1 told.coded;
+}

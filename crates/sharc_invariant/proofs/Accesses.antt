@@ -1,0 +1,307 @@
+-- Loads and stores of cells, from the real words up.
+use Rattle.std.proofs.Common.{◌≡◌, ℕ, ℤ, pos, negsuc, suc, ◌+◌, ◌-◌, ◌^◌, ◌<◌, ◌⊎◌, Bool, true, false, List, Some, None, refl, sym, ap, ◌∙◌, subst, inl, inr, ⊎_elim, arith, ltb-true}
+use mathlib.Core.Path.{fun_ext}
+use Rattle.std.specs.Prelude.{length, slice_index, slice_set, nat_lt}
+use Rattle.std.proofs.lemmas.Bool.Decides.{nat_tests}
+use Rattle.std.proofs.lemmas.List.{length-set, set-get_or}
+use Rattle.sharc_word.specs.declared.step.WordOp.TheVariants.{Load, Swap}
+use Rattle.sharc_code.specs.declared.code.Code.{Code}
+use Rattle.sharc_code.specs.declared.instr.Cell.{Cell}
+use Rattle.sharc_code.specs.declared.instr.Cell.TheVariants as cells
+use Rattle.sharc_code.specs.declared.instr.Width.{Width}
+use Rattle.sharc_code.specs.declared.instr.Width.TheVariants.{Char, Int, Long}
+use Rattle.sharc_code.specs.declared.instr.Instr.{Instr}
+use Rattle.sharc_code.specs.declared.shape.Shape.{Shape}
+use Rattle.sharc_code.specs.declared.state.At.{At}
+use Rattle.sharc_code.specs.declared.state.Frame.{Frame}
+use Rattle.sharc_code.specs.Arithmetic.{word_of, int_of, holds, value_bits}
+use Rattle.sharc_code.specs.Layout.{Fits, first_cell}
+use Rattle.sharc_code.specs.Machine.{Own as Own', Machine, next, Asks, step_of, instr_at, int, word, goes, accessed, set_int}
+use Rattle.sharc_code.specs.Path.{may_go, turn}
+use Rattle.sharc_code.specs.Runs.{Turn, Global, put, MayTurn, after_turn}
+use Rattle.sharc_code.specs.Whole.{one_thread, bounds}
+use Rattle.sharc_code.proofs.Places.{put_same, put_other}
+use Rattle.sharc_shadow.specs.Accesses.{ListsNoted}
+use Rattle.sharc_locks.specs.declared.held_log.HeldMutex.{HeldMutex}
+use Rattle.sharc_invariant.specs.Types.{Targets, Field, field_in, is_mutex, is_pointer}
+use Rattle.sharc_invariant.specs.Types.Content.{Integer}
+use Rattle.sharc_invariant.specs.Labels.{Within, Gate, Closed, Checked, Holds, Loaded, HoldsLoaded, Sole as SoleGate, Label, Labels, LessGate, Leads, gated, set_number}
+use Rattle.sharc_invariant.specs.Typed.{IsNotSole, IsWellTyped, HasCell, IsInt, Accesses as IsAccess}
+use Rattle.sharc_invariant.specs.World.{RegisterOf, Cell as CellOf, World, Window, Shut, Sole, Loaded as IsLoaded, WinOk, Right, base_of, in_ref, set_win}
+use Rattle.sharc_invariant.specs.Blocks.{Built, InBlock}
+use Rattle.sharc_invariant.specs.Words.{lang_of, conc_of, Shows, register_of, FitsContent, cell_at, is_ended, has_returned}
+use Rattle.sharc_invariant.specs.Turns.{made_turn}
+use Rattle.sharc_invariant.specs.Cells.{IsThere}
+use Rattle.sharc_invariant.specs.Effect.{Silent, Effect, Accesses}
+use Rattle.sharc_invariant.specs.State.{State, View, view_of, TopStands, FramesStand, GateStands, size_of_run, base_of_cell, object_of_cell, number_in}
+use Rattle.sharc_invariant.proofs.Effects.{set_win_ok}
+use Rattle.sharc_invariant.proofs.Quiet.{KeepsOwn, KeepsWords, heap_now, quiet_state, noted_same, conc_plain, put_self}
+use Rattle.sharc_invariant.proofs.Turns.{asks_turn, room_of}
+use Rattle.sharc_invariant.proofs.Own.{is_single, int_inside, runs, rests, top, gate, fine, not_begun, begun_before, runs_at}
+use Rattle.sharc_invariant.proofs.Frames.{less_stands}
+use Rattle.sharc_invariant.proofs.Plain.{register_plain, going, same_words, number_top, vals_below, view_set}
+use Rattle.sharc_invariant.proofs.Stores.{index_put, cell_store, stored_words, stored_within}
+use Rattle.sharc_invariant.proofs.Seen.{integer_stored}
+use Rattle.sharc_invariant.proofs.Cells.{cell_there}
+use Rattle.sharc_invariant.proofs.CheckTurns.{sim_win}
+use Rattle.sharc_invariant.proofs.Rights.{right}
+use Rattle.sharc_invariant.proofs.Others.{loses}
+use Rattle.sharc_invariant.specs.Objects.{changes_objects}
+
+abbrev sign_of : Bool → ℤ → ℤ → ℤ
+sign_of true a b = a
+sign_of false a b = b
+
+-- a value that a type holds goes into a word and comes back
+low_value : (w : Width) (n : ℕ) → nat_lt n (2 ^ value_bits w) ≡ true → n < 2 ^ 63
+low_value Char n h = let a : n < 2 ^ 7 = ltb-true n (2 ^ 7) h in omega arith
+low_value Int n h = let a : n < 2 ^ 31 = ltb-true n (2 ^ 31) h in omega arith
+low_value Long n h = ltb-true n (2 ^ 63) h
+
+pub back_again : (w : Width) (z : ℤ) → holds w z ≡ true → (int_of (word_of z) ≡ z) × (word_of z < 2 ^ 64)
+back_again w (pos n) h = let lt = low_value w n h in let e : nat_lt n (2 ^ 63) ≡ true = grind (arith, nat_tests) in (ap (λ b. sign_of b (pos n) (negsuc (2 ^ 64 - suc n))) e, omega arith)
+back_again w (negsuc n) h =
+    let lt = low_value w n h in
+    let v = 2 ^ 64 - suc n in
+    let e : nat_lt (2 ^ 64 - suc n) (2 ^ 63) ≡ false = grind (arith, nat_tests) in
+    let q : 2 ^ 64 - suc (2 ^ 64 - suc n) ≡ n = omega arith in
+    (ap (λ b. sign_of b (pos (2 ^ 64 - suc n)) (negsuc (2 ^ 64 - suc (2 ^ 64 - suc n)))) e ∙ ap negsuc q, omega arith)
+
+pub gate_alone : (s : Shape) (w : World) (t : ℕ) (m : Machine) (y : Gate) → IsNotSole y → GateStands s w t m y → (q : ℕ) → w.win t ≡ Sole q → ⊥
+gate_alone s w t m Closed h k q e = cc
+gate_alone s w t m (Checked a c) h k q e = cc
+gate_alone s w t m (Holds c) h k q e = let z = k.0 in cc
+gate_alone s w t m (Loaded c) h k q e = cc
+gate_alone s w t m (HoldsLoaded c) h k q e = let z = k.0 in cc
+gate_alone s w t m (SoleGate r c) h k q e = absurd h
+
+-- only the gate of a label changes
+pub gate_top : (x : Targets) (t : ℕ) (v : View) (base ints : ℕ) (names : ℕ → ℤ) (l : Label) (y : Gate) → TopStands x t v base ints names l → TopStands x t v base ints names (gated l y)
+gate_top x t v base ints names l y tp n k = let h = tp n k in record { env = h.env; same = h.same; known = h.known; numbers = h.numbers; passed = h.passed }
+
+-- a machine that has made its turn, with the same references
+pub record KeepsRefs (m m' : Machine) : Type 0 where
+  pub at : m'.at ≡ next m.at
+  pub refs : m'.refs ≡ m.refs
+  pub ints : length m'.ints ≡ length m.ints
+  pub frames : m'.frames ≡ m.frames
+  pub own : m'.own ≡ m.own
+
+module _ (x : Targets) (code : Code) (s : Shape) (ls : Labels) (wt : IsWellTyped x code ls) (fits : Fits code s) (g : Global Machine) (world : World) (st : State x code s ls g world) (tr : Turn)
+    (may : MayTurn bounds (one_thread code s) g tr) (i : Instr) (is : instr_at code (g.threads tr.thread).at.pc ≡ i) (single : is_single i ≡ true) where
+  abbrev t : ℕ
+  t = tr.thread
+
+  abbrev m : Machine
+  m = g.threads tr.thread
+
+  abbrev here : Label
+  here = ls.at (g.threads tr.thread).at.pc
+
+  abbrev after : Global Machine
+  after = after_turn bounds (one_thread code s) g tr
+
+  abbrev Turned : Type 0
+  Turned = (w' : World) × State x code s ls after w' × Effect (lang_of x) tr.thread (has_returned (g.threads tr.thread)) (changes_objects (instr_at code (g.threads tr.thread).at.pc) (g.threads tr.thread)) world w'
+
+  abbrev view : View
+  view = view_of st.elements world tr.thread (g.threads tr.thread)
+
+  abbrev names : ℕ → ℤ
+  names = (runs x code s ls wt g world st tr.thread may.started may.next.runs i is single).names
+
+  top_here : TopStands x tr.thread view (g.threads tr.thread).at.refs (g.threads tr.thread).at.ints names here
+  top_here = top x code s ls wt g world st t may.started may.next.runs i is single
+
+  below_here : FramesStand x code ls tr.thread view (g.threads tr.thread) here.function
+  below_here = (runs x code s ls wt g world st t may.started may.next.runs i is single).below
+
+  gate_here : GateStands s world tr.thread (g.threads tr.thread) here.gate
+  gate_here = gate x code s ls wt g world st t may.started may.next.runs i is single
+
+  reads : (r : ℕ) → Rattle.sharc_code.specs.Machine.ref (g.threads tr.thread) r ≡ in_ref world (RegisterOf tr.thread ((g.threads tr.thread).at.refs + r))
+  reads r = sym (st.sim.regs t (m.at.refs + r) ∙ register_plain code m (rests x code s ls wt g world st t may.started may.next.runs i is single) (m.at.refs + r))
+
+  there : (c : Cell) (f : Field) → HasCell x code here c f → IsThere x s st.cells world tr.thread (g.threads tr.thread) c f
+  there c f h = cell_there x code s ls wt fits g world st t m names here top_here reads c f h
+
+  may_access : (write : Bool) (c : Cell) (site : ℕ) (f : Field) → IsAccess x code ls here write c site f → Right (lang_of x) world tr.thread write (base_of_cell (g.threads tr.thread) c) (number_in (g.threads tr.thread) c)
+  may_access write c site f a = right x code s ls wt fits g world st t (st.begins.few t may.started) names here top_here reads below_here gate_here write c f a.cell a.may
+
+  -- a turn that leaves references where they are, and perhaps stores a word and opens or shuts the thread's window
+  pub windowed_state : (m' : Machine) (win : Window) (words : List ℕ) (k : Label) → KeepsRefs (g.threads tr.thread) m' → after ≡ made_turn g tr.thread words m'
+      → KeepsWords s st.heap g.words words → ((u b j : ℕ) → st.heap.state b ≡ Built u → InBlock (record { first = 1 + s.globals; words = first_cell s }) st.heap b j → slice_index words j ≡ slice_index g.words j)
+      → WinOk (lang_of x) world tr.thread win → Shows x s st.cells st.elements (record (conc_of code g) { words = λ j. slice_index words j }) world
+      → TopStands x tr.thread (view_of st.elements world tr.thread m') (g.threads tr.thread).at.refs (g.threads tr.thread).at.ints names k → FramesStand x code ls tr.thread (view_of st.elements world tr.thread m') m' here.function
+      → Leads ls ((g.threads tr.thread).at.pc + 1) k → k.function ≡ here.function → GateStands s (set_win world tr.thread win) tr.thread m' (ls.at ((g.threads tr.thread).at.pc + 1)).gate → k.room ≡ here.room
+      → State x code s ls after (set_win world tr.thread win)
+  windowed_state m' win words k keeps done kw within ok sim tp below leads fn gt room =
+      let on = may.started in
+      let go = may.next.runs in
+      let rest = rests x code s ls wt g world st t on go i is single in
+      let rest' = ap (λ (o : Own'). o.stage) keeps.own ∙ rest in
+      let w' = set_win world t win in
+      let pc : m'.at.pc ≡ m.at.pc + 1 = ap (λ (a : At). a.pc) keeps.at in
+      let fnc : (ls.at m'.at.pc).function ≡ here.function = ap (λ p. (ls.at p).function) pc ∙ leads.function ∙ fn in
+      let er = ap (λ (a : At). a.refs) keeps.at in
+      let ei = ap (λ (a : At). a.ints) keeps.at in
+      let own : KeepsOwn m m' = record {
+        number = ap (λ (o : Own'). o.number) keeps.own;
+        held = ap (λ (o : Own'). o.held) keeps.own;
+        heads = ap (λ (o : Own'). o.heads) keeps.own;
+        notes = ap (λ (o : Own'). length o.table.notes) keeps.own;
+        table = subst ListsNoted (sym (ap (λ (o : Own'). o.table) keeps.own)) (st.threads t).has.table;
+        stage = rest;
+        rests = rest';
+        refs = ap (λ (l : List ℕ). length l) keeps.refs;
+        ints = keeps.ints;
+        frames = ap (λ (l : List Frame). length l) keeps.frames;
+        begun_before = begun_before x code s ls wt g world st t on go i is single;
+        begun = not_begun x code s ls wt g world st t on go i is single m'.at.pc fnc;
+        ended_before = going x code s ls wt g world st t on go i is single;
+        ended = ap (λ (a : At). is_ended a.state) keeps.at;
+      } in
+      let regs : put (λ u. register_of code (g.threads u)) t (register_of code m') ≡ (λ u. register_of code (g.threads u)) =
+      fun_ext (put_self (λ u. register_of code (g.threads u)) t (register_of code m') (fun_ext (λ n. register_plain code m' rest' n ∙ ap (λ l. slice_index l n) keeps.refs ∙ sym (register_plain code m rest n)))) in
+      let sim1 : Shows x s st.cells st.elements (record (conc_of code g) { words = λ j. slice_index words j; regs = put (λ u. register_of code (g.threads u)) t (register_of code m') }) w' =
+      subst (λ r. Shows x s st.cells st.elements (record (conc_of code g) { words = λ j. slice_index words j; regs = r }) w') (sym regs) (sim_win x s st.cells st.elements (record (conc_of code g) { words = λ j. slice_index words j }) world (put world.win t win) sim) in
+      let sim2 = subst (λ c. Shows x s st.cells st.elements c w') (sym (conc_plain code g t words m' (noted_same m m' (ap (λ (o : Own'). o.table) keeps.own) rest rest' own.ended_before own.ended))) sim1 in
+      subst (λ y. State x code s ls y w') (sym done) (quiet_state x code s ls g world st t on words m' own kw w' (record { obj = refl; mutex = refl; args = λ u. refl })
+      (record { regs = λ u _ r. refl; win = λ u ne. put_other world.win t u win ne; passed = λ u _ o p b _ q. q; sole = λ u _ r _ p. loses refl; cells = λ u _ r _ n. refl; built = λ u _ b e. (e, refl); within = λ u _ b e j n. within u b j e n })
+      wt (set_win_ok (size_of_run code s) (lang_of x) world st.inv t win ok) sim2
+      (λ _. runs_at x code s ls st.elements w' (heap_now st.heap words) (made_turn g t words m') t m' names rest'
+      (subst (λ p. TopStands x t (view_of st.elements world t m') m'.at.refs m'.at.ints names (ls.at p)) (sym pc)
+      (less_stands x t (view_of st.elements world t m') m'.at.refs m'.at.ints names k (ls.at (m.at.pc + 1)) leads
+      (subst (λ b. TopStands x t (view_of st.elements world t m') b m'.at.ints names k) (sym er) (subst (λ c. TopStands x t (view_of st.elements world t m') m.at.refs c names k) (sym ei) tp))))
+      (subst (FramesStand x code ls t (view_of st.elements world t m') m') (sym fnc) below)
+      (subst (λ p. GateStands s w' t m' (ls.at p).gate) (sym pc) gt)
+      (λ q. let r1 : (ls.at (m.at.pc + 1)).room ≡ true = subst (λ p. (ls.at p).room ≡ true) pc q in
+      subst (λ (l : List HeldMutex). length l < 16) (sym (ap (λ (o : Own'). o.held) keeps.own)) ((runs x code s ls wt g world st t on go i is single).room (sym room ∙ leads.room r1))))
+      (λ q. let z : may_go m'.at.state ≡ true = ap (λ (a : At). may_go a.state) keeps.at in absurd (cc))
+      (room_of code s g tr may words m' done))
+
+  -- the window that the next place's gate wants, where it may be shut instead
+  shut_gate : (y : Gate) → LessGate Closed y → (m' : Machine) → GateStands s (set_win world tr.thread Shut) tr.thread m' y
+  shut_gate y h m' = subst (GateStands s (set_win world t Shut) t m') (sym (Rattle.sharc_invariant.proofs.Own.closed_less y h)) (put_same world.win t Shut)
+
+  pub silent_window : (win : Window) → ((r : ℕ) → world.win tr.thread ≡ Sole r → ⊥) → Silent world (set_win world tr.thread win)
+  silent_window win none' = record {
+    obj = refl;
+    mutex = refl;
+    passed = λ o p u b q. q;
+    sole = λ u r e. let ne : u ≡ t → ⊥ = λ q. none' r (ap world.win (sym q) ∙ e) in (put_other world.win t u win ne ∙ e, refl);
+  }
+
+  never_alone : IsNotSole here.gate → (q : ℕ) → world.win tr.thread ≡ Sole q → ⊥
+  never_alone h = gate_alone s world t m here.gate h gate_here
+
+  -- an integer is stored
+  pub Store_keeps : (r : ℕ) (c : Cell) (site : ℕ) (f : Field) (w : Width) → turn code s (g.threads tr.thread) ≡ Asks (step_of (word s (g.threads tr.thread) c) (Swap (word_of (int (g.threads tr.thread) r)))) (λ found. goes (accessed (g.threads tr.thread)))
+      → IsAccess x code ls here true c site f → f.holds ≡ Integer w → holds w (int (g.threads tr.thread) r) ≡ true → Leads ls ((g.threads tr.thread).at.pc + 1) (gated here Closed) → Turned
+  Store_keeps r c site f w act_is access holds_int fit leads =
+      let alone = never_alone access.apart in
+      let th = there c f access.cell in
+      let o = object_of_cell m c in
+      let j = number_in m c in
+      let v = word_of (int m r) in
+      let back = back_again w (int m r) fit in
+      let k = cell_at s o j in
+      let m' = goes (accessed m) in
+      let done0 = asks_turn code s g tr may (step_of (word s m c) (Swap v)) (λ found. m') act_is in
+      let words = slice_set g.words k v in
+      let done : after ≡ made_turn g t words m' = done0.0 ∙ ap (λ k. made_turn g t (slice_set g.words k v) m') th.word_is in
+      let lt : k < length g.words = subst (λ k. k < length g.words) th.word_is done0.1 in
+      let ms = cell_store x code s ls g world st o j th.live th.number in
+      let content : (field_in x (world.obj o).ty j).holds ≡ Integer w = ap (λ (f : Field). f.holds) th.field ∙ holds_int in
+      let sim : Shows x s st.cells st.elements (record (conc_of code g) { words = λ n. slice_index words n }) world =
+      subst (λ h. Shows x s st.cells st.elements (record (conc_of code g) { words = h }) world) (sym (fun_ext (index_put g.words k v lt)))
+      (integer_stored x s st.cells st.elements (conc_of code g) world st.sim st.apart o j v th.live th.number (ap is_pointer content) (ap is_mutex content)
+      (subst (λ h. FitsContent h v) (sym content) (ap (holds w) back.0 ∙ fit))) in (
+        set_win world t Shut,
+        windowed_state m' Shut words (gated here Closed) (record { at = refl; refs = refl; ints = refl; frames = refl; own = refl }) done
+            (stored_words x code s ls g world st k v ms lt back.1 (λ n l e. absurd (let h = st.apart.headers o th.live in omega arith))) (stored_within x code s ls g world st k v ms lt)
+            tt sim (gate_top x t view m.at.refs m.at.ints names here Closed top_here) below_machine leads refl (shut_gate (ls.at (m.at.pc + 1)).gate leads.gate m') refl,
+        Accesses true (base_of_cell m c) j (may_access true c site f access) alone (silent_window Shut alone),
+      )
+    where
+      below_machine : FramesStand x code ls tr.thread view (goes (accessed (g.threads tr.thread))) here.function
+      below_machine = elim here.function as (λ f. FramesStand x code ls tr.thread view (g.threads tr.thread) f → FramesStand x code ls tr.thread view (goes (accessed (g.threads tr.thread))) f) [ None ↦ λ h. h | Some f ↦ λ h. h ] below_here
+
+  -- the words stay where one is loaded
+  pub loaded_words : (k : ℕ) (m' : Machine) → after ≡ made_turn g tr.thread (slice_set g.words k (slice_index g.words k)) m' → after ≡ made_turn g tr.thread g.words m'
+  loaded_words k m' e = e ∙ ap (λ ws. made_turn g t ws m') (set-get_or g.words k 0)
+
+  -- an integer is loaded, and its type holds it
+  pub Load_keeps : (r : ℕ) (c : Cell) (site : ℕ) (f : Field) (w : Width)
+      → turn code s (g.threads tr.thread) ≡ Asks (step_of (word s (g.threads tr.thread) c) Load) (λ found. goes (accessed (set_int (g.threads tr.thread) r (int_of found))))
+      → IsAccess x code ls here false c site f → f.holds ≡ Integer w → IsInt code here r → Leads ls ((g.threads tr.thread).at.pc + 1) (set_number here r (Within w)) → Turned
+  Load_keeps r c site f w act_is access holds_int isint leads =
+      let alone = never_alone access.apart in
+      let th = there c f access.cell in
+      let o = object_of_cell m c in
+      let j = number_in m c in
+      let k = cell_at s o j in
+      let on = may.started in
+      let go = may.next.runs in
+      let z = int_of (slice_index g.words (word s m c)) in
+      let m' = goes (accessed (set_int m r z)) in
+      let done0 = asks_turn code s g tr may (step_of (word s m c) Load) (λ found. goes (accessed (set_int m r (int_of found)))) act_is in
+      let done = loaded_words (word s m c) m' done0.0 in
+      let fit : holds w z ≡ true =
+      let a : FitsContent (field_in x (world.obj o).ty j).holds (slice_index g.words k) = st.sim.integers o j th.live th.number in
+      let b : FitsContent (Integer w) (slice_index g.words k) = subst (λ h. FitsContent h (slice_index g.words k)) (ap (λ (f : Field). f.holds) th.field ∙ holds_int) a in
+      ap (λ k. holds w (int_of (slice_index g.words k))) th.word_is ∙ b in
+      let lt : m.at.ints + r < length m.ints = subst (λ b. m.at.ints + r < b) (sym (st.threads t).has.ints) (int_inside x code ls t view m here.function r below_here isint) in
+      let e = view_set x code s ls wt g world st t on go i is single r z lt in (
+        set_win world t Shut,
+        windowed_state m' Shut g.words (set_number here r (Within w)) (record { at = refl; refs = refl; ints = length-set m.ints (m.at.ints + r) z; frames = refl; own = refl }) done
+            (same_words x code s ls g world st) (λ u b j _ _. refl) tt st.sim
+            (subst (λ v. TopStands x t v m.at.refs m.at.ints names (set_number here r (Within w))) (sym e) (number_top x code s ls wt g world st t on go i is single names r z (Within w) here fit top_here))
+            (vals_below x code s ls wt g world st t on go i is single r z (view_of st.elements world t m') e m' refl refl refl refl here.function below_here)
+            leads refl (shut_gate (ls.at (m.at.pc + 1)).gate leads.gate m') refl,
+        Accesses false (base_of_cell m c) j (may_access false c site f access) alone (silent_window Shut alone),
+      )
+
+  loaded_gate : (c : Cell) (y : Gate) → LessGate (Loaded c) y → (y ≡ Closed) ⊎ (y ≡ Loaded c)
+  loaded_gate c Closed h = inl refl
+  loaded_gate c (Checked a d) h = inr h
+  loaded_gate c (Holds d) h = inr h
+  loaded_gate c (Loaded d) h = inr h
+  loaded_gate c (HoldsLoaded d) h = inr h
+  loaded_gate c (SoleGate r d) h = inr h
+
+  -- a reference is loaded, and not yet raised
+  pub LoadRef_keeps : (c : Cell) (site : ℕ) (f : Field) → turn code s (g.threads tr.thread) ≡ Asks (step_of (word s (g.threads tr.thread) c) Load) (λ found. goes (record (g.threads tr.thread) { pending = found }))
+      → IsAccess x code ls here false c site f → is_pointer f.holds ≡ true → Leads ls ((g.threads tr.thread).at.pc + 1) (gated here (Loaded c)) → Turned
+  LoadRef_keeps c site f act_is access ptr leads =
+      let alone = never_alone access.apart in
+      let th = there c f access.cell in
+      let o = object_of_cell m c in
+      let j = number_in m c in
+      let found = slice_index g.words (word s m c) in
+      let m' = goes (record m { pending = found }) in
+      let done0 = asks_turn code s g tr may (step_of (word s m c) Load) (λ found. goes (record m { pending = found })) act_is in
+      let done = loaded_words (word s m c) m' done0.0 in
+      let rt = may_access false c site f access in
+      let slot : (world.slots (CellOf (base_of world t (base_of_cell m c)) j)).reference ≡ found =
+      ap (λ o. (world.slots (CellOf o j)).reference) th.base ∙ st.sim.pointers o j th.live th.number (ap (λ (f : Field). is_pointer f.holds) th.field ∙ ptr) ∙ ap (slice_index g.words) (sym th.word_is) in
+      let new = (ls.at (m.at.pc + 1)).gate in
+      let done_with : (win : Window) → WinOk (lang_of x) world t win → GateStands s (set_win world t win) t m' new → Turned = λ win ok gt. (
+        set_win world t win,
+        windowed_state m' win g.words (gated here (Loaded c)) (record { at = refl; refs = refl; ints = refl; frames = refl; own = refl }) done (same_words x code s ls g world st) (λ u b j _ _. refl) ok st.sim
+            (gate_top x t view m.at.refs m.at.ints names here (Loaded c) top_here) (below_pending found) leads refl gt refl,
+        Accesses false (base_of_cell m c) j rt alone (silent_window win alone),
+      ) in
+      ⊎_elim
+      (λ (e : new ≡ Closed). done_with Shut tt (subst (GateStands s (set_win world t Shut) t m') (sym e) (put_same world.win t Shut)))
+      (λ (e : new ≡ Loaded c). done_with (IsLoaded (base_of_cell m c) j found) (rt, slot) (subst (GateStands s (set_win world t (IsLoaded (base_of_cell m c) j found)) t m') (sym e) (loaded_window found c)))
+      (loaded_gate c new leads.gate)
+    where
+      below_pending : (found : ℕ) → FramesStand x code ls tr.thread view (goes (record (g.threads tr.thread) { pending = found })) here.function
+      below_pending found = elim here.function as (λ f. FramesStand x code ls tr.thread view (g.threads tr.thread) f → FramesStand x code ls tr.thread view (goes (record (g.threads tr.thread) { pending = found })) f) [ None ↦ λ h. h | Some f ↦ λ h. h ] below_here
+
+      loaded_window : (found : ℕ) (c : Cell) → GateStands s (set_win world tr.thread (IsLoaded (base_of_cell (g.threads tr.thread) c) (number_in (g.threads tr.thread) c) found)) tr.thread (goes (record (g.threads tr.thread) { pending = found })) (Loaded c)
+      loaded_window found (cells.Global a b) = put_same world.win t (IsLoaded (base_of_cell m (cells.Global a b)) (number_in m (cells.Global a b)) found)
+      loaded_window found (cells.GlobalAt a b) = put_same world.win t (IsLoaded (base_of_cell m (cells.GlobalAt a b)) (number_in m (cells.GlobalAt a b)) found)
+      loaded_window found (cells.Object a b) = put_same world.win t (IsLoaded (base_of_cell m (cells.Object a b)) (number_in m (cells.Object a b)) found)
+      loaded_window found (cells.ObjectAt a b) = put_same world.win t (IsLoaded (base_of_cell m (cells.ObjectAt a b)) (number_in m (cells.ObjectAt a b)) found)

@@ -1,0 +1,69 @@
+-- A thread that is begun and has made no turn stands at the first place.
+use Rattle.std.proofs.Common.{◌≡◌, ℕ, pos, ◌+◌, ◌*◌, refl, sym, ap, ◌∙◌, subst, arith}
+use Rattle.std.specs.Prelude.{slice_index}
+use Rattle.std.proofs.lemmas.List.{length-replicate}
+use Rattle.sharc_shadow.specs.Notes.{blank}
+use Rattle.sharc_code.specs.declared.state.TheConstants.{FRAMES}
+use Rattle.sharc_code.specs.declared.code.Code.{Code}
+use Rattle.sharc_code.specs.declared.shape.Shape.{Shape}
+use Rattle.sharc_code.specs.Layout.{granules}
+use Rattle.sharc_code.specs.Machine.{Machine, no_frame}
+use Rattle.sharc_code.specs.Path.{begun, most_refs, most_ints}
+use Rattle.sharc_code.specs.Runs.{Global}
+use Rattle.sharc_invariant.specs.Types.{Targets}
+use Rattle.sharc_invariant.specs.Labels.{Empty, Anything, Labels}
+use Rattle.sharc_invariant.specs.Typed.{IsWellTyped, refs_in, ints_in}
+use Rattle.sharc_invariant.specs.World.{World, RegisterOf, Shut, in_ref}
+use Rattle.sharc_invariant.specs.Blocks.{Heap}
+use Rattle.sharc_invariant.specs.State.{State, View, view_of, EntryStands, NumberStands, TopStands, FramesStand, GateStands, Runs, IsThread, ThreadStands, refs_at, types_at}
+use Rattle.sharc_invariant.proofs.Own.{runs_at}
+use Rattle.sharc_invariant.proofs.Plain.{register_plain}
+use Rattle.sharc_invariant.proofs.Opened.{nth_replicate, no_passes, no_note}
+
+module _ (x : Targets) (code : Code) (s : Shape) (ls : Labels) (wt : IsWellTyped x code ls) where
+  begun_top : (t : ℕ) (v : View) → ((r : ℕ) → v.refs r ≡ 0) → TopStands x t v 0 0 (λ n. pos 0) (ls.at 0)
+  begun_top t v zero n k =
+      let sc = wt.scoped 0 in
+      let fn = wt.first.0 in
+      let gone : (r : ℕ) → (ls.at 0).env r ≡ Empty = λ r. sc.few r (let z = ap (refs_in code) fn in omega arith) in
+      let none' : (i : ℕ) → (ls.at 0).ints i ≡ Anything = λ i. sc.numbers i (let z = ap (ints_in code) fn in omega arith) in
+      record {
+        env = λ r _. subst (EntryStands (refs_at v 0) (types_at v 0) r) (sym (gone r)) (zero (0 + r));
+        same = λ r _. zero (0 + (ls.at 0).same r) ∙ sym (zero (0 + r));
+        known = λ r _ e. absurd (sc.known r e (gone r));
+        numbers = λ i _. subst (NumberStands x v.elements (refs_at v 0) (types_at v 0) (λ n. pos 0) (v.vals (0 + i))) (sym (none' i)) tt;
+        passed = λ p h. absurd (no_passes (ls.at 0).passed p wt.first.2 h);
+      }
+
+  begun_runs : (elements : ℕ → ℕ) (w : World) (heap : Heap) (g : Global Machine) (t : ℕ) → ((r : ℕ) → in_ref w (RegisterOf t r) ≡ 0) → w.win t ≡ Shut → Runs x code s ls elements w heap g t (begun code s t)
+  begun_runs elements w heap g t zero shut =
+      let m = begun code s t in
+      let v = view_of elements w t m in
+      runs_at x code s ls elements w heap g t m (λ n. pos 0) refl (begun_top t v zero)
+      (subst (FramesStand x code ls t v m) (sym wt.first.0) (refl, refl, refl))
+      (subst (GateStands s w t m) (sym wt.first.1) shut) (λ _. omega arith)
+
+  begun_is : (t : ℕ) → IsThread code s t (begun code s t)
+  begun_is t = record {
+    number = refl;
+    log = record { few = omega arith; each_once = λ i j d lt l. absurd (omega arith) };
+    refs = length-replicate {A = ℕ} (FRAMES * most_refs code.functions.items) 0;
+    ints = length-replicate (FRAMES * most_ints code.functions.items) (pos 0);
+    frames = length-replicate FRAMES no_frame;
+    heads = length-replicate {A = ℕ} 16 0;
+    notes = length-replicate (granules s) blank;
+    table = no_note (granules s);
+  }
+
+  -- also where it was started just now
+  pub begun_stands : (elements : ℕ → ℕ) (w : World) (heap : Heap) (g : Global Machine) (t : ℕ) → g.threads t ≡ begun code s t → ((r : ℕ) → in_ref w (RegisterOf t r) ≡ 0) → w.win t ≡ Shut → ThreadStands x code s ls elements w heap g t
+  begun_stands elements w heap g t e zero shut = record {
+    has = subst (IsThread code s t) (sym e) (begun_is t);
+    runs = λ _ _. subst (Runs x code s ls elements w heap g t) (sym e) (begun_runs elements w heap g t zero shut);
+    over = λ _. shut;
+    waits = λ _. e;
+  }
+
+  -- it holds nothing
+  pub begun_regs : (g : Global Machine) (w : World) → State x code s ls g w → (t : ℕ) → g.threads t ≡ begun code s t → (r : ℕ) → in_ref w (RegisterOf t r) ≡ 0
+  begun_regs g w st t e r = st.sim.regs t r ∙ register_plain code (g.threads t) (ap (λ (m : Machine). m.own.stage) e) r ∙ ap (λ (m : Machine). slice_index m.refs r) e ∙ nth_replicate (FRAMES * most_refs code.functions.items) r 0

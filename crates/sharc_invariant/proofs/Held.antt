@@ -1,0 +1,227 @@
+-- The checks of mutexes.
+use Rattle.std.proofs.Common.{◌≡◌, ℕ, ℤ, ◌+◌, ◌⊎◌, ◌≢◌, true, false, cond, Some, None, refl, sym, ap, ◌∙◌, subst, inl, inr, ⊎_elim}
+use mathlib.Core.Path.{fun_ext}
+use Rattle.std.specs.Prelude.{◌==◌, slice_index}
+use Rattle.sharc_code.specs.declared.code.Code.{Code}
+use Rattle.sharc_code.specs.declared.instr.Cell.{Cell}
+use Rattle.sharc_code.specs.declared.instr.Cell.TheVariants as cells
+use Rattle.sharc_code.specs.declared.instr.Instr.{Instr}
+use Rattle.sharc_code.specs.declared.instr.Instr.TheVariants as instrs
+use Rattle.sharc_code.specs.declared.shape.Shape.{Shape}
+use Rattle.sharc_code.specs.declared.state.Stop.{Stop}
+use Rattle.sharc_code.specs.declared.state.Stop.TheVariants.{Trap, NoLock}
+use Rattle.sharc_code.specs.Layout.{Fits, cell_word, cell_of}
+use Rattle.sharc_code.specs.Machine.{Machine, Local, instr_at, ref, goes, stopped, lock_checked, is_held, is_of_null, word}
+use Rattle.sharc_code.specs.Path.{turn}
+use Rattle.sharc_code.specs.Runs.{Turn, Global, put, MayTurn}
+use Rattle.sharc_code.specs.Whole.{one_thread, bounds}
+use Rattle.sharc_code.proofs.Places.{put_same, put_other}
+use Rattle.sharc_invariant.specs.Types.{Targets}
+use Rattle.sharc_invariant.specs.Labels.{Gate, Closed, Checked, Holds, Loaded, HoldsLoaded, Sole as SoleGate, Label, Labels, Leads, LessGate, gated}
+use Rattle.sharc_invariant.specs.Typed.{IsWellTyped, knows_base}
+use Rattle.sharc_invariant.specs.World.{World, Window, Shut, Loaded as IsLoaded, WinOk, RegisterOf, in_ref, set_win}
+use Rattle.sharc_invariant.specs.Words.{lang_of, Shows, conc_of, register_of}
+use Rattle.sharc_invariant.specs.Effect.{Silently}
+use Rattle.sharc_invariant.specs.State.{State, view_of, TopStands, FramesStand, GateStands, size_of_run, base_of_cell, number_in}
+use Rattle.sharc_invariant.specs.Laws.{Turned}
+use Rattle.sharc_invariant.proofs.Turns.{local_turn, room_of}
+use Rattle.sharc_invariant.proofs.Own.{is_single, runs, rests, top, gate, fine, begun_before}
+use Rattle.sharc_invariant.proofs.Effects.{set_win_ok}
+use Rattle.sharc_invariant.proofs.Quiet.{KeepsOwn, quiet_state, noted_same, conc_plain, put_self}
+use Rattle.sharc_invariant.proofs.CheckTurns.{sim_win}
+use Rattle.sharc_invariant.proofs.Plain.{is_shut, same_words, register_plain, going}
+use Rattle.sharc_invariant.proofs.Accesses.{gate_top, windowed_state}
+use Rattle.sharc_invariant.proofs.Steps.{knows_top, stops, asserted, of_turn, reads}
+use Rattle.sharc_invariant.proofs.Others.{loses}
+
+pub held_gate : (c : Cell) (y : Gate) → LessGate (Holds c) y → (y ≡ Closed) ⊎ (y ≡ Holds c)
+held_gate c Closed h = inl refl
+held_gate c (Checked a d) h = inr h
+held_gate c (Holds d) h = inr h
+held_gate c (Loaded d) h = inr h
+held_gate c (HoldsLoaded d) h = inr h
+held_gate c (SoleGate r d) h = inr h
+
+module _ (x : Targets) (code : Code) (s : Shape) (ls : Labels) (wt : IsWellTyped x code ls) (fits : Fits code s) (g : Global Machine) (world : World) (st : State x code s ls g world) (tr : Turn) (may : MayTurn bounds (one_thread code s) g tr) where
+  abbrev m : Machine
+  m = g.threads tr.thread
+
+  abbrev here : Label
+  here = ls.at (g.threads tr.thread).at.pc
+
+  abbrev t : ℕ
+  t = tr.thread
+
+  abbrev Done : Type 0
+  Done = Turned x code s ls g world tr
+
+  module _ (i : Instr) (is : instr_at code (g.threads tr.thread).at.pc ≡ i) (single : is_single i ≡ true) where
+    -- the thread goes on with the window shut, and knows that it holds a mutex
+    go_held : (c : Cell) (k : Label) → turn code s (g.threads tr.thread) ≡ Local (goes (g.threads tr.thread)) → here.gate ≡ Closed → is_held (g.threads tr.thread) (word s (g.threads tr.thread) c) ≡ true → Leads ls ((g.threads tr.thread).at.pc + 1) (gated k (Holds c))
+        → k.function ≡ here.function → k.room ≡ here.room
+        → TopStands x tr.thread (view_of st.elements world tr.thread (g.threads tr.thread)) (g.threads tr.thread).at.refs (g.threads tr.thread).at.ints (runs x code s ls wt g world st tr.thread may.started may.next.runs i is single).names k → Done
+    go_held c k e gt held leads fn rm tp =
+        let m' = goes m in
+        let done = local_turn code s g tr may m' e in
+        let shut = is_shut x code s ls wt g world st t may.started may.next.runs i is single gt in
+        let view = view_of st.elements world t m in
+        let names = (runs x code s ls wt g world st t may.started may.next.runs i is single).names in
+        let new = (ls.at (m.at.pc + 1)).gate in
+        let gate' : GateStands s (set_win world t Shut) t m' new = ⊎_elim
+        (λ (e : new ≡ Closed). subst (GateStands s (set_win world t Shut) t m') (sym e) (put_same world.win t Shut))
+        (λ (e : new ≡ Holds c). subst (GateStands s (set_win world t Shut) t m') (sym e) (put_same world.win t Shut, same_held c held))
+        (held_gate c new leads.gate) in (
+          set_win world t Shut,
+          windowed_state x code s ls wt fits g world st tr may i is single m' Shut g.words (gated k (Holds c)) (record { at = refl; refs = refl; ints = refl; frames = refl; own = refl }) done
+              (same_words x code s ls g world st) (λ u b j _ _. refl) tt st.sim (gate_top x t view m.at.refs m.at.ints names k (Holds c) tp) below_goes leads fn gate' rm,
+          Silently (record { obj = refl; mutex = refl; passed = λ o p u b q. q; sole = λ u r e. let ne : u ≡ t → ⊥ = λ q. never shut r (ap world.win (sym q) ∙ e) in (put_other world.win t u Shut ne ∙ e, refl) }),
+        )
+      where
+        never : world.win tr.thread ≡ Shut → (r : ℕ) → world.win tr.thread ≡ Window.Sole r → ⊥
+        never e r q = let z : Shut ≡ Window.Sole r = sym e ∙ q in cc
+
+        same_held : (c : Cell) → is_held (g.threads tr.thread) (word s (g.threads tr.thread) c) ≡ true → is_held (goes (g.threads tr.thread)) (word s (goes (g.threads tr.thread)) c) ≡ true
+        same_held (cells.Global a p) h = h
+        same_held (cells.GlobalAt a p) h = h
+        same_held (cells.Object a p) h = h
+        same_held (cells.ObjectAt a p) h = h
+
+        below_goes : FramesStand x code ls tr.thread (view_of st.elements world tr.thread (g.threads tr.thread)) (goes (g.threads tr.thread)) here.function
+        below_goes = elim here.function as (λ f. FramesStand x code ls tr.thread (view_of st.elements world tr.thread (g.threads tr.thread)) (g.threads tr.thread) f → FramesStand x code ls tr.thread (view_of st.elements world tr.thread (g.threads tr.thread)) (goes (g.threads tr.thread)) f) [ None ↦ λ h. h | Some f ↦ λ h. h ]
+            (runs x code s ls wt g world st t may.started may.next.runs i is single).below
+
+  pub Held_keeps : (c : Cell) (site : ℕ) → instr_at code (g.threads tr.thread).at.pc ≡ instrs.ChkHeld c site → Done
+  Held_keeps c site is = let i = instrs.ChkHeld c site in let f = fine x code s ls wt g world st tr.thread may.started may.next.runs i is refl in
+      asserted x code s ls wt g world st tr may i is refl (is_held m (word s m c)) 5 site (of_turn x code s ls wt g world st tr may i is refl _ refl) f.0
+      (λ b e. go_held i is refl c here e f.0 b f.2 refl refl (top x code s ls wt g world st t may.started may.next.runs i is refl))
+
+  pub Lock_check_keeps : (c : Cell) (site : ℕ) → instr_at code (g.threads tr.thread).at.pc ≡ instrs.ChkLock c site → Done
+  Lock_check_keeps c site is = let i = instrs.ChkLock c site in let f = fine x code s ls wt g world st tr.thread may.started may.next.runs i is refl in
+      let names = (runs x code s ls wt g world st t may.started may.next.runs i is refl).names in
+      let view = view_of st.elements world t m in
+      let tp = top x code s ls wt g world st t may.started may.next.runs i is refl in
+      let e0 = of_turn x code s ls wt g world st tr may i is refl _ refl in
+      elim (is_of_null m c) as (λ n. is_of_null m c ≡ n → turn code s m ≡ Local (lock_checked m n (word s m c) site) → Done) [
+        | true ↦ λ n e. stops x code s ls wt g world st tr may i is refl (Trap 1 site) e f.0
+        | false ↦ λ n e. elim (is_held m (word s m c)) as (λ b. is_held m (word s m c) ≡ b → turn code s m ≡ Local (cond b (goes m) (stopped m (NoLock site (word s m c)))) → Done) [
+          | true ↦ λ b e. go_held i is refl c (knows_base here c) e f.0 b (base_leads c f.2) (base_function c) (base_room c)
+              (base_top c names n (λ r. reads x code s ls wt g world st tr may i is refl r) tp)
+          | false ↦ λ b e. stops x code s ls wt g world st tr may i is refl (NoLock site (word s m c)) e f.0
+        ] refl e
+      ] refl e0
+    where
+      base_leads : (c : Cell) → Leads ls ((g.threads tr.thread).at.pc + 1) (gated (knows_base here c) (Holds c)) → Leads ls ((g.threads tr.thread).at.pc + 1) (gated (knows_base here c) (Holds c))
+      base_leads c h = h
+
+      base_function : (c : Cell) → (knows_base here c).function ≡ here.function
+      base_function (cells.Global a p) = refl
+      base_function (cells.GlobalAt a p) = refl
+      base_function (cells.Object r p) = refl
+      base_function (cells.ObjectAt r p) = refl
+
+      base_room : (c : Cell) → (knows_base here c).room ≡ here.room
+      base_room (cells.Global a p) = refl
+      base_room (cells.GlobalAt a p) = refl
+      base_room (cells.Object r p) = refl
+      base_room (cells.ObjectAt r p) = refl
+
+      not_null : (r : ℕ) → (ref (g.threads tr.thread) r == 0) ≡ false → ref (g.threads tr.thread) r ≡ in_ref world (RegisterOf tr.thread ((g.threads tr.thread).at.refs + r)) → in_ref world (RegisterOf tr.thread ((g.threads tr.thread).at.refs + r)) ≢ 0
+      not_null r n e z = let q : ref (g.threads tr.thread) r ≡ 0 = e ∙ z in let k : (ref (g.threads tr.thread) r == 0) ≡ true = ap (λ n. n == 0) q in cc
+
+      base_top : (c : Cell) (names : ℕ → ℤ) → is_of_null (g.threads tr.thread) c ≡ false → ((r : ℕ) → ref (g.threads tr.thread) r ≡ in_ref world (RegisterOf tr.thread ((g.threads tr.thread).at.refs + r)))
+          → TopStands x tr.thread (view_of st.elements world tr.thread (g.threads tr.thread)) (g.threads tr.thread).at.refs (g.threads tr.thread).at.ints names here
+          → TopStands x tr.thread (view_of st.elements world tr.thread (g.threads tr.thread)) (g.threads tr.thread).at.refs (g.threads tr.thread).at.ints names (knows_base here c)
+      base_top (cells.Global a p) names n rd tp = tp
+      base_top (cells.GlobalAt a p) names n rd tp = tp
+      base_top (cells.Object r p) names n rd tp = knows_top x tr.thread (view_of st.elements world tr.thread (g.threads tr.thread)) (g.threads tr.thread).at.refs (g.threads tr.thread).at.ints names here r (not_null r n (rd r)) tp
+      base_top (cells.ObjectAt r p) names n rd tp = knows_top x tr.thread (view_of st.elements world tr.thread (g.threads tr.thread)) (g.threads tr.thread).at.refs (g.threads tr.thread).at.ints names here r (not_null r n (rd r)) tp
+
+  -- a stop where a window is open
+  module _ (i : Instr) (is : instr_at code (g.threads tr.thread).at.pc ≡ i) (single : is_single i ≡ true) where
+    stop_shut : (why : Stop) → ((r : ℕ) → world.win tr.thread ≡ Window.Sole r → ⊥) → turn code s (g.threads tr.thread) ≡ Local (stopped (g.threads tr.thread) why) → Done
+    stop_shut why alone e =
+        let m' = stopped m why in
+        let done = local_turn code s g tr may m' e in
+        let on = may.started in
+        let go = may.next.runs in
+        let rest = rests x code s ls wt g world st t on go i is single in
+        let w' = set_win world t Shut in
+        let own : KeepsOwn m m' = record {
+          number = refl;
+          held = refl;
+          heads = refl;
+          notes = refl;
+          table = (st.threads t).has.table;
+          stage = rest;
+          rests = rest;
+          refs = refl;
+          ints = refl;
+          frames = refl;
+          begun_before = begun_before x code s ls wt g world st t on go i is single;
+          begun = begun_before x code s ls wt g world st t on go i is single;
+          ended_before = going x code s ls wt g world st t on go i is single;
+          ended = refl;
+        } in
+        let regs : put (λ u. register_of code (g.threads u)) t (register_of code m') ≡ (λ u. register_of code (g.threads u)) =
+        fun_ext (put_self (λ u. register_of code (g.threads u)) t (register_of code m') (fun_ext (λ n. register_plain code m' rest n ∙ sym (register_plain code m rest n)))) in
+        let sim1 : Shows x s st.cells st.elements (record (conc_of code g) { words = λ j. slice_index g.words j; regs = put (λ u. register_of code (g.threads u)) t (register_of code m') }) w' =
+        subst (λ r. Shows x s st.cells st.elements (record (conc_of code g) { words = λ j. slice_index g.words j; regs = r }) w') (sym regs) (sim_win x s st.cells st.elements (record (conc_of code g) { words = λ j. slice_index g.words j }) world (put world.win t Shut) st.sim) in
+        let sim2 = subst (λ c. Shows x s st.cells st.elements c w') (sym (conc_plain code g t g.words m' (noted_same m m' refl rest rest own.ended_before own.ended))) sim1 in (
+          w',
+          subst (λ y. State x code s ls y w') (sym done) (quiet_state x code s ls g world st t on g.words m' own (same_words x code s ls g world st) w' (record { obj = refl; mutex = refl; args = λ u. refl })
+              (record { regs = λ u _ r. refl; win = λ u ne. put_other world.win t u Shut ne; passed = λ u _ o p b _ q. q; sole = λ u _ r _ p. loses refl; cells = λ u _ r _ n. refl; built = λ u _ b e. (e, refl); within = λ u _ b e j n. refl })
+              wt (set_win_ok (size_of_run code s) (lang_of x) world st.inv t Shut tt) sim2 (λ q. absurd (cc)) (λ _. put_same world.win t Shut) (room_of code s g tr may g.words m' done)),
+          Silently (record { obj = refl; mutex = refl; passed = λ o p u b q. q; sole = λ u r e. let ne : u ≡ t → ⊥ = λ q. alone r (ap world.win (sym q) ∙ e) in (put_other world.win t u Shut ne ∙ e, refl) }),
+        )
+
+  held_loaded_gate : (c : Cell) (y : Gate) → LessGate (HoldsLoaded c) y → (y ≡ Closed) ⊎ (y ≡ HoldsLoaded c)
+  held_loaded_gate c Closed h = inl refl
+  held_loaded_gate c (Checked a d) h = inr h
+  held_loaded_gate c (Holds d) h = inr h
+  held_loaded_gate c (Loaded d) h = inr h
+  held_loaded_gate c (HoldsLoaded d) h = inr h
+  held_loaded_gate c (SoleGate r d) h = inr h
+
+  pub Lock_check_loaded_keeps : (site : ℕ) → instr_at code (g.threads tr.thread).at.pc ≡ instrs.ChkLockLoaded site → Done
+  Lock_check_loaded_keeps site is =
+      let i = instrs.ChkLockLoaded site in
+      let f = fine x code s ls wt g world st tr.thread may.started may.next.runs i is refl in
+      let c = f.0 in
+      let names = (runs x code s ls wt g world st t may.started may.next.runs i is refl).names in
+      let view = view_of st.elements world t m in
+      let tp = top x code s ls wt g world st t may.started may.next.runs i is refl in
+      let mutex = cell_word s (cell_of m.pending 0) in
+      let gate' : world.win t ≡ IsLoaded (base_of_cell m c) (number_in m c) m.pending = subst (GateStands s world t m) f.2 (gate x code s ls wt g world st t may.started may.next.runs i is refl) in
+      let alone : (r : ℕ) → world.win t ≡ Window.Sole r → ⊥ = λ r q. let z : IsLoaded (base_of_cell m c) (number_in m c) m.pending ≡ Window.Sole r = sym gate' ∙ q in cc in
+      let e0 = of_turn x code s ls wt g world st tr may i is refl _ refl in
+      let new = (ls.at (m.at.pc + 1)).gate in
+      let m' = goes m in
+      let done_with : turn code s m ≡ Local m' → (win : Window) → WinOk (lang_of x) world t win → GateStands s (set_win world t win) t m' new → Done = λ e win ok gt. (
+        set_win world t win,
+        windowed_state x code s ls wt fits g world st tr may i is refl m' win g.words (gated here (HoldsLoaded c)) (record { at = refl; refs = refl; ints = refl; frames = refl; own = refl }) (local_turn code s g tr may m' e)
+            (same_words x code s ls g world st) (λ u b j _ _. refl) ok st.sim (gate_top x t view m.at.refs m.at.ints names here (HoldsLoaded c) tp) below_plain f.5 refl gt refl,
+        Silently (record { obj = refl; mutex = refl; passed = λ o p u b q. q; sole = λ u r e. let ne : u ≡ t → ⊥ = λ q. alone r (ap world.win (sym q) ∙ e) in (put_other world.win t u win ne ∙ e, refl) }),
+      ) in
+      elim (m.pending == 0) as (λ n. (m.pending == 0) ≡ n → turn code s m ≡ Local (lock_checked m n mutex site) → Done) [
+        | true ↦ λ n e. stop_shut i is refl (Trap 1 site) alone e
+        | false ↦ λ n e. elim (is_held m mutex) as (λ b. is_held m mutex ≡ b → turn code s m ≡ Local (cond b (goes m) (stopped m (NoLock site mutex))) → Done) [
+          | true ↦ λ b e. ⊎_elim
+              (λ (q : new ≡ Closed). done_with e Shut tt (subst (GateStands s (set_win world t Shut) t m') (sym q) (put_same world.win t Shut)))
+              (λ (q : new ≡ HoldsLoaded c). done_with e (IsLoaded (base_of_cell m c) (number_in m c) m.pending) (subst (WinOk (lang_of x) world t) gate' (st.inv.wins t))
+              (subst (GateStands s (set_win world t (IsLoaded (base_of_cell m c) (number_in m c) m.pending)) t m') (sym q)
+              (same_window c, (λ z. let k : (m.pending == 0) ≡ true = ap (λ n. n == 0) z in cc), b)))
+              (held_loaded_gate c new f.5.gate)
+          | false ↦ λ b e. stop_shut i is refl (NoLock site mutex) alone e
+        ] refl e
+      ] refl e0
+    where
+      below_plain : FramesStand x code ls tr.thread (view_of st.elements world tr.thread (g.threads tr.thread)) (goes (g.threads tr.thread)) here.function
+      below_plain = elim here.function as (λ f. FramesStand x code ls tr.thread (view_of st.elements world tr.thread (g.threads tr.thread)) (g.threads tr.thread) f → FramesStand x code ls tr.thread (view_of st.elements world tr.thread (g.threads tr.thread)) (goes (g.threads tr.thread)) f) [ None ↦ λ h. h | Some f ↦ λ h. h ]
+          (runs x code s ls wt g world st t may.started may.next.runs (instrs.ChkLockLoaded site) is refl).below
+
+      same_window : (c : Cell) → (set_win world tr.thread (IsLoaded (base_of_cell (g.threads tr.thread) c) (number_in (g.threads tr.thread) c) (g.threads tr.thread).pending)).win tr.thread
+          ≡ IsLoaded (base_of_cell (goes (g.threads tr.thread)) c) (number_in (goes (g.threads tr.thread)) c) (g.threads tr.thread).pending
+      same_window (cells.Global a b) = put_same world.win t (IsLoaded (base_of_cell m (cells.Global a b)) (number_in m (cells.Global a b)) m.pending)
+      same_window (cells.GlobalAt a b) = put_same world.win t (IsLoaded (base_of_cell m (cells.GlobalAt a b)) (number_in m (cells.GlobalAt a b)) m.pending)
+      same_window (cells.Object a b) = put_same world.win t (IsLoaded (base_of_cell m (cells.Object a b)) (number_in m (cells.Object a b)) m.pending)
+      same_window (cells.ObjectAt a b) = put_same world.win t (IsLoaded (base_of_cell m (cells.ObjectAt a b)) (number_in m (cells.ObjectAt a b)) m.pending)

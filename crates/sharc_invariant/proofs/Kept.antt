@@ -1,0 +1,188 @@
+-- Each turn keeps the invariant.
+use Rattle.std.proofs.Common.{◌≡◌, refl, ap, Bool, true, false, sym, ◌∙◌, subst}
+use Rattle.sharc_shadow.specs.Laws.{ShadowLaws}
+use Rattle.sharc_shadow.specs.declared.shadow_word.Kind.TheVariants.{Read, Write}
+use Rattle.sharc_code.specs.declared.code.Code.{Code}
+use Rattle.sharc_code.specs.declared.instr.Instr.{Instr}
+use Rattle.sharc_code.specs.declared.instr.Instr.TheVariants as instrs
+use Rattle.sharc_code.specs.declared.instr.Register.TheVariants as registers
+use Rattle.sharc_code.specs.declared.shape.Shape.{Shape}
+use Rattle.sharc_code.specs.Layout.{Fits}
+use Rattle.sharc_code.specs.Machine.{Machine, instr_at, act}
+use Rattle.sharc_code.specs.Runs.{Turn, Global, MayTurn, result_of, after_turn}
+use Rattle.sharc_code.specs.Whole.{one_thread, bounds}
+use Rattle.sharc_invariant.specs.Types.{Targets, is_pointer}
+use Rattle.sharc_invariant.specs.Labels.{Labels}
+use Rattle.sharc_invariant.specs.Typed.{IsWellTyped}
+use Rattle.sharc_invariant.specs.World.{World}
+use Rattle.sharc_invariant.specs.State.{State, IsSmall, StageStands, OnExit}
+use Rattle.sharc_invariant.specs.Laws.{Turned, Followed, Keeps}
+use Rattle.sharc_invariant.proofs.Own.{fine}
+use Rattle.sharc_invariant.proofs.Counts.{Raise_keeps, Lower_keeps}
+use Rattle.sharc_invariant.proofs.Steps.{of_turn, Constant_keeps, Move_keeps, Negate_int_keeps, Negate_long_keeps, Not_keeps, Same_keeps, Width_keeps, Jump_keeps, Jump_zero_keeps, Jump_null_keeps, Null_check_keeps, Not_held_keeps, Positive_keeps, Room_keeps}
+use Rattle.sharc_invariant.proofs.Held.{Held_keeps, Lock_check_keeps, Lock_check_loaded_keeps}
+use Rattle.sharc_invariant.proofs.Checked.{check_keeps}
+use Rattle.sharc_invariant.proofs.Loads.{Raise_loaded_keeps}
+use Rattle.sharc_invariant.proofs.Swaps.{Exchange_keeps, Take_cell_keeps}
+use Rattle.sharc_invariant.proofs.Sole.{Test_sole_keeps, Null_keeps}
+use Rattle.sharc_invariant.proofs.Indexes.{Bounds_keeps, Global_bounds_keeps}
+use Rattle.sharc_invariant.proofs.Waits.{Cond_enter_keeps, Join_keeps, Cond_wait_keeps, Cond_broadcast_keeps}
+use Rattle.sharc_invariant.proofs.Moves.{Move_reference_keeps, Take_local_keeps}
+use Rattle.sharc_invariant.proofs.Calls.{Call_keeps}
+use Rattle.sharc_invariant.proofs.Returns.{Return_keeps}
+use Rattle.sharc_invariant.proofs.Computes.{fits_now, Compute_int_keeps, Compute_long_keeps, Complement_keeps}
+use Rattle.sharc_invariant.proofs.Locked.{Lock_keeps, Unlock_keeps}
+use Rattle.sharc_invariant.proofs.Signals.{Cond_signal_keeps}
+use Rattle.sharc_invariant.proofs.Prints.{Print_keeps}
+use Rattle.sharc_invariant.proofs.Gives.{Give_keeps}
+use Rattle.sharc_invariant.proofs.ClearTurns.{Clear_keeps}
+use Rattle.sharc_invariant.proofs.Starts.{Start_keeps}
+use Rattle.sharc_invariant.proofs.Spawns.{Spawn_number_keeps, Spawn_reference_keeps}
+use Rattle.sharc_invariant.proofs.Accesses.{Load_keeps, Store_keeps, LoadRef_keeps}
+use Rattle.sharc_granule.specs.Laws.{NewLaws}
+use Rattle.sharc_invariant.proofs.Makings.{New_keeps}
+use Rattle.sharc_invariant.proofs.Links.{Free_keeps}
+use Rattle.sharc_invariant.proofs.Exits.{Exit_follows}
+use Rattle.sharc_invariant.proofs.Ends.{is_exit, goes_on}
+use Rattle.sharc_invariant.specs.Words.{is_withdrawing, has_returned, lang_of}
+use Rattle.sharc_code.specs.declared.state.Stage.{Stage}
+use Rattle.sharc_code.specs.declared.state.Stage.TheVariants.{Withdraws, WithdrawsFrom, Leaves}
+use Rattle.sharc_code.specs.Path.{after}
+use Rattle.sharc_code.proofs.Places.{put_same}
+use Rattle.sharc_invariant.specs.Objects.{changes_objects, objects_now}
+use Rattle.sharc_invariant.proofs.Owned.{effect_objects, behind_same}
+
+-- an instruction that may make, give or free an object
+abbrev is_of_objects : Instr → Bool
+is_of_objects (instrs.New r count cells site) = true
+is_of_objects (instrs.Give r site) = true
+is_of_objects (instrs.Free r layout site) = true
+is_of_objects _ = false
+
+module _ (x : Targets) (code : Code) (s : Shape) (ls : Labels) (wt : IsWellTyped x code ls) (fits : Fits code s) (few : IsSmall code s) (laws : ShadowLaws) (blocks : NewLaws) (g : Global Machine) (world : World) (st : State x code s ls g world) (tr : Turn)
+    (may : MayTurn bounds (one_thread code s) g tr) where
+  one : (i : Instr) → instr_at code (g.threads tr.thread).at.pc ≡ i → is_exit i ≡ false → is_of_objects i ≡ false → Turned x code s ls g world tr
+  one (instrs.Constant r v) is k o = Constant_keeps x code s ls wt g world st tr may r v is
+  one (instrs.Move r from) is k o = Move_keeps x code s ls wt g world st tr may r from is
+  one (instrs.NegateInt r a site) is k o = Negate_int_keeps x code s ls wt g world st tr may r a site is
+  one (instrs.NegateLong r a site) is k o = Negate_long_keeps x code s ls wt g world st tr may r a site is
+  one (instrs.Not r a) is k o = Not_keeps x code s ls wt g world st tr may r a is
+  one (instrs.SameReference r a b) is k o = Same_keeps x code s ls wt g world st tr may r a b is
+  one (instrs.ChkWidth w r site) is k o = Width_keeps x code s ls wt g world st tr may w r site is
+  one (instrs.Jump to) is k o = Jump_keeps x code s ls wt g world st tr may to is
+  one (instrs.JumpIfZero r to) is k o = Jump_zero_keeps x code s ls wt g world st tr may r to is
+  one (instrs.JumpIfNull r to) is k o = Jump_null_keeps x code s ls wt g world st tr may r to is
+  one (instrs.ChkNull r site) is k o = Null_check_keeps x code s ls wt g world st tr may r site is
+  one (instrs.ChkHeld c site) is k o = Held_keeps x code s ls wt fits g world st tr may c site is
+  one (instrs.ChkNotHeld c site) is k o = Not_held_keeps x code s ls wt g world st tr may c site is
+  one (instrs.ChkPositive r site) is k o = Positive_keeps x code s ls wt g world st tr may r site is
+  one (instrs.ChkRoom site) is k o = Room_keeps x code s ls wt g world st tr may site is
+  one (instrs.ChkLock c site) is k o = Lock_check_keeps x code s ls wt fits g world st tr may c site is
+  one (instrs.ChkLockLoaded site) is k o = Lock_check_loaded_keeps x code s ls wt fits g world st tr may site is
+  one (instrs.ChkRead c site) is k o =
+      let i = instrs.ChkRead c site in
+      let f = fine x code s ls wt g world st tr.thread may.started may.next.runs i is refl in
+      check_keeps x code s ls wt fits laws g world st tr may Read c site i is refl (of_turn x code s ls wt g world st tr may i is refl _ refl) f.0 f.1.0 f.1.1 f.1.2 f.2
+  one (instrs.ChkWrite c site) is k o =
+      let i = instrs.ChkWrite c site in
+      let f = fine x code s ls wt g world st tr.thread may.started may.next.runs i is refl in
+      check_keeps x code s ls wt fits laws g world st tr may Write c site i is refl (of_turn x code s ls wt g world st tr may i is refl _ refl) f.0 f.1.0 f.1.1 f.1.2 f.2
+  one (instrs.Load r c site) is k o =
+      let i = instrs.Load r c site in
+      let f = fine x code s ls wt g world st tr.thread may.started may.next.runs i is refl in
+      Load_keeps x code s ls wt fits g world st tr may i is refl r c site f.1.0 f.1.1 (of_turn x code s ls wt g world st tr may i is refl _ refl) f.1.2 f.1.3 f.0 f.1.4
+  one (instrs.Store r c site) is k o =
+      let i = instrs.Store r c site in
+      let f = fine x code s ls wt g world st tr.thread may.started may.next.runs i is refl in
+      Store_keeps x code s ls wt fits g world st tr may i is refl r c site f.0 f.1 (of_turn x code s ls wt g world st tr may i is refl _ refl) f.2 f.3 (fits_now x code s ls wt g world st tr may i is refl r f.1 f.4) f.5
+  one (instrs.LoadRef c site) is k o =
+      let i = instrs.LoadRef c site in
+      let f = fine x code s ls wt g world st tr.thread may.started may.next.runs i is refl in
+      LoadRef_keeps x code s ls wt fits g world st tr may i is refl c site f.0 (of_turn x code s ls wt g world st tr may i is refl _ refl) f.2 (ap is_pointer f.3) f.4
+  one (instrs.Raise d from) is k o = Raise_keeps x code s ls wt few g world st tr may d from is
+  one (instrs.Lower r) is k o = Lower_keeps x code s ls wt few g world st tr may r is
+  one (instrs.RaiseLoaded r) is k o = Raise_loaded_keeps x code s ls wt fits few g world st tr may r is
+  one (instrs.Exchange r c site) is k o = Exchange_keeps x code s ls wt fits g world st tr may r c site is
+  one (instrs.TakeCell r c site) is k o = Take_cell_keeps x code s ls wt fits g world st tr may r c site is
+  one (instrs.TestSole r site) is k o = Test_sole_keeps x code s ls wt fits few g world st tr may r site is
+  one (instrs.Null r) is k o = Null_keeps x code s ls wt fits few g world st tr may r is
+  one (instrs.Bounds r base count field site) is k o = Bounds_keeps x code s ls wt fits g world st tr may r base count field site is
+  one (instrs.GlobalBounds r elements count field site) is k o = Global_bounds_keeps x code s ls wt fits g world st tr may r elements count field site is
+  one (instrs.Join r site) is k o = Join_keeps x code s ls wt fits g world st tr may r site is
+  one (instrs.CondWait c site) is k o = Cond_wait_keeps x code s ls wt fits g world st tr may c site is
+  one (instrs.CondBroadcast c site) is k o = Cond_broadcast_keeps x code s ls wt fits g world st tr may c site is
+  one (instrs.MoveReference r from) is k o = Move_reference_keeps x code s ls wt fits g world st tr may r from is
+  one (instrs.TakeLocal r from site) is k o = Take_local_keeps x code s ls wt fits g world st tr may r from site is
+  one (instrs.Call to ints refs site) is k o = Call_keeps x code s ls wt fits g world st tr may to ints refs site is
+  one (instrs.Return site) is k o = Return_keeps x code s ls wt fits g world st tr may site is
+  one (instrs.ComputeInt operator r a b site) is k o = Compute_int_keeps x code s ls wt g world st tr may operator r a b site is
+  one (instrs.ComputeLong operator r a b site) is k o = Compute_long_keeps x code s ls wt g world st tr may operator r a b site is
+  one (instrs.Complement r a) is k o = Complement_keeps x code s ls wt g world st tr may r a is
+  one (instrs.Print r site) is k o = Print_keeps x code s ls wt fits g world st tr may r site is
+  one (instrs.CondEnter c site) is k o = Cond_enter_keeps x code s ls wt fits g world st tr may c site is
+  one (instrs.CondSignal c site) is k o = Cond_signal_keeps x code s ls wt fits g world st tr may c site is
+  one (instrs.Lock c site) is k o = Lock_keeps x code s ls wt fits g world st tr may c site is
+  one (instrs.Unlock r c site) is k o = Unlock_keeps x code s ls wt fits g world st tr may r c site is
+  one (instrs.Clear r n) is k o = Clear_keeps x code s ls wt laws g world st tr may r n is
+  one (instrs.Give r site) is k o = absurd (cc)
+  one (instrs.Start site) is k o = Start_keeps x code s ls wt fits g world st tr may site is
+  one (instrs.Spawn r f (registers.Int i) site) is k o = Spawn_number_keeps x code s ls wt fits few g world st tr may r f i site is
+  one (instrs.Spawn r f (registers.Reference q) site) is k o = Spawn_reference_keeps x code s ls wt fits few g world st tr may r f q site is
+  one (instrs.New r count cells site) is k o = absurd (cc)
+  one (instrs.Free r layout site) is k o = absurd (cc)
+  one instrs.Exit is k o = absurd (cc)
+
+  -- with what becomes of the objects
+  abbrev Done : Type 0
+  Done = (k : Turned x code s ls g world tr) × (k.0.obj ≡ objects_now code s ls g tr world.obj)
+
+  unchanged : (i : Instr) (m : Machine) → is_of_objects i ≡ false → changes_objects i m ≡ false
+  unchanged (instrs.New r count cells site) m e = absurd (cc)
+  unchanged (instrs.Give r site) m e = absurd (cc)
+  unchanged (instrs.Free r layout site) m e = absurd (cc)
+  unchanged _ m e = refl
+
+  plain : (i : Instr) → instr_at code (g.threads tr.thread).at.pc ≡ i → is_of_objects i ≡ false → Turned x code s ls g world tr → Done
+  plain i is e k =
+      let m = g.threads tr.thread in
+      let c : changes_objects (instr_at code m.at.pc) m ≡ false = ap (λ i. changes_objects i m) is ∙ unchanged i m e in (
+        k,
+        effect_objects (lang_of x) tr.thread (has_returned m) (changes_objects (instr_at code m.at.pc) m) world k.0 k.2 c
+            ∙ sym (behind_same ls tr.thread (instr_at code m.at.pc) m ((after_turn bounds (one_thread code s) g tr).threads tr.thread) world.obj c),
+      )
+
+  each : (i : Instr) → instr_at code (g.threads tr.thread).at.pc ≡ i → is_exit i ≡ false → Done
+  each (instrs.New r count cells site) is k = New_keeps x code s ls wt fits blocks g world st tr may r count cells site is
+  each (instrs.Give r site) is k = Give_keeps x code s ls wt fits g world st tr may r site is
+  each (instrs.Free r layout site) is k = Free_keeps x code s ls wt fits few laws g world st tr may r layout site is
+  each i is k = plain i is refl (one i is k refl)
+
+  -- a thread that executes another instruction has not returned
+  not_exit : (P : Type 0) (i : Instr) → is_exit i ≡ false → OnExit P i → ⊥
+  not_exit P instrs.Exit e h = absurd (cc)
+  not_exit P _ e h = h
+
+  staged : (i : Instr) → is_exit i ≡ false → (y : Stage) → StageStands code s st.elements world st.heap g.words tr.thread (g.threads tr.thread) i y → is_withdrawing y ≡ false
+  staged i e (Withdraws row) h = absurd (not_exit _ i e h)
+  staged i e (WithdrawsFrom row seen) h = absurd (not_exit _ i e h)
+  staged i e Leaves h = absurd (not_exit _ i e h)
+  staged i e _ h = refl
+
+  follows : (i : Instr) → instr_at code (g.threads tr.thread).at.pc ≡ i → is_exit i ≡ false → Followed x code s ls g world tr
+  follows i is e =
+      let m = g.threads tr.thread in
+      let w = staged i e m.own.stage (subst (λ i. StageStands code s st.elements world st.heap g.words tr.thread m i m.own.stage) is ((st.threads tr.thread).runs may.started may.next.runs).stage) in
+      let now = put_same g.threads tr.thread ((one_thread code s).goes m (result_of tr.event)) in
+      let on = subst (λ i. has_returned (after (act code s i m) (result_of tr.event)) ≡ false) (sym is) (goes_on m w code s (result_of tr.event) i e) in
+      let d = each i is e in record { turned = d.0; objects = d.1; ends = λ r. let z : true ≡ false = sym r ∙ ap has_returned now ∙ on in absurd (cc) }
+
+  all_follow : (b : Bool) → is_exit (instr_at code (g.threads tr.thread).at.pc) ≡ b → Followed x code s ls g world tr
+  all_follow true e = Exit_follows x code s ls wt fits laws g world st tr may (exit_is (instr_at code (g.threads tr.thread).at.pc) e)
+    where
+      exit_is : (i : Instr) → is_exit i ≡ true → i ≡ instrs.Exit
+      exit_is instrs.Exit e = refl
+      exit_is _ e = absurd (cc)
+  all_follow false e = follows (instr_at code (g.threads tr.thread).at.pc) refl e
+
+pub kept : ShadowLaws → NewLaws → Keeps
+kept laws blocks x code s ls wt fits few g world st tr may = all_follow x code s ls wt fits few laws blocks g world st tr may (is_exit (instr_at code (g.threads tr.thread).at.pc)) refl

@@ -1,0 +1,133 @@
+-- A mutex is taken or given back: what the words and the logs then show of the world, and who holds which.
+use Rattle.std.proofs.Common.{◌≡◌, ℕ, suc, ◌+◌, ◌<◌, ◌≢◌, true, List, sym, ap, ◌∙◌, subst, ⊎_elim, arith}
+use Rattle.std.specs.Prelude.{◌↔◌, is_some, Contains}
+use Rattle.sharc_word.specs.declared.step.TheConstants.{THREADS}
+use Rattle.sharc_locks.specs.declared.held_log.HeldMutex.{HeldMutex}
+use Rattle.sharc_locks.specs.HeldLog.{object_of}
+use Rattle.sharc_code.specs.declared.shape.Shape.{Shape}
+use Rattle.sharc_code.specs.Machine.{Machine}
+use Rattle.sharc_code.specs.Runs.{Global, put}
+use Rattle.sharc_code.proofs.Places.{put_same, put_other, put_all}
+use Rattle.sharc_invariant.specs.Types.{Targets, Content, field_in, is_mutex}
+use Rattle.sharc_invariant.specs.Types.Content.{Integer, MutexWord, Waiters, Pointer}
+use Rattle.sharc_invariant.specs.World.{TypedReference, Slot, LogOf, In, World, place, put2}
+use Rattle.sharc_invariant.specs.Words.{MachineView, Shows, Apart, FitsContent, Reads, shadow_at, count_at, length_at, cell_at, store}
+use Rattle.sharc_invariant.specs.Turns.{made_turn}
+use Rattle.sharc_invariant.specs.State.{Locks}
+use Rattle.sharc_invariant.proofs.Effects.{place_same, place_other}
+use Rattle.sharc_invariant.proofs.Seen.{pair_cases, pointer_no_mutex, put2_at, put2_off, cell_cell, cell_count, cell_length, stale_off}
+
+mutex_fits : (h : Content) (v : ℕ) → is_mutex h ≡ true → FitsContent h v
+mutex_fits (Integer w) v e = absurd (cc)
+mutex_fits MutexWord v e = tt
+mutex_fits Waiters v e = tt
+mutex_fits (Pointer f) v e = tt
+
+-- ---- what words and logs show
+module _ (x : Targets) (s : Shape) (cells elements : ℕ → ℕ) (c : MachineView) (w : World) (sim : Shows x s cells elements c w) (lie : Apart s w.obj cells) where
+  -- the cell of a mutex
+  pub mutex_stored : (o i v : ℕ) → (w.obj o).live ≡ true → i < cells o → is_mutex (field_in x (w.obj o).ty i).holds ≡ true
+      → Shows x s cells elements (store c (cell_at s o i) v) (record w { mutex = put2 w.mutex o i v })
+  mutex_stored o i v lo li mx =
+      let k = cell_at s o i in
+      let off : (j : ℕ) → (j ≡ k → ⊥) → c.words j ≡ put c.words k v j = λ j ne. sym (put_other c.words k j v ne) in
+      let cell_off : (p j : ℕ) → (w.obj p).live ≡ true → j < cells p → (p ≡ o → j ≡ i → ⊥) → c.words (cell_at s p j) ≡ put c.words k v (cell_at s p j) = λ p j lp lt ne.
+      off (cell_at s p j) (λ e. let q = cell_cell x s cells elements c w sim lie o i p j lo lp li lt e in ne q.0 q.1) in
+      let is_mx : (p j : ℕ) → (p ≡ o) × (j ≡ i) → is_mutex (field_in x (w.obj p).ty j).holds ≡ true = λ p j e.
+      let P : ℕ → ℕ → Type 0 = λ p j. is_mutex (field_in x (w.obj p).ty j).holds ≡ true in subst (λ p. P p j) (sym e.0) (subst (P o) (sym e.1) mx) in
+      record {
+        regs = sim.regs;
+        args = sim.args;
+        logs = sim.logs;
+        staged = sim.staged;
+        others = sim.others;
+        pointers = λ p j lp lt pt. sim.pointers p j lp lt pt ∙ cell_off p j lp lt (λ ep ej. pointer_no_mutex (field_in x (w.obj p).ty j).holds pt (is_mx p j (ep, ej)));
+        integers = λ p j lp lt. ⊎_elim
+            (λ (e : (p ≡ o) × (j ≡ i)). mutex_fits (field_in x (w.obj p).ty j).holds (put c.words k v (cell_at s p j)) (is_mx p j e))
+            (λ (ne : p ≡ o → j ≡ i → ⊥). subst (FitsContent (field_in x (w.obj p).ty j).holds) (cell_off p j lp lt ne) (sim.integers p j lp lt))
+            (pair_cases p o j i);
+        counts = λ p nz lp. sim.counts p nz lp ∙ off (count_at s p) (λ e. cell_count x s cells elements c w sim lie p o i lp lo li (sym e));
+        lengths = λ p nz lp. sim.lengths p nz lp ∙ off (length_at s p) (λ e. cell_length x s cells elements c w sim lie p o i lp lo li (sym e));
+        mutexes = λ p j lp lt m. ⊎_elim
+            (λ (e : (p ≡ o) × (j ≡ i)). let P : ℕ → ℕ → Type 0 = λ p j. put2 w.mutex o i v p j ≡ put c.words k v (cell_at s p j) in
+            subst (λ p. P p j) (sym e.0) (subst (P o) (sym e.1) (put2_at w.mutex o i v ∙ sym (put_same c.words k v))))
+            (λ (ne : p ≡ o → j ≡ i → ⊥). sym (put2_off w.mutex o i p j v ne) ∙ sim.mutexes p j lp lt m ∙ cell_off p j lp lt ne)
+            (pair_cases p o j i);
+        shadows = λ p g lp lt. let a = lie.within p g lp lt in subst (λ n. Reads n c.read_notes c.write_notes (p + 1 + g) (w.gran p g)) (off (shadow_at s (p + 1 + g)) (λ e. omega arith)) (sim.shadows p g lp lt);
+        stale = stale_off s w.obj cells c.words (put c.words k v) c.read_notes c.write_notes (λ p lt. off (shadow_at s p) (λ e. omega arith)) sim.stale;
+      }
+
+  -- the entry of a log
+  pub log_stored : (t k : ℕ) (y : TypedReference) → Shows x s cells elements (record c { logs = put2 c.logs t k y.reference }) (record w { slots = place w.slots (In (LogOf t k)) y })
+  log_stored t k y = record {
+    regs = sim.regs;
+    args = sim.args;
+    staged = sim.staged;
+    logs = λ u j. ⊎_elim
+        (λ (e : (u ≡ t) × (j ≡ k)). let P : ℕ → ℕ → Type 0 = λ u j. (place w.slots (In (LogOf t k)) y (In (LogOf u j))).reference ≡ put2 c.logs t k y.reference u j in
+        subst (λ u. P u j) (sym e.0) (subst (P t) (sym e.1) (ap (λ (h : TypedReference). h.reference) (place_same w.slots (In (LogOf t k)) y) ∙ sym (put2_at c.logs t k y.reference))))
+        (λ (ne : u ≡ t → j ≡ k → ⊥). ap (λ (h : TypedReference). h.reference) (place_other w.slots (In (LogOf t k)) (In (LogOf u j)) y (λ e. ne (cc) (cc))) ∙ sim.logs u j ∙ put2_off c.logs t k u j y.reference ne)
+        (pair_cases u t j k);
+    pointers = sim.pointers;
+    others = sim.others;
+    integers = sim.integers;
+    counts = sim.counts;
+    lengths = sim.lengths;
+    mutexes = sim.mutexes;
+    shadows = sim.shadows;
+    stale = sim.stale;
+  }
+
+-- ---- who holds which
+-- an entry of a log is of a mutex of a live object
+abbrev pub IsLogged : Targets → Shape → (ℕ → ℕ) → World → HeldMutex → Type 0
+IsLogged x s cells w h = (j : ℕ) × ((h.word ≡ cell_at s h.object j) × ((w.obj h.object).live ≡ true) × (j < cells h.object) × (is_mutex (field_in x (w.obj h.object).ty j).holds ≡ true))
+
+-- mutex j of object o, at word k, is now v, and thread t has this log
+pub record Changes (x : Targets) (s : Shape) (cells : ℕ → ℕ) (w : World) (t o j v : ℕ) (old new : List HeldMutex) : Type 0 where
+  pub away : (n : ℕ) → n ≢ cell_at s o j → object_of new n ≡ object_of old n
+  pub here : (v ≡ suc t) ↔ (is_some (object_of new (cell_at s o j)) ≡ true)
+  pub mine : (u : ℕ) → u ≢ t → v ≡ suc u → ⊥
+  pub was : (u : ℕ) → u ≢ t → w.mutex o j ≡ suc u → ⊥
+  pub logged : (h : HeldMutex) → Contains new h → IsLogged x s cells w h
+  pub few : (u : ℕ) → v ≡ suc u → u < THREADS
+
+pub locks_changed : (x : Targets) (s : Shape) (cells elements : ℕ → ℕ) (c : MachineView) (w : World) (g : Global Machine) (sim : Shows x s cells elements c w) (lie : Apart s w.obj cells) (locks : Locks x s cells w g) (t o j v : ℕ)
+    → (w.obj o).live ≡ true → j < cells o → is_mutex (field_in x (w.obj o).ty j).holds ≡ true → (words : List ℕ) (m' : Machine) (f : Slot → TypedReference) → Changes x s cells w t o j v (g.threads t).own.held m'.own.held
+    → Locks x s cells (record w { slots = f; mutex = put2 w.mutex o j v }) (made_turn g t words m')
+locks_changed x s cells elements c w g sim lie locks t o j v lo lj mx words m' f ch =
+    let k = cell_at s o j in
+    let Q : ℕ → ℕ → ℕ → List HeldMutex → Type 0 = λ p q u hd. (put2 w.mutex o j v p q ≡ suc u) ↔ (is_some (object_of hd (cell_at s p q)) ≡ true) in
+    record {
+      held = λ u p q lt lp lq mq. put_all (λ u (y : Machine). u < THREADS → Q p q u y.own.held) g.threads t m'
+          (λ lt. ⊎_elim
+          (λ (e : (p ≡ o) × (q ≡ j)). let P : ℕ → ℕ → Type 0 = λ p q. Q p q t m'.own.held in
+          let at : P o j = (λ h. ch.here.0 (sym (put2_at w.mutex o j v) ∙ h), λ h. put2_at w.mutex o j v ∙ ch.here.1 h) in
+          subst (λ p. P p q) (sym e.0) (subst (P o) (sym e.1) at))
+          (λ (ne : p ≡ o → q ≡ j → ⊥).
+          let b = ch.away (cell_at s p q) (λ e. let z = cell_cell x s cells elements c w sim lie o j p q lo lp lj lq e in ne z.0 z.1) in
+          let a = locks.held t p q lt lp lq mq in
+          (λ h. ap is_some b ∙ a.0 (put2_off w.mutex o j p q v ne ∙ h), λ h. sym (put2_off w.mutex o j p q v ne) ∙ a.1 (ap is_some (sym b) ∙ h)))
+          (pair_cases p o q j))
+          (λ u nu lt.
+          let a = locks.held u p q lt lp lq mq in
+          ⊎_elim
+          (λ (e : (p ≡ o) × (q ≡ j)).
+          let v_is : put2 w.mutex o j v p q ≡ v = ap (λ p. put2 w.mutex o j v p q) e.0 ∙ ap (put2 w.mutex o j v o) e.1 ∙ put2_at w.mutex o j v in
+          let was : w.mutex p q ≡ w.mutex o j = ap (λ p. w.mutex p q) e.0 ∙ ap (w.mutex o) e.1 in
+          (λ h. absurd (ch.mine u nu (sym v_is ∙ h)), λ h. absurd (ch.was u nu (sym was ∙ a.1 h))))
+          (λ (ne : p ≡ o → q ≡ j → ⊥). (λ h. a.0 (put2_off w.mutex o j p q v ne ∙ h), λ h. sym (put2_off w.mutex o j p q v ne) ∙ a.1 h))
+          (pair_cases p o q j))
+          u lt;
+      logged = put_all (λ u (y : Machine). (h : HeldMutex) → Contains y.own.held h → IsLogged x s cells w h) g.threads t m' ch.logged (λ u _. locks.logged u);
+      few = λ p q u e. ⊎_elim
+          (λ (z : (p ≡ o) × (q ≡ j)). ch.few u (sym (ap (λ p. put2 w.mutex o j v p q) z.0 ∙ ap (put2 w.mutex o j v o) z.1 ∙ put2_at w.mutex o j v) ∙ e))
+          (λ (ne : p ≡ o → q ≡ j → ⊥). locks.few p q u (put2_off w.mutex o j p q v ne ∙ e))
+          (pair_cases p o q j);
+      only = λ p q nz. ⊎_elim
+          (λ (z : (p ≡ o) × (q ≡ j)).
+          let P : ℕ → ℕ → Type 0 = λ p q. ((w.obj p).live ≡ true) × (q < cells p) × (is_mutex (field_in x (w.obj p).ty q).holds ≡ true) in
+          subst (λ p. P p q) (sym z.0) (subst (P o) (sym z.1) (lo, lj, mx)))
+          (λ (ne : p ≡ o → q ≡ j → ⊥). locks.only p q (λ e. nz (sym (put2_off w.mutex o j p q v ne) ∙ e)))
+          (pair_cases p o q j);
+    }

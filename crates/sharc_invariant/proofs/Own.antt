@@ -1,0 +1,206 @@
+-- The thread that makes the turn: where it stands, and where it comes to stand.
+use Rattle.std.proofs.Common.{◌≡◌, ℕ, ℤ, zero, suc, ◌+◌, ◌*◌, ◌<◌, ◌≤◌, ◌≢◌, max, Bool, true, false, List, [], ◌∷◌, Option, Some, None, refl, sym, ap, ◌∙◌, subst, ⊎_elim, arith}
+use Rattle.std.specs.Prelude.{length, slice_index_or, fold, ◌==◌}
+use Rattle.std.proofs.Math.Nat.{mul-le-mul_left, mul_comm}
+use Rattle.sharc_code.specs.declared.state.TheConstants.{FRAMES}
+use Rattle.sharc_code.specs.declared.code.Code.{Code}
+use Rattle.sharc_code.specs.declared.code.Function.{Function}
+use Rattle.sharc_code.specs.declared.instr.Instr.{Instr}
+use Rattle.sharc_code.specs.declared.instr.Instr.TheVariants as instrs
+use Rattle.sharc_code.specs.declared.instr.Register.{Register}
+use Rattle.sharc_code.specs.declared.shape.Shape.{Shape}
+use Rattle.sharc_code.specs.declared.state.Frame.{Frame}
+use Rattle.sharc_code.specs.declared.state.Stage.{Stage}
+use Rattle.sharc_code.specs.declared.state.Stage.TheVariants.{Rests, Looks, Clears, Makes, Empties, Lowers, FreeLooks, FreeClears, Uncounts, Links, Names, Hands, Begins, Enters, Withdraws, WithdrawsFrom, Leaves, Wakes}
+use Rattle.sharc_code.specs.Machine.{Machine, instr_at, function_of, no_function}
+use Rattle.sharc_code.specs.Path.{most_ints, most_refs, may_go}
+use Rattle.sharc_code.specs.Runs.{Global}
+use Rattle.sharc_code.proofs.Places.{ne_eq}
+use Rattle.sharc_invariant.specs.Types.{Targets}
+use Rattle.sharc_invariant.specs.Labels.{Gate, Closed, Label, Labels, LessGate}
+use Rattle.sharc_invariant.specs.Typed.{Fine, IsWellTyped, refs_in, ints_in}
+use Rattle.sharc_invariant.specs.World.{World}
+use Rattle.sharc_invariant.specs.Blocks.{Heap}
+use Rattle.sharc_invariant.specs.State.{State, View, BelowStands, FramesStand, frame_at, StageStands, OnClear, OnNew, OnFree, OnSpawn, OnStart, OnExit, OnSignal, Runs, GateStands, TopStands, label_now, view_of}
+use Rattle.sharc_invariant.proofs.Quiet.{label_held}
+use Rattle.sharc_invariant.proofs.Others.{OnHold}
+
+-- ---- instructions of one turn
+abbrev pub is_single : Instr → Bool
+is_single (instrs.Clear r n) = false
+is_single (instrs.New r c n site) = false
+is_single (instrs.Free r l site) = false
+is_single (instrs.Spawn r f from site) = false
+is_single (instrs.Start site) = false
+is_single instrs.Exit = false
+is_single (instrs.CondSignal c site) = false
+is_single _ = true
+
+no_clear : (P : ℕ → ℕ → Type 0) (i : Instr) → is_single i ≡ true → OnClear P i → ⊥
+no_clear P (instrs.Clear r n) e h = absurd (cc)
+no_clear P _ e h = h
+
+no_new : (P : ℕ → ℕ → ℕ → Type 0) (i : Instr) → is_single i ≡ true → OnNew P i → ⊥
+no_new P (instrs.New r c n site) e h = absurd (cc)
+no_new P _ e h = h
+
+no_free : (P : ℕ → ℕ → Type 0) (i : Instr) → is_single i ≡ true → OnFree P i → ⊥
+no_free P (instrs.Free r l site) e h = absurd (cc)
+no_free P _ e h = h
+
+no_spawn : (P : ℕ → Register → Type 0) (i : Instr) → is_single i ≡ true → OnSpawn P i → ⊥
+no_spawn P (instrs.Spawn r f from site) e h = absurd (cc)
+no_spawn P _ e h = h
+
+no_start : (P : Type 0) (i : Instr) → is_single i ≡ true → OnStart P i → ⊥
+no_start P (instrs.Start site) e h = absurd (cc)
+no_start P _ e h = h
+
+no_exit : (P : Type 0) (i : Instr) → is_single i ≡ true → OnExit P i → ⊥
+no_exit P instrs.Exit e h = absurd (cc)
+no_exit P _ e h = h
+
+no_signal : (i : Instr) → is_single i ≡ true → OnSignal i → ⊥
+no_signal (instrs.CondSignal c site) e h = absurd (cc)
+no_signal _ e h = h
+
+pub single_rests : (code : Code) (s : Shape) (elements : ℕ → ℕ) (w : World) (heap : Heap) (words : List ℕ) (t : ℕ) (m : Machine) (i : Instr) (stage : Stage) → is_single i ≡ true → StageStands code s elements w heap words t m i stage → stage ≡ Rests
+single_rests code s elements w heap words t m i Rests e h = refl
+single_rests code s elements w heap words t m i (Looks a b) e h = absurd (no_clear _ i e h)
+single_rests code s elements w heap words t m i (Clears a b c) e h = absurd (no_clear _ i e h)
+single_rests code s elements w heap words t m i (Makes v) e h = absurd (no_new _ i e h)
+single_rests code s elements w heap words t m i (Empties a b) e h = absurd (no_free _ i e h)
+single_rests code s elements w heap words t m i (Lowers a b c) e h = absurd (no_free _ i e h)
+single_rests code s elements w heap words t m i (FreeLooks a b) e h = absurd (no_free _ i e h)
+single_rests code s elements w heap words t m i (FreeClears a b c) e h = absurd (no_free _ i e h)
+single_rests code s elements w heap words t m i (Uncounts a) e h = absurd (no_free _ i e h)
+single_rests code s elements w heap words t m i (Links a) e h = absurd (no_free _ i e h)
+single_rests code s elements w heap words t m i (Names n) e h = absurd (no_spawn _ i e h)
+single_rests code s elements w heap words t m i (Hands n) e h = absurd (no_spawn _ i e h)
+single_rests code s elements w heap words t m i (Begins n) e h = absurd (no_spawn _ i e h)
+single_rests code s elements w heap words t m i (Enters f) e h = absurd (no_start _ i e h)
+single_rests code s elements w heap words t m i (Withdraws a) e h = absurd (no_exit _ i e h)
+single_rests code s elements w heap words t m i (WithdrawsFrom a b) e h = absurd (no_exit _ i e h)
+single_rests code s elements w heap words t m i Leaves e h = absurd (no_exit _ i e h)
+single_rests code s elements w heap words t m i (Wakes a) e h = absurd (no_signal i e h)
+
+-- ---- registers are within their banks
+most_ge : (f : Function → ℕ) (a : ℕ) (fs : List Function) → a ≤ fold (λ m g. max m (f g)) a fs
+most_ge f a [] = omega arith
+most_ge f a (x ∷ xs) = let r = most_ge f (max a (f x)) xs in omega arith
+
+most_at : (f : Function → ℕ) (a : ℕ) (fs : List Function) (n : ℕ) → f no_function ≡ 0 → f (slice_index_or fs n no_function) ≤ fold (λ m g. max m (f g)) a fs
+most_at f a [] n e = omega arith
+most_at f a (x ∷ xs) zero e = let r = most_ge f (max a (f x)) xs in omega arith
+most_at f a (x ∷ xs) (suc n) e = most_at f (max a (f x)) xs n e
+
+pub refs_most : (code : Code) (f : ℕ) → (function_of code f).refs ≤ most_refs code.functions.items
+refs_most code f = most_at (λ g. g.refs) 0 code.functions.items f refl
+
+pub ints_most : (code : Code) (f : ℕ) → (function_of code f).ints ≤ most_ints code.functions.items
+ints_most code f = most_at (λ g. g.ints) 0 code.functions.items f refl
+
+suc_times : (n m : ℕ) → suc n * m ≡ n * m + m
+suc_times n m = grind arith
+
+pub bases_low : (x : Targets) (code : Code) (ls : Labels) (t : ℕ) (v : View) (frames : List Frame) (d base ints f : ℕ) → BelowStands x code ls t v frames d base ints f
+    → (base + most_refs code.functions.items ≤ d * most_refs code.functions.items) × (ints + most_ints code.functions.items ≤ d * most_ints code.functions.items)
+bases_low x code ls t v frames zero base ints f h = absurd h
+bases_low x code ls t v frames (suc zero) base ints f h =
+    let a = h.0.base_is in let b = h.0.ints_are in
+    let p = suc_times 0 (most_refs code.functions.items) in let q = suc_times 0 (most_ints code.functions.items) in
+    (omega arith, omega arith)
+bases_low x code ls t v frames (suc (suc d)) base ints f h =
+    let k = h.1 in
+    let r = bases_low x code ls t v frames (suc d) (frame_at frames (suc d)).refs (frame_at frames (suc d)).ints h.0 h.2 in
+    let a = k.base_is in let b = k.ints_are in
+    let from : k.refs ≤ (function_of code h.0).refs = subst (λ o. k.refs ≤ refs_in code o) k.caller k.calls.from in
+    let from_int : k.first ≤ (function_of code h.0).ints = subst (λ o. k.first ≤ ints_in code o) k.caller k.calls.from_int in
+    let c = refs_most code h.0 in let e = ints_most code h.0 in
+    let p = suc_times (suc d) (most_refs code.functions.items) in let q = suc_times (suc d) (most_ints code.functions.items) in
+    (omega arith, omega arith)
+
+times_low : (d m : ℕ) → d ≤ FRAMES → d * m ≤ FRAMES * m
+times_low d m le = let a : m * d ≤ m * FRAMES = mul-le-mul_left m le in let b = mul_comm m d in let c = mul_comm m FRAMES in omega arith
+
+-- a register of the frame on top is within its bank
+pub ref_inside : (x : Targets) (code : Code) (ls : Labels) (t : ℕ) (v : View) (m : Machine) (f : Option ℕ) (r : ℕ) → FramesStand x code ls t v m f → r < refs_in code f → m.at.refs + r < FRAMES * most_refs code.functions.items
+ref_inside x code ls t v m None r h lt = absurd (omega arith)
+ref_inside x code ls t v m (Some f) r h lt =
+    let b = (bases_low x code ls t v m.frames m.at.depth m.at.refs m.at.ints f h.0).0 in
+    let c = refs_most code f in
+    let d = times_low m.at.depth (most_refs code.functions.items) h.1 in
+    omega arith
+
+pub int_inside : (x : Targets) (code : Code) (ls : Labels) (t : ℕ) (v : View) (m : Machine) (f : Option ℕ) (r : ℕ) → FramesStand x code ls t v m f → r < ints_in code f → m.at.ints + r < FRAMES * most_ints code.functions.items
+int_inside x code ls t v m None r h lt = absurd (omega arith)
+int_inside x code ls t v m (Some f) r h lt =
+    let b = (bases_low x code ls t v m.frames m.at.depth m.at.refs m.at.ints f h.0).1 in
+    let c = ints_most code f in
+    let d = times_low m.at.depth (most_ints code.functions.items) h.1 in
+    omega arith
+
+-- ---- the next place
+pub closed_less : (new : Gate) → LessGate Closed new → new ≡ Closed
+closed_less Closed h = refl
+closed_less _ h = h
+
+pub runs_at : (x : Targets) (code : Code) (s : Shape) (ls : Labels) (elements : ℕ → ℕ) (w : World) (heap : Heap) (g : Global Machine) (t : ℕ) (m : Machine) (names : ℕ → ℤ) → m.own.stage ≡ Rests
+    → TopStands x t (view_of elements w t m) m.at.refs m.at.ints names (ls.at m.at.pc) → FramesStand x code ls t (view_of elements w t m) m (ls.at m.at.pc).function → GateStands s w t m (ls.at m.at.pc).gate
+    → ((ls.at m.at.pc).room ≡ true → length m.own.held < 16) → Runs x code s ls elements w heap g t m
+runs_at x code s ls elements w heap g t m names rest top below gate room =
+    let e : label_now (ls.at m.at.pc) (instr_at code m.at.pc) m.own.stage ≡ ls.at m.at.pc = label_held (ls.at m.at.pc) (instr_at code m.at.pc) m.own.stage (subst OnHold (sym rest) tt) in
+    record {
+      names = names;
+      top = subst (TopStands x t (view_of elements w t m) m.at.refs m.at.ints names) (sym e) top;
+      below = below;
+      gate = subst (λ (l : Label). GateStands s w t m l.gate) (sym e) gate;
+      stage = subst (StageStands code s elements w heap g.words t m (instr_at code m.at.pc)) (sym rest) tt;
+      room = room;
+    }
+
+-- where a thread runs an instruction of one turn: its label stands as it is
+module _ (x : Targets) (code : Code) (s : Shape) (ls : Labels) (wt : IsWellTyped x code ls) (g : Global Machine) (world : World) (st : State x code s ls g world) (t : ℕ) (on : g.started t ≡ true) (go : may_go (g.threads t).at.state ≡ true)
+    (i : Instr) (is : instr_at code (g.threads t).at.pc ≡ i) (single : is_single i ≡ true) where
+  abbrev pub m : Machine
+  m = g.threads t
+
+  abbrev pub here : Label
+  here = ls.at (g.threads t).at.pc
+
+  pub runs : Runs x code s ls st.elements world st.heap g t (g.threads t)
+  runs = (st.threads t).runs on go
+
+  pub rests : (g.threads t).own.stage ≡ Rests
+  rests = single_rests code s st.elements world st.heap g.words t m (instr_at code m.at.pc) m.own.stage (ap is_single is ∙ single) runs.stage
+
+  now_here : label_now here (instr_at code m.at.pc) m.own.stage ≡ here
+  now_here = label_held here (instr_at code m.at.pc) m.own.stage (subst OnHold (sym rests) tt)
+
+  pub top : TopStands x t (view_of st.elements world t m) m.at.refs m.at.ints runs.names here
+  top = subst (TopStands x t (view_of st.elements world t m) m.at.refs m.at.ints runs.names) now_here runs.top
+
+  pub gate : GateStands s world t m here.gate
+  gate = subst (λ (l : Label). GateStands s world t m l.gate) now_here runs.gate
+
+  pub fine : Fine x code ls m.at.pc here i
+  fine = subst (Fine x code ls m.at.pc here) is (wt.fine m.at.pc)
+
+  start_not_single : (site : ℕ) → i ≡ instrs.Start site → ⊥
+  start_not_single site e = let q : is_single i ≡ false = ap is_single e in cc
+
+  exit_not_single : i ≡ instrs.Exit → ⊥
+  exit_not_single e = let q : is_single i ≡ false = ap is_single e in cc
+
+  -- it is in a function
+  pub in_function : here.function ≢ None
+  in_function e = ⊎_elim
+      (λ (z : m.at.pc ≡ 0). start_not_single wt.begin.0 (sym is ∙ ap (instr_at code) z ∙ wt.begin.1))
+      (λ z. exit_not_single (sym is ∙ z))
+      (wt.placed m.at.pc e)
+
+  pub not_begun : (pc : ℕ) → (ls.at pc).function ≡ here.function → (pc == 0) ≡ false
+  not_begun pc e = ne_eq pc 0 (λ z. in_function (sym e ∙ ap (λ p. (ls.at p).function) z ∙ wt.first.0))
+
+  pub begun_before : (m.at.pc == 0) ≡ false
+  begun_before = not_begun m.at.pc refl

@@ -1,0 +1,257 @@
+-- Turns that change no word: registers alone, tests and jumps.
+use Rattle.std.proofs.Common.{◌≡◌, ℕ, ℤ, pos, suc, ◌+◌, ◌<◌, ◌≤◌, true, false, cond, List, Option, Some, None, refl, sym, ap, ◌∙◌, subst, arith}
+use mathlib.Core.Path.{fun_ext}
+use Rattle.std.specs.Prelude.{length, slice_index}
+use Rattle.std.proofs.lemmas.List.{get_or-set_same, get_or-set_other, length-set}
+use Rattle.sharc_code.specs.declared.state.TheConstants.{FRAMES}
+use Rattle.sharc_code.specs.declared.code.Code.{Code}
+use Rattle.sharc_code.specs.declared.instr.Instr.{Instr}
+use Rattle.sharc_code.specs.declared.shape.Shape.{Shape}
+use Rattle.sharc_code.specs.declared.state.Stop.{Stop}
+use Rattle.sharc_code.specs.declared.state.Frame.{Frame}
+use Rattle.sharc_code.specs.declared.state.State.TheVariants.{Runs as RunsOn, Tries, Stopped, Ended}
+use Rattle.sharc_code.specs.declared.state.Stage.TheVariants.{Rests}
+use Rattle.sharc_code.specs.Machine.{Machine, instr_at, goes, goes_to, set_int, stopped}
+use Rattle.sharc_code.specs.Path.{may_go, counted}
+use Rattle.sharc_code.specs.Runs.{Global, put}
+use Rattle.sharc_code.proofs.Places.{put_same, put_other, put_all}
+use Rattle.sharc_invariant.specs.Types.{Targets}
+use Rattle.sharc_invariant.specs.Labels.{Closed, Number, Label, Labels, Less, LessGate, Leads, set_number}
+use Rattle.sharc_invariant.specs.Typed.{IsWellTyped, IsInt}
+use Rattle.sharc_invariant.specs.World.{World, Shut}
+use Rattle.sharc_invariant.specs.Blocks.{Heap, Kept}
+use Rattle.sharc_invariant.specs.Words.{MachineView, conc_of, Shows, register_of, is_ended}
+use Rattle.sharc_invariant.specs.Turns.{made_turn, KeepsOthers}
+use Rattle.sharc_invariant.specs.State.{BelowStands, State, View, view_of, vals_of, NumberStands, TopStands, FramesStand, GateStands, Runs, refs_at, types_at}
+use Rattle.sharc_invariant.proofs.Frames.{less_stands, Agrees, Low, callers_agree}
+use Rattle.sharc_invariant.proofs.Quiet.{KeepsOwn, KeepsWords, KeepsWorld, heap_now, quiet_state, freed_held, noted_same, conc_plain}
+use Rattle.sharc_invariant.proofs.Others.{OnHold, loses}
+use Rattle.sharc_invariant.proofs.Own.{is_single, closed_less, runs_at, int_inside, runs, rests, top, gate, not_begun, begun_before}
+
+-- ---- registers as they are seen
+pub register_plain : (code : Code) (m : Machine) → m.own.stage ≡ Rests → (i : ℕ) → register_of code m i ≡ slice_index m.refs i
+register_plain code m e i = ap (λ b. cond b 0 (slice_index m.refs i)) (freed_held (instr_at code m.at.pc) m.own.stage m.at.refs i (subst OnHold (sym e) tt))
+
+-- ---- the words stay
+pub same_words : (x : Targets) (code : Code) (s : Shape) (ls : Labels) (g : Global Machine) (world : World) (st : State x code s ls g world) → KeepsWords s st.heap g.words g.words
+same_words x code s ls g world st = record {
+  count = refl;
+  low = λ j _ _. refl;
+  are_words = st.are_words;
+  epochs = λ i _. refl;
+  kept = subst (λ f. Kept (record { first = 1 + s.globals; words = Rattle.sharc_code.specs.Layout.first_cell s }) (record st.heap { words = f })) (fun_ext st.heap_stands.words) st.heap_stands.kept;
+}
+
+pub same_others : (s : Shape) (w : World) (heap : Heap) (words : List ℕ) (t : ℕ) → KeepsOthers s w w heap (heap_now heap words) words words t
+same_others s w heap words t = record {
+  regs = λ u _ r. refl;
+  win = λ u _. refl;
+  passed = λ u _ o p k _ h. h;
+  sole = λ u _ r _ p. loses refl;
+  cells = λ u _ r _ i. refl;
+  built = λ u _ h e. (e, refl);
+  within = λ u _ h _ j _. refl;
+}
+
+pub same_world : (w : World) → KeepsWorld w w
+same_world w = record { obj = refl; mutex = refl; args = λ u. refl }
+
+-- registers that read as before
+pub sim_regs : (x : Targets) (s : Shape) (cells elements : ℕ → ℕ) (c : MachineView) (w : World) (regs : ℕ → ℕ → ℕ) → ((u i : ℕ) → c.regs u i ≡ regs u i) → Shows x s cells elements c w → Shows x s cells elements (record c { regs = regs }) w
+sim_regs x s cells elements c w regs e h = record {
+  regs = λ u i. h.regs u i ∙ e u i;
+  args = h.args;
+  logs = h.logs;
+  staged = h.staged;
+  pointers = h.pointers;
+  others = h.others;
+  integers = h.integers;
+  counts = h.counts;
+  lengths = h.lengths;
+  mutexes = h.mutexes;
+  shadows = h.shadows;
+  stale = h.stale;
+}
+
+module _ (x : Targets) (code : Code) (s : Shape) (ls : Labels) (wt : IsWellTyped x code ls) (g : Global Machine) (world : World) (st : State x code s ls g world) (t : ℕ) (on : g.started t ≡ true) (go : may_go (g.threads t).at.state ≡ true)
+    (i : Instr) (is : instr_at code (g.threads t).at.pc ≡ i) (single : is_single i ≡ true) where
+  abbrev m : Machine
+  m = g.threads t
+
+  abbrev here : Label
+  here = ls.at (g.threads t).at.pc
+
+  -- the thread's references, world and words stay
+  pub plain_state : (m' : Machine) → KeepsOwn (g.threads t) m' → m'.own.table ≡ (g.threads t).own.table → m'.refs ≡ (g.threads t).refs
+      → (may_go m'.at.state ≡ true → Runs x code s ls st.elements world (heap_now st.heap g.words) (made_turn g t g.words m') t m') → (may_go m'.at.state ≡ false → world.win t ≡ Shut)
+      → g.made t + counted m'.at.state ≤ 100000000 → State x code s ls (made_turn g t g.words m') world
+  plain_state m' own tb refs runs' over few =
+      let regs : (u j : ℕ) → register_of code (g.threads u) j ≡ put (λ u. register_of code (g.threads u)) t (register_of code m') u j = λ u j.
+      put_all (λ u (f : ℕ → ℕ). register_of code (g.threads u) j ≡ f j) (λ u. register_of code (g.threads u)) t (register_of code m')
+      (register_plain code m own.stage j ∙ ap (λ l. slice_index l j) (sym refs) ∙ sym (register_plain code m' own.rests j)) (λ u _. refl) u in
+      quiet_state x code s ls g world st t on g.words m' own (same_words x code s ls g world st) world (same_world world) (same_others s world st.heap g.words t) wt st.inv
+      (subst (λ c. Shows x s st.cells st.elements c world) (sym (conc_plain code g t g.words m' (noted_same m m' tb own.stage own.rests own.ended_before own.ended))) (sim_regs x s st.cells st.elements (conc_of code g) world (put (λ u. register_of code (g.threads u)) t (register_of code m')) regs st.sim)) runs' over few
+
+  pub going : is_ended (g.threads t).at.state ≡ false
+  going = elim (g.threads t).at.state as (λ y. may_go y ≡ true → is_ended y ≡ false) [ RunsOn ↦ λ e. refl | Tries ↦ λ e. refl | Stopped ↦ λ e. refl | Ended ↦ λ e. absurd (cc) ] go
+
+  -- it comes to stand where the gate is closed
+  pub next_runs : (w' : World) (heap' : Heap) (g' : Global Machine) (m' : Machine) (names : ℕ → ℤ) (k : Label) → m'.own.stage ≡ Rests → k.function ≡ (ls.at (g.threads t).at.pc).function → k.gate ≡ Closed → Less k (ls.at m'.at.pc)
+      → TopStands x t (view_of st.elements w' t m') m'.at.refs m'.at.ints names k → FramesStand x code ls t (view_of st.elements w' t m') m' (ls.at (g.threads t).at.pc).function → w'.win t ≡ Shut → (k.room ≡ true → length m'.own.held < 16)
+      → Runs x code s ls st.elements w' heap' g' t m'
+  next_runs w' heap' g' m' names k rest fn gt less top' below' shut room' =
+      let new = (ls.at m'.at.pc).gate in
+      let e : new ≡ Closed = closed_less new (subst (λ y. LessGate y new) gt less.gate) in
+      runs_at x code s ls st.elements w' heap' g' t m' names rest
+      (less_stands x t (view_of st.elements w' t m') m'.at.refs m'.at.ints names k (ls.at m'.at.pc) less top')
+      (subst (FramesStand x code ls t (view_of st.elements w' t m') m') (sym (less.function ∙ fn)) below')
+      (subst (GateStands s w' t m') (sym e) shut)
+      (λ q. room' (less.room q))
+
+  abbrev pub view : View
+  view = view_of st.elements world t (g.threads t)
+
+  top_here : TopStands x t view (g.threads t).at.refs (g.threads t).at.ints (runs x code s ls wt g world st t on go i is single).names here
+  top_here = top x code s ls wt g world st t on go i is single
+
+  below_here : FramesStand x code ls t view (g.threads t) here.function
+  below_here = (runs x code s ls wt g world st t on go i is single).below
+
+  -- the world has no window where the gate is closed
+  pub is_shut : here.gate ≡ Closed → world.win t ≡ Shut
+  is_shut e = subst (GateStands s world t m) e (gate x code s ls wt g world st t on go i is single)
+
+  -- nothing but the place changes, and what it knows
+  abbrev moved : ℕ → Machine
+  moved pc = goes_to (g.threads t) pc
+
+  keeps_place : (pc : ℕ) → (ls.at pc).function ≡ here.function → KeepsOwn (g.threads t) (moved pc)
+  keeps_place pc e = record {
+    number = refl;
+    held = refl;
+    heads = refl;
+    notes = refl;
+    table = (st.threads t).has.table;
+    stage = rests x code s ls wt g world st t on go i is single;
+    rests = rests x code s ls wt g world st t on go i is single;
+    refs = refl;
+    ints = refl;
+    frames = refl;
+    begun_before = begun_before x code s ls wt g world st t on go i is single;
+    begun = not_begun x code s ls wt g world st t on go i is single pc e;
+    ended_before = going;
+    ended = refl;
+  }
+
+  pub jump_state : (pc : ℕ) (k : Label) → here.gate ≡ Closed → Less k (ls.at pc) → k.function ≡ here.function → k.gate ≡ Closed → (k.room ≡ true → length (g.threads t).own.held < 16)
+      → TopStands x t view (g.threads t).at.refs (g.threads t).at.ints (runs x code s ls wt g world st t on go i is single).names k → g.made t + 1 ≤ 100000000 → State x code s ls (made_turn g t g.words (moved pc)) world
+  jump_state pc k gt less fn kg room tp few =
+      plain_state (moved pc) (keeps_place pc (less.function ∙ fn)) refl refl
+      (λ _. next_runs world (heap_now st.heap g.words) (made_turn g t g.words (moved pc)) (moved pc) (runs x code s ls wt g world st t on go i is single).names k (rests x code s ls wt g world st t on go i is single) fn kg less
+      tp (frames_place (moved pc) here.function below_here) (is_shut gt) room)
+      (λ e. absurd (cc)) few
+    where
+      frames_place : (m' : Machine) (f : Option ℕ) → FramesStand x code ls t view (g.threads t) f → FramesStand x code ls t view (moved pc) f
+      frames_place m' None h = h
+      frames_place m' (Some f) h = h
+
+  -- a stop
+  pub stop_state : (why : Stop) → world.win t ≡ Shut → g.made t + 1 ≤ 100000000 → State x code s ls (made_turn g t g.words (stopped (g.threads t) why)) world
+  stop_state why shut few =
+      plain_state (stopped (g.threads t) why) (record {
+        number = refl;
+        held = refl;
+        heads = refl;
+        notes = refl;
+        table = (st.threads t).has.table;
+        stage = rests x code s ls wt g world st t on go i is single;
+        rests = rests x code s ls wt g world st t on go i is single;
+        refs = refl;
+        ints = refl;
+        frames = refl;
+        begun_before = begun_before x code s ls wt g world st t on go i is single;
+        begun = begun_before x code s ls wt g world st t on go i is single;
+        ended_before = going;
+        ended = refl;
+      }) refl refl
+      (λ e. absurd (cc)) (λ _. shut) few
+
+  -- ---- an integer register holds something else
+  abbrev numbered : ℕ → ℤ → Machine
+  numbered r z = goes (set_int (g.threads t) r z)
+
+  vals_set : (r : ℕ) (z : ℤ) → (g.threads t).at.ints + r < length (g.threads t).ints → (j : ℕ) → vals_of (numbered r z) j ≡ put (vals_of (g.threads t)) ((g.threads t).at.ints + r) z j
+  vals_set r z lt = put_all (λ j y. vals_of (numbered r z) j ≡ y) (vals_of (g.threads t)) ((g.threads t).at.ints + r) z
+      (get_or-set_same (g.threads t).ints ((g.threads t).at.ints + r) z (pos 0) lt)
+      (λ j ne. get_or-set_other (g.threads t).ints ((g.threads t).at.ints + r) j z (pos 0) ne)
+
+  pub view_set : (r : ℕ) (z : ℤ) → (g.threads t).at.ints + r < length (g.threads t).ints → view_of st.elements world t (numbered r z) ≡ record view { vals = put (vals_of (g.threads t)) ((g.threads t).at.ints + r) z }
+  view_set r z lt = ap (λ (f : ℕ → ℤ). record view { vals = f }) (fun_ext (vals_set r z lt))
+
+  pub number_top : (names : ℕ → ℤ) (r : ℕ) (z : ℤ) (n : Number) (l : Label)
+      → NumberStands x st.elements (refs_at view (g.threads t).at.refs) (types_at view (g.threads t).at.refs) names z n
+      → TopStands x t view (g.threads t).at.refs (g.threads t).at.ints names l
+      → TopStands x t (record view { vals = put (vals_of (g.threads t)) ((g.threads t).at.ints + r) z }) (g.threads t).at.refs (g.threads t).at.ints names (set_number l r n)
+  number_top names r z n l k top' a b =
+      let base = (g.threads t).at.ints in
+      record {
+        env = (top' a b).env;
+        same = (top' a b).same;
+        known = (top' a b).known;
+        passed = (top' a b).passed;
+        numbers = λ j lt. put_all (λ j (y : Number). NumberStands x st.elements (refs_at view m.at.refs) (types_at view m.at.refs) names (put (vals_of m) (base + r) z (base + j)) y) l.ints r n
+            (subst (λ y. NumberStands x st.elements (refs_at view m.at.refs) (types_at view m.at.refs) names y n) (sym (put_same (vals_of m) (base + r) z)) k)
+            (λ j ne. subst (λ y. NumberStands x st.elements (refs_at view m.at.refs) (types_at view m.at.refs) names y (l.ints j)) (sym (put_other (vals_of m) (base + r) (base + j) z (λ e. ne (omega arith)))) ((top' 0 (suc j)).numbers j (omega arith))) j;
+      }
+
+  pub vals_below : (r : ℕ) (z : ℤ) (v' : View) → v' ≡ record view { vals = put (vals_of (g.threads t)) ((g.threads t).at.ints + r) z } → (m' : Machine) → m'.frames ≡ (g.threads t).frames → m'.at.depth ≡ (g.threads t).at.depth
+      → m'.at.refs ≡ (g.threads t).at.refs → m'.at.ints ≡ (g.threads t).at.ints → (f : Option ℕ) → FramesStand x code ls t view (g.threads t) f → FramesStand x code ls t v' m' f
+  vals_below r z v' e m' ef ed er ei None h = (ed ∙ h.0, er ∙ h.1, ei ∙ h.2)
+  vals_below r z v' e m' ef ed er ei (Some f) h =
+      let base = (g.threads t).at.ints in
+      let v1 : View = record view { vals = put (vals_of m) (base + r) z } in
+      let a : Agrees t view v1 (Low m.at.refs) (Low base) = record {
+        refs = λ j _. refl;
+        types = λ j _. refl;
+        vals = λ j lt. sym (put_other (vals_of m) (base + r) j z (λ q. omega arith));
+        elements = λ j _. refl;
+        passed = λ o p b _ k. k;
+      } in
+      let k = callers_agree x code ls t view v1 m.frames m.at.depth m.at.refs base f a h.0 in
+      let P : View → List Frame → ℕ → ℕ → ℕ → Type 0 = λ v fs d b c. BelowStands x code ls t v fs d b c f in (
+        subst (λ v. P v m'.frames m'.at.depth m'.at.refs m'.at.ints) (sym e) (subst (λ fs. P v1 fs m'.at.depth m'.at.refs m'.at.ints) (sym ef) (subst (λ d. P v1 m.frames d m'.at.refs m'.at.ints) (sym ed)
+            (subst (λ b. P v1 m.frames m.at.depth b m'.at.ints) (sym er) (subst (λ c. P v1 m.frames m.at.depth m.at.refs c) (sym ei) k)))),
+        subst (λ d. d ≤ FRAMES) (sym ed) h.1,
+        h.2,
+      )
+
+  pub numbers_state : (r : ℕ) (z : ℤ) (n : Number) (l : Label) (names : ℕ → ℤ) → l.function ≡ here.function → l.room ≡ here.room → here.gate ≡ Closed → IsInt code here r
+      → TopStands x t view (g.threads t).at.refs (g.threads t).at.ints names l
+      → NumberStands x st.elements (refs_at view (g.threads t).at.refs) (types_at view (g.threads t).at.refs) names z n
+      → Leads ls ((g.threads t).at.pc + 1) (set_number l r n) → g.made t + 1 ≤ 100000000 → State x code s ls (made_turn g t g.words (numbered r z)) world
+  numbers_state r z n l names fn rm gt isin tp k leads few =
+      let m' = numbered r z in
+      let rn = runs x code s ls wt g world st t on go i is single in
+      let lt : m.at.ints + r < length m.ints = subst (λ b. m.at.ints + r < b) (sym (st.threads t).has.ints) (int_inside x code ls t view m here.function r below_here isin) in
+      let e = view_set r z lt in
+      plain_state m' (record {
+        number = refl;
+        held = refl;
+        heads = refl;
+        notes = refl;
+        table = (st.threads t).has.table;
+        stage = rests x code s ls wt g world st t on go i is single;
+        rests = rests x code s ls wt g world st t on go i is single;
+        refs = refl;
+        ints = length-set m.ints (m.at.ints + r) z;
+        frames = refl;
+        begun_before = begun_before x code s ls wt g world st t on go i is single;
+        begun = not_begun x code s ls wt g world st t on go i is single (m.at.pc + 1) (leads.function ∙ fn);
+        ended_before = going;
+        ended = refl;
+      }) refl refl
+      (λ _. next_runs world (heap_now st.heap g.words) (made_turn g t g.words m') m' names (set_number l r n) (rests x code s ls wt g world st t on go i is single) fn refl leads
+      (subst (λ v. TopStands x t v m.at.refs m.at.ints names (set_number l r n)) (sym e) (number_top names r z n l k tp))
+      (vals_below r z (view_of st.elements world t m') e m' refl refl refl refl here.function below_here)
+      (is_shut gt) (λ q. rn.room (sym rm ∙ q)))
+      (λ q. absurd (cc)) few

@@ -1,0 +1,137 @@
+-- A print keeps the invariant: the count of prints is nobody's word.
+use Rattle.std.proofs.Common.{◌≡◌, ℕ, ◌+◌, ◌%◌, ◌^◌, ◌<◌, Some, None, refl, sym, ap, ◌∙◌, subst, arith}
+use mathlib.Core.Path.{fun_ext}
+use Rattle.std.specs.Prelude.{length, slice_index, slice_set}
+use Rattle.std.proofs.lemmas.List.{length-set}
+use Rattle.sharc_word.specs.declared.step.WordOp.TheVariants.{Add}
+use Rattle.sharc_shadow.specs.ShadowWord.{epoch_of}
+use Rattle.sharc_code.specs.declared.code.Code.{Code}
+use Rattle.sharc_code.specs.declared.instr.Instr.TheVariants as instrs
+use Rattle.sharc_code.specs.declared.shape.Shape.{Shape}
+use Rattle.sharc_code.specs.Layout.{Fits, first_cell, prints_word}
+use Rattle.sharc_code.specs.Machine.{Machine, Asks, instr_at, int, printed, step_of}
+use Rattle.sharc_code.specs.Runs.{Turn, Global, put, MayTurn, after_turn}
+use Rattle.sharc_code.specs.Whole.{one_thread, bounds}
+use Rattle.sharc_code.proofs.Places.{put_other, put_all}
+use Rattle.sharc_invariant.specs.Types.{Targets, field_in}
+use Rattle.sharc_invariant.specs.Labels.{Label, Labels}
+use Rattle.sharc_invariant.specs.Typed.{IsWellTyped}
+use Rattle.sharc_invariant.specs.World.{World}
+use Rattle.sharc_invariant.specs.Blocks.{Kept}
+use Rattle.sharc_invariant.specs.Words.{MachineView, conc_of, Shows, FitsContent, Reads, register_of, store, cell_at, count_at, length_at, shadow_at}
+use Rattle.sharc_invariant.specs.Effect.{Silently}
+use Rattle.sharc_invariant.specs.Turns.{made_turn}
+use Rattle.sharc_invariant.specs.State.{State, View, view_of, FramesStand}
+use Rattle.sharc_invariant.specs.Laws.{Turned}
+use Rattle.sharc_invariant.proofs.Listed.{store_ok}
+use Rattle.sharc_invariant.proofs.Quiet.{KeepsOwn, KeepsWords, heap_now, quiet_state, noted_same, conc_plain, put_self}
+use Rattle.sharc_invariant.proofs.Turns.{asks_turn, room_of}
+use Rattle.sharc_invariant.proofs.Own.{runs, rests, top, fine, begun_before, not_begun}
+use Rattle.sharc_invariant.proofs.Plain.{register_plain, is_shut, going, next_runs}
+use Rattle.sharc_invariant.proofs.Stores.{index_put}
+use Rattle.sharc_invariant.proofs.Seen.{stale_off}
+use Rattle.sharc_invariant.proofs.Others.{loses}
+
+-- word 3 shows nothing of the world
+low_stored : (x : Targets) (s : Shape) (cells elements : ℕ → ℕ) (c : MachineView) (w : World) (v : ℕ) → Shows x s cells elements c w → Shows x s cells elements (store c 3 v) w
+low_stored x s cells elements c w v sim =
+    let off : (j : ℕ) → (j ≡ 3 → ⊥) → c.words j ≡ put c.words 3 v j = λ j ne. sym (put_other c.words 3 j v ne) in
+    record {
+      regs = sim.regs;
+      args = sim.args;
+      logs = sim.logs;
+      staged = sim.staged;
+      others = sim.others;
+      pointers = λ o i lo lt p. sim.pointers o i lo lt p ∙ off (cell_at s o i) (λ e. absurd (omega arith));
+      integers = λ o i lo lt. subst (FitsContent (field_in x (w.obj o).ty i).holds) (off (cell_at s o i) (λ e. absurd (omega arith))) (sim.integers o i lo lt);
+      counts = λ o nz lo. sim.counts o nz lo ∙ off (count_at s o) (λ e. absurd (omega arith));
+      lengths = λ o nz lo. sim.lengths o nz lo ∙ off (length_at s o) (λ e. absurd (omega arith));
+      mutexes = λ o j lo lt m. sim.mutexes o j lo lt m ∙ off (cell_at s o j) (λ e. absurd (omega arith));
+      shadows = λ o p lo lt. subst (λ n. Reads n c.read_notes c.write_notes (o + 1 + p) (w.gran o p)) (off (shadow_at s (o + 1 + p)) (λ e. absurd (omega arith))) (sim.shadows o p lo lt);
+      stale = stale_off s w.obj cells c.words (put c.words 3 v) c.read_notes c.write_notes (λ p lt. off (shadow_at s p) (λ e. absurd (omega arith))) sim.stale;
+    }
+
+module _ (x : Targets) (code : Code) (s : Shape) (ls : Labels) (wt : IsWellTyped x code ls) (fits : Fits code s) (g : Global Machine) (world : World) (st : State x code s ls g world) (tr : Turn)
+    (may : MayTurn bounds (one_thread code s) g tr) where
+  abbrev t : ℕ
+  t = tr.thread
+
+  abbrev m : Machine
+  m = g.threads tr.thread
+
+  abbrev here : Label
+  here = ls.at (g.threads tr.thread).at.pc
+
+  abbrev view : View
+  view = view_of st.elements world tr.thread (g.threads tr.thread)
+
+  pub Print_keeps : (r site : ℕ) → instr_at code (g.threads tr.thread).at.pc ≡ instrs.Print r site → Turned x code s ls g world tr
+  Print_keeps r site is =
+      let i = instrs.Print r site in
+      let on = may.started in
+      let go = may.next.runs in
+      let f = fine x code s ls wt g world st t on go i is refl in
+      let rn = runs x code s ls wt g world st t on go i is refl in
+      let tp = top x code s ls wt g world st t on go i is refl in
+      let rest = rests x code s ls wt g world st t on go i is refl in
+      let shut = is_shut x code s ls wt g world st t on go i is refl f.0 in
+      let found = slice_index g.words 3 in
+      let v = (found + 1) % 2 ^ 64 in
+      let m' = printed m (int m r) found in
+      let words = slice_set g.words 3 v in
+      let done0 = asks_turn code s g tr may (step_of prints_word (Add 1)) (printed m (int m r)) (ap (λ i. Rattle.sharc_code.specs.Machine.act code s i m) is) in
+      let done : after_turn bounds (one_thread code s) g tr ≡ made_turn g t words m' = done0.0 in
+      let lt : 3 < length g.words = done0.1 in
+      let at = index_put g.words 3 v lt in
+      let small : v < 2 ^ 64 = omega arith in
+      let kept0 = store_ok (record { first = 1 + s.globals; words = first_cell s }) st.heap st.heap_stands.kept 3 v (omega arith) (λ p u d e q. absurd (omega arith)) in
+      let fe : put st.heap.words 3 v ≡ (λ i. slice_index words i) = fun_ext (λ i. ap (λ (h : ℕ → ℕ). put h 3 v i) (fun_ext st.heap_stands.words) ∙ sym (at i)) in
+      let kw : KeepsWords s st.heap g.words words = record {
+        count = length-set g.words 3 v;
+        low = λ j l ne. at j ∙ put_other (λ i. slice_index g.words i) 3 j v ne;
+        are_words = λ j. subst (λ n. n < 2 ^ 64) (sym (at j)) (put_all (λ j y. y < 2 ^ 64) (λ i. slice_index g.words i) 3 v small (λ j _. st.are_words j) j);
+        epochs = λ i l. ap epoch_of (at (97 + i) ∙ put_other (λ i. slice_index g.words i) 3 (97 + i) v (λ e. absurd (omega arith)));
+        kept = subst (λ h. Kept (record { first = 1 + s.globals; words = first_cell s }) (record st.heap { words = h })) fe kept0;
+      } in
+      let own : KeepsOwn m m' = record {
+        number = refl;
+        held = refl;
+        heads = refl;
+        notes = refl;
+        table = (st.threads t).has.table;
+        stage = rest;
+        rests = rest;
+        refs = refl;
+        ints = refl;
+        frames = refl;
+        begun_before = begun_before x code s ls wt g world st t on go i is refl;
+        begun = not_begun x code s ls wt g world st t on go i is refl (m.at.pc + 1) f.1.function;
+        ended_before = going x code s ls wt g world st t on go i is refl;
+        ended = refl;
+      } in
+      let regs : put (λ u. register_of code (g.threads u)) t (register_of code m') ≡ (λ u. register_of code (g.threads u)) =
+      fun_ext (put_self (λ u. register_of code (g.threads u)) t (register_of code m') (fun_ext (λ n. register_plain code m' rest n ∙ sym (register_plain code m rest n)))) in
+      let sim1 = low_stored x s st.cells st.elements (conc_of code g) world v st.sim in
+      let sim2 : Shows x s st.cells st.elements (record (conc_of code g) { words = λ j. slice_index words j; regs = put (λ u. register_of code (g.threads u)) t (register_of code m') }) world =
+      subst (λ r. Shows x s st.cells st.elements (record (conc_of code g) { words = λ j. slice_index words j; regs = r }) world) (sym regs)
+      (subst (λ h. Shows x s st.cells st.elements (record (conc_of code g) { words = h }) world) (sym (fun_ext at)) sim1) in
+      let sim3 = subst (λ c. Shows x s st.cells st.elements c world) (sym (conc_plain code g t words m' (noted_same m m' refl rest rest own.ended_before own.ended))) sim2 in (
+        world,
+        subst (λ y. State x code s ls y world) (sym done) (quiet_state x code s ls g world st t on words m' own kw world (record { obj = refl; mutex = refl; args = λ u. refl })
+            (record {
+              regs = λ u _ r. refl;
+              win = λ u _. refl;
+              passed = λ u _ o p b _ q. q;
+              sole = λ u _ r _ p. loses refl;
+              cells = λ u _ r _ n. refl;
+              built = λ u _ b e. (e, refl);
+              within = λ u _ b e j n. at j ∙ put_other (λ i. slice_index g.words i) 3 j v (λ q. let lo = n.0 in absurd (omega arith));
+            })
+            wt st.inv sim3
+            (λ _. next_runs x code s ls wt g world st t on go i is refl world (heap_now st.heap words) (made_turn g t words m') m' rn.names here rest refl f.0 f.1 tp (below_printed found rn.below) shut rn.room)
+            (λ q. absurd (cc)) (room_of code s g tr may words m' done)),
+        Silently (record { obj = refl; mutex = refl; passed = λ o p u b q. q; sole = λ u r e. (e, refl) }),
+      )
+    where
+      below_printed : (found : ℕ) → FramesStand x code ls tr.thread view (g.threads tr.thread) here.function → FramesStand x code ls tr.thread view (printed (g.threads tr.thread) (int (g.threads tr.thread) r) found) here.function
+      below_printed found = elim here.function as (λ f. FramesStand x code ls tr.thread view (g.threads tr.thread) f → FramesStand x code ls tr.thread view (printed (g.threads tr.thread) (int (g.threads tr.thread) r) found) f) [ None ↦ λ h. h | Some f ↦ λ h. h ]

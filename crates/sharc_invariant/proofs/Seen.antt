@@ -1,0 +1,247 @@
+-- What the machine does to its words and registers is what the proof's world does.
+use Rattle.std.proofs.Common.{◌≡◌, ℕ, ◌+◌, ◌*◌, ◌<◌, ◌⊎◌, ◌≢◌, true, false, refl, sym, ap, ◌∙◌, subst, inl, inr, ⊎_elim, arith, ◌≤◌}
+use Rattle.std.proofs.lemmas.Bool.{cases_eq, cases_order}
+use Rattle.sharc_code.specs.declared.shape.Shape.{Shape}
+use Rattle.sharc_code.specs.Runs.{put}
+use Rattle.sharc_code.proofs.Places.{put_same, put_other, put_all}
+use Rattle.sharc_invariant.specs.Granules.{GranuleState}
+use Rattle.sharc_invariant.specs.Types.{Targets, Content, field_in, is_mutex, is_pointer}
+use Rattle.sharc_invariant.specs.Types.Content.{Integer, MutexWord, Waiters, Pointer}
+use Rattle.sharc_invariant.specs.World.{TypedReference, Holder, RegisterOf, ArgumentOf, LogOf, Staged, In, Cell, World, in_ref, place, put2, ObjectState}
+use Rattle.sharc_invariant.specs.Words.{MachineView, Shows, Apart, FitsContent, Reads, shadow_at, count_at, length_at, cell_at, store, set_reg, AreStale}
+use Rattle.sharc_invariant.proofs.Effects.{place_same, place_other, place_all, slot_cases}
+use Rattle.sharc_code.specs.Layout.{granules}
+use Rattle.sharc_shadow.specs.ShadowWord.{epoch_of}
+
+put2_away : (f : ℕ → ℕ → ℕ) (t i v u j : ℕ) → (u ≡ t → j ≡ i → ⊥) → f u j ≡ put2 f t i v u j
+put2_away f t i v u j ne = ⊎_elim
+    (λ (e : u ≡ t). ap (λ u. f u j) e ∙ sym (put_other (f t) i j v (ne e)) ∙ ap (λ (g : ℕ → ℕ). g j) (sym (put_same f t (put (f t) i v))) ∙ ap (λ u. put2 f t i v u j) (sym e))
+    (λ (n : u ≡ t → ⊥). ap (λ (g : ℕ → ℕ). g j) (sym (put_other f t u (put (f t) i v) n)))
+    (cases_eq u t)
+
+pub put2_at : {A : Type 0} (f : ℕ → ℕ → A) (t i : ℕ) (v : A) → put2 f t i v t i ≡ v
+put2_at {A} f t i v = ap (λ (k : ℕ → A). k i) (put_same f t (put (f t) i v)) ∙ put_same (f t) i v
+
+pub put2_off : {A : Type 0} (f : ℕ → ℕ → A) (t i u j : ℕ) (v : A) → (u ≡ t → j ≡ i → ⊥) → f u j ≡ put2 f t i v u j
+put2_off {A} f t i u j v ne = ⊎_elim
+    (λ (e : u ≡ t). ap (λ u. f u j) e ∙ sym (put_other (f t) i j v (ne e)) ∙ ap (λ (g : ℕ → A). g j) (sym (put_same f t (put (f t) i v))) ∙ ap (λ u. put2 f t i v u j) (sym e))
+    (λ (n : u ≡ t → ⊥). ap (λ (g : ℕ → A). g j) (sym (put_other f t u (put (f t) i v) n)))
+    (cases_eq u t)
+
+pub pair_cases : (u t j i : ℕ) → ((u ≡ t) × (j ≡ i)) ⊎ (u ≡ t → j ≡ i → ⊥)
+pair_cases u t j i = ⊎_elim
+    (λ (e : u ≡ t). ⊎_elim (λ (k : j ≡ i). inl (e, k)) (λ (n : j ≡ i → ⊥). inr (λ _ k. n k)) (cases_eq j i))
+    (λ (n : u ≡ t → ⊥). inr (λ e _. n e))
+    (cases_eq u t)
+
+pointer_fits : (h : Content) (v : ℕ) → is_pointer h ≡ true → FitsContent h v
+pointer_fits (Integer w) v e = absurd (cc)
+pointer_fits MutexWord v e = tt
+pointer_fits Waiters v e = tt
+pointer_fits (Pointer f) v e = tt
+
+pub pointer_no_mutex : (h : Content) → is_pointer h ≡ true → is_mutex h ≡ true → ⊥
+pointer_no_mutex (Integer w) e f = absurd (cc)
+pointer_no_mutex MutexWord e f = absurd (cc)
+pointer_no_mutex Waiters e f = absurd (cc)
+pointer_no_mutex (Pointer g) e f = absurd (cc)
+
+-- the shadow words are as they were
+pub stale_off : (s : Shape) (obj : ℕ → ObjectState) (cells words words' : ℕ → ℕ) (rn wn : ℕ → ℕ → ℕ) → ((p : ℕ) → p < granules s → words (shadow_at s p) ≡ words' (shadow_at s p)) → AreStale s obj cells words rn wn → AreStale s obj cells words' rn wn
+stale_off s obj cells words words' rn wn e h p lt none' t =
+    let P : ℕ → Type 0 = λ v. (rn t p ≤ epoch_of v) × (wn t p ≤ epoch_of v) in
+    subst P (e p lt) (h p lt none' t)
+
+module _ (x : Targets) (s : Shape) (cells elements : ℕ → ℕ) (c : MachineView) (w : World) (sim : Shows x s cells elements c w) (lie : Apart s w.obj cells) where
+  -- words of live objects are apart
+  pub cell_count : (o p i : ℕ) → (w.obj o).live ≡ true → (w.obj p).live ≡ true → i < cells p → cell_at s p i ≡ count_at s o → ⊥
+  cell_count o p i lo lp lt e = ⊎_elim
+      (λ (q : o ≡ p). omega arith)
+      (⊎_elim (λ (q : o < p). omega arith) (λ (q : p < o). let a = lie.apart p o lp lo q in omega arith))
+      (cases_order o p)
+
+  pub cell_length : (o p i : ℕ) → (w.obj o).live ≡ true → (w.obj p).live ≡ true → i < cells p → cell_at s p i ≡ length_at s o → ⊥
+  cell_length o p i lo lp lt e = ⊎_elim
+      (λ (q : o ≡ p). omega arith)
+      (⊎_elim (λ (q : o < p). omega arith) (λ (q : p < o). let a = lie.apart p o lp lo q in omega arith))
+      (cases_order o p)
+
+  pub cell_cell : (o i p j : ℕ) → (w.obj o).live ≡ true → (w.obj p).live ≡ true → i < cells o → j < cells p → cell_at s p j ≡ cell_at s o i → (p ≡ o) × (j ≡ i)
+  cell_cell o i p j lo lp li lj e = ⊎_elim
+      (λ (q : o ≡ p). (sym q, omega arith))
+      (⊎_elim (λ (q : o < p). let a = lie.apart o p lo lp q in absurd (omega arith)) (λ (q : p < o). let a = lie.apart p o lp lo q in absurd (omega arith)))
+      (cases_order o p)
+
+  -- the count word
+  pub count_stored : (o v : ℕ) → (w.obj o).live ≡ true → Shows x s cells elements (store c (count_at s o) v) (record w { count = put w.count o v })
+  count_stored o v lo =
+      let k = count_at s o in
+      let off : (j : ℕ) → (j ≡ k → ⊥) → c.words j ≡ put c.words k v j = λ j ne. sym (put_other c.words k j v ne) in
+      record {
+        regs = sim.regs;
+        args = sim.args;
+        logs = sim.logs;
+        staged = sim.staged;
+        others = sim.others;
+        pointers = λ p i lp lt ptr. sim.pointers p i lp lt ptr ∙ off (cell_at s p i) (cell_count o p i lo lp lt);
+        integers = λ p i lp lt. subst (FitsContent (field_in x (w.obj p).ty i).holds) (off (cell_at s p i) (cell_count o p i lo lp lt)) (sim.integers p i lp lt);
+        counts = λ p nz lp. put_all (λ p n. p ≢ 0 → (w.obj p).live ≡ true → n ≡ put c.words k v (count_at s p)) w.count o v
+            (λ _ _. sym (put_same c.words k v))
+            (λ p ne nz lp. sim.counts p nz lp ∙ off (count_at s p) (λ e. ne (omega arith))) p nz lp;
+        lengths = λ p nz lp. sim.lengths p nz lp ∙ off (length_at s p) (λ e. omega arith);
+        mutexes = λ p j lp lt m. sim.mutexes p j lp lt m ∙ off (cell_at s p j) (cell_count o p j lo lp lt);
+        shadows = λ p g lp lt. let a = lie.within p g lp lt in subst (λ n. Reads n c.read_notes c.write_notes (p + 1 + g) (w.gran p g)) (off (shadow_at s (p + 1 + g)) (λ e. omega arith)) (sim.shadows p g lp lt);
+        stale = stale_off s w.obj cells c.words (put c.words k v) c.read_notes c.write_notes (λ p lt. off (shadow_at s p) (λ e. omega arith)) sim.stale;
+      }
+
+  -- a pointer cell
+  pub cell_stored : (o i : ℕ) (y : TypedReference) → (w.obj o).live ≡ true → i < cells o → is_pointer (field_in x (w.obj o).ty i).holds ≡ true
+      → Shows x s cells elements (store c (cell_at s o i) y.reference) (record w { slots = place w.slots (Cell o i) y })
+  cell_stored o i y lo li ptr =
+      let k = cell_at s o i in
+      let off : (j : ℕ) → (j ≡ k → ⊥) → c.words j ≡ put c.words k y.reference j = λ j ne. sym (put_other c.words k j y.reference ne) in
+      let cell_off : (p j : ℕ) → (w.obj p).live ≡ true → j < cells p → (Cell p j ≡ Cell o i → ⊥) → c.words (cell_at s p j) ≡ put c.words k y.reference (cell_at s p j) = λ p j lp lt ne.
+      off (cell_at s p j) (λ e. let q = cell_cell o i p j lo lp li lt e in ne (ap (λ p. Cell p j) q.0 ∙ ap (λ j. Cell o j) q.1)) in
+      record {
+        regs = sim.regs;
+        args = sim.args;
+        logs = sim.logs;
+        staged = sim.staged;
+        pointers = λ p j lp lt pt. ⊎_elim
+            (λ (e : Cell p j ≡ Cell o i). let eo : p ≡ o = cc in let ei : j ≡ i = cc in
+            ap (λ s. (place w.slots (Cell o i) y s).reference) e ∙ ap (λ (t : TypedReference). t.reference) (place_same w.slots (Cell o i) y) ∙ sym (put_same c.words k y.reference) ∙ ap (λ p. put c.words k y.reference (cell_at s p i)) (sym eo) ∙ ap (λ j. put c.words k y.reference (cell_at s p j)) (sym ei))
+            (λ (ne : Cell p j ≡ Cell o i → ⊥). ap (λ (t : TypedReference). t.reference) (place_other w.slots (Cell o i) (Cell p j) y ne) ∙ sim.pointers p j lp lt pt ∙ cell_off p j lp lt ne)
+            (slot_cases (Cell p j) (Cell o i));
+        others = λ p j. place_all (λ q (h : TypedReference). (p j : ℕ) → q ≡ Cell p j → h.reference ≢ 0 → (j < cells p) × (is_pointer (field_in x (w.obj p).ty j).holds ≡ true)) w.slots (Cell o i) y
+            (λ p j e _. let eo : o ≡ p = cc in let ei : i ≡ j = cc in let P : ℕ → ℕ → Type 0 = λ p j. (j < cells p) × (is_pointer (field_in x (w.obj p).ty j).holds ≡ true) in subst (λ p. P p j) eo (subst (P o) ei (li, ptr)))
+            (λ q ne p j e nz. sim.others p j (λ z. nz (ap (λ q. (w.slots q).reference) e ∙ z))) (Cell p j) p j refl;
+        integers = λ p j lp lt. ⊎_elim
+            (λ (e : Cell p j ≡ Cell o i). let eo : o ≡ p = cc in let ei : i ≡ j = cc in
+            let P : ℕ → ℕ → Type 0 = λ p j. is_pointer (field_in x (w.obj p).ty j).holds ≡ true in
+            pointer_fits (field_in x (w.obj p).ty j).holds (put c.words k y.reference (cell_at s p j)) (subst (λ p. P p j) eo (subst (P o) ei ptr)))
+            (λ (ne : Cell p j ≡ Cell o i → ⊥). subst (FitsContent (field_in x (w.obj p).ty j).holds) (cell_off p j lp lt ne) (sim.integers p j lp lt))
+            (slot_cases (Cell p j) (Cell o i));
+        counts = λ p nz lp. sim.counts p nz lp ∙ off (count_at s p) (λ e. cell_count p o i lp lo li (sym e));
+        lengths = λ p nz lp. sim.lengths p nz lp ∙ off (length_at s p) (λ e. cell_length p o i lp lo li (sym e));
+        mutexes = λ p j lp lt m. sim.mutexes p j lp lt m ∙ cell_off p j lp lt (λ e. let eo : o ≡ p = cc in let ei : i ≡ j = cc in
+            let P : ℕ → ℕ → Type 0 = λ p j. is_pointer (field_in x (w.obj p).ty j).holds ≡ true in pointer_no_mutex (field_in x (w.obj p).ty j).holds (subst (λ p. P p j) eo (subst (P o) ei ptr)) m);
+        shadows = λ p g lp lt. let a = lie.within p g lp lt in subst (λ n. Reads n c.read_notes c.write_notes (p + 1 + g) (w.gran p g)) (off (shadow_at s (p + 1 + g)) (λ e. omega arith)) (sim.shadows p g lp lt);
+        stale = stale_off s w.obj cells c.words (put c.words k y.reference) c.read_notes c.write_notes (λ p lt. off (shadow_at s p) (λ e. omega arith)) sim.stale;
+      }
+
+  -- an integer's cell
+  pub integer_stored : (o i v : ℕ) → (w.obj o).live ≡ true → i < cells o → is_pointer (field_in x (w.obj o).ty i).holds ≡ false → is_mutex (field_in x (w.obj o).ty i).holds ≡ false → FitsContent (field_in x (w.obj o).ty i).holds v
+      → Shows x s cells elements (store c (cell_at s o i) v) w
+  integer_stored o i v lo li np nm fits =
+      let k = cell_at s o i in
+      let off : (j : ℕ) → (j ≡ k → ⊥) → c.words j ≡ put c.words k v j = λ j ne. sym (put_other c.words k j v ne) in
+      let cell_off : (p j : ℕ) → (w.obj p).live ≡ true → j < cells p → (Cell p j ≡ Cell o i → ⊥) → c.words (cell_at s p j) ≡ put c.words k v (cell_at s p j) = λ p j lp lt ne.
+      off (cell_at s p j) (λ e. let q = cell_cell o i p j lo lp li lt e in ne (ap (λ p. Cell p j) q.0 ∙ ap (λ j. Cell o j) q.1)) in
+      record {
+        regs = sim.regs;
+        args = sim.args;
+        logs = sim.logs;
+        staged = sim.staged;
+        others = sim.others;
+        pointers = λ p j lp lt pt. sim.pointers p j lp lt pt ∙ cell_off p j lp lt (λ e. let eo : o ≡ p = cc in let ei : i ≡ j = cc in
+            let P : ℕ → ℕ → Type 0 = λ p j. is_pointer (field_in x (w.obj p).ty j).holds ≡ false in let z : is_pointer (field_in x (w.obj p).ty j).holds ≡ false = subst (λ p. P p j) eo (subst (P o) ei np) in cc);
+        integers = λ p j lp lt. ⊎_elim
+            (λ (e : Cell p j ≡ Cell o i). let eo : o ≡ p = cc in let ei : i ≡ j = cc in
+            let P : ℕ → ℕ → Type 0 = λ p j. FitsContent (field_in x (w.obj p).ty j).holds (put c.words k v (cell_at s p j)) in
+            subst (λ p. P p j) eo (subst (P o) ei (subst (FitsContent (field_in x (w.obj o).ty i).holds) (sym (put_same c.words k v)) fits)))
+            (λ (ne : Cell p j ≡ Cell o i → ⊥). subst (FitsContent (field_in x (w.obj p).ty j).holds) (cell_off p j lp lt ne) (sim.integers p j lp lt))
+            (slot_cases (Cell p j) (Cell o i));
+        counts = λ p nz lp. sim.counts p nz lp ∙ off (count_at s p) (λ e. cell_count p o i lp lo li (sym e));
+        lengths = λ p nz lp. sim.lengths p nz lp ∙ off (length_at s p) (λ e. cell_length p o i lp lo li (sym e));
+        mutexes = λ p j lp lt m. sim.mutexes p j lp lt m ∙ cell_off p j lp lt (λ e. let eo : o ≡ p = cc in let ei : i ≡ j = cc in
+            let P : ℕ → ℕ → Type 0 = λ p j. is_mutex (field_in x (w.obj p).ty j).holds ≡ false in let z : is_mutex (field_in x (w.obj p).ty j).holds ≡ false = subst (λ p. P p j) eo (subst (P o) ei nm) in cc);
+        shadows = λ p g lp lt. let a = lie.within p g lp lt in subst (λ n. Reads n c.read_notes c.write_notes (p + 1 + g) (w.gran p g)) (off (shadow_at s (p + 1 + g)) (λ e. omega arith)) (sim.shadows p g lp lt);
+        stale = stale_off s w.obj cells c.words (put c.words k v) c.read_notes c.write_notes (λ p lt. off (shadow_at s p) (λ e. omega arith)) sim.stale;
+      }
+
+  -- a granule, with the notes of it
+  pub shadow_stored : (o g v : ℕ) (y : GranuleState) (rn wn : ℕ → ℕ → ℕ) → (w.obj o).live ≡ true → 2 * g < cells o → Reads v rn wn (o + 1 + g) y
+      → ((u p : ℕ) → (p ≡ o + 1 + g → ⊥) → rn u p ≡ c.read_notes u p) → ((u p : ℕ) → (p ≡ o + 1 + g → ⊥) → wn u p ≡ c.write_notes u p)
+      → Shows x s cells elements (record c { words = put c.words (shadow_at s (o + 1 + g)) v; read_notes = rn; write_notes = wn }) (record w { gran = put2 w.gran o g y })
+  shadow_stored o g v y rn wn lo lg reads er ew =
+      let k = shadow_at s (o + 1 + g) in
+      let inside = lie.within o g lo lg in
+      let off : (j : ℕ) → (j ≡ k → ⊥) → c.words j ≡ put c.words k v j = λ j ne. sym (put_other c.words k j v ne) in
+      record {
+        regs = sim.regs;
+        args = sim.args;
+        logs = sim.logs;
+        staged = sim.staged;
+        others = sim.others;
+        pointers = λ p j lp lt pt. sim.pointers p j lp lt pt ∙ off (cell_at s p j) (λ e. omega arith);
+        integers = λ p j lp lt. subst (FitsContent (field_in x (w.obj p).ty j).holds) (off (cell_at s p j) (λ e. omega arith)) (sim.integers p j lp lt);
+        counts = λ p nz lp. sim.counts p nz lp ∙ off (count_at s p) (λ e. omega arith);
+        lengths = λ p nz lp. sim.lengths p nz lp ∙ off (length_at s p) (λ e. omega arith);
+        mutexes = λ p j lp lt m. sim.mutexes p j lp lt m ∙ off (cell_at s p j) (λ e. omega arith);
+        shadows = λ p q lp lq. ⊎_elim
+            (λ (e : (p ≡ o) × (q ≡ g)).
+            let P : ℕ → ℕ → Type 0 = λ p q. Reads (put c.words k v (shadow_at s (p + 1 + q))) rn wn (p + 1 + q) (put2 w.gran o g y p q) in
+            let here : P o g = subst (Reads (put c.words k v k) rn wn (o + 1 + g)) (sym (put2_at w.gran o g y)) (subst (λ n. Reads n rn wn (o + 1 + g) y) (sym (put_same c.words k v)) reads) in
+            subst (λ p. P p q) (sym e.0) (subst (P o) (sym e.1) here))
+            (λ (ne : p ≡ o → q ≡ g → ⊥).
+            let apart' : (p + 1 + q ≡ o + 1 + g) → ⊥ = λ z. ⊎_elim
+            (λ (i : p ≡ o). ne i (omega arith))
+            (⊎_elim (λ (i : p < o). let a = lie.apart p o lp lo i in omega arith) (λ (i : o < p). let a = lie.apart o p lo lp i in omega arith))
+            (cases_order p o) in
+            let old = sim.shadows p q lp lq in
+            let w1 : Reads (put c.words k v (shadow_at s (p + 1 + q))) c.read_notes c.write_notes (p + 1 + q) (w.gran p q) = subst (λ n. Reads n c.read_notes c.write_notes (p + 1 + q) (w.gran p q)) (off (shadow_at s (p + 1 + q)) (λ e. apart' (omega arith))) old in
+            let w2 : Reads (put c.words k v (shadow_at s (p + 1 + q))) rn wn (p + 1 + q) (w.gran p q) = record {
+              epoch = w1.epoch;
+              wrote = w1.wrote;
+              has = w1.has;
+              read_note = λ u. w1.read_note u ∙ sym (er u (p + 1 + q) apart');
+              write_note = λ u. w1.write_note u ∙ sym (ew u (p + 1 + q) apart');
+            } in
+            subst (Reads (put c.words k v (shadow_at s (p + 1 + q))) rn wn (p + 1 + q)) (put2_off w.gran o g p q y ne) w2)
+            (pair_cases p o q g);
+        stale = λ p lt none' u.
+            let ne : p ≡ o + 1 + g → ⊥ = λ e. none' o g lo lg e in
+            let P : ℕ → Type 0 = λ v. (c.read_notes u p ≤ epoch_of v) × (c.write_notes u p ≤ epoch_of v) in
+            let a = subst P (off (shadow_at s p) (λ e. ne (omega arith))) (sim.stale p lt none' u) in
+            let E = epoch_of (put c.words k v (shadow_at s p)) in
+            (subst (λ n. n ≤ E) (sym (er u p ne)) a.0, subst (λ n. n ≤ E) (sym (ew u p ne)) a.1);
+      }
+
+  -- a register
+  pub reg_stored : (t i : ℕ) (y : TypedReference) → Shows x s cells elements (set_reg c t i y.reference) (record w { slots = place w.slots (In (RegisterOf t i)) y })
+  reg_stored t i y =
+      let own : (a : Holder) → ((u j : ℕ) → a ≡ RegisterOf u j → ⊥) → (place w.slots (In (RegisterOf t i)) y (In a)).reference ≡ in_ref w a = λ a ne. ap (λ (h : TypedReference). h.reference) (place_other w.slots (In (RegisterOf t i)) (In a) y (λ e. ne t i (cc))) in
+      record {
+        regs = λ u j. place_all (λ s (h : TypedReference). (u j : ℕ) → s ≡ In (RegisterOf u j) → h.reference ≡ put2 c.regs t i y.reference u j) w.slots (In (RegisterOf t i)) y
+            (λ u j e. let eu : u ≡ t = sym (cc) in let ej : j ≡ i = sym (cc) in sym (put_same (c.regs t) i y.reference) ∙ ap (λ (f : ℕ → ℕ). f i) (sym (put_same c.regs t (put (c.regs t) i y.reference))) ∙ ap (λ u. put2 c.regs t i y.reference u i) (sym eu) ∙ ap (put2 c.regs t i y.reference u) (sym ej))
+            (λ s ne u j e. ap (λ s. (w.slots s).reference) e ∙ sim.regs u j ∙ put2_away c.regs t i y.reference u j (λ q k. ne (e ∙ ap In (ap (λ u. RegisterOf u j) q ∙ ap (λ j. RegisterOf t j) k)))) (In (RegisterOf u j)) u j refl;
+        args = λ u. own (ArgumentOf u) (λ u j e. cc) ∙ sim.args u;
+        logs = λ u word. own (LogOf u word) (λ u j e. cc) ∙ sim.logs u word;
+        staged = λ u. own (Staged u) (λ u j e. cc) ∙ sim.staged u;
+        pointers = sim.pointers;
+        others = sim.others;
+        integers = sim.integers;
+        counts = sim.counts;
+        lengths = sim.lengths;
+        mutexes = sim.mutexes;
+        shadows = sim.shadows;
+        stale = sim.stale;
+      }
+
+  -- what a Free has found and not lowered
+  pub staged_stored : (t : ℕ) (y : TypedReference) → Shows x s cells elements (record c { staged = put c.staged t y.reference }) (record w { slots = place w.slots (In (Staged t)) y })
+  staged_stored t y = record {
+    regs = sim.regs;
+    args = sim.args;
+    logs = sim.logs;
+    staged = λ u. put_all (λ u n. (place w.slots (In (Staged t)) y (In (Staged u))).reference ≡ n) c.staged t y.reference
+        (ap (λ (h : TypedReference). h.reference) (place_same w.slots (In (Staged t)) y)) (λ u ne. ap (λ (h : TypedReference). h.reference) (place_other w.slots (In (Staged t)) (In (Staged u)) y (λ e. ne (cc))) ∙ sim.staged u) u;
+    pointers = sim.pointers;
+    others = sim.others;
+    integers = sim.integers;
+    counts = sim.counts;
+    lengths = sim.lengths;
+    mutexes = sim.mutexes;
+    shadows = sim.shadows;
+    stale = sim.stale;
+  }

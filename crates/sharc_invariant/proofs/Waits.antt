@@ -1,0 +1,228 @@
+-- Turns that try again, and those of conditions that no thread waits at.
+use Rattle.std.proofs.Common.{◌≡◌, ℕ, ℤ, pos, negsuc, ◌+◌, ◌^◌, ◌<◌, true, false, cond, ◌||◌, Some, None, refl, sym, ap, ◌∙◌, subst, ⊎_elim, arith}
+use mathlib.Core.Path.{fun_ext}
+use Rattle.std.specs.Prelude.{bit_or, length, slice_index, slice_set, nat_lt, ◌==◌}
+use Rattle.sharc_word.specs.declared.step.TheConstants.{THREADS}
+use Rattle.sharc_word.specs.declared.step.WordOp.TheVariants.{Load, Swap, Or}
+use Rattle.std.proofs.lemmas.Nat.{or_lt, pow_below}
+use Rattle.sharc_code.specs.declared.code.Code.{Code}
+use Rattle.sharc_code.specs.declared.instr.Cell.{Cell}
+use Rattle.sharc_code.specs.declared.instr.Cell.TheVariants as cells
+use Rattle.sharc_code.specs.declared.instr.Instr.{Instr}
+use Rattle.sharc_code.specs.declared.instr.Instr.TheVariants as instrs
+use Rattle.sharc_code.specs.declared.shape.Shape.{Shape}
+use Rattle.sharc_code.specs.declared.state.Stop.{Stop}
+use Rattle.sharc_code.specs.declared.state.Stop.TheVariants.{Trap}
+use Rattle.sharc_code.specs.Layout.{Fits, state_word}
+use Rattle.sharc_code.specs.Machine.{Machine, Local, Asks, instr_at, int, word, goes, fails, stopped, joined, join, woken, is_held, step_of}
+use Rattle.sharc_cond.specs.Waiters.{waits_in}
+use Rattle.sharc_code.specs.Path.{turn}
+use Rattle.sharc_code.specs.Runs.{Turn, Global, MayTurn, after_turn}
+use Rattle.sharc_code.specs.Whole.{one_thread, bounds}
+use Rattle.sharc_code.proofs.Places.{put_same}
+use Rattle.sharc_invariant.specs.Types.{Targets, Field, field_in, is_pointer, is_mutex}
+use Rattle.sharc_invariant.specs.Types.Content.{Waiters}
+use Rattle.sharc_invariant.specs.Labels.{Gate, Holds, LessGate, Closed, Label, Labels, Leads, gated}
+use Rattle.sharc_invariant.specs.Typed.{IsWellTyped}
+use Rattle.sharc_invariant.specs.World.{World, Shut, Sole, RegisterOf, in_ref, set_win}
+use Rattle.sharc_invariant.specs.Words.{conc_of, Shows, FitsContent, cell_at}
+use Rattle.sharc_invariant.specs.Effect.{Silently}
+use Rattle.sharc_invariant.specs.Turns.{made_turn}
+use Rattle.sharc_invariant.specs.State.{State, View, view_of, FramesStand, GateStands, object_of_cell, number_in}
+use Rattle.sharc_invariant.specs.Laws.{Turned}
+use Rattle.sharc_invariant.proofs.Quiet.{heap_now}
+use Rattle.sharc_invariant.proofs.Turns.{asks_turn, local_turn, room_of}
+use Rattle.sharc_invariant.proofs.Own.{is_single, runs, rests, top, gate, fine, begun_before, runs_at, closed_less}
+use Rattle.sharc_invariant.proofs.Plain.{register_plain, is_shut, going, plain_state, jump_state, stop_state}
+use Rattle.sharc_invariant.proofs.Stores.{index_put, cell_store, stored_words, stored_within}
+use Rattle.sharc_invariant.proofs.Seen.{integer_stored}
+use Rattle.sharc_invariant.proofs.Cells.{cell_there}
+use Rattle.sharc_invariant.proofs.Held.{held_gate}
+use Rattle.sharc_invariant.proofs.Accesses.{loaded_words, windowed_state, silent_window}
+
+module _ (x : Targets) (code : Code) (s : Shape) (ls : Labels) (wt : IsWellTyped x code ls) (fits : Fits code s) (g : Global Machine) (world : World) (st : State x code s ls g world) (tr : Turn)
+    (may : MayTurn bounds (one_thread code s) g tr) where
+  abbrev t : ℕ
+  t = tr.thread
+
+  abbrev m : Machine
+  m = g.threads tr.thread
+
+  abbrev here : Label
+  here = ls.at (g.threads tr.thread).at.pc
+
+  abbrev after : Global Machine
+  after = after_turn bounds (one_thread code s) g tr
+
+  abbrev view : View
+  view = view_of st.elements world tr.thread (g.threads tr.thread)
+
+  module _ (i : Instr) (is : instr_at code (g.threads tr.thread).at.pc ≡ i) (single : is_single i ≡ true) (gt : here.gate ≡ Closed) where
+    shut : world.win tr.thread ≡ Shut
+    shut = is_shut x code s ls wt g world st t may.started may.next.runs i is single gt
+
+    settled : (m' : Machine) → after ≡ made_turn g tr.thread g.words m' → State x code s ls (made_turn g tr.thread g.words m') world → Turned x code s ls g world tr
+    settled m' e k = (world, subst (λ y. State x code s ls y world) (sym e) k, Silently (record { obj = refl; mutex = refl; passed = λ o p u b q. q; sole = λ u r e. (e, refl) }))
+
+    stop_at : (why : Stop) → after ≡ made_turn g tr.thread g.words (stopped (g.threads tr.thread) why) → Turned x code s ls g world tr
+    stop_at why e = settled (stopped m why) e (stop_state x code s ls wt g world st t may.started may.next.runs i is single why shut (room_of code s g tr may g.words (stopped m why) e))
+
+    go_on : Leads ls ((g.threads tr.thread).at.pc + 1) here → after ≡ made_turn g tr.thread g.words (goes (g.threads tr.thread)) → Turned x code s ls g world tr
+    go_on leads e = settled (goes m) e (jump_state x code s ls wt g world st t may.started may.next.runs i is single (m.at.pc + 1) here gt leads refl gt
+        (runs x code s ls wt g world st t may.started may.next.runs i is single).room (top x code s ls wt g world st t may.started may.next.runs i is single) (room_of code s g tr may g.words (goes m) e))
+
+    below_fails : FramesStand x code ls tr.thread view (g.threads tr.thread) here.function → FramesStand x code ls tr.thread view (fails (g.threads tr.thread)) here.function
+    below_fails = elim here.function as (λ f. FramesStand x code ls tr.thread view (g.threads tr.thread) f → FramesStand x code ls tr.thread view (fails (g.threads tr.thread)) f) [ None ↦ λ h. h | Some f ↦ λ h. h ]
+
+    pub tries_again : after ≡ made_turn g tr.thread g.words (fails (g.threads tr.thread)) → Turned x code s ls g world tr
+    tries_again e =
+        let m' = fails m in
+        let rest = rests x code s ls wt g world st t may.started may.next.runs i is single in
+        let begun = begun_before x code s ls wt g world st t may.started may.next.runs i is single in
+        let rn = runs x code s ls wt g world st t may.started may.next.runs i is single in
+        settled m' e (plain_state x code s ls wt g world st t may.started may.next.runs i is single m' (record {
+          number = refl;
+          held = refl;
+          heads = refl;
+          notes = refl;
+          table = (st.threads t).has.table;
+          stage = rest;
+          rests = rest;
+          refs = refl;
+          ints = refl;
+          frames = refl;
+          begun_before = begun;
+          begun = begun;
+          ended_before = going x code s ls wt g world st t may.started may.next.runs i is single;
+          ended = refl;
+        }) refl refl
+        (λ _. runs_at x code s ls st.elements world (heap_now st.heap g.words) (made_turn g t g.words m') t m' rn.names rest (top x code s ls wt g world st t may.started may.next.runs i is single) (below_fails rn.below)
+        (subst (GateStands s world t m') (sym gt) shut) rn.room)
+        (λ q. absurd (cc)) (room_of code s g tr may g.words m' e))
+
+    joined_keeps : (site found : ℕ) → Leads ls ((g.threads tr.thread).at.pc + 1) here → after ≡ made_turn g tr.thread g.words (joined (g.threads tr.thread) site found) → Turned x code s ls g world tr
+    joined_keeps site found leads e =
+        elim (found == 0) as (λ b. after ≡ made_turn g t g.words (cond b (stopped m (Trap 7 site)) (cond (found == 1 || found == 2) (fails m) (goes m))) → Turned x code s ls g world tr) [
+          | true ↦ λ e. stop_at (Trap 7 site) e
+          | false ↦ λ e. elim (found == 1 || found == 2) as (λ b. after ≡ made_turn g t g.words (cond b (fails m) (goes m)) → Turned x code s ls g world tr) [
+            | true ↦ λ e. tries_again e
+            | false ↦ λ e. go_on leads e
+          ] e
+        ] e
+
+    join_keeps : (site : ℕ) → Leads ls ((g.threads tr.thread).at.pc + 1) here → (z : ℤ) → turn code s (g.threads tr.thread) ≡ join (g.threads tr.thread) z site → Turned x code s ls g world tr
+    join_keeps site leads (negsuc n) e = stop_at (Trap 7 site) (local_turn code s g tr may (stopped m (Trap 7 site)) e)
+    join_keeps site leads (pos n) e =
+        elim (nat_lt n THREADS) as (λ b. turn code s m ≡ cond b (Asks (step_of (state_word n) Load) (joined m site)) (Local (stopped m (Trap 7 site))) → Turned x code s ls g world tr) [
+          | true ↦ λ e.
+              let k = state_word n in
+              let found = slice_index g.words k in
+              joined_keeps site found leads (loaded_words x code s ls wt fits g world st tr may i is single k (joined m site found) (asks_turn code s g tr may (step_of k Load) (joined m site) e).0)
+          | false ↦ λ e. stop_at (Trap 7 site) (local_turn code s g tr may (stopped m (Trap 7 site)) e)
+        ] e
+
+  pub Join_keeps : (r site : ℕ) → instr_at code (g.threads tr.thread).at.pc ≡ instrs.Join r site → Turned x code s ls g world tr
+  Join_keeps r site is =
+      let i = instrs.Join r site in
+      let f = fine x code s ls wt g world st t may.started may.next.runs i is refl in
+      join_keeps i is refl f.0 site f.1 (int m r) (ap (λ i. Rattle.sharc_code.specs.Machine.act code s i m) is)
+
+  pub Cond_wait_keeps : (c : Cell) (site : ℕ) → instr_at code (g.threads tr.thread).at.pc ≡ instrs.CondWait c site → Turned x code s ls g world tr
+  Cond_wait_keeps c site is =
+      let i = instrs.CondWait c site in
+      let f = fine x code s ls wt g world st t may.started may.next.runs i is refl in
+      let k = word s m c in
+      let found = slice_index g.words k in
+      let e = loaded_words x code s ls wt fits g world st tr may i is refl k (woken m found) (asks_turn code s g tr may (step_of k Load) (woken m) (ap (λ i. Rattle.sharc_code.specs.Machine.act code s i m) is)).0 in
+      elim (waits_in found m.own.number) as (λ b. after ≡ made_turn g t g.words (cond b (fails m) (goes m)) → Turned x code s ls g world tr) [
+        | true ↦ λ e. tries_again i is refl f.0 e
+        | false ↦ λ e. go_on i is refl f.0 f.2 e
+      ] e
+
+  pub Cond_broadcast_keeps : (c : Cell) (site : ℕ) → instr_at code (g.threads tr.thread).at.pc ≡ instrs.CondBroadcast c site → Turned x code s ls g world tr
+  Cond_broadcast_keeps c site is =
+      let i = instrs.CondBroadcast c site in
+      let f = fine x code s ls wt g world st t may.started may.next.runs i is refl in
+      let rn = runs x code s ls wt g world st t may.started may.next.runs i is refl in
+      let tp = top x code s ls wt g world st t may.started may.next.runs i is refl in
+      let reads : (q : ℕ) → Rattle.sharc_code.specs.Machine.ref m q ≡ in_ref world (RegisterOf t (m.at.refs + q)) = λ q. sym (st.sim.regs t (m.at.refs + q) ∙ register_plain code m (rests x code s ls wt g world st t may.started may.next.runs i is refl) (m.at.refs + q)) in
+      let th = cell_there x code s ls wt fits g world st t m rn.names here tp reads c f.1.0 f.1.1 in
+      let o = object_of_cell m c in
+      let j = number_in m c in
+      let k = cell_at s o j in
+      let m' = goes m in
+      let done0 = asks_turn code s g tr may (step_of (word s m c) (Swap 0)) (λ found. goes m) (ap (λ i. Rattle.sharc_code.specs.Machine.act code s i m) is) in
+      let words = slice_set g.words k 0 in
+      let done : after ≡ made_turn g t words m' = done0.0 ∙ ap (λ k. made_turn g t (slice_set g.words k 0) m') th.word_is in
+      let lt : k < length g.words = subst (λ k. k < length g.words) th.word_is done0.1 in
+      let ms = cell_store x code s ls g world st o j th.live th.number in
+      let content : (field_in x (world.obj o).ty j).holds ≡ Waiters = ap (λ (f : Field). f.holds) th.field ∙ f.1.2 in
+      let sim : Shows x s st.cells st.elements (record (conc_of code g) { words = λ n. slice_index words n }) world =
+      subst (λ h. Shows x s st.cells st.elements (record (conc_of code g) { words = h }) world) (sym (fun_ext (index_put g.words k 0 lt)))
+      (integer_stored x s st.cells st.elements (conc_of code g) world st.sim st.apart o j 0 th.live th.number (ap is_pointer content) (ap is_mutex content) (subst (λ h. FitsContent h 0) (sym content) tt)) in
+      let never : (q : ℕ) → world.win t ≡ Sole q → ⊥ = λ q e. let z : Shut ≡ Sole q = sym (shut i is refl f.0) ∙ e in cc in
+      let new = (ls.at (m.at.pc + 1)).gate in
+      let closed : new ≡ Closed = closed_less new (subst (λ y. Rattle.sharc_invariant.specs.Labels.LessGate y new) f.0 f.2.gate) in (
+        set_win world t Shut,
+        windowed_state x code s ls wt fits g world st tr may i is refl m' Shut words here (record { at = refl; refs = refl; ints = refl; frames = refl; own = refl }) done
+            (stored_words x code s ls g world st k 0 ms lt (omega arith) (λ n l e. absurd (let h = st.apart.headers o th.live in omega arith))) (stored_within x code s ls g world st k 0 ms lt)
+            tt sim tp (below_goes rn.below) f.2 refl (subst (GateStands s (set_win world t Shut) t m') (sym closed) (put_same world.win t Shut)) refl,
+        Silently (silent_window x code s ls wt fits g world st tr may i is refl Shut never),
+      )
+    where
+      below_goes : FramesStand x code ls tr.thread view (g.threads tr.thread) here.function → FramesStand x code ls tr.thread view (goes (g.threads tr.thread)) here.function
+      below_goes = elim here.function as (λ f. FramesStand x code ls tr.thread view (g.threads tr.thread) f → FramesStand x code ls tr.thread view (goes (g.threads tr.thread)) f) [ None ↦ λ h. h | Some f ↦ λ h. h ]
+
+  pub Cond_enter_keeps : (c : Cell) (site : ℕ) → instr_at code (g.threads tr.thread).at.pc ≡ instrs.CondEnter c site → Turned x code s ls g world tr
+  Cond_enter_keeps c site is =
+      let i = instrs.CondEnter c site in
+      let f = fine x code s ls wt g world st t may.started may.next.runs i is refl in
+      let rn = runs x code s ls wt g world st t may.started may.next.runs i is refl in
+      let tp = top x code s ls wt g world st t may.started may.next.runs i is refl in
+      let gt = gate x code s ls wt g world st t may.started may.next.runs i is refl in
+      let reads : (q : ℕ) → Rattle.sharc_code.specs.Machine.ref m q ≡ in_ref world (RegisterOf t (m.at.refs + q)) = λ q. sym (st.sim.regs t (m.at.refs + q) ∙ register_plain code m (rests x code s ls wt g world st t may.started may.next.runs i is refl) (m.at.refs + q)) in
+      let th = cell_there x code s ls wt fits g world st t m rn.names here tp reads c f.1.0 f.1.1 in
+      let o = object_of_cell m c in
+      let j = number_in m c in
+      let k = cell_at s o j in
+      let m' = goes m in
+      let bit = 2 ^ m.own.number in
+      let done0 = asks_turn code s g tr may (step_of (word s m c) (Or bit)) (λ found. goes m) (ap (λ i. Rattle.sharc_code.specs.Machine.act code s i m) is) in
+      let v = bit_or (slice_index g.words k) bit in
+      let words = slice_set g.words k v in
+      let done : after ≡ made_turn g t words m' = done0.0 ∙ ap (λ k. made_turn g t (slice_set g.words k (bit_or (slice_index g.words k) bit)) m') th.word_is in
+      let lt : k < length g.words = subst (λ k. k < length g.words) th.word_is done0.1 in
+      let low : m.own.number < 64 = let a = (st.threads t).has.number in let b = st.begins.few t may.started in omega arith in
+      let small_bit : bit < 2 ^ 64 = pow_below m.own.number 64 low in
+      let small : v < 2 ^ 64 = or_lt 64 (slice_index g.words k) bit (st.are_words k) small_bit in
+      let ms = cell_store x code s ls g world st o j th.live th.number in
+      let content : (field_in x (world.obj o).ty j).holds ≡ Waiters = ap (λ (f : Field). f.holds) th.field ∙ f.1.2 in
+      let sim : Shows x s st.cells st.elements (record (conc_of code g) { words = λ n. slice_index words n }) world =
+      subst (λ h. Shows x s st.cells st.elements (record (conc_of code g) { words = h }) world) (sym (fun_ext (index_put g.words k v lt)))
+      (integer_stored x s st.cells st.elements (conc_of code g) world st.sim st.apart o j v th.live th.number (ap is_pointer content) (ap is_mutex content) (subst (λ h. FitsContent h v) (sym content) tt)) in
+      let shut' : world.win t ≡ Shut = ⊎_elim (λ e. subst (GateStands s world t m) e gt) (λ e. let q : GateStands s world t m (Holds e.0) = subst (GateStands s world t m) e.1 gt in q.0) f.0 in
+      let never : (q : ℕ) → world.win t ≡ Sole q → ⊥ = λ q e. let z : Shut ≡ Sole q = sym shut' ∙ e in cc in
+      let new = (ls.at (m.at.pc + 1)).gate in
+      let Now : Gate → Type 0 = GateStands s (set_win world t Shut) t m' in
+      let gate' : Now new = ⊎_elim
+      (λ e. subst Now (sym (closed_less new (subst (λ y. LessGate y new) e f.2.gate))) (put_same world.win t Shut))
+      (λ e.
+      let q : GateStands s world t m (Holds e.0) = subst (GateStands s world t m) e.1 gt in
+      ⊎_elim (λ (z : new ≡ Closed). subst Now (sym z) (put_same world.win t Shut)) (λ (z : new ≡ Holds e.0). subst Now (sym z) (put_same world.win t Shut, still_held e.0 q.1))
+      (held_gate e.0 new (subst (λ y. LessGate y new) e.1 f.2.gate)))
+      f.0 in (
+        set_win world t Shut,
+        windowed_state x code s ls wt fits g world st tr may i is refl m' Shut words here (record { at = refl; refs = refl; ints = refl; frames = refl; own = refl }) done
+            (stored_words x code s ls g world st k v ms lt small (λ n l e. absurd (let h = st.apart.headers o th.live in omega arith))) (stored_within x code s ls g world st k v ms lt)
+            tt sim tp (below_goes rn.below) f.2 refl gate' refl,
+        Silently (silent_window x code s ls wt fits g world st tr may i is refl Shut never),
+      )
+    where
+      below_goes : FramesStand x code ls tr.thread view (g.threads tr.thread) here.function → FramesStand x code ls tr.thread view (goes (g.threads tr.thread)) here.function
+      below_goes = elim here.function as (λ f. FramesStand x code ls tr.thread view (g.threads tr.thread) f → FramesStand x code ls tr.thread view (goes (g.threads tr.thread)) f) [ None ↦ λ h. h | Some f ↦ λ h. h ]
+
+      still_held : (c : Cell) → is_held (g.threads tr.thread) (word s (g.threads tr.thread) c) ≡ true → is_held (goes (g.threads tr.thread)) (word s (goes (g.threads tr.thread)) c) ≡ true
+      still_held (cells.Global a p) h = h
+      still_held (cells.GlobalAt a p) h = h
+      still_held (cells.Object a p) h = h
+      still_held (cells.ObjectAt a p) h = h

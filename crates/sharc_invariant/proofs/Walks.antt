@@ -1,0 +1,165 @@
+-- A turn in the middle of an instruction that walks over an object: the world keeps its objects and mutexes.
+use Rattle.std.proofs.Common.{◌≡◌, ℕ, suc, ◌+◌, ◌*◌, ◌<◌, ◌≤◌, ◌≢◌, Bool, true, false, cond, List, None, refl, sym, ap, ◌∙◌, subst, arith}
+use mathlib.Core.Path.{fun_ext}
+use Rattle.std.specs.Prelude.{length, slice_index, ◌↔◌, ◌==◌, is_some, Contains}
+use Rattle.sharc_word.specs.declared.step.TheConstants.{THREADS}
+use Rattle.sharc_locks.specs.declared.held_log.HeldMutex.{HeldMutex}
+use Rattle.sharc_locks.specs.HeldLog.{object_of}
+use Rattle.sharc_shadow.specs.declared.shadow_word.Kind.TheVariants.{Read, Write}
+use Rattle.sharc_shadow.specs.declared.shadow_word.Kind.{Kind}
+use Rattle.sharc_shadow.specs.Accesses.{note_of}
+use Rattle.sharc_shadow.specs.ShadowWord.{epoch_of}
+use Rattle.sharc_code.specs.declared.code.Code.{Code}
+use Rattle.sharc_code.specs.declared.shape.Shape.{Shape}
+use Rattle.sharc_code.specs.declared.state.State.TheVariants.{Runs as RunsOn, Tries, Stopped, Ended}
+use Rattle.sharc_code.specs.declared.state.Stage.{Stage}
+use Rattle.sharc_code.specs.declared.state.Stage.TheVariants.{Rests, Looks, Clears, Makes, Empties, Lowers, FreeLooks, FreeClears, Uncounts, Links, Names, Hands, Begins, Withdraws, WithdrawsFrom, Leaves}
+use Rattle.sharc_code.specs.Layout.{top_word, granules, first_cell}
+use Rattle.sharc_code.specs.Machine.{Machine, to, instr_at}
+use Rattle.sharc_code.specs.Path.{may_go}
+use Rattle.sharc_code.specs.Runs.{Global, put}
+use Rattle.sharc_code.proofs.Places.{put_all}
+use Rattle.sharc_invariant.specs.Granules.{sum_to}
+use Rattle.sharc_invariant.specs.Types.{Targets, field_in, is_mutex, cells_of}
+use Rattle.sharc_invariant.specs.Labels.{Labels}
+use Rattle.sharc_invariant.specs.Typed.{IsWellTyped}
+use Rattle.sharc_invariant.specs.World.{ArgumentOf, In, ObjectState, World, WorldInvariant}
+use Rattle.sharc_invariant.specs.Blocks.{Kept, Live}
+use Rattle.sharc_invariant.specs.Words.{note_number, making_of, head_of, conc_of, Shows, Apart, register_of, staged_of, noted_by, is_ended, has_withdrawn, lang_of, cell_at}
+use Rattle.sharc_invariant.specs.Turns.{made_turn, KeepsOthers}
+use Rattle.sharc_invariant.specs.State.{block_for, State, HeapStands, Locks, Runs, SpawnsNow, size_of_run}
+use Rattle.sharc_invariant.proofs.Others.{OnHold}
+use Rattle.sharc_invariant.proofs.Quiet.{heap_now, head_same, freed_held, put_self}
+use Rattle.sharc_invariant.proofs.Changes.{KeepsPart, KeepsLow, lower, conc_now, held_same, changed_state}
+
+-- the stages of an instruction that walks over an object, but for that in which the object is dead
+abbrev pub IsWalk : Stage → Type 0
+IsWalk Rests = Unit {0}
+IsWalk (Looks done all) = Unit {0}
+IsWalk (Clears done all seen) = Unit {0}
+IsWalk (Empties i all) = Unit {0}
+IsWalk (Lowers i all found) = Unit {0}
+IsWalk (FreeLooks done all) = Unit {0}
+IsWalk (FreeClears done all seen) = Unit {0}
+IsWalk (Uncounts all) = Unit {0}
+IsWalk _ = ⊥
+
+pub walk_hold : (y : Stage) → IsWalk y → OnHold y
+walk_hold (Links all) h = absurd h
+walk_hold _ h = tt
+
+pub walk_making : (y : Stage) → IsWalk y → making_of y ≡ None
+walk_making (Makes v) h = absurd h
+walk_making _ h = refl
+
+walk_spawns : (y : Stage) → IsWalk y → (n : ℕ) → SpawnsNow y n → ⊥
+walk_spawns (Names k) h n z = h
+walk_spawns (Hands k) h n z = h
+walk_spawns (Begins k) h n z = h
+walk_spawns _ h n z = z
+
+walk_withdrawn : (y : Stage) → IsWalk y → (order : List ℕ) (b : Bool) (p : ℕ) → has_withdrawn y order b p ≡ b
+walk_withdrawn (Withdraws row) h order b p = absurd h
+walk_withdrawn (WithdrawsFrom row seen) h order b p = absurd h
+walk_withdrawn Leaves h order b p = absurd h
+walk_withdrawn _ h order b p = refl
+
+module _ (x : Targets) (code : Code) (s : Shape) (ls : Labels) (wt : IsWellTyped x code ls) (g : Global Machine) (world : World) (st : State x code s ls g world) (t : ℕ) (on : g.started t ≡ true) (go : may_go (g.threads t).at.state ≡ true)
+    (begun : ((g.threads t).at.pc == 0) ≡ false) (walk : IsWalk (g.threads t).own.stage) where
+  abbrev m : Machine
+  m = g.threads t
+
+  -- the machine at this place and stage
+  abbrev pub walked : ℕ → Stage → Machine
+  walked pc y = record (g.threads t) { at = to (g.threads t).at pc; own = record (g.threads t).own { stage = y } }
+
+  going : is_ended (g.threads t).at.state ≡ false
+  going = elim (g.threads t).at.state as (λ y. may_go y ≡ true → is_ended y ≡ false) [ RunsOn ↦ λ e. refl | Tries ↦ λ e. refl | Stopped ↦ λ e. refl | Ended ↦ λ e. absurd (cc) ] go
+
+  pub walk_register : (j : ℕ) → register_of code (g.threads t) j ≡ slice_index (g.threads t).refs j
+  walk_register j = ap (λ b. cond b 0 (slice_index m.refs j)) (freed_held (instr_at code m.at.pc) m.own.stage m.at.refs j (walk_hold m.own.stage walk))
+
+  module _ (pc : ℕ) (y : Stage) (walk' : IsWalk y) (begun' : (pc == 0) ≡ false) (words : List ℕ) (kw : KeepsLow g.words words) where
+    abbrev m' : Machine
+    m' = walked pc y
+
+    own : KeepsPart (g.threads t) (walked pc y)
+    own = record {
+      number = refl;
+      held = refl;
+      heads = refl;
+      notes = refl;
+      table = (st.threads t).has.table;
+      spawns = λ n h. absurd (walk_spawns y walk' n h);
+      refs = refl;
+      ints = refl;
+      frames = refl;
+      begun_before = begun;
+      begun = begun';
+    }
+
+    noted : (kind : Kind) (p : ℕ) → noted_by (walked pc y) kind p ≡ noted_by m kind p
+    noted kind p =
+        let f : Bool → ℕ = λ b. cond b 0 (note_number (note_of m.own.table p kind)) in
+        ap f (walk_withdrawn y walk' m.own.table.order false p ∙ sym going ∙ sym (walk_withdrawn m.own.stage walk m.own.table.order (is_ended m.at.state) p))
+
+    -- the reference that a Free has found and not lowered is that of the stage
+    pub conc_held : conc_of code (made_turn g t words (walked pc y)) ≡ record (conc_of code g) { words = λ j. slice_index words j; staged = put (λ u. staged_of (g.threads u).own.stage) t (staged_of y) }
+    conc_held =
+        let rs = fun_ext (put_self (λ u. register_of code (g.threads u)) t (register_of code m')
+        (fun_ext (λ j. ap (λ b. cond b 0 (slice_index m.refs j)) (freed_held (instr_at code pc) y m.at.refs j (walk_hold y walk')) ∙ sym (walk_register j)))) in
+        let n : (kind : Kind) → put (λ u. noted_by (g.threads u) kind) t (noted_by m' kind) ≡ (λ u. noted_by (g.threads u) kind) = λ kind. fun_ext (put_self (λ u. noted_by (g.threads u) kind) t (noted_by m' kind) (fun_ext (noted kind))) in
+        let a = n Read in
+        let b = n Write in
+        conc_now x code s ls wt g world st t on words m' own (lower kw)
+        ∙ (λ i. record (conc_of code g) { words = λ j. slice_index words j; regs = rs i; staged = put (λ u. staged_of (g.threads u).own.stage) t (staged_of y); read_notes = a i; write_notes = b i })
+
+    pub conc_walked : staged_of y ≡ staged_of (g.threads t).own.stage → conc_of code (made_turn g t words (walked pc y)) ≡ record (conc_of code g) { words = λ j. slice_index words j }
+    conc_walked e =
+        let sg = fun_ext (put_self (λ u. staged_of (g.threads u).own.stage) t (staged_of y) e) in
+        conc_held ∙ (λ i. record (conc_of code g) { words = λ j. slice_index words j; staged = sg i })
+
+    pub walk_state : (w' : World) → Kept (record { first = 1 + s.globals; words = first_cell s }) (record st.heap { words = λ i. slice_index words i }) → w'.obj ≡ world.obj → w'.mutex ≡ world.mutex
+        → KeepsOthers s world w' st.heap (heap_now st.heap words) g.words words t → ((u : ℕ) → w'.slots (In (ArgumentOf u)) ≡ world.slots (In (ArgumentOf u)))
+        → WorldInvariant (size_of_run code s) (lang_of x) w' → Shows x s st.cells st.elements (conc_of code (made_turn g t words (walked pc y))) w'
+        → ((i : ℕ) → i < granules s → epoch_of (slice_index words (97 + i)) ≤ sum_to THREADS (put g.made t (g.made t + 1)))
+        → Runs x code s ls st.elements w' (heap_now st.heap words) (made_turn g t words (walked pc y)) t (walked pc y) → g.made t + 1 ≤ 100000000
+        → State x code s ls (made_turn g t words (walked pc y)) w'
+    walk_state w' kept eo em others args inv sim epochs runs few =
+        let now = made_turn g t words m' in
+        let A : (ℕ → ObjectState) → Type 0 = λ f. Apart s f st.cells in
+        let R : (ℕ → ObjectState) → Type 0 = λ f. (o : ℕ) → o ≢ 0 → (f o).live ≡ true → ((f o).global ≡ false) × ((f o).ty.target < length x.rows) in
+        let W : (ℕ → ObjectState) → Type 0 = λ f. (o : ℕ) → o ≢ 0 → (f o).live ≡ true → (1 ≤ st.elements o) × (st.cells o ≡ st.elements o * cells_of x (f o).ty.target) in
+        let h = st.heap_stands in
+        let V : (ℕ → ObjectState) → Type 0 = λ f. (o : ℕ) → o ≢ 0 → ((f o).live ≡ true) ↔ (st.heap.state o ≡ Live) in
+        let Q : (ℕ → ObjectState) → Type 0 = λ f. (o : ℕ) → o ≢ 0 → (f o).live ≡ true → 2 + st.cells o ≤ 2 * st.heap.size o in
+        let Z : (ℕ → ObjectState) → Type 0 = λ f. (o : ℕ) → o ≢ 0 → (f o).live ≡ true → st.heap.size o ≡ block_for (st.cells o) in
+        let hs : HeapStands s st.cells now w'.obj (heap_now st.heap words) = record {
+          kept = kept;
+          words = λ i. refl;
+          top = h.top ∙ sym (kw.low top_word (omega arith) (λ e. absurd (omega arith)));
+          within = h.within;
+          heads = λ u b lu lb. h.heads u b lu lb ∙ put_all (λ u (n : Machine). head_of (g.threads u) b ≡ head_of n b) g.threads t m' (sym (head_same m m' b (walk_making y walk' ∙ sym (walk_making m.own.stage walk)) refl)) (λ u _. refl) u;
+          powers = h.powers;
+          live = subst V (sym eo) h.live;
+          room = subst Q (sym eo) h.room;
+          sizes = subst Z (sym eo) h.sizes;
+        } in
+        let held_now : (u : ℕ) → (now.threads u).own.held ≡ (g.threads u).own.held = held_same x code s ls wt g world st t on words m' own (lower kw) in
+        let P : (ℕ → ObjectState) → (ℕ → ℕ → ℕ) → List HeldMutex → ℕ → ℕ → ℕ → Type 0 = λ f mu hd u o j. (f o).live ≡ true → j < st.cells o → is_mutex (field_in x (f o).ty j).holds ≡ true → (mu o j ≡ suc u) ↔ (is_some (object_of hd (cell_at s o j)) ≡ true) in
+        let L : (ℕ → ObjectState) → List HeldMutex → Type 0 = λ f hd. (h : HeldMutex) → Contains hd h
+        → (j : ℕ) × ((h.word ≡ cell_at s h.object j) × ((f h.object).live ≡ true) × (j < st.cells h.object) × (is_mutex (field_in x (f h.object).ty j).holds ≡ true)) in
+        let locks : Locks x s st.cells w' now = record {
+          held = λ u o j lt.
+              let a : P w'.obj w'.mutex (g.threads u).own.held u o j = subst (λ f. P f w'.mutex (g.threads u).own.held u o j) (sym eo) (subst (λ mu. P world.obj mu (g.threads u).own.held u o j) (sym em) (st.locks.held u o j lt)) in
+              subst (λ hd. P w'.obj w'.mutex hd u o j) (sym (held_now u)) a;
+          logged = λ u. subst (L w'.obj) (sym (held_now u)) (subst (λ f. L f (g.threads u).own.held) (sym eo) (st.locks.logged u));
+          few = λ o j u e. st.locks.few o j u (sym (ap (λ (f : ℕ → ℕ → ℕ). f o j) em) ∙ e);
+          only = λ o j ne.
+              let z = st.locks.only o j (λ e. ne (ap (λ (f : ℕ → ℕ → ℕ). f o j) em ∙ e)) in
+              let O : (ℕ → ObjectState) → Type 0 = λ f. ((f o).live ≡ true) × (j < st.cells o) × (is_mutex (field_in x (f o).ty j).holds ≡ true) in
+              subst O (sym eo) z;
+        } in
+        changed_state x code s ls wt g world st t on words m' own (lower kw) st.cells st.elements (heap_now st.heap words) w' others args (λ u r _. refl) inv
+        sim
+        (subst A (sym eo) st.apart) hs locks (ap (λ (f : ℕ → ObjectState). f 0) eo) refl (subst R (sym eo) st.rows) (subst W (sym eo) st.whole) epochs (λ _. runs) (λ q. absurd (cc)) few

@@ -1,0 +1,72 @@
+//! Laws of the invariant.
+
+ghost use Rattle.sharc_invariant.specs.Laws.{Begins, Keeps, EventsObey, RunsStay, RunsFromTheBeginning, RunsStand, RunsBits, StateStands, NothingYet, SampleIsTyped};
+ghost use Rattle.sharc_invariant.specs.Reports.{RunsConflict, RunsTest};
+
+use sharc_granule::new_laws;
+use sharc_shadow::shadow_laws;
+
+/// A code opens in the invariant.
+pub fn begins()
+    ensures opens { Begins }
+    ensures nothing_yet { NothingYet }
+{
+    shadow_laws();
+}
+
+/// Each turn keeps the invariant, and has an effect on its world.
+pub fn keeps()
+    ensures { Keeps }
+{
+    shadow_laws();
+    new_laws();
+}
+
+/// Each run stays in the invariant, and its events obey the sharing rules.
+pub fn runs_stay()
+    ensures stay { RunsStay }
+    ensures from_the_beginning { RunsFromTheBeginning }
+{
+    begins();
+    keeps();
+}
+
+/// In the invariant counts, references and windows are as the machine invariant says.
+pub fn state_stands()
+    ensures { StateStands }
+{}
+
+/// The machine invariant holds at each place of each run of typed code.
+pub fn runs_stand()
+    ensures { RunsStand }
+{
+    runs_stay();
+    state_stands();
+}
+
+/// The bits of shadow words are as the machine invariant says at each place of each run of typed code.
+pub fn runs_bits()
+    ensures { RunsBits }
+{
+    shadow_laws();
+    runs_stay();
+}
+
+/// A check is refused exactly where another thread's check is in its way, and a test of a sole reference finds how many references there are.
+pub fn runs_report()
+    ensures conflicts { RunsConflict }
+    ensures tests { RunsTest }
+{
+    shadow_laws();
+    runs_stay();
+}
+
+/// The source events obey the sharing rules, whatever effects a run has.
+pub fn events_obey()
+    ensures { EventsObey }
+{}
+
+/// There are well typed codes with threads, casts and locks.
+pub fn sample_is_typed()
+    ensures { SampleIsTyped }
+{}

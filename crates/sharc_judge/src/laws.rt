@@ -1,0 +1,13 @@
+// Laws of the tests. A proof above has them where its function calls one of these.
+
+ghost use Rattle.sharc_judge.specs.Laws.{RuleLaws, SameLaws};
+
+/// A rule holds exactly where no access at any place breaks it, and a list obeys exactly where each of the six holds.
+pub fn rule_laws()
+    ensures { RuleLaws }
+{}
+
+/// Objects, cells and modes that are found to be the same are equal, and equal ones are found to be the same.
+pub fn same_laws()
+    ensures { SameLaws }
+{}

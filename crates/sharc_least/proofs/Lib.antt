@@ -1,5 +1,0 @@
-pub mod Findings
-pub mod Least
-pub mod Numbers
-pub mod Owners
-pub mod Roots

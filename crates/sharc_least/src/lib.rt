@@ -1,6 +1,0 @@
-//! That a program has one least assignment of modes.
-//!
-//! The layer above may call the laws of src/laws.rt, each the contract of a function that does nothing.
-#![tactic(auto)]
-
-pub mod laws;

@@ -1,0 +1,12 @@
+pub mod Calls
+pub mod Claims
+pub mod Forms
+pub mod Holds
+pub mod Law
+pub mod Levels
+pub mod Lists
+pub mod Modes
+pub mod Options
+pub mod Threads
+pub mod Touched
+pub mod Walk

@@ -1,7 +1,0 @@
-use Rattle.std.proofs.Common.{◌≡◌, drop}
-use Rattle.sharc_paths.specs.Passes.{told, tell_start}
-use Rattle.sharc_paths.specs.Views.{view_tells}
-use Rattle.sharc_paths.proofs.forth.tell.Given as goal
-
-abbrev pub invariant-loop-step : goal.invariant-loop-step
-invariant-loop-step l = told l.x (drop l.step-index l.steps) (view_tells l.tells) ≡ told l.x l.steps (tell_start l.fn.heads.items l.fn.found.items)

@@ -1,5 +1,0 @@
-use Rattle.std.proofs.Common.{length}
-use Rattle.sharc_paths.proofs.uses.+about_all.Given as goal
-
-abbrev pub decreases-about_all : goal.decreases-about_all
-decreases-about_all a = length a.list.now

@@ -1,6 +1,0 @@
-use Rattle.std.proofs.Common.{◌∙◌}
-use Rattle.sharc_paths.proofs.Found.{told_is}
-use Rattle.sharc_paths.proofs.uses.about.Goals as goal
-
-pub returns : goal.returns
-returns c = λ d is. c.in_ok-told.ensures ∙ told_is c.args.x d c.args.steps.now c.in_ok-heads.heads.items c.args.found.items is c.in_ok-heads.ensures

@@ -1,6 +1,0 @@
-use Rattle.std.proofs.Common.{take}
-use Rattle.sharc_paths.specs.Narrow.{AreBetween}
-use Rattle.sharc_paths.proofs.uses.all_between.Given as goal
-
-abbrev pub invariant-loop-x : goal.invariant-loop-x
-invariant-loop-x l = AreBetween l.first l.last (take l.x-index l.list)

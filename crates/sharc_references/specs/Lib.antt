@@ -1,0 +1,4 @@
+pub mod Answered
+pub mod Listed
+pub mod Making
+pub mod Starting

@@ -1,0 +1,13 @@
+//! Tables of sources and schedules, with the references to an object after the events: tests alone.
+//!
+//! Nothing stands on this crate, and it has no code of its own.
+#![tactic(auto)]
+
+#[cfg(test)]
+mod counted;
+#[cfg(test)]
+mod sources;
+#[cfg(test)]
+mod tables;
+#[cfg(test)]
+mod threads;

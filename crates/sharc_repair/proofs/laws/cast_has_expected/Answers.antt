@@ -1,5 +1,0 @@
-use Rattle.sharc_repair.proofs.Expected.{cast_has_expected}
-use Rattle.sharc_repair.proofs.laws.cast_has_expected.Goals as goal
-
-pub returns : goal.returns
-returns c = cast_has_expected

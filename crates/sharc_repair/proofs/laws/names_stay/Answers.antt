@@ -1,5 +1,0 @@
-use Rattle.sharc_repair.proofs.Stay.{names_stay}
-use Rattle.sharc_repair.proofs.laws.names_stay.Goals as goal
-
-pub returns : goal.returns
-returns c = names_stay c.each_name_once.ensures c.only_names.ensures c.names_in_types.ensures

@@ -1,9 +1,0 @@
-pub mod Callable
-pub mod Constraints
-pub mod Declared
-pub mod Initials
-pub mod Laws
-pub mod Limits
-pub mod Places
-pub mod Rules
-pub mod WrittenTypes

@@ -1,0 +1,6 @@
+pub mod Dealing
+pub mod Going
+pub mod Growing
+pub mod Places
+pub mod Rounding
+pub mod Running

@@ -1,0 +1,135 @@
+-- What a round makes of the threads and of the words.
+use Rattle.std.specs.Prelude.{ℕ, ◌≡◌, ◌≢◌, ◌<◌, ◌≤◌, ◌+◌, ◌++◌, true, List, [], length, Option, Some, None, slice_index_or}
+use Rattle.sharc_word.specs.declared.step.WordEvent.{WordEvent}
+use Rattle.sharc_word.specs.declared.step.TheConstants.{THREADS}
+use Rattle.sharc_code.specs.declared.code.Code.{Code}
+use Rattle.sharc_code.specs.declared.shape.Shape.{Shape}
+use Rattle.sharc_code.specs.Layout.{words_of}
+use Rattle.sharc_code.specs.Path.{IsPath, machine_after, events_of_path, made_in, may_go}
+use Rattle.sharc_code.specs.Runs.{Turn, IsRun, opening_of}
+use Rattle.sharc_code.specs.Opening.{opening_words}
+use Rattle.sharc_code.specs.Whole.{one_thread, bounds, place_after}
+use Rattle.sharc_cpu.specs.Thread.{ThreadView, IsThread}
+use Rattle.sharc_bus.specs.Bus.{BusView, OneHistory}
+use Rattle.sharc_threads.specs.Seats.{AreSeats}
+use Rattle.sharc_rounds.specs.declared.hand.TheConstants.{QUANTUM}
+use Rattle.sharc_rounds.specs.declared.hand.Hand.{Hand}
+use Rattle.sharc_rounds.specs.declared.worker.Worker.{Worker}
+use Rattle.sharc_rounds.specs.declared.round.Rounds.{Rounds}
+
+-- a place of the table of threads: a thread that was started, or none
+abbrev pub Seat : Type 0
+Seat = Option ThreadView
+
+-- ---- one thread
+-- it went on by a path with these word events. One that is gone or stopped made no turn; another that was below the limit made one
+pub record MadeQuantum (code : Code) (s : Shape) (limit : ℕ) (old new : ThreadView) (events : List WordEvent) : Type 0 where
+  pub thread : IsThread code s new
+  pub founds : List ℕ
+  pub path : IsPath code s old.machine founds
+  pub machine : new.machine ≡ machine_after code s old.machine founds
+  pub events_are : events ≡ events_of_path code s old.machine founds
+  pub number : new.machine.own.number ≡ old.machine.own.number
+  pub made : new.made ≡ old.made + made_in code s old.machine founds
+  pub within : new.made ≤ limit
+  pub some : may_go old.machine.at.state ≡ true → old.made < limit → founds ≢ []
+
+-- so did the thread at a place, and where none is there are no events
+abbrev pub MadeQuantumAt : Code → Shape → ℕ → Seat → Seat → List WordEvent → Type 0
+MadeQuantumAt code s limit (Some old) (Some new) events = MadeQuantum code s limit old new events
+MadeQuantumAt code s limit None None events = events ≡ []
+MadeQuantumAt code s limit (Some old) None events = ⊥
+MadeQuantumAt code s limit None (Some new) events = ⊥
+
+-- a thread may make a quantum over the port of this seat of the bus
+pub record MayQuantum (code : Code) (s : Shape) (limit : ℕ) (thread : ThreadView) (number : ℕ) : Type 0 where
+  pub thread_is : IsThread code s thread
+  pub number_is : number ≡ thread.machine.own.number
+  pub within : thread.made ≤ limit
+  pub room : may_go thread.machine.at.state ≡ true → QUANTUM ≤ thread.room
+
+abbrev pub MayQuantumAt : Code → Shape → ℕ → Seat → ℕ → Type 0
+MayQuantumAt code s limit (Some thread) number = MayQuantum code s limit thread number
+MayQuantumAt code s limit None number = Unit {0}
+
+-- a hand of this bus may make a quantum
+pub record MayRun (code : Code) (s : Shape) (limit : ℕ) (bus : BusView) (hand : Hand) : Type 0 where
+  pub bus_is : hand.port.bus ≡ bus.id
+  pub may : MayQuantumAt code s limit hand.seat hand.port.number
+
+-- its thread made a quantum, and its port the events of that
+pub record HasRun (code : Code) (s : Shape) (limit : ℕ) (old new : Hand) : Type 0 where
+  pub events : List WordEvent
+  pub made : MadeQuantumAt code s limit old.seat new.seat events
+  pub bus_is : new.port.bus ≡ old.port.bus
+  pub number : new.port.number ≡ old.port.number
+  pub events_are : new.port.events ≡ old.port.events ++ events
+
+-- ---- workers
+-- so it is of the hand at a place, if there is one
+abbrev pub MayRunAt : Code → Shape → ℕ → BusView → Option Hand → Type 0
+MayRunAt code s limit bus None = Unit {0}
+MayRunAt code s limit bus (Some hand) = MayRun code s limit bus hand
+
+abbrev pub HasRunAt : Code → Shape → ℕ → Option Hand → Option Hand → Type 0
+HasRunAt code s limit None None = Unit {0}
+HasRunAt code s limit (Some old) (Some new) = HasRun code s limit old new
+HasRunAt code s limit None (Some new) = ⊥
+HasRunAt code s limit (Some old) None = ⊥
+
+abbrev pub MayAllRun : Code → Shape → ℕ → BusView → Worker → Type 0
+MayAllRun code s limit bus worker = (n : ℕ) → MayRunAt code s limit bus (slice_index_or worker.hands.items n None)
+
+abbrev pub HaveAllRun : Code → Shape → ℕ → Worker → Worker → Type 0
+HaveAllRun code s limit old new = (n : ℕ) → HasRunAt code s limit (slice_index_or old.hands.items n None) (slice_index_or new.hands.items n None)
+
+-- the hand of this number at this worker
+abbrev pub hand_at : List Worker → ℕ → ℕ → Worker → Option Hand
+hand_at workers w n d = slice_index_or (slice_index_or workers w d).hands.items n None
+
+-- ---- a round
+-- each thread made a quantum, and their word events are the parts of one legal history, which leads from these words to those
+pub record MadeRound (code : Code) (s : Shape) (limit : ℕ) (words now : List ℕ) (old new : List Seat) : Type 0 where
+  pub count : length new ≡ length old
+  pub lists : List (List WordEvent)
+  pub as_many : length lists ≡ length old
+  pub history : OneHistory words lists now
+  pub each : (n : ℕ) → n < length old → MadeQuantumAt code s limit (slice_index_or old n None) (slice_index_or new n None) (slice_index_or lists n [])
+
+-- a thread of this number, which has made no more events than it may
+pub record MayBeginAs (code : Code) (s : Shape) (limit n : ℕ) (thread : ThreadView) : Type 0 where
+  pub thread_is : IsThread code s thread
+  pub number : thread.machine.own.number ≡ n
+  pub within : thread.made ≤ limit
+
+abbrev pub MayBeginAt : Code → Shape → ℕ → ℕ → Seat → Type 0
+MayBeginAt code s limit n (Some thread) = MayBeginAs code s limit n thread
+MayBeginAt code s limit n None = Unit {0}
+
+-- a round may begin with these
+pub record MayBegin (code : Code) (s : Shape) (limit : ℕ) (seats : List Seat) : Type 0 where
+  pub count : length seats ≡ THREADS
+  pub each : (n : ℕ) → n < length seats → MayBeginAt code s limit n (slice_index_or seats n None)
+
+-- a thread that goes on has room for the prints of a quantum, and is else as it was
+pub record HasRoom (old new : ThreadView) : Type 0 where
+  pub room : may_go old.machine.at.state ≡ true → QUANTUM ≤ new.room
+  pub thread : (code : Code) (s : Shape) → IsThread code s old → IsThread code s new
+  pub machine : new.machine ≡ old.machine
+  pub made : new.made ≡ old.made
+
+abbrev pub HasRoomAt : Seat → Seat → Type 0
+HasRoomAt (Some old) (Some new) = HasRoom old new
+HasRoomAt None None = Unit {0}
+HasRoomAt (Some old) None = ⊥
+HasRoomAt None (Some new) = ⊥
+
+-- ---- between two rounds
+-- a run stands there in which no thread made more events than it may
+pub record AreRounds (code : Code) (s : Shape) (limit : ℕ) (rounds : Rounds) : Type 0 where
+  pub turns : List Turn
+  pub count : length rounds.port ≡ words_of s
+  pub run : IsRun bounds (one_thread code s) (opening_of bounds (one_thread code s) (opening_words code s)) turns
+  pub few : (t : ℕ) → (place_after code s turns).made t ≤ limit
+  pub words : rounds.port ≡ (place_after code s turns).words
+  pub seats : AreSeats code s (place_after code s turns).threads (place_after code s turns).made (place_after code s turns).started rounds.threads.seats.items

@@ -1,0 +1,86 @@
+//! A thread in a round.
+
+ghost use Rattle.std.specs.Prelude.{◌≡◌, ◌≤◌, true, length};
+ghost use Rattle.sharc_word.specs.declared.step.TheConstants.{THREADS as threads};
+ghost use Rattle.sharc_code.specs.Layout.{Fits, words_of};
+ghost use Rattle.sharc_rounds.specs.Round.{MayQuantum, HasRun, MayRun};
+
+use crate::gate::{Gate, GatedPort};
+use sharc_bus::{Bus, BusPort, BusSeat, name_laws};
+use sharc_code::{Code, Shape};
+use sharc_cpu::{Thread, run_quantum};
+use sharc_threads::is_on;
+use sharc_word::place_laws;
+
+/// The turns of a quantum.
+pub const QUANTUM: u32 = 50_000;
+
+/// A place of the table of threads, and its seat on the bus of the round.
+#[derive(Drop)]
+pub(crate) struct Hand {
+    pub(crate) seat: Option<Thread>,
+    pub(crate) port: BusSeat,
+}
+
+// One quantum of a thread that is neither gone nor stopped.
+fn run_thread<G: Gate>(
+    mut thread: Thread,
+    port: BusSeat,
+    code: &Code,
+    shape: &Shape,
+    bus: &Bus,
+    gate: &G,
+    worker: u32,
+    limit: u64,
+) -> Hand
+    requires fits { Fits code.now shape.now }
+    requires words { length bus.now.opening ≡ words_of shape.now }
+    requires bus { port.bus ≡ bus.now.id }
+    requires may { MayQuantum code.now shape.now limit thread port.number }
+    ensures { HasRun code.now shape.now limit record { seat = Some thread; port = port } result }
+{
+    name_laws();
+    place_laws();
+    if !is_on(&thread) {
+        return Hand {
+            seat: Some(thread),
+            port,
+        };
+    }
+    let mut port = GatedPort {
+        port: BusPort::of(bus, port),
+        gate,
+        worker,
+        thread: thread.number(),
+    };
+    run_quantum(code, shape, &mut thread, &mut port, QUANTUM, limit);
+    let GatedPort { port, .. } = port;
+    Hand {
+        seat: Some(thread),
+        port: port.into_seat(),
+    }
+}
+
+impl Hand {
+    /// One quantum of the thread, if one is there that is neither gone nor stopped.
+    pub(crate) fn run<G: Gate>(
+        self,
+        code: &Code,
+        shape: &Shape,
+        bus: &Bus,
+        gate: &G,
+        worker: u32,
+        limit: u64,
+    ) -> Hand
+        requires fits { Fits code.now shape.now }
+        requires words { length bus.now.opening ≡ words_of shape.now }
+        requires may { MayRun code.now shape.now limit bus.now self }
+        ensures { HasRun code.now shape.now limit self result }
+    {
+        let Hand { seat, port } = self;
+        match seat {
+            None => Hand { seat: None, port },
+            Some(thread) => run_thread(thread, port, code, shape, bus, gate, worker, limit),
+        }
+    }
+}

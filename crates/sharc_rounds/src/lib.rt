@@ -1,0 +1,17 @@
+//! Runs that workers make in rounds.
+//!
+//! `run_rounds` runs a code: each round opens a bus on the words, every worker gives each of its threads one quantum of turns, and the
+//! round closes the bus. `specs/Run.antt` says what stands at the end: a checked run of `sharc_code` (`IsRoundsRun`). A `Gate` is asked
+//! before each step of a port. Memory is taken between rounds alone.
+#![tactic(auto)]
+
+mod gate;
+mod hand;
+mod round;
+mod run;
+mod worker;
+
+pub use gate::{Gate, GatedPort};
+pub use hand::QUANTUM;
+pub use run::{RoundsRun, run_rounds};
+pub use sharc_threads::End;

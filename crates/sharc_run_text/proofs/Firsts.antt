@@ -1,0 +1,13 @@
+-- The thread that a refused write names is the lowest other one whose bit stood.
+use Rattle.std.proofs.Common.{◌≡◌, refl, ℕ, Option, Some, None}
+use Rattle.std.specs.Prelude.{is_some, if◌then◌else◌}
+use Rattle.sharc_shadow.specs.declared.shadow_word.Kind.TheVariants.{Write}
+use Rattle.sharc_shadow.specs.Functions.{lowest_other, conflicts_in, first_in}
+
+some_or_none : (o : Option ℕ) → (if is_some o then o else None) ≡ o
+some_or_none None = refl
+some_or_none (Some n) = refl
+
+pub first_is : (old thread : ℕ) → first_in old thread Write None ≡ lowest_other old thread
+unfolding first_in conflicts_in
+first_is old thread = some_or_none (lowest_other old thread)

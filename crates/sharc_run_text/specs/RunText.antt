@@ -1,0 +1,147 @@
+-- The text of a run that has ended.
+use Rattle.std.specs.Prelude.{◌≡◌, ℕ, ◌-◌, ◌==◌, Bool, true, false, List, [], ◌++◌, codes, decimal, slice_index, Option, Some, None, if◌then◌else◌}
+use Rattle.std.specs.Fmt.{signed_decimal}
+use Rattle.std.specs.List.{flat_map}
+use Rattle.std.specs.Ordering.{nat_cmp}
+use Rattle.std.specs.List.Sorted.{IsPermutation, IsSortedByKey}
+use Rattle.sharc_shadow.specs.declared.shadow_word.Kind.{Kind}
+use Rattle.sharc_shadow.specs.declared.shadow_word.Kind.TheVariants.{Read, Write}
+use Rattle.sharc_code.specs.declared.code.Code.{Code}
+use Rattle.sharc_code.specs.declared.code.Use.{Use}
+use Rattle.sharc_code.specs.declared.code.Use.TheVariants as uses
+use Rattle.sharc_code.specs.declared.state.ConflictAt.{ConflictAt}
+use Rattle.sharc_code.specs.declared.state.Print.{Print}
+use Rattle.sharc_code.specs.declared.state.State.{State}
+use Rattle.sharc_code.specs.declared.state.State.TheVariants.{Runs, Tries, Stopped, Ended}
+use Rattle.sharc_code.specs.declared.state.Stop.{Stop}
+use Rattle.sharc_code.specs.declared.state.Stop.TheVariants.{Conflict, NoLock, NotSole, Trap}
+use Rattle.sharc_code.specs.declared.state.Wait.{Wait}
+use Rattle.sharc_code.specs.declared.state.Wait.TheVariants.{Mutex, Join, Cond}
+use Rattle.sharc_code.specs.Says.{place_at}
+use Rattle.sharc_code.specs.Waits.{is_held_up}
+use Rattle.sharc_cpu.specs.Thread.{ThreadView}
+use Rattle.sharc_run_text.specs.declared.other.Access.{Access}
+use Rattle.sharc_run_text.specs.Others.{number_of, other_access}
+use Rattle.sharc_run_text.specs.Places.{lvalue, lock_path, at_site, lvalue_at}
+
+-- ---- prints
+abbrev pub place_of : Print → ℕ
+place_of p = p.place
+
+abbrev pub prints_of : ThreadView → List Print
+prints_of t = t.machine.own.prints
+
+-- all prints of these threads, in the order of their places
+pub record AreInOrder (threads : List ThreadView) (prints : List Print) : Type 0 where
+  pub all : IsPermutation (flat_map prints_of threads) prints
+  pub in_order : IsSortedByKey place_of nat_cmp prints
+
+abbrev pub print_line : Print → List ℕ
+print_line p = signed_decimal p.value ++ codes "\n"
+
+-- ---- reports
+abbrev pub of_kind : Kind → List ℕ
+of_kind Read = codes "read of "
+of_kind Write = codes "write of "
+
+-- read of LV at F:N
+abbrev pub access_text : Code → Kind → ℕ → List ℕ
+access_text code kind site = of_kind kind ++ lvalue_at code site
+
+abbrev pub code_of : Kind → List ℕ
+code_of Read = codes "A1 "
+code_of Write = codes "A2 "
+
+abbrev pub other_text : Code → Option Access → List ℕ
+other_text code None = []
+other_text code (Some a) = codes " conflicts with " ++ access_text code a.kind a.site ++ codes " by thread " ++ decimal a.thread
+
+-- A1 and A2: with the other access
+abbrev pub conflict_text : Code → List ThreadView → ℕ → ConflictAt → List ℕ
+conflict_text code threads thread c = code_of c.kind ++ access_text code c.kind c.site ++ other_text code (other_access c threads thread)
+
+-- a cast and a free look at their source as a write does
+abbrev pub of_use : Use → List ℕ
+of_use uses.Read = codes "read of "
+of_use uses.Write = codes "write of "
+of_use (uses.Cast variable) = codes "write of "
+of_use (uses.Free variable) = codes "write of "
+of_use uses.Other = codes "read of "
+
+-- A3 read of LV at F:N without lock PATH
+abbrev pub no_lock_text : Code → ℕ → List ℕ
+no_lock_text code site = codes "A3 " ++ of_use (place_at code site).at ++ lvalue_at code site ++ codes " without lock " ++ lock_path code site
+
+abbrev pub of_taking : Use → List ℕ
+of_taking (uses.Free variable) = codes "A4 free of "
+of_taking _ = codes "A4 cast of "
+
+-- A4 cast of LV at F:N with C references
+abbrev pub not_sole_text : Code → ℕ → ℕ → List ℕ
+not_sole_text code site count = of_taking (place_at code site).at ++ lvalue_at code site ++ codes " with " ++ decimal count ++ codes " references"
+
+-- ---- stops
+-- X1 to X13
+abbrev pub trap_words : ℕ → List ℕ
+trap_words number =
+    if number == 1 then codes "null"
+    else (if number == 2 then codes "bounds"
+    else (if number == 3 then codes "zero divisor"
+    else (if number == 4 then codes "out of range"
+    else (if number == 5 then codes "mutex not held"
+    else (if number == 6 then codes "mutex already held"
+    else (if number == 7 then codes "no such thread"
+    else (if number == 8 then codes "thread limit"
+    else (if number == 9 then codes "heap full"
+    else (if number == 10 then codes "call depth"
+    else (if number == 11 then codes "return with a lock held"
+    else (if number == 12 then codes "size not positive"
+    else (if number == 13 then codes "too many locks"
+    else []))))))))))))
+
+abbrev pub trap_text : Code → ℕ → ℕ → List ℕ
+trap_text code number site = codes "X" ++ decimal number ++ codes " " ++ trap_words number ++ at_site code site
+
+abbrev pub stop_text : Code → List ThreadView → ℕ → Stop → List ℕ
+stop_text code threads thread (Conflict c) = conflict_text code threads thread c
+stop_text code threads thread (NoLock site word) = no_lock_text code site
+stop_text code threads thread (NotSole site count) = not_sole_text code site count
+stop_text code threads thread (Trap number site) = trap_text code number site
+
+-- ---- waiting threads, and those that have made all the events that they may
+-- a mutex that is held has the number of its holder plus 1
+abbrev pub wait_text : Code → List ℕ → Wait → List ℕ
+wait_text code words (Mutex word site) =
+    codes "waits for mutex " ++ lvalue_at code site ++ codes " held by thread " ++ decimal (slice_index words word - 1)
+wait_text code words (Join thread site) = codes "waits for thread " ++ decimal thread ++ at_site code site
+wait_text code words (Cond word site) = codes "waits for signal of " ++ lvalue_at code site
+
+abbrev pub made_text : ℕ → List ℕ
+made_text made = codes "made " ++ decimal made ++ codes " events"
+
+abbrev pub unstopped_text : Code → List ℕ → ThreadView → Option Wait → List ℕ
+unstopped_text code words t None = made_text t.made
+unstopped_text code words t (Some wait) = if is_held_up words (number_of t) wait then wait_text code words wait else made_text t.made
+
+-- why it is not gone
+abbrev pub why_text : Code → List ℕ → List ThreadView → ThreadView → Option Stop → List ℕ
+why_text code words threads t None = unstopped_text code words t t.wait
+why_text code words threads t (Some stop) = stop_text code threads (number_of t) stop
+
+-- ---- the line of a thread, which has none where it is gone
+abbrev pub is_gone : State → Bool
+is_gone Runs = false
+is_gone Tries = false
+is_gone Stopped = false
+is_gone Ended = true
+
+abbrev pub thread_line : Code → List ℕ → List ThreadView → ThreadView → List ℕ
+thread_line code words threads t =
+    if is_gone t.machine.at.state then []
+    else codes "thread " ++ decimal (number_of t) ++ codes ": " ++ why_text code words threads t t.machine.own.stop ++ codes "\n"
+
+-- ---- the whole: the prints, and then a line for each of these threads that is not gone, in their order
+pub record IsRunText (code : Code) (words : List ℕ) (threads : List ThreadView) (text : List ℕ) : Type 0 where
+  pub prints : List Print
+  pub in_order : AreInOrder threads prints
+  pub is : text ≡ flat_map print_line prints ++ flat_map (thread_line code words threads) threads

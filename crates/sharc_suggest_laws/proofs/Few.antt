@@ -1,0 +1,318 @@
+-- In a program at its tokens one value at most begins at a token: no other part begins there, and no value inside of it does.
+use Rattle.std.proofs.Common.{◌≡◌, ℕ, ◌+◌, ◌<◌, ◌≤◌, Bool, true, false, ◌⊎◌, inl, inr, List, [], ◌∷◌, ◌++◌, Option, Some, None, IfSome, length, refl, eqb-true, arith}
+use Rattle.sharc_tree.specs.declared.token.Span.{Span}
+use Rattle.sharc_tree.specs.declared.token.Token.{Token}
+use Rattle.sharc_tree.specs.Placed.{Follow, IsWhole, point, option_spans, argument_spans, first_spans, head_spans, statement_spans, declaration_spans, item_spans, Placed, AllPlaced, PlacedRight, PlacedSimple, PlacedLocal, PlacedFirst, PlacedHead, PlacedStatement, PlacedStatements, PlacedItem, PlacedItems}
+use Rattle.sharc_tree.specs.Spans.{span_of, span_of_right, span_of_simple, span_of_statement, span_of_item}
+use Rattle.sharc_tree.specs.Tree.{Expression, identifier, constant, parentheses, call, spawn, on_value, on_place, cast, index, field, unary, binary, Arguments, no_arguments, argument, Right, value, malloc, Simple, assign, does_call, Local, First, nothing, declares, does, Head, Statement, Statements, no_statements, statement, Function, Item, structure, global, function}
+use Rattle.sharc_tree.specs.Tree as tree
+use Rattle.sharc_suggest_laws.proofs.Follows.{split}
+use Rattle.sharc_suggest_laws.specs.Values.{count_of, met_inside, met_inside_all, met_at, of_option, met_in_right, met_in_simple, met_in_local, met_in_first, met_in_head, met_in_statement, met_in_statements, met_in_item, met_in_items, begins_at, ValuesBeginApart}
+
+-- a test that only what begins at one token meets
+pub record Test : Type 0 where
+  pub token : ℕ
+  pub test : Expression → Bool
+  pub begins : (e : Expression) → test e ≡ true → (span_of e).first.token ≡ token
+
+-- never, or once, and then it begins at a token from this one on, below that one
+abbrev pub AtMostOnce : Test → ℕ → ℕ → ℕ → Type 0
+AtMostOnce c from until n = (n ≡ 0) ⊎ ((n ≡ 1) × (from ≤ c.token) × (c.token < until))
+
+never : (c : Test) (from until : ℕ) → AtMostOnce c from until 0
+never c from until = inl refl
+
+wider : (c : Test) (from until low high n : ℕ) → AtMostOnce c from until n → low ≤ from → until ≤ high → AtMostOnce c low high n
+wider c from until low high n (inl none) le ge = inl none
+wider c from until low high n (inr w) le ge =
+    let begins : from ≤ c.token = w.1 in
+    let ends : c.token < until = w.2 in
+    inr (w.0, omega (arith, begins, le), omega (arith, ends, ge))
+
+-- of two stretches, one behind the other
+side_by_side : (c : Test) (from mid until n k : ℕ) → AtMostOnce c from mid n → AtMostOnce c mid until k → from ≤ mid → mid ≤ until → AtMostOnce c from until (n + k)
+side_by_side c from mid until n k (inl a) (inl b) le ge =
+    let left : n ≡ 0 = a in
+    let right : k ≡ 0 = b in
+    inl (omega (arith, left, right))
+side_by_side c from mid until n k (inl a) (inr w) le ge =
+    let left : n ≡ 0 = a in
+    let right : k ≡ 1 = w.0 in
+    let begins : mid ≤ c.token = w.1 in
+    inr (omega (arith, left, right), omega (arith, begins, le), w.2)
+side_by_side c from mid until n k (inr w) (inl b) le ge =
+    let left : n ≡ 1 = w.0 in
+    let right : k ≡ 0 = b in
+    let ends : c.token < mid = w.2 in
+    inr (omega (arith, left, right), w.1, omega (arith, ends, ge))
+side_by_side c from mid until n k (inr w) (inr v) le ge =
+    let ends : c.token < mid = w.2 in
+    let begins : mid ≤ c.token = v.1 in
+    absurd (omega (arith, ends, begins))
+
+-- ---- in spans that follow one another
+
+abbrev pub Few : List Token → Test → List Span → ℕ → Type 0
+Few all c spans n = (from until : ℕ) → from ≤ until → Follow all from until spans → AtMostOnce c from until n
+
+pub few_both : (all : List Token) (c : Test) (xs ys : List Span) (n k : ℕ) → Few all c xs n → Few all c ys k → Few all c (xs ++ ys) (n + k)
+few_both all c xs ys n k left right from until le follow =
+    let w = split all from until xs ys le follow in
+    side_by_side c from w.0 until n k (left from w.0 w.1 w.3) (right w.0 until w.2 w.4) w.1 w.2
+
+-- a whole has what its parts have
+whole : (all : List Token) (c : Test) (s : Span) (parts : List Span) (n : ℕ) → IsWhole all s parts → Few all c parts n → Few all c (s ∷ []) n
+whole all c s parts n placed few from until le follow =
+    let order : s.first.token ≤ s.last.token = placed.0.order in
+    let begins : from ≤ s.first.token = follow.1 in
+    let ends : s.last.token < until = follow.2 in
+    wider c s.first.token (s.last.token + 1) from until n (few s.first.token (s.last.token + 1) (omega (arith, order)) placed.1) begins (omega (arith, ends))
+
+none : (all : List Token) (c : Test) (spans : List Span) → Few all c spans 0
+none all c spans from until le follow = inl refl
+
+-- ---- in an expression: behind its first token
+
+abbrev IsInner : Test → Span → ℕ → Type 0
+IsInner c s n = AtMostOnce c (s.first.token + 1) (s.last.token + 1) n
+
+inside_few : (all : List Token) (c : Test) (s : Span) (n : ℕ) → IsInner c s n → Few all c (s ∷ []) n
+inside_few all c s n inner from until le follow =
+    let begins : from ≤ s.first.token = follow.1 in
+    let ends : s.last.token < until = follow.2 in
+    wider c (s.first.token + 1) (s.last.token + 1) from until n inner (omega (arith, begins)) (omega (arith, ends))
+
+-- one part alone
+inner_part : (all : List Token) (c : Test) (s part : Span) (n : ℕ) → Follow all s.first.token (s.last.token + 1) (part ∷ []) → IsInner c part n → IsInner c s n
+inner_part all c s part n follow inner =
+    let begins : s.first.token ≤ part.first.token = follow.1 in
+    let ends : part.last.token < s.last.token + 1 = follow.2 in
+    wider c (part.first.token + 1) (part.last.token + 1) (s.first.token + 1) (s.last.token + 1) n inner (omega (arith, begins)) (omega (arith, ends))
+
+-- the expression itself, or something inside of it, and not both
+with_itself : (c : Test) (s : Span) (n : ℕ) (b : Bool) → (b ≡ true → s.first.token ≡ c.token) → s.first.token ≤ s.last.token → IsInner c s n → AtMostOnce c s.first.token (s.last.token + 1) (n + count_of b)
+with_itself c s n false is order (inl a) =
+    let left : n ≡ 0 = a in
+    let many : n + 0 ≡ 0 = omega (arith, left) in
+    inl many
+with_itself c s n false is order (inr w) =
+    let left : n ≡ 1 = w.0 in
+    let begins : s.first.token + 1 ≤ c.token = w.1 in
+    let many : n + 0 ≡ 1 = omega (arith, left) in
+    inr (many, omega (arith, begins), w.2)
+with_itself c s n true is order (inl a) =
+    let left : n ≡ 0 = a in
+    let at : s.first.token ≡ c.token = is refl in
+    let many : n + 1 ≡ 1 = omega (arith, left) in
+    inr (many, omega (arith, at), omega (arith, at, order))
+with_itself c s n true is order (inr w) =
+    let at : s.first.token ≡ c.token = is refl in
+    let begins : s.first.token + 1 ≤ c.token = w.1 in
+    absurd (omega (arith, at, begins))
+
+ordered : (all : List Token) (e : Expression) → Placed all e → (span_of e).first.token ≤ (span_of e).last.token
+ordered all (identifier s i) placed = placed.0.0.order
+ordered all (constant s k) placed = placed.0.order
+ordered all (parentheses s a) placed = placed.0.0.order
+ordered all (call s f args) placed = placed.0.0.order
+ordered all (spawn s f a) placed = placed.0.0.order
+ordered all (on_value s w a) placed = placed.0.0.order
+ordered all (on_place s w a) placed = placed.0.0.order
+ordered all (cast s t a) placed = placed.0.0.order
+ordered all (index s a i) placed = placed.0.0.order
+ordered all (field s a w n) placed = placed.0.0.order
+ordered all (unary s o a) placed = placed.0.0.order
+ordered all (binary s o at a b) placed = placed.0.0.order
+
+value_at : (all : List Token) (c : Test) (e : Expression) → Placed all e → IsInner c (span_of e) (met_inside c.test e) → AtMostOnce c (span_of e).first.token ((span_of e).last.token + 1) (met_at c.test e)
+value_at all c e placed inner = with_itself c (span_of e) (met_inside c.test e) (c.test e) (c.begins e) (ordered all e placed) inner
+
+value_few : (all : List Token) (c : Test) (e : Expression) → Placed all e → IsInner c (span_of e) (met_inside c.test e) → Few all c (span_of e ∷ []) (met_at c.test e)
+value_few all c e placed inner from until le follow =
+    let begins : from ≤ (span_of e).first.token = follow.1 in
+    let ends : (span_of e).last.token < until = follow.2 in
+    wider c (span_of e).first.token ((span_of e).last.token + 1) from until (met_at c.test e) (value_at all c e placed inner) begins (omega (arith, ends))
+
+mutual
+  inside : (all : List Token) (c : Test) (e : Expression) → Placed all e → IsInner c (span_of e) (met_inside c.test e)
+  inside all c (identifier s i) placed = inl refl
+  inside all c (constant s k) placed = inl refl
+  inside all c (parentheses s a) placed = inner_part all c s (span_of a) (met_inside c.test a) placed.0.1 (inside all c a placed.1)
+  inside all c (call s f args) placed =
+      let named : s.first.token ≤ f.site.token = placed.0.1.1 in
+      let within : f.site.token < s.last.token + 1 = placed.0.1.2 in
+      wider c (f.site.token + 1) (s.last.token + 1) (s.first.token + 1) (s.last.token + 1) (met_inside_all c.test args)
+      (inside_all all c args placed.2 (f.site.token + 1) (s.last.token + 1) (omega (arith, within)) placed.0.1.3) (omega (arith, named)) (omega arith)
+  inside all c (spawn s f a) placed =
+      let named : s.first.token ≤ f.site.token = placed.0.1.1 in
+      let within : f.site.token < s.last.token + 1 = placed.0.1.2 in
+      wider c (f.site.token + 1) (s.last.token + 1) (s.first.token + 1) (s.last.token + 1) (met_at c.test a)
+      (value_few all c a placed.2 (inside all c a placed.2) (f.site.token + 1) (s.last.token + 1) (omega (arith, within)) placed.0.1.3) (omega (arith, named)) (omega arith)
+  inside all c (on_value s w a) placed = inner_part all c s (span_of a) (met_inside c.test a) placed.0.1 (inside all c a placed.1)
+  inside all c (on_place s w a) placed = inner_part all c s (span_of a) (met_inside c.test a) placed.0.1 (inside all c a placed.1)
+  inside all c (cast s t a) placed =
+      let order : t.span.first.token ≤ t.span.last.token = placed.0.1.0.order in
+      let typed : s.first.token ≤ t.span.first.token = placed.0.1.1 in
+      let begins : t.span.last.token + 1 ≤ (span_of a).first.token = placed.0.1.3.1 in
+      let ends : (span_of a).last.token < s.last.token + 1 = placed.0.1.3.2 in
+      wider c ((span_of a).first.token + 1) ((span_of a).last.token + 1) (s.first.token + 1) (s.last.token + 1) (met_inside c.test a) (inside all c a placed.2) (omega (arith, order, typed, begins)) (omega (arith, ends))
+  inside all c (index s a i) placed =
+      let order : (span_of a).first.token ≤ (span_of a).last.token = placed.0.1.0.order in
+      let begins : s.first.token ≤ (span_of a).first.token = placed.0.1.1 in
+      let ends : (span_of a).last.token < s.last.token + 1 = placed.0.1.2 in
+      let next : (span_of a).last.token + 1 ≤ (span_of i).first.token = placed.0.1.3.1 in
+      let last : (span_of i).last.token < s.last.token + 1 = placed.0.1.3.2 in
+      side_by_side c (s.first.token + 1) ((span_of a).last.token + 1) (s.last.token + 1) (met_inside c.test a) (met_inside c.test i)
+      (wider c ((span_of a).first.token + 1) ((span_of a).last.token + 1) (s.first.token + 1) ((span_of a).last.token + 1) (met_inside c.test a) (inside all c a placed.1) (omega (arith, begins)) (omega arith))
+      (wider c ((span_of i).first.token + 1) ((span_of i).last.token + 1) ((span_of a).last.token + 1) (s.last.token + 1) (met_inside c.test i) (inside all c i placed.2) (omega (arith, next)) (omega (arith, last)))
+      (omega (arith, order, begins)) (omega (arith, ends))
+  inside all c (field s a w n) placed =
+      let begins : s.first.token ≤ (span_of a).first.token = placed.0.1.1 in
+      let ends : (span_of a).last.token < s.last.token + 1 = placed.0.1.2 in
+      wider c ((span_of a).first.token + 1) ((span_of a).last.token + 1) (s.first.token + 1) (s.last.token + 1) (met_inside c.test a) (inside all c a placed.1) (omega (arith, begins)) (omega (arith, ends))
+  inside all c (unary s o a) placed = inner_part all c s (span_of a) (met_inside c.test a) placed.0.1 (inside all c a placed.1)
+  inside all c (binary s o at a b) placed =
+      let order : (span_of a).first.token ≤ (span_of a).last.token = placed.0.1.0.order in
+      let begins : s.first.token ≤ (span_of a).first.token = placed.0.1.1 in
+      let ends : (span_of a).last.token < s.last.token + 1 = placed.0.1.2 in
+      let middle : (span_of a).last.token + 1 ≤ at.token = placed.0.1.3.1 in
+      let next : at.token + 1 ≤ (span_of b).first.token = placed.0.1.3.3.1 in
+      let last : (span_of b).last.token < s.last.token + 1 = placed.0.1.3.3.2 in
+      side_by_side c (s.first.token + 1) ((span_of a).last.token + 1) (s.last.token + 1) (met_inside c.test a) (met_inside c.test b)
+      (wider c ((span_of a).first.token + 1) ((span_of a).last.token + 1) (s.first.token + 1) ((span_of a).last.token + 1) (met_inside c.test a) (inside all c a placed.1) (omega (arith, begins)) (omega arith))
+      (wider c ((span_of b).first.token + 1) ((span_of b).last.token + 1) ((span_of a).last.token + 1) (s.last.token + 1) (met_inside c.test b) (inside all c b placed.2) (omega (arith, middle, next)) (omega (arith, last)))
+      (omega (arith, order, begins)) (omega (arith, ends))
+
+  inside_all : (all : List Token) (c : Test) (args : Arguments) → AllPlaced all args → Few all c (argument_spans args) (met_inside_all c.test args)
+  inside_all all c no_arguments placed = none all c []
+  inside_all all c (argument a rest) placed =
+      few_both all c (span_of a ∷ []) (argument_spans rest) (met_at c.test a) (met_inside_all c.test rest) (value_few all c a placed.0 (inside all c a placed.0)) (inside_all all c rest placed.1)
+
+pub few_in : (all : List Token) (c : Test) (e : Expression) → Placed all e → Few all c (span_of e ∷ []) (met_inside c.test e)
+few_in all c e placed = inside_few all c (span_of e) (met_inside c.test e) (inside all c e placed)
+
+pub few_value : (all : List Token) (c : Test) (e : Expression) → Placed all e → Few all c (span_of e ∷ []) (met_at c.test e)
+few_value all c e placed = value_few all c e placed (inside all c e placed)
+
+pub few_option : (all : List Token) (c : Test) (e : Option Expression) → IfSome e (Placed all) → Few all c (option_spans span_of e) (of_option (met_inside c.test) e)
+few_option all c None placed = none all c []
+few_option all c (Some e) placed = few_in all c e placed
+
+pub few_returned : (all : List Token) (c : Test) (e : Option Expression) → IfSome e (Placed all) → Few all c (option_spans span_of e) (of_option (met_at c.test) e)
+few_returned all c None placed = none all c []
+few_returned all c (Some e) placed = few_value all c e placed
+
+-- none behind the rest
+alone : (all : List Token) (c : Test) (xs ys : List Span) (n : ℕ) → Few all c xs n → Few all c (xs ++ ys) n
+alone all c xs ys n few from until le follow =
+    let w = split all from until xs ys le follow in
+    let low : from ≤ from = omega arith in
+    wider c from w.0 from until n (few from w.0 w.1 w.3) low w.2
+
+pub few_right : (all : List Token) (c : Test) (r : Right) → PlacedRight all r → Few all c (span_of_right r ∷ []) (met_in_right c.test r)
+few_right all c (value e) placed = few_value all c e placed
+few_right all c (malloc s n t) placed =
+    whole all c s (option_spans span_of n ++ (t.span ∷ [])) (of_option (met_inside c.test) n) placed.0 (alone all c (option_spans span_of n) (t.span ∷ []) (of_option (met_inside c.test) n) (few_option all c n placed.1))
+
+pub few_simple : (all : List Token) (c : Test) (x : Simple) → PlacedSimple all x → Few all c (span_of_simple x ∷ []) (met_in_simple c.test x)
+few_simple all c (assign s u r) placed =
+    whole all c s (span_of u ∷ (span_of_right r ∷ [])) (met_inside c.test u + met_in_right c.test r) placed.0
+    (few_both all c (span_of u ∷ []) (span_of_right r ∷ []) (met_inside c.test u) (met_in_right c.test r) (few_in all c u placed.1) (few_right all c r placed.2))
+few_simple all c (does_call e) placed = few_in all c e placed
+
+pub few_step : (all : List Token) (c : Test) (x : Option Simple) → IfSome x (PlacedSimple all) → Few all c (option_spans span_of_simple x) (of_option (met_in_simple c.test) x)
+few_step all c None placed = none all c []
+few_step all c (Some x) placed = few_simple all c x placed
+
+pub few_initial : (all : List Token) (c : Test) (x : Option Right) → IfSome x (PlacedRight all) → Few all c (option_spans span_of_right x) (of_option (met_in_right c.test) x)
+few_initial all c None placed = none all c []
+few_initial all c (Some r) placed = few_right all c r placed
+
+-- behind a span that has none
+behind_span : (all : List Token) (c : Test) (s : Span) (ys : List Span) (n : ℕ) → Few all c ys n → Few all c (s ∷ ys) n
+behind_span all c s ys n few from until le follow =
+    let order : s.first.token ≤ s.last.token = follow.0.order in
+    let begins : from ≤ s.first.token = follow.1 in
+    let ends : s.last.token < until = follow.2 in
+    wider c (s.last.token + 1) until from until n (few (s.last.token + 1) until (omega (arith, ends)) follow.3) (omega (arith, order, begins)) (omega arith)
+
+pub few_local : (all : List Token) (c : Test) (l : Local) → PlacedLocal all l → Few all c (l.span ∷ []) (met_in_local c.test l)
+few_local all c l placed =
+    whole all c l.span (l.declaration.span ∷ option_spans span_of_right l.initial) (met_in_local c.test l) placed.0
+    (behind_span all c l.declaration.span (option_spans span_of_right l.initial) (met_in_local c.test l) (few_initial all c l.initial placed.2))
+
+pub few_first : (all : List Token) (c : Test) (f : First) → PlacedFirst all f → Few all c (first_spans f) (met_in_first c.test f)
+few_first all c nothing placed = none all c []
+few_first all c (declares l) placed = few_local all c l placed
+few_first all c (does x) placed = few_simple all c x placed
+
+pub few_head : (all : List Token) (c : Test) (h : Head) → PlacedHead all h → Few all c (head_spans h) (met_in_head c.test h)
+few_head all c h placed =
+    few_both all c (first_spans h.first ++ option_spans span_of h.test) (option_spans span_of_simple h.step) (met_in_first c.test h.first + of_option (met_inside c.test) h.test) (of_option (met_in_simple c.test) h.step)
+    (few_both all c (first_spans h.first) (option_spans span_of h.test) (met_in_first c.test h.first) (of_option (met_inside c.test) h.test) (few_first all c h.first placed.0) (few_option all c h.test placed.1))
+    (few_step all c h.step placed.2)
+
+mutual
+  pub few_statement : (all : List Token) (c : Test) (s : Statement) → PlacedStatement all s → Few all c (span_of_statement s ∷ []) (met_in_statement c.test s)
+  few_statement all c (tree.empty s) placed = none all c (s ∷ [])
+  few_statement all c (tree.block s inner) placed = whole all c s (statement_spans inner) (met_in_statements c.test inner) placed.0 (few_statements all c inner placed.1)
+  few_statement all c (tree.declare s l) placed = whole all c s (l.span ∷ []) (met_in_local c.test l) placed.0 (few_local all c l placed.1)
+  few_statement all c (tree.simple s x) placed = whole all c s (span_of_simple x ∷ []) (met_in_simple c.test x) placed.0 (few_simple all c x placed.1)
+  few_statement all c (tree.jump s j) placed = none all c (s ∷ [])
+  few_statement all c (tree.return s e) placed = whole all c s (option_spans span_of e) (of_option (met_at c.test) e) placed.0 (few_returned all c e placed.1)
+  few_statement all c (tree.if_then s e a) placed =
+      whole all c s (span_of e ∷ (span_of_statement a ∷ [])) (met_inside c.test e + met_in_statement c.test a) placed.0
+      (few_both all c (span_of e ∷ []) (span_of_statement a ∷ []) (met_inside c.test e) (met_in_statement c.test a) (few_in all c e placed.1) (few_statement all c a placed.2))
+  few_statement all c (tree.if_then_else s e a b) placed =
+      whole all c s (span_of e ∷ (span_of_statement a ∷ (span_of_statement b ∷ []))) (met_inside c.test e + met_in_statement c.test a + met_in_statement c.test b) placed.0
+      (few_both all c (span_of e ∷ (span_of_statement a ∷ [])) (span_of_statement b ∷ []) (met_inside c.test e + met_in_statement c.test a) (met_in_statement c.test b)
+      (few_both all c (span_of e ∷ []) (span_of_statement a ∷ []) (met_inside c.test e) (met_in_statement c.test a) (few_in all c e placed.1) (few_statement all c a placed.2)) (few_statement all c b placed.3))
+  few_statement all c (tree.while s e a) placed =
+      whole all c s (span_of e ∷ (span_of_statement a ∷ [])) (met_inside c.test e + met_in_statement c.test a) placed.0
+      (few_both all c (span_of e ∷ []) (span_of_statement a ∷ []) (met_inside c.test e) (met_in_statement c.test a) (few_in all c e placed.1) (few_statement all c a placed.2))
+  few_statement all c (tree.for s h a) placed =
+      whole all c s (head_spans h ++ (span_of_statement a ∷ [])) (met_in_head c.test h + met_in_statement c.test a) placed.0
+      (few_both all c (head_spans h) (span_of_statement a ∷ []) (met_in_head c.test h) (met_in_statement c.test a) (few_head all c h placed.1) (few_statement all c a placed.2))
+
+  pub few_statements : (all : List Token) (c : Test) (inner : Statements) → PlacedStatements all inner → Few all c (statement_spans inner) (met_in_statements c.test inner)
+  few_statements all c no_statements placed = none all c []
+  few_statements all c (statement a rest) placed =
+      few_both all c (span_of_statement a ∷ []) (statement_spans rest) (met_in_statement c.test a) (met_in_statements c.test rest) (few_statement all c a placed.0) (few_statements all c rest placed.1)
+
+-- behind other spans
+behind_spans : (all : List Token) (c : Test) (xs ys : List Span) (n : ℕ) → Few all c ys n → Few all c (xs ++ ys) n
+behind_spans all c [] ys n few = few
+behind_spans all c (s ∷ xs) ys n few = behind_span all c s (xs ++ ys) n (behind_spans all c xs ys n few)
+
+pub few_function : (all : List Token) (c : Test) (f : Function) → PlacedItem all (function f) → Few all c (f.span ∷ []) (met_in_statements c.test f.statements)
+few_function all c f placed =
+    let inner : Few all c (f.body ∷ []) (met_in_statements c.test f.statements) = whole all c f.body (statement_spans f.statements) (met_in_statements c.test f.statements) placed.4 (few_statements all c f.statements placed.5) in
+    let n : ℕ = met_in_statements c.test f.statements in
+    whole all c f.span (f.result.span ∷ (point f.name.site ∷ (declaration_spans f.parameters ++ (f.body ∷ [])))) n placed.0
+    (behind_span all c f.result.span (point f.name.site ∷ (declaration_spans f.parameters ++ (f.body ∷ []))) n
+    (behind_span all c (point f.name.site) (declaration_spans f.parameters ++ (f.body ∷ [])) n (behind_spans all c (declaration_spans f.parameters) (f.body ∷ []) n inner)))
+
+pub few_item : (all : List Token) (c : Test) (i : Item) → PlacedItem all i → Few all c (span_of_item i ∷ []) (met_in_item c.test i)
+few_item all c (structure s) placed = none all c (s.span ∷ [])
+few_item all c (global g) placed = none all c (g.span ∷ [])
+few_item all c (function f) placed = few_function all c f placed
+
+pub few_items : (all : List Token) (c : Test) (items : List Item) → PlacedItems all items → Few all c (item_spans items) (met_in_items c.test items)
+few_items all c [] placed = none all c []
+few_items all c (i ∷ rest) placed = few_both all c (span_of_item i ∷ []) (item_spans rest) (met_in_item c.test i) (met_in_items c.test rest) (few_item all c i placed.0) (few_items all c rest placed.1)
+
+pub begins_once : (all : List Token) (c : Test) (items : List Item) (until : ℕ) → Follow all 0 until (item_spans items) → PlacedItems all items → AtMostOnce c 0 until (met_in_items c.test items)
+begins_once all c items until follow placed = few_items all c items placed 0 until (omega arith) follow
+
+pub at_most_one : (c : Test) (from until n : ℕ) → AtMostOnce c from until n → n ≤ 1
+at_most_one c from until n (inl none) =
+    let zero_many : n ≡ 0 = none in
+    omega (arith, zero_many)
+at_most_one c from until n (inr w) =
+    let one : n ≡ 1 = w.0 in
+    omega (arith, one)
+
+pub values_begin_apart : ValuesBeginApart
+values_begin_apart p placed token =
+    let c : Test = record { token = token; test = begins_at token; begins = λ e is. eqb-true (span_of e).first.token token is } in
+    at_most_one c 0 (length p.tokens.list) (met_in_items (begins_at token) p.items) (begins_once p.tokens.list c p.items (length p.tokens.list) placed.follow placed.items)

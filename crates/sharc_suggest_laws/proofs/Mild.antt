@@ -1,0 +1,133 @@
+-- What is said of the type of a cast that is suggested does no harm: its names name there what they name where they stand.
+use Rattle.std.proofs.Common.{◌≡◌, inl, inr, ℕ, ◌+◌, Bool, true, false, List, [], ◌∷◌, ◌++◌, map, Option, Some, None, refl, ap, sym, subst, ◌∙◌, eqb-true}
+use Rattle.std.proofs.lemmas.Bool.{false≢true, and_parts}
+use Rattle.sharc_tree.specs.declared.ctype.Base.{Base}
+use Rattle.sharc_tree.specs.declared.ctype.Base.TheVariants as base
+use Rattle.sharc_tree.specs.declared.ctype.Mode.{Mode}
+use Rattle.sharc_tree.specs.declared.tree.declaration.Declaration.{Declaration}
+use Rattle.sharc_tree.specs.declared.tree.declaration.WrittenType.{WrittenType}
+use Rattle.sharc_names.specs.declared.fault.FaultCode.TheVariants.{TypeNotAllowed}
+use Rattle.sharc_names.specs.declared.fault.Named.{Named}
+use Rattle.sharc_names.specs.declared.fault.Named.TheVariants as named
+use Rattle.sharc_names.specs.declared.scope.Scope.{Scope}
+use Rattle.sharc_names.specs.declared.types.Role.TheVariants as role
+use Rattle.sharc_names.specs.Names.{Entry, StructMeaning, StructTable, struct_of, look_up, named_of, named_struct}
+use Rattle.sharc_names.specs.Names as meaning
+use Rattle.sharc_names.specs.Notes.{fault_unless}
+use Rattle.sharc_names.specs.Types.{name_notes, main_notes, second_in, second_notes, path_notes, mode_notes, modes_notes, struct_note, base_notes, allowed_there, type_notes, first_kind}
+use Rattle.sharc_ctype.specs.Resolved.{Resolution, named_at}
+use Rattle.sharc_ctype.specs.Statements.{with_names}
+use Rattle.sharc_mode.specs.Sharings.{Sharing, private, readonly, locked, racy, dynamic, is_field, same_named, mode_of, path_with, text_at}
+use Rattle.sharc_suggest.specs.Repairs.{keeps_named, keeps, keeps_all}
+use Rattle.sharc_suggest_laws.specs.Names.{is_dull}
+use Rattle.sharc_suggest_laws.proofs.Noted.{Clean, left, right, no_fault, Noted, done, added, both, more_faults, new_fault, quiet, main_faults, unless_faults}
+use Rattle.sharc_suggest_laws.proofs.Scoped.{IsFoundAs, Scoped}
+
+-- a global or a function
+abbrev pub is_filed : Named → Bool
+is_filed (named.Global n) = true
+is_filed (named.Function n) = true
+is_filed _ = false
+
+-- a token that names a global or a function has the text of what the file knows as that
+abbrev pub IsSpelled : Resolution → List Entry → Type 0
+IsSpelled r file = (token : ℕ) → is_filed (named_at r token) ≡ true → (e : Entry) → look_up file (text_at r token) ≡ Some e → named_of e.meaning ≡ named_at r token
+
+-- ---- the first name of a lock path
+
+variable_is : (x : ℕ) (w : Named) → same_named (named.Variable x) w ≡ true → named.Variable x ≡ w
+variable_is x (named.Struct n) is = absurd (false≢true is)
+variable_is x (named.Global n) is = absurd (false≢true is)
+variable_is x (named.Function n) is = absurd (false≢true is)
+variable_is x (named.Variable y) is = ap named.Variable (eqb-true x y is)
+variable_is x (named.Field f) is = absurd (false≢true is)
+variable_is x named.Known is = absurd (false≢true is)
+
+-- what it names where the cast stands is what it names where it stands
+named_there : (r : Resolution) (file names : List Entry) (token : ℕ) → IsSpelled r file → (v : Named) → named_at r token ≡ v → (c : Option Entry) → keeps_named v c ≡ true
+    → IsFoundAs c (look_up names (text_at r token)) (look_up file (text_at r token)) → (e : Entry) → look_up names (text_at r token) ≡ Some e → named_at r token ≡ named_of e.meaning
+named_there r file names token spelled (named.Struct n) is None kept found e at = absurd (false≢true kept)
+named_there r file names token spelled (named.Struct n) is (Some x) kept found e at = absurd (false≢true kept)
+named_there r file names token spelled (named.Global n) is None kept found e at = sym (spelled token (ap is_filed is) e (sym found ∙ at))
+named_there r file names token spelled (named.Global n) is (Some x) kept found e at = absurd (false≢true kept)
+named_there r file names token spelled (named.Function n) is None kept found e at = sym (spelled token (ap is_filed is) e (sym found ∙ at))
+named_there r file names token spelled (named.Function n) is (Some x) kept found e at = absurd (false≢true kept)
+named_there r file names token spelled (named.Variable x) is None kept found e at = absurd (false≢true kept)
+named_there r file names token spelled (named.Variable x) is (Some c) kept found e at =
+    is ∙ variable_is x (named_of c.meaning) kept ∙ ap named_of (sym found.2) ∙ ap (λ (z : Entry). named_of z.meaning) (one_some found.0 e (sym found.1 ∙ at))
+  where
+    one_some : (a b : Entry) → Some a ≡ Some b → a ≡ b
+    one_some a b h = cc
+named_there r file names token spelled (named.Field f) is None kept found e at = absurd (false≢true kept)
+named_there r file names token spelled (named.Field f) is (Some x) kept found e at = absurd (false≢true kept)
+named_there r file names token spelled named.Known is None kept found e at = absurd (false≢true kept)
+named_there r file names token spelled named.Known is (Some x) kept found e at = absurd (false≢true kept)
+
+name_mild : (r : Resolution) (token : ℕ) (o : Option Entry) → ((e : Entry) → o ≡ Some e → named_at r token ≡ named_of e.meaning) → Clean (name_notes token o) → Noted r [] (name_notes token o)
+name_mild r token None is clean = absurd (no_fault _ _ _ clean)
+name_mild r token (Some e) is clean = added (inl (is e refl)) (quiet r [] (main_notes token e.meaning) tt (main_faults token e.meaning))
+
+second_mild : (r : Resolution) (token : ℕ) (o : Option (Option Declaration)) → Noted r [] (second_notes token o)
+second_mild r token None = done
+second_mild r token (Some None) = new_fault done
+second_mild r token (Some (Some d)) = added refl done
+
+path_mild : (r : Resolution) (scope : Scope) (token : ℕ) (text : List ℕ) (second : Option (List ℕ)) → ((e : Entry) → look_up scope.names text ≡ Some e → named_at r token ≡ named_of e.meaning)
+    → Clean (path_notes scope [] (path_with token text second)) → Noted r [] (path_notes scope [] (path_with token text second))
+path_mild r scope token text None is clean = name_mild r token (look_up scope.names text) is clean
+path_mild r scope token text (Some m) is clean =
+    both r [] (name_notes token (look_up scope.names text)) [] _ (name_mild r token (look_up scope.names text) is (left _ _ clean))
+    (second_mild r (token + 2) (second_in scope.structs m (first_kind None (look_up scope.names text))))
+
+mode_mild : (r : Resolution) (file : Scope) (names scope : List Entry) → IsSpelled r file.names → Scoped file.names names scope → (s : Sharing) → keeps r scope s ≡ true
+    → Clean (mode_notes (with_names file names) [] (Some (mode_of r s))) → Noted r [] (mode_notes (with_names file names) [] (Some (mode_of r s)))
+mode_mild r file names scope spelled scoped private kept clean = done
+mode_mild r file names scope spelled scoped readonly kept clean = done
+mode_mild r file names scope spelled scoped (locked l) kept clean =
+    path_mild r (with_names file names) l.first (text_at r l.first) l.second
+    (named_there r file.names names l.first spelled (named_at r l.first) refl (look_up scope (text_at r l.first)) kept (scoped (text_at r l.first))) clean
+mode_mild r file names scope spelled scoped racy kept clean = done
+mode_mild r file names scope spelled scoped dynamic kept clean = done
+
+modes_mild : (r : Resolution) (file : Scope) (names scope : List Entry) → IsSpelled r file.names → Scoped file.names names scope → (modes : List Sharing) → keeps_all r scope modes ≡ true
+    → Clean (modes_notes (with_names file names) [] (map (λ s. Some (mode_of r s)) modes)) → Noted r [] (modes_notes (with_names file names) [] (map (λ s. Some (mode_of r s)) modes))
+modes_mild r file names scope spelled scoped [] kept clean = done
+modes_mild r file names scope spelled scoped (s ∷ rest) kept clean =
+    let parts : (keeps r scope s ≡ true) × (keeps_all r scope rest ≡ true) = and_parts (keeps r scope s) (keeps_all r scope rest) kept in
+    both r [] (mode_notes (with_names file names) [] (Some (mode_of r s))) [] _ (mode_mild r file names scope spelled scoped s parts.0 (left _ _ clean)) (modes_mild r file names scope spelled scoped rest parts.1 (right _ _ clean))
+
+-- ---- the base
+
+-- the token at which a base is named names a struct
+abbrev pub NamesBase : Resolution → ℕ → Base → Type 0
+NamesBase r token (base.Struct name) = (is_dull (named_at r token) ≡ true) × (is_field (named_at r token) ≡ false)
+NamesBase r token _ = Unit {0}
+
+struct_dull : (s : StructMeaning) → is_dull (named_struct s) ≡ true
+struct_dull (meaning.defined n fields) = refl
+struct_dull meaning.known = refl
+
+struct_mild : (r : Resolution) (token : ℕ) (o : Option StructMeaning) → (is_dull (named_at r token) ≡ true) × (is_field (named_at r token) ≡ false) → Noted r [] (struct_note token o)
+struct_mild r token None is = new_fault done
+struct_mild r token (Some s) is = added (inr (is.0, is.1, struct_dull s)) done
+
+base_mild : (r : Resolution) (structs : StructTable) (token : ℕ) (b : Base) → NamesBase r token b → Noted r [] (base_notes structs token b)
+base_mild r structs token base.Int is = done
+base_mild r structs token base.Char is = done
+base_mild r structs token base.Long is = done
+base_mild r structs token base.Mutex is = done
+base_mild r structs token base.Void is = done
+base_mild r structs token (base.Struct name) is = struct_mild r token (struct_of structs name) is
+
+-- ---- the type
+
+pub type_mild : (r : Resolution) (file : Scope) (names scope : List Entry) → IsSpelled r file.names → Scoped file.names names scope → (w : WrittenType) (modes : List Sharing) → w.ctype.levels ≡ None ∷ map (λ s. Some (mode_of r s)) modes
+    → NamesBase r w.base.token w.ctype.base → keeps_all r scope modes ≡ true → Clean (type_notes (with_names file names) [] role.Cast w) → Noted r [] (type_notes (with_names file names) [] role.Cast w)
+type_mild r file names scope spelled scoped w modes levels named_base kept clean =
+    let σ : Scope = with_names file names in
+    let bases : Noted r [] (base_notes file.structs w.base.token w.ctype.base ++ fault_unless (allowed_there role.Cast w) w.span.first.token TypeNotAllowed) =
+    more_faults r [] (base_notes file.structs w.base.token w.ctype.base) _ (base_mild r file.structs w.base.token w.ctype.base named_base) (unless_faults (allowed_there role.Cast w) w.span.first.token TypeNotAllowed) in
+    let all : Noted r [] (modes_notes σ [] w.ctype.levels) =
+    subst (λ (l : List (Option Mode)). Noted r [] (modes_notes σ [] l)) (sym levels)
+    (modes_mild r file names scope spelled scoped modes kept (subst (λ (l : List (Option Mode)). Clean (modes_notes σ [] l)) levels (right _ _ clean))) in
+    both r [] (base_notes file.structs w.base.token w.ctype.base ++ fault_unless (allowed_there role.Cast w) w.span.first.token TypeNotAllowed) [] (modes_notes σ [] w.ctype.levels) bases all

@@ -1,0 +1,46 @@
+-- In a resolved program at its tokens each token is told one thing at most.
+use Rattle.std.proofs.Common.{◌⊎◌, inl, inr, ⊎_elim, ℕ, suc, List, [], ◌∷◌, Contains, sym, subst, arith}
+use Rattle.std.specs.List.{AllByRecursion}
+use Rattle.std.proofs.lemmas.Bool.{cases_eq}
+use Rattle.sharc_names.specs.declared.fault.Named.{Named}
+use Rattle.sharc_names.specs.Notes.{Note, fault, refers, yields, referred}
+use Rattle.sharc_ctype.specs.Items.{notes_about}
+use Rattle.sharc_ctype.specs.Reaches.{name_tokens}
+use Rattle.sharc_ctype.specs.Resolved.{Resolution, named_at}
+use Rattle.sharc_tree.specs.Marks.{items_marks}
+use Rattle.sharc_ctype_laws.specs.Laws.{Tells, IsToldOnce}
+use Rattle.sharc_suggest_laws.proofs.Folded.{IsOwnAt}
+use Rattle.sharc_suggest_laws.proofs.Listed.{joint}
+
+later : (n t : ℕ) (list : List ℕ) → Contains list t → Contains (n ∷ list) t
+later n t list (k, low, is) = (suc k, omega (arith, low), is)
+
+none_told : (t : ℕ) (v : Named) (l : List Note) → (Contains (referred l) t → ⊥) → AllByRecursion (IsOwnAt t v) l
+none_told t v [] not_so = tt
+none_told t v (fault place code ∷ rest) not_so = (tt, none_told t v rest not_so)
+none_told t v (refers n w ∷ rest) not_so = ((λ same. absurd (not_so (0, omega arith, same))), none_told t v rest (λ c. not_so (later n t (referred rest) c)))
+none_told t v (yields n w ∷ rest) not_so = ((λ same. absurd (not_so (0, omega arith, same))), none_told t v rest (λ c. not_so (later n t (referred rest) c)))
+
+told_so : (t : ℕ) (v : Named) (n : Note) → Tells n t v → IsOwnAt t v n
+told_so t v (fault place code) tells = tt
+told_so t v (refers n w) tells = λ same. tells.1
+told_so t v (yields n w) tells = λ same. tells.1
+
+one_told : (r : Resolution) (t : ℕ) → IsToldOnce r t → AllByRecursion (IsOwnAt t (named_at r t)) (notes_about r.program)
+one_told r t once =
+    subst (λ (v : Named). AllByRecursion (IsOwnAt t v) (notes_about r.program)) (sym once.named)
+    (subst (AllByRecursion (IsOwnAt t once.what)) (sym once.notes)
+    (joint (IsOwnAt t once.what) once.before (once.note ∷ once.after) (none_told t once.what once.before once.not_before) (told_so t once.what once.note once.tells, none_told t once.what once.after once.not_after)))
+
+-- it is told, or all is well
+told_or_not : (t : ℕ) (v : Named) (l : List Note) → Contains (referred l) t ⊎ AllByRecursion (IsOwnAt t v) l
+told_or_not t v [] = inr tt
+told_or_not t v (fault place code ∷ rest) = ⊎_elim (λ c. inl c) (λ h. inr (tt, h)) (told_or_not t v rest)
+told_or_not t v (refers n w ∷ rest) =
+    ⊎_elim (λ same. inl (0, omega arith, same)) (λ other. ⊎_elim (λ c. inl (later n t (referred rest) c)) (λ h. inr ((λ same. absurd (other same)), h)) (told_or_not t v rest)) (cases_eq n t)
+told_or_not t v (yields n w ∷ rest) =
+    ⊎_elim (λ same. inl (0, omega arith, same)) (λ other. ⊎_elim (λ c. inl (later n t (referred rest) c)) (λ h. inr ((λ same. absurd (other same)), h)) (told_or_not t v rest)) (cases_eq n t)
+
+pub all_own : (r : Resolution) (t : ℕ) → (Contains (referred (notes_about r.program)) t → Contains (name_tokens (items_marks r.program.items)) t) → (Contains (name_tokens (items_marks r.program.items)) t → IsToldOnce r t)
+    → AllByRecursion (IsOwnAt t (named_at r t)) (notes_about r.program)
+all_own r t only once = ⊎_elim (λ c. one_told r t (once (only c))) (λ h. h) (told_or_not t (named_at r t) (notes_about r.program))

@@ -1,0 +1,88 @@
+-- Positions under their new numbers.
+use Rattle.std.proofs.Common.{◌≡◌, ℕ, ◌+◌, ◌≤◌, ◌==◌, Bool, true, false, ◌&&◌, cond, inl, inr, List, [], ◌∷◌, Option, Some, None, length, replicate, get_or, refl, ap, sym, ◌∙◌, true≢false, eq-eqb, arith}
+use Rattle.std.specs.List.{find}
+use Rattle.std.proofs.Math.ListN.{get_or-map}
+use Rattle.std.proofs.lemmas.Bool.{and_from}
+use Rattle.std.proofs.lemmas.List.{length-replicate}
+use Rattle.sharc_tree.specs.declared.ctype.Mode.TheVariants.{Private}
+use Rattle.sharc_tree.specs.Placed.{IsPlaced}
+use Rattle.sharc_rewrite.specs.declared.written.Recast.{Recast}
+use Rattle.sharc_rewrite.specs.Recast.{is_there}
+use Rattle.sharc_ctype.specs.declared.entity.Entity.{Entity}
+use Rattle.sharc_ctype.specs.declared.entity.Numbered.{Numbered}
+use Rattle.sharc_ctype.specs.Entities.{entities_in, entity_at, positions_of, positions_in, numbered_from, is_told_by}
+use Rattle.sharc_mode.specs.declared.error.Cast.{Cast}
+use Rattle.sharc_mode.specs.declared.position.Reason.{Reason}
+use Rattle.sharc_mode.specs.Moded.{Assignment}
+use Rattle.sharc_mode.specs.Sharings.{sharing_of}
+use Rattle.sharc_suggest.specs.Applied.{recast_of, program_with, resolution_with, targets, inserted, moved, first_of, first_new}
+use Rattle.sharc_suggest_laws.specs.Kept.{renumbered, PositionsStay}
+use Rattle.sharc_suggest_laws.proofs.Grown.{IsCastOf, Grown, grown_items}
+use Rattle.sharc_suggest_laws.proofs.Inserted.{among, renumbered_kept}
+use Rattle.sharc_suggest_laws.specs.Values.{met_in_items}
+
+-- ---- the first that is told by the cast's tokens has a number that is not past the old ones
+
+some_here : (here x : Numbered) → Some here ≡ Some x → here ≡ x
+some_here here x is = cc
+
+no_more : (x : Numbered) → None ≡ Some x → ⊥
+no_more x is = cc
+
+pub cast_is_told : (c : Recast) (k : ℕ) (e : Entity) → IsCastOf c e → is_told_by c.from c.until (record { entity = e; first = k }) ≡ true
+cast_is_told c k e w =
+    ap (λ (x : Entity). x.token == c.from && x.last == c.until) w.is
+    ∙ and_from (w.span.first.token == c.from) (w.span.last.token == c.until) (eq-eqb w.span.first.token c.from w.first) (eq-eqb w.span.last.token c.until w.last)
+
+within_by : (room : ℕ) (here x : Numbered) (b : Bool) (found : Option Numbered) → here.first ≤ room → cond b (Some here) found ≡ Some x → (b ≡ false → found ≡ Some x → x.first ≤ room) → x.first ≤ room
+within_by room here x true found low is more =
+    let same : here.first ≡ x.first = ap (λ (n : Numbered). n.first) (some_here here x is) in
+    omega (arith, same, low)
+within_by room here x false found low is more = more refl is
+
+first_within : (c : Recast) (n from until k : ℕ) (old new : List Entity) (x : Numbered) → Grown c n from until old new → find (is_told_by c.from c.until) (numbered_from k new) ≡ Some x → x.first ≤ k + positions_in old
+first_within c n from until k old [] x grown is = absurd (no_more x is)
+first_within c n from until k old (e ∷ new) x (inl w) is =
+    let here : Numbered = record { entity = e; first = k } in
+    let begins : k ≤ k + positions_in old = omega arith in
+    let many : positions_in old ≡ positions_of e + positions_in w.0 = ap positions_in w.1 in
+    within_by (k + positions_in old) here x (is_told_by c.from c.until here) (find (is_told_by c.from c.until) (numbered_from (k + positions_of e) new)) begins is
+    (λ no later. let low : x.first ≤ k + positions_of e + positions_in w.0 = first_within c n (e.token + 1) until (k + positions_of e) w.0 new x w.4 later in omega (arith, low, many))
+first_within c n from until k old (e ∷ new) x (inr w) is =
+    let here : Numbered = record { entity = e; first = k } in
+    let begins : k ≤ k + positions_in old = omega arith in
+    within_by (k + positions_in old) here x (is_told_by c.from c.until here) (find (is_told_by c.from c.until) (numbered_from (k + positions_of e) new)) begins is
+    (λ no later. absurd (true≢false (sym (cast_is_told c k e w.2) ∙ no)))
+
+none_within : (room : ℕ) (found : Option Numbered) → ((x : Numbered) → found ≡ Some x → x.first ≤ room) → first_of found ≤ room
+none_within room None low = let least : 0 ≤ room = omega arith in least
+none_within room (Some x) low = low x refl
+
+pub new_within : (m : Assignment) (c : Cast) → IsPlaced m.typed.program → first_new c m.typed ≤ 0 + positions_in (entities_in m.typed.program.items)
+new_within m c placed =
+    let r : Recast = recast_of m.typed c in
+    let items = m.typed.program.items in
+    let end : ℕ = length m.typed.program.tokens.list in
+    none_within (0 + positions_in (entities_in items)) (entity_at (resolution_with c m.typed) c.from c.until)
+    (λ x is. first_within r (met_in_items (is_there r) items) 0 end 0 (entities_in items) (entities_in (program_with c m.typed).items) x (grown_items m.typed.program.tokens.list r items end placed.follow placed.items) is)
+
+-- ---- so the modes and the reasons are kept
+
+pub positions_stay : PositionsStay
+positions_stay m c whole placed =
+    let first : ℕ = first_new c m.typed in
+    let count : ℕ = length (targets c.to.levels) in
+    let low : first ≤ 0 + positions_in (entities_in m.typed.program.items) = new_within m c placed in
+    let many_modes : length m.modes ≡ positions_in (entities_in m.typed.program.items) = whole.modes in
+    let many_reasons : length m.reasons ≡ positions_in (entities_in m.typed.program.items) = whole.reasons in
+    let in_modes : first ≤ length m.modes = omega (arith, low, many_modes) in
+    let in_reasons : first ≤ length m.reasons = omega (arith, low, many_reasons) in
+    let none : List (Option Reason) = replicate count None in
+    let counted : length none ≡ count = length-replicate count None in
+    record {
+      modes = λ position. ap sharing_of (renumbered_kept first (targets c.to.levels) m.modes position Private in_modes);
+      reasons = λ position.
+          get_or-map (moved first count) (inserted first none m.reasons) (renumbered first count position) None
+          ∙ ap (moved first count) (ap (λ (n : ℕ). get_or (inserted first none m.reasons) (renumbered first n position) None) (sym counted) ∙ renumbered_kept first none m.reasons position None in_reasons);
+      added = λ depth below. ap sharing_of (among first (targets c.to.levels) m.modes depth Private in_modes below);
+    }

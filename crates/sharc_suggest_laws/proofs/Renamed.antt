@@ -1,0 +1,217 @@
+-- What tokens name in a program with a suggested cast written in it.
+use Rattle.std.proofs.Common.{◌≡◌, ◌⊎◌, inl, inr, ℕ, ◌+◌, ◌==◌, zero, suc, Bool, true, false, cond, List, [], ◌∷◌, Some, slice_get, refl, ap, sym, subst, ◌∙◌}
+use Rattle.std.specs.List.{AllByRecursion}
+use Rattle.std.proofs.lemmas.Bool.{false≢true}
+use Rattle.std.proofs.lemmas.Slice.Eq.{bytes_eq-Decides}
+use Rattle.sharc_tree.specs.declared.ctype.Base.{Base}
+use Rattle.sharc_tree.specs.declared.ctype.Base.TheVariants as base
+use Rattle.sharc_tree.specs.declared.token.Site.{Site}
+use Rattle.sharc_tree.specs.declared.tree.declaration.WrittenType.{WrittenType}
+use Rattle.sharc_tree.specs.declared.tree.declaration.Declaration.{Declaration}
+use Rattle.sharc_tree.specs.declared.tree.item.GlobalDefinition.{GlobalDefinition}
+use Rattle.sharc_tree.specs.declared.tree.item.GlobalForm.{GlobalForm}
+use Rattle.sharc_tree.specs.declared.tree.item.GlobalForm.TheVariants.{Plain, Array, Initial}
+use Rattle.sharc_tree.specs.declared.tree.expression.Constant.{Constant}
+use Rattle.sharc_tree.specs.declared.tree.expression.Constant.TheVariants.{Number, Character, Null}
+use Rattle.sharc_tree.specs.declared.tree.expression.UnaryOperator.{UnaryOperator}
+use Rattle.sharc_tree.specs.declared.tree.expression.UnaryOperator.TheVariants.{Negate, Not, Complement, Dereference}
+use Rattle.sharc_tree.specs.declared.token.NumberType.{NumberType}
+use Rattle.sharc_tree.specs.declared.token.NumberType.TheVariants as width
+use Rattle.sharc_tree.specs.Measures.{expressions}
+use Rattle.sharc_tree.specs.Tree.{Expression, identifier, constant, parentheses, call, spawn, on_value, on_place, cast, index, field, unary, binary, Function}
+use Rattle.sharc_names.specs.declared.fault.Named.{Named}
+use Rattle.sharc_names.specs.declared.fault.Named.TheVariants as named
+use Rattle.sharc_names.specs.Kinds.{Kind, object, array, null, is_long, declared_kind, element_kind, promoted, common, int, long}
+use Rattle.sharc_names.specs.Kinds as kinds
+use Rattle.sharc_names.specs.Names.{global_kind}
+use Rattle.sharc_ctype.specs.declared.entity.Entity.{Entity}
+use Rattle.sharc_ctype.specs.declared.expr.OperatorClass.{OperatorClass}
+use Rattle.sharc_ctype.specs.declared.expr.OperatorClass.TheVariants.{Logical, Equality, Relation, Shift, Arithmetic}
+use Rattle.sharc_ctype.specs.Entities.{entities_in, numbered, numbered_from, positions_of}
+use Rattle.sharc_ctype.specs.Expressions.{number_kind, constant_kind, unary_result, class_of, binary_result}
+use Rattle.sharc_ctype.specs.Resolved.{Resolution, named_at, globals_in, functions_in, declarations_in, declared_at, variable_kind, global_kind_of, result_kind_of, named_kind, called_kind, kind_at}
+use Rattle.sharc_mode.specs.Notes.{base_of}
+use Rattle.sharc_mode.specs.Sharings.{is_field}
+use Rattle.sharc_ctype_laws.specs.WrittenTypes.{NamesStruct, IsNamedBase, IsNamedType}
+use Rattle.sharc_suggest.specs.Applied.{names_struct, base_site}
+use Rattle.sharc_suggest_laws.specs.Names.{is_dull}
+use Rattle.sharc_suggest_laws.proofs.Bases.{Have, HaveCasts, HoldInAll, in_all, AreDeclared, first_casts}
+use Rattle.sharc_suggest_laws.proofs.Mild.{NamesBase}
+
+-- ---- a base that something has, and where it is named
+
+abbrev pub HasStruct : List Entity → Base → Type 0
+HasStruct [] b = ⊥
+HasStruct (e ∷ rest) b = (names_struct e.written.ctype.base b ≡ true) ⊎ HasStruct rest b
+
+-- if the base of a type is a struct, something has it
+abbrev pub HasBase : List Entity → Base → Type 0
+HasBase all b = (name : List ℕ) → b ≡ base.Struct name → HasStruct all (base.Struct name)
+
+own_base : (all : List Entity) (b : Base) → HasStruct all b → HasStruct all b
+own_base all b h = h
+
+named_itself : (b : Base) (name : List ℕ) → b ≡ base.Struct name → names_struct b (base.Struct name) ≡ true
+named_itself b name is = ap (λ (x : Base). names_struct x (base.Struct name)) is ∙ (bytes_eq-Decides name name).1 refl
+
+pub each_has : (all l : List Entity) → ((b : Base) → HasStruct l b → HasStruct all b) → Have (λ (w : WrittenType). HasBase all w.ctype.base) l
+each_has all [] up = tt
+each_has all (e ∷ rest) up = ((λ name is. up (base.Struct name) (inl (named_itself e.written.ctype.base name is))), each_has all rest (λ b h. up b (inr h)))
+
+-- the first that has it tells where it is named
+record IsSiteOf (Q : WrittenType → Type 0) (b : Base) (s : Site) : Type 0 where
+  written : WrittenType
+  holds : Q written
+  has : names_struct written.ctype.base b ≡ true
+  is : s ≡ written.base
+
+site_by : (Q : WrittenType → Type 0) (e : Entity) (b : Base) (other : Site) (c : Bool) → names_struct e.written.ctype.base b ≡ c → Q e.written → (c ≡ false → IsSiteOf Q b other) → IsSiteOf Q b (cond c e.written.base other)
+site_by Q e b other true has holds more = record { written = e.written; holds = holds; has = has; is = refl }
+site_by Q e b other false has holds more = more refl
+
+later_has : (c : Bool) (rest : List Entity) (b : Base) → (c ≡ true) ⊎ HasStruct rest b → c ≡ false → HasStruct rest b
+later_has c rest b (inl is) other = absurd (false≢true (sym other ∙ is))
+later_has c rest b (inr h) other = h
+
+site_of : (Q : WrittenType → Type 0) (k : ℕ) (l : List Entity) (b : Base) (s : Site) → Have Q l → HasStruct l b → IsSiteOf Q b (base_site (numbered_from k l) b s)
+site_of Q k [] b s have has = absurd has
+site_of Q k (e ∷ rest) b s have has =
+    site_by Q e b (base_site (numbered_from (k + positions_of e) rest) b s) (names_struct e.written.ctype.base b) refl have.0
+    (λ other. site_of Q (k + positions_of e) rest b s have.1 (later_has (names_struct e.written.ctype.base b) rest b has other))
+
+struct_named_dull : (r : Resolution) (token : ℕ) (name : List ℕ) → NamesStruct r token name → (is_dull (named_at r token) ≡ true) × (is_field (named_at r token) ≡ false)
+struct_named_dull r token name (inl s) = (ap is_dull s.2, ap is_field s.2)
+struct_named_dull r token name (inr s) = (ap is_dull s.0, ap is_field s.0)
+
+dull_by : (r : Resolution) (token : ℕ) (b : Base) (name : List ℕ) → names_struct b (base.Struct name) ≡ true → IsNamedBase r token b → (is_dull (named_at r token) ≡ true) × (is_field (named_at r token) ≡ false)
+dull_by r token base.Int name is h = absurd (false≢true is)
+dull_by r token base.Char name is h = absurd (false≢true is)
+dull_by r token base.Long name is h = absurd (false≢true is)
+dull_by r token base.Mutex name is h = absurd (false≢true is)
+dull_by r token base.Void name is h = absurd (false≢true is)
+dull_by r token (base.Struct other) name is h = struct_named_dull r token other h
+
+-- the token of the base of a cast names a struct
+pub base_named : (r : Resolution) (b : Base) (s : Site) → Have (IsNamedType r) (entities_in r.program.items) → HasBase (entities_in r.program.items) b → NamesBase r (base_site (numbered (entities_in r.program.items)) b s).token b
+base_named r base.Int s have has = tt
+base_named r base.Char s have has = tt
+base_named r base.Long s have has = tt
+base_named r base.Mutex s have has = tt
+base_named r base.Void s have has = tt
+base_named r (base.Struct name) s have has =
+    let at : IsSiteOf (IsNamedType r) (base.Struct name) (base_site (numbered_from 0 (entities_in r.program.items)) (base.Struct name) s) = site_of (IsNamedType r) 0 (entities_in r.program.items) (base.Struct name) s have (has name refl) in
+    let dull = dull_by r at.written.base.token at.written.ctype.base name at.has at.holds.base in
+    subst (λ (x : Site). (is_dull (named_at r x.token) ≡ true) × (is_field (named_at r x.token) ≡ false)) (sym at.is) dull
+
+-- ---- the base of the type of an expression is that of a type that something has
+
+abbrev IsBased : Resolution → Kind → Type 0
+IsBased r k = HasBase (entities_in r.program.items) (base_of k)
+
+no_struct : (all : List Entity) (b : Base) → ((name : List ℕ) → b ≡ base.Struct name → ⊥) → HasBase all b
+no_struct all b never name is = absurd (never name is)
+
+not_int : (name : List ℕ) → base.Int ≡ base.Struct name → ⊥
+not_int name is = cc
+
+not_long : (name : List ℕ) → base.Long ≡ base.Struct name → ⊥
+not_long name is = cc
+
+not_void : (name : List ℕ) → base.Void ≡ base.Struct name → ⊥
+not_void name is = cc
+
+of_declaration : (r : Resolution) (ds : List Declaration) (token : ℕ) → AreDeclared (λ (w : WrittenType). HasBase (entities_in r.program.items) w.ctype.base) ds → IsBased r (variable_kind (declared_at ds token))
+of_declaration r [] token all = no_struct (entities_in r.program.items) base.Void not_void
+of_declaration r (d ∷ rest) token all = by (d.name.site.token == token) (of_declaration r rest token all.1)
+  where
+    by : (b : Bool) → IsBased r (variable_kind (declared_at rest token)) → IsBased r (variable_kind (cond b (Some d) (declared_at rest token)))
+    by true more = all.0
+    by false more = more
+
+global_base : (f : GlobalForm) (k : Kind) → base_of (global_kind f k) ≡ base_of k
+global_base Plain k = refl
+global_base (Array at n) (object b stars) = refl
+global_base (Array at n) (array b stars) = refl
+global_base (Array at n) null = refl
+global_base (Array at n) kinds.function = refl
+global_base (Initial at minus c) k = refl
+
+of_global : (r : Resolution) (gs : List GlobalDefinition) (n : ℕ) → AllByRecursion (λ (g : GlobalDefinition). HasBase (entities_in r.program.items) g.declaration.written.ctype.base) gs → IsBased r (global_kind_of (slice_get gs n))
+of_global r [] n all = no_struct (entities_in r.program.items) base.Void not_void
+of_global r (g ∷ rest) zero all = subst (HasBase (entities_in r.program.items)) (sym (global_base g.form (declared_kind g.declaration.written))) all.0
+of_global r (g ∷ rest) (suc n) all = of_global r rest n all.1
+
+of_result : (r : Resolution) (fs : List Function) (n : ℕ) → AllByRecursion (λ (f : Function). HasBase (entities_in r.program.items) f.result.ctype.base) fs → IsBased r (result_kind_of (slice_get fs n))
+of_result r [] n all = no_struct (entities_in r.program.items) base.Void not_void
+of_result r (f ∷ rest) zero all = all.0
+of_result r (f ∷ rest) (suc n) all = of_result r rest n all.1
+
+abbrev AllBased : Resolution → Type 0
+AllBased r = HoldInAll (λ (w : WrittenType). HasBase (entities_in r.program.items) w.ctype.base) r.program.items
+
+name_based : (r : Resolution) → AllBased r → (n : Named) → IsBased r (named_kind r n)
+name_based r all (named.Struct n) = no_struct (entities_in r.program.items) base.Void not_void
+name_based r all (named.Global n) = of_global r (globals_in r.program.items) n all.globals
+name_based r all (named.Function n) = no_struct (entities_in r.program.items) base.Void not_void
+name_based r all (named.Variable token) = of_declaration r (declarations_in r.program.items) token all.declarations
+name_based r all (named.Field token) = of_declaration r (declarations_in r.program.items) token all.declarations
+name_based r all named.Known = no_struct (entities_in r.program.items) base.Void not_void
+
+called_based : (r : Resolution) → AllBased r → (n : Named) → IsBased r (called_kind r n)
+called_based r all (named.Struct n) = no_struct (entities_in r.program.items) base.Void not_void
+called_based r all (named.Global n) = no_struct (entities_in r.program.items) base.Void not_void
+called_based r all (named.Function n) = of_result r (functions_in r.program.items) n all.results
+called_based r all (named.Variable token) = no_struct (entities_in r.program.items) base.Void not_void
+called_based r all (named.Field token) = no_struct (entities_in r.program.items) base.Void not_void
+called_based r all named.Known = no_struct (entities_in r.program.items) base.Void not_void
+
+either_int : (r : Resolution) (b : Bool) → IsBased r (cond b long int)
+either_int r true = no_struct (entities_in r.program.items) base.Long not_long
+either_int r false = no_struct (entities_in r.program.items) base.Int not_int
+
+number_based : (r : Resolution) (w : NumberType) → IsBased r (number_kind w)
+number_based r width.Int = no_struct (entities_in r.program.items) base.Int not_int
+number_based r width.Long = no_struct (entities_in r.program.items) base.Long not_long
+
+constant_based : (r : Resolution) (c : Constant) → IsBased r (constant_kind c)
+constant_based r (Number n) = number_based r n.number_type
+constant_based r (Character byte) = no_struct (entities_in r.program.items) base.Int not_int
+constant_based r Null = no_struct (entities_in r.program.items) base.Void not_void
+
+element_based : (r : Resolution) (k : Kind) → IsBased r k → IsBased r (element_kind k)
+element_based r (object b n) h = h
+element_based r (array b n) h = h
+element_based r null h = h
+element_based r kinds.function h = h
+
+unary_based : (r : Resolution) (o : UnaryOperator) (k : Kind) → IsBased r k → IsBased r (unary_result o k)
+unary_based r Negate k h = either_int r (is_long k)
+unary_based r Not k h = no_struct (entities_in r.program.items) base.Int not_int
+unary_based r Complement k h = either_int r (is_long k)
+unary_based r Dereference k h = element_based r k h
+
+binary_based : (r : Resolution) (o : OperatorClass) (j k : Kind) → IsBased r (binary_result o j k)
+binary_based r Logical j k = no_struct (entities_in r.program.items) base.Int not_int
+binary_based r Equality j k = no_struct (entities_in r.program.items) base.Int not_int
+binary_based r Relation j k = no_struct (entities_in r.program.items) base.Int not_int
+binary_based r Shift j k = either_int r (is_long j)
+binary_based r Arithmetic j k = either_int r _
+
+expression_based : (r : Resolution) → AllBased r → (e : Expression) → HaveCasts (λ (w : WrittenType). HasBase (entities_in r.program.items) w.ctype.base) (expressions e) → IsBased r (kind_at r e)
+expression_based r all (identifier s i) h = name_based r all (named_at r i.site.token)
+expression_based r all (constant s c) h = constant_based r c
+expression_based r all (parentheses s a) h = expression_based r all a h
+expression_based r all (call s f args) h = called_based r all (named_at r f.site.token)
+expression_based r all (spawn s f a) h = no_struct (entities_in r.program.items) base.Int not_int
+expression_based r all (on_value s w a) h = no_struct (entities_in r.program.items) base.Void not_void
+expression_based r all (on_place s w a) h = no_struct (entities_in r.program.items) base.Void not_void
+expression_based r all (cast s t a) h = h.0
+expression_based r all (index s a i) h = element_based r (kind_at r a) (expression_based r all a (first_casts (λ (w : WrittenType). HasBase (entities_in r.program.items) w.ctype.base) (expressions a) (expressions i) h))
+expression_based r all (field s a w n) h = name_based r all (named_at r n.site.token)
+expression_based r all (unary s o a) h = unary_based r o (kind_at r a) (expression_based r all a h)
+expression_based r all (binary s o at a b) h = binary_based r (class_of o) (kind_at r a) (kind_at r b)
+
+pub given_based : (r : Resolution) (e : Expression) → HaveCasts (λ (w : WrittenType). HasBase (entities_in r.program.items) w.ctype.base) (expressions e) → HasBase (entities_in r.program.items) (base_of (kind_at r e))
+given_based r e h =
+    let all : Have (λ (w : WrittenType). HasBase (entities_in r.program.items) w.ctype.base) (entities_in r.program.items) = each_has (entities_in r.program.items) (entities_in r.program.items) (own_base (entities_in r.program.items)) in
+    expression_based r (in_all (λ (w : WrittenType). HasBase (entities_in r.program.items) w.ctype.base) r.program.items all) e h

@@ -1,0 +1,343 @@
+-- An expression that stands before the cast points to what it pointed to, with the modes that it had.
+use Rattle.std.proofs.Common.{◌≡◌, ◌⊎◌, inl, inr, ℕ, zero, suc, ◌+◌, ◌-◌, ◌<◌, ◌≤◌, ◌==◌, Bool, true, false, cond, List, [], ◌∷◌, length, Option, Some, None, option_map, slice_get, refl, ap, sym, subst, ◌∙◌, eqb-true, arith}
+use Rattle.std.specs.List.{AllByRecursion}
+use Rattle.std.proofs.lemmas.Bool.{false≢true, true≢false, eqb-false}
+use Rattle.std.proofs.lemmas.Option.{slice_get-map}
+use Rattle.sharc_tree.specs.declared.tree.declaration.Declaration.{Declaration}
+use Rattle.sharc_tree.specs.declared.tree.item.GlobalDefinition.{GlobalDefinition}
+use Rattle.sharc_tree.specs.declared.tree.expression.Access.{Access}
+use Rattle.sharc_tree.specs.declared.tree.expression.Access.TheVariants.{Dot, Arrow}
+use Rattle.sharc_tree.specs.declared.tree.expression.Constant.{Constant}
+use Rattle.sharc_tree.specs.declared.tree.expression.Constant.TheVariants.{Number, Character, Null}
+use Rattle.sharc_tree.specs.declared.tree.expression.UnaryOperator.{UnaryOperator}
+use Rattle.sharc_tree.specs.declared.tree.expression.UnaryOperator.TheVariants.{Negate, Not, Complement, Dereference}
+use Rattle.sharc_tree.specs.Tree.{Expression, identifier, constant, parentheses, call, spawn, on_value, on_place, cast, index, field, unary, binary, Function}
+use Rattle.sharc_names.specs.declared.fault.Named.{Named}
+use Rattle.sharc_names.specs.declared.fault.Named.TheVariants as named
+use Rattle.sharc_names.specs.declared.need.Need.TheVariants.{Indexed}
+use Rattle.sharc_names.specs.declared.types.Role.{Role}
+use Rattle.sharc_names.specs.declared.types.Role.TheVariants as role
+use Rattle.sharc_names.specs.Kinds.{Kind, object, array, null, is_array, element_kind, declared_kind}
+use Rattle.sharc_names.specs.Kinds as kinds
+use Rattle.sharc_names.specs.Needs.{met}
+use Rattle.sharc_rewrite.specs.declared.written.Recast.{Recast}
+use Rattle.sharc_rewrite.specs.Recast.{with_cast, function_with_cast}
+use Rattle.sharc_ctype.specs.declared.entity.Entity.{Entity}
+use Rattle.sharc_ctype.specs.declared.entity.Numbered.{Numbered}
+use Rattle.sharc_ctype.specs.Entities.{entity_at, positions_of}
+use Rattle.sharc_ctype.specs.Expressions.{element_of, operand_need, unary_kind}
+use Rattle.sharc_ctype.specs.Resolved.{Resolution, named_at, globals_in, functions_in, declarations_in, declared_at, global_at, function_at, declaration_at, variable_kind, global_kind_of, result_kind_of, named_kind, called_kind}
+use Rattle.sharc_mode.specs.declared.error.Cast.{Cast}
+use Rattle.sharc_mode.specs.Moded.{Assignment}
+use Rattle.sharc_mode.specs.Rows.{Reading, written, Row, is_constant_named, constant_use, base_use, no_row, deeper, targets_from, entity_row, declared_row, global_row, named_row, result_row, called_row, behind, constant_row, reading_through, unary_row}
+use Rattle.sharc_suggest.specs.Applied.{recast_of, targets, resolution_with}
+use Rattle.sharc_suggest_laws.specs.Names.{is_dull, KeepsName}
+use Rattle.sharc_suggest_laws.specs.Values.{met_in_items, begins_at}
+use Rattle.sharc_suggest_laws.proofs.Clear.{IsClearAt, begun_in, AreClear}
+use Rattle.sharc_suggest_laws.proofs.Constants.{AllKept, constants_same}
+use Rattle.sharc_suggest_laws.proofs.Declared.{same_globals, same_functions, same_declarations}
+use Rattle.sharc_suggest_laws.proofs.Found.{AreMoved}
+use Rattle.sharc_suggest_laws.proofs.Lefts.{is_function}
+use Rattle.sharc_suggest_laws.proofs.Stands.{IsAdded, first_place}
+use Rattle.sharc_suggest_laws.proofs.Types.{all_others}
+
+-- a program with a cast written in it where something that is given begins
+pub record Frame (m : Assignment) (c : Cast) : Type 0 where
+  pub kept : AllKept m.typed (resolution_with c m.typed)
+  pub added : IsAdded m c
+  pub clear : AreClear m.typed.program.items 0 (length m.typed.program.tokens.list)
+  pub begun : 0 < met_in_items (begins_at c.from) m.typed.program.items
+
+abbrev pub now : Assignment → Cast → Resolution
+now m c = resolution_with c m.typed
+
+abbrev pub many : Cast → ℕ
+many c = length (targets c.to.levels)
+
+-- ---- rows that were moved
+
+pub record IsRowMoved (first count : ℕ) (how later : Reading) (old new : Row) : Type 0 where
+  pub counted : new.count ≡ old.count
+  pub place : (old.count ≡ 0) ⊎ ((((old.first + old.count ≤ first) × (new.first ≡ old.first)) ⊎ ((first ≤ old.first) × (new.first ≡ old.first + count))) × (old.reading ≡ how) × (new.reading ≡ later))
+
+none_moved : (first count : ℕ) (how later : Reading) → IsRowMoved first count how later no_row no_row
+none_moved first count how later = record { counted = refl; place = inl refl }
+
+place_of : ℕ → ℕ → Numbered → Numbered → Type 0
+place_of first count o n = ((o.first + positions_of o.entity ≤ first) × (n.first ≡ o.first)) ⊎ ((first ≤ o.first) × (n.first ≡ o.first + count))
+
+deep_moved : (first count : ℕ) (how later : Reading) (p q n : ℕ) → (((p + n ≤ first) × (q ≡ p)) ⊎ ((first ≤ p) × (q ≡ p + count))) → (b : Bool) → (n == 0) ≡ b
+    → IsRowMoved first count how later (cond b (record { first = p; count = n; reading = how }) (record { first = p + 1; count = n - 1; reading = how }))
+    (cond b (record { first = q; count = n; reading = later }) (record { first = q + 1; count = n - 1; reading = later }))
+deep_moved first count how later p q n place true is = record { counted = refl; place = inl (eqb-true n 0 is) }
+deep_moved first count how later p q n place false is = record { counted = refl; place = inr (by place, refl, refl) }
+  where
+    by : (((p + n ≤ first) × (q ≡ p)) ⊎ ((first ≤ p) × (q ≡ p + count))) → (((p + 1 + (n - 1) ≤ first) × (q + 1 ≡ p + 1)) ⊎ ((first ≤ p + 1) × (q + 1 ≡ p + 1 + count)))
+    by (inl w) =
+        let some : n ≡ 0 → ⊥ = eqb-false n 0 is in
+        let ends : p + n ≤ first = w.0 in
+        let same : q ≡ p = w.1 in
+        inl (omega (arith, some, ends), omega (arith, same))
+    by (inr w) =
+        let low : first ≤ p = w.0 in
+        let same : q ≡ p + count = w.1 in
+        inr (omega (arith, low), omega (arith, same))
+
+role_moved : (what : Role) (first count : ℕ) (how later : Reading) (p q n : ℕ) → (((p + n ≤ first) × (q ≡ p)) ⊎ ((first ≤ p) × (q ≡ p + count)))
+    → IsRowMoved first count how later (targets_from what (record { first = p; count = n; reading = how })) (targets_from what (record { first = q; count = n; reading = later }))
+role_moved role.Global first count how later p q n place = deep_moved first count how later p q n place (n == 0) refl
+role_moved _ first count how later p q n place = record { counted = refl; place = inr (place, refl, refl) }
+
+pub entity_moved : (first count : ℕ) (how later : Reading) (o n : Option Numbered) → AreMoved first count o n → IsRowMoved first count how later (entity_row how o) (entity_row later n)
+entity_moved first count how later None None are = none_moved first count how later
+entity_moved first count how later None (Some n) are = absurd are
+entity_moved first count how later (Some o) None are = absurd are
+entity_moved first count how later (Some o) (Some n) are =
+    subst (λ (e : Entity). IsRowMoved first count how later (entity_row how (Some o)) (targets_from e.role (record { first = n.first; count = positions_of e; reading = later }))) (sym are.entity)
+    (role_moved o.entity.role first count how later o.first n.first (positions_of o.entity) are.place)
+
+-- ---- what is declared where nothing that is given begins
+
+abbrev pub first_at : (m : Assignment) (c : Cast) → Frame m c → ℕ
+first_at m c frame = first_place m c frame.added
+
+clear_apart : (m : Assignment) (c : Cast) → Frame m c → (t : ℕ) → IsClearAt 0 (length m.typed.program.tokens.list) (begun_in m.typed.program.items) t → t ≡ c.from → ⊥
+clear_apart m c frame t clear same =
+    let some : 0 < met_in_items (begins_at c.from) m.typed.program.items = frame.begun in
+    let none : met_in_items (begins_at t) m.typed.program.items ≡ 0 = clear.2 in
+    let at : met_in_items (begins_at t) m.typed.program.items ≡ met_in_items (begins_at c.from) m.typed.program.items = ap (λ (k : ℕ). met_in_items (begins_at k) m.typed.program.items) same in
+    omega (arith, some, none, at)
+
+pub other_moved : (m : Assignment) (c : Cast) (frame : Frame m c) (how later : Reading) (token last : ℕ) → (token ≡ c.from → last ≡ c.until → ⊥)
+    → IsRowMoved (first_at m c frame) (many c) how later (entity_row how (entity_at m.typed token last)) (entity_row later (entity_at (now m c) token last))
+other_moved m c frame how later token last other = entity_moved (first_at m c frame) (many c) how later (entity_at m.typed token last) (entity_at (now m c) token last) (all_others m c frame.added token last other)
+
+pub clear_moved : (m : Assignment) (c : Cast) (frame : Frame m c) (how later : Reading) (t : ℕ) → IsClearAt 0 (length m.typed.program.tokens.list) (begun_in m.typed.program.items) t
+    → IsRowMoved (first_at m c frame) (many c) how later (declared_row m.typed how t) (declared_row (now m c) later t)
+clear_moved m c frame how later t clear = other_moved m c frame how later t t (λ same also. clear_apart m c frame t clear same)
+
+abbrev pub IsClearOf : Assignment → ℕ → Type 0
+IsClearOf m t = IsClearAt 0 (length m.typed.program.tokens.list) (begun_in m.typed.program.items) t
+
+declaration_clear : (m : Assignment) (ds : List Declaration) (t : ℕ) → AllByRecursion (λ (d : Declaration). IsClearOf m d.name.site.token) ds → is_function (variable_kind (declared_at ds t)) ≡ false → IsClearOf m t
+declaration_clear m [] t all held = absurd (true≢false held)
+declaration_clear m (d ∷ rest) t all held = by (d.name.site.token == t) refl held (declaration_clear m rest t all.1)
+  where
+    by : (b : Bool) → (d.name.site.token == t) ≡ b → is_function (variable_kind (cond b (Some d) (declared_at rest t))) ≡ false → (is_function (variable_kind (declared_at rest t)) ≡ false → IsClearOf m t) → IsClearOf m t
+    by true same is more = subst (IsClearOf m) (eqb-true d.name.site.token t same) all.0
+    by false other is more = more is
+
+global_moved : (m : Assignment) (c : Cast) (frame : Frame m c) (how later : Reading) (gs : List GlobalDefinition) (n : ℕ) → AllByRecursion (λ (g : GlobalDefinition). IsClearOf m g.declaration.name.site.token) gs
+    → IsRowMoved (first_at m c frame) (many c) how later (global_row m.typed how (slice_get gs n)) (global_row (now m c) later (slice_get gs n))
+global_moved m c frame how later [] n all = none_moved (first_at m c frame) (many c) how later
+global_moved m c frame how later (g ∷ rest) zero all = clear_moved m c frame how later g.declaration.name.site.token all.0
+global_moved m c frame how later (g ∷ rest) (suc n) all = global_moved m c frame how later rest n all.1
+
+result_moved : (m : Assignment) (c : Cast) (frame : Frame m c) (fs : List Function) (n : ℕ) → AllByRecursion (λ (f : Function). IsClearOf m f.name.site.token) fs
+    → IsRowMoved (first_at m c frame) (many c) written written (result_row m.typed (slice_get fs n)) (result_row (now m c) (option_map (function_with_cast (recast_of m.typed c)) (slice_get fs n)))
+result_moved m c frame [] n all = none_moved (first_at m c frame) (many c) written written
+result_moved m c frame (f ∷ rest) zero all = clear_moved m c frame written written f.name.site.token all.0
+result_moved m c frame (f ∷ rest) (suc n) all = result_moved m c frame rest n all.1
+
+-- ---- by what a name names
+
+globals_same : (m : Assignment) (c : Cast) (n : ℕ) → global_at (now m c) n ≡ global_at m.typed n
+globals_same m c n = ap (λ (l : List GlobalDefinition). slice_get l n) (same_globals (recast_of m.typed c) m.typed.program.items)
+
+pub functions_same : (m : Assignment) (c : Cast) (n : ℕ) → function_at (now m c) n ≡ option_map (function_with_cast (recast_of m.typed c)) (function_at m.typed n)
+functions_same m c n =
+    ap (λ (l : List Function). slice_get l n) (same_functions (recast_of m.typed c) m.typed.program.items) ∙ slice_get-map (function_with_cast (recast_of m.typed c)) (functions_in m.typed.program.items) n
+
+declarations_same : (m : Assignment) (c : Cast) (t : ℕ) → declaration_at (now m c) t ≡ declaration_at m.typed t
+declarations_same m c t = ap (λ (l : List Declaration). declared_at l t) (same_declarations (recast_of m.typed c) m.typed.program.items)
+
+pub named_kind_same : (m : Assignment) (c : Cast) (v : Named) → named_kind (now m c) v ≡ named_kind m.typed v
+named_kind_same m c (named.Struct n) = refl
+named_kind_same m c (named.Global n) = ap global_kind_of (globals_same m c n)
+named_kind_same m c (named.Function n) = refl
+named_kind_same m c (named.Variable t) = ap variable_kind (declarations_same m c t)
+named_kind_same m c (named.Field t) = ap variable_kind (declarations_same m c t)
+named_kind_same m c named.Known = refl
+
+pub named_moved : (m : Assignment) (c : Cast) (frame : Frame m c) (how : Reading) (v : Named) → is_function (named_kind m.typed v) ≡ false
+    → IsRowMoved (first_at m c frame) (many c) how how (named_row m.typed how v) (named_row (now m c) how v)
+named_moved m c frame how (named.Struct n) held = absurd (true≢false held)
+named_moved m c frame how (named.Global n) held =
+    subst (λ (o : Option GlobalDefinition). IsRowMoved (first_at m c frame) (many c) how how (global_row m.typed how (global_at m.typed n)) (global_row (now m c) how o)) (sym (globals_same m c n))
+    (global_moved m c frame how how (globals_in m.typed.program.items) n frame.clear.globals)
+named_moved m c frame how (named.Function n) held = absurd (true≢false held)
+named_moved m c frame how (named.Variable t) held = clear_moved m c frame how how t (declaration_clear m (declarations_in m.typed.program.items) t frame.clear.declarations held)
+named_moved m c frame how (named.Field t) held = clear_moved m c frame how how t (declaration_clear m (declarations_in m.typed.program.items) t frame.clear.declarations held)
+named_moved m c frame how named.Known held = absurd (true≢false held)
+
+result_kind_same : (c : Recast) (o : Option Function) → result_kind_of (option_map (function_with_cast c) o) ≡ result_kind_of o
+result_kind_same c None = refl
+result_kind_same c (Some f) = refl
+
+-- of a call: what its name names is a function still, or was none and is none
+called_kinds : (m : Assignment) (c : Cast) (v : Named) → called_kind (now m c) v ≡ called_kind m.typed v
+called_kinds m c (named.Struct n) = refl
+called_kinds m c (named.Global n) = refl
+called_kinds m c (named.Function n) = ap result_kind_of (functions_same m c n) ∙ result_kind_same (recast_of m.typed c) (function_at m.typed n)
+called_kinds m c (named.Variable t) = refl
+called_kinds m c (named.Field t) = refl
+called_kinds m c named.Known = refl
+
+called_moved : (m : Assignment) (c : Cast) (frame : Frame m c) (v : Named) → IsRowMoved (first_at m c frame) (many c) written written (called_row m.typed v) (called_row (now m c) v)
+called_moved m c frame (named.Struct n) = none_moved (first_at m c frame) (many c) written written
+called_moved m c frame (named.Global n) = none_moved (first_at m c frame) (many c) written written
+called_moved m c frame (named.Function n) =
+    subst (λ (o : Option Function). IsRowMoved (first_at m c frame) (many c) written written (result_row m.typed (function_at m.typed n)) (result_row (now m c) o)) (sym (functions_same m c n))
+    (result_moved m c frame (functions_in m.typed.program.items) n frame.clear.functions)
+called_moved m c frame (named.Variable t) = none_moved (first_at m c frame) (many c) written written
+called_moved m c frame (named.Field t) = none_moved (first_at m c frame) (many c) written written
+called_moved m c frame named.Known = none_moved (first_at m c frame) (many c) written written
+
+dull_called : (r : Resolution) (v : Named) → is_dull v ≡ true → called_row r v ≡ no_row
+dull_called r (named.Struct n) is = refl
+dull_called r (named.Global n) is = refl
+dull_called r (named.Function n) is = absurd (false≢true is)
+dull_called r (named.Variable t) is = refl
+dull_called r (named.Field t) is = refl
+dull_called r named.Known is = refl
+
+dull_result : (r : Resolution) (v : Named) → is_dull v ≡ true → called_kind r v ≡ kinds.void
+dull_result r (named.Struct n) is = refl
+dull_result r (named.Global n) is = refl
+dull_result r (named.Function n) is = absurd (false≢true is)
+dull_result r (named.Variable t) is = refl
+dull_result r (named.Field t) is = refl
+dull_result r named.Known is = refl
+
+pub call_moved : (m : Assignment) (c : Cast) (frame : Frame m c) (v w : Named) → KeepsName v w → IsRowMoved (first_at m c frame) (many c) written written (called_row m.typed v) (called_row (now m c) w)
+call_moved m c frame v w (inl same) = subst (λ (x : Named). IsRowMoved (first_at m c frame) (many c) written written (called_row m.typed v) (called_row (now m c) x)) same (called_moved m c frame v)
+call_moved m c frame v w (inr p) =
+    subst (λ (x : Row). IsRowMoved (first_at m c frame) (many c) written written (called_row m.typed v) x) (sym (dull_called (now m c) w p.1))
+    (subst (λ (x : Row). IsRowMoved (first_at m c frame) (many c) written written x no_row) (sym (dull_called m.typed v p.0)) (none_moved (first_at m c frame) (many c) written written))
+
+pub call_kind_same : (m : Assignment) (c : Cast) (v w : Named) → KeepsName v w → called_kind (now m c) w ≡ called_kind m.typed v
+call_kind_same m c v w (inl same) = ap (called_kind (now m c)) (sym same) ∙ called_kinds m c v
+call_kind_same m c v w (inr p) = dull_result (now m c) w p.1 ∙ sym (dull_result m.typed v p.0)
+
+-- ---- constant variables
+
+dull_constant : (r : Resolution) (v : Named) → is_dull v ≡ true → is_constant_named r v ≡ false
+dull_constant r (named.Struct n) is = refl
+dull_constant r (named.Global n) is = refl
+dull_constant r (named.Function n) is = refl
+dull_constant r (named.Variable t) is = absurd (false≢true is)
+dull_constant r (named.Field t) is = refl
+dull_constant r named.Known is = refl
+
+named_constant : (m : Assignment) (c : Cast) → AllKept m.typed (now m c) → (v : Named) → is_constant_named (now m c) v ≡ is_constant_named m.typed v
+named_constant m c kept (named.Struct n) = refl
+named_constant m c kept (named.Global n) = refl
+named_constant m c kept (named.Function n) = refl
+named_constant m c kept (named.Variable t) = constants_same m.typed (now m c) (recast_of m.typed c) refl kept t
+named_constant m c kept (named.Field t) = refl
+named_constant m c kept named.Known = refl
+
+constant_kept : (m : Assignment) (c : Cast) → AllKept m.typed (now m c) → (v w : Named) → KeepsName v w → is_constant_named (now m c) w ≡ is_constant_named m.typed v
+constant_kept m c kept v w (inl same) = ap (is_constant_named (now m c)) (sym same) ∙ named_constant m c kept v
+constant_kept m c kept v w (inr p) = dull_constant (now m c) w p.1 ∙ sym (dull_constant m.typed v p.0)
+
+pub use_same : (m : Assignment) (c : Cast) → AllKept m.typed (now m c) → (e : Expression) → constant_use (now m c) (with_cast (recast_of m.typed c) e) ≡ constant_use m.typed e
+use_same m c kept (identifier s i) =
+    ap (λ (b : Bool). cond b (Some i.site.token) None) (constant_kept m c kept (named_at m.typed i.site.token) (named_at (now m c) i.site.token) (kept i.site.token))
+use_same m c kept (constant s k) = refl
+use_same m c kept (parentheses s a) = refl
+use_same m c kept (call s f all) = refl
+use_same m c kept (spawn s f a) = refl
+use_same m c kept (on_value s w a) = refl
+use_same m c kept (on_place s w a) = refl
+use_same m c kept (cast s t a) = refl
+use_same m c kept (index s a i) = refl
+use_same m c kept (field s a w n) = refl
+use_same m c kept (unary s o a) = refl
+use_same m c kept (binary s o at a b) = refl
+
+pub base_same : (m : Assignment) (c : Cast) → AllKept m.typed (now m c) → (w : Access) (a : Expression) → base_use (now m c) w (with_cast (recast_of m.typed c) a) ≡ base_use m.typed w a
+base_same m c kept Dot a = refl
+base_same m c kept Arrow a = use_same m c kept a
+
+-- ---- of an expression
+
+abbrev pub AreRowsMoved : ℕ → ℕ → Option Row → Option Row → Type 0
+AreRowsMoved first count None None = Unit {0}
+AreRowsMoved first count None (Some n) = ⊥
+AreRowsMoved first count (Some o) None = ⊥
+AreRowsMoved first count (Some o) (Some n) = (at : Option ℕ) × IsRowMoved first count (reading_through at) (reading_through at) o n
+
+deeper_by : (first count : ℕ) (how : Reading) (o n : Row) → IsRowMoved first count how how o n → (b : Bool) → (o.count == 0) ≡ b
+    → IsRowMoved first count how how (cond b o (record { first = o.first + 1; count = o.count - 1; reading = o.reading })) (cond b n (record { first = n.first + 1; count = n.count - 1; reading = n.reading }))
+deeper_by first count how o n h true is = h
+deeper_by first count how o n h false is = record { counted = ap (λ (k : ℕ). k - 1) h.counted; place = by h.place }
+  where
+    some : o.count ≡ 0 → ⊥
+    some = eqb-false o.count 0 is
+
+    IsShiftedBy : ℕ → ℕ → ℕ → Type 0
+    IsShiftedBy p q k = ((p + k ≤ first) × (q ≡ p)) ⊎ ((first ≤ p) × (q ≡ p + count))
+
+    shift : IsShiftedBy o.first n.first o.count → IsShiftedBy (o.first + 1) (n.first + 1) (o.count - 1)
+    shift (inl w) =
+        let ends : o.first + o.count ≤ first = w.0 in
+        let same : n.first ≡ o.first = w.1 in
+        let more : o.count ≡ 0 → ⊥ = some in
+        inl (omega (arith, more, ends), omega (arith, same))
+    shift (inr w) =
+        let low : first ≤ o.first = w.0 in
+        let same : n.first ≡ o.first + count = w.1 in
+        inr (omega (arith, low), omega (arith, same))
+
+    by : (o.count ≡ 0) ⊎ (IsShiftedBy o.first n.first o.count × (o.reading ≡ how) × (n.reading ≡ how)) → (o.count - 1 ≡ 0) ⊎ (IsShiftedBy (o.first + 1) (n.first + 1) (o.count - 1) × (o.reading ≡ how) × (n.reading ≡ how))
+    by (inl none) = absurd (some none)
+    by (inr w) = inr (shift w.0, w.1, w.2)
+
+deeper_moved : (first count : ℕ) (how : Reading) (o n : Row) → IsRowMoved first count how how o n → IsRowMoved first count how how (deeper o) (deeper n)
+deeper_moved first count how o n h =
+    subst (λ (b : Bool). IsRowMoved first count how how (deeper o) (cond b n (record { first = n.first + 1; count = n.count - 1; reading = n.reading }))) (ap (λ (k : ℕ). k == 0) (sym h.counted)) (deeper_by first count how o n h (o.count == 0) refl)
+
+behind_moved : (first count : ℕ) (o n : Option Row) → AreRowsMoved first count o n → AreRowsMoved first count (behind o) (behind n)
+behind_moved first count None None h = tt
+behind_moved first count None (Some n) h = absurd h
+behind_moved first count (Some o) None h = absurd h
+behind_moved first count (Some o) (Some n) h = (h.0, deeper_moved first count (reading_through h.0) o n h.1)
+
+pub element_moved : (first count : ℕ) (o n : Option Row) (b : Bool) → AreRowsMoved first count o n → AreRowsMoved first count (cond b o (behind o)) (cond b n (behind n))
+element_moved first count o n true h = h
+element_moved first count o n false h = behind_moved first count o n h
+
+pub no_rows : (first count : ℕ) → AreRowsMoved first count (Some no_row) (Some no_row)
+no_rows first count = (None, none_moved first count written written)
+
+pub unary_moved : (first count : ℕ) (op : UnaryOperator) (o n : Option Row) → AreRowsMoved first count o n → AreRowsMoved first count (unary_row op o) (unary_row op n)
+unary_moved first count Negate o n h = no_rows first count
+unary_moved first count Not o n h = no_rows first count
+unary_moved first count Complement o n h = no_rows first count
+unary_moved first count Dereference o n h = behind_moved first count o n h
+
+pub constant_moved : (first count : ℕ) (k : Constant) → AreRowsMoved first count (constant_row k) (constant_row k)
+constant_moved first count (Number n) = no_rows first count
+constant_moved first count (Character byte) = no_rows first count
+constant_moved first count Null = tt
+
+-- what is needed of a part is no name of a function
+
+pub none_some : {A : Type 0} (x : A) → None ≡ Some x → ⊥
+none_some x is = cc
+
+pub element_held : (k : Kind) (i : Option Kind) (whole : Kind) → element_of (met Indexed (Some k)) i ≡ Some whole → is_function k ≡ false
+element_held (object b n) i whole is = refl
+element_held (array b n) i whole is = refl
+element_held null i whole is = refl
+element_held kinds.function i whole is = absurd (none_some whole is)
+
+pub operand_held : (o : UnaryOperator) (k whole : Kind) → unary_kind o (met (operand_need o) (Some k)) ≡ Some whole → is_function k ≡ false
+operand_held o (object b n) whole is = refl
+operand_held o (array b n) whole is = refl
+operand_held o null whole is = refl
+operand_held Negate kinds.function whole is = absurd (none_some whole is)
+operand_held Not kinds.function whole is = absurd (none_some whole is)
+operand_held Complement kinds.function whole is = absurd (none_some whole is)
+operand_held Dereference kinds.function whole is = absurd (none_some whole is)

@@ -1,0 +1,246 @@
+-- A token that names a global or a function in a program at its tokens has the text of what the file knows as that.
+use Rattle.std.proofs.Common.{◌≡◌, ◌⊎◌, inl, inr, ⊎_elim, ℕ, zero, suc, ◌+◌, ◌<◌, Bool, true, false, cond, List, [], ◌∷◌, ◌++◌, length, drop, get_or, Option, Some, None, slice_get, bytes_eq, refl, ap, sym, ◌∙◌, arith}
+use Rattle.std.specs.List.{AllByRecursion}
+use Rattle.std.proofs.lemmas.Bool.{false≢true}
+use Rattle.sharc_tree.specs.declared.ctype.Base.{Base}
+use Rattle.sharc_tree.specs.declared.ctype.Base.TheVariants as base
+use Rattle.sharc_tree.specs.declared.ctype.Mode.{Mode}
+use Rattle.sharc_tree.specs.declared.ctype.Mode.TheVariants.{Private, Readonly, Locked, Racy, Dynamic}
+use Rattle.sharc_tree.specs.declared.ctype.Path.{Path}
+use Rattle.sharc_tree.specs.declared.ctype.Path.TheVariants.{One, Through}
+use Rattle.sharc_tree.specs.declared.token.Token.{Token}
+use Rattle.sharc_tree.specs.declared.tree.declaration.WrittenType.{WrittenType}
+use Rattle.sharc_tree.specs.declared.tree.declaration.Declaration.{Declaration}
+use Rattle.sharc_tree.specs.Marks.{Mark, a_name, path_marks, level_marks, levels_marks, base_marks, IsMark, AreMarks}
+use Rattle.sharc_tree.specs.Placed.{PlacedType, Placed, AllPlaced}
+use Rattle.sharc_tree.specs.Tree.{Expression, identifier, constant, parentheses, call, spawn, on_value, on_place, cast, index, field, unary, binary, Arguments, no_arguments, argument}
+use Rattle.sharc_names.specs.declared.fault.Named.{Named}
+use Rattle.sharc_names.specs.declared.fault.Named.TheVariants as named
+use Rattle.sharc_names.specs.declared.scope.Scope.{Scope}
+use Rattle.sharc_names.specs.declared.types.Role.{Role}
+use Rattle.sharc_names.specs.declared.types.Role.TheVariants as role
+use Rattle.sharc_names.specs.Kinds.{Kind}
+use Rattle.sharc_names.specs.Names.{Entry, Meaning, StructMeaning, look_up, named_of, named_struct, struct_of, field_of}
+use Rattle.sharc_names.specs.Names as meaning
+use Rattle.sharc_names.specs.Notes.{Note, fault, refers, yields}
+use Rattle.sharc_names.specs.Needs.{met}
+use Rattle.sharc_names.specs.Wants.{first_wanted}
+use Rattle.sharc_names.specs.declared.need.Need.TheVariants.{Value, Integer, Indexed}
+use Rattle.sharc_names.specs.Types.{is_fine, field_in, name_notes, main_notes, field_notes, first_notes, first_kind, second_in, second_notes, path_notes, mode_notes, modes_notes, struct_note, base_notes, type_notes}
+use Rattle.sharc_ctype.specs.declared.expr.Standing.{Standing}
+use Rattle.sharc_ctype.specs.declared.expr.Standing.TheVariants.{AsValue, AsLvalue}
+use Rattle.sharc_ctype.specs.Expressions.{access_need, operand_need, class_of, operands_need, place_kind, count, wanted, spawn_wanted, callee_notes, spawn_notes, type_of, notes_at, notes_of_all}
+use Rattle.sharc_ctype.specs.Resolved.{Resolution}
+use Rattle.sharc_ctype.specs.Statements.{with_names, declared, is_here}
+use Rattle.sharc_mode.specs.Sharings.{is_field, text_of, text_at}
+use Rattle.sharc_suggest_laws.proofs.Listed.{joint}
+use Rattle.sharc_suggest_laws.proofs.Mild.{is_filed}
+use Rattle.sharc_suggest_laws.proofs.Noted.{AreFaults, IsFault, unless_faults, unmet_faults, unagreed_faults, place_faults, place_call_faults, cast_faults, count_faults, main_faults, binary_faults}
+
+-- ---- of one note
+
+abbrev pub IsFiledAs : Resolution → List Entry → ℕ → Named → Type 0
+IsFiledAs r file token what = is_filed what ≡ true → (e : Entry) × (look_up file (text_at r token) ≡ Some e) × (named_of e.meaning ≡ what)
+
+abbrev pub IsSpelt : Resolution → List Entry → Note → Type 0
+IsSpelt r file (fault place code) = Unit {0}
+IsSpelt r file (refers token what) = IsFiledAs r file token what
+IsSpelt r file (yields token what) = is_field what ≡ true
+
+abbrev pub AreSpelt : Resolution → List Entry → List Note → Type 0
+AreSpelt r file l = AllByRecursion (IsSpelt r file) l
+
+-- what is no global and no function
+pub not_filed : (r : Resolution) (file : List Entry) (token : ℕ) (what : Named) → is_filed what ≡ false → IsFiledAs r file token what
+not_filed r file token what not_so is = absurd (false≢true (sym not_so ∙ is))
+
+fault_spelt : (r : Resolution) (file : List Entry) (n : Note) → IsFault n → IsSpelt r file n
+fault_spelt r file (fault place code) f = tt
+fault_spelt r file (refers token what) f = absurd f
+fault_spelt r file (yields token what) f = absurd f
+
+pub faults_spelt : (r : Resolution) (file : List Entry) (l : List Note) → AreFaults l → AreSpelt r file l
+faults_spelt r file [] f = tt
+faults_spelt r file (n ∷ rest) f = (fault_spelt r file n f.0, faults_spelt r file rest f.1)
+
+-- ---- the text of a name
+
+text_in : (l : List Token) (n : ℕ) (text : List ℕ) → n < length l → ((d : Token) → (get_or l n d).text ≡ text) → text_of (slice_get l n) ≡ text
+text_in [] n text low is = absurd (omega (arith, low))
+text_in (t ∷ rest) zero text low is = is t
+text_in (t ∷ rest) (suc n) text low is = text_in rest n text (omega (arith, low)) is
+
+pub text_is : (r : Resolution) (n : ℕ) (text : List ℕ) → IsMark r.program.tokens.list (a_name n text) → text_at r n ≡ text
+text_is r n text is = text_in r.program.tokens.list n text is.0 (λ d. (is.1 d).1)
+
+-- ---- the names in scope: what is no variable is what the file has
+
+abbrev is_variable : Meaning → Bool
+is_variable (meaning.variable d) = true
+is_variable _ = false
+
+abbrev pub IsOver : List Entry → List Entry → Type 0
+IsOver file names = (text : List ℕ) (e : Entry) → look_up names text ≡ Some e → (is_variable e.meaning ≡ true) ⊎ (look_up file text ≡ Some e)
+
+pub over_file : (file : List Entry) → IsOver file file
+over_file file text e is = inr is
+
+over_by : (file names : List Entry) (d : Declaration) (from : ℕ) → IsOver file names → (text : List ℕ) (e : Entry) (b : Bool) → cond b (Some (record { name = d.name.text; block = from; meaning = meaning.variable d })) (look_up names text) ≡ Some e
+    → (is_variable e.meaning ≡ true) ⊎ (look_up file text ≡ Some e)
+over_by file names d from over text e true is = inl (ap (λ (x : Entry). is_variable x.meaning) (sym (one_some _ e is)))
+  where
+    one_some : (a b : Entry) → Some a ≡ Some b → a ≡ b
+    one_some a b h = cc
+over_by file names d from over text e false is = over text e is
+
+over_if : (file names : List Entry) (d : Declaration) (from : ℕ) (b : Bool) → IsOver file names → IsOver file (cond b names (record { name = d.name.text; block = from; meaning = meaning.variable d } ∷ names))
+over_if file names d from true over = over
+over_if file names d from false over = λ text e is. over_by file names d from over text e (bytes_eq d.name.text text) is
+
+pub over_with : (file names : List Entry) (d : Declaration) (from : ℕ) → IsOver file names → IsOver file (declared from d names)
+over_with file names d from over = over_if file names d from (is_here from names d) over
+
+variable_not_filed : (m : Meaning) → is_variable m ≡ true → is_filed (named_of m) ≡ true → ⊥
+variable_not_filed (meaning.variable d) is filed = false≢true filed
+variable_not_filed (meaning.global k g) is filed = false≢true is
+variable_not_filed (meaning.function k f) is filed = false≢true is
+variable_not_filed (meaning.condition c) is filed = false≢true is
+
+-- a name that is found in scope
+found_spelt : (r : Resolution) (file names : List Entry) → IsOver file names → (token : ℕ) (text : List ℕ) → text_at r token ≡ text → (e : Entry) → look_up names text ≡ Some e → IsFiledAs r file token (named_of e.meaning)
+found_spelt r file names over token text is e found filed =
+    ⊎_elim (λ v. absurd (variable_not_filed e.meaning v filed)) (λ there. (e, ap (look_up file) is ∙ there, refl)) (over text e found)
+
+name_by : (r : Resolution) (file : List Entry) (token : ℕ) (o : Option Entry) → ((e : Entry) → o ≡ Some e → IsFiledAs r file token (named_of e.meaning)) → AreSpelt r file (name_notes token o)
+name_by r file token None is = (tt, tt)
+name_by r file token (Some e) is = (is e refl, faults_spelt r file (main_notes token e.meaning) (main_faults token e.meaning))
+
+name_spelt : (r : Resolution) (file names : List Entry) → IsOver file names → (token : ℕ) (text : List ℕ) → text_at r token ≡ text → AreSpelt r file (name_notes token (look_up names text))
+name_spelt r file names over token text is = name_by r file token (look_up names text) (found_spelt r file names over token text is)
+
+callee_by : (r : Resolution) (file : List Entry) (stands : Standing) (token n : ℕ) (o : Option Entry) → ((e : Entry) → o ≡ Some e → IsFiledAs r file token (named_of e.meaning)) → AreSpelt r file (callee_notes stands token n o)
+callee_by r file stands token n None is = (tt, tt)
+callee_by r file stands token n (Some e) is =
+    (is e refl, joint (IsSpelt r file) (main_notes token e.meaning) _ (faults_spelt r file _ (main_faults token e.meaning)) (faults_spelt r file _ (count_faults stands token n (meaning.parameters_of e.meaning))))
+
+spawned_by : (r : Resolution) (file : List Entry) (word token : ℕ) (o : Option Entry) → ((e : Entry) → o ≡ Some e → IsFiledAs r file token (named_of e.meaning)) → AreSpelt r file (spawn_notes word token o)
+spawned_by r file word token None is = (tt, tt)
+spawned_by r file word token (Some e) is = (is e refl, joint (IsSpelt r file) (main_notes token e.meaning) _ (faults_spelt r file _ (main_faults token e.meaning)) (faults_spelt r file _ (unless_faults _ word _)))
+
+field_spelt : (r : Resolution) (file : List Entry) (token : ℕ) (o : Option (Option Declaration)) → AreSpelt r file (field_notes token o)
+field_spelt r file token None = tt
+field_spelt r file token (Some None) = (tt, tt)
+field_spelt r file token (Some (Some d)) = (not_filed r file token (named.Field d.name.site.token) refl, tt)
+
+-- ---- in types
+
+first_by : (r : Resolution) (file names : List Entry) → IsOver file names → (token : ℕ) (text : List ℕ) → text_at r token ≡ text → (sibling : Option Declaration) → AreSpelt r file (first_notes token sibling (look_up names text))
+first_by r file names over token text is (Some d) = (not_filed r file token (named.Field d.name.site.token) refl, tt)
+first_by r file names over token text is None = name_spelt r file names over token text is
+
+second_spelt : (r : Resolution) (file : List Entry) (token : ℕ) (o : Option (Option Declaration)) → AreSpelt r file (second_notes token o)
+second_spelt r file token None = tt
+second_spelt r file token (Some None) = (tt, tt)
+second_spelt r file token (Some (Some d)) = (refl, tt)
+
+path_spelt : (r : Resolution) (file : List Entry) (scope : Scope) → IsOver file scope.names → (siblings : List Declaration) (p : Path) → AreMarks r.program.tokens.list (path_marks p) → AreSpelt r file (path_notes scope siblings p)
+path_spelt r file scope over siblings (One m token) marks = first_by r file scope.names over token m (text_is r token m marks.0) (field_of siblings m)
+path_spelt r file scope over siblings (Through x token m) marks =
+    joint (IsSpelt r file) (first_notes token (field_of siblings x) (look_up scope.names x)) _ (first_by r file scope.names over token x (text_is r token x marks.0) (field_of siblings x))
+    (second_spelt r file (token + 2) (second_in scope.structs m (first_kind (field_of siblings x) (look_up scope.names x))))
+
+mode_spelt : (r : Resolution) (file : List Entry) (scope : Scope) → IsOver file scope.names → (siblings : List Declaration) (m : Option Mode) → AreMarks r.program.tokens.list (level_marks m) → AreSpelt r file (mode_notes scope siblings m)
+mode_spelt r file scope over siblings None marks = tt
+mode_spelt r file scope over siblings (Some Private) marks = tt
+mode_spelt r file scope over siblings (Some Readonly) marks = tt
+mode_spelt r file scope over siblings (Some (Locked path)) marks = path_spelt r file scope over siblings path marks
+mode_spelt r file scope over siblings (Some Racy) marks = tt
+mode_spelt r file scope over siblings (Some Dynamic) marks = tt
+
+front_marks : (all : List Token) (a b : List Mark) → AreMarks all (a ++ b) → AreMarks all a
+front_marks all [] b h = tt
+front_marks all (m ∷ rest) b h = (h.0, front_marks all rest b h.1)
+
+back_marks : (all : List Token) (a b : List Mark) → AreMarks all (a ++ b) → AreMarks all b
+back_marks all [] b h = h
+back_marks all (m ∷ rest) b h = back_marks all rest b h.1
+
+modes_spelt : (r : Resolution) (file : List Entry) (scope : Scope) → IsOver file scope.names → (siblings : List Declaration) (first : Bool) (bases : List Mark) (l : List (Option Mode)) → AreMarks r.program.tokens.list (levels_marks first bases l)
+    → AreSpelt r file (modes_notes scope siblings l)
+modes_spelt r file scope over siblings first bases [] marks = tt
+modes_spelt r file scope over siblings true bases (m ∷ []) marks =
+    joint (IsSpelt r file) (mode_notes scope siblings m) [] (mode_spelt r file scope over siblings m (front_marks r.program.tokens.list (level_marks m) bases marks)) tt
+modes_spelt r file scope over siblings false bases (m ∷ []) marks =
+    joint (IsSpelt r file) (mode_notes scope siblings m) [] (mode_spelt r file scope over siblings m (back_marks r.program.tokens.list bases (level_marks m) marks)) tt
+modes_spelt r file scope over siblings first bases (m ∷ (n ∷ below)) marks =
+    joint (IsSpelt r file) (mode_notes scope siblings m) (modes_notes scope siblings (n ∷ below))
+    (mode_spelt r file scope over siblings m (back_marks r.program.tokens.list (levels_marks first bases (n ∷ below)) (level_marks m) marks))
+    (modes_spelt r file scope over siblings first bases (n ∷ below) (front_marks r.program.tokens.list (levels_marks first bases (n ∷ below)) (level_marks m) marks))
+
+struct_no : (s : StructMeaning) → is_filed (named_struct s) ≡ false
+struct_no (meaning.defined n fields) = refl
+struct_no meaning.known = refl
+
+struct_spelt : (r : Resolution) (file : List Entry) (token : ℕ) (o : Option StructMeaning) → AreSpelt r file (struct_note token o)
+struct_spelt r file token None = (tt, tt)
+struct_spelt r file token (Some s) = (not_filed r file token (named_struct s) (struct_no s), tt)
+
+base_spelt : (r : Resolution) (file : List Entry) (scope : Scope) (token : ℕ) (b : Base) → AreSpelt r file (base_notes scope.structs token b)
+base_spelt r file scope token base.Int = tt
+base_spelt r file scope token base.Char = tt
+base_spelt r file scope token base.Long = tt
+base_spelt r file scope token base.Mutex = tt
+base_spelt r file scope token base.Void = tt
+base_spelt r file scope token (base.Struct name) = struct_spelt r file token (struct_of scope.structs name)
+
+pub type_spelt : (r : Resolution) (file : List Entry) (scope : Scope) → IsOver file scope.names → (siblings : List Declaration) (where_it_stands : Role) (w : WrittenType) → PlacedType r.program.tokens.list w → AreSpelt r file (type_notes scope siblings where_it_stands w)
+type_spelt r file scope over siblings where_it_stands w placed =
+    joint (IsSpelt r file) _ (modes_notes scope siblings w.ctype.levels)
+    (joint (IsSpelt r file) (base_notes scope.structs w.base.token w.ctype.base) _ (base_spelt r file scope w.base.token w.ctype.base) (faults_spelt r file _ (unless_faults _ w.span.first.token _)))
+    (modes_spelt r file scope over siblings w.mode_first (base_marks w.ctype.base w.base.token) w.ctype.levels placed.1)
+
+-- ---- in expressions
+
+pub behind_faults : (r : Resolution) (file : List Entry) (a b : List Note) → AreSpelt r file a → AreFaults b → AreSpelt r file (a ++ b)
+behind_faults r file a b h f = joint (IsSpelt r file) a b h (faults_spelt r file b f)
+
+mutual
+  pub inside : (r : Resolution) (file : Scope) (names : List Entry) → IsOver file.names names → (stands : Standing) (e : Expression) → Placed r.program.tokens.list e → AreSpelt r file.names (notes_at stands (with_names file names) e)
+  inside r file names over stands (identifier s i) placed = name_spelt r file.names names over i.site.token i.text (text_is r i.site.token i.text placed.1)
+  inside r file names over stands (constant s c) placed = tt
+  inside r file names over stands (parentheses s a) placed = inside r file names over stands a placed.1
+  inside r file names over stands (call s f all) placed =
+      joint (IsSpelt r file.names) _ _
+      (callee_by r file.names stands f.site.token (count all) (look_up names f.text) (found_spelt r file.names names over f.site.token f.text (text_is r f.site.token f.text placed.1)))
+      (inside_all r file names over (wanted (count all) (look_up names f.text)) all placed.2)
+  inside r file names over stands (spawn s f a) placed =
+      behind_faults r file.names _ _
+      (joint (IsSpelt r file.names) _ _ (behind_faults r file.names _ _ (inside r file names over AsValue a placed.2) (unmet_faults Value a (type_of (with_names file names) a)))
+      (spawned_by r file.names s.first.token f.site.token (look_up names f.text) (found_spelt r file.names names over f.site.token f.text (text_is r f.site.token f.text placed.1))))
+      (unagreed_faults (spawn_wanted (look_up names f.text)) a (met Value (type_of (with_names file names) a)))
+  inside r file names over stands (on_value s w a) placed = behind_faults r file.names _ _ (inside r file names over AsValue a placed.1) (unmet_faults Integer a (type_of (with_names file names) a))
+  inside r file names over stands (on_place s w a) placed =
+      behind_faults r file.names _ _ (behind_faults r file.names _ _ (inside r file names over AsLvalue a placed.1) (place_faults names a)) (place_call_faults s.first.token w (place_kind names a (type_of (with_names file names) a)))
+  inside r file names over stands (cast s t a) placed =
+      behind_faults r file.names _ _
+      (behind_faults r file.names _ _
+      (joint (IsSpelt r file.names) (type_notes (with_names file names) [] role.Cast t) _ (type_spelt r file.names (with_names file names) over [] role.Cast t placed.1) (inside r file names over AsLvalue a placed.2)) (place_faults names a))
+      (cast_faults s.first.token (is_fine file.structs role.Cast t) t a (place_kind names a (type_of (with_names file names) a)))
+  inside r file names over stands (index s a i) placed =
+      behind_faults r file.names _ _
+      (joint (IsSpelt r file.names) _ _ (behind_faults r file.names _ _ (inside r file names over AsValue a placed.1) (unmet_faults Indexed a (type_of (with_names file names) a))) (inside r file names over AsValue i placed.2)) (unmet_faults Integer i (type_of (with_names file names) i))
+  inside r file names over stands (field s a w n) placed =
+      joint (IsSpelt r file.names) _ _ (behind_faults r file.names _ _ (inside r file names over AsValue a placed.1) (unmet_faults (access_need w) a (type_of (with_names file names) a))) (field_spelt r file.names n.site.token (field_in file.structs n.text (met (access_need w) (type_of (with_names file names) a))))
+  inside r file names over stands (unary s o a) placed = behind_faults r file.names _ _ (inside r file names over AsValue a placed.1) (unmet_faults (operand_need o) a (type_of (with_names file names) a))
+  inside r file names over stands (binary s o at a b) placed =
+      behind_faults r file.names _ _
+      (behind_faults r file.names _ _
+      (joint (IsSpelt r file.names) _ _ (behind_faults r file.names _ _ (inside r file names over AsValue a placed.1) (unmet_faults (operands_need (class_of o)) a (type_of (with_names file names) a))) (inside r file names over AsValue b placed.2)) (unmet_faults (operands_need (class_of o)) b (type_of (with_names file names) b)))
+      (binary_faults (class_of o) b (met (operands_need (class_of o)) (type_of (with_names file names) a)) (met (operands_need (class_of o)) (type_of (with_names file names) b)))
+
+  inside_all : (r : Resolution) (file : Scope) (names : List Entry) → IsOver file.names names → (wants : List Kind) (all : Arguments) → AllPlaced r.program.tokens.list all → AreSpelt r file.names (notes_of_all (with_names file names) wants all)
+  inside_all r file names over wants no_arguments placed = tt
+  inside_all r file names over wants (argument a rest) placed =
+      joint (IsSpelt r file.names) _ _
+      (behind_faults r file.names _ _ (behind_faults r file.names _ _ (inside r file names over AsValue a placed.0) (unmet_faults Value a (type_of (with_names file names) a))) (unagreed_faults (first_wanted wants) a (met Value (type_of (with_names file names) a))))
+      (inside_all r file names over (drop 1 wants) rest placed.1)

@@ -1,0 +1,302 @@
+-- The same of statements, and of the whole program.
+use Rattle.std.proofs.Common.{◌≡◌, ⊎_elim, ℕ, ◌+◌, ◌<◌, ◌≤◌, ◌==◌, ◌||◌, not, nat_lt, Bool, true, false, cond, List, [], ◌∷◌, ◌++◌, length, get_or, Option, Some, None, IfSome, is_some, bytes_eq, codes, refl, ap, sym, subst, ◌∙◌, eqb-true}
+use Rattle.std.proofs.lemmas.Bool.{false≢true, true≢false, cases_lt}
+use Rattle.std.proofs.lemmas.Slice.Eq.{bytes_eq-Decides}
+use Rattle.sharc_tree.specs.declared.tree.declaration.Declaration.{Declaration}
+use Rattle.sharc_tree.specs.Placed.{PlacedDeclarations, Placed, PlacedRight, PlacedSimple, PlacedLocal, PlacedFirst, PlacedStatement, PlacedStatements, PlacedItem, PlacedItems, IsPlaced}
+use Rattle.sharc_tree.specs.Tree.{Expression, Right, value, malloc, Simple, assign, does_call, Local, First, nothing, declares, does, Head, Statement, Statements, no_statements, statement, Function, Item, structure, global, function}
+use Rattle.sharc_tree.specs.Tree as tree
+use Rattle.sharc_names.specs.declared.fault.FaultCode.TheVariants.{DefinedTwice, LimitPassed, TypeMismatch, BadForm}
+use Rattle.sharc_names.specs.declared.fault.Named.{Named}
+use Rattle.sharc_names.specs.declared.fault.Named.TheVariants as named
+use Rattle.sharc_names.specs.declared.scope.Scope.{Scope}
+use Rattle.sharc_names.specs.declared.types.Role.TheVariants as role
+use Rattle.sharc_names.specs.Kinds.{Kind, void, same_kind, declared_kind}
+use Rattle.sharc_names.specs.Needs.{met}
+use Rattle.sharc_names.specs.declared.need.Need.TheVariants.{Value, Integer}
+use Rattle.sharc_names.specs.Names.{Entry, look_up, named_of, field_of}
+use Rattle.sharc_names.specs.Notes.{Note, is_free, fault, refers, yields, fault_unless, fault_where}
+use Rattle.sharc_names.specs.Types.{is_fine, type_notes}
+use Rattle.sharc_ctype.specs.Expressions.{type_of, place_kind}
+use Rattle.sharc_ctype.specs.declared.expr.Standing.TheVariants.{AsValue, AsLvalue}
+use Rattle.sharc_ctype.specs.Condition.{known_in, defines_condition, with_conditions}
+use Rattle.sharc_ctype.specs.Heads.{Heading, with_entry, global_entry, function_entry, head_notes as item_head_notes, heads_notes, behind, behind_all, no_heads}
+use Rattle.sharc_ctype.specs.Items.{field_notes, fields_notes, parameters_notes, with_parameters, item_notes, items_notes, file_scope, notes_about, named_in}
+use Rattle.sharc_ctype.specs.Resolved.{Resolution, IsResolved, named_at}
+use Rattle.sharc_ctype.specs.Statements.{Around, opened, looping, with_names, declared, declared_notes, is_here, test_notes, count_notes, right_notes, simple_notes, is_made, is_aggregate, wanted_by, returned_as, initial_notes, local_notes, return_notes, first_notes, behind_first, tests_notes, step_notes, after, notes_in, notes_in_all, locals_in_all}
+use Rattle.sharc_mode.specs.Sharings.{is_field, text_at}
+use Rattle.sharc_suggest_laws.proofs.Folded.{seen, named_seen, named_past}
+use Rattle.sharc_suggest_laws.proofs.Listed.{joint}
+use Rattle.sharc_suggest_laws.proofs.Mild.{IsSpelled, is_filed}
+use Rattle.sharc_suggest_laws.proofs.Noted.{Clean, left, right, behind_head, not_wrong, unless_faults, where_faults, unmet_faults, unagreed_faults, place_faults}
+use Rattle.sharc_suggest_laws.proofs.Reread.{length_faults, initial_faults, sizes_faults, beyond_faults}
+use Rattle.sharc_suggest_laws.proofs.Spelled.{IsFiledAs, IsSpelt, AreSpelt, not_filed, faults_spelt, text_is, IsOver, over_file, over_with, type_spelt, behind_faults, inside}
+
+in_test : (r : Resolution) (file : Scope) (names : List Entry) → IsOver file.names names → (e : Expression) → Placed r.program.tokens.list e → AreSpelt r file.names (test_notes (with_names file names) e)
+in_test r file names over e placed = behind_faults r file.names _ _ (inside r file names over AsValue e placed) (unmet_faults Value e (type_of (with_names file names) e))
+
+in_count : (r : Resolution) (file : Scope) (names : List Entry) → IsOver file.names names → (e : Option Expression) → IfSome e (Placed r.program.tokens.list) → AreSpelt r file.names (count_notes (with_names file names) e)
+in_count r file names over None placed = tt
+in_count r file names over (Some e) placed = behind_faults r file.names _ _ (inside r file names over AsValue e placed) (unmet_faults Integer e (type_of (with_names file names) e))
+
+in_right : (r : Resolution) (file : Scope) (names : List Entry) → IsOver file.names names → (want : Option Kind) (x : Right) → PlacedRight r.program.tokens.list x → AreSpelt r file.names (right_notes (with_names file names) want x)
+in_right r file names over want (value e) placed = behind_faults r file.names _ _ (behind_faults r file.names _ _ (inside r file names over AsValue e placed) (unmet_faults Value e (type_of (with_names file names) e))) (unagreed_faults want e (met Value (type_of (with_names file names) e)))
+in_right r file names over want (malloc s n t) placed =
+    behind_faults r file.names _ _ (joint (IsSpelt r file.names) _ _ (in_count r file names over n placed.1) (type_spelt r file.names (with_names file names) over [] role.Made t placed.2)) (unless_faults (is_made want t || not (is_fine file.structs role.Made t)) s.first.token TypeMismatch)
+
+in_simple : (r : Resolution) (file : Scope) (names : List Entry) → IsOver file.names names → (x : Simple) → PlacedSimple r.program.tokens.list x → AreSpelt r file.names (simple_notes (with_names file names) x)
+in_simple r file names over (assign s u x) placed =
+    joint (IsSpelt r file.names) _ _ (behind_faults r file.names _ _ (behind_faults r file.names _ _ (inside r file names over AsLvalue u placed.1) (place_faults names u)) (unmet_faults Value u (place_kind names u (type_of (with_names file names) u)))) (in_right r file names over (met Value (place_kind names u (type_of (with_names file names) u))) x placed.2)
+in_simple r file names over (does_call e) placed = inside r file names over AsValue e placed
+
+in_initial : (r : Resolution) (file : Scope) (names : List Entry) → IsOver file.names names → (d : Declaration) (x : Option Right) → IfSome x (PlacedRight r.program.tokens.list) → AreSpelt r file.names (initial_notes (with_names file names) d x)
+in_initial r file names over d None placed = tt
+in_initial r file names over d (Some x) placed = joint (IsSpelt r file.names) _ _ (faults_spelt r file.names _ (where_faults (is_aggregate (declared_kind d.written)) d.name.site.token BadForm)) (in_right r file names over (wanted_by (is_fine file.structs role.Local d.written) d.written) x placed)
+
+declared_spelt : (r : Resolution) (file : List Entry) (from : ℕ) (d : Declaration) (names : List Entry) → AreSpelt r file (declared_notes from d names)
+declared_spelt r file from d names = (not_filed r file d.name.site.token (named.Variable d.name.site.token) refl, faults_spelt r file _ (where_faults (is_here from names d) d.name.site.token DefinedTwice))
+
+in_local : (r : Resolution) (file : Scope) (names : List Entry) → IsOver file.names names → (around : Around) (l : Local) → PlacedLocal r.program.tokens.list l → AreSpelt r file.names (local_notes around (with_names file names) l)
+in_local r file names over around l placed =
+    let d : Declaration = l.declaration in
+    joint (IsSpelt r file.names) (type_notes (with_names file names) [] role.Local d.written ++ declared_notes around.block d names) _
+    (joint (IsSpelt r file.names) (type_notes (with_names file names) [] role.Local d.written) _ (type_spelt r file.names (with_names file names) over [] role.Local d.written placed.1.1) (declared_spelt r file.names around.block d names))
+    (in_initial r file (declared around.block d names) (over_with file.names names d around.block over) d l.initial placed.2)
+
+in_first : (r : Resolution) (file : Scope) (names : List Entry) → IsOver file.names names → (around : Around) (f : First) → PlacedFirst r.program.tokens.list f → AreSpelt r file.names (first_notes around (with_names file names) f)
+in_first r file names over around nothing placed = tt
+in_first r file names over around (declares l) placed = in_local r file names over around l placed
+in_first r file names over around (does x) placed = in_simple r file names over x placed
+
+first_over : (file names : List Entry) → IsOver file names → (around : Around) (f : First) → IsOver file (behind_first around names f)
+first_over file names over around nothing = over
+first_over file names over around (declares l) = over_with file names l.declaration around.block over
+first_over file names over around (does x) = over
+
+in_tests : (r : Resolution) (file : Scope) (names : List Entry) → IsOver file.names names → (e : Option Expression) → IfSome e (Placed r.program.tokens.list) → AreSpelt r file.names (tests_notes (with_names file names) e)
+in_tests r file names over None placed = tt
+in_tests r file names over (Some e) placed = in_test r file names over e placed
+
+in_step : (r : Resolution) (file : Scope) (names : List Entry) → IsOver file.names names → (x : Option Simple) → IfSome x (PlacedSimple r.program.tokens.list) → AreSpelt r file.names (step_notes (with_names file names) x)
+in_step r file names over None placed = tt
+in_step r file names over (Some x) placed = in_simple r file names over x placed
+
+in_returned : (r : Resolution) (file : Scope) (names : List Entry) → IsOver file.names names → (around : Around) (word : ℕ) (e : Option Expression) → IfSome e (Placed r.program.tokens.list) → AreSpelt r file.names (return_notes around (with_names file names) word e)
+in_returned r file names over around word None placed = faults_spelt r file.names _ (unless_faults (same_kind around.result void) word BadForm)
+in_returned r file names over around word (Some e) placed =
+    behind_faults r file.names _ _
+    (behind_faults r file.names _ _ (joint (IsSpelt r file.names) _ _ (faults_spelt r file.names _ (where_faults (same_kind around.result void) word BadForm)) (inside r file names over AsValue e placed)) (unmet_faults Value e (type_of (with_names file names) e))) (unagreed_faults (returned_as around.result) e (met Value (type_of (with_names file names) e)))
+
+after_over : (file names : List Entry) → IsOver file names → (around : Around) (s : Statement) → IsOver file (after around names s)
+after_over file names over around (tree.empty s) = over
+after_over file names over around (tree.block s all) = over
+after_over file names over around (tree.declare s l) = over_with file names l.declaration around.block over
+after_over file names over around (tree.simple s x) = over
+after_over file names over around (tree.jump s j) = over
+after_over file names over around (tree.return s e) = over
+after_over file names over around (tree.if_then s e a) = over
+after_over file names over around (tree.if_then_else s e a b) = over
+after_over file names over around (tree.while s e a) = over
+after_over file names over around (tree.for s h a) = over
+
+mutual
+  in_statement : (r : Resolution) (file : Scope) (names : List Entry) → IsOver file.names names → (around : Around) (s : Statement) → PlacedStatement r.program.tokens.list s → AreSpelt r file.names (notes_in around (with_names file names) s)
+  in_statement r file names over around (tree.empty s) placed = tt
+  in_statement r file names over around (tree.block s all) placed = in_statements r file names over (opened around names) all placed.1
+  in_statement r file names over around (tree.declare s l) placed = in_local r file names over around l placed.1
+  in_statement r file names over around (tree.simple s x) placed = in_simple r file names over x placed.1
+  in_statement r file names over around (tree.jump s j) placed = faults_spelt r file.names _ (unless_faults around.in_loop s.first.token BadForm)
+  in_statement r file names over around (tree.return s e) placed = in_returned r file names over around s.first.token e placed.1
+  in_statement r file names over around (tree.if_then s e a) placed = joint (IsSpelt r file.names) _ _ (in_test r file names over e placed.1) (in_statement r file names over (opened around names) a placed.2)
+  in_statement r file names over around (tree.if_then_else s e a b) placed =
+      joint (IsSpelt r file.names) _ _ (joint (IsSpelt r file.names) _ _ (in_test r file names over e placed.1) (in_statement r file names over (opened around names) a placed.2)) (in_statement r file names over (opened around names) b placed.3)
+  in_statement r file names over around (tree.while s e a) placed = joint (IsSpelt r file.names) _ _ (in_test r file names over e placed.1) (in_statement r file names over (looping (opened around names)) a placed.2)
+  in_statement r file names over around (tree.for s h a) placed =
+      let outer : Around = opened around names in
+      let inner : List Entry = behind_first outer names h.first in
+      let under : IsOver file.names inner = first_over file.names names over outer h.first in
+      joint (IsSpelt r file.names) _ _
+      (joint (IsSpelt r file.names) _ _ (joint (IsSpelt r file.names) _ _ (in_first r file names over outer h.first placed.1.0) (in_tests r file inner under h.test placed.1.1)) (in_step r file inner under h.step placed.1.2))
+      (in_statement r file inner under (looping (opened outer inner)) a placed.2)
+
+  in_statements : (r : Resolution) (file : Scope) (names : List Entry) → IsOver file.names names → (around : Around) (all : Statements) → PlacedStatements r.program.tokens.list all → AreSpelt r file.names (notes_in_all around (with_names file names) all)
+  in_statements r file names over around no_statements placed = tt
+  in_statements r file names over around (statement a rest) placed =
+      joint (IsSpelt r file.names) _ _ (in_statement r file names over around a placed.0) (in_statements r file (after around names a) (after_over file.names names over around a) around rest placed.1)
+
+-- ---- of items
+
+in_fields : (r : Resolution) (file : Scope) (all earlier ds : List Declaration) → PlacedDeclarations r.program.tokens.list ds → AreSpelt r file.names (fields_notes file all earlier ds)
+in_fields r file all earlier [] placed = tt
+in_fields r file all earlier (d ∷ rest) placed =
+    joint (IsSpelt r file.names) (field_notes file all earlier d) _
+    (joint (IsSpelt r file.names) (type_notes file all role.Field d.written) _ (type_spelt r file.names file (over_file file.names) all role.Field d.written placed.0.1) (
+      not_filed r file.names d.name.site.token (named.Field d.name.site.token) refl,
+      joint (IsSpelt r file.names) (fault_where (is_some (field_of earlier d.name.text)) d.name.site.token DefinedTwice) (fault_unless (nat_lt (length earlier) 256) d.name.site.token LimitPassed)
+          (faults_spelt r file.names _ (where_faults (is_some (field_of earlier d.name.text)) d.name.site.token DefinedTwice)) (faults_spelt r file.names _ (unless_faults (nat_lt (length earlier) 256) d.name.site.token LimitPassed)),
+    ))
+    (in_fields r file all (earlier ++ d ∷ []) rest placed.1)
+
+in_parameters : (r : Resolution) (file : List Entry) (block before : ℕ) (s : Scope) → IsOver file s.names → (ds : List Declaration) → PlacedDeclarations r.program.tokens.list ds
+    → AreSpelt r file (parameters_notes block before s ds) × IsOver file (with_parameters block s.names ds)
+in_parameters r file block before s over [] placed = (tt, over)
+in_parameters r file block before s over (d ∷ rest) placed =
+    let more = in_parameters r file block (before + 1) (with_names s (declared block d s.names)) (over_with file s.names d block over) rest placed.1 in (
+      joint (IsSpelt r file) (type_notes s [] role.Parameter d.written ++ declared_notes block d s.names ++ _) _
+          (behind_faults r file (type_notes s [] role.Parameter d.written ++ declared_notes block d s.names) _
+          (joint (IsSpelt r file) (type_notes s [] role.Parameter d.written) _ (type_spelt r file s over [] role.Parameter d.written placed.0.1) (declared_spelt r file block d s.names))
+          (unless_faults _ d.name.site.token LimitPassed))
+          more.0,
+      more.1,
+    )
+
+in_item : (r : Resolution) (file : Scope) (i : Item) → PlacedItem r.program.tokens.list i → AreSpelt r file.names (item_notes file i)
+in_item r file (structure s) placed = in_fields r file s.fields [] s.fields placed.2
+in_item r file (global g) placed =
+    behind_faults r file.names _ _
+    (behind_faults r file.names (type_notes file [] role.Global g.declaration.written) _ (type_spelt r file.names file (over_file file.names) [] role.Global g.declaration.written placed.1.1) (length_faults g.form)) (initial_faults g g.form)
+in_item r file (function f) placed =
+    let heads = in_parameters r file.names (length file.names) 0 file (over_file file.names) f.parameters placed.3 in
+    behind_faults r file.names _ _
+    (joint (IsSpelt r file.names) _ _
+    (joint (IsSpelt r file.names) (type_notes file [] role.Result f.result) _ (type_spelt r file.names file (over_file file.names) [] role.Result f.result placed.1) heads.0)
+    (in_statements r file (with_parameters (length file.names) file.names f.parameters) heads.1 (record { result = declared_kind f.result; in_loop = false; block = length file.names }) f.statements placed.5))
+    (beyond_faults 200 (locals_in_all f.statements))
+
+in_items : (r : Resolution) (file : Scope) (items : List Item) → PlacedItems r.program.tokens.list items → AreSpelt r file.names (items_notes file items)
+in_items r file [] placed = tt
+in_items r file (i ∷ rest) placed = joint (IsSpelt r file.names) _ _ (in_item r file i placed.0) (in_items r file rest placed.1)
+
+-- ---- of what is known of the file
+
+none_some : (o : Option Entry) (e : Entry) → is_some o ≡ false → o ≡ Some e → ⊥
+none_some o e not_so is = true≢false (sym (ap is_some is) ∙ not_so)
+
+-- what is known stays known
+entry_stays : (scope : List Entry) (x : Entry) (text : List ℕ) (e : Entry) → look_up scope text ≡ Some e → look_up (with_entry x scope) text ≡ Some e
+entry_stays scope x text e is = by (is_some (look_up scope x.name)) refl
+  where
+    inner : (c : Bool) → bytes_eq x.name text ≡ c → is_some (look_up scope x.name) ≡ false → cond c (Some x) (look_up scope text) ≡ Some e
+    inner true same not_so = absurd (none_some (look_up scope x.name) e not_so (ap (look_up scope) ((bytes_eq-Decides x.name text).0 same) ∙ is))
+    inner false other not_so = is
+
+    by : (b : Bool) → is_some (look_up scope x.name) ≡ b → look_up (cond b scope (x ∷ scope)) text ≡ Some e
+    by true known = is
+    by false not_so = inner (bytes_eq x.name text) refl not_so
+
+behind_stays : (h : Heading) (i : Item) (text : List ℕ) (e : Entry) → look_up h.scope.names text ≡ Some e → look_up (behind h i).scope.names text ≡ Some e
+behind_stays h (structure s) text e is = is
+behind_stays h (global g) text e is = entry_stays h.scope.names (global_entry h.globals g) text e is
+behind_stays h (function f) text e is = entry_stays h.scope.names (function_entry h.functions f) text e is
+
+all_stay : (h : Heading) (items : List Item) (text : List ℕ) (e : Entry) → look_up h.scope.names text ≡ Some e → look_up (behind_all h items).scope.names text ≡ Some e
+all_stay h [] text e is = is
+all_stay h (i ∷ rest) text e is = all_stay (behind h i) rest text e (behind_stays h i text e is)
+
+another : (scope : List Entry) (name text : List ℕ) (e : Entry) → is_some (look_up scope name) ≡ false → look_up scope text ≡ Some e → bytes_eq name text ≡ false
+another scope name text e not_so is = by (bytes_eq name text) refl
+  where
+    by : (b : Bool) → bytes_eq name text ≡ b → b ≡ false
+    by true same = absurd (none_some (look_up scope name) e not_so (ap (look_up scope) ((bytes_eq-Decides name text).0 same) ∙ is))
+    by false other = refl
+
+condition_stays : (file : Scope) (text : List ℕ) (e : Entry) → look_up file.names text ≡ Some e → look_up (known_in file).names text ≡ Some e
+condition_stays file text e is = by (defines_condition file) refl
+  where
+    neither : (a b : Bool) → (a || b) ≡ false → (a ≡ false) × (b ≡ false)
+    neither true b h = absurd (true≢false h)
+    neither false b h = (refl, h)
+
+    hidden : (a b c : Bool) (x y z : Entry) (later : Option Entry) → a ≡ false → b ≡ false → c ≡ false → cond a (Some x) (cond b (Some y) (cond c (Some z) later)) ≡ later
+    hidden a b c x y z later f g h = ap (λ (k : Bool). cond k (Some x) (cond b (Some y) (cond c (Some z) later))) f ∙ ap (λ (k : Bool). cond k (Some y) (cond c (Some z) later)) g ∙ ap (λ (k : Bool). cond k (Some z) later) h
+
+    by : (b : Bool) → defines_condition file ≡ b → look_up (cond b file (with_conditions file)).names text ≡ Some e
+    by true defines = is
+    by false not_so =
+        let first = neither _ _ not_so in
+        let waits = neither _ _ first.1 in
+        let signals = neither _ _ waits.1 in
+        hidden _ _ _ _ _ _ (look_up file.names text) (another file.names (codes "broadcast") text e signals.1 is) (another file.names (codes "signal") text e signals.0 is) (another file.names (codes "wait") text e waits.0 is) ∙ is
+
+-- a global or a function is known by its name
+name_known : (scope : List Entry) (x : Entry) → is_some (look_up scope x.name) ≡ false → look_up (with_entry x scope) x.name ≡ Some x
+name_known scope x not_so =
+    ap (λ (b : Bool). look_up (cond b scope (x ∷ scope)) x.name) not_so ∙ ap (λ (b : Bool). cond b (Some x) (look_up scope x.name)) ((bytes_eq-Decides x.name x.name).1 refl)
+
+heads_spelt : (r : Resolution) (file : List Entry) (h : Heading) (items : List Item) → PlacedItems r.program.tokens.list items → ((text : List ℕ) (e : Entry) → look_up (behind_all h items).scope.names text ≡ Some e → look_up file text ≡ Some e)
+    → Clean (heads_notes h items) → AreSpelt r file (heads_notes h items)
+heads_spelt r file h [] placed known clean = tt
+heads_spelt r file h (i ∷ rest) placed known clean =
+    joint (IsSpelt r file) (item_head_notes h i) _ (by i placed.0 known (left _ _ clean)) (heads_spelt r file (behind h i) rest placed.1 known (right _ _ clean))
+  where
+    limits : (a b : Bool) (token : ℕ) → AreSpelt r file (fault_where a token DefinedTwice ++ fault_unless b token LimitPassed)
+    limits a b token = joint (IsSpelt r file) _ _ (faults_spelt r file _ (where_faults a token DefinedTwice)) (faults_spelt r file _ (unless_faults b token LimitPassed))
+
+    by : (i : Item) → PlacedItem r.program.tokens.list i → ((text : List ℕ) (e : Entry) → look_up (behind_all (behind h i) rest).scope.names text ≡ Some e → look_up file text ≡ Some e) → Clean (item_head_notes h i) → AreSpelt r file (item_head_notes h i)
+    by (structure s) at in_file clean_head = (not_filed r file s.name.site.token (named.Struct h.structs) refl, limits _ _ s.name.site.token)
+    by (global g) at in_file clean_head =
+        let x : Entry = global_entry h.globals g in
+        let token : ℕ = g.declaration.name.site.token in
+        let new : is_some (look_up h.scope.names x.name) ≡ false = not_wrong _ token DefinedTwice (left _ _ (behind_head _ _ _ clean_head)) in
+        let there : look_up file x.name ≡ Some x = in_file x.name x (all_stay (behind h (global g)) rest x.name x (name_known h.scope.names x new)) in
+        let text : text_at r token ≡ x.name = text_is r token x.name at.1.2 in
+        ((λ filed. (x, ap (look_up file) text ∙ there, refl)), limits _ _ token)
+    by (function f) at in_file clean_head =
+        let x : Entry = function_entry h.functions f in
+        let token : ℕ = f.name.site.token in
+        let new : is_some (look_up h.scope.names x.name) ≡ false = not_wrong _ token DefinedTwice (left _ _ (behind_head _ _ _ clean_head)) in
+        let there : look_up file x.name ≡ Some x = in_file x.name x (all_stay (behind h (function f)) rest x.name x (name_known h.scope.names x new)) in
+        let text : text_at r token ≡ x.name = text_is r token x.name at.2 in
+        ((λ filed. (x, ap (look_up file) text ∙ there, refl)), limits _ _ token)
+
+-- ---- of all that is said, so of each token
+
+in_program : (r : Resolution) → IsPlaced r.program → Clean (notes_about r.program) → AreSpelt r (file_scope r.program.items).names (notes_about r.program)
+in_program r placed clean =
+    let items : List Item = r.program.items in
+    let file : Scope = file_scope items in
+    let heads : AreSpelt r file.names (heads_notes no_heads items) =
+    heads_spelt r file.names no_heads items placed.items (λ text e is. condition_stays (behind_all no_heads items).scope text e is) (left _ _ (left _ _ (left _ _ clean))) in
+    behind_faults r file.names _ _ (behind_faults r file.names _ _ (joint (IsSpelt r file.names) (heads_notes no_heads items) _ heads (in_items r file items placed.items)) (sizes_faults file.structs 0 items)) (unless_faults _ _ _)
+
+chosen : (r : Resolution) (file : List Entry) (t : ℕ) (b : Bool) (w y : Named) → (b ≡ true → IsFiledAs r file t w) → IsFiledAs r file t y → IsFiledAs r file t (cond b w y)
+chosen r file t true w y first later = first refl
+chosen r file t false w y first later = later
+
+field_not_filed : (r : Resolution) (file : List Entry) (t : ℕ) (w : Named) → is_field w ≡ true → IsFiledAs r file t w
+field_not_filed r file t (named.Struct n) f = not_filed r file t (named.Struct n) refl
+field_not_filed r file t (named.Global n) f = absurd (false≢true f)
+field_not_filed r file t (named.Function n) f = absurd (false≢true f)
+field_not_filed r file t (named.Variable y) f = not_filed r file t (named.Variable y) refl
+field_not_filed r file t (named.Field y) f = not_filed r file t (named.Field y) refl
+field_not_filed r file t named.Known f = not_filed r file t named.Known refl
+
+seen_spelt : (r : Resolution) (file : List Entry) (t : ℕ) (l : List Note) (x : Named) → AreSpelt r file l → IsFiledAs r file t x → IsFiledAs r file t (seen t l x)
+seen_spelt r file t [] x all is = is
+seen_spelt r file t (fault place code ∷ rest) x all is = seen_spelt r file t rest x all.1 is
+seen_spelt r file t (refers n w ∷ rest) x all is =
+    seen_spelt r file t rest (cond (n == t) w x) all.1 (chosen r file t (n == t) w x (λ same. subst (λ (k : ℕ). IsFiledAs r file k w) (eqb-true n t same) all.0) is)
+seen_spelt r file t (yields n w ∷ rest) x all is =
+    seen_spelt r file t rest (cond (n == t) (cond (is_free x) w x) x) all.1
+    (chosen r file t (n == t) (cond (is_free x) w x) x (λ same. chosen r file t (is_free x) w x (λ free. field_not_filed r file t w all.0) is) is)
+
+pub spelled : (r : Resolution) → IsResolved r → IsPlaced r.program → Clean (notes_about r.program) → IsSpelled r (file_scope r.program.items).names
+spelled r resolved placed clean token filed e found =
+    ⊎_elim of_a_token outside (cases_lt token (length r.program.tokens.list))
+  where
+    old : named_at r token ≡ get_or (named_in r.program) token named.Known
+    old = ap (λ (l : List Named). get_or l token named.Known) resolved.named
+
+    one_some : (a b : Entry) → Some a ≡ Some b → a ≡ b
+    one_some a b h = cc
+
+    of_a_token : token < length r.program.tokens.list → named_of e.meaning ≡ named_at r token
+    of_a_token low =
+        let all : IsFiledAs r (file_scope r.program.items).names token (seen token (notes_about r.program) named.Known) =
+        seen_spelt r (file_scope r.program.items).names token (notes_about r.program) named.Known (in_program r placed clean) (not_filed r (file_scope r.program.items).names token named.Known refl) in
+        let is : named_at r token ≡ seen token (notes_about r.program) named.Known = old ∙ named_seen r.program token low in
+        let there = all (ap is_filed (sym is) ∙ filed) in
+        ap (λ (x : Entry). named_of x.meaning) (one_some e there.0 (sym found ∙ there.1)) ∙ there.2 ∙ sym is
+
+    outside : length r.program.tokens.list ≤ token → named_of e.meaning ≡ named_at r token
+    outside past = absurd (false≢true (ap is_filed (sym (old ∙ named_past r.program token past)) ∙ filed))

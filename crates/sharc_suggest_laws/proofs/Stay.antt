@@ -1,0 +1,121 @@
+-- Each token names what it named, where the program with a suggested cast is typed.
+use Rattle.sharc_tree.specs.Low.{IsLow}
+use Rattle.sharc_suggest.specs.Casts.{IsSuggested}
+use Rattle.sharc_mode.specs.declared.error.ModeError.{ModeError}
+use Rattle.std.proofs.Common.{Some, ◌≡◌, ℕ, ◌+◌, ◌≤◌, ◌==◌, ◌&&◌, Bool, true, List, [], ◌∷◌, length, refl, ap, sym, subst, ◌∙◌, eq-eqb, arith}
+use Rattle.std.specs.List.{AllByRecursion}
+use Rattle.std.proofs.lemmas.Bool.{and_parts, and_from}
+use Rattle.sharc_tree.specs.declared.token.Span.{Span}
+use Rattle.sharc_tree.specs.declared.tree.declaration.WrittenType.{WrittenType}
+use Rattle.sharc_tree.specs.Measures.{expressions}
+use Rattle.sharc_tree.specs.Placed.{IsPlaced}
+use Rattle.sharc_tree.specs.Spans.{span_of}
+use Rattle.sharc_rewrite.specs.declared.written.Recast.{Recast}
+use Rattle.sharc_rewrite.specs.Recast.{type_at, is_there, program_with_cast}
+use Rattle.sharc_ctype.specs.declared.entity.Entity.{Entity}
+use Rattle.sharc_ctype.specs.Entities.{entities_in, numbered}
+use Rattle.sharc_ctype.specs.Items.{file_scope, notes_about, IsTyped}
+use Rattle.sharc_ctype.specs.Resolved.{Resolution, IsResolved}
+use Rattle.sharc_mode.specs.declared.error.Cast.{Cast}
+use Rattle.sharc_mode.specs.Moded.{Assignment}
+use Rattle.sharc_ctype_laws.specs.Laws.{EachNameOnce, OnlyNames, NamesInTypes}
+use Rattle.sharc_ctype_laws.specs.WrittenTypes.{IsNamedType}
+use Rattle.sharc_suggest.specs.Applied.{recast_of, base_site, program_with}
+use Rattle.sharc_suggest.specs.Repairs.{differ_first, may_be_cast, keeps_all}
+use Rattle.sharc_suggest_laws.specs.Givings.{Giving, items_givings}
+use Rattle.sharc_suggest_laws.specs.Names.{NamesStay}
+use Rattle.sharc_suggest_laws.specs.Values.{count_of, met_by, met_in_items}
+use Rattle.sharc_suggest_laws.proofs.Added.{at_tokens}
+use Rattle.sharc_suggest_laws.proofs.Bases.{Have, HaveCasts, of_items, in_all, IsGiven}
+use Rattle.sharc_suggest_laws.proofs.Counted.{counted, counted_append, in_items as items_counted}
+use Rattle.sharc_suggest_laws.proofs.Few.{at_most_one, begins_once}
+use Rattle.sharc_suggest_laws.proofs.Folded.{keeps}
+use Rattle.sharc_suggest_laws.proofs.Listed.{back, joint}
+use Rattle.sharc_suggest_laws.proofs.Mild.{IsSpelled, NamesBase, type_mild}
+use Rattle.sharc_suggest_laws.proofs.Noted.{Clean, clean_from, Noted}
+use Rattle.sharc_suggest_laws.proofs.Owned.{all_own}
+use Rattle.sharc_suggest_laws.proofs.Renamed.{HasBase, each_has, base_named, given_based}
+use Rattle.sharc_suggest_laws.proofs.Reread.{setting_of, in_program}
+use Rattle.sharc_suggest_laws.proofs.Retyped.{Setting, IsMild, AreMild}
+use Rattle.sharc_suggest_laws.proofs.Site.{IsFor, HasSite, has_site}
+use Rattle.sharc_suggest_laws.proofs.SpelledAll.{spelled}
+
+-- ---- the cast stands at one giving alone
+
+none_there : (w : Setting) (gs : List Giving) → counted (is_there w.recast) gs ≡ 0 → AreMild w gs
+none_there w [] none = tt
+none_there w (g ∷ rest) none =
+    let sum : met_by (is_there w.recast) g.given + counted (is_there w.recast) rest ≡ 0 = none in (
+      (λ there names scoped s clean.
+          let one : met_by (is_there w.recast) g.given ≡ 1 = ap count_of there in
+          absurd (omega (arith, sum, one))),
+      none_there w rest (omega (arith, sum)),
+    )
+
+-- what stands on both sides of it does not
+record IsAlone (m : Assignment) (c : Cast) (before behind : List Giving) : Type 0 where
+  before_none : counted (is_there (recast_of m.typed c)) before ≡ 0
+  behind_none : counted (is_there (recast_of m.typed c)) behind ≡ 0
+
+alone : (m : Assignment) (c : Cast) (named : ℕ → Bool) → IsPlaced m.typed.program → (site : IsFor m named c (items_givings m.typed.program.items)) → IsAlone m c site.before site.behind
+alone m c named placed site =
+    let r : Recast = recast_of m.typed c in
+    let test = is_there r in
+    let s : Span = span_of site.giving.given in
+    let first : s.first.token ≡ c.from = ap (λ (x : Cast). x.from) site.is in
+    let last : s.last.token ≡ c.until = ap (λ (x : Cast). x.until) site.is in
+    let here : met_by test site.giving.given ≡ 1 = ap count_of (and_from (s.first.token == c.from) (s.last.token == c.until) (eq-eqb s.first.token c.from first) (eq-eqb s.last.token c.until last)) in
+    let few : met_in_items test m.typed.program.items ≤ 1 =
+    at_most_one (at_tokens r) 0 (length m.typed.program.tokens.list) (met_in_items test m.typed.program.items)
+    (begins_once m.typed.program.tokens.list (at_tokens r) m.typed.program.items (length m.typed.program.tokens.list) placed.follow placed.items) in
+    let many : met_in_items test m.typed.program.items ≡ counted test site.before + counted test (site.giving ∷ site.behind) =
+    items_counted test m.typed.program.items ∙ ap (counted test) site.split ∙ counted_append test site.before (site.giving ∷ site.behind) in
+    let rest : counted test (site.giving ∷ site.behind) ≡ met_by test site.giving.given + counted test site.behind = refl in
+    record { before_none = omega (arith, here, few, many, rest); behind_none = omega (arith, here, few, many, rest) }
+
+-- ---- and what is said of its type does no harm
+
+pub keeps_expected : (m : Assignment) (c : Cast) (named : ℕ → Bool) (site : IsFor m named c (items_givings m.typed.program.items)) → keeps_all m.typed site.giving.scope site.expected ≡ true
+keeps_expected m c named site =
+    let e = site.giving.given in
+    (and_parts (may_be_cast m named e) (keeps_all m.typed site.giving.scope site.expected)
+    (and_parts (differ_first m.typed site.expected site.found) (may_be_cast m named e && keeps_all m.typed site.giving.scope site.expected) site.repairable).1).1
+
+site_mild : (m : Assignment) (c : Cast) (named : ℕ → Bool) → Have (IsNamedType m.typed) (entities_in m.typed.program.items) → IsSpelled m.typed (file_scope m.typed.program.items).names → (site : IsFor m named c (items_givings m.typed.program.items))
+    → IsMild (setting_of m.typed (recast_of m.typed c)) site.giving
+site_mild m c named types spelt site = λ there names scoped s clean.
+    let r : Resolution = m.typed in
+    let all : List Entity = entities_in r.program.items in
+    let Q : WrittenType → Type 0 = λ (w : WrittenType). HasBase all w.ctype.base in
+    let given = in_all Q r.program.items (each_has all all (λ b h. h)) in
+    let at : HaveCasts Q (expressions site.giving.given) = (back (IsGiven Q) site.before (site.giving ∷ site.behind) (subst (AllByRecursion (IsGiven Q)) site.split given.given)).0 in
+    let has : HasBase all c.to.base = subst (HasBase all) (ap (λ (x : Cast). x.to.base) site.is) (given_based r site.giving.given at) in
+    let named_base : NamesBase r (base_site (numbered all) c.to.base c.site).token c.to.base = base_named r c.to.base c.site types has in
+    type_mild r (file_scope r.program.items) names site.giving.scope spelt scoped (type_at (recast_of r c) s) site.expected (ap (λ (x : Cast). x.to.levels) (sym site.is)) named_base (keeps_expected m c named site) clean
+
+mild : (m : Assignment) (c : Cast) (named : ℕ → Bool) → IsPlaced m.typed.program → Have (IsNamedType m.typed) (entities_in m.typed.program.items) → IsSpelled m.typed (file_scope m.typed.program.items).names
+    → (site : IsFor m named c (items_givings m.typed.program.items)) → AreMild (setting_of m.typed (recast_of m.typed c)) (items_givings m.typed.program.items)
+mild m c named placed types spelt site =
+    let w : Setting = setting_of m.typed (recast_of m.typed c) in
+    let one : IsAlone m c site.before site.behind = alone m c named placed site in
+    subst (AreMild w) (sym site.split)
+    (joint (IsMild w) site.before (site.giving ∷ site.behind) (none_there w site.before one.before_none) (site_mild m c named types spelt site, none_there w site.behind one.behind_none))
+
+-- ---- so
+
+-- the notes of the program with the cast
+pub notes_grown : NamesInTypes → (m : Assignment) (e : ModeError) (c : Cast) → IsResolved m.typed → IsPlaced m.typed.program → IsLow m.typed.program → IsSuggested m e (Some c) → IsTyped (program_with c m.typed)
+    → Noted m.typed (notes_about m.typed.program) (notes_about (program_with c m.typed))
+notes_grown in_types m e c resolved placed low says typed =
+    let r : Resolution = m.typed in
+    let rc : Recast = recast_of r c in
+    let site : HasSite m e c says = has_site m e c says in
+    let old : Clean (notes_about r.program) = clean_from (notes_about r.program) resolved.typed in
+    let new : Clean (notes_about (program_with_cast rc r.program)) = clean_from (notes_about (program_with_cast rc r.program)) typed in
+    let types : Have (IsNamedType r) (entities_in r.program.items) = of_items (IsNamedType r) r.program.items (in_types r resolved placed low) in
+    in_program r rc (mild m c says.are.named placed types (spelled r resolved placed old) site.for) new
+
+pub names_stay : EachNameOnce → OnlyNames → NamesInTypes → NamesStay
+names_stay once only in_types m e c resolved placed low says typed token =
+    let r : Resolution = m.typed in
+    keeps r (program_with c r) token resolved refl (all_own r token (only r resolved placed low token) (once r resolved placed low token)) (notes_grown in_types m e c resolved placed low says typed)

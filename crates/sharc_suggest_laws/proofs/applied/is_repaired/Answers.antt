@@ -1,0 +1,19 @@
+use Rattle.std.proofs.Common.{◌≡◌, ap, sym, subst}
+use Rattle.sharc_ctype.specs.Items.{IsTyped}
+use Rattle.sharc_ctype.specs.Resolved.{Resolution, IsResolved}
+use Rattle.sharc_mode.specs.Moded.{Assignment}
+use Rattle.sharc_suggest.specs.Applied.{resolution_with, program_with}
+use Rattle.sharc_suggest_laws.specs.Gone.{IsGone}
+use Rattle.sharc_suggest_laws.proofs.applied.is_repaired.Goals as goal
+
+-- src/applied.rt:15:1
+pub returns : goal.returns
+returns c = λ placed low suggested answered.
+    let m = c.args.m.now in
+    let e = c.args.e.now in
+    let resolved : IsResolved m.typed = subst IsResolved c.typed.ensures c.program.ensures.resolved in
+    let again : IsResolved c.args.new.now.typed = subst IsResolved c.typed-2.ensures c.program-2.ensures.resolved in
+    let same : c.args.new.now.typed ≡ resolution_with c.args.c.now m.typed = ap (λ (a : Assignment). a.typed) answered in
+    let typed : IsTyped (program_with c.args.c.now m.typed) = subst (λ (r : Resolution). IsTyped r.program) same again.typed in
+    subst (λ (a : Assignment). IsGone a e.site.token) (sym answered)
+    (c.repairs.ensures m e c.args.c.now resolved placed low c.position_count.ensures.whole suggested typed)

@@ -1,0 +1,5 @@
+use Rattle.sharc_suggest_laws.proofs.Few.{values_begin_apart}
+use Rattle.sharc_suggest_laws.proofs.laws.values_begin_apart.Goals as goal
+
+pub returns : goal.returns
+returns c = values_begin_apart

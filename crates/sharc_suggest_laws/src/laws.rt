@@ -1,0 +1,71 @@
+// The laws, each the contract of a function that does nothing.
+
+ghost use Rattle.sharc_suggest_laws.specs.Expected.{CastHasExpected};
+ghost use Rattle.sharc_suggest_laws.specs.Gone.{GoneWhereExpected};
+ghost use Rattle.sharc_suggest_laws.specs.Kept.{DeclarationsStay, PositionsStay, TypesStay};
+ghost use Rattle.sharc_suggest_laws.specs.Mismatches.{OneMismatch};
+ghost use Rattle.sharc_suggest_laws.specs.Names.{NamesStay};
+ghost use Rattle.sharc_suggest_laws.specs.Once.{SuggestedIsAddedOnce};
+ghost use Rattle.sharc_suggest_laws.specs.Repaired.{Repairs};
+ghost use Rattle.sharc_suggest_laws.specs.Values.{ValuesBeginApart};
+
+use sharc_ctype_laws::laws::{each_name_once, names_in_types, only_names, same_kinds};
+
+/// The structs, the globals and all that is declared are as they were, and functions have their bodies with the cast.
+pub fn declarations_stay()
+    ensures { DeclarationsStay }
+{}
+
+/// Each position has its mode and its reason under its new number, and those of the cast have the modes of its type.
+pub fn positions_stay()
+    ensures { PositionsStay }
+{}
+
+/// In a program at its tokens no two of what is passed, assigned or returned, or initialises a local, begin at one token.
+pub fn values_begin_apart()
+    ensures { ValuesBeginApart }
+{}
+
+/// So at each place one M1 is told at most.
+pub fn one_mismatch()
+    ensures { OneMismatch }
+{}
+
+/// In a program at its tokens a cast that is suggested is written once.
+pub fn suggested_is_added_once()
+    ensures { SuggestedIsAddedOnce }
+{}
+
+/// What is declared, and each other cast, has the modes that it had.
+pub fn types_stay()
+    ensures { TypesStay }
+{}
+
+/// The cast has the modes that are expected, so no mismatch is told of it beside them.
+pub fn cast_has_expected()
+    ensures { CastHasExpected }
+{}
+
+/// So its mismatch is gone where the same modes are expected at its place again.
+pub fn gone_where_expected()
+    ensures { GoneWhereExpected }
+{}
+
+/// Where the program with a suggested cast is typed, each token that named a variable, a global or a function names it still, and one that named a field names one.
+pub fn names_stay()
+    ensures { NamesStay }
+{
+    each_name_once();
+    only_names();
+    names_in_types();
+}
+
+/// A cast that is suggested repairs its mismatch: where the program with the cast is typed, no M1 is at its place.
+pub fn repairs()
+    ensures { Repairs }
+{
+    each_name_once();
+    only_names();
+    names_in_types();
+    same_kinds();
+}

@@ -1,0 +1,6 @@
+use Rattle.std.proofs.Common.{◌≡◌, ℕ, ◌<◌, false, None, get_or}
+use Rattle.sharc_threads.specs.Seats.{is_on_at}
+use Rattle.sharc_threads.proofs.table.ThreadTable.all_done.Given as goal
+
+abbrev pub invariant-loop-seat : goal.invariant-loop-seat
+invariant-loop-seat l = (t : ℕ) → t < l.seat-index → is_on_at (get_or l.self.seats.items t None) ≡ false

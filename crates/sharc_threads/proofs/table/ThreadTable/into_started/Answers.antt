@@ -1,0 +1,11 @@
+use Rattle.std.proofs.Common.{List, [], ◌∷◌, ◌++◌, sym, ap, ◌∙◌}
+use Rattle.sharc_cpu.specs.Thread.{ThreadView}
+use Rattle.sharc_threads.specs.Seats.{present}
+use Rattle.sharc_threads.proofs.Listing.{present_append}
+use Rattle.sharc_threads.proofs.table.ThreadTable.into_started.Goals as goal
+
+pub loop-seat-preserved : goal.loop-seat-preserved
+loop-seat-preserved c =
+    c.in_ok-push_present.ensures
+    ∙ ap (λ (threads : List ThreadView). threads ++ present (c.in-Some.seat ∷ [])) c.loop-seat.invariant
+    ∙ sym (present_append c.loop-seat.yielded (c.in-Some.seat ∷ []))

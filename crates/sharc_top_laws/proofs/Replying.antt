@@ -1,0 +1,84 @@
+-- The reply to words and an input is one.
+use Rattle.std.proofs.Common.{◌≡◌, ℕ, ◌<◌, ◌≤◌, true, List, length, Option, Some, None, is_some, refl, ap, sym, ◌∙◌, subst, arith}
+use Rattle.std.proofs.lemmas.Bool.{false≢true}
+use Rattle.sharc_tree.specs.declared.token.FaultAt.{FaultAt}
+use Rattle.sharc_mode.specs.Moded.{Assignment}
+use Rattle.sharc_check.specs.Laws.{CheckLaws}
+use Rattle.sharc_suggest.specs.Laws.{SuggestLaws}
+use Rattle.sharc_cli.specs.Commands.{commands}
+use Rattle.sharc_cli.specs.declared.command.Command.{Command}
+use Rattle.sharc_report.specs.Refusals.{refusal_line}
+use Rattle.sharc_report.specs.declared.refusal.Stage.{Stage}
+use Rattle.sharc_top.specs.declared.status.Status.{Status}
+use Rattle.sharc_top.specs.declared.task.Task.{Task}
+use Rattle.sharc_top.specs.Reply.{task_in, IsUnbuilt, source_limit, Answers, faulty, program, Replies, usage, unbuilt, too_long, answered, IsReply}
+use Rattle.sharc_top.specs.Verdict.{Does}
+use Rattle.sharc_top_laws.specs.Laws.{WarningsAreOne, SourceLaws, AnswersAreOne}
+use Rattle.sharc_top_laws.proofs.Verdicts.{one_done}
+
+same_line : (s t : Stage) (x y : FaultAt) → s ≡ t → x ≡ y → refusal_line s x ≡ refusal_line t y
+same_line s t x y stage at = ap (λ (k : Stage). refusal_line k x) stage ∙ ap (λ (a : FaultAt). refusal_line t a) at
+
+pub one_answer : WarningsAreOne → SourceLaws → CheckLaws → SuggestLaws → AnswersAreOne
+one_answer warnings sources checks suggests t source s z text other (faulty stage at is) (faulty stage' at' also) =
+    let same = sources.fault source stage stage' at at' is also in
+    (refl, same_line stage stage' at at' same.0 same.1)
+one_answer warnings sources checks suggests t source s z text other (faulty stage at is) (program m s' text' front does) = absurd (sources.faultless source m front stage at is)
+one_answer warnings sources checks suggests t source s z text other (program m s' text' front does) (faulty stage at is) = absurd (sources.faultless source m front stage at is)
+one_answer warnings sources checks suggests t source s z text other (program m s' text' front does) (program n z' other' also acts) =
+    one_done warnings checks suggests n t s' z' text' other' (subst (λ (k : Assignment). Does t k s' text') (sources.program source m n front also) does) acts
+
+-- ---- the words
+
+command_or_none : (o : Option Command) (c : Command) → o ≡ Some c → o ≡ None → ⊥
+command_or_none o c is not = cc
+
+same_task : (o : Option Task) (a b : Task) → o ≡ Some a → o ≡ Some b → a ≡ b
+same_task o a b is also = cc
+
+task_or_none : (o : Option Task) (t : Task) → o ≡ Some t → o ≡ None → ⊥
+task_or_none o t is not = cc
+
+no_reader : (o : Option Task) → o ≡ None → is_some o ≡ true → ⊥
+no_reader o none reads = false≢true (sym (ap is_some none) ∙ reads)
+
+-- the words are no command that reads a source
+of_usage : (words : List (List ℕ)) → commands words ≡ None → task_in (commands words) ≡ None
+of_usage words none = ap task_in none
+
+of_unbuilt : (words : List (List ℕ)) → IsUnbuilt words → task_in (commands words) ≡ None
+of_unbuilt words is = ap task_in is.is ∙ is.other
+
+not_long : (input : List ℕ) → source_limit < length input → length input ≤ source_limit → ⊥
+not_long input long short = omega (arith, long, short)
+
+-- a reply to words that read a source within the limit is what is written for it
+pub is_answer : (words : List (List ℕ)) (input : List ℕ) (t : Task) (s : Status) (text : List ℕ) → task_in (commands words) ≡ Some t → length input ≤ source_limit → Replies words input s text → Answers t input s text
+is_answer words input t s text asked within (usage none) = absurd (task_or_none (task_in (commands words)) t asked (of_usage words none))
+is_answer words input t s text asked within (unbuilt is) = absurd (task_or_none (task_in (commands words)) t asked (of_unbuilt words is))
+is_answer words input t s text asked within (too_long reads long) = absurd (not_long input long within)
+is_answer words input t s text asked within (answered u z other also short is) = subst (λ (k : Task). Answers k input z other) (same_task (task_in (commands words)) u t also asked) is
+
+module _ (answers : AnswersAreOne) (words : List (List ℕ)) (input : List ℕ) where
+  pub one_reply : (s z : Status) (text other : List ℕ) → Replies words input s text → Replies words input z other → (s ≡ z) × (text ≡ other)
+  one_reply s z text other (usage none) (usage none') = (refl, refl)
+  one_reply s z text other (usage none) (unbuilt is) = absurd (command_or_none (commands words) is.command is.is none)
+  one_reply s z text other (usage none) (too_long reads long) = absurd (no_reader (task_in (commands words)) (of_usage words none) reads)
+  one_reply s z text other (usage none) (answered t s' text' asked short is) = absurd (task_or_none (task_in (commands words)) t asked (of_usage words none))
+  one_reply s z text other (unbuilt is) (usage none) = absurd (command_or_none (commands words) is.command is.is none)
+  one_reply s z text other (unbuilt is) (unbuilt is') = (refl, refl)
+  one_reply s z text other (unbuilt is) (too_long reads long) = absurd (no_reader (task_in (commands words)) (of_unbuilt words is) reads)
+  one_reply s z text other (unbuilt is) (answered t s' text' asked short has) = absurd (task_or_none (task_in (commands words)) t asked (of_unbuilt words is))
+  one_reply s z text other (too_long reads long) (usage none) = absurd (no_reader (task_in (commands words)) (of_usage words none) reads)
+  one_reply s z text other (too_long reads long) (unbuilt is) = absurd (no_reader (task_in (commands words)) (of_unbuilt words is) reads)
+  one_reply s z text other (too_long reads long) (too_long reads' long') = (refl, refl)
+  one_reply s z text other (too_long reads long) (answered t s' text' asked short is) = absurd (not_long input long short)
+  one_reply s z text other (answered t s' text' asked short is) more =
+      answers t input s' z text' other is (is_answer words input t z other asked short more)
+
+-- of a source that tells its bytes
+pub one_told : AnswersAreOne → (words : List (List ℕ)) (bytes : List ℕ) (s z : Status) (text other : List ℕ) → IsReply words (Some bytes) s text → IsReply words (Some bytes) z other → (s ≡ z) × (text ≡ other)
+one_told answers words bytes s z text other a b =
+    one_reply answers words bytes s z text other
+    (subst (λ (l : List ℕ). Replies words l s text) a.told a.reply)
+    (subst (λ (l : List ℕ). Replies words l z other) b.told b.reply)

@@ -1,0 +1,1 @@
+int main(void) { print(6 * seven); return 0; }
