@@ -1,5 +1,5 @@
 -- How a run ended, from how its threads stand.
-use Rattle.std.proofs.Common.{◌≡◌, ℕ, zero, suc, ◌+◌, ◌<◌, ◌≤◌, Bool, true, false, not, List, [], ◌∷◌, length, map, filter, get_or, Option, Some, None, refl, sym, ap, ◌∙◌, subst, arith, ◌⊎◌, inl, inr}
+use Rattle.std.proofs.Common.{◌≡◌, ℕ, zero, suc, ◌+◌, ◌<◌, ◌≤◌, Bool, true, false, not, List, [], ◌∷◌, length, map, filter, get_or, refl, sym, ap, ◌∙◌, subst, arith, ◌⊎◌, inl, inr}
 use Rattle.std.specs.Prelude.{Result, Ok, Err, IfOk, nat_lt, nat_eq, ◌&&◌, ◌||◌, slice_index, if◌then◌else◌}
 use Rattle.std.specs.List.{range_with_len, All, Any, list_any}
 use Rattle.std.proofs.lemmas.Bool.Decides.{nat_tests}
@@ -19,8 +19,7 @@ use Rattle.sharc_threads.specs.declared.end.End.{End}
 use Rattle.sharc_threads.specs.declared.end.End.TheVariants as ends
 use Rattle.sharc_threads.specs.Ends.{Standing, is_enabled, AllAreDone, EndIs, IsAt, AreStarted}
 use Rattle.sharc_threads.specs.Seats.{is_end}
-use Rattle.sharc_run.specs.declared.outcome.Outcome.{Outcome}
-use Rattle.sharc_run.specs.declared.outcome.Outcome.TheVariants.{Done, Reported, Stopped, Stuck, Limit}
+use Rattle.sharc_run.specs.declared.outcome.Outcome.TheVariants.{Reported, Stopped}
 use Rattle.sharc_run.specs.Outcome.{has_reported, was_stopped, is_gone, IsSpent, NoneStopped, HasOutcome, by_end, outcome_of}
 use Rattle.sharc_run.specs.Outcome.HasOutcome.{reported, stopped, stuck, limited, done}
 use Rattle.sharc_seq.specs.Run.{AreChosen}

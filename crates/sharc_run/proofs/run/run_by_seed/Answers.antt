@@ -1,8 +1,7 @@
-use Rattle.std.proofs.Common.{◌≡◌, ◌∙◌, ap}
-use Rattle.sharc_code.specs.Whole.{place_after}
+use Rattle.std.proofs.Common.{◌∙◌, ap}
 use Rattle.sharc_seq.specs.Choice.{seeded}
 use Rattle.sharc_run.specs.Run.{draws, IsSeededRun}
-use Rattle.sharc_run.proofs.Ending.{ended, are_allowed, both_ok, chosen_as}
+use Rattle.sharc_run.proofs.Ending.{ended, both_ok, chosen_as}
 use Rattle.sharc_run.proofs.run.run_by_seed.Goals as goal
 
 pub returns : goal.returns

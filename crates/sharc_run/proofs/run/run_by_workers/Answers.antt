@@ -1,7 +1,6 @@
-use Rattle.std.proofs.Common.{◌≡◌, ◌∙◌, refl}
-use Rattle.sharc_code.specs.Whole.{place_after}
+use Rattle.std.proofs.Common.{◌∙◌}
 use Rattle.sharc_run.specs.Run.{IsWorkersRun}
-use Rattle.sharc_run.proofs.Ending.{ended, are_allowed, both_ok}
+use Rattle.sharc_run.proofs.Ending.{ended, both_ok}
 use Rattle.sharc_run.proofs.run.run_by_workers.Goals as goal
 
 pub returns : goal.returns
