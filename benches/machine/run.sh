@@ -6,7 +6,7 @@ top=$(cd "$(dirname "$0")/../.." && pwd)
 here=$top/benches/machine
 scratch=$(mktemp -d)
 trap 'rm -rf "$scratch"' EXIT
-for crate in word shadow granule count cond locks tree code cpu seq bus; do
+for crate in word shadow granule count cond locks tree code cpu threads seq bus; do
     mkdir -p "$scratch/crates/sharc_$crate"
     for part in src specs proofs; do
         if [ -d "$top/crates/sharc_$crate/$part" ]; then

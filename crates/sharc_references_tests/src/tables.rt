@@ -49,10 +49,10 @@ fn holders_text(alloc: Global, holders: &[Holder]) -> Result<String, AllocError>
     Ok(text)
 }
 
-fn number_of(word: Option<&str>) -> u64 {
+fn number_of(word: Option<&str>) -> u32 {
     match word {
         None => 0,
-        Some(word) => match word.parse::<u64>() {
+        Some(word) => match word.parse::<u32>() {
             Ok(number) => number,
             Err(_) => 0,
         },
@@ -92,8 +92,8 @@ fn assert_line(
         None => "",
         Some(word) => word,
     };
-    let fuel = number_of(words.next());
-    let number = number_of(words.next()) as u32;
+    let fuel = u64::from(number_of(words.next()));
+    let number = number_of(words.next());
     let events = events_of(rt, m, schedule)?;
     let found = references(rt.alloc(), m, events.as_slice(), number, fuel)?;
     let text = holders_text(rt.alloc(), found.as_slice())?;

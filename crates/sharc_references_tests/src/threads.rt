@@ -73,11 +73,19 @@ fn value_of(t: &Typed, events: &[SourceEvent], c: CellAt) -> i64 {
     }
 }
 
+/// The number of elements, 0 where it is too large for an answer.
+fn elements_in(elements: u64) -> i64 {
+    match i64::try_from(elements) {
+        Ok(elements) => elements,
+        Err(_) => 0,
+    }
+}
+
 /// What the store answers: objects and threads are counted from 1.
 fn answer_to(t: &Typed, events: &[SourceEvent], act: Act) -> i64 {
     match act {
         Act::Read(c, _) | Act::Take(Taken::Cell(c, _), _) => value_of(t, events, c),
-        Act::New(_, elements, _) => (elements as i64)
+        Act::New(_, elements, _) => elements_in(elements)
             .wrapping_mul(4_294_967_296)
             .wrapping_add(count_like(events, false))
             .wrapping_add(1),

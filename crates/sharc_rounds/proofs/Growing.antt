@@ -205,7 +205,7 @@ module _ (code : Code) (s : Shape) (g : Standing) (old new : List Seat) (are : A
     pub bound_then : (t : ℕ) → (at bounds (one_thread code s) g turns).made t ≤ limit
     bound_then t = let r = (went t).room in let e = made_then t in omega (arith, r, e)
 
-    -- ---- the seats behind the round
+    -- ---- the seats after the round
     -- a thread that made a turn in it had been started
     among : (t : ℕ) (one : Turn) (later earlier : List Turn) → one.thread ≡ t → turns_of t (later ++ one ∷ earlier) ≢ []
     among t one [] earlier e =

@@ -1,8 +1,8 @@
 //! Runs that workers make in rounds.
 //!
 //! `run_rounds` runs a code: each round opens a bus on the words, every worker gives each of its threads one quantum of turns, and the
-//! round closes the bus. `specs/Run.antt` says what stands at the end: a checked run of `sharc_code` (`IsRoundsRun`). A `Gate` is asked
-//! before each step of a port. Memory is taken between rounds alone.
+//! round closes the bus. `IsRoundsRun` of `specs/Run.antt` says what is answered: there is a checked run of `sharc_code` that ends so. A
+//! `Gate` is asked before each step of a port. Memory is taken between rounds alone.
 #![tactic(auto)]
 
 mod gate;

@@ -18,7 +18,7 @@ use std::alloc::{AllocError, Global};
 use std::thread;
 use std::thread::Threads;
 
-/// The threads of one worker: each stands at its number, and the places of others are empty.
+/// The threads of one worker: each is at its number, and the places of others are empty.
 #[derive(Drop)]
 pub(crate) struct Worker {
     pub(crate) hands: Vec<Option<Hand>>,

@@ -1,0 +1,21 @@
+use Rattle.std.proofs.Common.{◌∙◌, ap}
+use Rattle.sharc_seq.specs.Choice.{seeded}
+use Rattle.sharc_run.specs.Run.{draws, IsSeededRun}
+use Rattle.sharc_run.proofs.Ending.{ended, both_ok, chosen_as}
+use Rattle.sharc_run.proofs.run.run_by_seed.Goals as goal
+
+pub returns : goal.returns
+returns c =
+    let code = c.args.code.now in
+    let s = c.args.shape.now in
+    let run = c.in_ok-run.run' in
+    let is = c.in_ok-run.ensures in
+    both_ok c.told.result _ _ (IsSeededRun code s c.args.seed c.args.limit)
+    (λ ran text outcome. record {
+      turns = is.turns;
+      checked = is.checked;
+      drawn = chosen_as _ (draws c.args.seed) (λ number count place h. h.0 ∙ ap (λ f. seeded f.0 number count) c.new-chooser.ensures) code s c.args.limit is.turns is.chosen;
+      over = is.over;
+      ends = ended code s c.args.limit is.turns run.threads.items c.requires.fits.threads is.threads is.over run.end is.end_is _ _ (c.deref.ensures.value ∙ is.words) c.deref-2.ensures.value ran text outcome;
+    })
+    c.told.ensures.text c.told.ensures.outcome

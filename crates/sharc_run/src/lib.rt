@@ -1,0 +1,15 @@
+//! Whole runs of checked code, with what they write and how they ended.
+//!
+//! `run_by_seed` has one chooser choose each turn by a number, `run_by_workers` has workers make the turns in rounds. Both answer the text of
+//! the run and its outcome by causes: `IsSeededRun` and `IsWorkersRun` of `specs/Run.antt` say that there is such a checked run of the code
+//! and that these are its text and outcome, `specs/Outcome.antt` what each outcome means. `shape_of` is the shape of a code with so many
+//! granules of heap.
+#![tactic(auto)]
+
+mod outcome;
+mod run;
+mod shape;
+
+pub use outcome::Outcome;
+pub use run::{Ran, run_by_seed, run_by_workers};
+pub use shape::shape_of;
