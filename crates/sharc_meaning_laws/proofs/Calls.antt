@@ -22,11 +22,11 @@ use Rattle.sharc_meaning.specs.Statements.{Flow, exec_all}
 use Rattle.sharc_meaning.specs.Meaning.{parameters_begin, left_at, pointers_passed, with_frame, back_in, run_function, call_value, calls, goes_away, run_thread, start}
 use Rattle.sharc_meaning_laws.proofs.Counts.{Declared, total, outer, refs, rel, vars, one, refs_append, vars_append, cut_variables}
 use Rattle.sharc_meaning_laws.proofs.Runs as runs
-use Rattle.sharc_meaning_laws.proofs.Runs.{UpBy, up_level, up_on, state_of}
+use Rattle.sharc_meaning_laws.proofs.Runs.{Same, up_level, up_on, state_of}
 use Rattle.sharc_meaning_laws.proofs.Steps as steps
 use Rattle.sharc_meaning_laws.proofs.Steps.{slot}
 use Rattle.sharc_meaning_laws.proofs.Typed.{Facts}
-use Rattle.sharc_meaning_laws.proofs.Expressions.{Kept, Same, CallsKeep, passed_in, kept_give}
+use Rattle.sharc_meaning_laws.proofs.Expressions.{Kept, CallsKeep, passed_in, kept_give}
 use Rattle.sharc_meaning_laws.proofs.Statements.{AreTyped, Own, front, back, exec_all_kept}
 
 -- what is known of a function
@@ -142,13 +142,13 @@ module _ (m : Assignment) (n d : ℕ) where
       let cut : vars n t.frame.variables + rel n t.given_up ≤ vars n (take 0 t.frame.variables) + rel n (t.given_up ++ all_released (pointers_among (drop 0 t.frame.variables))) = cut_variables n 0 t.frame.variables t.given_up in
       omega arith
 
-  closed_up : {A : Type 0} (e w : ℕ) (caller : Frame) (callers : List Frame) (o : Out A) → runs.RanBy m.typed n false false e w (caller ∷ callers) (Same m n d []) o → runs.Up m.typed n (state_of o) (state_of (closed caller callers o))
+  closed_up : {A : Type 0} (e w : ℕ) (caller : Frame) (callers : List Frame) (o : Out A) → runs.RanBy m.typed n false false e w (caller ∷ callers) (Same []) o → runs.Up m.typed n (state_of o) (state_of (closed caller callers o))
   unfolding closed ended
   closed_up e w caller callers (go x t) h = up_level _ _ _ (ended_le caller callers t h.callers_same h.after)
   closed_up e w caller callers (over o t) h = up_level _ _ _ (omega arith)
 
-  closed_ran : {A : Type 0} (e w v : ℕ) (caller : Frame) (callers : List Frame) (o : Out A) → v ≤ w → AllByRecursion (Declared m.typed) caller.variables → runs.RanBy m.typed n false false e w (caller ∷ callers) (Same m n d []) o
-      → runs.RanBy m.typed n false false e v callers (Same m n d caller.temporaries) (closed caller callers o)
+  closed_ran : {A : Type 0} (e w v : ℕ) (caller : Frame) (callers : List Frame) (o : Out A) → v ≤ w → AllByRecursion (Declared m.typed) caller.variables → runs.RanBy m.typed n false false e w (caller ∷ callers) (Same []) o
+      → runs.RanBy m.typed n false false e v callers (Same caller.temporaries) (closed caller callers o)
   unfolding closed ended
   closed_ran e w v caller callers (go x t) le own h = record {
     moves = up_on e v e w _ _ (up_level e v w le) (up_on e w _ _ _ _ h.moves (up_level _ _ _ (ended_le caller callers t h.callers_same h.after)));
@@ -158,7 +158,7 @@ module _ (m : Assignment) (n d : ℕ) where
   }
   closed_ran e w v caller callers (over o t) le own h = up_on e v e w _ _ (up_level e v w le) h
 
-  closed_goes : {A : Type 0} (e w : ℕ) (caller : Frame) (callers : List Frame) (o o' : Out A) → runs.RanBy m.typed n false false e w (caller ∷ callers) (Same m n d []) o' → runs.Goes m.typed n d o o' → runs.Goes m.typed n d (closed caller callers o) (closed caller callers o')
+  closed_goes : {A : Type 0} (e w : ℕ) (caller : Frame) (callers : List Frame) (o o' : Out A) → runs.RanBy m.typed n false false e w (caller ∷ callers) (Same []) o' → runs.Goes m.typed n d o o' → runs.Goes m.typed n d (closed caller callers o) (closed caller callers o')
   unfolding closed
   closed_goes e w caller callers o o' h k = runs.goes_after m.typed n d (closed caller callers) (λ t. record t { frame = caller; callers = callers; given_up = t.given_up ++ all_released (pointers_among (drop 0 t.frame.variables)) }) o o'
       (λ x t. refl) (λ z t. refl) (λ t. refl) (closed_up e w caller callers o' h) k
@@ -168,9 +168,9 @@ module _ (m : Assignment) (n d : ℕ) where
     abbrev body : Run (Site × ℤ)
     body = entered (exec_all on_call m (declared_kind f.result) f.statements) >>= λ flow. give (left_at f flow)
 
-    body_kept : Kept m n d [] body (Same m n d [])
-    body_kept = runs.kept_next m.typed n d [] [] _ _ (Same m n d []) (runs.kept_entered m.typed n d [] _ (Same m n d []) (exec_all_kept m n d on_call hc w (declared_kind f.result) f.result false f.statements known.typed known.rules (back _ f.parameters (locals_in_all f.statements) known.own) []))
-        (λ flow. kept_give m n d [] (left_at f flow) (Same m n d []) refl)
+    body_kept : Kept m n d [] body (Same [])
+    body_kept = runs.kept_next m.typed n d [] [] _ _ (Same []) (runs.kept_entered m.typed n d [] _ (Same []) (exec_all_kept m n d on_call hc w (declared_kind f.result) f.result false f.statements known.typed known.rules (back _ f.parameters (locals_in_all f.statements) known.own) []))
+        (λ flow. kept_give m n d [] (left_at f flow) (Same []) refl)
 
     -- where it begins
     abbrev inside : List ℤ → State → State
@@ -198,15 +198,15 @@ module _ (m : Assignment) (n d : ℕ) where
         omega arith
 
     function_ran : (vs : List ℤ) (s : State) → Takes vs s → AllByRecursion (Declared m.typed) s.frame.variables
-        → runs.Ran m.typed n false false s (Same m n d (without_temporaries (pointers_passed f) s.frame).temporaries) (run_function on_call m f vs s)
+        → runs.Ran m.typed n false false s (Same (without_temporaries (pointers_passed f) s.frame).temporaries) (run_function on_call m f vs s)
     function_ran vs s h own =
         let caller = without_temporaries (pointers_passed f) s.frame in
         let b = begun_is m.typed n f.parameters vs (with_frame caller s) (front _ f.parameters (locals_in_all f.statements) known.own) tt in
         let ran = (body_kept.runs (inside vs s) (b.temporaries, b.declared)).ran in
-        subst (λ z. runs.Ran m.typed n false false s (Same m n d caller.temporaries) z) (sym (runs_so vs s))
+        subst (λ z. runs.Ran m.typed n false false s (Same caller.temporaries) z) (sym (runs_so vs s))
         (closed_ran (length s.events) (total n (inside vs s)) (total n s) caller s.callers (body (inside vs s)) (inside_le vs s (inside vs s) h b) own
-          (subst (λ e. runs.RanBy m.typed n false false (length e) (total n (inside vs s)) (caller ∷ s.callers) (Same m n d []) (body (inside vs s))) b.events
-            (subst (λ c. runs.RanBy m.typed n false false (length (inside vs s).events) (total n (inside vs s)) c (Same m n d []) (body (inside vs s))) b.callers ran)))
+          (subst (λ e. runs.RanBy m.typed n false false (length e) (total n (inside vs s)) (caller ∷ s.callers) (Same []) (body (inside vs s))) b.events
+            (subst (λ c. runs.RanBy m.typed n false false (length (inside vs s).events) (total n (inside vs s)) c (Same []) (body (inside vs s))) b.callers ran)))
 
     function_goes : (vs : List ℤ) (s : State) → runs.Goes m.typed n d (run_function on_call m f vs s) (run_function on_call m f vs (runs.more m.typed n d s))
     function_goes vs s =
@@ -219,10 +219,10 @@ module _ (m : Assignment) (n d : ℕ) where
         (subst (λ z. runs.Goes m.typed n d (closed caller s.callers (body (inside vs s))) z) (sym (runs_so vs (runs.more m.typed n d s)))
         (subst (λ z. runs.Goes m.typed n d (closed caller s.callers (body (inside vs s))) (closed caller s.callers (body z))) (sym longer)
         (closed_goes (length (inside vs s).events) (total n (inside vs s)) caller s.callers (body (inside vs s)) (body (runs.more m.typed n d (inside vs s)))
-          (subst (λ c. runs.RanBy m.typed n false false (length (inside vs s).events) (total n (inside vs s)) c (Same m n d []) (body (runs.more m.typed n d (inside vs s)))) b.callers ran) kept.past)))
+          (subst (λ c. runs.RanBy m.typed n false false (length (inside vs s).events) (total n (inside vs s)) c (Same []) (body (runs.more m.typed n d (inside vs s)))) b.callers ran) kept.past)))
 
     pub function_kept : (vs : List ℤ) (s : State) → Takes vs s → AllByRecursion (Declared m.typed) s.frame.variables
-        → runs.KeptAt m.typed n d s (run_function on_call m f vs) (Same m n d (without_temporaries (pointers_passed f) s.frame).temporaries)
+        → runs.KeptAt m.typed n d s (run_function on_call m f vs) (Same (without_temporaries (pointers_passed f) s.frame).temporaries)
     function_kept vs s h own = record { ran = function_ran vs s h own; past = function_goes vs s }
 
     -- with its arguments in the last temporaries
@@ -235,30 +235,30 @@ module _ (m : Assignment) (n d : ℕ) where
         let left : refs n (take (length s.frame.temporaries - pointers_passed f) s.frame.temporaries) ≡ refs n ts = ap (refs n) (passes_all ts vs long s.frame.temporaries is) in
         omega arith
 
-    pub called_kept : (vs : List ℤ) → length vs ≡ length (declared_kinds f.parameters) → (ts : List ℤ) → Kept m n d (ts ++ passed_in (declared_kinds f.parameters) vs) (run_function on_call m f vs) (Same m n d ts)
+    pub called_kept : (vs : List ℤ) → length vs ≡ length (declared_kinds f.parameters) → (ts : List ℤ) → Kept m n d (ts ++ passed_in (declared_kinds f.parameters) vs) (run_function on_call m f vs) (Same ts)
     called_kept vs long ts = record { runs = λ s at.
-        subst (λ z. runs.KeptAt m.typed n d s (run_function on_call m f vs) (Same m n d z)) (passes_all ts vs long s.frame.temporaries at.0) (function_kept vs s (takes_all ts vs long s at.0) at.1) }
+        subst (λ z. runs.KeptAt m.typed n d s (run_function on_call m f vs) (Same z)) (passes_all ts vs long s.frame.temporaries at.0) (function_kept vs s (takes_all ts vs long s at.0) at.1) }
 
   -- ---- calls, and threads
 
   module _ (w : Facts m.typed) (known : (k : ℕ) (f : Function) → function_at m.typed k ≡ Some f → Known m.typed f) where
     calls_kept : (k : ℕ) → CallsKeep m n d (calls m k)
-    calls_kept zero j f is site vs long ts = runs.kept_atom m.typed n d _ _ (Same m n d ts) (steps.atom_stop m.typed n d false false _ calls_too_deep site (Same m n d ts))
-    calls_kept (suc k) j f is site vs long ts = subst (λ z. Kept m n d (ts ++ passed_in (declared_kinds f.parameters) vs) (call_value (calls m k) m z vs) (Same m n d ts)) (sym is)
-        (runs.kept_next m.typed n d _ ts _ _ (Same m n d ts) (called_kept (calls m k) (calls_kept k) w f (known j f is) vs long ts) (λ left. kept_give m n d ts left.1 (Same m n d ts) refl))
+    calls_kept zero j f is site vs long ts = runs.kept_atom m.typed n d _ _ (Same ts) (steps.atom_stop m.typed n d false false _ calls_too_deep site (Same ts))
+    calls_kept (suc k) j f is site vs long ts = subst (λ z. Kept m n d (ts ++ passed_in (declared_kinds f.parameters) vs) (call_value (calls m k) m z vs) (Same ts)) (sym is)
+        (runs.kept_next m.typed n d _ ts _ _ (Same ts) (called_kept (calls m k) (calls_kept k) w f (known j f is) vs long ts) (λ left. kept_give m n d ts left.1 (Same ts) refl))
 
-    away_kept : (ts : List ℤ) (name site : Site) → Kept m n d ts (goes_away name site) (Same m n d ts)
-    away_kept ts name site = runs.kept_atom m.typed n d ts _ (Same m n d ts) (runs.atom_next m.typed n d false false false ts ts _ _ (Same m n d ts) (steps.atom_events m.typed n d false ts) (λ own.
-        runs.atom_next m.typed n d false false false ts ts _ _ (Same m n d ts) (steps.atom_unless m.typed n d (not (nat_lt 0 (length (held_mutexes own)))) false ts returns_with_a_lock site) (λ _.
-        runs.atom_weak m.typed n d ts _ (Same m n d ts) (runs.atom_next m.typed n d false true true ts ts _ _ (Same m n d ts) (steps.atom_performs m.typed n d false ts name acts.Return) (λ _. steps.atom_performs m.typed n d true ts name acts.Gone)))))
+    away_kept : (ts : List ℤ) (name site : Site) → Kept m n d ts (goes_away name site) (Same ts)
+    away_kept ts name site = runs.kept_atom m.typed n d ts _ (Same ts) (runs.atom_next m.typed n d false false false ts ts _ _ (Same ts) (steps.atom_events m.typed n d false ts) (λ own.
+        runs.atom_next m.typed n d false false false ts ts _ _ (Same ts) (steps.atom_unless m.typed n d (not (nat_lt 0 (length (held_mutexes own)))) false ts returns_with_a_lock site) (λ _.
+        runs.atom_weak m.typed n d ts _ (Same ts) (runs.atom_next m.typed n d false true true ts ts _ _ (Same ts) (steps.atom_performs m.typed n d false ts name acts.Return) (λ _. steps.atom_performs m.typed n d true ts name acts.Gone)))))
 
-    thread_by : (j : ℕ) (f : Option Function) → function_at m.typed j ≡ f → (v : ℤ) (answers : List ℤ) (fuel : ℕ) → runs.KeptAt m.typed n d (start answers fuel) (run_thread m f v) (Same m n d [])
-    thread_by j None is v answers fuel = (kept_give m n d [] tt (Same m n d []) refl).runs (start answers fuel) (refl, tt)
-    thread_by j (Some f) is v answers fuel = runs.then_at m.typed n d (start answers fuel) _ _ (Same m n d []) (Same m n d []) (first fuel) (first (fuel + d)) (λ left us same. subst (λ z. Kept m n d us (goes_away f.name.site left.0) (Same m n d z)) same (away_kept us f.name.site left.0))
+    thread_by : (j : ℕ) (f : Option Function) → function_at m.typed j ≡ f → (v : ℤ) (answers : List ℤ) (fuel : ℕ) → runs.KeptAt m.typed n d (start answers fuel) (run_thread m f v) (Same [])
+    thread_by j None is v answers fuel = (kept_give m n d [] tt (Same []) refl).runs (start answers fuel) (refl, tt)
+    thread_by j (Some f) is v answers fuel = runs.then_at m.typed n d (start answers fuel) _ _ (Same []) (Same []) (first fuel) (first (fuel + d)) (λ left us same. subst (λ z. Kept m n d us (goes_away f.name.site left.0) (Same z)) same (away_kept us f.name.site left.0))
       where
-        first : (fuel : ℕ) → runs.KeptAt m.typed n d (start answers fuel) (run_function (calls m 255) m f (v ∷ [])) (Same m n d [])
-        first fuel = subst (λ z. runs.KeptAt m.typed n d (start answers fuel) (run_function (calls m 255) m f (v ∷ [])) (Same m n d z)) (take_none (0 - pointers_passed f))
+        first : (fuel : ℕ) → runs.KeptAt m.typed n d (start answers fuel) (run_function (calls m 255) m f (v ∷ [])) (Same [])
+        first fuel = subst (λ z. runs.KeptAt m.typed n d (start answers fuel) (run_function (calls m 255) m f (v ∷ [])) (Same z)) (take_none (0 - pointers_passed f))
             (function_kept (calls m 255) (calls_kept 255) w f (known j f is) (v ∷ []) (start answers fuel) (omega arith) tt)
 
-    pub thread_kept : (j : ℕ) (v : ℤ) (answers : List ℤ) (fuel : ℕ) → runs.KeptAt m.typed n d (start answers fuel) (run_thread m (function_at m.typed j) v) (Same m n d [])
+    pub thread_kept : (j : ℕ) (v : ℤ) (answers : List ℤ) (fuel : ℕ) → runs.KeptAt m.typed n d (start answers fuel) (run_thread m (function_at m.typed j) v) (Same [])
     thread_kept j v answers fuel = thread_by j (function_at m.typed j) refl v answers fuel

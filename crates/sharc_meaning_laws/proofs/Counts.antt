@@ -14,7 +14,7 @@ use Rattle.sharc_meaning.specs.declared.variable.Variable.{Variable}
 use Rattle.sharc_meaning.specs.Reference.{NULL, is_null, number_of}
 use Rattle.sharc_meaning.specs.References.{refers}
 use Rattle.sharc_meaning.specs.State.{Frame, State, all_released, pointers_among, value_in, with_value, held_by_frame, held_references}
-use Rattle.sharc_meaning_laws.specs.Held.{releases}
+use Rattle.sharc_meaning_laws.specs.Held.{releases, released}
 
 -- ---- one reference
 
@@ -172,15 +172,15 @@ count_refs : (n : ℕ) (vs : List ℤ) → refs n vs ≡ count_by (refers n) vs
 unfolding one
 count_refs n vs = is_sum_by (refs n) (λ v. cond (refers n v) 1 0) refl (λ v rest. refl) vs
 
-count_rel : (n : ℕ) (gs : List GivenUp) → rel n gs ≡ count_by (releases n) gs
+count_rel : (n : ℕ) (gs : List GivenUp) → rel n gs ≡ released n gs
 unfolding gone
 count_rel n gs = is_sum_by (rel n) (λ g. cond (releases n g) 1 0) refl (λ g rest. refl) gs
 
 -- by the words of the law
-pub total_is : (n : ℕ) (s : State) → count_by (refers n) (held_references s) + count_by (releases n) s.given_up ≡ total n s
+pub total_is : (n : ℕ) (s : State) → count_by (refers n) (held_references s) + released n s.given_up ≡ total n s
 total_is n s =
     let held : refs n (held_references s) ≡ count_by (refers n) (held_references s) = count_refs n (held_references s) in
-    let given : rel n s.given_up ≡ count_by (releases n) s.given_up = count_rel n s.given_up in
+    let given : rel n s.given_up ≡ released n s.given_up = count_rel n s.given_up in
     let parts : refs n (held_references s) ≡ refs n (flat_map held_by_frame (reverse s.callers)) + refs n (held_by_frame s.frame) = refs_append n (flat_map held_by_frame (reverse s.callers)) (held_by_frame s.frame) in
     let others : refs n (flat_map held_by_frame (reverse s.callers)) ≡ outer n s.callers = refs_outer n s.callers in
     let own : refs n (held_by_frame s.frame) ≡ vars n s.frame.variables + refs n s.frame.temporaries = refs_frame n s.frame in

@@ -39,9 +39,10 @@ use Rattle.sharc_meaning.specs.Places.{Place, variable, cell, place_named, point
 use Rattle.sharc_meaning.specs.Waiting.{lock_call, unlock_call}
 use Rattle.sharc_meaning.specs.Expressions.{Calls, resulting, tested, operand, fitting, passed, called, number_named, value_act, spawned as spawning, value_called, taking, place_called, cast_value, place_value, unary_value, binary_value, eval, eval_all, place_of}
 use Rattle.sharc_meaning_laws.proofs.Runs as runs
+use Rattle.sharc_meaning_laws.proofs.Runs.{Same, Starts, same_starts, starts_on}
 use Rattle.sharc_meaning_laws.proofs.Steps as steps
 use Rattle.sharc_meaning_laws.proofs.Steps.{slot}
-use Rattle.sharc_meaning_laws.proofs.Typed.{Facts, Names, names_start, named_variable, named_global, field_names, whole_left, passes, pointer_reference, no_function}
+use Rattle.sharc_meaning_laws.proofs.Typed.{Facts, Names, names_start, named_variable, named_global, field_names, whole_left, passes, pointer_reference, no_function_object, no_function_array, no_function_pointer}
 
 -- what temporaries hold of arguments for parameters of these types
 abbrev pub passed_in : List Kind → List ℤ → List ℤ
@@ -49,31 +50,13 @@ passed_in [] vs = []
 passed_in (k ∷ ks) [] = []
 passed_in (k ∷ ks) (v ∷ vs) = slot (is_pointer k) v ++ passed_in ks vs
 
-no_function_object : (b : Base) (n : ℕ) → object b n ≡ kinds.function → ⊥
-no_function_object b n h = absurd (cc)
-
-no_function_array : (b : Base) (n : ℕ) → array b n ≡ kinds.function → ⊥
-no_function_array b n h = absurd (cc)
-
 module _ (m : Assignment) (n d : ℕ) where
   abbrev pub Kept : {A : Type 0} → List ℤ → Run A → (A → List ℤ → Type 0) → Type 0
   Kept {A} ts x p = runs.Kept m.typed n d {A = A} ts x p
 
-  abbrev pub Same : {A : Type 0} → List ℤ → A → List ℤ → Type 0
-  Same ts x us = us ≡ ts
-
-  abbrev pub Starts : {A : Type 0} → List ℤ → A → List ℤ → Type 0
-  Starts ts x us = (ws : List ℤ) × (us ≡ ts ++ ws)
-
   -- a run that keeps the temporaries, whichever they are
   abbrev pub Keeps : {A : Type 0} → Run A → Type 0
   Keeps x = (ts : List ℤ) → Kept ts x (Same ts)
-
-  same_starts : (ts us : List ℤ) → us ≡ ts → (ws : List ℤ) × (us ≡ ts ++ ws)
-  same_starts ts us h = ([], h ∙ sym (append-nil ts))
-
-  starts_on : (ts us vs : List ℤ) → (ws : List ℤ) × (us ≡ ts ++ ws) → vs ≡ us → (ws : List ℤ) × (vs ≡ ts ++ ws)
-  starts_on ts us vs h same = (h.0, same ∙ h.1)
 
   pub kept_give : {A : Type 0} (ts : List ℤ) (x : A) (p : A → List ℤ → Type 0) → p x ts → Kept ts (give x) p
   kept_give ts x p h = runs.kept_atom m.typed n d ts _ p (steps.atom_give m.typed n d false ts x p h)
@@ -148,11 +131,11 @@ module _ (m : Assignment) (n d : ℕ) where
 
   value_kept : (ts : List ℤ) (e : Expression) (place : Run Place) (k : Kind) → Kept ts place (Names m.typed ts k) → Kept ts (place_value m e place) (Same ts)
   value_kept ts e place k h = runs.kept_scope m.typed n d ts _ (Starts ts) (λ x us s. s) (runs.kept_then m.typed n d ts place _ (Names m.typed ts k) (Starts ts) h (λ p us z.
-      runs.kept_as m.typed n d us _ (Same us) (Starts ts) (λ x vs same. starts_on ts us vs (names_start m.typed ts k p us z) same) (runs.kept_atom m.typed n d us _ (Same us) (steps.atom_fetched m.typed n d false us m.typed (span_of e).first (cell_at m e) p))))
+      runs.kept_as m.typed n d us _ (Same us) (Starts ts) (λ x vs same. starts_on ts us x vs (names_start m.typed ts k p us x z) same) (runs.kept_atom m.typed n d us _ (Same us) (steps.atom_fetched m.typed n d false us m.typed (span_of e).first (cell_at m e) p))))
 
   taking_kept : (ts : List ℤ) (s : Span) (kind : TakeKind) (a : Expression) (place : Run Place) (k : Kind) → Kept ts place (Names m.typed ts k) → Kept ts (taking m s kind a place) (Same ts)
   taking_kept ts s kind a place k h = runs.kept_scope m.typed n d ts _ (Starts ts) (λ x us s. s) (runs.kept_then m.typed n d ts place _ (Names m.typed ts k) (Starts ts) h (λ p us z.
-      runs.kept_as m.typed n d us _ (Same us) (Starts ts) (λ x vs same. starts_on ts us vs (names_start m.typed ts k p us z) same) (runs.kept_atom m.typed n d us _ (Same us) (steps.atom_taken m.typed n d us m.typed s.first (span_of a).first (cell_at m a) kind p))))
+      runs.kept_as m.typed n d us _ (Same us) (Starts ts) (λ x vs same. starts_on ts us x vs (names_start m.typed ts k p us x z) same) (runs.kept_atom m.typed n d us _ (Same us) (steps.atom_taken m.typed n d us m.typed s.first (span_of a).first (cell_at m a) kind p))))
 
   -- ---- operators
 
@@ -169,9 +152,6 @@ module _ (m : Assignment) (n d : ℕ) where
   binary_kept ts at LogicalOr a b of_a of_b ha hb = runs.kept_next m.typed n d ts ts _ _ (Same ts) (tested_kept a of_a ha ts) (λ left. runs.kept_next m.typed n d ts ts _ _ (Same ts) (kept_either left ts _ _ (Same ts) (kept_give ts true (Same ts) refl) (tested_kept b of_b hb ts)) (λ right. kept_give ts (truth right) (Same ts) refl))
   binary_kept ts at o a b of_a of_b ha hb = both_kept ts at o a b of_a of_b ha hb
 
-  result_kept : (ts : List ℤ) (site : Site) (of_a : Run ℤ) (f : ℤ → Run ℤ) → Keeps of_a → ((v : ℤ) → Kept ts (f v) (Same ts)) → Kept ts (of_a >>= f) (Same ts)
-  result_kept ts site of_a f h k = runs.kept_next m.typed n d ts ts of_a f (Same ts) (h ts) k
-
   -- ---- calls of what is known
 
   value_called_kept : (ts : List ℤ) (site : Site) (w : ValueCall) (of_a : Run ℤ) → Keeps of_a → Kept ts (value_called site w of_a) (Same ts)
@@ -180,7 +160,7 @@ module _ (m : Assignment) (n d : ℕ) where
 
   spawned_kept : (ts : List ℤ) (site : Site) (f : Named) (a : Expression) (of_a : Run ℤ) → Keeps of_a → Kept ts (spawning m.typed site f a of_a) (Same ts)
   spawned_kept ts site f a of_a h = runs.kept_scope m.typed n d ts _ (Starts ts) (λ x us s. s) (runs.kept_then m.typed n d ts _ _ (Slotted ts (is_reference (kind_at m.typed a))) (Starts ts) (passed_kept ts (declared_kinds (parameters_named m.typed f)) a of_a h) (λ v us is.
-      subst (λ z. Kept z (answered site (acts.Spawn (number_named f) v) >>= λ t. moves (kind_at m.typed a) >>= λ _. give t) (Starts ts)) (sym is) (runs.kept_as m.typed n d _ _ (Same ts) (Starts ts) (λ x vs same. same_starts ts vs same) (runs.kept_atom m.typed n d _ _ (Same ts) (runs.atom_weak m.typed n d _ _ (Same ts) (moved v))))))
+      subst (λ z. Kept z (answered site (acts.Spawn (number_named f) v) >>= λ t. moves (kind_at m.typed a) >>= λ _. give t) (Starts ts)) (sym is) (runs.kept_as m.typed n d _ _ (Same ts) (Starts ts) (same_starts ts) (runs.kept_atom m.typed n d _ _ (Same ts) (runs.atom_weak m.typed n d _ _ (Same ts) (moved v))))))
     where
       moved : (v : ℤ) → steps.Atom m.typed n d false true (ts ++ slot (is_reference (kind_at m.typed a)) v) (answered site (acts.Spawn (number_named f) v) >>= λ t. moves (kind_at m.typed a) >>= λ _. give t) (Same ts)
       moved v = runs.atom_next m.typed n d false true true _ (ts ++ slot (is_reference (kind_at m.typed a)) v) _ _ (Same ts) (steps.atom_event m.typed n d false _ site (acts.Spawn (number_named f) v)) (λ t.
@@ -193,11 +173,11 @@ module _ (m : Assignment) (n d : ℕ) where
 
   locked_kept : (ts : List ℤ) (s : Span) (a : Expression) (place : Run Place) (k : Kind) → Kept ts place (Names m.typed ts k) → Kept ts (place_called m s Lock a place) (Same ts)
   locked_kept ts s a place k h = runs.kept_scope m.typed n d ts _ (Starts ts) (λ x us s. s) (runs.kept_then m.typed n d ts place _ (Names m.typed ts k) (Starts ts) h (λ p us z.
-      runs.kept_as m.typed n d us _ (Same ts) (Starts ts) (λ x vs same. same_starts ts vs same) (runs.kept_atom m.typed n d us _ (Same ts) (steps.atom_lock m.typed n d ts us s.first p (based_as ts k p us z)))))
+      runs.kept_as m.typed n d us _ (Same ts) (Starts ts) (same_starts ts) (runs.kept_atom m.typed n d us _ (Same ts) (steps.atom_lock m.typed n d ts us s.first p (based_as ts k p us z)))))
 
   unlocked_kept : (ts : List ℤ) (s : Span) (a : Expression) (place : Run Place) (k : Kind) → Kept ts place (Names m.typed ts k) → Kept ts (place_called m s Unlock a place) (Same ts)
   unlocked_kept ts s a place k h = runs.kept_scope m.typed n d ts _ (Starts ts) (λ x us s. s) (runs.kept_then m.typed n d ts place _ (Names m.typed ts k) (Starts ts) h (λ p us z.
-      runs.kept_as m.typed n d us _ (Same us) (Starts ts) (λ x vs same. starts_on ts us vs (names_start m.typed ts k p us z) same) (runs.kept_atom m.typed n d us _ (Same us) (steps.atom_unlock m.typed n d us s.first p))))
+      runs.kept_as m.typed n d us _ (Same us) (Starts ts) (λ x vs same. starts_on ts us x vs (names_start m.typed ts k p us x z) same) (runs.kept_atom m.typed n d us _ (Same us) (steps.atom_unlock m.typed n d us s.first p))))
 
   freed_kept : (ts : List ℤ) (s : Span) (a : Expression) (place : Run Place) (k : Kind) → Kept ts place (Names m.typed ts k) → Kept ts (place_called m s Free a place) (Same ts)
   freed_kept ts s a place k h = runs.kept_next m.typed n d ts ts _ _ (Same ts) (taking_kept ts s ToFree a place k h) (λ v. kept_either (is_null v) ts _ _ (Same ts) (kept_give ts tt (Same ts) refl)
@@ -219,7 +199,7 @@ module _ (m : Assignment) (n d : ℕ) where
   module _ (on_call : Calls) (hc : CallsKeep on_call) (w : Facts m.typed) where
     called_kept : (i : Identifier) (ps : List Kind) (result : Kind) → Callee m.typed i ps result → (site : Site) (vs : List ℤ) → length vs ≡ length ps → (ts : List ℤ) → Kept (ts ++ passed_in ps vs) (called on_call site (named_at m.typed i.site.token) i.text vs) (Starts ts)
     called_kept i _ _ (of_program {n = k} f is at spelled other) site vs long ts = subst (λ z. Kept (ts ++ passed_in (declared_kinds f.parameters) vs) (called on_call site z i.text vs) (Starts ts)) (sym is)
-        (runs.kept_as m.typed n d _ _ (Same ts) (Starts ts) (λ x us same. same_starts ts us same) (hc k f at site vs long ts))
+        (runs.kept_as m.typed n d _ _ (Same ts) (Starts ts) (same_starts ts) (hc k f at site vs long ts))
     called_kept i ps _ (of_conditions c is spelled) site vs long ts = subst (λ z. Kept (ts ++ passed_in ps vs) (called on_call site z i.text vs) (Starts ts)) (sym is)
         (runs.kept_next m.typed n d _ (ts ++ passed_in ps vs) _ _ (Starts ts) (runs.kept_atom m.typed n d _ _ (Same (ts ++ passed_in ps vs)) (steps.atom_condition m.typed n d (ts ++ passed_in ps vs) site i.text vs))
           (λ _. kept_give (ts ++ passed_in ps vs) (pos 0) (Starts ts) (passed_in ps vs, refl)))
@@ -248,8 +228,8 @@ module _ (m : Assignment) (n d : ℕ) where
           (field_kept ts _ x (declared_kind f.written) _ refl (place_kept s.first _ _ h (whole_left m.typed w _ _ h refl) (no_function_object (base.Struct x) 0) ts)))
       eval_kept _ _ (a_field_behind {s = s} {a = a} {x = x} {name = name} {d = f} h member is) ts = runs.kept_entered m.typed n d ts _ (Same ts) (value_kept ts (field s a Arrow name) _ (declared_kind f.written)
           (field_kept ts _ x (declared_kind f.written) _ refl (pointee_kept ts s.first a _ (base.Struct x) 0 (w.one _ _ h) (eval_kept _ _ h) (object (base.Struct x) 0) refl)))
-      eval_kept _ _ (negated {s = s} {a = a} h i x) ts = runs.kept_entered m.typed n d ts _ (Same ts) (result_kept ts s.first _ _ (eval_kept _ _ h) (λ v. runs.kept_atom m.typed n d ts _ (Same ts) (steps.atom_result m.typed n d ts s.first (negative (bits_of (promoted (kind_at m.typed a))) v))))
-      eval_kept _ _ (complemented {s = s} {a = a} h i x) ts = runs.kept_entered m.typed n d ts _ (Same ts) (result_kept ts s.first _ _ (eval_kept _ _ h) (λ v. kept_give ts (complement v) (Same ts) refl))
+      eval_kept _ _ (negated {s = s} {a = a} h i x) ts = runs.kept_entered m.typed n d ts _ (Same ts) (runs.kept_next m.typed n d ts ts _ _ (Same ts) (eval_kept _ _ h ts) (λ v. runs.kept_atom m.typed n d ts _ (Same ts) (steps.atom_result m.typed n d ts s.first (negative (bits_of (promoted (kind_at m.typed a))) v))))
+      eval_kept _ _ (complemented {s = s} {a = a} h i x) ts = runs.kept_entered m.typed n d ts _ (Same ts) (runs.kept_next m.typed n d ts ts _ _ (Same ts) (eval_kept _ _ h ts) (λ v. kept_give ts (complement v) (Same ts) refl))
       eval_kept _ _ (denied {s = s} {a = a} h scalar) ts = runs.kept_entered m.typed n d ts _ (Same ts) (runs.kept_next m.typed n d ts ts _ _ (Same ts) (tested_kept a _ (eval_kept _ _ h) ts) (λ is_true. kept_give ts (truth (not is_true)) (Same ts) refl))
       eval_kept _ _ (pointed_to {s = s} {a = a} {b = b} {n = j} h) ts = runs.kept_entered m.typed n d ts _ (Same ts) (value_kept ts (unary s Dereference a) _ (object b j)
           (pointee_kept ts s.first a _ b j (w.one _ _ h) (eval_kept _ _ h) (object b j) refl))
@@ -262,7 +242,7 @@ module _ (m : Assignment) (n d : ℕ) where
       eval_kept _ _ (printed_or_joined {s = s} {w = what} {a = a} h i) ts = runs.kept_entered m.typed n d ts _ (Same ts) (value_called_kept ts s.first what _ (eval_kept _ _ h))
       eval_kept _ _ (locked {s = s} {a = a} l h) ts = runs.kept_entered m.typed n d ts _ (Same ts) (runs.kept_next m.typed n d ts ts _ _ (Same ts) (locked_kept ts s a _ mutex (place_kept (span_of a).first _ _ h l (no_function_object _ _) ts)) (λ _. kept_give ts (pos 0) (Same ts) refl))
       eval_kept _ _ (unlocked {s = s} {a = a} l h) ts = runs.kept_entered m.typed n d ts _ (Same ts) (runs.kept_next m.typed n d ts ts _ _ (Same ts) (unlocked_kept ts s a _ mutex (place_kept (span_of a).first _ _ h l (no_function_object _ _) ts)) (λ _. kept_give ts (pos 0) (Same ts) refl))
-      eval_kept _ _ (freed {s = s} {a = a} {k = k} l h p) ts = runs.kept_entered m.typed n d ts _ (Same ts) (runs.kept_next m.typed n d ts ts _ _ (Same ts) (freed_kept ts s a _ k (place_kept (span_of a).first _ _ h l (no_function k p) ts)) (λ _. kept_give ts (pos 0) (Same ts) refl))
+      eval_kept _ _ (freed {s = s} {a = a} {k = k} l h p) ts = runs.kept_entered m.typed n d ts _ (Same ts) (runs.kept_next m.typed n d ts ts _ _ (Same ts) (freed_kept ts s a _ k (place_kept (span_of a).first _ _ h l (no_function_pointer k p) ts)) (λ _. kept_give ts (pos 0) (Same ts) refl))
       eval_kept _ _ (a_cast {s = s} {t = t} {a = a} l h p) ts = runs.kept_entered m.typed n d ts _ (Same ts) (cast_kept ts s a _ (declared_kind t) (place_kept (span_of a).first _ _ h l (no_function_object _ _) ts))
 
       all_kept : (kinds ps : List Kind) (all : Arguments) → HaveTypes m.typed all ps → (ts : List ℤ) → Kept ts (eval_all on_call m kinds all) (Passed ts ps)

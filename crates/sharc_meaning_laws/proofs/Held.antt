@@ -10,9 +10,9 @@ use Rattle.sharc_ctype.specs.Statements.{is_aggregate}
 use Rattle.sharc_mode.specs.Moded.{Assignment}
 use Rattle.sharc_ctype_laws.specs.Laws.{EachNamesItself, MeetsConstraints, OneType, MeetsStatements, ArePlain}
 use Rattle.sharc_meaning.specs.Meaning.{Asked, asked_by, run_thread, start}
-use Rattle.sharc_meaning.specs.References.{refers}
+use Rattle.sharc_meaning.specs.References.{held_count}
 use Rattle.sharc_meaning.specs.State.{State, Outcome, wants, ended, stopped, spent, Out, go, over, held_references}
-use Rattle.sharc_meaning_laws.specs.Held.{releases, held_or_released, HeldAreHeldOn}
+use Rattle.sharc_meaning_laws.specs.Held.{released, HeldAreHeldOn}
 use Rattle.sharc_meaning_laws.proofs.Counts.{total, total_is}
 use Rattle.sharc_meaning_laws.proofs.Runs as runs
 use Rattle.sharc_meaning_laws.proofs.Runs.{UpBy, state_of}
@@ -33,7 +33,7 @@ no_struct false c h = refl
 
 -- of an end and of one with more fuel
 module _ (r : Resolution) (n d : ℕ) where
-  words : {A : Type 0} (o : Out A) → held_or_released (asked_by o) n ≡ total n (state_of o)
+  words : {A : Type 0} (o : Out A) → held_count (asked_by o) n + released n (asked_by o).given_up ≡ total n (state_of o)
   words (go x t) = total_is n t
   words (over o t) = total_is n t
 
@@ -48,10 +48,11 @@ module _ (r : Resolution) (n d : ℕ) where
   held_by (over ended t) o' h e = subst (λ z. total n t ≤ total n (state_of z)) (sym h) (omega arith)
   held_by (over (stopped code site) t) o' h e = subst (λ z. total n t ≤ total n (state_of z)) (sym h) (omega arith)
 
-  pub held : {A : Type 0} (o o' : Out A) → runs.Goes r n d o o' → (asked_by o').events ≡ (asked_by o).events → held_or_released (asked_by o) n ≤ held_or_released (asked_by o') n
+  pub held : {A : Type 0} (o o' : Out A) → runs.Goes r n d o o' → (asked_by o').events ≡ (asked_by o).events
+      → held_count (asked_by o) n + released n (asked_by o).given_up ≤ held_count (asked_by o') n + released n (asked_by o').given_up
   held o o' h e =
-      let a : held_or_released (asked_by o) n ≡ total n (state_of o) = words o in
-      let b : held_or_released (asked_by o') n ≡ total n (state_of o') = words o' in
+      let a : held_count (asked_by o) n + released n (asked_by o).given_up ≡ total n (state_of o) = words o in
+      let b : held_count (asked_by o') n + released n (asked_by o').given_up ≡ total n (state_of o') = words o' in
       let le : total n (state_of o) ≤ total n (state_of o') = held_by o o' h (sym (events_are o') ∙ e ∙ events_are o) in
       omega arith
 

@@ -1,5 +1,5 @@
 -- Runs that lose no reference, and that lose none with more fuel: how they are put together.
-use Rattle.std.proofs.Common.{◌≡◌, ℕ, zero, suc, ◌+◌, ◌<◌, ◌≤◌, Bool, true, false, cond, List, [], ◌∷◌, ◌++◌, refl, sym, ap, ◌∙◌, subst, arith, length, take, drop, take_at}
+use Rattle.std.proofs.Common.{◌≡◌, ℕ, zero, suc, ◌+◌, ◌<◌, ◌≤◌, Bool, true, false, cond, List, [], ◌∷◌, ◌++◌, refl, sym, ap, ◌∙◌, subst, arith, length, take, drop, take_at, append-nil}
 use Rattle.std.specs.List.{AllByRecursion}
 use Rattle.std.specs.Prelude.{ℤ}
 use Rattle.sharc_ctype.specs.Resolved.{Resolution}
@@ -11,6 +11,20 @@ use Rattle.sharc_meaning_laws.proofs.Counts.{Declared, total, cut_temporaries, c
 abbrev pub state_of : {A : Type 0} → Out A → State
 state_of (go x s) = s
 state_of (over o s) = s
+
+-- ---- the temporaries behind a run: these, or these and more
+
+abbrev pub Same : {A : Type 0} → List ℤ → A → List ℤ → Type 0
+Same ts x us = us ≡ ts
+
+abbrev pub Starts : {A : Type 0} → List ℤ → A → List ℤ → Type 0
+Starts ts x us = (ws : List ℤ) × (us ≡ ts ++ ws)
+
+pub same_starts : {A : Type 0} (ts : List ℤ) (x : A) (us : List ℤ) → Same ts x us → Starts ts x us
+same_starts ts x us h = ([], h ∙ sym (append-nil ts))
+
+pub starts_on : {A : Type 0} (ts us : List ℤ) (x : A) (vs : List ℤ) → Starts ts x us → Same us x vs → Starts ts x vs
+starts_on ts us x vs h same = (h.0, same ∙ h.1)
 
 -- ---- where no event comes the total does not fall
 
@@ -174,14 +188,6 @@ module _ (r : Resolution) (n : ℕ) where
     pub kept_as : {A : Type 0} (ts : List ℤ) (m : Run A) (p q : A → List ℤ → Type 0) → ((x : A) (us : List ℤ) → p x us → q x us) → Kept ts m p → Kept ts m q
     kept_as ts m p q f h = record { runs = λ s at. record { ran = ran_as false false _ _ _ p q (m s) f (h.runs s at).ran; past = (h.runs s at).past } }
 
-    -- ---- the temporaries are these behind it
-    abbrev pub Same : {A : Type 0} → List ℤ → A → List ℤ → Type 0
-    Same ts x us = us ≡ ts
-
-    -- these and perhaps more
-    abbrev pub Starts : {A : Type 0} → List ℤ → A → List ℤ → Type 0
-    Starts ts x us = (ws : List ℤ) × (us ≡ ts ++ ws)
-
     pub kept_next : {A B : Type 0} (ts us : List ℤ) (m : Run A) (f : A → Run B) (q : B → List ℤ → Type 0) → Kept ts m (Same us) → ((x : A) → Kept us (f x) q) → Kept ts (m >>= f) q
     kept_next ts us m f q h k = kept_then ts m f (Same us) q h (λ x vs same. subst (λ z. Kept z (f x) q) (sym same) (k x))
 
@@ -221,7 +227,7 @@ module _ (r : Resolution) (n : ℕ) where
     cut_up k (go x t) = up_level _ _ _ (let h = cut_temporaries n k t.frame.temporaries t.given_up in omega arith)
     cut_up k (over o t) = up_level _ _ _ (omega arith)
 
-    cut_ran : {A : Type 0} (ts : List ℤ) (k : ℕ) → length ts ≡ k → (e w : ℕ) (callers : List Frame) (p : A → List ℤ → Type 0) → ((x : A) (us : List ℤ) → p x us → (ws : List ℤ) × (us ≡ ts ++ ws)) → (o : Out A) → RanBy false false e w callers p o → RanBy false false e w callers (Same ts) (ends_temporaries k o)
+    cut_ran : {A : Type 0} (ts : List ℤ) (k : ℕ) → length ts ≡ k → (e w : ℕ) (callers : List Frame) (p : A → List ℤ → Type 0) → ((x : A) (us : List ℤ) → p x us → Starts ts x us) → (o : Out A) → RanBy false false e w callers p o → RanBy false false e w callers (Same ts) (ends_temporaries k o)
     cut_ran ts k long e w callers p begins (go x t) h = record {
       moves = up_on e w _ _ _ _ h.moves (cut_up k (go x t));
       callers_same = h.callers_same;
@@ -230,7 +236,7 @@ module _ (r : Resolution) (n : ℕ) where
     }
     cut_ran ts k long e w callers p begins (over o t) h = h
 
-    pub kept_scope : {A : Type 0} (ts : List ℤ) (m : Run A) (p : A → List ℤ → Type 0) → ((x : A) (us : List ℤ) → p x us → (ws : List ℤ) × (us ≡ ts ++ ws)) → Kept ts m p → Kept ts (temporarily m) (Same ts)
+    pub kept_scope : {A : Type 0} (ts : List ℤ) (m : Run A) (p : A → List ℤ → Type 0) → ((x : A) (us : List ℤ) → p x us → Starts ts x us) → Kept ts m p → Kept ts (temporarily m) (Same ts)
     kept_scope ts m p begins h = record { runs = λ s at. record {
       ran = cut_ran ts (length s.frame.temporaries) (ap length (sym at.0)) _ _ s.callers p begins (m s) (h.runs s at).ran;
       past = goes_after (ends_temporaries (length s.frame.temporaries)) (λ t. record t { frame = record t.frame { temporaries = take (length s.frame.temporaries) t.frame.temporaries }; given_up = t.given_up ++ all_released (drop (length s.frame.temporaries) t.frame.temporaries) }) (m s) (m (more s)) (λ x t. refl) (λ o t. refl) (λ t. refl) (cut_up (length s.frame.temporaries) (m (more s))) (h.runs s at).past;

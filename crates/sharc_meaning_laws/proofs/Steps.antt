@@ -1,5 +1,5 @@
 -- The few things that a thread does lose no reference, and neither do the accesses that are made of them.
-use Rattle.std.proofs.Common.{◌≡◌, ℕ, zero, suc, ◌+◌, ◌-◌, ◌*◌, ◌<◌, ◌≤◌, Bool, true, false, not, cond, List, [], ◌∷◌, ◌++◌, refl, sym, ap, ◌∙◌, subst, arith, length, take, take_at, length-append, nat_lt, slice_index_or, codes, bytes_eq, Some, Result, Ok, Err}
+use Rattle.std.proofs.Common.{◌≡◌, ℕ, zero, suc, ◌+◌, ◌-◌, ◌*◌, ◌<◌, ◌≤◌, Bool, true, false, not, cond, List, [], ◌∷◌, ◌++◌, refl, sym, ap, ◌∙◌, subst, arith, length, take, take_at, length-append, append-nil, nat_lt, slice_index_or, codes, bytes_eq, Some, Result, Ok, Err}
 use Rattle.std.proofs.lemmas.Bool.{false≢true}
 use Rattle.std.specs.List.{AllByRecursion}
 use Rattle.std.specs.Prelude.{ℤ, pos, negsuc}
@@ -30,7 +30,7 @@ use Rattle.sharc_meaning.specs.Waiting.{cell_at_place, lock_call, unlock_call, w
 use Rattle.sharc_meaning.specs.Expressions.{resulting, named_value}
 use Rattle.sharc_meaning_laws.proofs.Counts.{Declared, total, refs, rel, vars, one, gone, one_gone, one_null, refs_append, rel_append, vars_append, set_loses, set_keeps, still_declared}
 use Rattle.sharc_meaning_laws.proofs.Runs as runs
-use Rattle.sharc_meaning_laws.proofs.Runs.{moves_level, up_level}
+use Rattle.sharc_meaning_laws.proofs.Runs.{Same, moves_level, up_level}
 
 -- what a temporary holds of a value of this type
 abbrev pub slot : Bool → ℤ → List ℤ
@@ -39,9 +39,6 @@ slot b v = cond b (v ∷ []) []
 module _ (r : Resolution) (n d : ℕ) where
   abbrev pub Atom : {A : Type 0} → Bool → Bool → List ℤ → Run A → (A → List ℤ → Type 0) → Type 0
   Atom {A} a b ts m p = runs.Atom r n d {A = A} a b ts m p
-
-  abbrev Same : {A : Type 0} → List ℤ → A → List ℤ → Type 0
-  Same ts x us = us ≡ ts
 
   pub atom_give : {A : Type 0} (b : Bool) (ts : List ℤ) (x : A) (p : A → List ℤ → Type 0) → p x ts → Atom b b ts (give x) p
   atom_give b ts x p h = record {
@@ -118,11 +115,7 @@ module _ (r : Resolution) (n d : ℕ) where
 
   held_by : (q b : Bool) (ts : List ℤ) (v : ℤ) → Atom b b ts (cond q (holds_reference v) done) (Same (ts ++ slot q v))
   held_by true b ts v = atom_held b ts v
-  held_by false b ts v = subst (λ z. Atom b b ts done (Same z)) (sym (append_nothing ts)) (atom_done b ts)
-    where
-      append_nothing : (ts : List ℤ) → ts ++ [] ≡ ts
-      append_nothing [] = refl
-      append_nothing (x ∷ xs) = ap (λ z. x ∷ z) (append_nothing xs)
+  held_by false b ts v = subst (λ z. Atom b b ts done (Same z)) (sym (append-nil ts)) (atom_done b ts)
 
   pub atom_holds : (b : Bool) (ts : List ℤ) (kind : Kind) (v : ℤ) → Atom b b ts (holds kind v) (Same (ts ++ slot (is_reference kind) v))
   atom_holds b ts kind v = held_by (is_reference kind) b ts v
@@ -140,11 +133,7 @@ module _ (r : Resolution) (n d : ℕ) where
 
   moved_by : (q : Bool) (ts : List ℤ) (v : ℤ) → Atom true true (ts ++ slot q v) (cond q (moves_on 1) done) (Same ts)
   moved_by true ts v = atom_moved ts v
-  moved_by false ts v = subst (λ z. Atom true true z done (Same ts)) (sym (append_nothing ts)) (atom_done true ts)
-    where
-      append_nothing : (ts : List ℤ) → ts ++ [] ≡ ts
-      append_nothing [] = refl
-      append_nothing (x ∷ xs) = ap (λ z. x ∷ z) (append_nothing xs)
+  moved_by false ts v = subst (λ z. Atom true true z done (Same ts)) (sym (append-nil ts)) (atom_done true ts)
 
   pub atom_moves : (ts : List ℤ) (kind : Kind) (v : ℤ) → Atom true true (ts ++ slot (is_reference kind) v) (moves kind) (Same ts)
   atom_moves ts kind v = moved_by (is_reference kind) ts v

@@ -24,6 +24,7 @@ use Rattle.sharc_ctype_laws.specs.Constraints.{HasType, Callee, of_program, of_c
 use Rattle.sharc_ctype_laws.specs.Rules.{IsHeld}
 use Rattle.sharc_meaning.specs.State.{is_reference}
 use Rattle.sharc_meaning.specs.Places.{Place, variable, cell, place_named, field_in}
+use Rattle.sharc_meaning_laws.proofs.Runs.{Starts}
 
 -- what is known of the program
 pub record Facts (r : Resolution) : Type 0 where
@@ -57,21 +58,21 @@ passes _ _ (integer {a = a} {b = b} i j) = integer_reference b j ∙ sym (intege
 passes _ _ (pointer {a = a} p) = pointer_reference a p ∙ sym (pointer_pointer a p)
 passes _ _ (null_pointer {a = a} p) = sym (pointer_pointer a p)
 
-no_function_pointer : (k : Kind) → IsPointer k → k ≡ kinds.function → ⊥
+pub no_function_object : (b : Base) (n : ℕ) → object b n ≡ kinds.function → ⊥
+no_function_object b n h = absurd (cc)
+
+pub no_function_array : (b : Base) (n : ℕ) → array b n ≡ kinds.function → ⊥
+no_function_array b n h = absurd (cc)
+
+pub no_function_pointer : (k : Kind) → IsPointer k → k ≡ kinds.function → ⊥
 no_function_pointer k p is = false≢true (ap is_reference (sym is) ∙ pointer_reference k p)
 
 no_function_integer : (k : Kind) → IsInteger k → k ≡ kinds.function → ⊥
-no_function_integer k (b, t, is) f = no_object b 0 (sym is ∙ f)
-  where
-    no_object : (b : Base) (n : ℕ) → object b n ≡ kinds.function → ⊥
-    no_object b n h = absurd (cc)
+no_function_integer k (b, t, is) f = no_function_object b 0 (sym is ∙ f)
 
 pub no_function_held : (k : Kind) → IsHeld k → k ≡ kinds.function → ⊥
 no_function_held k (inl i) = no_function_integer k i
 no_function_held k (inr p) = no_function_pointer k p
-
-pub no_function : (k : Kind) → IsPointer k → k ≡ kinds.function → ⊥
-no_function k p = no_function_pointer k p
 
 -- ---- what is a struct or an array is an lvalue
 
@@ -144,10 +145,10 @@ Names r ts k (variable x) us = (is_array k ≡ false) × (is_pointer (variable_k
 Names r ts k (cell (Global g) first c) us = us ≡ ts
 Names r ts k (cell (Made j) first c) us = (is_array k ≡ false) × ((v : ℤ) × (us ≡ ts ++ v ∷ []))
 
-pub names_start : (r : Resolution) (ts : List ℤ) (k : Kind) (p : Place) (us : List ℤ) → Names r ts k p us → (ws : List ℤ) × (us ≡ ts ++ ws)
-names_start r ts k (variable x) us h = ([], h.2 ∙ sym (append-nil ts))
-names_start r ts k (cell (Global g) first c) us h = ([], h ∙ sym (append-nil ts))
-names_start r ts k (cell (Made j) first c) us h = (h.1.0 ∷ [], h.1.1)
+pub names_start : {A : Type 0} (r : Resolution) (ts : List ℤ) (k : Kind) (p : Place) (us : List ℤ) (x : A) → Names r ts k p us → Starts ts x us
+names_start r ts k (variable y) us x h = ([], h.2 ∙ sym (append-nil ts))
+names_start r ts k (cell (Global g) first c) us x h = ([], h ∙ sym (append-nil ts))
+names_start r ts k (cell (Made j) first c) us x h = (h.1.0 ∷ [], h.1.1)
 
 pub named_variable : (r : Resolution) (ts : List ℤ) (what : Named) (x : ℕ) (d : Declaration) → what ≡ named.Variable x → declaration_at r x ≡ Some d → Names r ts (declared_kind d.written) (place_named what) ts
 named_variable r ts what x d is at = subst (λ z. Names r ts (declared_kind d.written) (place_named z) ts) (sym is)
