@@ -205,8 +205,8 @@ module _ (m : Assignment) (n d : ℕ) where
         let ran = (body_kept.runs (inside vs s) (b.temporaries, b.declared)).ran in
         subst (λ z. runs.Ran m.typed n false false s (Same caller.temporaries) z) (sym (runs_so vs s))
         (closed_ran (length s.events) (total n (inside vs s)) (total n s) caller s.callers (body (inside vs s)) (inside_le vs s (inside vs s) h b) own
-          (subst (λ e. runs.RanBy m.typed n false false (length e) (total n (inside vs s)) (caller ∷ s.callers) (Same []) (body (inside vs s))) b.events
-            (subst (λ c. runs.RanBy m.typed n false false (length (inside vs s).events) (total n (inside vs s)) c (Same []) (body (inside vs s))) b.callers ran)))
+        (subst (λ e. runs.RanBy m.typed n false false (length e) (total n (inside vs s)) (caller ∷ s.callers) (Same []) (body (inside vs s))) b.events
+        (subst (λ c. runs.RanBy m.typed n false false (length (inside vs s).events) (total n (inside vs s)) c (Same []) (body (inside vs s))) b.callers ran)))
 
     function_goes : (vs : List ℤ) (s : State) → runs.Goes m.typed n d (run_function on_call m f vs s) (run_function on_call m f vs (runs.more m.typed n d s))
     function_goes vs s =
@@ -219,7 +219,7 @@ module _ (m : Assignment) (n d : ℕ) where
         (subst (λ z. runs.Goes m.typed n d (closed caller s.callers (body (inside vs s))) z) (sym (runs_so vs (runs.more m.typed n d s)))
         (subst (λ z. runs.Goes m.typed n d (closed caller s.callers (body (inside vs s))) (closed caller s.callers (body z))) (sym longer)
         (closed_goes (length (inside vs s).events) (total n (inside vs s)) caller s.callers (body (inside vs s)) (body (runs.more m.typed n d (inside vs s)))
-          (subst (λ c. runs.RanBy m.typed n false false (length (inside vs s).events) (total n (inside vs s)) c (Same []) (body (runs.more m.typed n d (inside vs s)))) b.callers ran) kept.past)))
+        (subst (λ c. runs.RanBy m.typed n false false (length (inside vs s).events) (total n (inside vs s)) c (Same []) (body (runs.more m.typed n d (inside vs s)))) b.callers ran) kept.past)))
 
     pub function_kept : (vs : List ℤ) (s : State) → Takes vs s → AllByRecursion (Declared m.typed) s.frame.variables
         → runs.KeptAt m.typed n d s (run_function on_call m f vs) (Same (without_temporaries (pointers_passed f) s.frame).temporaries)
@@ -236,8 +236,10 @@ module _ (m : Assignment) (n d : ℕ) where
         omega arith
 
     pub called_kept : (vs : List ℤ) → length vs ≡ length (declared_kinds f.parameters) → (ts : List ℤ) → Kept m n d (ts ++ passed_in (declared_kinds f.parameters) vs) (run_function on_call m f vs) (Same ts)
-    called_kept vs long ts = record { runs = λ s at.
-        subst (λ z. runs.KeptAt m.typed n d s (run_function on_call m f vs) (Same z)) (passes_all ts vs long s.frame.temporaries at.0) (function_kept vs s (takes_all ts vs long s at.0) at.1) }
+    called_kept vs long ts = record {
+      runs = λ s at.
+          subst (λ z. runs.KeptAt m.typed n d s (run_function on_call m f vs) (Same z)) (passes_all ts vs long s.frame.temporaries at.0) (function_kept vs s (takes_all ts vs long s at.0) at.1);
+    }
 
   -- ---- calls, and threads
 

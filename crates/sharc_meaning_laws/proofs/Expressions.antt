@@ -82,7 +82,7 @@ module _ (m : Assignment) (n d : ℕ) where
   operand_kept : (ts : List ℤ) (a : Expression) (of_a : Run ℤ) → Keeps of_a → Kept ts (operand m.typed a of_a) (Slotted ts (is_reference (kind_at m.typed a)))
   operand_kept ts a of_a h = runs.kept_next m.typed n d ts ts _ _ (Slotted ts (is_reference (kind_at m.typed a))) (h ts) (λ v. runs.kept_atom m.typed n d ts _ (Slotted ts (is_reference (kind_at m.typed a)))
       (runs.atom_next m.typed n d false false false ts (ts ++ slot (is_reference (kind_at m.typed a)) v) _ _ (Slotted ts (is_reference (kind_at m.typed a))) (steps.atom_holds m.typed n d false ts (kind_at m.typed a) v)
-        (λ _. steps.atom_give m.typed n d false (ts ++ slot (is_reference (kind_at m.typed a)) v) v (Slotted ts (is_reference (kind_at m.typed a))) refl)))
+      (λ _. steps.atom_give m.typed n d false (ts ++ slot (is_reference (kind_at m.typed a)) v) v (Slotted ts (is_reference (kind_at m.typed a))) refl)))
 
   passed_kept : (ts : List ℤ) (kinds : List Kind) (a : Expression) (of_a : Run ℤ) → Keeps of_a → Kept ts (passed m.typed kinds a of_a) (Slotted ts (is_reference (kind_at m.typed a)))
   passed_kept ts [] a of_a h = operand_kept ts a of_a h
@@ -93,14 +93,14 @@ module _ (m : Assignment) (n d : ℕ) where
   pointee_kept : (ts : List ℤ) (site : Site) (a : Expression) (pointer : Run ℤ) (b : Base) (j : ℕ) → kind_at m.typed a ≡ object b (j + 1) → Keeps pointer → (k : Kind) → is_array k ≡ false → Kept ts (pointee_place m.typed site a pointer) (Names m.typed ts k)
   pointee_kept ts site a pointer b j is h k plain = runs.kept_next m.typed n d ts ts _ _ (Names m.typed ts k) (h ts) (λ p. runs.kept_atom m.typed n d ts _ (Names m.typed ts k)
       (runs.atom_next m.typed n d false false false ts (ts ++ p ∷ []) _ _ (Names m.typed ts k) (steps.atom_based m.typed n d false ts site (kind_at m.typed a) p (pointer_reference (kind_at m.typed a) (b, j, is)))
-        (λ _. steps.atom_give m.typed n d false (ts ++ p ∷ []) (pointee p) (Names m.typed ts k) (plain, (p, refl)))))
+      (λ _. steps.atom_give m.typed n d false (ts ++ p ∷ []) (pointee p) (Names m.typed ts k) (plain, (p, refl)))))
 
   element_behind : (ts : List ℤ) (site : Site) (a : Expression) (pointer i : Run ℤ) (b : Base) (j : ℕ) → kind_at m.typed a ≡ object b (j + 1) → Keeps pointer → Keeps i
       → Kept ts (pointer >>= λ p. based site (kind_at m.typed a) p >>= λ _. i >>= λ x. element site (Made (number_of p)) (element_cells m.typed (element_kind (kind_at m.typed a))) (elements_of p) x) (Names m.typed ts (object b j))
   element_behind ts site a pointer i b j is h hi = runs.kept_next m.typed n d ts ts _ _ (Names m.typed ts (object b j)) (h ts) (λ p.
       runs.kept_next m.typed n d ts (ts ++ p ∷ []) _ _ (Names m.typed ts (object b j)) (runs.kept_atom m.typed n d ts _ (Same (ts ++ p ∷ [])) (steps.atom_based m.typed n d false ts site (kind_at m.typed a) p (pointer_reference (kind_at m.typed a) (b, j, is)))) (λ _.
       runs.kept_next m.typed n d (ts ++ p ∷ []) (ts ++ p ∷ []) _ _ (Names m.typed ts (object b j)) (hi (ts ++ p ∷ [])) (λ x. runs.kept_atom m.typed n d (ts ++ p ∷ []) _ (Names m.typed ts (object b j))
-        (steps.atom_element m.typed n d false (ts ++ p ∷ []) site (Made (number_of p)) (element_cells m.typed (element_kind (kind_at m.typed a))) (elements_of p) x (Names m.typed ts (object b j)) (λ c e. (refl, (p, refl)))))))
+      (steps.atom_element m.typed n d false (ts ++ p ∷ []) site (Made (number_of p)) (element_cells m.typed (element_kind (kind_at m.typed a))) (elements_of p) x (Names m.typed ts (object b j)) (λ c e. (refl, (p, refl)))))))
 
   index_pointer : (ts : List ℤ) (site : Site) (a : Expression) (whole : Run Place) (pointer i : Run ℤ) (b : Base) (j : ℕ) → kind_at m.typed a ≡ object b (j + 1) → Keeps pointer → Keeps i → Kept ts (index_place m.typed site a whole pointer i) (Names m.typed ts (object b j))
   index_pointer ts site a whole pointer i b j is h hi = by (is_array (kind_at m.typed a)) (ap is_array is) _ (element_behind ts site a pointer i b j is h hi)
@@ -143,9 +143,11 @@ module _ (m : Assignment) (n d : ℕ) where
       → Kept ts (temporarily (operand m.typed a of_a >>= λ x. operand m.typed b of_b >>= λ y. resulting at (operated (bits_of (binary_result (class_of o) (kind_at m.typed a) (kind_at m.typed b))) o x y))) (Same ts)
   both_kept ts at o a b of_a of_b ha hb = runs.kept_scope m.typed n d ts _ (Starts ts) (λ x us s. s) (runs.kept_then m.typed n d ts _ _ (Slotted ts (is_reference (kind_at m.typed a))) (Starts ts) (operand_kept ts a of_a ha) (λ x us first.
       runs.kept_then m.typed n d us _ _ (Slotted us (is_reference (kind_at m.typed b))) (Starts ts) (operand_kept us b of_b hb) (λ y vs second.
-      runs.kept_as m.typed n d vs _ (Same vs) (Starts ts) (λ z ws same. (slot (is_reference (kind_at m.typed a)) x ++ slot (is_reference (kind_at m.typed b)) y,
-          same ∙ second ∙ ap (λ l. l ++ slot (is_reference (kind_at m.typed b)) y) first ∙ append_assoc ts (slot (is_reference (kind_at m.typed a)) x) (slot (is_reference (kind_at m.typed b)) y)))
-        (runs.kept_atom m.typed n d vs _ (Same vs) (steps.atom_result m.typed n d vs at (operated (bits_of (binary_result (class_of o) (kind_at m.typed a) (kind_at m.typed b))) o x y))))))
+      runs.kept_as m.typed n d vs _ (Same vs) (Starts ts) (λ z ws same. (
+        slot (is_reference (kind_at m.typed a)) x ++ slot (is_reference (kind_at m.typed b)) y,
+        same ∙ second ∙ ap (λ l. l ++ slot (is_reference (kind_at m.typed b)) y) first ∙ append_assoc ts (slot (is_reference (kind_at m.typed a)) x) (slot (is_reference (kind_at m.typed b)) y),
+      ))
+      (runs.kept_atom m.typed n d vs _ (Same vs) (steps.atom_result m.typed n d vs at (operated (bits_of (binary_result (class_of o) (kind_at m.typed a) (kind_at m.typed b))) o x y))))))
 
   binary_kept : (ts : List ℤ) (at : Site) (o : BinaryOperator) (a b : Expression) (of_a of_b : Run ℤ) → Keeps of_a → Keeps of_b → Kept ts (binary_value m.typed at o a b of_a of_b) (Same ts)
   binary_kept ts at LogicalAnd a b of_a of_b ha hb = runs.kept_next m.typed n d ts ts _ _ (Same ts) (tested_kept a of_a ha ts) (λ left. runs.kept_next m.typed n d ts ts _ _ (Same ts) (kept_either left ts _ _ (Same ts) (tested_kept b of_b hb ts) (kept_give ts false (Same ts) refl)) (λ right. kept_give ts (truth right) (Same ts) refl))
@@ -202,13 +204,13 @@ module _ (m : Assignment) (n d : ℕ) where
         (runs.kept_as m.typed n d _ _ (Same ts) (Starts ts) (same_starts ts) (hc k f at site vs long ts))
     called_kept i ps _ (of_conditions c is spelled) site vs long ts = subst (λ z. Kept (ts ++ passed_in ps vs) (called on_call site z i.text vs) (Starts ts)) (sym is)
         (runs.kept_next m.typed n d _ (ts ++ passed_in ps vs) _ _ (Starts ts) (runs.kept_atom m.typed n d _ _ (Same (ts ++ passed_in ps vs)) (steps.atom_condition m.typed n d (ts ++ passed_in ps vs) site i.text vs))
-          (λ _. kept_give (ts ++ passed_in ps vs) (pos 0) (Starts ts) (passed_in ps vs, refl)))
+        (λ _. kept_give (ts ++ passed_in ps vs) (pos 0) (Starts ts) (passed_in ps vs, refl)))
 
     one_argument : (ts us vs : List ℤ) (want : Kind) (ps : List Kind) (v : ℤ) (xs : List ℤ) (q : Bool) → q ≡ is_pointer want → us ≡ ts ++ slot q v → (vs ≡ us ++ passed_in ps xs) × (length xs ≡ length ps) → Passed ts (want ∷ ps) (v ∷ xs) vs
     one_argument ts us vs want ps v xs q sort is rest = (
-        rest.0 ∙ ap (λ l. l ++ passed_in ps xs) (is ∙ ap (λ b. ts ++ slot b v) sort) ∙ append_assoc ts (slot (is_pointer want) v) (passed_in ps xs),
-        ap suc rest.1,
-      )
+      rest.0 ∙ ap (λ l. l ++ passed_in ps xs) (is ∙ ap (λ b. ts ++ slot b v) sort) ∙ append_assoc ts (slot (is_pointer want) v) (passed_in ps xs),
+      ap suc rest.1,
+    )
 
     mutual
       pub eval_kept : (e : Expression) (k : Kind) → HasType m.typed e k → Keeps (eval on_call m e)
@@ -223,7 +225,7 @@ module _ (m : Assignment) (n d : ℕ) where
           (index_array ts s.first a _ _ _ b j (w.one _ _ x) (place_kept s.first _ _ x (whole_left m.typed w _ _ x refl) (no_function_array b j) ts) (eval_kept _ _ y)))
       eval_kept _ _ (a_call {s = s} {f = f} {all = all} {parameters = ps} q x) ts = runs.kept_entered m.typed n d ts _ (Same ts) (runs.kept_scope m.typed n d ts _ (Starts ts) (λ y us z. z)
           (runs.kept_then m.typed n d ts _ _ (Passed ts ps) (Starts ts) (all_kept (declared_kinds (parameters_named m.typed (named_at m.typed f.site.token))) ps all x ts)
-            (λ vs us z. subst (λ l. Kept l (called on_call s.first (named_at m.typed f.site.token) f.text vs) (Starts ts)) (sym z.0) (called_kept f ps _ q s.first vs z.1 ts))))
+          (λ vs us z. subst (λ l. Kept l (called on_call s.first (named_at m.typed f.site.token) f.text vs) (Starts ts)) (sym z.0) (called_kept f ps _ q s.first vs z.1 ts))))
       eval_kept _ _ (a_field {s = s} {a = a} {x = x} {name = name} {d = f} h member is) ts = runs.kept_entered m.typed n d ts _ (Same ts) (value_kept ts (field s a Dot name) _ (declared_kind f.written)
           (field_kept ts _ x (declared_kind f.written) _ refl (place_kept s.first _ _ h (whole_left m.typed w _ _ h refl) (no_function_object (base.Struct x) 0) ts)))
       eval_kept _ _ (a_field_behind {s = s} {a = a} {x = x} {name = name} {d = f} h member is) ts = runs.kept_entered m.typed n d ts _ (Same ts) (value_kept ts (field s a Arrow name) _ (declared_kind f.written)

@@ -237,10 +237,12 @@ module _ (r : Resolution) (n : ℕ) where
     cut_ran ts k long e w callers p begins (over o t) h = h
 
     pub kept_scope : {A : Type 0} (ts : List ℤ) (m : Run A) (p : A → List ℤ → Type 0) → ((x : A) (us : List ℤ) → p x us → Starts ts x us) → Kept ts m p → Kept ts (temporarily m) (Same ts)
-    kept_scope ts m p begins h = record { runs = λ s at. record {
-      ran = cut_ran ts (length s.frame.temporaries) (ap length (sym at.0)) _ _ s.callers p begins (m s) (h.runs s at).ran;
-      past = goes_after (ends_temporaries (length s.frame.temporaries)) (λ t. record t { frame = record t.frame { temporaries = take (length s.frame.temporaries) t.frame.temporaries }; given_up = t.given_up ++ all_released (drop (length s.frame.temporaries) t.frame.temporaries) }) (m s) (m (more s)) (λ x t. refl) (λ o t. refl) (λ t. refl) (cut_up (length s.frame.temporaries) (m (more s))) (h.runs s at).past;
-    } }
+    kept_scope ts m p begins h = record {
+      runs = λ s at. record {
+        ran = cut_ran ts (length s.frame.temporaries) (ap length (sym at.0)) _ _ s.callers p begins (m s) (h.runs s at).ran;
+        past = goes_after (ends_temporaries (length s.frame.temporaries)) (λ t. record t { frame = record t.frame { temporaries = take (length s.frame.temporaries) t.frame.temporaries }; given_up = t.given_up ++ all_released (drop (length s.frame.temporaries) t.frame.temporaries) }) (m s) (m (more s)) (λ x t. refl) (λ o t. refl) (λ t. refl) (cut_up (length s.frame.temporaries) (m (more s))) (h.runs s at).past;
+      };
+    }
 
     -- ---- variables end
 
@@ -266,10 +268,12 @@ module _ (r : Resolution) (n : ℕ) where
     end_goes k o o' h = goes_after (ends_variables k) (λ t. record t { frame = record t.frame { variables = take k t.frame.variables }; given_up = t.given_up ++ all_released (pointers_among (drop k t.frame.variables)) }) o o' (λ x t. refl) (λ o t. refl) (λ t. refl) (end_up k o') h
 
     pub kept_block : {A : Type 0} (ts : List ℤ) (m : Run A) (p : A → List ℤ → Type 0) → Kept ts m p → Kept ts (in_block m) p
-    kept_block ts m p h = record { runs = λ s at. record {
-      ran = end_ran (length s.frame.variables) _ _ s.callers p (m s) (h.runs s at).ran;
-      past = end_goes (length s.frame.variables) (m s) (m (more s)) (h.runs s at).past;
-    } }
+    kept_block ts m p h = record {
+      runs = λ s at. record {
+        ran = end_ran (length s.frame.variables) _ _ s.callers p (m s) (h.runs s at).ran;
+        past = end_goes (length s.frame.variables) (m s) (m (more s)) (h.runs s at).past;
+      };
+    }
 
     -- ---- loops
 
@@ -327,9 +331,9 @@ module _ (r : Resolution) (n : ℕ) where
       turns_goes zero s at = ran_up _ _ s.callers (Same ts) (turns (0 + d) test step body (more s)) (turns_ran (0 + d) (more s) at)
       turns_goes (suc k) s at = let z : suc k + d ≡ suc (k + d) = omega arith in rw z
           (goes_then (test s) (test (more s)) (λ b. cond b (body >>= λ fl. on_turn fl (step >> turns k test step body)) (give next)) (λ b. cond b (body >>= λ fl. on_turn fl (step >> turns (k + d) test step body)) (give next))
-            (Same ts) (Same ts) (length s.events) (total n s) s.callers (ht.runs s at).past (ht.runs s at).ran (ht.runs (more s) at).ran
-            (λ b us same t at. goes_either b _ _ (give next) (give next) t (bodies k (turns_goes k) t (at_same t us same at)) refl)
-            (λ b us same t at. ran_either b _ (give next) t (Same ts) (body_ran (k + d) (turns_ran (k + d)) t (at_same t us same at)) (ran_give ts next t (at_same t us same at))))
+          (Same ts) (Same ts) (length s.events) (total n s) s.callers (ht.runs s at).past (ht.runs s at).ran (ht.runs (more s) at).ran
+          (λ b us same t at. goes_either b _ _ (give next) (give next) t (bodies k (turns_goes k) t (at_same t us same at)) refl)
+          (λ b us same t at. ran_either b _ (give next) t (Same ts) (body_ran (k + d) (turns_ran (k + d)) t (at_same t us same at)) (ran_give ts next t (at_same t us same at))))
 
       pub kept_loop : Kept ts (loop test step body) (Same ts)
       kept_loop = record { runs = λ s at. record { ran = turns_ran s.fuel s at; past = turns_goes s.fuel s at } }

@@ -99,7 +99,7 @@ module _ (m : Assignment) (n d : ℕ) (on_call : Calls) (hc : CallsKeep m n d on
   initialised_kept x None h own ts = kept_give m n d ts tt (Same ts) refl
   initialised_kept x (Some y) h own ts = runs.kept_next m.typed n d ts ts _ _ (Same ts) (right_kept (declared_kind x.written) (pointed m (Some (declared_row m.typed written x.name.site.token))) y h ts) (λ v.
       runs.kept_atom m.typed n d ts _ (Same ts) (steps.stored_variable m.typed n d ts m.typed x.name.site (declared_kind x.written) private x.name.site.token v
-        (λ is. declared_reference x.written ∙ ap (λ o. is_pointer (variable_kind o)) (sym own.1) ∙ is)))
+      (λ is. declared_reference x.written ∙ ap (λ o. is_pointer (variable_kind o)) (sym own.1) ∙ is)))
 
   declared_kept : (l : Local) → AreTyped m.typed (in_local l) → IsItself m.typed named.Variable l.declaration → Keeps m n d (declared on_call m l)
   declared_kept l h own ts = runs.kept_next m.typed n d ts ts _ _ (Same ts) (runs.kept_atom m.typed n d ts _ (Same ts) (steps.atom_begins m.typed n d false ts l.declaration (pos 0) (ap (λ o. is_pointer (variable_kind o)) (sym own.1))))
@@ -148,17 +148,17 @@ module _ (m : Assignment) (n d : ℕ) (on_call : Calls) (hc : CallsKeep m n d on
     exec_kept kind t l (if_then_else s e a b) h rule own ts = let first = front (Has m.typed) (expressions e ++ in_statement a) (in_statement b) h in
         runs.kept_entered m.typed n d ts _ (Same ts) (runs.kept_next m.typed n d ts ts _ _ (Same ts) (truth_kept e (front (Has m.typed) (expressions e) (in_statement a) first) ts) (λ is_true.
         kept_either m n d is_true ts _ _ (Same ts) (exec_kept kind t l a (back (Has m.typed) (expressions e) (in_statement a) first) rule.1 (front (IsItself m.typed named.Variable) (locals_in a) (locals_in b) own) ts)
-          (exec_kept kind t l b (back (Has m.typed) (expressions e ++ in_statement a) (in_statement b) h) rule.2 (back (IsItself m.typed named.Variable) (locals_in a) (locals_in b) own) ts)))
+        (exec_kept kind t l b (back (Has m.typed) (expressions e ++ in_statement a) (in_statement b) h) rule.2 (back (IsItself m.typed named.Variable) (locals_in a) (locals_in b) own) ts)))
     exec_kept kind t l (while s e a) h rule own ts = runs.kept_entered m.typed n d ts _ (Same ts) (runs.kept_loop m.typed n d ts _ _ _ (truth_kept e (front (Has m.typed) (expressions e) (in_statement a) h) ts) (kept_give m n d ts tt (Same ts) refl)
         (exec_kept kind t true a (back (Has m.typed) (expressions e) (in_statement a) h) rule.1 own ts))
     exec_kept kind t l (for s x a) h rule own ts =
         let head = front (Has m.typed) (in_head x) (in_statement a) h in
         let start = front (Has m.typed) (in_first x.first ++ in_option expressions x.test) (in_option in_simple x.step) head in
         runs.kept_entered m.typed n d ts _ (Same ts) (runs.kept_block m.typed n d ts _ (Same ts) (runs.kept_next m.typed n d ts ts _ _ (Same ts)
-          (first_kept x.first (front (Has m.typed) (in_first x.first) (in_option expressions x.test) start) rule.0.0 (front (IsItself m.typed named.Variable) (first_locals x.first) (locals_in a) own) ts) (λ _.
-          runs.kept_loop m.typed n d ts _ _ _ (test_kept x.test (back (Has m.typed) (in_first x.first) (in_option expressions x.test) start) ts)
-            (step_kept x.step (back (Has m.typed) (in_first x.first ++ in_option expressions x.test) (in_option in_simple x.step) head) rule.0.2 ts)
-            (exec_kept kind t true a (back (Has m.typed) (in_head x) (in_statement a) h) rule.1 (back (IsItself m.typed named.Variable) (first_locals x.first) (locals_in a) own) ts))))
+        (first_kept x.first (front (Has m.typed) (in_first x.first) (in_option expressions x.test) start) rule.0.0 (front (IsItself m.typed named.Variable) (first_locals x.first) (locals_in a) own) ts) (λ _.
+        runs.kept_loop m.typed n d ts _ _ _ (test_kept x.test (back (Has m.typed) (in_first x.first) (in_option expressions x.test) start) ts)
+        (step_kept x.step (back (Has m.typed) (in_first x.first ++ in_option expressions x.test) (in_option in_simple x.step) head) rule.0.2 ts)
+        (exec_kept kind t true a (back (Has m.typed) (in_head x) (in_statement a) h) rule.1 (back (IsItself m.typed named.Variable) (first_locals x.first) (locals_in a) own) ts))))
 
     pub exec_all_kept : (kind : Kind) (t : WrittenType) (in_loop : Bool) (all : Statements) → AreTyped m.typed (in_statements all) → AllMeet m.typed t in_loop all → Own m.typed (locals_in_all all) → Keeps m n d (exec_all on_call m kind all)
     exec_all_kept kind t l no_statements h rule own ts = kept_give m n d ts next (Same ts) refl
