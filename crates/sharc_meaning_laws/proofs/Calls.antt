@@ -8,7 +8,7 @@ use Rattle.sharc_tree.specs.declared.token.Site.{Site}
 use Rattle.sharc_tree.specs.declared.tree.declaration.Declaration.{Declaration}
 use Rattle.sharc_tree.specs.Measures.{in_function}
 use Rattle.sharc_tree.specs.Tree.{Function}
-use Rattle.sharc_names.specs.Kinds.{Kind, is_pointer, declared_kind, declared_kinds}
+use Rattle.sharc_names.specs.Kinds.{is_pointer, declared_kind, declared_kinds}
 use Rattle.sharc_ctype.specs.Resolved.{Resolution, function_at, variable_kind}
 use Rattle.sharc_ctype.specs.Statements.{locals_in_all}
 use Rattle.sharc_mode.specs.Moded.{Assignment}
@@ -16,9 +16,9 @@ use Rattle.sharc_ctype_laws.specs.Rules.{MeetsRules}
 use Rattle.sharc_meaning.specs.Arithmetic.{calls_too_deep, returns_with_a_lock}
 use Rattle.sharc_meaning.specs.Events.{held_mutexes}
 use Rattle.sharc_meaning.specs.declared.variable.Variable.{Variable}
-use Rattle.sharc_meaning.specs.State.{Frame, State, writes, Out, go, over, Run, Step, then_on, ◌>>=◌, ◌>>◌, give, entered, all_released, pointers_among, ends_variables, without_temporaries, new_variable}
+use Rattle.sharc_meaning.specs.State.{Frame, State, writes, Out, go, over, Run, then_on, ◌>>=◌, give, entered, all_released, pointers_among, ends_variables, without_temporaries, new_variable}
 use Rattle.sharc_meaning.specs.Expressions.{Calls}
-use Rattle.sharc_meaning.specs.Statements.{Flow, exec_all}
+use Rattle.sharc_meaning.specs.Statements.{exec_all}
 use Rattle.sharc_meaning.specs.Meaning.{parameters_begin, left_at, pointers_passed, with_frame, back_in, run_function, call_value, calls, goes_away, run_thread, start}
 use Rattle.sharc_meaning_laws.proofs.Counts.{Declared, total, outer, refs, rel, vars, one, refs_append, vars_append, cut_variables}
 use Rattle.sharc_meaning_laws.proofs.Runs as runs

@@ -11,7 +11,7 @@ use Rattle.sharc_ctype.specs.Resolved.{Resolution, declaration_at, variable_kind
 use Rattle.sharc_meaning.specs.declared.given.GivenUp.{GivenUp}
 use Rattle.sharc_meaning.specs.declared.given.GivenUp.TheVariants.{Released}
 use Rattle.sharc_meaning.specs.declared.variable.Variable.{Variable}
-use Rattle.sharc_meaning.specs.Reference.{NULL, is_null, number_of}
+use Rattle.sharc_meaning.specs.Reference.{is_null, number_of}
 use Rattle.sharc_meaning.specs.References.{refers}
 use Rattle.sharc_meaning.specs.State.{Frame, State, all_released, pointers_among, value_in, with_value, held_by_frame, held_references}
 use Rattle.sharc_meaning_laws.specs.Held.{releases, released}

@@ -1,5 +1,5 @@
 -- Expressions of a typed program lose no reference.
-use Rattle.std.proofs.Common.{◌≡◌, inl, inr, ℕ, suc, ◌+◌, Bool, true, false, not, cond, List, [], ◌∷◌, ◌++◌, refl, sym, ap, ◌∙◌, subst, length, drop, append_assoc, append-nil, nat_lt, Some}
+use Rattle.std.proofs.Common.{◌≡◌, ℕ, suc, ◌+◌, Bool, true, false, not, cond, List, [], ◌∷◌, ◌++◌, refl, sym, ap, ◌∙◌, subst, length, drop, append_assoc, append-nil, Some}
 use Rattle.std.proofs.lemmas.Bool.{false≢true, true≢false}
 use Rattle.std.specs.Prelude.{ℤ, pos}
 use Rattle.sharc_tree.specs.declared.ctype.Base.{Base}
@@ -15,29 +15,27 @@ use Rattle.sharc_tree.specs.declared.tree.expression.Access.TheVariants.{Dot, Ar
 use Rattle.sharc_tree.specs.declared.tree.expression.BinaryOperator.{BinaryOperator}
 use Rattle.sharc_tree.specs.declared.tree.expression.BinaryOperator.TheVariants.{LogicalOr, LogicalAnd}
 use Rattle.sharc_tree.specs.declared.tree.expression.PlaceCall.TheVariants.{Lock, Unlock, Free}
-use Rattle.sharc_tree.specs.declared.tree.expression.UnaryOperator.TheVariants.{Negate, Not, Complement, Dereference}
+use Rattle.sharc_tree.specs.declared.tree.expression.UnaryOperator.TheVariants.{Dereference}
 use Rattle.sharc_tree.specs.declared.tree.expression.ValueCall.{ValueCall}
 use Rattle.sharc_tree.specs.Forms.{is_lvalue}
 use Rattle.sharc_tree.specs.Spans.{span_of}
-use Rattle.sharc_tree.specs.Tree.{Expression, identifier, constant, parentheses, call, spawn, on_value, on_place, cast, index, field, unary, binary, Arguments, no_arguments, argument, Function}
+use Rattle.sharc_tree.specs.Tree.{Expression, identifier, index, field, unary, Arguments, Function}
 use Rattle.sharc_names.specs.declared.fault.Named.{Named}
-use Rattle.sharc_names.specs.declared.fault.Named.TheVariants as named
 use Rattle.sharc_names.specs.Kinds.{Kind, object, array, is_array, is_pointer, element_kind, mutex, declared_kind, declared_kinds, promoted}
 use Rattle.sharc_names.specs.Kinds as kinds
 use Rattle.sharc_ctype.specs.Expressions.{class_of, binary_result}
-use Rattle.sharc_ctype.specs.Resolved.{Resolution, named_at, kind_at, function_at}
+use Rattle.sharc_ctype.specs.Resolved.{named_at, kind_at, function_at}
 use Rattle.sharc_ctype.specs.Transfers.{parameters_named}
 use Rattle.sharc_mode.specs.Cells.{cell_at, pointed}
 use Rattle.sharc_mode.specs.Moded.{Assignment}
 use Rattle.sharc_mode.specs.Rows.{cast_row}
-use Rattle.sharc_ctype_laws.specs.Constraints.{HasType, HaveTypes, Callee, of_program, of_conditions, Assignable, a_variable, a_global, a_function, a_constant, in_parentheses, element_of_pointer, element_of_array, a_call, a_field, a_field_behind, negated, complemented, denied, pointed_to, arithmetic, shifted, related, equated, joined, spawned, printed_or_joined, locked, unlocked, freed, a_cast, none_left, one_more}
+use Rattle.sharc_ctype_laws.specs.Constraints.{HasType, HaveTypes, Callee, of_program, of_conditions, a_variable, a_global, a_function, a_constant, in_parentheses, element_of_pointer, element_of_array, a_call, a_field, a_field_behind, negated, complemented, denied, pointed_to, arithmetic, shifted, related, equated, joined, spawned, printed_or_joined, locked, unlocked, freed, a_cast, none_left, one_more}
 use Rattle.sharc_meaning.specs.Arithmetic.{out_of_range, bits_of, fits, is_zero, truth, operated, negated as negative, complement}
 use Rattle.sharc_meaning.specs.Cells.{element_cells}
 use Rattle.sharc_meaning.specs.Reference.{is_null, number_of, elements_of, constant_value}
-use Rattle.sharc_meaning.specs.State.{Run, Step, ◌>>=◌, ◌>>◌, give, done, unless_stop, entered, answered, performs, drops, holds, moves, is_reference, temporarily}
-use Rattle.sharc_meaning.specs.Places.{Place, variable, cell, place_named, pointee, field_in, based, element, element_of_array as element_in, index_place, pointee_place, field_place, unary_place, fetched, taken_from}
-use Rattle.sharc_meaning.specs.Waiting.{lock_call, unlock_call}
-use Rattle.sharc_meaning.specs.Expressions.{Calls, resulting, tested, operand, fitting, passed, called, number_named, value_act, spawned as spawning, value_called, taking, place_called, cast_value, place_value, unary_value, binary_value, eval, eval_all, place_of}
+use Rattle.sharc_meaning.specs.State.{Run, ◌>>=◌, give, answered, moves, is_reference, temporarily}
+use Rattle.sharc_meaning.specs.Places.{Place, variable, cell, place_named, pointee, field_in, based, element, element_of_array as element_in, index_place, pointee_place}
+use Rattle.sharc_meaning.specs.Expressions.{Calls, resulting, tested, operand, fitting, passed, called, number_named, value_act, spawned as spawning, value_called, taking, place_called, cast_value, place_value, binary_value, eval, eval_all, place_of}
 use Rattle.sharc_meaning_laws.proofs.Runs as runs
 use Rattle.sharc_meaning_laws.proofs.Runs.{Same, Starts, same_starts, starts_on}
 use Rattle.sharc_meaning_laws.proofs.Steps as steps

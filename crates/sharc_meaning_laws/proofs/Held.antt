@@ -1,17 +1,14 @@
 -- What a thread of a typed program holds is held on, or given up.
-use Rattle.std.proofs.Common.{◌≡◌, ℕ, zero, suc, ◌+◌, ◌≤◌, ◌||◌, Bool, true, false, List, [], ◌∷◌, refl, sym, ap, ◌∙◌, subst, arith, length, slice_get, count_by, Option, Some, None, is_some}
+use Rattle.std.proofs.Common.{◌≡◌, ℕ, zero, suc, ◌+◌, ◌≤◌, ◌||◌, Bool, true, false, List, [], ◌∷◌, refl, sym, ap, ◌∙◌, subst, arith, length, slice_get, Some, is_some}
 use Rattle.std.proofs.lemmas.Bool.{false≢true}
-use Rattle.std.specs.Prelude.{ℤ}
 use Rattle.std.specs.List.{AllByRecursion}
 use Rattle.sharc_tree.specs.Tree.{Function}
-use Rattle.sharc_names.specs.Kinds.{Kind, is_struct_behind, declared_kind}
+use Rattle.sharc_names.specs.Kinds.{is_struct_behind, declared_kind}
 use Rattle.sharc_ctype.specs.Resolved.{Resolution, functions_in, function_at}
-use Rattle.sharc_ctype.specs.Statements.{is_aggregate}
-use Rattle.sharc_mode.specs.Moded.{Assignment}
 use Rattle.sharc_ctype_laws.specs.Laws.{EachNamesItself, MeetsConstraints, OneType, MeetsStatements, ArePlain}
-use Rattle.sharc_meaning.specs.Meaning.{Asked, asked_by, run_thread, start}
+use Rattle.sharc_meaning.specs.Meaning.{asked_by, run_thread, start}
 use Rattle.sharc_meaning.specs.References.{held_count}
-use Rattle.sharc_meaning.specs.State.{State, Outcome, wants, ended, stopped, spent, Out, go, over, held_references}
+use Rattle.sharc_meaning.specs.State.{wants, ended, stopped, spent, Out, go, over}
 use Rattle.sharc_meaning_laws.specs.Held.{released, HeldAreHeldOn}
 use Rattle.sharc_meaning_laws.proofs.Counts.{total, total_is}
 use Rattle.sharc_meaning_laws.proofs.Runs as runs

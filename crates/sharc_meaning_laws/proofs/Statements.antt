@@ -1,5 +1,5 @@
 -- Statements of a typed program lose no reference.
-use Rattle.std.proofs.Common.{◌≡◌, inl, inr, ℕ, Bool, true, false, not, cond, List, [], ◌∷◌, ◌++◌, refl, sym, ap, ◌∙◌, subst, append-nil, Option, Some, None, unsigned_abs}
+use Rattle.std.proofs.Common.{ℕ, Bool, true, false, List, [], ◌∷◌, ◌++◌, refl, sym, ap, ◌∙◌, Option, Some, None, unsigned_abs}
 use Rattle.std.specs.Prelude.{ℤ, pos, IfSome}
 use Rattle.std.specs.List.{AllByRecursion}
 use Rattle.sharc_tree.specs.declared.event.Act.TheVariants as acts
@@ -9,7 +9,7 @@ use Rattle.sharc_tree.specs.declared.tree.declaration.Declaration.{Declaration}
 use Rattle.sharc_tree.specs.declared.tree.declaration.WrittenType.{WrittenType}
 use Rattle.sharc_tree.specs.Measures.{expressions, in_option, in_right, in_simple, in_local, in_first, in_head, in_statement, in_statements}
 use Rattle.sharc_tree.specs.Spans.{span_of}
-use Rattle.sharc_tree.specs.Tree.{Expression, identifier, constant, parentheses, call, spawn, on_value, on_place, cast, index, field, unary, binary, Right, value, malloc, Simple, assign, does_call, Local, First, nothing, declares, does, Head, Statement, empty, block, declare, simple, jump, return, if_then, if_then_else, while, for, Statements, no_statements, statement}
+use Rattle.sharc_tree.specs.Tree.{Expression, identifier, constant, parentheses, call, spawn, on_value, on_place, cast, index, field, unary, binary, Right, value, malloc, Simple, assign, does_call, Local, First, nothing, declares, does, Statement, empty, block, declare, simple, jump, return, if_then, if_then_else, while, for, Statements, no_statements, statement}
 use Rattle.sharc_names.specs.declared.fault.Named.TheVariants as named
 use Rattle.sharc_names.specs.Kinds.{Kind, is_pointer, declared_kind}
 use Rattle.sharc_ctype.specs.Resolved.{Resolution, kind_at, variable_kind}
@@ -20,12 +20,12 @@ use Rattle.sharc_mode.specs.Rows.{written, row_at, declared_row}
 use Rattle.sharc_mode.specs.Sharings.{Sharing, private}
 use Rattle.sharc_ctype_laws.specs.Constraints.{HasType}
 use Rattle.sharc_ctype_laws.specs.Declared.{IsItself}
-use Rattle.sharc_ctype_laws.specs.Rules.{MeetsSimple, MeetsFirst, MeetsHead, Meets, AllMeet}
+use Rattle.sharc_ctype_laws.specs.Rules.{MeetsSimple, MeetsFirst, Meets, AllMeet}
 use Rattle.sharc_meaning.specs.Arithmetic.{size_not_positive}
 use Rattle.sharc_meaning.specs.Cells.{element_cells, instance_mode}
-use Rattle.sharc_meaning.specs.State.{Run, ◌>>=◌, ◌>>◌, give, done, unless_stop, is_reference}
+use Rattle.sharc_meaning.specs.State.{Run}
 use Rattle.sharc_meaning.specs.Places.{Place, variable, cell, stored}
-use Rattle.sharc_meaning.specs.Expressions.{Calls, tested, fitting, eval, place_of}
+use Rattle.sharc_meaning.specs.Expressions.{Calls, tested, eval}
 use Rattle.sharc_meaning.specs.Statements.{Flow, next, broken, continued, returned, on_next, left_by, elements_made, is_positive, right_value, done_simple, initialised, declared, done_first, done_step, done_test, return_with, exec, exec_all}
 use Rattle.sharc_meaning_laws.proofs.Runs as runs
 use Rattle.sharc_meaning_laws.proofs.Runs.{Same, Starts, starts_on}
