@@ -1,0 +1,18 @@
+// The laws, each the contract of a function that does nothing.
+
+ghost use Rattle.sharc_meaning_laws.specs.Held.{HeldAreHeldOn};
+
+use sharc_ctype_laws::laws::{
+    are_plain, each_names_itself, meets_constraints, meets_statements, one_type,
+};
+
+/// With more fuel and no event more, a thread of a typed program holds each reference on, or has given it up.
+pub fn held_are_held_on()
+    ensures { HeldAreHeldOn }
+{
+    each_names_itself();
+    one_type();
+    meets_constraints();
+    meets_statements();
+    are_plain();
+}
