@@ -1,21 +1,19 @@
 -- The notes of the pass say what is known.
 use mathlib.Core.Path.{fun_ext}
-use Rattle.std.proofs.Common.{◌≡◌, ◌≢◌, ℕ, ℤ, pos, negsuc, zero, suc, ◌+◌, ◌*◌, ◌^◌, ◌<◌, ◌≤◌, ◌⊎◌, inl, inr, Bool, true, false, not, ◌&&◌, ◌||◌, List, length, Option, Some, None, refl, sym, ap, ◌∙◌, subst, arith, cond, ⊎_elim, nat_lt}
-use Rattle.std.specs.Prelude.{◌==◌, nat_le, if◌then◌else◌}
+use Rattle.std.proofs.Common.{◌≡◌, ◌≢◌, ℕ, ◌+◌, ◌<◌, ◌≤◌, Bool, true, false, not, ◌&&◌, ◌||◌, Option, Some, None, refl, sym, ap, ◌∙◌, arith, cond, nat_lt}
+use Rattle.std.specs.Prelude.{◌==◌, nat_le}
 use Rattle.std.proofs.lemmas.Bool.Decides.{nat_tests}
 use Rattle.sharc_shadow.specs.declared.shadow_word.Kind.{Kind}
 use Rattle.sharc_shadow.specs.declared.shadow_word.Kind.TheVariants.{Read, Write}
-use Rattle.sharc_code.specs.declared.instr.Cell.{Cell}
 use Rattle.sharc_flat_form.specs.declared.op.Op.{Op}
 use Rattle.sharc_flat_form.specs.declared.op.Op.TheVariants as op
 use Rattle.sharc_guard.specs.declared.marks.Copied.{Copied}
 use Rattle.sharc_guard.specs.declared.marks.Numbered.{Numbered}
 use Rattle.sharc_guard.specs.declared.marks.Passed.{Passed}
-use Rattle.sharc_guard.specs.declared.operations.CellAccess.{CellAccess}
 use Rattle.sharc_guard.specs.declared.operations.Copying.{Copying}
-use Rattle.sharc_guard.specs.Known.{is_straight, writes_ref, writes_int, Place, in_variable, in_global, same_place, assigns, counts, Access, access, tells, Know, nothing, number_given, copy_given, unless_written, with_element, of_constant, place_of, is_at, passes_by, know_next, know_after, has_passed, drops}
+use Rattle.sharc_guard.specs.Known.{writes_ref, writes_int, Place, in_variable, in_global, same_place, assigns, counts, Access, access, tells, Know, nothing, number_given, copy_given, unless_written, with_element, place_of, is_at, passes_by, know_next}
 use Rattle.sharc_guard.specs.Marked.{access_of, copy_of, number_of_line, Notes, or_never, copy_by, number_by, passed_by, passed_at, know_of, with_written, with_copy, with_number, stronger, with_place, with_access, CopyBefore, NumberBefore, PassedBefore, AreBefore}
-use Rattle.sharc_guard.proofs.Repeating.{eq_true, eq_same, eq_other, and_left, and_right, and_both, not_true, some_is, no_some, true_false, false_true, place_is, copy_is}
+use Rattle.sharc_guard.proofs.Repeating.{eq_true, eq_same, eq_other, some_is, true_false}
 
 -- ---- tests
 lt_true : (a b : ℕ) → a < b → nat_lt a b ≡ true

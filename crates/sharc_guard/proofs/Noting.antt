@@ -1,6 +1,6 @@
 -- What an entry of a table makes of the notes.
 use mathlib.Core.Path.{fun_ext}
-use Rattle.std.proofs.Common.{◌≡◌, ℕ, zero, suc, ◌+◌, ◌<◌, Bool, true, false, ◌&&◌, ◌||◌, List, [], ◌∷◌, length, Option, Some, None, refl, sym, ap, ◌∙◌, subst, cond}
+use Rattle.std.proofs.Common.{◌≡◌, ℕ, ◌+◌, Bool, true, false, ◌&&◌, ◌||◌, Option, Some, None, refl, sym, ap, ◌∙◌, subst, cond}
 use Rattle.std.specs.Prelude.{◌==◌, OnOk, Result, Ok, Err}
 use Rattle.sharc_shadow.specs.declared.shadow_word.Kind.{Kind}
 use Rattle.sharc_shadow.specs.declared.shadow_word.Kind.TheVariants.{Write}
@@ -8,10 +8,9 @@ use Rattle.sharc_flat_form.specs.declared.op.Op.{Op}
 use Rattle.sharc_guard.specs.declared.marks.Copied.{Copied}
 use Rattle.sharc_guard.specs.declared.marks.Numbered.{Numbered}
 use Rattle.sharc_guard.specs.declared.marks.Passed.{Passed}
-use Rattle.sharc_guard.specs.declared.operations.CellAccess.{CellAccess}
 use Rattle.sharc_guard.specs.declared.operations.Copying.{Copying}
 use Rattle.sharc_guard.specs.declared.operations.Written.{Written}
-use Rattle.sharc_guard.specs.Known.{Place, in_variable, in_global, access, know_next, place_of, writes_int, writes_ref}
+use Rattle.sharc_guard.specs.Known.{Place, in_variable, in_global, access, know_next, writes_int, writes_ref}
 use Rattle.sharc_guard.specs.Marked.{access_of, copy_of, is_one, is_written, number_of_line, Notes, know_of, passed_at, noted_place, stronger, with_access, with_copy, with_noted, with_number, with_place, with_written, AreBefore}
 use Rattle.sharc_guard.proofs.Marking.{turned, known_after, noted_before}
 

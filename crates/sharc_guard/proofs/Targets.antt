@@ -8,7 +8,7 @@ use Rattle.sharc_shadow.specs.declared.shadow_word.Kind.{Kind}
 use Rattle.sharc_code.specs.declared.code.Function.{Function}
 use Rattle.sharc_flat_form.specs.declared.op.Op.{Op}
 use Rattle.sharc_flat_form.specs.Machine.{Flat}
-use Rattle.sharc_guard.specs.Known.{Place, in_variable, in_global, Know, nothing, know_after, known, drops, drops_at, dropped, is_entry, is_led_to, is_target, leads_to, line_leads}
+use Rattle.sharc_guard.specs.Known.{Place, in_variable, in_global, nothing, know_after, known, drops, drops_at, dropped, is_entry, is_led_to, is_target, leads_to, line_leads}
 use Rattle.sharc_guard.specs.Marked.{AreBefore, AreMarks, AreTargets, Notes, is_one, know_of, no_notes}
 use Rattle.sharc_guard.specs.Made.{marked}
 

@@ -1,12 +1,11 @@
 -- Nothing leads to an access whose check is dropped.
-use Rattle.std.proofs.Common.{◌≡◌, ℕ, zero, suc, ◌+◌, ◌-◌, ◌<◌, ◌≤◌, ◌||◌, Bool, true, false, List, [], ◌∷◌, ◌++◌, length, map, Some, None, refl, sym, ap, ◌∙◌, subst, ⊎_elim, arith, slice_get, slice_index_or}
+use Rattle.std.proofs.Common.{◌≡◌, ℕ, zero, suc, ◌+◌, ◌-◌, ◌<◌, ◌≤◌, Bool, true, false, List, [], ◌∷◌, ◌++◌, length, Some, refl, sym, ap, ◌∙◌, subst, ⊎_elim, arith, slice_get, slice_index_or}
 use Rattle.std.specs.Prelude.{◌==◌}
 use Rattle.std.proofs.lemmas.Bool.{cases_lt}
 use Rattle.std.proofs.lemmas.List.{length-append, length-map}
 use Rattle.sharc_code.specs.declared.code.Function.{Function}
-use Rattle.sharc_code.specs.declared.code.PlaceMode.TheVariants.{Dynamic}
 use Rattle.sharc_code.specs.declared.instr.Instr.{Instr}
-use Rattle.sharc_code.specs.declared.instr.Instr.TheVariants.{Start, Exit, ChkRead, ChkWrite, Load, Store, LoadRef, Exchange, TakeCell}
+use Rattle.sharc_code.specs.declared.instr.Instr.TheVariants.{Start, Exit, ChkRead, ChkWrite, Load, Store, LoadRef, Exchange}
 use Rattle.sharc_code.specs.declared.instr.Width.TheVariants.{Char, Int, Long}
 use Rattle.sharc_code.specs.Machine.{no_function}
 use Rattle.sharc_shadow.specs.declared.shadow_word.Kind.TheVariants as kinds
@@ -15,7 +14,7 @@ use Rattle.sharc_flat_form.specs.declared.op.Spot.{Spot}
 use Rattle.sharc_flat_form.specs.declared.op.Op.TheVariants as op
 use Rattle.sharc_flat_form.specs.Machine.{Flat}
 use Rattle.sharc_guarded_form.specs.Machine.{Program}
-use Rattle.sharc_guard.specs.Guard.{expand, head, body, tail, own, width, offset, place, guarded, entered_at, check_under}
+use Rattle.sharc_guard.specs.Guard.{expand, head, body, tail, own, offset, place, guarded, entered_at, check_under}
 use Rattle.sharc_guard.specs.Checked.{Access, access_of, LeadsTo, IsNoTarget}
 use Rattle.sharc_guard.specs.Known as Known
 use Rattle.sharc_guard.specs.Known.{leads_to, line_leads, is_led_to, is_entry, is_target, is_dynamic, tells, has_passed, place_of, known, drops, drops_at, dropped}

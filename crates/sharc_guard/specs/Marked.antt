@@ -3,7 +3,7 @@
 use Rattle.std.specs.Prelude.{◌≡◌, ℕ, ◌+◌, ◌==◌, ◌<◌, Bool, true, false, ◌&&◌, ◌||◌, List, length, Option, Some, None, nat_lt, nat_le, get_or, if◌then◌else◌}
 use Rattle.std.specs.Map.{lookup}
 use Rattle.sharc_shadow.specs.declared.shadow_word.Kind.{Kind}
-use Rattle.sharc_shadow.specs.declared.shadow_word.Kind.TheVariants.{Read, Write}
+use Rattle.sharc_shadow.specs.declared.shadow_word.Kind.TheVariants.{Write}
 use Rattle.sharc_code.specs.declared.code.Function.{Function}
 use Rattle.sharc_flat_form.specs.declared.op.Op.{Op}
 use Rattle.sharc_flat_form.specs.declared.op.Op.TheVariants as op
@@ -18,7 +18,7 @@ use Rattle.sharc_guard.specs.declared.operations.CellAccess.{CellAccess}
 use Rattle.sharc_guard.specs.declared.operations.Copying.{Copying}
 use Rattle.sharc_guard.specs.declared.operations.Written.{Written}
 use Rattle.sharc_guard.specs.declared.operations.Written.TheVariants as written
-use Rattle.sharc_guard.specs.Known.{is_led_to, is_entry, Place, in_variable, in_global, counts, Access, access, tells, Know, of_constant, with_element, place_of, has_passed, dropped}
+use Rattle.sharc_guard.specs.Known.{is_led_to, is_entry, Place, in_variable, in_global, counts, Access, tells, Know, of_constant, with_element, place_of, has_passed, dropped}
 use Rattle.sharc_guard.specs.Made.{marked}
 
 -- ---- operations
