@@ -6,10 +6,8 @@ use Rattle.sharc_code.specs.declared.code.Function.{Function}
 use Rattle.sharc_code.specs.declared.code.PlaceMode.{PlaceMode}
 use Rattle.sharc_code.specs.declared.code.PlaceMode.TheVariants.{Private, Readonly, Racy, Dynamic, LockedGlobal, LockedSibling, LockedThrough, LockedLoaded}
 use Rattle.sharc_code.specs.declared.code.SourcePlace.{SourcePlace}
-use Rattle.sharc_code.specs.declared.instr.Cell.{Cell}
-use Rattle.sharc_code.specs.declared.instr.Cell.TheVariants.{Global, Object}
 use Rattle.sharc_code.specs.declared.instr.Instr.{Instr}
-use Rattle.sharc_code.specs.declared.instr.Instr.TheVariants.{Jump, JumpIfZero, JumpIfNull, Call, ChkRead, ChkWrite, ChkLock, ChkLockLoaded}
+use Rattle.sharc_code.specs.declared.instr.Instr.TheVariants.{Jump, JumpIfZero, JumpIfNull, Call, ChkRead, ChkWrite}
 use Rattle.sharc_code.specs.Machine.{no_function}
 use Rattle.sharc_code.specs.Says.{place_at, no_place}
 use Rattle.sharc_guarded_form.specs.declared.guarded.Guarded.{Guarded}

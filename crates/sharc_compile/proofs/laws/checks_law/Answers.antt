@@ -5,7 +5,6 @@ use Rattle.sharc_code.specs.declared.instr.Instr.TheVariants.{Start}
 use Rattle.sharc_flat_form.specs.Made.{flat_of}
 use Rattle.sharc_guarded_form.specs.Machine.{Program, source_at}
 use Rattle.sharc_guard.specs.Checked.{Access, access_of, IsCheckedAt, IsNoTarget}
-use Rattle.sharc_guard.specs.Guard.{guarded}
 use Rattle.sharc_guard.specs.Known.{dropped}
 use Rattle.sharc_compile.proofs.Accessing.{checked}
 use Rattle.sharc_compile.proofs.Same.{same}

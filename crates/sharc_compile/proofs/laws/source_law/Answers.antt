@@ -1,4 +1,4 @@
-use Rattle.std.proofs.Common.{length, inl, inr, ⊎_elim}
+use Rattle.std.proofs.Common.{inl, inr, ⊎_elim}
 use Rattle.sharc_code.specs.Path.{begun, machine_after}
 use Rattle.sharc_code.specs.Paced.{paced_in}
 use Rattle.sharc_flat_form.specs.Made.{flat_of}
