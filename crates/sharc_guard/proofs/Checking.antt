@@ -22,13 +22,19 @@ use Rattle.sharc_guard.proofs.Placing.{HasAt, width_is, stands, place_next, sour
 use Rattle.sharc_guard.proofs.Framing.{there_is, AllIn, all_append, all_at, has_at, get_inside, head_all}
 
 -- ---- places grow
-grows : (dropped : ℕ → Bool) (k : ℕ) (lines : List Op) (n d : ℕ) → offset dropped k lines n ≤ offset dropped k lines (n + d)
+pub grows : (dropped : ℕ → Bool) (k : ℕ) (lines : List Op) (n d : ℕ) → offset dropped k lines n ≤ offset dropped k lines (n + d)
 grows dropped k [] n d = omega arith
 grows dropped k (o ∷ os) zero d = omega arith
 grows dropped k (o ∷ os) (suc n) d =
     let h = grows dropped (k + 1) os n d in
     let z : suc (n + d) ≡ suc n + d = omega arith in
     subst (λ x. width (dropped k) k o + offset dropped (k + 1) os n ≤ offset dropped k (o ∷ os) x) z (omega arith)
+
+-- where a function is entered
+pub entry_placed : (pl : ℕ → ℕ) (fs : List Function) (f : ℕ) → f < length fs → (slice_index_or (map (entered_at pl) fs) f no_function).entry ≡ pl (slice_index_or fs f no_function).entry
+entry_placed pl [] f lt = absurd (omega arith)
+entry_placed pl (x ∷ fs) zero lt = refl
+entry_placed pl (x ∷ fs) (suc f) lt = entry_placed pl fs f (omega arith)
 
 module _ (flat : Flat) (dropped : ℕ → Bool) where
   abbrev p : Program
@@ -83,17 +89,17 @@ module _ (flat : Flat) (dropped : ℕ → Bool) where
       (all_append ToLine (head drop n o) (own (body pl n o)) (head_all ToLine drop n o (λ c pc h. absurd h) (λ c pc h. absurd h) (λ c pc h. absurd h) (λ pc h. absurd h) (λ r pc h. absurd h) (λ r c pc h. absurd h)) (own_to n o))
       (tail_to o)
 
-  -- the line of a place behind the first two
-  record AtLine (pc : ℕ) (i : Instr) : Type 0 where
-    line : ℕ
-    op_is : Op
-    at : slice_get flat.lines line ≡ Some op_is
-    step : ℕ
-    within : step < width (dropped line) line op_is
-    pc_is : pc ≡ pl line + step
-    statement : slice_get (expand pl (dropped line) line op_is) step ≡ Some i
+  -- the line of a place after the first two
+  pub record AtLine (pc : ℕ) (i : Instr) : Type 0 where
+    pub line : ℕ
+    pub op_is : Op
+    pub at : slice_get flat.lines line ≡ Some op_is
+    pub step : ℕ
+    pub within : step < width (dropped line) line op_is
+    pub pc_is : pc ≡ pl line + step
+    pub statement : slice_get (expand pl (dropped line) line op_is) step ≡ Some i
 
-  at_line : (pc : ℕ) (i : Instr) → 2 ≤ pc → slice_get p.statements pc ≡ Some i → AtLine pc i
+  pub at_line : (pc : ℕ) (i : Instr) → 2 ≤ pc → slice_get p.statements pc ≡ Some i → AtLine pc i
   at_line pc i le e =
       let n0 = get_inside p.statements pc i e in
       let w = there_is pl dropped 0 flat.lines (pc - 2) (omega arith) in
@@ -124,13 +130,8 @@ module _ (flat : Flat) (dropped : ℕ → Bool) where
     jumps = λ q i s h. let k = no_jump q i (pl n + (j + 1)) s h in inner n k.0 j o e lt k.1;
     entries = λ f lf h.
         let l = length-map flat.functions (entered_at pl) in
-        inner n _ j o e lt (sym (entry flat.functions f (omega arith)) ∙ h);
+        inner n _ j o e lt (sym (entry_placed pl flat.functions f (omega arith)) ∙ h);
   }
-    where
-      entry : (fs : List Function) (f : ℕ) → f < length fs → (slice_index_or (map (entered_at pl) fs) f no_function).entry ≡ pl (slice_index_or fs f no_function).entry
-      entry [] f lt = absurd (omega arith)
-      entry (x ∷ fs) zero lt = refl
-      entry (x ∷ fs) (suc f) lt = entry fs f (omega arith)
 
   behind : (n pc : ℕ) (o : Op) (e : slice_get flat.lines n ≡ Some o) (mode : PlaceMode) (a : Access) (check : Instr) (rest : List Instr) → expand pl (dropped n) n o ≡ check ∷ rest → 0 < length rest → pc ≡ pl n + 1 → IsCheckOf mode a check → IsAfterCheck p pc mode a
   behind n pc o e mode a check rest x lt q k =

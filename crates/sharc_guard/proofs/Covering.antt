@@ -1,8 +1,7 @@
 -- Wherever flat code comes to an access whose check is dropped, the same cell was checked before.
 use Rattle.std.proofs.Common.{◌≡◌, ◌≢◌, ℕ, ℤ, pos, negsuc, zero, suc, ◌+◌, ◌-◌, ◌*◌, ◌<◌, ◌≤◌, ◌⊎◌, inl, inr, Bool, true, false, not, ◌&&◌, ◌||◌, List, [], ◌∷◌, length, Option, Some, None, Result, Ok, Err, refl, sym, ap, ◌∙◌, subst, arith, cond, ⊎_elim, nat_lt}
-use Rattle.std.specs.Prelude.{slice_get, slice_index_or, ◌==◌, ◌++◌}
+use Rattle.std.specs.Prelude.{slice_get, slice_index_or, ◌==◌}
 use Rattle.std.proofs.lemmas.Bool.{cases_lt}
-use Rattle.std.proofs.lemmas.Bool.Decides.{nat_tests}
 use Rattle.std.proofs.lemmas.Option.{slice_get_past, slice_get-get_or}
 use Rattle.sharc_tree.specs.declared.event.Act.{Act}
 use Rattle.sharc_tree.specs.declared.event.Act.TheVariants as acts
@@ -17,7 +16,6 @@ use Rattle.sharc_shadow.specs.declared.shadow_word.Kind.TheVariants.{Read, Write
 use Rattle.sharc_code.specs.declared.code.Function.{Function}
 use Rattle.sharc_code.specs.declared.code.Parameter.{Parameter}
 use Rattle.sharc_code.specs.declared.code.Parameter.TheVariants as parameters
-use Rattle.sharc_code.specs.declared.code.PlaceMode.TheVariants.{Dynamic}
 use Rattle.sharc_code.specs.declared.instr.Cell.{Cell}
 use Rattle.sharc_code.specs.declared.instr.Cell.TheVariants as cells
 use Rattle.sharc_code.specs.declared.instr.Register.TheVariants as registers
@@ -35,12 +33,12 @@ use Rattle.sharc_flat_form.specs.declared.op.Op.TheVariants as op
 use Rattle.sharc_flat_form.specs.Machine.{Flat, Caller, At, Turn, goes, asks, halts, put, int, ref, set_int, set_ref, gives_up, next, over_lines, goes_on, stops, asserts, with_result, cell_at, global_cell, mode_of, lock_is_null, accesses, accessed, kind_of, indexed, takes_local, called, returned, function_of, first_at, begun, start, end_turn, line_turn, op_turn, turn, with_event}
 use Rattle.sharc_flat_form.specs.Path.{after, may_go, at_after, IsPath}
 use Rattle.sharc_guard.specs.Counted.{IsAccess}
-use Rattle.sharc_guard.specs.Known.{is_straight, leads_to, line_leads, is_led_to, is_entry, is_target, writes_ref, writes_int, Place, in_variable, in_global, same_place, assigns, counts, Access, access, is_dynamic, tells, Know, nothing, number_given, copy_given, unless_written, with_element, of_constant, variable_place, global_place, place_of, is_at, passes_by, know_next, know_after, known, has_passed, drops, drops_at, dropped}
+use Rattle.sharc_guard.specs.Known.{is_straight, leads_to, line_leads, is_led_to, is_entry, is_target, writes_ref, writes_int, Place, in_variable, in_global, assigns, counts, Access, access, is_dynamic, tells, Know, nothing, number_given, copy_given, unless_written, with_element, variable_place, global_place, place_of, is_at, passes_by, know_next, know_after, known, has_passed, drops, drops_at, dropped}
 use Rattle.sharc_guard.specs.Repeated.{IsStraight}
-use Rattle.sharc_guard.specs.Covered.{Makes, RefersTo, Since, IsCovered, DroppedIsCovered}
+use Rattle.sharc_guard.specs.Covered.{Makes, Since, IsCovered, DroppedIsCovered}
 use Rattle.sharc_guard.proofs.Places.{within}
 use Rattle.sharc_guard.proofs.Ready.{put_at, put_other}
-use Rattle.sharc_guard.proofs.Repeating.{eq_true, eq_same, eq_other, and_left, and_right, or_either, or_left, or_right, not_true, some_is, place_is, dynamic_is, no_some, true_false, false_true, constant_is, element_is, unwritten, copy_is, counts_more}
+use Rattle.sharc_guard.proofs.Repeating.{eq_true, eq_same, and_left, and_right, or_either, or_left, or_right, not_true, some_is, place_is, dynamic_is, no_some, true_false, false_true, constant_is, element_is, unwritten, copy_is, counts_more}
 
 or_false : (a b : Bool) → (a || b) ≡ false → (a ≡ false) × (b ≡ false)
 or_false true b e = true_false e

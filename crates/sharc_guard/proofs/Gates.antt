@@ -1,5 +1,5 @@
 -- What stands before a statement: checks of what it asks for.
-use Rattle.std.proofs.Common.{◌≡◌, ℕ, ℤ, pos, ◌+◌, ◌-◌, inl, inr, Bool, true, false, List, [], ◌∷◌, Option, Some, None, refl, sym, ap, ◌∙◌, subst, cond}
+use Rattle.std.proofs.Common.{◌≡◌, ℕ, ℤ, pos, ◌+◌, ◌-◌, inl, inr, Bool, true, false, List, [], ◌∷◌, Some, None, refl, sym, ap, ◌∙◌, subst, cond}
 use Rattle.sharc_tree.specs.declared.event.Act.{Act}
 use Rattle.sharc_tree.specs.declared.event.Act.TheVariants as acts
 use Rattle.sharc_tree.specs.declared.event.CellAt.{CellAt}
@@ -11,11 +11,10 @@ use Rattle.sharc_shadow.specs.declared.shadow_word.Kind.{Kind}
 use Rattle.sharc_shadow.specs.declared.shadow_word.Kind.TheVariants as kinds
 use Rattle.sharc_code.specs.declared.code.PlaceMode.{PlaceMode}
 use Rattle.sharc_code.specs.declared.code.PlaceMode.TheVariants.{Private, Readonly, Racy, Dynamic, LockedGlobal, LockedSibling, LockedThrough, LockedLoaded}
-use Rattle.sharc_code.specs.declared.code.SourcePlace.{SourcePlace}
 use Rattle.sharc_code.specs.declared.instr.Cell.{Cell}
 use Rattle.sharc_code.specs.declared.instr.Cell.TheVariants as cells
 use Rattle.sharc_code.specs.declared.instr.Instr.{Instr}
-use Rattle.sharc_code.specs.declared.instr.Instr.TheVariants.{ChkRead, ChkWrite, ChkLock}
+use Rattle.sharc_code.specs.declared.instr.Instr.TheVariants.{ChkRead, ChkWrite}
 use Rattle.sharc_meaning.specs.declared.given.GivenUp.TheVariants.{Replaced}
 use Rattle.sharc_meaning.specs.Cells.{cell_of, through}
 use Rattle.sharc_meaning.specs.Events.{held_mutexes}

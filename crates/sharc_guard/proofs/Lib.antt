@@ -8,7 +8,9 @@ pub mod Gates
 pub mod Heads
 pub mod Holding
 pub mod Making
+pub mod Marking
 pub mod Near
+pub mod Noting
 pub mod Phases
 pub mod Places
 pub mod Placing
@@ -16,8 +18,11 @@ pub mod Ready
 pub mod Repeating
 pub mod Shown
 pub mod Steps
+pub mod Tabling
+pub mod Targets
 pub mod Theorem
 pub mod Turning
 pub mod Turns
+pub mod Untargeted
 pub mod Walking
 pub mod Ways

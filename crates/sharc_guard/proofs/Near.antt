@@ -1,7 +1,6 @@
 -- Where guarded code stands behind one turn of flat code.
 use Rattle.std.proofs.Common.{◌≡◌, ℕ, ℤ, zero, suc, ◌+◌, ◌≤◌, ◌⊎◌, inl, Bool, List, [], ◌∷◌, length, refl, ap, ◌∙◌, arith}
 use Rattle.sharc_tree.specs.declared.event.CellAt.{CellAt}
-use Rattle.sharc_code.specs.declared.code.SourcePlace.{SourcePlace}
 use Rattle.sharc_code.specs.declared.instr.Instr.{Instr}
 use Rattle.sharc_code.specs.declared.instr.Instr.TheVariants.{RaiseLoaded, Lower, MoveReference}
 use Rattle.sharc_meaning.specs.declared.given.GivenUp.TheVariants.{Replaced}

@@ -1,7 +1,7 @@
 -- What is known of checks is what the lines of the piece say.
-use Rattle.std.proofs.Common.{◌≡◌, ◌≢◌, ℕ, ℤ, pos, negsuc, zero, suc, ◌+◌, ◌*◌, ◌^◌, ◌<◌, ◌≤◌, ◌⊎◌, inl, inr, Bool, true, false, not, ◌&&◌, ◌||◌, List, length, Option, Some, None, refl, sym, ap, ◌∙◌, subst, arith, cond, ⊎_elim, nat_lt}
-use Rattle.std.specs.Prelude.{slice_get, ◌==◌, ◌↔◌, if◌then◌else◌}
-use Rattle.std.proofs.lemmas.Bool.{cases_eq, cases_lt, ltb-true, lt-ltb}
+use Rattle.std.proofs.Common.{◌≡◌, ◌≢◌, ℕ, ℤ, pos, negsuc, zero, suc, ◌+◌, ◌*◌, ◌^◌, ◌<◌, ◌≤◌, ◌⊎◌, inl, inr, Bool, true, false, not, ◌&&◌, ◌||◌, Option, Some, None, refl, sym, ap, ◌∙◌, subst, arith, cond, ⊎_elim, nat_lt}
+use Rattle.std.specs.Prelude.{slice_get, ◌==◌}
+use Rattle.std.proofs.lemmas.Bool.{cases_lt, ltb-true, lt-ltb}
 use Rattle.std.proofs.lemmas.Bool.Decides.{nat_tests}
 use Rattle.sharc_shadow.specs.declared.shadow_word.Kind.{Kind}
 use Rattle.sharc_shadow.specs.declared.shadow_word.Kind.TheVariants.{Read, Write}
@@ -13,8 +13,8 @@ use Rattle.sharc_flat_form.specs.declared.op.Spot.{Spot}
 use Rattle.sharc_flat_form.specs.declared.op.Op.{Op}
 use Rattle.sharc_flat_form.specs.declared.op.Op.TheVariants as op
 use Rattle.sharc_flat_form.specs.Machine.{Flat}
-use Rattle.sharc_guard.specs.Known.{is_straight, is_target, writes_ref, writes_int, Place, in_variable, in_global, same_place, assigns, counts, Access, access, is_dynamic, tells, Know, nothing, few, of_constant, element, with_element, number_given, copy_given, unless_written, variable_place, global_place, place_of, is_at, passes_by, know_next, know_after, known, has_passed, drops, drops_at, dropped}
-use Rattle.sharc_guard.specs.Repeated.{IsStraight, Keeps, IsLine, IsPiece, AllKeep, IsCopy, IsNumber, constant, of_object, of_global, IsPlaceAt, IsSimple, IsChecked, IsOfInteger, IsRepeated, DropsRepeated, ItsCheckStands, RepeatedCheckStands}
+use Rattle.sharc_guard.specs.Known.{is_straight, is_target, writes_ref, writes_int, Place, in_variable, in_global, same_place, assigns, counts, Access, access, is_dynamic, tells, Know, nothing, few, of_constant, element, with_element, number_given, copy_given, unless_written, variable_place, global_place, place_of, is_at, passes_by, know_next, know_after, known, has_passed, drops_at, dropped}
+use Rattle.sharc_guard.specs.Repeated.{IsStraight, Keeps, IsPiece, AllKeep, IsCopy, IsNumber, constant, of_object, of_global, IsPlaceAt, IsSimple, IsChecked, IsOfInteger, IsRepeated, DropsRepeated, ItsCheckStands, RepeatedCheckStands}
 
 -- ---- tests
 pub eq_true : (m n : ℕ) → (m == n) ≡ true → m ≡ n

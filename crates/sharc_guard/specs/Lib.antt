@@ -9,4 +9,7 @@ pub mod Guard
 pub mod Known
 pub mod Level
 pub mod Made
+pub mod Marked
 pub mod Repeated
+pub mod Tables
+pub mod Untargeted

@@ -19,10 +19,11 @@ abbrev pub places : (ℕ → Bool) → List Op → ℕ → List ℕ
 places dropped lines zero = []
 places dropped lines (suc n) = places dropped lines n ++ place dropped lines n ∷ []
 
-pub record IsMade (f : FlatCode) (marks : List Bool) (g : Guarded) : Type 0 where
-  pub statements : g.statements.items ≡ (guarded (marked marks) (flat_of f)).statements
-  pub functions : g.functions.items ≡ (guarded (marked marks) (flat_of f)).functions
-  pub sites : g.sites.items ≡ (guarded (marked marks) (flat_of f)).sites
+-- the guarded code of flat code without these checks
+pub record IsMade (dropped : ℕ → Bool) (f : FlatCode) (g : Guarded) : Type 0 where
+  pub statements : g.statements.items ≡ (guarded dropped (flat_of f)).statements
+  pub functions : g.functions.items ≡ (guarded dropped (flat_of f)).functions
+  pub sites : g.sites.items ≡ (guarded dropped (flat_of f)).sites
   pub globals : g.globals ≡ f.globals
   pub main : g.main ≡ f.main
   pub granules : g.granules ≡ f.granules

@@ -3,27 +3,48 @@
 ghost use Rattle.std.specs.Prelude.{◌≡◌, ◌≤◌, ◌<◌, ◌+◌, ◌*◌, ◌^◌, ℕ, ◌++◌, ◌∷◌, [], IfOk, OnOk, length, map};
 ghost use Rattle.sharc_code.specs.declared.instr.Instr.TheVariants.{Start, Exit};
 ghost use Rattle.sharc_code.specs.Says.{no_place};
+ghost use Rattle.sharc_flat_form.specs.Made.{flat_of};
 ghost use Rattle.sharc_guard.specs.Guard.{source_at_spot, source_of, check_under, head, compute, negate, body, tail, own, expand, expanded, width, entered_at};
+ghost use Rattle.sharc_guard.specs.Known.{dropped};
 ghost use Rattle.sharc_guard.specs.Made.{IsMade, among, places, marked};
 
+use crate::marks::marks_of;
 use sharc_code::{Cell, Function, Instr, Operator, PlaceMode, SourcePlace, Text, Use, Width};
 use sharc_flat_form::{Flat, Op, Spot};
 use sharc_guarded_form::Guarded;
 use sharc_tree::token::Site;
 use std::alloc::{AllocError, Global};
 
-/// The guarded code of flat code. It takes over the tables. The marks say by the lines of which checks of integers of mode dynamic are
-/// dropped.
+// So many lines have places of 32 bits.
+const MOST_LINES: usize = 0x2000_0000;
+
+/// The guarded code of flat code, without the checks that repeat one. It takes over the tables.
 ///
-/// An `Err` says that memory was not found.
-pub(crate) fn guard_marked(
-    alloc: Global,
-    flat: Flat,
-    dropped: &[bool],
-) -> Result<Guarded, AllocError>
+/// An `Err` says that memory was not found, or that there are too many lines for the numbers of their places.
+pub fn guard(alloc: Global, flat: Flat) -> Result<Guarded, AllocError>
+    ensures { IfOk result (λ g. IsMade (dropped (flat_of flat)) flat g) }
+{
+    if flat.lines.len() < MOST_LINES {
+        guard_few(alloc, flat)
+    } else {
+        drop(flat);
+        Err(AllocError)
+    }
+}
+
+fn guard_few(alloc: Global, flat: Flat) -> Result<Guarded, AllocError>
+    requires few { length flat.lines.items < 2 ^ 29 }
+    ensures { IfOk result (λ g. IsMade (dropped (flat_of flat)) flat g) }
+{
+    let marks = marks_of(alloc, &flat)?;
+    guard_marked(alloc, flat, &marks)
+}
+
+// Without the checks of the lines that are marked.
+fn guard_marked(alloc: Global, flat: Flat, dropped: &[bool]) -> Result<Guarded, AllocError>
     requires few { length flat.lines.items < 2 ^ 29 }
     requires marks { length dropped.now ≡ length flat.lines.items }
-    ensures { IfOk result (λ g. IsMade flat dropped.now g) }
+    ensures { IfOk result (λ g. IsMade (marked dropped.now) flat g) }
 {
     let starts = starts_of(alloc, &flat.lines, dropped)?;
     let statements = statements_of(alloc, &flat.lines, dropped, &starts)?;

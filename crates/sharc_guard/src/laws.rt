@@ -7,6 +7,8 @@ ghost use Rattle.sharc_guard.specs.Covered.{DroppedIsCovered};
 ghost use Rattle.sharc_guard.specs.Example.{HasExample};
 ghost use Rattle.sharc_guard.specs.Framed.{FramedIsGuarded};
 ghost use Rattle.sharc_guard.specs.Repeated.{DropsRepeated, RepeatedCheckStands};
+ghost use Rattle.sharc_guard.specs.Tables.{TablesStay};
+ghost use Rattle.sharc_guard.specs.Untargeted.{DroppedIsNoTarget};
 
 /// Guarded code asks for what flat code asks for, whichever checks are dropped: each of its paths is one of flat code with the same
 /// events, the same registers and log but for what the next statement settles, and what it is about to do, to check or to stop for,
@@ -20,9 +22,11 @@ pub fn framed_law()
     ensures { FramedIsGuarded }
 {}
 
-/// Each access of a dynamic or locked cell is no jump target and comes directly after its check, but for the checks that are dropped.
+/// Each access of a dynamic or locked cell is no jump target and comes directly after its check, whichever checks of dynamic cells are
+/// dropped. Where those are dropped that repeat one, an access without its check is no jump target either.
 pub fn checked_law()
-    ensures { AccessesAreChecked }
+    ensures checked { AccessesAreChecked }
+    ensures dropped { DroppedIsNoTarget }
 {}
 
 /// What guarded code counts is what flat code holds: each path comes where one of flat code comes, by the same answers; each check is of
@@ -37,6 +41,11 @@ pub fn counted_law()
 pub fn repeated_law()
     ensures drops { DropsRepeated }
     ensures stands { RepeatedCheckStands }
+{}
+
+/// The tables of guarded code are in their ranges where those of its flat code are.
+pub fn tables_law()
+    ensures { TablesStay }
 {}
 
 /// Where a check is dropped, the same cell was checked before in the same straight piece, and the reference to its object is held since.

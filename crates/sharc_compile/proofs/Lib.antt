@@ -1,0 +1,4 @@
+pub mod Accessing
+pub mod Joined
+pub mod Same
+pub mod Sourced

@@ -1,0 +1,227 @@
+-- From flat code to the source.
+use Rattle.std.proofs.Common.{◌≡◌, ℕ, zero, suc, ℤ, pos, negsuc, ◌+◌, ◌-◌, ◌*◌, ◌<◌, ◌≤◌, ◌⊎◌, inl, inr, Bool, true, false, not, List, [], ◌∷◌, ◌++◌, length, map, refl, sym, ap, ◌∙◌, subst, arith, Some, None, Option, Ok, Err, Result, nat_lt, cond, slice_get, append_assoc, append-nil}
+use Rattle.std.proofs.lemmas.Bool.{cases_lt}
+use Rattle.sharc_tree.specs.declared.event.Act.{Act}
+use Rattle.sharc_tree.specs.declared.event.Act.TheVariants as acts
+use Rattle.sharc_tree.specs.declared.event.CellAt.{CellAt}
+use Rattle.sharc_tree.specs.declared.event.CellMode.{CellMode}
+use Rattle.sharc_tree.specs.declared.event.SourceEvent.{SourceEvent}
+use Rattle.sharc_tree.specs.declared.event.Taken.TheVariants as taken
+use Rattle.sharc_tree.specs.declared.token.Site.{Site}
+use Rattle.sharc_mode.specs.Moded.{Assignment}
+use Rattle.sharc_meaning.specs.declared.given.GivenUp.TheVariants.{Replaced}
+use Rattle.sharc_meaning.specs.Meaning as Meaning
+use Rattle.sharc_meaning.specs.Arithmetic.{is_zero, null_base, out_of_bounds, out_of_range, mutex_not_held, mutex_already_held, calls_too_deep, returns_with_a_lock, size_not_positive, too_many_locks}
+use Rattle.sharc_meaning.specs.Events.{held_mutexes, holds_mutex}
+use Rattle.sharc_meaning.specs.Reference.{is_null, elements_of}
+use Rattle.sharc_meaning.specs.State.{Outcome, ended, stopped, spent}
+use Rattle.sharc_meaning.specs.Statements.{is_positive}
+use Rattle.sharc_code.specs.Arithmetic.{computed, negated, holds}
+use Rattle.sharc_code.specs.declared.code.Code.{Code}
+use Rattle.sharc_code.specs.declared.code.GlobalCells.{GlobalCells}
+use Rattle.sharc_code.specs.declared.instr.Cell.{Cell}
+use Rattle.sharc_code.specs.declared.state.State.{State}
+use Rattle.sharc_code.specs.declared.state.State.TheVariants.{Runs, Tries, Stopped, Ended}
+use Rattle.sharc_code.specs.declared.state.Stop.{Stop}
+use Rattle.sharc_code.specs.declared.state.Stop.TheVariants.{Conflict, NoLock, NotSole, Trap}
+use Rattle.sharc_code.specs.Machine.{Machine}
+use Rattle.sharc_code.specs.Says.{place_at}
+use Rattle.sharc_flat_form.specs.declared.op.Op.{Op}
+use Rattle.sharc_flat_form.specs.declared.op.Op.TheVariants as op
+use Rattle.sharc_flat_form.specs.declared.op.Spot.{Spot}
+use Rattle.sharc_flat_form.specs.Machine.{Flat, At, Caller, Came, Turn, goes, asks, halts, int, ref, goes_on, next, over_lines, stops, asserts, with_result, set_int, set_ref, gives_up, kind_of, cell_at, mode_of, accessed, accesses, lock_is_null, indexed, takes_local, returned, called, op_turn, end_turn, line_turn, turn, on_turn, exec, start}
+use Rattle.sharc_flat_form.specs.Path.{at_after, asked, asked_by, IsPath, PathsAreRuns}
+use Rattle.sharc_flat.specs.Correct.{AsksTheSame, MayStart}
+use Rattle.sharc_guarded_form.specs.declared.guarded.Guarded.{Guarded}
+use Rattle.sharc_gen.specs.Correct.{by, begins}
+use Rattle.sharc_gen.specs.Generated.{program_of}
+use Rattle.sharc_compile.specs.Coded.{WantsAt, StopsFor, IsOverFor, FollowsFlat}
+use Rattle.sharc_compile.specs.Source.{WantsEventAt, IsStopOf, IsOverAs, IsToldBy, FollowsSource}
+
+-- ---- events
+-- a turn adds no event before it is answered
+abbrev IsQuiet : At → Turn → Type 0
+IsQuiet m (goes m2) = m2.events ≡ m.events
+IsQuiet m (asks m2 site act held go) = m2.events ≡ m.events
+IsQuiet m (halts o) = Unit {0}
+
+cond_quiet : (b : Bool) (x y : Turn) (m : At) → IsQuiet m x → IsQuiet m y → IsQuiet m (cond b x y)
+cond_quiet true x y m p q = p
+cond_quiet false x y m p q = q
+
+asserts_quiet : (b : Bool) (code : ℕ) (spot : Spot) (m : At) → IsQuiet m (asserts b code spot m)
+asserts_quiet b code spot m = cond_quiet b (goes_on m) (stops code spot) m refl tt
+
+result_quiet : (i : ℕ) (spot : Spot) (m : At) (r : Result ℤ ℕ) → IsQuiet m (with_result i spot m r)
+result_quiet i spot m (Ok v) = refl
+result_quiet i spot m (Err code) = tt
+
+indexed_quiet : (i cells field : ℕ) (v : ℤ) (elements : ℕ) (spot : Spot) (m : At) → IsQuiet m (indexed i cells field v elements spot m)
+indexed_quiet i cells field (pos n) elements spot m = cond_quiet (nat_lt n elements) (goes_on (set_int i (pos (n * cells + field)) m)) (stops out_of_bounds spot) m refl tt
+indexed_quiet i cells field (negsuc n) elements spot m = tt
+
+skip_quiet : (b : Bool) (n : ℕ) (m : At) → (cond b (over_lines n m) (next m)).events ≡ m.events
+skip_quiet true n m = refl
+skip_quiet false n m = refl
+
+accesses_quiet : (globals : List GlobalCells) (cell : Cell) (spot : Spot) (act : CellAt → CellMode → Act) (then_ : CellAt → ℤ → At → At) (m : At) → IsQuiet m (accesses globals cell spot act then_ m)
+accesses_quiet globals cell spot act then_ m =
+    cond_quiet (lock_is_null m spot spot.mode) (stops null_base spot)
+    (asks m spot.site (act (cell_at globals m cell) (mode_of globals m (cell_at globals m cell) spot.mode)) (pos 0) (λ v n. accessed (next (then_ (cell_at globals m cell) v n)))) m tt refl
+
+returned_quiet : (flat : Flat) (frames : List Caller) (spot : Spot) (m : At) → IsQuiet m (returned flat frames spot m)
+returned_quiet flat [] spot m = cond_quiet (not (nat_lt 0 (length (held_mutexes m.events)))) (goes (record m { pc = length flat.lines })) (stops returns_with_a_lock spot) m refl tt
+returned_quiet flat (c ∷ rest) spot m = refl
+
+takes_quiet : (r x : ℕ) (spot : Spot) (m : At) (b : Bool) → IsQuiet m (takes_local r x spot m b)
+takes_quiet r x spot m true = refl
+takes_quiet r x spot m false = refl
+
+op_quiet : (flat : Flat) (o : Op) (m : At) → IsQuiet m (op_turn flat o m)
+op_quiet flat (op.Compute width o i a b spot) m = result_quiet i spot m (computed width o (int m a) (int m b))
+op_quiet flat (op.Negate width i a spot) m = result_quiet i spot m (negated width (int m a))
+op_quiet flat (op.ChkWidth width i spot) m = asserts_quiet (holds width (int m i)) out_of_range spot m
+op_quiet flat (op.SkipIfZero i n) m = skip_quiet (is_zero (int m i)) n m
+op_quiet flat (op.SkipIfNull r n) m = skip_quiet (is_null (ref m r)) n m
+op_quiet flat (op.Call f ints refs spot) m = cond_quiet (nat_lt (length m.frames) 255) (goes (called flat f ints refs m)) (stops calls_too_deep spot) m refl tt
+op_quiet flat (op.Return spot) m = returned_quiet flat m.frames spot m
+op_quiet flat (op.ChkNull r spot) m = asserts_quiet (not (is_null (ref m r))) null_base spot m
+op_quiet flat (op.ChkPositive i spot) m = asserts_quiet (is_positive (int m i)) size_not_positive spot m
+op_quiet flat (op.ChkHeld cell spot) m = asserts_quiet (holds_mutex m.events (cell_at flat.globals m cell)) mutex_not_held spot m
+op_quiet flat (op.ChkNotHeld cell spot) m = asserts_quiet (not (holds_mutex m.events (cell_at flat.globals m cell))) mutex_already_held spot m
+op_quiet flat (op.ChkRoom spot) m = asserts_quiet (nat_lt (length (held_mutexes m.events)) 16) too_many_locks spot m
+op_quiet flat (op.Bounds i r cells field spot) m = indexed_quiet i cells field (int m i) (elements_of (ref m r)) spot m
+op_quiet flat (op.GlobalBounds i elements cells field spot) m = indexed_quiet i cells field (int m i) elements spot m
+op_quiet flat (op.Load i cell spot) m = accesses_quiet flat.globals cell spot acts.Read (λ c v. set_int i v) m
+op_quiet flat (op.Store i cell spot) m = accesses_quiet flat.globals cell spot (λ c mode. acts.Write c mode (int m i)) (λ c v n. n) m
+op_quiet flat (op.LoadRef r cell spot) m = accesses_quiet flat.globals cell spot acts.Read (λ c v. set_ref r v) m
+op_quiet flat (op.StoreRef r cell spot) m = accesses_quiet flat.globals cell spot (λ c mode. acts.Write c mode (ref m r)) (λ c v n. gives_up (Replaced c) (set_ref r (pos 0) n)) m
+op_quiet flat (op.TakeCell r cell spot) m = accesses_quiet flat.globals cell spot (λ c mode. acts.Take (taken.Cell c mode) (kind_of spot.at)) (λ c v. set_ref r v) m
+op_quiet flat (op.TakeLocal r x spot) m = takes_quiet r x spot m (is_null (ref m x))
+op_quiet flat _ m = refl
+
+line_quiet : (flat : Flat) (o : Option Op) (m : At) → IsQuiet m (line_turn flat o m)
+line_quiet flat (Some o) m = op_quiet flat o m
+line_quiet flat None m = by_place (m.pc - length flat.lines)
+  where
+    by_place : (n : ℕ) → IsQuiet m (end_turn flat m n)
+    by_place zero = refl
+    by_place (suc zero) = refl
+    by_place (suc (suc n)) = tt
+
+-- so what is not answered leaves the events as they are
+same_events : (flat : Flat) (k : ℕ) (m : At) → (exec flat k [] m).at.events ≡ m.events
+same_events flat zero m = refl
+same_events flat (suc k) m = by_turn (turn flat m) (line_quiet flat (slice_get flat.lines m.pc) m) (same_events flat k)
+  where
+    by_turn : (t : Turn) → IsQuiet m t → ((m2 : At) → (exec flat k [] m2).at.events ≡ m2.events) → (on_turn t [] m (exec flat k)).at.events ≡ m.events
+    by_turn (goes m2) q rec = rec m2 ∙ q
+    by_turn (asks m2 site act held go) q rec = q
+    by_turn (halts o) q rec = refl
+
+-- ---- a path and its beginnings
+record Begins (flat : Flat) (m : At) (answers : List ℤ) (n : ℕ) : Type 0 where
+  earlier : List ℤ
+  path : IsPath flat m earlier
+  count : length earlier ≡ n
+  rest : List ℤ
+  asked_is : asked flat m answers ≡ asked flat m earlier ++ rest
+
+beginning : (flat : Flat) (m : At) (answers : List ℤ) → IsPath flat m answers → (n : ℕ) → n ≤ length answers → Begins flat m answers n
+beginning flat m [] path n le = record { earlier = []; path = tt; count = omega arith; rest = []; asked_is = refl }
+beginning flat m (x ∷ answers) path n le = by (cases_lt n (suc (length answers))) (beginning flat m answers path.0 n)
+  where
+    by : (n < suc (length answers)) ⊎ (suc (length answers) ≤ n) → (n ≤ length answers → Begins flat m answers n) → Begins flat m (x ∷ answers) n
+    by (inl lt) rec =
+        let h = rec (omega arith) in
+        let last = asked_by (turn flat (at_after flat m answers)) x in
+        record {
+          earlier = h.earlier;
+          path = h.path;
+          count = h.count;
+          rest = h.rest ++ last;
+          asked_is = ap (λ xs. xs ++ last) h.asked_is ∙ append_assoc (asked flat m h.earlier) h.rest last;
+        }
+    by (inr ge) rec = record { earlier = x ∷ answers; path = path; count = omega arith; rest = []; asked_is = sym (append-nil (asked flat m (x ∷ answers))) }
+
+module _ (runs : PathsAreRuns) (flat : Flat) (st : At) (answers : List ℤ) (path : IsPath flat st answers) where
+  -- past the path nothing is answered
+  goes_beyond : (k : ℕ) → exec flat (length answers + k) (asked flat st answers) st ≡ exec flat k [] (at_after flat st answers)
+  goes_beyond k = ap (λ xs. exec flat (length answers + k) xs st) (sym (append-nil (asked flat st answers))) ∙ runs flat st answers path k []
+
+  -- within it the turns are spent
+  within : (n : ℕ) → n ≤ length answers → (exec flat n (asked flat st answers) st).outcome ≡ spent
+  within n le =
+      let h = beginning flat st answers path n le in
+      let e : n ≡ length h.earlier + 0 = let c = h.count in omega arith in
+      ap (λ n. (exec flat n (asked flat st answers) st).outcome) e ∙ ap (λ xs. (exec flat (length h.earlier + 0) xs st).outcome) h.asked_is ∙ ap (λ (c : Came). c.outcome) (runs flat st h.earlier h.path 0 h.rest)
+
+  -- so many turns lead one turn beyond the path at least
+  record IsBeyond (later : ℕ) : Type 0 where
+    more : ℕ
+    is : exec flat later (asked flat st answers) st ≡ exec flat (suc more) [] (at_after flat st answers)
+
+  beyond : (later : ℕ) → (length answers + 1 ≤ later) ⊎ (exec flat (length answers + 1) (asked flat st answers) st ≡ exec flat later (asked flat st answers) st) → IsBeyond later
+  beyond later (inl le) =
+      let e : later ≡ length answers + suc (later - (length answers + 1)) = omega arith in
+      record { more = later - (length answers + 1); is = ap (λ n. exec flat n (asked flat st answers) st) e ∙ goes_beyond (suc (later - (length answers + 1))) }
+  beyond later (inr same) = record { more = 0; is = sym same ∙ goes_beyond 1 }
+
+-- ---- how it is over
+module _ (code : Code) (flat : Flat) (m : At) (k : ℕ) where
+  abbrev o : Outcome
+  o = (exec flat (suc k) [] m).outcome
+
+  wanted : (site : Site) → WantsAt flat m site → WantsEventAt o site
+  wanted site w = (w.act, ap (λ (t : Turn). (on_turn t [] m (exec flat k)).outcome) w.wants)
+
+  halted : (x : Outcome) → turn flat m ≡ halts x → o ≡ x
+  halted x e = ap (λ (t : Turn). (on_turn t [] m (exec flat k)).outcome) e
+
+  stop_is : (stop : Stop) → StopsFor code flat m stop → IsStopOf code o stop
+  stop_is (Trap x site) (inl e) = inl (halted (stopped x (place_at code site).site) e)
+  stop_is (Trap x site) (inr h) = inr (h.0, wanted (place_at code site).site h.1)
+  stop_is (Conflict c) h = wanted (place_at code c.site).site h
+  stop_is (NoLock site mutex) h = wanted (place_at code site).site h
+  stop_is (NotSole site count) h = wanted (place_at code site).site h
+
+  over_is : (state : State) (stop : Option Stop) → IsOverFor code flat m state stop → IsOverAs code o state stop
+  over_is Runs stop h = tt
+  over_is Tries stop h = tt
+  over_is Stopped None h = h
+  over_is Stopped (Some stop) h = stop_is stop h
+  over_is Ended stop h = halted ended h
+
+-- ---- all together
+told : (runs : PathsAreRuns) (m : Assignment) (flat : Flat) (same : AsksTheSame m flat) (code : Code) (g : Guarded) (thread : ℕ) (at : Machine) (said : List SourceEvent) (paced : ℕ)
+    → (h : FollowsFlat code g flat thread at said paced) → MayStart m h.function → IsToldBy m code (program_of g) thread h.function h.argument (asked flat (start flat h.function h.argument) h.answers) at said paced
+told runs m flat same code g thread at said paced h may =
+    let st = start flat h.function h.argument in
+    let answers = asked flat st h.answers in
+    let m2 = at_after flat st h.answers in
+    let b = same.back h.function may h.argument answers (length h.answers + 1) in
+    let f = beyond runs flat st h.answers h.path b.later b.reached in
+    let outcome : (exec flat (suc f.more) [] m2).outcome ≡ (Meaning.asks m h.function h.argument answers b.fuel).outcome = ap (λ (c : Came). c.outcome) (sym f.is) ∙ b.same.outcome in
+    let events : m2.events ≡ (Meaning.asks m h.function h.argument answers b.fuel).events = sym (same_events flat (suc f.more) m2) ∙ ap (λ (c : Came). c.at.events) (sym f.is) ∙ b.same.events in
+    record {
+      fuel = b.fuel;
+      events = h.events ∙ ap (λ (es : List SourceEvent). by thread (begins (program_of g) h.function h.argument) ∷ map (by thread) es) events;
+      over = subst (λ (o : Outcome). IsOverAs code o at.at.state at.own.stop) outcome (over_is code flat m2 f.more at.at.state at.own.stop h.over);
+      pace = λ few lt.
+          let q = same.forth h.function may h.argument answers few in
+          let high = q.high in
+          let low = q.few in
+          let pace = h.pace in
+          let le : q.turns ≤ length h.answers = omega arith in
+          sym q.same.outcome ∙ within runs flat st h.answers h.path q.turns le;
+    }
+
+pub follows : (runs : PathsAreRuns) (m : Assignment) (flat : Flat) (same : AsksTheSame m flat) (code : Code) (g : Guarded) (thread : ℕ) (at : Machine) (said : List SourceEvent) (paced : ℕ)
+    → FollowsFlat code g flat thread at said paced → FollowsSource m code (program_of g) (length flat.functions) thread at said paced
+follows runs m flat same code g thread at said paced h = record {
+  function = h.function;
+  known = h.known;
+  argument = h.argument;
+  answers = asked flat (start flat h.function h.argument) h.answers;
+  told = told runs m flat same code g thread at said paced h;
+}

@@ -1,0 +1,30 @@
+use Rattle.std.proofs.Common.{◌≡◌, ◌∙◌, ap, subst, sym}
+use Rattle.std.specs.Prelude.{ℕ, Bool, slice_get, Some, None, true}
+use Rattle.sharc_code.specs.declared.instr.Instr.{Instr}
+use Rattle.sharc_code.specs.declared.instr.Instr.TheVariants.{Start}
+use Rattle.sharc_flat_form.specs.Made.{flat_of}
+use Rattle.sharc_guarded_form.specs.Machine.{Program, source_at}
+use Rattle.sharc_guard.specs.Checked.{Access, access_of, IsCheckedAt, IsNoTarget}
+use Rattle.sharc_guard.specs.Known.{dropped}
+use Rattle.sharc_compile.proofs.Accessing.{checked}
+use Rattle.sharc_compile.proofs.Same.{same}
+use Rattle.sharc_compile.proofs.laws.checks_law.Goals as goal
+
+abbrev Each : (ℕ → Bool) → Program → Type 0
+Each d p = (pc : ℕ) (i : Instr) (a : Access) → slice_get p.statements pc ≡ Some i → access_of i ≡ Some a → IsCheckedAt d p pc (source_at p a.site).mode a
+
+abbrev Free : (ℕ → Bool) → Program → Type 0
+Free d p = (pc : ℕ) (i : Instr) (a : Access) → slice_get p.statements pc ≡ Some i → access_of i ≡ Some a → d a.site ≡ true → IsNoTarget p pc
+
+-- the first statement accesses nothing
+abbrev First : Program → Type 0
+First p = (i : Instr) (a : Access) → slice_get p.statements 0 ≡ Some i → access_of i ≡ Some a → ⊥
+
+first : (i : Instr) (a : Access) → Some (Start 0) ≡ Some i → access_of i ≡ Some a → ⊥
+first i a e is = let s : Start 0 ≡ i = cc in let z : None ≡ Some a = ap access_of s ∙ is in absurd (cc)
+
+pub returns : goal.returns
+returns c = λ flat code is.
+    let d = dropped (flat_of flat) in
+    let back = sym (same d flat is.g is.made) in
+    checked d is.g code is.generated (subst First back first) (subst (Each d) back (c.checked_law.ensures.checked (flat_of flat) d)) (subst (Free d) back (c.checked_law.ensures.dropped (flat_of flat)))

@@ -1,0 +1,70 @@
+-- The paths of the code of flat code are those of flat code.
+use Rattle.std.specs.Prelude.{ℕ, ℤ, ◌+◌, ◌*◌, ◌≡◌, ◌≤◌, ◌<◌, ◌⊎◌, Bool, List, ◌∷◌, length, map, Option, IsSomeAnd}
+use Rattle.sharc_tree.specs.declared.event.Act.{Act}
+use Rattle.sharc_tree.specs.declared.event.SourceEvent.{SourceEvent}
+use Rattle.sharc_tree.specs.declared.token.Site.{Site}
+use Rattle.sharc_code.specs.declared.code.Code.{Code}
+use Rattle.sharc_code.specs.declared.shape.Shape.{Shape}
+use Rattle.sharc_code.specs.declared.state.State.{State}
+use Rattle.sharc_code.specs.declared.state.State.TheVariants.{Runs, Tries, Stopped, Ended}
+use Rattle.sharc_code.specs.declared.state.Stop.{Stop}
+use Rattle.sharc_code.specs.declared.state.Stop.TheVariants.{Conflict, NoLock, NotSole, Trap}
+use Rattle.sharc_code.specs.Machine.{Machine}
+use Rattle.sharc_code.specs.Path.{begun, machine_after, CodePath}
+use Rattle.sharc_code.specs.Paced.{paced_in}
+use Rattle.sharc_code.specs.Says.{place_at}
+use Rattle.sharc_meaning.specs.State.{stopped, ended}
+use Rattle.sharc_flat_form.specs.Machine as Flat
+use Rattle.sharc_guarded_form.specs.declared.guarded.Guarded.{Guarded}
+use Rattle.sharc_gen.specs.Consistent.{Elements, said_in, IsConsistent}
+use Rattle.sharc_gen.specs.Correct.{by, begins, IsBeginning}
+use Rattle.sharc_gen.specs.Generated.{IsGenerated, program_of}
+use Rattle.sharc_flat_form.specs.Path as Flow
+use Rattle.sharc_flat_form.specs.Framed.{IsFlat}
+use Rattle.sharc_flat_form.specs.Framed.{IsFramed}
+use Rattle.sharc_guard.specs.Guard.{guarded}
+
+-- flat code wants an event at this site
+pub record WantsAt (flat : Flat.Flat) (m : Flat.At) (site : Site) : Type 0 where
+  pub from : Flat.At
+  pub act : Act
+  pub held : ℤ
+  pub go : ℤ → Flat.At → Flat.At
+  pub wants : Flat.turn flat m ≡ Flat.asks from site act held go
+
+-- X7, X8 and X9 are not flat code's
+abbrev pub IsRefusal : ℕ → Type 0
+IsRefusal code = (code ≡ 7) ⊎ ((code ≡ 8) ⊎ (code ≡ 9))
+
+-- why a thread of code stopped is a stop of flat code, or comes at the event that flat code wants
+abbrev pub StopsFor : Code → Flat.Flat → Flat.At → Stop → Type 0
+StopsFor code flat m (Trap x site) = (Flat.turn flat m ≡ Flat.halts (stopped x (place_at code site).site)) ⊎ (IsRefusal x × WantsAt flat m (place_at code site).site)
+StopsFor code flat m (Conflict c) = WantsAt flat m (place_at code c.site).site
+StopsFor code flat m (NoLock site mutex) = WantsAt flat m (place_at code site).site
+StopsFor code flat m (NotSole site count) = WantsAt flat m (place_at code site).site
+
+abbrev pub IsOverFor : Code → Flat.Flat → Flat.At → State → Option Stop → Type 0
+IsOverFor code flat m Runs stop = Unit {0}
+IsOverFor code flat m Tries stop = Unit {0}
+IsOverFor code flat m Stopped stop = IsSomeAnd stop (StopsFor code flat m)
+IsOverFor code flat m Ended stop = Flat.turn flat m ≡ Flat.halts ended
+
+-- with some answers flat code comes to where the code is
+pub record FollowsFlat (code : Code) (g : Guarded) (flat : Flat.Flat) (thread : ℕ) (m : Machine) (said : List SourceEvent) (paced : ℕ) : Type 0 where
+  pub function : ℕ
+  pub known : function < length flat.functions
+  pub argument : ℤ
+  pub answers : List ℤ
+  pub path : Flow.IsPath flat (Flat.start flat function argument) answers
+  pub events : said ≡ by thread (begins (program_of g) function argument) ∷ map (by thread) (Flow.at_after flat (Flat.start flat function argument) answers).events
+  pub over : IsOverFor code flat (Flow.at_after flat (Flat.start flat function argument) answers) m.at.state m.own.stop
+  -- five counted turns for each line of flat code, and eight
+  pub pace : paced ≤ 5 * length answers + 8
+
+abbrev pub CodeFollowsFlat : Type 0
+CodeFollowsFlat = (flat : Flat.Flat) (dropped : ℕ → Bool) (g : Guarded) (code : Code) → IsFlat flat → IsFramed flat → program_of g ≡ guarded dropped flat → IsGenerated g code
+    → (s : Shape) (thread : ℕ) (elements : ℕ → Elements) (founds : List ℕ) → CodePath code s thread founds → IsConsistent code s (begun code s thread) elements founds
+    → let m = machine_after code s (begun code s thread) founds in
+    let said = said_in code s (begun code s thread) elements founds in
+    let paced = paced_in code s (begun code s thread) founds in
+    IsBeginning m said paced ⊎ FollowsFlat code g flat thread m said paced

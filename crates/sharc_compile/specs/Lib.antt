@@ -1,0 +1,4 @@
+pub mod Checked
+pub mod Coded
+pub mod Made
+pub mod Source

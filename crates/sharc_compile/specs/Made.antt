@@ -1,0 +1,30 @@
+-- The code that the program makes of flat code.
+use Rattle.std.specs.Prelude.{ℕ, ◌⊎◌, List}
+use Rattle.sharc_code.specs.declared.code.Code.{Code}
+use Rattle.sharc_code.specs.declared.shape.Shape.{Shape}
+use Rattle.sharc_code.specs.Path.{begun, machine_after, CodePath}
+use Rattle.sharc_code.specs.Paced.{paced_in}
+use Rattle.sharc_flat_form.specs.declared.flat.Flat.{Flat as FlatCode}
+use Rattle.sharc_guarded_form.specs.declared.guarded.Guarded.{Guarded}
+use Rattle.sharc_gen.specs.Consistent.{Elements, said_in, IsConsistent}
+use Rattle.sharc_gen.specs.Correct.{IsBeginning}
+use Rattle.sharc_gen.specs.Generated.{IsGenerated}
+use Rattle.sharc_flat_form.specs.Framed.{IsFlat, IsFramed}
+use Rattle.sharc_flat_form.specs.Made.{flat_of}
+use Rattle.sharc_guard.specs.Known.{dropped}
+use Rattle.sharc_guard.specs.Made.{IsMade}
+use Rattle.sharc_compile.specs.Coded.{FollowsFlat}
+
+-- generated of the guarded code of flat code, without the checks that repeat one
+pub record IsCodeOf (flat : FlatCode) (code : Code) : Type 0 where
+  pub g : Guarded
+  pub made : IsMade (dropped (flat_of flat)) flat g
+  pub generated : IsGenerated g code
+
+abbrev pub MadeCodeFollows : Type 0
+MadeCodeFollows = (flat : FlatCode) (code : Code) → IsFlat (flat_of flat) → IsFramed (flat_of flat) → (is : IsCodeOf flat code)
+    → (s : Shape) (thread : ℕ) (elements : ℕ → Elements) (founds : List ℕ) → CodePath code s thread founds → IsConsistent code s (begun code s thread) elements founds
+    → let m = machine_after code s (begun code s thread) founds in
+    let said = said_in code s (begun code s thread) elements founds in
+    let paced = paced_in code s (begun code s thread) founds in
+    IsBeginning m said paced ⊎ FollowsFlat code is.g (flat_of flat) thread m said paced

@@ -1,0 +1,70 @@
+-- The paths of the code of a program are those of the program: what a thread of its code has told is what the source asks for by the same answers.
+use Rattle.std.specs.Prelude.{ℕ, ℤ, pos, ◌+◌, ◌*◌, ◌≡◌, ◌<◌, ◌⊎◌, List, ◌∷◌, length, map, Option, IsSomeAnd}
+use Rattle.sharc_tree.specs.declared.event.Act.{Act}
+use Rattle.sharc_tree.specs.declared.event.SourceEvent.{SourceEvent}
+use Rattle.sharc_tree.specs.declared.token.Site.{Site}
+use Rattle.sharc_mode.specs.Moded.{Assignment}
+use Rattle.sharc_meaning.specs.Meaning.{asks}
+use Rattle.sharc_meaning.specs.State.{Outcome, wants, ended, stopped, spent, event_of}
+use Rattle.sharc_code.specs.declared.code.Code.{Code}
+use Rattle.sharc_code.specs.declared.shape.Shape.{Shape}
+use Rattle.sharc_code.specs.declared.state.State.{State}
+use Rattle.sharc_code.specs.declared.state.State.TheVariants.{Runs, Tries, Stopped, Ended}
+use Rattle.sharc_code.specs.declared.state.Stop.{Stop}
+use Rattle.sharc_code.specs.declared.state.Stop.TheVariants.{Conflict, NoLock, NotSole, Trap}
+use Rattle.sharc_code.specs.Machine.{Machine}
+use Rattle.sharc_code.specs.Path.{begun, machine_after, CodePath}
+use Rattle.sharc_code.specs.Paced.{paced_in}
+use Rattle.sharc_code.specs.Says.{place_at}
+use Rattle.sharc_flat_form.specs.declared.flat.Flat.{Flat as FlatCode}
+use Rattle.sharc_flat_form.specs.Framed.{IsFlat, IsFramed}
+use Rattle.sharc_flat_form.specs.Made.{flat_of}
+use Rattle.sharc_flat.specs.Correct.{AsksTheSame, MayStart}
+use Rattle.sharc_guarded_form.specs.Machine.{Program}
+use Rattle.sharc_gen.specs.Consistent.{Elements, said_in, IsConsistent}
+use Rattle.sharc_gen.specs.Correct.{by, begins, IsBeginning}
+use Rattle.sharc_gen.specs.Generated.{program_of}
+use Rattle.sharc_compile.specs.Coded.{IsRefusal}
+use Rattle.sharc_compile.specs.Made.{IsCodeOf}
+
+-- the source wants an event at this site
+abbrev pub WantsEventAt : Outcome → Site → Type 0
+WantsEventAt o site = (act : Act) × (o ≡ wants (event_of site act (pos 0)))
+
+-- why a thread of code stopped is a stop of the source, or comes at the event that the source wants
+abbrev pub IsStopOf : Code → Outcome → Stop → Type 0
+IsStopOf code o (Trap x site) = (o ≡ stopped x (place_at code site).site) ⊎ (IsRefusal x × WantsEventAt o (place_at code site).site)
+IsStopOf code o (Conflict c) = WantsEventAt o (place_at code c.site).site
+IsStopOf code o (NoLock site mutex) = WantsEventAt o (place_at code site).site
+IsStopOf code o (NotSole site count) = WantsEventAt o (place_at code site).site
+
+abbrev pub IsOverAs : Code → Outcome → State → Option Stop → Type 0
+IsOverAs code o Runs stop = Unit {0}
+IsOverAs code o Tries stop = Unit {0}
+IsOverAs code o Stopped stop = IsSomeAnd stop (IsStopOf code o)
+IsOverAs code o Ended stop = o ≡ ended
+
+-- With these answers and some fuel the source has told the same, and is over where the code is over. With fuel for fewer statements and expressions than the code
+-- has made turns for, it is spent: so the turns that count are at most 64 for each that the source entered, and 64 more.
+pub record IsToldBy (m : Assignment) (code : Code) (p : Program) (thread f : ℕ) (argument : ℤ) (answers : List ℤ) (at : Machine) (said : List SourceEvent) (paced : ℕ) : Type 0 where
+  pub fuel : ℕ
+  pub events : said ≡ by thread (begins p f argument) ∷ map (by thread) (asks m f argument answers fuel).events
+  pub over : IsOverAs code (asks m f argument answers fuel).outcome at.at.state at.own.stop
+  pub pace : (few : ℕ) → 64 * few + 64 < paced → (asks m f argument answers few).outcome ≡ spent
+
+-- a thread of a function that may be started is told by the source, by what it was answered
+pub record FollowsSource (m : Assignment) (code : Code) (p : Program) (functions thread : ℕ) (at : Machine) (said : List SourceEvent) (paced : ℕ) : Type 0 where
+  pub function : ℕ
+  pub known : function < functions
+  pub argument : ℤ
+  pub answers : List ℤ
+  pub told : MayStart m function → IsToldBy m code p thread function argument answers at said paced
+
+-- of code of flat code that asks for what the program asks for
+abbrev pub CodeFollowsSource : Type 0
+CodeFollowsSource = (m : Assignment) (flat : FlatCode) (code : Code) → AsksTheSame m (flat_of flat) → IsFlat (flat_of flat) → IsFramed (flat_of flat) → (is : IsCodeOf flat code)
+    → (s : Shape) (thread : ℕ) (elements : ℕ → Elements) (founds : List ℕ) → CodePath code s thread founds → IsConsistent code s (begun code s thread) elements founds
+    → let at = machine_after code s (begun code s thread) founds in
+    let said = said_in code s (begun code s thread) elements founds in
+    let paced = paced_in code s (begun code s thread) founds in
+    IsBeginning at said paced ⊎ FollowsSource m code (program_of is.g) (length flat.functions.items) thread at said paced

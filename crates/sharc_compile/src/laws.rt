@@ -1,0 +1,44 @@
+//! The laws of code that is made of flat code.
+
+ghost use Rattle.sharc_compile.specs.Checked.{CodeIsChecked};
+ghost use Rattle.sharc_compile.specs.Coded.{CodeFollowsFlat};
+ghost use Rattle.sharc_compile.specs.Made.{MadeCodeFollows};
+ghost use Rattle.sharc_compile.specs.Source.{CodeFollowsSource};
+
+use sharc_flat_form::laws::paths_are_runs;
+use sharc_gen::paths_law;
+use sharc_guard::{checked_law, framed_law, guarded_law};
+
+/// The paths of code with consistent results are those of the flat code that it was made of, whichever checks are dropped: the same
+/// events, the same stops, at most five counted turns for each line.
+pub fn coded_law()
+    ensures { CodeFollowsFlat }
+{
+    paths_law();
+    guarded_law();
+    framed_law();
+}
+
+/// The same of the code that `code_of` makes.
+pub fn made_law()
+    ensures { MadeCodeFollows }
+{
+    coded_law();
+}
+
+/// Where the flat code asks for what a program asks for, a thread of its code tells what the program tells by the same answers, is over as
+/// the program is, and makes at most 64 counted turns for each statement and expression that the program entered, and 64 more.
+pub fn source_law()
+    ensures { CodeFollowsSource }
+{
+    made_law();
+    paths_are_runs();
+}
+
+/// Each access of a dynamic or locked cell in that code is no jump target, and comes directly after its check, but where the check repeats
+/// one and is dropped.
+pub fn checks_law()
+    ensures { CodeIsChecked }
+{
+    checked_law();
+}

@@ -1,0 +1,458 @@
+-- The notes of the pass say what is known.
+use mathlib.Core.Path.{fun_ext}
+use Rattle.std.proofs.Common.{◌≡◌, ◌≢◌, ℕ, ◌+◌, ◌<◌, ◌≤◌, Bool, true, false, not, ◌&&◌, ◌||◌, Option, Some, None, refl, sym, ap, ◌∙◌, arith, cond, nat_lt}
+use Rattle.std.specs.Prelude.{◌==◌, nat_le}
+use Rattle.std.proofs.lemmas.Bool.Decides.{nat_tests}
+use Rattle.sharc_shadow.specs.declared.shadow_word.Kind.{Kind}
+use Rattle.sharc_shadow.specs.declared.shadow_word.Kind.TheVariants.{Read, Write}
+use Rattle.sharc_flat_form.specs.declared.op.Op.{Op}
+use Rattle.sharc_flat_form.specs.declared.op.Op.TheVariants as op
+use Rattle.sharc_guard.specs.declared.marks.Copied.{Copied}
+use Rattle.sharc_guard.specs.declared.marks.Numbered.{Numbered}
+use Rattle.sharc_guard.specs.declared.marks.Passed.{Passed}
+use Rattle.sharc_guard.specs.declared.operations.Copying.{Copying}
+use Rattle.sharc_guard.specs.Known.{writes_ref, writes_int, Place, in_variable, in_global, same_place, assigns, counts, Access, access, tells, Know, nothing, number_given, copy_given, unless_written, with_element, place_of, is_at, passes_by, know_next}
+use Rattle.sharc_guard.specs.Marked.{access_of, copy_of, number_of_line, Notes, or_never, copy_by, number_by, passed_by, passed_at, know_of, with_written, with_copy, with_number, stronger, with_place, with_access, CopyBefore, NumberBefore, PassedBefore, AreBefore}
+use Rattle.sharc_guard.proofs.Repeating.{eq_true, eq_same, eq_other, some_is, true_false}
+
+-- ---- tests
+lt_true : (a b : ℕ) → a < b → nat_lt a b ≡ true
+lt_true a b lt = grind (arith, nat_tests)
+
+lt_false : (a b : ℕ) → b ≤ a → nat_lt a b ≡ false
+lt_false a b le = grind (arith, nat_tests)
+
+le_true : (a b : ℕ) → a ≤ b → nat_le a b ≡ true
+le_true a b le = grind (arith, nat_tests)
+
+le_false : (a b : ℕ) → b < a → nat_le a b ≡ false
+le_false a b lt = grind (arith, nat_tests)
+
+and_false : (b : Bool) → (b && false) ≡ false
+and_false true = refl
+and_false false = refl
+
+and_true : (b : Bool) → (b && true) ≡ b
+and_true true = refl
+and_true false = refl
+
+or_false : (b : Bool) → (b || false) ≡ b
+or_false true = refl
+or_false false = refl
+
+or_true : (b : Bool) → (b || true) ≡ true
+or_true true = refl
+or_true false = refl
+
+pub turned : (a b : ℕ) → (a == b) ≡ (b == a)
+turned a b = by (a == b) (b == a) refl refl
+  where
+    by : (x y : Bool) → (a == b) ≡ x → (b == a) ≡ y → x ≡ y
+    by true true p q = refl
+    by false false p q = refl
+    by true false p q = sym (eq_same b a (sym (eq_true a b p))) ∙ q
+    by false true p q = sym p ∙ eq_same a b (sym (eq_true b a q))
+
+same_turned : (p q : Place) → same_place p q ≡ same_place q p
+same_turned (in_variable x n) (in_variable y j) = ap (λ z. z && n == j) (turned x y) ∙ ap (λ z. y == x && z) (turned n j)
+same_turned (in_global x n) (in_global y j) = ap (λ z. z && n == j) (turned x y) ∙ ap (λ z. y == x && z) (turned n j)
+same_turned (in_variable x n) (in_global y j) = refl
+same_turned (in_global x n) (in_variable y j) = refl
+
+-- all but the checks of this time were noted before it
+pub record AreUpTo (t : ℕ) (s : Notes) : Type 0 where
+  pub floor : s.floor < t
+  pub written : (k : ℕ) → or_never (s.written k) < t
+  pub copies : (k : ℕ) → CopyBefore t (s.copies k)
+  pub numbers : (k : ℕ) → NumberBefore t (s.numbers k)
+  pub in_variables : (x n : ℕ) → PassedBefore (t + 1) (s.in_variables x n)
+  pub in_globals : (g n : ℕ) → PassedBefore (t + 1) (s.in_globals g n)
+
+passed_later : (t : ℕ) (q : Option Passed) → PassedBefore t q → PassedBefore (t + 1) q
+passed_later t None h = tt
+passed_later t (Some p) h = omega arith
+
+-- ---- what an operation writes
+module _ (o : Op) (t : ℕ) (a : Notes) (b : AreUpTo t a) where
+  abbrev last : ℕ → Option ℕ
+  last k = cond (writes_ref o k) (Some t) (a.written k)
+
+  last_true : (k : ℕ) → writes_ref o k ≡ true → or_never (last k) ≡ t
+  last_true k w = ap (λ z. or_never (cond z (Some t) (a.written k))) w
+
+  last_false : (k : ℕ) → writes_ref o k ≡ false → or_never (last k) ≡ or_never (a.written k)
+  last_false k w = ap (λ z. or_never (cond z (Some t) (a.written k))) w
+
+  passed_void : (kind : Kind) (q : Option Passed) → PassedBefore (t + 1) q → passed_by a.floor t kind q ≡ false
+  passed_void kind None h = refl
+  passed_void kind (Some p) h = ap (λ z. nat_lt a.floor p.made && (z && counts p.kind kind)) (lt_false t p.made (omega arith)) ∙ and_false (nat_lt a.floor p.made)
+
+  passed_kept : (kind : Kind) (x : ℕ) (q : Option Passed) → PassedBefore (t + 1) q → passed_by a.floor (or_never (last x)) kind q ≡ (passed_by a.floor (or_never (a.written x)) kind q && not (writes_ref o x))
+  passed_kept kind x q h = by (writes_ref o x) refl
+    where
+      by : (z : Bool) → writes_ref o x ≡ z → passed_by a.floor (or_never (last x)) kind q ≡ (passed_by a.floor (or_never (a.written x)) kind q && not z)
+      by true w = ap (λ n. passed_by a.floor n kind q) (last_true x w) ∙ passed_void kind q h ∙ sym (and_false (passed_by a.floor (or_never (a.written x)) kind q))
+      by false w = ap (λ n. passed_by a.floor n kind q) (last_false x w) ∙ sym (and_true (passed_by a.floor (or_never (a.written x)) kind q))
+
+  number_now : (v : Option ℕ) (i : ℕ) → number_by a.floor (cond (writes_int o i) (Some record { number = v; made = t }) (a.numbers i)) ≡ cond (writes_int o i) v (number_by a.floor (a.numbers i))
+  number_now v i = by (writes_int o i)
+    where
+      by : (z : Bool) → number_by a.floor (cond z (Some record { number = v; made = t }) (a.numbers i)) ≡ cond z v (number_by a.floor (a.numbers i))
+      by true = ap (λ z. cond z v None) (lt_true a.floor t b.floor)
+      by false = refl
+
+  -- a copy that was made before
+  copy_old : (r : ℕ) (q : Option Copied) → CopyBefore t q → copy_by a.floor last (or_never (last r)) q ≡ cond (writes_ref o r) None (unless_written o (copy_by a.floor a.written (or_never (a.written r)) q))
+  copy_old r None h = by (writes_ref o r)
+    where
+      by : (z : Bool) → None ≡ cond z None (unless_written o None)
+      by true = refl
+      by false = refl
+  copy_old r (Some c) h = by (writes_ref o r) refl
+    where
+      test : ℕ → ℕ → Bool
+      test n m = nat_lt a.floor c.made && (nat_le n c.made && nat_lt m c.made)
+
+      unless : (z y : Bool) → writes_ref o c.variable ≡ z → (z ≡ true → y ≡ false) → (z ≡ false → y ≡ test (or_never (a.written r)) (or_never (a.written c.variable))) → cond y (Some c.variable) None ≡ unless_written o (cond (test (or_never (a.written r)) (or_never (a.written c.variable))) (Some c.variable) None)
+      unless true y w e1 e2 = ap (λ q. cond q (Some c.variable) None) (e1 refl) ∙ sym (gone (test (or_never (a.written r)) (or_never (a.written c.variable))))
+        where
+          gone : (q : Bool) → unless_written o (cond q (Some c.variable) None) ≡ None
+          gone true = ap (λ z. cond z None (Some c.variable)) w
+          gone false = refl
+      unless false y w e1 e2 = ap (λ q. cond q (Some c.variable) None) (e2 refl) ∙ sym (stays (test (or_never (a.written r)) (or_never (a.written c.variable))))
+        where
+          stays : (q : Bool) → unless_written o (cond q (Some c.variable) None) ≡ cond q (Some c.variable) None
+          stays true = ap (λ z. cond z None (Some c.variable)) w
+          stays false = refl
+
+      by : (z : Bool) → writes_ref o r ≡ z → cond (test (or_never (last r)) (or_never (last c.variable))) (Some c.variable) None ≡ cond z None (unless_written o (cond (test (or_never (a.written r)) (or_never (a.written c.variable))) (Some c.variable) None))
+      by true w =
+          let e : nat_le (or_never (last r)) c.made ≡ false = ap (λ n. nat_le n c.made) (last_true r w) ∙ le_false t c.made h in
+          ap (λ z. cond (nat_lt a.floor c.made && (z && nat_lt (or_never (last c.variable)) c.made)) (Some c.variable) None) e ∙ ap (λ z. cond z (Some c.variable) None) (and_false (nat_lt a.floor c.made))
+      by false w = unless (writes_ref o c.variable) (test (or_never (last r)) (or_never (last c.variable))) refl
+          (λ v.
+          let e : nat_lt (or_never (last c.variable)) c.made ≡ false = ap (λ n. nat_lt n c.made) (last_true c.variable v) ∙ lt_false t c.made (omega arith) in
+          ap (λ z. nat_lt a.floor c.made && (nat_le (or_never (last r)) c.made && z)) e ∙ ap (λ z. nat_lt a.floor c.made && z) (and_false (nat_le (or_never (last r)) c.made)) ∙ and_false (nat_lt a.floor c.made))
+          (λ v. ap (λ n. test n (or_never (last c.variable))) (last_false r w) ∙ ap (λ m. test (or_never (a.written r)) m) (last_false c.variable v))
+
+  -- the copy that is made now
+  copy_new : (c : Copying) → writes_ref o c.variable ≡ false → copy_by a.floor last t (Some record { variable = c.variable; made = t }) ≡ Some c.variable
+  copy_new c w =
+      ap (λ z. cond (z && (nat_le t t && nat_lt (or_never (last c.variable)) t)) (Some c.variable) None) (lt_true a.floor t b.floor)
+      ∙ ap (λ z. cond (z && nat_lt (or_never (last c.variable)) t) (Some c.variable) None) (le_true t t (omega arith))
+      ∙ ap (λ n. cond (nat_lt n t) (Some c.variable) None) (last_false c.variable w) ∙ ap (λ z. cond z (Some c.variable) None) (lt_true (or_never (a.written c.variable)) t (b.written c.variable))
+
+  copy_now : (r : ℕ) (q : Option Copying) → copy_of o ≡ q → copy_by a.floor last (or_never (last r)) ((with_copy q t a).copies r) ≡ cond (writes_ref o r) (copy_given o) (unless_written o (copy_by a.floor a.written (or_never (a.written r)) (a.copies r)))
+  copy_now r None e = copy_old r (a.copies r) (b.copies r) ∙ ap (λ z. cond (writes_ref o r) z (unless_written o (copy_by a.floor a.written (or_never (a.written r)) (a.copies r)))) (sym (no_copy o e))
+    where
+      no_copy : (o : Op) → copy_of o ≡ None → copy_given o ≡ None
+      no_copy (op.Local d y) e = by (d == y) e
+        where
+          by : (z : Bool) → cond {A = Option Copying} z None (Some record { register = d; variable = y }) ≡ None → cond z None (Some y) ≡ None
+          by true e = refl
+          by false e = absurd (cc)
+      no_copy _ e = refl
+  copy_now r (Some c) e = at_register (r == c.register) refl
+    where
+      made : (o ≡ op.Local c.register c.variable) × (c.register ≢ c.variable)
+      made = copying o c e
+        where
+          copying : (o : Op) (c : Copying) → copy_of o ≡ Some c → (o ≡ op.Local c.register c.variable) × (c.register ≢ c.variable)
+          copying (op.Local d y) c e = by (d == y) refl e
+            where
+              by : (z : Bool) → (d == y) ≡ z → cond {A = Option Copying} z None (Some record { register = d; variable = y }) ≡ Some c → (op.Local d y ≡ op.Local c.register c.variable) × (c.register ≢ c.variable)
+              by true z e = absurd (cc)
+              by false z e =
+                  let same : record { register = d; variable = y } ≡ c = some_is record { register = d; variable = y } c e in
+                  let er : d ≡ c.register = ap (λ (c : Copying). c.register) same in
+                  let ev : y ≡ c.variable = ap (λ (c : Copying). c.variable) same in
+                  (ap (λ d. op.Local d y) er ∙ ap (op.Local c.register) ev, λ q. true_false (sym (eq_same d y (er ∙ q ∙ sym ev)) ∙ z))
+          copying _ c e = absurd (cc)
+
+      variable_kept : writes_ref o c.variable ≡ false
+      variable_kept = ap (λ o. writes_ref o c.variable) made.0 ∙ eq_other c.variable c.register (λ q. made.1 (sym q))
+
+      given : copy_given o ≡ Some c.variable
+      given = ap copy_given made.0 ∙ ap (λ z. cond z None (Some c.variable)) (eq_other c.register c.variable made.1)
+
+      at_register : (z : Bool) → (r == c.register) ≡ z → copy_by a.floor last (or_never (last r)) (cond z (Some record { variable = c.variable; made = t }) (a.copies r)) ≡ cond (writes_ref o r) (copy_given o) (unless_written o (copy_by a.floor a.written (or_never (a.written r)) (a.copies r)))
+      at_register true z =
+          let w : writes_ref o r ≡ true = ap (λ o. writes_ref o r) made.0 ∙ z in
+          ap (λ n. copy_by a.floor last n (Some record { variable = c.variable; made = t })) (last_true r w) ∙ copy_new c variable_kept ∙ sym given
+          ∙ sym (ap (λ y. cond y (copy_given o) (unless_written o (copy_by a.floor a.written (or_never (a.written r)) (a.copies r)))) w)
+      at_register false z =
+          let w : writes_ref o r ≡ false = ap (λ o. writes_ref o r) made.0 ∙ z in
+          copy_old r (a.copies r) (b.copies r) ∙ ap (λ y. cond y None (unless_written o (copy_by a.floor a.written (or_never (a.written r)) (a.copies r)))) w
+          ∙ sym (ap (λ y. cond y (copy_given o) (unless_written o (copy_by a.floor a.written (or_never (a.written r)) (a.copies r)))) w)
+
+  -- all that it writes, and its copy and number
+  all_now : (v : Option ℕ) (q : Option Copying) → copy_of o ≡ q → know_of (with_number (writes_int o) v t (with_copy q t (with_written (writes_ref o) t a))) ≡ record {
+    copy = λ r. cond (writes_ref o r) (copy_given o) (unless_written o ((know_of a).copy r));
+    number = λ i. cond (writes_int o i) v ((know_of a).number i);
+    passed = λ kind place. (know_of a).passed kind place && not (assigns o place);
+  }
+  all_now v None e = λ i. record {
+    copy = fun_ext (λ r. copy_now r None e) i;
+    number = fun_ext (number_now v) i;
+    passed = fun_ext (λ kind. fun_ext (passed_now kind)) i;
+  }
+    where
+      passed_now : (kind : Kind) (place : Place) → passed_at (with_number (writes_int o) v t (with_written (writes_ref o) t a)) kind place ≡ (passed_at a kind place && not (assigns o place))
+      passed_now kind (in_variable x n) = passed_kept kind x (a.in_variables x n) (b.in_variables x n)
+      passed_now kind (in_global g n) = sym (and_true (passed_by a.floor 0 kind (a.in_globals g n)))
+  all_now v (Some c) e = λ i. record {
+    copy = fun_ext (λ r. copy_now r (Some c) e) i;
+    number = fun_ext (number_now v) i;
+    passed = fun_ext (λ kind. fun_ext (passed_now kind)) i;
+  }
+    where
+      passed_now : (kind : Kind) (place : Place) → passed_at (with_number (writes_int o) v t (with_copy (Some c) t (with_written (writes_ref o) t a))) kind place ≡ (passed_at a kind place && not (assigns o place))
+      passed_now kind (in_variable x n) = passed_kept kind x (a.in_variables x n) (b.in_variables x n)
+      passed_now kind (in_global g n) = sym (and_true (passed_by a.floor 0 kind (a.in_globals g n)))
+
+  -- and they are notes of this time or before
+  written_before_next : (registers ints : ℕ → Bool) (v : Option ℕ) → AreBefore (t + 1) (with_number ints v t (with_written registers t a))
+  written_before_next registers ints v = record {
+    floor = let h = b.floor in omega arith;
+    written = written_before;
+    copies = λ k. copy_later (a.copies k) (b.copies k);
+    numbers = numbers_before;
+    in_variables = b.in_variables;
+    in_globals = b.in_globals;
+  }
+    where
+      written_before : (k : ℕ) → or_never (cond (registers k) (Some t) (a.written k)) < t + 1
+      written_before k = by (registers k)
+        where
+          by : (z : Bool) → or_never (cond z (Some t) (a.written k)) < t + 1
+          by true = omega arith
+          by false = let h = b.written k in omega arith
+
+      copy_later : (q : Option Copied) → CopyBefore t q → CopyBefore (t + 1) q
+      copy_later None h = tt
+      copy_later (Some c) h = omega arith
+
+      number_later : (q : Option Numbered) → NumberBefore t q → NumberBefore (t + 1) q
+      number_later None h = tt
+      number_later (Some n) h = omega arith
+
+      numbers_before : (k : ℕ) → NumberBefore (t + 1) (cond (ints k) (Some record { number = v; made = t }) (a.numbers k))
+      numbers_before k = by (ints k)
+        where
+          by : (z : Bool) → NumberBefore (t + 1) (cond z (Some record { number = v; made = t }) (a.numbers k))
+          by true = omega arith
+          by false = number_later (a.numbers k) (b.numbers k)
+
+  all_before : (registers ints : ℕ → Bool) (v : Option ℕ) (q : Option Copying) → AreBefore (t + 1) (with_number ints v t (with_copy q t (with_written registers t a)))
+  all_before registers ints v None = written_before_next registers ints v
+  all_before registers ints v (Some c) =
+      let h = written_before_next registers ints v in
+      record { floor = h.floor; written = h.written; copies = copies_before; numbers = h.numbers; in_variables = h.in_variables; in_globals = h.in_globals }
+    where
+      copy_later : (q : Option Copied) → CopyBefore t q → CopyBefore (t + 1) q
+      copy_later None h = tt
+      copy_later (Some c) h = omega arith
+
+      copies_before : (k : ℕ) → CopyBefore (t + 1) (cond (k == c.register) (Some record { variable = c.variable; made = t }) (a.copies k))
+      copies_before k = by (k == c.register)
+        where
+          by : (z : Bool) → CopyBefore (t + 1) (cond z (Some record { variable = c.variable; made = t }) (a.copies k))
+          by true = omega arith
+          by false = copy_later (a.copies k) (b.copies k)
+
+-- ---- what an access checks
+-- a check that is noted anew counts for what it or the older one counts for
+counted : (floor last : ℕ) (q : Option Passed) (kind other : Kind) → counts (stronger (passed_by floor last Write q) kind) other ≡ (passed_by floor last other q || (counts kind other && true))
+counted floor last None kind other = sym (and_true (counts kind other))
+counted floor last (Some p) kind other = by (nat_lt floor p.made) (nat_lt last p.made) p.kind
+  where
+    reads : (kind other : Kind) → counts kind other ≡ (counts Read other || (counts kind other && true))
+    reads Write Read = refl
+    reads Write Write = refl
+    reads Read Read = refl
+    reads Read Write = refl
+
+    by : (x y : Bool) (pk : Kind) → counts (stronger (x && (y && counts pk Write)) kind) other ≡ ((x && (y && counts pk other)) || (counts kind other && true))
+    by true true Write = refl
+    by true true Read = reads kind other
+    by true false pk = sym (and_true (counts kind other))
+    by false y pk = sym (and_true (counts kind other))
+
+module _ (t : ℕ) (s : Notes) (b : AreBefore t s) where
+  abbrev k : Know
+  k = know_of s
+
+  placed : (kind : Kind) (p : Place) (other : Kind) (place : Place) → passed_at (with_place kind (Some p) t s) other place ≡ (passed_at s other place || (counts kind other && same_place p place))
+  placed kind (in_variable x n) other (in_variable y j) = by (x == y) (n == j) refl refl
+    where
+      by : (z w : Bool) → (x == y) ≡ z → (n == j) ≡ w
+          → passed_by s.floor (or_never (s.written y)) other (cond (z && w) (Some record { kind = stronger (passed_at s Write (in_variable x n)) kind; made = t }) (s.in_variables y j))
+          ≡ (passed_by s.floor (or_never (s.written y)) other (s.in_variables y j) || (counts kind other && (z && w)))
+      by true true ez ew =
+          let ex : x ≡ y = eq_true x y ez in
+          let en : n ≡ j = eq_true n j ew in
+          let same : passed_at s Write (in_variable x n) ≡ passed_at s Write (in_variable y j) = ap (λ x. passed_at s Write (in_variable x n)) ex ∙ ap (λ n. passed_at s Write (in_variable y n)) en in
+          ap (λ z. z && (nat_lt (or_never (s.written y)) t && counts (stronger (passed_at s Write (in_variable x n)) kind) other)) (lt_true s.floor t b.floor)
+          ∙ ap (λ z. z && counts (stronger (passed_at s Write (in_variable x n)) kind) other) (lt_true (or_never (s.written y)) t (b.written y))
+          ∙ ap (λ z. counts (stronger z kind) other) same ∙ counted s.floor (or_never (s.written y)) (s.in_variables y j) kind other
+      by true false ez ew = sym (ap (λ z. passed_by s.floor (or_never (s.written y)) other (s.in_variables y j) || z) (and_false (counts kind other)) ∙ or_false (passed_by s.floor (or_never (s.written y)) other (s.in_variables y j)))
+      by false w ez ew = sym (ap (λ z. passed_by s.floor (or_never (s.written y)) other (s.in_variables y j) || z) (and_false (counts kind other)) ∙ or_false (passed_by s.floor (or_never (s.written y)) other (s.in_variables y j)))
+  placed kind (in_global x n) other (in_global y j) = by (x == y) (n == j) refl refl
+    where
+      by : (z w : Bool) → (x == y) ≡ z → (n == j) ≡ w
+          → passed_by s.floor 0 other (cond (z && w) (Some record { kind = stronger (passed_at s Write (in_global x n)) kind; made = t }) (s.in_globals y j))
+          ≡ (passed_by s.floor 0 other (s.in_globals y j) || (counts kind other && (z && w)))
+      by true true ez ew =
+          let ex : x ≡ y = eq_true x y ez in
+          let en : n ≡ j = eq_true n j ew in
+          let f = b.floor in
+          let same : passed_at s Write (in_global x n) ≡ passed_at s Write (in_global y j) = ap (λ x. passed_at s Write (in_global x n)) ex ∙ ap (λ n. passed_at s Write (in_global y n)) en in
+          ap (λ z. z && (nat_lt 0 t && counts (stronger (passed_at s Write (in_global x n)) kind) other)) (lt_true s.floor t b.floor)
+          ∙ ap (λ z. z && counts (stronger (passed_at s Write (in_global x n)) kind) other) (lt_true 0 t (omega arith))
+          ∙ ap (λ z. counts (stronger z kind) other) same ∙ counted s.floor 0 (s.in_globals y j) kind other
+      by true false ez ew = sym (ap (λ z. passed_by s.floor 0 other (s.in_globals y j) || z) (and_false (counts kind other)) ∙ or_false (passed_by s.floor 0 other (s.in_globals y j)))
+      by false w ez ew = sym (ap (λ z. passed_by s.floor 0 other (s.in_globals y j) || z) (and_false (counts kind other)) ∙ or_false (passed_by s.floor 0 other (s.in_globals y j)))
+  placed kind (in_variable x n) other (in_global y j) = sym (ap (λ z. passed_by s.floor 0 other (s.in_globals y j) || z) (and_false (counts kind other)) ∙ or_false (passed_by s.floor 0 other (s.in_globals y j)))
+  placed kind (in_global x n) other (in_variable y j) = sym (ap (λ z. passed_by s.floor (or_never (s.written y)) other (s.in_variables y j) || z) (and_false (counts kind other)) ∙ or_false (passed_by s.floor (or_never (s.written y)) other (s.in_variables y j)))
+
+  -- what an access leaves
+  pub record Noted (q : Option Access) (a : Notes) : Type 0 where
+    pub copies : (know_of a).copy ≡ k.copy
+    pub numbers : (know_of a).number ≡ k.number
+    pub passed : (kind : Kind) (place : Place) → (know_of a).passed kind place ≡ (k.passed kind place || passes_by q k kind place)
+    pub before : AreUpTo t a
+
+  up_to : AreUpTo t s
+  up_to = record {
+    floor = b.floor;
+    written = b.written;
+    copies = b.copies;
+    numbers = b.numbers;
+    in_variables = λ x n. passed_later t (s.in_variables x n) (b.in_variables x n);
+    in_globals = λ g n. passed_later t (s.in_globals g n) (b.in_globals g n);
+  }
+
+  unchanged : (q : Option Access) → ((kind : Kind) (place : Place) → passes_by q k kind place ≡ false) → Noted q s
+  unchanged q h = record {
+    copies = refl;
+    numbers = refl;
+    passed = λ kind place. sym (ap (λ z. k.passed kind place || z) (h kind place) ∙ or_false (k.passed kind place));
+    before = up_to;
+  }
+
+  at_place : (a : Access) (p : Place) → tells a.spot ≡ true → place_of k a.cell ≡ Some p → Noted (Some a) (with_place a.kind (Some p) t s)
+  at_place a (in_variable x n) et e = record {
+    copies = refl;
+    numbers = refl;
+    passed = λ kind place. placed a.kind (in_variable x n) kind place ∙ same kind place;
+    before = record { floor = b.floor; written = b.written; copies = b.copies; numbers = b.numbers; in_variables = there; in_globals = up_to.in_globals };
+  }
+    where
+      same : (kind : Kind) (place : Place) → (passed_at s kind place || (counts a.kind kind && same_place (in_variable x n) place)) ≡ (k.passed kind place || passes_by (Some a) k kind place)
+      same kind place = ap (λ z. passed_at s kind place || (counts a.kind kind && z)) (same_turned (in_variable x n) place) ∙ sym (ap (λ z. passed_at s kind place || (z && (counts a.kind kind && is_at (place_of k a.cell) place))) et ∙ ap (λ q. passed_at s kind place || (counts a.kind kind && is_at q place)) e)
+
+      there : (y j : ℕ) → PassedBefore (t + 1) (cond (x == y && n == j) (Some record { kind = stronger (passed_at s Write (in_variable x n)) a.kind; made = t }) (s.in_variables y j))
+      there y j = by (x == y && n == j)
+        where
+          by : (z : Bool) → PassedBefore (t + 1) (cond z (Some record { kind = stronger (passed_at s Write (in_variable x n)) a.kind; made = t }) (s.in_variables y j))
+          by true = omega arith
+          by false = up_to.in_variables y j
+  at_place a (in_global x n) et e = record {
+    copies = refl;
+    numbers = refl;
+    passed = λ kind place. placed a.kind (in_global x n) kind place ∙ same kind place;
+    before = record { floor = b.floor; written = b.written; copies = b.copies; numbers = b.numbers; in_variables = up_to.in_variables; in_globals = there };
+  }
+    where
+      same : (kind : Kind) (place : Place) → (passed_at s kind place || (counts a.kind kind && same_place (in_global x n) place)) ≡ (k.passed kind place || passes_by (Some a) k kind place)
+      same kind place = ap (λ z. passed_at s kind place || (counts a.kind kind && z)) (same_turned (in_global x n) place) ∙ sym (ap (λ z. passed_at s kind place || (z && (counts a.kind kind && is_at (place_of k a.cell) place))) et ∙ ap (λ q. passed_at s kind place || (counts a.kind kind && is_at q place)) e)
+
+      there : (y j : ℕ) → PassedBefore (t + 1) (cond (x == y && n == j) (Some record { kind = stronger (passed_at s Write (in_global x n)) a.kind; made = t }) (s.in_globals y j))
+      there y j = by (x == y && n == j)
+        where
+          by : (z : Bool) → PassedBefore (t + 1) (cond z (Some record { kind = stronger (passed_at s Write (in_global x n)) a.kind; made = t }) (s.in_globals y j))
+          by true = omega arith
+          by false = up_to.in_globals y j
+
+  noted : (q : Option Access) → Noted q (with_access (access_of q) t s)
+  noted None = unchanged None (λ kind place. refl)
+  noted (Some a) = by (tells a.spot) refl
+    where
+      by : (z : Bool) → tells a.spot ≡ z → Noted (Some a) (cond z (with_place a.kind (place_of k a.cell) t s) s)
+      by false ez = unchanged (Some a) (λ kind place. ap (λ z. z && (counts a.kind kind && is_at (place_of k a.cell) place)) ez)
+      by true ez = in_place (place_of k a.cell) refl
+        where
+          in_place : (q : Option Place) → place_of k a.cell ≡ q → Noted (Some a) (with_place a.kind q t s)
+          in_place None e = unchanged (Some a) (λ kind place. ap (λ q. tells a.spot && (counts a.kind kind && is_at q place)) e ∙ ap (λ z. tells a.spot && z) (and_false (counts a.kind kind)) ∙ and_false (tells a.spot))
+          in_place (Some p) e = at_place a p ez e
+
+  number_same : (o : Op) (i : ℕ) → writes_int o i ≡ true → number_of_line o k ≡ number_given o (k.number i)
+  number_same (op.Constant j v) i w = refl
+  number_same (op.Bounds j r cells field spot) i w = ap (λ j. with_element cells field (k.number j)) (sym (eq_true i j w))
+  number_same (op.GlobalBounds j elements cells field spot) i w = ap (λ j. with_element cells field (k.number j)) (sym (eq_true i j w))
+  number_same _ i w = refl
+
+  -- after an operation of a straight piece
+  pub known_after : (o : Op) → know_of (with_number (writes_int o) (number_of_line o k) t (with_copy (copy_of o) t (with_written (writes_ref o) t (with_access (access_of (access o)) t s)))) ≡ know_next o k
+  known_after o =
+      let a = with_access (access_of (access o)) t s in
+      let n = noted (access o) in
+      all_now o t a n.before (number_of_line o k) (copy_of o) refl ∙ (λ i. record {
+        copy = fun_ext (λ r. ap (λ (f : ℕ → Option ℕ). cond (writes_ref o r) (copy_given o) (unless_written o (f r))) n.copies) i;
+        number = fun_ext (λ j. number_at j) i;
+        passed = fun_ext (λ kind. fun_ext (λ place. ap (λ z. z && not (assigns o place)) (n.passed kind place))) i;
+      })
+    where
+      number_at : (j : ℕ) → cond (writes_int o j) (number_of_line o k) ((know_of (with_access (access_of (access o)) t s)).number j) ≡ cond (writes_int o j) (number_given o (k.number j)) (k.number j)
+      number_at j = by (writes_int o j) refl
+        where
+          by : (z : Bool) → writes_int o j ≡ z → cond z (number_of_line o k) ((know_of (with_access (access_of (access o)) t s)).number j) ≡ cond z (number_given o (k.number j)) (k.number j)
+          by true w = number_same o j w
+          by false w = ap (λ (f : ℕ → Option ℕ). f j) (noted (access o)).numbers
+
+  pub noted_before : (o : Op) (registers ints : ℕ → Bool) (v : Option ℕ) (q : Option Copying) → AreBefore (t + 1) (with_number ints v t (with_copy q t (with_written registers t (with_access (access_of (access o)) t s))))
+  noted_before o registers ints v q = all_before o t (with_access (access_of (access o)) t s) (noted (access o)).before registers ints v q
+
+  -- where a piece ends, all is void
+  pub ended : know_of (record s { floor = t }) ≡ nothing
+  ended = λ i. record { copy = fun_ext copies i; number = fun_ext numbers i; passed = fun_ext (λ kind. fun_ext (passes kind)) i }
+    where
+      copies : (r : ℕ) → copy_by t s.written (or_never (s.written r)) (s.copies r) ≡ None
+      copies r = by (s.copies r) (b.copies r)
+        where
+          by : (q : Option Copied) → CopyBefore t q → copy_by t s.written (or_never (s.written r)) q ≡ None
+          by None h = refl
+          by (Some c) h = ap (λ z. cond (z && (nat_le (or_never (s.written r)) c.made && nat_lt (or_never (s.written c.variable)) c.made)) (Some c.variable) None) (lt_false t c.made (omega arith))
+
+      numbers : (i : ℕ) → number_by t (s.numbers i) ≡ None
+      numbers i = by (s.numbers i) (b.numbers i)
+        where
+          by : (q : Option Numbered) → NumberBefore t q → number_by t q ≡ None
+          by None h = refl
+          by (Some n) h = ap (λ z. cond z n.number None) (lt_false t n.made (omega arith))
+
+      void : (last : ℕ) (kind : Kind) (q : Option Passed) → PassedBefore t q → passed_by t last kind q ≡ false
+      void last kind None h = refl
+      void last kind (Some p) h = ap (λ z. z && (nat_lt last p.made && counts p.kind kind)) (lt_false t p.made (omega arith))
+
+      passes : (kind : Kind) (place : Place) → passed_at (record s { floor = t }) kind place ≡ false
+      passes kind (in_variable x n) = void (or_never (s.written x)) kind (s.in_variables x n) (b.in_variables x n)
+      passes kind (in_global g n) = void 0 kind (s.in_globals g n) (b.in_globals g n)
+
+  pub ended_before : AreBefore (t + 1) (record s { floor = t })
+  ended_before = record {
+    floor = omega arith;
+    written = λ k. let h = b.written k in omega arith;
+    copies = λ k. copy_later (s.copies k) (b.copies k);
+    numbers = λ k. number_later (s.numbers k) (b.numbers k);
+    in_variables = λ x n. passed_later t (s.in_variables x n) (b.in_variables x n);
+    in_globals = λ g n. passed_later t (s.in_globals g n) (b.in_globals g n);
+  }
+    where
+      copy_later : (q : Option Copied) → CopyBefore t q → CopyBefore (t + 1) q
+      copy_later None h = tt
+      copy_later (Some c) h = omega arith
+
+      number_later : (q : Option Numbered) → NumberBefore t q → NumberBefore (t + 1) q
+      number_later None h = tt
+      number_later (Some n) h = omega arith

@@ -1,0 +1,11 @@
+use mathlib.Core.Path.{fun_ext}
+use Rattle.std.proofs.Common.{◌≡◌, ℕ, Bool, IfOk, subst, ap, ◌∙◌}
+use Rattle.sharc_flat_form.specs.Made.{flat_of}
+use Rattle.sharc_guard.specs.Known.{dropped}
+use Rattle.sharc_guard.specs.Made.{IsMade, marked}
+use Rattle.sharc_guard.proofs.guarding.guard_few.Goals as goal
+
+pub returns : goal.returns
+returns c =
+    let are : marked c.deref.result.now ≡ dropped (flat_of c.args.flat) = ap marked c.deref.ensures.value ∙ fun_ext c.in_ok-marks.ensures.are in
+    subst (λ (d : ℕ → Bool). IfOk c.guard_marked.result (λ g. IsMade d c.args.flat g)) are c.guard_marked.ensures

@@ -1,0 +1,6 @@
+use Rattle.sharc_guard.specs.Marked.{notes_of, of_register}
+use Rattle.sharc_guard.proofs.Noting.{written_noted}
+use Rattle.sharc_guard.proofs.marks.Knowledge.note_one.Goals as goal
+
+pub returns : goal.returns
+returns c = written_noted (notes_of c.args.self.now) (of_register c.insert.new.self.entries) c.args.register c.args.time c.in_ok-insert.ensures.updates.0

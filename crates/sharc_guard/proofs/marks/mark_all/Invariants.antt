@@ -1,0 +1,7 @@
+use Rattle.sharc_flat_form.specs.Made.{flat_of}
+use Rattle.sharc_guard.specs.Marked.{notes_of}
+use Rattle.sharc_guard.proofs.Targets.{IsAt}
+use Rattle.sharc_guard.proofs.marks.mark_all.Given as goal
+
+abbrev pub invariant-loop-n : goal.invariant-loop-n
+invariant-loop-n l = IsAt (flat_of l.flat) l.n l.marks.items (notes_of l.knowledge)
