@@ -5,3 +5,4 @@ pub mod Numbers
 pub mod Makes
 pub mod Arms
 pub mod Spellings
+pub mod Bounding

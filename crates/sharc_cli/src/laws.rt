@@ -1,6 +1,7 @@
 //! The laws of the definition, each the contract of a function that does nothing.
 
 ghost use Rattle.std.specs.Prelude.{◌≡◌, List, Some, ◌↔◌};
+ghost use Rattle.sharc_cli.specs.Bounds.{AreWithin};
 ghost use Rattle.sharc_cli.specs.Commands.{Word, commands};
 ghost use Rattle.sharc_cli.specs.Written.{IsCommand};
 ghost use Rattle.sharc_cli.specs.declared.command.Command.{Command};
@@ -8,4 +9,9 @@ ghost use Rattle.sharc_cli.specs.declared.command.Command.{Command};
 /// Words are a command exactly where they are its name and, behind it, the words of its arguments in some order, each once.
 pub fn commands_are_written()
     ensures { (words : List Word) → (command : Command) → (commands words ≡ Some command) ↔ IsCommand words command }
+{}
+
+/// The numbers of a command are within their bounds.
+pub fn numbers_are_within()
+    ensures { (words : List Word) → (command : Command) → commands words ≡ Some command → AreWithin command }
 {}
