@@ -13,6 +13,7 @@ use Rattle.sharc_flat.specs.Laws.{FitsMade}
 use Rattle.sharc_gen.specs.Consistent.{Elements, said_in, IsConsistent}
 use Rattle.sharc_gen.specs.Correct.{IsBeginning}
 use Rattle.sharc_gen.specs.Generated.{program_of}
+use Rattle.sharc_gen.specs.Lowered.{lowered_in}
 use Rattle.sharc_compile.specs.Made.{IsCodeOf}
 use Rattle.sharc_compile.specs.Source.{FollowsSource}
 
@@ -22,5 +23,6 @@ ProgramCodeFollows = (m : Assignment) → ProgramSuits m → (flat : FlatCode) �
     → (s : Shape) (thread : ℕ) (elements : ℕ → Elements) (founds : List ℕ) → CodePath code s thread founds → IsConsistent code s (begun code s thread) elements founds
     → let at = machine_after code s (begun code s thread) founds in
     let said = said_in code s (begun code s thread) elements founds in
+    let lowered = lowered_in code s (begun code s thread) elements founds in
     let paced = paced_in code s (begun code s thread) founds in
-    IsBeginning at said paced ⊎ FollowsSource m code (program_of is.g) (length flat.functions.items) thread at said paced
+    IsBeginning at said paced ⊎ FollowsSource m code (program_of is.g) (length flat.functions.items) thread at said lowered paced

@@ -29,7 +29,8 @@ pub fn made_law()
 }
 
 /// Where the flat code asks for what a program asks for, a thread of its code tells what the program tells by the same answers, is over as
-/// the program is, and makes at most 64 counted turns for each statement and expression that the program entered, and 64 more.
+/// the program is, has lowered of the references that the program has given up since its last event the first ones, and makes at most 64
+/// counted turns for each statement and expression that the program entered, and 64 more.
 pub fn source_law()
     ensures { CodeFollowsSource }
 {
