@@ -9,11 +9,12 @@ use Rattle.sharc_tree.specs.declared.event.SourceEvent.{SourceEvent}
 use Rattle.sharc_tree.specs.declared.event.Taken.TheVariants as taken
 use Rattle.sharc_tree.specs.declared.token.Site.{Site}
 use Rattle.sharc_mode.specs.Moded.{Assignment}
-use Rattle.sharc_meaning.specs.declared.given.GivenUp.TheVariants.{Replaced}
+use Rattle.sharc_meaning.specs.declared.given.GivenUp.{GivenUp}
+use Rattle.sharc_meaning.specs.declared.given.GivenUp.TheVariants.{Emptied, Released, Replaced}
 use Rattle.sharc_meaning.specs.Meaning as Meaning
 use Rattle.sharc_meaning.specs.Arithmetic.{is_zero, null_base, out_of_bounds, out_of_range, mutex_not_held, mutex_already_held, calls_too_deep, returns_with_a_lock, size_not_positive, too_many_locks}
 use Rattle.sharc_meaning.specs.Events.{held_mutexes, holds_mutex}
-use Rattle.sharc_meaning.specs.Reference.{is_null, elements_of}
+use Rattle.sharc_meaning.specs.Reference.{is_null, elements_of, number_of}
 use Rattle.sharc_meaning.specs.State.{Outcome, ended, stopped, spent}
 use Rattle.sharc_meaning.specs.Statements.{is_positive}
 use Rattle.sharc_code.specs.Arithmetic.{computed, negated, holds}
@@ -34,48 +35,57 @@ use Rattle.sharc_flat_form.specs.Path.{at_after, asked, asked_by, IsPath, PathsA
 use Rattle.sharc_flat.specs.Correct.{AsksTheSame, MayStart}
 use Rattle.sharc_guarded_form.specs.declared.guarded.Guarded.{Guarded}
 use Rattle.sharc_gen.specs.Correct.{by, begins}
+use Rattle.sharc_guard.specs.Correct.{Resolved}
 use Rattle.sharc_gen.specs.Generated.{program_of}
 use Rattle.sharc_compile.specs.Coded.{WantsAt, StopsFor, IsOverFor, FollowsFlat}
 use Rattle.sharc_compile.specs.Source.{WantsEventAt, IsStopOf, IsOverAs, IsToldBy, FollowsSource}
 
--- ---- events
--- a turn adds no event before it is answered
+-- ---- events, and what is given up
+-- no event is told, and nothing is taken back of what was given up
+abbrev IsStill : At → At → Type 0
+IsStill m m2 = (m2.events ≡ m.events) × (extra : List GivenUp) × (m2.given ≡ m.given ++ extra)
+
+-- nor by a turn before it is answered
 abbrev IsQuiet : At → Turn → Type 0
-IsQuiet m (goes m2) = m2.events ≡ m.events
-IsQuiet m (asks m2 site act held go) = m2.events ≡ m.events
+IsQuiet m (goes m2) = IsStill m m2
+IsQuiet m (asks m2 site act held go) = IsStill m m2
 IsQuiet m (halts o) = Unit {0}
+
+-- as much is given up
+same_given : (m : At) → m.given ≡ m.given ++ []
+same_given m = sym (append-nil m.given)
 
 cond_quiet : (b : Bool) (x y : Turn) (m : At) → IsQuiet m x → IsQuiet m y → IsQuiet m (cond b x y)
 cond_quiet true x y m p q = p
 cond_quiet false x y m p q = q
 
 asserts_quiet : (b : Bool) (code : ℕ) (spot : Spot) (m : At) → IsQuiet m (asserts b code spot m)
-asserts_quiet b code spot m = cond_quiet b (goes_on m) (stops code spot) m refl tt
+asserts_quiet b code spot m = cond_quiet b (goes_on m) (stops code spot) m (refl, [], same_given m) tt
 
 result_quiet : (i : ℕ) (spot : Spot) (m : At) (r : Result ℤ ℕ) → IsQuiet m (with_result i spot m r)
-result_quiet i spot m (Ok v) = refl
+result_quiet i spot m (Ok v) = (refl, [], same_given m)
 result_quiet i spot m (Err code) = tt
 
 indexed_quiet : (i cells field : ℕ) (v : ℤ) (elements : ℕ) (spot : Spot) (m : At) → IsQuiet m (indexed i cells field v elements spot m)
-indexed_quiet i cells field (pos n) elements spot m = cond_quiet (nat_lt n elements) (goes_on (set_int i (pos (n * cells + field)) m)) (stops out_of_bounds spot) m refl tt
+indexed_quiet i cells field (pos n) elements spot m = cond_quiet (nat_lt n elements) (goes_on (set_int i (pos (n * cells + field)) m)) (stops out_of_bounds spot) m (refl, [], same_given m) tt
 indexed_quiet i cells field (negsuc n) elements spot m = tt
 
-skip_quiet : (b : Bool) (n : ℕ) (m : At) → (cond b (over_lines n m) (next m)).events ≡ m.events
-skip_quiet true n m = refl
-skip_quiet false n m = refl
+skip_quiet : (b : Bool) (n : ℕ) (m : At) → IsStill m (cond b (over_lines n m) (next m))
+skip_quiet true n m = (refl, [], same_given m)
+skip_quiet false n m = (refl, [], same_given m)
 
 accesses_quiet : (globals : List GlobalCells) (cell : Cell) (spot : Spot) (act : CellAt → CellMode → Act) (then_ : CellAt → ℤ → At → At) (m : At) → IsQuiet m (accesses globals cell spot act then_ m)
 accesses_quiet globals cell spot act then_ m =
     cond_quiet (lock_is_null m spot spot.mode) (stops null_base spot)
-    (asks m spot.site (act (cell_at globals m cell) (mode_of globals m (cell_at globals m cell) spot.mode)) (pos 0) (λ v n. accessed (next (then_ (cell_at globals m cell) v n)))) m tt refl
+    (asks m spot.site (act (cell_at globals m cell) (mode_of globals m (cell_at globals m cell) spot.mode)) (pos 0) (λ v n. accessed (next (then_ (cell_at globals m cell) v n)))) m tt (refl, [], same_given m)
 
 returned_quiet : (flat : Flat) (frames : List Caller) (spot : Spot) (m : At) → IsQuiet m (returned flat frames spot m)
-returned_quiet flat [] spot m = cond_quiet (not (nat_lt 0 (length (held_mutexes m.events)))) (goes (record m { pc = length flat.lines })) (stops returns_with_a_lock spot) m refl tt
-returned_quiet flat (c ∷ rest) spot m = refl
+returned_quiet flat [] spot m = cond_quiet (not (nat_lt 0 (length (held_mutexes m.events)))) (goes (record m { pc = length flat.lines })) (stops returns_with_a_lock spot) m (refl, [], same_given m) tt
+returned_quiet flat (c ∷ rest) spot m = (refl, [], same_given m)
 
 takes_quiet : (r x : ℕ) (spot : Spot) (m : At) (b : Bool) → IsQuiet m (takes_local r x spot m b)
-takes_quiet r x spot m true = refl
-takes_quiet r x spot m false = refl
+takes_quiet r x spot m true = (refl, [], same_given m)
+takes_quiet r x spot m false = (refl, [], same_given m)
 
 op_quiet : (flat : Flat) (o : Op) (m : At) → IsQuiet m (op_turn flat o m)
 op_quiet flat (op.Compute width o i a b spot) m = result_quiet i spot m (computed width o (int m a) (int m b))
@@ -83,7 +93,7 @@ op_quiet flat (op.Negate width i a spot) m = result_quiet i spot m (negated widt
 op_quiet flat (op.ChkWidth width i spot) m = asserts_quiet (holds width (int m i)) out_of_range spot m
 op_quiet flat (op.SkipIfZero i n) m = skip_quiet (is_zero (int m i)) n m
 op_quiet flat (op.SkipIfNull r n) m = skip_quiet (is_null (ref m r)) n m
-op_quiet flat (op.Call f ints refs spot) m = cond_quiet (nat_lt (length m.frames) 255) (goes (called flat f ints refs m)) (stops calls_too_deep spot) m refl tt
+op_quiet flat (op.Call f ints refs spot) m = cond_quiet (nat_lt (length m.frames) 255) (goes (called flat f ints refs m)) (stops calls_too_deep spot) m (refl, [], same_given m) tt
 op_quiet flat (op.Return spot) m = returned_quiet flat m.frames spot m
 op_quiet flat (op.ChkNull r spot) m = asserts_quiet (not (is_null (ref m r))) null_base spot m
 op_quiet flat (op.ChkPositive i spot) m = asserts_quiet (is_positive (int m i)) size_not_positive spot m
@@ -98,26 +108,45 @@ op_quiet flat (op.LoadRef r cell spot) m = accesses_quiet flat.globals cell spot
 op_quiet flat (op.StoreRef r cell spot) m = accesses_quiet flat.globals cell spot (λ c mode. acts.Write c mode (ref m r)) (λ c v n. gives_up (Replaced c) (set_ref r (pos 0) n)) m
 op_quiet flat (op.TakeCell r cell spot) m = accesses_quiet flat.globals cell spot (λ c mode. acts.Take (taken.Cell c mode) (kind_of spot.at)) (λ c v. set_ref r v) m
 op_quiet flat (op.TakeLocal r x spot) m = takes_quiet r x spot m (is_null (ref m x))
-op_quiet flat _ m = refl
+op_quiet flat (op.Pop r) m = (refl, Released (number_of (ref m r)) ∷ [], refl)
+op_quiet flat (op.Settle x from) m = (refl, Released (number_of (ref m x)) ∷ [], refl)
+op_quiet flat (op.Free r layout spot) m = (refl, Emptied (number_of (ref m r)) ∷ [], refl)
+op_quiet flat _ m = (refl, [], same_given m)
 
 line_quiet : (flat : Flat) (o : Option Op) (m : At) → IsQuiet m (line_turn flat o m)
 line_quiet flat (Some o) m = op_quiet flat o m
 line_quiet flat None m = by_place (m.pc - length flat.lines)
   where
     by_place : (n : ℕ) → IsQuiet m (end_turn flat m n)
-    by_place zero = refl
-    by_place (suc zero) = refl
+    by_place zero = (refl, [], same_given m)
+    by_place (suc zero) = (refl, [], same_given m)
     by_place (suc (suc n)) = tt
 
--- so what is not answered leaves the events as they are
-same_events : (flat : Flat) (k : ℕ) (m : At) → (exec flat k [] m).at.events ≡ m.events
-same_events flat zero m = refl
-same_events flat (suc k) m = by_turn (turn flat m) (line_quiet flat (slice_get flat.lines m.pc) m) (same_events flat k)
+-- so what is not answered leaves the events as they are, and gives up more at most
+still : (flat : Flat) (k : ℕ) (m : At) → IsStill m (exec flat k [] m).at
+still flat zero m = (refl, [], same_given m)
+still flat (suc k) m = by_turn (turn flat m) (line_quiet flat (slice_get flat.lines m.pc) m) (still flat k)
   where
-    by_turn : (t : Turn) → IsQuiet m t → ((m2 : At) → (exec flat k [] m2).at.events ≡ m2.events) → (on_turn t [] m (exec flat k)).at.events ≡ m.events
-    by_turn (goes m2) q rec = rec m2 ∙ q
+    by_turn : (t : Turn) → IsQuiet m t → ((m2 : At) → IsStill m2 (exec flat k [] m2).at) → IsStill m (on_turn t [] m (exec flat k)).at
+    by_turn (goes m2) q rec = let r = rec m2 in (r.0 ∙ q.0, q.1 ++ r.1, r.2 ∙ ap (λ xs. xs ++ r.1) q.2 ∙ append_assoc m.given q.1 r.1)
     by_turn (asks m2 site act held go) q rec = q
-    by_turn (halts o) q rec = refl
+    by_turn (halts o) q rec = (refl, [], same_given m)
+
+-- what is given up besides may be lowered later
+all_resolved : (extra : List GivenUp) → (more : List ℕ) × Resolved extra more
+all_resolved [] = ([], tt)
+all_resolved (Released n ∷ gs) = let r = all_resolved gs in (n ∷ r.0, (refl, r.1))
+all_resolved (Replaced c ∷ gs) = let r = all_resolved gs in (0 ∷ r.0, r.1)
+all_resolved (Emptied n ∷ gs) = all_resolved gs
+
+more_resolved : (gs extra : List GivenUp) (ks : List ℕ) → Resolved gs ks → (more : List ℕ) × Resolved (gs ++ extra) (ks ++ more)
+more_resolved [] extra [] h = all_resolved extra
+more_resolved [] extra (k ∷ ks) h = absurd h
+more_resolved (Released n ∷ gs) extra [] h = absurd h
+more_resolved (Released n ∷ gs) extra (k ∷ ks) h = let r = more_resolved gs extra ks h.1 in (r.0, (h.0, r.1))
+more_resolved (Replaced c ∷ gs) extra [] h = absurd h
+more_resolved (Replaced c ∷ gs) extra (k ∷ ks) h = let r = more_resolved gs extra ks h in (r.0, r.1)
+more_resolved (Emptied n ∷ gs) extra ks h = more_resolved gs extra ks h
 
 -- ---- a path and its beginnings
 record Begins (flat : Flat) (m : At) (answers : List ℤ) (n : ℕ) : Type 0 where
@@ -193,18 +222,25 @@ module _ (code : Code) (flat : Flat) (m : At) (k : ℕ) where
   over_is Ended stop h = halted ended h
 
 -- ---- all together
-told : (runs : PathsAreRuns) (m : Assignment) (flat : Flat) (same : AsksTheSame m flat) (code : Code) (g : Guarded) (thread : ℕ) (at : Machine) (said : List SourceEvent) (paced : ℕ)
-    → (h : FollowsFlat code g flat thread at said paced) → MayStart m h.function → IsToldBy m code (program_of g) thread h.function h.argument (asked flat (start flat h.function h.argument) h.answers) at said paced
-told runs m flat same code g thread at said paced h may =
+told : (runs : PathsAreRuns) (m : Assignment) (flat : Flat) (same : AsksTheSame m flat) (code : Code) (g : Guarded) (thread : ℕ) (at : Machine) (said : List SourceEvent) (lowered : List ℕ) (paced : ℕ)
+    → (h : FollowsFlat code g flat thread at said lowered paced) → MayStart m h.function → IsToldBy m code (program_of g) thread h.function h.argument (asked flat (start flat h.function h.argument) h.answers) at said lowered paced
+told runs m flat same code g thread at said lowered paced h may =
     let st = start flat h.function h.argument in
     let answers = asked flat st h.answers in
     let m2 = at_after flat st h.answers in
     let b = same.back h.function may h.argument answers (length h.answers + 1) in
     let f = beyond runs flat st h.answers h.path b.later b.reached in
     let outcome : (exec flat (suc f.more) [] m2).outcome ≡ (Meaning.asks m h.function h.argument answers b.fuel).outcome = ap (λ (c : Came). c.outcome) (sym f.is) ∙ b.same.outcome in
-    let events : m2.events ≡ (Meaning.asks m h.function h.argument answers b.fuel).events = sym (same_events flat (suc f.more) m2) ∙ ap (λ (c : Came). c.at.events) (sym f.is) ∙ b.same.events in
+    let events : m2.events ≡ (Meaning.asks m h.function h.argument answers b.fuel).events = sym (still flat (suc f.more) m2).0 ∙ ap (λ (c : Came). c.at.events) (sym f.is) ∙ b.same.events in
+    let s = still flat (suc f.more) m2 in
+    let rest = more_resolved m2.given s.1 (lowered ++ h.given.0) h.given.1 in
+    let given : m2.given ++ s.1 ≡ (Meaning.asks m h.function h.argument answers b.fuel).given_up = sym s.2 ∙ ap (λ (c : Came). c.at.given) (sym f.is) ∙ b.same.given_up in
     record {
       fuel = b.fuel;
+      given = (
+        h.given.0 ++ rest.0,
+        subst (λ (gs : List GivenUp). Resolved gs (lowered ++ (h.given.0 ++ rest.0))) given (subst (Resolved (m2.given ++ s.1)) (append_assoc lowered h.given.0 rest.0) rest.1),
+      );
       events = h.events ∙ ap (λ (es : List SourceEvent). by thread (begins (program_of g) h.function h.argument) ∷ map (by thread) es) events;
       over = subst (λ (o : Outcome). IsOverAs code o at.at.state at.own.stop) outcome (over_is code flat m2 f.more at.at.state at.own.stop h.over);
       pace = λ few lt.
@@ -216,12 +252,12 @@ told runs m flat same code g thread at said paced h may =
           sym q.same.outcome ∙ within runs flat st h.answers h.path q.turns le;
     }
 
-pub follows : (runs : PathsAreRuns) (m : Assignment) (flat : Flat) (same : AsksTheSame m flat) (code : Code) (g : Guarded) (thread : ℕ) (at : Machine) (said : List SourceEvent) (paced : ℕ)
-    → FollowsFlat code g flat thread at said paced → FollowsSource m code (program_of g) (length flat.functions) thread at said paced
-follows runs m flat same code g thread at said paced h = record {
+pub follows : (runs : PathsAreRuns) (m : Assignment) (flat : Flat) (same : AsksTheSame m flat) (code : Code) (g : Guarded) (thread : ℕ) (at : Machine) (said : List SourceEvent) (lowered : List ℕ) (paced : ℕ)
+    → FollowsFlat code g flat thread at said lowered paced → FollowsSource m code (program_of g) (length flat.functions) thread at said lowered paced
+follows runs m flat same code g thread at said lowered paced h = record {
   function = h.function;
   known = h.known;
   argument = h.argument;
   answers = asked flat (start flat h.function h.argument) h.answers;
-  told = told runs m flat same code g thread at said paced h;
+  told = told runs m flat same code g thread at said lowered paced h;
 }

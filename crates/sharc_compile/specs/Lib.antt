@@ -1,4 +1,5 @@
 pub mod Checked
 pub mod Coded
 pub mod Made
+pub mod Program
 pub mod Source
