@@ -1,4 +1,4 @@
-use Rattle.sharc_seq.proofs.table.begin_all.Goals as goal
+use Rattle.sharc_seq.proofs.walk.begin_all.Goals as goal
 
 pub returns : goal.returns
 returns c = record {

@@ -2,8 +2,8 @@ use Rattle.std.proofs.Common.{◌≡◌, ℕ, ◌<◌, ◌++◌, ◌∷◌, [], 
 use Rattle.sharc_cpu.specs.Thread.{ThreadView}
 use Rattle.sharc_threads.specs.Seats.{may_turn_at}
 use Rattle.sharc_seq.proofs.Choosing.{any_default, firsts, firsts_all, filter_yes, filter_no}
-use Rattle.sharc_seq.proofs.table.collect.Goals as goal
-use Rattle.sharc_seq.proofs.table.collect.Goals.{then-may_turn_at+in_ok-push, else-may_turn_at}
+use Rattle.sharc_seq.proofs.walk.collect.Goals as goal
+use Rattle.sharc_seq.proofs.walk.collect.Goals.{then-may_turn_at+in_ok-push, else-may_turn_at}
 
 pub loop-index-preserved : goal.loop-index-preserved
 loop-index-preserved c =

@@ -2,8 +2,8 @@ use Rattle.std.proofs.Common.{◌≡◌, ℕ, ◌<◌, ◌++◌, ◌∷◌, [], 
 use Rattle.std.specs.Prelude.{is_some}
 use Rattle.sharc_cpu.specs.Thread.{ThreadView}
 use Rattle.sharc_seq.proofs.Choosing.{any_default, up_to_yes, up_to_no}
-use Rattle.sharc_seq.proofs.table.list_started.Goals as goal
-use Rattle.sharc_seq.proofs.table.list_started.Goals.{then-is_some+in_ok-push, else-is_some}
+use Rattle.sharc_seq.proofs.walk.list_started.Goals as goal
+use Rattle.sharc_seq.proofs.walk.list_started.Goals.{then-is_some+in_ok-push, else-is_some}
 
 pub loop-number-preserved : goal.loop-number-preserved
 loop-number-preserved c =
