@@ -1,0 +1,17 @@
+pub mod Arranged
+pub mod Started
+pub mod Arranging
+pub mod Trying
+pub mod Together
+pub mod Among
+pub mod Replaying
+pub mod Fitting
+pub mod Showing
+pub mod Finding
+pub mod Mapping
+pub mod Lasts
+pub mod Matching
+pub mod Following
+pub mod Turning
+pub mod Making
+pub mod Stepping
