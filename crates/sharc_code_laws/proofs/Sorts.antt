@@ -38,9 +38,9 @@ use Rattle.sharc_code.specs.declared.state.Stage.{Stage}
 use Rattle.sharc_code.specs.declared.state.Stage.TheVariants.{Rests, Looks, Clears, Makes, Empties, Lowers, FreeLooks, FreeClears, Uncounts, Links, Names, Hands, Begins, Enters, Withdraws, WithdrawsFrom, Leaves, Wakes}
 use Rattle.sharc_code.specs.Arithmetic.{computed, negated, is_zero, holds}
 use Rattle.sharc_code.specs.Layout.{granule_at, granule_of, words_of, cell_of, cell_word, shadow_word, count_word, first_cell, first_shadow, state_word, next_thread_word}
-use Rattle.sharc_code.specs.Machine.{Machine, Own, Turn, act, int, ref, goes, goes_to, asserts, with_result, has_room, called, returned, holds_none, is_of_null, is_held, indexed, wrote, with_note, checked, check, lock_checked, raise, lower, test, tested, after_new, asks_new, new, new_state, elements_of, looks, clear, data_granules, free_looks, empties, emptied, free, layout_at, spawn, with_parameter, entered, start, function_of, withdraws, exit, wakes, signal, is_positive, fields, largest, at_stage, place, set_ref, accessed, move_ref, numbered, trapped, locked, joined, join, printed, woken, word, Local, Asks, step_of, without_base, instr_at}
+use Rattle.sharc_code.specs.Machine.{Machine, Own, Turn, act, int, ref, goes, goes_to, asserts, with_result, has_room, called, returned, holds_none, is_of_null, is_held, indexed, wrote, with_note, checked, lock_checked, raise, lower, test, tested, after_new, asks_new, new, new_state, elements_of, looks, clear, data_granules, free_looks, empties, emptied, free, layout_at, spawn, with_parameter, entered, start, function_of, withdraws, exit, wakes, signal, is_positive, fields, largest, at_stage, place, set_ref, accessed, move_ref, numbered, trapped, locked, joined, join, woken, word, Local, Asks, step_of, without_base, instr_at}
 use Rattle.sharc_code.specs.Path.{after, turn, asked_by, counted}
-use Rattle.sharc_code.specs.Stages.{IsStageOf, drawn_of, begins_of}
+use Rattle.sharc_code.specs.Stages.{IsStageOf, drawn_of}
 
 abbrev pub is_ended : State → Bool
 is_ended Runs = false

@@ -1,12 +1,11 @@
 -- What the state words tell wherever a run stands.
-use Rattle.std.proofs.Common.{◌≡◌, ℕ, zero, suc, ◌+◌, ◌*◌, ◌%◌, ◌^◌, ◌<◌, ◌≤◌, ◌⊎◌, Bool, true, false, cond, ◌||◌, ◌&&◌, List, [], ◌∷◌, length, Option, Some, None, refl, sym, ap, ◌∙◌, subst, ⊎_elim, inl, inr, arith}
-use Rattle.std.specs.Prelude.{nat_eq, nat_lt, nat_le, ◌==◌, slice_index, slice_set, if◌then◌else◌}
+use Rattle.std.proofs.Common.{◌≡◌, ℕ, zero, suc, ◌+◌, ◌%◌, ◌^◌, ◌<◌, ◌≤◌, ◌⊎◌, Bool, true, false, ◌||◌, ◌&&◌, List, [], ◌∷◌, length, Option, Some, None, refl, sym, ap, ◌∙◌, subst, ⊎_elim, inl, inr, arith}
+use Rattle.std.specs.Prelude.{nat_eq, nat_lt, nat_le, ◌==◌, slice_index, slice_set}
 use Rattle.std.proofs.lemmas.Bool.{cases_eq}
 use Rattle.std.proofs.lemmas.Bool.Decides.{nat_tests}
 use Rattle.std.proofs.lemmas.List.{get_or-set_other}
 use Rattle.std.proofs.lemmas.List.FromFn.{get_or-map-range_with_len}
 use Rattle.sharc_word.specs.declared.step.TheConstants.{THREADS}
-use Rattle.sharc_word.specs.declared.step.WordOp.{WordOp}
 use Rattle.sharc_word.specs.declared.step.WordOp.TheVariants as ops
 use Rattle.sharc_word.specs.declared.step.WordStep.{WordStep}
 use Rattle.sharc_word.specs.declared.step.WordEvent.{WordEvent}
@@ -15,14 +14,14 @@ use Rattle.sharc_code.specs.declared.code.Code.{Code}
 use Rattle.sharc_code.specs.declared.shape.Shape.{Shape}
 use Rattle.sharc_code.specs.declared.state.State.{State}
 use Rattle.sharc_code.specs.declared.state.State.TheVariants.{Runs, Tries, Stopped, Ended}
-use Rattle.sharc_code.specs.Layout.{state_word, next_thread_word, words_of, first_cell}
+use Rattle.sharc_code.specs.Layout.{state_word, next_thread_word, words_of}
 use Rattle.sharc_code.specs.Machine.{Machine, Turn as Act, step_of as step_at}
-use Rattle.sharc_code.specs.Opening.{opening_words, opens_with, opening_cell, first_global, first_heap}
+use Rattle.sharc_code.specs.Opening.{opening_words, opens_with, opening_cell, first_global}
 use Rattle.sharc_code.specs.Path.{turn, after, asked_by, may_go, counted}
-use Rattle.sharc_code.specs.Runs.{Turn, Global, IsRun, MayTurn, at, after_turn, put, words_now, result_of, step_of, is_started, opening_of, Answered}
+use Rattle.sharc_code.specs.Runs.{Turn, Global, IsRun, put, words_now, result_of, step_of, is_started, opening_of, Answered}
 use Rattle.sharc_code.specs.Laws.{RunLaws}
 use Rattle.sharc_code.specs.StandingLaws.{StandingLaws}
-use Rattle.sharc_code.specs.Stages.{IsStageOf, drawn_of}
+use Rattle.sharc_code.specs.Stages.{drawn_of}
 use Rattle.sharc_code.specs.Whole.{one_thread, bounds, place_after}
 use Rattle.sharc_code_laws.specs.Told.{state_of}
 use Rattle.sharc_code_laws.proofs.Places.{put_same, put_other, sum_to, sum_few, sum_grows, sum_more}
@@ -201,9 +200,11 @@ module _ (g : Global Machine) (k : ℕ) (event : Option WordEvent) (h : Holds g)
   ordinary : Elsewhere (asked_by t) → Plain m x → Told
   ordinary away plain =
       let next_is : next ≡ next_of g = elsewhere g.words event (asked_by t) next_thread_word asks (λ step is. of_next (asked_by t) step is away) in
-      let states : States = λ u low. Same (elsewhere g.words event (asked_by t) (state_word u) asks (λ step is. of_state (asked_by t) step is u low away)) in
-      (changes states (omega arith) (λ n e. inl (plain.drawn n e)) (λ e. absurd (not_ended (is_ended x.at.state) e plain.on))
-      (λ e. absurd (let s : state k ≡ state_of g k = elsewhere g.words event (asked_by t) (state_word k) asks (λ step is. of_state (asked_by t) step is k k_low away) in not_ended (is_ended m.at.state) (h.tells.end k k_low (sym s ∙ e)) on)), few_same next_is)
+      let states : States = λ u low. Same (elsewhere g.words event (asked_by t) (state_word u) asks (λ step is. of_state (asked_by t) step is u low away)) in (
+        changes states (omega arith) (λ n e. inl (plain.drawn n e)) (λ e. absurd (not_ended (is_ended x.at.state) e plain.on))
+            (λ e. absurd (let s : state k ≡ state_of g k = elsewhere g.words event (asked_by t) (state_word k) asks (λ step is. of_state (asked_by t) step is k k_low away) in not_ended (is_ended m.at.state) (h.tells.end k k_low (sym s ∙ e)) on)),
+        few_same next_is,
+      )
     where
       of_next : (asked : Option WordStep) (step : WordStep) → asked ≡ Some step → Elsewhere asked → step.word ≡ next_thread_word → (v : ℕ) → word_after step.op v ≡ v
       of_next None step is away = absurd (cc)
@@ -225,9 +226,11 @@ module _ (g : Global Machine) (k : ℕ) (event : Option WordEvent) (h : Holds g)
       let other : (u : ℕ) → state u ≡ state_of g u = λ u. after_other g.words event step (state_word u) q (λ e. no u (sym e)) in
       let states : States = λ u low. Same (other u) in
       let sums = sum_more THREADS g.made k (counted x.at.state) k_low in
-      let one = drew.counts in
-      (changes states (omega arith) (λ n e. inr (let d = drew.drawn n e in let same = d.0 in (omega arith, omega arith, d.1))) (λ e. absurd (not_ended (is_ended x.at.state) e drew.on))
-      (λ e. absurd (not_ended (is_ended m.at.state) (h.tells.end k k_low (sym (other k) ∙ e)) on)), omega arith)
+      let one = drew.counts in (
+        changes states (omega arith) (λ n e. inr (let d = drew.drawn n e in let same = d.0 in (omega arith, omega arith, d.1))) (λ e. absurd (not_ended (is_ended x.at.state) e drew.on))
+            (λ e. absurd (not_ended (is_ended m.at.state) (h.tells.end k k_low (sym (other k) ∙ e)) on)),
+        omega arith,
+      )
 
   starts : (n : ℕ) → drawn_of m.own.stage ≡ Some n → asked_by t ≡ Some (step_at (state_word n) (ops.Swap 1)) → Spawned x → Told
   starts n drawn is over =
@@ -237,9 +240,9 @@ module _ (g : Global Machine) (k : ℕ) (event : Option WordEvent) (h : Holds g)
       let here : state n ≡ 1 = after_set g.words event step q answered in
       let other : (u : ℕ) → (u ≡ n → ⊥) → state u ≡ state_of g u = λ u ne. after_other g.words event step (state_word u) q (λ e. ne (omega (arith, e))) in
       let one : (u : ℕ) → StateChange k (state_of g u) (state u) (drawns g.threads k) (drawns threads k) u =
-          λ u. ⊎_elim (λ (e : u ≡ n). Begins (drawn ∙ ap (λ j. Some j) (sym e)) (ap state e ∙ here) (drawn_x over.drawn)) (λ (ne : u ≡ n → ⊥). Same (other u ne)) (cases_eq u n) in
+      λ u. ⊎_elim (λ (e : u ≡ n). Begins (drawn ∙ ap (λ j. Some j) (sym e)) (ap state e ∙ here) (drawn_x over.drawn)) (λ (ne : u ≡ n → ⊥). Same (other u ne)) (cases_eq u n) in
       let k_three : state k ≡ 3 → ⊥ = λ e. ⊎_elim (λ (same : k ≡ n). let v : state k ≡ 1 = ap state same ∙ here in omega arith)
-          (λ (ne : k ≡ n → ⊥). not_ended (is_ended m.at.state) (h.tells.end k k_low (sym (other k ne) ∙ e)) on) (cases_eq k n) in
+      (λ (ne : k ≡ n → ⊥). not_ended (is_ended m.at.state) (h.tells.end k k_low (sym (other k ne) ∙ e)) on) (cases_eq k n) in
       (changes (λ u low. one u) (omega arith) (λ j e. absurd (let f : None ≡ Some j = sym over.drawn ∙ e in cc)) (λ e. absurd (not_ended (is_ended x.at.state) e over.on)) (λ e. absurd (k_three e)), few_same next_is)
 
   own : (v : ℕ) → (v ≡ 2) ⊎ (v ≡ 3) → asked_by t ≡ Some (step_at (state_word m.own.number) (ops.Swap v))
@@ -251,9 +254,12 @@ module _ (g : Global Machine) (k : ℕ) (event : Option WordEvent) (h : Holds g)
       let there : state m.own.number ≡ v = after_set g.words event step q answered in
       let here : state k ≡ v = ap state (sym number) ∙ there in
       let other : (u : ℕ) → (u ≡ k → ⊥) → state u ≡ state_of g u = λ u ne. after_other g.words event step (state_word u) q (λ e. ne (let same : u ≡ m.own.number = omega (arith, e) in same ∙ number)) in
-      let is_own : (v ≡ 2) ⊎ (v ≡ 3) → (state k ≡ 2) ⊎ (state k ≡ 3) = λ w. ⊎_elim (λ (two : v ≡ 2). inl (here ∙ two)) (λ (three : v ≡ 3). inr (here ∙ three)) w in
-      (next_is, here, λ u low. ⊎_elim (λ (e : u ≡ k). Own e (⊎_elim (λ (two : state k ≡ 2). inl (ap state e ∙ two)) (λ (three : state k ≡ 3). inr (ap state e ∙ three)) (is_own is_v)))
-      (λ (ne : u ≡ k → ⊥). Same (other u ne)) (cases_eq u k))
+      let is_own : (v ≡ 2) ⊎ (v ≡ 3) → (state k ≡ 2) ⊎ (state k ≡ 3) = λ w. ⊎_elim (λ (two : v ≡ 2). inl (here ∙ two)) (λ (three : v ≡ 3). inr (here ∙ three)) w in (
+        next_is,
+        here,
+        λ u low. ⊎_elim (λ (e : u ≡ k). Own e (⊎_elim (λ (two : state k ≡ 2). inl (ap state e ∙ two)) (λ (three : state k ≡ 3). inr (ap state e ∙ three)) (is_own is_v)))
+            (λ (ne : u ≡ k → ⊥). Same (other u ne)) (cases_eq u k),
+      )
 
   returns : asked_by t ≡ Some (step_at (state_word m.own.number) (ops.Swap 2)) → Plain m x → Told
   returns is plain =
@@ -354,5 +360,5 @@ module _ (laws : RunLaws) (standing : StandingLaws) (code : Code) (s : Shape) wh
       let may = run.1 in
       let old = holds earlier run.0 in
       let d = still g k one.event old (turn code s (g.threads k)) may.started may.next.runs may.next.asks may.answered (standing.numbers code s earlier k)
-          (laws.few bounds code s (from code s) earlier (λ u. omega arith) run.0) (sorted code s (g.threads k) (standing.stages code s earlier k)) in
+      (laws.few bounds code s (from code s) earlier (λ u. omega arith) run.0) (sorted code s (g.threads k) (standing.stages code s earlier k)) in
       record { tells = d.0; few = d.1; first = or_right (is_started bounds (words_now g.words one.event) 0) (g.started 0) old.first }

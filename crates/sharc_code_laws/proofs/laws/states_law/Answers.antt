@@ -1,4 +1,4 @@
-use Rattle.std.proofs.Common.{ℕ, ◌≡◌, Bool, true, false, refl, sym, ap, ◌∙◌, arith}
+use Rattle.std.proofs.Common.{◌≡◌, true, false, refl, sym, ap, ◌∙◌}
 use Rattle.sharc_code.specs.declared.state.State.{State}
 use Rattle.sharc_code.specs.declared.state.State.TheVariants.{Runs, Tries, Stopped, Ended}
 use Rattle.sharc_code.specs.Whole.{place_after}
