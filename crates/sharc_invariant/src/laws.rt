@@ -1,6 +1,6 @@
 //! Laws of the invariant.
 
-ghost use Rattle.sharc_invariant.specs.Laws.{Begins, Keeps, EventsObey, RunsStay, RunsFromTheBeginning, RunsStand, RunsBits, StateStands, CellsAreThere, NothingYet, SampleIsTyped};
+ghost use Rattle.sharc_invariant.specs.Laws.{Begins, Keeps, EventsObey, RunsStay, RunsFromTheBeginning, RunsStand, RunsBits, StateStands, CellsAreThere, PointersAreThere, NothingYet, SampleIsTyped};
 ghost use Rattle.sharc_invariant.specs.Reports.{RunsConflict, RunsTest};
 
 use sharc_granule::new_laws;
@@ -38,7 +38,8 @@ pub fn state_stands()
 
 /// In the invariant a cell that an instruction names is one of a live object, of the type that its place says.
 pub fn cells_are_there()
-    ensures { CellsAreThere }
+    ensures cells { CellsAreThere }
+    ensures pointers { PointersAreThere }
 {}
 
 /// The machine invariant holds at each place of each run of typed code.
