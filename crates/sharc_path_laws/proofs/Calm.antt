@@ -1,5 +1,5 @@
 -- What each turn makes of the reference that was loaded last, and of the stage of a Free.
-use Rattle.std.proofs.Common.{◌≡◌, ℕ, ℤ, pos, negsuc, zero, suc, ◌+◌, ◌*◌, ◌<◌, ◌⊎◌, inl, inr, min, Bool, true, false, not, ◌&&◌, ◌||◌, ◌==◌, nat_lt, length, is_some, None, if◌then◌else◌, refl, sym, ap, ◌∙◌, subst, ⊎_elim}
+use Rattle.std.proofs.Common.{◌≡◌, ℕ, ℤ, pos, negsuc, zero, suc, ◌+◌, ◌*◌, ◌⊎◌, inl, inr, min, Bool, true, false, not, ◌&&◌, ◌||◌, ◌==◌, nat_lt, length, is_some, if◌then◌else◌, refl, sym, ap, ◌∙◌}
 use Rattle.std.specs.Prelude.{Result, Ok, Err}
 use Rattle.sharc_word.specs.declared.step.TheConstants.{THREADS}
 use Rattle.sharc_word.specs.declared.step.WordOp.TheVariants as ops
@@ -28,7 +28,7 @@ use Rattle.sharc_code.specs.declared.state.Stage.{Stage}
 use Rattle.sharc_code.specs.declared.state.Stage.TheVariants.{Rests, Looks, Clears, Makes, Empties, Lowers, FreeLooks, FreeClears, Uncounts, Links, Names, Hands, Begins, Enters, Withdraws, WithdrawsFrom, Leaves, Wakes}
 use Rattle.sharc_code.specs.Arithmetic.{computed, negated, is_zero, holds}
 use Rattle.sharc_code.specs.Layout.{granule_at, granule_of, cell_of, cell_word, state_word}
-use Rattle.sharc_code.specs.Machine.{Machine, Own, Turn, act, int, ref, goes, goes_to, asserts, with_result, has_room, called, returned, holds_none, is_of_null, is_held, indexed, wrote, with_note, checked, lock_checked, raise, lower, test, tested, after_new, asks_new, new, new_state, elements_of, looks, clear, data_granules, free_looks, empties, emptied, free, layout_at, spawn, with_parameter, entered, start, function_of, withdraws, exit, wakes, signal, is_positive, fields, largest, at_stage, place, set_ref, accessed, move_ref, numbered, trapped, locked, joined, join, woken, word, Local, Asks, step_of, without_base, handed}
+use Rattle.sharc_code.specs.Machine.{Machine, Own, act, int, ref, goes, goes_to, asserts, with_result, has_room, called, returned, holds_none, is_of_null, is_held, indexed, wrote, with_note, checked, lock_checked, raise, lower, test, tested, after_new, asks_new, new, new_state, elements_of, looks, clear, data_granules, free_looks, empties, emptied, free, layout_at, spawn, with_parameter, entered, start, function_of, withdraws, exit, wakes, signal, is_positive, fields, largest, at_stage, place, set_ref, accessed, move_ref, trapped, locked, joined, join, woken, word, Local, Asks, step_of, without_base}
 use Rattle.sharc_code.specs.Path.{after, may_go}
 
 abbrev pub is_links : Stage → Bool
@@ -272,4 +272,3 @@ module _ (code : Code) (s : Shape) (m : Machine) where
   calm (CondWait cell site) found other = at_woken found
   calm (CondSignal cell site) found other = at_signal (word s m cell) m.own.stage found
   calm (CondBroadcast cell site) found other = same _ refl refl
-

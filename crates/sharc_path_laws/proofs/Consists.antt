@@ -1,10 +1,9 @@
 -- The path of each thread of each run of typed code is consistent.
-use Rattle.std.proofs.Common.{◌≡◌, ℕ, zero, suc, ◌+◌, ◌*◌, ◌^◌, ◌<◌, ◌≤◌, ◌≢◌, ◌⊎◌, inl, inr, Bool, true, false, cond, length, List, [], ◌∷◌, Option, Some, None, if◌then◌else◌, refl, sym, ap, ◌∙◌, subst, ⊎_elim, arith, eqb-true}
-use Rattle.std.specs.Prelude.{slice_index, slice_set, nat_eq, nat_lt, nat_le, ◌==◌}
+use Rattle.std.proofs.Common.{◌≡◌, ℕ, zero, suc, ◌+◌, ◌*◌, ◌^◌, ◌<◌, ◌≤◌, ◌≢◌, inl, Bool, true, false, cond, length, List, [], ◌∷◌, Option, Some, None, if◌then◌else◌, refl, sym, ap, ◌∙◌, subst, ⊎_elim, arith, eqb-true}
+use Rattle.std.specs.Prelude.{slice_index, slice_set, nat_eq, nat_lt, ◌==◌}
 use Rattle.std.proofs.lemmas.Bool.{cases_eq, le-leb, lt-leb}
 use Rattle.std.proofs.lemmas.Bool.Decides.{nat_tests}
 use Rattle.std.proofs.lemmas.List.{length-map}
-use Rattle.sharc_word.specs.declared.step.WordOp.{WordOp}
 use Rattle.sharc_word.specs.declared.step.WordOp.TheVariants as ops
 use Rattle.sharc_word.specs.declared.step.WordStep.{WordStep}
 use Rattle.sharc_word.specs.declared.step.WordEvent.{WordEvent}
@@ -21,31 +20,31 @@ use Rattle.sharc_code.specs.declared.instr.Instr.{Instr}
 use Rattle.sharc_code.specs.declared.instr.Instr.TheVariants as instrs
 use Rattle.sharc_code.specs.declared.shape.Shape.{Shape}
 use Rattle.sharc_code.specs.declared.state.Stage.{Stage}
-use Rattle.sharc_code.specs.declared.state.Stage.TheVariants.{Rests, Looks, Clears, Makes, Empties, Lowers, FreeLooks, FreeClears, Uncounts, Links, Names, Hands, Begins, Enters, Withdraws, WithdrawsFrom, Leaves, Wakes}
+use Rattle.sharc_code.specs.declared.state.Stage.TheVariants.{Rests, Makes, Links}
 use Rattle.sharc_code.specs.Laws.{RunLaws}
 use Rattle.sharc_code.specs.Layout.{Fits, granules, first_cell}
 use Rattle.sharc_code.specs.Machine.{Machine, instr_at, ref, act, asks_new, elements_of, int, new_state}
 use Rattle.sharc_code.specs.Opening.{opening_words}
-use Rattle.sharc_code.specs.Path.{begun, machine_after, turn, after, asked_by, may_go}
+use Rattle.sharc_code.specs.Path.{begun, machine_after, turn, asked_by, may_go}
 use Rattle.sharc_code.specs.Runs.{Said, Turn, Global, IsRun, MayTurn, at, after_turn, put, words_now, state_now, result_of, step_of, turns_of, with_told, state_after, opening_of, Answered}
 use Rattle.sharc_code.specs.Whole.{one_thread, bounds, place_after, Erase}
-use Rattle.sharc_code.specs.Says.{says, said, speaks_of, elements_in}
+use Rattle.sharc_code.specs.Says.{speaks_of, elements_in}
 use Rattle.sharc_gen.specs.Consistent.{Elements, elements_told, said_now, Has, IsConsistent, IsConsistentTurn}
 use Rattle.sharc_gen.specs.OfRuns.{founds_of, told_in, table_of, elements_before}
 use Rattle.sharc_invariant.specs.Types.{Targets}
 use Rattle.sharc_invariant.specs.Labels.{Gate, Closed, Checked, Holds, Loaded, HoldsLoaded, Sole, Labels}
 use Rattle.sharc_invariant.specs.Typed.{IsWellTyped, Fine}
 use Rattle.sharc_invariant.specs.World.{RegisterOf, In, Cell as CellOf, Base, Loaded as IsLoaded, World, ObjectState, WinOk, in_ref, base_of}
-use Rattle.sharc_invariant.specs.Words.{length_at, lang_of, is_freed, register_of}
+use Rattle.sharc_invariant.specs.Words.{length_at, lang_of, is_freed}
 use Rattle.sharc_invariant.specs.Blocks.{Built, Live}
-use Rattle.sharc_invariant.specs.Opened.{first_world, first_place}
+use Rattle.sharc_invariant.specs.Opened.{first_world}
 use Rattle.sharc_invariant.specs.Objects.{objects_now}
 use Rattle.sharc_invariant.specs.State.{State, IsSmall, StageStands, GateStands, StopStands, BuildsAt, OnHold, base_of_cell, number_in}
 use Rattle.sharc_invariant.specs.MachineInvariant.{IsOn, WasLoaded}
 use Rattle.sharc_invariant.specs.Laws.{Keeps, Begins as CodeBegins, CellsAreThere, PointersAreThere}
-use Rattle.sharc_path_laws.proofs.Gates.{LoadedStands, LinksOn, loaded_still, links_still, takes_loaded, unloaded}
+use Rattle.sharc_path_laws.proofs.Gates.{LoadedStands, loaded_still, links_still, takes_loaded, unloaded}
 use Rattle.sharc_path_laws.proofs.Single.{single, rests_hold}
-use Rattle.sharc_path_laws.proofs.Stands.{live_slot, live_low, granules_low, gate, sole_ref, live_ref}
+use Rattle.sharc_path_laws.proofs.Stands.{live_slot, granules_low, gate, sole_ref, live_ref}
 use Rattle.sharc_path_laws.proofs.Tables.{header_at, header_in, header_of, elements_in_stage, told_other, told_made, was_live, length_kept}
 use Rattle.sharc_path_laws.proofs.Writes.{writes}
 use Rattle.sharc_path_laws.proofs.Finds.{finds}
@@ -111,14 +110,15 @@ module _ (code : Code) (s : Shape) where
   relast m E F (found ∷ earlier) same last h =
       let now = machine_after code s m earlier in
       let l : length earlier + 1 ≡ length (found ∷ earlier) = omega arith in
-      let T : F (length earlier) ≡ E (length earlier) = same (length earlier) (omega arith) in
-      (agree m E F earlier (λ k le. same k (omega arith)) h.0,
-      record {
-        finds = subst (λ (T : Elements). Rattle.sharc_gen.specs.Consistent.MayFind code s T now found (instr_at code now.at.pc)) (sym T) h.1.finds;
-        quiet = h.1.quiet;
-        kept = λ n some has.
-            ap (λ k. F k n) l ∙ last n some has ∙ ap (λ k. E k n) (sym l) ∙ h.1.kept n some has ∙ ap (λ (T : Elements). elements_told (said_now code T now found) T n) (sym T);
-      })
+      let T : F (length earlier) ≡ E (length earlier) = same (length earlier) (omega arith) in (
+        agree m E F earlier (λ k le. same k (omega arith)) h.0,
+        record {
+          finds = subst (λ (T : Elements). Rattle.sharc_gen.specs.Consistent.MayFind code s T now found (instr_at code now.at.pc)) (sym T) h.1.finds;
+          quiet = h.1.quiet;
+          kept = λ n some has.
+              ap (λ k. F k n) l ∙ last n some has ∙ ap (λ k. E k n) (sym l) ∙ h.1.kept n some has ∙ ap (λ (T : Elements). elements_told (said_now code T now found) T n) (sym T);
+        },
+      )
 
   state_is : (m : Machine) (turns : List Turn) → state_after (one_thread code s) m turns ≡ machine_after code s m (founds_of turns)
   state_is m [] = refl
@@ -414,10 +414,10 @@ module _ (laws : RunLaws) (keeps : Keeps) (cells : CellsAreThere) (pointers : Po
       let new : E (length fs) ≡ T' = ap E l' ∙ now_is code s u (one ∷ earlier) in
       let old : elements_before code s u earlier (length fs) ≡ T = ap (elements_before code s u earlier) l ∙ now_is code s u earlier in
       let last : (n : ℕ) → 0 < n → Has (machine_after code s (begun code s u) fs) n → E (length fs) n ≡ elements_before code s u earlier (length fs) n = λ n some has.
-          let nz : n ≢ 0 = λ z. omega arith in
-          ap (λ (y : Elements). y n) new
-          ∙ same_table n nz (λ made. has_none x code s ls wt fits g h.world h.state t n nz (headed n nz made) u ne (h.loaded u) (h.links u) (subst (λ (y : Machine). Has y n) (machine_is u) has))
-          ∙ ap (λ (y : Elements). y n) (sym old) in
+      let nz : n ≢ 0 = λ z. omega arith in
+      ap (λ (y : Elements). y n) new
+      ∙ same_table n nz (λ made. has_none x code s ls wt fits g h.world h.state t n nz (headed n nz made) u ne (h.loaded u) (h.links u) (subst (λ (y : Machine). Has y n) (machine_is u) has))
+      ∙ ap (λ (y : Elements). y n) (sym old) in
       subst (λ (y : List Turn). IsConsistent code s (begun code s u) E (founds_of y)) (sym e)
       (relast code s (begun code s u) (elements_before code s u earlier) E fs (λ k lt. before_is code s u one earlier k (omega arith)) last (h.paths u))
 

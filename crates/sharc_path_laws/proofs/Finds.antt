@@ -1,6 +1,6 @@
 -- What a turn of typed code finds is consistent.
-use Rattle.std.proofs.Common.{◌≡◌, ℕ, ℤ, pos, zero, suc, ◌+◌, ◌*◌, ◌/◌, ◌^◌, ◌<◌, ◌≤◌, ◌≢◌, ◌⊎◌, inl, inr, Bool, true, false, cond, length, List, Option, Some, None, if◌then◌else◌, refl, sym, ap, ◌∙◌, subst, ⊎_elim, arith}
-use Rattle.std.specs.Prelude.{slice_index, slice_index_or, nat_lt, ◌==◌, ◌&&◌, All}
+use Rattle.std.proofs.Common.{◌≡◌, ℕ, zero, suc, ◌+◌, ◌*◌, ◌/◌, ◌<◌, ◌≤◌, ◌≢◌, Bool, true, false, Some, refl, sym, ap, ◌∙◌, subst, ⊎_elim, arith}
+use Rattle.std.specs.Prelude.{slice_index, slice_index_or, nat_lt, ◌==◌}
 use Rattle.std.proofs.Math.Nat.{mul-le-mul_right}
 use Rattle.std.proofs.lemmas.Bool.{cases_eq, cases_lt}
 use Rattle.std.proofs.lemmas.Bool.Decides.{nat_tests}
@@ -10,7 +10,6 @@ use Rattle.sharc_word.specs.declared.step.WordStep.{WordStep}
 use Rattle.sharc_granule.specs.declared.stage.Stage.{Stage as NewStage}
 use Rattle.sharc_granule.specs.declared.stage.Stage.TheVariants as news
 use Rattle.sharc_granule.specs.State.{NewView}
-use Rattle.sharc_locks.specs.declared.held_log.HeldMutex.{HeldMutex}
 use Rattle.sharc_code.specs.declared.code.Code.{Code}
 use Rattle.sharc_code.specs.declared.code.Parameter.{Parameter}
 use Rattle.sharc_code.specs.declared.code.Parameter.TheVariants as parameters
@@ -22,20 +21,19 @@ use Rattle.sharc_code.specs.declared.shape.Shape.{Shape}
 use Rattle.sharc_code.specs.declared.state.Stage.{Stage}
 use Rattle.sharc_code.specs.declared.state.Stage.TheVariants.{Rests, Looks, Clears, Makes, Empties, Lowers, FreeLooks, FreeClears, Uncounts, Links, Names, Hands, Begins, Enters, Withdraws, WithdrawsFrom, Leaves, Wakes}
 use Rattle.sharc_code.specs.Arithmetic.{word_of}
-use Rattle.sharc_code.specs.Layout.{Fits, granules, words_of, first_cell, cell_of, cell_word, length_word, function_word, argument_word, state_word}
+use Rattle.sharc_code.specs.Layout.{Fits, granules, first_cell, cell_of, length_word, function_word, argument_word, state_word}
 use Rattle.sharc_code.specs.Machine.{Machine, act, instr_at, ref, int, place, object, word, is_held, is_of_null, function_of}
 use Rattle.sharc_code.specs.Path.{turn, asked_by}
 use Rattle.sharc_code.specs.Ranges.{IsInGlobal}
 use Rattle.sharc_code.specs.Runs.{Global}
-use Rattle.sharc_gen.specs.Consistent.{Elements, IsNumber, Has, IsApart, IsThere, IsMutex, IsLock, IsFree, IsHeld, IsLength, IsNew, IsNewIn, IsNewAt, IsArgument, IsArgumentAt, MayFind}
+use Rattle.sharc_gen.specs.Consistent.{Elements, IsNumber, IsApart, IsThere, IsMutex, IsLock, IsFree, IsHeld, IsLength, IsNewIn, IsNewAt, IsArgument, IsArgumentAt, MayFind}
 use Rattle.sharc_invariant.specs.Types.{Targets, ObjectType, StaticType, Field, FieldType, Content, cells_of, field_in, is_pointer, is_mutex, type_at}
 use Rattle.sharc_invariant.specs.Types.Content.{MutexWord, Pointer}
-use Rattle.sharc_invariant.specs.Labels.{Gate, Closed, Holds, Loaded, Refers, OfGlobal, Label, Labels}
-use Rattle.sharc_invariant.specs.Typed.{IsWellTyped, Fine, HasField, HasCell, HasBase, PointsToMutex}
-use Rattle.sharc_invariant.specs.World.{RegisterOf, ArgumentOf, In, Slot, Cell as CellOf, Loaded as IsLoaded, World, ObjectState, TypedReference, WinOk, in_ref, base_of}
+use Rattle.sharc_invariant.specs.Labels.{Loaded, OfGlobal, Label, Labels}
+use Rattle.sharc_invariant.specs.Typed.{IsWellTyped, Fine, HasField, HasCell, PointsToMutex}
+use Rattle.sharc_invariant.specs.World.{RegisterOf, ArgumentOf, In, Slot, Cell as CellOf, Loaded as IsLoaded, World, WinOk, in_ref}
 use Rattle.sharc_invariant.specs.Words.{cell_at, length_at, lang_of, if_reference, is_unread, argument_of}
 use Rattle.sharc_invariant.specs.Blocks.{Built, Live}
-use Rattle.sharc_invariant.specs.Cells.{IsThere as CellIsThere}
 use Rattle.sharc_invariant.specs.State.{State, Runs, StageStands, GateStands, NumberStands, BuildsAt, OnHold, object_of_cell, number_in, base_of_cell, refs_at, types_at}
 use Rattle.sharc_invariant.specs.MachineInvariant.{IsOn}
 use Rattle.sharc_invariant.specs.Laws.{CellsAreThere}

@@ -1,24 +1,23 @@
 -- Where a reference was loaded and is not raised the place's gate says so, and a Free that is to put its block into a list goes on.
-use Rattle.std.proofs.Common.{◌≡◌, ℕ, zero, suc, ◌+◌, ◌⊎◌, inl, inr, Bool, true, false, List, [], ◌∷◌, refl, sym, ap, ◌∙◌, subst, ⊎_elim}
+use Rattle.std.proofs.Common.{◌≡◌, ℕ, zero, suc, ◌+◌, ◌⊎◌, inl, inr, Bool, true, false, List, refl, sym, ap, ◌∙◌, subst, ⊎_elim}
 use Rattle.std.specs.Prelude.{◌==◌}
 use Rattle.sharc_code.specs.declared.code.Code.{Code}
 use Rattle.sharc_code.specs.declared.instr.Cell.{Cell}
 use Rattle.sharc_code.specs.declared.instr.Instr.{Instr}
 use Rattle.sharc_code.specs.declared.instr.Instr.TheVariants.{Constant, Move, MoveReference, Null, ComputeInt, ComputeLong, NegateInt, NegateLong, Complement, Not, SameReference as CompareReferences, ChkWidth, Jump, JumpIfZero, JumpIfNull, Call, Return, ChkNull, ChkHeld, ChkNotHeld, ChkPositive, ChkRoom, ChkLock, ChkLockLoaded, Bounds, GlobalBounds, ChkRead, ChkWrite, Load, Store, LoadRef, Exchange, Raise, RaiseLoaded, Lower, New, TakeCell, TakeLocal, TestSole, Clear, Give, Free, Lock as LockCell, Unlock, Spawn, Join, Print, Start, Exit, CondEnter, CondWait, CondSignal, CondBroadcast}
 use Rattle.sharc_code.specs.declared.shape.Shape.{Shape}
-use Rattle.sharc_code.specs.declared.state.Stage.{Stage}
-use Rattle.sharc_code.specs.declared.state.Stage.TheVariants.{Rests, Links}
+use Rattle.sharc_code.specs.declared.state.Stage.TheVariants.{Links}
 use Rattle.sharc_code.specs.Layout.{cell_of, cell_word}
 use Rattle.sharc_code.specs.Machine.{Machine, act, goes, accessed, set_ref, raise, is_held, lock_checked, free, layout_at, instr_at}
 use Rattle.sharc_code.specs.Path.{turn, after, may_go}
 use Rattle.sharc_invariant.specs.Types.{Targets}
-use Rattle.sharc_invariant.specs.Labels.{Gate, Closed, Checked, Holds, Loaded, HoldsLoaded, Sole, Label, Labels}
+use Rattle.sharc_invariant.specs.Labels.{Closed, Holds, Sole, Label, Labels}
 use Rattle.sharc_invariant.specs.Typed.{Fine}
 use Rattle.sharc_invariant.specs.World.{World}
 use Rattle.sharc_invariant.specs.Blocks.{Heap}
 use Rattle.sharc_invariant.specs.State.{StageStands, OnFree}
 use Rattle.sharc_invariant.specs.MachineInvariant.{WasLoaded}
-use Rattle.sharc_path_laws.proofs.Calm.{Calm, calm, is_load, is_links}
+use Rattle.sharc_path_laws.proofs.Calm.{calm, is_load, is_links}
 
 -- ---- what was loaded
 closed : (l : Label) → l.gate ≡ Closed → WasLoaded l.gate → ⊥

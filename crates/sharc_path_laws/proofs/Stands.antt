@@ -1,5 +1,5 @@
 -- What the invariant says of a thread that goes on: its registers, the gate of its place, and the cells that its instruction names.
-use Rattle.std.proofs.Common.{◌≡◌, ℕ, suc, ◌+◌, ◌*◌, ◌^◌, ◌<◌, ◌≤◌, ◌≢◌, Bool, true, false, cond, refl, sym, ap, ◌∙◌, subst, arith}
+use Rattle.std.proofs.Common.{◌≡◌, ℕ, suc, ◌+◌, ◌^◌, ◌<◌, ◌≢◌, Bool, true, false, cond, refl, sym, ap, ◌∙◌, subst, arith}
 use Rattle.std.specs.Prelude.{slice_index, ◌==◌}
 use Rattle.std.proofs.lemmas.Bool.Decides.{nat_tests}
 use Rattle.sharc_code.specs.declared.code.Code.{Code}
@@ -9,13 +9,13 @@ use Rattle.sharc_code.specs.declared.instr.Instr.{Instr}
 use Rattle.sharc_code.specs.declared.instr.Instr.TheVariants as instrs
 use Rattle.sharc_code.specs.declared.shape.Shape.{Shape}
 use Rattle.sharc_code.specs.declared.state.Stage.{Stage}
-use Rattle.sharc_code.specs.declared.state.Stage.TheVariants.{Rests, Looks, Clears, Makes, Empties, Lowers, FreeLooks, FreeClears, Uncounts, Links, Names, Hands, Begins, Enters, Withdraws, WithdrawsFrom, Leaves, Wakes}
+use Rattle.sharc_code.specs.declared.state.Stage.TheVariants.{Links}
 use Rattle.sharc_code.specs.Layout.{Fits, granules}
 use Rattle.sharc_code.specs.Machine.{Machine, instr_at, ref, is_of_null}
 use Rattle.sharc_code.specs.Runs.{Global}
 use Rattle.sharc_invariant.specs.Types.{Targets, ObjectType, StaticType, Field}
-use Rattle.sharc_invariant.specs.Labels.{Gate, Sole, Entry, Refers, Label, Labels}
-use Rattle.sharc_invariant.specs.Typed.{IsWellTyped, Fine, HasCell, HasBase}
+use Rattle.sharc_invariant.specs.Labels.{Sole, Refers, Label, Labels}
+use Rattle.sharc_invariant.specs.Typed.{IsWellTyped, HasCell, HasBase}
 use Rattle.sharc_invariant.specs.World.{RegisterOf, In, Slot, Sole as IsSole, World, ObjectState, in_ref}
 use Rattle.sharc_invariant.specs.Words.{lang_of, is_freed}
 use Rattle.sharc_invariant.specs.Cells.{IsThere}

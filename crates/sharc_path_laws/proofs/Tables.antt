@@ -1,21 +1,17 @@
 -- The elements of objects by the source events are those that the length words of live objects hold.
-use Rattle.std.proofs.Common.{◌≡◌, ℕ, ℤ, pos, negsuc, zero, suc, ◌+◌, ◌*◌, ◌%◌, ◌^◌, ◌<◌, ◌≤◌, ◌≢◌, ◌⊎◌, inl, inr, Bool, true, false, cond, nat_lt, length, List, [], ◌∷◌, Option, Some, None, if◌then◌else◌, refl, sym, ap, ◌∙◌, subst, ⊎_elim, arith, eqb-true}
+use Rattle.std.proofs.Common.{◌≡◌, ℕ, zero, suc, ◌+◌, ◌*◌, ◌%◌, ◌^◌, ◌<◌, ◌≤◌, ◌≢◌, ◌⊎◌, inl, inr, Bool, true, false, List, [], ◌∷◌, Option, Some, None, if◌then◌else◌, refl, sym, ap, ◌∙◌, subst, ⊎_elim, arith, eqb-true}
 use Rattle.std.specs.Prelude.{slice_index, slice_set, nat_eq, ◌==◌, ◌||◌}
 use Rattle.std.proofs.lemmas.Bool.{cases_eq, cases_lt}
 use Rattle.std.proofs.lemmas.Bool.Decides.{nat_tests}
 use Rattle.std.proofs.lemmas.List.{get_or-set_other}
-use Rattle.sharc_word.specs.declared.step.WordOp.{WordOp}
-use Rattle.sharc_word.specs.declared.step.WordOp.TheVariants as ops
 use Rattle.sharc_word.specs.declared.step.WordStep.{WordStep}
 use Rattle.sharc_word.specs.declared.step.WordEvent.{WordEvent}
 use Rattle.sharc_word.specs.Words.{word_after, words_after_step}
 use Rattle.sharc_tree.specs.declared.event.SourceEvent.{SourceEvent}
 use Rattle.sharc_granule.specs.State.{NewView}
-use Rattle.sharc_granule.specs.Asks.{word_number}
-use Rattle.sharc_granule.specs.Stages.{turn_of_stage}
 use Rattle.sharc_granule.specs.declared.stage.Stage.{Stage as NewStage}
 use Rattle.sharc_granule.specs.declared.stage.Stage.TheVariants as news
-use Rattle.sharc_cond.specs.Waiters.{waits_in, lowest_of}
+use Rattle.sharc_cond.specs.Waiters.{waits_in}
 use Rattle.sharc_code.specs.declared.code.Code.{Code}
 use Rattle.sharc_code.specs.declared.instr.Cell.{Cell}
 use Rattle.sharc_code.specs.declared.instr.Register.{Register}
@@ -23,22 +19,20 @@ use Rattle.sharc_code.specs.declared.instr.Instr.{Instr}
 use Rattle.sharc_code.specs.declared.instr.Instr.TheVariants as instrs
 use Rattle.sharc_code.specs.declared.shape.Shape.{Shape}
 use Rattle.sharc_code.specs.declared.state.Stage.{Stage}
-use Rattle.sharc_code.specs.declared.state.Stage.TheVariants.{Rests, Looks, Clears, Makes, Empties, Lowers, FreeLooks, FreeClears, Uncounts, Links, Names, Hands, Begins, Enters, Withdraws, WithdrawsFrom, Leaves as Leaving, Wakes}
-use Rattle.sharc_code.specs.Layout.{Fits, granules, first_cell}
-use Rattle.sharc_code.specs.Machine.{Machine, Turn, Local, Asks, step_of as step_at, instr_at, ref, int, act}
-use Rattle.sharc_code.specs.Path.{turn, asked_by}
-use Rattle.sharc_code.specs.Runs.{Global, put, words_now, step_of, Answered}
-use Rattle.sharc_code.specs.Says.{said, reference, number_of, elements_after, take_local, nobody, event_at, in_signal, in_exit, in_spawn, in_start, in_free, in_new, new_event}
+use Rattle.sharc_code.specs.declared.state.Stage.TheVariants.{Makes, Uncounts, Begins, Enters, Withdraws, WithdrawsFrom, Leaves as Leaving, Wakes}
+use Rattle.sharc_code.specs.Layout.{first_cell}
+use Rattle.sharc_code.specs.Machine.{Machine, Turn, Local, Asks, ref}
+use Rattle.sharc_code.specs.Path.{asked_by}
+use Rattle.sharc_code.specs.Runs.{Global, put, words_now, step_of}
+use Rattle.sharc_code.specs.Says.{said, reference, number_of, take_local, nobody, in_signal, in_exit, in_spawn, in_start, in_free, in_new, new_event}
 use Rattle.sharc_gen.specs.Consistent.{Elements, elements_told}
 use Rattle.sharc_invariant.specs.Types.{Targets}
 use Rattle.sharc_invariant.specs.Labels.{Labels}
-use Rattle.sharc_invariant.specs.Typed.{IsWellTyped}
 use Rattle.sharc_invariant.specs.World.{ObjectState, World}
 use Rattle.sharc_invariant.specs.Words.{length_at, cell_at}
 use Rattle.sharc_invariant.specs.Blocks.{Heap, Built, Live}
 use Rattle.sharc_invariant.specs.Objects.{objects_behind, made_behind, new_behind, freed_behind, owned, gone, type_held}
-use Rattle.sharc_invariant.specs.State.{State, StageStands, BuildsAt, OnNew}
-use Rattle.sharc_invariant.specs.MachineInvariant.{IsOn}
+use Rattle.sharc_invariant.specs.State.{State}
 use Rattle.sharc_path_laws.proofs.Writes.{Wrote, Leaves, Low, CountOf, InCell, InBlock, Writes}
 
 -- ---- the object that a turn makes
