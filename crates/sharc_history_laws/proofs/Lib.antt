@@ -1,0 +1,12 @@
+pub mod Acts
+pub mod Calm
+pub mod Consists
+pub mod Finds
+pub mod Gates
+pub mod Lists
+pub mod Modes
+pub mod Rules
+pub mod Single
+pub mod Stands
+pub mod Tables
+pub mod Writes
