@@ -1,0 +1,10 @@
+pub mod Slots
+pub mod Pieces
+pub mod Located
+pub mod Parts
+pub mod Expressing
+pub mod Leaving
+pub mod Ways
+pub mod Stating
+pub mod Program
+pub mod Laid
