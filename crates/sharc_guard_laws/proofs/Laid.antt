@@ -1,5 +1,5 @@
--- Code that is laid out overwrites no reference, as the code does not whose texts are told.
-use Rattle.std.proofs.Common.{◌≡◌, inl, inr, ℕ, zero, suc, ◌+◌, ◌<◌, Bool, List, [], ◌∷◌, length, Some, None, refl, ap, sym, ◌∙◌, subst, arith}
+-- Code that is laid out overwrites no reference and names its mutexes, as the code does whose texts are told.
+use Rattle.std.proofs.Common.{◌≡◌, inl, inr, ℕ, zero, suc, ◌+◌, ◌-◌, ◌<◌, Bool, List, [], ◌∷◌, length, Some, None, refl, ap, sym, ◌∙◌, subst, arith}
 use Rattle.std.specs.Prelude.{slice_get, slice_index_or}
 use Rattle.sharc_code.specs.declared.code.Function.{Function as Row}
 use Rattle.sharc_code.specs.declared.code.Parameter.{Parameter}
@@ -10,16 +10,23 @@ use Rattle.sharc_ctype.specs.Resolved.{Resolution, functions_in}
 use Rattle.sharc_mode.specs.Moded.{Assignment}
 use Rattle.sharc_flat_form.specs.declared.op.Op.{Op}
 use Rattle.sharc_flat_form.specs.declared.op.Op.TheVariants as op
-use Rattle.sharc_flat_form.specs.Machine.{Flat, function_of}
+use Rattle.sharc_flat_form.specs.Machine.{Flat, At, function_of, cell_at, lock_is_null}
 use Rattle.sharc_flat_form.specs.Made.{flat_of}
 use Rattle.sharc_flat.specs.Flattened.{rows_of, flattened, function_code, AreRows, IsFlattened}
 use Rattle.sharc_flat.specs.Flattens.{names_of}
-use Rattle.sharc_flat.specs.Laid.{with_texts, AreLaid, AreNamed, Lays}
+use Rattle.sharc_flat.specs.Laid.{told_by, with_texts, AreLaid, AreNamed, Lays}
 use Rattle.sharc_flat.specs.Tables.{globals_of}
 use Rattle.sharc_tree.specs.Tree.{Function}
 use Rattle.sharc_code.specs.declared.code.GlobalCells.{GlobalCells}
 use Rattle.sharc_guard.specs.Level.{Slots, Fits, Enters, Calls, Resumes, Leaves, Level, Takes, IsEntry, IsLevel}
-use Rattle.sharc_guard_laws.specs.Laws.{MadeIsLevel}
+use Rattle.sharc_guard.specs.Counted.{IsBeside, LockStands}
+use Rattle.sharc_guard_laws.specs.Laws.{MadeIsLevel, FlattenedLocksStand, MadeLocksStand}
+use Rattle.sharc_guard_laws.proofs.Ties.{Ties, Next, Needs}
+use Rattle.sharc_guard_laws.proofs.Traced.{IsTraced, stand, flattened_is_traced}
+use Rattle.sharc_code.specs.declared.code.PlaceMode.{PlaceMode}
+use Rattle.sharc_code.specs.declared.code.PlaceMode.TheVariants as modes
+use Rattle.sharc_code.specs.declared.instr.Cell.{Cell}
+use Rattle.sharc_flat_form.specs.declared.op.Spot.{Spot}
 use Rattle.sharc_guard_laws.proofs.Program.{flattened_is_level}
 
 -- ---- lines
@@ -179,3 +186,108 @@ is_flattened m globals = record { lines = refl; functions = are_rows m globals 0
 pub made_is_level : MadeIsLevel
 made_is_level m suits code h =
     laid_is_level m.typed code.texts.items (names_of (functions_in m.typed.program.items)) (flattened m (globals_of m.typed)) (flat_of code) h.lays (flattened_is_level m suits (flattened m (globals_of m.typed)) (is_flattened m (globals_of m.typed)))
+
+-- ---- and names its mutexes
+null_same : (m : At) (lv lk : Text) (spot : Spot) (mode : PlaceMode) → lock_is_null m (told_by lv lk spot) mode ≡ lock_is_null m spot mode
+null_same m lv lk spot modes.Private = refl
+null_same m lv lk spot modes.Readonly = refl
+null_same m lv lk spot modes.Racy = refl
+null_same m lv lk spot modes.Dynamic = refl
+null_same m lv lk spot (modes.LockedGlobal g place) = refl
+null_same m lv lk spot (modes.LockedSibling field mutex) = refl
+null_same m lv lk spot (modes.LockedThrough r place) = refl
+null_same m lv lk spot modes.LockedLoaded = refl
+
+module _ (a b : Flat) (globals : b.globals ≡ a.globals) (same : (k : ℕ) → SameRow (function_of a k) (function_of b k)) where
+  beside : (m : At) (lv lk : Text) (cell : Cell) (spot : Spot) (mode : PlaceMode) → IsBeside a m cell spot mode → IsBeside b m cell (told_by lv lk spot) mode
+  beside m lv lk cell spot modes.Private h = tt
+  beside m lv lk cell spot modes.Readonly h = tt
+  beside m lv lk cell spot modes.Racy h = tt
+  beside m lv lk cell spot modes.Dynamic h = tt
+  beside m lv lk cell spot (modes.LockedGlobal g place) h = tt
+  beside m lv lk cell spot (modes.LockedSibling field mutex) h =
+      λ none. subst (λ g. cell_at g m spot.lock ≡ record { object = (cell_at g m cell).object; cell = (cell_at g m cell).cell - field + mutex }) (sym globals) (h (sym (null_same m lv lk spot spot.mode) ∙ none))
+  beside m lv lk cell spot (modes.LockedThrough r place) h = tt
+  beside m lv lk cell spot modes.LockedLoaded h = tt
+
+  stands : (m : At) (lv lk : Text) (o : Op) → LockStands a m o → LockStands b m (with_texts lv lk o)
+  stands m lv lk (op.Load i cell spot) h = beside m lv lk cell spot spot.mode h
+  stands m lv lk (op.Store i cell spot) h = beside m lv lk cell spot spot.mode h
+  stands m lv lk (op.LoadRef r cell spot) h = beside m lv lk cell spot spot.mode h
+  stands m lv lk (op.StoreRef r cell spot) h = beside m lv lk cell spot spot.mode h
+  stands m lv lk (op.TakeCell r cell spot) h = beside m lv lk cell spot spot.mode h
+  stands m lv lk _ h = tt
+
+  next : (table : ℕ → Ties) (pc : ℕ) (s : Ties) (lv lk : Text) (o : Op) → Next a table pc s o → Next b table pc s (with_texts lv lk o)
+  next table pc s lv lk op.Enter h = h
+  next table pc s lv lk (op.Constant i v) h = h
+  next table pc s lv lk (op.Move i from) h = h
+  next table pc s lv lk (op.Compute width o i x y spot) h = h
+  next table pc s lv lk (op.Negate width i x spot) h = h
+  next table pc s lv lk (op.Complement i x) h = h
+  next table pc s lv lk (op.IsFalse i x) h = h
+  next table pc s lv lk (op.SameReference i x y) h = h
+  next table pc s lv lk (op.ChkWidth width i spot) h = h
+  next table pc s lv lk (op.Skip n) h = h
+  next table pc s lv lk (op.SkipIfZero i n) h = h
+  next table pc s lv lk (op.SkipIfNull r n) h = h
+  next table pc s lv lk (op.Jump to) h = h
+  next table pc s lv lk (op.Call g ints refs spot) h = (ap table (same g).entry ∙ h.0, h.1)
+  next table pc s lv lk (op.Return spot) h = h
+  next table pc s lv lk op.BlockEnd h = h
+  next table pc s lv lk (op.Null r) h = h
+  next table pc s lv lk (op.Local r x) h = h
+  next table pc s lv lk (op.MoveReference r from) h = h
+  next table pc s lv lk (op.Pop r) h = h
+  next table pc s lv lk (op.Settle x from) h = h
+  next table pc s lv lk (op.ChkNull r spot) h = h
+  next table pc s lv lk (op.ChkPositive i spot) h = h
+  next table pc s lv lk (op.ChkHeld cell spot) h = h
+  next table pc s lv lk (op.ChkNotHeld cell spot) h = h
+  next table pc s lv lk (op.ChkRoom spot) h = h
+  next table pc s lv lk (op.Bounds i r cells field spot) h = h
+  next table pc s lv lk (op.GlobalBounds i elements cells field spot) h = h
+  next table pc s lv lk (op.Load i cell spot) h = h
+  next table pc s lv lk (op.Store i cell spot) h = h
+  next table pc s lv lk (op.LoadRef r cell spot) h = h
+  next table pc s lv lk (op.StoreRef r cell spot) h = h
+  next table pc s lv lk (op.LoadGuard cell spot) h = h
+  next table pc s lv lk (op.New r count cells spot) h = h
+  next table pc s lv lk (op.TakeCell r cell spot) h = h
+  next table pc s lv lk (op.TakeLocal r x spot) h = h
+  next table pc s lv lk (op.Give r cells spot) h = h
+  next table pc s lv lk (op.Free r layout spot) h = h
+  next table pc s lv lk (op.Lock cell spot) h = h
+  next table pc s lv lk (op.Unlock r cell spot) h = h
+  next table pc s lv lk (op.CondEnter cell spot) h = h
+  next table pc s lv lk (op.CondWait cell spot) h = h
+  next table pc s lv lk (op.CondSignal cell spot) h = h
+  next table pc s lv lk (op.CondBroadcast cell spot) h = h
+  next table pc s lv lk (op.Spawn i g from spot) h = h
+  next table pc s lv lk (op.Join i spot) h = h
+  next table pc s lv lk (op.Print i spot) h = h
+
+laid_is_traced : (r : Resolution) (bytes : List ℕ) (names : List (List ℕ)) (told made : Flat) → Lays r bytes names told made → IsTraced told → IsTraced made
+laid_is_traced r bytes names told made h t =
+    let lines = lines_many r bytes told.lines made.lines h.lines in
+    let same : (k : ℕ) → SameRow (function_of told k) (function_of made k) = rows_same bytes told.functions made.functions names h.functions in
+    record {
+      table = t.table;
+      last = λ q le. t.last q (omega (arith, le, lines));
+      begins = λ f. ap t.table (same f).entry ∙ t.begins f;
+      needs = λ pc p at.
+          let w = told_at r bytes told.lines made.lines h.lines pc p at in
+          let n = t.needs pc w.line w.at in
+          subst (Needs made t.table pc (t.table pc)) (sym w.is) (record {
+            next = next told made h.globals same t.table pc (t.table pc) w.lvalue w.lock w.line n.next;
+            stands = λ m all. stands told made h.globals same m w.lvalue w.lock w.line (n.stands m all);
+          });
+    }
+
+pub flattened_locks_stand : FlattenedLocksStand
+flattened_locks_stand m flat is = stand flat (flattened_is_traced m flat is)
+
+pub made_locks_stand : MadeLocksStand
+made_locks_stand m code h =
+    stand (flat_of code) (laid_is_traced m.typed code.texts.items (names_of (functions_in m.typed.program.items)) (flattened m (globals_of m.typed)) (flat_of code) h.lays
+    (flattened_is_traced m (flattened m (globals_of m.typed)) (is_flattened m (globals_of m.typed))))

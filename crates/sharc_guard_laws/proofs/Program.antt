@@ -23,7 +23,8 @@ use Rattle.sharc_guard.specs.Level.{Slot, free, full, Fits, Slots, Level, Takes}
 use Rattle.sharc_guard_laws.specs.Laws.{FlattenedIsLevel}
 use Rattle.sharc_guard_laws.proofs.Expressing.{Entries, gives_reference}
 use Rattle.sharc_guard_laws.proofs.Located.{width, declared_reference}
-use Rattle.sharc_guard_laws.proofs.Pieces.{Agrees, agrees_left, agrees_right, IsOwn, Levels, levels_both, enters}
+use Rattle.sharc_guard_laws.proofs.Flow.{Agrees, agrees_left, agrees_right, agrees_all}
+use Rattle.sharc_guard_laws.proofs.Pieces.{IsOwn, Levels, levels_both, pick, enters}
 use Rattle.sharc_guard_laws.proofs.Slots.{AreFit, fit_same, below, below_full}
 use Rattle.sharc_guard_laws.proofs.Stating.{IsAround, L, S, ends_at, then_at, entered, lift, longer, zeros, result_alone, all_statements}
 
@@ -48,18 +49,6 @@ inside_list [] n a at = absurd (none_some a at)
 inside_list (x ∷ all) zero a at = omega arith
 inside_list (x ∷ all) (suc n) a at = let h = inside_list all n a at in omega (arith, h)
 
--- what is said of a list of lines at the lines of a table made of it
-agrees_all : (before list : List Slots) (d : Slots) (n : ℕ) → n ≡ length before → Agrees (λ q. slice_index_or (before ++ list) q d) n list
-agrees_all before [] d n e = tt
-agrees_all before (s ∷ rest) d n e = (
-  ap (λ k. slice_index_or (before ++ s ∷ rest) k d) e ∙ here before,
-  subst (λ l. Agrees (λ q. slice_index_or l q d) (n + 1) rest) (append_assoc before (s ∷ []) rest) (agrees_all (before ++ s ∷ []) rest d (n + 1) (let z = length-append before (s ∷ []) in omega (arith, e, z))),
-)
-  where
-    here : (before : List Slots) → slice_index_or (before ++ s ∷ rest) (length before) d ≡ s
-    here [] = refl
-    here (x ∷ xs) = here xs
-
 -- where the function of this number begins, and the function of each line
 module _ (m : Assignment) (globals : List GlobalCells) where
   abbrev pub begin_of : ℕ → List Function → ℕ → ℕ
@@ -76,11 +65,6 @@ module _ (flat : Flat) (owner : ℕ → ℕ) (m : Assignment) where
   g = gives_reference m
 
   -- ---- one function
-  pick : (f : ℕ) (table : ℕ → Slots) (pc : ℕ) (os : List Op) → Levels flat owner g f table pc os → (j : ℕ) (o : Op) → slice_get os j ≡ Some o → Level flat owner g table (pc + j) f (table (pc + j)) o
-  pick f table pc [] h j o at = absurd (none_some o at)
-  pick f table pc (x ∷ os) h zero o at = let z : pc ≡ pc + 0 = omega arith in subst (λ q. Level flat owner g table q f (table q) o) z (subst (Level flat owner g table pc f (table pc)) (same_some x o at) h.0)
-  pick f table pc (x ∷ os) h (suc j) o at = let z : pc + 1 + j ≡ pc + suc j = omega arith in subst (λ q. Level flat owner g table q f (table q) o) z (pick f table (pc + 1) os h.1 j o at)
-
   record IsFunction (globals : List GlobalCells) (f pc : ℕ) (fn : Function) : Type 0 where
     states : List Slots
     many : length states ≡ length (function_code m globals pc fn)
@@ -161,7 +145,7 @@ module _ (flat : Flat) (owner : ℕ → ℕ) (m : Assignment) where
           many = let a = p.many in let b = q.many in omega (arith, a, b, count, length-append p.states q.states);
           begins = λ table h. begins_by table (λ a. p.begins table a) (λ a. q.begins table a) (agrees_left table pc p.states q.states h) (agrees_right table pc p.states q.states (length C) p.many h);
           runs = λ table e h j o at.
-              lines_by table C R (λ i x y. subst (λ f. Level flat owner g table (pc + i) f (table (pc + i)) x) (sym ((own (pc + i) (omega arith) (let w = inside_list C i x y in omega (arith, w))).1)) (pick k table pc C (p.runs table e own (agrees_left table pc p.states q.states h)) i x y))
+              lines_by table C R (λ i x y. subst (λ f. Level flat owner g table (pc + i) f (table (pc + i)) x) (sym ((own (pc + i) (omega arith) (let w = inside_list C i x y in omega (arith, w))).1)) (pick flat owner g k table pc C (p.runs table e own (agrees_left table pc p.states q.states h)) i x y))
               (q.runs table e (agrees_right table pc p.states q.states (length C) p.many h)) j o at;
         }
       where

@@ -28,9 +28,8 @@ use Rattle.sharc_guard_laws.proofs.Expressing.{Entries, gives_reference, express
 use Rattle.sharc_guard_laws.proofs.Leaving.{kept, leaves_to, ends}
 use Rattle.sharc_guard_laws.proofs.Located.{width, one_more, declared_reference}
 use Rattle.sharc_guard_laws.proofs.Parts.{plain_integer, B, then_do, pre, post, none, does as does_one, keeps, enter, null_at, widths_kept, truths, drops, cells_stored, variable_stored}
-use Rattle.sharc_guard_laws.proofs.Pieces.{Piece, known, moved, joins, line}
+use Rattle.sharc_guard_laws.proofs.Pieces.{Piece, known, moved, joins, line, turned, sides, Inner, always, decided, looped}
 use Rattle.sharc_guard_laws.proofs.Slots.{AreFit, fits_full, fits_free, fit_same, below, below_full, below_free, fit_below, none_cleared, with_same, with_other, pushed}
-use Rattle.sharc_guard_laws.proofs.Ways.{turned, sides, Inner, always, decided, looped}
 
 -- ---- scopes
 
