@@ -2,4 +2,5 @@ pub mod Checked
 pub mod Coded
 pub mod Made
 pub mod Program
+pub mod Runs
 pub mod Source

@@ -5,6 +5,7 @@ use Rattle.sharc_tree.specs.declared.event.SourceEvent.{SourceEvent}
 use Rattle.sharc_tree.specs.declared.token.Site.{Site}
 use Rattle.sharc_mode.specs.Moded.{Assignment}
 use Rattle.sharc_meaning.specs.Meaning.{asks}
+use Rattle.sharc_meaning.specs.Runs.{answers_of}
 use Rattle.sharc_meaning.specs.State.{Outcome, wants, ended, stopped, spent, event_of}
 use Rattle.sharc_code.specs.declared.code.Code.{Code}
 use Rattle.sharc_code.specs.declared.shape.Shape.{Shape}
@@ -52,6 +53,8 @@ IsOverAs code o Ended stop = o ≡ ended
 pub record IsToldBy (m : Assignment) (code : Code) (p : Program) (thread f : ℕ) (argument : ℤ) (answers : List ℤ) (at : Machine) (said : List SourceEvent) (lowered : List ℕ) (paced : ℕ) : Type 0 where
   pub fuel : ℕ
   pub events : said ≡ by thread (begins p f argument) ∷ map (by thread) (asks m f argument answers fuel).events
+  -- the answers are those of the events that are told
+  pub own : answers ≡ answers_of (asks m f argument answers fuel).events
   pub over : IsOverAs code (asks m f argument answers fuel).outcome at.at.state at.own.stop
   pub given : (more : List ℕ) × Resolved (asks m f argument answers fuel).given_up (lowered ++ more)
   pub pace : (few : ℕ) → 64 * few + 64 < paced → (asks m f argument answers few).outcome ≡ spent
