@@ -106,7 +106,7 @@ module _ (there_laws : CellsAreThere) (x : Targets) (code : Code) (s : Shape) (l
         above zero ne = absurd (ne refl)
         above (suc k) ne = omega arith
 
-    is_there : (hold : OnHold (g.threads t).own.stage) (c : Cell) (f : Field) → HasField x code here c f → is_of_null (g.threads t) c ≡ false → IsThere code (g.threads t) c
+    pub is_there : (hold : OnHold (g.threads t).own.stage) (c : Cell) (f : Field) → HasField x code here c f → is_of_null (g.threads t) c ≡ false → IsThere code (g.threads t) c
     is_there hold (cells.Global h p) f k some = let q = k.0 in record { known = q.is; low = q.from; high = q.until }
     is_there hold (cells.GlobalAt h i) f k some =
         let nm : NumberStands x st.elements (refs_at (Rattle.sharc_invariant.specs.State.view_of st.elements world t m) m.at.refs) (types_at (Rattle.sharc_invariant.specs.State.view_of st.elements world t m) m.at.refs) rn.names (int m i) (OfGlobal k.0 k.1 k.2 k.3) =

@@ -48,7 +48,7 @@ use Rattle.sharc_history_laws.proofs.Lists.{Newest, EachAccess, no_event, each_p
 use Rattle.sharc_history_laws.proofs.Modes.{private_field, readonly_field}
 
 -- ---- numbers of objects
-number_yes : (n : ℕ) → is_number n (Some n) ≡ true
+pub number_yes : (n : ℕ) → is_number n (Some n) ≡ true
 number_yes n = let e : (n == n) ≡ true = grind (arith, nat_tests) in e
 
 number_not : (n : ℕ) (o : Option ℕ) → (o ≡ Some n → ⊥) → is_number n o ≡ false
@@ -58,10 +58,10 @@ number_not n (Some k) h = let ne : n ≡ k → ⊥ = λ e. h (ap (λ j. Some j) 
 eq_refl : (n : ℕ) → (n == n) ≡ true
 eq_refl n = grind (arith, nat_tests)
 
-put_same : {A : Type 0} (f : ℕ → A) (i : ℕ) (v : A) → put f i v i ≡ v
+pub put_same : {A : Type 0} (f : ℕ → A) (i : ℕ) (v : A) → put f i v i ≡ v
 put_same f i v = rw (eq_refl i) refl
 
-put_other : {A : Type 0} (f : ℕ → A) (i j : ℕ) (v : A) → (j ≡ i → ⊥) → put f i v j ≡ f j
+pub put_other : {A : Type 0} (f : ℕ → A) (i j : ℕ) (v : A) → (j ≡ i → ⊥) → put f i v j ≡ f j
 put_other f i j v ne = let e : nat_eq j i ≡ false = grind (arith, nat_tests) in rw e refl
 
 -- ---- objects after a turn
@@ -289,7 +289,7 @@ module _ (cell_laws : CellsAreThere) (pointers : PointersAreThere) (rights : Acc
   objects_told obj is L old (Some e) tells = record { live = λ n nz live. live_still obj is L old n nz live e tells; owner = λ n nz live. owner_still obj is L old n nz live e tells }
 
   -- ---- accesses
-  hold_access : is_access i ≡ true → OnHold ((place_after code s earlier).threads one.thread).own.stage
+  pub hold_access : is_access i ≡ true → OnHold ((place_after code s earlier).threads one.thread).own.stage
   hold_access e = rests_hold code s h.state.elements world h.state.heap g.words t m i m.own.stage (access_single i e) ((h.state.threads t).runs is_on.0 is_on.1).stage
     where
       access_single : (j : Instr) → is_access j ≡ true → single j ≡ true
@@ -314,7 +314,7 @@ module _ (cell_laws : CellsAreThere) (pointers : PointersAreThere) (rights : Acc
         let a = subst (λ o. CanBy (lang_of x) world t k.write o j (mode_in (world.obj o).ty j (field_in x (world.obj o).ty j).mode)) cell_is.base right.can in
         subst (λ (f : Field). CanBy (lang_of x) world t k.write o j (mode_in (world.obj o).ty j f.mode)) cell_is.field a
 
-    can_mode : (f : FieldMode) → k.field.mode ≡ f → CanBy (lang_of x) h.world one.thread k.write (object_of_cell ((place_after code s earlier).threads one.thread) k.cell) (number_in ((place_after code s earlier).threads one.thread) k.cell)
+    pub can_mode : (f : FieldMode) → k.field.mode ≡ f → CanBy (lang_of x) h.world one.thread k.write (object_of_cell ((place_after code s earlier).threads one.thread) k.cell) (number_in ((place_after code s earlier).threads one.thread) k.cell)
         (mode_in (h.world.obj (object_of_cell ((place_after code s earlier).threads one.thread) k.cell)).ty (number_in ((place_after code s earlier).threads one.thread) k.cell) f)
     can_mode f e = subst (λ f. CanBy (lang_of x) world t k.write (object_of_cell m k.cell) (number_in m k.cell) (mode_in (world.obj (object_of_cell m k.cell)).ty (number_in m k.cell) f)) e can
 
