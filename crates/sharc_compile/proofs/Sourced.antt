@@ -381,6 +381,8 @@ follows runs m flat same code g thread at said lowered paced h =
       function = h.function;
       known = h.known;
       argument = h.argument;
+      after = (at_after flat st h.answers).events;
+      starts = h.events;
       answers = asked flat st (given_in flat st h.answers);
       told = told runs m flat same code g thread at said lowered paced (by_own flat code g thread at said lowered paced h) (are_own flat h.function h.argument h.answers);
     }

@@ -64,6 +64,9 @@ pub record FollowsSource (m : Assignment) (code : Code) (p : Program) (functions
   pub function : ℕ
   pub known : function < functions
   pub argument : ℤ
+  -- its first event is its Started
+  pub after : List SourceEvent
+  pub starts : said ≡ by thread (begins p function argument) ∷ map (by thread) after
   pub answers : List ℤ
   pub told : MayStart m function → IsToldBy m code p thread function argument answers at said lowered paced
 

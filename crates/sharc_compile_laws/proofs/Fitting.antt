@@ -34,7 +34,7 @@ inside [] n x e = absurd (cc)
 inside (y ∷ xs) zero x e = omega arith
 inside (y ∷ xs) (suc n) x e = let h = inside xs n x e in omega arith
 
-named_count : (bytes : List ℕ) (told : List Row) (names : List (List ℕ)) (made : List Row) → AreNamed bytes told names made → length made ≡ length told
+pub named_count : (bytes : List ℕ) (told : List Row) (names : List (List ℕ)) (made : List Row) → AreNamed bytes told names made → length made ≡ length told
 named_count bytes [] [] [] h = refl
 named_count bytes (x ∷ xs) (n ∷ ns) (y ∷ ys) h = ap suc (named_count bytes xs ns ys h.1)
 named_count bytes [] [] (y ∷ ys) h = absurd h
