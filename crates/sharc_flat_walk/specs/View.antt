@@ -1,0 +1,111 @@
+-- What the values of the flattening stand for.
+use Rattle.std.specs.Prelude.{ℕ, ◌+◌, ◌-◌, false, List, [], ◌∷◌, ◌++◌, length, reverse, take, drop, slice_set, Option, None, Some}
+
+use Rattle.sharc_names.specs.View.{view_kind}
+use Rattle.sharc_flat_walk.specs.declared.bodies.Around.{Around as RustAround}
+use Rattle.sharc_tree.specs.Spans.{span_of}
+use Rattle.sharc_tree.specs.Tree as tree
+use Rattle.sharc_mode.specs.declared.sharing.Sharing.TheVariants.{Private}
+use Rattle.sharc_flat_walk.specs.declared.spots.Access.{Access}
+use Rattle.sharc_flat.specs.Flattened.{Around, opened, looping, simple_code, ints_of, refs_of, first_code, behind_first, step_code, turn_code, if_code, choice_code, loop_code, statement_code, statements_code, behind_statements}
+use Rattle.sharc_tree.specs.declared.token.Site.{Site}
+use Rattle.sharc_tree.specs.declared.tree.expression.UnaryOperator.{UnaryOperator}
+use Rattle.sharc_tree.specs.declared.tree.expression.UnaryOperator.TheVariants.{Dereference}
+use Rattle.sharc_code.specs.declared.code.Use.{Use}
+use Rattle.sharc_code.specs.declared.code.Use.TheVariants as uses
+use Rattle.sharc_flat_form.specs.declared.op.Op.{Op}
+use Rattle.sharc_flat_form.specs.declared.op.Op.TheVariants as op
+use Rattle.sharc_flat_walk.specs.declared.places.Bound.{Bound}
+use Rattle.sharc_flat_walk.specs.declared.places.Bound.TheVariants as bound
+use Rattle.sharc_flat_walk.specs.declared.places.Taking.{Taking}
+use Rattle.sharc_flat_walk.specs.declared.places.Taking.TheVariants.{Cast, Free}
+use Rattle.sharc_flat.specs.declared.slot.Slot.{Slot}
+use Rattle.sharc_flat_walk.specs.declared.source.Source.{Source}
+use Rattle.sharc_flat_walk.specs.declared.target.Target.{Target as RustTarget}
+use Rattle.sharc_flat_walk.specs.declared.target.Target.TheVariants.{Variable, InGlobal, InGlobalAt, InObject, InObjectAt}
+use Rattle.sharc_flat.specs.Places.{Target, variable, in_global, in_global_at, in_object, in_object_at}
+use Rattle.sharc_flat.specs.Scope.{Context, at_site, ends_from}
+
+abbrev pub view_target : RustTarget → Target
+view_target (Variable x) = variable x
+view_target (InGlobal g f) = in_global g f
+view_target (InGlobalAt g f) = in_global_at g f
+view_target (InObject f) = in_object f
+view_target (InObjectAt f) = in_object_at f
+
+-- where an expression stands, by the variables that stand there
+abbrev pub context : Source → List Slot → Context
+context p scope = record { program = p.m.now; globals = p.globals.items; scope = scope }
+
+abbrev pub use_of : Taking → Option ℕ → Use
+use_of Cast x = uses.Cast x
+use_of Free x = uses.Free x
+
+abbrev pub bounds_by : Bound → Site → ℕ → ℕ → Op
+bounds_by (bound.Object r cells) site i n = op.Bounds i r cells n (at_site site)
+bounds_by (bound.Global elements cells first) site i n = op.GlobalBounds i elements cells (first + n) (at_site site)
+
+-- the right operand of `&&` and `||`, behind the left one: where the register is 0, it is led over, with so many operations behind it
+abbrev pub decided_code : ℕ → ℕ → List Op → List Op
+decided_code i more b = op.SkipIfZero i (length b + more) ∷ (b ++ (op.IsFalse i i ∷ op.IsFalse i i ∷ []))
+
+-- an operator before its operand, but `*`
+abbrev pub IsPlain : UnaryOperator → Type 0
+IsPlain Dereference = ⊥
+IsPlain _ = Unit {0}
+
+-- of how many variables stood where each open block began, the innermost last: those behind the first so many, the innermost first
+abbrev pub innermost : ℕ → List ℕ → List ℕ
+innermost outer marks = reverse (drop outer marks)
+
+abbrev pub outermost : ℕ → List ℕ → List ℕ
+outermost outer marks = reverse (take outer marks)
+
+-- where a statement stands in its function
+abbrev pub around_of : RustAround → List ℕ → Around
+around_of a marks = record { result = view_kind a.result; broken = a.broken; continued = a.continued; inside = innermost a.outer marks; outside = outermost a.outer marks }
+
+abbrev pub own_access : Site → Access
+own_access site = record {
+  site = site; lvalue = record { words = record { first = site; last = site }; bare = site.token; is_simple = false };
+  mode = Private; target = Variable site.token;
+}
+
+-- ---- statements, by their parts
+abbrev pub assign_code : Context → ℕ → ℕ → tree.Expression → tree.Right → List Op
+assign_code c i r u x = simple_code c i r (tree.assign (span_of u) u x)
+
+abbrev pub simple_at : Context → tree.Simple → List Op
+simple_at c x = simple_code c (ints_of c) (refs_of c) x
+
+-- a block at this place, behind its Enter
+abbrev pub block_code : Context → Around → ℕ → tree.Statements → List Op
+block_code c a pc all = (statements_code c (opened c a) pc all ++ ends_from (behind_statements c all).scope (length c.scope)) ++ op.BlockEnd ∷ []
+
+abbrev pub if_in : Context → Around → ℕ → tree.Expression → tree.Statement → List Op
+if_in c a pc e x = if_code pc (turn_code c (Some e)) (λ at. statement_code c a at x)
+
+abbrev pub choice_in : Context → Around → ℕ → tree.Expression → tree.Statement → tree.Statement → List Op
+choice_in c a pc e x y = choice_code pc (turn_code c (Some e)) (λ at. statement_code c a at x) (λ at. statement_code c a at y)
+
+abbrev pub loop_in : Context → Around → ℕ → Option tree.Expression → Option tree.Simple → tree.Statement → List Op
+loop_in c a pc test step x = loop_code pc (step_code c step) (turn_code c test) (λ at. statement_code c (looping a (pc + 1) (pc + 2)) at x)
+
+abbrev pub for_in : Context → Around → ℕ → tree.Head → tree.Statement → List Op
+for_in c a pc h x = (first_code c h.first
+    ++ loop_in (behind_first c h.first) (opened c a) (pc + length (first_code c h.first)) h.test h.step x) ++ ends_from (behind_first c h.first).scope (length c.scope)
+
+-- the line that leads over a turn, where a test is written, if so many lines stand behind it, and its register
+abbrev pub hole_of : Context → Option tree.Expression → ℕ → Option (ℕ × ℕ)
+hole_of c None n = None
+hole_of c (Some e) n = Some (n - 1, ints_of c)
+
+abbrev pub with_hole : Option (ℕ × ℕ) → List Op → List Op
+with_hole None lines = lines
+with_hole (Some h) lines = slice_set lines h.0 (op.SkipIfZero h.1 (length lines - h.0 - 1 + 1))
+
+abbrev pub with_way_out : ℕ → List Op → List Op
+with_way_out head lines = slice_set lines (head + 1) (op.Skip (length lines - (head + 1) - 1 + 0))
+
+abbrev pub finished : ℕ → Option (ℕ × ℕ) → List Op → List Op
+finished head hole lines = with_way_out head (with_hole hole lines ++ op.Jump (head + 3) ∷ [])
