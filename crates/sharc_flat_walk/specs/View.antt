@@ -7,14 +7,16 @@ use Rattle.sharc_tree.specs.Spans.{span_of}
 use Rattle.sharc_tree.specs.Tree as tree
 use Rattle.sharc_mode.specs.declared.sharing.Sharing.TheVariants.{Private}
 use Rattle.sharc_flat_walk.specs.declared.spots.Access.{Access}
-use Rattle.sharc_flat.specs.Flattened.{Around, opened, looping, simple_code, ints_of, refs_of, first_code, behind_first, step_code, turn_code, if_code, choice_code, loop_code, statement_code, statements_code, behind_statements}
+use Rattle.sharc_flat.specs.Flattened.{Around, first_cell_of, opened, looping, simple_code, ints_of, refs_of, first_code, behind_first, step_code, turn_code, if_code, choice_code, loop_code, statement_code, statements_code, behind_statements}
 use Rattle.sharc_tree.specs.declared.token.Site.{Site}
 use Rattle.sharc_tree.specs.declared.tree.expression.UnaryOperator.{UnaryOperator}
 use Rattle.sharc_tree.specs.declared.tree.expression.UnaryOperator.TheVariants.{Dereference}
 use Rattle.sharc_code.specs.declared.code.Use.{Use}
 use Rattle.sharc_code.specs.declared.code.Use.TheVariants as uses
 use Rattle.sharc_flat_form.specs.declared.op.Op.{Op}
+use Rattle.sharc_flat_form.specs.declared.op.Spot.{Spot}
 use Rattle.sharc_flat_form.specs.declared.op.Op.TheVariants as op
+use Rattle.sharc_flat_walk.specs.declared.patch.Hole.{Hole}
 use Rattle.sharc_flat_walk.specs.declared.places.Bound.{Bound}
 use Rattle.sharc_flat_walk.specs.declared.places.Bound.TheVariants as bound
 use Rattle.sharc_flat_walk.specs.declared.places.Taking.{Taking}
@@ -44,6 +46,11 @@ use_of Free x = uses.Free x
 abbrev pub bounds_by : Bound → Site → ℕ → ℕ → Op
 bounds_by (bound.Object r cells) site i n = op.Bounds i r cells n (at_site site)
 bounds_by (bound.Global elements cells first) site i n = op.GlobalBounds i elements cells (first + n) (at_site site)
+
+-- what `wait` does before the thread waits
+abbrev pub wait_begin : ℕ → Spot → List Op
+wait_begin r spot = op.ChkNull r spot ∷ op.ChkNull (r + 1) spot ∷ op.ChkHeld (first_cell_of (r + 1)) spot
+    ∷ op.CondEnter (first_cell_of r) spot ∷ op.Unlock (r + 2) (first_cell_of (r + 1)) spot ∷ []
 
 -- the right operand of `&&` and `||`, behind the left one: where the register is 0, it is led over, with so many operations behind it
 abbrev pub decided_code : ℕ → ℕ → List Op → List Op
@@ -95,17 +102,21 @@ abbrev pub for_in : Context → Around → ℕ → tree.Head → tree.Statement 
 for_in c a pc h x = (first_code c h.first
     ++ loop_in (behind_first c h.first) (opened c a) (pc + length (first_code c h.first)) h.test h.step x) ++ ends_from (behind_first c h.first).scope (length c.scope)
 
--- the line that leads over a turn, where a test is written, if so many lines stand behind it, and its register
-abbrev pub hole_of : Context → Option tree.Expression → ℕ → Option (ℕ × ℕ)
-hole_of c None n = None
-hole_of c (Some e) n = Some (n - 1, ints_of c)
+-- the last of so many lines leads over a turn, where a test is written
+abbrev pub hole_at : Context → ℕ → Hole
+hole_at c n = record { line = n - 1; register = ints_of c }
 
-abbrev pub with_hole : Option (ℕ × ℕ) → List Op → List Op
+abbrev pub hole_of : Context → Option tree.Expression → ℕ → Option Hole
+hole_of c None n = None
+hole_of c (Some e) n = Some (hole_at c n)
+
+abbrev pub with_hole : Option Hole → List Op → List Op
 with_hole None lines = lines
-with_hole (Some h) lines = slice_set lines h.0 (op.SkipIfZero h.1 (length lines - h.0 - 1 + 1))
+with_hole (Some h) lines = slice_set lines h.line (op.SkipIfZero h.register (length lines - h.line - 1 + 1))
 
 abbrev pub with_way_out : ℕ → List Op → List Op
 with_way_out head lines = slice_set lines (head + 1) (op.Skip (length lines - (head + 1) - 1 + 0))
 
-abbrev pub finished : ℕ → Option (ℕ × ℕ) → List Op → List Op
+-- the end of a loop that begins on this line
+abbrev pub finished : ℕ → Option Hole → List Op → List Op
 finished head hole lines = with_way_out head (with_hole hole lines ++ op.Jump (head + 3) ∷ [])

@@ -10,15 +10,15 @@ ghost use Rattle.sharc_tree.specs.View.{view_head};
 ghost use Rattle.std.specs.Option.{ForSome};
 ghost use Rattle.std.specs.Prelude.{◌<◌};
 ghost use Rattle.sharc_flat.specs.Flattened.{ints_of};
-ghost use Rattle.sharc_flat_walk.specs.View.{context, around_of, own_access, assign_code, simple_at, block_code, if_in, choice_in, loop_in, for_in, hole_of, finished};
+ghost use Rattle.sharc_flat_walk.specs.View.{context, around_of, own_access, assign_code, simple_at, block_code, if_in, choice_in, loop_in, for_in, hole_at, hole_of, finished};
 
 use crate::expressions::{access_of, expression, guard_of, is_ref, place};
-use crate::lookups::{element_cells, small};
+use crate::lookups::element_cells;
 use crate::operations::{drop_value, is_reference, narrow, truth, zero};
-use crate::patch::{skip, skip_if_zero};
+use crate::patch::{Hole, fill, line_at, skip, skip_if_zero};
 use crate::places::{emit, store};
 use crate::registers::Registers;
-use crate::scope::{end_block, free, leave, next, slot_of};
+use crate::scope::{end_block, free, leave, slot_of};
 use sharc_flat::slot::{Lvalue, Slot};
 use crate::source::Source;
 use crate::spots::{Access, at_site, no_text, object_spot};
@@ -77,7 +77,7 @@ fn right(
             narrow(at.int, kind, expr.span().first, lines)
         }
         Right::Malloc(span, count, of) => {
-            let cells = element_cells(p, declared_kind(of))?;
+            let cells = element_cells(p, declared_kind(of));
             let spot = object_spot(p, scope, span.first, no_text(), Use::Other, mode)?;
             emit(Op::Enter, lines)?;
             elements(p, scope, at, count, lines)?;
@@ -222,21 +222,25 @@ fn step(
     }
 }
 
-/// What decides by a test; the last of its lines leads over so many that are not known yet.
+/// What decides by a test: the last of its lines leads over so many that are not known yet.
 fn turn(
     p: &Source<'_>,
     scope: &[Slot],
     test: &Expr,
     lines: &mut Vec<Op>,
-) -> Result<u32, AllocError>
+) -> Result<Hole, AllocError>
     ensures code { OnOk result (lines.new.items ≡ lines.old.items ++ turn_code (context p.now scope.now) (Some (view_expr test.now)) 0) }
-    ensures register { IfOk result (λ r. r ≡ ints_of (context p.now scope.now)) }
+    ensures hole { IfOk result (λ h. h ≡ hole_at (context p.now scope.now) (length lines.new.items)) }
 {
     let at = free(scope)?;
     expression(p, scope, at, test, lines)?;
     truth(is_ref(p, test), at, lines)?;
+    let line = lines.len();
     emit(Op::SkipIfZero(at.int, 0), lines)?;
-    Ok(at.int)
+    Ok(Hole {
+        line,
+        register: at.int,
+    })
 }
 
 fn jump(
@@ -353,10 +357,10 @@ fn block(
     ensures marks { OnOk result (marks.new.items ≡ marks.old.items) }
 {
     let began = slots.len();
-    let open = marks.len();
+    let depth = marks.len();
     marks.push(began)?;
     statements(p, slots, marks, around, all, lines)?;
-    marks.truncate(open);
+    marks.truncate(depth);
     end_block(slots.as_slice(), began, lines)?;
     slots.truncate(began);
     emit(Op::BlockEnd, lines)
@@ -378,10 +382,9 @@ fn choice(
     ensures slots { OnOk result (slots.new.items ≡ slots.old.items) }
     ensures marks { OnOk result (marks.new.items ≡ marks.old.items) }
 {
-    let register = turn(p, slots.as_slice(), test, lines)?;
-    let behind = lines.len();
+    let hole = turn(p, slots.as_slice(), test, lines)?;
     inner(p, slots, marks, around, then, lines)?;
-    skip_if_zero(behind - 1, register, 0, lines)
+    skip_if_zero(hole, 0, lines)
 }
 
 /// What is done where a test is met, and where it is not.
@@ -401,51 +404,41 @@ fn sides(
     ensures slots { OnOk result (slots.new.items ≡ slots.old.items) }
     ensures marks { OnOk result (marks.new.items ≡ marks.old.items) }
 {
-    let register = turn(p, slots.as_slice(), test, lines)?;
-    let behind = lines.len();
+    let hole = turn(p, slots.as_slice(), test, lines)?;
     inner(p, slots, marks, around, then, lines)?;
-    skip_if_zero(behind - 1, register, 1, lines)?;
+    skip_if_zero(hole, 1, lines)?;
     let over = lines.len();
     emit(Op::Skip(0), lines)?;
     inner(p, slots, marks, around, otherwise, lines)?;
-    skip(over, 0, lines)
+    skip(over, lines)
 }
 
-/// What decides whether there is a turn more, if a test is written: the line that leads over the turn, and its register.
+/// What decides whether there is a turn more, if a test is written.
 fn decision(
     p: &Source<'_>,
     scope: &[Slot],
     test: Option<&Expr>,
     lines: &mut Vec<Op>,
-) -> Result<Option<(usize, u32)>, AllocError>
+) -> Result<Option<Hole>, AllocError>
     ensures code { OnOk result (lines.new.items ≡ lines.old.items ++ turn_code (context p.now scope.now) (option_map (λ e. view_expr e.now) test.entry) 0) }
     ensures hole { IfOk result (λ hole. hole ≡ hole_of (context p.now scope.now) (option_map (λ e. view_expr e.now) test.entry) (length lines.new.items)) }
 {
     match test {
         None => Ok(None),
-        Some(test) => {
-            let register = turn(p, scope, test, lines)?;
-            Ok(Some((lines.len() - 1, register)))
-        }
+        Some(test) => Ok(Some(turn(p, scope, test, lines)?)),
     }
 }
 
-/// The end of a loop: back to what decides, from where the way out leads behind it.
-fn finish(
-    head: usize,
-    hole: Option<(usize, u32)>,
-    lines: &mut Vec<Op>,
-) -> Result<(), AllocError>
+/// The end of a loop: back to what decides, and the way out leads after it.
+fn finish(head: usize, hole: Option<Hole>, lines: &mut Vec<Op>) -> Result<(), AllocError>
     requires head { head + 2 < vec_len lines.old }
-    requires hole { ForSome hole (λ h. h.0 < vec_len lines.old) }
+    requires hole { ForSome hole (λ h. h.line < vec_len lines.old) }
     ensures { OnOk result (lines.new.items ≡ finished head hole lines.old.items) }
 {
-    let back = small(head)?;
-    if let Some((line, register)) = hole {
-        skip_if_zero(line, register, 1, lines)?;
-    }
-    emit(Op::Jump(next(next(next(back)?)?)?), lines)?;
-    skip(head + 1, 0, lines)
+    let back = line_at(head, 3)?;
+    fill(hole, lines)?;
+    emit(Op::Jump(back), lines)?;
+    skip(head + 1, lines)
 }
 
 /// A loop.
@@ -466,11 +459,10 @@ fn turns(
     ensures marks { OnOk result (marks.new.items ≡ marks.old.items) }
 {
     let head = lines.len();
-    let broken = next(small(head)?)?;
     let within = Around {
         result: around.result,
-        broken,
-        continued: next(broken)?,
+        broken: line_at(head, 1)?,
+        continued: line_at(head, 2)?,
         outer: marks.len(),
     };
     emit(Op::Skip(2), lines)?;
@@ -478,7 +470,7 @@ fn turns(
     emit(Op::Skip(0), lines)?;
     let hole = decision(p, slots.as_slice(), test, lines)?;
     inner(p, slots, marks, within, body, lines)?;
-    skip(head + 2, 0, lines)?;
+    skip(head + 2, lines)?;
     step(p, slots.as_slice(), after, lines)?;
     finish(head, hole, lines)
 }
@@ -500,12 +492,12 @@ fn counted(
     ensures marks { OnOk result (marks.new.items ≡ marks.old.items) }
 {
     let began = slots.len();
-    let open = marks.len();
+    let depth = marks.len();
     marks.push(began)?;
     first(p, slots, &head.first, lines)?;
     let test = head.test.as_ref();
     turns(p, slots, marks, around, test, head.step.as_ref(), body, lines)?;
-    marks.truncate(open);
+    marks.truncate(depth);
     end_block(slots.as_slice(), began, lines)?;
     slots.truncate(began);
     Ok(())

@@ -14,7 +14,7 @@ ghost use Rattle.sharc_flat.specs.Scope.{at_site};
 ghost use Rattle.sharc_flat_walk.specs.View.{context, view_target, decided_code, IsPlain};
 
 use crate::lookups::{element_cells, field_named, first_cell, global_elements, layout_of};
-use crate::patch::skip_if_zero;
+use crate::patch::{Hole, skip_if_zero};
 use crate::places::{Bound, Taking, emit, index_bounds, pointee, take, value};
 use crate::registers::Registers;
 use sharc_flat::slot::Slot;
@@ -230,7 +230,7 @@ fn cast(
     let mode = pointed(p.m, Some(cast_row(t, span)));
     let words = tokens_in(place.span())?;
     let spot = object_spot(p, scope, access.site, words, use_made, mode)?;
-    let cells = element_cells(p, element_kind(t.kind_at(place)))?;
+    let cells = element_cells(p, element_kind(t.kind_at(place)));
     take(p, scope, at, access, Taking::Cast, lines)?;
     emit(Op::SkipIfNull(at.reference, 1), lines)?;
     emit(Op::Give(at.reference, cells, spot), lines)
@@ -391,11 +391,14 @@ fn decided(
 ) -> Result<(), AllocError>
     ensures { OnOk result (lines.new.items ≡ lines.old.items ++ decided_code at.int more (expression_code (context p.now scope.now) at.int at.reference (view_expr right.now) ++ truth_code (is_ref (context p.now []) (view_expr right.now)) at.int at.reference)) }
 {
-    let hole = lines.len();
+    let hole = Hole {
+        line: lines.len(),
+        register: at.int,
+    };
     emit(Op::SkipIfZero(at.int, 0), lines)?;
     expression(p, scope, at, right, lines)?;
     truth(is_ref(p, right), at, lines)?;
-    skip_if_zero(hole, at.int, more, lines)?;
+    skip_if_zero(hole, more, lines)?;
     emit(Op::IsFalse(at.int, at.int), lines)?;
     emit(Op::IsFalse(at.int, at.int), lines)
 }
@@ -482,7 +485,7 @@ fn index(
 {
     let t = p.m.typed();
     let kind = t.kind_at(base);
-    let cells = element_cells(p, element_kind(kind))?;
+    let cells = element_cells(p, element_kind(kind));
     if is_array(kind) {
         place(p, scope, at, site, None, None, base, lines)?;
         expression(p, scope, at, number, lines)?;

@@ -11,6 +11,7 @@ pub mod operations;
 mod patch;
 mod places;
 pub mod registers;
+mod row;
 pub mod scope;
 pub mod source;
 pub mod spots;

@@ -1,10 +1,9 @@
 // Cells of elements and places of fields.
 
-ghost use Rattle.std.specs.Prelude.{◌≡◌, ◌+◌, IfOk, None, position, unwrap_or, if◌then◌else◌, ◌==◌};
+ghost use Rattle.std.specs.Prelude.{◌≡◌, ◌+◌, length, IfOk, position, unwrap_or, if◌then◌else◌, ◌==◌};
 ghost use Rattle.std.specs.Option.{option_copied};
 ghost use Rattle.std.specs.Str.{bytes_eq};
 ghost use Rattle.sharc_names.specs.View.{view_kind, view_root};
-ghost use Rattle.sharc_names.specs.Names.{cells_of as cells_in};
 ghost use Rattle.sharc_ctype.specs.Resolved.{global_at, declaration_at, structs_in};
 ghost use Rattle.sharc_mode.specs.View.{view_lock};
 ghost use Rattle.sharc_mode.specs.Cells.{is_behind_pointer};
@@ -20,7 +19,6 @@ use sharc_mode::cell::named_kind;
 use sharc_mode::sharing::{Lock, is_sibling_lock};
 use sharc_names::fault::Named;
 use sharc_names::kind::{Kind, Root, is_pointer};
-use sharc_names::structs::{StructMeaning, cells_of};
 use sharc_tree::tree::{Declaration, GlobalForm};
 use std::alloc::AllocError;
 
@@ -34,43 +32,43 @@ pub fn small(n: usize) -> Result<u32, AllocError>
     }
 }
 
-fn struct_cells(p: &Source<'_>, name: &[u8]) -> Result<u32, AllocError>
-    ensures { IfOk result (λ n. n ≡ struct_cells (structs_in p.now.m.now.typed.program.items) name.now) }
+fn struct_cells(p: &Source<'_>, name: &[u8]) -> u32
+    ensures { result ≡ struct_cells (structs_in p.now.m.now.typed.program.items) name.now }
 {
-    match p.structs.find(name) {
-        None => Ok(1),
-        Some(of) => small(cells_of(of)),
+    match p.structs.get(name) {
+        None => 1,
+        Some(row) => row.cells,
     }
 }
 
-fn base_cells(p: &Source<'_>, root: Root<'_>) -> Result<u32, AllocError>
-    ensures { IfOk result (λ n. n ≡ base_cells p.now.m.now.typed (view_root root.entry)) }
+fn base_cells(p: &Source<'_>, root: Root<'_>) -> u32
+    ensures { result ≡ base_cells p.now.m.now.typed (view_root root.entry) }
 {
     match root {
-        Root::Int => Ok(1),
-        Root::Char => Ok(1),
-        Root::Long => Ok(1),
-        Root::Mutex => Ok(1),
-        Root::Void => Ok(1),
+        Root::Int => 1,
+        Root::Char => 1,
+        Root::Long => 1,
+        Root::Mutex => 1,
+        Root::Void => 1,
         Root::Struct(name) => struct_cells(p, name),
     }
 }
 
-fn cells_behind(p: &Source<'_>, root: Root<'_>, stars: usize) -> Result<u32, AllocError>
-    ensures { IfOk result (λ n. n ≡ (if stars == 0 then base_cells p.now.m.now.typed (view_root root.entry) else 1)) }
+fn cells_behind(p: &Source<'_>, root: Root<'_>, stars: usize) -> u32
+    ensures { result ≡ (if stars == 0 then base_cells p.now.m.now.typed (view_root root.entry) else 1) }
 {
-    if stars == 0 { base_cells(p, root) } else { Ok(1) }
+    if stars == 0 { base_cells(p, root) } else { 1 }
 }
 
 /// The cells of one element.
-pub fn element_cells(p: &Source<'_>, kind: Kind<'_>) -> Result<u32, AllocError>
-    ensures { IfOk result (λ n. n ≡ element_cells p.now.m.now.typed (view_kind kind.entry)) }
+pub fn element_cells(p: &Source<'_>, kind: Kind<'_>) -> u32
+    ensures { result ≡ element_cells p.now.m.now.typed (view_kind kind.entry) }
 {
     match kind {
         Kind::Object(root, stars) => cells_behind(p, root, stars),
         Kind::Array(root, stars) => cells_behind(p, root, stars),
-        Kind::Null => Ok(1),
-        Kind::Function => Ok(1),
+        Kind::Null => 1,
+        Kind::Function => 1,
     }
 }
 
@@ -188,18 +186,22 @@ pub fn cell_in(p: &Source<'_>, number: u32, field: u32) -> Result<u32, AllocErro
     }
 }
 
+/// The number after those of all layouts of structs.
+fn last_layout(t: &Typed) -> Result<u32, AllocError>
+    ensures { IfOk result (λ n. n ≡ length (structs_in t.now.program.items) + 2) }
+{
+    match small(t.struct_count())?.checked_add(2) {
+        Some(n) => Ok(n),
+        None => Err(AllocError),
+    }
+}
+
 fn struct_layout(p: &Source<'_>, name: &[u8]) -> Result<u32, AllocError>
     ensures { IfOk result (λ n. n ≡ struct_layout 2 (structs_in p.now.m.now.typed.program.items) name.now) }
 {
-    match p.structs.find(name) {
-        Some(StructMeaning::Defined(number, _)) => match number.checked_add(2) {
-            Some(n) => Ok(n),
-            None => Err(AllocError),
-        },
-        _ => match small(p.m.typed().struct_count())?.checked_add(2) {
-            Some(n) => Ok(n),
-            None => Err(AllocError),
-        },
+    match p.structs.get(name) {
+        None => last_layout(p.m.typed()),
+        Some(row) => Ok(row.layout),
     }
 }
 

@@ -9,11 +9,12 @@ ghost use Rattle.sharc_meaning.specs.Expressions.{number_named};
 ghost use Rattle.sharc_flat.specs.Places.{width_of, base_as_width, width_code};
 ghost use Rattle.sharc_flat.specs.Flattened.{constant_code, truth_code, drop_code, zero_code, operator_of, differ_code, compare_code, first_cell_of, wait_code, with_words, argument_words, condition_code, called_code, spawn_code, value_call_code};
 ghost use Rattle.sharc_flat.specs.Scope.{at_site, no_text};
+ghost use Rattle.sharc_flat_walk.specs.View.{wait_begin};
 
 use crate::places::emit;
 use crate::registers::Registers;
 use crate::spots::{at_site, no_text, tokens_in};
-use sharc_code::{Cell, Operator, Register, Width};
+use sharc_code::{Cell, Operator, Register, Text, Width};
 use sharc_flat_form::{Op, Spot};
 use sharc_names::fault::Named;
 use sharc_names::kind::{Kind, Root, is_integer, is_null, is_pointer};
@@ -185,16 +186,46 @@ pub fn compare(
     emit(Op::Pop(other), lines)
 }
 
-fn with_words(spot: Spot, arguments: &[Expr], number: usize) -> Result<Spot, AllocError>
-    ensures { IfOk result (λ s. s ≡ with_words spot (argument_words number (view_arguments arguments.now))) }
+/// The words of the first argument.
+fn first_words(arguments: &[Expr]) -> Result<Text, AllocError>
+    ensures { IfOk result (λ words. words ≡ argument_words 0 (view_arguments arguments.now)) }
+{
+    match arguments {
+        [] => Ok(no_text()),
+        [first, ..] => tokens_in(first.span()),
+    }
+}
+
+/// The words of the second argument.
+fn second_words(arguments: &[Expr]) -> Result<Text, AllocError>
+    ensures { IfOk result (λ words. words ≡ argument_words 1 (view_arguments arguments.now)) }
+{
+    match arguments {
+        [] => Ok(no_text()),
+        [_, rest @ ..] => first_words(rest),
+    }
+}
+
+fn with_words(spot: Spot, words: Text) -> Spot
+    ensures { result ≡ with_words spot words }
 {
     let mut told = spot;
-    told.lvalue = if number < arguments.len() {
-        tokens_in(arguments[number].span())?
-    } else {
-        no_text()
-    };
-    Ok(told)
+    told.lvalue = words;
+    told
+}
+
+/// What `wait` does before the thread waits.
+fn wait_begins(register: u32, spot: Spot, lines: &mut Vec<Op>) -> Result<(), AllocError>
+    requires { register < 2 ^ 31 }
+    ensures { OnOk result (lines.new.items ≡ lines.old.items ++ wait_begin register spot) }
+{
+    let condition = Cell::Object(register, 0);
+    let mutex = Cell::Object(register + 1, 0);
+    emit(Op::ChkNull(register, spot), lines)?;
+    emit(Op::ChkNull(register + 1, spot), lines)?;
+    emit(Op::ChkHeld(mutex, spot), lines)?;
+    emit(Op::CondEnter(condition, spot), lines)?;
+    emit(Op::Unlock(register + 2, mutex, spot), lines)
 }
 
 /// `wait`
@@ -207,18 +238,14 @@ fn wait(
     requires { register < 2 ^ 31 }
     ensures { OnOk result (lines.new.items ≡ lines.old.items ++ wait_code register spot (with_words spot (argument_words 0 (view_arguments arguments.now))) (with_words spot (argument_words 1 (view_arguments arguments.now)))) }
 {
-    let of_condition = with_words(spot, arguments, 0)?;
-    let of_mutex = with_words(spot, arguments, 1)?;
-    let condition = Cell::Object(register, 0);
-    let mutex = Cell::Object(register + 1, 0);
-    let kept = Cell::Object(register + 2, 0);
-    emit(Op::ChkNull(register, spot), lines)?;
-    emit(Op::ChkNull(register + 1, spot), lines)?;
-    emit(Op::ChkHeld(mutex, spot), lines)?;
-    emit(Op::CondEnter(condition, spot), lines)?;
-    emit(Op::Unlock(register + 2, mutex, spot), lines)?;
-    emit(Op::CondWait(condition, of_condition), lines)?;
-    emit(Op::Lock(kept, of_mutex), lines)?;
+    let of_condition = with_words(spot, first_words(arguments)?);
+    let of_mutex = with_words(spot, second_words(arguments)?);
+    wait_begins(register, spot, lines)?;
+    emit(
+        Op::CondWait(Cell::Object(register, 0), of_condition),
+        lines,
+    )?;
+    emit(Op::Lock(Cell::Object(register + 2, 0), of_mutex), lines)?;
     emit(Op::Pop(register), lines)?;
     emit(Op::Pop(register + 1), lines)
 }

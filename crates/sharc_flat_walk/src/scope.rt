@@ -94,31 +94,44 @@ pub fn free(scope: &[Slot]) -> Result<Registers, AllocError>
     Ok(at)
 }
 
-/// The variables behind the first so many end.
+/// The first so many variables.
+fn outer(scope: &[Slot], began: usize) -> &[Slot]
+    ensures { result.now ≡ take began scope.now }
+{
+    &scope[..began.min(scope.len())]
+}
+
+/// The variables after the first so many.
+fn inner(scope: &[Slot], began: usize) -> &[Slot]
+    ensures { result.now ≡ drop began scope.now }
+{
+    &scope[began.min(scope.len())..]
+}
+
+/// The variables after the first so many end.
 pub fn end_block(scope: &[Slot], began: usize, lines: &mut Vec<Op>) -> Result<(), AllocError>
     ensures { OnOk result (lines.new.items ≡ lines.old.items ++ ends_from scope.now began) }
 {
-    let began = began.min(scope.len());
-    let (outer, ended) = scope.split_at(began);
-    pops(ended, free(outer)?.reference, lines)
+    let from = free(outer(scope, began))?.reference;
+    pops(inner(scope, began), from, lines)
 }
 
-/// The blocks behind the first so many end, the innermost first.
+/// The blocks after the first so many end, the innermost first.
 pub fn leave(
     scope: &[Slot],
     marks: &[usize],
-    outer: usize,
+    kept: usize,
     lines: &mut Vec<Op>,
 ) -> Result<(), AllocError>
-    ensures { OnOk result (lines.new.items ≡ lines.old.items ++ leaves scope.now (innermost outer marks.now)) }
+    ensures { OnOk result (lines.new.items ≡ lines.old.items ++ leaves scope.now (innermost kept marks.now)) }
 {
     let mut left = scope;
-    let mut open = marks.len();
-    while open > outer {
-        open -= 1;
-        let began = marks[open].min(left.len());
+    let mut depth = marks.len();
+    while depth > kept {
+        depth -= 1;
+        let began = marks[depth];
         end_block(left, began, lines)?;
-        left = &left[..began];
+        left = outer(left, began);
     }
     Ok(())
 }

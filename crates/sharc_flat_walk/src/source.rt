@@ -1,17 +1,15 @@
 // The program, with what flattening looks up in it in one step.
 
-ghost use Rattle.std.specs.Prelude.{◌≡◌, ◌+◌, [], ◌∷◌, length, drop, IfOk, OnOk};
-ghost use Rattle.sharc_ctype.specs.Heads.{with_struct};
+ghost use Rattle.std.specs.Prelude.{◌≡◌, ◌+◌, ◌<◌, length, IfOk, OnOk};
 ghost use Rattle.sharc_ctype.specs.Resolved.{structs_in};
-ghost use Rattle.sharc_flat_walk.specs.Lookups.{structs_from, HasFields, HasPlaces};
+ghost use Rattle.sharc_flat_walk.specs.Lookups.{HasCells, HasLayouts, HasRow, HasFields, HasPlaces};
 
 use crate::lookups::small;
+use crate::row::StructRow;
 use indexmap::IndexMap;
 use sharc_code::GlobalCells;
 use sharc_ctype::typed::Typed;
 use sharc_mode::moded::Moded;
-use sharc_names::fields::Fields;
-use sharc_names::structs::{StructMeaning, Structs};
 use sharc_tree::tree::{Declaration, StructDefinition};
 use std::alloc::{AllocError, Global};
 
@@ -20,55 +18,58 @@ use std::alloc::{AllocError, Global};
 pub struct Source<'a> {
     pub m: &'a Moded,
     pub globals: Vec<GlobalCells>,
-    pub(crate) structs: Structs<'a>,
+    pub(crate) structs: IndexMap<&'a [u8], StructRow>,
     pub(crate) fields: IndexMap<u32, u32>,
-    ghost has_structs: { structs ≡ structs_from [] 0 (structs_in m.now.typed.program.items) },
+    ghost has_cells: { HasCells (structs_in m.now.typed.program.items) structs },
+    ghost has_layouts: { HasLayouts 2 (length (structs_in m.now.typed.program.items) + 2) (structs_in m.now.typed.program.items) structs },
     ghost has_fields: { HasFields (structs_in m.now.typed.program.items) fields },
 }
 
-/// The struct of this name, if it is the first of that name.
+/// The struct with this number.
 fn enter_struct<'a>(
-    alloc: Global,
-    structs: &mut Structs<'a>,
     number: u32,
     definition: &'a StructDefinition,
+    structs: &mut IndexMap<&'a [u8], StructRow>,
 ) -> Result<(), AllocError>
-    ensures { OnOk result (structs.new ≡ with_struct structs.old number definition.now) }
+    ensures { OnOk result (HasRow definition.now.name.text (record { layout = number + 2; cells = length definition.now.fields }) structs.old structs.new) }
 {
-    let name = definition.name.text.as_slice();
-    if structs.find(name).is_some() {
-        return Ok(());
-    }
-    let fields = Fields::all(alloc, definition.fields.as_slice())?;
-    structs.add(name, StructMeaning::Defined(number, fields))
+    let cells = small(definition.fields.len())?;
+    let layout = match number.checked_add(2) {
+        Some(layout) => layout,
+        None => return Err(AllocError),
+    };
+    structs.insert(definition.name.text.as_slice(), StructRow { layout, cells })?;
+    Ok(())
 }
 
-/// The structs of a program by their names.
-fn structs_of<'a>(alloc: Global, t: &'a Typed) -> Result<Structs<'a>, AllocError>
-    ensures { IfOk result (λ structs. structs ≡ structs_from [] 0 (structs_in t.now.program.items)) }
+/// The structs of a program by their names. Of two structs with one name the first stays, so the last is entered first.
+fn structs_of<'a>(
+    alloc: Global,
+    t: &'a Typed,
+) -> Result<IndexMap<&'a [u8], StructRow>, AllocError>
+    ensures cells { IfOk result (λ rows. HasCells (structs_in t.now.program.items) rows) }
+    ensures layouts { IfOk result (λ rows. HasLayouts 2 (length (structs_in t.now.program.items) + 2) (structs_in t.now.program.items) rows) }
 {
-    let mut structs = Structs::new(alloc);
-    let count = small(t.struct_count())?;
-    for number in 0..count {
-        match t.struct_at(number) {
-            None => {}
-            Some(definition) => enter_struct(alloc, &mut structs, number, definition)?,
+    let mut structs = IndexMap::new(alloc);
+    let mut left = small(t.struct_count())?;
+    while left > 0 {
+        left -= 1;
+        match t.struct_at(left) {
+            None => return Err(AllocError),
+            Some(definition) => enter_struct(left, definition, &mut structs)?,
         }
     }
     Ok(structs)
 }
 
 /// The places of a struct's fields. Of two fields with one token the first stays, so the last is entered first.
-fn enter_fields(
-    fields: &[Declaration],
-    places: &mut IndexMap<u32, u32>,
-) -> Result<(), AllocError>
+fn enter_fields(fields: &[Declaration], places: &mut IndexMap<u32, u32>) -> Result<(), AllocError>
     ensures { OnOk result (HasPlaces fields.now places.old places.new) }
 {
-    let mut left = fields.len();
+    let mut left = small(fields.len())?;
     while left > 0 {
         left -= 1;
-        places.insert(fields[left].name.site.token, small(left)?)?;
+        places.insert(fields[left as usize].name.site.token, left)?;
     }
     Ok(())
 }
@@ -82,7 +83,7 @@ fn places_of(alloc: Global, t: &Typed) -> Result<IndexMap<u32, u32>, AllocError>
     while left > 0 {
         left -= 1;
         match t.struct_at(left) {
-            None => {}
+            None => return Err(AllocError),
             Some(definition) => enter_fields(definition.fields.as_slice(), &mut places)?,
         }
     }
@@ -98,11 +99,13 @@ impl<'a> Source<'a> {
         ensures globals { IfOk result (λ p. p.globals.items ≡ []) }
     {
         let t = m.typed();
+        let structs = structs_of(alloc, t)?;
+        let fields = places_of(alloc, t)?;
         Ok(Source {
             m,
             globals: Vec::new(alloc),
-            structs: structs_of(alloc, t)?,
-            fields: places_of(alloc, t)?,
+            structs,
+            fields,
         })
     }
 
