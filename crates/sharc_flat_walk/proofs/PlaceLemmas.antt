@@ -1,6 +1,7 @@
 -- The place of the first that passes, counted from a number on.
-use Rattle.std.proofs.Common.{◌≡◌, ℕ, zero, suc, ◌+◌, ◌<◌, ◌≤◌, Bool, true, false, cond, List, [], ◌∷◌, length, Option, Some, None, refl, ap, sym, ◌∙◌, arith, ltb}
-use Rattle.std.specs.Prelude.{nat_lt, position, ◌==◌}
+use Rattle.std.proofs.Common.{◌≡◌, ℕ, zero, suc, ◌+◌, ◌<◌, ◌≤◌, Bool, true, false, cond, List, [], ◌∷◌, length, Option, Some, None, unwrap_or, refl, ap, sym, ◌∙◌, arith, ltb}
+use Rattle.std.specs.Prelude.{nat_lt, position, ◌==◌, if◌then◌else◌}
+use Rattle.std.specs.Str.{bytes_eq}
 use Rattle.sharc_tree.specs.declared.tree.declaration.Declaration.{Declaration}
 use Rattle.std.specs.List.{position_or_len}
 use Rattle.std.proofs.lemmas.Bool.Decides.{nat_tests}
@@ -40,3 +41,18 @@ from_first p xs =
 -- ---- the places of fields
 abbrev pub place_from : ℕ → List Declaration → ℕ → Option ℕ
 place_from n fields token = from_place (λ d. d.name.site.token == token) n fields
+
+abbrev pub named_from : ℕ → List Declaration → List ℕ → ℕ
+named_from n [] name = 0
+named_from n (d ∷ rest) name = if bytes_eq d.name.text name then n else named_from (n + 1) rest name
+
+chosen : (b : Bool) (n x : ℕ) (o : Option ℕ) → unwrap_or o 0 ≡ x → unwrap_or (cond b (Some n) o) 0 ≡ cond b n x
+chosen true n x o h = refl
+chosen false n x o h = h
+
+named_from_is : (n : ℕ) (fields : List Declaration) (name : List ℕ) → unwrap_or (from_place (λ d. bytes_eq d.name.text name) n fields) 0 ≡ named_from n fields name
+named_from_is n [] name = refl
+named_from_is n (d ∷ rest) name = chosen (bytes_eq d.name.text name) n (named_from (n + 1) rest name) (from_place (λ d. bytes_eq d.name.text name) (n + 1) rest) (named_from_is (n + 1) rest name)
+
+pub named_first : (fields : List Declaration) (name : List ℕ) → named_from 0 fields name ≡ unwrap_or (position (λ d. bytes_eq d.name.text name) fields) 0
+named_first fields name = sym (named_from_is 0 fields name) ∙ ap (λ o. unwrap_or o 0) (from_first (λ d. bytes_eq d.name.text name) fields)

@@ -1,6 +1,6 @@
 -- Lines that are made one after the other.
 use Rattle.std.proofs.Common.{◌≡◌, ℕ, zero, suc, ◌+◌, ◌-◌, ◌<◌, ◌≤◌, List, [], ◌∷◌, ◌++◌, length, set, take, Option, Some, None, refl, ap, sym, ◌∙◌, arith, append_assoc, length-append}
-use Rattle.std.proofs.lemmas.List.{set-append_right, length_push, take_at}
+use Rattle.std.proofs.lemmas.List.{set-append_right, length_push, length-set, take_at}
 use Rattle.sharc_flat_form.specs.declared.op.Op.{Op}
 use Rattle.sharc_flat_form.specs.declared.op.Op.TheVariants.{Enter, IsFalse, Jump, Skip, SkipIfZero}
 use Rattle.sharc_flat.specs.Flattened.{if_code, choice_code, turns_code, loop_code}
@@ -207,3 +207,15 @@ looped_while old test step l1 l2 l3 l4 l5 l6 l7 l8 i F e1 e2 e3 e4 e5 e6 e7 e8 =
 -- ---- variables that begin stay those before them
 pub kept_first : {A : Type 0} (xs ys zs : List A) → ys ≡ xs ++ zs → take (length xs) ys ≡ xs
 kept_first xs ys zs e = ap (take (length xs)) e ∙ take_at xs zs (length xs) refl
+
+-- a hole is one of the lines
+pub hole_within : (old test l1 l2 body : List Op) (i n : ℕ) → l1 ≡ old ++ led test i 0 → l2 ≡ l1 ++ body → n ≡ length l1 - 1 → n < length l2
+hole_within old test l1 l2 body i n e1 e2 at =
+    omega (arith, ap length e1, ap length e2, length-append old (led test i 0), length-append test (SkipIfZero i 0 ∷ []), length-append l1 body)
+
+pub length_filled : (lines : List Op) (n : ℕ) (v : Op) → length (set lines n v) ≡ length lines
+length_filled lines n v = length-set lines n v
+
+pub length_with_hole : (hole : Option Hole) (lines : List Op) → length (with_hole hole lines) ≡ length lines
+length_with_hole None lines = refl
+length_with_hole (Some h) lines = length-set lines h.line (SkipIfZero h.register (length lines - h.line - 1 + 1))

@@ -1,5 +1,5 @@
 -- What the values of the flattening stand for.
-use Rattle.std.specs.Prelude.{ℕ, ◌+◌, ◌-◌, false, List, [], ◌∷◌, ◌++◌, length, reverse, take, drop, slice_set, Option, None, Some}
+use Rattle.std.specs.Prelude.{ℕ, ◌+◌, ◌-◌, false, List, [], ◌∷◌, ◌++◌, length, reverse, take, drop, slice_set, Option, None, Some, if◌then◌else◌}
 
 use Rattle.sharc_names.specs.View.{view_kind}
 use Rattle.sharc_flat_walk.specs.declared.bodies.Around.{Around as RustAround}
@@ -7,10 +7,12 @@ use Rattle.sharc_tree.specs.Spans.{span_of}
 use Rattle.sharc_tree.specs.Tree as tree
 use Rattle.sharc_mode.specs.declared.sharing.Sharing.TheVariants.{Private}
 use Rattle.sharc_flat_walk.specs.declared.spots.Access.{Access}
-use Rattle.sharc_flat.specs.Flattened.{Around, first_cell_of, opened, looping, simple_code, ints_of, refs_of, first_code, behind_first, step_code, turn_code, if_code, choice_code, loop_code, statement_code, statements_code, behind_statements}
+use Rattle.sharc_flat.specs.Flattened.{Around, first_cell_of, opened, looping, simple_code, ints_of, refs_of, first_code, behind_first, step_code, turn_code, if_code, loop_code, statement_code, statements_code, behind_statements}
 use Rattle.sharc_tree.specs.declared.token.Site.{Site}
-use Rattle.sharc_tree.specs.declared.tree.expression.UnaryOperator.{UnaryOperator}
-use Rattle.sharc_tree.specs.declared.tree.expression.UnaryOperator.TheVariants.{Dereference}
+use Rattle.sharc_tree.specs.declared.tree.expression.BinaryOperator.{BinaryOperator}
+use Rattle.sharc_tree.specs.declared.tree.expression.BinaryOperator.TheVariants.{LogicalAnd, LogicalOr}
+use Rattle.sharc_flat_walk.specs.declared.operations.Evaluation.{Evaluation}
+use Rattle.sharc_flat_walk.specs.declared.operations.Evaluation.TheVariants.{And, Or, Both}
 use Rattle.sharc_code.specs.declared.code.Use.{Use}
 use Rattle.sharc_code.specs.declared.code.Use.TheVariants as uses
 use Rattle.sharc_flat_form.specs.declared.op.Op.{Op}
@@ -25,7 +27,11 @@ use Rattle.sharc_flat.specs.declared.slot.Slot.{Slot}
 use Rattle.sharc_flat_walk.specs.declared.source.Source.{Source}
 use Rattle.sharc_flat_walk.specs.declared.target.Target.{Target as RustTarget}
 use Rattle.sharc_flat_walk.specs.declared.target.Target.TheVariants.{Variable, InGlobal, InGlobalAt, InObject, InObjectAt}
-use Rattle.sharc_flat.specs.Places.{Target, variable, in_global, in_global_at, in_object, in_object_at}
+use Rattle.sharc_names.specs.Kinds.{is_array, element_kind}
+use Rattle.sharc_ctype.specs.Resolved.{kind_at, global_at}
+use Rattle.sharc_meaning.specs.Cells.{element_cells, global_elements}
+use Rattle.sharc_flat_form.specs.Machine.{first_cell}
+use Rattle.sharc_flat.specs.Places.{Target, bounds_code, global_of, own_field, target, variable, in_global, in_global_at, in_object, in_object_at}
 use Rattle.sharc_flat.specs.Scope.{Context, at_site, ends_from}
 
 abbrev pub view_target : RustTarget → Target
@@ -56,10 +62,29 @@ wait_begin r spot = op.ChkNull r spot ∷ op.ChkNull (r + 1) spot ∷ op.ChkHeld
 abbrev pub decided_code : ℕ → ℕ → List Op → List Op
 decided_code i more b = op.SkipIfZero i (length b + more) ∷ (b ++ (op.IsFalse i i ∷ op.IsFalse i i ∷ []))
 
--- an operator before its operand, but `*`
-abbrev pub IsPlain : UnaryOperator → Type 0
-IsPlain Dereference = ⊥
-IsPlain _ = Unit {0}
+-- ---- `a[i]`, by its parts: what is indexed, the first reference register for the index, and how its number becomes that of a cell
+abbrev pub indexed_code : Context → ℕ → Site → tree.Expression → List Op → List Op → List Op
+indexed_code c r site a of_array of_pointer = if is_array (kind_at c.program.typed a) then of_array else of_pointer ++ op.ChkNull r (at_site site) ∷ []
+
+abbrev pub index_register : Context → ℕ → tree.Expression → ℕ
+index_register c r a = if is_array (kind_at c.program.typed a) then r else r + 1
+
+abbrev pub element_code : Context → ℕ → ℕ → Site → Option ℕ → Option ℕ → tree.Expression → List Op
+element_code c i r site f guard a =
+    if is_array (kind_at c.program.typed a)
+    then bounds_code
+    (λ i n. op.GlobalBounds i (global_elements (global_at c.program.typed (global_of (target c.program.typed None a)))) (element_cells c.program.typed (element_kind (kind_at c.program.typed a)))
+    (first_cell c.globals (global_of (target c.program.typed None a)) + n) (at_site site))
+    i (own_field f 0) guard
+    else bounds_code
+    (λ i n. op.Bounds i r (element_cells c.program.typed (element_kind (kind_at c.program.typed a))) n (at_site site))
+    i (own_field f 0) guard
+
+-- which operands are evaluated
+abbrev pub evaluation_of : BinaryOperator → Evaluation
+evaluation_of LogicalAnd = And
+evaluation_of LogicalOr = Or
+evaluation_of _ = Both
 
 -- of how many variables stood where each open block began, the innermost last: those behind the first so many, the innermost first
 abbrev pub innermost : ℕ → List ℕ → List ℕ
@@ -91,9 +116,6 @@ block_code c a pc all = (statements_code c (opened c a) pc all ++ ends_from (beh
 
 abbrev pub if_in : Context → Around → ℕ → tree.Expression → tree.Statement → List Op
 if_in c a pc e x = if_code pc (turn_code c (Some e)) (λ at. statement_code c a at x)
-
-abbrev pub choice_in : Context → Around → ℕ → tree.Expression → tree.Statement → tree.Statement → List Op
-choice_in c a pc e x y = choice_code pc (turn_code c (Some e)) (λ at. statement_code c a at x) (λ at. statement_code c a at y)
 
 abbrev pub loop_in : Context → Around → ℕ → Option tree.Expression → Option tree.Simple → tree.Statement → List Op
 loop_in c a pc test step x = loop_code pc (step_code c step) (turn_code c test) (λ at. statement_code c (looping a (pc + 1) (pc + 2)) at x)

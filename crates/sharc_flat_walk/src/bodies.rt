@@ -8,9 +8,9 @@ ghost use Rattle.sharc_flat.specs.Scope.{slot_of};
 ghost use Rattle.sharc_flat.specs.Flattened.{elements_code, right_code, simple_code, initial_code, local_code, first_code, behind_first, step_code, test_code, turn_code, jump_code, result_code, return_code, loop_code, statement_code, statements_code, behind_statement, behind_statements};
 ghost use Rattle.sharc_tree.specs.View.{view_head};
 ghost use Rattle.std.specs.Option.{ForSome};
-ghost use Rattle.std.specs.Prelude.{◌<◌};
+ghost use Rattle.std.specs.Prelude.{◌<◌, ◌-◌, slice_set};
 ghost use Rattle.sharc_flat.specs.Flattened.{ints_of};
-ghost use Rattle.sharc_flat_walk.specs.View.{context, around_of, own_access, assign_code, simple_at, block_code, if_in, choice_in, loop_in, for_in, hole_at, hole_of, finished};
+ghost use Rattle.sharc_flat_walk.specs.View.{context, around_of, own_access, assign_code, simple_at, block_code, if_in, loop_in, for_in, hole_at, hole_of, finished};
 
 use crate::expressions::{access_of, expression, guard_of, is_ref, place};
 use crate::lookups::element_cells;
@@ -260,6 +260,17 @@ fn jump(
     }
 }
 
+/// A value goes to the first register of the frame.
+fn give(is_ref: bool, at: Registers, lines: &mut Vec<Op>) -> Result<(), AllocError>
+    ensures { OnOk result (lines.new.items ≡ lines.old.items ++ result_code is_ref at.int at.reference) }
+{
+    if is_ref {
+        emit(Op::MoveReference(0, at.reference), lines)
+    } else {
+        emit(Op::Move(0, at.int), lines)
+    }
+}
+
 /// `return`
 fn returned(
     p: &Source<'_>,
@@ -289,14 +300,22 @@ fn returned(
             expression(p, scope, at, expr, lines)?;
             narrow(at.int, around.result, expr.span().first, lines)?;
             leave(scope, marks, 0, lines)?;
-            if gives_reference {
-                emit(Op::MoveReference(0, at.reference), lines)?;
-            } else {
-                emit(Op::Move(0, at.int), lines)?;
-            }
+            give(gives_reference, at, lines)?;
             emit(Op::Return(at_site(site)), lines)
         }
     }
+}
+
+/// The second side of a choice begins: where the test is not met, the lines before are led over, and they lead over what follows. The line that does so.
+fn other_side(hole: Hole, lines: &mut Vec<Op>) -> Result<usize, AllocError>
+    requires { hole.line < vec_len lines.old }
+    ensures code { OnOk result (lines.new.items ≡ slice_set lines.old.items hole.line (Op.SkipIfZero hole.register (length lines.old.items - hole.line - 1 + 1)) ++ Op.Skip 0 ∷ []) }
+    ensures line { IfOk result (λ n. n ≡ length lines.old.items) }
+{
+    skip_if_zero(hole, 1, lines)?;
+    let over = lines.len();
+    emit(Op::Skip(0), lines)?;
+    Ok(over)
 }
 
 /// A statement under a test or in a loop: what it declares ends behind it.
@@ -373,8 +392,8 @@ fn choice(
     slots: &mut Vec<Slot>,
     marks: &mut Vec<usize>,
     around: Around<'_>,
-    test: &Expr,
     then: &Stmt,
+    test: &Expr,
     lines: &mut Vec<Op>,
 ) -> Result<(), AllocError>
     requires { around.outer ≤ vec_len marks.old }
@@ -385,32 +404,6 @@ fn choice(
     let hole = turn(p, slots.as_slice(), test, lines)?;
     inner(p, slots, marks, around, then, lines)?;
     skip_if_zero(hole, 0, lines)
-}
-
-/// What is done where a test is met, and where it is not.
-#[cycle(statement)]
-fn sides(
-    p: &Source<'_>,
-    slots: &mut Vec<Slot>,
-    marks: &mut Vec<usize>,
-    around: Around<'_>,
-    test: &Expr,
-    then: &Stmt,
-    otherwise: &Stmt,
-    lines: &mut Vec<Op>,
-) -> Result<(), AllocError>
-    requires { around.outer ≤ vec_len marks.old }
-    ensures code { OnOk result (lines.new.items ≡ lines.old.items ++ choice_in (context p.now slots.old.items) (around_of around.entry marks.old.items) (length lines.old.items) (view_expr test.now) (view_stmt then.now) (view_stmt otherwise.now)) }
-    ensures slots { OnOk result (slots.new.items ≡ slots.old.items) }
-    ensures marks { OnOk result (marks.new.items ≡ marks.old.items) }
-{
-    let hole = turn(p, slots.as_slice(), test, lines)?;
-    inner(p, slots, marks, around, then, lines)?;
-    skip_if_zero(hole, 1, lines)?;
-    let over = lines.len();
-    emit(Op::Skip(0), lines)?;
-    inner(p, slots, marks, around, otherwise, lines)?;
-    skip(over, lines)
 }
 
 /// What decides whether there is a turn more, if a test is written.
@@ -529,13 +522,19 @@ fn statement(
             let scope = slots.as_slice();
             returned(p, scope, marks.as_slice(), around, span.first, value, lines)
         }
-        Stmt::If(_, test, then) => choice(p, slots, marks, around, test, then, lines),
+        Stmt::If(_, test, then) => choice(p, slots, marks, around, then, test, lines),
         Stmt::IfElse {
             test,
             then,
             otherwise,
             ..
-        } => sides(p, slots, marks, around, test, then, otherwise, lines),
+        } => {
+            let hole = turn(p, slots.as_slice(), test, lines)?;
+            inner(p, slots, marks, around, then, lines)?;
+            let over = other_side(hole, lines)?;
+            inner(p, slots, marks, around, otherwise, lines)?;
+            skip(over, lines)
+        }
         Stmt::While(_, test, body) => {
             turns(p, slots, marks, around, Some(test), None, body, lines)
         }

@@ -8,10 +8,16 @@ ghost use Rattle.sharc_ctype.specs.Resolved.{kind_at, named_at};
 ghost use Rattle.sharc_ctype.specs.Transfers.{parameters_named};
 ghost use Rattle.sharc_mode.specs.Cells.{cell_at};
 ghost use Rattle.sharc_mode.specs.View.{view_sharing};
-ghost use Rattle.sharc_flat.specs.Places.{lvalue_of, target, index_code};
-ghost use Rattle.sharc_flat.specs.Flattened.{is_ref, expression_code, arguments_code, place_code, named_code, lvalue_code, guard_of, place_call_code, cast_code, field_code, unary_code, truth_code, passed_code, unlocked_code};
+ghost use Rattle.sharc_flat.specs.Places.{lvalue_of, target};
+ghost use Rattle.sharc_flat.specs.Flattened.{is_ref, expression_code, arguments_code, place_code, named_code, lvalue_code, guard_of, taken_guard, place_call_code, cast_code, field_code, unary_code, binary_code, compare_code, operator_of, truth_code, passed_code};
 ghost use Rattle.sharc_flat.specs.Scope.{at_site};
-ghost use Rattle.sharc_flat_walk.specs.View.{context, view_target, decided_code, IsPlain};
+ghost use Rattle.sharc_flat_walk.specs.View.{context, view_target, decided_code, indexed_code, index_register, element_code};
+ghost use Rattle.sharc_ctype.specs.Resolved.{global_at};
+ghost use Rattle.sharc_meaning.specs.Cells.{global_elements};
+ghost use Rattle.sharc_flat_form.specs.Machine.{first_cell};
+ghost use Rattle.sharc_tree.specs.Tree.{unary as of_unary};
+ghost use Rattle.sharc_ctype.specs.Expressions.{class_of, binary_result};
+ghost use Rattle.sharc_flat.specs.Places.{width_of};
 
 use crate::lookups::{element_cells, field_named, first_cell, global_elements, layout_of};
 use crate::patch::{Hole, skip_if_zero};
@@ -22,10 +28,10 @@ use crate::source::Source;
 use crate::spots::{Access, at_site, at_words, beside_field, cell_of, object_spot, tokens_in};
 use crate::target::{Target, global_of, lvalue_of, own_field, target_of};
 use crate::operations::{
-    called, compare, constant, is_reference, narrow, number_named, on_value, operator_of, spawned,
-    truth, width_of,
+    Evaluation, called, compare, constant, evaluation_of, is_reference, narrow, number_named,
+    on_value, operator_of, spawned, truth, width_of,
 };
-use sharc_code::Use;
+use sharc_code::{Use, Width};
 use sharc_ctype::typed::Typed;
 use sharc_flat_form::Op;
 use sharc_mode::cell::{cell_of as mode_of, pointed};
@@ -45,8 +51,18 @@ pub fn access_of<'a>(p: &'a Source<'_>, expr: &'a Expr) -> Access<'a>
     ensures mode { view_sharing result.mode ≡ cell_at p.now.m.now (view_expr expr.now) }
     ensures target { view_target result.target ≡ target p.now.m.now.typed None (view_expr expr.now) }
 {
+    access_at(p, expr.span().first, expr)
+}
+
+/// The same, told as this place of the source.
+fn access_at<'a>(p: &'a Source<'_>, site: Site, expr: &'a Expr) -> Access<'a>
+    ensures site { result.site ≡ site }
+    ensures lvalue { result.lvalue ≡ lvalue_of p.now.m.now.typed (view_expr expr.now) }
+    ensures mode { view_sharing result.mode ≡ cell_at p.now.m.now (view_expr expr.now) }
+    ensures target { view_target result.target ≡ target p.now.m.now.typed None (view_expr expr.now) }
+{
     Access {
-        site: expr.span().first,
+        site,
         lvalue: lvalue_of(p, expr),
         mode: mode_of(p.m, expr),
         target: target_of(p, None, expr),
@@ -91,8 +107,7 @@ fn name(
 ) -> Result<(), AllocError>
     ensures { OnOk result (lines.new.items ≡ lines.old.items ++ named_code (context p.now scope.now) at.int at.reference name.now.site (lvalue_of p.now.m.now.typed (view_expr expr.now)) (cell_at p.now.m.now (view_expr expr.now)) (is_ref (context p.now scope.now) (view_expr expr.now)) (named_at p.now.m.now.typed name.now.site.token)) }
 {
-    let mut access = access_of(p, expr);
-    access.site = name.site;
+    let mut access = access_at(p, name.site, expr);
     match p.m.typed().named(name.site.token) {
         Named::Variable(token) => {
             access.target = Target::Variable(token);
@@ -141,8 +156,8 @@ fn passed(
     }
 }
 
-/// The parameters behind the first.
-fn behind_first(parameters: &[Declaration]) -> &[Declaration]
+/// The parameters after the first.
+fn after_first(parameters: &[Declaration]) -> &[Declaration]
     ensures { result.now ≡ drop 1 parameters.now }
 {
     match parameters {
@@ -213,6 +228,36 @@ fn free(
     emit(Op::Free(at.reference, layout, spot), lines)
 }
 
+/// The guard of the place of a call: a mutex is accessed under no mode.
+fn taken_guard(p: &Source<'_>, call: PlaceCall, place: &Expr) -> Option<u32>
+    ensures { result ≡ taken_guard (context p.now []) call (view_expr place.now) }
+{
+    match call {
+        PlaceCall::Lock => None,
+        PlaceCall::Unlock => None,
+        PlaceCall::Free => guard_of(p, place),
+    }
+}
+
+/// `lock`, `unlock` or `free`, after what finds its place.
+fn on_place(
+    p: &Source<'_>,
+    scope: &[Slot],
+    at: Registers,
+    span: Span,
+    call: PlaceCall,
+    place: &Expr,
+    lines: &mut Vec<Op>,
+) -> Result<(), AllocError>
+    ensures { OnOk result (lines.new.items ≡ lines.old.items ++ place_call_code (context p.now scope.now) at.int at.reference span call (view_expr place.now) []) }
+{
+    match call {
+        PlaceCall::Lock => lock(p, at, span, place, lines),
+        PlaceCall::Unlock => unlock(p, at, span, place, lines),
+        PlaceCall::Free => free(p, scope, at, span, place, lines),
+    }
+}
+
 /// A sharing cast that stands at these tokens, behind what finds its source.
 fn cast(
     p: &Source<'_>,
@@ -236,17 +281,19 @@ fn cast(
     emit(Op::Give(at.reference, cells, spot), lines)
 }
 
-/// An operator before its operand, but `*`.
+/// An operator before its operand, after the operand.
 fn unary(
     p: &Source<'_>,
+    scope: &[Slot],
     at: Registers,
+    expr: &Expr,
     span: Span,
     operator: UnaryOperator,
     operand: &Expr,
     lines: &mut Vec<Op>,
 ) -> Result<(), AllocError>
-    requires { IsPlain operator }
-    ensures { OnOk result (lines.new.items ≡ lines.old.items ++ unary_code (context p.now []) at.int at.reference span operator (view_expr operand.now) []) }
+    requires { view_expr expr.now ≡ of_unary span operator (view_expr operand.now) }
+    ensures { OnOk result (lines.new.items ≡ lines.old.items ++ unary_code (context p.now scope.now) at.int at.reference span operator (view_expr operand.now) []) }
 {
     match operator {
         UnaryOperator::Negate => {
@@ -258,7 +305,70 @@ fn unary(
             emit(Op::IsFalse(at.int, at.int), lines)
         }
         UnaryOperator::Complement => emit(Op::Complement(at.int, at.int), lines),
-        UnaryOperator::Dereference => Ok(()),
+        UnaryOperator::Dereference => {
+            pointee(at.reference, span.first, lines)?;
+            value(p, scope, at, access_at(p, span.first, expr), is_ref(p, expr), lines)
+        }
+    }
+}
+
+/// Two operands that are both evaluated, after them.
+fn computed(
+    at: Registers,
+    operator: BinaryOperator,
+    site: Site,
+    width: Width,
+    is_ref: bool,
+    lines: &mut Vec<Op>,
+) -> Result<(), AllocError>
+    ensures { OnOk result (lines.new.items ≡ lines.old.items ++ (if is_ref then compare_code operator at.int at.reference else Op.Compute width (operator_of operator) at.int at.int (at.int + 1) (at_site site) ∷ [])) }
+{
+    if is_ref {
+        compare(operator, at, lines)
+    } else {
+        let of = operator_of(operator);
+        let spot = at_site(site);
+        emit(Op::Compute(width, of, at.int, at.int, at.int + 1, spot), lines)
+    }
+}
+
+/// The elements of a global that is indexed.
+fn global_bound(p: &Source<'_>, global: u32, cells: u32) -> Result<Bound, AllocError>
+    ensures { IfOk result (λ b. b ≡ Bound.Global (global_elements (global_at p.now.m.now.typed global)) cells (first_cell p.now.globals.items global)) }
+{
+    let elements = global_elements(p.m.typed(), global)?;
+    let first = first_cell(p, global)?;
+    Ok(Bound::Global {
+        elements,
+        cells,
+        first,
+    })
+}
+
+/// The number of an element becomes that of a cell, after what is indexed and the index.
+fn element(
+    p: &Source<'_>,
+    at: Registers,
+    site: Site,
+    of: Option<u32>,
+    guard: Option<u32>,
+    base: &Expr,
+    lines: &mut Vec<Op>,
+) -> Result<(), AllocError>
+    ensures { OnOk result (lines.new.items ≡ lines.old.items ++ element_code (context p.now []) at.int at.reference site of guard (view_expr base.now)) }
+{
+    let kind = p.m.typed().kind_at(base);
+    let cells = element_cells(p, element_kind(kind));
+    let field = own_field(of, 0);
+    if is_array(kind) {
+        let bound = global_bound(p, global_of(target_of(p, None, base)), cells)?;
+        index_bounds(bound, at, field, guard, site, lines)
+    } else {
+        let bound = Bound::Object {
+            register: at.reference,
+            cells,
+        };
+        index_bounds(bound, at, field, guard, site, lines)
     }
 }
 
@@ -296,17 +406,10 @@ pub fn expression(
             expression(p, scope, at, argument, lines)?;
             on_value(*call, at.int, span.first, lines)
         }
-        Expr::OnPlace(span, PlaceCall::Lock, of) => {
-            place(p, scope, at, of.span().first, None, None, of, lines)?;
-            lock(p, at, *span, of, lines)
-        }
-        Expr::OnPlace(span, PlaceCall::Unlock, of) => {
-            place(p, scope, at, of.span().first, None, None, of, lines)?;
-            unlock(p, at, *span, of, lines)
-        }
-        Expr::OnPlace(span, PlaceCall::Free, of) => {
-            place(p, scope, at, of.span().first, None, guard_of(p, of), of, lines)?;
-            free(p, scope, at, *span, of, lines)
+        Expr::OnPlace(span, call, of) => {
+            let guard = taken_guard(p, *call, of);
+            place(p, scope, at, of.span().first, None, guard, of, lines)?;
+            on_place(p, scope, at, *span, *call, of, lines)
         }
         Expr::Cast(span, _, of) => {
             place(p, scope, at, of.span().first, None, guard_of(p, of), of, lines)?;
@@ -314,7 +417,9 @@ pub fn expression(
         }
         Expr::Index(span, base, number) => {
             let guard = guard_of(p, expr);
-            index(p, scope, at, span.first, None, guard, base, number, lines)?;
+            let next = indexed(p, scope, at, span.first, base, lines)?;
+            expression(p, scope, next, number, lines)?;
+            element(p, at, span.first, None, guard, base, lines)?;
             lvalue(p, scope, at, expr, lines)
         }
         Expr::Field {
@@ -327,35 +432,9 @@ pub fn expression(
             field(p, scope, at, span.first, None, guard, base, *access, name, lines)?;
             lvalue(p, scope, at, expr, lines)
         }
-        Expr::Unary(span, UnaryOperator::Dereference, operand) => {
-            expression(p, scope, at, operand, lines)?;
-            pointee(at.reference, span.first, lines)?;
-            lvalue(p, scope, at, expr, lines)
-        }
         Expr::Unary(span, operator, operand) => {
             expression(p, scope, at, operand, lines)?;
-            unary(p, at, *span, *operator, operand, lines)
-        }
-        Expr::Binary {
-            operator: BinaryOperator::LogicalAnd,
-            left,
-            right,
-            ..
-        } => {
-            expression(p, scope, at, left, lines)?;
-            truth(is_ref(p, left), at, lines)?;
-            decided(p, scope, at, right, 0, lines)
-        }
-        Expr::Binary {
-            operator: BinaryOperator::LogicalOr,
-            left,
-            right,
-            ..
-        } => {
-            expression(p, scope, at, left, lines)?;
-            truth(is_ref(p, left), at, lines)?;
-            emit(Op::IsFalse(at.int, at.int), lines)?;
-            decided(p, scope, at, right, 1, lines)
+            unary(p, scope, at, expr, *span, *operator, operand, lines)
         }
         Expr::Binary {
             operator,
@@ -365,16 +444,42 @@ pub fn expression(
             ..
         } => {
             let width = width_of(t.kind_at(expr));
-            let is_ref = is_ref(p, left);
             expression(p, scope, at, left, lines)?;
+            binary(p, scope, at, *operator, *site, width, right, left, lines)
+        }
+    }
+}
+
+/// An operator after its left operand.
+#[cycle(expression)]
+fn binary(
+    p: &Source<'_>,
+    scope: &[Slot],
+    at: Registers,
+    operator: BinaryOperator,
+    site: Site,
+    width: Width,
+    right: &Expr,
+    left: &Expr,
+    lines: &mut Vec<Op>,
+) -> Result<(), AllocError>
+    requires { width ≡ width_of (binary_result (class_of operator) (kind_at p.now.m.now.typed (view_expr left.now)) (kind_at p.now.m.now.typed (view_expr right.now))) }
+    ensures { OnOk result (lines.new.items ≡ lines.old.items ++ binary_code (context p.now scope.now) at.int at.reference site operator (view_expr left.now) (view_expr right.now) [] (λ i r. expression_code (context p.now scope.now) i r (view_expr right.now))) }
+{
+    let is_ref = is_ref(p, left);
+    match evaluation_of(operator) {
+        Evaluation::And => {
+            truth(is_ref, at, lines)?;
+            decided(p, scope, at, right, 0, lines)
+        }
+        Evaluation::Or => {
+            truth(is_ref, at, lines)?;
+            emit(Op::IsFalse(at.int, at.int), lines)?;
+            decided(p, scope, at, right, 1, lines)
+        }
+        Evaluation::Both => {
             expression(p, scope, at.behind(is_ref)?, right, lines)?;
-            if is_ref {
-                compare(*operator, at, lines)
-            } else {
-                let spot = at_site(*site);
-                let of = operator_of(*operator);
-                emit(Op::Compute(width, of, at.int, at.int, at.int + 1, spot), lines)
-            }
+            computed(at, operator, site, width, is_ref, lines)
         }
     }
 }
@@ -415,13 +520,17 @@ fn arguments(
 ) -> Result<(), AllocError>
     ensures { OnOk result (lines.new.items ≡ lines.old.items ++ arguments_code (context p.now scope.now) at.int at.reference (declared_kinds parameters.now) (view_arguments arguments.now)) }
 {
-    let mut here = at;
+    let mut int = at.int;
+    let mut reference = at.reference;
     let mut left = parameters;
     for argument in arguments {
+        let here = Registers::of(int, reference)?;
         expression(p, scope, here, argument, lines)?;
-        passed(here.int, left, argument.span().first, lines)?;
-        here = here.behind(is_ref(p, argument))?;
-        left = behind_first(left);
+        passed(int, left, argument.span().first, lines)?;
+        let next = here.behind(is_ref(p, argument))?;
+        int = next.int;
+        reference = next.reference;
+        left = after_first(left);
     }
     Ok(())
 }
@@ -444,7 +553,9 @@ pub fn place(
     match expr {
         Expr::Parentheses(_, inner) => place(p, scope, at, site, of, guard, inner, lines),
         Expr::Index(_, base, number) => {
-            index(p, scope, at, site, of, guard, base, number, lines)
+            let next = indexed(p, scope, at, site, base, lines)?;
+            expression(p, scope, next, number, lines)?;
+            element(p, at, site, of, guard, base, lines)
         }
         Expr::Field {
             base,
@@ -468,45 +579,27 @@ pub fn place(
     }
 }
 
-/// `a[i]`
+/// What is indexed, and the first registers for the index: an array has none of its own, a pointer stands in a reference.
 #[cycle(expression)]
-fn index(
+fn indexed(
     p: &Source<'_>,
     scope: &[Slot],
     at: Registers,
     site: Site,
-    of: Option<u32>,
-    guard: Option<u32>,
     base: &Expr,
-    number: &Expr,
     lines: &mut Vec<Op>,
-) -> Result<(), AllocError>
-    ensures { OnOk result (lines.new.items ≡ lines.old.items ++ index_code (context p.now scope.now) at.int at.reference site of guard (view_expr base.now) (place_code (context p.now scope.now) at.int at.reference site None None (view_expr base.now)) (expression_code (context p.now scope.now) at.int at.reference (view_expr base.now)) (λ d. expression_code (context p.now scope.now) at.int d (view_expr number.now))) }
+) -> Result<Registers, AllocError>
+    ensures code { OnOk result (lines.new.items ≡ lines.old.items ++ indexed_code (context p.now scope.now) at.reference site (view_expr base.now) (place_code (context p.now scope.now) at.int at.reference site None None (view_expr base.now)) (expression_code (context p.now scope.now) at.int at.reference (view_expr base.now))) }
+    ensures int { IfOk result (λ next. next.int ≡ at.int) }
+    ensures reference { IfOk result (λ next. next.reference ≡ index_register (context p.now scope.now) at.reference (view_expr base.now)) }
 {
-    let t = p.m.typed();
-    let kind = t.kind_at(base);
-    let cells = element_cells(p, element_kind(kind));
-    if is_array(kind) {
+    if is_array(p.m.typed().kind_at(base)) {
         place(p, scope, at, site, None, None, base, lines)?;
-        expression(p, scope, at, number, lines)?;
-        let global = global_of(target_of(p, None, base));
-        let elements = global_elements(t, global)?;
-        let first = first_cell(p, global)?;
-        let bound = Bound::Global {
-            elements,
-            cells,
-            first,
-        };
-        index_bounds(bound, at, own_field(of, 0), guard, site, lines)
+        Ok(at)
     } else {
         expression(p, scope, at, base, lines)?;
         pointee(at.reference, site, lines)?;
-        expression(p, scope, at.behind_reference()?, number, lines)?;
-        let bound = Bound::Object {
-            register: at.reference,
-            cells,
-        };
-        index_bounds(bound, at, own_field(of, 0), guard, site, lines)
+        at.behind_reference()
     }
 }
 

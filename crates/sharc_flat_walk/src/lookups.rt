@@ -13,6 +13,7 @@ ghost use Rattle.sharc_ctype.specs.Globals.{elements_of as elements_of_form};
 ghost use Rattle.sharc_flat.specs.Flattened.{struct_layout, base_layout, layout_of};
 ghost use Rattle.sharc_flat_form.specs.Machine.{first_cell};
 
+use crate::scope::next;
 use crate::source::Source;
 use sharc_ctype::typed::Typed;
 use sharc_mode::cell::named_kind;
@@ -138,13 +139,18 @@ fn fields_behind<'a>(t: &'a Typed, declaration: Option<&Declaration>) -> &'a [De
     }
 }
 
+/// The place of the first field with this name. There are as many steps as fields of a struct, which has at most 256.
 fn place_of_name(fields: &[Declaration], name: &[u8]) -> Result<u32, AllocError>
     ensures { IfOk result (λ n. n ≡ unwrap_or (position (λ d. bytes_eq d.name.text name.now) fields.now) 0) }
 {
-    match fields.iter().position(|d| d.name.text.as_slice() == name) {
-        None => Ok(0),
-        Some(place) => small(place),
+    let mut place = 0u32;
+    for field in fields {
+        if field.name.text.as_slice() == name {
+            return Ok(place);
+        }
+        place = next(place)?;
     }
+    Ok(0)
 }
 
 /// The place of the field with this name behind the variable that this token declares.

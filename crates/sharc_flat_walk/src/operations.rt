@@ -9,7 +9,7 @@ ghost use Rattle.sharc_meaning.specs.Expressions.{number_named};
 ghost use Rattle.sharc_flat.specs.Places.{width_of, base_as_width, width_code};
 ghost use Rattle.sharc_flat.specs.Flattened.{constant_code, truth_code, drop_code, zero_code, operator_of, differ_code, compare_code, first_cell_of, wait_code, with_words, argument_words, condition_code, called_code, spawn_code, value_call_code};
 ghost use Rattle.sharc_flat.specs.Scope.{at_site, no_text};
-ghost use Rattle.sharc_flat_walk.specs.View.{wait_begin};
+ghost use Rattle.sharc_flat_walk.specs.View.{wait_begin, evaluation_of};
 
 use crate::places::emit;
 use crate::registers::Registers;
@@ -159,6 +159,25 @@ pub fn operator_of(operator: BinaryOperator) -> Operator
         BinaryOperator::Multiply => Operator::Multiply,
         BinaryOperator::Divide => Operator::Divide,
         BinaryOperator::Remainder => Operator::Remainder,
+    }
+}
+
+/// Which operands of an operator are evaluated: the right one where the left one is not 0, where it is 0, or both.
+#[derive(Clone, Copy)]
+pub enum Evaluation {
+    And,
+    Or,
+    Both,
+}
+
+/// The evaluation of an operator.
+pub fn evaluation_of(operator: BinaryOperator) -> Evaluation
+    ensures { result ≡ evaluation_of operator }
+{
+    match operator {
+        BinaryOperator::LogicalAnd => Evaluation::And,
+        BinaryOperator::LogicalOr => Evaluation::Or,
+        _ => Evaluation::Both,
     }
 }
 

@@ -10,22 +10,30 @@ use std::alloc::AllocError;
 pub struct Registers {
     pub int: u32,
     pub reference: u32,
-    // So those behind them have numbers of 32 bits, too.
+    // So those after them have numbers of 32 bits, too.
     ghost few_ints: { int < 2 ^ 31 },
     ghost few_references: { reference < 2 ^ 31 },
 }
 
-/// One more register, where that is one of few.
-pub fn above(register: u32) -> Result<u32, AllocError>
+/// A register that is one of few.
+fn few(register: u32) -> Result<u32, AllocError>
+    ensures is { IfOk result (λ n. n ≡ register) }
+    ensures few { IfOk result (λ n. n < 2 ^ 31) }
+{
+    if register < 2147483648 {
+        Ok(register)
+    } else {
+        Err(AllocError)
+    }
+}
+
+/// The register after one.
+fn above(register: u32) -> Result<u32, AllocError>
     requires { register < 2 ^ 31 }
     ensures is { IfOk result (λ n. n ≡ register + 1) }
     ensures few { IfOk result (λ n. n < 2 ^ 31) }
 {
-    if register < 2147483647 {
-        Ok(register + 1)
-    } else {
-        Err(AllocError)
-    }
+    few(register + 1)
 }
 
 impl Registers {
@@ -34,7 +42,18 @@ impl Registers {
     ghost use Rattle.sharc_flat.specs.Flattened.{behind_int, behind_ref};
     ghost use Rattle.sharc_flat_walk.specs.View.{view_target};
 
-    /// Those behind an integer.
+    /// These two, if they are few.
+    pub fn of(int: u32, reference: u32) -> Result<Registers, AllocError>
+        ensures int { IfOk result (λ r. r.int ≡ int) }
+        ensures reference { IfOk result (λ r. r.reference ≡ reference) }
+    {
+        Ok(Registers {
+            int: few(int)?,
+            reference: few(reference)?,
+        })
+    }
+
+    /// Those after an integer.
     pub fn behind_int(self) -> Result<Registers, AllocError>
         ensures int { IfOk result (λ r. r.int ≡ self.int + 1) }
         ensures reference { IfOk result (λ r. r.reference ≡ self.reference) }
@@ -45,7 +64,7 @@ impl Registers {
         })
     }
 
-    /// Those behind a reference.
+    /// Those after a reference.
     pub fn behind_reference(self) -> Result<Registers, AllocError>
         ensures int { IfOk result (λ r. r.int ≡ self.int) }
         ensures reference { IfOk result (λ r. r.reference ≡ self.reference + 1) }
@@ -56,7 +75,7 @@ impl Registers {
         })
     }
 
-    /// Those behind a value.
+    /// Those after a value.
     pub fn behind(self, is_ref: bool) -> Result<Registers, AllocError>
         ensures int { IfOk result (λ r. r.int ≡ behind_int is_ref self.int) }
         ensures reference { IfOk result (λ r. r.reference ≡ behind_ref is_ref self.reference) }
@@ -68,7 +87,7 @@ impl Registers {
         }
     }
 
-    /// Those behind the base of what something names.
+    /// Those after the base of what something names.
     pub fn behind_base(self, target: Target) -> Result<Registers, AllocError>
         ensures int { IfOk result (λ r. r.int ≡ self.int) }
         ensures reference { IfOk result (λ r. r.reference ≡ self.reference + base_width (view_target target)) }
@@ -90,7 +109,7 @@ impl Registers {
         }
     }
 
-    /// Those behind the number of the cell that something names, where that is found by an index, and behind the number of the mutex's cell.
+    /// Those after the number of the cell that something names, where that is found by an index, and after the number of the mutex's cell.
     pub fn behind_index(self, target: Target, guard: Option<u32>) -> Result<Registers, AllocError>
         ensures int { IfOk result (λ r. r.int ≡ self.int + index_width (view_target target) guard) }
         ensures reference { IfOk result (λ r. r.reference ≡ self.reference) }

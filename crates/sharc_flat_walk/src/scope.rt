@@ -79,19 +79,21 @@ fn pops(scope: &[Slot], from: u32, lines: &mut Vec<Op>) -> Result<(), AllocError
     Ok(())
 }
 
-/// The first free registers behind these variables. There are as many steps as variables, of which a function has few.
+/// The first free registers after these variables. There are as many steps as variables, of which a function has few.
 pub fn free(scope: &[Slot]) -> Result<Registers, AllocError>
     ensures int { IfOk result (λ r. r.int ≡ int_count scope.now) }
     ensures reference { IfOk result (λ r. r.reference ≡ ref_count scope.now) }
 {
-    let mut at = Registers {
-        int: 0,
-        reference: 0,
-    };
+    let mut int = 0u32;
+    let mut reference = 0u32;
     for slot in scope {
-        at = at.behind(slot.is_pointer)?;
+        if slot.is_pointer {
+            reference = next(reference)?;
+        } else {
+            int = next(int)?;
+        }
     }
-    Ok(at)
+    Registers::of(int, reference)
 }
 
 /// The first so many variables.

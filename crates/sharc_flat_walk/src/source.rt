@@ -111,7 +111,7 @@ impl<'a> Source<'a> {
 
     /// The same with the places of its globals.
     pub fn with_globals(self, globals: Vec<GlobalCells>) -> Self
-        ensures m { result.m.now ≡ self.m.now }
+        ensures m { result.m.now ≡ self.entry.m.now }
         ensures globals { result.globals.items ≡ globals.items }
     {
         Source {
