@@ -5,8 +5,8 @@ ghost use Rattle.sharc_flat.specs.Scope.{slot_of, register_from, register_of, nu
 ghost use Rattle.sharc_flat_walk.specs.View.{innermost};
 
 use crate::registers::Registers;
-use sharc_flat::slot::Slot;
 use sharc_code::Register;
+use sharc_flat::slot::Slot;
 use sharc_flat_form::Op;
 use sharc_names::kind::{declared_kind, is_pointer};
 use sharc_tree::tree::Declaration;

@@ -43,10 +43,7 @@ fn enter_struct<'a>(
 }
 
 /// The structs of a program by their names. Of two structs with one name the first stays, so the last is entered first.
-fn structs_of<'a>(
-    alloc: Global,
-    t: &'a Typed,
-) -> Result<IndexMap<&'a [u8], StructRow>, AllocError>
+fn structs_of<'a>(alloc: Global, t: &'a Typed) -> Result<IndexMap<&'a [u8], StructRow>, AllocError>
     ensures cells { IfOk result (λ rows. HasCells (structs_in t.now.program.items) rows) }
     ensures layouts { IfOk result (λ rows. HasLayouts 2 (length (structs_in t.now.program.items) + 2) (structs_in t.now.program.items) rows) }
 {

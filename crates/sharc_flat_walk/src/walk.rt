@@ -83,10 +83,7 @@ pub fn function_lines(
 }
 
 /// The first registers after a function's parameters.
-pub fn parameters_free(
-    walk: &mut Walk,
-    parameters: &[Declaration],
-) -> Result<Registers, AllocError>
+pub fn parameters_free(walk: &mut Walk, parameters: &[Declaration]) -> Result<Registers, AllocError>
     ensures int { IfOk result (λ r. r.int ≡ int_count (parameters_scope parameters.now)) }
     ensures reference { IfOk result (λ r. r.reference ≡ ref_count (parameters_scope parameters.now)) }
 {

@@ -8,5 +8,5 @@ decreases-loop-left l = l.left
 abbrev pub invariant-loop-left : goal.invariant-loop-left
 invariant-loop-left l = record {
   few : l.left ≤ length l.fields;
-  places : HasFrom l.fields l.left l.initial.places l.places
+  places : HasFrom l.fields l.left l.initial.places l.places;
 }

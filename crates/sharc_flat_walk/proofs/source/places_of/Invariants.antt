@@ -9,5 +9,5 @@ decreases-loop-left l = l.left
 abbrev pub invariant-loop-left : goal.invariant-loop-left
 invariant-loop-left l = record {
   few : l.left ≤ length (structs_in l.t.program.items);
-  fields : HasFields (drop l.left (structs_in l.t.program.items)) l.places
+  fields : HasFields (drop l.left (structs_in l.t.program.items)) l.places;
 }
