@@ -1,5 +1,5 @@
 -- A cell that an instruction names, whose base is not NULL, is there.
-use Rattle.std.proofs.Common.{◌≡◌, ℕ, ◌+◌, true, false, cond, sym, ap, ◌∙◌, subst}
+use Rattle.std.proofs.Common.{◌≡◌, ℕ, ◌+◌, Bool, true, false, cond, sym, ap, ◌∙◌, subst}
 use Rattle.std.specs.Prelude.{slice_index, ◌==◌}
 use Rattle.sharc_code.specs.declared.code.Code.{Code}
 use Rattle.sharc_code.specs.declared.instr.Cell.{Cell}
@@ -11,14 +11,16 @@ use Rattle.sharc_code.specs.Runs.{Global}
 use Rattle.sharc_code.proofs.Places.{put_same}
 use Rattle.sharc_invariant.specs.Types.{Targets, Field}
 use Rattle.sharc_invariant.specs.Labels.{Label, Labels, knows}
-use Rattle.sharc_invariant.specs.Typed.{IsWellTyped, HasField}
-use Rattle.sharc_invariant.specs.World.{RegisterOf, World, in_ref}
-use Rattle.sharc_invariant.specs.State.{State, Runs, View, TopStands, OnHold, view_of}
+use Rattle.sharc_invariant.specs.Typed.{IsWellTyped, HasField, Accesses}
+use Rattle.sharc_invariant.specs.World.{RegisterOf, World, Right, in_ref}
+use Rattle.sharc_invariant.specs.Words.{lang_of}
+use Rattle.sharc_invariant.specs.State.{State, Runs, View, TopStands, GateStands, OnHold, base_of_cell, number_in, view_of}
 use Rattle.sharc_invariant.specs.Cells.{IsThere}
 use Rattle.sharc_invariant.specs.MachineInvariant.{IsOn}
 use Rattle.sharc_invariant.proofs.Quiet.{label_held, freed_held}
 use Rattle.sharc_invariant.proofs.Steps.{knows_top}
 use Rattle.sharc_invariant.proofs.Cells.{cell_there}
+use Rattle.sharc_invariant.proofs.Rights.{right}
 
 module _ (x : Targets) (code : Code) (s : Shape) (ls : Labels) (wt : IsWellTyped x code ls) (fits : Fits code s) (g : Global Machine) (world : World) (st : State x code s ls g world) (t : ℕ) (on : IsOn g t) (hold : OnHold (g.threads t).own.stage) where
   abbrev m : Machine
@@ -52,3 +54,9 @@ module _ (x : Targets) (code : Code) (s : Shape) (ls : Labels) (wt : IsWellTyped
       cell_there x code s ls wt fits g world st t m rn.names (knows here r) (known_top r some) reads (cells.Object r i) f record { field = field; base = put_same here.known r true }
   located (cells.ObjectAt r i) f field some =
       cell_there x code s ls wt fits g world st t m rn.names (knows here r) (known_top r some) reads (cells.ObjectAt r i) f record { field = field; base = put_same here.known r true }
+
+  gate_now : GateStands s world t (g.threads t) here.gate
+  gate_now = subst (λ (l : Label). GateStands s world t m l.gate) (label_held here (instr_at code m.at.pc) m.own.stage hold) rn.gate
+
+  pub allowed : (write : Bool) (c : Cell) (site : ℕ) (f : Field) → Accesses x code ls here write c site f → Right (lang_of x) world t write (base_of_cell (g.threads t) c) (number_in (g.threads t) c)
+  allowed write c site f a = right x code s ls wt fits g world st t (st.begins.few t on.0) rn.names here top reads rn.below gate_now write c f a.cell a.may

@@ -9,11 +9,11 @@ use Rattle.sharc_code.specs.Whole.{one_thread, bounds}
 use Rattle.sharc_code.specs.declared.instr.Cell.{Cell}
 use Rattle.sharc_invariant.specs.Types.{Targets, Field}
 use Rattle.sharc_invariant.specs.Labels.{Labels}
-use Rattle.sharc_invariant.specs.Typed.{IsWellTyped, HasField, IsLayout}
+use Rattle.sharc_invariant.specs.Typed.{IsWellTyped, HasField, IsLayout, Accesses}
 use Rattle.sharc_invariant.specs.Cells.{IsThere}
-use Rattle.sharc_invariant.specs.World.{TypeRules, ObjectState, World, Size, WorldInvariant}
+use Rattle.sharc_invariant.specs.World.{TypeRules, ObjectState, World, Size, WorldInvariant, Right}
 use Rattle.sharc_invariant.specs.Words.{lang_of, has_returned}
-use Rattle.sharc_invariant.specs.State.{State, IsSmall, OnHold, all_pointers}
+use Rattle.sharc_invariant.specs.State.{State, IsSmall, OnHold, all_pointers, base_of_cell, number_in}
 use Rattle.sharc_invariant.specs.Effect.{Effect, events_of, NoneOf}
 use Rattle.sharc_invariant.specs.History.{Event, Return, Tied}
 use Rattle.sharc_invariant.specs.Opened.{first_world, first_place}
@@ -100,6 +100,12 @@ abbrev pub PointersAreThere : Type 0
 PointersAreThere = (x : Targets) (code : Code) (s : Shape) (ls : Labels) → IsWellTyped x code ls → Fits code s → (g : Global Machine) (world : World) (st : State x code s ls g world)
     → (o layout target i : ℕ) → o ≢ 0 → (world.obj o).live ≡ true → (world.obj o).ty.target ≡ target → IsLayout x code layout target → i < all_pointers code layout (st.elements o)
     → pointer_cell code (layout_at code layout) i < st.cells o
+
+-- an access that typed code may make is one that its thread has a right to
+abbrev pub AccessesAreAllowed : Type 0
+AccessesAreAllowed = (x : Targets) (code : Code) (s : Shape) (ls : Labels) → IsWellTyped x code ls → Fits code s → (g : Global Machine) (world : World) (st : State x code s ls g world)
+    → (t : ℕ) → IsOn g t → OnHold (g.threads t).own.stage → (write : Bool) (c : Cell) (site : ℕ) (f : Field) → Accesses x code ls (ls.at (g.threads t).at.pc) write c site f
+    → Right (lang_of x) world t write (base_of_cell (g.threads t) c) (number_in (g.threads t) c)
 
 -- ---- what stands at each place
 -- of counts and of references, in the invariant

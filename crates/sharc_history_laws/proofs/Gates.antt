@@ -17,7 +17,7 @@ use Rattle.sharc_invariant.specs.World.{World}
 use Rattle.sharc_invariant.specs.Blocks.{Heap}
 use Rattle.sharc_invariant.specs.State.{StageStands, OnFree}
 use Rattle.sharc_invariant.specs.MachineInvariant.{WasLoaded}
-use Rattle.sharc_path_laws.proofs.Calm.{calm, is_load, is_links}
+use Rattle.sharc_history_laws.proofs.Calm.{calm, is_load, is_links}
 
 -- ---- what was loaded
 closed : (l : Label) → l.gate ≡ Closed → WasLoaded l.gate → ⊥

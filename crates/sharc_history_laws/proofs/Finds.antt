@@ -37,9 +37,9 @@ use Rattle.sharc_invariant.specs.Blocks.{Built, Live}
 use Rattle.sharc_invariant.specs.State.{State, Runs, StageStands, GateStands, NumberStands, BuildsAt, OnHold, object_of_cell, number_in, base_of_cell, refs_at, types_at}
 use Rattle.sharc_invariant.specs.MachineInvariant.{IsOn}
 use Rattle.sharc_invariant.specs.Laws.{CellsAreThere}
-use Rattle.sharc_path_laws.proofs.Gates.{LoadedStands, no_pending}
-use Rattle.sharc_path_laws.proofs.Single.{single, rests_hold}
-use Rattle.sharc_path_laws.proofs.Stands.{register_is, live_slot, live_low, top, gate, known_ref, some_base, there, live_ref, target_ref}
+use Rattle.sharc_history_laws.proofs.Gates.{LoadedStands, no_pending}
+use Rattle.sharc_history_laws.proofs.Single.{single, rests_hold}
+use Rattle.sharc_history_laws.proofs.Stands.{register_is, live_slot, live_low, top, gate, known_ref, some_base, there, live_ref, target_ref}
 
 module _ (there_laws : CellsAreThere) (x : Targets) (code : Code) (s : Shape) (ls : Labels) (wt : IsWellTyped x code ls) (fits : Fits code s) (g : Global Machine) (world : World) (st : State x code s ls g world) where
   -- what a slot holds has a number of 32 bits
@@ -106,7 +106,7 @@ module _ (there_laws : CellsAreThere) (x : Targets) (code : Code) (s : Shape) (l
         above zero ne = absurd (ne refl)
         above (suc k) ne = omega arith
 
-    is_there : (hold : OnHold (g.threads t).own.stage) (c : Cell) (f : Field) → HasField x code here c f → is_of_null (g.threads t) c ≡ false → IsThere code (g.threads t) c
+    pub is_there : (hold : OnHold (g.threads t).own.stage) (c : Cell) (f : Field) → HasField x code here c f → is_of_null (g.threads t) c ≡ false → IsThere code (g.threads t) c
     is_there hold (cells.Global h p) f k some = let q = k.0 in record { known = q.is; low = q.from; high = q.until }
     is_there hold (cells.GlobalAt h i) f k some =
         let nm : NumberStands x st.elements (refs_at (Rattle.sharc_invariant.specs.State.view_of st.elements world t m) m.at.refs) (types_at (Rattle.sharc_invariant.specs.State.view_of st.elements world t m) m.at.refs) rn.names (int m i) (OfGlobal k.0 k.1 k.2 k.3) =
@@ -226,7 +226,7 @@ module _ (there_laws : CellsAreThere) (x : Targets) (code : Code) (s : Shape) (l
       found_at : (i : Instr) → instr_at code (g.threads t).at.pc ≡ i → (step : WordStep) → asked_by (act code s i (g.threads t)) ≡ Some step → found ≡ slice_index g.words step.word
       found_at i is step e = is_found step (ap (λ i. asked_by (act code s i m)) is ∙ e)
 
-      none_loaded : (i : Instr) → instr_at code (g.threads t).at.pc ≡ i → Rattle.sharc_path_laws.proofs.Gates.takes_loaded i ≡ false → (g.threads t).pending ≡ 0
+      none_loaded : (i : Instr) → instr_at code (g.threads t).at.pc ≡ i → Rattle.sharc_history_laws.proofs.Gates.takes_loaded i ≡ false → (g.threads t).pending ≡ 0
       none_loaded i is e = no_pending x code s ls m i e (fine i is) pend
 
       -- the length of an object

@@ -1,7 +1,15 @@
+pub mod Acts
 pub mod Calm
+pub mod Carried
 pub mod Consists
 pub mod Finds
 pub mod Gates
+pub mod Going
+pub mod Lists
+pub mod Modes
+pub mod Rules
+pub mod Sets
+pub mod Shared
 pub mod Single
 pub mod Stands
 pub mod Tables

@@ -35,19 +35,20 @@ use Rattle.sharc_invariant.specs.Types.{Targets}
 use Rattle.sharc_invariant.specs.Labels.{Gate, Closed, Checked, Holds, Loaded, HoldsLoaded, Sole, Labels}
 use Rattle.sharc_invariant.specs.Typed.{IsWellTyped, Fine}
 use Rattle.sharc_invariant.specs.World.{RegisterOf, In, Cell as CellOf, Base, Loaded as IsLoaded, World, ObjectState, WinOk, in_ref, base_of}
-use Rattle.sharc_invariant.specs.Words.{length_at, lang_of, is_freed}
+use Rattle.sharc_invariant.specs.Words.{has_returned, length_at, lang_of, is_freed}
 use Rattle.sharc_invariant.specs.Blocks.{Built, Live}
 use Rattle.sharc_invariant.specs.Opened.{first_world}
-use Rattle.sharc_invariant.specs.Objects.{objects_now}
+use Rattle.sharc_invariant.specs.Effect.{Effect}
+use Rattle.sharc_invariant.specs.Objects.{changes_objects, objects_now}
 use Rattle.sharc_invariant.specs.State.{State, IsSmall, StageStands, GateStands, StopStands, BuildsAt, OnHold, base_of_cell, number_in}
 use Rattle.sharc_invariant.specs.MachineInvariant.{IsOn, WasLoaded}
 use Rattle.sharc_invariant.specs.Laws.{Keeps, Begins as CodeBegins, CellsAreThere, PointersAreThere}
-use Rattle.sharc_path_laws.proofs.Gates.{LoadedStands, loaded_still, links_still, takes_loaded, unloaded}
-use Rattle.sharc_path_laws.proofs.Single.{single, rests_hold}
-use Rattle.sharc_path_laws.proofs.Stands.{live_slot, granules_low, gate, sole_ref, live_ref}
-use Rattle.sharc_path_laws.proofs.Tables.{header_at, header_in, header_of, elements_in_stage, told_other, told_made, was_live, length_kept}
-use Rattle.sharc_path_laws.proofs.Writes.{writes}
-use Rattle.sharc_path_laws.proofs.Finds.{finds}
+use Rattle.sharc_history_laws.proofs.Gates.{LoadedStands, loaded_still, links_still, takes_loaded, unloaded}
+use Rattle.sharc_history_laws.proofs.Single.{single, rests_hold}
+use Rattle.sharc_history_laws.proofs.Stands.{live_slot, granules_low, gate, sole_ref, live_ref}
+use Rattle.sharc_history_laws.proofs.Tables.{header_at, header_in, header_of, elements_in_stage, told_other, told_made, was_live, length_kept}
+use Rattle.sharc_history_laws.proofs.Writes.{writes}
+use Rattle.sharc_history_laws.proofs.Finds.{finds}
 
 -- ---- changed functions
 eq_refl : (n : ℕ) → nat_eq n n ≡ true
@@ -349,7 +350,7 @@ module _ (laws : RunLaws) (keeps : Keeps) (cells : CellsAreThere) (pointers : Po
           (subst (λ j. StageStands code s h.state.elements h.world h.state.heap g.words t m j m.own.stage) is ((h.state.threads t).runs on.0 on.1).stage) q
       by _ is q = absurd (cc)
 
-  given : (r site : ℕ) → i ≡ instrs.Give r site → (h.world.obj (ref ((place_after code s earlier).threads one.thread) r)).live ≡ true
+  pub given : (r site : ℕ) → i ≡ instrs.Give r site → (h.world.obj (ref ((place_after code s earlier).threads one.thread) r)).live ≡ true
   given r site e =
       let hold = rests_hold code s h.state.elements h.world h.state.heap g.words t m (instrs.Give r site) m.own.stage refl (subst (λ j. StageStands code s h.state.elements h.world h.state.heap g.words t m j m.own.stage) e ((h.state.threads t).runs on.0 on.1).stage) in
       let f = subst (Fine x code ls m.at.pc (ls.at m.at.pc)) e (wt.fine m.at.pc) in
@@ -442,13 +443,22 @@ module _ (laws : RunLaws) (keeps : Keeps) (cells : CellsAreThere) (pointers : Po
         paths = paths_then;
       }
 
--- ---- runs
-module _ (laws : RunLaws) (begins : CodeBegins) (keeps : Keeps) (cells : CellsAreThere) (pointers : PointersAreThere) (x : Targets) (code : Code) (s : Shape) (ls : Labels) (wt : IsWellTyped x code ls) (fits : Fits code s) (few : IsSmall code s) where
-  none_live : (o : ℕ) → o ≢ 0 → ((first_world x).obj o).live ≡ true → ⊥
+  -- what has become of the world
+  pub objects_then : consists_then.world.obj ≡ objects_now code s ls (place_after code s earlier) one h.world.obj
+  unfolding consists_then
+  objects_then = (keeps x code s ls wt fits few g h.world h.state one may).objects
+
+  pub effect_then : Effect (lang_of x) one.thread (has_returned ((place_after code s earlier).threads one.thread)) (changes_objects i ((place_after code s earlier).threads one.thread)) h.world consists_then.world
+  unfolding consists_then
+  effect_then = (keeps x code s ls wt fits few g h.world h.state one may).turned.2
+
+-- ---- the beginning
+module _ (begins : CodeBegins) (x : Targets) (code : Code) (s : Shape) (ls : Labels) (wt : IsWellTyped x code ls) (fits : Fits code s) where
+  pub none_live : (o : ℕ) → o ≢ 0 → ((first_world x).obj o).live ≡ true → ⊥
   none_live o nz live = let e : (o == 0) ≡ false = ne_eq o 0 nz in let f : ((first_world x).obj o).live ≡ false = rw e refl in let g : true ≡ false = sym live ∙ f in cc
 
-  pub consists : (run : List Turn) → IsRun bounds (one_thread code s) (opening_of bounds (one_thread code s) (opening_words code s)) run → Consists x code s ls run
-  consists [] run = record {
+  abbrev pub at_first : Consists x code s ls []
+  at_first = record {
     world = first_world x;
     state = begins x code s ls wt fits;
     table = λ o nz live. absurd (none_live o nz live);
@@ -456,4 +466,9 @@ module _ (laws : RunLaws) (begins : CodeBegins) (keeps : Keeps) (cells : CellsAr
     links = λ t e q. absurd (let f : Rests ≡ Links e = q in cc);
     paths = λ t. tt;
   }
+
+-- ---- runs
+module _ (laws : RunLaws) (begins : CodeBegins) (keeps : Keeps) (cells : CellsAreThere) (pointers : PointersAreThere) (x : Targets) (code : Code) (s : Shape) (ls : Labels) (wt : IsWellTyped x code ls) (fits : Fits code s) (few : IsSmall code s) where
+  pub consists : (run : List Turn) → IsRun bounds (one_thread code s) (opening_of bounds (one_thread code s) (opening_words code s)) run → Consists x code s ls run
+  consists [] run = at_first begins x code s ls wt fits
   consists (one ∷ earlier) run = consists_then laws keeps cells pointers x code s ls wt fits few one earlier (consists earlier run.0) run.1

@@ -1,5 +1,5 @@
-use Rattle.sharc_path_laws.proofs.Consists.{consists}
-use Rattle.sharc_path_laws.proofs.laws.paths_law.Goals as goal
+use Rattle.sharc_history_laws.proofs.Consists.{consists}
+use Rattle.sharc_history_laws.proofs.laws.paths_law.Goals as goal
 
 pub returns : goal.returns
 returns c = λ x code s ls wt fits few run checked t.

@@ -34,8 +34,8 @@ use Rattle.sharc_invariant.specs.Blocks.{Heap, Built, Live}
 use Rattle.sharc_invariant.specs.State.{State, Runs, StageStands, BuildsAt, all_pointers, OnHold, object_of_cell, number_in}
 use Rattle.sharc_invariant.specs.MachineInvariant.{IsOn}
 use Rattle.sharc_invariant.specs.Laws.{CellsAreThere, PointersAreThere}
-use Rattle.sharc_path_laws.proofs.Single.{single, rests_hold}
-use Rattle.sharc_path_laws.proofs.Stands.{there, sole_ref, live_ref, target_ref}
+use Rattle.sharc_history_laws.proofs.Single.{single, rests_hold}
+use Rattle.sharc_history_laws.proofs.Stands.{there, sole_ref, live_ref, target_ref}
 
 pub data Wrote (s : Shape) (obj : ℕ → ObjectState) (cells : ℕ → ℕ) (heap : Heap) (t : ℕ) (step : WordStep) : Type 0 where
   Leaves : ((v : ℕ) → word_after step.op v ≡ v) → Wrote s obj cells heap t step

@@ -33,7 +33,7 @@ use Rattle.sharc_invariant.specs.Words.{length_at, cell_at}
 use Rattle.sharc_invariant.specs.Blocks.{Heap, Built, Live}
 use Rattle.sharc_invariant.specs.Objects.{objects_behind, made_behind, new_behind, freed_behind, owned, gone, type_held}
 use Rattle.sharc_invariant.specs.State.{State}
-use Rattle.sharc_path_laws.proofs.Writes.{Wrote, Leaves, Low, CountOf, InCell, InBlock, Writes}
+use Rattle.sharc_history_laws.proofs.Writes.{Wrote, Leaves, Low, CountOf, InCell, InBlock, Writes}
 
 -- ---- the object that a turn makes
 abbrev pub header_at : NewStage → Option ℕ
