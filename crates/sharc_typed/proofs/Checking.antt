@@ -1,5 +1,5 @@
 -- An access may be made behind its check, and the check is typed.
-use Rattle.std.proofs.Common.{◌≡◌, ℕ, ◌+◌, ◌-◌, ◌*◌, ◌≤◌, Bool, true, false, cond, List, [], ◌∷◌, ◌++◌, Option, Some, None, refl, sym, ap, ◌∙◌, subst, inl, inr, arith}
+use Rattle.std.proofs.Common.{◌≡◌, ℕ, ◌+◌, ◌-◌, ◌*◌, ◌≤◌, Bool, true, false, List, ◌∷◌, ◌++◌, Option, Some, None, refl, sym, ap, ◌∙◌, subst, inl, inr, arith}
 use Rattle.std.specs.Prelude.{nat_lt, slice_index_or, map, if◌then◌else◌}
 use Rattle.std.proofs.lemmas.Bool.Decides.{nat_tests}
 use Rattle.std.proofs.lemmas.Option.{same_Some, none-some}
@@ -11,22 +11,21 @@ use Rattle.sharc_code.specs.declared.instr.Cell.{Cell}
 use Rattle.sharc_code.specs.declared.instr.Cell.TheVariants as cells
 use Rattle.sharc_code.specs.declared.instr.Instr.{Instr}
 use Rattle.sharc_code.specs.declared.instr.Instr.TheVariants.{ChkRead, ChkWrite, ChkLock, ChkLockLoaded}
-use Rattle.sharc_code.specs.Runs.{put}
 use Rattle.sharc_code.specs.Says.{place_at}
 use Rattle.sharc_code.proofs.Places.{put_same, put_all}
 use Rattle.sharc_flat_form.specs.declared.op.Spot.{Spot}
 use Rattle.sharc_gen.specs.Generated.{instr_of}
 use Rattle.sharc_guard.specs.Guard.{check_under}
-use Rattle.sharc_invariant.specs.Types.{Targets, Lock, StaticType, Field, FieldLock, FieldMode, Content, cells_of}
+use Rattle.sharc_invariant.specs.Types.{Targets, Lock, Field, FieldLock, FieldMode, Content, cells_of}
 use Rattle.sharc_invariant.specs.Types.Lock.{Global, Through, Self}
 use Rattle.sharc_invariant.specs.Types.FieldLock.{OfType, OfGlobals, OfElement as OfSameElement}
 use Rattle.sharc_invariant.specs.Types.FieldMode.{Private, Readonly, Racy, Dynamic, Under, Behind}
-use Rattle.sharc_invariant.specs.Labels.{Entry, Empty, Refers, Element, Named, Nth, Number, Anything, Exactly, Within, Indexes, OfElement, OfGlobal, Gate, Closed, Checked, Holds, Loaded, HoldsLoaded, Pass, IsIn, Label, Labels, Less, SameReference, IsCopy, gated, knows}
-use Rattle.sharc_invariant.specs.Typed.{HasField, HasBase, HasCell, IsPlace, IsOwn, IsChecked, Directly, Earlier, Covers, MayAccess, Accesses, IsNotSole, IsMode, IsLockMode, IsTypeMode, IsMutexOf, LeadsChecked, knows_base, no_lock}
+use Rattle.sharc_invariant.specs.Labels.{Entry, Empty, Refers, Element, Named, Nth, Number, Anything, Exactly, Within, Indexes, OfElement, OfGlobal, Gate, Closed, Checked, Holds, HoldsLoaded, Pass, Label, Labels, Less, IsCopy, gated}
+use Rattle.sharc_invariant.specs.Typed.{HasField, HasBase, HasCell, IsPlace, IsOwn, Directly, Earlier, Covers, MayAccess, Accesses, IsNotSole, IsMode, IsLockMode, IsTypeMode, LeadsChecked, knows_base, no_lock}
 use Rattle.sharc_invariant.proofs.Scoped.{less_refl}
-use Rattle.sharc_typed.specs.Steps.{all_at, Steps, Chain, first_or}
+use Rattle.sharc_typed.specs.Steps.{all_at, Steps, Chain}
 use Rattle.sharc_typed.specs.Inside.{lock_of, global_pass, global_element_pass, element_pass, pass_of, with_pass, held_gate, known_behind, gate_behind, passed_behind, behind, before_check}
-use Rattle.sharc_typed.specs.Lines.{IsRemembered, IsLockedBy, IsGuardedBy, MayPass, PassesCheck}
+use Rattle.sharc_typed.specs.Lines.{IsLockedBy, IsGuardedBy, MayPass, PassesCheck}
 use Rattle.sharc_typed.proofs.Alike.{has_field, has_cell, sibling, mutex_of, mode_is, place_is}
 
 -- ---- the check as one that is remembered

@@ -16,15 +16,14 @@ use Rattle.sharc_flat_form.specs.declared.op.Spot.{Spot}
 use Rattle.sharc_gen.specs.Generated.{instr_of}
 use Rattle.sharc_guard.specs.Guard.{check_under, expand, source_of}
 use Rattle.sharc_invariant.specs.Types.{Targets, StaticType, Field}
-use Rattle.sharc_invariant.specs.Types.FieldMode.{Readonly as ReadonlyField}
-use Rattle.sharc_invariant.specs.Labels.{Entry, Empty, Refers, Gate, Closed, Loaded, Sole, Pass, IsIn, Label, Labels, Less, EntryMentions, IsFree, empty, fill, gated}
+use Rattle.sharc_invariant.specs.Labels.{Empty, Refers, Loaded, Sole, Label, Labels, EntryMentions, IsFree, empty, gated}
 use Rattle.sharc_invariant.specs.Typed.{IsUnpassed, Accesses, MayAccess, IsNotSole, IsMode}
 use Rattle.sharc_invariant.proofs.Frames.{kept_pass}
-use Rattle.sharc_invariant.proofs.Scoped.{less_refl, less_entry_refl}
-use Rattle.sharc_typed.specs.Steps.{all_at, Steps, Chain}
+use Rattle.sharc_invariant.proofs.Scoped.{less_refl}
+use Rattle.sharc_typed.specs.Steps.{all_at, Chain}
 use Rattle.sharc_typed.specs.Inside.{known_behind, gate_behind, passed_behind, behind, before_check, tested, cleared, exchanged, inside}
 use Rattle.sharc_typed.specs.Laws.{LeadsOn}
-use Rattle.sharc_typed.specs.Lines.{PassesCheck, Loads, Stores, LoadsReference, StoresReference, LoadsGuard, Settles, Gives, Frees, TypedLine, moved}
+use Rattle.sharc_typed.specs.Lines.{PassesCheck, Loads, Stores, LoadsReference, StoresReference, LoadsGuard, Settles, Gives, Frees, TypedLine}
 use Rattle.sharc_typed.proofs.Alike.{has_cell, less_entry, points_to, recasts}
 use Rattle.sharc_typed.proofs.Checking.{passed, chain_check, accesses, dynamic}
 

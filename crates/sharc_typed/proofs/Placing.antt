@@ -1,5 +1,5 @@
 -- Labels of lines are those of the places where their pieces begin, and each piece is typed where it stands.
-use Rattle.std.proofs.Common.{◌≡◌, ◌≢◌, ℕ, zero, suc, ◌+◌, ◌<◌, ◌≤◌, Bool, true, false, List, [], ◌∷◌, ◌++◌, length, map, Option, Some, None, refl, sym, ap, ◌∙◌, subst, inl, inr, ⊎_elim, arith, append_assoc}
+use Rattle.std.proofs.Common.{◌≡◌, ℕ, zero, suc, ◌+◌, ◌≤◌, Bool, true, false, List, [], ◌∷◌, ◌++◌, length, map, Some, refl, sym, ap, ◌∙◌, subst, inl, inr, ⊎_elim, arith}
 use Rattle.std.specs.List.{AllByRecursion}
 use Rattle.std.specs.Prelude.{slice_get, slice_index_or}
 use Rattle.std.proofs.lemmas.List.{map-append, get_or-append-add}
@@ -18,11 +18,10 @@ use Rattle.sharc_gen.specs.Generated.{instr_of}
 use Rattle.sharc_guard.specs.Guard.{check_under, expand, expanded, width, offset, place, source_of}
 use Rattle.sharc_invariant.specs.Types.{Targets, StaticType, Field, FieldMode, Content}
 use Rattle.sharc_invariant.specs.Types.FieldMode.{Private, Readonly, Racy, Dynamic, Under, Behind}
-use Rattle.sharc_invariant.specs.Labels.{Label, Labels, Closed, Less, IsScoped, IsFree, empty, knows, gated}
+use Rattle.sharc_invariant.specs.Labels.{Label, Labels, Less, IsScoped, IsFree, empty, knows}
 use Rattle.sharc_invariant.specs.Typed.{Fine, Calls, Accesses, MayAccess, ints_in, refs_in}
 use Rattle.sharc_typed.specs.Steps.{all_at, Steps, Chain, first_or}
-use Rattle.sharc_typed.specs.Inside.{FlatLabels, outside, inside, behind, before_check, known_behind, gate_behind, passed_behind, labels_from}
-use Rattle.sharc_typed.specs.Laws.{LeadsOn}
+use Rattle.sharc_typed.specs.Inside.{FlatLabels, outside, inside, before_check, known_behind, gate_behind, passed_behind, labels_from}
 use Rattle.sharc_typed.specs.Lines.{TypedLine, To}
 use Rattle.sharc_typed.proofs.Pieces.{pieces}
 use Rattle.sharc_typed.proofs.Scoping.{scoped}

@@ -1,25 +1,23 @@
 -- What is known within a piece names registers of its frame that hold something.
-use Rattle.std.proofs.Common.{◌≡◌, ◌≢◌, ◌<◌, ◌+◌, ◌*◌, ℕ, Bool, true, false, List, [], ◌∷◌, ◌++◌, Option, Some, None, refl, sym, ap, ◌∙◌, subst, inl, inr, ⊎_elim}
+use Rattle.std.proofs.Common.{◌≡◌, ◌≢◌, ◌<◌, ◌+◌, ◌*◌, ℕ, Bool, true, false, List, ◌++◌, Option, Some, None, refl, sym, ap, ◌∙◌, subst, inl, ⊎_elim}
 use Rattle.std.specs.List.{AllByRecursion}
-use Rattle.std.specs.Prelude.{nat_lt, if◌then◌else◌}
 use Rattle.std.proofs.lemmas.Option.{same_Some, none-some}
 use Rattle.sharc_code.specs.declared.code.Code.{Code}
 use Rattle.sharc_code.specs.declared.code.PlaceMode.{PlaceMode}
 use Rattle.sharc_code.specs.declared.code.PlaceMode.TheVariants as modes
 use Rattle.sharc_code.specs.declared.instr.Cell.{Cell}
 use Rattle.sharc_code.specs.declared.instr.Cell.TheVariants as cells
-use Rattle.sharc_code.specs.Runs.{put}
 use Rattle.sharc_code.proofs.Places.{put_all, put_other}
 use Rattle.sharc_flat_form.specs.declared.op.Op.{Op}
 use Rattle.sharc_flat_form.specs.declared.op.Op.TheVariants as op
 use Rattle.sharc_flat_form.specs.declared.op.Spot.{Spot}
 use Rattle.sharc_invariant.specs.Types.{Targets, StaticType, Field, FieldMode, Mentions, cells_of}
 use Rattle.sharc_invariant.specs.Types.FieldMode.{Private, Readonly, Racy, Dynamic, Under, Behind}
-use Rattle.sharc_invariant.specs.Labels.{Entry, Empty, Refers, Named, Nth, Number, Anything, Exactly, Within, Indexes, OfElement, OfGlobal, Gate, Loaded, Sole, Pass, IsIn, Label, Labels, IsScoped, EntryMentions, IsFree, empty, fill, gated, without_base}
+use Rattle.sharc_invariant.specs.Labels.{Entry, Empty, Refers, Named, Nth, Number, Anything, Exactly, Within, Indexes, OfElement, OfGlobal, Gate, Loaded, Sole, Pass, IsIn, Label, Labels, IsScoped, EntryMentions, empty, without_base}
 use Rattle.sharc_invariant.specs.Typed.{HasField, IsMode, knows_base, ints_in, refs_in}
 use Rattle.sharc_invariant.proofs.Frames.{kept_pass}
 use Rattle.sharc_invariant.proofs.Scoped.{scoped_gate, scoped_fill, scoped_empty}
-use Rattle.sharc_typed.specs.Inside.{global_pass, global_element_pass, element_pass, pass_of, with_pass, known_behind, gate_behind, passed_behind, behind, before_check, lock_of, tested, cleared, exchanged, inside}
+use Rattle.sharc_typed.specs.Inside.{global_pass, global_element_pass, element_pass, pass_of, with_pass, known_behind, passed_behind, behind, before_check, lock_of, exchanged, inside}
 use Rattle.sharc_typed.specs.Lines.{PassesCheck, MayPass, TypedLine}
 use Rattle.sharc_typed.proofs.Checking.{global_is}
 

@@ -1,5 +1,5 @@
 -- Code that is made of typed flat code is typed.
-use Rattle.std.proofs.Common.{◌≡◌, ◌≢◌, ℕ, zero, suc, ◌+◌, ◌<◌, ◌⊎◌, Bool, true, false, List, [], ◌∷◌, length, map, Some, None, refl, sym, ap, ◌∙◌, subst, inl, inr, arith}
+use Rattle.std.proofs.Common.{◌≡◌, ℕ, zero, suc, ◌+◌, ◌<◌, ◌⊎◌, Bool, true, List, [], ◌∷◌, length, map, Some, None, refl, sym, ap, ◌∙◌, subst, inl, inr, arith}
 use Rattle.std.specs.List.{AllByRecursion}
 use Rattle.std.specs.Prelude.{slice_get, slice_index_or}
 use Rattle.sharc_code.specs.declared.code.Code.{Code}
@@ -23,7 +23,7 @@ use Rattle.sharc_invariant.specs.Typed.{Fine, IsWellTyped, MayStart, ints_in, re
 use Rattle.sharc_invariant.proofs.Scoped.{less_refl}
 use Rattle.sharc_typed.specs.Inside.{FlatLabels, outside, labels_from, labels_of}
 use Rattle.sharc_typed.specs.Lines.{IsTypedFlat}
-use Rattle.sharc_typed.proofs.Placing.{IsPlaced, FineList, There, LineStands, AllStand, all_stand, all_places, fine_at, lines_fine, goes_to, at}
+use Rattle.sharc_typed.proofs.Placing.{IsPlaced, FineList, There, LineStands, AllStand, all_stand, all_places, fine_at, lines_fine, goes_to}
 
 -- ---- lists
 source_there : (os : List Op) (n : ℕ) (o : Op) → slice_get os n ≡ Some o → slice_index_or (map source_of os) n no_place ≡ source_of o

@@ -1,5 +1,5 @@
 -- Typed flat code: what each operation asks of what is known before its line, and what the next line, and those to which it leads, may then know.
-use Rattle.std.specs.Prelude.{ℕ, ◌+◌, ◌≡◌, ◌≢◌, ◌<◌, ◌≤◌, ◌^◌, ◌⊎◌, Bool, true, false, List, [], ◌∷◌, length, slice_get, slice_index_or, Option, Some, None}
+use Rattle.std.specs.Prelude.{ℕ, ◌+◌, ◌≡◌, ◌≢◌, ◌<◌, ◌≤◌, ◌^◌, ◌⊎◌, Bool, true, false, length, slice_get, Option, Some, None}
 use Rattle.sharc_code.specs.declared.code.Code.{Code}
 use Rattle.sharc_code.specs.declared.instr.Cell.{Cell}
 use Rattle.sharc_code.specs.declared.instr.Instr.{Instr}
@@ -12,8 +12,8 @@ use Rattle.sharc_gen.specs.Generated.{instr_of}
 use Rattle.sharc_guard.specs.Guard.{body}
 use Rattle.sharc_invariant.specs.Types.{Targets, AreTargets, StaticType, Field, FieldType, FieldLock, FieldMode, Content, cells_of, is_pointer, Mentions}
 use Rattle.sharc_invariant.specs.Types.FieldMode.{Private, Readonly, Racy, Dynamic, Under, Behind}
-use Rattle.sharc_invariant.specs.Types.Content.{Integer, MutexWord}
-use Rattle.sharc_invariant.specs.Labels.{Empty, Refers, Number, Anything, Within, Gate, Closed, Loaded, Pass, IsIn, Label, Labels, Less, LessEntry, EntryMentions, IsScoped, set_number, fill, empty, gated, knows, IsFree}
+use Rattle.sharc_invariant.specs.Types.Content.{Integer}
+use Rattle.sharc_invariant.specs.Labels.{Empty, Refers, Anything, Within, Closed, Loaded, Pass, IsIn, Label, Labels, Less, LessEntry, EntryMentions, IsScoped, set_number, fill, empty, gated, knows, IsFree}
 use Rattle.sharc_invariant.specs.Typed.{IsRef, IsInt, IsVacant, HasField, HasCell, IsMutex, IsMutexOf, IsPlace, Covers, IsOwn, PointsTo, PointsToMutex, IsSibling, IsMode, Fits, Recasts, IsLayout, AreGlobals, IsPlain, MayStart, moved_copy, ints_in, refs_in, entry_label}
 use Rattle.sharc_typed.specs.Steps.{Steps}
 use Rattle.sharc_typed.specs.Inside.{FlatLabels, lock_of, behind, outside, cleared, tested}
