@@ -6,6 +6,7 @@ use mathlib.Core.Logic.{dite}
 use Rattle.sharc_word.specs.declared.step.WordEvent.{WordEvent}
 use Rattle.sharc_code.specs.Runs.{Turn, word_events, event_list, turns_of}
 use Rattle.sharc_schedule.specs.Schedule.{loose, loose_by, firm, firm_by, all_loose}
+use Rattle.sharc_schedule.proofs.Plain.{if_no, if_yes}
 
 -- ---- word events
 pub events-append : (later earlier : List Turn) → word_events (later ++ earlier) ≡ word_events earlier ++ word_events later
@@ -51,14 +52,6 @@ turns-append t (turn ∷ later) earlier = by (nat_eq t turn.thread) (turns-appen
       → (if b then turn ∷ turns_of t (later ++ earlier) else turns_of t (later ++ earlier)) ≡ (if b then turn ∷ turns_of t later else turns_of t later) ++ turns_of t earlier
   by true r = ap (λ ts. turn ∷ ts) r
   by false r = r
-
-if_yes : {A : Type 0} (b : Bool) (x y : A) → b ≡ true → (if b then x else y) ≡ x
-if_yes true x y e = refl
-if_yes false x y e = absurd cc
-
-if_no : {A : Type 0} (b : Bool) (x y : A) → b ≡ false → (if b then x else y) ≡ y
-if_no true x y e = absurd cc
-if_no false x y e = refl
 
 pub turns_of_own : (t : ℕ) (turn : Turn) (earlier : List Turn) → t ≡ turn.thread → turns_of t (turn ∷ earlier) ≡ turn ∷ turns_of t earlier
 turns_of_own t turn earlier e = if_yes (nat_eq t turn.thread) (turn ∷ turns_of t earlier) (turns_of t earlier) (eq-eqb t turn.thread e)

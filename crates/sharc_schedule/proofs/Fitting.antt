@@ -20,6 +20,7 @@ use Rattle.sharc_schedule.proofs.Trying.{NoTries, put_own, put_other}
 use Rattle.sharc_schedule.proofs.Arranging.{arrange}
 use Rattle.sharc_schedule.proofs.Among.{Among, place_within, among_filter, among_range}
 use Rattle.sharc_schedule.proofs.Replaying.{Run, Few, started_low, few_before, some_counted, enabled_turn, places_length}
+use Rattle.sharc_schedule.proofs.Plain.{filter_less}
 
 -- ---- sums over the first numbers
 abbrev pub sum_to : ℕ → (ℕ → ℕ) → ℕ
@@ -59,13 +60,6 @@ Small (p ∷ ps) = (p ≤ 30) × Small ps
 small_snoc : (ps : List ℕ) (p : ℕ) → Small ps → p ≤ 30 → Small (ps ++ p ∷ [])
 small_snoc [] p h low = (low, tt)
 small_snoc (q ∷ ps) p h low = (h.0, small_snoc ps p h.1 low)
-
-filter_less : (f : ℕ → Bool) (xs : List ℕ) → length (filter f xs) ≤ length xs
-filter_less f [] = omega arith
-filter_less f (x ∷ xs) = by (f x) (filter_less f xs) where
-  by : (b : Bool) → length (filter f xs) ≤ length xs → length (if b then x ∷ filter f xs else filter f xs) ≤ suc (length xs)
-  by true r = omega arith
-  by false r = omega arith
 
 -- counts of so many at most
 abbrev pub Counted : ℕ → List (ℕ × ℕ) → Type 0

@@ -15,11 +15,12 @@ use Rattle.sharc_threads.specs.Ends.{is_enabled}
 use Rattle.sharc_seq.specs.Walk.{has_event}
 use Rattle.sharc_schedule.specs.Schedule.{is_try, without_tries}
 use Rattle.sharc_schedule.specs.Laws.{SameEnds}
-use Rattle.sharc_schedule.proofs.Trying.{if_yes, if_no, may_kept, state_same, NoTries, without}
+use Rattle.sharc_schedule.proofs.Trying.{may_kept, state_same, NoTries, without}
 use Rattle.sharc_schedule.proofs.Among.{Last, cut}
 use Rattle.sharc_schedule.proofs.Replaying.{Few, few_before, enabled_turn}
 use Rattle.sharc_schedule.specs.Going.{Quiet, Loud, AllCount, Stepped}
 use Rattle.sharc_schedule.proofs.Matching.{Run, quiet_kept, as_many}
+use Rattle.sharc_schedule.proofs.Plain.{if_no, if_yes}
 
 -- ---- lists
 pub record Split (xs : List Turn) (n : ℕ) : Type 0 where

@@ -2,7 +2,7 @@
 use Rattle.std.proofs.Common.{◌≡◌, ◌≢◌, ℕ, zero, suc, ◌+◌, ◌<◌, ◌≤◌, Bool, true, false, nat_eq, List, [], ◌∷◌, ◌++◌, length, get_or, set, refl, sym, ap, ◌∙◌, subst, arith, eq-eqb, ne_eqb, if◌then◌else◌}
 use native.Mathlib.Decide.{ℕ_discrete}
 use Rattle.sharc_schedule.specs.Schedule.{place_in, counted_in, counted_together}
-use Rattle.sharc_schedule.proofs.Trying.{if_yes, if_no}
+use Rattle.sharc_schedule.proofs.Plain.{if_no, if_yes}
 
 abbrev pub add_last : ℕ → List (ℕ × ℕ) → List (ℕ × ℕ)
 add_last p [] = (p, 1) ∷ []

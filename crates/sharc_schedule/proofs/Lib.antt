@@ -1,3 +1,4 @@
+pub mod Plain
 pub mod Arranged
 pub mod Started
 pub mod Arranging

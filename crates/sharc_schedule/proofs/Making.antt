@@ -27,6 +27,7 @@ use Rattle.sharc_schedule.proofs.Replaying.{Few, few_before, started_low, enable
 use Rattle.sharc_schedule.proofs.Showing.{enabled_same}
 use Rattle.sharc_schedule.proofs.Trying.{NoTries, without, put_other, now_started}
 use Rattle.sharc_schedule.proofs.Turning.{no_tries}
+use Rattle.sharc_schedule.proofs.Plain.{or_known}
 
 -- ---- loose turns
 pub loose_quiet : (t : ℕ) (turns : List Turn) → Quiet (loose t turns)
@@ -147,10 +148,6 @@ module _ (laws : RunLaws) (threads : ThreadLaws) (code : Code) (s : Shape) (limi
   quiet_words words None off = refl
   quiet_words words (Some event) off = absurd (let e : true ≡ false = off in cc)
 
-  known : (a b : Bool) → (a ≡ true → b ≡ true) → (a || b) ≡ b
-  known true b h = sym (h refl)
-  known false b h = refl
-
   others_same : (t u : ℕ) → t ≢ u → (quiet before : List Turn) → Quiet quiet → Owns u quiet → is_enabled code s limit (place_after code s (quiet ++ before)) t ≡ is_enabled code s limit (place_after code s before) t
   others_same t u apart [] before q own = refl
   others_same t u apart (one ∷ quiet) before q own =
@@ -160,7 +157,7 @@ module _ (laws : RunLaws) (threads : ThreadLaws) (code : Code) (s : Shape) (limi
       same_enabled g (place_after code s (one ∷ (quiet ++ before))) t words
       (put_other g.threads one.thread (state_now (one_thread code s) g one) t other)
       (put_other g.made one.thread (made_now (one_thread code s) g one) t other)
-      (ap (λ (ws : List ℕ). is_started bounds ws t || g.started t) words ∙ known (is_started bounds g.words t) (g.started t) (λ on. now_started threads code s t (quiet ++ before) on))
+      (ap (λ (ws : List ℕ). is_started bounds ws t || g.started t) words ∙ or_known (is_started bounds g.words t) (g.started t) (λ on. now_started threads code s t (quiet ++ before) on))
       ∙ others_same t u apart quiet before q.0 own.1
 
   abbrev up_to : ℕ → List Turn → List Turn

@@ -22,7 +22,8 @@ use Rattle.sharc_code.specs.Whole.{one_thread, bounds, place_after}
 use Rattle.sharc_seq.specs.Walk.{has_event}
 use Rattle.sharc_schedule.specs.Schedule.{is_try, without_tries}
 use Rattle.sharc_schedule.specs.Going.{Quiet}
-use Rattle.sharc_schedule.proofs.Trying.{if_no, tries_where}
+use Rattle.sharc_schedule.proofs.Trying.{tries_where}
+use Rattle.sharc_schedule.proofs.Plain.{if_no, true_or_false}
 
 -- ---- a turn without a step is no failed try: it would be one whatever the words are, and where all words are 0 nobody waits
 nobody_in_zero : (number : ℕ) → waits_in 0 number ≡ false
@@ -34,10 +35,6 @@ nothing_held number None = refl
 nothing_held number (Some (waits.Mutex word site)) = refl
 nothing_held number (Some (waits.Join n site)) = refl
 nothing_held number (Some (waits.Cond word site)) = nobody_in_zero number
-
-true_or_false : (b : Bool) → (b ≡ true → ⊥) → b ≡ false
-true_or_false true ne = absurd (ne refl)
-true_or_false false ne = refl
 
 -- it leads where it leads whatever it finds
 leads_alike : (a : Step.Turn) (event : Option WordEvent) → step_in event ≡ asked_by a → has_event event ≡ false → after a (result_of event) ≡ after a (found_now [] a)

@@ -29,10 +29,7 @@ use Rattle.sharc_seq.specs.Run.{enabled, AreChosen}
 use Rattle.sharc_schedule.specs.Schedule.{is_try, place_in, places_of, or_first}
 use Rattle.sharc_schedule.proofs.Trying.{NoTries, put_own, put_other}
 use Rattle.sharc_schedule.proofs.Among.{Among, place_within, place_is, among_filter, among_range, none_left, Last, cut, index_seam}
-
-true_or_false : (b : Bool) → (b ≡ true → ⊥) → b ≡ false
-true_or_false true ne = absurd (ne refl)
-true_or_false false ne = refl
+use Rattle.sharc_schedule.proofs.Plain.{true_or_false}
 
 all_four : (a b c d : Bool) → a ≡ true → b ≡ true → c ≡ true → d ≡ false → (a && (b && (c && not d))) ≡ true
 all_four a b c d e f g h = ap (λ x. x && (b && (c && not d))) e ∙ (ap (λ x. x && (c && not d)) f ∙ (ap (λ x. x && not d) g ∙ ap not h))

@@ -14,6 +14,7 @@ use Rattle.sharc_code.specs.ThreadLaws.{ThreadLaws, settle, settled}
 use Rattle.sharc_code.specs.Whole.{one_thread, bounds, place_after}
 use Rattle.sharc_schedule.specs.Schedule.{is_try, without_tries}
 use Rattle.sharc_schedule.specs.Laws.{SameEnds}
+use Rattle.sharc_schedule.proofs.Plain.{if_no, if_yes, or_known}
 
 -- ---- one thread
 pub tries_where : (state : State) → is_try state ≡ true → state ≡ Tries
@@ -44,23 +45,11 @@ turns_alike laws code s m n e = sym (laws.forgets code s m) ∙ (ap (λ x. turn 
 try_settled : (m x : Machine) → may_go m.at.state ≡ true → x ≡ fails m → settled m ≡ settled x
 try_settled m x goes is = (λ i. record m { at = record m.at { state = goes_settled m.at.state goes i } }) ∙ ap settled (sym is)
 
-pub if_yes : {A : Type 0} (b : Bool) (x y : A) → b ≡ true → (if b then x else y) ≡ x
-if_yes true x y e = refl
-if_yes false x y e = absurd cc
-
-pub if_no : {A : Type 0} (b : Bool) (x y : A) → b ≡ false → (if b then x else y) ≡ y
-if_no true x y e = absurd cc
-if_no false x y e = refl
-
 pub put_other : {A : Type 0} (f : ℕ → A) (i : ℕ) (v : A) (j : ℕ) → j ≢ i → put f i v j ≡ f j
 put_other f i v j apart = if_no (nat_eq j i) v (f j) (ne_eqb j i apart)
 
 pub put_own : {A : Type 0} (f : ℕ → A) (i : ℕ) (v : A) (j : ℕ) → j ≡ i → put f i v j ≡ v
 put_own f i v j same = if_yes (nat_eq j i) v (f j) (eq-eqb j i same)
-
-or_known : (a b : Bool) → (a ≡ true → b ≡ true) → (a || b) ≡ b
-or_known true b h = sym (h refl)
-or_known false b h = refl
 
 module _ (laws : ThreadLaws) (code : Code) (s : Shape) where
   abbrev m : OneThread Machine SourceEvent

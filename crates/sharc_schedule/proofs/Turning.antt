@@ -26,26 +26,9 @@ use Rattle.sharc_schedule.proofs.Following.{no_count}
 use Rattle.sharc_schedule.proofs.Among.{place_within, among_filter, among_range}
 use Rattle.sharc_schedule.proofs.Replaying.{Run, Few, places_length}
 use Rattle.sharc_schedule.proofs.Trying.{NoTries, put_own, put_other}
-
-both : (a b : Bool) → (a && b) ≡ true → (a ≡ true) × (b ≡ true)
-both true b e = (refl, e)
-both false b e = absurd (let h : false ≡ true = e in cc)
-
-lt_true : (m n : ℕ) → nat_lt m n ≡ true → m < n
-lt_true m n e = grind (arith, nat_tests)
-
-true_or_false : (b : Bool) → (b ≡ true → ⊥) → b ≡ false
-true_or_false true ne = absurd (ne refl)
-true_or_false false ne = refl
+use Rattle.sharc_schedule.proofs.Plain.{both, filter_less, lt_true, true_or_false}
 
 -- ---- who is enabled
-filter_less : (f : ℕ → Bool) (xs : List ℕ) → length (filter f xs) ≤ length xs
-filter_less f [] = omega arith
-filter_less f (x ∷ xs) = by (f x) (filter_less f xs) where
-  by : (b : Bool) → length (filter f xs) ≤ length xs → length (if b then x ∷ filter f xs else filter f xs) ≤ suc (length xs)
-  by true r = omega arith
-  by false r = omega arith
-
 pub few_enabled : (code : Code) (s : Shape) (limit : ℕ) (g : Standing) → s.threads ≡ THREADS → length (enabled code s limit g) < 256
 few_enabled code s limit g shape =
     let less = filter_less (is_enabled code s limit g) (range_with_len 0 s.threads) in
