@@ -1,0 +1,4 @@
+pub mod LayoutLemmas
+pub mod LineLemmas
+pub mod ListLemmas
+pub mod PlaceLemmas
