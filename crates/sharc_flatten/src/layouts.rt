@@ -1,6 +1,6 @@
 // The layouts of elements, with the numbers of their pointers.
 
-ghost use Rattle.std.specs.Prelude.{◌≡◌, ◌+◌, [], ◌∷◌, ◌++◌, length, IfOk, OnOk};
+ghost use Rattle.std.specs.Prelude.{◌≡◌, ◌+◌, [], ◌∷◌, ◌++◌, IfOk, OnOk};
 ghost use Rattle.sharc_flat.specs.Tables.{pointers_among, layouts_of, pointers_of};
 
 use crate::numbers::{plus, small};

@@ -1,6 +1,6 @@
 // The sizes of flat code that runs within the numbers of its frames.
 
-ghost use Rattle.std.specs.Prelude.{◌≡◌, ◌+◌, ◌*◌, ◌^◌, ◌<◌, OnOk};
+ghost use Rattle.std.specs.Prelude.{◌≡◌, ◌*◌, ◌^◌, ◌<◌, OnOk};
 ghost use Rattle.sharc_code.specs.Path.{most_ints, most_refs};
 ghost use Rattle.sharc_flatten.specs.Sizes.{IsFew, AreFew};
 

@@ -1,12 +1,11 @@
 // The texts of a program: that of all its tokens, then the lock paths of its lines, then the names of its functions.
 
-ghost use Rattle.std.specs.Prelude.{◌≡◌, ◌++◌, [], List, ℕ, length, slice_get, IfOk, OnOk};
+ghost use Rattle.std.specs.Prelude.{◌≡◌, ◌++◌, length, slice_get, IfOk, OnOk};
 ghost use Rattle.std.specs.Option.{option_copied};
-ghost use Rattle.sharc_tree.specs.Texts.{tokens_text};
 ghost use Rattle.sharc_ctype.specs.Resolved.{functions_in};
 ghost use Rattle.sharc_mode.specs.WellFormed.{fields_named, fields_behind};
 ghost use Rattle.sharc_flat.specs.Flattens.{names_of};
-ghost use Rattle.sharc_flat.specs.Laid.{words_of, name_of, field_behind, beside_words, lock_text_of, IsLaid, AreLaid, AreNamed};
+ghost use Rattle.sharc_flat.specs.Laid.{words_of, name_of, field_behind, beside_words, lock_text_of, AreNamed};
 ghost use Rattle.sharc_flatten.specs.Places.{places_from, LiesIn, Grows};
 
 use crate::numbers::small;

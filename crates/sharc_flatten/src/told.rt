@@ -20,9 +20,6 @@ pub fn with_texts(lvalue: Text, lock: Text, op: Op) -> Op
     ensures { result ≡ with_texts lvalue lock op }
 {
     match op {
-        Op::Enter => Op::Enter,
-        Op::Constant(int, value) => Op::Constant(int, value),
-        Op::Move(int, from) => Op::Move(int, from),
         Op::Compute(width, operator, int, a, b, spot) => Op::Compute(
             width,
             operator,
@@ -32,14 +29,7 @@ pub fn with_texts(lvalue: Text, lock: Text, op: Op) -> Op
             told(spot, lvalue, lock),
         ),
         Op::Negate(width, int, a, spot) => Op::Negate(width, int, a, told(spot, lvalue, lock)),
-        Op::Complement(int, a) => Op::Complement(int, a),
-        Op::IsFalse(int, a) => Op::IsFalse(int, a),
-        Op::SameReference(int, a, b) => Op::SameReference(int, a, b),
         Op::ChkWidth(width, int, spot) => Op::ChkWidth(width, int, told(spot, lvalue, lock)),
-        Op::Skip(count) => Op::Skip(count),
-        Op::SkipIfZero(int, count) => Op::SkipIfZero(int, count),
-        Op::SkipIfNull(register, count) => Op::SkipIfNull(register, count),
-        Op::Jump(to) => Op::Jump(to),
         Op::Call(function, ints, refs, spot) => Op::Call(
             function,
             ints,
@@ -47,12 +37,6 @@ pub fn with_texts(lvalue: Text, lock: Text, op: Op) -> Op
             told(spot, lvalue, lock),
         ),
         Op::Return(spot) => Op::Return(told(spot, lvalue, lock)),
-        Op::BlockEnd => Op::BlockEnd,
-        Op::Null(register) => Op::Null(register),
-        Op::Local(register, variable) => Op::Local(register, variable),
-        Op::MoveReference(register, from) => Op::MoveReference(register, from),
-        Op::Pop(register) => Op::Pop(register),
-        Op::Settle(variable, from) => Op::Settle(variable, from),
         Op::ChkNull(register, spot) => Op::ChkNull(register, told(spot, lvalue, lock)),
         Op::ChkPositive(int, spot) => Op::ChkPositive(int, told(spot, lvalue, lock)),
         Op::ChkHeld(cell, spot) => Op::ChkHeld(cell, told(spot, lvalue, lock)),
@@ -113,6 +97,22 @@ pub fn with_texts(lvalue: Text, lock: Text, op: Op) -> Op
         ),
         Op::Join(int, spot) => Op::Join(int, told(spot, lvalue, lock)),
         Op::Print(int, spot) => Op::Print(int, told(spot, lvalue, lock)),
+        Op::Enter
+        | Op::Constant(_, _)
+        | Op::Move(_, _)
+        | Op::Complement(_, _)
+        | Op::IsFalse(_, _)
+        | Op::SameReference(_, _, _)
+        | Op::Skip(_)
+        | Op::SkipIfZero(_, _)
+        | Op::SkipIfNull(_, _)
+        | Op::Jump(_)
+        | Op::BlockEnd
+        | Op::Null(_)
+        | Op::Local(_, _)
+        | Op::MoveReference(_, _)
+        | Op::Pop(_)
+        | Op::Settle(_, _) => op,
     }
 }
 
@@ -121,52 +121,52 @@ pub fn spot_in(op: Op) -> Option<Spot>
     ensures { result ≡ spot_in op }
 {
     match op {
-        Op::Enter => None,
-        Op::Constant(_, _) => None,
-        Op::Move(_, _) => None,
-        Op::Compute(_, _, _, _, _, spot) => Some(spot),
-        Op::Negate(_, _, _, spot) => Some(spot),
-        Op::Complement(_, _) => None,
-        Op::IsFalse(_, _) => None,
-        Op::SameReference(_, _, _) => None,
-        Op::ChkWidth(_, _, spot) => Some(spot),
-        Op::Skip(_) => None,
-        Op::SkipIfZero(_, _) => None,
-        Op::SkipIfNull(_, _) => None,
-        Op::Jump(_) => None,
-        Op::Call(_, _, _, spot) => Some(spot),
-        Op::Return(spot) => Some(spot),
-        Op::BlockEnd => None,
-        Op::Null(_) => None,
-        Op::Local(_, _) => None,
-        Op::MoveReference(_, _) => None,
-        Op::Pop(_) => None,
-        Op::Settle(_, _) => None,
-        Op::ChkNull(_, spot) => Some(spot),
-        Op::ChkPositive(_, spot) => Some(spot),
-        Op::ChkHeld(_, spot) => Some(spot),
-        Op::ChkNotHeld(_, spot) => Some(spot),
-        Op::ChkRoom(spot) => Some(spot),
-        Op::Bounds(_, _, _, _, spot) => Some(spot),
-        Op::GlobalBounds(_, _, _, _, spot) => Some(spot),
-        Op::Load(_, _, spot) => Some(spot),
-        Op::Store(_, _, spot) => Some(spot),
-        Op::LoadRef(_, _, spot) => Some(spot),
-        Op::StoreRef(_, _, spot) => Some(spot),
-        Op::LoadGuard(_, spot) => Some(spot),
-        Op::New(_, _, _, spot) => Some(spot),
-        Op::TakeCell(_, _, spot) => Some(spot),
-        Op::TakeLocal(_, _, spot) => Some(spot),
-        Op::Give(_, _, spot) => Some(spot),
-        Op::Free(_, _, spot) => Some(spot),
-        Op::Lock(_, spot) => Some(spot),
-        Op::Unlock(_, _, spot) => Some(spot),
-        Op::CondEnter(_, spot) => Some(spot),
-        Op::CondWait(_, spot) => Some(spot),
-        Op::CondSignal(_, spot) => Some(spot),
-        Op::CondBroadcast(_, spot) => Some(spot),
-        Op::Spawn(_, _, _, spot) => Some(spot),
-        Op::Join(_, spot) => Some(spot),
-        Op::Print(_, spot) => Some(spot),
+        Op::Compute(_, _, _, _, _, spot)
+        | Op::Negate(_, _, _, spot)
+        | Op::ChkWidth(_, _, spot)
+        | Op::Call(_, _, _, spot)
+        | Op::Return(spot)
+        | Op::ChkNull(_, spot)
+        | Op::ChkPositive(_, spot)
+        | Op::ChkHeld(_, spot)
+        | Op::ChkNotHeld(_, spot)
+        | Op::ChkRoom(spot)
+        | Op::Bounds(_, _, _, _, spot)
+        | Op::GlobalBounds(_, _, _, _, spot)
+        | Op::Load(_, _, spot)
+        | Op::Store(_, _, spot)
+        | Op::LoadRef(_, _, spot)
+        | Op::StoreRef(_, _, spot)
+        | Op::LoadGuard(_, spot)
+        | Op::New(_, _, _, spot)
+        | Op::TakeCell(_, _, spot)
+        | Op::TakeLocal(_, _, spot)
+        | Op::Give(_, _, spot)
+        | Op::Free(_, _, spot)
+        | Op::Lock(_, spot)
+        | Op::Unlock(_, _, spot)
+        | Op::CondEnter(_, spot)
+        | Op::CondWait(_, spot)
+        | Op::CondSignal(_, spot)
+        | Op::CondBroadcast(_, spot)
+        | Op::Spawn(_, _, _, spot)
+        | Op::Join(_, spot)
+        | Op::Print(_, spot) => Some(spot),
+        Op::Enter
+        | Op::Constant(_, _)
+        | Op::Move(_, _)
+        | Op::Complement(_, _)
+        | Op::IsFalse(_, _)
+        | Op::SameReference(_, _, _)
+        | Op::Skip(_)
+        | Op::SkipIfZero(_, _)
+        | Op::SkipIfNull(_, _)
+        | Op::Jump(_)
+        | Op::BlockEnd
+        | Op::Null(_)
+        | Op::Local(_, _)
+        | Op::MoveReference(_, _)
+        | Op::Pop(_)
+        | Op::Settle(_, _) => None,
     }
 }
