@@ -10,7 +10,7 @@ use Rattle.sharc_invariant.specs.Types.Lock.{Global, Through, Self}
 use Rattle.sharc_invariant.specs.Types.FieldLock.{OfType, OfGlobals, OfElement}
 use Rattle.sharc_invariant.specs.Types.FieldMode.{Private, Readonly, Racy, Dynamic, Under, Behind}
 use Rattle.sharc_invariant.specs.Types.Content.{Integer, MutexWord, Waiters, Pointer}
-use Rattle.sharc_invariant.specs.Labels.{Entry, Empty, Refers, Gate, Pass, Label, SameReference, Itself, IsCopy, HasCopy, Copies, SameLock, AllSame, LessEntry}
+use Rattle.sharc_invariant.specs.Labels.{Entry, Empty, Refers, Unknown, Gate, Pass, Label, SameReference, Itself, IsCopy, HasCopy, Copies, SameLock, AllSame, LessEntry}
 use Rattle.sharc_invariant.specs.Typed.{HasField, HasBase, HasCell, IsSibling, IsLockCell, IsTypeLock, IsMutexOf, IsLockMode, IsTypeMode, IsMode, IsFieldLock, IsAnyLock, AreFieldLocks, PointsTo, IsSameFieldLock, IsSameContent, Recasts, IsPlace, no_lock}
 
 pub all_same : {A B : Type 0} (R S : A → B → Type 0) (each : (a : A) (b : B) → R a b → S a b) (xs : List A) (ys : List B) → AllSame R xs ys → AllSame S xs ys
@@ -96,6 +96,8 @@ module _ (l : Label) (known : ℕ → Bool) (gate : Gate) (passed : List Pass) w
 
   pub less_entry : (r : ℕ) (e f : Entry) → LessEntry l r e f → LessEntry b r e f
   less_entry r e Empty h = h
+  less_entry r e Unknown h = tt
+  less_entry r Unknown (Refers t) h = absurd h
   less_entry r Empty (Refers t) h = h
   less_entry r (Refers s) (Refers t) h = record { target = h.target; locks = all_same (SameLock l r) (SameLock b r) (same_lock r) s.locks t.locks h.locks }
 
