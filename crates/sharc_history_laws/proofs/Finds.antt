@@ -124,7 +124,7 @@ module _ (there_laws : CellsAreThere) (x : Targets) (code : Code) (s : Shape) (l
     object_is (cells.Object r i) = refl
     object_is (cells.ObjectAt r i) = refl
 
-    mutex_at : (hold : OnHold (g.threads t).own.stage) (c : Cell) (f : Field) → HasField x code here c f → is_of_null (g.threads t) c ≡ false → IsMutex code s (g.threads t) c
+    pub mutex_at : (hold : OnHold (g.threads t).own.stage) (c : Cell) (f : Field) → HasField x code here c f → is_of_null (g.threads t) c ≡ false → IsMutex code s (g.threads t) c
     mutex_at hold c f k some =
         let th = there_laws x code s ls wt fits g world st t on hold c f k some in
         let o = object_of_cell m c in
@@ -133,7 +133,7 @@ module _ (there_laws : CellsAreThere) (x : Targets) (code : Code) (s : Shape) (l
           apart = subst (λ n. IsApart s m.own.held n (place m c)) (sym (object_is c)) (subst (IsApart s m.own.held o) (sym th.place_is) (is_apart t o (number_in m c) th.live th.number));
         }
 
-    mutex_cell : (hold : OnHold (g.threads t).own.stage) (c : Cell) (f : Field) → HasCell x code here c f → IsMutex code s (g.threads t) c
+    pub mutex_cell : (hold : OnHold (g.threads t).own.stage) (c : Cell) (f : Field) → HasCell x code here c f → IsMutex code s (g.threads t) c
     mutex_cell hold c f k = mutex_at hold c f k.field (some_base x code s ls wt fits g world st t on hold c k.base)
 
     some_ref : (r : ℕ) → 0 < ref (g.threads t) r → (ref (g.threads t) r == 0) ≡ false
@@ -146,13 +146,13 @@ module _ (there_laws : CellsAreThere) (x : Targets) (code : Code) (s : Shape) (l
     lock_at hold (cells.ObjectAt r i) f k = λ lt. mutex_at hold (cells.ObjectAt r i) f k (some_ref r lt)
 
     -- the mutex to which a pointer that was loaded refers
-    loaded_apart : (hold : OnHold (g.threads t).own.stage) (c : Cell) (f : Field) → here.gate ≡ Loaded c → HasCell x code here c f → PointsToMutex x f → 0 < (g.threads t).pending → IsApart s (g.threads t).own.held (g.threads t).pending (cell_of (g.threads t).pending 0)
-    loaded_apart hold c f gt k points lt =
+    pub pending_apart : (hold : OnHold (g.threads t).own.stage) (c : Cell) (f : Field) → world.win t ≡ IsLoaded (base_of_cell (g.threads t) c) (number_in (g.threads t) c) (g.threads t).pending → HasCell x code here c f → PointsToMutex x f
+        → 0 < (g.threads t).pending → IsApart s (g.threads t).own.held (g.threads t).pending (cell_of (g.threads t).pending 0)
+    pending_apart hold c f win k points lt =
         let th = there x code s ls wt fits g world st t on hold there_laws c f k in
         let o = object_of_cell m c in
         let j = number_in m c in
         let v = m.pending in
-        let win : world.win t ≡ IsLoaded (base_of_cell m c) j v = subst (GateStands s world t m) gt (gate x code s ls wt fits g world st t on hold) in
         let ok : WinOk (lang_of x) world t (IsLoaded (base_of_cell m c) j v) = subst (WinOk (lang_of x) world t) win (st.inv.wins t) in
         let slot : (world.slots (CellOf o j)).reference ≡ v = ap (λ o. (world.slots (CellOf o j)).reference) (sym th.base) ∙ ok.1 in
         let some : (world.slots (CellOf o j)).reference ≢ 0 = λ z. let e : v ≡ 0 = sym slot ∙ z in omega arith in
@@ -166,6 +166,9 @@ module _ (there_laws : CellsAreThere) (x : Targets) (code : Code) (s : Shape) (l
         let more : 1 * cells_of x points.to.target ≤ st.elements v * cells_of x points.to.target = mul-le-mul_right (cells_of x points.to.target) whole.0 in
         let first = points.some in
         is_apart t v 0 live (omega arith)
+
+    loaded_apart : (hold : OnHold (g.threads t).own.stage) (c : Cell) (f : Field) → here.gate ≡ Loaded c → HasCell x code here c f → PointsToMutex x f → 0 < (g.threads t).pending → IsApart s (g.threads t).own.held (g.threads t).pending (cell_of (g.threads t).pending 0)
+    loaded_apart hold c f gt k points lt = pending_apart hold c f (subst (GateStands s world t m) gt (gate x code s ls wt fits g world st t on hold)) k points lt
 
     -- ---- a New
     fresh_at : (hold : OnHold (g.threads t).own.stage) → (g.threads t).pending ≡ 0 → (v : NewView) (stage : NewStage) → BuildsAt g.words st.heap t v stage → IsNewIn (g.threads t) stage

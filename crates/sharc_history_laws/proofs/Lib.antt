@@ -5,8 +5,13 @@ pub mod Consists
 pub mod Finds
 pub mod Gates
 pub mod Going
+pub mod Holding
 pub mod Lists
+pub mod Locked
+pub mod Locking
+pub mod Logs
 pub mod Modes
+pub mod Mutexless
 pub mod Rules
 pub mod Sets
 pub mod Shared

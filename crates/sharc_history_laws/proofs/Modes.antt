@@ -36,7 +36,7 @@ module _ (code : Code) (m : Machine) (at : CellAt) where
   under_is : (l : Label) (c : Cell) (lock : FieldLock) (mode : PlaceMode) → IsMode code l c (FieldMode.Under lock) mode → IsLocked mode
   under_is l c (OfType k) mode h = type_lock_is l k c mode h
   under_is l c (OfGlobals j) mode h = lock_is l 0 (Global j) mode h
-  under_is l c (OfElement field mutex) mode h = (_, ap (mode_of code m at) h)
+  under_is l c (OfElement field mutex) mode h = (_, ap (mode_of code m at) h.0)
 
   not_private : (mode : PlaceMode) → IsLocked mode → mode_of code m at mode ≡ modes.Private → ⊥
   not_private mode h e = let f : modes.Locked h.0 ≡ modes.Private = sym h.1 ∙ e in cc

@@ -42,7 +42,7 @@ any_append test (y ∷ ys) e h =
     both true b h = absurd (let f : true ≡ false = h in cc)
     both false b h = (refl, h)
 
-own_append : (t : ℕ) (xs : History) (e : SourceEvent) → events_of t (xs ++ e ∷ []) ≡ (if is_of t e then events_of t xs ++ e ∷ [] else events_of t xs)
+pub own_append : (t : ℕ) (xs : History) (e : SourceEvent) → events_of t (xs ++ e ∷ []) ≡ (if is_of t e then events_of t xs ++ e ∷ [] else events_of t xs)
 own_append t [] e = elim (is_of t e) as (λ b. is_of t e ≡ b → cond b (e ∷ []) [] ≡ (if b then e ∷ [] else [])) [ true ↦ λ q. refl | false ↦ λ q. refl ] refl
 own_append t (y ∷ ys) e =
     ap (λ zs. cond (is_of t y) (y ∷ zs) zs) (own_append t ys e)

@@ -132,7 +132,7 @@ type_locks code l k _ mode h = absurd h
 locks : (code : Code) (l : Label) (c : Cell) (lock : FieldLock) (mode : PlaceMode) → IsMode code l c (Under lock) mode → IsLocked mode
 locks code l c (OfType k) mode h = type_locks code l k c mode h
 locks code l c (OfGlobals j) mode h = lock_locks code l 0 (Global j) mode h
-locks code l c (OfSameElement field mutex) mode h = subst IsLocked (sym h) tt
+locks code l c (OfSameElement field mutex) mode h = subst IsLocked (sym h.0) tt
 
 own_is : (ls : Labels) (l b : Label) → l.function ≡ b.function → (c : Cell) → IsOwn ls l c → IsOwn ls b c
 own_is ls l b e (cells.Global g p) h = (h.0, (sym e ∙ h.1.0, h.1.1))
