@@ -10,14 +10,13 @@ use Rattle.sharc_code.specs.declared.shape.Shape.{Shape}
 use Rattle.sharc_code.specs.declared.state.State.{State}
 use Rattle.sharc_code.specs.declared.state.State.TheVariants.{Runs, Tries, Stopped, Ended}
 use Rattle.sharc_code.specs.Machine.{Machine}
-use Rattle.sharc_code.specs.Path.{IsPath, may_go, machine_after, events_of_path, made_in}
+use Rattle.sharc_code.specs.Path.{may_go, machine_after, events_of_path, made_in}
 use Rattle.sharc_cpu.specs.Thread.{ThreadView, IsThread}
 use Rattle.sharc_cpu.specs.Quantum.{IsQuantum, pause_of}
 use Rattle.sharc_cpu.specs.declared.quantum.Pause.{Pause}
 use Rattle.sharc_cpu.specs.declared.quantum.Pause.TheVariants.{Ran, Spent}
-use Rattle.sharc_journal.specs.Shared.{SharedView, SeatView}
+use Rattle.sharc_journal.specs.Shared.{SeatView}
 use Rattle.sharc_record.specs.declared.hand.TheConstants.{QUANTUM}
-use Rattle.sharc_record.specs.declared.hand.Hand.{Hand}
 use Rattle.sharc_rounds.specs.Round.{Seat}
 use Rattle.sharc_record.specs.Round.{HasRun}
 

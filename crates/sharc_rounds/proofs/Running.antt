@@ -10,14 +10,13 @@ use Rattle.sharc_code.specs.declared.shape.Shape.{Shape}
 use Rattle.sharc_code.specs.declared.state.State.{State}
 use Rattle.sharc_code.specs.declared.state.State.TheVariants.{Runs, Tries, Stopped, Ended}
 use Rattle.sharc_code.specs.Machine.{Machine}
-use Rattle.sharc_code.specs.Path.{IsPath, may_go, machine_after, events_of_path, made_in}
+use Rattle.sharc_code.specs.Path.{may_go, machine_after, events_of_path, made_in}
 use Rattle.sharc_cpu.specs.Thread.{ThreadView, IsThread}
 use Rattle.sharc_cpu.specs.Quantum.{IsQuantum, pause_of}
 use Rattle.sharc_cpu.specs.declared.quantum.Pause.{Pause}
 use Rattle.sharc_cpu.specs.declared.quantum.Pause.TheVariants.{Ran, Spent}
-use Rattle.sharc_bus.specs.Bus.{BusView, SeatView}
+use Rattle.sharc_bus.specs.Bus.{SeatView}
 use Rattle.sharc_rounds.specs.declared.hand.TheConstants.{QUANTUM}
-use Rattle.sharc_rounds.specs.declared.hand.Hand.{Hand}
 use Rattle.sharc_rounds.specs.Round.{Seat, HasRun}
 
 -- below the limit no turn at all is answered with Ran where one may come

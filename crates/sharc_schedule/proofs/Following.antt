@@ -1,5 +1,5 @@
 -- The turns for one event of the journal are those of the schedule.
-use Rattle.std.proofs.Common.{◌≡◌, ℕ, suc, zero, ◌+◌, ◌<◌, ◌≤◌, Bool, true, false, List, [], ◌∷◌, ◌++◌, length, refl, sym, ap, ◌∙◌, subst, arith, append_assoc, length-append, ⊎_elim, ◌⊎◌, inl, inr, if◌then◌else◌}
+use Rattle.std.proofs.Common.{◌≡◌, ℕ, suc, ◌<◌, ◌≤◌, Bool, true, false, List, [], ◌∷◌, ◌++◌, length, refl, sym, ap, ◌∙◌, subst, arith, append_assoc, ⊎_elim, ◌⊎◌, inl, inr, if◌then◌else◌}
 use native.Mathlib.Decide.{dec_le}
 use Rattle.sharc_code.specs.declared.code.Code.{Code}
 use Rattle.sharc_code.specs.declared.shape.Shape.{Shape}
@@ -20,7 +20,6 @@ use Rattle.sharc_schedule.proofs.Among.{Last, cut}
 use Rattle.sharc_schedule.proofs.Replaying.{Few, few_before, enabled_turn}
 use Rattle.sharc_schedule.specs.Going.{Quiet, Loud, AllCount, Stepped}
 use Rattle.sharc_schedule.proofs.Matching.{Run, quiet_kept, as_many}
-use Rattle.sharc_schedule.proofs.Plain.{if_no, if_yes}
 
 -- ---- lists
 pub record Split (xs : List Turn) (n : ℕ) : Type 0 where

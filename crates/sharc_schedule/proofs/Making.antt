@@ -1,5 +1,5 @@
 -- The turns that are made for a journal are those of the schedule of each of its runs.
-use Rattle.std.proofs.Common.{◌≡◌, ◌≢◌, ℕ, zero, suc, ◌+◌, ◌-◌, ◌<◌, ◌≤◌, Bool, true, false, not, nat_eq, ◌&&◌, ◌||◌, nat_lt, List, [], ◌∷◌, ◌++◌, Option, Some, None, length, get_or, eqb-true, refl, sym, ap, ◌∙◌, subst, arith, append_assoc, length-append, ⊎_elim, ◌⊎◌, inl, inr, if◌then◌else◌}
+use Rattle.std.proofs.Common.{◌≡◌, ◌≢◌, ℕ, zero, suc, ◌+◌, ◌-◌, ◌<◌, ◌≤◌, Bool, true, false, not, nat_eq, ◌&&◌, ◌||◌, nat_lt, List, [], ◌∷◌, ◌++◌, Option, Some, None, length, get_or, eqb-true, refl, sym, ap, ◌∙◌, subst, arith, append_assoc, length-append, ◌⊎◌, inl, inr, if◌then◌else◌}
 use Rattle.std.proofs.lemmas.List.{append-nil}
 use native.Mathlib.Decide.{dec_le, ℕ_discrete}
 use Rattle.sharc_word.specs.declared.step.WordEvent.{WordEvent}
@@ -12,7 +12,7 @@ use Rattle.sharc_code.specs.Path.{may_go}
 use Rattle.sharc_code.specs.Runs.{Turn, Owns, IsOf, is_started, state_now, made_now, words_now, word_events, event_list}
 use Rattle.sharc_code.specs.ThreadLaws.{ThreadLaws}
 use Rattle.sharc_code.specs.Waits.{waits_now}
-use Rattle.sharc_code.specs.Whole.{CheckedRun, one_thread, bounds, place_after}
+use Rattle.sharc_code.specs.Whole.{one_thread, bounds, place_after}
 use Rattle.sharc_threads.specs.Ends.{Standing, is_enabled}
 use Rattle.sharc_seq.specs.Walk.{has_event}
 use Rattle.sharc_schedule.specs.Schedule.{loose, loose_by, firm, firm_by, all_loose, arranged, without_tries, scheduled_turns}

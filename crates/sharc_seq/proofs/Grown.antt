@@ -22,7 +22,7 @@ use Rattle.sharc_threads.specs.Laws.{TableLaws}
 use Rattle.sharc_threads.specs.Seats.{Sits, IsSeat, AreSeats, AreOf, may_turn_at, left, left_to}
 use Rattle.sharc_seq.specs.declared.walk.Walk.{Walk}
 use Rattle.sharc_seq.specs.Run.{enabled, IsChosen}
-use Rattle.sharc_seq.specs.Walk.{IsThreadAt, MadeTurn, MadeTurnAt, ToldAt, Began, HaveBegun, StandsAt, WentOn, numbers_of, has_step, has_event}
+use Rattle.sharc_seq.specs.Walk.{IsThreadAt, MadeTurn, MadeTurnAt, ToldAt, Began, StandsAt, WentOn, numbers_of, has_step, has_event}
 use Rattle.sharc_seq.proofs.Made.{both, lt_true}
 use Rattle.sharc_seq.proofs.Choosing.{picked, any_default, filter_same, filter_less}
 

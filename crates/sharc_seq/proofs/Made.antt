@@ -1,5 +1,5 @@
 -- A quantum of one turn of an enabled thread makes one turn, which is an event.
-use Rattle.std.proofs.Common.{◌≡◌, ℕ, zero, suc, ◌+◌, ◌<◌, ◌==◌, Bool, true, false, not, List, [], ◌∷◌, length, refl, sym, ap, ◌∙◌, subst, arith}
+use Rattle.std.proofs.Common.{◌≡◌, ℕ, suc, ◌+◌, ◌<◌, ◌==◌, Bool, true, false, not, List, [], ◌∷◌, length, refl, sym, ap, ◌∙◌, subst, arith}
 use Rattle.std.specs.Prelude.{nat_lt, ◌&&◌, if◌then◌else◌}
 use Rattle.std.proofs.lemmas.Bool.Decides.{nat_tests}
 use Rattle.sharc_word.specs.Place.{Place, Leads, LeadsInWords, place_of_words}
@@ -13,7 +13,7 @@ use Rattle.sharc_code.specs.Path.{turn, after, events_of_turn, TurnLeads, may_go
 use Rattle.sharc_code.specs.ThreadLaws.{ThreadLaws, found_now, behind}
 use Rattle.sharc_code.specs.Waits.{waits_now}
 use Rattle.sharc_cpu.specs.Thread.{ThreadView}
-use Rattle.sharc_cpu.specs.Quantum.{IsQuantum, ran_or_blocked, pause_of}
+use Rattle.sharc_cpu.specs.Quantum.{IsQuantum, pause_of}
 use Rattle.sharc_cpu.specs.declared.quantum.Pause.{Pause}
 use Rattle.sharc_cpu.specs.declared.quantum.Pause.TheVariants.{Ran, Spent}
 

@@ -1,10 +1,10 @@
 -- A quantum of one turn over a port that tells whether it made a step.
-use Rattle.std.proofs.Common.{◌≡◌, ℕ, ◌+◌, ◌≤◌, Bool, true, false, List, [], ◌∷◌, length, refl, sym, ap, ◌∙◌, subst, arith}
+use Rattle.std.proofs.Common.{◌≡◌, ℕ, ◌+◌, Bool, true, false, List, [], ◌∷◌, length, refl, sym, ap, ◌∙◌, subst, arith}
 use Rattle.sharc_word.specs.declared.step.WordEvent.{WordEvent}
 use Rattle.sharc_word.specs.Place.{Place, Leads, LeadsInWords, place_of_words}
 use Rattle.sharc_code.specs.declared.code.Code.{Code}
 use Rattle.sharc_code.specs.declared.shape.Shape.{Shape}
-use Rattle.sharc_code.specs.Machine.{Machine, Turn, Local, Asks}
+use Rattle.sharc_code.specs.Machine.{Turn, Local, Asks}
 use Rattle.sharc_code.specs.Path.{turn, asked_by, events_of_turn, events_of_path, made_in}
 use Rattle.sharc_cpu.specs.Thread.{ThreadView}
 use Rattle.sharc_cpu.specs.Quantum.{IsQuantum}

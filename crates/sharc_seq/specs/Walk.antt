@@ -1,5 +1,5 @@
 -- Runs of which the caller picks each turn: where such a run stands, and what one more turn makes of it.
-use Rattle.std.specs.Prelude.{ℕ, ◌≡◌, ◌<◌, ◌+◌, Bool, true, false, List, [], ◌∷◌, length, filter, is_some, Option, Some, None, slice_index_or}
+use Rattle.std.specs.Prelude.{ℕ, ◌≡◌, ◌<◌, ◌+◌, Bool, true, false, List, ◌∷◌, length, filter, is_some, Option, Some, None, slice_index_or}
 use Rattle.std.specs.List.{range_with_len}
 use Rattle.sharc_word.specs.Place.{LeadsInWords, place_of_words}
 use Rattle.sharc_word.specs.declared.step.WordEvent.{WordEvent}

@@ -1,4 +1,4 @@
-use Rattle.std.proofs.Common.{◌≡◌, ℕ, List, sym, subst}
+use Rattle.std.proofs.Common.{ℕ, List, sym, subst}
 use Rattle.sharc_recorded.specs.File.{ArePlaces, written}
 use Rattle.sharc_seq.specs.Run.{IsSeqRun}
 use Rattle.sharc_schedule.specs.Schedule.{Stored}

@@ -1,4 +1,4 @@
-use Rattle.std.proofs.Common.{◌≡◌, ◌+◌, ◌-◌, ◌<◌, ℕ, suc, length, sym, ap, ◌∙◌, arith}
+use Rattle.std.proofs.Common.{◌-◌, ℕ, sym, ap, ◌∙◌, arith}
 use Rattle.sharc_schedule.proofs.Lasts.{add_last, together_last, add_same, add_other, add_first, same_at}
 use Rattle.sharc_schedule.proofs.counting.count.Goals.{else-n-gt0-via-then-n-gt0+else-index-place, else-n-gt0-via-else-n-gt0}
 use Rattle.sharc_schedule.proofs.counting.count.Goals as goal

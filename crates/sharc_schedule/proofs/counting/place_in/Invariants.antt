@@ -1,4 +1,4 @@
-use Rattle.std.proofs.Common.{◌≤◌, ◌-◌, ℕ, length}
+use Rattle.std.proofs.Common.{◌≤◌, ◌-◌, length}
 use Rattle.sharc_schedule.specs.Schedule.{place_in}
 use Rattle.sharc_schedule.proofs.counting.place_in.Given as goal
 

@@ -1,4 +1,4 @@
-use Rattle.std.proofs.Common.{◌≡◌, ℕ, List, [], length}
+use Rattle.std.proofs.Common.{List, [], length}
 use Rattle.sharc_code.specs.Opening.{opening_words}
 use Rattle.sharc_code.specs.Runs.{Turn, IsRun, opening_of}
 use Rattle.sharc_code.specs.Whole.{one_thread, bounds}

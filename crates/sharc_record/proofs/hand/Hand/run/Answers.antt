@@ -1,4 +1,4 @@
-use Rattle.std.proofs.Common.{Some, sym, subst}
+use Rattle.std.proofs.Common.{sym, subst}
 use Rattle.sharc_rounds.specs.Round.{Seat}
 use Rattle.sharc_record.specs.Round.{MayQuantumAt, HasRun}
 use Rattle.sharc_record.proofs.Running.{nobody}

@@ -1,4 +1,4 @@
-use Rattle.std.proofs.Common.{Some, sym, subst}
+use Rattle.std.proofs.Common.{sym, subst}
 use Rattle.sharc_rounds.specs.Round.{Seat, MayQuantumAt, HasRun}
 use Rattle.sharc_rounds.proofs.Running.{nobody}
 use Rattle.sharc_rounds.proofs.hand.Hand.run.Goals as goal

@@ -1,4 +1,4 @@
-use Rattle.std.proofs.Common.{◌≡◌, ◌++◌, ℕ, ◌<◌, List, None, get_or, ◌∙◌, subst}
+use Rattle.std.proofs.Common.{◌++◌, ℕ, ◌<◌, List, None, get_or, ◌∙◌, subst}
 use Rattle.sharc_word.specs.declared.step.TheConstants.{THREADS}
 use Rattle.sharc_threads.specs.Seats.{HasBegun}
 use Rattle.sharc_rounds.specs.declared.round.Rounds.{Rounds}

@@ -1,6 +1,4 @@
-use Rattle.std.proofs.Common.{◌≡◌, ℕ, ◌<◌, ◌++◌, ◌∷◌, true, false, List, inr, sym, ap, ◌∙◌, subst, arith}
-use Rattle.sharc_code.specs.Whole.{place_after}
-use Rattle.sharc_schedule.specs.Going.{GoesAt, OneMore, Walked}
+use Rattle.std.proofs.Common.{◌++◌, ◌∷◌, inr, sym, ◌∙◌}
 use Rattle.sharc_schedule.proofs.Turning.{walked_none, walked_more, reached_step}
 use Rattle.sharc_schedule.proofs.places.Going.reach.Goals as goal
 

@@ -1,4 +1,4 @@
-use Rattle.std.proofs.Common.{ℕ, List}
+use Rattle.std.proofs.Common.{List}
 use Rattle.sharc_code.specs.Runs.{Turn}
 use Rattle.sharc_seq.specs.Walk.{events_left}
 use Rattle.sharc_schedule.specs.Going.{GoesAt, IsGoing, Walked}

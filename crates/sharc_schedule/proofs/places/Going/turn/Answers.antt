@@ -1,8 +1,7 @@
-use Rattle.std.proofs.Common.{◌≡◌, ℕ, true, ◌<◌, ◌∷◌, [], ◌++◌, List, length, get_or, sym, ap, ◌∙◌, subst, arith}
+use Rattle.std.proofs.Common.{◌≡◌, ℕ, true, ◌<◌, List, length, get_or, sym, ap, ◌∙◌, subst, arith}
 use Rattle.sharc_code.specs.Whole.{place_after}
 use Rattle.sharc_threads.specs.Ends.{is_enabled}
-use Rattle.sharc_seq.specs.Run.{enabled}
-use Rattle.sharc_schedule.specs.Schedule.{place_in, places_of, counted_together}
+use Rattle.sharc_schedule.specs.Schedule.{place_in}
 use Rattle.sharc_schedule.specs.declared.places.Going.{Going}
 use Rattle.sharc_schedule.proofs.Turning.{few_enabled, inside, low_of, enabled_too, room, one_more}
 use Rattle.sharc_schedule.proofs.places.Going.turn.Goals as goal

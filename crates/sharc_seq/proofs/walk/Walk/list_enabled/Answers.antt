@@ -1,4 +1,4 @@
-use Rattle.std.proofs.Common.{◌≡◌, ℕ, ◌<◌, List, Option, None, length, get_or, filter, sym, ap, ◌∙◌, subst, arith}
+use Rattle.std.proofs.Common.{ℕ, ◌<◌, List, Option, None, length, get_or, filter, ap, ◌∙◌, subst, arith}
 use Rattle.std.specs.Prelude.{is_some, slice_index}
 use Rattle.sharc_word.specs.declared.step.TheConstants.{THREADS}
 use Rattle.sharc_code.specs.Whole.{place_after}

@@ -1,5 +1,4 @@
-use Rattle.std.proofs.Common.{◌≡◌, ℕ, ◌<◌, List, Option, None, length, get_or, sym, ap, ◌∙◌, subst, arith}
-use Rattle.sharc_word.specs.declared.step.TheConstants.{THREADS}
+use Rattle.std.proofs.Common.{◌<◌, List, Option, None, length, sym, ap, ◌∙◌, subst, arith}
 use Rattle.sharc_code.specs.Whole.{place_after}
 use Rattle.sharc_cpu.specs.Thread.{ThreadView}
 use Rattle.sharc_threads.specs.Ends.{Standing}
