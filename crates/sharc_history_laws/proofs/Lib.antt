@@ -11,11 +11,15 @@ pub mod Locked
 pub mod Locking
 pub mod Logs
 pub mod Modes
+pub mod ModesKept
 pub mod Mutexless
+pub mod OneMode
 pub mod Rules
 pub mod Sets
 pub mod Shared
+pub mod Since
 pub mod Single
 pub mod Stands
 pub mod Tables
+pub mod Unwritten
 pub mod Writes

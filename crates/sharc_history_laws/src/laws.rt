@@ -1,6 +1,6 @@
 //! The laws, each the contract of a function that does nothing.
 
-ghost use Rattle.sharc_history_laws.specs.History.{HistoriesKeepRules};
+ghost use Rattle.sharc_history_laws.specs.History.{HistoriesObey};
 ghost use Rattle.sharc_history_laws.specs.Paths.{PathsAreConsistent};
 
 use sharc_code::run_laws;
@@ -19,7 +19,7 @@ pub fn paths_law()
 
 /// The source events of each checked run of typed code keep the rules of the modes.
 pub fn history_law()
-    ensures { HistoriesKeepRules }
+    ensures { HistoriesObey }
 {
     run_laws();
     begins();
