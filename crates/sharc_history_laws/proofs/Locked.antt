@@ -50,7 +50,7 @@ abbrev pub IsIn : HeldMutex → List HeldMutex → Type 0
 IsIn h [] = ⊥
 IsIn h (k ∷ log) = (k ≡ h) ⊎ IsIn h log
 
-all_in : (P : HeldMutex → Type 0) (log : List HeldMutex) (h : HeldMutex) → All P log → IsIn h log → P h
+pub all_in : (P : HeldMutex → Type 0) (log : List HeldMutex) (h : HeldMutex) → All P log → IsIn h log → P h
 all_in P [] h all is = absurd is
 all_in P (k ∷ log) h all is = ⊎_elim
     (λ (e : k ≡ h). subst P e (all 0 k (omega arith)))
