@@ -33,7 +33,7 @@ use Rattle.sharc_meaning.specs.Events.{same_object, same_cell, locks, unlocks, i
 use Rattle.sharc_invariant.specs.Types.{Targets, Field, FieldMode, FieldLock, Lock, StaticType, ObjectType, Content, cells_of}
 use Rattle.sharc_invariant.specs.Types.Lock.{Global as GlobalLock, Through, Self}
 use Rattle.sharc_invariant.specs.Types.FieldLock.{OfType, OfGlobals, OfElement}
-use Rattle.sharc_invariant.specs.Labels.{Gate, Holds, HoldsLoaded, Refers, Element, Named, Nth, OfElement as OfElementCell, OfGlobal, Entry, Label, Labels, SameReference, Itself, IsCopy, HasCopy, Copies}
+use Rattle.sharc_invariant.specs.Labels.{Gate, Holds, HoldsLoaded, Refers, Element, Named, Nth, OfElement as OfElementCell, OfGlobal, Entry, Label, Labels, SameReference, Itself, IsCopy, HasCopy, Copies, Chained}
 use Rattle.sharc_invariant.specs.Typed.{IsWellTyped, Fine, HasField, HasCell, MayAccess, IsMode, IsTypeMode, IsLockMode, IsLockCell, IsTypeLock, IsMutexOf, IsSibling, no_lock}
 use Rattle.sharc_invariant.specs.World.{RegisterOf, World, ObjectState, in_ref}
 use Rattle.sharc_invariant.specs.State.{State, StageStands, GateStands, EntryStands, NumberStands, ElementStands, OnHold, View, view_of, refs_at, types_at}
@@ -183,6 +183,7 @@ module _ (x : Targets) (code : Code) (s : Shape) (ls : Labels) (wt : IsWellTyped
   same_in a b (IsCopy e) = sym (copy_of a) ∙ ap refs e
   same_in a b (HasCopy e) = sym (ap refs e) ∙ copy_of b
   same_in a b (Copies e) = sym (copy_of a) ∙ ap refs e ∙ copy_of b
+  same_in a b (Chained c p q) = same_in a c p ∙ same_in c b q
 
   pub same_refs : (a b : ℕ) → SameReference here a b → ref (g.threads t) a ≡ ref (g.threads t) b
   same_refs a b h = reads_ref x code s ls wt fits g world st t on hold a ∙ same_in a b h ∙ sym (reads_ref x code s ls wt fits g world st t on hold b)

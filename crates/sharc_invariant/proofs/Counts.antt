@@ -1,7 +1,7 @@
 -- Raise and Lower of a register, and what moves references between registers.
-use Rattle.std.proofs.Common.{◌≡◌, ℕ, ℤ, zero, suc, ◌+◌, ◌-◌, ◌%◌, ◌^◌, ◌<◌, ◌≤◌, ◌≢◌, true, refl, sym, ap, ◌∙◌, subst, inl, inr, ⊎_elim, arith}
+use Rattle.std.proofs.Common.{◌≡◌, ℕ, ℤ, zero, suc, ◌+◌, ◌-◌, ◌%◌, ◌^◌, ◌<◌, ◌≤◌, ◌≢◌, true, refl, sym, ap, ◌∙◌, subst, inl, inr, ⊎_elim, arith, List, [], ◌∷◌, Bool, false, cond, ◌||◌}
 use mathlib.Core.Path.{fun_ext}
-use Rattle.std.specs.Prelude.{length, slice_index, slice_set, nat_lt}
+use Rattle.std.specs.Prelude.{length, slice_index, slice_set, nat_lt, ◌==◌}
 use Rattle.std.proofs.lemmas.Bool.{cases_eq}
 use Rattle.std.proofs.lemmas.Bool.Decides.{nat_tests}
 use Rattle.sharc_word.specs.declared.step.WordOp.TheVariants.{Add, Sub}
@@ -16,9 +16,10 @@ use Rattle.sharc_code.specs.Machine.{Machine, Turn as StepTurn, Local, Asks, ins
 use Rattle.sharc_code.specs.Path.{turn}
 use Rattle.sharc_code.specs.Runs.{Turn, Global, put, MayTurn, after_turn}
 use Rattle.sharc_code.specs.Whole.{one_thread, bounds}
-use Rattle.sharc_code.proofs.Places.{put_same, put_other}
-use Rattle.sharc_invariant.specs.Types.{nothing, Targets, type_of}
-use Rattle.sharc_invariant.specs.Labels.{Empty, Refers, Unknown, Closed, Label, Labels, Leads, fill, empty}
+use Rattle.sharc_code.proofs.Places.{eq_refl, put_same, put_other}
+use Rattle.sharc_invariant.specs.Types.Lock.{Global as OfGlobals, Through, Self}
+use Rattle.sharc_invariant.specs.Types.{nothing, Targets, type_of, Lock, Names, SomeNames}
+use Rattle.sharc_invariant.specs.Labels.{Empty, Refers, Unknown, Closed, Label, Labels, Leads, fill, empty, Entry, EntryMentions, IsFree, forgets, forgotten, some_names}
 use Rattle.sharc_invariant.specs.Typed.{IsWellTyped, IsRef, IsVacant, Fine}
 use Rattle.sharc_invariant.specs.World.{TypedReference, RegisterOf, World, Shut, Sole, In, Slot, in_ref, place, null, none, grow, drop, set_win, set_slot, Fits, WorldInvariant}
 use Rattle.sharc_invariant.specs.Words.{lang_of, conc_of, Shows, count_at, store, set_reg, has_returned}
@@ -234,33 +235,33 @@ module _ (x : Targets) (code : Code) (s : Shape) (ls : Labels) (wt : IsWellTyped
       ))
       (cases_eq (ref m from) 0)
 
-  -- a reference is given up
-  pub Lower_keeps : (r : ℕ) → instr_at code (g.threads tr.thread).at.pc ≡ instrs.Lower r → Turned
-  Lower_keeps r is =
+  -- a reference is given up, where these entries are known
+  lowered : (r : ℕ) (is : instr_at code (g.threads tr.thread).at.pc ≡ instrs.Lower r) (e : ℕ → Entry) → here.gate ≡ Closed → IsRef code here r → TopStands x t view base m.at.ints (names (instrs.Lower r) is refl) (record here { env = e })
+      → ((q : ℕ) → q ≢ r → EntryMentions (e q) r → ⊥) → Leads ls ((g.threads tr.thread).at.pc + 1) (empty (record here { env = e }) r) → Turned
+  lowered r is e closed within top0 free0 leads0 =
       let i = instrs.Lower r in
       let on = may.started in
       let go = may.next.runs in
-      let f = fine x code s ls wt g world st t on go i is refl in
       let k = base + r in
       let h0 = world.slots (In (RegisterOf t k)) in
       let m' = goes (set_ref m r 0) in
-      let shut = is_shut x code s ls wt g world st t on go i is refl f.0 in
+      let shut = is_shut x code s ls wt g world st t on go i is refl closed in
       let is_refs = in_world i is refl r in
       let act_is : turn code s m ≡ lower s (ref m r) m' = ap (λ i. Rattle.sharc_code.specs.Machine.act code s i m) is in
       let free = free_shut world t k shut in
-      let room_ok : (empty here r).room ≡ true → length m.own.held < 16 = (runs x code s ls wt g world st t on go i is refl).room in
-      let tp = empty_stands x t view base m.at.ints (names i is refl) here r nothing f.2.paths (tops i is refl) in
+      let room_ok : (empty (record here { env = e }) r).room ≡ true → length m.own.held < 16 = (runs x code s ls wt g world st t on go i is refl).room in
+      let tp = empty_stands x t view base m.at.ints (names i is refl) (record here { env = e }) r nothing free0 top0 in
       let sets : SetsRef m m' r 0 = record { at = refl; refs = refl; ints = refl; frames = refl; own = refl } in
       ⊎_elim
       (λ (z : ref m r ≡ 0).
       let w' = set_slot world (RegisterOf t k) none in
       let done = local_turn code s g tr may m' (act_is ∙ lower_zero s (ref m r) m' z) in (
         w',
-        subst (λ y. State x code s ls y w') (sym done) (filled_state x code s ls wt g world st t on go i is refl r none m' (set_slot world (RegisterOf t k) none) g.words (empty here r)
-            sets f.1 refl refl refl refl (λ u _. refl) shut (same_words x code s ls g world st) (λ u b j _ _. refl)
-            (set_slot_ok (size_of_run code s) (lang_of x) world st.inv (RegisterOf t k) nothing (inside_world x code s ls wt g world st t on go i is refl r f.1) (sym is_refs ∙ z) free)
+        subst (λ y. State x code s ls y w') (sym done) (filled_state x code s ls wt g world st t on go i is refl r none m' (set_slot world (RegisterOf t k) none) g.words (empty (record here { env = e }) r)
+            sets within refl refl refl refl (λ u _. refl) shut (same_words x code s ls g world st) (λ u b j _ _. refl)
+            (set_slot_ok (size_of_run code s) (lang_of x) world st.inv (RegisterOf t k) nothing (inside_world x code s ls wt g world st t on go i is refl r within) (sym is_refs ∙ z) free)
             (reg_stored x s st.cells st.elements (conc_of code g) world st.sim st.apart t k none)
-            tp f.3 refl refl room_ok (room_of code s g tr may g.words m' done)),
+            tp leads0 refl refl room_ok (room_of code s g tr may g.words m' done)),
         Silently (filled_silent w' k none refl refl refl refl (λ u _. refl) (never_sole shut)),
       ))
       (λ (nz : ref m r ≡ 0 → ⊥).
@@ -292,11 +293,53 @@ module _ (x : Targets) (code : Code) (s : Shape) (ls : Labels) (wt : IsWellTyped
       let sim3 : Shows x s st.cells st.elements (set_reg c1 t k 0) w' = subst (λ p. Shows x s st.cells st.elements (set_reg c1 t k 0) (record world { slots = place world.slots (In (RegisterOf t k)) none; count = put world.count p (world.count p - 1) })) (sym on_w) sim2 in
       let sim4 : Shows x s st.cells st.elements (set_reg (record (conc_of code g) { words = λ j. slice_index words j }) t k 0) w' = subst (λ f. Shows x s st.cells st.elements (set_reg (record (conc_of code g) { words = f }) t k 0) w') (sym ws) sim3 in (
         w',
-        subst (λ y. State x code s ls y w') (sym done) (filled_state x code s ls wt g world st t on go i is refl r none m' w' words (empty here r) sets f.1 refl refl refl refl (λ u _. refl) shut
+        subst (λ y. State x code s ls y w') (sym done) (filled_state x code s ls wt g world st t on go i is refl r none m' w' words (empty (record here { env = e }) r) sets within refl refl refl refl (λ u _. refl) shut
             (stored_words x code s ls g world st at v ms lt (omega arith) (λ i l e. absurd (omega arith)))
             (stored_within x code s ls g world st at v ms lt)
             (drop_ok (size_of_run code s) (lang_of x) world st.inv (RegisterOf t k) nzw free)
-            sim4 tp f.3 refl refl room_ok (room_of code s g tr may words m' done)),
+            sim4 tp leads0 refl refl room_ok (room_of code s g tr may words m' done)),
         Silently (filled_silent w' k none refl refl refl refl (λ u _. refl) (never_sole shut)),
       ))
       (cases_eq (ref m r) 0)
+
+  -- what names a register is forgotten before that is NULL
+  tops_forgetting : (r : ℕ) (is : instr_at code (g.threads tr.thread).at.pc ≡ instrs.Lower r) → TopStands x t view base m.at.ints (names (instrs.Lower r) is refl) (forgets here r)
+  tops_forgetting r is n k =
+      let f = tops (instrs.Lower r) is refl n k in
+      record { env = λ q lt. forgets_stands r q (here.env q) (f.env q lt); same = f.same; known = f.known; numbers = f.numbers; passed = f.passed }
+    where
+      forgets_stands : (r q : ℕ) (e : Entry) → EntryStands (refs_at view base) (types_at view base) q e → EntryStands (refs_at view base) (types_at view base) q (forgotten r e)
+      forgets_stands r q Empty h = h
+      forgets_stands r q Unknown h = h
+      forgets_stands r q (Refers s) h = elim (some_names r s.locks) as (λ b. EntryStands (refs_at view base) (types_at view base) q (cond b Unknown (Refers s))) [ true ↦ tt | false ↦ h ]
+
+  -- a reference is given up
+  pub Lower_keeps : (r : ℕ) → instr_at code (g.threads tr.thread).at.pc ≡ instrs.Lower r → Turned
+  Lower_keeps r is =
+      let i = instrs.Lower r in
+      let f = fine x code s ls wt g world st t may.started may.next.runs i is refl in
+      ⊎_elim
+      (λ (h : IsFree here r × Leads ls ((g.threads tr.thread).at.pc + 1) (empty here r)). lowered r is here.env f.0 f.1 (tops i is refl) h.0.paths h.1)
+      (λ h. lowered r is (forgets here r).env f.0 f.1 (tops_forgetting r is) (λ q _. none_named r (here.env q)) h)
+      f.2
+    where
+      names_is : (r : ℕ) (lock : Lock) → Names r lock → (Rattle.sharc_invariant.specs.Labels.names r lock) ≡ true
+      names_is r (OfGlobals j) h = absurd h
+      names_is r (Through q j) h = ap (λ n. n == r) h ∙ eq_refl r
+      names_is r (Self j) h = absurd h
+
+      some_named : (r : ℕ) (locks : List Lock) → SomeNames r locks → some_names r locks ≡ true
+      some_named r [] h = absurd h
+      some_named r (lock ∷ locks) h = ⊎_elim (λ (k : Names r lock). ap (λ b. b || some_names r locks) (names_is r lock k)) (λ (k : SomeNames r locks). either (Rattle.sharc_invariant.specs.Labels.names r lock) (some_names r locks) (some_named r locks k)) h
+        where
+          either : (a b : Bool) → b ≡ true → (a || b) ≡ true
+          either true b e = refl
+          either false b e = e
+
+      none_named : (r : ℕ) (e : Entry) → EntryMentions (forgotten r e) r → ⊥
+      none_named r Empty = λ h. h
+      none_named r Unknown = λ h. h
+      none_named r (Refers s) = elim (some_names r s.locks) as (λ b. some_names r s.locks ≡ b → EntryMentions (cond b Unknown (Refers s)) r → ⊥) [
+        | true ↦ λ _ h. h
+        | false ↦ λ z h. let y = some_named r s.locks h in cc
+      ] refl

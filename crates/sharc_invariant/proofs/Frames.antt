@@ -13,7 +13,7 @@ use Rattle.sharc_code.proofs.Places.{eq_refl, put_same, put_other, put_all}
 use Rattle.sharc_invariant.specs.Granules.{Passed}
 use Rattle.sharc_invariant.specs.Types.{Targets, ObjectType, Mutex, Lock, StaticType, mutex_of, type_of, SomeNames, Mentions, cells_of}
 use Rattle.sharc_invariant.specs.Types.Lock.{Global, Through, Self}
-use Rattle.sharc_invariant.specs.Labels.{Entry, Empty, Refers, Unknown, Element, Number, Anything, Exactly, Within, Indexes, OfElement, OfGlobal, Pass, IsIn, Label, Labels, SameReference, Itself, IsCopy, HasCopy, Copies, SameLock, AllSame, SameType, LessEntry, Narrower, LessNumber, Less, EntryMentions, HasBase, IsScoped, fill, empty, without_copies, without_index, without_base, is_base}
+use Rattle.sharc_invariant.specs.Labels.{Entry, Empty, Refers, Unknown, Element, Number, Anything, Exactly, Within, Indexes, OfElement, OfGlobal, Pass, IsIn, Label, Labels, SameReference, Itself, IsCopy, HasCopy, Copies, Chained, SameLock, AllSame, SameType, LessEntry, Narrower, LessNumber, Less, EntryMentions, HasBase, IsScoped, fill, empty, without_copies, without_index, without_base, is_base}
 use Rattle.sharc_invariant.specs.Typed.{below, below_copy, below_number, below_pass, called_label, Calls}
 use Rattle.sharc_invariant.specs.State.{frame_at, BelowStands, View, EntryStands, NumberStands, PassStands, FrameStands, TopStands, refs_at, types_at}
 
@@ -23,6 +23,7 @@ same_ref l refs st a b (Itself e) = ap refs e
 same_ref l refs st a b (IsCopy e) = sym (st a) ∙ ap refs e
 same_ref l refs st a b (HasCopy e) = sym (ap refs e) ∙ st b
 same_ref l refs st a b (Copies e) = sym (st a) ∙ ap refs e ∙ st b
+same_ref l refs st a b (Chained c p q) = same_ref l refs st a c p ∙ same_ref l refs st c b q
 
 abbrev pub at_cell : ℕ → ℕ → Mutex
 at_cell o j = record { object = o; cell = j }
@@ -60,7 +61,7 @@ less_entry l refs types st r Unknown (Refers s) h k = absurd h
 less_entry l refs types st r Empty (Refers s) h k = λ ne. absurd (ne k)
 less_entry l refs types st r (Refers a) (Refers b) h k = λ ne. k ne ∙ same_type l refs st r a b h
 
-wider : (v w : Width) (z : ℤ) → Narrower v w → holds v z ≡ true → holds w z ≡ true
+pub wider : (v w : Width) (z : ℤ) → Narrower v w → holds v z ≡ true → holds w z ≡ true
 wider Char Char z n h = h
 wider Char Int (pos k) n h = grind (arith, nat_tests)
 wider Char Int (negsuc k) n h = grind (arith, nat_tests)

@@ -10,7 +10,7 @@ use Rattle.sharc_code.specs.Runs.{Turn, Global, put, MayTurn, after_turn}
 use Rattle.sharc_code.specs.Whole.{one_thread, bounds}
 use Rattle.sharc_code.proofs.Places.{put_same, put_other, put_all}
 use Rattle.sharc_invariant.specs.Types.{Targets, ObjectType, StaticType, type_at, type_of, Mentions, cells_of}
-use Rattle.sharc_invariant.specs.Labels.{Empty, Refers, Label, Labels, fill, empty}
+use Rattle.sharc_invariant.specs.Labels.{Empty, Refers, Label, Labels, fill, empty, Unknown, LessEntry}
 use Rattle.sharc_invariant.specs.Typed.{IsWellTyped, refs_in, ints_in, Fine}
 use Rattle.sharc_invariant.specs.World.{TypedReference, RegisterOf, In, Slot, Cell as CellOf, World, Shut, Sole, WorldInvariant, in_ref, ArgumentOf}
 use Rattle.sharc_invariant.specs.Words.{lang_of, conc_of, Shows, cell_at, Apart, head_of}
@@ -283,11 +283,14 @@ module _ (x : Targets) (code : Code) (s : Shape) (ls : Labels) (wt : IsWellTyped
   reads_object : ref (g.threads tr.thread) r ≡ o
   reads_object = sym (st.sim.regs tr.thread k ∙ register_plain code m rest k)
 
+  told : (ls.at (m.at.pc + 1)).env r ≢ Unknown
+  told e = let a : k'.env r ≡ Unknown = subst (LessEntry k' r (k'.env r)) e (f.2.5.env r) in let z : Refers to ≡ Unknown = sym (put_same (put here.env r Empty) r (Refers to)) ∙ a in cc
+
   given_objects : give_turned.0.obj ≡ objects_now code s ls g tr world.obj
   unfolding give_turned
   given_objects =
       let m'' = (after_turn bounds (one_thread code s) g tr).threads t in
-      let held = owned_is x code s ls g tr may.started w' give_turned.1 m' g.words gives_now rest refl r o T (place_same world.slots (In (RegisterOf t k)) h) nz f.2.6 in
+      let held = owned_is x code s ls g tr may.started w' give_turned.1 m' g.words gives_now rest refl r o T (place_same world.slots (In (RegisterOf t k)) h) nz told in
       ap (λ T. put world.obj o (owned t T)) held ∙ ap (λ q. put world.obj q (owned t (type_held ls m'' r))) (sym reads_object)
       ∙ sym (ap (λ i. objects_behind ls t i m m'' world.obj) is)
 

@@ -28,7 +28,7 @@ use Rattle.sharc_code.specs.Whole.{one_thread, bounds}
 use Rattle.sharc_code.proofs.Places.{put_same, put_other, put_all}
 use Rattle.sharc_invariant.specs.Granules.{GranuleState, Bits, Passed, sum_to}
 use Rattle.sharc_invariant.specs.Types.{Targets, ObjectType, field_in, is_mutex, type_at, type_of, cells_of}
-use Rattle.sharc_invariant.specs.Labels.{Label, Labels, Refers, fill}
+use Rattle.sharc_invariant.specs.Labels.{Label, Labels, Refers, fill, Unknown, LessEntry}
 use Rattle.sharc_invariant.specs.Typed.{Fine, IsWellTyped, refs_in, ints_in}
 use Rattle.sharc_invariant.specs.World.{In, RegisterOf, Cell as CellOf, TypedReference, ObjectState, World, Shut, WorldInvariant, in_ref, make, null, place, put2}
 use Rattle.sharc_invariant.specs.Blocks.{Heap, Kept, Built, Live, InBlock, IsListed, restated}
@@ -536,11 +536,17 @@ module _ (x : Targets) (code : Code) (s : Shape) (ls : Labels) (wt : IsWellTyped
         MakesOf k b ty G (ap (λ i. changes_objects i m) is ∙ ap makes_object at_v ∙ ap is_length at_b) gone empty_r refl,
       )
 
+  type_told : (ls.at ((g.threads tr.thread).at.pc + 1)).env r ≢ Unknown
+  type_told e =
+      let k' = fill here r (Refers f.2.0) r true in
+      let a : k'.env r ≡ Unknown = subst (LessEntry k' r (k'.env r)) e (leads.env r) in
+      let z : Refers f.2.0 ≡ Unknown = sym (put_same here.env r (Refers f.2.0)) ∙ a in cc
+
   made_objects : makes_turned.0.obj ≡ objects_now code s ls g tr world.obj
   unfolding makes_turned
   made_objects =
       let m'' = (after_turn bounds (one_thread code s) g tr).threads t in
-      let held = owned_is x code s ls g tr may.started w' makes_turned.1 m' words done.0 refl refl r b ty (place_same world.slots (In (RegisterOf t k)) (record { ty = ty; reference = b })) low_b.0 f.2.7 in
+      let held = owned_is x code s ls g tr may.started w' makes_turned.1 m' words done.0 refl refl r b ty (place_same world.slots (In (RegisterOf t k)) (record { ty = ty; reference = b })) low_b.0 type_told in
       ap (λ T. put world.obj b (owned t T)) held ∙ sym (ap (λ y. new_behind ls t r m'' y world.obj) at_b) ∙ sym (ap (λ y. made_behind ls t r m'' y world.obj) at_v) ∙ sym (ap (λ i. objects_behind ls t i m m'' world.obj) is)
 
   pub new_makes : (k : Turned x code s ls g world tr) × (k.0.obj ≡ objects_now code s ls g tr world.obj)

@@ -379,7 +379,7 @@ module _ (code : Code) (is : IsSample code) where
   p6 = w 6 (gated w5 (Checked true (cells.Object 1 2))) (Store 0 (cells.Object 1 2) 1) refl (f_dynamic, Int, record { cell = (has_cell (gated w5 (Checked true (cells.Object 1 2))) 2 f_dynamic refl refl refl (omega arith) refl); may = Directly true refl tt; apart = tt; mode = is.sites.0 }, refl, refl, less_refl (gated (gated w5 (Checked true (cells.Object 1 2))) Closed)) s6
 
   p7 : Right 7 (gated (gated w5 (Checked true (cells.Object 1 2))) Closed) (Lower 1)
-  p7 = w 7 (gated (gated w5 (Checked true (cells.Object 1 2))) Closed) (Lower 1) refl (refl, (let b = refs_w in omega arith), free_by (gated (gated w5 (Checked true (cells.Object 1 2))) Closed) 1 k3, less_refl w8) s7
+  p7 = w 7 (gated (gated w5 (Checked true (cells.Object 1 2))) Closed) (Lower 1) refl (refl, (let b = refs_w in omega arith), inl (free_by (gated (gated w5 (Checked true (cells.Object 1 2))) Closed) 1 k3, less_refl w8)) s7
 
   p8 : Right 8 w8 (Raise 1 0)
   p8 = w 8 w8 (Raise 1 0) refl (refl, vacant w8 1 (sym refs_w) (omega arith) refl, (let b = refs_w in omega arith), less_refl (raised w8 1 0)) s8
@@ -412,7 +412,7 @@ module _ (code : Code) (is : IsSample code) where
   p17 = w 17 w17 (Store 0 (cells.Object 1 1) 2) refl (f_locked, Int, record { cell = (has_cell w17 1 f_locked refl refl refl (omega arith) refl); may = (cells.Object 1 0, f_mutex, refl, (has_cell w17 0 f_mutex refl refl refl (omega arith) refl), refl, (Itself refl, omega arith, omega arith)); apart = tt; mode = (is.sites.1, tt) }, refl, refl, less_refl (gated w17 Closed)) s17
 
   p18 : Right 18 (gated w17 Closed) (Lower 1)
-  p18 = w 18 (gated w17 Closed) (Lower 1) refl (refl, (let b = refs_w in omega arith), free_by (gated w17 Closed) 1 k14, less_refl w19) s18
+  p18 = w 18 (gated w17 Closed) (Lower 1) refl (refl, (let b = refs_w in omega arith), inl (free_by (gated w17 Closed) 1 k14, less_refl w19)) s18
 
   p19 : Right 19 w19 (Raise 1 0)
   p19 = w 19 w19 (Raise 1 0) refl (refl, vacant w19 1 (sym refs_w) (omega arith) refl, (let b = refs_w in omega arith), less_refl (raised w19 1 0)) s19
@@ -427,13 +427,13 @@ module _ (code : Code) (is : IsSample code) where
   p22 = w 22 w22 (Unlock 2 (cells.Object 1 0) 0) refl (refl, vacant w22 2 (sym refs_w) (omega arith) refl, (f_mutex, (has_cell w22 0 f_mutex refl refl refl (omega arith) refl), refl), less_refl w23) s22
 
   p23 : Right 23 w23 (Lower 2)
-  p23 = w 23 w23 (Lower 2) refl (refl, (let b = refs_w in omega arith), free_by w23 2 k23, less_refl w24) s23
+  p23 = w 23 w23 (Lower 2) refl (refl, (let b = refs_w in omega arith), inl (free_by w23 2 k23, less_refl w24)) s23
 
   p24 : Right 24 w24 (Lower 1)
-  p24 = w 24 w24 (Lower 1) refl (refl, (let b = refs_w in omega arith), free_by w24 1 k24, less_refl w25) s24
+  p24 = w 24 w24 (Lower 1) refl (refl, (let b = refs_w in omega arith), inl (free_by w24 1 k24, less_refl w25)) s24
 
   p25 : Right 25 w25 (Lower 0)
-  p25 = w 25 w25 (Lower 0) refl (refl, (let b = refs_w in omega arith), free_by w25 0 k25, less_refl w26) s25
+  p25 = w 25 w25 (Lower 0) refl (refl, (let b = refs_w in omega arith), inl (free_by w25 0 k25, less_refl w26)) s25
 
   p26 : Right 26 w26 (Return 0)
   p26 = w 26 w26 (Return 0) refl (refl, (1, refl, record { result = refl; result_int = tt; empty = gone26 })) s26
@@ -442,7 +442,7 @@ module _ (code : Code) (is : IsSample code) where
   p27 = m 27 m27 (Constant 0 (pos 1)) refl (refl, (let b = ints_m in omega arith), less_refl m28) s27
 
   p28 : Right 28 m28 (New 2 0 3 0)
-  p28 = m 28 m28 (New 2 0 3 0) refl (refl, vacant m28 2 (sym refs_m) (omega arith) refl, (the_private, (λ e. omega arith), omega arith, refl, omega arith, (λ h. h), less_refl m29, (λ e. cc))) s28
+  p28 = m 28 m28 (New 2 0 3 0) refl (refl, vacant m28 2 (sym refs_m) (omega arith) refl, (the_private, (λ e. omega arith), omega arith, refl, omega arith, (λ h. h), less_refl m29)) s28
 
   p29 : Right 29 m29 (MoveReference 0 2)
   p29 = m 29 m29 (MoveReference 0 2) refl (refl, inr (vacant m29 0 (sym refs_m) (omega arith) refl, (let b = refs_m in omega arith), (λ e. omega arith), free_by m29 2 k29, (λ h. h), less_refl m30)) s29
@@ -460,7 +460,7 @@ module _ (code : Code) (is : IsSample code) where
   p33 = m 33 m33 (Clear 2 3) refl (refl, (λ p h e. absurd h), (the_private, refl, refl, less_refl m34)) s33
 
   p34 : Right 34 m34 (Give 2 0)
-  p34 = m 34 m34 (Give 2 0) refl (refl, free_by m34 2 k31, (the_private, the_dynamic, refl, record { some = λ e. omega arith; is_row = omega arith; cells = refl; same = recast_same }, (λ h. h), given_less, (λ e. cc))) s34
+  p34 = m 34 m34 (Give 2 0) refl (refl, free_by m34 2 k31, (the_private, the_dynamic, refl, record { some = λ e. omega arith; is_row = omega arith; cells = refl; same = recast_same }, (λ h. h), given_less)) s34
 
   p35 : Right 35 m35 (MoveReference 1 2)
   p35 = m 35 m35 (MoveReference 1 2) refl (refl, inr (vacant m35 1 (sym refs_m) (omega arith) refl, (let b = refs_m in omega arith), (λ e. omega arith), free_by m35 2 k35, (λ h. h), less_refl m36)) s35
@@ -472,10 +472,10 @@ module _ (code : Code) (is : IsSample code) where
   p37 = m 37 m37 (Spawn 1 1 (registers.Reference 2) 0) refl (refl, (let b = ints_m in omega arith), (let b = is.number in omega arith), refl, refl, (is.parameters.1, (let b = refs_m in omega arith), free_by m37 2 k37, (λ q h. h), (refl, tt), refl), less_refl m38) s37
 
   p38 : Right 38 m38 (Lower 1)
-  p38 = m 38 m38 (Lower 1) refl (refl, (let b = refs_m in omega arith), free_by m38 1 k38, less_refl m39) s38
+  p38 = m 38 m38 (Lower 1) refl (refl, (let b = refs_m in omega arith), inl (free_by m38 1 k38, less_refl m39)) s38
 
   p39 : Right 39 m39 (Lower 0)
-  p39 = m 39 m39 (Lower 0) refl (refl, (let b = refs_m in omega arith), free_by m39 0 k39, less_refl m40) s39
+  p39 = m 39 m39 (Lower 0) refl (refl, (let b = refs_m in omega arith), inl (free_by m39 0 k39, less_refl m40)) s39
 
   p40 : Right 40 m40 (Constant 0 (pos 0))
   p40 = m 40 m40 (Constant 0 (pos 0)) refl (refl, (let b = ints_m in omega arith), less_refl m41) s40

@@ -23,7 +23,7 @@ all_same_refl l r (x ∷ xs) = (same_lock_refl l r x, all_same_refl l r xs)
 
 pub less_entry_refl : (l : Label) (r : ℕ) (e : Entry) → LessEntry l r e e
 less_entry_refl l r Empty = refl
-less_entry_refl l r Unknown = tt
+less_entry_refl l r Unknown = refl
 less_entry_refl l r (Refers s) = record { target = refl; locks = all_same_refl l r s.locks }
 
 narrower_refl : (w : Width) → Narrower w w

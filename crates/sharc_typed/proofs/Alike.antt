@@ -10,7 +10,7 @@ use Rattle.sharc_invariant.specs.Types.Lock.{Global, Through, Self}
 use Rattle.sharc_invariant.specs.Types.FieldLock.{OfType, OfGlobals, OfElement}
 use Rattle.sharc_invariant.specs.Types.FieldMode.{Private, Readonly, Racy, Dynamic, Under, Behind}
 use Rattle.sharc_invariant.specs.Types.Content.{Integer, MutexWord, Waiters, Pointer}
-use Rattle.sharc_invariant.specs.Labels.{Entry, Empty, Refers, Unknown, Gate, Pass, Label, SameReference, Itself, IsCopy, HasCopy, Copies, SameLock, AllSame, LessEntry}
+use Rattle.sharc_invariant.specs.Labels.{Entry, Empty, Refers, Unknown, Gate, Pass, Label, SameReference, Itself, IsCopy, HasCopy, Copies, Chained, SameLock, AllSame, LessEntry}
 use Rattle.sharc_invariant.specs.Typed.{HasField, HasBase, HasCell, IsSibling, IsLockCell, IsTypeLock, IsMutexOf, IsLockMode, IsTypeMode, HasBefore, IsMode, IsFieldLock, IsAnyLock, AreFieldLocks, PointsTo, IsSameFieldLock, IsSameContent, Recasts, IsPlace, no_lock}
 
 pub all_same : {A B : Type 0} (R S : A → B → Type 0) (each : (a : A) (b : B) → R a b → S a b) (xs : List A) (ys : List B) → AllSame R xs ys → AllSame S xs ys
@@ -27,6 +27,7 @@ module _ (l : Label) (known : ℕ → Bool) (gate : Gate) (passed : List Pass) w
   same_reference p q (IsCopy e) = IsCopy e
   same_reference p q (HasCopy e) = HasCopy e
   same_reference p q (Copies e) = Copies e
+  same_reference p q (Chained c h k) = Chained c (same_reference p c h) (same_reference c q k)
 
   pub has_field : (x : Targets) (code : Code) (c : Cell) (f : Field) → HasField x code l c f → HasField x code b c f
   has_field x code (cells.Global g p) f h = h
@@ -102,7 +103,7 @@ module _ (l : Label) (known : ℕ → Bool) (gate : Gate) (passed : List Pass) w
 
   pub less_entry : (r : ℕ) (e f : Entry) → LessEntry l r e f → LessEntry b r e f
   less_entry r e Empty h = h
-  less_entry r e Unknown h = tt
+  less_entry r e Unknown h = h
   less_entry r Unknown (Refers t) h = absurd h
   less_entry r Empty (Refers t) h = h
   less_entry r (Refers s) (Refers t) h = record { target = h.target; locks = all_same (SameLock l r) (SameLock b r) (same_lock r) s.locks t.locks h.locks }

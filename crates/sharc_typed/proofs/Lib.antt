@@ -4,3 +4,5 @@ pub mod Pieces
 pub mod Scoping
 pub mod Placing
 pub mod Whole
+pub mod Preorder
+pub mod Weaker

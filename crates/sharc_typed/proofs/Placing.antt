@@ -23,7 +23,10 @@ use Rattle.sharc_invariant.specs.Typed.{Fine, Calls, Accesses, MayAccess, ints_i
 use Rattle.sharc_typed.specs.Steps.{all_at, Steps, Chain, first_or}
 use Rattle.sharc_typed.specs.Inside.{FlatLabels, outside, inside, before_check, known_behind, gate_behind, passed_behind, labels_from}
 use Rattle.sharc_typed.specs.Lines.{TypedLine, To}
+use Rattle.sharc_invariant.proofs.Scoped.{less_refl}
 use Rattle.sharc_typed.proofs.Pieces.{pieces}
+use Rattle.sharc_typed.proofs.Preorder.{less_through}
+use Rattle.sharc_typed.proofs.Weaker.{steps}
 use Rattle.sharc_typed.proofs.Scoping.{scoped}
 
 -- ---- one statement at its place
@@ -109,16 +112,19 @@ begins_checked x l false write c spot (modes.LockedSibling f m) labels rest = re
 begins_checked x l false write c spot (modes.LockedThrough r p) labels rest = refl
 begins_checked x l false write c spot modes.LockedLoaded labels rest = refl
 
+same_less : (l k : Label) → k ≡ l → Less l k
+same_less l k e = subst (Less l) (sym e) (less_refl l)
+
 inside_begins : (x : Targets) (code : Code) (ls : Labels) (lines : ℕ) (dropped : Bool) (type : StaticType) (n : ℕ) (l k : Label) (o : Op) (rest : List Label)
-    → TypedLine x code ls lines dropped type n l k o → slice_index_or rest 0 outside ≡ k → slice_index_or (inside x dropped type o l ++ rest) 0 outside ≡ l
-inside_begins x code ls lines dropped type n l k op.Enter rest h e = e ∙ sym h
-inside_begins x code ls lines dropped type n l k op.BlockEnd rest h e = e ∙ sym h
-inside_begins x code ls lines dropped type n l k (op.Load i c spot) rest h e = begins_checked x l dropped false c spot spot.mode [] rest
-inside_begins x code ls lines dropped type n l k (op.Store i c spot) rest h e = begins_checked x l dropped true c spot spot.mode [] rest
-inside_begins x code ls lines dropped type n l k (op.LoadRef r c spot) rest h e = begins_checked x l false false c spot spot.mode _ rest
-inside_begins x code ls lines dropped type n l k (op.StoreRef r c spot) rest h e = begins_checked x l false true c spot spot.mode _ rest
-inside_begins x code ls lines dropped type n l k (op.TakeCell r c spot) rest h e = begins_checked x l false true c spot spot.mode [] rest
-inside_begins x code ls lines dropped type n l k o rest h e = refl
+    → TypedLine x code ls lines dropped type n l k o → Less k (slice_index_or rest 0 outside) → Less l (slice_index_or (inside x dropped type o l ++ rest) 0 outside)
+inside_begins x code ls lines dropped type n l k op.Enter rest h e = less_through l k (slice_index_or rest 0 outside) h e
+inside_begins x code ls lines dropped type n l k op.BlockEnd rest h e = less_through l k (slice_index_or rest 0 outside) h e
+inside_begins x code ls lines dropped type n l k (op.Load i c spot) rest h e = same_less l _ (begins_checked x l dropped false c spot spot.mode [] rest)
+inside_begins x code ls lines dropped type n l k (op.Store i c spot) rest h e = same_less l _ (begins_checked x l dropped true c spot spot.mode [] rest)
+inside_begins x code ls lines dropped type n l k (op.LoadRef r c spot) rest h e = same_less l _ (begins_checked x l false false c spot spot.mode _ rest)
+inside_begins x code ls lines dropped type n l k (op.StoreRef r c spot) rest h e = same_less l _ (begins_checked x l false true c spot spot.mode _ rest)
+inside_begins x code ls lines dropped type n l k (op.TakeCell r c spot) rest h e = same_less l _ (begins_checked x l false true c spot spot.mode [] rest)
+inside_begins x code ls lines dropped type n l k o rest h e = less_refl l
 
 -- ---- of one function throughout
 check_function : (l : Label) (dropped : Bool) (mode : PlaceMode) (labels : List Label) → AllByRecursion (λ (m : Label). m.function ≡ l.function) labels
@@ -189,17 +195,17 @@ module _ (x : Targets) (code : Code) (ls : Labels) (at : ℕ → Label) where
       let e : pc + 1 + length labels + j ≡ pc + length (l ∷ labels) + j = omega arith in
       sym (ap at e) ∙ behind_there (pc + 1) labels rest (next_there pc l (labels ++ rest) h) j
 
-  first_there : (labels rest : List Label) (k : Label) → slice_index_or rest 0 outside ≡ k → slice_index_or (labels ++ rest) 0 outside ≡ first_or k labels
+  first_there : (labels rest : List Label) (k : Label) → Less k (slice_index_or rest 0 outside) → Less (first_or k labels) (slice_index_or (labels ++ rest) 0 outside)
   first_there [] rest k e = e
-  first_there (l ∷ labels) rest k e = refl
+  first_there (l ∷ labels) rest k e = less_refl l
 
-  chain_fine : (pc : ℕ) (labels : List Label) (is : List Instr) (rest : List Label) (k : Label) → Chain x code ls labels is k → There pc (labels ++ rest) → slice_index_or rest 0 outside ≡ k → FineList pc labels is
+  chain_fine : (pc : ℕ) (labels : List Label) (is : List Instr) (rest : List Label) (k : Label) → Chain x code ls labels is k → There pc (labels ++ rest) → Less k (slice_index_or rest 0 outside) → FineList pc labels is
   chain_fine pc [] [] rest k c h e = tt
   chain_fine pc (l ∷ labels) (i ∷ is) rest k c h e =
       let t = next_there pc l (labels ++ rest) h in
       let z : pc + 1 + 0 ≡ pc + 1 = omega arith in
-      let next : at (pc + 1) ≡ first_or k labels = sym (ap at z) ∙ t 0 ∙ first_there labels rest k e in
-      (at_place x code ls at pc l i (subst (λ m. Steps x code ls l m i) (sym next) c.0), chain_fine (pc + 1) labels is rest k c.1 t e)
+      let next : Less (first_or k labels) (at (pc + 1)) = subst (Less (first_or k labels)) (sym (sym (ap at z) ∙ t 0)) (first_there labels rest k e) in
+      (at_place x code ls at pc l i (steps x code ls (first_or k labels) (at (pc + 1)) next l i c.0), chain_fine (pc + 1) labels is rest k c.1 t e)
   chain_fine pc [] (i ∷ is) rest k c h e = absurd c
   chain_fine pc (l ∷ labels) [] rest k c h e = absurd c
 
@@ -246,21 +252,23 @@ module _ (x : Targets) (code : Code) (dropped : ℕ → Bool) (fl : FlatLabels) 
   abbrev from : ℕ → List Op → List Label
   from = labels_from x dropped fl
 
-  head_label : (k : ℕ) (os : List Op) → AllStand k os → slice_index_or (from k os) 0 outside ≡ fl.lines.at k
-  head_label k [] a = sym a
+  head_label : (k : ℕ) (os : List Op) → AllStand k os → Less (fl.lines.at k) (slice_index_or (from k os) 0 outside)
+  head_label k [] a = same_less (fl.lines.at k) outside (sym a)
   head_label k (o ∷ os) a = inside_begins x code fl.lines lines (dropped k) (fl.replaced k) k (fl.lines.at k) (fl.lines.at (k + 1)) o (from (k + 1) os) a.0.typed (head_label (k + 1) os a.1)
 
-  -- the label of a line is that of its place
-  label_there : (k : ℕ) (os : List Op) (t : ℕ) → AllStand k os → t ≤ length os → slice_index_or (from k os) (offset dropped k os t) outside ≡ fl.lines.at (k + t)
-  label_there k [] zero a le = let e : k ≡ k + 0 = omega arith in sym a ∙ ap fl.lines.at e
+  -- the label of the place of a line says no more than that of the line
+  label_there : (k : ℕ) (os : List Op) (t : ℕ) → AllStand k os → t ≤ length os → Less (fl.lines.at (k + t)) (slice_index_or (from k os) (offset dropped k os t) outside)
+  label_there k [] zero a le = let e : k + 0 ≡ k = omega arith in same_less (fl.lines.at (k + 0)) outside (sym (ap fl.lines.at e ∙ a))
   label_there k [] (suc t) a le = absurd (omega arith)
-  label_there k (o ∷ os) zero a le = let e : k ≡ k + 0 = omega arith in head_label k (o ∷ os) a ∙ ap fl.lines.at e
+  label_there k (o ∷ os) zero a le = let e : k ≡ k + 0 = omega arith in subst (λ n. Less (fl.lines.at n) (slice_index_or (from k (o ∷ os)) 0 outside)) e (head_label k (o ∷ os) a)
   label_there k (o ∷ os) (suc t) a le =
       let e : k + 1 + t ≡ k + suc t = omega arith in
       let few : t ≤ length os = omega arith in
       let piece = inside x (dropped k) (fl.replaced k) o (fl.lines.at k) in
+      let same : slice_index_or (from k (o ∷ os)) (width (dropped k) k o + offset dropped (k + 1) os t) outside ≡ slice_index_or (from (k + 1) os) (offset dropped (k + 1) os t) outside =
       ap (λ w. slice_index_or (piece ++ from (k + 1) os) (w + offset dropped (k + 1) os t) outside) (sym (inside_length x (dropped k) (fl.replaced k) k o (fl.lines.at k)))
-      ∙ get_or-append-add piece (from (k + 1) os) (offset dropped (k + 1) os t) outside ∙ label_there (k + 1) os t a.1 few ∙ ap fl.lines.at e
+      ∙ get_or-append-add piece (from (k + 1) os) (offset dropped (k + 1) os t) outside in
+      subst (Less (fl.lines.at (k + suc t))) (sym same) (subst (λ n. Less (fl.lines.at n) (slice_index_or (from (k + 1) os) (offset dropped (k + 1) os t) outside)) e (label_there (k + 1) os t a.1 few))
 
   pub all_places : (k : ℕ) (os : List Op) → AllStand k os → AllByRecursion (IsPlaced code) (from k os)
   all_places k [] a = tt
@@ -278,34 +286,34 @@ module _ (x : Targets) (code : Code) (dropped : ℕ → Bool) (fl : FlatLabels) 
     pl = place dropped all
 
     -- a jump leads where it is to lead
-    leads_to : (t : ℕ) → t ≤ lines → at (pl t) ≡ fl.lines.at t
+    leads_to : (t : ℕ) → t ≤ lines → Less (fl.lines.at t) (at (pl t))
     leads_to t le =
         let e : 2 + offset dropped 0 all t ≡ suc (suc (offset dropped 0 all t)) = omega arith in
         let f : 0 + t ≡ t = omega arith in
         let few : t ≤ length all = subst (λ n. t ≤ n) (sym is) le in
-        ap at e ∙ label_there 0 all t stands few ∙ ap fl.lines.at f
+        subst (Less (fl.lines.at t)) (sym (ap at e)) (subst (λ n. Less (fl.lines.at n) (slice_index_or (from 0 all) (offset dropped 0 all t) outside)) f (label_there 0 all t stands few))
 
     pub goes_to : (t : ℕ) (l : Label) → To fl.lines lines t l → Less l (at (pl t))
-    goes_to t l h = subst (Less l) (sym (leads_to t h.0)) h.1
+    goes_to t l h = less_through l (fl.lines.at t) (at (pl t)) h.1 (leads_to t h.0)
 
     abbrev Fines : ℕ → List Label → List Instr → Type 0
     Fines = FineList x code fl.lines at
 
     -- the piece of a line, where the labels behind it are these
-    piece_fine : (pc k : ℕ) (o : Op) (rest : List Label) → Stands k o → There x code fl.lines at pc (inside x (dropped k) (fl.replaced k) o (fl.lines.at k) ++ rest) → slice_index_or rest 0 outside ≡ fl.lines.at (k + 1)
+    piece_fine : (pc k : ℕ) (o : Op) (rest : List Label) → Stands k o → There x code fl.lines at pc (inside x (dropped k) (fl.replaced k) o (fl.lines.at k) ++ rest) → Less (fl.lines.at (k + 1)) (slice_index_or rest 0 outside)
         → Fines pc (inside x (dropped k) (fl.replaced k) o (fl.lines.at k)) (map (instr_of code.functions.items) (expand pl (dropped k) k o))
     piece_fine pc k (op.Skip over) rest s there next = ((s.typed.0, goes_to (k + 1 + over) (fl.lines.at k) s.typed.1), tt)
     piece_fine pc k (op.SkipIfZero i over) rest s there next =
-        let e : at (pc + 1) ≡ fl.lines.at (k + 1) = there 1 ∙ next in
-        ((s.typed.0, goes_to (k + 1 + over) (fl.lines.at k) s.typed.1, subst (Less (fl.lines.at k)) (sym e) s.typed.2), tt)
+        let e : Less (fl.lines.at (k + 1)) (at (pc + 1)) = subst (Less (fl.lines.at (k + 1))) (sym (there 1)) next in
+        ((s.typed.0, goes_to (k + 1 + over) (fl.lines.at k) s.typed.1, less_through (fl.lines.at k) (fl.lines.at (k + 1)) (at (pc + 1)) s.typed.2 e), tt)
     piece_fine pc k (op.SkipIfNull r over) rest s there next =
-        let e : at (pc + 1) ≡ fl.lines.at (k + 1) = there 1 ∙ next in
+        let e : Less (fl.lines.at (k + 1)) (at (pc + 1)) = subst (Less (fl.lines.at (k + 1))) (sym (there 1)) next in
         let l = fl.lines.at k in (
           (
             s.typed.0,
             ⊎_elim (λ (h : To fl.lines lines (k + 1 + over) l). inl (goes_to (k + 1 + over) l h))
                 (λ (h : IsFree l r × To fl.lines lines (k + 1 + over) (empty l r)). inr (h.0, goes_to (k + 1 + over) (empty l r) h.1)) s.typed.1,
-            subst (Less (knows l r)) (sym e) s.typed.2,
+            less_through (knows l r) (fl.lines.at (k + 1)) (at (pc + 1)) s.typed.2 e,
           ),
           tt,
         )
