@@ -38,7 +38,7 @@ use Rattle.sharc_guard.specs.Guard.{entered_at, guarded, place}
 use Rattle.sharc_guard.specs.Level.{IsLevel}
 use Rattle.sharc_guard.specs.Logged.{LogsAreHeld}
 use Rattle.sharc_compile.specs.Held.{IsAccountedFor, HoldsBy, HoldsWhatIsCounted}
-use Rattle.sharc_compile.specs.Refused.{IsRefused, IsReport, WantsRefused, site_of}
+use Rattle.sharc_compile.specs.Refused.{IsRefused, IsReport, site_of}
 use Rattle.sharc_compile.proofs.Joined.{sites_are}
 use Rattle.sharc_compile.proofs.Sourced.{IsQuiet, line_quiet, same_given, beyond}
 
