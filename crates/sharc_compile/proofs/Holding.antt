@@ -1,35 +1,45 @@
 -- From the registers of code to what the program holds.
-use Rattle.std.proofs.Common.{◌≡◌, ◌≢◌, ℕ, zero, suc, ℤ, pos, ◌+◌, ◌^◌, ◌<◌, ◌⊎◌, inl, inr, ⊎_elim, Bool, List, [], ◌∷◌, ◌++◌, length, map, refl, sym, ap, ◌∙◌, subst, arith, get_or, slice_get, append_assoc, append-nil}
-use Rattle.std.specs.Prelude.{slice_index, slice_index_or}
+use Rattle.std.proofs.Common.{◌≡◌, ◌≢◌, ℕ, zero, suc, ℤ, pos, ◌+◌, ◌^◌, ◌<◌, ◌⊎◌, inl, inr, ⊎_elim, Bool, List, [], ◌∷◌, ◌++◌, length, map, refl, sym, ap, ◌∙◌, Some, subst, arith, get_or, slice_get, append_assoc, append-nil}
+use Rattle.std.specs.Prelude.{IsSomeAnd, slice_index, slice_index_or}
 use Rattle.std.proofs.lemmas.List.{length-map}
+use Rattle.sharc_tree.specs.declared.event.Act.{Act}
 use Rattle.sharc_tree.specs.declared.event.CellAt.{CellAt}
 use Rattle.sharc_tree.specs.declared.event.SourceEvent.{SourceEvent}
 use Rattle.sharc_mode.specs.Moded.{Assignment}
 use Rattle.sharc_meaning.specs.declared.given.GivenUp.{GivenUp}
 use Rattle.sharc_meaning.specs.declared.given.GivenUp.TheVariants.{Emptied, Released, Replaced}
+use Rattle.sharc_meaning.specs.Events.{held_mutexes}
 use Rattle.sharc_meaning.specs.Meaning as Meaning
+use Rattle.sharc_meaning.specs.State.{wants, event_of}
 use Rattle.sharc_meaning.specs.Reference.{number_of}
 use Rattle.sharc_code.specs.declared.code.Code.{Code}
 use Rattle.sharc_code.specs.declared.instr.Instr.{Instr}
 use Rattle.sharc_code.specs.declared.instr.Instr.TheVariants.{Exit}
 use Rattle.sharc_code.specs.declared.shape.Shape.{Shape}
+use Rattle.sharc_code.specs.declared.state.Stop.TheVariants.{Conflict, NoLock, NotSole, Trap}
+use Rattle.sharc_code.specs.declared.state.Stop.{Stop}
+use Rattle.sharc_code.specs.declared.state.State.TheVariants.{Runs, Stopped}
 use Rattle.sharc_code.specs.Machine.{Machine, instr_at}
-use Rattle.sharc_code.specs.Says.{reference}
+use Rattle.sharc_code.specs.Says.{place_at, reference}
 use Rattle.sharc_flat_form.specs.Machine.{Flat, At, Came, Turn, goes, asks, halts, turn, on_turn, exec, start}
 use Rattle.sharc_flat_form.specs.Path.{at_after, asked, PathsAreRuns}
 use Rattle.sharc_flat.specs.Correct.{AsksTheSame, MayStart}
 use Rattle.sharc_guarded_form.specs.declared.guarded.Guarded.{Guarded}
-use Rattle.sharc_guarded_form.specs.Machine.{Program, Thread, statement_at}
+use Rattle.sharc_guarded_form.specs.Machine as Form
+use Rattle.sharc_guarded_form.specs.Machine.{Program, Thread, Check, Accesses, Locks, IsSole, is_held, statement_at}
 use Rattle.sharc_guarded_form.specs.Path.{started, thread_after}
 use Rattle.sharc_gen.specs.Consistent.{Elements, IsNumber}
 use Rattle.sharc_gen.specs.Correct.{by, begins, HasCome}
 use Rattle.sharc_gen.specs.Generated.{IsGenerated, instr_of, program_of}
-use Rattle.sharc_gen.specs.Related.{IsReference, IsAt, IsLinking}
+use Rattle.sharc_gen.specs.Related.{IsReference, IsAt, IsLinking, IsOver, StopsAt, ChecksNext}
 use Rattle.sharc_guard.specs.Correct.{Resolved}
-use Rattle.sharc_guard.specs.Counted.{AreLowered, GuardedCounts, IsReleased, IsReplaced, LocksStand, OnWay, Quietly}
+use Rattle.sharc_guard.specs.Counted.{AreLowered, GuardedCounts, IsReleased, IsOf, IsReplaced, LocksStand, OnWay, Quietly, Tells}
 use Rattle.sharc_guard.specs.Guard.{entered_at, guarded, place}
 use Rattle.sharc_guard.specs.Level.{IsLevel}
+use Rattle.sharc_guard.specs.Logged.{LogsAreHeld}
 use Rattle.sharc_compile.specs.Held.{IsAccountedFor, HoldsBy, HoldsWhatIsCounted}
+use Rattle.sharc_compile.specs.Refused.{IsRefused, IsReport, site_of}
+use Rattle.sharc_compile.proofs.Joined.{sites_are}
 use Rattle.sharc_compile.proofs.Sourced.{IsQuiet, line_quiet, same_given, beyond}
 
 -- ---- what flat code does without an answer
@@ -95,7 +105,7 @@ mapped_at f [] n e = sym e
 mapped_at f (x ∷ xs) zero e = refl
 mapped_at f (x ∷ xs) (suc n) e = mapped_at f xs n e
 
-module _ (runs : PathsAreRuns) (counts : GuardedCounts) (m : Assignment) (flat : Flat) (same : AsksTheSame m flat) (level : IsLevel flat) (locks : LocksStand flat) (dropped : ℕ → Bool) (g : Guarded) (code : Code)
+module _ (runs : PathsAreRuns) (counts : GuardedCounts) (logs : LogsAreHeld) (m : Assignment) (flat : Flat) (same : AsksTheSame m flat) (level : IsLevel flat) (locks : LocksStand flat) (dropped : ℕ → Bool) (g : Guarded) (code : Code)
     (made : program_of g ≡ guarded dropped flat) (is : IsGenerated g code) (s : Shape) (T : Elements) (thread : ℕ) (at : Machine) (said : List SourceEvent) (lowered : List ℕ) (paced : ℕ)
     (h0 : HasCome code s (program_of g) T thread at said lowered paced) where
   abbrev p : Program
@@ -149,6 +159,29 @@ module _ (runs : PathsAreRuns) (counts : GuardedCounts) (m : Assignment) (flat :
           })))
           o.stays
 
+  -- ---- why it was refused
+  -- flat code wants what is checked
+  checked_wants : (k n : ℕ) (m2 : At) (check : Check) (b : Thread) (t : Turn) → turn flat m2 ≡ t → Tells p (Form.Checks check n b) t
+      → (act : Act) × ((exec flat (suc k) [] m2).outcome ≡ wants (event_of (place_at code n).site act (pos 0))) × IsOf check act
+  checked_wants k n m2 check b (goes m3) e h = absurd h
+  checked_wants k n m2 check b (asks m3 site act held go) e h =
+      (act, ap (λ t. (on_turn t [] m2 (exec flat k)).outcome) e ∙ ap (λ s. wants (event_of s act (pos 0))) (sym (sites_are g code p is made n ∙ h.0)), h.1)
+  checked_wants k n m2 check b (halts o) e h = absurd h
+
+  refused_by : (k : ℕ) (m2 : At) (a : Thread) → Tells p (Form.turn p a) (turn flat m2) → a.held ≡ held_mutexes a.events → IsOver p a at.at.state at.own.stop
+      → at.at.state ≡ Stopped → (stop : Stop) → at.own.stop ≡ Some stop → IsReport stop
+      → (act : Act) × ((exec flat (suc k) [] m2).outcome ≡ wants (event_of (place_at code (site_of stop)).site act (pos 0))) × IsRefused stop act a.events
+  refused_by k m2 a tells log over stopped stop e report = by stop report (subst (λ q. IsSomeAnd q (StopsAt p a)) e (subst (λ st. IsOver p a st at.own.stop) stopped over))
+    where
+      wanted : (check : Check) (n : ℕ) → ChecksNext p a check n → (act : Act) × ((exec flat (suc k) [] m2).outcome ≡ wants (event_of (place_at code n).site act (pos 0))) × IsOf check act
+      wanted check n c = checked_wants k n m2 check c.next (turn flat m2) refl (subst (λ t. Tells p t (turn flat m2)) c.checks tells)
+
+      by : (stop : Stop) → IsReport stop → StopsAt p a stop → (act : Act) × ((exec flat (suc k) [] m2).outcome ≡ wants (event_of (place_at code (site_of stop)).site act (pos 0))) × IsRefused stop act a.events
+      by (Conflict c) r h = let w = wanted (Accesses c.kind h.0) c.site h.1 in (w.0, w.1, (h.0, w.2))
+      by (NoLock n mutex) r h = let w = wanted (Locks h.0) n h.1 in (w.0, w.1, (h.0, w.2, sym (ap (λ log. is_held log h.0) log) ∙ h.2))
+      by (NotSole n count) r h = let w = wanted (IsSole h.0) n h.1 in (w.0, w.1, (h.0, w.2))
+      by (Trap code n) r h = absurd r
+
   -- a guarded path beside one of flat code
   abbrev answers_beside : List ℤ
   answers_beside = (counts dropped flat level locks h.function h.argument known h.answers h.path).flat_answers
@@ -167,6 +200,7 @@ module _ (runs : PathsAreRuns) (counts : GuardedCounts) (m : Assignment) (flat :
       let x = Meaning.asks m h.function h.argument (asked flat st c.flat_answers) b.fuel in
       let held : (j : ℕ) → last.refs j ≡ get_or x.held j (pos 0) = λ j. ap (λ (n : At). n.refs j) final ∙ b.same.held j in
       let given : x.given_up ≡ w.mid.given ++ w.extra = sym b.same.given_up ∙ ap (λ (n : At). n.given) (sym final) ∙ w.given in
+      let outcome : (exec flat (suc f.more) [] m2).outcome ≡ x.outcome = ap (λ (c : Came). c.outcome) (sym f.is) ∙ b.same.outcome in
       let told : a.events ≡ x.events = c.stands.events ∙ sym w.events ∙ sym w.same_events ∙ ap (λ (n : At). n.events) final ∙ b.same.events in
       record {
         fuel = b.fuel;
@@ -176,6 +210,12 @@ module _ (runs : PathsAreRuns) (counts : GuardedCounts) (m : Assignment) (flat :
             let number = number_here a k n e (y.same.in_refs.are k) in
             accounted m2 last a x w held given h.lowers c.stands.lowered k n number (c.stands.flight k (not_null (a.refs k) n number some)) y.pc_is y.same.from_refs)
             (λ (l : IsLinking code s p T at a). absurd (free l.elements l.stage))
+            h.stands;
+        refused = λ stopped stop e report. ⊎_elim
+            (λ (y : IsAt code s p T at a).
+            let q = refused_by f.more m2 a c.stands.tells (logs p h.function h.argument h.answers) y.over stopped stop e report in
+            (q.0, sym outcome ∙ q.1, subst (IsRefused stop q.0) told q.2))
+            (λ (l : IsLinking code s p T at a). let z : Runs ≡ Stopped = sym l.state_is ∙ stopped in absurd (cc))
             h.stands;
       }
 

@@ -87,7 +87,7 @@ module _ (flat : Flat.Flat) (p : Program) (code : Code) (sites : (n : ℕ) → (
     over Ended stop h = w.ends h
 
 -- the sites of code are those of guarded code
-sites_are : (g : Guarded) (code : Code) (p : Program) → IsGenerated g code → program_of g ≡ p → (n : ℕ) → (place_at code n).site ≡ (source_at p n).site
+pub sites_are : (g : Guarded) (code : Code) (p : Program) → IsGenerated g code → program_of g ≡ p → (n : ℕ) → (place_at code n).site ≡ (source_at p n).site
 sites_are g code p h e n =
     ap (λ v. (slice_index_or v.items n no_place).site) h.sites ∙ ap (λ (p : Program). (source_at p n).site) e
 

@@ -27,6 +27,7 @@ use Rattle.sharc_guard.specs.Counted.{IsReleased, LocksStand}
 use Rattle.sharc_guard.specs.Level.{IsLevel}
 use Rattle.sharc_guarded_form.specs.Machine.{Program}
 use Rattle.sharc_compile.specs.Made.{IsCodeOf}
+use Rattle.sharc_compile.specs.Refused.{WantsRefused}
 
 -- the program holds a reference to the object of this number
 abbrev pub IsAmong : List ℤ → ℕ → Type 0
@@ -54,12 +55,13 @@ pub record IsOldValue (code : Code) (at : Machine) (given : List GivenUp) (lower
 abbrev pub IsAccountedFor : Code → Machine → List ℕ → Asked → ℕ → ℕ → Type 0
 IsAccountedFor code at lowered a k n = IsAmong a.held n ⊎ (IsGivenUpLater a.given_up lowered n ⊎ IsOldValue code at a.given_up lowered k)
 
--- At its next want, its stop or its end with this fuel the program has told the same; and each register of the thread is accounted for, but while the block of a
--- freed object is linked.
+-- At its next want, its stop or its end with this fuel the program has told the same; each register of the thread is accounted for, but while the block of a freed
+-- object is linked; and where the thread was refused by A1 to A4, the program wants what was refused.
 pub record HoldsBy (m : Assignment) (code : Code) (p : Program) (thread f : ℕ) (argument : ℤ) (answers : List ℤ) (at : Machine) (said : List SourceEvent) (lowered : List ℕ) : Type 0 where
   pub fuel : ℕ
   pub events : said ≡ by thread (begins p f argument) ∷ map (by thread) (asks m f argument answers fuel).events
   pub registers : ((elements : ℕ) → at.own.stage ≡ Links elements → ⊥) → (k n : ℕ) → slice_index at.refs k ≡ n → 0 < n → IsAccountedFor code at lowered (asks m f argument answers fuel) k n
+  pub refused : WantsRefused code at (asks m f argument answers fuel)
 
 pub record HoldsWhatIsCounted (m : Assignment) (code : Code) (p : Program) (functions thread : ℕ) (at : Machine) (said : List SourceEvent) (lowered : List ℕ) : Type 0 where
   pub function : ℕ

@@ -3,5 +3,6 @@ pub mod Coded
 pub mod Held
 pub mod Made
 pub mod Program
+pub mod Refused
 pub mod Runs
 pub mod Source

@@ -11,7 +11,7 @@ ghost use Rattle.sharc_compile.specs.Source.{CodeFollowsSource};
 use sharc_flat::laws::{made_asks_the_same, made_is_framed};
 use sharc_flat_form::laws::paths_are_runs;
 use sharc_gen::{paths_law, run_paths_law};
-use sharc_guard::{checked_law, counted_law, framed_law, guarded_law};
+use sharc_guard::{checked_law, counted_law, framed_law, guarded_law, log_law};
 
 /// The paths of code with consistent results are those of the flat code that it was made of, whichever checks are dropped: the same
 /// events, the same stops, at most five counted turns for each line.
@@ -67,12 +67,14 @@ pub fn checks_law()
 }
 
 /// What a thread of that code counts in its registers, the program holds at its next want, its stop or its end, or it gives that up on the
-/// way there, after all that the code has lowered; where the flat code overwrites no reference and names the mutexes of its locks.
+/// way there, after all that the code has lowered; and where the thread was refused by A1 to A4, the program wants what was refused: by A3 an
+/// access under a mutex that it does not hold. This is so where the flat code overwrites no reference and names the mutexes of its locks.
 pub fn held_law()
     ensures { CodeCounts }
 {
     paths_law();
     framed_law();
     counted_law();
+    log_law();
     paths_are_runs();
 }

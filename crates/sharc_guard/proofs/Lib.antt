@@ -7,6 +7,7 @@ pub mod Framing
 pub mod Gates
 pub mod Heads
 pub mod Holding
+pub mod Logging
 pub mod Making
 pub mod Marking
 pub mod Near

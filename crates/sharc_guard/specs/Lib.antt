@@ -8,6 +8,7 @@ pub mod Framed
 pub mod Guard
 pub mod Known
 pub mod Level
+pub mod Logged
 pub mod Made
 pub mod Marked
 pub mod Repeated

@@ -6,6 +6,7 @@ ghost use Rattle.sharc_guard.specs.Counted.{GuardedCounts};
 ghost use Rattle.sharc_guard.specs.Covered.{DroppedIsCovered};
 ghost use Rattle.sharc_guard.specs.Example.{HasExample};
 ghost use Rattle.sharc_guard.specs.Framed.{FramedIsGuarded};
+ghost use Rattle.sharc_guard.specs.Logged.{LogsAreHeld};
 ghost use Rattle.sharc_guard.specs.Repeated.{DropsRepeated, RepeatedCheckStands};
 ghost use Rattle.sharc_guard.specs.Tables.{TablesStay};
 ghost use Rattle.sharc_guard.specs.Untargeted.{DroppedIsNoTarget};
@@ -35,6 +36,11 @@ pub fn checked_law()
 /// loses one; and what is counted is held wherever flat code comes next, or given up on the way.
 pub fn counted_law()
     ensures { GuardedCounts }
+{}
+
+/// On each path of guarded code the log has the mutexes that the events of the path hold.
+pub fn log_law()
+    ensures { LogsAreHeld }
 {}
 
 /// Exactly those checks are dropped that repeat one of their straight piece, and that one is not dropped.

@@ -14,6 +14,6 @@ mod operations;
 
 pub use guarding::guard;
 pub use laws::{
-    checked_law, counted_law, covered_law, example_law, framed_law, guarded_law, repeated_law,
-    tables_law,
+    checked_law, counted_law, covered_law, example_law, framed_law, guarded_law, log_law,
+    repeated_law, tables_law,
 };

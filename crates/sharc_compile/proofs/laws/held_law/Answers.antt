@@ -25,5 +25,5 @@ returns c = λ m flat code asks framed level locks is s thread elements founds p
     ⊎_elim
     (λ (h : IsBeginning at said paced). inl h)
     (λ (h : HasCome code s (program_of is.g) (elements (length founds)) thread at said lowered paced).
-    inr (holds c.paths_are_runs.ensures c.counted_law.ensures m (flat_of flat) asks level locks d is.g code made is.generated s (elements (length founds)) thread at said lowered paced h))
+    inr (holds c.paths_are_runs.ensures c.counted_law.ensures c.log_law.ensures m (flat_of flat) asks level locks d is.g code made is.generated s (elements (length founds)) thread at said lowered paced h))
     (c.paths_law.ensures is.g code is.generated good s thread elements founds path consistent)
