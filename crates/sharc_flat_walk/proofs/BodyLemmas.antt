@@ -1,8 +1,8 @@
 -- The lines of statements, made one after the other.
-use Rattle.std.proofs.Common.{◌≡◌, ℕ, ◌+◌, ◌-◌, ◌<◌, ◌≤◌, Bool, List, [], ◌∷◌, ◌++◌, length, set, take, drop, Option, Some, None, refl, ap, sym, ◌∙◌, arith, append_assoc, length-append}
+use Rattle.std.proofs.Common.{◌≡◌, ℕ, ◌+◌, ◌-◌, ◌<◌, ◌≤◌, Bool, List, [], ◌∷◌, ◌++◌, length, set, Option, Some, None, refl, ap, sym, ◌∙◌, append_assoc, length-append}
 use Rattle.std.proofs.lemmas.List.{length-set}
 use Rattle.sharc_tree.specs.declared.token.Span.{Span}
-use Rattle.sharc_tree.specs.Tree.{Expression, Simple, Statement, Statements, First, Head, block, if_then_else}
+use Rattle.sharc_tree.specs.Tree.{Expression, Simple, Statement, Statements, Head, block, if_then_else}
 use Rattle.sharc_names.specs.declared.kind.Kind.{Kind as RustKind}
 use Rattle.sharc_flat_form.specs.declared.op.Op.{Op}
 use Rattle.sharc_flat_form.specs.declared.op.Op.TheVariants.{BlockEnd, Enter, Return, Skip, SkipIfZero}
@@ -17,7 +17,7 @@ use Rattle.sharc_flat.specs.Flattened.{Around, refs_of, expression_code, return_
 use Rattle.sharc_flat_walk.specs.declared.bodies.Around.{Around as RustAround}
 use Rattle.sharc_flat_walk.specs.declared.patch.Hole.{Hole}
 use Rattle.sharc_flat_walk.specs.declared.source.Source.{Source}
-use Rattle.sharc_flat_walk.specs.View.{context, innermost, outermost, around_of, hole_at, hole_of, finished, block_code, loop_in, for_in}
+use Rattle.sharc_flat_walk.specs.View.{context, outermost, around_of, hole_at, hole_of, finished, block_code, loop_in, for_in}
 use Rattle.sharc_flat_walk.proofs.ScopeLemmas.{innermost_push, outermost_push, innermost_none, outermost_whole}
 use Rattle.sharc_flat_walk.proofs.StatementLemmas.{context_is, grown_first}
 use Rattle.sharc_flat_walk.proofs.WalkLemmas.{entered, chosen, chosen_sides, looped_always, looped_while, hole_within}

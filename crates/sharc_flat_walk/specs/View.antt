@@ -57,11 +57,12 @@ abbrev pub wait_begin : ℕ → Spot → List Op
 wait_begin r spot = op.ChkNull r spot ∷ op.ChkNull (r + 1) spot ∷ op.ChkHeld (first_cell_of (r + 1)) spot
     ∷ op.CondEnter (first_cell_of r) spot ∷ op.Unlock (r + 2) (first_cell_of (r + 1)) spot ∷ []
 
--- the right operand of `&&` and `||`, after the left one: where the register is 0, it is led over, with so many operations after it
+-- the right operand of `&&` and `||`: where the register is 0, it is led over, with so many operations after it
 abbrev pub decided_code : ℕ → ℕ → List Op → List Op
 decided_code i more b = op.SkipIfZero i (length b + more) ∷ (b ++ (op.IsFalse i i ∷ op.IsFalse i i ∷ []))
 
--- ---- `a[i]`, by its parts: what is indexed, the first reference register for the index, and how its number becomes that of a cell
+-- ---- `a[i]`, by its parts: what is indexed, the first reference register for the index, and how the index becomes
+-- the number of a cell
 abbrev pub indexed_code : Context → ℕ → Site → tree.Expression → List Op → List Op → List Op
 indexed_code c r site a of_array of_pointer = if is_array (kind_at c.program.typed a) then of_array else of_pointer ++ op.ChkNull r (at_site site) ∷ []
 
@@ -85,7 +86,8 @@ evaluation_of LogicalAnd = And
 evaluation_of LogicalOr = Or
 evaluation_of _ = Both
 
--- of the numbers of variables in scope where each open block began, the innermost last: those after the first so many, the innermost first
+-- of the numbers of variables in scope where each open block began, the innermost last: those after the first so
+-- many, the innermost first
 abbrev pub innermost : ℕ → List ℕ → List ℕ
 innermost outer marks = reverse (drop outer marks)
 

@@ -33,8 +33,8 @@ use sharc_tree::token::{Site, Span};
 use sharc_tree::tree::{Declaration, Expr, ForFirst, ForHead, Jump, Local, Right, Simple, Stmt};
 use std::alloc::AllocError;
 
-/// The surroundings of a statement: the type of the function's result, the lines to which break and continue lead, and how many blocks are open
-/// around the innermost loop.
+/// The surroundings of a statement: the type of the function's result, the lines to which break and continue lead,
+/// and how many blocks are open around the innermost loop.
 #[derive(Clone, Copy)]
 pub struct Around<'a> {
     pub result: Kind<'a>,
@@ -316,7 +316,8 @@ fn returned(
     }
 }
 
-/// The second side of a choice begins: where the test is not met, the lines before are led over, and they lead over what follows. The line that does so.
+/// The second side of a choice begins: a test that is not met leads here, and the line that is returned leads from the
+/// first side over the second.
 fn other_side(hole: Hole, lines: &mut Vec<Op>) -> Result<usize, AllocError>
     requires { hole.line < vec_len lines.old }
     ensures code { OnOk result (lines.new.items ≡ slice_set lines.old.items hole.line (Op.SkipIfZero hole.register (length lines.old.items - hole.line - 1 + 1)) ++ Op.Skip 0 ∷ []) }

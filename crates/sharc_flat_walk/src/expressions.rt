@@ -572,7 +572,8 @@ fn arguments(
     Ok(())
 }
 
-/// What an lvalue names, for this field of it if there is one, and with the pointer to a mutex in that field of the same element.
+/// What an lvalue names, for this field of it if there is one, and with the pointer to a mutex in that field of the
+/// same element.
 #[cycle(expression)]
 pub fn place(
     p: &Source<'_>,

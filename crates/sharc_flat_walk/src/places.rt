@@ -271,8 +271,8 @@ pub fn pointee(register: u32, site: Site, lines: &mut Vec<Op>) -> Result<(), All
     emit(Op::ChkNull(register, at_site(site)), lines)
 }
 
-/// How the number of an element becomes that of a cell: in an object in this register, or in a global of so many elements; each of so many cells, where
-/// the first is that one.
+/// How the number of an element becomes that of a cell: in an object in this register, or in a global of so many
+/// elements whose first cell is this one; each element has so many cells.
 #[derive(Clone, Copy)]
 pub enum Bound {
     Object {
@@ -315,7 +315,8 @@ fn bounds(
     }
 }
 
-/// The number of an element becomes that of this field's cell, and in the next register that of the mutex's cell, if there is one.
+/// The number of an element becomes that of this field's cell, and in the next register that of the mutex's cell, if
+/// there is one.
 pub fn index_bounds(
     bound: Bound,
     at: Registers,

@@ -42,7 +42,7 @@ pub fn next(number: u32) -> Result<u32, AllocError>
     }
 }
 
-/// The register of the variable that this token declares. There are as many steps as variables, of which a function has few.
+/// The register of the variable that this token declares. There are as many steps as variables in scope, at most 216.
 pub fn register_of(scope: &[Slot], token: u32) -> Result<Register, AllocError>
     ensures { IfOk result (λ register. register ≡ register_of scope.now token) }
 {
@@ -79,7 +79,7 @@ fn pops(scope: &[Slot], from: u32, lines: &mut Vec<Op>) -> Result<(), AllocError
     Ok(())
 }
 
-/// The first free registers after these variables. There are as many steps as variables, of which a function has few.
+/// The first free registers after these variables, at most 216.
 pub fn free(scope: &[Slot]) -> Result<Registers, AllocError>
     ensures int { IfOk result (λ r. r.int ≡ int_count scope.now) }
     ensures reference { IfOk result (λ r. r.reference ≡ ref_count scope.now) }

@@ -13,7 +13,8 @@ use sharc_mode::moded::Moded;
 use sharc_tree::tree::{Declaration, StructDefinition};
 use std::alloc::{AllocError, Global};
 
-/// A program with its modes, the places of its globals, its structs by their names, and the places of its fields by the tokens that declare them.
+/// A program with its modes, the places of its globals, its structs by their names, and the places of its fields by the
+/// tokens that declare them.
 #[derive(Drop)]
 pub struct Source<'a> {
     pub m: &'a Moded,

@@ -13,7 +13,8 @@ use sharc_names::fault::Named;
 use sharc_names::kind::is_array;
 use sharc_tree::tree::{Access, Constant, Expr, UnaryOperator};
 
-/// What an lvalue names: a variable; a field of a global or of an element of one; a field of the first element of an object or of another one.
+/// What an lvalue names: a variable; a field of a global or of an element of one; a field of the first element of an
+/// object or of another one.
 #[derive(Clone, Copy)]
 pub enum Target {
     Variable(u32),

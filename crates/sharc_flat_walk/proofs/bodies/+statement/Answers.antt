@@ -1,13 +1,13 @@
-use Rattle.std.proofs.Common.{◌≡◌, ℕ, ◌+◌, ◌-◌, ◌++◌, ◌∷◌, [], length, set, take, Some, ap, sym, ◌∙◌, arith}
+use Rattle.std.proofs.Common.{◌≡◌, ℕ, ◌+◌, ◌-◌, ◌++◌, ◌∷◌, [], length, set, take, ap, ◌∙◌, arith}
 use Rattle.std.specs.Option.{option_map}
 use Rattle.std.proofs.lemmas.Result.{on_ok_weaker}
 use Rattle.sharc_tree.specs.Children.{view_block}
-use Rattle.sharc_tree.specs.Tree.{block, if_then_else}
+use Rattle.sharc_tree.specs.Tree.{if_then_else}
 use Rattle.sharc_tree.specs.View.{view_expr, view_simple, view_stmt, view_statements}
 use Rattle.sharc_flat_form.specs.declared.op.Op.TheVariants as op
-use Rattle.sharc_flat.specs.Flattened.{behind_statements, choice_code, loop_code, looping, statement_code, step_code, turn_code}
+use Rattle.sharc_flat.specs.Flattened.{behind_statements, looping, statement_code}
 use Rattle.sharc_flat_walk.specs.View.{context, around_of, block_code, finished}
-use Rattle.sharc_flat_walk.proofs.BodyLemmas.{around_within, choice_lines, sides_lines, turns_lines, block_at, sides_at}
+use Rattle.sharc_flat_walk.proofs.BodyLemmas.{around_within, choice_lines, turns_lines, block_at, sides_at}
 use Rattle.sharc_flat_walk.proofs.StatementLemmas.{grown_all, kept}
 use Rattle.sharc_flat_walk.proofs.bodies.+statement.Goals as goal
 

@@ -1,4 +1,4 @@
-use Rattle.std.proofs.Common.{◌≡◌, ◌≤◌, ℕ, length, drop, unwrap_or}
+use Rattle.std.proofs.Common.{◌≤◌, length}
 use Rattle.sharc_flat_walk.proofs.StructLemmas.{HasFrom}
 use Rattle.sharc_flat_walk.proofs.source.enter_fields.Given as goal
 

@@ -1,4 +1,4 @@
-use Rattle.std.proofs.Common.{◌≡◌, ◌≤◌, length, drop}
+use Rattle.std.proofs.Common.{◌≤◌, length, drop}
 use Rattle.sharc_ctype.specs.Resolved.{structs_in}
 use Rattle.sharc_flat_walk.specs.Lookups.{HasFields}
 use Rattle.sharc_flat_walk.proofs.source.places_of.Given as goal

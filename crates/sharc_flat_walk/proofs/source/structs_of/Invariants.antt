@@ -1,4 +1,4 @@
-use Rattle.std.proofs.Common.{◌≡◌, ◌≤◌, ◌+◌, length, drop}
+use Rattle.std.proofs.Common.{◌≤◌, ◌+◌, length, drop}
 use Rattle.sharc_ctype.specs.Resolved.{structs_in}
 use Rattle.sharc_flat_walk.specs.Lookups.{HasCells, HasLayouts}
 use Rattle.sharc_flat_walk.proofs.source.structs_of.Given as goal
