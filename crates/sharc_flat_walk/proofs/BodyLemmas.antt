@@ -1,8 +1,8 @@
 -- The lines of statements, made one after the other.
-use Rattle.std.proofs.Common.{◌≡◌, ℕ, ◌+◌, ◌-◌, ◌<◌, ◌≤◌, Bool, List, [], ◌∷◌, ◌++◌, length, set, take, drop, Option, Some, None, refl, ap, sym, ◌∙◌, arith, append_assoc, length-append}
+use Rattle.std.proofs.Common.{◌≡◌, ℕ, ◌+◌, ◌-◌, ◌<◌, ◌≤◌, Bool, List, [], ◌∷◌, ◌++◌, length, set, Option, Some, None, refl, ap, sym, ◌∙◌, append_assoc, length-append}
 use Rattle.std.proofs.lemmas.List.{length-set}
 use Rattle.sharc_tree.specs.declared.token.Span.{Span}
-use Rattle.sharc_tree.specs.Tree.{Expression, Simple, Statement, Statements, First, Head, block, if_then_else}
+use Rattle.sharc_tree.specs.Tree.{Expression, Simple, Statement, Statements, Head, block, if_then_else}
 use Rattle.sharc_names.specs.declared.kind.Kind.{Kind as RustKind}
 use Rattle.sharc_flat_form.specs.declared.op.Op.{Op}
 use Rattle.sharc_flat_form.specs.declared.op.Op.TheVariants.{BlockEnd, Enter, Return, Skip, SkipIfZero}
@@ -17,12 +17,12 @@ use Rattle.sharc_flat.specs.Flattened.{Around, refs_of, expression_code, return_
 use Rattle.sharc_flat_walk.specs.declared.bodies.Around.{Around as RustAround}
 use Rattle.sharc_flat_walk.specs.declared.patch.Hole.{Hole}
 use Rattle.sharc_flat_walk.specs.declared.source.Source.{Source}
-use Rattle.sharc_flat_walk.specs.View.{context, innermost, outermost, around_of, hole_at, hole_of, finished, block_code, loop_in, for_in}
+use Rattle.sharc_flat_walk.specs.View.{context, outermost, around_of, hole_at, hole_of, finished, block_code, loop_in, for_in}
 use Rattle.sharc_flat_walk.proofs.ScopeLemmas.{innermost_push, outermost_push, innermost_none, outermost_whole}
 use Rattle.sharc_flat_walk.proofs.StatementLemmas.{context_is, grown_first}
 use Rattle.sharc_flat_walk.proofs.WalkLemmas.{entered, chosen, chosen_sides, looped_always, looped_while, hole_within}
 
--- ---- choices: the code of the test is told by another name of the same context
+-- ---- choices, where the code of the test is over an equal context
 pub choice_lines : (c d : Context) (e : Expression) (old l1 l2 l3 : List Op) (h : Hole) (F : ℕ → List Op) → d ≡ c → l1 ≡ old ++ turn_code d (Some e) 0 → h ≡ hole_at d (length l1)
     → l2 ≡ l1 ++ F (length l1) → l3 ≡ set l2 h.line (SkipIfZero h.register (length l2 - h.line - 1 + 0)) → l3 ≡ old ++ if_code (length old) (turn_code c (Some e)) F
 choice_lines c d e old l1 l2 l3 h F same e1 at e2 e3 =
@@ -132,15 +132,15 @@ counted_lines p xs ys zs a marks pushed h x test step began old l1 l2 l3 within 
     let L = loop_in b o (length old + length f) h.test h.step x in
     let E = ends_from b.scope (length xs) in
     let second : l2 ≡ (old ++ f) ++ L = e2 ∙ ap (λ k. l1 ++ loop_in k (around_of a pushed) (length l1) test step x) next
-      ∙ ap (λ k. l1 ++ loop_in b k (length l1) test step x) (around_opened c a marks pushed began within push size)
-      ∙ ap (λ n. l1 ++ loop_in b o n test step x) here
-      ∙ ap (λ t. l1 ++ loop_in b o (length old + length f) t step x) et
-      ∙ ap (λ t. l1 ++ loop_in b o (length old + length f) h.test t x) es
-      ∙ ap (λ l. l ++ L) e1 in
+    ∙ ap (λ k. l1 ++ loop_in b k (length l1) test step x) (around_opened c a marks pushed began within push size)
+    ∙ ap (λ n. l1 ++ loop_in b o n test step x) here
+    ∙ ap (λ t. l1 ++ loop_in b o (length old + length f) t step x) et
+    ∙ ap (λ t. l1 ++ loop_in b o (length old + length f) h.test t x) es
+    ∙ ap (λ l. l ++ L) e1 in
     let third : l3 ≡ ((old ++ f) ++ L) ++ E = e3 ∙ ap (λ l. l ++ ends_from zs began) second ∙ ap (λ l. ((old ++ f) ++ L) ++ ends_from l began) (same ∙ ends) ∙ ap (λ n. ((old ++ f) ++ L) ++ ends_from b.scope n) size in
     third ∙ ap (λ l. l ++ E) (append_assoc old f L) ∙ append_assoc old (f ++ L) E
 
--- ---- statements whose parts are told by other names, after their Enter
+-- ---- statements with equal parts, after their Enter
 pub block_at : (c : Context) (a : Around) (s : Span) (x : Statement) (all again : Statements) (old l1 l2 : List Op) → x ≡ block s all → again ≡ all → l1 ≡ old ++ Enter ∷ [] → l2 ≡ l1 ++ block_code c a (length l1) again
     → l2 ≡ old ++ statement_code c a (length old) x
 block_at c a s x all again old l1 l2 ex ea e1 e2 =
@@ -160,12 +160,11 @@ sides_at p xs begun told around marks after s stmt e test x then y otherwise old
     let G = λ (n : ℕ). statement_code c a n y in
     let l3 = set l2 h.line (SkipIfZero h.register (length l2 - h.line - 1 + 1)) in
     entered old l0 l6 (λ n. choice_code n (turn_code c (Some e)) F G) e0
-      (sides_lines c (context p told) e l0 l1 l2 l3 l4 l5 l6 h over F G (ap (context p) eo)
-        (e1 ∙ ap (λ k. l0 ++ turn_code (context p told) (Some k) 0) et) eh
-        (e2 ∙ ap (λ k. l1 ++ statement_code c a (length l1) k) ex) refl
-        (el ∙ sym (length-set l2 h.line (SkipIfZero h.register (length l2 - h.line - 1 + 1)))) e4
-        (e5 ∙ ap (λ k. l4 ++ statement_code (context p k) (around_of around after) (length l4) otherwise) eb
-        ∙ ap (λ k. l4 ++ statement_code c (around_of around k) (length l4) otherwise) em
-        ∙ ap (λ k. l4 ++ statement_code c a (length l4) k) ey) e6)
+    (sides_lines c (context p told) e l0 l1 l2 l3 l4 l5 l6 h over F G (ap (context p) eo)
+    (e1 ∙ ap (λ k. l0 ++ turn_code (context p told) (Some k) 0) et) eh
+    (e2 ∙ ap (λ k. l1 ++ statement_code c a (length l1) k) ex) refl
+    (el ∙ sym (length-set l2 h.line (SkipIfZero h.register (length l2 - h.line - 1 + 1)))) e4
+    (e5 ∙ ap (λ k. l4 ++ statement_code (context p k) (around_of around after) (length l4) otherwise) eb
+    ∙ ap (λ k. l4 ++ statement_code c (around_of around k) (length l4) otherwise) em
+    ∙ ap (λ k. l4 ++ statement_code c a (length l4) k) ey) e6)
     ∙ ap (λ k. old ++ statement_code c a (length old) k) (sym es)
-

@@ -82,7 +82,7 @@ index_lines c i r j q site f guard a n of_array of_pointer V old l1 l2 l3 l4 l5 
     let B = element_code c i r site f guard a in
     let third : l3 ≡ l2 ++ N = e3 ∙ ap (λ k. l2 ++ expression_code c k q n) ej ∙ ap (λ k. l2 ++ expression_code c i k n) eq in
     let all : l5 ≡ ((((old ++ op.Enter ∷ []) ++ A) ++ N) ++ B) ++ V =
-      e5 ∙ ap (λ l. l ++ V) (e4 ∙ ap (λ l. l ++ B) (third ∙ ap (λ l. l ++ N) (e2 ∙ ap (λ l. l ++ A) e1))) in
+    e5 ∙ ap (λ l. l ++ V) (e4 ∙ ap (λ l. l ++ B) (third ∙ ap (λ l. l ++ N) (e2 ∙ ap (λ l. l ++ A) e1))) in
     all
     ∙ ap (λ l. l ++ V) (append_assoc ((old ++ op.Enter ∷ []) ++ A) N B ∙ append_assoc (old ++ op.Enter ∷ []) A (N ++ B) ∙ ap (λ l. (old ++ op.Enter ∷ []) ++ l) (sym (index_split c i r site f guard a of_array of_pointer (λ d. expression_code c i d n))))
     ∙ append_assoc (old ++ op.Enter ∷ []) (index_code c i r site f guard a of_array of_pointer (λ d. expression_code c i d n)) V
@@ -102,7 +102,7 @@ two_lines old l1 l2 l3 A B e1 e2 e3 =
     let all : l3 ≡ ((old ++ op.Enter ∷ []) ++ A) ++ B = e3 ∙ ap (λ l. l ++ B) (e2 ∙ ap (λ l. l ++ A) e1) in
     all ∙ append_assoc (old ++ op.Enter ∷ []) A B ∙ append_assoc old (op.Enter ∷ []) (A ++ B)
 
--- ---- the forms of expressions whose parts are told by other names
+-- ---- the forms of expressions with equal parts
 pub call_at : (c : Context) (i r : ℕ) (s : Span) (f : Identifier) (e : Expression) (args first second : Arguments) (parameters : List Declaration) (n : Named) (text : List ℕ) (spot : Spot) (old l1 l2 l3 : List Op)
     → e ≡ call s f args → first ≡ args → second ≡ args → parameters ≡ parameters_named c.program.typed (named_at c.program.typed f.site.token) → n ≡ named_at c.program.typed f.site.token → text ≡ f.text → spot ≡ at_site s.first
     → l1 ≡ old ++ op.Enter ∷ [] → l2 ≡ l1 ++ arguments_code c i r (declared_kinds parameters) first → l3 ≡ l2 ++ called_code i r spot n text second → l3 ≡ old ++ expression_code c i r e
@@ -110,9 +110,9 @@ call_at c i r s f e args first second parameters n text spot old l1 l2 l3 ee ef 
     let named = named_at c.program.typed f.site.token in
     let ks = declared_kinds (parameters_named c.program.typed named) in
     two_lines old l1 l2 l3 (arguments_code c i r ks args) (called_code i r (at_site s.first) named f.text args) e1
-      (e2 ∙ ap (λ x. l1 ++ arguments_code c i r (declared_kinds x) first) ep ∙ ap (λ x. l1 ++ arguments_code c i r ks x) ef)
-      (e3 ∙ ap (λ x. l2 ++ called_code i r x n text second) eo ∙ ap (λ x. l2 ++ called_code i r (at_site s.first) x text second) en
-      ∙ ap (λ x. l2 ++ called_code i r (at_site s.first) named x second) et ∙ ap (λ x. l2 ++ called_code i r (at_site s.first) named f.text x) es)
+    (e2 ∙ ap (λ x. l1 ++ arguments_code c i r (declared_kinds x) first) ep ∙ ap (λ x. l1 ++ arguments_code c i r ks x) ef)
+    (e3 ∙ ap (λ x. l2 ++ called_code i r x n text second) eo ∙ ap (λ x. l2 ++ called_code i r (at_site s.first) x text second) en
+    ∙ ap (λ x. l2 ++ called_code i r (at_site s.first) named x second) et ∙ ap (λ x. l2 ++ called_code i r (at_site s.first) named f.text x) es)
     ∙ ap (λ x. old ++ expression_code c i r x) (sym ee)
 
 abbrev index_form : Context → ℕ → ℕ → Span → Expression → Expression → List Op → Expression → List Op
@@ -124,9 +124,9 @@ pub index_at : (c : Context) (i r j q : ℕ) (s : Span) (e a base again n number
     → l3 ≡ l2 ++ expression_code c j q number → l4 ≡ l3 ++ element_code c i r s.first None g again → l5 ≡ l4 ++ lvalue_code c i r e → l5 ≡ old ++ expression_code c i r e
 index_at c i r j q s e a base again n number g old l1 l2 l3 l4 l5 ee eb ea en eg e1 e2 ej eq e3 e4 e5 =
     index_lines c i r j q s.first None (guard_of c e) a n (place_code c i r s.first None None a) (expression_code c i r a) (lvalue_code c i r e) old l1 l2 l3 l4 l5 e1
-      (e2 ∙ ap (λ x. l1 ++ indexed_code c r s.first x (place_code c i r s.first None None x) (expression_code c i r x)) eb) ej (eq ∙ ap (index_register c r) eb)
-      (e3 ∙ ap (λ x. l2 ++ expression_code c j q x) en)
-      (e4 ∙ ap (λ x. l3 ++ element_code c i r s.first None x again) eg ∙ ap (λ x. l3 ++ element_code c i r s.first None (guard_of c e) x) ea) e5
+    (e2 ∙ ap (λ x. l1 ++ indexed_code c r s.first x (place_code c i r s.first None None x) (expression_code c i r x)) eb) ej (eq ∙ ap (index_register c r) eb)
+    (e3 ∙ ap (λ x. l2 ++ expression_code c j q x) en)
+    (e4 ∙ ap (λ x. l3 ++ element_code c i r s.first None x again) eg ∙ ap (λ x. l3 ++ element_code c i r s.first None (guard_of c e) x) ea) e5
     ∙ ap (index_form c i r s a n old) ee
     ∙ ap (λ x. old ++ expression_code c i r x) (sym ee)
 
@@ -135,6 +135,6 @@ pub binary_at : (c : Context) (i r : ℕ) (s : Span) (o : BinaryOperator) (at : 
     → l1 ≡ old ++ op.Enter ∷ [] → l2 ≡ l1 ++ expression_code c i r left → l3 ≡ l2 ++ binary_code c i r at o again right [] (λ j q. expression_code c j q right) → l3 ≡ old ++ expression_code c i r e
 binary_at c i r s o at e a left again b right old l1 l2 l3 ee el ea er e1 e2 e3 =
     binary_lines c i r at o a b old l1 l2 l3 e1
-      (e2 ∙ ap (λ x. l1 ++ expression_code c i r x) el)
-      (e3 ∙ ap (λ x. l2 ++ binary_code c i r at o x right [] (λ j q. expression_code c j q right)) ea ∙ ap (λ x. l2 ++ binary_code c i r at o a x [] (λ j q. expression_code c j q x)) er)
+    (e2 ∙ ap (λ x. l1 ++ expression_code c i r x) el)
+    (e3 ∙ ap (λ x. l2 ++ binary_code c i r at o x right [] (λ j q. expression_code c j q right)) ea ∙ ap (λ x. l2 ++ binary_code c i r at o a x [] (λ j q. expression_code c j q x)) er)
     ∙ ap (λ x. old ++ expression_code c i r x) (sym ee)

@@ -1,5 +1,5 @@
 -- Statements one after the other, and the variables that they begin.
-use Rattle.std.proofs.Common.{◌≡◌, ℕ, ◌+◌, ◌<◌, ◌≤◌, List, [], ◌∷◌, ◌++◌, length, take, drop, get_or, Option, Some, None, refl, ap, sym, ◌∙◌, arith, append_assoc}
+use Rattle.std.proofs.Common.{◌≡◌, ℕ, ◌+◌, ◌<◌, List, [], ◌∷◌, ◌++◌, length, take, drop, get_or, refl, ap, sym, ◌∙◌, append_assoc}
 use Rattle.std.proofs.lemmas.List.{append-nil, drop_more}
 use Rattle.sharc_tree.specs.declared.tree.statement.Stmt.{Stmt}
 use Rattle.sharc_tree.specs.declared.tree.expression.Expr.{Expr}
@@ -42,16 +42,17 @@ pub grown_all : (c : Context) (all : Statements) → (zs : List Slot) × (behind
 grown_all c no_statements = ([], none c)
 grown_all c (statement x rest) =
     let one = grown c x in
-    let more = grown_all (behind_statement c x) rest in
-    (one.0 ++ more.0,
-     more.1 ∙ ap (with_more more.0) one.1 ∙ ap (in_scope c) (append_assoc c.scope one.0 more.0))
+    let more = grown_all (behind_statement c x) rest in (
+      one.0 ++ more.0,
+      more.1 ∙ ap (with_more more.0) one.1 ∙ ap (in_scope c) (append_assoc c.scope one.0 more.0),
+    )
 
 pub grown_first : (c : Context) (x : First) → (zs : List Slot) × (behind_first c x ≡ record c { scope = c.scope ++ zs })
 grown_first c nothing = ([], none c)
 grown_first c (declares l) = (slot_of l.declaration ∷ [], refl)
 grown_first c (does x) = ([], none c)
 
--- where the next statement stands
+-- the context of the next statement
 pub context_is : (p : Source) (xs ys : List Slot) (c : Context) → ((zs : List Slot) × (c ≡ record (context p xs) { scope = xs ++ zs })) → ys ≡ c.scope → context p ys ≡ c
 context_is p xs ys c g e = ap (context p) (e ∙ ap (λ d. d.scope) g.1) ∙ sym g.1
 
@@ -69,10 +70,11 @@ statements_step p slots begun a all i x lines new goal scope below is begun_is n
     let s = view_stmt x in
     let rest = view_statements (drop (i + 1) all) in
     let shape : view_statements (drop i all) ≡ statement s rest = ap view_statements (drop_more all i x below ∙ ap (λ y. y ∷ drop (i + 1) all) (sym is)) in
-    let next : context p begun ≡ behind_statement c s = context_is p slots begun (behind_statement c s) (grown c s) begun_is in
-    (ap (λ d. new ++ statements_code d a (length new) rest) next
-     ∙ stepped lines new goal (λ n. statement_code c a n s) (λ n. statements_code (behind_statement c s) a n rest) (ap (λ t. lines ++ statements_code c a (length lines) t) (sym shape) ∙ inv) new_is,
-     ap (λ d. (behind_statements d rest).scope) next ∙ ap (λ t. (behind_statements c t).scope) (sym shape) ∙ ends)
+    let next : context p begun ≡ behind_statement c s = context_is p slots begun (behind_statement c s) (grown c s) begun_is in (
+      ap (λ d. new ++ statements_code d a (length new) rest) next
+          ∙ stepped lines new goal (λ n. statement_code c a n s) (λ n. statements_code (behind_statement c s) a n rest) (ap (λ t. lines ++ statements_code c a (length lines) t) (sym shape) ∙ inv) new_is,
+      ap (λ d. (behind_statements d rest).scope) next ∙ ap (λ t. (behind_statements c t).scope) (sym shape) ∙ ends,
+    )
 
 -- one argument more
 pub kinds_drop : (all : List Declaration) → declared_kinds (drop 1 all) ≡ drop 1 (declared_kinds all)

@@ -1,5 +1,5 @@
 -- Structs and fields that are entered one after the other, the last first.
-use Rattle.std.proofs.Common.{◌≡◌, ℕ, ◌+◌, ◌-◌, ◌<◌, ◌≤◌, Bool, true, false, cond, List, [], ◌∷◌, length, drop, get_or, Option, Some, None, unwrap_or, nat_eq, refl, ap, sym, ◌∙◌, subst, arith}
+use Rattle.std.proofs.Common.{◌≡◌, ℕ, ◌+◌, ◌-◌, ◌<◌, ◌≤◌, Bool, true, false, cond, List, [], ◌∷◌, length, drop, get_or, Option, Some, unwrap_or, nat_eq, refl, ap, sym, ◌∙◌, subst, arith}
 use Rattle.std.specs.Prelude.{slice_get}
 use Rattle.std.specs.Option.{option_map_or}
 use Rattle.std.specs.Map.{lookup}
@@ -11,7 +11,7 @@ use Rattle.sharc_tree.specs.declared.tree.item.StructDefinition.{StructDefinitio
 use Rattle.sharc_meaning.specs.Cells.{struct_cells, field_place_in, place_in}
 use Rattle.sharc_flat.specs.Flattened.{struct_layout}
 use Rattle.sharc_flat_walk.specs.declared.row.StructRow.{StructRow}
-use Rattle.sharc_flat_walk.specs.Lookups.{Rows, row_at, cells_at, layout_at, HasCells, HasLayouts, HasRow, Places, place_found, HasFields, HasPlaces}
+use Rattle.sharc_flat_walk.specs.Lookups.{Rows, row_at, HasCells, HasLayouts, HasRow, Places, place_found, HasFields, HasPlaces}
 use Rattle.sharc_flat_walk.proofs.PlaceLemmas.{from_first, place_from}
 
 abbrev pub row_of : ℕ → ℕ → StructRow

@@ -1,5 +1,5 @@
 -- Lines that are made one after the other.
-use Rattle.std.proofs.Common.{◌≡◌, ℕ, zero, suc, ◌+◌, ◌-◌, ◌<◌, ◌≤◌, List, [], ◌∷◌, ◌++◌, length, set, take, Option, Some, None, refl, ap, sym, ◌∙◌, arith, append_assoc, length-append}
+use Rattle.std.proofs.Common.{◌≡◌, ℕ, ◌+◌, ◌-◌, ◌<◌, List, [], ◌∷◌, ◌++◌, length, set, take, Option, Some, None, refl, ap, sym, ◌∙◌, arith, append_assoc, length-append}
 use Rattle.std.proofs.lemmas.List.{set-append_right, length_push, length-set, take_at}
 use Rattle.sharc_flat_form.specs.declared.op.Op.{Op}
 use Rattle.sharc_flat_form.specs.declared.op.Op.TheVariants.{Enter, IsFalse, Jump, Skip, SkipIfZero}
@@ -15,7 +15,7 @@ set_at xs ys n k v e =
 set_between : (xs ys : List Op) (x v : Op) (n : ℕ) → n ≡ length xs → set (xs ++ x ∷ ys) n v ≡ xs ++ v ∷ ys
 set_between xs ys x v n e = set_at xs (x ∷ ys) n 0 v (omega arith)
 
--- a line that leads over what stands after it, and over so many more
+-- a line that leads over the lines after it, and over so many more
 pub filled : (old body : List Op) (h : Op) (make : ℕ → Op) (more n : ℕ) → n ≡ length old
     → set ((old ++ h ∷ []) ++ body) n (make (length ((old ++ h ∷ []) ++ body) - n - 1 + more)) ≡ old ++ make (length body + more) ∷ body
 filled old body h make more n e =
@@ -32,19 +32,19 @@ decided old e t filled_in l1 l2 l3 l5 l6 i more n at e1 e2 e3 e4 e5 e6 =
     let h = SkipIfZero i 0 in
     let parts : l3 ≡ (old ++ h ∷ []) ++ (e ++ t) = e3 ∙ ap (λ l. l ++ t) (e2 ∙ ap (λ l. l ++ e) e1) ∙ append_assoc (old ++ h ∷ []) e t in
     let made : filled_in ≡ old ++ SkipIfZero i (length (e ++ t) + more) ∷ (e ++ t) =
-      e4 ∙ ap (λ l. set l n (SkipIfZero i (length l - n - 1 + more))) parts ∙ filled old (e ++ t) h (SkipIfZero i) more n at in
+    e4 ∙ ap (λ l. set l n (SkipIfZero i (length l - n - 1 + more))) parts ∙ filled old (e ++ t) h (SkipIfZero i) more n at in
     e6 ∙ ap (λ l. l ++ f ∷ []) (e5 ∙ ap (λ l. l ++ f ∷ []) made)
     ∙ append_assoc (old ++ SkipIfZero i (length (e ++ t) + more) ∷ (e ++ t)) (f ∷ []) (f ∷ [])
     ∙ append_assoc old (SkipIfZero i (length (e ++ t) + more) ∷ (e ++ t)) (f ∷ f ∷ [])
 
--- ---- statements one after the other, each told by where it stands
+-- ---- statements one after the other, each by its place
 pub stepped : (lines new all : List Op) (F R : ℕ → List Op) → lines ++ (F (length lines) ++ R (length lines + length (F (length lines)))) ≡ all → new ≡ lines ++ F (length lines) → new ++ R (length new) ≡ all
 stepped lines new all F R is new_is =
     let f = F (length lines) in
     let size : length new ≡ length lines + length f = ap length new_is ∙ length-append lines f in
     ap (λ n. new ++ R n) size ∙ ap (λ l. l ++ R (length lines + length f)) new_is ∙ append_assoc lines f (R (length lines + length f)) ∙ is
 
--- what stands after an Enter
+-- the lines after an Enter
 pub entered : (old begun new : List Op) (F : ℕ → List Op) → begun ≡ old ++ Enter ∷ [] → new ≡ begun ++ F (length begun) → new ≡ old ++ Enter ∷ F (length old + 1)
 entered old begun new F e1 e2 =
     let size : length begun ≡ length old + 1 = ap length e1 ∙ length_push old Enter in
@@ -91,7 +91,7 @@ chosen_sides old test l1 l2 l3 l4 l5 l6 i n over F G e1 e2 at e3 over_at e4 e5 e
     let l3_is : l3 ≡ old ++ (t1 ++ first) = e3 ∙ ap (λ l. set l n (SkipIfZero i (length l - n - 1 + 1))) l2_is ∙ tested old test first i 1 n at_is in
     let l4_is : l4 ≡ (old ++ (t1 ++ first)) ++ Skip 0 ∷ [] = e4 ∙ ap (λ l. l ++ Skip 0 ∷ []) l3_is in
     let there : length l4 ≡ length old + length t0 + length first + 1 =
-      omega (arith, ap length l4_is, length-append (old ++ (t1 ++ first)) (Skip 0 ∷ []), length-append old (t1 ++ first), length-append t1 first, length-append test (SkipIfZero i 0 ∷ []), length-append test (SkipIfZero i (length first + 1) ∷ [])) in
+    omega (arith, ap length l4_is, length-append (old ++ (t1 ++ first)) (Skip 0 ∷ []), length-append old (t1 ++ first), length-append t1 first, length-append test (SkipIfZero i 0 ∷ []), length-append test (SkipIfZero i (length first + 1) ∷ [])) in
     let second = G (length old + length t0 + length first + 1) in
     let l5_is : l5 ≡ ((old ++ (t1 ++ first)) ++ Skip 0 ∷ []) ++ second = e5 ∙ ap (λ n. l4 ++ G n) there ∙ ap (λ l. l ++ second) l4_is in
     let over_is : over ≡ length (old ++ (t1 ++ first)) = over_at ∙ ap length l3_is in
@@ -101,6 +101,7 @@ chosen_sides old test l1 l2 l3 l4 l5 l6 i n over F G e1 e2 at e3 over_at e4 e5 e
     ∙ append_assoc old (t1 ++ first) (Skip (length second + 0) ∷ second)
     ∙ ap (λ l. old ++ l) (append_assoc t1 first (Skip (length second + 0) ∷ second))
     ∙ ap (λ k. old ++ (t1 ++ (first ++ Skip k ∷ second))) none
+
 -- ---- a loop, whose lines are made one after the other
 module _ (old T T0 body step : List Op) (same : length T ≡ length T0) where
   abbrev pc : ℕ
@@ -118,7 +119,7 @@ module _ (old T T0 body step : List Op) (same : length T ≡ length T0) where
   abbrev way : Op
   way = Skip (length T + length body)
 
-  -- behind the body, with the way to the step
+  -- after the body, with the way to the step
   pub with_way : (lines : List Op) → lines ≡ begun ++ body → set lines (pc + 2) (Skip (length lines - (pc + 2) - 1 + 0)) ≡ old ++ (s2 ∷ z ∷ way ∷ (T0 ++ body))
   with_way lines e =
       let parts : lines ≡ old ++ (s2 ∷ z ∷ z ∷ (T0 ++ body)) =
@@ -171,7 +172,7 @@ with_body : (old T T0 step l1 l2 l3 l4 l5 l6 : List Op) (F : ℕ → List Op) �
 with_body old T T0 step l1 l2 l3 l4 l5 l6 F same e1 e2 e3 e4 e5 e6 =
     let l4_is : l4 ≡ (((old ++ Skip 2 ∷ []) ++ Skip 0 ∷ []) ++ Skip 0 ∷ []) ++ T0 = e4 ∙ ap (λ l. l ++ T0) (begun_at old l1 l2 l3 e1 e2 e3) in
     let here : length l4 ≡ length old + 3 + length T0 =
-      omega (arith, ap length l4_is, length-append (((old ++ Skip 2 ∷ []) ++ Skip 0 ∷ []) ++ Skip 0 ∷ []) T0, length_push ((old ++ Skip 2 ∷ []) ++ Skip 0 ∷ []) (Skip 0), length_push (old ++ Skip 2 ∷ []) (Skip 0), length_push old (Skip 2)) in
+    omega (arith, ap length l4_is, length-append (((old ++ Skip 2 ∷ []) ++ Skip 0 ∷ []) ++ Skip 0 ∷ []) T0, length_push ((old ++ Skip 2 ∷ []) ++ Skip 0 ∷ []) (Skip 0), length_push (old ++ Skip 2 ∷ []) (Skip 0), length_push old (Skip 2)) in
     let body = F (length old + 3 + length T0) in
     let l5_is : l5 ≡ ((((old ++ Skip 2 ∷ []) ++ Skip 0 ∷ []) ++ Skip 0 ∷ []) ++ T0) ++ body = e5 ∙ ap (λ n. l4 ++ F n) here ∙ ap (λ l. l ++ body) l4_is in
     (here, e6 ∙ with_way old T T0 body step same l5 l5_is)
@@ -200,8 +201,8 @@ looped_while old test step l1 l2 l3 l4 l5 l6 l7 l8 i F e1 e2 e3 e4 e5 e6 e7 e8 =
     let l7_is : l7 ≡ (old ++ (Skip 2 ∷ Skip 0 ∷ way ∷ (T0 ++ body))) ++ step = e7 ∙ ap (λ l. l ++ step) p.1 in
     let at : length l4 ≡ length old + 3 + length test + 1 = omega (arith, p.0, length-append test (SkipIfZero i 0 ∷ [])) in
     let filled_in : set l7 (length l4 - 1) (SkipIfZero i (length l7 - (length l4 - 1) - 1 + 1)) ≡ old ++ (Skip 2 ∷ Skip 0 ∷ way ∷ (T ++ (body ++ step))) =
-      ap (λ l. set l (length l4 - 1) (SkipIfZero i (length l - (length l4 - 1) - 1 + 1))) l7_is
-      ∙ with_test old test body step (Skip 2) (Skip 0) way i (length l4) at in
+    ap (λ l. set l (length l4 - 1) (SkipIfZero i (length l - (length l4 - 1) - 1 + 1))) l7_is
+    ∙ with_test old test body step (Skip 2) (Skip 0) way i (length l4) at in
     e8 ∙ with_out old T T0 body step same (set l7 (length l4 - 1) (SkipIfZero i (length l7 - (length l4 - 1) - 1 + 1))) filled_in
 
 -- ---- variables that begin stay those before them

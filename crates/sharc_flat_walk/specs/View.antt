@@ -1,6 +1,5 @@
--- What the values of the flattening stand for.
+-- What the values of the walk are in the definitions.
 use Rattle.std.specs.Prelude.{ℕ, ◌+◌, ◌-◌, false, List, [], ◌∷◌, ◌++◌, length, reverse, take, drop, slice_set, Option, None, Some, if◌then◌else◌}
-
 use Rattle.sharc_names.specs.View.{view_kind}
 use Rattle.sharc_flat_walk.specs.declared.bodies.Around.{Around as RustAround}
 use Rattle.sharc_tree.specs.Spans.{span_of}
@@ -41,7 +40,7 @@ view_target (InGlobalAt g f) = in_global_at g f
 view_target (InObject f) = in_object f
 view_target (InObjectAt f) = in_object_at f
 
--- where an expression stands, by the variables that stand there
+-- the context of an expression, by the variables in scope
 abbrev pub context : Source → List Slot → Context
 context p scope = record { program = p.m.now; globals = p.globals.items; scope = scope }
 
@@ -58,11 +57,12 @@ abbrev pub wait_begin : ℕ → Spot → List Op
 wait_begin r spot = op.ChkNull r spot ∷ op.ChkNull (r + 1) spot ∷ op.ChkHeld (first_cell_of (r + 1)) spot
     ∷ op.CondEnter (first_cell_of r) spot ∷ op.Unlock (r + 2) (first_cell_of (r + 1)) spot ∷ []
 
--- the right operand of `&&` and `||`, behind the left one: where the register is 0, it is led over, with so many operations behind it
+-- the right operand of `&&` and `||`: where the register is 0, it is led over, with so many operations after it
 abbrev pub decided_code : ℕ → ℕ → List Op → List Op
 decided_code i more b = op.SkipIfZero i (length b + more) ∷ (b ++ (op.IsFalse i i ∷ op.IsFalse i i ∷ []))
 
--- ---- `a[i]`, by its parts: what is indexed, the first reference register for the index, and how its number becomes that of a cell
+-- ---- `a[i]`, by its parts: what is indexed, the first reference register for the index, and how the index becomes
+-- the number of a cell
 abbrev pub indexed_code : Context → ℕ → Site → tree.Expression → List Op → List Op → List Op
 indexed_code c r site a of_array of_pointer = if is_array (kind_at c.program.typed a) then of_array else of_pointer ++ op.ChkNull r (at_site site) ∷ []
 
@@ -86,21 +86,24 @@ evaluation_of LogicalAnd = And
 evaluation_of LogicalOr = Or
 evaluation_of _ = Both
 
--- of how many variables stood where each open block began, the innermost last: those behind the first so many, the innermost first
+-- of the numbers of variables in scope where each open block began, the innermost last: those after the first so
+-- many, the innermost first
 abbrev pub innermost : ℕ → List ℕ → List ℕ
 innermost outer marks = reverse (drop outer marks)
 
 abbrev pub outermost : ℕ → List ℕ → List ℕ
 outermost outer marks = reverse (take outer marks)
 
--- where a statement stands in its function
+-- the surroundings of a statement
 abbrev pub around_of : RustAround → List ℕ → Around
 around_of a marks = record { result = view_kind a.result; broken = a.broken; continued = a.continued; inside = innermost a.outer marks; outside = outermost a.outer marks }
 
 abbrev pub own_access : Site → Access
 own_access site = record {
-  site = site; lvalue = record { words = record { first = site; last = site }; bare = site.token; is_simple = false };
-  mode = Private; target = Variable site.token;
+  site = site;
+  lvalue = record { words = record { first = site; last = site }; bare = site.token; is_simple = false };
+  mode = Private;
+  target = Variable site.token;
 }
 
 -- ---- statements, by their parts
@@ -110,7 +113,7 @@ assign_code c i r u x = simple_code c i r (tree.assign (span_of u) u x)
 abbrev pub simple_at : Context → tree.Simple → List Op
 simple_at c x = simple_code c (ints_of c) (refs_of c) x
 
--- a block at this place, behind its Enter
+-- a block at this place, after its Enter
 abbrev pub block_code : Context → Around → ℕ → tree.Statements → List Op
 block_code c a pc all = (statements_code c (opened c a) pc all ++ ends_from (behind_statements c all).scope (length c.scope)) ++ op.BlockEnd ∷ []
 

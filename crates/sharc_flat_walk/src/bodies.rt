@@ -19,11 +19,11 @@ use crate::patch::{Hole, fill, line_at, skip, skip_if_zero};
 use crate::places::{emit, store};
 use crate::registers::Registers;
 use crate::scope::{end_block, free, leave, slot_of};
-use sharc_flat::slot::{Lvalue, Slot};
 use crate::source::Source;
 use crate::spots::{Access, at_site, no_text, object_spot};
 use crate::target::Target;
 use sharc_code::Use;
+use sharc_flat::slot::{Lvalue, Slot};
 use sharc_flat_form::Op;
 use sharc_mode::cell::pointed;
 use sharc_mode::row::{Reading, declared_row, row_of};
@@ -33,8 +33,8 @@ use sharc_tree::token::{Site, Span};
 use sharc_tree::tree::{Declaration, Expr, ForFirst, ForHead, Jump, Local, Right, Simple, Stmt};
 use std::alloc::AllocError;
 
-/// Where a statement stands in its function: the type of the function's result, the lines to which break and continue lead, and how many blocks are open
-/// around the innermost loop.
+/// The surroundings of a statement: the type of the function's result, the lines to which break and continue lead,
+/// and how many blocks are open around the innermost loop.
 #[derive(Clone, Copy)]
 pub struct Around<'a> {
     pub result: Kind<'a>,
@@ -59,7 +59,7 @@ fn elements(
     }
 }
 
-/// What stands right of `=`, for something of this type, the target of which has this mode.
+/// The right side of `=`, for a target of this type, to which a pointer of this mode goes.
 fn right(
     p: &Source<'_>,
     scope: &[Slot],
@@ -100,7 +100,9 @@ fn assign(
     let t = p.m.typed();
     let access = access_of(p, to);
     let guard = guard_of(p, to);
-    let from = at.behind_base(access.target)?.behind_index(access.target, guard)?;
+    let from = at
+        .behind_base(access.target)?
+        .behind_index(access.target, guard)?;
     place(p, scope, at, access.site, None, guard, to, lines)?;
     let mode = pointed(p.m, row_of(t, to));
     right(p, scope, from, t.kind_at(to), mode, value, lines)?;
@@ -147,7 +149,15 @@ fn initial(
                 int: 0,
                 reference: 0,
             };
-            store(p, scope, none, at, own_access(site), is_reference(kind), lines)
+            store(
+                p,
+                scope,
+                none,
+                at,
+                own_access(site),
+                is_reference(kind),
+                lines,
+            )
         }
     }
 }
@@ -171,7 +181,7 @@ fn own_access<'a>(site: Site) -> Access<'a>
     }
 }
 
-/// A declaration: the variable stands from then on.
+/// A declaration: the variable is in scope from then on.
 fn local(
     p: &Source<'_>,
     slots: &mut Vec<Slot>,
@@ -188,7 +198,7 @@ fn local(
     initial(p, slots.as_slice(), declaration, &local.initial, lines)
 }
 
-/// What stands first in the head of a `for`.
+/// The first part of the head of a `for`.
 fn first(
     p: &Source<'_>,
     slots: &mut Vec<Slot>,
@@ -306,7 +316,8 @@ fn returned(
     }
 }
 
-/// The second side of a choice begins: where the test is not met, the lines before are led over, and they lead over what follows. The line that does so.
+/// The second side of a choice begins: a test that is not met leads here, and the line that is returned leads from the
+/// first side over the second.
 fn other_side(hole: Hole, lines: &mut Vec<Op>) -> Result<usize, AllocError>
     requires { hole.line < vec_len lines.old }
     ensures code { OnOk result (lines.new.items ≡ slice_set lines.old.items hole.line (Op.SkipIfZero hole.register (length lines.old.items - hole.line - 1 + 1)) ++ Op.Skip 0 ∷ []) }
@@ -318,7 +329,7 @@ fn other_side(hole: Hole, lines: &mut Vec<Op>) -> Result<usize, AllocError>
     Ok(over)
 }
 
-/// A statement under a test or in a loop: what it declares ends behind it.
+/// A statement under a test or in a loop: what it declares is not in scope after it.
 #[cycle(statement)]
 fn inner(
     p: &Source<'_>,
@@ -489,7 +500,16 @@ fn counted(
     marks.push(began)?;
     first(p, slots, &head.first, lines)?;
     let test = head.test.as_ref();
-    turns(p, slots, marks, around, test, head.step.as_ref(), body, lines)?;
+    turns(
+        p,
+        slots,
+        marks,
+        around,
+        test,
+        head.step.as_ref(),
+        body,
+        lines,
+    )?;
     marks.truncate(depth);
     end_block(slots.as_slice(), began, lines)?;
     slots.truncate(began);

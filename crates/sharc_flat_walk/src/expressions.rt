@@ -20,19 +20,19 @@ ghost use Rattle.sharc_ctype.specs.Expressions.{class_of, binary_result};
 ghost use Rattle.sharc_flat.specs.Places.{width_of};
 
 use crate::lookups::{element_cells, field_named, first_cell, global_elements, layout_of};
-use crate::patch::{Hole, skip_if_zero};
-use crate::places::{Bound, Taking, emit, index_bounds, pointee, take, value};
-use crate::registers::Registers;
-use sharc_flat::slot::Slot;
-use crate::source::Source;
-use crate::spots::{Access, at_site, at_words, beside_field, cell_of, object_spot, tokens_in};
-use crate::target::{Target, global_of, lvalue_of, own_field, target_of};
 use crate::operations::{
     Evaluation, called, compare, constant, evaluation_of, is_reference, narrow, number_named,
     on_value, operator_of, spawned, truth, width_of,
 };
+use crate::patch::{Hole, skip_if_zero};
+use crate::places::{Bound, Taking, emit, index_bounds, pointee, take, value};
+use crate::registers::Registers;
+use crate::source::Source;
+use crate::spots::{Access, at_site, at_words, beside_field, cell_of, object_spot, tokens_in};
+use crate::target::{Target, global_of, lvalue_of, own_field, target_of};
 use sharc_code::{Use, Width};
 use sharc_ctype::typed::Typed;
+use sharc_flat::slot::Slot;
 use sharc_flat_form::Op;
 use sharc_mode::cell::{cell_of as mode_of, pointed};
 use sharc_mode::row::cast_row;
@@ -54,7 +54,7 @@ pub fn access_of<'a>(p: &'a Source<'_>, expr: &'a Expr) -> Access<'a>
     access_at(p, expr.span().first, expr)
 }
 
-/// The same, told as this place of the source.
+/// The same, for this place of the source.
 fn access_at<'a>(p: &'a Source<'_>, site: Site, expr: &'a Expr) -> Access<'a>
     ensures site { result.site ≡ site }
     ensures lvalue { result.lvalue ≡ lvalue_of p.now.m.now.typed (view_expr expr.now) }
@@ -83,7 +83,7 @@ pub fn guard_of(p: &Source<'_>, expr: &Expr) -> Option<u32>
     beside_field(p, mode_of(p.m, expr))
 }
 
-/// The value of what an lvalue names, behind what finds it.
+/// The value of what an lvalue names, after the code that finds it.
 fn lvalue(
     p: &Source<'_>,
     scope: &[Slot],
@@ -166,7 +166,7 @@ fn after_first(parameters: &[Declaration]) -> &[Declaration]
     }
 }
 
-/// `lock`, behind what finds the mutex.
+/// `lock`, after the code that finds the mutex.
 fn lock(
     p: &Source<'_>,
     at: Registers,
@@ -184,7 +184,7 @@ fn lock(
     emit(Op::Lock(cell, spot), lines)
 }
 
-/// `unlock`, behind what finds the mutex.
+/// `unlock`, after the code that finds the mutex.
 fn unlock(
     p: &Source<'_>,
     at: Registers,
@@ -208,7 +208,7 @@ fn unlock(
     }
 }
 
-/// `free`, behind what finds the pointer.
+/// `free`, after the code that finds the pointer.
 fn free(
     p: &Source<'_>,
     scope: &[Slot],
@@ -258,7 +258,7 @@ fn on_place(
     }
 }
 
-/// A sharing cast that stands at these tokens, behind what finds its source.
+/// The sharing cast at these tokens, after the code that finds its source.
 fn cast(
     p: &Source<'_>,
     scope: &[Slot],
@@ -298,7 +298,10 @@ fn unary(
     match operator {
         UnaryOperator::Negate => {
             let width = width_of(promoted(p.m.typed().kind_at(operand)));
-            emit(Op::Negate(width, at.int, at.int, at_site(span.first)), lines)
+            emit(
+                Op::Negate(width, at.int, at.int, at_site(span.first)),
+                lines,
+            )
         }
         UnaryOperator::Not => {
             truth(is_ref(p, operand), at, lines)?;
@@ -307,7 +310,14 @@ fn unary(
         UnaryOperator::Complement => emit(Op::Complement(at.int, at.int), lines),
         UnaryOperator::Dereference => {
             pointee(at.reference, span.first, lines)?;
-            value(p, scope, at, access_at(p, span.first, expr), is_ref(p, expr), lines)
+            value(
+                p,
+                scope,
+                at,
+                access_at(p, span.first, expr),
+                is_ref(p, expr),
+                lines,
+            )
         }
     }
 }
@@ -328,7 +338,10 @@ fn computed(
     } else {
         let of = operator_of(operator);
         let spot = at_site(site);
-        emit(Op::Compute(width, of, at.int, at.int, at.int + 1, spot), lines)
+        emit(
+            Op::Compute(width, of, at.int, at.int, at.int + 1, spot),
+            lines,
+        )
     }
 }
 
@@ -391,7 +404,14 @@ pub fn expression(
         Expr::Parentheses(_, inner) => expression(p, scope, at, inner, lines),
         Expr::Call(span, of, all) => {
             let named = t.named(of.site.token);
-            arguments(p, scope, at, parameters_named(t, named), all.as_slice(), lines)?;
+            arguments(
+                p,
+                scope,
+                at,
+                parameters_named(t, named),
+                all.as_slice(),
+                lines,
+            )?;
             let text = of.text.as_slice();
             called(at, at_site(span.first), named, text, all.as_slice(), lines)
         }
@@ -400,7 +420,13 @@ pub fn expression(
             expression(p, scope, at, argument, lines)?;
             let site = argument.span().first;
             passed(at.int, parameters_named(t, named), site, lines)?;
-            spawned(is_ref(p, argument), at, number_named(named), span.first, lines)
+            spawned(
+                is_ref(p, argument),
+                at,
+                number_named(named),
+                span.first,
+                lines,
+            )
         }
         Expr::OnValue(span, call, argument) => {
             expression(p, scope, at, argument, lines)?;
@@ -412,7 +438,16 @@ pub fn expression(
             on_place(p, scope, at, *span, *call, of, lines)
         }
         Expr::Cast(span, _, of) => {
-            place(p, scope, at, of.span().first, None, guard_of(p, of), of, lines)?;
+            place(
+                p,
+                scope,
+                at,
+                of.span().first,
+                None,
+                guard_of(p, of),
+                of,
+                lines,
+            )?;
             cast(p, scope, at, *span, of, lines)
         }
         Expr::Index(span, base, number) => {
@@ -429,7 +464,9 @@ pub fn expression(
             name,
         } => {
             let guard = guard_of(p, expr);
-            field(p, scope, at, span.first, None, guard, base, *access, name, lines)?;
+            field(
+                p, scope, at, span.first, None, guard, base, *access, name, lines,
+            )?;
             lvalue(p, scope, at, expr, lines)
         }
         Expr::Unary(span, operator, operand) => {
@@ -484,7 +521,7 @@ fn binary(
     }
 }
 
-/// The right operand of `&&` or `||`, where it decides: where the register is 0, the code leads over it, and so many operations behind it.
+/// The right operand of `&&` or `||`: where the register is 0, the code leads over it, and so many operations after it.
 #[cycle(expression)]
 fn decided(
     p: &Source<'_>,
@@ -508,7 +545,7 @@ fn decided(
     emit(Op::IsFalse(at.int, at.int), lines)
 }
 
-/// Each argument in the registers behind those before it.
+/// Each argument, in the registers after those of the arguments before it.
 #[cycle(expression)]
 fn arguments(
     p: &Source<'_>,
@@ -535,7 +572,8 @@ fn arguments(
     Ok(())
 }
 
-/// What an lvalue names, for this field of it if one is told, and with the pointer to a mutex in that field of the same element.
+/// What an lvalue names, for this field of it if there is one, and with the pointer to a mutex in that field of the
+/// same element.
 #[cycle(expression)]
 pub fn place(
     p: &Source<'_>,
@@ -579,7 +617,7 @@ pub fn place(
     }
 }
 
-/// What is indexed, and the first registers for the index: an array has none of its own, a pointer stands in a reference.
+/// What is indexed, and the first registers for the index: an array takes none, a pointer takes a reference.
 #[cycle(expression)]
 fn indexed(
     p: &Source<'_>,

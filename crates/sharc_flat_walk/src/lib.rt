@@ -1,7 +1,7 @@
 //! The flat code of a function's body, made from its source.
 //!
-//! The layer above may use `walk::function_lines`, whose contract is `function_code` of sharc_flat, and `source::Source`,
-//! what is looked up in a program while it is flattened, with the look-ups of `lookups`.
+//! The layer above may use `walk::function_lines`, whose contract is `function_code` of sharc_flat, and
+//! `source::Source`, what is looked up in a program while it is flattened, with the look-ups of `lookups`.
 #![tactic(auto)]
 
 mod bodies;

@@ -153,7 +153,7 @@ fn place_of_name(fields: &[Declaration], name: &[u8]) -> Result<u32, AllocError>
     Ok(0)
 }
 
-/// The place of the field with this name behind the variable that this token declares.
+/// The place of the field with this name, in the struct to which the variable that this token declares points.
 pub fn field_place_behind(t: &Typed, variable: u32, name: &[u8]) -> Result<u32, AllocError>
     ensures { IfOk result (λ n. n ≡ field_place_behind t.now variable name.now) }
 {

@@ -64,10 +64,7 @@ pub fn narrow(
     ensures { OnOk result (lines.new.items ≡ lines.old.items ++ width_code register (view_kind kind.entry) site) }
 {
     if is_integer(kind) {
-        emit(
-            Op::ChkWidth(width_of(kind), register, at_site(site)),
-            lines,
-        )
+        emit(Op::ChkWidth(width_of(kind), register, at_site(site)), lines)
     } else {
         Ok(())
     }
@@ -260,10 +257,7 @@ fn wait(
     let of_condition = with_words(spot, first_words(arguments)?);
     let of_mutex = with_words(spot, second_words(arguments)?);
     wait_begins(register, spot, lines)?;
-    emit(
-        Op::CondWait(Cell::Object(register, 0), of_condition),
-        lines,
-    )?;
+    emit(Op::CondWait(Cell::Object(register, 0), of_condition), lines)?;
     emit(Op::Lock(Cell::Object(register + 2, 0), of_mutex), lines)?;
     emit(Op::Pop(register), lines)?;
     emit(Op::Pop(register + 1), lines)
@@ -292,7 +286,7 @@ fn condition(
     emit(Op::Pop(register), lines)
 }
 
-/// A call, behind its arguments.
+/// A call, after its arguments.
 pub fn called(
     at: Registers,
     spot: Spot,
@@ -323,7 +317,7 @@ pub fn number_named(named: Named) -> u32
     }
 }
 
-/// `spawn`, behind its argument.
+/// `spawn`, after its argument.
 pub fn spawned(
     is_ref: bool,
     at: Registers,
@@ -341,7 +335,7 @@ pub fn spawned(
     emit(Op::Spawn(at.int, function, from, at_site(site)), lines)
 }
 
-/// `join` or `print`, behind its argument.
+/// `join` or `print`, after its argument.
 pub fn on_value(
     call: ValueCall,
     register: u32,

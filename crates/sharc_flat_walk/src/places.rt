@@ -10,13 +10,13 @@ ghost use Rattle.sharc_flat.specs.Scope.{at_words};
 ghost use Rattle.sharc_flat.specs.Places.{guard_field};
 ghost use Rattle.sharc_flat_walk.specs.View.{context, view_target, use_of, bounds_by};
 
-use crate::scope::{number_in, register_of};
 use crate::registers::Registers;
-use sharc_flat::slot::Slot;
+use crate::scope::{number_in, register_of};
 use crate::source::Source;
 use crate::spots::{Access, at_site, at_words, cell_of, guard_cell, guard_field, spot_of};
 use crate::target::Target;
 use sharc_code::{PlaceMode, Register, Use};
+use sharc_flat::slot::Slot;
 use sharc_flat_form::{Op, Spot};
 use sharc_tree::token::Site;
 use std::alloc::AllocError;
@@ -37,7 +37,7 @@ fn guard_spot(access: Access<'_>) -> Result<Spot, AllocError>
     Ok(spot)
 }
 
-/// The pointer to the mutex is read, where the access is locked behind one.
+/// The pointer to the mutex is read, where the access is locked through one.
 fn guard(
     p: &Source<'_>,
     at: Registers,
@@ -66,7 +66,7 @@ fn drop_base(register: u32, target: Target, lines: &mut Vec<Op>) -> Result<(), A
     }
 }
 
-/// The reference behind the base takes its place.
+/// The reference after the base takes its place.
 fn settle_base(at: Registers, target: Target, lines: &mut Vec<Op>) -> Result<(), AllocError>
     ensures { OnOk result (lines.new.items ≡ lines.old.items ++ settle_base at.reference (view_target target)) }
 {
@@ -271,12 +271,19 @@ pub fn pointee(register: u32, site: Site, lines: &mut Vec<Op>) -> Result<(), All
     emit(Op::ChkNull(register, at_site(site)), lines)
 }
 
-/// How the number of an element becomes that of a cell: in an object in this register, or in a global of so many elements; each of so many cells, where
-/// the first is that one.
+/// How the number of an element becomes that of a cell: in an object in this register, or in a global of so many
+/// elements whose first cell is this one; each element has so many cells.
 #[derive(Clone, Copy)]
 pub enum Bound {
-    Object { register: u32, cells: u32 },
-    Global { elements: u32, cells: u32, first: u32 },
+    Object {
+        register: u32,
+        cells: u32,
+    },
+    Global {
+        elements: u32,
+        cells: u32,
+        first: u32,
+    },
 }
 
 fn bounds(
@@ -308,7 +315,8 @@ fn bounds(
     }
 }
 
-/// The number of an element becomes that of this field of it, and in the next register of that one, if one is told.
+/// The number of an element becomes that of this field's cell, and in the next register that of the mutex's cell, if
+/// there is one.
 pub fn index_bounds(
     bound: Bound,
     at: Registers,

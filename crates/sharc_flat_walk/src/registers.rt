@@ -109,7 +109,8 @@ impl Registers {
         }
     }
 
-    /// Those after the number of the cell that something names, where that is found by an index, and after the number of the mutex's cell.
+    /// Those after the number of the cell that something names, where that is found by an index, and after that of the
+    /// mutex's cell.
     pub fn behind_index(self, target: Target, guard: Option<u32>) -> Result<Registers, AllocError>
         ensures int { IfOk result (λ r. r.int ≡ self.int + index_width (view_target target) guard) }
         ensures reference { IfOk result (λ r. r.reference ≡ self.reference) }

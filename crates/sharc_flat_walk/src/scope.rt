@@ -5,8 +5,8 @@ ghost use Rattle.sharc_flat.specs.Scope.{slot_of, register_from, register_of, nu
 ghost use Rattle.sharc_flat_walk.specs.View.{innermost};
 
 use crate::registers::Registers;
-use sharc_flat::slot::Slot;
 use sharc_code::Register;
+use sharc_flat::slot::Slot;
 use sharc_flat_form::Op;
 use sharc_names::kind::{declared_kind, is_pointer};
 use sharc_tree::tree::Declaration;
@@ -42,7 +42,7 @@ pub fn next(number: u32) -> Result<u32, AllocError>
     }
 }
 
-/// The register of the variable that this token declares. There are as many steps as variables, of which a function has few.
+/// The register of the variable that this token declares. There are as many steps as variables in scope, at most 216.
 pub fn register_of(scope: &[Slot], token: u32) -> Result<Register, AllocError>
     ensures { IfOk result (λ register. register ≡ register_of scope.now token) }
 {
@@ -79,7 +79,7 @@ fn pops(scope: &[Slot], from: u32, lines: &mut Vec<Op>) -> Result<(), AllocError
     Ok(())
 }
 
-/// The first free registers after these variables. There are as many steps as variables, of which a function has few.
+/// The first free registers after these variables, at most 216.
 pub fn free(scope: &[Slot]) -> Result<Registers, AllocError>
     ensures int { IfOk result (λ r. r.int ≡ int_count scope.now) }
     ensures reference { IfOk result (λ r. r.reference ≡ ref_count scope.now) }

@@ -13,7 +13,8 @@ use sharc_mode::moded::Moded;
 use sharc_tree::tree::{Declaration, StructDefinition};
 use std::alloc::{AllocError, Global};
 
-/// A program with its modes, the places of its globals, its structs by their names, and the places of its fields by the tokens that declare them.
+/// A program with its modes, the places of its globals, its structs by their names, and the places of its fields by the
+/// tokens that declare them.
 #[derive(Drop)]
 pub struct Source<'a> {
     pub m: &'a Moded,
@@ -43,10 +44,7 @@ fn enter_struct<'a>(
 }
 
 /// The structs of a program by their names. Of two structs with one name the first stays, so the last is entered first.
-fn structs_of<'a>(
-    alloc: Global,
-    t: &'a Typed,
-) -> Result<IndexMap<&'a [u8], StructRow>, AllocError>
+fn structs_of<'a>(alloc: Global, t: &'a Typed) -> Result<IndexMap<&'a [u8], StructRow>, AllocError>
     ensures cells { IfOk result (λ rows. HasCells (structs_in t.now.program.items) rows) }
     ensures layouts { IfOk result (λ rows. HasLayouts 2 (length (structs_in t.now.program.items) + 2) (structs_in t.now.program.items) rows) }
 {

@@ -11,19 +11,19 @@ ghost use Rattle.sharc_flat.specs.Scope.{register_of, number_in, no_text, tokens
 ghost use Rattle.sharc_flat_walk.specs.View.{context, view_target};
 
 use crate::lookups::{cell_in, field_place, field_place_behind, first_cell, is_behind_pointer};
-use crate::scope::{number_in, register_of};
-use sharc_flat::slot::{Lvalue, Slot};
 use crate::registers::Registers;
+use crate::scope::{number_in, register_of};
 use crate::source::Source;
 use crate::target::Target;
 use sharc_code::{Cell, PlaceMode, Text, Use};
+use sharc_flat::slot::{Lvalue, Slot};
 use sharc_flat_form::Spot;
 use sharc_mode::sharing::{Lock, Sharing};
 use sharc_names::fault::Named;
 use sharc_tree::token::{Site, Span};
 use std::alloc::AllocError;
 
-/// The cell that something names, whose base and number stand in the first of these registers.
+/// The cell that something names, whose base and number are in the first of these registers.
 pub fn cell_of(p: &Source<'_>, at: Registers, target: Target) -> Result<Cell, AllocError>
     ensures { IfOk result (λ cell. cell ≡ cell_of p.now.globals.items at.int at.reference (view_target target)) }
 {
@@ -73,7 +73,7 @@ fn guard_named(p: &Source<'_>, lock: Lock<'_>, named: Named) -> Option<u32>
     }
 }
 
-/// The field with the pointer to the mutex, where an access is locked behind one.
+/// The field with the pointer to the mutex, where an access is locked through one.
 pub fn guard_field(p: &Source<'_>, mode: Sharing<'_>) -> Option<u32>
     ensures { result ≡ guard_field p.now.m.now.typed (view_sharing mode.entry) }
 {
@@ -112,7 +112,7 @@ pub fn beside_field(p: &Source<'_>, mode: Sharing<'_>) -> Option<u32>
     }
 }
 
-/// The mode of what is locked by the mutex behind a variable.
+/// The mode of what is locked by the mutex to which a variable leads.
 fn through(
     p: &Source<'_>,
     scope: &[Slot],
@@ -279,7 +279,7 @@ pub fn at_site(site: Site) -> Spot
     }
 }
 
-/// The same, of an lvalue or an expression that is told with it.
+/// The same, with the words of an lvalue or an expression.
 pub fn at_words(site: Site, words: Span, at: Use) -> Result<Spot, AllocError>
     ensures { IfOk result (λ spot. spot ≡ at_words site words at) }
 {

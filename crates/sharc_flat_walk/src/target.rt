@@ -7,13 +7,14 @@ ghost use Rattle.sharc_flat.specs.Places.{own_field, named_target, target, globa
 ghost use Rattle.sharc_flat_walk.specs.View.{view_target};
 
 use crate::lookups::field_named;
-use sharc_flat::slot::Lvalue;
 use crate::source::Source;
+use sharc_flat::slot::Lvalue;
 use sharc_names::fault::Named;
 use sharc_names::kind::is_array;
 use sharc_tree::tree::{Access, Constant, Expr, UnaryOperator};
 
-/// What an lvalue names: a variable; a field of a global or of an element of one; a field of the first element of an object or of another one.
+/// What an lvalue names: a variable; a field of a global or of an element of one; a field of the first element of an
+/// object or of another one.
 #[derive(Clone, Copy)]
 pub enum Target {
     Variable(u32),
@@ -23,7 +24,7 @@ pub enum Target {
     InObjectAt(u32),
 }
 
-/// The field of an element that is told by what stands around it, else its own.
+/// The field of an element that the access around it names, else its own.
 pub fn own_field(field: Option<u32>, otherwise: u32) -> u32
     ensures { result ≡ own_field field otherwise }
 {
@@ -59,7 +60,7 @@ pub fn global_of(target: Target) -> u32
     }
 }
 
-/// What an lvalue names, for this field of it if one is told.
+/// What an lvalue names, for this field of it if there is one.
 pub fn target_of(p: &Source<'_>, field: Option<u32>, expr: &Expr) -> Target
     ensures { view_target result ≡ target p.now.m.now.typed field (view_expr expr.now) }
 {
@@ -102,7 +103,7 @@ pub fn target_of(p: &Source<'_>, field: Option<u32>, expr: &Expr) -> Target
 }
 
 impl Target {
-    /// Whether it is a cell of an object, whose reference stands in a register.
+    /// Whether it is a cell of an object, whose reference is in a register.
     pub fn has_base(self) -> bool
         ensures { result ≡ has_base (view_target self) }
     {

@@ -18,7 +18,8 @@ use sharc_names::kind::declared_kind;
 use sharc_tree::tree::{Declaration, FunctionDefinition};
 use std::alloc::{AllocError, Global};
 
-/// The lists that are kept from one function to the next: the variables in scope, and for each open block the number of variables in scope where it began.
+/// The lists that are kept from one function to the next: the variables in scope, and for each open block the number of
+/// variables in scope where it began.
 #[derive(Drop)]
 pub struct Walk {
     slots: Vec<Slot>,
@@ -53,7 +54,8 @@ fn begin(
     Ok(())
 }
 
-/// The code of a function, at the end of these lines. It fails where a number of a register or of a line is too large, or where memory is short.
+/// The code of a function, at the end of these lines. It fails where the number of a register, a line, a cell or an
+/// element is too large, or where memory is short.
 pub fn function_lines(
     p: &Source<'_>,
     walk: &mut Walk,
@@ -83,10 +85,7 @@ pub fn function_lines(
 }
 
 /// The first registers after a function's parameters.
-pub fn parameters_free(
-    walk: &mut Walk,
-    parameters: &[Declaration],
-) -> Result<Registers, AllocError>
+pub fn parameters_free(walk: &mut Walk, parameters: &[Declaration]) -> Result<Registers, AllocError>
     ensures int { IfOk result (λ r. r.int ≡ int_count (parameters_scope parameters.now)) }
     ensures reference { IfOk result (λ r. r.reference ≡ ref_count (parameters_scope parameters.now)) }
 {

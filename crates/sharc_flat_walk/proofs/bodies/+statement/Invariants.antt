@@ -9,5 +9,5 @@ invariant-statements-loop-stmt l = record {
   code : l.lines.items ++ statements_code (context l.p l.slots.items) (around_of l.around l.fn.marks.items) (length l.lines.items) (view_statements (drop l.stmt-index l.all))
       ≡ l.fn.lines.items ++ statements_code (context l.p l.fn.slots.items) (around_of l.around l.fn.marks.items) (length l.fn.lines.items) (view_statements l.all);
   scope : (behind_statements (context l.p l.slots.items) (view_statements (drop l.stmt-index l.all))).scope ≡ (behind_statements (context l.p l.fn.slots.items) (view_statements l.all)).scope;
-  marks : l.marks.items ≡ l.fn.marks.items
+  marks : l.marks.items ≡ l.fn.marks.items;
 }

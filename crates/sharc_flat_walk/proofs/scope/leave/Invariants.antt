@@ -9,5 +9,5 @@ decreases-loop-depth l = l.depth
 abbrev pub invariant-loop-depth : goal.invariant-loop-depth
 invariant-loop-depth l = record {
   few : l.depth ≤ length l.marks;
-  code : l.lines.items ++ leaves l.left (innermost l.kept (take l.depth l.marks)) ≡ l.initial.lines.items ++ leaves l.scope (innermost l.kept l.marks)
+  code : l.lines.items ++ leaves l.left (innermost l.kept (take l.depth l.marks)) ≡ l.initial.lines.items ++ leaves l.scope (innermost l.kept l.marks);
 }

@@ -1,4 +1,4 @@
-use Rattle.std.proofs.Common.{◌≡◌, ◌≤◌, ℕ, length, drop, unwrap_or}
+use Rattle.std.proofs.Common.{◌≤◌, length}
 use Rattle.sharc_flat_walk.proofs.StructLemmas.{HasFrom}
 use Rattle.sharc_flat_walk.proofs.source.enter_fields.Given as goal
 
@@ -8,5 +8,5 @@ decreases-loop-left l = l.left
 abbrev pub invariant-loop-left : goal.invariant-loop-left
 invariant-loop-left l = record {
   few : l.left ≤ length l.fields;
-  places : HasFrom l.fields l.left l.initial.places l.places
+  places : HasFrom l.fields l.left l.initial.places l.places;
 }

@@ -11,5 +11,5 @@ loop-left-preserved c =
     record {
       few = omega arith;
       fields = fields_more all c.loop-left.left c.in-Some.definition.now c.loop-left.places c.enter_fields.new.places some (sym c.in-Some.ensures.definition)
-          (subst (λ l. HasPlaces l c.loop-left.places c.enter_fields.new.places) c.as_slice.ensures c.in_ok-enter_fields-in-Some.ensures) c.loop-left.invariant.fields
+          (subst (λ l. HasPlaces l c.loop-left.places c.enter_fields.new.places) c.as_slice.ensures c.in_ok-enter_fields-in-Some.ensures) c.loop-left.invariant.fields;
     }

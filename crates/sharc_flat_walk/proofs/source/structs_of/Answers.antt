@@ -12,5 +12,5 @@ loop-left-preserved c =
     record {
       few = omega arith;
       cells = cells_more all left (left - 1 + 2) c.in-Some.definition.now c.loop-left.structs new some (sym c.in-Some.ensures.definition) c.in_ok-enter_struct-in-Some.ensures c.loop-left.invariant.cells;
-      layouts = layouts_more all left (length all + 2) c.in-Some.definition.now c.loop-left.structs new some (sym c.in-Some.ensures.definition) c.in_ok-enter_struct-in-Some.ensures c.loop-left.invariant.layouts
+      layouts = layouts_more all left (length all + 2) c.in-Some.definition.now c.loop-left.structs new some (sym c.in-Some.ensures.definition) c.in_ok-enter_struct-in-Some.ensures c.loop-left.invariant.layouts;
     }
