@@ -30,7 +30,8 @@ fn a_megabyte(rt: HostRuntime) -> Result<(), Fail> {
     Ok(())
 }
 
-/// About as many functions as there may be, each with a call of the first: six lines for each, and three for the first and for `main`.
+/// About as many functions as there may be, each with a call of the first: six lines for each, and three for the first
+/// and for `main`.
 #[test]
 fn all_functions(rt: HostRuntime) -> Result<(), Fail> {
     let alloc = rt.alloc();

@@ -117,7 +117,8 @@ fn cell(op: Op) -> Option<Cell> {
     }
 }
 
-/// A cell of a global or of the object in a register: a number is a cell, one in brackets the register that has the number of the cell.
+/// A cell of a global or of the object in a register: a number is a cell, one in brackets the register that has the
+/// number of the cell.
 fn cell_text(alloc: Global, cell: Cell) -> Result<String, AllocError> {
     match cell {
         Cell::Object(reference, cell) => format!(in alloc; " o{reference}.{cell}"),

@@ -56,9 +56,11 @@ fn names(alloc: Global, flat: &Flat) -> Result<Vec<u8>, AllocError> {
 
 const ACCESSES: &str = "\
 mutex g; int locked(g) h; int main(void) { h = 1; return h; } => h:g;h:g;
-struct s { mutex m; int locked(m) n; }; void f(struct s dynamic * p) { ((p)->n) = p -> n; } int main(void) { } => p->n:p->m;((p)->n):(p)->m;
+struct s { mutex m; int locked(m) n; }; void f(struct s dynamic * p) { ((p)->n) = p -> n; \
+} int main(void) { } => p->n:p->m;((p)->n):(p)->m;
 struct s { mutex m; }; void f(struct s dynamic * q, int locked(q->m) * x) { *x = 1; } int main(void) { } => *x:q->m;
-struct s { mutex racy * readonly m; int locked(m) n; }; void f(struct s dynamic * p) { p->n = 1; } int main(void) { } => p->n:;p->n:*p->m;
+struct s { mutex racy * readonly m; int locked(m) n; }; void f(struct s dynamic * p) { p->n = 1; \
+} int main(void) { } => p->n:;p->n:*p->m;
 int main(void) { int private * p = malloc(3 * sizeof(int)); p [ 1 ] = p[0 + 1] ; free(p); } => p[0+1]:;p[1]:;p:;
 void f(int private * p) { *SCAST(int dynamic * , p) = 1; } int main(void) { } => p:;*SCAST(int dynamic*,p):;
 ";

@@ -7,7 +7,8 @@ use Rattle.sharc_code.specs.declared.code.Text.{Text}
 -- each of the tokens in the text of all of them, the first at this place
 abbrev pub places_from : ℕ → List Token → List Text
 places_from at [] = []
-places_from at (t ∷ rest) = record { from = at; until = at + length t.text } ∷ places_from (at + length (t.text ++ blank_between t rest)) rest
+places_from at (t ∷ rest) = record { from = at; until = at + length t.text }
+    ∷ places_from (at + length (t.text ++ blank_between t rest)) rest
 
 -- a text lies there among the bytes, whatever comes after these
 abbrev pub LiesIn : List ℕ → Text → List ℕ → Type 0

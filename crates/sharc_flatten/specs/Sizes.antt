@@ -6,7 +6,9 @@ use Rattle.sharc_flat_form.specs.declared.op.Spot.{Spot}
 
 -- of one operation, and of all lines
 abbrev pub IsFew : Op → Type 0
-IsFew o = (i elements cells field : ℕ) (spot : Spot) → o ≡ op.GlobalBounds i elements cells field spot → elements * cells + field < 2 ^ 63
+IsFew o = (i elements cells field : ℕ) (spot : Spot)
+    → o ≡ op.GlobalBounds i elements cells field spot → elements * cells + field < 2 ^ 63
 
 abbrev pub AreFew : List Op → Type 0
-AreFew lines = (n i elements cells field : ℕ) (spot : Spot) → slice_get lines n ≡ Some (op.GlobalBounds i elements cells field spot) → elements * cells + field < 2 ^ 63
+AreFew lines = (n i elements cells field : ℕ) (spot : Spot)
+    → slice_get lines n ≡ Some (op.GlobalBounds i elements cells field spot) → elements * cells + field < 2 ^ 63

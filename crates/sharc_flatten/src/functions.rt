@@ -5,7 +5,8 @@ ghost use Rattle.sharc_tree.specs.View.{view_function};
 ghost use Rattle.sharc_names.specs.View.{view_kind};
 ghost use Rattle.sharc_ctype.specs.Resolved.{functions_in};
 ghost use Rattle.sharc_flatten.specs.Rows.{row_with};
-ghost use Rattle.sharc_flat.specs.Flattened.{parameter_in, parameter_of, row_of, rows_of, function_code, functions_code};
+ghost use Rattle.sharc_flat.specs.Flattened.{parameter_in, parameter_of, row_of, rows_of};
+ghost use Rattle.sharc_flat.specs.Flattened.{function_code, functions_code};
 
 use crate::need::{ints_in, refs_in};
 use sharc_code::{Function, Parameter};
@@ -39,7 +40,8 @@ fn parameter_of(parameters: &[Declaration]) -> Parameter
     }
 }
 
-/// The row of a function whose code are these lines, from this one on. Its frame has the registers of the parameters and those that the code needs.
+/// The row of a function whose code are these lines, from this one on. Its frame has the registers of the parameters
+/// and those that the code needs.
 fn row_of(
     walk: &mut Walk,
     of: &FunctionDefinition,
@@ -67,8 +69,10 @@ fn function(
     of: &FunctionDefinition,
     lines: &mut Vec<Op>,
 ) -> Result<Function, AllocError>
-    ensures row { IfOk result (λ row. row ≡ row_of p.now.m.now p.now.globals.items (length lines.old.items) (view_function of.now)) }
-    ensures code { OnOk result (lines.new.items ≡ lines.old.items ++ function_code p.now.m.now p.now.globals.items (length lines.old.items) (view_function of.now)) }
+    ensures row { IfOk result (λ row. row
+        ≡ row_of p.now.m.now p.now.globals.items (length lines.old.items) (view_function of.now)) }
+    ensures code { OnOk result (lines.new.items ≡ lines.old.items
+        ++ function_code p.now.m.now p.now.globals.items (length lines.old.items) (view_function of.now)) }
 {
     let entry = lines.len();
     function_lines(p, walk, of, lines)?;
@@ -82,8 +86,10 @@ pub fn functions(
     lines: &mut Vec<Op>,
 ) -> Result<Vec<Function>, AllocError>
     requires { lines.old.items ≡ [] }
-    ensures rows { IfOk result (λ rows. rows.items ≡ rows_of p.now.m.now p.now.globals.items 0 (functions_in p.now.m.now.typed.program.items)) }
-    ensures code { OnOk result (lines.new.items ≡ functions_code p.now.m.now p.now.globals.items 0 (functions_in p.now.m.now.typed.program.items)) }
+    ensures rows { IfOk result (λ rows. rows.items
+        ≡ rows_of p.now.m.now p.now.globals.items 0 (functions_in p.now.m.now.typed.program.items)) }
+    ensures code { OnOk result (lines.new.items
+        ≡ functions_code p.now.m.now p.now.globals.items 0 (functions_in p.now.m.now.typed.program.items)) }
 {
     let t = p.m.typed();
     let mut rows = Vec::with_capacity(alloc, t.function_count())?;

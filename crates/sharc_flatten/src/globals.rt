@@ -15,7 +15,7 @@ use sharc_names::kind::declared_kind;
 use sharc_tree::tree::{Constant, GlobalDefinition, GlobalForm};
 use std::alloc::{AllocError, Global};
 
-/// The globals of a program: where each lies, how many granules all of them have, and what the cells of these hold at first.
+/// The globals of a program: where each lies, how many granules they have, and what the cells of these hold at first.
 #[derive(Drop)]
 pub struct Globals {
     pub list: Vec<GlobalCells>,
@@ -43,7 +43,8 @@ fn add_zeros(count: u64, words: &mut Vec<u64>) -> Result<(), AllocError>
 
 /// The words of so many granules, all 0 but the first.
 fn add_words(granules: u32, first: u64, words: &mut Vec<u64>) -> Result<(), AllocError>
-    ensures { OnOk result (words.new.items ≡ words.old.items ++ take (2 * granules) (first ∷ replicate (2 * granules) 0)) }
+    ensures { OnOk result (words.new.items
+        ≡ words.old.items ++ take (2 * granules) (first ∷ replicate (2 * granules) 0)) }
 {
     if granules == 0 {
         return Ok(());
@@ -57,9 +58,11 @@ impl Globals {
 
     /// One global more, with so many cells, of which the first holds this word.
     fn add(&mut self, cells: u32, first: u64) -> Result<(), AllocError>
-        ensures list { OnOk result (self.new.list.items ≡ self.old.list.items ++ record { granule = self.old.granules + 1; cells = cells } ∷ []) }
+        ensures list { OnOk result (self.new.list.items
+            ≡ self.old.list.items ++ record { granule = self.old.granules + 1; cells = cells } ∷ []) }
         ensures granules { OnOk result (self.new.granules ≡ self.old.granules + (cells + 1) / 2) }
-        ensures initial { OnOk result (self.new.initial.items ≡ self.old.initial.items ++ take (2 * ((cells + 1) / 2)) (first ∷ replicate (2 * ((cells + 1) / 2)) 0)) }
+        ensures initial { OnOk result (self.new.initial.items ≡ self.old.initial.items
+            ++ take (2 * ((cells + 1) / 2)) (first ∷ replicate (2 * ((cells + 1) / 2)) 0)) }
     {
         let granule = plus(self.granules, 1)?;
         let granules = granules_of(cells);
@@ -121,8 +124,10 @@ fn first_word(form: &GlobalForm) -> u64
 /// Where the globals lie, one after the other from granule 1 on, and what their cells hold at first.
 pub fn globals_of(alloc: Global, p: &Source<'_>) -> Result<Globals, AllocError>
     ensures list { IfOk result (λ all. all.list.items ≡ globals_of p.now.m.now.typed) }
-    ensures granules { IfOk result (λ all. all.granules ≡ all_granules p.now.m.now.typed (globals_in p.now.m.now.typed.program.items)) }
-    ensures initial { IfOk result (λ all. all.initial.items ≡ all_first_words p.now.m.now.typed (globals_in p.now.m.now.typed.program.items)) }
+    ensures granules { IfOk result (λ all. all.granules
+        ≡ all_granules p.now.m.now.typed (globals_in p.now.m.now.typed.program.items)) }
+    ensures initial { IfOk result (λ all. all.initial.items
+        ≡ all_first_words p.now.m.now.typed (globals_in p.now.m.now.typed.program.items)) }
 {
     let t = p.m.typed();
     let mut all = Globals {

@@ -38,8 +38,13 @@ impl Layouts {
 
     /// One layout more, of an element with these fields.
     fn add(&mut self, fields: &[Declaration]) -> Result<(), AllocError>
-        ensures list { OnOk result (self.new.list.items ≡ self.old.list.items ++ record { cells = length fields.now; from = length self.old.pointers.items; until = length self.new.pointers.items } ∷ []) }
-        ensures pointers { OnOk result (self.new.pointers.items ≡ self.old.pointers.items ++ pointers_among 0 fields.now) }
+        ensures list { OnOk result (self.new.list.items ≡ self.old.list.items ++ record {
+          cells = length fields.now;
+          from = length self.old.pointers.items;
+          until = length self.new.pointers.items;
+        } ∷ []) }
+        ensures pointers { OnOk result (self.new.pointers.items
+            ≡ self.old.pointers.items ++ pointers_among 0 fields.now) }
     {
         let from = small(self.pointers.len())?;
         add_pointers(fields, &mut self.pointers)?;
@@ -52,7 +57,8 @@ impl Layouts {
 
 /// Those that no struct of the program has: an integer or a mutex, and a pointer.
 fn simple_layouts(alloc: Global) -> Result<Layouts, AllocError>
-    ensures list { IfOk result (λ all. all.list.items ≡ record { cells = 1; from = 0; until = 0 } ∷ record { cells = 1; from = 0; until = 1 } ∷ []) }
+    ensures list { IfOk result (λ all. all.list.items
+        ≡ record { cells = 1; from = 0; until = 0 } ∷ record { cells = 1; from = 0; until = 1 } ∷ []) }
     ensures pointers { IfOk result (λ all. all.pointers.items ≡ 0 ∷ []) }
 {
     let mut list = Vec::new(alloc);

@@ -50,11 +50,15 @@ fn main_of(m: &Moded) -> Result<u32, AllocError>
 
 /// The code, before its texts are laid out.
 fn parts_of(alloc: Global, m: &Moded) -> Result<Parts, AllocError>
-    ensures lines { IfOk result (λ parts. parts.lines.items ≡ functions_code m.now (globals_of m.now.typed) 0 (functions_in m.now.typed.program.items)) }
-    ensures functions { IfOk result (λ parts. parts.functions.items ≡ rows_of m.now (globals_of m.now.typed) 0 (functions_in m.now.typed.program.items)) }
+    ensures lines { IfOk result (λ parts. parts.lines.items
+        ≡ functions_code m.now (globals_of m.now.typed) 0 (functions_in m.now.typed.program.items)) }
+    ensures functions { IfOk result (λ parts. parts.functions.items
+        ≡ rows_of m.now (globals_of m.now.typed) 0 (functions_in m.now.typed.program.items)) }
     ensures list { IfOk result (λ parts. parts.globals.list.items ≡ globals_of m.now.typed) }
-    ensures granules { IfOk result (λ parts. parts.globals.granules ≡ all_granules m.now.typed (globals_in m.now.typed.program.items)) }
-    ensures initial { IfOk result (λ parts. parts.globals.initial.items ≡ all_first_words m.now.typed (globals_in m.now.typed.program.items)) }
+    ensures granules { IfOk result (λ parts. parts.globals.granules
+        ≡ all_granules m.now.typed (globals_in m.now.typed.program.items)) }
+    ensures initial { IfOk result (λ parts. parts.globals.initial.items
+        ≡ all_first_words m.now.typed (globals_in m.now.typed.program.items)) }
 {
     let source = Source::of(alloc, m)?;
     let globals = globals_of(alloc, &source)?;
@@ -79,7 +83,8 @@ fn lay_texts(
 ) -> Result<Vec<u8>, AllocError>
     requires { length rows.old.items ≡ length (functions_in t.now.program.items) }
     ensures lines { IfOk result (λ bytes. AreLaid t.now bytes.items lines.old.items lines.new.items) }
-    ensures rows { IfOk result (λ bytes. AreNamed bytes.items rows.old.items (names_of (functions_in t.now.program.items)) rows.new.items) }
+    ensures rows { IfOk result (λ bytes.
+        AreNamed bytes.items rows.old.items (names_of (functions_in t.now.program.items)) rows.new.items) }
 {
     let mut bytes = Vec::new(alloc);
     let words = Words::of(alloc, t, &mut bytes)?;
@@ -101,10 +106,10 @@ fn few_granules(granules: u32) -> Result<u32, AllocError>
     }
 }
 
-/// The flat form of a program, with the time and memory of a constant number of operations for each token of the source.
+/// The flat form of a program. It takes a constant number of steps for each token of the source.
 ///
-/// It fails where memory is short, and where a number of the flat form would not be one of 32 bits or the globals would have more granules than a state may
-/// have, as no program within the limits of the language has.
+/// It fails where memory is short, and where a number of the flat form would not be one of 32 bits or the globals would
+/// have more granules than a state may have, which is so of no program within the limits of the language.
 pub fn flatten(alloc: Global, m: &Moded) -> Result<Flat, AllocError>
     ensures { IfOk result (λ code. Flattens m.now code × FitsMade (flat_of code)) }
 {

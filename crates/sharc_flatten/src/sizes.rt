@@ -30,7 +30,7 @@ fn most_refs(rows: &[Function]) -> u32
     most
 }
 
-/// A thread's 256 frames have so few registers that each has a number of 32 bits; else there would not be enough memory.
+/// A thread's 256 frames have so few registers that each has a number of 32 bits; else memory would not be enough.
 pub fn frames_fit(rows: &[Function]) -> Result<(), AllocError>
     ensures ints { OnOk result (256 * most_ints rows.now < 2 ^ 32) }
     ensures refs { OnOk result (256 * most_refs rows.now < 2 ^ 32) }

@@ -85,7 +85,8 @@ fn add_words(
     }
 }
 
-/// The lvalue without the parentheses around it, with its last token replaced by the mutex's name, at the end of these bytes.
+/// The lvalue without the parentheses around it, with its last token replaced by the mutex's name, at the end of these
+/// bytes.
 fn add_beside(
     alloc: Global,
     t: &Typed,
@@ -103,7 +104,8 @@ fn add_beside(
 
 /// The path of the lock of a mode, as reports print it, at the end of these bytes; nothing for a mode without one.
 fn add_lock(alloc: Global, t: &Typed, spot: Spot, bytes: &mut Vec<u8>) -> Result<(), AllocError>
-    ensures { OnOk result (bytes.new.items ≡ bytes.old.items ++ lock_text_of t.now spot.mode spot.lvalue spot.lock_text) }
+    ensures { OnOk result (bytes.new.items
+        ≡ bytes.old.items ++ lock_text_of t.now spot.mode spot.lvalue spot.lock_text) }
 {
     let token = spot.lock_text.until;
     match spot.mode {
@@ -128,7 +130,8 @@ fn add_lock(alloc: Global, t: &Typed, spot: Spot, bytes: &mut Vec<u8>) -> Result
 /// The same with where it lies.
 fn lock_text(alloc: Global, t: &Typed, spot: Spot, bytes: &mut Vec<u8>) -> Result<Text, AllocError>
     ensures grows { OnOk result (Grows bytes.old.items bytes.new.items) }
-    ensures lies { IfOk result (λ lock. LiesIn bytes.new.items lock (lock_text_of t.now spot.mode spot.lvalue spot.lock_text)) }
+    ensures lies { IfOk result (λ lock.
+        LiesIn bytes.new.items lock (lock_text_of t.now spot.mode spot.lvalue spot.lock_text)) }
 {
     let from = small(bytes.len())?;
     add_lock(alloc, t, spot, bytes)?;
@@ -201,7 +204,8 @@ impl<'a> Words<'a> {
         bytes: &mut Vec<u8>,
     ) -> Result<(), AllocError>
         requires { Grows (tokens_text self.now.t.now.program.tokens.list) bytes.old.items }
-        ensures { OnOk result ((more : List ℕ) → AreLaid self.now.t.now (bytes.new.items ++ more) lines.old.items lines.new.items) }
+        ensures { OnOk result ((more : List ℕ)
+            → AreLaid self.now.t.now (bytes.new.items ++ more) lines.old.items lines.new.items) }
     {
         for line in 0..lines.len() {
             lines[line] = self.laid(alloc, lines[line], bytes)?;
@@ -214,7 +218,8 @@ impl<'a> Words<'a> {
 pub fn lay_names(t: &Typed, rows: &mut Vec<Function>, bytes: &mut Vec<u8>) -> Result<(), AllocError>
     requires { length rows.old.items ≡ length (functions_in t.now.program.items) }
     ensures grows { OnOk result (Grows bytes.old.items bytes.new.items) }
-    ensures named { OnOk result (AreNamed bytes.new.items rows.old.items (names_of (functions_in t.now.program.items)) rows.new.items) }
+    ensures named { OnOk result (
+        AreNamed bytes.new.items rows.old.items (names_of (functions_in t.now.program.items)) rows.new.items) }
 {
     for number in 0..rows.len() {
         match t.function_at(small(number)?) {
