@@ -38,8 +38,10 @@ pub record TellsIn (m : Assignment) (R : List SourceEvent) (thread : ℕ) : Type
   pub asked : MayStart m function → (fuel : ℕ) × (map (by thread) (asks m function argument (answers_of (events_of thread after)) fuel).events ≡ events_of thread after)
 
 -- a thread tells nothing, or this; where the results of the paths of all threads are consistent
-abbrev pub ThreadsTell : Type 0
-ThreadsTell = (m : Assignment) → ProgramSuits m → (flat : FlatCode) → Flattens m flat → FitsMade (flat_of flat) → (code : Code) → IsCodeOf flat code
-    → (s : Shape) (run : List Turn) → CheckedRun code s run
+abbrev pub RunsTell : Assignment → Code → Type 0
+RunsTell m code = (s : Shape) (run : List Turn) → CheckedRun code s run
     → ((thread : ℕ) → IsConsistent code s (begun code s thread) (elements_before code s thread run) (founds_of (turns_of thread run)))
     → (thread : ℕ) → let R = reverse (told_in (Erase code s run)) in (events_of thread R ≡ []) ⊎ TellsIn m R thread
+
+abbrev pub ThreadsTell : Type 0
+ThreadsTell = (m : Assignment) → ProgramSuits m → (flat : FlatCode) → Flattens m flat → FitsMade (flat_of flat) → (code : Code) → IsCodeOf flat code → RunsTell m code

@@ -2,9 +2,12 @@
 
 ghost use Rattle.sharc_compile_laws.specs.Fits.{MadeTablesFit};
 ghost use Rattle.sharc_compile_laws.specs.Threads.{ThreadsTell};
+ghost use Rattle.sharc_compile_laws.specs.Typed.{TypedCodeCounts, TypedThreadsTell};
 
-use sharc_compile::run_law;
+use sharc_compile::{held_law, run_law};
 use sharc_ctype_laws::laws::{meets_globals, spawns_threads, within_limits};
+use sharc_flat_laws::laws::{typed_asks_the_same, typed_is_framed, typed_suits};
+use sharc_guard_laws::laws::{made_locks_stand, typed_is_level};
 
 /// The tables of what flattening makes of a typed program are in their ranges: its functions are few, `main` and what it spawns are among
 /// them, its globals lie one after the other within their granules, and what they hold at first are words.
@@ -22,4 +25,24 @@ pub fn threads_tell()
     ensures { ThreadsTell }
 {
     run_law();
+}
+
+/// So it is of the code of a typed, well-moded program with its least assignment.
+pub fn typed_threads_tell()
+    ensures { TypedThreadsTell }
+{
+    typed_suits();
+    threads_tell();
+}
+
+/// What the registers of a thread of that code have, the program holds or gives up before it asks for more; and it wants what A1 to A4
+/// refuse.
+pub fn typed_code_counts()
+    ensures { TypedCodeCounts }
+{
+    typed_asks_the_same();
+    typed_is_framed();
+    typed_is_level();
+    made_locks_stand();
+    held_law();
 }

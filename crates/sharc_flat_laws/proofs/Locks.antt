@@ -66,7 +66,7 @@ still_in : (b : Bool) (names : List Entry) (e : Entry) (x : ℕ) → IsVariableI
 still_in true names e x h = h
 still_in false names e x h = inr h
 
--- ---- expressions, and what stands around them
+-- ---- expressions, and what is around them
 
 module _ (m : Assignment) (w : FileKnown m) where
   abbrev r : Resolution

@@ -157,7 +157,7 @@ in_right [] b j k e = let z : j ≡ k = omega (arith, e) in ap (λ i. slice_inde
 in_right (x ∷ a) b zero k e = absurd (omega (arith, e))
 in_right (x ∷ a) b (suc j) k e = in_right a b j k (omega (arith, e))
 
--- an entity stands at its positions
+-- an entity is at its positions
 pub record Position (list : List Entity) (s : ℕ) (n : Numbered) : Type 0 where
   pub skip : ℕ
   pub first : n.first ≡ s + skip

@@ -32,10 +32,10 @@ agrees_all before (s ∷ rest) d n e = (
     here s d rest [] = refl
     here s d rest (x ∷ xs) = here s d rest xs
 
-pub all_behind : {St : Type 0} (list : List St) (d : St) (q : ℕ) → length list ≤ q → slice_index_or list q d ≡ d
-all_behind [] d q le = refl
-all_behind (s ∷ rest) d zero le = absurd (omega (arith, le))
-all_behind (s ∷ rest) d (suc q) le = all_behind rest d q (omega (arith, le))
+pub all_after : {St : Type 0} (list : List St) (d : St) (q : ℕ) → length list ≤ q → slice_index_or list q d ≡ d
+all_after [] d q le = refl
+all_after (s ∷ rest) d zero le = absurd (omega (arith, le))
+all_after (s ∷ rest) d (suc q) le = all_after rest d q (omega (arith, le))
 
 same_some : {A : Type 0} (x y : A) → Some x ≡ Some y → x ≡ y
 same_some x y h = cc

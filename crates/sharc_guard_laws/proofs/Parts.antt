@@ -68,7 +68,7 @@ kept_cell c b (in_object n) h = tt
 kept_cell c b (in_object_at n) h = tt
 
 module _ (flat : Flat) (owner : ℕ → ℕ) (gives : ℕ → Bool) (f : ℕ) (D : (ℕ → Slots) → Type 0) where
-  -- wherever it stands
+  -- wherever it is
   abbrev pub P : Slots → List Op → Slots → Type 0
   P s os e = (pc : ℕ) → Piece flat owner gives f D s pc os e
 

@@ -1,4 +1,4 @@
--- What registers hold: the first ones of a frame anything, all behind them NULL.
+-- What registers hold: the first ones of a frame anything, all after them NULL.
 use Rattle.std.proofs.Common.{◌≡◌, ⊎_elim, ℕ, ◌+◌, ◌<◌, ◌≤◌, true, false, cond, refl, ap, sym, ◌∙◌, subst, arith, eq-eqb, ne_eqb, nat_lt}
 use Rattle.std.proofs.lemmas.Bool.{cases_eq, cases_lt}
 use Rattle.std.proofs.lemmas.Bool.Decides.{nat_tests}
@@ -67,7 +67,7 @@ with_same s r x = ap (λ b. cond b x (s r)) (eq-eqb r r refl)
 pub with_other : (s : Slots) (r : ℕ) (x : Slot) (k : ℕ) → (k ≡ r → ⊥) → with_slot s r x k ≡ s k
 with_other s r x k other = ap (λ b. cond b x (s k)) (ne_eqb k r other)
 
--- NULL, and nothing behind that holds anything
+-- NULL, and nothing after that holds anything
 pub none_cleared : (n : ℕ) (s : Slots) (r : ℕ) → ((k : ℕ) → n ≤ k → (k ≡ r → ⊥) → s k ≡ free) → NoneFrom n (with_slot s r free)
 none_cleared n s r h k le = ⊎_elim (λ e. ap (with_slot s r free) e ∙ with_same s r free) (λ other. with_other s r free k other ∙ h k le other) (cases_eq k r)
 
@@ -93,6 +93,6 @@ taken n x lt =
     fit_below (n + 1) (with_moved (below n) n x)
     (none_set (n + 1) (with_slot (below n) x free) n (below n x) (omega arith) (none_cleared (n + 1) (below n) x (λ k le other. below_free n k (omega (arith, le)))))
 
--- the frame of a call begins behind that of its caller
+-- the frame of a call begins after that of its caller
 pub shifted : (r n k : ℕ) → Fits (below (r + n) (r + k)) (below n k)
 shifted r n k = ⊎_elim (λ lt. subst (Fits (below (r + n) (r + k))) (sym (below_full n k lt)) (fits_full (below (r + n) (r + k)))) (λ ge. subst (λ x. Fits x (below n k)) (sym (below_free (r + n) (r + k) (omega (arith, ge)))) (fits_free (below n k))) (cases_lt k n)

@@ -127,7 +127,7 @@ module _ (flat : Flat) (table : ℕ → Ties) (last : (q : ℕ) → length flat.
       second : (t : Tie) → IsSecond (table m.pc) i cells n t → Holds t (λ j. put m.ints (m.int_base + i) v (m.int_base + j))
       second t w =
           let b = w.before in
-          let at = w.behind in
+          let at = w.after in
           let s = h.holds (scaled b cells w.field) w.known in
           let z : m.int_base + (b + 1) ≡ m.int_base + i = omega (arith, at) in
           let same : s.0 ≡ k = same_pos s.0 k (sym s.2 ∙ ap m.ints z ∙ is) in
@@ -222,14 +222,14 @@ module _ (flat : Flat) (table : ℕ → Ties) (last : (q : ℕ) → length flat.
 
   -- ---- paths
   module _ (needs : (pc : ℕ) (o : Op) → slice_get flat.lines pc ≡ Some o → Needs flat table pc (table pc) o) where
-    behind_last : (m m2 : At) → m2.pc ≡ m.pc + 1 → m2.int_base ≡ m.int_base → m2.frames ≡ m.frames → ((k : ℕ) → m2.ints k ≡ m.ints k) → length flat.lines ≤ m.pc → IsTied m → IsTied m2
-    behind_last m m2 pc base frames same le h =
+    after_last : (m m2 : At) → m2.pc ≡ m.pc + 1 → m2.int_base ≡ m.int_base → m2.frames ≡ m.frames → ((k : ℕ) → m2.ints k ≡ m.ints k) → length flat.lines ≤ m.pc → IsTied m → IsTied m2
+    after_last m m2 pc base frames same le h =
         let none : table m2.pc ≡ [] = ap table pc ∙ last (m.pc + 1) (omega (arith, le)) in
         leaves m m2 base frames same (λ t y. absurd (subst (λ z. In z t) none y)) h
 
     end_tied : (m : At) (k : ℕ) (x : ℤ) → length flat.lines ≤ m.pc → IsTied m → Tied m (end_turn flat m k) x
-    end_tied m zero x le h go = behind_last m (after m (end_turn flat m 0) x) refl refl refl (λ k. refl) le h
-    end_tied m (suc zero) x le h go = behind_last m (after m (end_turn flat m 1) x) refl refl refl (λ k. refl) le h
+    end_tied m zero x le h go = after_last m (after m (end_turn flat m 0) x) refl refl refl (λ k. refl) le h
+    end_tied m (suc zero) x le h go = after_last m (after m (end_turn flat m 1) x) refl refl refl (λ k. refl) le h
     end_tied m (suc (suc k)) x le h go = absurd (false≢true go)
 
     beyond : (lines : List Op) (n : ℕ) → slice_get lines n ≡ None → length lines ≤ n

@@ -68,7 +68,7 @@ pub record IsSecond (s : Ties) (j cells n : ℕ) (x : Tie) : Type 0 where
   pub before : ℕ
   pub field : ℕ
   pub is : x ≡ beside before field n
-  pub behind : j ≡ before + 1
+  pub after : j ≡ before + 1
   pub known : In s (scaled before cells field)
 
 abbrev pub Bounded : Ties → ℕ → ℕ → ℕ → Ties → Type 0

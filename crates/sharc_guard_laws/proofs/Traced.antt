@@ -27,7 +27,7 @@ use Rattle.sharc_flat.specs.Places.{variable, base_width, index_width, width_cod
 use Rattle.sharc_flat.specs.Flattened.{kind_of, is_ref, target_of, mode_of, guard_of, lvalue_in, drop_code, expression_code, place_code, elements_code, right_code, simple_code, with_variable, ints_of, refs_of, zero_code, declared_lvalue, initial_code, local_code, first_code, behind_first, step_code, test_code, turn_code, Around, opened, looping, jump_code, result_code, return_code, body_at, turns_code, behind_statement, behind_statements, statement_code, statements_code, in_function, around_body, function_code, functions_code, AreRows, IsFlattened}
 use Rattle.sharc_guard.specs.Counted.{LocksStand}
 use Rattle.sharc_guard_laws.proofs.Flow as flow
-use Rattle.sharc_guard_laws.proofs.Flow.{Agrees, agrees_left, agrees_right, agrees_all, all_behind, joins}
+use Rattle.sharc_guard_laws.proofs.Flow.{Agrees, agrees_left, agrees_right, agrees_all, all_after, joins}
 use Rattle.sharc_guard_laws.proofs.Ties.{Ties, Fit, fit_same, fit_through, nothing_in, Needs}
 use Rattle.sharc_guard_laws.proofs.Tied.{locks_stand}
 use Rattle.sharc_guard_laws.proofs.Tying.{Low, low_place, Piece, Entries, P, Own, cleared, on_zero, on_null, on_skip, then_do, one, R, both, none, plain, sets, moves, pops as pops_one, truths, widths, enters, expressions, places, stores, T}
@@ -352,12 +352,12 @@ flattened_is_traced m flat is =
     let many = p.many in
     let table : ℕ → Ties = λ q. slice_index_or p.states q [] in
     let agrees : Agrees table 0 p.states = agrees_all [] p.states [] 0 refl in
-    let last : (q : ℕ) → length C ≤ q → table q ≡ [] = λ q le. all_behind p.states [] q (omega (arith, le, many)) in
+    let last : (q : ℕ) → length C ≤ q → table q ≡ [] = λ q le. all_after p.states [] q (omega (arith, le, many)) in
     let end : Fit [] (table (0 + length C)) = subst (Fit []) (sym (last (0 + length C) (omega arith))) (fit_same []) in
     let first : table 0 ≡ [] = nothing_in (table 0) (flow.enters Ties Fit fit_same fit_through (Own flat) (Needs flat) (Z flat) [] 0 C [] p table agrees end) in
     let begins : (f : ℕ) → table (function_of flat f).entry ≡ [] =
     λ f. ⊎_elim (λ lt. nothing_in (table (function_of flat f).entry) (subst (λ n. Fit [] (table n)) (sym (row_entry flat m 0 fs flat.functions is.functions f lt)) (t.begins table agrees end f)))
-    (λ ge. ap (λ (r : Row). table r.entry) (all_behind flat.functions no_function f ge) ∙ first) (cases_lt f (length flat.functions)) in
+    (λ ge. ap (λ (r : Row). table r.entry) (all_after flat.functions no_function f ge) ∙ first) (cases_lt f (length flat.functions)) in
     record {
       table = table;
       last = λ q le. last q (omega (arith, le, size));

@@ -458,7 +458,7 @@ module _ (flat : Flat) where
           stands = λ m h. free m i n;
         }))
         (one B (bounds (i + 1) mutex) C (λ table pc d fit. record {
-          next = need table pc B (i + 1) mutex (λ x y. ⊎_elim (λ e. inr (inr (record { before = i; field = off n; is = sym e; behind = refl; known = inl refl }))) (λ h. inl (inr h, apart_low i (i + 1) s low (omega arith) x h)) (fit x y));
+          next = need table pc B (i + 1) mutex (λ x y. ⊎_elim (λ e. inr (inr (record { before = i; field = off n; is = sym e; after = refl; known = inl refl }))) (λ h. inl (inr h, apart_low i (i + 1) s low (omega arith) x h)) (fit x y));
           stands = λ m h. free m (i + 1) mutex;
         })))
 
