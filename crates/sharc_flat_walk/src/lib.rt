@@ -1,7 +1,7 @@
 //! The flat code of a function's body, made from its source.
 //!
-//! The layer above may use `walk::function_lines`, whose contract is `function_code` of sharc_flat, and
-//! `source::Source`, what is looked up in a program while it is flattened, with the look-ups of `lookups`.
+//! The layer above may use `walk::function_lines`, whose contract is `function_code` of sharc_flat, and `Source` with
+//! the other public functions: what is looked up in a program while it is flattened.
 #![tactic(auto)]
 
 mod bodies;
@@ -12,7 +12,7 @@ mod patch;
 mod places;
 pub mod registers;
 mod row;
-pub mod scope;
+mod scope;
 pub mod source;
 pub mod spots;
 mod target;

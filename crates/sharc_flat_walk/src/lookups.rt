@@ -85,7 +85,7 @@ pub fn elements_of_form(form: &GlobalForm) -> u64
 }
 
 /// How many elements a global has.
-pub fn global_elements(t: &Typed, number: u32) -> Result<u32, AllocError>
+pub(crate) fn global_elements(t: &Typed, number: u32) -> Result<u32, AllocError>
     ensures { IfOk result (λ n. n ≡ global_elements (global_at t.now number)) }
 {
     match t.global_at(number) {
@@ -98,14 +98,14 @@ pub fn global_elements(t: &Typed, number: u32) -> Result<u32, AllocError>
 }
 
 /// The place of a field's cell among those of an element.
-pub fn field_place(p: &Source<'_>, token: u32) -> u32
+pub(crate) fn field_place(p: &Source<'_>, token: u32) -> u32
     ensures { result ≡ field_place p.now.m.now.typed token }
 {
     p.fields.get(&token).copied().unwrap_or(0)
 }
 
 /// The place of the field that a name names.
-pub fn field_named(p: &Source<'_>, named: Named) -> u32
+pub(crate) fn field_named(p: &Source<'_>, named: Named) -> u32
     ensures { result ≡ field_place_named p.now.m.now.typed named }
 {
     match named {
@@ -154,21 +154,21 @@ fn place_of_name(fields: &[Declaration], name: &[u8]) -> Result<u32, AllocError>
 }
 
 /// The place of the field with this name, in the struct to which the variable that this token declares points.
-pub fn field_place_behind(t: &Typed, variable: u32, name: &[u8]) -> Result<u32, AllocError>
+pub(crate) fn field_place_behind(t: &Typed, variable: u32, name: &[u8]) -> Result<u32, AllocError>
     ensures { IfOk result (λ n. n ≡ field_place_behind t.now variable name.now) }
 {
     place_of_name(fields_behind(t, t.declaration_at(variable)), name)
 }
 
 /// Whether a path names a sibling that points to a mutex.
-pub fn is_behind_pointer(t: &Typed, lock: Lock<'_>) -> bool
+pub(crate) fn is_behind_pointer(t: &Typed, lock: Lock<'_>) -> bool
     ensures { result ≡ is_behind_pointer t.now (view_lock lock.entry) }
 {
     is_sibling_lock(t, lock) && is_pointer(named_kind(t, t.named(lock.first)))
 }
 
 /// The first cell of a global.
-pub fn first_cell(p: &Source<'_>, number: u32) -> Result<u32, AllocError>
+pub(crate) fn first_cell(p: &Source<'_>, number: u32) -> Result<u32, AllocError>
     ensures { IfOk result (λ n. n ≡ first_cell p.now.globals.items number) }
 {
     let globals = p.globals.as_slice();
@@ -183,7 +183,7 @@ pub fn first_cell(p: &Source<'_>, number: u32) -> Result<u32, AllocError>
 }
 
 /// The cell of this field of a global's first element.
-pub fn cell_in(p: &Source<'_>, number: u32, field: u32) -> Result<u32, AllocError>
+pub(crate) fn cell_in(p: &Source<'_>, number: u32, field: u32) -> Result<u32, AllocError>
     ensures { IfOk result (λ n. n ≡ first_cell p.now.globals.items number + field) }
 {
     match first_cell(p, number)?.checked_add(field) {
@@ -225,7 +225,7 @@ fn base_layout(p: &Source<'_>, root: Root<'_>) -> Result<u32, AllocError>
 }
 
 /// The number of the layout of an element.
-pub fn layout_of(p: &Source<'_>, kind: Kind<'_>) -> Result<u32, AllocError>
+pub(crate) fn layout_of(p: &Source<'_>, kind: Kind<'_>) -> Result<u32, AllocError>
     ensures { IfOk result (λ n. n ≡ layout_of (structs_in p.now.m.now.typed.program.items) (view_kind kind.entry)) }
 {
     match kind {

@@ -43,7 +43,7 @@ fn root_width(root: Root<'_>) -> Width
 }
 
 /// The width of an integer type.
-pub fn width_of(kind: Kind<'_>) -> Width
+pub(crate) fn width_of(kind: Kind<'_>) -> Width
     ensures { result ≡ width_of (view_kind kind.entry) }
 {
     match kind {
@@ -55,7 +55,7 @@ pub fn width_of(kind: Kind<'_>) -> Width
 }
 
 /// An integer that goes to something of this type is one that it holds.
-pub fn narrow(
+pub(crate) fn narrow(
     register: u32,
     kind: Kind<'_>,
     site: Site,
@@ -71,7 +71,7 @@ pub fn narrow(
 }
 
 /// The value of a constant.
-pub fn constant_value(constant: Constant) -> i64
+pub(crate) fn constant_value(constant: Constant) -> i64
     ensures { result ≡ constant_value constant }
 {
     match constant {
@@ -82,7 +82,7 @@ pub fn constant_value(constant: Constant) -> i64
 }
 
 /// A constant.
-pub fn constant(
+pub(crate) fn constant(
     is_ref: bool,
     at: Registers,
     constant: Constant,
@@ -98,7 +98,7 @@ pub fn constant(
 }
 
 /// 0 or NULL.
-pub fn zero(is_ref: bool, at: Registers, lines: &mut Vec<Op>) -> Result<(), AllocError>
+pub(crate) fn zero(is_ref: bool, at: Registers, lines: &mut Vec<Op>) -> Result<(), AllocError>
     ensures { OnOk result (lines.new.items ≡ lines.old.items ++ zero_code is_ref at.int at.reference) }
 {
     if is_ref {
@@ -109,7 +109,7 @@ pub fn zero(is_ref: bool, at: Registers, lines: &mut Vec<Op>) -> Result<(), Allo
 }
 
 /// A value that is not used ends.
-pub fn drop_value(is_ref: bool, register: u32, lines: &mut Vec<Op>) -> Result<(), AllocError>
+pub(crate) fn drop_value(is_ref: bool, register: u32, lines: &mut Vec<Op>) -> Result<(), AllocError>
     ensures { OnOk result (lines.new.items ≡ lines.old.items ++ drop_code is_ref register) }
 {
     if is_ref {
@@ -120,7 +120,7 @@ pub fn drop_value(is_ref: bool, register: u32, lines: &mut Vec<Op>) -> Result<()
 }
 
 /// A value becomes an integer that is 0 exactly where it was 0 or NULL.
-pub fn truth(is_ref: bool, at: Registers, lines: &mut Vec<Op>) -> Result<(), AllocError>
+pub(crate) fn truth(is_ref: bool, at: Registers, lines: &mut Vec<Op>) -> Result<(), AllocError>
     ensures { OnOk result (lines.new.items ≡ lines.old.items ++ truth_code is_ref at.int at.reference) }
 {
     if !is_ref {
@@ -134,7 +134,7 @@ pub fn truth(is_ref: bool, at: Registers, lines: &mut Vec<Op>) -> Result<(), All
 }
 
 /// The operation of an operator.
-pub fn operator_of(operator: BinaryOperator) -> Operator
+pub(crate) fn operator_of(operator: BinaryOperator) -> Operator
     ensures { result ≡ operator_of operator }
 {
     match operator {
@@ -168,7 +168,7 @@ pub enum Evaluation {
 }
 
 /// The evaluation of an operator.
-pub fn evaluation_of(operator: BinaryOperator) -> Evaluation
+pub(crate) fn evaluation_of(operator: BinaryOperator) -> Evaluation
     ensures { result ≡ evaluation_of operator }
 {
     match operator {
@@ -188,7 +188,7 @@ fn differ(operator: BinaryOperator, register: u32, lines: &mut Vec<Op>) -> Resul
 }
 
 /// Two references are compared and given up.
-pub fn compare(
+pub(crate) fn compare(
     operator: BinaryOperator,
     at: Registers,
     lines: &mut Vec<Op>,
@@ -287,7 +287,7 @@ fn condition(
 }
 
 /// A call, after its arguments.
-pub fn called(
+pub(crate) fn called(
     at: Registers,
     spot: Spot,
     named: Named,
@@ -308,7 +308,7 @@ pub fn called(
 }
 
 /// The number of a function that a name names.
-pub fn number_named(named: Named) -> u32
+pub(crate) fn number_named(named: Named) -> u32
     ensures { result ≡ number_named named }
 {
     match named {
@@ -318,7 +318,7 @@ pub fn number_named(named: Named) -> u32
 }
 
 /// `spawn`, after its argument.
-pub fn spawned(
+pub(crate) fn spawned(
     is_ref: bool,
     at: Registers,
     function: u32,
@@ -336,7 +336,7 @@ pub fn spawned(
 }
 
 /// `join` or `print`, after its argument.
-pub fn on_value(
+pub(crate) fn on_value(
     call: ValueCall,
     register: u32,
     site: Site,

@@ -53,6 +53,7 @@ fn structs_of<'a>(alloc: Global, t: &'a Typed) -> Result<IndexMap<&'a [u8], Stru
     while left > 0 {
         left -= 1;
         match t.struct_at(left) {
+            // Each number below the count has a struct.
             None => return Err(AllocError),
             Some(definition) => enter_struct(left, definition, &mut structs)?,
         }
@@ -81,6 +82,7 @@ fn places_of(alloc: Global, t: &Typed) -> Result<IndexMap<u32, u32>, AllocError>
     while left > 0 {
         left -= 1;
         match t.struct_at(left) {
+            // Each number below the count has a struct.
             None => return Err(AllocError),
             Some(definition) => enter_fields(definition.fields.as_slice(), &mut places)?,
         }

@@ -24,7 +24,7 @@ use sharc_tree::token::{Site, Span};
 use std::alloc::AllocError;
 
 /// The cell that something names, whose base and number are in the first of these registers.
-pub fn cell_of(p: &Source<'_>, at: Registers, target: Target) -> Result<Cell, AllocError>
+pub(crate) fn cell_of(p: &Source<'_>, at: Registers, target: Target) -> Result<Cell, AllocError>
     ensures { IfOk result (λ cell. cell ≡ cell_of p.now.globals.items at.int at.reference (view_target target)) }
 {
     match target {
@@ -37,7 +37,7 @@ pub fn cell_of(p: &Source<'_>, at: Registers, target: Target) -> Result<Cell, Al
 }
 
 /// The cell of its element with a mutex or the pointer to one.
-pub fn guard_cell(
+pub(crate) fn guard_cell(
     p: &Source<'_>,
     mutex: u32,
     at: Registers,
@@ -74,7 +74,7 @@ fn guard_named(p: &Source<'_>, lock: Lock<'_>, named: Named) -> Option<u32>
 }
 
 /// The field with the pointer to the mutex, where an access is locked through one.
-pub fn guard_field(p: &Source<'_>, mode: Sharing<'_>) -> Option<u32>
+pub(crate) fn guard_field(p: &Source<'_>, mode: Sharing<'_>) -> Option<u32>
     ensures { result ≡ guard_field p.now.m.now.typed (view_sharing mode.entry) }
 {
     match mode {
@@ -100,7 +100,7 @@ fn beside_named(p: &Source<'_>, named: Named) -> Option<u32>
 }
 
 /// The field with the mutex or the pointer to it, where an access is locked by one of the same element.
-pub fn beside_field(p: &Source<'_>, mode: Sharing<'_>) -> Option<u32>
+pub(crate) fn beside_field(p: &Source<'_>, mode: Sharing<'_>) -> Option<u32>
     ensures { result ≡ beside_field p.now.m.now.typed (view_sharing mode.entry) }
 {
     match mode {
@@ -178,7 +178,7 @@ fn locked_mode(
 }
 
 /// The mode of an access to this field of an element.
-pub fn place_mode(
+pub(crate) fn place_mode(
     p: &Source<'_>,
     scope: &[Slot],
     field: u32,
@@ -196,7 +196,7 @@ pub fn place_mode(
 }
 
 /// The mode of an object that is made or given.
-pub fn object_mode(
+pub(crate) fn object_mode(
     p: &Source<'_>,
     scope: &[Slot],
     mode: Sharing<'_>,
@@ -237,7 +237,7 @@ pub fn no_text() -> Text
 }
 
 /// The tokens of a construct.
-pub fn tokens_in(span: Span) -> Result<Text, AllocError>
+pub(crate) fn tokens_in(span: Span) -> Result<Text, AllocError>
     ensures { IfOk result (λ text. text ≡ tokens_in span) }
 {
     match span.last.token.checked_add(1) {
@@ -280,7 +280,7 @@ pub fn at_site(site: Site) -> Spot
 }
 
 /// The same, with the words of an lvalue or an expression.
-pub fn at_words(site: Site, words: Span, at: Use) -> Result<Spot, AllocError>
+pub(crate) fn at_words(site: Site, words: Span, at: Use) -> Result<Spot, AllocError>
     ensures { IfOk result (λ spot. spot ≡ at_words site words at) }
 {
     let mut spot = at_site(site);
@@ -290,7 +290,7 @@ pub fn at_words(site: Site, words: Span, at: Use) -> Result<Spot, AllocError>
 }
 
 /// Where an object is made or given.
-pub fn object_spot(
+pub(crate) fn object_spot(
     p: &Source<'_>,
     scope: &[Slot],
     site: Site,
@@ -317,7 +317,7 @@ pub struct Access<'a> {
 }
 
 /// The place of an access, where what it names has these registers.
-pub fn spot_of(
+pub(crate) fn spot_of(
     p: &Source<'_>,
     scope: &[Slot],
     registers: Registers,
