@@ -48,3 +48,8 @@ TypedFlatIsTyped = (x : Targets) (flat : FlatCode) (code : Code) (fl : FlatLabel
 -- Flat code that is typed whatever checks are remembered is typed with those that are, and without the checks that repeat one.
 abbrev pub AnyhowIsTyped : Type 0
 AnyhowIsTyped = (x : Targets) (code : Code) (fl : FlatLabels) (flat : Flat) → IsTypedAnyhow x code fl flat → IsTypedFlat x code (dropped flat) (with_checks flat fl) flat
+
+-- So is the code that is made of it.
+abbrev pub CodeIsTyped : Type 0
+CodeIsTyped = (x : Targets) (flat : FlatCode) (code : Code) (fl : FlatLabels) → IsCodeOf flat code → IsTypedAnyhow x code fl (flat_of flat)
+    → IsWellTyped x code (labels_of x (dropped (flat_of flat)) (with_checks (flat_of flat) fl) (flat_of flat).lines)

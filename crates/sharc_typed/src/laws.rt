@@ -1,6 +1,6 @@
 //! Laws of code that is made of typed flat code.
 
-ghost use Rattle.sharc_typed.specs.Laws.{PiecesAreTyped, PiecesAreScoped, TypedFlatIsTyped, AnyhowIsTyped};
+ghost use Rattle.sharc_typed.specs.Laws.{PiecesAreTyped, PiecesAreScoped, TypedFlatIsTyped, AnyhowIsTyped, CodeIsTyped};
 
 /// The statements that an operation becomes are typed one after the other, from what is known before its line to what may be known after it.
 pub fn pieces_law()
@@ -21,3 +21,11 @@ pub fn typed_law()
 pub fn anyhow_law()
     ensures { AnyhowIsTyped }
 {}
+
+/// So is the code that is made of it.
+pub fn code_law()
+    ensures { CodeIsTyped }
+{
+    anyhow_law();
+    typed_law();
+}
