@@ -171,3 +171,73 @@ module _ (z : Size) (l : TypeRules) (w : World) (inv : WorldInvariant z l w) (t 
   carried returned changes w' (Unlocks o i f q s) give make back h = silent (record w' { mutex = w.mutex }) s h
   carried returned changes w' (Returns s) give make back h = silent w' s h
   carried returned changes w' (Withdraws o g r q) give make back h = subst (λ w'. Stands w' n j u write) (sym q) (at_withdraw o g (back r) h)
+
+-- ---- an object that is had alone, or gone, stays so until it is given
+module _ (z : Size) (l : TypeRules) (w : World) (inv : WorldInvariant z l w) (t n : ℕ) where
+  closing_else : (w' : World) (r : ℕ) → w.win t ≡ Sole r → (n ≡ in_ref w (RegisterOf t r) → ⊥) → ((v : ℕ) → (v ≡ t → ⊥) → w'.win v ≡ w.win v) → ((v q : ℕ) → (v ≡ t → ⊥) → in_ref w' (RegisterOf v q) ≡ in_ref w (RegisterOf v q)) → Closing w n → Closing w' n
+  closing_else w' r e ne win ref c = others_closing z l w inv t n 0 0 true w' r e ne win ref c
+
+  without_silent : (w' : World) → Silent w w' → Without w n → Without w' n
+  without_silent w' s k = ⊎_elim
+      (λ (c : Closing w n). let still = s.sole c.0 c.1.0 c.1.1.0 in inl (c.0, (c.1.0, (still.0, still.1 ∙ c.1.1.1))))
+      (λ (dead : (w.obj n).live ≡ false). inr (ap (λ (f : ℕ → ObjectState). (f n).live) s.obj ∙ dead))
+      k
+
+  without_give : (r : ℕ) (ty : ObjectType) → w.win t ≡ Sole r → (n ≡ in_ref w (RegisterOf t r) → ⊥) → Without w n → Without (give w t r ty) n
+  without_give r ty e ne k =
+      let o = in_ref w (RegisterOf t r) in
+      let y : TypedReference = record { ty = ty; reference = o } in
+      ⊎_elim
+      (λ (c : Closing w n). inl (closing_else (give w t r ty) r e ne (λ v other. put_other w.win t v Shut other) (λ v q other. ap (λ (h : TypedReference). h.reference) (other_slot w.slots t r v q y other)) c))
+      (λ (dead : (w.obj n).live ≡ false). inr (ap (λ (y : ObjectState). y.live) (put_other w.obj o n (record { live = true; global = false; ty = ty; owner = t }) ne) ∙ dead))
+      k
+
+  without_freed : (r : ℕ) → w.win t ≡ Sole r → Without w n → Without (freed w t r) n
+  without_freed r e k =
+      let o = in_ref w (RegisterOf t r) in
+      let gone : ObjectState = record { live = false; global = false; ty = Rattle.sharc_invariant.specs.Types.nothing; owner = 0 } in
+      ⊎_elim
+      (λ (same : n ≡ o). inr (ap (λ n. ((freed w t r).obj n).live) same ∙ ap (λ (y : ObjectState). y.live) (put_same w.obj o gone)))
+      (λ (ne : n ≡ o → ⊥). ⊎_elim
+      (λ (c : Closing w n). inl (closing_else (freed w t r) r e ne (λ v other. put_other w.win t v Shut other) (λ v q other. ap (λ (h : TypedReference). h.reference) (other_slot w.slots t r v q none other)) c))
+      (λ (dead : (w.obj n).live ≡ false). inr (ap (λ (y : ObjectState). y.live) (put_other w.obj o n gone ne) ∙ dead))
+      k)
+      (cases_eq n o)
+
+  without_make : (r o : ℕ) (ty : ObjectType) (found : ℕ → GranuleState) → in_ref w (RegisterOf t r) ≡ 0 → (n ≡ o → ⊥) → Without w n → Without (make l w (RegisterOf t r) o ty found) n
+  without_make r o ty found empty ne k =
+      let y : TypedReference = record { ty = ty; reference = o } in
+      ⊎_elim
+      (λ (c : Closing w n).
+      let v = c.0 in let q = c.1.0 in
+      let still : in_ref (make l w (RegisterOf t r) o ty found) (RegisterOf v q) ≡ in_ref w (RegisterOf v q) = ⊎_elim
+          (λ (mine : v ≡ t). ⊎_elim
+          (λ (same : q ≡ r). absurd (sole_some z l w inv t n 0 0 true v q c.1.1.0 (ap (λ v. in_ref w (RegisterOf v q)) mine ∙ ap (λ q. in_ref w (RegisterOf t q)) same ∙ empty)))
+          (λ (other : q ≡ r → ⊥). ap (λ (h : TypedReference). h.reference) (beside_slot (retype w.slots o (l.cell ty o)) t r v q y other))
+          (cases_eq q r))
+          (λ (other : v ≡ t → ⊥). ap (λ (h : TypedReference). h.reference) (other_slot (retype w.slots o (l.cell ty o)) t r v q y other))
+          (cases_eq v t) in
+      inl (v, (q, (c.1.1.0, still ∙ c.1.1.1))))
+      (λ (dead : (w.obj n).live ≡ false). inr (ap (λ (y : ObjectState). y.live) (put_other w.obj o n (record { live = true; global = false; ty = ty; owner = t }) ne) ∙ dead))
+      k
+
+  pub without_carried : (returned changes : Bool) (w' : World) (e : Effect l t returned changes w w')
+      → ((r : ℕ) → changes ≡ true → w.win t ≡ Sole r → (w'.obj n).live ≡ true → n ≡ in_ref w (RegisterOf t r) → ⊥)
+      → (changes ≡ true → (w.obj n).live ≡ false → (w'.obj n).live ≡ true → ⊥)
+      → Without w n → Without w' n
+  without_carried returned changes w' (Silently s) gave made h = without_silent w' s h
+  without_carried returned changes w' (Accesses k b i right alone s) gave made h = without_silent w' s h
+  without_carried returned changes w' (Clears r g e q) gave made h = subst (λ w'. Without w' n) (sym q) h
+  without_carried returned changes w' (Gives r ty c e q) gave made h =
+      let o = in_ref w (RegisterOf t r) in
+      let other : n ≡ o → ⊥ = λ same. gave r c e (ap (λ (w' : World). (w'.obj n).live) q ∙ ap (λ n. ((give w t r ty).obj n).live) same ∙ ap (λ (y : ObjectState). y.live) (put_same w.obj o (record { live = true; global = false; ty = ty; owner = t }))) same in
+      subst (λ w'. Without w' n) (sym q) (without_give r ty e other h)
+  without_carried returned changes w' (Frees r c e q) gave made h = subst (λ w'. Without w' n) (sym q) (without_freed r e h)
+  without_carried returned changes w' (Makes r o ty found c dead empty q) gave made h =
+      let other : n ≡ o → ⊥ = λ same. made c (ap (λ n. (w.obj n).live) same ∙ dead)
+          (ap (λ (w' : World). (w'.obj n).live) q ∙ ap (λ n. ((make l w (RegisterOf t r) o ty found).obj n).live) same ∙ ap (λ (y : ObjectState). y.live) (put_same w.obj o (record { live = true; global = false; ty = ty; owner = t }))) in
+      subst (λ w'. Without w' n) (sym q) (without_make r o ty found empty other h)
+  without_carried returned changes w' (Locks o i f q s) gave made h = without_silent (record w' { mutex = w.mutex }) s h
+  without_carried returned changes w' (Unlocks o i f q s) gave made h = without_silent (record w' { mutex = w.mutex }) s h
+  without_carried returned changes w' (Returns s) gave made h = without_silent w' s h
+  without_carried returned changes w' (Withdraws o g r q) gave made h = subst (λ w'. Without w' n) (sym q) h

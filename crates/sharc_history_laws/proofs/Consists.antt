@@ -78,7 +78,7 @@ set_here [] n v lt = absurd (omega arith)
 set_here (w ∷ ws) zero v lt = refl
 set_here (w ∷ ws) (suc n) v lt = set_here ws n v (omega arith)
 
-found_is : (words : List ℕ) (event : Option WordEvent) (step : WordStep) → step_of event ≡ Some step → Answered words event → result_of event ≡ slice_index words step.word
+pub found_is : (words : List ℕ) (event : Option WordEvent) (step : WordStep) → step_of event ≡ Some step → Answered words event → result_of event ≡ slice_index words step.word
 found_is words None step q a = absurd (let f : None ≡ Some step = q in cc)
 found_is words (Some e) step q a = let same : e.step ≡ step = cc in a.result_is ∙ ap (λ (y : WordStep). slice_index words y.word) same
 
@@ -380,7 +380,7 @@ module _ (laws : RunLaws) (keeps : Keeps) (cells : CellsAreThere) (pointers : Po
   long u = length-map (turns_of u earlier) (λ turn. result_of turn.event)
 
   -- the thread that makes the turn
-  own_turn : IsConsistentTurn code s T T' ((place_after code s earlier).threads one.thread) found
+  pub own_turn : IsConsistentTurn code s T T' ((place_after code s earlier).threads one.thread) found
   own_turn = record {
     finds = finds cells x code s ls wt fits g h.world h.state t on T h.table (h.loaded t) found (λ step e. found_is g.words one.event step (may.next.asks ∙ e) may.answered);
     quiet = λ e. quiet_is one.event (may.next.asks ∙ e);

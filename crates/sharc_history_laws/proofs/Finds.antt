@@ -50,7 +50,7 @@ module _ (there_laws : CellsAreThere) (x : Targets) (code : Code) (s : Shape) (l
       (cases_eq (world.slots a).reference 0)
 
   -- no two live objects share a cell's word
-  same_object : (o p i j : ℕ) → (world.obj o).live ≡ true → (world.obj p).live ≡ true → i < st.cells o → j < st.cells p → cell_at s o i ≡ cell_at s p j → o ≡ p
+  pub same_object : (o p i j : ℕ) → (world.obj o).live ≡ true → (world.obj p).live ≡ true → i < st.cells o → j < st.cells p → cell_at s o i ≡ cell_at s p j → o ≡ p
   same_object o p i j lo lp lt lu e = ⊎_elim
       (λ (same : o ≡ p). same)
       (λ (ne : o ≡ p → ⊥). ⊎_elim

@@ -50,7 +50,7 @@ abbrev pub IsIn : HeldMutex → List HeldMutex → Type 0
 IsIn h [] = ⊥
 IsIn h (k ∷ log) = (k ≡ h) ⊎ IsIn h log
 
-all_in : (P : HeldMutex → Type 0) (log : List HeldMutex) (h : HeldMutex) → All P log → IsIn h log → P h
+pub all_in : (P : HeldMutex → Type 0) (log : List HeldMutex) (h : HeldMutex) → All P log → IsIn h log → P h
 all_in P [] h all is = absurd is
 all_in P (k ∷ log) h all is = ⊎_elim
     (λ (e : k ≡ h). subst P e (all 0 k (omega arith)))
@@ -148,7 +148,7 @@ held_told code s L t log o at c told apart held names =
     below a b lt = grind (arith, nat_tests)
 
 -- ---- the mutex that a mode names
-element_one : (names : ℕ → ℤ) (n k : ℕ) (e : Element) → ElementStands names n e → ElementStands names k e → n ≡ k
+pub element_one : (names : ℕ → ℤ) (n k : ℕ) (e : Element) → ElementStands names n e → ElementStands names k e → n ≡ k
 element_one names n k (Named name) a b = let e : pos n ≡ pos k = sym a ∙ b in cc
 element_one names n k (Nth i) a b = a ∙ sym b
 
@@ -156,7 +156,7 @@ pub through_is : (n j : ℕ) (mutex : CellAt) → Rattle.sharc_code.specs.Says.l
 through_is zero j mutex e = absurd (let f : None ≡ Some mutex = e in cc)
 through_is (suc n) j mutex e = ((let f : made_cell (suc n) j ≡ mutex = cc in sym f), λ z. omega arith)
 
-some_eq : (a b : CellAt) → modes.Locked (Some a) ≡ modes.Locked (Some b) → a ≡ b
+pub some_eq : (a b : CellAt) → modes.Locked (Some a) ≡ modes.Locked (Some b) → a ≡ b
 some_eq a b e = cc
 
 pub lock_eq : (a : Option CellAt) (b : CellAt) → modes.Locked a ≡ modes.Locked (Some b) → a ≡ Some b
@@ -178,31 +178,31 @@ module _ (x : Targets) (code : Code) (s : Shape) (ls : Labels) (wt : IsWellTyped
   copy_of : (r : ℕ) → refs (here.same r) ≡ refs r
   copy_of r = (top x code s ls wt fits g world st t on hold (suc r) 0).same r (omega arith)
 
-  same_in : (a b : ℕ) → SameReference here a b → refs a ≡ refs b
+  pub same_in : (a b : ℕ) → SameReference here a b → refs a ≡ refs b
   same_in a b (Itself e) = ap refs e
   same_in a b (IsCopy e) = sym (copy_of a) ∙ ap refs e
   same_in a b (HasCopy e) = sym (ap refs e) ∙ copy_of b
   same_in a b (Copies e) = sym (copy_of a) ∙ ap refs e ∙ copy_of b
   same_in a b (Chained c p q) = same_in a c p ∙ same_in c b q
 
-  same_refs : (a b : ℕ) → SameReference here a b → ref (g.threads t) a ≡ ref (g.threads t) b
+  pub same_refs : (a b : ℕ) → SameReference here a b → ref (g.threads t) a ≡ ref (g.threads t) b
   same_refs a b h = reads_ref x code s ls wt fits g world st t on hold a ∙ same_in a b h ∙ sym (reads_ref x code s ls wt fits g world st t on hold b)
 
   -- what integer registers hold
-  number_of_global : (i first count elements : ℕ) (e : Element) → here.ints i ≡ OfGlobal first count elements e → (n : ℕ) × (int (g.threads t) i ≡ pos (first + n * count)) × ElementStands (rn x code s ls wt fits g world st t on hold).names n e
+  pub number_of_global : (i first count elements : ℕ) (e : Element) → here.ints i ≡ OfGlobal first count elements e → (n : ℕ) × (int (g.threads t) i ≡ pos (first + n * count)) × ElementStands (rn x code s ls wt fits g world st t on hold).names n e
   number_of_global i first count elements e q =
       let k : NumberStands x st.elements refs (types_at view m.at.refs) (rn x code s ls wt fits g world st t on hold).names (int m i) (OfGlobal first count elements e) =
       subst (NumberStands x st.elements refs (types_at view m.at.refs) (rn x code s ls wt fits g world st t on hold).names (int m i)) q ((top x code s ls wt fits g world st t on hold 0 (suc i)).numbers i (omega arith)) in
       (k.0, k.2, k.3)
 
-  number_of_element : (i b field : ℕ) (e : Element) → here.ints i ≡ OfElementCell b field e → (n : ℕ) × (int (g.threads t) i ≡ pos (n * cells_of x (types_at view (g.threads t).at.refs b).target + field)) × ElementStands (rn x code s ls wt fits g world st t on hold).names n e
+  pub number_of_element : (i b field : ℕ) (e : Element) → here.ints i ≡ OfElementCell b field e → (n : ℕ) × (int (g.threads t) i ≡ pos (n * cells_of x (types_at view (g.threads t).at.refs b).target + field)) × ElementStands (rn x code s ls wt fits g world st t on hold).names n e
   number_of_element i b field e q =
       let k : NumberStands x st.elements refs (types_at view m.at.refs) (rn x code s ls wt fits g world st t on hold).names (int m i) (OfElementCell b field e) =
       subst (NumberStands x st.elements refs (types_at view m.at.refs) (rn x code s ls wt fits g world st t on hold).names (int m i)) q ((top x code s ls wt fits g world st t on hold 0 (suc i)).numbers i (omega arith)) in
       (k.0, k.2, k.3)
 
   -- two registers with one reference have its type
-  same_type : (a b : ℕ) → ref (g.threads t) a ≢ 0 → ref (g.threads t) a ≡ ref (g.threads t) b → types_at view (g.threads t).at.refs a ≡ types_at view (g.threads t).at.refs b
+  pub same_type : (a b : ℕ) → ref (g.threads t) a ≢ 0 → ref (g.threads t) a ≡ ref (g.threads t) b → types_at view (g.threads t).at.refs a ≡ types_at view (g.threads t).at.refs b
   same_type a b nz e =
       let ra = reads_ref x code s ls wt fits g world st t on hold a in
       let rb = reads_ref x code s ls wt fits g world st t on hold b in

@@ -56,10 +56,10 @@ object_refl : (a : Object) → same_object a a ≡ true
 object_refl (objects.Global g) = let e : (g == g) ≡ true = grind (arith, nat_tests) in e
 object_refl (objects.Made n) = let e : (n == n) ≡ true = grind (arith, nat_tests) in e
 
-cell_refl : (c : CellAt) → same_cell c c ≡ true
+pub cell_refl : (c : CellAt) → same_cell c c ≡ true
 cell_refl c = ap (λ b. b && (c.cell == c.cell)) (object_refl c.object) ∙ (let e : (c.cell == c.cell) ≡ true = grind (arith, nat_tests) in e)
 
-is_below : (a b : ℕ) → a < b → nat_lt a b ≡ true
+pub is_below : (a b : ℕ) → a < b → nat_lt a b ≡ true
 is_below a b lt = grind (arith, nat_tests)
 
 -- ---- one turn
@@ -101,10 +101,10 @@ module _ (cell_laws : CellsAreThere) (pointers : PointersAreThere) (rights : Acc
   thread_is : (e : SourceEvent) → event ≡ Some e → e.thread ≡ one.thread
   thread_is e is = ap (thread_said m.own.number) (sym is) ∙ (about_now cell_laws pointers rights laws keeps x code s ls wt fits few one earlier h may).thread ∙ number_is cell_laws pointers rights laws keeps x code s ls wt fits few one earlier h may
 
-  is_own : (e : SourceEvent) → event ≡ Some e → is_of one.thread e ≡ true
+  pub is_own : (e : SourceEvent) → event ≡ Some e → is_of one.thread e ≡ true
   is_own e is = let q = thread_is e is in let f : (e.thread == t) ≡ true = grind (arith, nat_tests) in f
 
-  is_others : (e : SourceEvent) → event ≡ Some e → (u : ℕ) → (u ≡ one.thread → ⊥) → is_of u e ≡ false
+  pub is_others : (e : SourceEvent) → event ≡ Some e → (u : ℕ) → (u ≡ one.thread → ⊥) → is_of u e ≡ false
   is_others e is u ne = let q = thread_is e is in let other : e.thread ≡ u → ⊥ = λ z. ne (sym z ∙ q) in let f : (e.thread == u) ≡ false = grind (arith, nat_tests) in f
 
   -- ---- the log of the thread
@@ -126,7 +126,7 @@ module _ (cell_laws : CellsAreThere) (pointers : PointersAreThere) (rights : Acc
       let f = fine (instrs.Lock c site) is in
       mutex_cell cell_laws x code s ls wt fits g world h.state t on (rests_hold code s h.state.elements world h.state.heap g.words t m (instrs.Lock c site) m.own.stage refl (stage_here (instrs.Lock c site) is)) c f.2.0 f.2.1
 
-  word_is : (c : Cell) → IsMutex code s ((place_after code s earlier).threads one.thread) c → word s ((place_after code s earlier).threads one.thread) c ≡ first_cell s + place ((place_after code s earlier).threads one.thread) c
+  pub word_is : (c : Cell) → IsMutex code s ((place_after code s earlier).threads one.thread) c → word s ((place_after code s earlier).threads one.thread) c ≡ first_cell s + place ((place_after code s earlier).threads one.thread) c
   word_is c k = ap (λ b. if b then first_cell s + place m c else 0) (is_below (first_cell s + place m c) (words_of s) k.apart.inside)
 
   in_taken : (c : Cell) (k : HeldMutex) → IsIn k (taken ((place_after code s earlier).threads one.thread) (word s ((place_after code s earlier).threads one.thread) c) (object ((place_after code s earlier).threads one.thread) c))
@@ -177,10 +177,10 @@ module _ (cell_laws : CellsAreThere) (pointers : PointersAreThere) (rights : Acc
       not_true true h = absurd (h refl)
       not_true false h = refl
 
-  abbrev lock_event : Cell → ℕ → SourceEvent
+  abbrev pub lock_event : Cell → ℕ → SourceEvent
   lock_event c site = record { thread = m.own.number; site = (place_at code site).site; answer = Rattle.std.specs.Prelude.pos 0; act = acts.Lock (cell_at code m c) }
 
-  abbrev unlock_event : Cell → ℕ → SourceEvent
+  abbrev pub unlock_event : Cell → ℕ → SourceEvent
   unlock_event c site = record { thread = m.own.number; site = (place_at code site).site; answer = Rattle.std.specs.Prelude.pos 0; act = acts.Unlock (cell_at code m c) }
 
   -- the turn

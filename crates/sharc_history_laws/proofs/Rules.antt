@@ -38,7 +38,7 @@ use Rattle.sharc_invariant.specs.Objects.{objects_behind, made_behind, new_behin
 use Rattle.sharc_invariant.specs.State.{State, IsSmall, StageStands, OnHold, base_of_cell, object_of_cell, number_in}
 use Rattle.sharc_invariant.specs.MachineInvariant.{IsOn}
 use Rattle.sharc_invariant.specs.Laws.{Keeps, Begins as CodeBegins, CellsAreThere, PointersAreThere, AccessesAreAllowed}
-use Rattle.sharc_history_laws.specs.History.{history_of, KeepsRules}
+use Rattle.sharc_history_laws.specs.History.{history_of}
 use Rattle.sharc_history_laws.proofs.Single.{single, rests_hold}
 use Rattle.sharc_history_laws.proofs.Stands.{live_low, known_ref, there, live_ref, sole_ref}
 use Rattle.sharc_history_laws.proofs.Tables.{header_at, header_in, header_of, was_live}

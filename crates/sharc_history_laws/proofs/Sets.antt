@@ -27,7 +27,7 @@ abbrev pub InSet : Newest → Object → (granule t : ℕ) → Bool → Type 0
 InSet [] o granule t write = ⊥
 InSet (e ∷ L) o granule t write = IsHere e o granule t write ⊎ ((begins o e ≡ false) × Goes e t × InSet L o granule t write)
 
-any_append : (test : SourceEvent → Bool) (xs : History) (e : SourceEvent) → list_any test (xs ++ e ∷ []) ≡ false → (list_any test xs ≡ false) × (test e ≡ false)
+pub any_append : (test : SourceEvent → Bool) (xs : History) (e : SourceEvent) → list_any test (xs ++ e ∷ []) ≡ false → (list_any test xs ≡ false) × (test e ≡ false)
 any_append test [] e h = (refl, or_first (test e) h)
   where
     or_first : (a : Bool) → (a || false) ≡ false → a ≡ false

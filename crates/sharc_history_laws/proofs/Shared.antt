@@ -68,7 +68,7 @@ yes : true ≡ false → ⊥
 yes e = cc
 
 -- ---- gates
-not_sole : (s : Shape) (w : World) (t : ℕ) (m : Machine) (y : Gate) → IsNotSole y → GateStands s w t m y → (q : ℕ) → w.win t ≡ IsSole q → ⊥
+pub not_sole : (s : Shape) (w : World) (t : ℕ) (m : Machine) (y : Gate) → IsNotSole y → GateStands s w t m y → (q : ℕ) → w.win t ≡ IsSole q → ⊥
 not_sole s w t m Closed h k q e = cc
 not_sole s w t m (Checked a c) h k q e = cc
 not_sole s w t m (Holds c) h k q e = let z = k.0 in cc
@@ -97,7 +97,7 @@ module _ (state_law : StateStands) (x : Targets) (code : Code) (s : Shape) (ls :
   abbrev invariant : MachineInvariant x code s ls g world.obj
   invariant = state_law x code s ls wt fits g world st
 
-  some_closing : (o : ℕ) → Closing world o → o ≢ 0
+  pub some_closing : (o : ℕ) → Closing world o → o ≢ 0
   some_closing o c z = (subst (WinOk (lang_of x) world c.0) c.1.1.0 (st.inv.wins c.0)).0 (c.1.1.1 ∙ z)
 
   closing_on : (v q : ℕ) → world.win v ≡ IsSole q → IsOn g v
@@ -119,7 +119,7 @@ module _ (state_law : StateStands) (x : Targets) (code : Code) (s : Shape) (ls :
       by _ _ h k = tt
 
   -- no register of another thread has it
-  closing_own : (o : ℕ) (c : Closing world o) (u i : ℕ) → OnHold (g.threads u).own.stage → slice_index (g.threads u).refs i ≡ o → u ≡ c.0
+  pub closing_own : (o : ℕ) (c : Closing world o) (u i : ℕ) → OnHold (g.threads u).own.stage → slice_index (g.threads u).refs i ≡ o → u ≡ c.0
   closing_own o c u i hold has =
       let v = c.0 in
       let q = c.1.0 in
@@ -317,7 +317,7 @@ module _ (state_law : StateStands) (cell_laws : CellsAreThere) (pointers : Point
 
   -- ---- accesses of before
   -- a turn that gives an object begins it
-  unless_given : (o : Object) → ((e : SourceEvent) → event ≡ Some e → begins o e ≡ false) → (r : ℕ) → changes_objects i ((place_after code s earlier).threads one.thread) ≡ true → h.world.win one.thread ≡ IsSole r → (then_.world.obj (number_of o)).live ≡ true
+  pub unless_given : (o : Object) → ((e : SourceEvent) → event ≡ Some e → begins o e ≡ false) → (r : ℕ) → changes_objects i ((place_after code s earlier).threads one.thread) ≡ true → h.world.win one.thread ≡ IsSole r → (then_.world.obj (number_of o)).live ≡ true
       → number_of o ≡ in_ref h.world (RegisterOf one.thread r) → ⊥
   unless_given (objects.Global q) none r c win live e = (subst (WinOk (lang_of x) world t) win (h.state.inv.wins t)).0 (sym e)
   unless_given (objects.Made n) none r c win live e = by i refl c
@@ -372,7 +372,7 @@ module _ (state_law : StateStands) (cell_laws : CellsAreThere) (pointers : Point
           yes (sym live' ∙ dead)
       by _ is change = absurd (cc)
 
-  unless_made : (o : Object) → ((e : SourceEvent) → event ≡ Some e → begins o e ≡ false) → changes_objects i ((place_after code s earlier).threads one.thread) ≡ true → (h.world.obj (number_of o)).live ≡ false → (then_.world.obj (number_of o)).live ≡ true → ⊥
+  pub unless_made : (o : Object) → ((e : SourceEvent) → event ≡ Some e → begins o e ≡ false) → changes_objects i ((place_after code s earlier).threads one.thread) ≡ true → (h.world.obj (number_of o)).live ≡ false → (then_.world.obj (number_of o)).live ≡ true → ⊥
   unless_made (objects.Global q) none c dead live = let a : (world.obj 0).live ≡ true = ap (λ (y : ObjectState). y.live) h.state.globals in yes (sym a ∙ dead)
   unless_made (objects.Made n) none c dead live =
       let m' = (after_turn bounds (one_thread code s) g one).threads t in

@@ -211,7 +211,7 @@ set_same [] n v e = refl
 set_same (w ∷ ws) zero v e = e
 set_same (w ∷ ws) (suc n) v e = set_same ws n v e
 
-step_leaves : (words : List ℕ) (step : WordStep) (w : ℕ) → ((v : ℕ) → word_after step.op v ≡ v) → slice_index (words_after_step words step) w ≡ slice_index words w
+pub step_leaves : (words : List ℕ) (step : WordStep) (w : ℕ) → ((v : ℕ) → word_after step.op v ≡ v) → slice_index (words_after_step words step) w ≡ slice_index words w
 step_leaves words step w keeps =
     ⊎_elim
     (λ (e : w ≡ step.word).

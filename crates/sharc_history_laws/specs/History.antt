@@ -6,7 +6,7 @@ use Rattle.sharc_code.specs.Layout.{Fits}
 use Rattle.sharc_code.specs.Runs.{Turn}
 use Rattle.sharc_code.specs.Whole.{CheckedRun, Erase}
 use Rattle.sharc_gen.specs.OfRuns.{told_in}
-use Rattle.sharc_meaning.specs.Obeys.{History, ToLive, ByOwner, Unwritten, UnderLock, ReadSharedOrOwn, until_return}
+use Rattle.sharc_meaning.specs.Obeys.{History, Obeys, until_return}
 use Rattle.sharc_invariant.specs.Types.{Targets}
 use Rattle.sharc_invariant.specs.Labels.{Labels}
 use Rattle.sharc_invariant.specs.Typed.{IsWellTyped}
@@ -16,15 +16,7 @@ use Rattle.sharc_invariant.specs.State.{IsSmall}
 abbrev pub history_of : Code → Shape → List Turn → History
 history_of code s run = reverse (told_in (Erase code s run))
 
--- each access is to a global or to a live object, a private cell is accessed by its owner alone, no write is made under mode readonly, at an access under a
--- lock the thread holds that mutex, and no access set, where an access counts until its thread returns, holds accesses by two threads of which one is a write
-pub record KeepsRules (R : History) : Type 0 where
-  pub live : ToLive R
-  pub owner : ByOwner R
-  pub unwritten : Unwritten R
-  pub under_lock : UnderLock R
-  pub shared : ReadSharedOrOwn R until_return
-
-abbrev pub HistoriesKeepRules : Type 0
-HistoriesKeepRules = (x : Targets) (code : Code) (s : Shape) (ls : Labels) → IsWellTyped x code ls → Fits code s → IsSmall code s
-    → (run : List Turn) → CheckedRun code s run → KeepsRules (history_of code s run)
+-- they keep all rules of the modes, where an access counts in its access set until its thread returns
+abbrev pub HistoriesObey : Type 0
+HistoriesObey = (x : Targets) (code : Code) (s : Shape) (ls : Labels) → IsWellTyped x code ls → Fits code s → IsSmall code s
+    → (run : List Turn) → CheckedRun code s run → Obeys (history_of code s run) until_return

@@ -1,10 +1,12 @@
 //! The laws, each the contract of a function that does nothing.
 
-ghost use Rattle.sharc_history_laws.specs.History.{HistoriesKeepRules};
+ghost use Rattle.sharc_history_laws.specs.Conflicts.{AccessReportsShow};
+ghost use Rattle.sharc_history_laws.specs.History.{HistoriesObey};
 ghost use Rattle.sharc_history_laws.specs.Paths.{PathsAreConsistent};
+ghost use Rattle.sharc_history_laws.specs.Reports.{CastReportsShow, LockReportsShow};
 
 use sharc_code::run_laws;
-use sharc_invariant::laws::{begins, cells_are_there, keeps, state_stands};
+use sharc_invariant::laws::{begins, cells_are_there, keeps, runs_bits, runs_report, state_stands};
 
 /// The path of each thread of each checked run of typed code has consistent results: its references are numbers, Bounds answers the elements of its object,
 /// a New makes no object to which the thread has a reference, and no other thread makes one anew.
@@ -19,11 +21,26 @@ pub fn paths_law()
 
 /// The source events of each checked run of typed code keep the rules of the modes.
 pub fn history_law()
-    ensures { HistoriesKeepRules }
+    ensures { HistoriesObey }
 {
     run_laws();
     begins();
     keeps();
     state_stands();
     cells_are_there();
+}
+
+/// A thread of a checked run of typed code that has stopped at a lock check does not hold the mutex by its events, and one that has stopped at a test of
+/// a sole reference found the number of references to its object, of which another than the one tested is there.
+pub fn reports_law()
+    ensures locks { LockReportsShow }
+    ensures casts { CastReportsShow }
+    ensures accesses { AccessReportsShow }
+{
+    run_laws();
+    begins();
+    keeps();
+    cells_are_there();
+    runs_bits();
+    runs_report();
 }

@@ -1,7 +1,10 @@
 use Rattle.sharc_history_laws.proofs.Locking.{lock_runs}
+use Rattle.sharc_history_laws.proofs.ModesKept.{keeps_modes}
 use Rattle.sharc_history_laws.proofs.Rules.{newest, obeyed}
 use Rattle.sharc_history_laws.proofs.Sets.{clean_shares}
 use Rattle.sharc_history_laws.proofs.Shared.{shares}
+use Rattle.sharc_history_laws.proofs.Since.{one_mode}
+use Rattle.sharc_history_laws.specs.History.{history_of}
 use Rattle.sharc_history_laws.proofs.laws.history_law.Goals as goal
 
 pub returns : goal.returns
@@ -12,8 +15,10 @@ returns c = λ x code s ls wt fits few run checked.
     let h = obeyed there.cells there.pointers there.rights laws c.begins.ensures.opens c.keeps.ensures x code s ls wt fits few run is_run in
     let k = shares c.state_stands.ensures there.cells there.pointers there.rights laws c.begins.ensures.opens c.keeps.ensures x code s ls wt fits few run is_run in
     let l = lock_runs there.cells there.pointers there.rights laws c.begins.ensures.opens c.keeps.ensures x code s ls wt fits few run is_run in
+    let o = keeps_modes c.state_stands.ensures there.cells there.pointers there.rights laws c.begins.ensures.opens c.keeps.ensures x code s ls wt fits few run is_run in
     record {
       live = λ before e after a stands is. (h.allowed before e after a stands is).there;
+      one_mode = one_mode (history_of code s run) o.same;
       owner = λ before e after a stands is private. (h.allowed before e after a stands is).owner private;
       unwritten = λ before e after a stands is readonly. (h.allowed before e after a stands is).unwritten readonly;
       under_lock = λ before e after a mutex stands is mode. (l.under before e after a stands is) mutex mode;

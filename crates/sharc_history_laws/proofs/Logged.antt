@@ -1,0 +1,418 @@
+-- What a thread holds by its events is in its held log, so where a lock check is refused it does not hold the mutex.
+use Rattle.std.proofs.Common.{◌≡◌, ℕ, pos, zero, suc, ◌+◌, ◌<◌, ◌≢◌, ◌⊎◌, inl, inr, Bool, true, false, not, cond, ◌||◌, ◌&&◌, length, List, [], ◌∷◌, ◌++◌, reverse, Option, Some, None, is_some, if◌then◌else◌, refl, sym, ap, ◌∙◌, subst, ⊎_elim, arith, eqb-true}
+use Rattle.std.specs.Prelude.{nat_lt, ◌==◌}
+use Rattle.std.proofs.lemmas.Bool.{cases_eq}
+use Rattle.std.proofs.lemmas.Bool.Decides.{nat_tests}
+use Rattle.sharc_tree.specs.declared.event.Act.TheVariants as acts
+use Rattle.sharc_tree.specs.declared.event.SourceEvent.{SourceEvent}
+use Rattle.sharc_tree.specs.declared.event.CellAt.{CellAt}
+use Rattle.sharc_locks.specs.declared.held_log.HeldMutex.{HeldMutex}
+use Rattle.sharc_locks.specs.HeldLog.{with_mutex, without, object_of}
+use Rattle.sharc_code.specs.declared.code.Code.{Code}
+use Rattle.sharc_code.specs.declared.instr.Cell.{Cell}
+use Rattle.sharc_code.specs.declared.instr.Cell.TheVariants as cells
+use Rattle.sharc_code.specs.declared.instr.Instr.{Instr}
+use Rattle.sharc_code.specs.declared.instr.Instr.TheVariants as instrs
+use Rattle.sharc_code.specs.declared.shape.Shape.{Shape}
+use Rattle.sharc_code.specs.declared.state.Stop.{Stop}
+use Rattle.sharc_code.specs.declared.state.Stop.TheVariants.{Conflict, NoLock, NotSole, Trap}
+use Rattle.sharc_shadow.specs.declared.shadow_word.Kind.{Kind}
+use Rattle.sharc_shadow.specs.declared.shadow_word.Kind.TheVariants.{Read, Write}
+use Rattle.sharc_shadow.specs.Accesses.{note_of, site_at}
+use Rattle.sharc_shadow.specs.ShadowWord.{epoch_of}
+use Rattle.sharc_shadow.specs.Functions.{conflicts_in, noted}
+use Rattle.sharc_code.specs.Laws.{RunLaws}
+use Rattle.sharc_code.specs.Layout.{Fits, first_cell, words_of, cell_of, cell_word, granule_at, granule_of}
+use Rattle.sharc_code.specs.Machine.{Machine, Own, instr_at, ref, place, object, word, is_held, is_of_null, taken, act, locked, goes, fails, checked, lock_checked, tested, stopped, with_own, wrote, with_note}
+use Rattle.sharc_code.specs.Opening.{opening_words}
+use Rattle.sharc_code.specs.Path.{turn, after, may_go}
+use Rattle.sharc_code.specs.Runs.{Turn, Global, IsRun, MayTurn, after_turn, put, state_now, result_of, opening_of}
+use Rattle.sharc_code.specs.Whole.{one_thread, bounds, place_after}
+use Rattle.sharc_code.specs.Says.{said, cell_at, made_cell, place_at, speaks_of, event_at}
+use Rattle.sharc_gen.specs.Consistent.{said_now, MayFind, IsLock, IsMutex, IsApart, IsFree, IsHeld}
+use Rattle.sharc_gen.specs.OfRuns.{table_of}
+use Rattle.sharc_meaning.specs.Events.{same_cell, is_cell, locks, unlocks, is_of, events_of, holds_mutex}
+use Rattle.sharc_invariant.specs.Types.{Targets}
+use Rattle.sharc_invariant.specs.Labels.{Labels}
+use Rattle.sharc_invariant.specs.Typed.{IsWellTyped}
+use Rattle.sharc_invariant.specs.State.{IsSmall}
+use Rattle.sharc_invariant.specs.Laws.{Keeps, Begins as CodeBegins, CellsAreThere, PointersAreThere, AccessesAreAllowed}
+use Rattle.sharc_history_laws.specs.History.{history_of}
+use Rattle.sharc_history_laws.specs.Reports.{IsLockCheck, LacksLock}
+use Rattle.sharc_history_laws.proofs.Consists.{Consists, consists_then, own_turn, at_first}
+use Rattle.sharc_history_laws.proofs.Lists.{Newest}
+use Rattle.sharc_history_laws.proofs.Rules.{pushed, newest, newest_now, put_same, put_other}
+use Rattle.sharc_history_laws.proofs.Holding.{cell_eq, holds_in, holds_other, holds_own}
+use Rattle.sharc_history_laws.proofs.Logs.{is_locking, logs}
+use Rattle.sharc_history_laws.proofs.Mutexless.{mutex_said, no_mutex, not_locked}
+use Rattle.sharc_history_laws.proofs.Locked.{IsIn, all_in, Names, names_one, names_cell, one_place}
+use Rattle.sharc_history_laws.proofs.Locking.{cell_refl, is_below, is_own, is_others, word_is, lock_event, unlock_event}
+use Rattle.sharc_history_laws.proofs.Quits.{Quits, Still, Traps, is_trap, is_reporting, quits}
+
+yes : true ≡ false → ⊥
+yes e = cc
+
+above : (n : ℕ) → (n == 0) ≡ false → 0 < n
+above zero e = absurd (yes e)
+above (suc n) e = omega arith
+
+-- ---- entries of a log
+is_logged : (log : List HeldMutex) (h : HeldMutex) → IsIn h log → is_some (object_of log h.word) ≡ true
+is_logged [] h is = absurd is
+is_logged (k ∷ log) h is = ⊎_elim
+    (λ (e : k ≡ h). let w : k.word ≡ h.word = ap (λ (k : HeldMutex). k.word) e in let q : (k.word == h.word) ≡ true = grind (arith, nat_tests) in ap (λ b. is_some (if b then Some k.object else object_of log h.word)) q)
+    (λ rest. or_later (k.word == h.word) (is_logged log h rest))
+    is
+  where
+    or_later : (b : Bool) → is_some (object_of log h.word) ≡ true → is_some (if b then Some k.object else object_of log h.word) ≡ true
+    or_later true e = refl
+    or_later false e = e
+
+in_kept : (log : List HeldMutex) (word : ℕ) (h : HeldMutex) → IsIn h log → (h.word ≡ word → ⊥) → IsIn h (without log word)
+in_kept [] word h is ne = absurd is
+in_kept (k ∷ log) word h is ne = elim (k.word == word) as (λ b. (k.word == word) ≡ b → IsIn h (cond (not b) (k ∷ without log word) (without log word))) [
+  | true ↦ λ q. ⊎_elim (λ (e : k ≡ h). absurd (ne (ap (λ (k : HeldMutex). k.word) (sym e) ∙ eqb-true k.word word q))) (λ rest. in_kept log word h rest ne) is
+  | false ↦ λ q. ⊎_elim (λ (e : k ≡ h). inl e) (λ rest. inr (in_kept log word h rest ne)) is
+] refl
+
+in_front : (log : List HeldMutex) (k h : HeldMutex) → IsIn h log → IsIn h (log ++ k ∷ [])
+in_front [] k h is = absurd is
+in_front (y ∷ log) k h is = ⊎_elim (λ (e : y ≡ h). inl e) (λ rest. inr (in_front log k h rest)) is
+
+in_last : (log : List HeldMutex) (k : HeldMutex) → IsIn k (log ++ k ∷ [])
+in_last [] k = inl refl
+in_last (y ∷ log) k = inr (in_last log k)
+
+parts : (l h u : Bool) → (l || (h && not u)) ≡ true → (l ≡ true) ⊎ ((h ≡ true) × (u ≡ false))
+parts true h u e = inl refl
+parts false true true e = absurd (yes (sym e))
+parts false true false e = inr (refl, refl)
+parts false false u e = absurd (yes (sym e))
+
+-- ---- what the events say of the log
+abbrev pub LogHas : Code → Shape → Newest → ℕ → List HeldMutex → Type 0
+LogHas code s L t log = (c : CellAt) → holds_in L t c ≡ true → (h : HeldMutex) × IsIn h log × ((at : ℕ) × (h.word ≡ first_cell s + at) × Names code c h.object at)
+
+-- ---- one turn
+module _ (cell_laws : CellsAreThere) (pointers : PointersAreThere) (rights : AccessesAreAllowed) (laws : RunLaws) (keeps : Keeps) (x : Targets) (code : Code) (s : Shape) (ls : Labels) (wt : IsWellTyped x code ls) (fits : Fits code s) (few : IsSmall code s)
+    (one : Turn) (earlier : List Turn) (h : Consists x code s ls earlier) (may : MayTurn bounds (one_thread code s) (place_after code s earlier) one) where
+  abbrev g : Global Machine
+  g = place_after code s earlier
+
+  abbrev t : ℕ
+  t = one.thread
+
+  abbrev m : Machine
+  m = (place_after code s earlier).threads one.thread
+
+  abbrev i : Instr
+  i = instr_at code ((place_after code s earlier).threads one.thread).at.pc
+
+  abbrev found : ℕ
+  found = result_of one.event
+
+  abbrev elements : ℕ
+  elements = table_of code s earlier (speaks_of (instr_at code ((place_after code s earlier).threads one.thread).at.pc) ((place_after code s earlier).threads one.thread) (result_of one.event))
+
+  abbrev event : Option SourceEvent
+  event = said code i ((place_after code s earlier).threads one.thread) found elements
+
+  abbrev mine : List HeldMutex
+  mine = ((place_after code s earlier).threads one.thread).own.held
+
+  may_find : (j : Instr) → i ≡ j → MayFind code s (table_of code s earlier) ((place_after code s earlier).threads one.thread) found j
+  may_find j e = subst (MayFind code s (table_of code s earlier) m found) e (own_turn laws keeps cell_laws pointers x code s ls wt fits few one earlier h may).finds
+
+  own_event : (d : SourceEvent) → event ≡ Some d → is_of one.thread d ≡ true
+  own_event d e = is_own cell_laws pointers rights laws keeps x code s ls wt fits few one earlier h may d e
+
+  word_at : (c : Cell) → IsMutex code s ((place_after code s earlier).threads one.thread) c → word s ((place_after code s earlier).threads one.thread) c ≡ first_cell s + place ((place_after code s earlier).threads one.thread) c
+  word_at c k = word_is cell_laws pointers rights laws keeps x code s ls wt fits few one earlier h may c k
+
+  -- what is held after an event of the thread
+  held_parts : (d : SourceEvent) → event ≡ Some d → (L : Newest) (c : CellAt) → holds_in (d ∷ L) one.thread c ≡ true → (locks c d ≡ true) ⊎ ((holds_in L one.thread c ≡ true) × (unlocks c d ≡ false))
+  held_parts d e L c is = parts (locks c d) (holds_in L t c) (unlocks c d) (sym (holds_own d L t c (own_event d e)) ∙ is)
+
+  has_quiet : (L : Newest) → LogHas code s L one.thread mine → (ev : Option SourceEvent) → event ≡ ev → mutex_said ev ≡ false → LogHas code s (pushed ev L) one.thread mine
+  has_quiet L old None e quiet = old
+  has_quiet L old (Some d) e quiet = λ c is.
+      let a = not_locked d.act quiet in
+      let l : locks c d ≡ false = ap (is_cell c) a.0 in
+      ⊎_elim (λ (q : locks c d ≡ true). absurd (yes (sym q ∙ l))) (λ (k : (holds_in L t c ≡ true) × (unlocks c d ≡ false)). old c k.0) (held_parts d e L c is)
+
+  has_lock : (L : Newest) → LogHas code s L one.thread mine → (c : Cell) → IsFree code s ((place_after code s earlier).threads one.thread) c → (d : SourceEvent) → event ≡ Some d → d.act ≡ acts.Lock (cell_at code ((place_after code s earlier).threads one.thread) c)
+      → LogHas code s (d ∷ L) one.thread (taken ((place_after code s earlier).threads one.thread) (word s ((place_after code s earlier).threads one.thread) c) (object ((place_after code s earlier).threads one.thread) c))
+  has_lock L old c free d e act_is named is =
+      let new : HeldMutex = record { word = word s m c; object = object m c } in
+      let room : nat_lt (length m.own.held) 16 ≡ true = is_below (length m.own.held) 16 free.room in
+      let log_is : taken m (word s m c) (object m c) ≡ m.own.held ++ new ∷ [] =
+      ap (λ b. if b then m.own.held else with_mutex m.own.held (word s m c) (object m c)) free.other ∙ ap (λ b. if b then m.own.held ++ new ∷ [] else m.own.held) room in
+      let l : locks named d ≡ same_cell named (cell_at code m c) = ap (λ a. is_cell named (Rattle.sharc_meaning.specs.Events.locked_by a)) act_is in
+      ⊎_elim
+      (λ (q : locks named d ≡ true).
+      let same : named ≡ cell_at code m c = cell_eq named (cell_at code m c) (sym l ∙ q) in
+      (new, subst (IsIn new) (sym log_is) (in_last m.own.held new), (place m c, word_at c free.mutex, subst (λ y. Names code y (object m c) (place m c)) (sym same) (names_cell code m c free.mutex.there))))
+      (λ (k : (holds_in L t named ≡ true) × (unlocks named d ≡ false)).
+      let was = old named k.0 in
+      (was.0, subst (IsIn was.0) (sym log_is) (in_front m.own.held new was.0 was.1), was.2))
+      (held_parts d e L named is)
+
+  -- an entry with the word of a mutex is that mutex's
+  same_mutex : (c : Cell) → IsMutex code s ((place_after code s earlier).threads one.thread) c → (named : CellAt) (k : HeldMutex) → IsIn k mine → (at : ℕ) → k.word ≡ first_cell s + at → Names code named k.object at → k.word ≡ word s ((place_after code s earlier).threads one.thread) c
+      → named ≡ cell_at code ((place_after code s earlier).threads one.thread) c
+  same_mutex c mutex named k is at w names e =
+      let b = word_at c mutex in
+      let same_at : at ≡ place m c = omega arith in
+      let o : k.object ≡ object m c = all_in (λ (k : HeldMutex). k.word ≡ first_cell s + place m c → k.object ≡ object m c) m.own.held k mutex.apart.apart is (e ∙ b) in
+      names_one x code ls wt named (cell_at code m c) (object m c) (place m c) (subst (λ at. Names code named (object m c) at) same_at (subst (λ o. Names code named o at) o names)) (names_cell code m c mutex.there)
+
+  has_unlock : (L : Newest) → LogHas code s L one.thread mine → (c : Cell) → IsMutex code s ((place_after code s earlier).threads one.thread) c → (d : SourceEvent) → event ≡ Some d → d.act ≡ acts.Unlock (cell_at code ((place_after code s earlier).threads one.thread) c)
+      → LogHas code s (d ∷ L) one.thread (without mine (word s ((place_after code s earlier).threads one.thread) c))
+  has_unlock L old c mutex d e act_is named is =
+      let l : locks named d ≡ false = ap (λ a. is_cell named (Rattle.sharc_meaning.specs.Events.locked_by a)) act_is in
+      let u : unlocks named d ≡ same_cell named (cell_at code m c) = ap (λ a. is_cell named (Rattle.sharc_meaning.specs.Events.unlocked_by a)) act_is in
+      ⊎_elim
+      (λ (q : locks named d ≡ true). absurd (yes (sym q ∙ l)))
+      (λ (k : (holds_in L t named ≡ true) × (unlocks named d ≡ false)).
+      let was = old named k.0 in
+      let other : was.0.word ≡ word s m c → ⊥ = λ w.
+      let same = same_mutex c mutex named was.0 was.1 was.2.0 was.2.1 was.2.2 w in
+      yes (sym (ap (λ y. same_cell y (cell_at code m c)) same ∙ cell_refl (cell_at code m c)) ∙ sym u ∙ k.1) in
+      (was.0, in_kept m.own.held (word s m c) was.0 was.1 other, was.2))
+      (held_parts d e L named is)
+
+  own_has : (L : Newest) → LogHas code s L one.thread mine → (ev : Option SourceEvent) → event ≡ ev → LogHas code s (pushed ev L) one.thread (after (turn code s ((place_after code s earlier).threads one.thread)) found).own.held
+  own_has L old ev e = by i refl
+    where
+      at_lock : (c : Cell) (site : ℕ) → i ≡ instrs.Lock c site → LogHas code s (pushed ev L) one.thread (after (turn code s ((place_after code s earlier).threads one.thread)) found).own.held
+      at_lock c site is =
+          let held_is : (after (turn code s m) found).own.held ≡ (locked m c (word s m c) found).own.held = ap (λ j. (after (act code s j m) found).own.held) is in
+          let said_is : event ≡ (if found == 0 then event_at code m site (pos 0) (acts.Lock (cell_at code m c)) else None) = ap (λ j. said code j m found elements) is in
+          subst (LogHas code s (pushed ev L) t) (sym held_is) (choose (found == 0) refl (sym e ∙ said_is))
+        where
+          choose : (b : Bool) → (found == 0) ≡ b → ev ≡ (if (found == 0) then event_at code ((place_after code s earlier).threads one.thread) site (pos 0) (acts.Lock (cell_at code ((place_after code s earlier).threads one.thread) c)) else None)
+              → LogHas code s (pushed ev L) one.thread (locked ((place_after code s earlier).threads one.thread) c (word s ((place_after code s earlier).threads one.thread) c) found).own.held
+          choose true z q =
+              let d = lock_event cell_laws pointers rights laws keeps x code s ls wt fits few one earlier h may c site in
+              let now : ev ≡ event_at code m site (pos 0) (acts.Lock (cell_at code m c)) = q ∙ ap (λ b. if b then event_at code m site (pos 0) (acts.Lock (cell_at code m c)) else None) z in
+              let held : (locked m c (word s m c) found).own.held ≡ taken m (word s m c) (object m c) = ap (λ b. (if b then goes (record (Rattle.sharc_code.specs.Machine.without_base m c) { own = record m.own { held = taken m (word s m c) (object m c) } }) else fails m).own.held) z in
+              let free = may_find (instrs.Lock c site) is (eqb-true found 0 z) in
+              subst (λ ev. LogHas code s (pushed ev L) t (locked m c (word s m c) found).own.held) (sym now) (subst (LogHas code s (d ∷ L) t) (sym held) (has_lock L old c free d (e ∙ now) refl))
+          choose false z q =
+              let now : ev ≡ None = q ∙ ap (λ b. if b then event_at code m site (pos 0) (acts.Lock (cell_at code m c)) else None) z in
+              let held : (locked m c (word s m c) found).own.held ≡ m.own.held = ap (λ b. (if b then goes (record (Rattle.sharc_code.specs.Machine.without_base m c) { own = record m.own { held = taken m (word s m c) (object m c) } }) else fails m).own.held) z in
+              subst (λ ev. LogHas code s (pushed ev L) t (locked m c (word s m c) found).own.held) (sym now) (subst (LogHas code s L t) (sym held) old)
+
+      at_unlock : (r : ℕ) (c : Cell) (site : ℕ) → i ≡ instrs.Unlock r c site → LogHas code s (pushed ev L) one.thread (after (turn code s ((place_after code s earlier).threads one.thread)) found).own.held
+      at_unlock r c site is =
+          let held = may_find (instrs.Unlock r c site) is in
+          let d = unlock_event cell_laws pointers rights laws keeps x code s ls wt fits few one earlier h may c site in
+          let held_is : (after (turn code s m) found).own.held ≡ without m.own.held (word s m c) = ap (λ j. (after (act code s j m) found).own.held) is in
+          let said_is : event ≡ event_at code m site (pos 0) (acts.Unlock (cell_at code m c)) = ap (λ j. said code j m found elements) is in
+          subst (λ ev. LogHas code s (pushed ev L) t (after (turn code s m) found).own.held) (sym said_is ∙ e) (subst (LogHas code s (d ∷ L) t) (sym held_is) (has_unlock L old c held.mutex d said_is refl))
+
+      others : is_locking i ≡ false → LogHas code s (pushed ev L) one.thread (after (turn code s ((place_after code s earlier).threads one.thread)) found).own.held
+      others never =
+          let held = (logs code s m i found never).held in
+          let quiet : mutex_said ev ≡ false = ap mutex_said (sym e) ∙ no_mutex code m i found elements never in
+          subst (LogHas code s (pushed ev L) t) (sym held) (has_quiet L old ev e quiet)
+
+      by : (j : Instr) → i ≡ j → LogHas code s (pushed ev L) one.thread (after (turn code s ((place_after code s earlier).threads one.thread)) found).own.held
+      by (instrs.Lock c site) is = at_lock c site is
+      by (instrs.Unlock r c site) is = at_unlock r c site is
+      by _ is = others (ap is_locking is)
+
+  others_same : (ev : Option SourceEvent) → event ≡ ev → (L : Newest) (u : ℕ) → (u ≡ one.thread → ⊥) → (c : CellAt) → holds_in (pushed ev L) u c ≡ holds_in L u c
+  others_same None e L u ne c = refl
+  others_same (Some d) e L u ne c = holds_other d L u c (is_others cell_laws pointers rights laws keeps x code s ls wt fits few one earlier h may d e u ne)
+
+  abbrev now : Machine
+  now = after (turn code s ((place_after code s earlier).threads one.thread)) found
+
+  abbrev machines : ℕ → Machine
+  machines = (after_turn bounds (one_thread code s) (place_after code s earlier) one).threads
+
+  -- a property of all threads
+  all_then : (P : ℕ → Machine → Type 0) → P one.thread now → ((u : ℕ) → (u ≡ one.thread → ⊥) → P u ((place_after code s earlier).threads u)) → (u : ℕ) → P u ((after_turn bounds (one_thread code s) (place_after code s earlier) one).threads u)
+  all_then P mine theirs u =
+      let now = state_now (one_thread code s) g one in
+      ⊎_elim
+      (λ (same : u ≡ t). subst (λ u. P u (put g.threads t now u)) (sym same) (subst (P t) (sym (put_same g.threads t now)) mine))
+      (λ (ne : u ≡ t → ⊥). subst (P u) (sym (put_other g.threads t u now ne)) (theirs u ne))
+      (cases_eq u t)
+
+  pub has_then : (L : Newest) → ((u : ℕ) → LogHas code s L u ((place_after code s earlier).threads u).own.held) → (ev : Option SourceEvent) → event ≡ ev
+      → (u : ℕ) → LogHas code s (pushed ev L) u ((after_turn bounds (one_thread code s) (place_after code s earlier) one).threads u).own.held
+  has_then L old ev e = all_then (λ u (y : Machine). LogHas code s (pushed ev L) u y.own.held) (own_has L (old t) ev e) (λ u ne c is. old u c (sym (others_same ev e L u ne c) ∙ is))
+
+  -- ---- a refused check
+  not_held : (b : Bool) → (b ≡ true → ⊥) → b ≡ false
+  not_held true h = absurd (h refl)
+  not_held false h = refl
+
+  unheld : (L : Newest) → LogHas code s L one.thread mine → (c : Cell) → IsMutex code s ((place_after code s earlier).threads one.thread) c → is_held ((place_after code s earlier).threads one.thread) (word s ((place_after code s earlier).threads one.thread) c) ≡ false
+      → holds_in L one.thread (cell_at code ((place_after code s earlier).threads one.thread) c) ≡ false
+  unheld L old c mutex refused = not_held (holds_in L t (cell_at code m c)) (λ is.
+      let k = old (cell_at code m c) is in
+      let at = k.2.0 in
+      let q : at ≡ place m c = one_place code (cell_at code m c).object (cell_at code m c).cell k.0.object (object m c) at (place m c) k.2.2 (names_cell code m c mutex.there) in
+      let w : k.0.word ≡ word s m c = k.2.1 ∙ ap (λ n. first_cell s + n) q ∙ sym (word_at c mutex) in
+      yes (sym (ap (λ n. is_some (object_of m.own.held n)) (sym w) ∙ is_logged m.own.held k.0 k.1) ∙ refused))
+
+  unheld_pending : (L : Newest) → LogHas code s L one.thread mine → (n : ℕ) → IsApart s mine n (cell_of n 0) → is_held ((place_after code s earlier).threads one.thread) (cell_word s (cell_of n 0)) ≡ false
+      → holds_in L one.thread (made_cell n 0) ≡ false
+  unheld_pending L old n apart refused = not_held (holds_in L t (made_cell n 0)) (λ is.
+      let k = old (made_cell n 0) is in
+      let q = k.2.2.2 in
+      let inside : nat_lt (first_cell s + cell_of n 0) (words_of s) ≡ true = is_below (first_cell s + cell_of n 0) (words_of s) apart.inside in
+      let w : k.0.word ≡ cell_word s (cell_of n 0) = k.2.1 ∙ ap (λ n. first_cell s + n) q ∙ sym (ap (λ b. if b then first_cell s + cell_of n 0 else 0) inside) in
+      yes (sym (ap (λ n. is_some (object_of m.own.held n)) (sym w) ∙ is_logged m.own.held k.0 k.1) ∙ refused))
+
+  -- ---- the stop of the turn
+  module _ (L : Newest) (old : LogHas code s L one.thread mine) (fresh : ((place_after code s earlier).threads one.thread).own.stop ≡ None) where
+    abbrev Shows : Machine → Type 0
+    Shows y = (site word : ℕ) → y.own.stop ≡ Some (NoLock site word) → LacksLock code (reverse (pushed event L)) one.thread y site
+
+    abbrev Halts : Machine → Type 0
+    Halts y = is_some y.own.stop ≡ true → may_go y.at.state ≡ false
+
+    -- one that has none
+    shows_none : (y : Machine) → y.own.stop ≡ None → Shows y
+    shows_none y e site word is = absurd (let f : None ≡ Some (NoLock site word) = sym e ∙ is in cc)
+
+    halts_none : (y : Machine) → y.own.stop ≡ None → Halts y
+    halts_none y e is = absurd (let f : false ≡ true = ap (λ (o : Option Stop). is_some o) (sym e) ∙ is in cc)
+
+    quiet_shows : is_reporting i ≡ false → Shows now × Halts now
+    quiet_shows other = by (quits code s m i found other)
+      where
+        by : Quits m now → Shows now × Halts now
+        by (Still e) = (shows_none now (e ∙ fresh), halts_none now (e ∙ fresh))
+        by (Traps e go) = (λ site word is. absurd (yes (sym e ∙ ap is_trap is)), λ _. go)
+
+    at_check : (kind : Kind) (granule site' old : ℕ) → Shows (checked m kind granule site' old) × Halts (checked m kind granule site' old)
+    at_check kind granule site' old = elim (conflicts_in old m.own.number kind (wrote m granule old)) as (λ b. Shows (if b then stopped m (Conflict record { kind = kind; site = site'; granule = granule; epoch = epoch_of old; old = old }) else with_own m (with_note m.own granule kind (epoch_of old) site'))
+        × Halts (if b then stopped m (Conflict record { kind = kind; site = site'; granule = granule; epoch = epoch_of old; old = old }) else with_own m (with_note m.own granule kind (epoch_of old) site'))) [
+      | true ↦ (λ site word is. absurd (let f : Some (Conflict record { kind = kind; site = site'; granule = granule; epoch = epoch_of old; old = old }) ≡ Some (NoLock site word) = is in cc), λ _. refl)
+      | false ↦ (shows_none (with_own m (with_note m.own granule kind (epoch_of old) site')) (note_stop m.own granule kind (epoch_of old) site' ∙ fresh), halts_none (with_own m (with_note m.own granule kind (epoch_of old) site')) (note_stop m.own granule kind (epoch_of old) site' ∙ fresh))
+    ]
+      where
+        note_stop : (own : Own) (granule : ℕ) (kind : Kind) (epoch site : ℕ) → (with_note own granule kind epoch site).stop ≡ own.stop
+        note_stop own granule kind epoch site =
+            elim (is_some (site_at (note_of own.table granule kind) epoch)) as (λ b. (if b then own else record own { table = noted own.table granule kind record { epoch = epoch; site = site } }).stop ≡ own.stop) [ true ↦ refl | false ↦ refl ]
+
+    at_sole : (at n : ℕ) → Shows (tested m at n) × Halts (tested m at n)
+    at_sole at n = elim (n == 1) as (λ b. Shows (if b then goes m else stopped m (NotSole at n)) × Halts (if b then goes m else stopped m (NotSole at n))) [
+      | true ↦ (shows_none (goes m) fresh, halts_none (goes m) fresh)
+      | false ↦ (λ site word is. absurd (let f : Some (NotSole at n) ≡ Some (NoLock site word) = is in cc), λ _. refl)
+    ]
+
+    at_lock_check : (b : Bool) (mutex at : ℕ) → (b ≡ false → is_held ((place_after code s earlier).threads one.thread) mutex ≡ false → LacksLock code (reverse (pushed event L)) one.thread (stopped ((place_after code s earlier).threads one.thread) (NoLock at mutex)) at)
+        → Shows (lock_checked ((place_after code s earlier).threads one.thread) b mutex at) × Halts (lock_checked ((place_after code s earlier).threads one.thread) b mutex at)
+    at_lock_check true mutex at lacks = (λ site word is. absurd (let f : Some (Trap 1 at) ≡ Some (NoLock site word) = is in cc), λ _. refl)
+    at_lock_check false mutex at lacks = elim (is_held m mutex) as (λ b. is_held m mutex ≡ b → Shows (if b then goes m else stopped m (NoLock at mutex)) × Halts (if b then goes m else stopped m (NoLock at mutex))) [
+      | true ↦ λ e. (shows_none (goes m) fresh, halts_none (goes m) fresh)
+      | false ↦ λ e. (λ site word is. let same : at ≡ site = let f : Some (NoLock at mutex) ≡ Some (NoLock site word) = is in cc in subst (LacksLock code (reverse (pushed event L)) t (stopped m (NoLock at mutex))) same (lacks refl e), λ _. refl)
+    ] refl
+
+    mutex_of : (c : Cell) → IsLock code s ((place_after code s earlier).threads one.thread) c → is_of_null ((place_after code s earlier).threads one.thread) c ≡ false → IsMutex code s ((place_after code s earlier).threads one.thread) c
+    mutex_of (cells.Global q p) k e = k
+    mutex_of (cells.GlobalAt q r) k e = k
+    mutex_of (cells.Object r p) k e = k (above (ref m r) e)
+    mutex_of (cells.ObjectAt r q) k e = k (above (ref m r) e)
+
+    lacks_cell : (c : Cell) (at mutex : ℕ) → i ≡ instrs.ChkLock c at → IsMutex code s ((place_after code s earlier).threads one.thread) c → is_held ((place_after code s earlier).threads one.thread) (word s ((place_after code s earlier).threads one.thread) c) ≡ false
+        → LacksLock code (reverse (pushed event L)) one.thread (stopped ((place_after code s earlier).threads one.thread) (NoLock at mutex)) at
+    lacks_cell c at mutex is k refused =
+        let none : event ≡ None = ap (λ j. said code j m found elements) is in
+        record {
+          mutex = cell_at code m c;
+          check = subst (λ j. IsLockCheck code (stopped m (NoLock at mutex)) j at (cell_at code m c)) (sym is) (refl, same_cell_at c);
+          unheld = ap (λ ev. holds_in (pushed ev L) t (cell_at code m c)) none ∙ unheld L old c k refused;
+        }
+      where
+        same_cell_at : (c : Cell) → cell_at code ((place_after code s earlier).threads one.thread) c ≡ cell_at code (stopped ((place_after code s earlier).threads one.thread) (NoLock at mutex)) c
+        same_cell_at (cells.Global q p) = refl
+        same_cell_at (cells.GlobalAt q r) = refl
+        same_cell_at (cells.Object r p) = refl
+        same_cell_at (cells.ObjectAt r q) = refl
+
+    lacks_loaded : (at mutex : ℕ) → i ≡ instrs.ChkLockLoaded at → IsApart s mine ((place_after code s earlier).threads one.thread).pending (cell_of ((place_after code s earlier).threads one.thread).pending 0)
+        → is_held ((place_after code s earlier).threads one.thread) (cell_word s (cell_of ((place_after code s earlier).threads one.thread).pending 0)) ≡ false
+        → LacksLock code (reverse (pushed event L)) one.thread (stopped ((place_after code s earlier).threads one.thread) (NoLock at mutex)) at
+    lacks_loaded at mutex is k refused =
+        let none : event ≡ None = ap (λ j. said code j m found elements) is in
+        record {
+          mutex = made_cell m.pending 0;
+          check = subst (λ j. IsLockCheck code (stopped m (NoLock at mutex)) j at (made_cell m.pending 0)) (sym is) (refl, refl);
+          unheld = ap (λ ev. holds_in (pushed ev L) t (made_cell m.pending 0)) none ∙ unheld_pending L old m.pending k refused;
+        }
+
+    pub shows : Shows now × Halts now
+    shows = by i refl
+      where
+        at_instr : (j : Instr) → i ≡ j → Shows (after (act code s j ((place_after code s earlier).threads one.thread)) found) × Halts (after (act code s j ((place_after code s earlier).threads one.thread)) found) → Shows now × Halts now
+        at_instr j is k = subst (λ y. Shows y × Halts y) (sym (ap (λ j. after (act code s j m) found) is)) k
+
+        by : (j : Instr) → i ≡ j → Shows now × Halts now
+        by (instrs.ChkLock c at) is = at_instr (instrs.ChkLock c at) is (at_lock_check (is_of_null m c) (word s m c) at
+            (λ e refused. lacks_cell c at (word s m c) is (mutex_of c (may_find (instrs.ChkLock c at) is) e) refused))
+        by (instrs.ChkLockLoaded at) is = at_instr (instrs.ChkLockLoaded at) is (at_lock_check (m.pending == 0) (cell_word s (cell_of m.pending 0)) at
+            (λ e refused. lacks_loaded at (cell_word s (cell_of m.pending 0)) is (may_find (instrs.ChkLockLoaded at) is (above m.pending e)) refused))
+        by (instrs.ChkRead c at) is = at_instr (instrs.ChkRead c at) is (at_check Read (granule_at s (granule_of (place m c))) at found)
+        by (instrs.ChkWrite c at) is = at_instr (instrs.ChkWrite c at) is (at_check Write (granule_at s (granule_of (place m c))) at found)
+        by (instrs.TestSole r at) is = at_instr (instrs.TestSole r at) is (at_sole at found)
+        by _ is = quiet_shows (ap is_reporting is)
+
+  -- all threads
+  abbrev ShowsOf : Newest → ℕ → Machine → Type 0
+  ShowsOf L u y = (site word : ℕ) → y.own.stop ≡ Some (NoLock site word) → LacksLock code (reverse L) u y site
+
+  pub shows_then : (L : Newest) → ((u : ℕ) → LogHas code s L u ((place_after code s earlier).threads u).own.held) → ((place_after code s earlier).threads one.thread).own.stop ≡ None
+      → ((u : ℕ) → ShowsOf L u ((place_after code s earlier).threads u)) → (u : ℕ) → ShowsOf (pushed event L) u ((after_turn bounds (one_thread code s) (place_after code s earlier) one).threads u)
+  shows_then L has fresh old = all_then (ShowsOf (pushed event L)) ((shows L (has t) fresh).0) (λ u ne site word is.
+      let k = old u site word is in
+      record { mutex = k.mutex; check = k.check; unheld = others_same event refl L u ne k.mutex ∙ k.unheld })
+
+  pub halts_then : (L : Newest) → ((u : ℕ) → LogHas code s L u ((place_after code s earlier).threads u).own.held) → ((place_after code s earlier).threads one.thread).own.stop ≡ None
+      → ((u : ℕ) → is_some ((place_after code s earlier).threads u).own.stop ≡ true → may_go ((place_after code s earlier).threads u).at.state ≡ false)
+      → (u : ℕ) → is_some ((after_turn bounds (one_thread code s) (place_after code s earlier) one).threads u).own.stop ≡ true → may_go ((after_turn bounds (one_thread code s) (place_after code s earlier) one).threads u).at.state ≡ false
+  halts_then L has fresh old = all_then (λ u (y : Machine). is_some y.own.stop ≡ true → may_go y.at.state ≡ false) ((shows L (has t) fresh).1) (λ u ne. old u)
+
+-- ---- runs
+pub record Lacking (x : Targets) (code : Code) (s : Shape) (ls : Labels) (run : List Turn) : Type 0 where
+  pub consists : Consists x code s ls run
+  pub has : (u : ℕ) → LogHas code s (newest code s run) u ((place_after code s run).threads u).own.held
+  pub halts : (u : ℕ) → is_some ((place_after code s run).threads u).own.stop ≡ true → may_go ((place_after code s run).threads u).at.state ≡ false
+  pub shows : (u site word : ℕ) → ((place_after code s run).threads u).own.stop ≡ Some (NoLock site word) → LacksLock code (history_of code s run) u ((place_after code s run).threads u) site
+
+stop_none : (o : Option Stop) → (is_some o ≡ true → ⊥) → o ≡ None
+stop_none None h = refl
+stop_none (Some w) h = absurd (h refl)
+
+module _ (cell_laws : CellsAreThere) (pointers : PointersAreThere) (rights : AccessesAreAllowed) (laws : RunLaws) (begins_law : CodeBegins) (keeps : Keeps) (x : Targets) (code : Code) (s : Shape) (ls : Labels) (wt : IsWellTyped x code ls) (fits : Fits code s) (few : IsSmall code s) where
+  pub lacking : (run : List Turn) → IsRun bounds (one_thread code s) (opening_of bounds (one_thread code s) (opening_words code s)) run → Lacking x code s ls run
+  lacking [] run = record {
+    consists = at_first begins_law x code s ls wt fits;
+    has = λ u c is. absurd (yes (sym is));
+    halts = λ u is. absurd (yes (sym is));
+    shows = λ u site word is. absurd (let f : None ≡ Some (NoLock site word) = is in cc);
+  }
+  lacking (one ∷ earlier) run =
+      let old = lacking earlier run.0 in
+      let h = old.consists in
+      let may = run.1 in
+      let g = place_after code s earlier in
+      let t = one.thread in
+      let ev = said_now code (table_of code s earlier) (g.threads one.thread) (result_of one.event) in
+      let L = newest code s earlier in
+      let now = newest_now code s one earlier in
+      let fresh = stop_none (g.threads t).own.stop (λ is. yes (sym may.next.runs ∙ old.halts t is)) in
+      record {
+        consists = consists_then laws keeps cell_laws pointers x code s ls wt fits few one earlier h may;
+        has = subst (λ (L : Newest). (u : ℕ) → LogHas code s L u ((place_after code s (one ∷ earlier)).threads u).own.held) (sym now)
+            (has_then cell_laws pointers rights laws keeps x code s ls wt fits few one earlier h may L old.has ev refl);
+        halts = halts_then cell_laws pointers rights laws keeps x code s ls wt fits few one earlier h may L old.has fresh old.halts;
+        shows = subst (λ (L : Newest). (u site word : ℕ) → ((place_after code s (one ∷ earlier)).threads u).own.stop ≡ Some (NoLock site word) → LacksLock code (reverse L) u ((place_after code s (one ∷ earlier)).threads u) site) (sym now)
+            (shows_then cell_laws pointers rights laws keeps x code s ls wt fits few one earlier h may L old.has fresh old.shows);
+      }

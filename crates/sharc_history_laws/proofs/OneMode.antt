@@ -1,0 +1,280 @@
+-- From its New or Give to its next Give or Freed each cell of an object is accessed under one mode, and a cell of a global always.
+use Rattle.std.proofs.Common.{◌≡◌, ℕ, ℤ, pos, zero, suc, ◌+◌, ◌-◌, ◌*◌, ◌<◌, ◌≤◌, ◌≢◌, ◌⊎◌, inl, inr, Bool, true, false, ◌||◌, cond, length, List, [], ◌∷◌, reverse, Option, Some, None, if◌then◌else◌, refl, sym, ap, ◌∙◌, subst, ⊎_elim, arith}
+use Rattle.std.specs.Prelude.{map, slice_index, slice_index_or, slice_set, ◌==◌}
+use Rattle.std.proofs.lemmas.Bool.{cases_eq}
+use Rattle.std.proofs.lemmas.List.{get_or-set_other}
+use Rattle.sharc_word.specs.declared.step.WordStep.{WordStep}
+use Rattle.sharc_word.specs.declared.step.WordEvent.{WordEvent}
+use Rattle.sharc_word.specs.Words.{word_after, words_after_step}
+use Rattle.sharc_tree.specs.declared.event.SourceEvent.{SourceEvent}
+use Rattle.sharc_tree.specs.declared.event.CellAt.{CellAt}
+use Rattle.sharc_tree.specs.declared.event.CellMode.{CellMode as EventMode}
+use Rattle.sharc_tree.specs.declared.event.CellMode.TheVariants as modes
+use Rattle.sharc_tree.specs.declared.event.Object.{Object}
+use Rattle.sharc_tree.specs.declared.event.Object.TheVariants as objects
+use Rattle.sharc_code.specs.declared.code.Code.{Code}
+use Rattle.sharc_code.specs.declared.code.PlaceMode.{PlaceMode}
+use Rattle.sharc_code.specs.declared.code.PlaceMode.TheVariants as places
+use Rattle.sharc_code.specs.declared.instr.Cell.{Cell}
+use Rattle.sharc_code.specs.declared.instr.Cell.TheVariants as cells
+use Rattle.sharc_code.specs.declared.instr.Instr.{Instr}
+use Rattle.sharc_code.specs.declared.shape.Shape.{Shape}
+use Rattle.sharc_code.specs.Arithmetic.{word_of}
+use Rattle.sharc_code.specs.Laws.{RunLaws}
+use Rattle.sharc_code.specs.Layout.{Fits, cell_of}
+use Rattle.sharc_code.specs.Machine.{Machine, Turn as Act, Local, Asks, instr_at, ref, int, place}
+use Rattle.sharc_code.specs.Opening.{opening_words}
+use Rattle.sharc_code.specs.Path.{turn, asked_by}
+use Rattle.sharc_code.specs.Ranges.{IsInGlobal}
+use Rattle.sharc_code.specs.Runs.{Turn, Global, IsRun, MayTurn, after_turn, result_of, step_of, words_now, opening_of}
+use Rattle.sharc_code.specs.Whole.{one_thread, bounds, place_after}
+use Rattle.sharc_code.specs.Says.{said, cell_at, global_cell, made_cell, mode_of, place_at, no_global, speaks_of, lock_through}
+use Rattle.sharc_gen.specs.Consistent.{said_now}
+use Rattle.sharc_gen.specs.OfRuns.{table_of}
+use Rattle.sharc_meaning.specs.Events.{Access, makes, gives, begins, frees, is_number}
+use Rattle.sharc_meaning.specs.Obeys.{IsAccess}
+use Rattle.sharc_invariant.specs.Types.{Targets, Field, FieldMode, FieldLock, Lock, Mutex, ObjectType, StaticType, CellMode, field_in, mode_in, mode_at, is_pointer, lock_number, mutex_of, type_of, no_mutex}
+use Rattle.sharc_invariant.specs.Types.Lock.{Global as GlobalLock, Through, Self}
+use Rattle.sharc_invariant.specs.Types.FieldLock.{OfType, OfGlobals, OfElement}
+use Rattle.sharc_invariant.specs.Labels.{Gate, Holds, HoldsLoaded, Entry, Refers, OfGlobal, OfElement as OfElementCell, Label, Labels, SameReference}
+use Rattle.sharc_invariant.specs.Typed.{IsWellTyped, Fine, HasCell, HasBase, MayAccess, IsMode, IsTypeMode, IsLockMode, IsLockCell, IsTypeLock, IsMutexOf, IsSibling, no_lock}
+use Rattle.sharc_invariant.specs.World.{RegisterOf, In, Cell as CellOf, Loaded as IsLoaded, World, ObjectState, WinOk, in_ref, base_of}
+use Rattle.sharc_invariant.specs.Words.{lang_of, has_returned}
+use Rattle.sharc_invariant.specs.Words as Words
+use Rattle.sharc_invariant.specs.History.{Closing, Without}
+use Rattle.sharc_invariant.specs.Objects.{changes_objects, objects_behind, objects_now}
+use Rattle.sharc_invariant.specs.State.{State, IsSmall, GateStands, EntryStands, OnHold, View, view_of, refs_at, types_at, base_of_cell, object_of_cell, number_in, size_of_run}
+use Rattle.sharc_invariant.specs.MachineInvariant.{IsOn}
+use Rattle.sharc_invariant.specs.Laws.{Keeps, Begins as CodeBegins, CellsAreThere, PointersAreThere, AccessesAreAllowed, StateStands}
+use Rattle.sharc_history_laws.specs.History.{history_of}
+use Rattle.sharc_history_laws.proofs.Stands.{top, gate, reads_ref, known_ref, there, rn}
+use Rattle.sharc_history_laws.proofs.Finds.{is_there}
+use Rattle.sharc_history_laws.proofs.Tables.{header_of, was_live, length_kept}
+use Rattle.sharc_history_laws.proofs.Writes.{writes}
+use Rattle.sharc_history_laws.proofs.Unwritten.{Spares, SparesTurn, Leaves, Elsewhere, Had, spares}
+use Rattle.sharc_history_laws.proofs.Consists.{Consists, consists_then, objects_then, effect_then, at_first, given}
+use Rattle.sharc_history_laws.proofs.Acts.{access_said, made_said, given_said, freed_said, given_at, freed_at, About, is_access, no_access, access_at, IsAccess as TellsAccess, access_of}
+use Rattle.sharc_history_laws.proofs.Lists.{Newest, EachAccess, no_event, each_push}
+use Rattle.sharc_history_laws.proofs.Rules.{pushed, newest, newest_now, about_now, hold_access, cell_is, same_behind, number_yes}
+use Rattle.sharc_history_laws.proofs.Shared.{number_of, closing_own, some_closing, not_sole, unless_given, unless_made}
+use Rattle.sharc_history_laws.proofs.Carried.{without_carried}
+use Rattle.sharc_history_laws.proofs.Locked.{Names, names_one, same_in, same_refs, number_of_global, number_of_element, same_type, element_one, some_eq}
+use Rattle.sharc_history_laws.proofs.Since.{IsTo, Since, AsBefore, as_before}
+
+yes : true ≡ false → ⊥
+yes e = cc
+
+-- the number of a cell in its object, as the world has it
+abbrev pub place_of : Code → Object → ℕ → ℕ
+place_of code (objects.Global g) cell = 2 * (slice_index_or code.globals.items g no_global).granule + cell - 2
+place_of code (objects.Made n) cell = cell
+
+-- the mode that a cell of such a field has now
+abbrev pub ModeBy : Code → World → CellAt → (o j : ℕ) → FieldMode → EventMode → Type 0
+ModeBy code w c o j FieldMode.Private mode = mode ≡ modes.Private
+ModeBy code w c o j FieldMode.Readonly mode = mode ≡ modes.Readonly
+ModeBy code w c o j FieldMode.Racy mode = mode ≡ modes.Racy
+ModeBy code w c o j FieldMode.Dynamic mode = mode ≡ modes.Dynamic
+ModeBy code w c o j (FieldMode.Under (OfType k)) mode = (d : CellAt) × (mode ≡ modes.Locked (Some d)) × Names code d (lock_number (w.obj o).ty k).object (2 * ((lock_number (w.obj o).ty k).object + 1) + (lock_number (w.obj o).ty k).cell)
+ModeBy code w c o j (FieldMode.Under (OfGlobals q)) mode = (d : CellAt) × (mode ≡ modes.Locked (Some d)) × Names code d 0 (2 * (0 + 1) + q)
+ModeBy code w c o j (FieldMode.Under (OfElement field mutex)) mode = mode ≡ modes.Locked (Some record { object = c.object; cell = c.cell - field + mutex })
+ModeBy code w c o j (FieldMode.Behind field pointer) mode = (mode ≡ modes.Locked (Some (made_cell (w.slots (CellOf o (j - field + pointer))).reference 0))) × ((w.slots (CellOf o (j - field + pointer))).reference ≢ 0)
+
+abbrev pub ModeOf : Targets → Code → World → CellAt → EventMode → Type 0
+ModeOf x code w c mode = ModeBy code w c (number_of c.object) (place_of code c.object c.cell) (field_in x (w.obj (number_of c.object)).ty (place_of code c.object c.cell)).mode mode
+
+-- it has one
+pub one_by : (x : Targets) (code : Code) (ls : Labels) (wt : IsWellTyped x code ls) (w : World) (c : CellAt) (o j : ℕ) (f : FieldMode) (a b : EventMode) → ModeBy code w c o j f a → ModeBy code w c o j f b → a ≡ b
+one_by x code ls wt w c o j FieldMode.Private a b h k = h ∙ sym k
+one_by x code ls wt w c o j FieldMode.Readonly a b h k = h ∙ sym k
+one_by x code ls wt w c o j FieldMode.Racy a b h k = h ∙ sym k
+one_by x code ls wt w c o j FieldMode.Dynamic a b h k = h ∙ sym k
+one_by x code ls wt w c o j (FieldMode.Under (OfType q)) a b h k = h.1 ∙ ap (λ d. modes.Locked (Some d)) (names_one x code ls wt h.0 k.0 _ _ h.2 k.2) ∙ sym k.1
+one_by x code ls wt w c o j (FieldMode.Under (OfGlobals q)) a b h k = h.1 ∙ ap (λ d. modes.Locked (Some d)) (names_one x code ls wt h.0 k.0 _ _ h.2 k.2) ∙ sym k.1
+one_by x code ls wt w c o j (FieldMode.Under (OfElement field mutex)) a b h k = h ∙ sym k
+one_by x code ls wt w c o j (FieldMode.Behind field pointer) a b h k = h.0 ∙ sym k.0
+
+map_at : {A B : Type 0} (f : A → B) (xs : List A) (k : ℕ) (d : A) → slice_index_or (map f xs) k (f d) ≡ f (slice_index_or xs k d)
+map_at f [] k d = refl
+map_at f (x ∷ xs) zero d = refl
+map_at f (x ∷ xs) (suc k) d = map_at f xs k d
+
+through_some : (n j : ℕ) → n ≢ 0 → lock_through n j ≡ Some (made_cell n j)
+through_some zero j ne = absurd (ne refl)
+through_some (suc n) j ne = refl
+
+-- ---- the mode of an access
+module _ (cell_laws : CellsAreThere) (x : Targets) (code : Code) (s : Shape) (ls : Labels) (wt : IsWellTyped x code ls) (fits : Fits code s) (g : Global Machine) (world : World) (st : State x code s ls g world) (t : ℕ) (on : IsOn g t) (hold : OnHold (g.threads t).own.stage) where
+  abbrev m : Machine
+  m = g.threads t
+
+  abbrev here : Label
+  here = ls.at (g.threads t).at.pc
+
+  abbrev view : View
+  view = view_of st.elements world t (g.threads t)
+
+  abbrev refs : ℕ → ℕ
+  refs = refs_at view (g.threads t).at.refs
+
+  reads : (r : ℕ) → ref (g.threads t) r ≡ refs r
+  reads r = reads_ref x code s ls wt fits g world st t on hold r
+
+  abbrev NamesMutex : CellAt → Mutex → Type 0
+  NamesMutex d mutex = Names code d mutex.object (2 * (mutex.object + 1) + mutex.cell)
+
+  abbrev IsLockedAs : CellAt → PlaceMode → Mutex → Type 0
+  IsLockedAs at mode mutex = (d : CellAt) × (mode_of code (g.threads t) at mode ≡ modes.Locked (Some d)) × NamesMutex d mutex
+
+  global_mode : (at : CellAt) (q : ℕ) (mode : PlaceMode) → IsLockMode code here 0 (GlobalLock q) mode → IsLockedAs at mode (record { object = 0; cell = q })
+  global_mode at q mode is =
+      let inside : IsInGlobal code.globals.items is.0 (q + 2) = record { known = is.2.is; low = is.2.from; high = is.2.until } in
+      let low = is.2.from in
+      let e : q + 2 ≡ 2 * (0 + 1) + q = omega arith in
+      (global_cell code is.0 (q + 2), ap (mode_of code m at) is.1, (refl, subst (IsInGlobal code.globals.items is.0) e inside, omega arith))
+
+  through_mode : (at : CellAt) (a j v : ℕ) (mode : PlaceMode) → mode ≡ places.LockedThrough a j → ref (g.threads t) a ≡ v → v ≢ 0 → IsLockedAs at mode (record { object = v; cell = j })
+  through_mode at a j v mode is same nz =
+      let some : lock_through (ref m a) j ≡ Some (made_cell v j) = ap (λ n. lock_through n j) same ∙ through_some v j nz in
+      (made_cell v j, ap (mode_of code m at) is ∙ ap (λ mutex. modes.Locked mutex) some, (refl, nz, refl))
+
+  -- the lock of a type
+  lock_mode_is : (at : CellAt) (r : ℕ) (lock : Lock) (d : Cell) (mode : PlaceMode) → IsLockCell code here r lock d → HasBase here d → IsLockMode code here r lock mode → IsLockedAs at mode (mutex_of refs (refs r) lock)
+  lock_mode_is at r (GlobalLock q) d mode cell base is = global_mode at q mode is
+  lock_mode_is at r (Through q j) (cells.Object a i) mode cell base is =
+      let same : ref m is.0 ≡ refs q = same_refs x code s ls wt fits g world st t on hold is.0 q is.2 ∙ reads q in
+      let nz : refs q ≢ 0 = λ z. known_ref x code s ls wt fits g world st t on hold a base (same_refs x code s ls wt fits g world st t on hold a q cell.1 ∙ reads q ∙ z) in
+      through_mode at is.0 j (refs q) mode is.1 same nz
+  lock_mode_is at r (Through q j) (cells.Global g' p) mode cell base is = absurd cell
+  lock_mode_is at r (Through q j) (cells.GlobalAt g' i) mode cell base is = absurd cell
+  lock_mode_is at r (Through q j) (cells.ObjectAt a i) mode cell base is = absurd cell
+  lock_mode_is at r (Self j) (cells.Object a i) mode cell base is =
+      let same : ref m is.0 ≡ refs r = same_refs x code s ls wt fits g world st t on hold is.0 r is.2 ∙ reads r in
+      let nz : refs r ≢ 0 = λ z. known_ref x code s ls wt fits g world st t on hold a base (same_refs x code s ls wt fits g world st t on hold a r cell.1 ∙ reads r ∙ z) in
+      through_mode at is.0 j (refs r) mode is.1 same nz
+  lock_mode_is at r (Self j) (cells.Global g' p) mode cell base is = absurd cell
+  lock_mode_is at r (Self j) (cells.GlobalAt g' i) mode cell base is = absurd cell
+  lock_mode_is at r (Self j) (cells.ObjectAt a i) mode cell base is = absurd cell
+
+  -- of the object in a register
+  type_is : (r : ℕ) (ty : StaticType) → here.env r ≡ Refers ty → ref (g.threads t) r ≢ 0 → (world.obj (ref (g.threads t) r)).ty ≡ type_of refs (refs r) ty
+  type_is r ty e nz =
+      let nzw : in_ref world (RegisterOf t (m.at.refs + r)) ≢ 0 = λ z. nz (reads r ∙ z) in
+      let fit = st.inv.words.fits (In (RegisterOf t (m.at.refs + r))) nzw in
+      let st_r = subst (EntryStands refs (types_at view m.at.refs) r) e ((top x code s ls wt fits g world st t on hold (suc r) 0).env r (omega arith)) nzw in
+      subst (λ o. (world.obj o).ty ≡ type_of refs (refs r) ty) (sym (reads r)) (fit.typed ∙ st_r)
+
+  type_lock : (r k : ℕ) (ty : StaticType) → here.env r ≡ Refers ty → ref (g.threads t) r ≢ 0 → lock_number (world.obj (ref (g.threads t) r)).ty k ≡ mutex_of refs (refs r) (slice_index_or ty.locks k no_lock)
+  type_lock r k ty e nz = ap (λ ty. lock_number ty k) (type_is r ty e nz) ∙ map_at (mutex_of refs (refs r)) ty.locks k no_lock
+
+  refers_eq : (a b : StaticType) → Refers a ≡ Refers b → a ≡ b
+  refers_eq a b e = cc
+
+  type_mode_is : (at : CellAt) (k : ℕ) (c d : Cell) (mode : PlaceMode) → IsTypeLock code here k c d → HasBase here c → HasBase here d → IsTypeMode code here k c mode → IsLockedAs at mode (lock_number (world.obj (object_of_cell (g.threads t) c)).ty k)
+  type_mode_is at k (cells.Global g' p) d mode cell bc bd is = absurd cell
+  type_mode_is at k (cells.GlobalAt g' i) d mode cell bc bd is = absurd cell
+  type_mode_is at k (cells.Object r i) d mode cell bc bd is =
+      let same : is.0 ≡ cell.0 = refers_eq is.0 cell.0 (sym is.1 ∙ cell.1) in
+      let a = lock_mode_is at r (slice_index_or cell.0.locks k no_lock) d mode cell.3 bd (subst (λ (ty : StaticType). IsLockMode code here r (slice_index_or ty.locks k no_lock) mode) same is.2) in
+      subst (IsLockedAs at mode) (sym (type_lock r k cell.0 cell.1 (known_ref x code s ls wt fits g world st t on hold r bc))) a
+  type_mode_is at k (cells.ObjectAt r i) d mode cell bc bd is =
+      let same : is.0 ≡ cell.0 = refers_eq is.0 cell.0 (sym is.1 ∙ cell.1) in
+      let a = lock_mode_is at r (slice_index_or cell.0.locks k no_lock) d mode cell.3 bd (subst (λ (ty : StaticType). IsLockMode code here r (slice_index_or ty.locks k no_lock) mode) same is.2) in
+      subst (IsLockedAs at mode) (sym (type_lock r k cell.0 cell.1 (known_ref x code s ls wt fits g world st t on hold r bc))) a
+
+  -- the pointer of the same element
+  sibling_is : (c d : Cell) (field pointer : ℕ) → IsSibling here field pointer c d → HasBase here c → (object_of_cell (g.threads t) d ≡ object_of_cell (g.threads t) c) × (number_in (g.threads t) d ≡ number_in (g.threads t) c - field + pointer)
+  sibling_is (cells.Global g' p) (cells.Global h q) field pointer is b = let a = is.1 in let z = is.2 in (refl, omega arith)
+  sibling_is (cells.GlobalAt g' i) (cells.GlobalAt h j) field pointer is b =
+      let k = is.1 in
+      let first = k.0 in
+      let a = number_of_global x code s ls wt fits g world st t on hold i first k.1 k.2 k.3 k.4 in
+      let e = number_of_global x code s ls wt fits g world st t on hold j (first - field + pointer) k.1 k.2 k.3 k.6 in
+      let n : a.0 ≡ e.0 = element_one (rn x code s ls wt fits g world st t on hold).names a.0 e.0 k.3 a.2 e.2 in
+      let low = k.5 in
+      let wi : word_of (int m i) ≡ first + a.0 * k.1 = ap word_of a.1 in
+      let wj : word_of (int m j) ≡ first - field + pointer + e.0 * k.1 = ap word_of e.1 in
+      let times : a.0 * k.1 ≡ e.0 * k.1 = ap (λ n. n * k.1) n in
+      (refl, numbers (word_of (int m i)) (word_of (int m j)) first (a.0 * k.1) field pointer low wi (omega arith))
+    where
+      numbers : (p q first more field pointer : ℕ) → field + 2 ≤ first → p ≡ first + more → q ≡ first - field + pointer + more → q - 2 * (0 + 1) ≡ p - 2 * (0 + 1) - field + pointer
+      numbers p q first more field pointer low a b = omega arith
+  sibling_is (cells.Object r i) (cells.Object q j) field pointer is b =
+      let same = same_refs x code s ls wt fits g world st t on hold r q is.0 in
+      let a = is.1 in let e = is.2 in
+      (sym same, numbers (ref m q) (ref m r) i j field pointer e)
+    where
+      numbers : (n k i j field pointer : ℕ) → j ≡ i - field + pointer → 2 * (n + 1) + j - 2 * (n + 1) ≡ 2 * (k + 1) + i - 2 * (k + 1) - field + pointer
+      numbers n k i j field pointer e = omega arith
+  sibling_is (cells.ObjectAt r i) (cells.ObjectAt q j) field pointer is b =
+      let same = same_refs x code s ls wt fits g world st t on hold r q is.0 in
+      let k = is.1 in
+      let a = number_of_element x code s ls wt fits g world st t on hold i r field k.0 k.1 in
+      let e = number_of_element x code s ls wt fits g world st t on hold j q pointer k.0 k.2 in
+      let n : a.0 ≡ e.0 = element_one (rn x code s ls wt fits g world st t on hold).names a.0 e.0 k.0 a.2 e.2 in
+      let count : Rattle.sharc_invariant.specs.Types.cells_of x (types_at view m.at.refs r).target ≡ Rattle.sharc_invariant.specs.Types.cells_of x (types_at view m.at.refs q).target =
+      ap (λ (ty : ObjectType). Rattle.sharc_invariant.specs.Types.cells_of x ty.target) (same_type x code s ls wt fits g world st t on hold r q (known_ref x code s ls wt fits g world st t on hold r b) same) in
+      let times : a.0 * Rattle.sharc_invariant.specs.Types.cells_of x (types_at view m.at.refs r).target ≡ e.0 * Rattle.sharc_invariant.specs.Types.cells_of x (types_at view m.at.refs q).target =
+      ap (λ n. n * Rattle.sharc_invariant.specs.Types.cells_of x (types_at view m.at.refs r).target) n ∙ ap (λ c. e.0 * c) count in
+      let wi : word_of (int m i) ≡ a.0 * Rattle.sharc_invariant.specs.Types.cells_of x (types_at view m.at.refs r).target + field = ap word_of a.1 in
+      let wj : word_of (int m j) ≡ e.0 * Rattle.sharc_invariant.specs.Types.cells_of x (types_at view m.at.refs q).target + pointer = ap word_of e.1 in
+      (sym same, numbers (ref m q) (ref m r) (word_of (int m i)) (word_of (int m j)) (a.0 * Rattle.sharc_invariant.specs.Types.cells_of x (types_at view m.at.refs r).target) field pointer wi (omega arith))
+    where
+      numbers : (n k i j more field pointer : ℕ) → i ≡ more + field → j ≡ more + pointer → 2 * (n + 1) + j - 2 * (n + 1) ≡ 2 * (k + 1) + i - 2 * (k + 1) - field + pointer
+      numbers n k i j more field pointer a b = omega arith
+  sibling_is (cells.Global g' p) (cells.GlobalAt h j) field pointer is b = absurd is
+  sibling_is (cells.Global g' p) (cells.Object q j) field pointer is b = absurd is
+  sibling_is (cells.Global g' p) (cells.ObjectAt q j) field pointer is b = absurd is
+  sibling_is (cells.GlobalAt g' i) (cells.Global h q) field pointer is b = absurd is
+  sibling_is (cells.GlobalAt g' i) (cells.Object q j) field pointer is b = absurd is
+  sibling_is (cells.GlobalAt g' i) (cells.ObjectAt q j) field pointer is b = absurd is
+  sibling_is (cells.Object r i) (cells.Global h q) field pointer is b = absurd is
+  sibling_is (cells.Object r i) (cells.GlobalAt h j) field pointer is b = absurd is
+  sibling_is (cells.Object r i) (cells.ObjectAt q j) field pointer is b = absurd is
+  sibling_is (cells.ObjectAt r i) (cells.Global h q) field pointer is b = absurd is
+  sibling_is (cells.ObjectAt r i) (cells.GlobalAt h j) field pointer is b = absurd is
+  sibling_is (cells.ObjectAt r i) (cells.Object q j) field pointer is b = absurd is
+
+  -- a lock behind a pointer
+  behind_mode_is : (at : CellAt) (c d : Cell) (f f' : Field) (field pointer : ℕ) (mode : PlaceMode) → here.gate ≡ HoldsLoaded d → HasCell x code here c f → HasCell x code here d f' → IsSibling here field pointer c d → mode ≡ places.LockedLoaded
+      → (mode_of code (g.threads t) at mode ≡ modes.Locked (Some (made_cell (world.slots (CellOf (object_of_cell (g.threads t) c) (number_in (g.threads t) c - field + pointer))).reference 0)))
+      × ((world.slots (CellOf (object_of_cell (g.threads t) c) (number_in (g.threads t) c - field + pointer))).reference ≢ 0)
+  behind_mode_is at c d f f' field pointer mode gt hc hd sib is =
+      let k = subst (GateStands s world t m) gt (gate x code s ls wt fits g world st t on hold) in
+      let th = there x code s ls wt fits g world st t on hold cell_laws d f' hd in
+      let e = sibling_is c d field pointer sib hc.base in
+      let ok : WinOk (lang_of x) world t (IsLoaded (base_of_cell m d) (number_in m d) m.pending) = subst (WinOk (lang_of x) world t) k.0 (st.inv.wins t) in
+      let slot : (world.slots (CellOf (object_of_cell m c) (number_in m c - field + pointer))).reference ≡ m.pending =
+      ap (λ o. (world.slots (CellOf o (number_in m c - field + pointer))).reference) (sym (th.base ∙ e.0)) ∙ ap (λ j. (world.slots (CellOf (base_of world t (base_of_cell m d)) j)).reference) (sym e.1) ∙ ok.1 in
+      (ap (mode_of code m at) is ∙ ap (λ mutex. modes.Locked mutex) (through_some m.pending 0 k.1) ∙ ap (λ v. modes.Locked (Some (made_cell v 0))) (sym slot), λ z. k.1 (sym slot ∙ z))
+
+  -- all of them
+  pub mode_now : (c : Cell) (f : Field) (write : Bool) (at : CellAt) (mode : PlaceMode) → at ≡ cell_at code (g.threads t) c → HasCell x code here c f → (fm : FieldMode) → MayAccess x code ls here write c f.holds fm → IsMode code here c fm mode
+      → ModeBy code world at (object_of_cell (g.threads t) c) (number_in (g.threads t) c) fm (mode_of code (g.threads t) at mode)
+  mode_now c f write at mode e hc FieldMode.Private may_do is = ap (mode_of code m at) is
+  mode_now c f write at mode e hc FieldMode.Readonly may_do is = ap (mode_of code m at) is
+  mode_now c f write at mode e hc FieldMode.Racy may_do is = ap (mode_of code m at) is
+  mode_now c f write at mode e hc FieldMode.Dynamic may_do is = ap (mode_of code m at) is
+  mode_now c f write at mode e hc (FieldMode.Under (OfType k)) may_do is = type_mode_is at k c may_do.0 mode may_do.5 hc.base may_do.3.base is
+  mode_now c f write at mode e hc (FieldMode.Under (OfGlobals q)) may_do is = global_mode at q mode is
+  mode_now c f write at mode e hc (FieldMode.Under (OfElement field mutex)) may_do is = ap (mode_of code m at) is.0
+  mode_now c f write at mode e hc (FieldMode.Behind field pointer) may_do is = behind_mode_is at c may_do.0 f may_do.1 field pointer mode may_do.2 hc may_do.3 may_do.5 is
+
+  -- where the cell is in the world
+  pub numbers_now : (c : Cell) (f : Field) → HasCell x code here c f → (number_of (cell_at code (g.threads t) c).object ≡ object_of_cell (g.threads t) c) × (place_of code (cell_at code (g.threads t) c).object (cell_at code (g.threads t) c).cell ≡ number_in (g.threads t) c)
+  numbers_now (cells.Global q p) f c =
+      let there = is_there cell_laws x code s ls wt fits g world st t on hold (cells.Global q p) f c.field refl in
+      let from = there.low in
+      (refl, omega arith)
+  numbers_now (cells.GlobalAt q r) f c =
+      let there = is_there cell_laws x code s ls wt fits g world st t on hold (cells.GlobalAt q r) f c.field refl in
+      let from = there.low in
+      (refl, halves (place m (cells.GlobalAt q r)) (slice_index_or code.globals.items q no_global).granule from)
+    where
+      halves : (p granule : ℕ) → 2 * granule ≤ p → 2 * granule + (p - 2 * granule) - 2 ≡ p - 2 * (0 + 1)
+      halves p granule from = omega arith
+  numbers_now (cells.Object r p) f c = (refl, omega arith)
+  numbers_now (cells.ObjectAt r q) f c = (refl, within (ref m r) (word_of (int m q)))
+    where
+      within : (o p : ℕ) → p ≡ 2 * (o + 1) + p - 2 * (o + 1)
+      within o p = omega arith

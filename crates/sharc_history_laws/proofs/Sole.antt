@@ -1,0 +1,287 @@
+-- A thread that stopped at a test of a sole reference found the number of references to its object, of which there is another one.
+use Rattle.std.proofs.Common.{◌≡◌, ℕ, zero, suc, ◌+◌, ◌*◌, ◌<◌, ◌≤◌, ◌⊎◌, inl, inr, Bool, true, false, List, [], ◌∷◌, ◌++◌, Option, Some, None, is_some, if◌then◌else◌, refl, sym, ap, ◌∙◌, subst, ⊎_elim, arith, eqb-true}
+use Rattle.std.specs.Prelude.{nat_eq, slice_index, ◌==◌}
+use Rattle.std.proofs.lemmas.Bool.{cases_eq}
+use Rattle.sharc_word.specs.declared.step.TheConstants.{THREADS}
+use Rattle.sharc_count.specs.Count.{test_of}
+use Rattle.sharc_word.specs.declared.step.WordStep.{WordStep}
+use Rattle.sharc_shadow.specs.declared.shadow_word.Kind.{Kind}
+use Rattle.sharc_shadow.specs.declared.shadow_word.Kind.TheVariants.{Read, Write}
+use Rattle.sharc_shadow.specs.Accesses.{note_of, site_at}
+use Rattle.sharc_shadow.specs.ShadowWord.{epoch_of}
+use Rattle.sharc_shadow.specs.Functions.{conflicts_in, noted}
+use Rattle.sharc_code.specs.declared.state.TheConstants.{FRAMES}
+use Rattle.sharc_code.specs.declared.code.Code.{Code}
+use Rattle.sharc_code.specs.declared.instr.Instr.{Instr}
+use Rattle.sharc_code.specs.declared.instr.Instr.TheVariants as instrs
+use Rattle.sharc_code.specs.declared.shape.Shape.{Shape}
+use Rattle.sharc_code.specs.declared.state.Stop.{Stop}
+use Rattle.sharc_code.specs.declared.state.Stop.TheVariants.{Conflict, NoLock, NotSole, Trap}
+use Rattle.sharc_code.specs.Laws.{RunLaws}
+use Rattle.sharc_code.specs.Layout.{Fits, granules, words_of, cell_of, cell_word, count_word, granule_at, granule_of}
+use Rattle.sharc_code.specs.Machine.{Machine, Own, instr_at, act, ref, place, word, is_held, is_of_null, goes, stopped, checked, lock_checked, tested, with_own, wrote, with_note}
+use Rattle.sharc_code.specs.Opening.{opening_words}
+use Rattle.sharc_code.specs.Path.{turn, after, may_go, most_refs, asked_by}
+use Rattle.sharc_code.specs.Runs.{Turn, Global, IsRun, MayTurn, after_turn, put, state_now, result_of, opening_of}
+use Rattle.sharc_code.specs.Whole.{one_thread, bounds, place_after}
+use Rattle.sharc_invariant.specs.Granules.{one, sum_to}
+use Rattle.sharc_invariant.specs.Types.{Targets}
+use Rattle.sharc_invariant.specs.Labels.{Labels}
+use Rattle.sharc_invariant.specs.Typed.{IsWellTyped}
+use Rattle.sharc_invariant.specs.World.{ObjectState}
+use Rattle.sharc_invariant.specs.Words.{argument_of}
+use Rattle.sharc_invariant.specs.State.{IsSmall}
+use Rattle.sharc_invariant.specs.Opened.{first_world, first_place}
+use Rattle.sharc_invariant.specs.Objects.{objects_after}
+use Rattle.sharc_invariant.specs.MachineInvariant.{register_refers, log_refers, hand_refers, cell_refers, references_to}
+use Rattle.sharc_invariant.specs.Reports.{RunsTest, TestStands}
+use Rattle.sharc_history_laws.specs.Reports.{OtherReference, InRegister, InArgument, InLog, InHand, InCell, CountsOthers, FindsOthers}
+use Rattle.sharc_history_laws.proofs.Consists.{found_is}
+use Rattle.sharc_history_laws.proofs.Rules.{put_same, put_other}
+use Rattle.sharc_history_laws.proofs.Quits.{Quits, Still, Traps, is_trap, is_reporting, quits}
+
+yes : true ≡ false → ⊥
+yes e = cc
+
+-- ---- sums
+some_of : (n : ℕ) (f : ℕ → ℕ) → ((i : ℕ) × (i < n) × (1 ≤ f i)) ⊎ (sum_to n f ≡ 0)
+some_of zero f = inr refl
+some_of (suc n) f = ⊎_elim
+    (λ (z : f n ≡ 0). ⊎_elim
+    (λ (k : (i : ℕ) × (i < n) × (1 ≤ f i)). let lt = k.1 in inl (k.0, omega arith, k.2))
+    (λ (e : sum_to n f ≡ 0). inr (omega arith))
+    (some_of n f))
+    (λ (nz : f n ≡ 0 → ⊥). inl (n, omega arith, above (f n) nz))
+    (cases_eq (f n) 0)
+  where
+    above : (k : ℕ) → (k ≡ 0 → ⊥) → 1 ≤ k
+    above zero nz = absurd (nz refl)
+    above (suc k) nz = omega arith
+
+other_of : (n : ℕ) (f : ℕ → ℕ) (k : ℕ) → ((i : ℕ) × ((i ≡ k → ⊥) × (1 ≤ f i))) ⊎ (sum_to n f ≤ f k)
+other_of zero f k = inr (omega arith)
+other_of (suc n) f k = ⊎_elim
+    (λ (same : n ≡ k). ⊎_elim
+    (λ (z : (i : ℕ) × (i < n) × (1 ≤ f i)). let lt = z.1 in inl (z.0, ((λ e. omega arith), z.2)))
+    (λ (e : sum_to n f ≡ 0). let q : f n ≡ f k = ap f same in inr (omega arith))
+    (some_of n f))
+    (λ (ne : n ≡ k → ⊥). ⊎_elim
+    (λ (z : f n ≡ 0). ⊎_elim (λ (y : (i : ℕ) × ((i ≡ k → ⊥) × (1 ≤ f i))). inl y) (λ (le : sum_to n f ≤ f k). inr (omega arith)) (other_of n f k))
+    (λ (nz : f n ≡ 0 → ⊥). inl (n, (ne, above (f n) nz)))
+    (cases_eq (f n) 0))
+    (cases_eq n k)
+  where
+    above : (k : ℕ) → (k ≡ 0 → ⊥) → 1 ≤ k
+    above zero nz = absurd (nz refl)
+    above (suc k) nz = omega arith
+
+one_is : (a o : ℕ) → 1 ≤ one a o → a ≡ o
+one_is a o le = elim (nat_eq a o) as (λ b. nat_eq a o ≡ b → 1 ≤ (if b then 1 else 0) → a ≡ o) [
+  | true ↦ λ e z. eqb-true a o e
+  | false ↦ λ e z. absurd (omega arith)
+] refl le
+
+one_low : (a o : ℕ) → one a o ≤ 1
+one_low a o = elim (nat_eq a o) as (λ b. (if b then 1 else 0) ≤ 1) [ true ↦ omega arith | false ↦ omega arith ]
+
+module _ (x : Targets) (code : Code) (s : Shape) (g : Global Machine) (obj : ℕ → ObjectState) (t k o : ℕ) where
+  abbrev Other : Type 0
+  Other = OtherReference x code s g obj t k o
+
+  abbrev registers : ℕ → ℕ → ℕ
+  registers u i = one (register_refers code g u i) o
+
+  abbrev of_thread : ℕ → ℕ
+  of_thread u = sum_to (FRAMES * most_refs code.functions.items) (registers u)
+
+  abbrev of_log : ℕ → ℕ
+  of_log u = sum_to (words_of s) (λ word. one (log_refers g u word) o)
+
+  abbrev of_object : ℕ → ℕ
+  of_object p = sum_to (2 * granules s) (λ i. one (cell_refers x s g obj p i) o)
+
+  in_registers : 2 ≤ sum_to THREADS of_thread → Other
+  in_registers le = ⊎_elim
+      (λ (z : (u : ℕ) × ((u ≡ t → ⊥) × (1 ≤ of_thread u))). ⊎_elim
+      (λ (y : (i : ℕ) × (i < FRAMES * most_refs code.functions.items) × (1 ≤ registers z.0 i)). InRegister z.0 y.0 (λ e. z.1.0 e.0) (one_is (register_refers code g z.0 y.0) o y.2))
+      (λ (e : of_thread z.0 ≡ 0). let q = z.1.1 in absurd (omega arith))
+      (some_of (FRAMES * most_refs code.functions.items) (registers z.0)))
+      (λ (few : sum_to THREADS of_thread ≤ of_thread t). ⊎_elim
+      (λ (y : (i : ℕ) × ((i ≡ k → ⊥) × (1 ≤ registers t i))). InRegister t y.0 (λ e. y.1.0 e.1) (one_is (register_refers code g t y.0) o y.1.1))
+      (λ (low : of_thread t ≤ registers t k). let q = one_low (register_refers code g t k) o in absurd (omega arith))
+      (other_of (FRAMES * most_refs code.functions.items) (registers t) k))
+      (other_of THREADS of_thread t)
+
+  in_cells : 1 ≤ sum_to (granules s) of_object → Other
+  in_cells le = ⊎_elim
+      (λ (z : (p : ℕ) × (p < granules s) × (1 ≤ of_object p)). ⊎_elim
+      (λ (y : (i : ℕ) × (i < 2 * granules s) × (1 ≤ one (cell_refers x s g obj z.0 i) o)). InCell z.0 y.0 (one_is (cell_refers x s g obj z.0 y.0) o y.2))
+      (λ (e : of_object z.0 ≡ 0). let q = z.2 in absurd (omega arith))
+      (some_of (2 * granules s) (λ i. one (cell_refers x s g obj z.0 i) o)))
+      (λ (e : sum_to (granules s) of_object ≡ 0). absurd (omega arith))
+      (some_of (granules s) of_object)
+
+  in_logs : 1 ≤ sum_to THREADS of_log → Other
+  in_logs le = ⊎_elim
+      (λ (z : (u : ℕ) × (u < THREADS) × (1 ≤ of_log u)). ⊎_elim
+      (λ (y : (word : ℕ) × (word < words_of s) × (1 ≤ one (log_refers g z.0 word) o)). InLog z.0 y.0 (one_is (log_refers g z.0 y.0) o y.2))
+      (λ (e : of_log z.0 ≡ 0). let q = z.2 in absurd (omega arith))
+      (some_of (words_of s) (λ word. one (log_refers g z.0 word) o)))
+      (λ (e : sum_to THREADS of_log ≡ 0). absurd (omega arith))
+      (some_of THREADS of_log)
+
+  another : (r a l h c : ℕ) → r ≡ sum_to THREADS of_thread → a ≡ sum_to THREADS (λ u. one (argument_of code g u) o) → l ≡ sum_to THREADS of_log → h ≡ sum_to THREADS (λ u. one (hand_refers g u) o) → c ≡ sum_to (granules s) of_object
+      → 2 ≤ r + (a + (l + (h + c))) → Other
+  another r a l h c er ea el eh ec le = ⊎_elim
+      (λ (z : (u : ℕ) × (u < THREADS) × (1 ≤ one (argument_of code g u) o)). InArgument z.0 (one_is (argument_of code g z.0) o z.2))
+      (λ (na : sum_to THREADS (λ u. one (argument_of code g u) o) ≡ 0). ⊎_elim
+      (λ (z : (u : ℕ) × (u < THREADS) × (1 ≤ one (hand_refers g u) o)). InHand z.0 (one_is (hand_refers g z.0) o z.2))
+      (λ (nh : sum_to THREADS (λ u. one (hand_refers g u) o) ≡ 0). ⊎_elim
+      (λ (z : l ≡ 0). ⊎_elim
+      (λ (y : c ≡ 0). let a0 = ea ∙ na in let h0 = eh ∙ nh in in_registers (subst (λ n. 2 ≤ n) er (omega arith)))
+      (λ (nz : c ≡ 0 → ⊥). in_cells (subst (λ n. 1 ≤ n) ec (above c nz)))
+      (cases_eq c 0))
+      (λ (nz : l ≡ 0 → ⊥). in_logs (subst (λ n. 1 ≤ n) el (above l nz)))
+      (cases_eq l 0))
+      (some_of THREADS (λ u. one (hand_refers g u) o)))
+      (some_of THREADS (λ u. one (argument_of code g u) o))
+    where
+      above : (k : ℕ) → (k ≡ 0 → ⊥) → 1 ≤ k
+      above zero nz = absurd (nz refl)
+      above (suc k) nz = omega arith
+
+  pub other_reference : 2 ≤ references_to x code s g obj o → Other
+  other_reference le = another _ _ _ _ _ refl refl refl refl refl le
+
+-- ---- the turn that stopped there
+module _ (code : Code) (s : Shape) (m : Machine) (fresh : m.own.stop ≡ None) (found site count : ℕ) where
+  abbrev IsThat : Machine → Type 0
+  IsThat y = y.own.stop ≡ Some (NotSole site count)
+
+  not_none : (y : Machine) → y.own.stop ≡ None → IsThat y → ⊥
+  not_none y e is = let f : None ≡ Some (NotSole site count) = sym e ∙ is in cc
+
+  lock_check : (b : Bool) (mutex at : ℕ) → IsThat (lock_checked m b mutex at) → ⊥
+  lock_check true mutex at is = let f : Some (Trap 1 at) ≡ Some (NotSole site count) = is in cc
+  lock_check false mutex at is = elim (is_held m mutex) as (λ b. IsThat (if b then goes m else stopped m (NoLock at mutex)) → ⊥) [
+    | true ↦ λ z. not_none (goes m) fresh z
+    | false ↦ λ z. let f : Some (NoLock at mutex) ≡ Some (NotSole site count) = z in cc
+  ] is
+
+  check : (kind : Kind) (granule at old : ℕ) → IsThat (checked m kind granule at old) → ⊥
+  check kind granule at old is = elim (conflicts_in old m.own.number kind (wrote m granule old)) as (λ b. IsThat (if b then stopped m (Conflict record { kind = kind; site = at; granule = granule; epoch = epoch_of old; old = old }) else with_own m (with_note m.own granule kind (epoch_of old) at)) → ⊥) [
+    | true ↦ λ z. let f : Some (Conflict record { kind = kind; site = at; granule = granule; epoch = epoch_of old; old = old }) ≡ Some (NotSole site count) = z in cc
+    | false ↦ λ z. not_none (with_own m (with_note m.own granule kind (epoch_of old) at)) (note_stop m.own granule kind (epoch_of old) at ∙ fresh) z
+  ] is
+    where
+      note_stop : (own : Own) (granule : ℕ) (kind : Kind) (epoch site : ℕ) → (with_note own granule kind epoch site).stop ≡ own.stop
+      note_stop own granule kind epoch site =
+          elim (is_some (site_at (note_of own.table granule kind) epoch)) as (λ b. (if b then own else record own { table = noted own.table granule kind record { epoch = epoch; site = site } }).stop ≡ own.stop) [ true ↦ refl | false ↦ refl ]
+
+  sole_test : (at : ℕ) → IsThat (tested m at found) → (at ≡ site) × (found ≡ count)
+  sole_test at is = elim (found == 1) as (λ b. IsThat (if b then goes m else stopped m (NotSole at found)) → (at ≡ site) × (found ≡ count)) [
+    | true ↦ λ z. absurd (not_none (goes m) fresh z)
+    | false ↦ λ z. let f : Some (NotSole at found) ≡ Some (NotSole site count) = z in (cc, cc)
+  ] is
+
+  quiet : (i : Instr) → is_reporting i ≡ false → IsThat (after (act code s i m) found) → ⊥
+  quiet i other is = by (quits code s m i found other)
+    where
+      by : Quits m (after (act code s i m) found) → ⊥
+      by (Still e) = not_none (after (act code s i m) found) (e ∙ fresh) is
+      by (Traps e go) = yes (sym e ∙ ap is_trap is)
+
+  pub sole_stop : (i : Instr) → IsThat (after (act code s i m) found) → (r : ℕ) × ((i ≡ instrs.TestSole r site) × (found ≡ count))
+  sole_stop (instrs.ChkLock c at) is = absurd (lock_check (is_of_null m c) (word s m c) at is)
+  sole_stop (instrs.ChkLockLoaded at) is = absurd (lock_check (m.pending == 0) (cell_word s (cell_of m.pending 0)) at is)
+  sole_stop (instrs.ChkRead c at) is = absurd (check Read (granule_at s (granule_of (place m c))) at found is)
+  sole_stop (instrs.ChkWrite c at) is = absurd (check Write (granule_at s (granule_of (place m c))) at found is)
+  sole_stop (instrs.TestSole r at) is = let k = sole_test at is in (r, (ap (λ n. instrs.TestSole r n) k.0, k.1))
+  sole_stop i is = absurd (quiet i refl is)
+
+-- ---- runs
+pub record Halting (code : Code) (s : Shape) (run : List Turn) : Type 0 where
+  pub halts : (u : ℕ) → is_some ((place_after code s run).threads u).own.stop ≡ true → may_go ((place_after code s run).threads u).at.state ≡ false
+
+pub stop_none : (o : Option Stop) → (is_some o ≡ true → ⊥) → o ≡ None
+stop_none None h = refl
+stop_none (Some w) h = absurd (h refl)
+
+module _ (tests : RunsTest) (x : Targets) (code : Code) (s : Shape) (ls : Labels) (wt : IsWellTyped x code ls) (fits : Fits code s) (few : IsSmall code s)
+    (all : (run : List Turn) → IsRun bounds (one_thread code s) (opening_of bounds (one_thread code s) (opening_words code s)) run → Halting code s run) where
+  abbrev RunOf : List Turn → Type 0
+  RunOf run = IsRun bounds (one_thread code s) (opening_of bounds (one_thread code s) (opening_words code s)) run
+
+  -- the turn that stopped the thread
+  module _ (one : Turn) (earlier : List Turn) (run : RunOf (one ∷ earlier)) (site count : ℕ) (is : (after (turn code s ((place_after code s earlier).threads one.thread)) (result_of one.event)).own.stop ≡ Some (NotSole site count)) where
+    abbrev g : Global Machine
+    g = place_after code s earlier
+
+    abbrev m : Machine
+    m = (place_after code s earlier).threads one.thread
+
+    may : MayTurn bounds (one_thread code s) (place_after code s earlier) one
+    may = run.1
+
+    fresh : ((place_after code s earlier).threads one.thread).own.stop ≡ None
+    fresh = stop_none m.own.stop (λ z. yes (sym may.next.runs ∙ (all earlier run.0).halts one.thread z))
+
+    stop : (r : ℕ) × ((instr_at code ((place_after code s earlier).threads one.thread).at.pc ≡ instrs.TestSole r site) × (result_of one.event ≡ count))
+    stop = sole_stop code s m fresh (result_of one.event) site count (instr_at code m.at.pc) is
+
+    stands : TestStands (result_of one.event)
+        (references_to x code s (place_after code s earlier) (objects_after code s ls (first_place code s) (first_world x).obj earlier) (ref ((place_after code s earlier).threads one.thread) stop.0))
+        (may_go ((after_turn bounds (one_thread code s) (place_after code s earlier) one).threads one.thread).at.state)
+    stands = tests x code s ls wt fits few earlier one run stop.0 site stop.1.0
+
+    stopped_now : may_go ((after_turn bounds (one_thread code s) (place_after code s earlier) one).threads one.thread).at.state ≡ false
+    stopped_now = (all (one ∷ earlier) run).halts one.thread (ap (λ (y : Machine). is_some y.own.stop) (put_same g.threads one.thread (state_now (one_thread code s) g one)) ∙ ap (λ (o : Option Stop). is_some o) is)
+
+    word_is : slice_index (place_after code s earlier).words (count_word s (ref ((place_after code s earlier).threads one.thread) stop.0)) ≡ count
+    word_is =
+        let asked : asked_by (turn code s m) ≡ Some (test_of (count_word s (ref m stop.0))) = ap (λ j. asked_by (act code s j m)) stop.1.0 in
+        sym (found_is g.words one.event (test_of (count_word s (ref m stop.0))) (may.next.asks ∙ asked) may.answered) ∙ stop.1.1
+
+    pub finds_others : FindsOthers x code s ls (one ∷ earlier) one.thread site count
+    finds_others =
+        let obj = objects_after code s ls (first_place code s) (first_world x).obj earlier in
+        let two : 2 ≤ references_to x code s g obj (ref m stop.0) = stands.refused stopped_now in
+        let number : count ≡ references_to x code s g obj (ref m stop.0) = sym stop.1.1 ∙ stands.number in
+        record {
+          later = [];
+          test = one;
+          earlier = earlier;
+          parts = refl;
+          thread = refl;
+          register = stop.0;
+          is_test = stop.1.0;
+          counts = record {
+            word = word_is;
+            number = number;
+            some = subst (λ n. 2 ≤ n) (sym number) two;
+            other = other_reference x code s g obj one.thread (m.at.refs + stop.0) (ref m stop.0) two;
+          };
+        }
+
+  further : (one : Turn) (earlier : List Turn) (t site count : ℕ) → FindsOthers x code s ls earlier t site count → FindsOthers x code s ls (one ∷ earlier) t site count
+  further one earlier t site count k = record {
+    later = one ∷ k.later;
+    test = k.test;
+    earlier = k.earlier;
+    parts = ap (λ (l : List Turn). one ∷ l) k.parts;
+    thread = k.thread;
+    register = k.register;
+    is_test = k.is_test;
+    counts = k.counts;
+  }
+
+  pub casts_show : (run : List Turn) → RunOf run → (t site count : ℕ) → ((place_after code s run).threads t).own.stop ≡ Some (NotSole site count) → FindsOthers x code s ls run t site count
+  casts_show [] run t site count is = absurd (let f : None ≡ Some (NotSole site count) = is in cc)
+  casts_show (one ∷ earlier) run t site count is =
+      let g = place_after code s earlier in
+      let now = state_now (one_thread code s) g one in
+      ⊎_elim
+      (λ (same : t ≡ one.thread). subst (λ t. FindsOthers x code s ls (one ∷ earlier) t site count) (sym same)
+      (finds_others one earlier run site count (ap (λ (y : Machine). y.own.stop) (sym (put_same g.threads one.thread now)) ∙ ap (λ u. (put g.threads one.thread now u).own.stop) (sym same) ∙ is)))
+      (λ (ne : t ≡ one.thread → ⊥). further one earlier t site count (casts_show earlier run.0 t site count (ap (λ (y : Machine). y.own.stop) (sym (put_other g.threads one.thread t now ne)) ∙ is)))
+      (cases_eq t one.thread)
