@@ -1,6 +1,7 @@
 pub mod Acts
 pub mod Calm
 pub mod Carried
+pub mod Conflicting
 pub mod Consists
 pub mod Finds
 pub mod Gates

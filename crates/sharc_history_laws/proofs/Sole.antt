@@ -203,7 +203,7 @@ module _ (code : Code) (s : Shape) (m : Machine) (fresh : m.own.stop ≡ None) (
 pub record Halting (code : Code) (s : Shape) (run : List Turn) : Type 0 where
   pub halts : (u : ℕ) → is_some ((place_after code s run).threads u).own.stop ≡ true → may_go ((place_after code s run).threads u).at.state ≡ false
 
-stop_none : (o : Option Stop) → (is_some o ≡ true → ⊥) → o ≡ None
+pub stop_none : (o : Option Stop) → (is_some o ≡ true → ⊥) → o ≡ None
 stop_none None h = refl
 stop_none (Some w) h = absurd (h refl)
 

@@ -1,3 +1,4 @@
+pub mod Conflicts
 pub mod History
 pub mod Paths
 pub mod Reports

@@ -1,11 +1,12 @@
 //! The laws, each the contract of a function that does nothing.
 
+ghost use Rattle.sharc_history_laws.specs.Conflicts.{AccessReportsShow};
 ghost use Rattle.sharc_history_laws.specs.History.{HistoriesObey};
 ghost use Rattle.sharc_history_laws.specs.Paths.{PathsAreConsistent};
 ghost use Rattle.sharc_history_laws.specs.Reports.{CastReportsShow, LockReportsShow};
 
 use sharc_code::run_laws;
-use sharc_invariant::laws::{begins, cells_are_there, keeps, runs_report, state_stands};
+use sharc_invariant::laws::{begins, cells_are_there, keeps, runs_bits, runs_report, state_stands};
 
 /// The path of each thread of each checked run of typed code has consistent results: its references are numbers, Bounds answers the elements of its object,
 /// a New makes no object to which the thread has a reference, and no other thread makes one anew.
@@ -34,10 +35,12 @@ pub fn history_law()
 pub fn reports_law()
     ensures locks { LockReportsShow }
     ensures casts { CastReportsShow }
+    ensures accesses { AccessReportsShow }
 {
     run_laws();
     begins();
     keeps();
     cells_are_there();
+    runs_bits();
     runs_report();
 }

@@ -6,3 +6,5 @@ pub mod Placing
 pub mod Whole
 pub mod Preorder
 pub mod Weaker
+pub mod Anyhow
+pub mod Passing

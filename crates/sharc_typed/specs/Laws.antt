@@ -6,6 +6,7 @@ use Rattle.sharc_code.specs.Says.{place_at}
 use Rattle.sharc_flat_form.specs.declared.flat.Flat.{Flat as FlatCode}
 use Rattle.sharc_flat_form.specs.declared.op.Op.{Op}
 use Rattle.sharc_flat_form.specs.declared.op.Op.TheVariants as op
+use Rattle.sharc_flat_form.specs.Machine.{Flat}
 use Rattle.sharc_flat_form.specs.Made.{flat_of}
 use Rattle.sharc_gen.specs.Generated.{instr_of}
 use Rattle.sharc_guard.specs.Guard.{expand, source_of}
@@ -17,6 +18,7 @@ use Rattle.sharc_invariant.specs.Typed.{IsWellTyped, ints_in, refs_in}
 use Rattle.sharc_typed.specs.Steps.{Chain}
 use Rattle.sharc_typed.specs.Inside.{FlatLabels, inside, labels_of}
 use Rattle.sharc_typed.specs.Lines.{TypedLine, IsTypedFlat}
+use Rattle.sharc_typed.specs.Passes.{IsTypedAnyhow, with_checks}
 
 -- an operation that leads to the next line alone
 abbrev pub LeadsOn : Op → Type 0
@@ -42,3 +44,12 @@ PiecesAreScoped = (x : Targets) (code : Code) (ls : Labels) (lines : ℕ) (dropp
 abbrev pub TypedFlatIsTyped : Type 0
 TypedFlatIsTyped = (x : Targets) (flat : FlatCode) (code : Code) (fl : FlatLabels) → IsCodeOf flat code → IsTypedFlat x code (dropped (flat_of flat)) fl (flat_of flat)
     → IsWellTyped x code (labels_of x (dropped (flat_of flat)) fl (flat_of flat).lines)
+
+-- Flat code that is typed whatever checks are remembered is typed with those that are, and without the checks that repeat one.
+abbrev pub AnyhowIsTyped : Type 0
+AnyhowIsTyped = (x : Targets) (code : Code) (fl : FlatLabels) (flat : Flat) → IsTypedAnyhow x code fl flat → IsTypedFlat x code (dropped flat) (with_checks flat fl) flat
+
+-- So is the code that is made of it.
+abbrev pub CodeIsTyped : Type 0
+CodeIsTyped = (x : Targets) (flat : FlatCode) (code : Code) (fl : FlatLabels) → IsCodeOf flat code → IsTypedAnyhow x code fl (flat_of flat)
+    → IsWellTyped x code (labels_of x (dropped (flat_of flat)) (with_checks (flat_of flat) fl) (flat_of flat).lines)

@@ -1,4 +1,5 @@
 pub mod Inside
 pub mod Laws
 pub mod Lines
+pub mod Passes
 pub mod Steps

@@ -1,6 +1,6 @@
 //! Laws of code that is made of typed flat code.
 
-ghost use Rattle.sharc_typed.specs.Laws.{PiecesAreTyped, PiecesAreScoped, TypedFlatIsTyped};
+ghost use Rattle.sharc_typed.specs.Laws.{PiecesAreTyped, PiecesAreScoped, TypedFlatIsTyped, AnyhowIsTyped, CodeIsTyped};
 
 /// The statements that an operation becomes are typed one after the other, from what is known before its line to what may be known after it.
 pub fn pieces_law()
@@ -16,3 +16,16 @@ pub fn scopes_law()
 pub fn typed_law()
     ensures { TypedFlatIsTyped }
 {}
+
+/// Flat code that is typed whatever checks are remembered is typed with those that are, and without the checks that repeat one.
+pub fn anyhow_law()
+    ensures { AnyhowIsTyped }
+{}
+
+/// So is the code that is made of it.
+pub fn code_law()
+    ensures { CodeIsTyped }
+{
+    anyhow_law();
+    typed_law();
+}

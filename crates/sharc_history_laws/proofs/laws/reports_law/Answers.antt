@@ -1,3 +1,4 @@
+use Rattle.sharc_history_laws.proofs.Conflicting.{accesses_show}
 use Rattle.sharc_history_laws.proofs.Logged.{lacking}
 use Rattle.sharc_history_laws.proofs.Sole.{casts_show}
 use Rattle.sharc_history_laws.proofs.laws.reports_law.Goals as goal
@@ -13,5 +14,13 @@ returns-clause-casts c = λ x code s ls wt fits few run checked.
     let laws = c.run_laws.ensures in
     let there = c.cells_are_there.ensures in
     casts_show c.runs_report.ensures.tests x code s ls wt fits few
+    (λ run is_run. record { halts = (lacking there.cells there.pointers there.rights laws c.begins.ensures.opens c.keeps.ensures x code s ls wt fits few run is_run).halts })
+    run ((laws.checked code s run).0 checked)
+
+pub returns-clause-accesses : goal.returns-clause-accesses
+returns-clause-accesses c = λ x code s ls wt fits few run checked.
+    let laws = c.run_laws.ensures in
+    let there = c.cells_are_there.ensures in
+    accesses_show c.runs_report.ensures.conflicts c.runs_bits.ensures x code s ls wt fits few
     (λ run is_run. record { halts = (lacking there.cells there.pointers there.rights laws c.begins.ensures.opens c.keeps.ensures x code s ls wt fits few run is_run).halts })
     run ((laws.checked code s run).0 checked)
