@@ -3,7 +3,7 @@
 ghost use Rattle.std.specs.Prelude.{◌≡◌, ◌⊎◌, map, string_bytes, IfOk, OnErr};
 ghost use Rattle.std.specs.Process.{exit_status};
 ghost use Rattle.sharc_io.specs.Causes.{Rose, EitherRose};
-ghost use Rattle.sharc_top.specs.Reply.{ReadsSource, Replied, RepliedInPart};
+ghost use Rattle.sharc_top.specs.Reply.{ReadsInput, Replied, RepliedInPart};
 ghost use Rattle.sharc_top.specs.Status.{IsOfReply, IsOfSilence};
 
 use sharc_io::{Sink, Source};
@@ -27,8 +27,8 @@ pub fn exit_code<S: Source, O: Sink>(
     ensures cut_short { IfOk words (λ words. exit_status result ≡ 10 → RepliedInPart (map string_bytes words.items) (S.left input.old) (O.held out.old) (O.held out.new)) }
     ensures sink_failed { exit_status result ≡ 10 → EitherRose (O.faults out.old) (O.faults out.new) (O.stalls out.old) (O.stalls out.new) }
     ensures source_failed { exit_status result ≡ 9 → Rose (S.faults input.old) (S.faults input.new) }
-    ensures source_read { IfOk words (λ words. exit_status result ≡ 9 → ReadsSource (map string_bytes words.items)) }
-    ensures unread { IfOk words (λ words. ¬ (ReadsSource (map string_bytes words.items)) → (S.left input.new ≡ S.left input.old) × (S.faults input.new ≡ S.faults input.old)) }
+    ensures source_read { IfOk words (λ words. exit_status result ≡ 9 → ReadsInput (map string_bytes words.items)) }
+    ensures unread { IfOk words (λ words. ¬ (ReadsInput (map string_bytes words.items)) → (S.left input.new ≡ S.left input.old) × (S.faults input.new ≡ S.faults input.old)) }
     ensures silent { IsOfSilence (exit_status result) → O.held out.new ≡ O.held out.old }
     ensures no_words { OnErr words ((exit_status result ≡ 11) × (S.left input.new ≡ S.left input.old)) }
 {

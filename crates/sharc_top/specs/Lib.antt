@@ -1,4 +1,6 @@
 pub mod Arithmetic
+pub mod EventFiles
+pub mod Limits
 pub mod Reply
 pub mod Status
 pub mod Text

@@ -1,5 +1,5 @@
 -- What the program writes for its words and its input, and with which status it ends.
-use Rattle.std.specs.Prelude.{◌≡◌, ℕ, ◌<◌, ◌≤◌, List, length, take, codes, Option, Some, None, IfSome, IsSome}
+use Rattle.std.specs.Prelude.{◌≡◌, ◌⊎◌, false, ℕ, ◌<◌, ◌≤◌, List, length, take, codes, Option, Some, None, IfSome, IsSome}
 use Rattle.std.specs.Io.KnownBytes.{Appends}
 use Rattle.sharc_tree.specs.declared.token.FaultAt.{FaultAt}
 use Rattle.sharc_mode.specs.Moded.{Assignment}
@@ -13,6 +13,8 @@ use Rattle.sharc_top.specs.declared.status.Status.{Status}
 use Rattle.sharc_top.specs.declared.status.Status.TheVariants as status
 use Rattle.sharc_top.specs.declared.task.Task.{Task}
 use Rattle.sharc_top.specs.declared.task.Task.TheVariants as task
+use Rattle.sharc_top.specs.EventFiles.{is_audit, FileReplies}
+use Rattle.sharc_top.specs.Limits.{source_limit}
 use Rattle.sharc_top.specs.Status.{code_of}
 use Rattle.sharc_top.specs.Text.{line}
 use Rattle.sharc_top.specs.Verdict.{Does}
@@ -34,20 +36,21 @@ task_in (Some c) = task_of c
 abbrev pub ReadsSource : List (List ℕ) → Type 0
 ReadsSource words = IsSome (task_in (commands words))
 
+-- these, or `audit`, which reads an event file
+abbrev pub ReadsInput : List (List ℕ) → Type 0
+ReadsInput words = ReadsSource words ⊎ (commands words ≡ Some command.Audit)
+
 -- the words are a command that is not built yet
 pub record IsUnbuilt (words : List (List ℕ)) : Type 0 where
   pub command : Command
   pub is : commands words ≡ Some command
   pub other : task_of command ≡ None
+  pub no_audit : is_audit command ≡ false
 
 abbrev pub usage_text : List ℕ
 usage_text = codes "usage: check | explain | run [--workers N] [--granules N] [--events N] [--seed N] | load N [--workers N] | record [--workers N] [--granules N] [--events N] | replay | audit"
 
 -- ---- the source
-
--- how many bytes a source has at most
-abbrev pub source_limit : ℕ
-source_limit = 1048576
 
 -- What is written for a source within the limit, and the status: the first fault of the first stage that has one, else what becomes of the program that
 -- it is, with the least modes.
@@ -63,6 +66,7 @@ pub data Replies (words : List (List ℕ)) (input : List ℕ) : Status → List 
   unbuilt : IsUnbuilt words → Replies words input status.NotBuilt (line (codes "form not built"))
   too_long : ReadsSource words → source_limit < length input → Replies words input status.SourceRefused (line (codes "source over 1048576 bytes"))
   answered : (t : Task) (s : Status) (text : List ℕ) → task_in (commands words) ≡ Some t → length input ≤ source_limit → Answers t input s text → Replies words input s text
+  audited : (s : Status) (text : List ℕ) → commands words ≡ Some command.Audit → FileReplies input s text → Replies words input s text
 
 -- The reply to the words and to what the source had left. Of a source that does not tell its bytes it is the reply to some input.
 pub record IsReply (words : List (List ℕ)) (left : Option (List ℕ)) (s : Status) (text : List ℕ) : Type 0 where

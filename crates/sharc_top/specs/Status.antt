@@ -12,10 +12,12 @@ code_of status.Usage = 8
 code_of status.ReadFault = 9
 code_of status.WriteFault = 10
 code_of status.NoMemory = 11
+code_of status.EventsRefused = 12
+code_of status.FuelSpent = 13
 
 -- the reply was written whole
 abbrev pub IsOfReply : ℕ → Type 0
-IsOfReply code = (code ≡ 0) ⊎ (code ≡ 1) ⊎ (code ≡ 2) ⊎ (code ≡ 7) ⊎ (code ≡ 8)
+IsOfReply code = (code ≡ 0) ⊎ (code ≡ 1) ⊎ (code ≡ 2) ⊎ (code ≡ 7) ⊎ (code ≡ 8) ⊎ (code ≡ 12) ⊎ (code ≡ 13)
 
 -- nothing was written
 abbrev pub IsOfSilence : ℕ → Type 0

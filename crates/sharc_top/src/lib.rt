@@ -4,6 +4,8 @@
 #![tactic(auto)]
 
 mod arithmetic;
+mod audited;
+mod refused;
 mod reply;
 mod status;
 mod task;

@@ -22,6 +22,10 @@ pub enum Status {
     WriteFault,
     /// Memory was wanting.
     NoMemory,
+    /// An event is not asked for, not legal, or breaks a rule of the modes.
+    EventsRefused,
+    /// The fuel of a thread is spent before its next event.
+    FuelSpent,
 }
 
 impl Status {
@@ -38,6 +42,8 @@ impl Status {
             Status::ReadFault => 9,
             Status::WriteFault => 10,
             Status::NoMemory => 11,
+            Status::EventsRefused => 12,
+            Status::FuelSpent => 13,
         }
     }
 }

@@ -33,7 +33,11 @@ fn acceptance(alloc: Global, c: &Checked) -> Result<Reply, AllocError>
 }
 
 /// The errors of a program whose modes are refused, each with the cast that would repair it.
-fn mode_refusal(alloc: Global, m: &Moded, errors: &ModeErrors) -> Result<Reply, AllocError>
+pub(crate) fn mode_refusal(
+    alloc: Global,
+    m: &Moded,
+    errors: &ModeErrors,
+) -> Result<Reply, AllocError>
     requires { IsRefused m.now errors.now }
     ensures { IfOk result (λ reply. (reply.status ≡ ModesRefused) × IsModeRefusal m.now reply.text.items) }
 {

@@ -7,11 +7,14 @@ use Rattle.sharc_check.specs.Laws.{CheckLaws}
 use Rattle.sharc_suggest.specs.Laws.{SuggestLaws}
 use Rattle.sharc_cli.specs.Commands.{commands}
 use Rattle.sharc_cli.specs.declared.command.Command.{Command}
+use Rattle.sharc_cli.specs.declared.command.Command.TheVariants.{Audit}
 use Rattle.sharc_report.specs.Refusals.{refusal_line}
 use Rattle.sharc_report.specs.declared.refusal.Stage.{Stage}
 use Rattle.sharc_top.specs.declared.status.Status.{Status}
 use Rattle.sharc_top.specs.declared.task.Task.{Task}
-use Rattle.sharc_top.specs.Reply.{task_in, IsUnbuilt, source_limit, Answers, faulty, program, Replies, usage, unbuilt, too_long, answered, IsReply}
+use Rattle.sharc_top.specs.EventFiles.{is_audit, FileReplies}
+use Rattle.sharc_top.specs.Limits.{source_limit}
+use Rattle.sharc_top.specs.Reply.{task_in, IsUnbuilt, Answers, faulty, program, Replies, usage, unbuilt, too_long, answered, audited, IsReply}
 use Rattle.sharc_top.specs.Verdict.{Does}
 use Rattle.sharc_top_laws.specs.Laws.{WarningsAreOne, SourceLaws, AnswersAreOne}
 use Rattle.sharc_top_laws.proofs.Verdicts.{one_done}
@@ -49,6 +52,14 @@ of_usage words none = ap task_in none
 of_unbuilt : (words : List (List ℕ)) → IsUnbuilt words → task_in (commands words) ≡ None
 of_unbuilt words is = ap task_in is.is ∙ is.other
 
+of_audit : (words : List (List ℕ)) → commands words ≡ Some Audit → task_in (commands words) ≡ None
+of_audit words is = ap task_in is
+
+built_audit : (words : List (List ℕ)) → IsUnbuilt words → commands words ≡ Some Audit → ⊥
+built_audit words is audit =
+    let same : is.command ≡ Audit = let z : Some is.command ≡ Some Audit = sym is.is ∙ audit in cc in
+    false≢true (sym is.no_audit ∙ ap is_audit same)
+
 not_long : (input : List ℕ) → source_limit < length input → length input ≤ source_limit → ⊥
 not_long input long short = omega (arith, long, short)
 
@@ -57,28 +68,44 @@ pub is_answer : (words : List (List ℕ)) (input : List ℕ) (t : Task) (s : Sta
 is_answer words input t s text asked within (usage none) = absurd (task_or_none (task_in (commands words)) t asked (of_usage words none))
 is_answer words input t s text asked within (unbuilt is) = absurd (task_or_none (task_in (commands words)) t asked (of_unbuilt words is))
 is_answer words input t s text asked within (too_long reads long) = absurd (not_long input long within)
+is_answer words input t s text asked within (audited z other is reply) = absurd (task_or_none (task_in (commands words)) t asked (of_audit words is))
 is_answer words input t s text asked within (answered u z other also short is) = subst (λ (k : Task). Answers k input z other) (same_task (task_in (commands words)) u t also asked) is
 
-module _ (answers : AnswersAreOne) (words : List (List ℕ)) (input : List ℕ) where
+-- and a reply to `audit` is what is written for the event file
+pub is_file_reply : (words : List (List ℕ)) (input : List ℕ) (s : Status) (text : List ℕ) → commands words ≡ Some Audit → Replies words input s text → FileReplies input s text
+is_file_reply words input s text audit (usage none) = absurd (command_or_none (commands words) Audit audit none)
+is_file_reply words input s text audit (unbuilt is) = absurd (built_audit words is audit)
+is_file_reply words input s text audit (too_long reads long) = absurd (no_reader (task_in (commands words)) (of_audit words audit) reads)
+is_file_reply words input s text audit (answered t z other asked short is) = absurd (task_or_none (task_in (commands words)) t asked (of_audit words audit))
+is_file_reply words input s text audit (audited z other is reply) = reply
+
+abbrev pub FileRepliesAreOne : Type 0
+FileRepliesAreOne = (input : List ℕ) (s z : Status) (text other : List ℕ) → FileReplies input s text → FileReplies input z other → (s ≡ z) × (text ≡ other)
+
+module _ (answers : AnswersAreOne) (files : FileRepliesAreOne) (words : List (List ℕ)) (input : List ℕ) where
   pub one_reply : (s z : Status) (text other : List ℕ) → Replies words input s text → Replies words input z other → (s ≡ z) × (text ≡ other)
   one_reply s z text other (usage none) (usage none') = (refl, refl)
   one_reply s z text other (usage none) (unbuilt is) = absurd (command_or_none (commands words) is.command is.is none)
   one_reply s z text other (usage none) (too_long reads long) = absurd (no_reader (task_in (commands words)) (of_usage words none) reads)
   one_reply s z text other (usage none) (answered t s' text' asked short is) = absurd (task_or_none (task_in (commands words)) t asked (of_usage words none))
+  one_reply s z text other (usage none) (audited s' text' audit reply) = absurd (command_or_none (commands words) Audit audit none)
   one_reply s z text other (unbuilt is) (usage none) = absurd (command_or_none (commands words) is.command is.is none)
   one_reply s z text other (unbuilt is) (unbuilt is') = (refl, refl)
   one_reply s z text other (unbuilt is) (too_long reads long) = absurd (no_reader (task_in (commands words)) (of_unbuilt words is) reads)
   one_reply s z text other (unbuilt is) (answered t s' text' asked short has) = absurd (task_or_none (task_in (commands words)) t asked (of_unbuilt words is))
+  one_reply s z text other (unbuilt is) (audited s' text' audit reply) = absurd (built_audit words is audit)
   one_reply s z text other (too_long reads long) (usage none) = absurd (no_reader (task_in (commands words)) (of_usage words none) reads)
   one_reply s z text other (too_long reads long) (unbuilt is) = absurd (no_reader (task_in (commands words)) (of_unbuilt words is) reads)
   one_reply s z text other (too_long reads long) (too_long reads' long') = (refl, refl)
   one_reply s z text other (too_long reads long) (answered t s' text' asked short is) = absurd (not_long input long short)
+  one_reply s z text other (too_long reads long) (audited s' text' audit reply) = absurd (no_reader (task_in (commands words)) (of_audit words audit) reads)
+  one_reply s z text other (audited s' text' audit reply) more = files input s' z text' other reply (is_file_reply words input z other audit more)
   one_reply s z text other (answered t s' text' asked short is) more =
       answers t input s' z text' other is (is_answer words input t z other asked short more)
 
 -- of a source that tells its bytes
-pub one_told : AnswersAreOne → (words : List (List ℕ)) (bytes : List ℕ) (s z : Status) (text other : List ℕ) → IsReply words (Some bytes) s text → IsReply words (Some bytes) z other → (s ≡ z) × (text ≡ other)
-one_told answers words bytes s z text other a b =
-    one_reply answers words bytes s z text other
+pub one_told : AnswersAreOne → FileRepliesAreOne → (words : List (List ℕ)) (bytes : List ℕ) (s z : Status) (text other : List ℕ) → IsReply words (Some bytes) s text → IsReply words (Some bytes) z other → (s ≡ z) × (text ≡ other)
+one_told answers files words bytes s z text other a b =
+    one_reply answers files words bytes s z text other
     (subst (λ (l : List ℕ). Replies words l s text) a.told a.reply)
     (subst (λ (l : List ℕ). Replies words l z other) b.told b.reply)

@@ -27,7 +27,7 @@ some_or_none : {A : Type 0} (o : Option A) (a : A) → o ≡ Some a → o ≡ No
 some_or_none o a is not = cc
 
 module _ (warnings : WarningsAreOne) (checks : CheckLaws) (suggests : SuggestLaws) (m : Assignment) where
-  one_refusal : (text other : List ℕ) → IsModeRefusal m text → IsModeRefusal m other → text ≡ other
+  pub one_refusal : (text other : List ℕ) → IsModeRefusal m text → IsModeRefusal m other → text ≡ other
   one_refusal text other a b =
       let errors = checks.list m a.errors b.errors a.all b.all in
       let moved = subst (λ (l : List ModeError). AreSuggested m l a.casts) errors a.suggested in

@@ -16,7 +16,8 @@ use Rattle.sharc_top.specs.declared.status.Status.{Status}
 use Rattle.sharc_top.specs.declared.status.Status.TheVariants as status
 use Rattle.sharc_top.specs.declared.task.Task.{Task}
 use Rattle.sharc_top.specs.declared.task.Task.TheVariants as task
-use Rattle.sharc_top.specs.Reply.{task_in, source_limit, Answers, Replies, IsReply, Replied}
+use Rattle.sharc_top.specs.Limits.{source_limit}
+use Rattle.sharc_top.specs.Reply.{task_in, Answers, Replies, IsReply, Replied}
 
 abbrev pub WarningsAreOne : Type 0
 WarningsAreOne = (r : Resolution) (a b : List Warning) → AreWarnings r a → AreWarnings r b → a ≡ b

@@ -33,6 +33,13 @@ const CASES: &str = "run|int main(void) { return 0; }|0 \
 ~check|int *********p; int main(void) { return 0; }|2 input:1: P2 nesting over 64\n\
 ~check|int a[65537]; int main(void) { return 0; }|2 input:1: C9 limit passed by a\n\
 ~check|int main(void) { print(6 * 7); return 0; }|0 accepted\n\
+~audit|int main(void) { print(6 * 7); return 0; }\n%%events 100\n0 started 0\n0 print 42\n0 return\n0 gone\n|0 obeys 4 events\n\
+~audit|int main(void) { print(6 * 7); return 0; }\n%%events 100\n0 started 0\n0 print 41\n0 return\n0 gone\n|12 event 2: E1 not asked for\n\
+~audit|int main(void) { print(6 * 7); return 0; }\n%%events 1\n0 started 0\n0 print 42\n0 return\n0 gone\n|13 event 2: U1 fuel 1 spent\n\
+~audit|int g;\nvoid w(int k) {\n  g = k;\n}\nint main(void) {\n  g = 1;\n  int t = spawn(w, 2);\n  join(t);\n  return 0;\n}\n%%events 100\n0 started 0\n0 write g0.0 1\n0 spawn w 2 1\n1 started 2\n1 write g0.0 2\n|12 event 5: E3 rule 6\n\
+~audit|int g;\nvoid w(int k) {\n  g = k;\n}\nint main(void) {\n  g = 1;\n  int t = spawn(w, 2);\n  join(t);\n  return 0;\n}\n%%events 100\n0 started 0\n0 write g0.0 1\n0 spawn w 2 1\n1 started 2\n0 join 1\n|12 event 5: E2 not legal\n\
+~audit|int main(void) { print(6 * 7); return 0; }\n%%events 0100\n|2 V2 not an event file at line 2\n\
+~audit|int main(void) { print(y); return 0; }\n%%events 100\n0 started 0\n|2 input:1: C1 unknown name y\n\
 ~check|void wait(int k) { } int main(void) { wait(1); return 0; }|0 accepted\n\
 ~explain|int main(void) { int * p = malloc(sizeof(int)); *p = 1; print(*p); return 0; }|0 input:1: local p: int private * private\naccepted\n\
 ~check|struct c { mutex racy * readonly m; int locked(m) * readonly b; }; int main(void) { return 0; }|1 input:1: M4 lock path m is not constant\n\

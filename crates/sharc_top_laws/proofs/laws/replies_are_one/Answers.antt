@@ -1,12 +1,14 @@
 use Rattle.sharc_top_laws.specs.Laws.{AnswersAreOne}
-use Rattle.sharc_top_laws.proofs.Replying.{one_answer, one_reply, one_told}
+use Rattle.sharc_top_laws.proofs.Judged.{one_file_reply}
+use Rattle.sharc_top_laws.proofs.Replying.{FileRepliesAreOne, one_answer, one_reply, one_told}
 use Rattle.sharc_top_laws.proofs.laws.replies_are_one.Goals as goal
 
 pub returns : goal.returns
 returns c =
     let answers : AnswersAreOne = one_answer c.warnings_are_one.ensures c.sources_are_one.ensures c.check_laws.ensures c.suggest_laws.ensures in
+    let files : FileRepliesAreOne = λ input s z text other a b. one_file_reply (record { warnings = c.warnings_are_one.ensures; sources = c.sources_are_one.ensures; checks = c.check_laws.ensures; suggests = c.suggest_laws.ensures; files = c.file_laws.ensures; verdicts = c.audit_laws.ensures }) input s z text other a b in
     record {
       answers = answers;
-      replies = λ words input s z text other a b. one_reply answers words input s z text other a b;
-      reply = λ words bytes s z text other a b. one_told answers words bytes s z text other a b;
+      replies = λ words input s z text other a b. one_reply answers files words input s z text other a b;
+      reply = λ words bytes s z text other a b. one_told answers files words bytes s z text other a b;
     }

@@ -1,0 +1,17 @@
+//! Event files and what the top call writes of them: tests alone.
+//!
+//! Nothing stands on this crate, and it has no code of its own.
+#![tactic(auto)]
+
+#[cfg(test)]
+mod edges;
+#[cfg(test)]
+mod files;
+#[cfg(test)]
+mod outcome;
+#[cfg(test)]
+mod refused;
+#[cfg(test)]
+mod runs;
+#[cfg(test)]
+mod sizes;

@@ -1,0 +1,56 @@
+-- What is written for an event file is a reply to it.
+use Rattle.std.proofs.Common.{◌≡◌, ℕ, ◌<◌, ◌≤◌, List, length, Option, Some, None, IfSome, subst}
+use Rattle.sharc_tree.specs.declared.token.FaultAt.{FaultAt}
+use Rattle.sharc_mode.specs.Moded.{Assignment}
+use Rattle.sharc_mode.specs.WellModed.{WellModed}
+use Rattle.sharc_audit.specs.declared.audit.Verdict.{Verdict}
+use Rattle.sharc_audit.specs.declared.file.FileFault.{FileFault}
+use Rattle.sharc_audit.specs.declared.file.FileFault.TheVariants as fault
+use Rattle.sharc_audit.specs.declared.line.EventLine.{EventLine}
+use Rattle.sharc_audit.specs.Audited.{Audits}
+use Rattle.sharc_audit.specs.Files.{IsFault}
+use Rattle.sharc_audit.specs.Grammar.{text_lines}
+use Rattle.sharc_audit.specs.Texts.{verdict_line, bad_line, many_line, file_fault_line}
+use Rattle.sharc_report.specs.Refusals.{refusal_line}
+use Rattle.sharc_report.specs.declared.refusal.Stage.{Stage}
+use Rattle.sharc_sound.specs.Front.{IsFront, IsFaultAt}
+use Rattle.sharc_top.specs.declared.status.Status.{Status}
+use Rattle.sharc_top.specs.declared.status.Status.TheVariants as status
+use Rattle.sharc_top.specs.EventFiles.{status_of, Judges, not_judged, judged, JudgesSource, faulty_source, of_program, IsFewIn, FileReplies, long_file, no_file, many_events, long_source, source_judged, IsFileReply}
+use Rattle.sharc_top.specs.Text.{line}
+use Rattle.sharc_top.specs.Verdict.{IsModeRefusal}
+use Rattle.sharc_top.proofs.Replies.{long_input}
+use Rattle.std.specs.Prelude.{codes}
+
+pub judges_refused : (m : Assignment) (fuel : ℕ) (events : List EventLine) (s : Status) (text : List ℕ) → s ≡ status.ModesRefused → IsModeRefusal m text → Judges m fuel events s text
+judges_refused m fuel events s text e is = rw e (not_judged text is)
+
+pub judges_by : (m : Assignment) (fuel : ℕ) (events : List EventLine) (s : Status) (text : List ℕ) (v : Verdict) → WellModed m → Audits m fuel events v → s ≡ status_of v → text ≡ verdict_line fuel v → Judges m fuel events s text
+judges_by m fuel events s text v well audits e t = rw (e, t) (judged v well audits)
+
+pub source_faulty : (source : List ℕ) (fuel : ℕ) (events : List EventLine) (s : Status) (text : List ℕ) (stage : Stage) (at : FaultAt) → IsFaultAt source stage at → s ≡ status.SourceRefused → text ≡ refusal_line stage at
+    → JudgesSource source fuel events s text
+source_faulty source fuel events s text stage at is e t = rw (e, t) (faulty_source stage at is)
+
+pub source_program : (source : List ℕ) (fuel : ℕ) (events : List EventLine) (s : Status) (text : List ℕ) (m : Assignment) → IsFront source m → Judges m fuel events s text → JudgesSource source fuel events s text
+source_program source fuel events s text m front is = of_program m s text front is
+
+pub replies_long_source : (input source : List ℕ) (fuel : ℕ) (events : List EventLine) (s : Status) (text : List ℕ) → IsFewIn input source fuel events → 1048576 < length source → s ≡ status.SourceRefused
+    → text ≡ line (codes "source over 1048576 bytes") → FileReplies input s text
+replies_long_source input source fuel events s text file long e t = rw (e, t) (long_source source fuel events file long)
+
+pub replies_judged : (input source : List ℕ) (fuel : ℕ) (events : List EventLine) (s : Status) (text : List ℕ) → IsFewIn input source fuel events → length source ≤ 1048576 → JudgesSource source fuel events s text → FileReplies input s text
+replies_judged input source fuel events s text file short is = source_judged source fuel events file short s text is
+
+pub replies_fault : (input : List ℕ) (f : FileFault) (s : Status) (text : List ℕ) → length input ≤ 16777216 → IsFault (text_lines input) f → s ≡ status.SourceRefused → file_fault_line f ≡ Some text → FileReplies input s text
+replies_fault input (fault.Line n) s text short is e t = let same : bad_line n ≡ text = cc in rw e (subst (FileReplies input status.SourceRefused) same (no_file n short is))
+replies_fault input fault.Many s text short is e t = let same : many_line ≡ text = cc in rw e (subst (FileReplies input status.SourceRefused) same (many_events short is))
+replies_fault input fault.Memory s text short is e t = absurd (let z : None ≡ Some text = t in cc)
+
+pub reply_long_file : (left : Option (List ℕ)) (s : Status) (text : List ℕ) → IfSome left (λ bytes. 16777216 < length bytes) → s ≡ status.SourceRefused → text ≡ line (codes "file over 16777216 bytes") → IsFileReply left s text
+reply_long_file left s text long e t =
+    let l = long_input left 16777216 long in
+    record { input = l.input; told = l.told; reply = rw (e, t) (long_file l.long) }
+
+pub reply_file : (left : Option (List ℕ)) (input : List ℕ) (s : Status) (text : List ℕ) → IfSome left (λ bytes. input ≡ bytes) → FileReplies input s text → IsFileReply left s text
+reply_file left input s text told is = record { input = input; told = told; reply = is }

@@ -1,0 +1,6 @@
+use Rattle.std.proofs.Common.{refl}
+use Rattle.sharc_top.proofs.Judging.{replies_fault}
+use Rattle.sharc_top.proofs.audited.file_refusal.Goals as goal
+
+pub returns : goal.returns
+returns c = replies_fault _ c.args.fault _ _ c.requires.short c.requires.fault refl c.in_ok-text.ensures

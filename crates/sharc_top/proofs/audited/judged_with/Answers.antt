@@ -1,0 +1,20 @@
+use Rattle.std.proofs.Common.{sym, subst, IfOk}
+use Rattle.std.proofs.lemmas.Result.{IfOk-weaker}
+use Rattle.sharc_check.specs.Checks.{IsRefused}
+use Rattle.sharc_top.specs.EventFiles.{Judges}
+use Rattle.sharc_top.specs.Verdict.{IsModeRefusal}
+use Rattle.sharc_top.proofs.Judging.{judges_refused}
+use Rattle.sharc_top.proofs.audited.judged_with.Goals as goal
+
+pub returns-in-Ok : goal.returns-in-Ok
+returns-in-Ok c = subst (λ x. IfOk c.judged.result (λ reply. Judges x c.args.file.now.fuel c.args.file.now.events reply.status reply.text.items)) c.in-Ok.ensures.0 c.judged.ensures
+
+pub mode_refusal-requires : goal.mode_refusal-requires
+mode_refusal-requires c =
+    let told = rw c.in-Err-Modes.field-0-is at c.in-Err-Modes.ensures in
+    subst (λ x. IsRefused x c.in-Err-Modes.errors) (sym told.0) told.1
+
+pub returns-in-Err-Modes : goal.returns-in-Err-Modes
+returns-in-Err-Modes c =
+    let told = rw c.in-Err-Modes.field-0-is at c.in-Err-Modes.ensures in
+    IfOk-weaker c.mode_refusal.result _ _ (λ reply is. judges_refused _ _ _ _ _ is.0 (subst (λ x. IsModeRefusal x reply.text.items) told.0 is.1)) c.mode_refusal.ensures

@@ -1,0 +1,141 @@
+//! What `audit` makes of an event file.
+
+ghost use Rattle.std.specs.Prelude.{◌≡◌, ◌≤◌, length, IfOk, IsErrOf};
+ghost use Rattle.sharc_io.specs.Causes.{Rose};
+ghost use Rattle.sharc_mode.specs.WellModed.{WellModed};
+ghost use Rattle.sharc_audit.specs.Grammar.{text_lines};
+ghost use Rattle.sharc_audit.specs.Files.{IsFault};
+ghost use Rattle.sharc_top.specs.EventFiles.{is_audit, status_of, Judges, JudgesSource, IsFewIn, FileReplies, IsFileReply};
+
+use crate::refused::{Failure, SOURCE_LIMIT, refusal};
+use crate::reply::{Reply, line_reply};
+use crate::status::Status;
+use crate::verdict::mode_refusal;
+use sharc_audit::audit::{Verdict, audit};
+use sharc_audit::file::{EventFile, FileFault, read_events};
+use sharc_audit::text::{file_fault_text, verdict_text};
+use sharc_check::{CheckFault, Checked, check};
+use sharc_cli::Command;
+use sharc_io::{ReadError, Source, read_all};
+use sharc_mode::moded::Moded;
+use sharc_sound::{Refusal, front};
+use std::alloc::{AllocError, Global};
+
+/// The largest event file, in bytes (own).
+const FILE_LIMIT: usize = 16_777_216;
+
+/// Whether the command reads an event file.
+pub(crate) fn is_audit(command: Command) -> bool
+    ensures { result ≡ is_audit command }
+{
+    match command {
+        Command::Audit => true,
+        _ => false,
+    }
+}
+
+/// How a call ends that writes this verdict.
+fn status_of(verdict: Verdict) -> Status
+    ensures { result ≡ status_of verdict }
+{
+    match verdict {
+        Verdict::Obeys(_) => Status::Done,
+        Verdict::Fails(_, _) => Status::EventsRefused,
+        Verdict::Fuel(_) => Status::FuelSpent,
+    }
+}
+
+/// The verdict of the events of a program whose modes are accepted.
+fn judged(alloc: Global, c: &Checked, file: &EventFile) -> Result<Reply, AllocError>
+    requires { length file.now.events ≤ 4096 }
+    ensures { IfOk result (λ reply. Judges c.now file.now.fuel file.now.events reply.status reply.text.items) }
+{
+    c.moded();
+    let verdict = audit(alloc, c, &file.events, file.fuel)?;
+    let text = verdict_text(alloc, verdict, file.fuel)?;
+    Ok(Reply {
+        status: status_of(verdict),
+        text,
+    })
+}
+
+/// What is written for the events of a program with its modes.
+fn judged_with(alloc: Global, m: Moded, file: &EventFile) -> Result<Reply, AllocError>
+    requires { length file.now.events ≤ 4096 }
+    ensures { IfOk result (λ reply. Judges m file.now.fuel file.now.events reply.status reply.text.items) }
+{
+    match check(alloc, m) {
+        Ok(checked) => judged(alloc, &checked, file),
+        Err(CheckFault::Modes(m, errors)) => mode_refusal(alloc, &m, &errors),
+        Err(CheckFault::Memory(_)) => Err(AllocError),
+    }
+}
+
+/// What is written for the events of a source within the limit.
+fn source_judged(alloc: Global, file: &EventFile) -> Result<Reply, AllocError>
+    requires few { length file.now.events ≤ 4096 }
+    requires short { length file.now.source.items ≤ SOURCE_LIMIT }
+    ensures { IfOk result (λ reply. JudgesSource file.now.source.items file.now.fuel file.now.events reply.status reply.text.items) }
+{
+    match front(alloc, &file.source) {
+        Ok(m) => judged_with(alloc, m, file),
+        Err(Refusal::Source(fault)) => refusal(alloc, &fault),
+        Err(Refusal::Modes(..)) => unreachable!(),
+        Err(Refusal::Memory) => Err(AllocError),
+    }
+}
+
+/// What is written for an event file of this input.
+fn file_judged(alloc: Global, bytes: &[u8], file: &EventFile) -> Result<Reply, AllocError>
+    requires { IsFewIn bytes.now file.now.source.items file.now.fuel file.now.events }
+    ensures { IfOk result (λ reply. FileReplies bytes.now reply.status reply.text.items) }
+{
+    if file.source.len() > SOURCE_LIMIT {
+        return line_reply(alloc, Status::SourceRefused, b"source over 1048576 bytes");
+    }
+    source_judged(alloc, file)
+}
+
+/// What is written for an input that is no event file, or one with too many events.
+fn file_refusal(alloc: Global, bytes: &[u8], fault: FileFault) -> Result<Reply, AllocError>
+    requires short { length bytes.now ≤ FILE_LIMIT }
+    requires fault { IsFault (text_lines bytes.now) fault }
+    ensures { IfOk result (λ reply. FileReplies bytes.now reply.status reply.text.items) }
+{
+    let text = file_fault_text(alloc, fault)?;
+    Ok(Reply {
+        status: Status::SourceRefused,
+        text,
+    })
+}
+
+/// What is written for an input within the limit.
+fn input_judged(alloc: Global, bytes: &[u8]) -> Result<Reply, AllocError>
+    requires { length bytes.now ≤ FILE_LIMIT }
+    ensures { IfOk result (λ reply. FileReplies bytes.now reply.status reply.text.items) }
+{
+    match read_events(alloc, bytes) {
+        Ok(file) => file_judged(alloc, bytes, &file),
+        Err(fault) => file_refusal(alloc, bytes, fault),
+    }
+}
+
+/// The reply to an event file.
+pub(crate) fn audited<S: Source>(alloc: Global, input: &mut S) -> Result<Reply, Failure>
+    ensures reply { IfOk result (λ reply. IsFileReply (S.left input.old) reply.status reply.text.items) }
+    ensures fault { IsErrOf result Failure.Source → Rose (S.faults input.old) (S.faults input.new) }
+    ensures counted { S.faults input.old ≤ S.faults input.new }
+{
+    match read_all(alloc, input, FILE_LIMIT) {
+        Ok(bytes) => {
+            let reply = input_judged(alloc, &bytes)?;
+            Ok(reply)
+        }
+        Err(ReadError::TooLong) => {
+            let refusal = line_reply(alloc, Status::SourceRefused, b"file over 16777216 bytes")?;
+            Ok(refusal)
+        }
+        Err(ReadError::ReadFault) => Err(Failure::Source),
+        Err(ReadError::Memory) => Err(Failure::Memory),
+    }
+}

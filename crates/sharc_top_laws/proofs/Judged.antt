@@ -1,0 +1,124 @@
+-- The reply to an event file is one.
+use Rattle.std.proofs.Common.{◌≡◌, ℕ, ◌<◌, ◌≤◌, List, length, refl, ap, ◌∙◌, subst, arith}
+use Rattle.sharc_tree.specs.declared.token.FaultAt.{FaultAt}
+use Rattle.sharc_ctype.specs.Resolved.{IsResolved}
+use Rattle.sharc_mode.specs.Moded.{Assignment}
+use Rattle.sharc_mode.specs.WellModed.{WellModed}
+use Rattle.sharc_check.specs.Laws.{CheckLaws}
+use Rattle.sharc_suggest.specs.Laws.{SuggestLaws}
+use Rattle.sharc_audit.specs.declared.line.EventLine.{EventLine}
+use Rattle.sharc_audit.specs.Audited.{OneVerdict}
+use Rattle.sharc_audit.specs.FileLaws.{FileLaws}
+use Rattle.sharc_audit.specs.Grammar.{text_lines, IsFirstBad, HasMany}
+use Rattle.sharc_audit.specs.Texts.{verdict_line, bad_line}
+use Rattle.sharc_report.specs.Refusals.{refusal_line}
+use Rattle.sharc_report.specs.declared.refusal.Stage.{Stage}
+use Rattle.sharc_sound.specs.Front.{IsFront}
+use Rattle.sharc_top.specs.declared.status.Status.{Status}
+use Rattle.sharc_top.specs.EventFiles.{status_of, Judges, not_judged, judged, JudgesSource, faulty_source, of_program, IsFewIn, FileReplies, long_file, no_file, many_events, long_source, source_judged}
+use Rattle.sharc_top.specs.Limits.{source_limit, file_limit}
+use Rattle.sharc_top_laws.specs.Laws.{WarningsAreOne, SourceLaws}
+use Rattle.sharc_top_laws.specs.AuditLaws.{IsVerdict}
+use Rattle.sharc_top_laws.proofs.Verdicts.{one_refusal}
+
+pub record FileReplyLaws : Type 0 where
+  pub warnings : WarningsAreOne
+  pub sources : SourceLaws
+  pub checks : CheckLaws
+  pub suggests : SuggestLaws
+  pub files : FileLaws
+  pub verdicts : OneVerdict
+
+abbrev Same : Status → Status → List ℕ → List ℕ → Type 0
+Same s z text other = (s ≡ z) × (text ≡ other)
+
+not_long : (limit : ℕ) (input : List ℕ) → limit < length input → length input ≤ limit → ⊥
+not_long limit input long short = omega (arith, long, short)
+
+module _ (laws : FileReplyLaws) where
+  one_judging : (m : Assignment) → IsResolved m.typed → (fuel : ℕ) (events : List EventLine) (s z : Status) (text other : List ℕ) → Judges m fuel events s text → Judges m fuel events z other → Same s z text other
+  one_judging m typed fuel events s z text other (not_judged t is) (not_judged u also) = (refl, one_refusal laws.warnings laws.checks laws.suggests m t u is also)
+  one_judging m typed fuel events s z text other (not_judged t is) (judged v well a) = absurd (is.not_well_moded well)
+  one_judging m typed fuel events s z text other (judged v well a) (not_judged t is) = absurd (is.not_well_moded well)
+  one_judging m typed fuel events s z text other (judged v well a) (judged w also b) = let same = laws.verdicts m fuel events v w typed a b in (ap status_of same, ap (verdict_line fuel) same)
+
+  one_source : (source : List ℕ) (fuel : ℕ) (events : List EventLine) (s z : Status) (text other : List ℕ) → JudgesSource source fuel events s text → JudgesSource source fuel events z other → Same s z text other
+  one_source source fuel events s z text other (faulty_source stage at is) (faulty_source stage' at' also) =
+      let same = laws.sources.fault source stage stage' at at' is also in
+      (refl, ap (λ (k : Stage). refusal_line k at) same.0 ∙ ap (λ (a : FaultAt). refusal_line stage' a) same.1)
+  one_source source fuel events s z text other (faulty_source stage at is) (of_program m y t front does) = absurd (laws.sources.faultless source m front stage at is)
+  one_source source fuel events s z text other (of_program m y t front does) (faulty_source stage at is) = absurd (laws.sources.faultless source m front stage at is)
+  one_source source fuel events s z text other (of_program m y t front does) (of_program n x u also acts) =
+      one_judging n also.typed.resolved fuel events y x t u (subst (λ (k : Assignment). Judges k fuel events y t) (laws.sources.program source m n front also) does) acts
+
+  -- two event files of one input are one
+  many_or_few : (input source : List ℕ) (fuel : ℕ) (events : List EventLine) → HasMany (text_lines input) → IsFewIn input source fuel events → ⊥
+  many_or_few input source fuel events h f =
+      let same = laws.files.file (text_lines input) h.source source h.fuel fuel h.events events h.file f.file in
+      let many = subst (λ (l : List EventLine). 4096 < length l) same.2 h.many in
+      not_long_list events many f.few
+    where
+      not_long_list : (l : List EventLine) → 4096 < length l → length l ≤ 4096 → ⊥
+      not_long_list l long short = omega (arith, long, short)
+
+  bad_or_few : (input source : List ℕ) (fuel : ℕ) (events : List EventLine) (n : ℕ) → IsFirstBad (text_lines input) n → IsFewIn input source fuel events → ⊥
+  bad_or_few input source fuel events n bad f = laws.files.faultless (text_lines input) source fuel events n f.file bad
+
+  long_or_short : (input source other : List ℕ) (fuel more : ℕ) (events others : List EventLine) → IsFewIn input source fuel events → IsFewIn input other more others → source_limit < length source → length other ≤ source_limit → ⊥
+  long_or_short input source other fuel more events others f g long short =
+      let same = laws.files.file (text_lines input) source other fuel more events others f.file g.file in
+      not_long source_limit other (subst (λ (l : List ℕ). source_limit < length l) same.0 long) short
+
+  -- the source, the fuel and the events of a file are what is judged
+  moved : (input source other : List ℕ) (fuel more : ℕ) (events others : List EventLine) (s : Status) (text : List ℕ) → IsFewIn input source fuel events → IsFewIn input other more others
+      → JudgesSource source fuel events s text → JudgesSource other more others s text
+  moved input source other fuel more events others s text f g is =
+      let same = laws.files.file (text_lines input) source other fuel more events others f.file g.file in
+      subst (λ (l : List EventLine). JudgesSource other more l s text) same.2
+      (subst (λ (n : ℕ). JudgesSource other n events s text) same.1 (subst (λ (l : List ℕ). JudgesSource l fuel events s text) same.0 is))
+
+  pub one_file_reply : (input : List ℕ) (s z : Status) (text other : List ℕ) → FileReplies input s text → FileReplies input z other → Same s z text other
+  one_file_reply input s z text other (long_file long) (long_file long') = (refl, refl)
+  one_file_reply input s z text other (long_file long) (no_file n short bad) = absurd (not_long file_limit input long short)
+  one_file_reply input s z text other (long_file long) (many_events short many) = absurd (not_long file_limit input long short)
+  one_file_reply input s z text other (long_file long) (long_source source fuel events f big) = absurd (not_long file_limit input long f.short)
+  one_file_reply input s z text other (long_file long) (source_judged source fuel events f small y t is) = absurd (not_long file_limit input long f.short)
+  one_file_reply input s z text other (no_file n short bad) (long_file long) = absurd (not_long file_limit input long short)
+  one_file_reply input s z text other (no_file n short bad) (no_file k short' bad') = (refl, ap bad_line (laws.files.fault (text_lines input) n k bad bad'))
+  one_file_reply input s z text other (no_file n short bad) (many_events short' many) = absurd (laws.files.faultless (text_lines input) many.source many.fuel many.events n many.file bad)
+  one_file_reply input s z text other (no_file n short bad) (long_source source fuel events f big) = absurd (bad_or_few input source fuel events n bad f)
+  one_file_reply input s z text other (no_file n short bad) (source_judged source fuel events f small y t is) = absurd (bad_or_few input source fuel events n bad f)
+  one_file_reply input s z text other (many_events short many) (long_file long) = absurd (not_long file_limit input long short)
+  one_file_reply input s z text other (many_events short many) (no_file n short' bad) = absurd (laws.files.faultless (text_lines input) many.source many.fuel many.events n many.file bad)
+  one_file_reply input s z text other (many_events short many) (many_events short' many') = (refl, refl)
+  one_file_reply input s z text other (many_events short many) (long_source source fuel events f big) = absurd (many_or_few input source fuel events many f)
+  one_file_reply input s z text other (many_events short many) (source_judged source fuel events f small y t is) = absurd (many_or_few input source fuel events many f)
+  one_file_reply input s z text other (long_source source fuel events f big) (long_file long) = absurd (not_long file_limit input long f.short)
+  one_file_reply input s z text other (long_source source fuel events f big) (no_file n short bad) = absurd (bad_or_few input source fuel events n bad f)
+  one_file_reply input s z text other (long_source source fuel events f big) (many_events short many) = absurd (many_or_few input source fuel events many f)
+  one_file_reply input s z text other (long_source source fuel events f big) (long_source source' fuel' events' f' big') = (refl, refl)
+  one_file_reply input s z text other (long_source source fuel events f big) (source_judged source' fuel' events' f' small y t is) = absurd (long_or_short input source source' fuel fuel' events events' f f' big small)
+  one_file_reply input s z text other (source_judged source fuel events f small y t is) (long_file long) = absurd (not_long file_limit input long f.short)
+  one_file_reply input s z text other (source_judged source fuel events f small y t is) (no_file n short bad) = absurd (bad_or_few input source fuel events n bad f)
+  one_file_reply input s z text other (source_judged source fuel events f small y t is) (many_events short many) = absurd (many_or_few input source fuel events many f)
+  one_file_reply input s z text other (source_judged source fuel events f small y t is) (long_source source' fuel' events' f' big) = absurd (long_or_short input source' source fuel' fuel events' events f' f big small)
+  one_file_reply input s z text other (source_judged source fuel events f small y t is) (source_judged source' fuel' events' f' small' x u also) =
+      one_source source' fuel' events' y x t u (moved input source source' fuel fuel' events events' y t f f' is) also
+
+  -- ---- of a program whose modes are accepted
+  judged_only : (m : Assignment) (fuel : ℕ) (events : List EventLine) (s : Status) (text : List ℕ) → WellModed m → Judges m fuel events s text → IsVerdict m fuel events s text
+  judged_only m fuel events s text well (not_judged t is) = absurd (is.not_well_moded well)
+  judged_only m fuel events s text well (judged v also a) = record { verdict = v; audits = a; ends = refl; written = refl }
+
+  source_only : (source : List ℕ) (m : Assignment) (fuel : ℕ) (events : List EventLine) (s : Status) (text : List ℕ) → IsFront source m → WellModed m → JudgesSource source fuel events s text → IsVerdict m fuel events s text
+  source_only source m fuel events s text front well (faulty_source stage at is) = absurd (laws.sources.faultless source m front stage at is)
+  source_only source m fuel events s text front well (of_program n y t also does) = judged_only m fuel events y t well (subst (λ (k : Assignment). Judges k fuel events y t) (laws.sources.program source n m also front) does)
+
+  pub file_only : (input source : List ℕ) (m : Assignment) (fuel : ℕ) (events : List EventLine) (s : Status) (text : List ℕ) → IsFewIn input source fuel events → length source ≤ source_limit → IsFront source m → WellModed m
+      → FileReplies input s text → IsVerdict m fuel events s text
+  file_only input source m fuel events s text f small front well (long_file long) = absurd (not_long file_limit input long f.short)
+  file_only input source m fuel events s text f small front well (no_file n short bad) = absurd (bad_or_few input source fuel events n bad f)
+  file_only input source m fuel events s text f small front well (many_events short many) = absurd (many_or_few input source fuel events many f)
+  file_only input source m fuel events s text f small front well (long_source source' fuel' events' f' big) = absurd (long_or_short input source' source fuel' fuel events' events f' f big small)
+  file_only input source m fuel events s text f small front well (source_judged source' fuel' events' f' small' y t is) =
+      source_only source m fuel events y t front well (moved input source' source fuel' fuel events' events y t f' f is)
