@@ -18,7 +18,7 @@ use Rattle.sharc_top.specs.declared.status.Status.{Status}
 use Rattle.sharc_top.specs.declared.status.Status.TheVariants as status
 use Rattle.sharc_top.specs.EventFiles.{status_of, Judges, not_judged, judged, JudgesSource, faulty_source, of_program, IsFewIn, FileReplies, long_file, no_file, many_events, long_source, source_judged, IsFileReply}
 use Rattle.sharc_top.specs.Text.{line}
-use Rattle.sharc_top.specs.Verdict.{IsModeRefusal}
+use Rattle.sharc_top.specs.Refused.{IsModeRefusal}
 use Rattle.sharc_top.proofs.Replies.{long_input}
 use Rattle.std.specs.Prelude.{codes}
 

@@ -6,7 +6,7 @@ ghost use Rattle.sharc_reach.specs.Reaching.{AreReached};
 ghost use Rattle.sharc_mode_laws.specs.Rules.{MeetsRules};
 ghost use Rattle.sharc_audit.specs.Grammar.{text_lines};
 ghost use Rattle.sharc_audit.specs.Files.{IsFault};
-ghost use Rattle.sharc_top.specs.EventFiles.{is_audit, status_of, Judges, JudgesSource, IsFewIn, FileReplies, IsFileReply};
+ghost use Rattle.sharc_top.specs.EventFiles.{status_of, Judges, JudgesSource, IsFewIn, FileReplies, IsFileReply};
 
 use crate::refused::{Failure, SOURCE_LIMIT, refusal};
 use crate::reply::{Reply, line_reply};
@@ -16,7 +16,6 @@ use sharc_audit::audit::{Verdict, audit};
 use sharc_audit::file::{EventFile, FileFault, read_events};
 use sharc_audit::text::{file_fault_text, verdict_text};
 use sharc_check::{CheckFault, Checked, check};
-use sharc_cli::Command;
 use sharc_io::{ReadError, Source, read_all};
 use sharc_mode::moded::Moded;
 use sharc_reach::Reached;
@@ -25,16 +24,6 @@ use std::alloc::{AllocError, Global};
 
 /// The largest event file, in bytes (own).
 const FILE_LIMIT: usize = 16_777_216;
-
-/// Whether the command reads an event file.
-pub(crate) fn is_audit(command: Command) -> bool
-    ensures { result ≡ is_audit command }
-{
-    match command {
-        Command::Audit => true,
-        _ => false,
-    }
-}
 
 /// How a call ends that writes this verdict.
 fn status_of(verdict: Verdict) -> Status

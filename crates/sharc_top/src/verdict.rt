@@ -2,18 +2,18 @@
 
 ghost use Rattle.std.specs.Prelude.{◌≡◌, ◌++◌, IfOk};
 ghost use Rattle.sharc_reach.specs.Reaching.{AreReached};
-ghost use Rattle.sharc_mode_laws.specs.Rules.{MeetsRules};
 ghost use Rattle.sharc_check.specs.Checks.{IsRefused};
 ghost use Rattle.sharc_check.specs.Named.{TellNamed};
 ghost use Rattle.sharc_report.specs.Explanations.{explain_text};
 ghost use Rattle.sharc_top.specs.declared.status.Status.TheVariants.{ModesRefused};
-ghost use Rattle.sharc_top.specs.Verdict.{IsModeRefusal, Checks, Explains, Runs, Does};
+ghost use Rattle.sharc_top.specs.Refused.{IsModeRefusal, IsAccepted};
+ghost use Rattle.sharc_top.specs.Running.{AreNumbers, Runs};
+ghost use Rattle.sharc_top.specs.Verdict.{Checks, Explains, Does, IsTask};
 
-use crate::reply::{Reply, line_reply};
+use crate::ran::{RunNumbers, run_reply};
+use crate::reply::Reply;
 use crate::status::Status;
 use crate::task::Task;
-use crate::text::numbers_text;
-use crate::tree_sums::program_values;
 use sharc_check::named::NamedVariables;
 use sharc_check::{CheckFault, Checked, check};
 use sharc_live::nulled_uses;
@@ -21,8 +21,10 @@ use sharc_mode::error::ModeErrors;
 use sharc_mode::moded::Moded;
 use sharc_reach::Reached;
 use sharc_report::{accepted_text, check_text, explain_text};
+use sharc_rounds::Gate;
 use sharc_suggest::suggest_all;
 use std::alloc::{AllocError, Global};
+use std::thread::Threads;
 
 /// The warnings of a program whose modes are accepted, and that they are.
 fn acceptance(alloc: Global, checked: &Checked) -> Result<Reply, AllocError>
@@ -99,50 +101,60 @@ fn explained(alloc: Global, program: Moded, reached: &Reached) -> Result<Reply, 
     }
 }
 
-/// What a program prints whose modes are accepted.
-fn prints(alloc: Global, program: &Moded) -> Result<Reply, AllocError>
-    requires { MeetsRules program.now }
-    ensures { IfOk result (λ reply. Runs program.now reply.status reply.text.items) }
-{
-    match program_values(alloc, program.typed().program())? {
-        Some(values) => {
-            let text = numbers_text(alloc, &values)?;
-            Ok(Reply {
-                status: Status::Done,
-                text,
-            })
-        }
-        None => line_reply(alloc, Status::NotBuilt, b"form not built"),
-    }
-}
-
-/// What `run` writes: what `check` writes where the modes are refused.
-fn run(alloc: Global, program: Moded, reached: &Reached) -> Result<Reply, AllocError>
+/// The program, checked, or what is written where its modes are refused.
+fn accepted(
+    alloc: Global,
+    program: Moded,
+    reached: &Reached,
+) -> Result<Result<Checked, Reply>, AllocError>
     requires { AreReached program.typed reached.now }
-    ensures { IfOk result (λ reply. Runs program reply.status reply.text.items) }
+    ensures { IfOk result (IsAccepted program) }
 {
     match check(alloc, program, reached) {
-        Ok(checked) => prints(alloc, checked.moded()),
+        Ok(checked) => Ok(Ok(checked)),
         Err(CheckFault::Modes(program, errors, named)) => {
-            mode_refusal(alloc, &program, &named, &errors)
+            let refusal = mode_refusal(alloc, &program, &named, &errors)?;
+            Ok(Err(refusal))
         }
         Err(CheckFault::Memory(_)) => Err(AllocError),
     }
 }
 
+/// What `run` writes: what `check` writes where the modes are refused.
+fn run<R: Threads + Sync, G: Gate + Sync>(
+    rt: &R,
+    gate: &G,
+    alloc: Global,
+    program: Moded,
+    reached: &Reached,
+    numbers: RunNumbers,
+) -> Result<Reply, AllocError>
+    requires reached { AreReached program.typed reached.now }
+    requires numbers { AreNumbers numbers }
+    ensures { IfOk result (λ reply. Runs numbers program reply.status reply.text.items) }
+{
+    match accepted(alloc, program, reached)? {
+        Ok(checked) => run_reply(rt, gate, alloc, checked.moded(), numbers),
+        Err(refusal) => Ok(refusal),
+    }
+}
+
 /// What becomes of a program with its modes.
-pub fn done(
+pub fn done<R: Threads + Sync, G: Gate + Sync>(
+    rt: &R,
+    gate: &G,
     alloc: Global,
     task: Task,
     program: Moded,
     reached: &Reached,
 ) -> Result<Reply, AllocError>
-    requires { AreReached program.typed reached.now }
+    requires task { IsTask task }
+    requires reached { AreReached program.typed reached.now }
     ensures { IfOk result (λ reply. Does task program reply.status reply.text.items) }
 {
     match task {
         Task::Check => checked(alloc, program, reached),
         Task::Explain => explained(alloc, program, reached),
-        Task::Run => run(alloc, program, reached),
+        Task::Run(numbers) => run(rt, gate, alloc, program, reached, numbers),
     }
 }

@@ -8,9 +8,12 @@ use Rattle.sharc_top.specs.declared.status.Status.{Status}
 use Rattle.sharc_top.specs.declared.status.Status.TheVariants as status
 use Rattle.sharc_top.specs.declared.task.Task.{Task}
 use Rattle.sharc_top.specs.declared.task.Task.TheVariants as task
-use Rattle.sharc_top.specs.Reply.{Answers, faulty, program, Replies, IsReply, Replied}
+use Rattle.sharc_top.specs.declared.ran.RunNumbers.{RunNumbers}
+use Rattle.sharc_top.specs.Answers.{Answers, faulty, program}
+use Rattle.sharc_top.specs.Reply.{Replies, IsReply, Replied}
+use Rattle.sharc_top.specs.Running.{Runs, not_run, ran}
 use Rattle.sharc_top.specs.Status.{code_of}
-use Rattle.sharc_top.specs.Verdict.{Checks, accepted, refused, Explains, explained, Runs, not_run, printed, not_built, Does}
+use Rattle.sharc_top.specs.Verdict.{Checks, accepted, refused, Explains, explained, Does}
 use Rattle.sharc_top_laws.specs.Laws.{SourceLaws, IsAsked, IsAcceptance, IsExplanation}
 use Rattle.sharc_top_laws.proofs.Replying.{is_answer}
 
@@ -35,15 +38,14 @@ check_refused m s text ill (refused t is) = refl
 explain_refused : (m : Assignment) (s : Status) (text : List ℕ) → ¬ (MeetsRules m) → Explains m s text → s ≡ status.ModesRefused
 explain_refused m s text ill (explained z verdict is) = check_refused m z verdict ill is
 
-run_refused : (m : Assignment) (s : Status) (text : List ℕ) → ¬ (MeetsRules m) → Runs m s text → s ≡ status.ModesRefused
-run_refused m s text ill (not_run t is) = refl
-run_refused m s text ill (printed numbers meets are) = absurd (ill meets)
-run_refused m s text ill (not_built meets none) = absurd (ill meets)
+run_refused : (n : RunNumbers) (m : Assignment) (s : Status) (text : List ℕ) → ¬ (MeetsRules m) → Runs n m s text → s ≡ status.ModesRefused
+run_refused n m s text ill (not_run t is) = refl
+run_refused n m s text ill (ran code run meets compiled is) = absurd (ill meets)
 
 only_refused : (t : Task) (m : Assignment) (s : Status) (text : List ℕ) → ¬ (MeetsRules m) → Does t m s text → s ≡ status.ModesRefused
 only_refused task.Check m s text ill does = check_refused m s text ill does
 only_refused task.Explain m s text ill does = explain_refused m s text ill does
-only_refused task.Run m s text ill does = run_refused m s text ill does
+only_refused (task.Run n) m s text ill does = run_refused n m s text ill does
 
 module _ (laws : SourceLaws) (words : List (List ℕ)) (input : List ℕ) (m : Assignment) where
   does_reply : (t : Task) → IsAsked words t input m → (s : Status) (text : List ℕ) → IsReply words (Some input) s text → Does t m s text

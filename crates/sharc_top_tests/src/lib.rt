@@ -9,3 +9,5 @@ mod cases;
 mod edges;
 #[cfg(test)]
 mod outcome;
+#[cfg(test)]
+mod runs;
