@@ -1,5 +1,5 @@
 -- From code over guarded code to flat code.
-use Rattle.std.proofs.Common.{◌≡◌, ℕ, ℤ, ◌<◌, ◌≤◌, inl, inr, Bool, List, ◌∷◌, length, map, refl, sym, ap, ◌∙◌, subst, arith, Some, None, Option}
+use Rattle.std.proofs.Common.{◌≡◌, ℕ, ℤ, ◌<◌, ◌≤◌, inl, inr, Bool, List, ◌∷◌, ◌++◌, length, map, refl, sym, ap, ◌∙◌, subst, arith, Some, None, Option}
 use Rattle.std.specs.Prelude.{slice_index_or}
 use Rattle.std.proofs.lemmas.List.{length-map}
 use Rattle.sharc_tree.specs.declared.event.Act.{Act}
@@ -28,7 +28,7 @@ use Rattle.sharc_gen.specs.Consistent.{Elements}
 use Rattle.sharc_gen.specs.Correct.{by, begins, stop_turn, HasCome}
 use Rattle.sharc_gen.specs.Generated.{IsGenerated, program_of}
 use Rattle.sharc_gen.specs.Related.{Stands, IsOver, StopsAt, Refuses, spent_at, spent_in_new}
-use Rattle.sharc_guard.specs.Correct.{GuardedKeepsPaths, Wants}
+use Rattle.sharc_guard.specs.Correct.{GuardedKeepsPaths, Resolved, Wants}
 use Rattle.sharc_flat_form.specs.Path as Flow
 use Rattle.sharc_flat_form.specs.Framed.{IsFlat}
 use Rattle.sharc_guard.specs.Guard.{guarded, entered_at, place}
@@ -95,9 +95,9 @@ module _ (law : GuardedKeepsPaths) (flat : Flat.Flat) (dropped : ℕ → Bool) (
   abbrev p : Program
   p = guarded dropped flat
 
-  pub joined : (T : Elements) (thread : ℕ) (m : Machine) (said : List SourceEvent) (paced : ℕ) → HasCome code s (program_of g) T thread m said paced → FollowsFlat code g flat thread m said paced
-  joined T thread m said paced h0 =
-      let h : HasCome code s p T thread m said paced = subst (λ p. HasCome code s p T thread m said paced) same h0 in
+  pub joined : (T : Elements) (thread : ℕ) (m : Machine) (said : List SourceEvent) (lowered : List ℕ) (paced : ℕ) → HasCome code s (program_of g) T thread m said lowered paced → FollowsFlat code g flat thread m said lowered paced
+  joined T thread m said lowered paced h0 =
+      let h : HasCome code s p T thread m said lowered paced = subst (λ p. HasCome code s p T thread m said lowered paced) same h0 in
       let l = length-map flat.functions (entered_at (place dropped flat.lines)) in
       let known = h.known in
       let lf : h.function < length flat.functions = omega arith in
@@ -116,6 +116,7 @@ module _ (law : GuardedKeepsPaths) (flat : Flat.Flat) (dropped : ℕ → Bool) (
         path = b.path;
         events = h.events ∙ ap (λ q. by thread (begins q h.function h.argument) ∷ map (by thread) a.events) (sym same) ∙ ap (λ es. by thread (begins (program_of g) h.function h.argument) ∷ map (by thread) es) b.events;
         over = by_place fm a b.wants h.stands;
+        given = (b.given.0, subst (λ xs. Resolved fm.given (xs ++ b.given.0)) (sym h.lowers) b.given.1);
         pace = omega arith;
       }
     where

@@ -9,12 +9,13 @@ use Rattle.sharc_tree.specs.declared.event.SourceEvent.{SourceEvent}
 use Rattle.sharc_tree.specs.declared.event.Taken.TheVariants as taken
 use Rattle.sharc_tree.specs.declared.token.Site.{Site}
 use Rattle.sharc_mode.specs.Moded.{Assignment}
-use Rattle.sharc_meaning.specs.declared.given.GivenUp.TheVariants.{Replaced}
+use Rattle.sharc_meaning.specs.declared.given.GivenUp.{GivenUp}
+use Rattle.sharc_meaning.specs.declared.given.GivenUp.TheVariants.{Emptied, Released, Replaced}
 use Rattle.sharc_meaning.specs.Meaning as Meaning
 use Rattle.sharc_meaning.specs.Arithmetic.{is_zero, null_base, out_of_bounds, out_of_range, mutex_not_held, mutex_already_held, calls_too_deep, returns_with_a_lock, size_not_positive, too_many_locks}
 use Rattle.sharc_meaning.specs.Events.{held_mutexes, holds_mutex}
-use Rattle.sharc_meaning.specs.Reference.{is_null, elements_of}
-use Rattle.sharc_meaning.specs.State.{Outcome, ended, stopped, spent}
+use Rattle.sharc_meaning.specs.Reference.{is_null, elements_of, number_of}
+use Rattle.sharc_meaning.specs.State.{Outcome, answer_of, ended, event_of, stopped, spent}
 use Rattle.sharc_meaning.specs.Statements.{is_positive}
 use Rattle.sharc_code.specs.Arithmetic.{computed, negated, holds}
 use Rattle.sharc_code.specs.declared.code.Code.{Code}
@@ -29,53 +30,81 @@ use Rattle.sharc_code.specs.Says.{place_at}
 use Rattle.sharc_flat_form.specs.declared.op.Op.{Op}
 use Rattle.sharc_flat_form.specs.declared.op.Op.TheVariants as op
 use Rattle.sharc_flat_form.specs.declared.op.Spot.{Spot}
-use Rattle.sharc_flat_form.specs.Machine.{Flat, At, Caller, Came, Turn, goes, asks, halts, int, ref, goes_on, next, over_lines, stops, asserts, with_result, set_int, set_ref, gives_up, kind_of, cell_at, mode_of, accessed, accesses, lock_is_null, indexed, takes_local, returned, called, op_turn, end_turn, line_turn, turn, on_turn, exec, start}
-use Rattle.sharc_flat_form.specs.Path.{at_after, asked, asked_by, IsPath, PathsAreRuns}
+use Rattle.sharc_flat_form.specs.Machine.{Flat, At, Caller, Came, Turn, goes, asks, halts, int, ref, goes_on, next, over_lines, stops, asserts, with_result, set_int, set_ref, gives_up, kind_of, cell_at, mode_of, accessed, accesses, lock_is_null, indexed, takes_local, returned, called, op_turn, end_turn, line_turn, turn, on_turn, exec, start, begun, first_at, function_of, handed, with_event, without_base}
+use Rattle.sharc_flat_form.specs.Path.{after, at_after, may_go, asked, asked_by, IsPath, PathsAreRuns}
+use Rattle.sharc_meaning.specs.Runs.{answers_of}
+use Rattle.sharc_code.specs.declared.code.Parameter.{Parameter}
+use Rattle.sharc_code.specs.declared.code.Parameter.TheVariants as parameters
+use Rattle.sharc_code.specs.declared.instr.Cell.TheVariants as cells
+use Rattle.sharc_code.specs.declared.instr.Register.{Register}
+use Rattle.sharc_code.specs.declared.instr.Register.TheVariants as registers
+use Rattle.std.proofs.lemmas.List.{map-append}
 use Rattle.sharc_flat.specs.Correct.{AsksTheSame, MayStart}
 use Rattle.sharc_guarded_form.specs.declared.guarded.Guarded.{Guarded}
 use Rattle.sharc_gen.specs.Correct.{by, begins}
+use Rattle.sharc_guard.specs.Correct.{Resolved}
 use Rattle.sharc_gen.specs.Generated.{program_of}
 use Rattle.sharc_compile.specs.Coded.{WantsAt, StopsFor, IsOverFor, FollowsFlat}
 use Rattle.sharc_compile.specs.Source.{WantsEventAt, IsStopOf, IsOverAs, IsToldBy, FollowsSource}
 
--- ---- events
--- a turn adds no event before it is answered
+-- ---- events, and what is given up
+-- no event is told, and nothing is taken back of what was given up
+abbrev IsStill : At → At → Type 0
+IsStill m m2 = (m2.events ≡ m.events) × (extra : List GivenUp) × (m2.given ≡ m.given ++ extra)
+
+-- nor by a turn before it is answered; and what comes with the answer tells no other event
 abbrev IsQuiet : At → Turn → Type 0
-IsQuiet m (goes m2) = m2.events ≡ m.events
-IsQuiet m (asks m2 site act held go) = m2.events ≡ m.events
+IsQuiet m (goes m2) = IsStill m m2
+IsQuiet m (asks m2 site act held go) = IsStill m m2 × ((v : ℤ) (n : At) → (go v n).events ≡ n.events)
 IsQuiet m (halts o) = Unit {0}
+
+-- as much is given up
+same_given : (m : At) → m.given ≡ m.given ++ []
+same_given m = sym (append-nil m.given)
 
 cond_quiet : (b : Bool) (x y : Turn) (m : At) → IsQuiet m x → IsQuiet m y → IsQuiet m (cond b x y)
 cond_quiet true x y m p q = p
 cond_quiet false x y m p q = q
 
 asserts_quiet : (b : Bool) (code : ℕ) (spot : Spot) (m : At) → IsQuiet m (asserts b code spot m)
-asserts_quiet b code spot m = cond_quiet b (goes_on m) (stops code spot) m refl tt
+asserts_quiet b code spot m = cond_quiet b (goes_on m) (stops code spot) m (refl, [], same_given m) tt
 
 result_quiet : (i : ℕ) (spot : Spot) (m : At) (r : Result ℤ ℕ) → IsQuiet m (with_result i spot m r)
-result_quiet i spot m (Ok v) = refl
+result_quiet i spot m (Ok v) = (refl, [], same_given m)
 result_quiet i spot m (Err code) = tt
 
 indexed_quiet : (i cells field : ℕ) (v : ℤ) (elements : ℕ) (spot : Spot) (m : At) → IsQuiet m (indexed i cells field v elements spot m)
-indexed_quiet i cells field (pos n) elements spot m = cond_quiet (nat_lt n elements) (goes_on (set_int i (pos (n * cells + field)) m)) (stops out_of_bounds spot) m refl tt
+indexed_quiet i cells field (pos n) elements spot m = cond_quiet (nat_lt n elements) (goes_on (set_int i (pos (n * cells + field)) m)) (stops out_of_bounds spot) m (refl, [], same_given m) tt
 indexed_quiet i cells field (negsuc n) elements spot m = tt
 
-skip_quiet : (b : Bool) (n : ℕ) (m : At) → (cond b (over_lines n m) (next m)).events ≡ m.events
-skip_quiet true n m = refl
-skip_quiet false n m = refl
+skip_quiet : (b : Bool) (n : ℕ) (m : At) → IsStill m (cond b (over_lines n m) (next m))
+skip_quiet true n m = (refl, [], same_given m)
+skip_quiet false n m = (refl, [], same_given m)
 
-accesses_quiet : (globals : List GlobalCells) (cell : Cell) (spot : Spot) (act : CellAt → CellMode → Act) (then_ : CellAt → ℤ → At → At) (m : At) → IsQuiet m (accesses globals cell spot act then_ m)
-accesses_quiet globals cell spot act then_ m =
+accesses_quiet : (globals : List GlobalCells) (cell : Cell) (spot : Spot) (act : CellAt → CellMode → Act) (then_ : CellAt → ℤ → At → At) (m : At) → ((c : CellAt) (v : ℤ) (n : At) → (then_ c v n).events ≡ n.events)
+    → IsQuiet m (accesses globals cell spot act then_ m)
+accesses_quiet globals cell spot act then_ m k =
     cond_quiet (lock_is_null m spot spot.mode) (stops null_base spot)
-    (asks m spot.site (act (cell_at globals m cell) (mode_of globals m (cell_at globals m cell) spot.mode)) (pos 0) (λ v n. accessed (next (then_ (cell_at globals m cell) v n)))) m tt refl
+    (asks m spot.site (act (cell_at globals m cell) (mode_of globals m (cell_at globals m cell) spot.mode)) (pos 0) (λ v n. accessed (next (then_ (cell_at globals m cell) v n)))) m tt
+    ((refl, [], same_given m), k (cell_at globals m cell))
 
 returned_quiet : (flat : Flat) (frames : List Caller) (spot : Spot) (m : At) → IsQuiet m (returned flat frames spot m)
-returned_quiet flat [] spot m = cond_quiet (not (nat_lt 0 (length (held_mutexes m.events)))) (goes (record m { pc = length flat.lines })) (stops returns_with_a_lock spot) m refl tt
-returned_quiet flat (c ∷ rest) spot m = refl
+returned_quiet flat [] spot m = cond_quiet (not (nat_lt 0 (length (held_mutexes m.events)))) (goes (record m { pc = length flat.lines })) (stops returns_with_a_lock spot) m (refl, [], same_given m) tt
+returned_quiet flat (c ∷ rest) spot m = (refl, [], same_given m)
 
 takes_quiet : (r x : ℕ) (spot : Spot) (m : At) (b : Bool) → IsQuiet m (takes_local r x spot m b)
-takes_quiet r x spot m true = refl
-takes_quiet r x spot m false = refl
+takes_quiet r x spot m true = (refl, [], same_given m)
+takes_quiet r x spot m false = ((refl, [], same_given m), λ v n. refl)
+
+base_events : (cell : Cell) (n : At) → (without_base cell n).events ≡ n.events
+base_events (cells.Global g place) n = refl
+base_events (cells.GlobalAt g i) n = refl
+base_events (cells.Object r k) n = refl
+base_events (cells.ObjectAt r i) n = refl
+
+handed_events : (from : Register) (n : At) → (handed from n).events ≡ n.events
+handed_events (registers.Int i) n = refl
+handed_events (registers.Reference r) n = refl
 
 op_quiet : (flat : Flat) (o : Op) (m : At) → IsQuiet m (op_turn flat o m)
 op_quiet flat (op.Compute width o i a b spot) m = result_quiet i spot m (computed width o (int m a) (int m b))
@@ -83,7 +112,7 @@ op_quiet flat (op.Negate width i a spot) m = result_quiet i spot m (negated widt
 op_quiet flat (op.ChkWidth width i spot) m = asserts_quiet (holds width (int m i)) out_of_range spot m
 op_quiet flat (op.SkipIfZero i n) m = skip_quiet (is_zero (int m i)) n m
 op_quiet flat (op.SkipIfNull r n) m = skip_quiet (is_null (ref m r)) n m
-op_quiet flat (op.Call f ints refs spot) m = cond_quiet (nat_lt (length m.frames) 255) (goes (called flat f ints refs m)) (stops calls_too_deep spot) m refl tt
+op_quiet flat (op.Call f ints refs spot) m = cond_quiet (nat_lt (length m.frames) 255) (goes (called flat f ints refs m)) (stops calls_too_deep spot) m (refl, [], same_given m) tt
 op_quiet flat (op.Return spot) m = returned_quiet flat m.frames spot m
 op_quiet flat (op.ChkNull r spot) m = asserts_quiet (not (is_null (ref m r))) null_base spot m
 op_quiet flat (op.ChkPositive i spot) m = asserts_quiet (is_positive (int m i)) size_not_positive spot m
@@ -92,32 +121,124 @@ op_quiet flat (op.ChkNotHeld cell spot) m = asserts_quiet (not (holds_mutex m.ev
 op_quiet flat (op.ChkRoom spot) m = asserts_quiet (nat_lt (length (held_mutexes m.events)) 16) too_many_locks spot m
 op_quiet flat (op.Bounds i r cells field spot) m = indexed_quiet i cells field (int m i) (elements_of (ref m r)) spot m
 op_quiet flat (op.GlobalBounds i elements cells field spot) m = indexed_quiet i cells field (int m i) elements spot m
-op_quiet flat (op.Load i cell spot) m = accesses_quiet flat.globals cell spot acts.Read (λ c v. set_int i v) m
-op_quiet flat (op.Store i cell spot) m = accesses_quiet flat.globals cell spot (λ c mode. acts.Write c mode (int m i)) (λ c v n. n) m
-op_quiet flat (op.LoadRef r cell spot) m = accesses_quiet flat.globals cell spot acts.Read (λ c v. set_ref r v) m
-op_quiet flat (op.StoreRef r cell spot) m = accesses_quiet flat.globals cell spot (λ c mode. acts.Write c mode (ref m r)) (λ c v n. gives_up (Replaced c) (set_ref r (pos 0) n)) m
-op_quiet flat (op.TakeCell r cell spot) m = accesses_quiet flat.globals cell spot (λ c mode. acts.Take (taken.Cell c mode) (kind_of spot.at)) (λ c v. set_ref r v) m
+op_quiet flat (op.Load i cell spot) m = accesses_quiet flat.globals cell spot acts.Read (λ c v. set_int i v) m (λ c v n. refl)
+op_quiet flat (op.Store i cell spot) m = accesses_quiet flat.globals cell spot (λ c mode. acts.Write c mode (int m i)) (λ c v n. n) m (λ c v n. refl)
+op_quiet flat (op.LoadRef r cell spot) m = accesses_quiet flat.globals cell spot acts.Read (λ c v. set_ref r v) m (λ c v n. refl)
+op_quiet flat (op.StoreRef r cell spot) m = accesses_quiet flat.globals cell spot (λ c mode. acts.Write c mode (ref m r)) (λ c v n. gives_up (Replaced c) (set_ref r (pos 0) n)) m (λ c v n. refl)
+op_quiet flat (op.TakeCell r cell spot) m = accesses_quiet flat.globals cell spot (λ c mode. acts.Take (taken.Cell c mode) (kind_of spot.at)) (λ c v. set_ref r v) m (λ c v n. refl)
 op_quiet flat (op.TakeLocal r x spot) m = takes_quiet r x spot m (is_null (ref m x))
-op_quiet flat _ m = refl
+op_quiet flat (op.Pop r) m = (refl, Released (number_of (ref m r)) ∷ [], refl)
+op_quiet flat (op.Settle x from) m = (refl, Released (number_of (ref m x)) ∷ [], refl)
+op_quiet flat (op.Free r layout spot) m = ((refl, Emptied (number_of (ref m r)) ∷ [], refl), λ v n. refl)
+op_quiet flat (op.LoadGuard cell spot) m = ((refl, [], same_given m), λ v n. refl)
+op_quiet flat (op.New r count cells spot) m = ((refl, [], same_given m), λ v n. refl)
+op_quiet flat (op.Give r cells spot) m = ((refl, [], same_given m), λ v n. refl)
+op_quiet flat (op.Lock cell spot) m = ((refl, [], same_given m), λ v n. base_events cell n)
+op_quiet flat (op.Unlock r cell spot) m = ((refl, [], same_given m), λ v n. refl)
+op_quiet flat (op.CondEnter cell spot) m = ((refl, [], same_given m), λ v n. refl)
+op_quiet flat (op.CondWait cell spot) m = ((refl, [], same_given m), λ v n. refl)
+op_quiet flat (op.CondSignal cell spot) m = ((refl, [], same_given m), λ v n. refl)
+op_quiet flat (op.CondBroadcast cell spot) m = ((refl, [], same_given m), λ v n. refl)
+op_quiet flat (op.Spawn i f from spot) m = ((refl, [], same_given m), λ v n. handed_events from n)
+op_quiet flat (op.Join i spot) m = ((refl, [], same_given m), λ v n. refl)
+op_quiet flat (op.Print i spot) m = ((refl, [], same_given m), λ v n. refl)
+op_quiet flat _ m = (refl, [], same_given m)
 
 line_quiet : (flat : Flat) (o : Option Op) (m : At) → IsQuiet m (line_turn flat o m)
 line_quiet flat (Some o) m = op_quiet flat o m
 line_quiet flat None m = by_place (m.pc - length flat.lines)
   where
     by_place : (n : ℕ) → IsQuiet m (end_turn flat m n)
-    by_place zero = refl
-    by_place (suc zero) = refl
+    by_place zero = ((refl, [], same_given m), λ v n. refl)
+    by_place (suc zero) = ((refl, [], same_given m), λ v n. refl)
     by_place (suc (suc n)) = tt
 
--- so what is not answered leaves the events as they are
-same_events : (flat : Flat) (k : ℕ) (m : At) → (exec flat k [] m).at.events ≡ m.events
-same_events flat zero m = refl
-same_events flat (suc k) m = by_turn (turn flat m) (line_quiet flat (slice_get flat.lines m.pc) m) (same_events flat k)
+-- so what is not answered leaves the events as they are, and gives up more at most
+still : (flat : Flat) (k : ℕ) (m : At) → IsStill m (exec flat k [] m).at
+still flat zero m = (refl, [], same_given m)
+still flat (suc k) m = by_turn (turn flat m) (line_quiet flat (slice_get flat.lines m.pc) m) (still flat k)
   where
-    by_turn : (t : Turn) → IsQuiet m t → ((m2 : At) → (exec flat k [] m2).at.events ≡ m2.events) → (on_turn t [] m (exec flat k)).at.events ≡ m.events
-    by_turn (goes m2) q rec = rec m2 ∙ q
-    by_turn (asks m2 site act held go) q rec = q
-    by_turn (halts o) q rec = refl
+    by_turn : (t : Turn) → IsQuiet m t → ((m2 : At) → IsStill m2 (exec flat k [] m2).at) → IsStill m (on_turn t [] m (exec flat k)).at
+    by_turn (goes m2) q rec = let r = rec m2 in (r.0 ∙ q.0, q.1 ++ r.1, r.2 ∙ ap (λ xs. xs ++ r.1) q.2 ∙ append_assoc m.given q.1 r.1)
+    by_turn (asks m2 site act held go) q rec = q.0
+    by_turn (halts o) q rec = (refl, [], same_given m)
+
+-- what is given up besides may be lowered later
+all_resolved : (extra : List GivenUp) → (more : List ℕ) × Resolved extra more
+all_resolved [] = ([], tt)
+all_resolved (Released n ∷ gs) = let r = all_resolved gs in (n ∷ r.0, (refl, r.1))
+all_resolved (Replaced c ∷ gs) = let r = all_resolved gs in (0 ∷ r.0, r.1)
+all_resolved (Emptied n ∷ gs) = all_resolved gs
+
+more_resolved : (gs extra : List GivenUp) (ks : List ℕ) → Resolved gs ks → (more : List ℕ) × Resolved (gs ++ extra) (ks ++ more)
+more_resolved [] extra [] h = all_resolved extra
+more_resolved [] extra (k ∷ ks) h = absurd h
+more_resolved (Released n ∷ gs) extra [] h = absurd h
+more_resolved (Released n ∷ gs) extra (k ∷ ks) h = let r = more_resolved gs extra ks h.1 in (r.0, (h.0, r.1))
+more_resolved (Replaced c ∷ gs) extra [] h = absurd h
+more_resolved (Replaced c ∷ gs) extra (k ∷ ks) h = let r = more_resolved gs extra ks h in (r.0, r.1)
+more_resolved (Emptied n ∷ gs) extra ks h = more_resolved gs extra ks h
+
+-- ---- a path by what its events answer
+-- what a turn answers, by what it was told
+abbrev given_by : Turn → ℤ → ℤ
+given_by (goes m2) x = x
+given_by (asks m2 site act held go) x = answer_of (λ token. held) act x
+given_by (halts o) x = x
+
+abbrev given_in : Flat → At → List ℤ → List ℤ
+given_in flat m [] = []
+given_in flat m (x ∷ earlier) = given_by (turn flat (at_after flat m earlier)) x ∷ given_in flat m earlier
+
+again : (held : ℤ) (act : Act) (x : ℤ) → answer_of (λ token. held) act (answer_of (λ token. held) act x) ≡ answer_of (λ token. held) act x
+again held (acts.Take (taken.Cell c mode) kind) x = refl
+again held (acts.Take (taken.Local token) kind) x = refl
+again held _ x = refl
+
+same_after : (m : At) (t : Turn) (x : ℤ) → after m t (given_by t x) ≡ after m t x
+same_after m (goes m2) x = refl
+same_after m (asks m2 site act held go) x = ap (λ a. go a (with_event (event_of site act a) m2)) (again held act x)
+same_after m (halts o) x = refl
+
+given_same : (flat : Flat) (m : At) (answers : List ℤ) → at_after flat m (given_in flat m answers) ≡ at_after flat m answers
+given_same flat m [] = refl
+given_same flat m (x ∷ earlier) =
+    let t = turn flat (at_after flat m earlier) in
+    ap (λ n. after n (turn flat n) (given_by t x)) (given_same flat m earlier) ∙ same_after (at_after flat m earlier) t x
+
+given_path : (flat : Flat) (m : At) (answers : List ℤ) → IsPath flat m answers → IsPath flat m (given_in flat m answers)
+given_path flat m [] path = tt
+given_path flat m (x ∷ earlier) path = (given_path flat m earlier path.0, subst (λ n. may_go (turn flat n) ≡ true) (sym (given_same flat m earlier)) path.1)
+
+given_count : (flat : Flat) (m : At) (answers : List ℤ) → length (given_in flat m answers) ≡ length answers
+given_count flat m [] = refl
+given_count flat m (x ∷ earlier) = ap suc (given_count flat m earlier)
+
+-- each turn that asks tells one event, with this answer
+told_one : (t : Turn) (now : At) (x : ℤ) → IsQuiet now t → answers_of (after now t x).events ≡ answers_of now.events ++ asked_by t (given_by t x)
+told_one (goes m2) now x q = ap answers_of q.0 ∙ sym (append-nil (answers_of now.events))
+told_one (asks m2 site act held go) now x q =
+    let answer = answer_of (λ token. held) act x in
+    let e = event_of site act answer in
+    ap answers_of (q.1 answer (with_event e m2)) ∙ map-append (λ (e : SourceEvent). e.answer) m2.events (e ∷ []) ∙ ap (λ es. answers_of es ++ answer ∷ []) q.0.0
+told_one (halts o) now x q = sym (append-nil (answers_of now.events))
+
+told_all : (flat : Flat) (m : At) (answers : List ℤ) → answers_of (at_after flat m answers).events ≡ answers_of m.events ++ asked flat m (given_in flat m answers)
+told_all flat m [] = sym (append-nil (answers_of m.events))
+told_all flat m (x ∷ earlier) =
+    let now = at_after flat m earlier in
+    let t = turn flat now in
+    told_one t now x (line_quiet flat (slice_get flat.lines now.pc) now) ∙ ap (λ xs. xs ++ asked_by t (given_by t x)) (told_all flat m earlier)
+    ∙ append_assoc (answers_of m.events) (asked flat m (given_in flat m earlier)) (asked_by t (given_by t x))
+    ∙ ap (λ n. answers_of m.events ++ (asked flat m (given_in flat m earlier) ++ asked_by (turn flat n) (given_by t x))) (sym (given_same flat m earlier))
+
+no_events : (flat : Flat) (f : ℕ) (v : ℤ) → (start flat f v).events ≡ []
+no_events flat f v = by (function_of flat f).parameter
+  where
+    by : (q : Parameter) → (begun q v (first_at flat f)).events ≡ []
+    by parameters.None = refl
+    by parameters.Int = refl
+    by parameters.Reference = refl
 
 -- ---- a path and its beginnings
 record Begins (flat : Flat) (m : At) (answers : List ℤ) (n : ℕ) : Type 0 where
@@ -193,18 +314,30 @@ module _ (code : Code) (flat : Flat) (m : At) (k : ℕ) where
   over_is Ended stop h = halted ended h
 
 -- ---- all together
-told : (runs : PathsAreRuns) (m : Assignment) (flat : Flat) (same : AsksTheSame m flat) (code : Code) (g : Guarded) (thread : ℕ) (at : Machine) (said : List SourceEvent) (paced : ℕ)
-    → (h : FollowsFlat code g flat thread at said paced) → MayStart m h.function → IsToldBy m code (program_of g) thread h.function h.argument (asked flat (start flat h.function h.argument) h.answers) at said paced
-told runs m flat same code g thread at said paced h may =
+-- the answers are those of the path's own events
+abbrev AreOwn : Flat → At → List ℤ → Type 0
+AreOwn flat m answers = asked flat m answers ≡ answers_of (at_after flat m answers).events
+
+told : (runs : PathsAreRuns) (m : Assignment) (flat : Flat) (same : AsksTheSame m flat) (code : Code) (g : Guarded) (thread : ℕ) (at : Machine) (said : List SourceEvent) (lowered : List ℕ) (paced : ℕ)
+    → (h : FollowsFlat code g flat thread at said lowered paced) → AreOwn flat (start flat h.function h.argument) h.answers → MayStart m h.function → IsToldBy m code (program_of g) thread h.function h.argument (asked flat (start flat h.function h.argument) h.answers) at said lowered paced
+told runs m flat same code g thread at said lowered paced h own may =
     let st = start flat h.function h.argument in
     let answers = asked flat st h.answers in
     let m2 = at_after flat st h.answers in
     let b = same.back h.function may h.argument answers (length h.answers + 1) in
     let f = beyond runs flat st h.answers h.path b.later b.reached in
     let outcome : (exec flat (suc f.more) [] m2).outcome ≡ (Meaning.asks m h.function h.argument answers b.fuel).outcome = ap (λ (c : Came). c.outcome) (sym f.is) ∙ b.same.outcome in
-    let events : m2.events ≡ (Meaning.asks m h.function h.argument answers b.fuel).events = sym (same_events flat (suc f.more) m2) ∙ ap (λ (c : Came). c.at.events) (sym f.is) ∙ b.same.events in
+    let events : m2.events ≡ (Meaning.asks m h.function h.argument answers b.fuel).events = sym (still flat (suc f.more) m2).0 ∙ ap (λ (c : Came). c.at.events) (sym f.is) ∙ b.same.events in
+    let s = still flat (suc f.more) m2 in
+    let rest = more_resolved m2.given s.1 (lowered ++ h.given.0) h.given.1 in
+    let given : m2.given ++ s.1 ≡ (Meaning.asks m h.function h.argument answers b.fuel).given_up = sym s.2 ∙ ap (λ (c : Came). c.at.given) (sym f.is) ∙ b.same.given_up in
     record {
       fuel = b.fuel;
+      own = own ∙ ap answers_of events;
+      given = (
+        h.given.0 ++ rest.0,
+        subst (λ (gs : List GivenUp). Resolved gs (lowered ++ (h.given.0 ++ rest.0))) given (subst (Resolved (m2.given ++ s.1)) (append_assoc lowered h.given.0 rest.0) rest.1),
+      );
       events = h.events ∙ ap (λ (es : List SourceEvent). by thread (begins (program_of g) h.function h.argument) ∷ map (by thread) es) events;
       over = subst (λ (o : Outcome). IsOverAs code o at.at.state at.own.stop) outcome (over_is code flat m2 f.more at.at.state at.own.stop h.over);
       pace = λ few lt.
@@ -216,12 +349,40 @@ told runs m flat same code g thread at said paced h may =
           sym q.same.outcome ∙ within runs flat st h.answers h.path q.turns le;
     }
 
-pub follows : (runs : PathsAreRuns) (m : Assignment) (flat : Flat) (same : AsksTheSame m flat) (code : Code) (g : Guarded) (thread : ℕ) (at : Machine) (said : List SourceEvent) (paced : ℕ)
-    → FollowsFlat code g flat thread at said paced → FollowsSource m code (program_of g) (length flat.functions) thread at said paced
-follows runs m flat same code g thread at said paced h = record {
-  function = h.function;
-  known = h.known;
-  argument = h.argument;
-  answers = asked flat (start flat h.function h.argument) h.answers;
-  told = told runs m flat same code g thread at said paced h;
-}
+-- the same path by those answers
+abbrev by_own : (flat : Flat) (code : Code) (g : Guarded) (thread : ℕ) (at : Machine) (said : List SourceEvent) (lowered : List ℕ) (paced : ℕ) → FollowsFlat code g flat thread at said lowered paced → FollowsFlat code g flat thread at said lowered paced
+by_own flat code g thread at said lowered paced h =
+    let st = start flat h.function h.argument in
+    let same = sym (given_same flat st h.answers) in
+    let count = given_count flat st h.answers in
+    let pace = h.pace in
+    record {
+      function = h.function;
+      known = h.known;
+      argument = h.argument;
+      answers = given_in flat st h.answers;
+      path = given_path flat st h.answers h.path;
+      events = h.events ∙ ap (λ (m : At). by thread (begins (program_of g) h.function h.argument) ∷ map (by thread) m.events) same;
+      over = subst (λ m. IsOverFor code flat m at.at.state at.own.stop) same h.over;
+      given = (h.given.0, subst (λ (m : At). Resolved m.given (lowered ++ h.given.0)) same h.given.1);
+      pace = omega arith;
+    }
+
+are_own : (flat : Flat) (f : ℕ) (v : ℤ) (answers : List ℤ) → AreOwn flat (start flat f v) (given_in flat (start flat f v) answers)
+are_own flat f v answers =
+    let st = start flat f v in
+    sym (told_all flat st answers ∙ ap (λ es. answers_of es ++ asked flat st (given_in flat st answers)) (no_events flat f v)) ∙ ap (λ (m : At). answers_of m.events) (sym (given_same flat st answers))
+
+pub follows : (runs : PathsAreRuns) (m : Assignment) (flat : Flat) (same : AsksTheSame m flat) (code : Code) (g : Guarded) (thread : ℕ) (at : Machine) (said : List SourceEvent) (lowered : List ℕ) (paced : ℕ)
+    → FollowsFlat code g flat thread at said lowered paced → FollowsSource m code (program_of g) (length flat.functions) thread at said lowered paced
+follows runs m flat same code g thread at said lowered paced h =
+    let st = start flat h.function h.argument in
+    record {
+      function = h.function;
+      known = h.known;
+      argument = h.argument;
+      after = (at_after flat st h.answers).events;
+      starts = h.events;
+      answers = asked flat st (given_in flat st h.answers);
+      told = told runs m flat same code g thread at said lowered paced (by_own flat code g thread at said lowered paced h) (are_own flat h.function h.argument h.answers);
+    }

@@ -1,5 +1,5 @@
 -- The paths of the code of flat code are those of flat code.
-use Rattle.std.specs.Prelude.{ℕ, ℤ, ◌+◌, ◌*◌, ◌≡◌, ◌≤◌, ◌<◌, ◌⊎◌, Bool, List, ◌∷◌, length, map, Option, IsSomeAnd}
+use Rattle.std.specs.Prelude.{ℕ, ℤ, ◌+◌, ◌*◌, ◌≡◌, ◌≤◌, ◌<◌, ◌⊎◌, Bool, List, ◌∷◌, ◌++◌, length, map, Option, IsSomeAnd}
 use Rattle.sharc_tree.specs.declared.event.Act.{Act}
 use Rattle.sharc_tree.specs.declared.event.SourceEvent.{SourceEvent}
 use Rattle.sharc_tree.specs.declared.token.Site.{Site}
@@ -19,9 +19,11 @@ use Rattle.sharc_guarded_form.specs.declared.guarded.Guarded.{Guarded}
 use Rattle.sharc_gen.specs.Consistent.{Elements, said_in, IsConsistent}
 use Rattle.sharc_gen.specs.Correct.{by, begins, IsBeginning}
 use Rattle.sharc_gen.specs.Generated.{IsGenerated, program_of}
+use Rattle.sharc_gen.specs.Lowered.{lowered_in}
 use Rattle.sharc_flat_form.specs.Path as Flow
 use Rattle.sharc_flat_form.specs.Framed.{IsFlat}
 use Rattle.sharc_flat_form.specs.Framed.{IsFramed}
+use Rattle.sharc_guard.specs.Correct.{Resolved}
 use Rattle.sharc_guard.specs.Guard.{guarded}
 
 -- flat code wants an event at this site
@@ -50,7 +52,7 @@ IsOverFor code flat m Stopped stop = IsSomeAnd stop (StopsFor code flat m)
 IsOverFor code flat m Ended stop = Flat.turn flat m ≡ Flat.halts ended
 
 -- with some answers flat code comes to where the code is
-pub record FollowsFlat (code : Code) (g : Guarded) (flat : Flat.Flat) (thread : ℕ) (m : Machine) (said : List SourceEvent) (paced : ℕ) : Type 0 where
+pub record FollowsFlat (code : Code) (g : Guarded) (flat : Flat.Flat) (thread : ℕ) (m : Machine) (said : List SourceEvent) (lowered : List ℕ) (paced : ℕ) : Type 0 where
   pub function : ℕ
   pub known : function < length flat.functions
   pub argument : ℤ
@@ -58,6 +60,8 @@ pub record FollowsFlat (code : Code) (g : Guarded) (flat : Flat.Flat) (thread : 
   pub path : Flow.IsPath flat (Flat.start flat function argument) answers
   pub events : said ≡ by thread (begins (program_of g) function argument) ∷ map (by thread) (Flow.at_after flat (Flat.start flat function argument) answers).events
   pub over : IsOverFor code flat (Flow.at_after flat (Flat.start flat function argument) answers) m.at.state m.own.stop
+  -- what it lowered since its last event is a first part of what flat code gave up since
+  pub given : (more : List ℕ) × Resolved (Flow.at_after flat (Flat.start flat function argument) answers).given (lowered ++ more)
   -- five counted turns for each line of flat code, and eight
   pub pace : paced ≤ 5 * length answers + 8
 
@@ -66,5 +70,6 @@ CodeFollowsFlat = (flat : Flat.Flat) (dropped : ℕ → Bool) (g : Guarded) (cod
     → (s : Shape) (thread : ℕ) (elements : ℕ → Elements) (founds : List ℕ) → CodePath code s thread founds → IsConsistent code s (begun code s thread) elements founds
     → let m = machine_after code s (begun code s thread) founds in
     let said = said_in code s (begun code s thread) elements founds in
+    let lowered = lowered_in code s (begun code s thread) elements founds in
     let paced = paced_in code s (begun code s thread) founds in
-    IsBeginning m said paced ⊎ FollowsFlat code g flat thread m said paced
+    IsBeginning m said paced ⊎ FollowsFlat code g flat thread m said lowered paced

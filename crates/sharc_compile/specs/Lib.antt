@@ -1,4 +1,6 @@
 pub mod Checked
 pub mod Coded
 pub mod Made
+pub mod Program
+pub mod Runs
 pub mod Source

@@ -9,6 +9,7 @@ use Rattle.sharc_guarded_form.specs.declared.guarded.Guarded.{Guarded}
 use Rattle.sharc_gen.specs.Consistent.{Elements, said_in, IsConsistent}
 use Rattle.sharc_gen.specs.Correct.{IsBeginning}
 use Rattle.sharc_gen.specs.Generated.{IsGenerated}
+use Rattle.sharc_gen.specs.Lowered.{lowered_in}
 use Rattle.sharc_flat_form.specs.Framed.{IsFlat, IsFramed}
 use Rattle.sharc_flat_form.specs.Made.{flat_of}
 use Rattle.sharc_guard.specs.Known.{dropped}
@@ -26,5 +27,6 @@ MadeCodeFollows = (flat : FlatCode) (code : Code) → IsFlat (flat_of flat) → 
     → (s : Shape) (thread : ℕ) (elements : ℕ → Elements) (founds : List ℕ) → CodePath code s thread founds → IsConsistent code s (begun code s thread) elements founds
     → let m = machine_after code s (begun code s thread) founds in
     let said = said_in code s (begun code s thread) elements founds in
+    let lowered = lowered_in code s (begun code s thread) elements founds in
     let paced = paced_in code s (begun code s thread) founds in
-    IsBeginning m said paced ⊎ FollowsFlat code is.g (flat_of flat) thread m said paced
+    IsBeginning m said paced ⊎ FollowsFlat code is.g (flat_of flat) thread m said lowered paced

@@ -1,10 +1,11 @@
 -- The paths of the code of a program are those of the program: what a thread of its code has told is what the source asks for by the same answers.
-use Rattle.std.specs.Prelude.{ℕ, ℤ, pos, ◌+◌, ◌*◌, ◌≡◌, ◌<◌, ◌⊎◌, List, ◌∷◌, length, map, Option, IsSomeAnd}
+use Rattle.std.specs.Prelude.{ℕ, ℤ, pos, ◌+◌, ◌*◌, ◌≡◌, ◌<◌, ◌⊎◌, List, ◌∷◌, ◌++◌, length, map, Option, IsSomeAnd}
 use Rattle.sharc_tree.specs.declared.event.Act.{Act}
 use Rattle.sharc_tree.specs.declared.event.SourceEvent.{SourceEvent}
 use Rattle.sharc_tree.specs.declared.token.Site.{Site}
 use Rattle.sharc_mode.specs.Moded.{Assignment}
 use Rattle.sharc_meaning.specs.Meaning.{asks}
+use Rattle.sharc_meaning.specs.Runs.{answers_of}
 use Rattle.sharc_meaning.specs.State.{Outcome, wants, ended, stopped, spent, event_of}
 use Rattle.sharc_code.specs.declared.code.Code.{Code}
 use Rattle.sharc_code.specs.declared.shape.Shape.{Shape}
@@ -24,6 +25,8 @@ use Rattle.sharc_guarded_form.specs.Machine.{Program}
 use Rattle.sharc_gen.specs.Consistent.{Elements, said_in, IsConsistent}
 use Rattle.sharc_gen.specs.Correct.{by, begins, IsBeginning}
 use Rattle.sharc_gen.specs.Generated.{program_of}
+use Rattle.sharc_gen.specs.Lowered.{lowered_in}
+use Rattle.sharc_guard.specs.Correct.{Resolved}
 use Rattle.sharc_compile.specs.Coded.{IsRefusal}
 use Rattle.sharc_compile.specs.Made.{IsCodeOf}
 
@@ -44,21 +47,28 @@ IsOverAs code o Tries stop = Unit {0}
 IsOverAs code o Stopped stop = IsSomeAnd stop (IsStopOf code o)
 IsOverAs code o Ended stop = o ≡ ended
 
--- With these answers and some fuel the source has told the same, and is over where the code is over. With fuel for fewer statements and expressions than the code
+-- With these answers and some fuel the source has told the same, and is over where the code is over; and what the code has lowered since its last event is a first
+-- part of what the source has given up since. With fuel for fewer statements and expressions than the code
 -- has made turns for, it is spent: so the turns that count are at most 64 for each that the source entered, and 64 more.
-pub record IsToldBy (m : Assignment) (code : Code) (p : Program) (thread f : ℕ) (argument : ℤ) (answers : List ℤ) (at : Machine) (said : List SourceEvent) (paced : ℕ) : Type 0 where
+pub record IsToldBy (m : Assignment) (code : Code) (p : Program) (thread f : ℕ) (argument : ℤ) (answers : List ℤ) (at : Machine) (said : List SourceEvent) (lowered : List ℕ) (paced : ℕ) : Type 0 where
   pub fuel : ℕ
   pub events : said ≡ by thread (begins p f argument) ∷ map (by thread) (asks m f argument answers fuel).events
+  -- the answers are those of the events that are told
+  pub own : answers ≡ answers_of (asks m f argument answers fuel).events
   pub over : IsOverAs code (asks m f argument answers fuel).outcome at.at.state at.own.stop
+  pub given : (more : List ℕ) × Resolved (asks m f argument answers fuel).given_up (lowered ++ more)
   pub pace : (few : ℕ) → 64 * few + 64 < paced → (asks m f argument answers few).outcome ≡ spent
 
 -- a thread of a function that may be started is told by the source, by what it was answered
-pub record FollowsSource (m : Assignment) (code : Code) (p : Program) (functions thread : ℕ) (at : Machine) (said : List SourceEvent) (paced : ℕ) : Type 0 where
+pub record FollowsSource (m : Assignment) (code : Code) (p : Program) (functions thread : ℕ) (at : Machine) (said : List SourceEvent) (lowered : List ℕ) (paced : ℕ) : Type 0 where
   pub function : ℕ
   pub known : function < functions
   pub argument : ℤ
+  -- its first event is its Started
+  pub after : List SourceEvent
+  pub starts : said ≡ by thread (begins p function argument) ∷ map (by thread) after
   pub answers : List ℤ
-  pub told : MayStart m function → IsToldBy m code p thread function argument answers at said paced
+  pub told : MayStart m function → IsToldBy m code p thread function argument answers at said lowered paced
 
 -- of code of flat code that asks for what the program asks for
 abbrev pub CodeFollowsSource : Type 0
@@ -66,5 +76,6 @@ CodeFollowsSource = (m : Assignment) (flat : FlatCode) (code : Code) → AsksThe
     → (s : Shape) (thread : ℕ) (elements : ℕ → Elements) (founds : List ℕ) → CodePath code s thread founds → IsConsistent code s (begun code s thread) elements founds
     → let at = machine_after code s (begun code s thread) founds in
     let said = said_in code s (begun code s thread) elements founds in
+    let lowered = lowered_in code s (begun code s thread) elements founds in
     let paced = paced_in code s (begun code s thread) founds in
-    IsBeginning at said paced ⊎ FollowsSource m code (program_of is.g) (length flat.functions.items) thread at said paced
+    IsBeginning at said paced ⊎ FollowsSource m code (program_of is.g) (length flat.functions.items) thread at said lowered paced

@@ -3,10 +3,13 @@
 ghost use Rattle.sharc_compile.specs.Checked.{CodeIsChecked};
 ghost use Rattle.sharc_compile.specs.Coded.{CodeFollowsFlat};
 ghost use Rattle.sharc_compile.specs.Made.{MadeCodeFollows};
+ghost use Rattle.sharc_compile.specs.Program.{ProgramCodeFollows};
+ghost use Rattle.sharc_compile.specs.Runs.{RunsFollowSource};
 ghost use Rattle.sharc_compile.specs.Source.{CodeFollowsSource};
 
+use sharc_flat::laws::{made_asks_the_same, made_is_framed};
 use sharc_flat_form::laws::paths_are_runs;
-use sharc_gen::paths_law;
+use sharc_gen::{paths_law, run_paths_law};
 use sharc_guard::{checked_law, framed_law, guarded_law};
 
 /// The paths of code with consistent results are those of the flat code that it was made of, whichever checks are dropped: the same
@@ -26,13 +29,32 @@ pub fn made_law()
     coded_law();
 }
 
-/// Where the flat code asks for what a program asks for, a thread of its code tells what the program tells by the same answers, is over as
-/// the program is, and makes at most 64 counted turns for each statement and expression that the program entered, and 64 more.
+/// Where the flat code asks for what a program asks for, a thread of its code tells what the program tells by the answers of these events,
+/// is over as the program is, has lowered of the references that the program has given up since its last event the first ones, and makes
+/// at most 64 counted turns for each statement and expression that the program entered, and 64 more.
 pub fn source_law()
     ensures { CodeFollowsSource }
 {
     made_law();
     paths_are_runs();
+}
+
+/// And so it is of the code of a program that flattening knows, where its frames have numbers of 32 bits.
+pub fn program_law()
+    ensures { ProgramCodeFollows }
+{
+    source_law();
+    made_asks_the_same();
+    made_is_framed();
+}
+
+/// So what a thread has told in a checked run of that code, in any interleaving, the program tells, where the results of the thread's path
+/// are consistent with the objects that the run has made.
+pub fn run_law()
+    ensures { RunsFollowSource }
+{
+    program_law();
+    run_paths_law();
 }
 
 /// Each access of a dynamic or locked cell in that code is no jump target, and comes directly after its check, but where the check repeats

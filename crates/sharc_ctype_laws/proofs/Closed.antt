@@ -1,5 +1,5 @@
 -- What lock paths name is in scope where their types are read, and stays in scope as long as what has the type.
-use Rattle.std.proofs.Common.{◌≡◌, ◌⊎◌, inl, inr, ℕ, ◌+◌, Bool, true, false, cond, List, [], ◌∷◌, ◌++◌, length, refl, ap, sym, ◌∙◌, subst, Option, Some, None, is_some, bytes_eq}
+use Rattle.std.proofs.Common.{◌≡◌, inl, inr, ℕ, ◌+◌, Bool, true, false, cond, List, [], ◌∷◌, ◌++◌, length, refl, ap, sym, ◌∙◌, subst, Option, Some, None, is_some, bytes_eq}
 use Rattle.std.proofs.lemmas.Bool.{false≢true}
 use Rattle.std.specs.List.{AllByRecursion}
 use Rattle.sharc_tree.specs.declared.ctype.Mode.{Mode}
@@ -20,10 +20,10 @@ use Rattle.sharc_names.specs.Names.{Entry, Meaning, look_up, field_of, named_of}
 use Rattle.sharc_names.specs.Names as meaning
 use Rattle.sharc_names.specs.Types.{name_notes, first_notes, path_notes, mode_notes, modes_notes, type_notes}
 use Rattle.sharc_ctype.specs.Expressions.{notes_of}
-use Rattle.sharc_ctype.specs.Items.{with_parameters, in_body, parameters_notes, fields_notes, function_notes, item_notes, items_notes, file_scope}
+use Rattle.sharc_ctype.specs.Items.{with_parameters, in_body, parameters_notes, fields_notes, function_notes, items_notes}
 use Rattle.sharc_ctype.specs.Resolved.{Resolution, named_at, functions_in}
 use Rattle.sharc_ctype.specs.Statements.{Around, opened, looping, with_names, is_here, declared, local_notes, first_notes as first_part_notes, behind_first, in_head, head_notes, after, notes_in, notes_in_all}
-use Rattle.sharc_ctype_laws.specs.Paths.{meaning_token, IsVariableIn, IsAmong, PathStands, LevelStands, TypeStands, EntryStands, IsClosed, CastStands, PathsAt, FirstStands, LocalsStand, AllLocalsStand, around_in, BodyStands, file_types}
+use Rattle.sharc_ctype_laws.specs.Paths.{meaning_token, IsVariableIn, IsAmong, PathStands, LevelStands, TypeStands, EntryStands, IsClosed, CastStands, FirstStands, LocalsStand, AllLocalsStand, around_in, BodyStands, file_types}
 use Rattle.sharc_ctype_laws.specs.Places.{Placing, at, places_in_local, places_in_first, places_in, places_in_all, places_of, places_of_all}
 use Rattle.sharc_ctype_laws.proofs.AllLemmas.{both, each, mapped}
 use Rattle.sharc_ctype_laws.proofs.Held.{Held, left, right, no_fault, head_named}

@@ -22,6 +22,7 @@ pub mod Standings
 pub mod Themselves
 pub mod ToldOnce
 pub mod TypedLaws
+pub mod TypesFound
 pub mod TypesNamed
 pub mod Walked
 pub mod Witness

@@ -31,6 +31,8 @@ use Rattle.sharc_ctype_laws.proofs.Held.{Held, left, right, clean, clean_left, c
 use Rattle.sharc_ctype_laws.proofs.Judged.{named_by}
 use Rattle.sharc_ctype_laws.proofs.Limited.{few, small, few_cells, main_is}
 use Rattle.sharc_ctype_laws.proofs.OneType as types
+use Rattle.sharc_ctype_laws.specs.Found.{EachTypeFound}
+use Rattle.sharc_ctype_laws.proofs.TypesFound.{each_found}
 use Rattle.sharc_ctype_laws.proofs.OwnTokens.{HasOwnTokens, own_tokens, all_held, all_declared, together}
 use Rattle.sharc_ctype_laws.proofs.Plain.{plain_function}
 use Rattle.sharc_ctype_laws.proofs.Reached.{spawned_thread, reached_function}
@@ -70,6 +72,9 @@ pub names_in_types : NamesInTypes
 names_in_types r resolved placed low =
     let s = sound r resolved (own_tokens r.program placed) low in
     named_items r (file_scope r.program.items) s.scene r.program.items s.declared s.items
+
+pub each_type_found : EachTypeFound
+each_type_found r resolved placed low = each_found r placed (names_in_types r resolved placed low)
 
 pub meets_constraints : MeetsConstraints
 meets_constraints r resolved placed low =

@@ -1,6 +1,7 @@
 pub mod Callable
 pub mod Constraints
 pub mod Declared
+pub mod Found
 pub mod Initials
 pub mod Laws
 pub mod Limits

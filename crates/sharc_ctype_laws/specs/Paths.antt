@@ -6,7 +6,6 @@ use Rattle.sharc_tree.specs.declared.ctype.Mode.TheVariants.{Private, Readonly, 
 use Rattle.sharc_tree.specs.declared.ctype.Path.{Path}
 use Rattle.sharc_tree.specs.declared.ctype.Path.TheVariants.{One, Through}
 use Rattle.sharc_tree.specs.declared.tree.declaration.WrittenType.{WrittenType}
-use Rattle.sharc_tree.specs.declared.tree.declaration.Declaration.{Declaration}
 use Rattle.sharc_tree.specs.Tree.{Expression, First, nothing, declares, does, Statement, Statements, no_statements, statement, Function, Item, structure, global, function}
 use Rattle.sharc_tree.specs.Tree as tree
 use Rattle.sharc_names.specs.declared.fault.Named.{Named}
@@ -17,7 +16,7 @@ use Rattle.sharc_names.specs.Names.{Entry, Meaning}
 use Rattle.sharc_names.specs.Names as meaning
 use Rattle.sharc_ctype.specs.Items.{file_scope, in_body}
 use Rattle.sharc_ctype.specs.Resolved.{Resolution, named_at, functions_in}
-use Rattle.sharc_ctype.specs.Statements.{Around, opened, looping, declared, behind_first, after}
+use Rattle.sharc_ctype.specs.Statements.{Around, opened, looping, behind_first, after}
 use Rattle.sharc_ctype_laws.specs.Places.{Placing, places_of_all}
 
 abbrev pub meaning_token : Meaning → Option ℕ

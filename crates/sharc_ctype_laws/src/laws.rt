@@ -1,5 +1,6 @@
 // The laws of typed programs: each is the contract of a function that does nothing.
 
+ghost use Rattle.sharc_ctype_laws.specs.Found.{EachTypeFound};
 ghost use Rattle.sharc_ctype_laws.specs.Laws.{EachNameOnce, OnlyNames, EachNamesItself, EachNamesOwn, EachNamesFound, EachPathFound, ArePlain, NamesInTypes, SameKinds, MeetsConstraints, OneType, MeetsStatements, AllFair, MeetsGlobals, WithinLimits, HasMain, OneFunctionOfName, SpawnsThreads, ReachesFunctions, SomeTyped};
 
 /// In a typed program at its tokens each name is referred to once.
@@ -40,6 +41,11 @@ pub fn are_plain()
 /// The names in written types name what they spell.
 pub fn names_in_types()
     ensures { NamesInTypes }
+{}
+
+/// What has a type is found by its tokens, and the names in its type name what they spell.
+pub fn each_type_found()
+    ensures { EachTypeFound }
 {}
 
 /// The type of an expression from what its names name is that of the expression in its scope.

@@ -7,7 +7,6 @@ use Rattle.sharc_ctype.specs.declared.entity.Entity.{Entity}
 use Rattle.sharc_ctype.specs.declared.entity.Numbered.{Numbered}
 use Rattle.sharc_ctype.specs.Entities.{entities_in, numbered, numbered_from, positions_of}
 use Rattle.sharc_ctype.specs.Resolved.{Resolution, globals_in, functions_in}
-use Rattle.sharc_mode.specs.declared.error.ModeError.{ModeError}
 use Rattle.sharc_mode.specs.declared.note.Note.{Note}
 use Rattle.sharc_mode.specs.Expressions.{items_notes}
 use Rattle.sharc_mode.specs.Moded.{Assignment}

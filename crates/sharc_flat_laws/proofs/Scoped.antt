@@ -1,5 +1,5 @@
 -- The variables in scope are those of the flat scope.
-use Rattle.std.proofs.Common.{◌≡◌, ◌⊎◌, inl, inr, ℕ, ◌==◌, Bool, true, false, cond, List, [], ◌∷◌, ◌++◌, map, refl, ap, sym, ◌∙◌, subst, eqb-true, arith, Option, Some, None, is_some, bytes_eq}
+use Rattle.std.proofs.Common.{◌≡◌, inl, inr, ℕ, ◌==◌, Bool, true, false, cond, List, [], ◌∷◌, ◌++◌, refl, ap, sym, ◌∙◌, subst, eqb-true, arith, Option, Some, None, is_some, bytes_eq}
 use Rattle.std.proofs.lemmas.Bool.{false≢true}
 use Rattle.std.proofs.lemmas.Bool.Decides.{nat_tests}
 use Rattle.std.specs.List.{AllByRecursion}
@@ -22,7 +22,7 @@ use Rattle.sharc_flat.specs.Scope.{Context, slot_of, slot_kind}
 use Rattle.sharc_flat.specs.declared.slot.Slot.{Slot}
 use Rattle.sharc_flat.specs.Suits.{PathNamed, PathStands, behind_declaration}
 use Rattle.sharc_ctype_laws.specs.Paths.{meaning_token, IsVariableIn}
-use Rattle.sharc_flat_laws.specs.Stands.{IsHere, NameStands, AtPlace, PathNamedIn, PathIn, LocksAt}
+use Rattle.sharc_flat_laws.specs.Stands.{IsHere, NameStands, PathNamedIn, PathIn, LocksAt}
 use Rattle.sharc_flat_laws.proofs.Expressions.{Stand}
 
 abbrev pub right_kind : Resolution → ℕ → Bool

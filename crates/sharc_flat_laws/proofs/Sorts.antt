@@ -1,11 +1,10 @@
 -- What the types of C11 are to flat code: integers, references, and what goes to what.
 use Rattle.std.proofs.Common.{◌≡◌, inl, inr, ℕ, ◌+◌, ◌==◌, Bool, true, false, ◌&&◌, ◌||◌, refl, ap, sym, ◌∙◌, subst, arith, lt-ltb, eqb-true}
-use Rattle.std.proofs.lemmas.Bool.{false≢true, true≢false, and_parts}
-use Rattle.sharc_tree.specs.declared.ctype.Base.{Base}
+use Rattle.std.proofs.lemmas.Bool.{true≢false}
 use Rattle.sharc_tree.specs.declared.ctype.Base.TheVariants.{Mutex}
 use Rattle.sharc_ctype.specs.Statements.{is_aggregate}
 use Rattle.sharc_tree.specs.declared.tree.declaration.WrittenType.{WrittenType}
-use Rattle.sharc_names.specs.Kinds.{Kind, object, array, null, is_integer, is_pointer, is_null, is_integral, is_struct_base, same_base, mutex, declared_kind}
+use Rattle.sharc_names.specs.Kinds.{Kind, null, is_integer, is_pointer, is_null, is_integral, is_struct_base, same_base, declared_kind}
 use Rattle.sharc_meaning.specs.State.{is_reference}
 use Rattle.sharc_ctype_laws.specs.Constraints.{IsInteger, IsPointer, IsScalar, Comparable, integers, pointers, pointer_and_null, null_and_pointer, Assignable, integer, pointer, null_pointer}
 use Rattle.sharc_ctype_laws.specs.Rules.{IsHeld}

@@ -1,7 +1,6 @@
 -- Each expression of a typed program suits.
-use Rattle.std.proofs.Common.{◌≡◌, inl, inr, ℕ, ◌+◌, Bool, true, false, List, [], ◌∷◌, ◌++◌, refl, ap, sym, ◌∙◌, subst, Option, Some, None, bytes_eq, codes, if◌then◌else◌}
-use Rattle.std.proofs.lemmas.Bool.{false≢true, true≢false}
-use Rattle.std.specs.List.{AllByRecursion}
+use Rattle.std.proofs.Common.{◌≡◌, inl, ℕ, ◌+◌, true, List, [], ◌∷◌, refl, ap, sym, ◌∙◌, subst, Some, None, bytes_eq, codes, if◌then◌else◌}
+use Rattle.std.proofs.lemmas.Bool.{false≢true}
 use Rattle.sharc_tree.specs.declared.ctype.Base.{Base}
 use Rattle.sharc_tree.specs.declared.ctype.Base.TheVariants as base
 use Rattle.sharc_tree.specs.declared.tree.declaration.Identifier.{Identifier}
@@ -15,11 +14,6 @@ use Rattle.sharc_tree.specs.declared.tree.expression.PlaceCall.{PlaceCall}
 use Rattle.sharc_tree.specs.declared.tree.expression.ValueCall.{ValueCall}
 use Rattle.sharc_tree.specs.declared.tree.expression.UnaryOperator.{UnaryOperator}
 use Rattle.sharc_tree.specs.declared.tree.expression.UnaryOperator.TheVariants.{Negate, Not, Complement, Dereference}
-use Rattle.sharc_tree.specs.declared.tree.expression.Constant.{Constant}
-use Rattle.sharc_tree.specs.declared.tree.expression.Constant.TheVariants as constants
-use Rattle.sharc_tree.specs.declared.token.NumberType.{NumberType}
-use Rattle.sharc_tree.specs.declared.token.NumberType.TheVariants as width
-use Rattle.sharc_tree.specs.Forms.{is_lvalue}
 use Rattle.sharc_tree.specs.Measures.{expressions, in_arguments}
 use Rattle.sharc_tree.specs.Tree.{Expression, identifier, index, Arguments, no_arguments, argument, Function}
 use Rattle.sharc_tree.specs.Tree as tree
@@ -30,25 +24,21 @@ use Rattle.sharc_names.specs.Kinds as kinds
 use Rattle.sharc_names.specs.declared.meaning.ConditionCall.{ConditionCall}
 use Rattle.sharc_names.specs.declared.meaning.ConditionCall.TheVariants.{Wait, Signal, Broadcast}
 use Rattle.sharc_names.specs.Names.{condition_parameters}
-use Rattle.sharc_ctype.specs.declared.expr.OperatorClass.{OperatorClass}
 use Rattle.sharc_ctype.specs.declared.expr.OperatorClass.TheVariants.{Logical, Equality, Relation, Shift, Arithmetic}
-use Rattle.sharc_ctype.specs.Expressions.{class_of, constant_kind, number_kind}
-use Rattle.sharc_ctype.specs.Resolved.{Resolution, named_at, kind_at, function_at, variable_kind}
-use Rattle.sharc_ctype.specs.Statements.{is_aggregate}
+use Rattle.sharc_ctype.specs.Expressions.{class_of}
+use Rattle.sharc_ctype.specs.Resolved.{Resolution, named_at, kind_at, variable_kind}
 use Rattle.sharc_ctype.specs.Transfers.{parameters_named, parameters_of}
-use Rattle.sharc_mode.specs.Cells.{cell_at, named_cell}
-use Rattle.sharc_mode.specs.Moded.{Assignment}
+use Rattle.sharc_mode.specs.Cells.{named_cell}
 use Rattle.sharc_mode.specs.Sharings.{Sharing}
 use Rattle.sharc_meaning.specs.State.{is_reference}
-use Rattle.sharc_ctype_laws.specs.Constraints.{HasType, HaveTypes, Callee, of_program, of_conditions, name_of, IsInteger, IsPointer, IsScalar, Common, both_shorter, left_long, right_long, Comparable, integers, Assignable, a_variable, a_global, a_function, a_constant, in_parentheses, element_of_pointer, element_of_array, a_call, a_field, a_field_behind, negated, complemented, denied, pointed_to, arithmetic, shifted, related, equated, joined, spawned, printed_or_joined, locked, unlocked, freed, a_cast, none_left, one_more}
-use Rattle.sharc_ctype_laws.specs.Rules.{IsHeld}
-use Rattle.sharc_flat.specs.Places.{Target, variable, in_global, in_global_at, in_object, in_object_at, target, named_target, own_field, global_of, guard_field}
+use Rattle.sharc_ctype_laws.specs.Constraints.{HasType, HaveTypes, Callee, of_program, of_conditions, name_of, IsInteger, IsPointer, IsScalar, integers, Assignable, a_variable, a_global, a_function, element_of_pointer, element_of_array, a_call, a_field, a_field_behind, negated, complemented, denied, pointed_to, arithmetic, shifted, related, equated, joined, spawned, printed_or_joined, locked, unlocked, freed, a_cast, none_left, one_more}
+use Rattle.sharc_flat.specs.Places.{in_global, target, global_of}
 use Rattle.sharc_flat.specs.Scope.{Context, slot_kind}
 use Rattle.sharc_flat.specs.Suits as flat
 use Rattle.sharc_flat.specs.Suits.{Suits, PlaceSuits, ArgumentsSuit, ReferencesSuit, IndexSuits, CallSuits, TakeSuits, LeftSuits, NameSuits, OperandsSuit, HandsOn, Passes, Either, PathStands, is_cell}
-use Rattle.sharc_flat_laws.specs.Stands.{AtPlace, GlobalsUnguarded}
+use Rattle.sharc_flat_laws.specs.Stands.{AtPlace}
 use Rattle.sharc_flat_laws.proofs.AllLemmas.{front, back}
-use Rattle.sharc_flat_laws.proofs.Sorts.{integer_yes, integer_reference, pointer_reference, pointer_plain, scalar, goes, passes, given, same_sort, declared_reference, held_same}
+use Rattle.sharc_flat_laws.proofs.Sorts.{integer_yes, pointer_reference, scalar, goes, passes, given, same_sort, declared_reference}
 use Rattle.sharc_flat_laws.proofs.Expressions.{Facts, Stand, whole_cell, array_target, target_fits, takes}
 
 no_function_pointer : (k : Kind) → IsPointer k → k ≡ kinds.function → ⊥

@@ -1,5 +1,5 @@
 -- No position of a program whose lock paths are fit is locked behind a sibling pointer.
-use Rattle.std.proofs.Common.{◌≡◌, ℕ, zero, suc, ◌<◌, ◌++◌, length, arith, ◌==◌, eqb-true, Bool, true, false, ◌&&◌, ◌||◌, not, cond, List, [], ◌∷◌, drop, refl, ap, sym, ◌∙◌, subst, ⊎_elim, Option, Some, None}
+use Rattle.std.proofs.Common.{◌≡◌, ℕ, zero, suc, ◌<◌, ◌++◌, length, arith, ◌==◌, eqb-true, Bool, true, false, ◌&&◌, ◌||◌, not, cond, List, [], ◌∷◌, drop, refl, ap, sym, subst, ⊎_elim, Option, Some, None}
 use Rattle.std.specs.Prelude.{is_none, slice_index_or}
 use Rattle.std.proofs.lemmas.Bool.{false≢true, and_parts, or_cases}
 use Rattle.std.specs.List.{AllByRecursion}
@@ -17,7 +17,7 @@ use Rattle.sharc_ctype.specs.Resolved.{Resolution, global_at, named_at, named_ki
 use Rattle.sharc_mode.specs.declared.place.Place.{Place}
 use Rattle.sharc_mode.specs.declared.place.Place.TheVariants.{Global, Field, Local, Result}
 use Rattle.sharc_mode.specs.Cells.{is_mutex_kind, is_behind_pointer, first_mode, global_cell}
-use Rattle.sharc_mode.specs.Sharings.{Lock, Sharing, is_field, lock_of, sharing_of}
+use Rattle.sharc_mode.specs.Sharings.{Lock, is_field, lock_of, sharing_of}
 use Rattle.sharc_mode.specs.WellFormed.{allows_path, path_fits, unless, unfit_path, unfit_path_in, allows_pointer, leaves_open, top_path_fits, unfit_top_path, first_unfit_path, place_of}
 use Rattle.sharc_mode.specs.Settled.{is_mutex, settled, field_target, otherwise_of, settled_modes, settled_in, settled_at}
 use Rattle.sharc_ctype.specs.Entities.{first_depth, entities_in, entity_at}

@@ -1,37 +1,33 @@
 -- Each function of a typed program suits.
-use Rattle.std.proofs.Common.{◌≡◌, ℕ, zero, suc, Bool, true, false, cond, List, [], ◌∷◌, ◌++◌, map, length, slice_get, refl, ap, sym, ◌∙◌, subst, Option, Some, None, is_some}
+use Rattle.std.proofs.Common.{◌≡◌, ℕ, zero, suc, false, List, [], ◌∷◌, ◌++◌, length, slice_get, refl, ap, subst, Some, is_some}
 use Rattle.std.proofs.lemmas.Bool.{false≢true}
 use Rattle.std.specs.List.{AllByRecursion}
 use Rattle.sharc_tree.specs.declared.tree.declaration.Declaration.{Declaration}
 use Rattle.sharc_tree.specs.Low.{LowItems, LowStatements}
-use Rattle.sharc_tree.specs.Tree.{Expression, Function, Item, structure, global, function}
+use Rattle.sharc_tree.specs.Tree.{Function, Item, structure, global, function}
 use Rattle.sharc_names.specs.declared.fault.Named.TheVariants as named
 use Rattle.sharc_names.specs.declared.scope.Scope.{Scope}
-use Rattle.sharc_names.specs.Kinds.{Kind, declared_kind}
-use Rattle.sharc_names.specs.Names.{Entry, Meaning, look_up}
-use Rattle.sharc_names.specs.Names as meaning
+use Rattle.sharc_names.specs.Kinds.{declared_kind}
+use Rattle.sharc_names.specs.Names.{Entry}
 use Rattle.sharc_code.specs.declared.code.GlobalCells.{GlobalCells}
-use Rattle.sharc_ctype.specs.Condition.{defines_condition, with_conditions}
-use Rattle.sharc_ctype.specs.Heads.{Heading as Heads, global_entry, function_entry, behind, behind_all, no_heads}
 use Rattle.sharc_ctype.specs.Items.{with_parameters, in_body, file_scope}
-use Rattle.sharc_ctype.specs.Resolved.{Resolution, functions_in, function_at, kind_at}
+use Rattle.sharc_ctype.specs.Resolved.{Resolution, functions_in}
 use Rattle.sharc_ctype.specs.Statements.{declared, is_aggregate, locals_in_all}
 use Rattle.sharc_mode.specs.Moded.{Assignment}
-use Rattle.sharc_ctype_laws.specs.Constraints.{HasType}
-use Rattle.sharc_ctype_laws.specs.Declared.{NameThemselves, IsItself}
+use Rattle.sharc_ctype_laws.specs.Declared.{IsItself}
 use Rattle.sharc_ctype_laws.specs.Laws.{EachNamesItself, EachNamesFound, MeetsConstraints, OneType, MeetsStatements, AllFair, NamesFound, IsPlain, ArePlain}
 use Rattle.sharc_ctype_laws.specs.Places.{Placing, places_of, places_of_all}
 use Rattle.sharc_flat.specs.Flattened.{parameters_scope, in_function}
 use Rattle.sharc_flat.specs.Scope.{Context, slot_of}
 use Rattle.sharc_flat.specs.declared.slot.Slot.{Slot}
 use Rattle.sharc_ctype_laws.specs.Paths.{around_in}
-use Rattle.sharc_flat_laws.specs.Stands.{LocksAt, TypedSuits}
-use Rattle.sharc_flat_laws.proofs.AllLemmas.{front, back}
-use Rattle.sharc_flat_laws.proofs.Expressions.{Facts}
+use Rattle.sharc_flat_laws.specs.Stands.{LocksAt, LocksAreFound, TypedSuits}
+use Rattle.sharc_flat_laws.proofs.AllLemmas.{front, back, together}
+use Rattle.sharc_flat_laws.proofs.FileNames.{in_file}
 use Rattle.sharc_flat_laws.proofs.Fits.{well_moded_fit}
 use Rattle.sharc_flat_laws.proofs.Unguarded.{globals_unguarded}
-use Rattle.sharc_flat_laws.proofs.Scoped.{AreHere, MeaningIsHere, Same, Own, with_variable}
-use Rattle.sharc_flat_laws.proofs.Walking.{AllGiven, statements_suit}
+use Rattle.sharc_flat_laws.proofs.Scoped.{MeaningIsHere, Same, Own, with_variable}
+use Rattle.sharc_flat_laws.proofs.Walking.{statements_suit}
 
 -- in lists
 
@@ -48,10 +44,6 @@ places_at P file [] n f all is = absurd (false≢true (ap is_some is))
 places_at P file (g ∷ rest) zero f all is = subst (λ z. AllByRecursion P (places_of file z)) (same_some g f is) (front P (places_of file g) (places_of_all file rest) all)
 places_at P file (g ∷ rest) (suc n) f all is = places_at P file rest n f (back P (places_of file g) (places_of_all file rest) all) is
 
-together : {A : Type 0} (P Q : A → Type 0) (list : List A) → AllByRecursion P list → AllByRecursion Q list → AllByRecursion (λ x. P x × Q x) list
-together P Q [] p q = tt
-together P Q (x ∷ rest) p q = ((p.0, q.0), together P Q rest p.1 q.1)
-
 low_functions : (items : List Item) → LowItems items → AllByRecursion (λ f. LowStatements f.statements) (functions_in items)
 low_functions [] h = tt
 low_functions (structure s ∷ rest) h = low_functions rest h.1
@@ -61,25 +53,6 @@ low_functions (function f ∷ rest) h = (h.0.2, low_functions rest h.1)
 owned : (r : Resolution) (list : List Declaration) → AllByRecursion (IsItself r named.Variable) list → AllByRecursion (λ d. is_aggregate (declared_kind d.written) ≡ false) list → AllByRecursion (Own r) list
 owned r [] h p = tt
 owned r (d ∷ rest) h p = (record { is = h.0.1; plain = p.0 }, owned r rest h.1 p.1)
-
--- the file declares no variable
-
-either : (c : Context) (names : List Entry) (e : Entry) (b : Bool) → AreHere c names → MeaningIsHere c e.meaning → AreHere c (cond b names (e ∷ names))
-either c names e true all h = all
-either c names e false all h = (h, all)
-
-none_in_heads : (c : Context) (h : Heads) (items : List Item) → AreHere c h.scope.names → AreHere c (behind_all h items).scope.names
-none_in_heads c h [] all = all
-none_in_heads c h (structure s ∷ rest) all = none_in_heads c (behind h (structure s)) rest all
-none_in_heads c h (global g ∷ rest) all = none_in_heads c (behind h (global g)) rest (either c h.scope.names (global_entry h.globals g) (is_some (look_up h.scope.names g.declaration.name.text)) all tt)
-none_in_heads c h (function f ∷ rest) all = none_in_heads c (behind h (function f)) rest (either c h.scope.names (function_entry h.functions f) (is_some (look_up h.scope.names f.name.text)) all tt)
-
-none_known : (c : Context) (scope : Scope) (b : Bool) → AreHere c scope.names → AreHere c (cond b scope (with_conditions scope)).names
-none_known c scope true all = all
-none_known c scope false all = (tt, (tt, (tt, all)))
-
-none_in_file : (c : Context) (items : List Item) → AreHere c (file_scope items).names
-none_in_file c items = none_known c (behind_all no_heads items).scope (defines_condition (behind_all no_heads items).scope) (none_in_heads c no_heads items tt)
 
 -- parameters
 
@@ -103,8 +76,9 @@ with_all m globals scope block names (d ∷ rest) same own =
 
 -- of the whole program
 
-pub typed_suits : EachNamesItself → EachNamesFound → OneType → MeetsConstraints → MeetsStatements → AllFair → ArePlain → TypedSuits
-typed_suits itself found one constraints statements fair are_plain m resolved placed low least well locks cells n f is =
+pub typed_suits : LocksAreFound → EachNamesItself → EachNamesFound → OneType → MeetsConstraints → MeetsStatements → AllFair → ArePlain → TypedSuits
+typed_suits locks_found itself found one constraints statements fair are_plain m resolved placed low least well cells n f is =
+    let locks = locks_found m resolved placed low least in
     let r = m.typed in
     let items = r.program.items in
     let file = file_scope items in
@@ -112,12 +86,12 @@ typed_suits itself found one constraints statements fair are_plain m resolved pl
     let p = at_place IsPlain (functions_in items) n f plain is in
     let names = at_place _ (functions_in items) n f (itself r resolved placed low).variables is in
     let own = owned r (f.parameters ++ locals_in_all f.statements) names p.0 in
-    let same = with_all m cells [] (length file.names) file.names f.parameters (record { names = none_in_file (with_scope m cells []) items; slots = tt }) (front _ f.parameters (locals_in_all f.statements) own) in
+    let same = with_all m cells [] (length file.names) file.names f.parameters (record { names = in_file (MeaningIsHere (with_scope m cells [])) (λ n g. tt) (λ n s. tt) (λ k. tt) items; slots = tt }) (front _ f.parameters (locals_in_all f.statements) own) in
     statements_suit (in_function m cells f) (around_in file f) (in_body file f) same f.result false f.statements
     (record {
       facts = record { one = one r resolved placed low; results = λ k g at. (at_place IsPlain (functions_in items) k g plain at).1; globals = globals_unguarded m least (well_moded_fit m well) };
       own = back _ f.parameters (locals_in_all f.statements) own;
-      known = together _ _ (places_of file f) (places_at _ file (functions_in items) n f (found r resolved placed low) is) (places_at _ file (functions_in items) n f locks.places is);
+      known = together (λ (q : Placing). NamesFound r q q.expression) (LocksAt m) (λ (q : Placing). NamesFound r q q.expression × LocksAt m q) (λ q a b. (a, b)) (places_of file f) (places_at _ file (functions_in items) n f (found r resolved placed low) is) (places_at _ file (functions_in items) n f locks.places is);
       typed = at_place _ (functions_in items) n f (constraints r resolved placed low) is;
       meets = at_place _ (functions_in items) n f (statements r resolved placed low) is;
       low = at_place _ (functions_in items) n f (low_functions items low) is;

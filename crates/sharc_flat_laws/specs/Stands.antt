@@ -100,16 +100,20 @@ pub record LocksFound (m : Assignment) : Type 0 where
   pub places : AllByRecursion (LocksAt m) (places_of_all (file_scope m.typed.program.items) (functions_in m.typed.program.items))
   pub locals : AllByRecursion (λ f. AllLocalLocks m (around_in (file_scope m.typed.program.items) f) (in_body (file_scope m.typed.program.items) f).names f.statements) (functions_in m.typed.program.items)
 
--- A typed program suits flat code, where these hold.
+-- In a typed program with its least assignment they are.
+abbrev pub LocksAreFound : Type 0
+LocksAreFound = (m : Assignment) → IsResolved m.typed → IsPlaced m.typed.program → IsLow m.typed.program → IsLeastAssignment m → LocksFound m
+
+-- A typed, well-moded program suits flat code.
 abbrev pub TypedSuits : Type 0
-TypedSuits = (m : Assignment) → IsResolved m.typed → IsPlaced m.typed.program → IsLow m.typed.program → IsLeastAssignment m → WellModed m → LocksFound m → ProgramSuits m
+TypedSuits = (m : Assignment) → IsResolved m.typed → IsPlaced m.typed.program → IsLow m.typed.program → IsLeastAssignment m → WellModed m → ProgramSuits m
 
 -- So what flattening makes of it asks for what it asks for, and stays within its frames.
 abbrev pub TypedAsksTheSame : Type 0
-TypedAsksTheSame = (m : Assignment) → IsResolved m.typed → IsPlaced m.typed.program → IsLow m.typed.program → IsLeastAssignment m → WellModed m → LocksFound m → (code : FlatCode) → Flattens m code → AsksTheSame m (flat_of code)
+TypedAsksTheSame = (m : Assignment) → IsResolved m.typed → IsPlaced m.typed.program → IsLow m.typed.program → IsLeastAssignment m → WellModed m → (code : FlatCode) → Flattens m code → AsksTheSame m (flat_of code)
 
 abbrev pub TypedIsFramed : Type 0
-TypedIsFramed = (m : Assignment) → IsResolved m.typed → IsPlaced m.typed.program → IsLow m.typed.program → IsLeastAssignment m → WellModed m → LocksFound m
+TypedIsFramed = (m : Assignment) → IsResolved m.typed → IsPlaced m.typed.program → IsLow m.typed.program → IsLeastAssignment m → WellModed m
     → (code : FlatCode) → Flattens m code → FitsMade (flat_of code) → IsFlat (flat_of code) × IsFramed (flat_of code)
 
 -- the lock paths of a type are of the allowed forms, as those of a well-moded program are (M4)

@@ -1,17 +1,29 @@
 // The laws, each the contract of a function that does nothing.
 
-ghost use Rattle.sharc_flat_laws.specs.Stands.{FitAreUnguarded, TypedAsksTheSame, TypedIsFramed, TypedSuits};
+ghost use Rattle.sharc_flat_laws.specs.Stands.{FitAreUnguarded, LocksAreFound, TypedAsksTheSame, TypedIsFramed, TypedSuits};
 
 use sharc_ctype_laws::laws::{
-    all_fair, are_plain, each_names_found, each_names_itself, meets_constraints, meets_statements,
-    one_type,
+    all_fair, are_plain, each_names_found, each_names_itself, each_path_found, each_type_found,
+    meets_constraints, meets_statements, one_type,
 };
 use sharc_flat::laws::{made_asks_the_same, made_is_framed};
 
-/// A typed program suits flat code, where its lock paths name variables in scope.
+/// The variable of each lock path of a typed program is a pointer in scope where the mode is used.
+pub fn locks_are_found()
+    ensures { LocksAreFound }
+{
+    each_names_itself();
+    each_names_found();
+    each_path_found();
+    each_type_found();
+    meets_constraints();
+}
+
+/// A typed, well-moded program suits flat code.
 pub fn typed_suits()
     ensures { TypedSuits }
 {
+    locks_are_found();
     each_names_itself();
     each_names_found();
     one_type();

@@ -3,6 +3,7 @@ pub mod Logs
 pub mod Numbers
 pub mod Inside
 pub mod Sames
+pub mod Lowering
 pub mod Turns
 pub mod Single
 pub mod Calls

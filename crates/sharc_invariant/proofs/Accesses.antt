@@ -1,5 +1,5 @@
 -- Loads and stores of cells, from the real words up.
-use Rattle.std.proofs.Common.{◌≡◌, ℕ, ℤ, pos, negsuc, suc, ◌+◌, ◌-◌, ◌^◌, ◌<◌, ◌⊎◌, Bool, true, false, List, Some, None, refl, sym, ap, ◌∙◌, subst, inl, inr, ⊎_elim, arith, ltb-true}
+use Rattle.std.proofs.Common.{◌≡◌, ℕ, ℤ, pos, negsuc, suc, ◌+◌, ◌-◌, ◌^◌, ◌<◌, Bool, true, false, List, Some, None, refl, sym, ap, ◌∙◌, subst, arith, ltb-true}
 use mathlib.Core.Path.{fun_ext}
 use Rattle.std.specs.Prelude.{length, slice_index, slice_set, nat_lt}
 use Rattle.std.proofs.lemmas.Bool.Decides.{nat_tests}
@@ -262,14 +262,6 @@ module _ (x : Targets) (code : Code) (s : Shape) (ls : Labels) (wt : IsWellTyped
         Accesses false (base_of_cell m c) j (may_access false c site f access) alone (silent_window Shut alone),
       )
 
-  loaded_gate : (c : Cell) (y : Gate) → LessGate (Loaded c) y → (y ≡ Closed) ⊎ (y ≡ Loaded c)
-  loaded_gate c Closed h = inl refl
-  loaded_gate c (Checked a d) h = inr h
-  loaded_gate c (Holds d) h = inr h
-  loaded_gate c (Loaded d) h = inr h
-  loaded_gate c (HoldsLoaded d) h = inr h
-  loaded_gate c (SoleGate r d) h = inr h
-
   -- a reference is loaded, and not yet raised
   pub LoadRef_keeps : (c : Cell) (site : ℕ) (f : Field) → turn code s (g.threads tr.thread) ≡ Asks (step_of (word s (g.threads tr.thread) c) Load) (λ found. goes (record (g.threads tr.thread) { pending = found }))
       → IsAccess x code ls here false c site f → is_pointer f.holds ≡ true → Leads ls ((g.threads tr.thread).at.pc + 1) (gated here (Loaded c)) → Turned
@@ -286,16 +278,13 @@ module _ (x : Targets) (code : Code) (s : Shape) (ls : Labels) (wt : IsWellTyped
       let slot : (world.slots (CellOf (base_of world t (base_of_cell m c)) j)).reference ≡ found =
       ap (λ o. (world.slots (CellOf o j)).reference) th.base ∙ st.sim.pointers o j th.live th.number (ap (λ (f : Field). is_pointer f.holds) th.field ∙ ptr) ∙ ap (slice_index g.words) (sym th.word_is) in
       let new = (ls.at (m.at.pc + 1)).gate in
-      let done_with : (win : Window) → WinOk (lang_of x) world t win → GateStands s (set_win world t win) t m' new → Turned = λ win ok gt. (
+      let win = IsLoaded (base_of_cell m c) j found in
+      let gt : GateStands s (set_win world t win) t m' new = subst (GateStands s (set_win world t win) t m') (sym leads.gate) (loaded_window found c) in (
         set_win world t win,
-        windowed_state m' win g.words (gated here (Loaded c)) (record { at = refl; refs = refl; ints = refl; frames = refl; own = refl }) done (same_words x code s ls g world st) (λ u b j _ _. refl) ok st.sim
+        windowed_state m' win g.words (gated here (Loaded c)) (record { at = refl; refs = refl; ints = refl; frames = refl; own = refl }) done (same_words x code s ls g world st) (λ u b j _ _. refl) (rt, slot) st.sim
             (gate_top x t view m.at.refs m.at.ints names here (Loaded c) top_here) (below_pending found) leads refl gt refl,
         Accesses false (base_of_cell m c) j rt alone (silent_window win alone),
-      ) in
-      ⊎_elim
-      (λ (e : new ≡ Closed). done_with Shut tt (subst (GateStands s (set_win world t Shut) t m') (sym e) (put_same world.win t Shut)))
-      (λ (e : new ≡ Loaded c). done_with (IsLoaded (base_of_cell m c) j found) (rt, slot) (subst (GateStands s (set_win world t (IsLoaded (base_of_cell m c) j found)) t m') (sym e) (loaded_window found c)))
-      (loaded_gate c new leads.gate)
+      )
     where
       below_pending : (found : ℕ) → FramesStand x code ls tr.thread view (goes (record (g.threads tr.thread) { pending = found })) here.function
       below_pending found = elim here.function as (λ f. FramesStand x code ls tr.thread view (g.threads tr.thread) f → FramesStand x code ls tr.thread view (goes (record (g.threads tr.thread) { pending = found })) f) [ None ↦ λ h. h | Some f ↦ λ h. h ] below_here

@@ -1,5 +1,5 @@
 -- A thread that is begun and has made no turn stands at the first place.
-use Rattle.std.proofs.Common.{◌≡◌, ℕ, pos, ◌+◌, ◌*◌, refl, sym, ap, ◌∙◌, subst, arith}
+use Rattle.std.proofs.Common.{◌≡◌, ℕ, pos, ◌+◌, ◌*◌, true, false, refl, sym, ap, ◌∙◌, subst, arith}
 use Rattle.std.specs.Prelude.{slice_index}
 use Rattle.std.proofs.lemmas.List.{length-replicate}
 use Rattle.sharc_shadow.specs.Notes.{blank}
@@ -8,7 +8,7 @@ use Rattle.sharc_code.specs.declared.code.Code.{Code}
 use Rattle.sharc_code.specs.declared.shape.Shape.{Shape}
 use Rattle.sharc_code.specs.Layout.{granules}
 use Rattle.sharc_code.specs.Machine.{Machine, no_frame}
-use Rattle.sharc_code.specs.Path.{begun, most_refs, most_ints}
+use Rattle.sharc_code.specs.Path.{begun, may_go, most_refs, most_ints}
 use Rattle.sharc_code.specs.Runs.{Global}
 use Rattle.sharc_invariant.specs.Types.{Targets}
 use Rattle.sharc_invariant.specs.Labels.{Empty, Anything, Labels}
@@ -60,7 +60,8 @@ module _ (x : Targets) (code : Code) (s : Shape) (ls : Labels) (wt : IsWellTyped
   begun_stands elements w heap g t e zero shut = record {
     has = subst (IsThread code s t) (sym e) (begun_is t);
     runs = λ _ _. subst (Runs x code s ls elements w heap g t) (sym e) (begun_runs elements w heap g t zero shut);
-    over = λ _. shut;
+    off = λ _. shut;
+    stopped = λ stop. let f : true ≡ false = sym (ap (λ (m : Machine). may_go m.at.state) e) ∙ stop in absurd (cc);
     waits = λ _. e;
   }
 

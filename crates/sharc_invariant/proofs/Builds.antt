@@ -31,7 +31,7 @@ use Rattle.sharc_invariant.specs.World.{World, Shut}
 use Rattle.sharc_invariant.specs.Blocks.{Heap, Kept, Built, InBlock, IsListed}
 use Rattle.sharc_invariant.specs.Words.{conc_of, Shows, head_of, is_ended, has_withdrawn, note_number, noted_by, register_of, staged_of}
 use Rattle.sharc_invariant.specs.Turns.{made_turn, KeepsOthers}
-use Rattle.sharc_invariant.specs.State.{State, Runs, View, view_of, StageStands, SpawnsNow, FramesStand, GateStands, HeapStands, TopStands, label_now}
+use Rattle.sharc_invariant.specs.State.{StopStands, State, Runs, View, view_of, StageStands, SpawnsNow, FramesStand, GateStands, HeapStands, TopStands, label_now}
 use Rattle.sharc_invariant.proofs.Listed.{store_ok, within_block, in_use}
 use Rattle.sharc_invariant.proofs.Others.{OnHold, loses}
 use Rattle.sharc_invariant.proofs.Quiet.{heap_now, put_self, sum_up, label_held, freed_held, locks_same}
@@ -174,7 +174,7 @@ module _ (x : Targets) (code : Code) (s : Shape) (ls : Labels) (wt : IsWellTyped
           stage = subst (λ i. StageStands code s st.elements world heap' words t m' i y) (sym is) (stage go);
           room = rn.room;
         })
-        (λ _. new_shut) few
+        (λ _. subst (StopStands world t m') (sym new_fine.0) new_shut) few
 
   -- ---- a word of a block that the thread builds
   module _ (b k v : ℕ) (built : st.heap.state b ≡ Built tr.thread) (inside : InBlock (arena s) st.heap b k) (small : v < 2 ^ 64) (long : k < length g.words) where

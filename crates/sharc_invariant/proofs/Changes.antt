@@ -25,13 +25,13 @@ use Rattle.sharc_invariant.specs.Granules.{sum_to}
 use Rattle.sharc_invariant.specs.Types.{Targets, cells_of}
 use Rattle.sharc_invariant.specs.Labels.{Gate, Closed, Checked, Holds, Loaded, HoldsLoaded, Sole as SoleGate, Label, Labels}
 use Rattle.sharc_invariant.specs.Typed.{IsWellTyped}
-use Rattle.sharc_invariant.specs.World.{RegisterOf, ArgumentOf, In, TypedReference, Shut, Sole, World, in_ref, WorldInvariant}
+use Rattle.sharc_invariant.specs.World.{RegisterOf, ArgumentOf, In, TypedReference, Sole, World, in_ref, WorldInvariant}
 use Rattle.sharc_invariant.specs.Blocks.{Heap}
 use Rattle.sharc_invariant.specs.Words.{is_first, if_reference, conc_of, Shows, Apart, register_of, argument_of, is_unread, staged_of, noted_by, logged, lang_of}
 use Rattle.sharc_invariant.specs.Turns.{made_turn, made_conc, KeepsOthers}
-use Rattle.sharc_invariant.specs.State.{State, View, view_of, HeapStands, Locks, Threads, ThreadStands, IsThread, Runs, SpawnsNow, EntryStands, FramesStand, GateStands, label_now, size_of_run}
+use Rattle.sharc_invariant.specs.State.{StopStands, State, View, view_of, HeapStands, Locks, Threads, ThreadStands, IsThread, Runs, SpawnsNow, EntryStands, FramesStand, GateStands, label_now, size_of_run}
 use Rattle.sharc_invariant.proofs.Frames.{Agrees, Always, top_agrees, callers_agree}
-use Rattle.sharc_invariant.proofs.Others.{stage_kept, operand, OnHold}
+use Rattle.sharc_invariant.proofs.Others.{stop_kept, stage_kept, operand, OnHold}
 use Rattle.sharc_invariant.proofs.Quiet.{firsts_stay, reserves_kept, sole_gate, label_held, freed_held}
 use Rattle.sharc_invariant.proofs.Others.{map_clear, map_free}
 use Rattle.sharc_invariant.specs.State.{StageStands}
@@ -243,15 +243,14 @@ module _ (x : Targets) (code : Code) (s : Shape) (ls : Labels) (wt : IsWellTyped
         })
         (λ u _. (st.threads u).has) u
 
-    threads_kept : (may_go m'.at.state ≡ true → Runs x code s ls elements' w' heap' now t m') → (may_go m'.at.state ≡ false → w'.win t ≡ Shut)
+    threads_kept : (may_go m'.at.state ≡ true → Runs x code s ls elements' w' heap' now t m') → (may_go m'.at.state ≡ false → StopStands w' t m' (ls.at m'.at.pc).gate)
         → (u : ℕ) → ThreadStands x code s ls elements' w' heap' now u
     threads_kept runs over u = ⊎_elim
         (λ (e : u ≡ t). subst (λ u. ThreadStands x code s ls elements' w' heap' now u) (sym e) (record {
           has = has_kept t;
           runs = λ _ go. subst (Runs x code s ls elements' w' heap' now t) (sym (put_same g.threads t m')) (runs (sym (ap (λ (m : Machine). may_go m.at.state) (put_same g.threads t m')) ∙ go));
-          over = ⊎_elim
-              (λ (off : now.started t ≡ false). let on' : now.started t ≡ true = started_same t ∙ on in absurd (cc))
-              (λ (stop : may_go (now.threads t).at.state ≡ false). over (sym (ap (λ (m : Machine). may_go m.at.state) (put_same g.threads t m')) ∙ stop));
+          off = λ off. let on' : now.started t ≡ true = started_same t ∙ on in absurd (cc);
+          stopped = λ stop. subst (λ (m : Machine). StopStands w' t m (ls.at m.at.pc).gate) (sym (put_same g.threads t m')) (over (sym (ap (λ (m : Machine). may_go m.at.state) (put_same g.threads t m')) ∙ stop));
           waits = λ off. let on' : now.started t ≡ true = started_same t ∙ on in absurd (cc);
         }))
         (λ (ne : u ≡ t → ⊥).
@@ -263,7 +262,9 @@ module _ (x : Targets) (code : Code) (s : Shape) (ls : Labels) (wt : IsWellTyped
               let on1 : g.started u ≡ true = sym (started_same u) ∙ on' in
               let go1 : may_go (g.threads u).at.state ≡ true = sym (ap (λ (m : Machine). may_go m.at.state) same) ∙ go in
               subst (Runs x code s ls elements' w' heap' now u) (sym same) (others_run u ne on1 (th.runs on1 go1));
-          over = λ c. k.win u ne ∙ th.over (⊎_elim (λ off. inl (sym (started_same u) ∙ off)) (λ stop. inr (sym (ap (λ (m : Machine). may_go m.at.state) same) ∙ stop)) c);
+          off = λ off. k.win u ne ∙ th.off (sym (started_same u) ∙ off);
+          stopped = λ stop. subst (λ (m : Machine). StopStands w' u m (ls.at m.at.pc).gate) (sym same)
+              (stop_kept world w' u (g.threads u) (ls.at (g.threads u).at.pc).gate (k.win u ne) (th.stopped (sym (ap (λ (m : Machine). may_go m.at.state) same) ∙ stop)));
           waits = λ off. same ∙ th.waits (sym (started_same u) ∙ off);
         })
         (cases_eq u t)
@@ -273,7 +274,7 @@ module _ (x : Targets) (code : Code) (s : Shape) (ls : Labels) (wt : IsWellTyped
         → ((o : ℕ) → o ≢ 0 → (w'.obj o).live ≡ true → ((w'.obj o).global ≡ false) × ((w'.obj o).ty.target < length x.rows))
         → ((o : ℕ) → o ≢ 0 → (w'.obj o).live ≡ true → (1 ≤ elements' o) × (cells' o ≡ elements' o * cells_of x (w'.obj o).ty.target))
         → ((i : ℕ) → i < granules s → epoch_of (slice_index words (97 + i)) ≤ sum_to THREADS now.made)
-        → (may_go m'.at.state ≡ true → Runs x code s ls elements' w' heap' now t m') → (may_go m'.at.state ≡ false → w'.win t ≡ Shut)
+        → (may_go m'.at.state ≡ true → Runs x code s ls elements' w' heap' now t m') → (may_go m'.at.state ≡ false → StopStands w' t m' (ls.at m'.at.pc).gate)
         → g.made t + counted m'.at.state ≤ 100000000 → State x code s ls now w'
     changed_state inv sim apart heap_stands locks globals globals_cells rows whole epochs runs over few =
         record {

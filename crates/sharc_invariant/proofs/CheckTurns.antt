@@ -32,7 +32,7 @@ use Rattle.sharc_invariant.specs.World.{TypedReference, RegisterOf, In, Slot, Ce
 use Rattle.sharc_invariant.specs.Words.{lang_of, MachineView, conc_of, Shows, register_of, noted_by, note_number, is_ended, has_withdrawn, Reads}
 use Rattle.sharc_invariant.specs.Turns.{made_turn, made_conc, KeepsOthers}
 use Rattle.sharc_invariant.specs.Cells.{IsThere}
-use Rattle.sharc_invariant.specs.State.{Runs, State, size_of_run, base_of_cell, object_of_cell, number_in}
+use Rattle.sharc_invariant.specs.State.{StopStands, Runs, State, size_of_run, base_of_cell, object_of_cell, number_in}
 use Rattle.sharc_invariant.proofs.Effects.{put2_all, base_other, sole_at, refuse_ok, pass_ok, set_win_ok, keeps_passed}
 use Rattle.sharc_invariant.proofs.Quiet.{KeepsOwn, KeepsWords, heap_now, quiet_state, noted_same, conc_plain, put_self}
 use Rattle.sharc_invariant.proofs.Turns.{asks_turn, room_of}
@@ -199,7 +199,7 @@ module _ (x : Targets) (code : Code) (s : Shape) (ls : Labels) (wt : IsWellTyped
       let sim3 = subst (λ c. Shows x s st.cells st.elements c w') (sym (conc_plain code g t words m' (noted_same m m' refl rest rest on' refl))) sim2 in
       subst (λ y. State x code s ls y w') (sym now) (quiet_state x code s ls g world st t may.started words m' own kept_words w' (record { obj = refl; mutex = refl; args = λ u. refl })
       (gran_others (marked old t kb) w' refl refl (λ u _. refl) (λ u ne b. elim b as (λ b. Passed old u b → Passed (marked old t kb) u b) [ true ↦ λ h. h | false ↦ λ h. h ]))
-      wt (refuse_ok (size_of_run code s) (lang_of x) world st.inv t kb o gi shut) sim3 (λ q. absurd (cc)) (λ _. shut) (room_of code s g tr may words m' now))
+      wt (refuse_ok (size_of_run code s) (lang_of x) world st.inv t kb o gi shut) sim3 (λ q. absurd (cc)) (λ _. subst (StopStands w' t m') (sym closed) shut) (room_of code s g tr may words m' now))
 
   -- ---- it passes
   dynamic_mode : mode_at x (world.obj (base_of world tr.thread (base_of_cell (g.threads tr.thread) c))).ty j ≡ CellMode.Dynamic

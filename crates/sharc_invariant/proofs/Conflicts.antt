@@ -1,11 +1,10 @@
 -- What checks find.
-use Rattle.std.proofs.Common.{◌≡◌, ℕ, zero, suc, ◌+◌, ◌*◌, ◌<◌, ◌≢◌, ◌⊎◌, Bool, true, false, cond, List, ◌∷◌, refl, sym, ap, ◌∙◌, subst, inl, inr, ⊎_elim}
+use Rattle.std.proofs.Common.{◌≡◌, ℕ, suc, ◌+◌, ◌<◌, ◌≢◌, ◌⊎◌, Bool, true, false, cond, refl, sym, ap, ◌∙◌, subst, inl, inr, ⊎_elim}
 use Rattle.std.specs.Prelude.{slice_index, nat_eq, if◌then◌else◌}
 use Rattle.std.proofs.lemmas.Bool.{cases_Bool, eqb-true}
 use Rattle.sharc_word.specs.declared.step.WordOp.TheVariants.{Or}
 use Rattle.sharc_shadow.specs.declared.shadow_word.Kind.{Kind}
 use Rattle.sharc_shadow.specs.declared.shadow_word.Kind.TheVariants.{Read, Write}
-use Rattle.sharc_shadow.specs.Accesses.{note_of}
 use Rattle.sharc_shadow.specs.ShadowWord.{epoch_of, is_of, is_written, stands, Conflicts}
 use Rattle.sharc_shadow.specs.Functions.{bits_of, conflicts_in}
 use Rattle.sharc_shadow.specs.Laws.{ShadowLaws}
@@ -17,26 +16,24 @@ use Rattle.sharc_code.specs.declared.state.Stage.{Stage}
 use Rattle.sharc_code.specs.declared.state.Stage.TheVariants.{Clears, FreeClears, WithdrawsFrom}
 use Rattle.sharc_code.specs.declared.state.Stop.{Stop}
 use Rattle.sharc_code.specs.declared.state.Stop.TheVariants.{Conflict}
-use Rattle.sharc_code.specs.Layout.{Fits, granules, granule_at, granule_of, shadow_word}
+use Rattle.sharc_code.specs.Layout.{granules, granule_at, granule_of, shadow_word}
 use Rattle.sharc_code.specs.Machine.{Machine, Own, step_of, act, instr_at, place, stopped, with_own, with_note, wrote, checked, check, row_of, ref}
 use Rattle.sharc_code.specs.Path.{may_go, turn}
-use Rattle.sharc_code.specs.Runs.{Turn, Global, put, at, MayTurn, IsRun, after_turn, result_of}
+use Rattle.sharc_code.specs.Runs.{Turn, Global, at, MayTurn, after_turn, result_of}
 use Rattle.sharc_code.specs.Whole.{one_thread, bounds}
 use Rattle.sharc_code.proofs.Places.{eq_refl, put_same}
-use Rattle.sharc_invariant.specs.Bits.{Touch, Untouched, CheckOf, ClearOf, WithdrawOf, Marks, cleared_by, freed_by, withdrawn_by, touch_of, marks_after}
+use Rattle.sharc_invariant.specs.Bits.{Touch, Untouched, CheckOf, WithdrawOf, Marks, cleared_by, freed_by, withdrawn_by, touch_of, marks_after}
 use Rattle.sharc_invariant.specs.Reports.{CheckStands, RunsConflict, touch_at}
-use Rattle.sharc_invariant.specs.Granules.{GranuleState, Passed}
+use Rattle.sharc_invariant.specs.Granules.{Passed}
 use Rattle.sharc_invariant.specs.Types.{Targets}
 use Rattle.sharc_invariant.specs.Labels.{Labels}
 use Rattle.sharc_invariant.specs.World.{World}
-use Rattle.sharc_invariant.specs.Words.{shadow_at, is_withdrawing, note_number, noted_by}
-use Rattle.sharc_invariant.specs.Turns.{made_turn}
+use Rattle.sharc_invariant.specs.Words.{shadow_at, is_withdrawing, noted_by}
 use Rattle.sharc_invariant.specs.Opened.{first_place}
 use Rattle.sharc_invariant.specs.State.{State}
 use Rattle.sharc_invariant.specs.Laws.{RunsFromTheBeginning}
 use Rattle.sharc_invariant.proofs.Turns.{asks_turn}
 use Rattle.sharc_invariant.proofs.Withdrawn.{wrote_now}
-use Rattle.sharc_invariant.proofs.Marked.{MarkedAt}
 use Rattle.sharc_invariant.proofs.BitTurns.{AllMarked, IsNoExit, in_low, at_low, going_on, noted_calm, check_calm, owned, bit_here, written_here, marked_after}
 
 -- a check goes on where it finds no conflict

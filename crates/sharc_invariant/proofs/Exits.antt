@@ -36,7 +36,7 @@ use Rattle.sharc_invariant.specs.Blocks.{Heap, Kept, Built, InBlock}
 use Rattle.sharc_invariant.specs.Words.{lang_of, conc_of, MachineView, Shows, Reads, IsNobodys, store, has_returned, is_withdrawing, has_withdrawn, is_ended, is_unread, is_first, if_reference, argument_of, making_of, note_number, noted_by, register_of, staged_of, logged, shadow_at, cell_at, count_at, length_at}
 use Rattle.sharc_invariant.specs.Turns.{made_turn, KeepsOthers}
 use Rattle.sharc_invariant.specs.Effect.{Effect, Silently, Returns, Withdraws as WithdrawsOf, events_of}
-use Rattle.sharc_invariant.specs.State.{State, Runs, View, view_of, StageStands, SpawnsNow, Reserves, NumberStands, EntryStands, FramesStand, GateStands, Threads, Firsts, TopStands, FrameStands, PassStands, label_now, size_of_run}
+use Rattle.sharc_invariant.specs.State.{StopStands, State, Runs, View, view_of, StageStands, SpawnsNow, Reserves, NumberStands, EntryStands, FramesStand, GateStands, Threads, Firsts, TopStands, FrameStands, PassStands, label_now, size_of_run}
 use Rattle.sharc_invariant.specs.Laws.{Followed}
 use Rattle.sharc_invariant.proofs.Effects.{withdraw_ok}
 use Rattle.sharc_invariant.proofs.Listed.{store_ok}
@@ -348,7 +348,7 @@ module _ (x : Targets) (code : Code) (s : Shape) (ls : Labels) (wt : IsWellTyped
           built = λ u _ b e. (e, refl);
           within = λ u _ b e j n. off j (λ z. let lo = n.0 in let w = on_t in absurd (omega arith));
         })
-        wt st.inv sim_now threads_now firsts_now (λ u _. inl (started_now u)) (λ go. runs_on q y ey world refl refl (heap_now st.heap words) now (stage go)) (λ _. shut) room
+        wt st.inv sim_now threads_now firsts_now (λ u _. inl (started_now u)) (λ go. runs_on q y ey world refl refl (heap_now st.heap words) now (stage go)) (λ _. subst (StopStands world t m') (sym f.0) shut) room
 
   -- ---- a row of the table
   module _ (y : Stage) (ey : IsExiting y) (words : List ℕ) (kw : KeepsLow g.words words) (kept : Kept (arena s) (record st.heap { words = λ i. slice_index words i })) where

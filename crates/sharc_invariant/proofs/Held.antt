@@ -1,7 +1,6 @@
 -- The checks of mutexes.
 use Rattle.std.proofs.Common.{◌≡◌, ℕ, ℤ, ◌+◌, ◌⊎◌, ◌≢◌, true, false, cond, Some, None, refl, sym, ap, ◌∙◌, subst, inl, inr, ⊎_elim}
-use mathlib.Core.Path.{fun_ext}
-use Rattle.std.specs.Prelude.{◌==◌, slice_index}
+use Rattle.std.specs.Prelude.{◌==◌}
 use Rattle.sharc_code.specs.declared.code.Code.{Code}
 use Rattle.sharc_code.specs.declared.instr.Cell.{Cell}
 use Rattle.sharc_code.specs.declared.instr.Cell.TheVariants as cells
@@ -13,26 +12,23 @@ use Rattle.sharc_code.specs.declared.state.Stop.TheVariants.{Trap, NoLock}
 use Rattle.sharc_code.specs.Layout.{Fits, cell_word, cell_of}
 use Rattle.sharc_code.specs.Machine.{Machine, Local, instr_at, ref, goes, stopped, lock_checked, is_held, is_of_null, word}
 use Rattle.sharc_code.specs.Path.{turn}
-use Rattle.sharc_code.specs.Runs.{Turn, Global, put, MayTurn}
+use Rattle.sharc_code.specs.Runs.{Turn, Global, MayTurn}
 use Rattle.sharc_code.specs.Whole.{one_thread, bounds}
 use Rattle.sharc_code.proofs.Places.{put_same, put_other}
 use Rattle.sharc_invariant.specs.Types.{Targets}
 use Rattle.sharc_invariant.specs.Labels.{Gate, Closed, Checked, Holds, Loaded, HoldsLoaded, Sole as SoleGate, Label, Labels, Leads, LessGate, gated}
 use Rattle.sharc_invariant.specs.Typed.{IsWellTyped, knows_base}
 use Rattle.sharc_invariant.specs.World.{World, Window, Shut, Loaded as IsLoaded, WinOk, RegisterOf, in_ref, set_win}
-use Rattle.sharc_invariant.specs.Words.{lang_of, Shows, conc_of, register_of}
+use Rattle.sharc_invariant.specs.Words.{lang_of}
 use Rattle.sharc_invariant.specs.Effect.{Silently}
-use Rattle.sharc_invariant.specs.State.{State, view_of, TopStands, FramesStand, GateStands, size_of_run, base_of_cell, number_in}
+use Rattle.sharc_invariant.specs.State.{StopStands, State, view_of, TopStands, FramesStand, GateStands, base_of_cell, number_in}
 use Rattle.sharc_invariant.specs.Laws.{Turned}
 use Rattle.sharc_invariant.proofs.Turns.{local_turn, room_of}
 use Rattle.sharc_invariant.proofs.Own.{is_single, runs, rests, top, gate, fine, begun_before}
-use Rattle.sharc_invariant.proofs.Effects.{set_win_ok}
-use Rattle.sharc_invariant.proofs.Quiet.{KeepsOwn, quiet_state, noted_same, conc_plain, put_self}
-use Rattle.sharc_invariant.proofs.CheckTurns.{sim_win}
-use Rattle.sharc_invariant.proofs.Plain.{is_shut, same_words, register_plain, going}
+use Rattle.sharc_invariant.proofs.Quiet.{KeepsOwn}
+use Rattle.sharc_invariant.proofs.Plain.{plain_state, is_shut, same_words, going}
 use Rattle.sharc_invariant.proofs.Accesses.{gate_top, windowed_state}
 use Rattle.sharc_invariant.proofs.Steps.{knows_top, stops, asserted, of_turn, reads}
-use Rattle.sharc_invariant.proofs.Others.{loses}
 
 pub held_gate : (c : Cell) (y : Gate) → LessGate (Holds c) y → (y ≡ Closed) ⊎ (y ≡ Holds c)
 held_gate c Closed h = inl refl
@@ -136,16 +132,16 @@ module _ (x : Targets) (code : Code) (s : Shape) (ls : Labels) (wt : IsWellTyped
       base_top (cells.Object r p) names n rd tp = knows_top x tr.thread (view_of st.elements world tr.thread (g.threads tr.thread)) (g.threads tr.thread).at.refs (g.threads tr.thread).at.ints names here r (not_null r n (rd r)) tp
       base_top (cells.ObjectAt r p) names n rd tp = knows_top x tr.thread (view_of st.elements world tr.thread (g.threads tr.thread)) (g.threads tr.thread).at.refs (g.threads tr.thread).at.ints names here r (not_null r n (rd r)) tp
 
-  -- a stop where a window is open
+  -- a stop where a reference was loaded: the window stays as it is
   module _ (i : Instr) (is : instr_at code (g.threads tr.thread).at.pc ≡ i) (single : is_single i ≡ true) where
-    stop_shut : (why : Stop) → ((r : ℕ) → world.win tr.thread ≡ Window.Sole r → ⊥) → turn code s (g.threads tr.thread) ≡ Local (stopped (g.threads tr.thread) why) → Done
-    stop_shut why alone e =
+    stop_loaded : (why : Stop) (c : Cell) → here.gate ≡ Loaded c → world.win tr.thread ≡ IsLoaded (base_of_cell (g.threads tr.thread) c) (number_in (g.threads tr.thread) c) (g.threads tr.thread).pending
+        → turn code s (g.threads tr.thread) ≡ Local (stopped (g.threads tr.thread) why) → Done
+    stop_loaded why c loaded win e =
         let m' = stopped m why in
         let done = local_turn code s g tr may m' e in
         let on = may.started in
         let go = may.next.runs in
         let rest = rests x code s ls wt g world st t on go i is single in
-        let w' = set_win world t Shut in
         let own : KeepsOwn m m' = record {
           number = refl;
           held = refl;
@@ -161,26 +157,19 @@ module _ (x : Targets) (code : Code) (s : Shape) (ls : Labels) (wt : IsWellTyped
           begun = begun_before x code s ls wt g world st t on go i is single;
           ended_before = going x code s ls wt g world st t on go i is single;
           ended = refl;
-        } in
-        let regs : put (λ u. register_of code (g.threads u)) t (register_of code m') ≡ (λ u. register_of code (g.threads u)) =
-        fun_ext (put_self (λ u. register_of code (g.threads u)) t (register_of code m') (fun_ext (λ n. register_plain code m' rest n ∙ sym (register_plain code m rest n)))) in
-        let sim1 : Shows x s st.cells st.elements (record (conc_of code g) { words = λ j. slice_index g.words j; regs = put (λ u. register_of code (g.threads u)) t (register_of code m') }) w' =
-        subst (λ r. Shows x s st.cells st.elements (record (conc_of code g) { words = λ j. slice_index g.words j; regs = r }) w') (sym regs) (sim_win x s st.cells st.elements (record (conc_of code g) { words = λ j. slice_index g.words j }) world (put world.win t Shut) st.sim) in
-        let sim2 = subst (λ c. Shows x s st.cells st.elements c w') (sym (conc_plain code g t g.words m' (noted_same m m' refl rest rest own.ended_before own.ended))) sim1 in (
-          w',
-          subst (λ y. State x code s ls y w') (sym done) (quiet_state x code s ls g world st t on g.words m' own (same_words x code s ls g world st) w' (record { obj = refl; mutex = refl; args = λ u. refl })
-              (record { regs = λ u _ r. refl; win = λ u ne. put_other world.win t u Shut ne; passed = λ u _ o p b _ q. q; sole = λ u _ r _ p. loses refl; cells = λ u _ r _ n. refl; built = λ u _ b e. (e, refl); within = λ u _ b e j n. refl })
-              wt (set_win_ok (size_of_run code s) (lang_of x) world st.inv t Shut tt) sim2 (λ q. absurd (cc)) (λ _. put_same world.win t Shut) (room_of code s g tr may g.words m' done)),
-          Silently (record { obj = refl; mutex = refl; passed = λ o p u b q. q; sole = λ u r e. let ne : u ≡ t → ⊥ = λ q. alone r (ap world.win (sym q) ∙ e) in (put_other world.win t u Shut ne ∙ e, refl) }),
+        } in (
+          world,
+          subst (λ y. State x code s ls y world) (sym done) (plain_state x code s ls wt g world st t on go i is single m' own refl refl (λ q. absurd (cc))
+              (λ _. subst (StopStands world t m') (sym loaded) (still c win)) (room_of code s g tr may g.words m' done)),
+          Silently (record { obj = refl; mutex = refl; passed = λ o p u b q. q; sole = λ u r e. (e, refl) }),
         )
-
-  held_loaded_gate : (c : Cell) (y : Gate) → LessGate (HoldsLoaded c) y → (y ≡ Closed) ⊎ (y ≡ HoldsLoaded c)
-  held_loaded_gate c Closed h = inl refl
-  held_loaded_gate c (Checked a d) h = inr h
-  held_loaded_gate c (Holds d) h = inr h
-  held_loaded_gate c (Loaded d) h = inr h
-  held_loaded_gate c (HoldsLoaded d) h = inr h
-  held_loaded_gate c (SoleGate r d) h = inr h
+      where
+        still : (c : Cell) → world.win tr.thread ≡ IsLoaded (base_of_cell (g.threads tr.thread) c) (number_in (g.threads tr.thread) c) (g.threads tr.thread).pending
+            → world.win tr.thread ≡ IsLoaded (base_of_cell (stopped (g.threads tr.thread) why) c) (number_in (stopped (g.threads tr.thread) why) c) (g.threads tr.thread).pending
+        still (cells.Global a p) h = h
+        still (cells.GlobalAt a p) h = h
+        still (cells.Object r p) h = h
+        still (cells.ObjectAt r p) h = h
 
   pub Lock_check_loaded_keeps : (site : ℕ) → instr_at code (g.threads tr.thread).at.pc ≡ instrs.ChkLockLoaded site → Done
   Lock_check_loaded_keeps site is =
@@ -203,15 +192,12 @@ module _ (x : Targets) (code : Code) (s : Shape) (ls : Labels) (wt : IsWellTyped
         Silently (record { obj = refl; mutex = refl; passed = λ o p u b q. q; sole = λ u r e. let ne : u ≡ t → ⊥ = λ q. alone r (ap world.win (sym q) ∙ e) in (put_other world.win t u win ne ∙ e, refl) }),
       ) in
       elim (m.pending == 0) as (λ n. (m.pending == 0) ≡ n → turn code s m ≡ Local (lock_checked m n mutex site) → Done) [
-        | true ↦ λ n e. stop_shut i is refl (Trap 1 site) alone e
+        | true ↦ λ n e. stop_loaded i is refl (Trap 1 site) c f.2 gate' e
         | false ↦ λ n e. elim (is_held m mutex) as (λ b. is_held m mutex ≡ b → turn code s m ≡ Local (cond b (goes m) (stopped m (NoLock site mutex))) → Done) [
-          | true ↦ λ b e. ⊎_elim
-              (λ (q : new ≡ Closed). done_with e Shut tt (subst (GateStands s (set_win world t Shut) t m') (sym q) (put_same world.win t Shut)))
-              (λ (q : new ≡ HoldsLoaded c). done_with e (IsLoaded (base_of_cell m c) (number_in m c) m.pending) (subst (WinOk (lang_of x) world t) gate' (st.inv.wins t))
-              (subst (GateStands s (set_win world t (IsLoaded (base_of_cell m c) (number_in m c) m.pending)) t m') (sym q)
-              (same_window c, (λ z. let k : (m.pending == 0) ≡ true = ap (λ n. n == 0) z in cc), b)))
-              (held_loaded_gate c new f.5.gate)
-          | false ↦ λ b e. stop_shut i is refl (NoLock site mutex) alone e
+          | true ↦ λ b e. done_with e (IsLoaded (base_of_cell m c) (number_in m c) m.pending) (subst (WinOk (lang_of x) world t) gate' (st.inv.wins t))
+              (subst (GateStands s (set_win world t (IsLoaded (base_of_cell m c) (number_in m c) m.pending)) t m') (sym f.5.gate)
+              (same_window c, (λ z. let k : (m.pending == 0) ≡ true = ap (λ n. n == 0) z in cc), b))
+          | false ↦ λ b e. stop_loaded i is refl (NoLock site mutex) c f.2 gate' e
         ] refl e
       ] refl e0
     where

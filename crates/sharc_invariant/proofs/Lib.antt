@@ -72,3 +72,4 @@ pub mod Withdrawn
 pub mod Exits
 pub mod Ends
 pub mod Owned
+pub mod Located

@@ -277,7 +277,8 @@ module _ (x : Targets) (code : Code) (s : Shape) (ls : Labels) (wt : IsWellTyped
       table = no_note (granules s);
     };
     runs = λ on go. opened_runs t;
-    over = λ c. refl;
+    off = λ _. refl;
+    stopped = λ stop. let e : true ≡ false = stop in absurd (cc);
     waits = λ off. refl;
   }
 

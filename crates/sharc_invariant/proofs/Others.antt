@@ -15,14 +15,34 @@ use Rattle.sharc_code.specs.declared.state.Stage.TheVariants.{Rests, Looks, Clea
 use Rattle.sharc_code.specs.Layout.{function_word, argument_word, first_cell}
 use Rattle.sharc_code.specs.Machine.{Machine, ref, pointer_cell, layout_at}
 use Rattle.sharc_invariant.specs.Granules.{GranuleState}
-use Rattle.sharc_invariant.specs.World.{RegisterOf, Cell, Sole, World, in_ref}
+use Rattle.sharc_invariant.specs.Labels.{Gate, Closed, Checked, Holds, Loaded, HoldsLoaded, Sole as SoleGate}
+use Rattle.sharc_invariant.specs.World.{RegisterOf, Cell, Sole, Shut, Loaded as IsLoaded, World, in_ref}
 use Rattle.sharc_invariant.specs.Blocks.{Heap, Built}
 use Rattle.sharc_invariant.specs.Turns.{KeepsOthers, OnlyLoses}
-use Rattle.sharc_invariant.specs.State.{StageStands, OnClear, OnNew, OnFree, OnSpawn, OnStart, AreCleared, Swapping, Emptying, Reserves, SpawnsNow, BuildsAt, all_pointers, granules_freed}
+pub use Rattle.sharc_invariant.specs.State.{OnHold}
+use Rattle.sharc_invariant.specs.State.{StopStands, GateStands, base_of_cell, number_in, StageStands, OnClear, OnNew, OnFree, OnSpawn, OnStart, AreCleared, Swapping, Emptying, Reserves, SpawnsNow, BuildsAt, all_pointers, granules_freed}
 
 -- a granule that is as it was loses nothing
 pub loses : {x y : GranuleState} → y ≡ x → OnlyLoses x y
 loses {x} e = subst (OnlyLoses x) (sym e) (record { epoch = refl; passed = λ v p. p })
+
+-- ---- a thread that has stopped
+pub stop_kept : (w w' : World) (u : ℕ) (m : Machine) (gate : Gate) → w'.win u ≡ w.win u → StopStands w u m gate → StopStands w' u m gate
+stop_kept w w' u m (Loaded c) e h = e ∙ h
+stop_kept w w' u m (HoldsLoaded c) e h = e ∙ h
+stop_kept w w' u m Closed e h = e ∙ h
+stop_kept w w' u m (Checked write c) e h = e ∙ h
+stop_kept w w' u m (Holds c) e h = e ∙ h
+stop_kept w w' u m (SoleGate r cleared) e h = e ∙ h
+
+-- it stops where its window is shut, and so at a gate at which nothing was loaded
+pub stop_at : (s : Shape) (w : World) (t : ℕ) (m m' : Machine) (gate : Gate) → GateStands s w t m gate → w.win t ≡ Shut → StopStands w t m' gate
+stop_at s w t m m' (Loaded c) gate shut = absurd (let e : Shut ≡ IsLoaded (base_of_cell m c) (number_in m c) m.pending = sym shut ∙ gate in cc)
+stop_at s w t m m' (HoldsLoaded c) gate shut = absurd (let e : Shut ≡ IsLoaded (base_of_cell m c) (number_in m c) m.pending = sym shut ∙ gate.0 in cc)
+stop_at s w t m m' Closed gate shut = shut
+stop_at s w t m m' (Checked write c) gate shut = shut
+stop_at s w t m m' (Holds c) gate shut = shut
+stop_at s w t m m' (SoleGate r cleared) gate shut = shut
 
 -- ---- an instruction of a kind
 -- the register whose object it walks over
@@ -50,10 +70,6 @@ map_spawn P Q _ f h = absurd h
 pub map_start : (P Q : Type 0) (i : Instr) → (P → Q) → OnStart P i → OnStart Q i
 map_start P Q (Start site) f h = f h
 map_start P Q _ f h = absurd h
-
-abbrev pub OnHold : Stage → Type 0
-OnHold (Links all) = ⊥
-OnHold _ = Unit {0}
 
 module _ (code : Code) (s : Shape) (elements : ℕ → ℕ) (w w' : World) (heap heap' : Heap) (words words' : List ℕ) (t : ℕ) (k : KeepsOthers s w w' heap heap' words words' t) (u : ℕ) (ne : u ≢ t) (m : Machine) (i : Instr)
     (sole : (r : ℕ) → operand i ≡ Some r → OnHold m.own.stage → (q : ℕ) × ((w.win u ≡ Sole q) × (in_ref w (RegisterOf u q) ≡ ref m r)))

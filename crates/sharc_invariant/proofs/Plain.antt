@@ -22,10 +22,10 @@ use Rattle.sharc_invariant.specs.World.{World, Shut}
 use Rattle.sharc_invariant.specs.Blocks.{Heap, Kept}
 use Rattle.sharc_invariant.specs.Words.{MachineView, conc_of, Shows, register_of, is_ended}
 use Rattle.sharc_invariant.specs.Turns.{made_turn, KeepsOthers}
-use Rattle.sharc_invariant.specs.State.{BelowStands, State, View, view_of, vals_of, NumberStands, TopStands, FramesStand, GateStands, Runs, refs_at, types_at}
+use Rattle.sharc_invariant.specs.State.{StopStands, BelowStands, State, View, view_of, vals_of, NumberStands, TopStands, FramesStand, GateStands, Runs, refs_at, types_at}
 use Rattle.sharc_invariant.proofs.Frames.{less_stands, Agrees, Low, callers_agree}
 use Rattle.sharc_invariant.proofs.Quiet.{KeepsOwn, KeepsWords, KeepsWorld, heap_now, quiet_state, freed_held, noted_same, conc_plain}
-use Rattle.sharc_invariant.proofs.Others.{OnHold, loses}
+use Rattle.sharc_invariant.proofs.Others.{stop_at, OnHold, loses}
 use Rattle.sharc_invariant.proofs.Own.{is_single, closed_less, runs_at, int_inside, runs, rests, top, gate, not_begun, begun_before}
 
 -- ---- registers as they are seen
@@ -83,7 +83,7 @@ module _ (x : Targets) (code : Code) (s : Shape) (ls : Labels) (wt : IsWellTyped
 
   -- the thread's references, world and words stay
   pub plain_state : (m' : Machine) → KeepsOwn (g.threads t) m' → m'.own.table ≡ (g.threads t).own.table → m'.refs ≡ (g.threads t).refs
-      → (may_go m'.at.state ≡ true → Runs x code s ls st.elements world (heap_now st.heap g.words) (made_turn g t g.words m') t m') → (may_go m'.at.state ≡ false → world.win t ≡ Shut)
+      → (may_go m'.at.state ≡ true → Runs x code s ls st.elements world (heap_now st.heap g.words) (made_turn g t g.words m') t m') → (may_go m'.at.state ≡ false → StopStands world t m' (ls.at m'.at.pc).gate)
       → g.made t + counted m'.at.state ≤ 100000000 → State x code s ls (made_turn g t g.words m') world
   plain_state m' own tb refs runs' over few =
       let regs : (u j : ℕ) → register_of code (g.threads u) j ≡ put (λ u. register_of code (g.threads u)) t (register_of code m') u j = λ u j.
@@ -174,7 +174,7 @@ module _ (x : Targets) (code : Code) (s : Shape) (ls : Labels) (wt : IsWellTyped
         ended_before = going;
         ended = refl;
       }) refl refl
-      (λ e. absurd (cc)) (λ _. shut) few
+      (λ e. absurd (cc)) (λ _. stop_at s world t m (stopped (g.threads t) why) here.gate (gate x code s ls wt g world st t on go i is single) shut) few
 
   -- ---- an integer register holds something else
   abbrev numbered : ℕ → ℤ → Machine

@@ -27,13 +27,13 @@ use Rattle.sharc_invariant.specs.Granules.{sum_to}
 use Rattle.sharc_invariant.specs.Types.{Targets, nothing, field_in, is_mutex, cells_of}
 use Rattle.sharc_invariant.specs.Labels.{Gate, Closed, Checked, Holds, Loaded, HoldsLoaded, Sole as SoleGate, Label, Labels}
 use Rattle.sharc_invariant.specs.Typed.{Fine, IsWellTyped}
-use Rattle.sharc_invariant.specs.World.{RegisterOf, ArgumentOf, In, TypedReference, ObjectState, Shut, Sole, World, in_ref, WorldInvariant}
+use Rattle.sharc_invariant.specs.World.{RegisterOf, ArgumentOf, In, TypedReference, ObjectState, Sole, World, in_ref, WorldInvariant}
 use Rattle.sharc_invariant.specs.Blocks.{Heap, Kept, Live}
 use Rattle.sharc_invariant.specs.Words.{is_freed, is_first, if_reference, note_number, conc_of, Shows, Apart, register_of, argument_of, is_unread, staged_of, noted_by, logged, is_ended, has_withdrawn, lang_of, cell_at, making_of, head_of, head_with}
 use Rattle.sharc_invariant.specs.Turns.{made_turn, made_conc, KeepsOthers}
-use Rattle.sharc_invariant.specs.State.{block_for, State, View, view_of, HeapStands, Locks, Threads, Firsts, NumberStands, ThreadStands, IsThread, Runs, SpawnsNow, Reserves, EntryStands, FramesStand, GateStands, label_now, size_of_run}
+use Rattle.sharc_invariant.specs.State.{StopStands, block_for, State, View, view_of, HeapStands, Locks, Threads, Firsts, NumberStands, ThreadStands, IsThread, Runs, SpawnsNow, Reserves, EntryStands, FramesStand, GateStands, label_now, size_of_run}
 use Rattle.sharc_invariant.proofs.Frames.{Agrees, Always, top_agrees, callers_agree}
-use Rattle.sharc_invariant.proofs.Others.{stage_kept, operand, OnHold}
+use Rattle.sharc_invariant.proofs.Others.{stop_kept, stage_kept, operand, OnHold}
 
 -- what every turn keeps of its thread here
 pub record KeepsThread (m m' : Machine) : Type 0 where
@@ -327,15 +327,14 @@ module _ (x : Targets) (code : Code) (s : Shape) (ls : Labels) (g : Global Machi
     heap' = heap_now st.heap words
 
     threads_kept : IsWellTyped x code ls → ((u : ℕ) → u ≢ t → (now.started u ≡ g.started u) ⊎ ThreadStands x code s ls st.elements w' heap' now u)
-        → (may_go m'.at.state ≡ true → Runs x code s ls st.elements w' heap' now t m') → (may_go m'.at.state ≡ false → w'.win t ≡ Shut)
+        → (may_go m'.at.state ≡ true → Runs x code s ls st.elements w' heap' now t m') → (may_go m'.at.state ≡ false → StopStands w' t m' (ls.at m'.at.pc).gate)
         → (u : ℕ) → ThreadStands x code s ls st.elements w' heap' now u
     threads_kept wt news runs over u = ⊎_elim
         (λ (e : u ≡ t). subst (λ u. ThreadStands x code s ls st.elements w' heap' now u) (sym e) (record {
           has = has_kept t;
           runs = λ _ go. subst (Runs x code s ls st.elements w' heap' now t) (sym (put_same g.threads t m')) (runs (sym (ap (λ (m : Machine). may_go m.at.state) (put_same g.threads t m')) ∙ go));
-          over = ⊎_elim
-              (λ (off : now.started t ≡ false). let on' : now.started t ≡ true = started_on in absurd (cc))
-              (λ (stop : may_go (now.threads t).at.state ≡ false). over (sym (ap (λ (m : Machine). may_go m.at.state) (put_same g.threads t m')) ∙ stop));
+          off = λ off. let on' : now.started t ≡ true = started_on in absurd (cc);
+          stopped = λ stop. subst (λ (m : Machine). StopStands w' t m (ls.at m.at.pc).gate) (sym (put_same g.threads t m')) (over (sym (ap (λ (m : Machine). may_go m.at.state) (put_same g.threads t m')) ∙ stop));
           waits = λ off. let on' : now.started t ≡ true = started_on in absurd (cc);
         }))
         (λ (ne : u ≡ t → ⊥). ⊎_elim (λ (as_before : now.started u ≡ g.started u).
@@ -347,14 +346,16 @@ module _ (x : Targets) (code : Code) (s : Shape) (ls : Labels) (g : Global Machi
               let on1 : g.started u ≡ true = sym as_before ∙ on' in
               let go1 : may_go (g.threads u).at.state ≡ true = sym (ap (λ (m : Machine). may_go m.at.state) same) ∙ go in
               subst (Runs x code s ls st.elements w' heap' now u) (sym same) (others_run wt u ne on1 go1 (th.runs on1 go1));
-          over = λ c. k.win u ne ∙ th.over (⊎_elim (λ off. inl (sym as_before ∙ off)) (λ stop. inr (sym (ap (λ (m : Machine). may_go m.at.state) same) ∙ stop)) c);
+          off = λ off. k.win u ne ∙ th.off (sym as_before ∙ off);
+          stopped = λ stop. subst (λ (m : Machine). StopStands w' u m (ls.at m.at.pc).gate) (sym same)
+              (stop_kept world w' u (g.threads u) (ls.at (g.threads u).at.pc).gate (k.win u ne) (th.stopped (sym (ap (λ (m : Machine). may_go m.at.state) same) ∙ stop)));
           waits = λ off. same ∙ th.waits (sym as_before ∙ off);
         })
         (λ (new : ThreadStands x code s ls st.elements w' heap' now u). new) (news u ne))
         (cases_eq u t)
 
     pub any_state : IsWellTyped x code ls → WorldInvariant (size_of_run code s) (lang_of x) w' → Shows x s st.cells st.elements (conc_of code now) w' → Locks x s st.cells w' now → Threads code ls w' now → Firsts x ls now → ((u : ℕ) → u ≢ t → (now.started u ≡ g.started u) ⊎ ThreadStands x code s ls st.elements w' heap' now u)
-        → (may_go m'.at.state ≡ true → Runs x code s ls st.elements w' heap' now t m') → (may_go m'.at.state ≡ false → w'.win t ≡ Shut)
+        → (may_go m'.at.state ≡ true → Runs x code s ls st.elements w' heap' now t m') → (may_go m'.at.state ≡ false → StopStands w' t m' (ls.at m'.at.pc).gate)
         → g.made t + counted m'.at.state ≤ 100000000 → State x code s ls now w'
     any_state wt inv sim locks begins firsts news runs over few =
         let A : (ℕ → ObjectState) → Type 0 = λ f. Apart s f st.cells in
@@ -416,7 +417,7 @@ module _ (x : Targets) (code : Code) (s : Shape) (ls : Labels) (g : Global Machi
   present = made_turn g t words m'
 
   pub most_state : IsWellTyped x code ls → WorldInvariant (size_of_run code s) (lang_of x) w' → Shows x s st.cells st.elements (conc_of code present) w' → Threads code ls w' present → Firsts x ls present → ((u : ℕ) → u ≢ t → (present.started u ≡ g.started u) ⊎ ThreadStands x code s ls st.elements w' (heap_now st.heap words) present u)
-      → (may_go m'.at.state ≡ true → Runs x code s ls st.elements w' (heap_now st.heap words) present t m') → (may_go m'.at.state ≡ false → w'.win t ≡ Shut)
+      → (may_go m'.at.state ≡ true → Runs x code s ls st.elements w' (heap_now st.heap words) present t m') → (may_go m'.at.state ≡ false → StopStands w' t m' (ls.at m'.at.pc).gate)
       → g.made t + counted m'.at.state ≤ 100000000 → State x code s ls present w'
   most_state wt inv sim begins firsts news runs over few =
       any_state x code s ls g world st t on words m' (lengths_kept (g.threads t) m' (st.threads t).has.log own) kw w' obj k wt inv sim
@@ -453,7 +454,7 @@ module _ (x : Targets) (code : Code) (s : Shape) (ls : Labels) (g : Global Machi
 
   module _ (w' : World) (obj : w'.obj ≡ world.obj) (mutex : w'.mutex ≡ world.mutex) (k : KeepsOthers s world w' st.heap (heap_now st.heap words) g.words words t) where
     pub kept_state : IsWellTyped x code ls → WorldInvariant (size_of_run code s) (lang_of x) w' → Shows x s st.cells st.elements (conc_of code next) w' → Threads code ls w' next → Firsts x ls next
-        → (may_go m'.at.state ≡ true → Runs x code s ls st.elements w' (heap_now st.heap words) next t m') → (may_go m'.at.state ≡ false → w'.win t ≡ Shut)
+        → (may_go m'.at.state ≡ true → Runs x code s ls st.elements w' (heap_now st.heap words) next t m') → (may_go m'.at.state ≡ false → StopStands w' t m' (ls.at m'.at.pc).gate)
         → g.made t + counted m'.at.state ≤ 100000000 → State x code s ls next w'
     kept_state wt inv sim begins firsts runs over few =
         most_state x code s ls g world st t on words m' own (most_words s st.heap g t words st.begins.few kw) w' obj mutex k wt inv sim begins firsts (λ u _. inl (started_same u)) runs over few
@@ -561,7 +562,7 @@ module _ (x : Targets) (code : Code) (s : Shape) (ls : Labels) (g : Global Machi
     }
 
     pub loud_state : IsWellTyped x code ls → WorldInvariant (size_of_run code s) (lang_of x) w' → Shows x s st.cells st.elements (record (made_conc code (conc_of code g) t words m') { logs = put (λ u. logged (g.threads u)) t (logged m') }) w' → Locks x s st.cells w' later
-        → (may_go m'.at.state ≡ true → Runs x code s ls st.elements w' (heap_now st.heap words) later t m') → (may_go m'.at.state ≡ false → w'.win t ≡ Shut)
+        → (may_go m'.at.state ≡ true → Runs x code s ls st.elements w' (heap_now st.heap words) later t m') → (may_go m'.at.state ≡ false → StopStands w' t m' (ls.at m'.at.pc).gate)
         → g.made t + counted m'.at.state ≤ 100000000 → State x code s ls later w'
     loud_state wt inv sim locks runs over few =
         any_state x code s ls g world st t on words m' own' (most_words s st.heap g t words st.begins.few kw) w' kd.obj k wt inv (subst (λ c. Shows x s st.cells st.elements c w') (sym conc_same) sim) locks begins_kept
@@ -577,7 +578,7 @@ module _ (x : Targets) (code : Code) (s : Shape) (ls : Labels) (g : Global Machi
   calm = made_turn g t words m'
 
   pub quiet_state : IsWellTyped x code ls → WorldInvariant (size_of_run code s) (lang_of x) w' → Shows x s st.cells st.elements (made_conc code (conc_of code g) t words m') w'
-      → (may_go m'.at.state ≡ true → Runs x code s ls st.elements w' (heap_now st.heap words) calm t m') → (may_go m'.at.state ≡ false → w'.win t ≡ Shut)
+      → (may_go m'.at.state ≡ true → Runs x code s ls st.elements w' (heap_now st.heap words) calm t m') → (may_go m'.at.state ≡ false → StopStands w' t m' (ls.at m'.at.pc).gate)
       → g.made t + counted m'.at.state ≤ 100000000 → State x code s ls calm w'
   quiet_state wt inv sim runs over few =
       let logs : (λ u. logged (g.threads u)) ≡ put (λ u. logged (g.threads u)) t (logged m') =

@@ -409,7 +409,7 @@ module _ (code : Code) (is : IsSample code) where
   p16 = w 16 w16 (ChkLock (cells.Object 1 0) 2) refl (refl, (f_mutex, (has_cell w16 0 f_mutex refl refl refl (omega arith) refl).field, refl), less_refl w17) s16
 
   p17 : Right 17 w17 (Store 0 (cells.Object 1 1) 2)
-  p17 = w 17 w17 (Store 0 (cells.Object 1 1) 2) refl (f_locked, Int, record { cell = (has_cell w17 1 f_locked refl refl refl (omega arith) refl); may = (cells.Object 1 0, f_mutex, refl, (has_cell w17 0 f_mutex refl refl refl (omega arith) refl), refl, (Itself refl, omega arith, omega arith)); apart = tt; mode = is.sites.1 }, refl, refl, less_refl (gated w17 Closed)) s17
+  p17 = w 17 w17 (Store 0 (cells.Object 1 1) 2) refl (f_locked, Int, record { cell = (has_cell w17 1 f_locked refl refl refl (omega arith) refl); may = (cells.Object 1 0, f_mutex, refl, (has_cell w17 0 f_mutex refl refl refl (omega arith) refl), refl, (Itself refl, omega arith, omega arith)); apart = tt; mode = (is.sites.1, tt) }, refl, refl, less_refl (gated w17 Closed)) s17
 
   p18 : Right 18 (gated w17 Closed) (Lower 1)
   p18 = w 18 (gated w17 Closed) (Lower 1) refl (refl, (let b = refs_w in omega arith), free_by (gated w17 Closed) 1 k14, less_refl w19) s18

@@ -37,7 +37,7 @@ use Rattle.sharc_invariant.specs.World.{Window, TypedReference, Holder, Register
 use Rattle.sharc_invariant.specs.Words.{MachineView, conc_of, lang_of, Shows, is_first, is_unread, if_reference, note_number, register_of, argument_of, staged_of, noted_by, logged, is_ended, has_withdrawn, set_reg, making_of}
 use Rattle.sharc_invariant.specs.Effect.{Silently}
 use Rattle.sharc_invariant.specs.Turns.{made_turn, KeepsOthers}
-use Rattle.sharc_invariant.specs.State.{State, IsSmall, View, view_of, vals_of, Runs, ThreadStands, Threads, Firsts, Reserves, SpawnsNow, EntryStands, NumberStands, TopStands, BelowStands, FramesStand, GateStands, StageStands, label_now, refs_at, types_at, size_of_run}
+use Rattle.sharc_invariant.specs.State.{StopStands, State, IsSmall, View, view_of, vals_of, Runs, ThreadStands, Threads, Firsts, Reserves, SpawnsNow, EntryStands, NumberStands, TopStands, BelowStands, FramesStand, GateStands, StageStands, label_now, refs_at, types_at, size_of_run}
 use Rattle.sharc_invariant.specs.Laws.{Turned}
 use Rattle.sharc_invariant.proofs.Effects.{place_same, place_other, shift_ok}
 use Rattle.sharc_invariant.proofs.Frames.{empty_stands, Agrees, Low, callers_agree, less_number, filled, less_stands, entry_kept}
@@ -367,7 +367,7 @@ module _ (x : Targets) (code : Code) (s : Shape) (ls : Labels) (wt : IsWellTyped
           built = λ u _ b e. (e, refl);
           within = λ u _ b e j n. off j (λ q. let lo = n.0 in absurd (omega arith));
         })
-        wt st.inv sim_now threads_now firsts_now (λ u _. inl (started_now u)) runs (λ _. shut) room
+        wt st.inv sim_now threads_now firsts_now (λ u _. inl (started_now u)) runs (λ _. subst (λ p. StopStands world t m' (ls.at p).gate) (sym pc) (subst (StopStands world t m') (sym fine.0) shut)) room
 
     -- at a stage of its own
     stage_runs : (y : Stage) → m' ≡ at_stage (g.threads tr.thread) y → is_spawning y ≡ true → StageStands code s st.elements world (heap_now st.heap words) words tr.thread (at_stage (g.threads tr.thread) y) (instrs.Spawn r f from site) y
@@ -797,7 +797,7 @@ module _ (x : Targets) (code : Code) (s : Shape) (ls : Labels) (wt : IsWellTyped
       let rn' = rn x code s ls wt fits g world st tr may r f from site is sp in
       let off_n : g.started n ≡ false = (st.begins.started n reserves.few).0 reserves.state in
       let new_thread = begun_stands x code s ls wt st.elements w' (heap_now st.heap begun_words) then_ n (put_other g.threads t n last not_t ∙ waits)
-      (λ j. ap (λ (y : TypedReference). y.reference) (ks.regs n not_t j) ∙ begun_regs x code s ls wt g world st n waits j) (ks.win n not_t ∙ (st.threads n).over (inl off_n)) in
+      (λ j. ap (λ (y : TypedReference). y.reference) (ks.regs n not_t j) ∙ begun_regs x code s ls wt g world st n waits j) (ks.win n not_t ∙ (st.threads n).off off_n) in
       most_state x code s ls g world st t may.started begun_words last
       (record { number = refl; held = refl; heads = refl; making = sym (spawning_making m.own.stage sp); notes = refl; table = (st.threads t).has.table; refs = lr; ints = length-set m.ints (m.at.ints + r) (pos n); frames = refl })
       most_last w' eo em ks wt inv (subst (λ c. Shows x s st.cells st.elements c w') (sym conc_last) sim) (threads_last w' others entry) (firsts_last number)
@@ -807,7 +807,7 @@ module _ (x : Targets) (code : Code) (s : Shape) (ls : Labels) (wt : IsWellTyped
       (subst (FramesStand x code ls t (view_of st.elements w' t last) last) (sym leads.function) below)
       (subst (GateStands s w' t last) (sym closed) still)
       (λ q. rn'.room (sym kr ∙ leads.room q)))
-      (λ _. still) room
+      (λ e. absurd (cc)) room
 
 -- ---- a number is handed over
 number_plain : (x : Targets) (el el' refs refs' : ℕ → ℕ) (types types' : ℕ → ObjectType) (names names' : ℕ → ℤ) (z : ℤ) (n : Number) → ((b : ℕ) → HasBase n b → ⊥) → ((name : ℕ) → HasName n name → ⊥)

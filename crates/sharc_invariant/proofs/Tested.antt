@@ -1,14 +1,13 @@
 -- What a test of a sole reference finds.
-use Rattle.std.proofs.Common.{◌≡◌, ℕ, zero, suc, ◌+◌, ◌≤◌, ◌≢◌, Bool, true, false, cond, refl, sym, ap, ◌∙◌, subst, ⊎_elim, arith}
+use Rattle.std.proofs.Common.{◌≡◌, ℕ, zero, suc, ◌+◌, ◌≤◌, ◌≢◌, Bool, true, false, refl, sym, ap, ◌∙◌, subst, arith}
 use Rattle.std.specs.Prelude.{slice_index, ◌==◌, if◌then◌else◌}
-use Rattle.std.proofs.lemmas.Bool.{cases_eq}
 use Rattle.sharc_count.specs.Count.{test_of}
 use Rattle.sharc_code.specs.declared.code.Code.{Code}
 use Rattle.sharc_code.specs.declared.instr.Instr.TheVariants.{TestSole}
 use Rattle.sharc_code.specs.declared.shape.Shape.{Shape}
 use Rattle.sharc_code.specs.declared.state.Stop.{Stop}
 use Rattle.sharc_code.specs.declared.state.Stop.TheVariants.{NotSole}
-use Rattle.sharc_code.specs.Layout.{Fits, count_word}
+use Rattle.sharc_code.specs.Layout.{count_word}
 use Rattle.sharc_code.specs.Machine.{Machine, act, instr_at, goes, stopped, tested, ref}
 use Rattle.sharc_code.specs.Path.{may_go}
 use Rattle.sharc_code.specs.Runs.{Turn, Global, at, MayTurn, after_turn, result_of}
@@ -17,7 +16,7 @@ use Rattle.sharc_code.proofs.Places.{put_same, eq_refl}
 use Rattle.sharc_invariant.specs.Types.{Targets}
 use Rattle.sharc_invariant.specs.Labels.{Labels}
 use Rattle.sharc_invariant.specs.Typed.{IsWellTyped}
-use Rattle.sharc_invariant.specs.World.{World, ObjectState, RegisterOf, In, in_ref}
+use Rattle.sharc_invariant.specs.World.{World, RegisterOf, In, in_ref}
 use Rattle.sharc_invariant.specs.Words.{lang_of}
 use Rattle.sharc_invariant.specs.Opened.{first_place}
 use Rattle.sharc_invariant.specs.State.{State, size_of_run}

@@ -1,22 +1,24 @@
 -- The laws of the invariant, with no call at hand.
-use Rattle.std.specs.Prelude.{ℕ, ◌≡◌, ◌⊎◌, ◌++◌, Bool, true, List, [], ◌∷◌}
+use Rattle.std.specs.Prelude.{ℕ, ◌≡◌, ◌≢◌, ◌<◌, ◌⊎◌, ◌++◌, Bool, true, false, List, [], ◌∷◌}
 use Rattle.sharc_code.specs.declared.code.Code.{Code}
 use Rattle.sharc_code.specs.declared.shape.Shape.{Shape}
 use Rattle.sharc_code.specs.Layout.{Fits}
-use Rattle.sharc_code.specs.Machine.{Machine, instr_at}
+use Rattle.sharc_code.specs.Machine.{Machine, instr_at, is_of_null, layout_at, pointer_cell}
 use Rattle.sharc_code.specs.Runs.{Turn, Global, MayTurn, after_turn, at, IsRun}
 use Rattle.sharc_code.specs.Whole.{one_thread, bounds}
-use Rattle.sharc_invariant.specs.Types.{Targets}
+use Rattle.sharc_code.specs.declared.instr.Cell.{Cell}
+use Rattle.sharc_invariant.specs.Types.{Targets, Field}
 use Rattle.sharc_invariant.specs.Labels.{Labels}
-use Rattle.sharc_invariant.specs.Typed.{IsWellTyped}
-use Rattle.sharc_invariant.specs.World.{TypeRules, ObjectState, World, Size, WorldInvariant}
+use Rattle.sharc_invariant.specs.Typed.{IsWellTyped, HasField, IsLayout, Accesses}
+use Rattle.sharc_invariant.specs.Cells.{IsThere}
+use Rattle.sharc_invariant.specs.World.{TypeRules, ObjectState, World, Size, WorldInvariant, Right}
 use Rattle.sharc_invariant.specs.Words.{lang_of, has_returned}
-use Rattle.sharc_invariant.specs.State.{State, IsSmall}
+use Rattle.sharc_invariant.specs.State.{State, IsSmall, OnHold, all_pointers, base_of_cell, number_in}
 use Rattle.sharc_invariant.specs.Effect.{Effect, events_of, NoneOf}
 use Rattle.sharc_invariant.specs.History.{Event, Return, Tied}
 use Rattle.sharc_invariant.specs.Opened.{first_world, first_place}
 use Rattle.sharc_invariant.specs.Objects.{changes_objects, objects_now, objects_after}
-use Rattle.sharc_invariant.specs.MachineInvariant.{MachineInvariant}
+use Rattle.sharc_invariant.specs.MachineInvariant.{MachineInvariant, IsOn}
 use Rattle.sharc_invariant.specs.Bits.{marks_after, AllBitsStand}
 use Rattle.sharc_invariant.specs.Sample.{the_targets, the_labels, IsSample}
 
@@ -86,6 +88,24 @@ NothingYet = (x : Targets) → Tied (lang_of x) (first_world x).obj (first_world
 -- a code with threads, casts and locks is well typed
 abbrev pub SampleIsTyped : Type 0
 SampleIsTyped = (code : Code) → IsSample code → IsWellTyped the_targets code the_labels
+
+-- ---- cells
+-- a cell that an instruction names, of an object that is not NULL, is there where its place's label stands
+abbrev pub CellsAreThere : Type 0
+CellsAreThere = (x : Targets) (code : Code) (s : Shape) (ls : Labels) → IsWellTyped x code ls → Fits code s → (g : Global Machine) (world : World) (st : State x code s ls g world)
+    → (t : ℕ) → IsOn g t → OnHold (g.threads t).own.stage → (c : Cell) (f : Field) → HasField x code (ls.at (g.threads t).at.pc) c f → is_of_null (g.threads t) c ≡ false → IsThere x s st.cells world t (g.threads t) c f
+
+-- and so is each pointer of an object that a layout of its type lists
+abbrev pub PointersAreThere : Type 0
+PointersAreThere = (x : Targets) (code : Code) (s : Shape) (ls : Labels) → IsWellTyped x code ls → Fits code s → (g : Global Machine) (world : World) (st : State x code s ls g world)
+    → (o layout target i : ℕ) → o ≢ 0 → (world.obj o).live ≡ true → (world.obj o).ty.target ≡ target → IsLayout x code layout target → i < all_pointers code layout (st.elements o)
+    → pointer_cell code (layout_at code layout) i < st.cells o
+
+-- an access that typed code may make is one that its thread has a right to
+abbrev pub AccessesAreAllowed : Type 0
+AccessesAreAllowed = (x : Targets) (code : Code) (s : Shape) (ls : Labels) → IsWellTyped x code ls → Fits code s → (g : Global Machine) (world : World) (st : State x code s ls g world)
+    → (t : ℕ) → IsOn g t → OnHold (g.threads t).own.stage → (write : Bool) (c : Cell) (site : ℕ) (f : Field) → Accesses x code ls (ls.at (g.threads t).at.pc) write c site f
+    → Right (lang_of x) world t write (base_of_cell (g.threads t) c) (number_in (g.threads t) c)
 
 -- ---- what stands at each place
 -- of counts and of references, in the invariant

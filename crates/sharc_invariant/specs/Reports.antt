@@ -1,6 +1,6 @@
 -- What the turns find that may end in a report: a check is refused where another thread has passed one that it conflicts with, and only where
 -- another has made one; and a test of a sole reference finds how many references there are.
-use Rattle.std.specs.Prelude.{ℕ, ◌≡◌, ◌≢◌, ◌<◌, ◌≤◌, ◌⊎◌, Bool, true, false, List, ◌∷◌, slice_index}
+use Rattle.std.specs.Prelude.{ℕ, ◌≡◌, ◌≢◌, ◌≤◌, ◌⊎◌, Bool, true, false, List, ◌∷◌, slice_index}
 use Rattle.sharc_shadow.specs.declared.shadow_word.Kind.{Kind}
 use Rattle.sharc_shadow.specs.declared.shadow_word.Kind.TheVariants.{Write}
 use Rattle.sharc_shadow.specs.ShadowWord.{stands}
@@ -16,7 +16,6 @@ use Rattle.sharc_invariant.specs.Types.{Targets}
 use Rattle.sharc_invariant.specs.Labels.{Labels}
 use Rattle.sharc_invariant.specs.Typed.{IsWellTyped}
 use Rattle.sharc_invariant.specs.State.{IsSmall}
-use Rattle.sharc_invariant.specs.World.{ObjectState}
 use Rattle.sharc_invariant.specs.Opened.{first_world, first_place}
 use Rattle.sharc_invariant.specs.Objects.{objects_after}
 use Rattle.sharc_invariant.specs.MachineInvariant.{references_to}

@@ -1,5 +1,5 @@
 -- The invariant of a place of a checked run of typed code: a world that is the machine's, and each thread at a place whose label it stands to.
-use Rattle.std.specs.Prelude.{ℕ, ℤ, pos, zero, suc, ◌+◌, ◌-◌, ◌*◌, ◌/◌, ◌^◌, ◌≡◌, ◌≢◌, ◌<◌, ◌≤◌, ◌⊎◌, ◌↔◌, min, max, true, false, List, [], length, Option, Some, None, Contains, slice_index, slice_index_or}
+use Rattle.std.specs.Prelude.{ℕ, ℤ, pos, zero, suc, ◌+◌, ◌-◌, ◌*◌, ◌/◌, ◌^◌, ◌≡◌, ◌≢◌, ◌<◌, ◌≤◌, ◌↔◌, min, max, true, false, List, [], length, Option, Some, None, Contains, slice_index, slice_index_or}
 use Rattle.sharc_word.specs.declared.step.TheConstants.{THREADS}
 use Rattle.sharc_granule.specs.State.{NewView}
 use Rattle.sharc_granule.specs.Block.{block_of}
@@ -157,6 +157,12 @@ GateStands s w t m (Loaded c) = w.win t ≡ IsLoaded (base_of_cell m c) (number_
 GateStands s w t m (HoldsLoaded c) = (w.win t ≡ IsLoaded (base_of_cell m c) (number_in m c) m.pending) × (m.pending ≢ 0) × (is_held m (cell_word s (cell_of m.pending 0)) ≡ true)
 GateStands s w t m (Sole r cleared) = w.win t ≡ IsSole (m.at.refs + r)
 
+-- the window of a thread that has stopped: shut, or the one in which it had loaded a reference
+abbrev pub StopStands : World → ℕ → Machine → Gate → Type 0
+StopStands w t m (Loaded c) = w.win t ≡ IsLoaded (base_of_cell m c) (number_in m c) m.pending
+StopStands w t m (HoldsLoaded c) = w.win t ≡ IsLoaded (base_of_cell m c) (number_in m c) m.pending
+StopStands w t m gate = w.win t ≡ Shut
+
 -- ---- instructions of several turns
 -- the pointer cells of the first i pointers of an object that a Free empties
 abbrev pub AreEmpty : Code → World → ℕ → ℕ → ℕ → Type 0
@@ -257,6 +263,11 @@ StageStands code s elements w heap words t m i (WithdrawsFrom row seen) = OnExit
 StageStands code s elements w heap words t m i Leaves = OnExit (Unit {0}) i
 StageStands code s elements w heap words t m i (Wakes seen) = OnSignal i
 
+-- no Free has freed its object already and is to put the block into a list
+abbrev pub OnHold : Stage → Type 0
+OnHold (Links all) = ⊥
+OnHold _ = Unit {0}
+
 -- ---- a thread
 -- behind the turn that frees its object a Free has none
 abbrev pub label_now : Label → Instr → Stage → Label
@@ -286,8 +297,8 @@ pub record IsThread (code : Code) (s : Shape) (t : ℕ) (m : Machine) : Type 0 w
 pub record ThreadStands (x : Targets) (code : Code) (s : Shape) (ls : Labels) (elements : ℕ → ℕ) (w : World) (heap : Heap) (g : Global Machine) (t : ℕ) : Type 0 where
   pub has : IsThread code s t (g.threads t)
   pub runs : g.started t ≡ true → may_go (g.threads t).at.state ≡ true → Runs x code s ls elements w heap g t (g.threads t)
-  -- one that has stopped is not in the middle of anything
-  pub over : (g.started t ≡ false) ⊎ (may_go (g.threads t).at.state ≡ false) → w.win t ≡ Shut
+  pub off : g.started t ≡ false → w.win t ≡ Shut
+  pub stopped : may_go (g.threads t).at.state ≡ false → StopStands w t (g.threads t) (ls.at (g.threads t).at.pc).gate
   pub waits : g.started t ≡ false → g.threads t ≡ begun code s t
 
 -- ---- the words of threads

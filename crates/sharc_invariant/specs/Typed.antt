@@ -157,6 +157,13 @@ IsTypeMode code l k (cells.Object r i) mode = (s : StaticType) × (l.env r ≡ R
 IsTypeMode code l k (cells.ObjectAt r i) mode = (s : StaticType) × (l.env r ≡ Refers s) × IsLockMode code l r (slice_index_or s.locks k no_lock) mode
 IsTypeMode code l k _ mode = ⊥
 
+-- so many cells of the global come before a cell that is this field
+abbrev pub HasBefore : Code → Label → ℕ → Cell → Type 0
+HasBefore code l field (cells.Global g p) = 2 * (slice_index_or code.globals.items g no_global).granule + field ≤ p
+HasBefore code l field (cells.GlobalAt g i) = (first : ℕ) × (count : ℕ) × (elements : ℕ) × (e : Element) × (l.ints i ≡ OfGlobal first count elements e) × (2 * (slice_index_or code.globals.items g no_global).granule + field ≤ first)
+HasBefore code l field (cells.Object r i) = Unit {0}
+HasBefore code l field (cells.ObjectAt r i) = Unit {0}
+
 abbrev pub IsMode : Code → Label → Cell → FieldMode → PlaceMode → Type 0
 IsMode code l c Private mode = mode ≡ modes.Private
 IsMode code l c Readonly mode = mode ≡ modes.Readonly
@@ -164,7 +171,7 @@ IsMode code l c Racy mode = mode ≡ modes.Racy
 IsMode code l c Dynamic mode = mode ≡ modes.Dynamic
 IsMode code l c (Under (OfType k)) mode = IsTypeMode code l k c mode
 IsMode code l c (Under (OfGlobals j)) mode = IsLockMode code l 0 (Global j) mode
-IsMode code l c (Under (OfSameElement field mutex)) mode = mode ≡ modes.LockedSibling field mutex
+IsMode code l c (Under (OfSameElement field mutex)) mode = (mode ≡ modes.LockedSibling field mutex) × HasBefore code l field c
 IsMode code l c (Behind field pointer) mode = mode ≡ modes.LockedLoaded
 
 -- nothing is had alone: between TestSole and Give or Free no access is made

@@ -1,6 +1,6 @@
 //! Laws of the invariant.
 
-ghost use Rattle.sharc_invariant.specs.Laws.{Begins, Keeps, EventsObey, RunsStay, RunsFromTheBeginning, RunsStand, RunsBits, StateStands, NothingYet, SampleIsTyped};
+ghost use Rattle.sharc_invariant.specs.Laws.{Begins, Keeps, EventsObey, RunsStay, RunsFromTheBeginning, RunsStand, RunsBits, StateStands, CellsAreThere, PointersAreThere, AccessesAreAllowed, NothingYet, SampleIsTyped};
 ghost use Rattle.sharc_invariant.specs.Reports.{RunsConflict, RunsTest};
 
 use sharc_granule::new_laws;
@@ -34,6 +34,14 @@ pub fn runs_stay()
 /// In the invariant counts, references and windows are as the machine invariant says.
 pub fn state_stands()
     ensures { StateStands }
+{}
+
+/// In the invariant a cell that an instruction names is one of a live object, of the type that its place says, and an access that typed code makes is one
+/// that its thread has a right to.
+pub fn cells_are_there()
+    ensures cells { CellsAreThere }
+    ensures pointers { PointersAreThere }
+    ensures rights { AccessesAreAllowed }
 {}
 
 /// The machine invariant holds at each place of each run of typed code.

@@ -20,6 +20,8 @@ mod locks;
 #[cfg(test)]
 mod paths;
 #[cfg(test)]
+mod recorded;
+#[cfg(test)]
 mod shadow;
 #[cfg(test)]
 mod word;

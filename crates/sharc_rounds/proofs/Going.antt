@@ -7,20 +7,19 @@ use Rattle.sharc_word.specs.declared.step.TheConstants.{THREADS}
 use Rattle.sharc_word.specs.Laws.{HistoryLaws}
 use Rattle.sharc_code.specs.declared.code.Code.{Code}
 use Rattle.sharc_code.specs.declared.shape.Shape.{Shape}
-use Rattle.sharc_code.specs.Layout.{words_of}
 use Rattle.sharc_code.specs.Laws.{RunLaws}
 use Rattle.sharc_code.specs.Opening.{opening_words}
 use Rattle.sharc_code.specs.Path.{may_go}
-use Rattle.sharc_code.specs.Runs.{Turn, IsRun, at, opening_of, is_started, turns_of}
+use Rattle.sharc_code.specs.Runs.{Turn, IsRun, at, opening_of, is_started, turns_of, word_events}
 use Rattle.sharc_code.specs.StandingLaws.{StandingLaws}
 use Rattle.sharc_code.specs.Waits.{waits_now}
 use Rattle.sharc_code.specs.Whole.{one_thread, bounds, place_after}
 use Rattle.sharc_threads.specs.Ends.{Standing, is_enabled}
 use Rattle.sharc_threads.specs.Laws.{TableLaws}
 use Rattle.sharc_threads.specs.Seats.{AreSeats, HasBegun, left, may_turn_at}
-use Rattle.sharc_rounds.specs.declared.round.Rounds.{Rounds}
-use Rattle.sharc_rounds.specs.Round.{Seat, AreRounds, MadeRound}
-use Rattle.sharc_rounds.proofs.Growing.{turns, run_on, words_then, bound_then, were_started, seats_then, made_turn, no_event}
+use Rattle.sharc_rounds.specs.Round.{Seat, MadeRound}
+use Rattle.sharc_rounds.specs.Laws.{StandsAt, GoneOn, RoundsGoOn, RoundsKeepLength}
+use Rattle.sharc_rounds.proofs.Growing.{merged, turns, run_on, words_then, bound_then, were_started, seats_then, made_turn, no_event}
 
 both : (a b : Bool) → (a && b) ≡ true → (a ≡ true) × (b ≡ true)
 both true b e = (refl, e)
@@ -33,71 +32,78 @@ not_true false e = refl
 lt_true : (m n : ℕ) → nat_lt m n ≡ true → m < n
 lt_true m n e = grind (arith, nat_tests)
 
-pub next_length : (laws : HistoryLaws) (code : Code) (s : Shape) (limit : ℕ) (words now : List ℕ) (old new : List Seat) → MadeRound code s limit words now old new → length now ≡ length words
+pub next_length : HistoryLaws → RoundsKeepLength
 next_length laws code s limit words now old new round = ap (λ (ws : List ℕ). length ws) round.history.words_are ∙ laws.count words round.history.history
 
 module _ (run_laws : RunLaws) (standing : StandingLaws) (tables : TableLaws) (code : Code) (s : Shape) (limit : ℕ) (few : limit ≤ 100000000)
-    (old : Rounds) (r : AreRounds code s limit old) (mid : Rounds) (made : MadeRound code s limit old.port mid.port old.threads.seats.items mid.threads.seats.items) where
+    (earlier : List Turn) (words now : List ℕ) (seats mid : List Seat) (r : StandsAt code s limit earlier words seats) (made : MadeRound code s limit words now seats mid) where
   abbrev pub before : Standing
-  before = place_after code s r.turns
+  before = place_after code s earlier
 
-  pub round : MadeRound code s limit before.words mid.port old.threads.seats.items mid.threads.seats.items
-  round = subst (λ (ws : List ℕ). MadeRound code s limit ws mid.port old.threads.seats.items mid.threads.seats.items) r.words made
+  abbrev pub both_rounds : (x : MadeRound code s limit before.words now seats mid) × (x.history.history ≡ made.history.history)
+  both_rounds = subst (λ (ws : List ℕ). (x : MadeRound code s limit ws now seats mid) × (x.history.history ≡ made.history.history)) r.words_are (made, refl)
+
+  abbrev pub round : MadeRound code s limit before.words now seats mid
+  round = both_rounds.0
 
   abbrev pub more : List Turn
-  more = turns code s before old.threads.seats.items mid.threads.seats.items r.seats limit few mid.port round run_laws r.few
+  more = turns code s before seats mid r.seats_are limit few now round run_laws r.few
 
-  abbrev pub behind : Standing
-  behind = at bounds (one_thread code s) before more
+  abbrev pub then_ : Standing
+  then_ = at bounds (one_thread code s) before more
+
+  more_events : word_events more ≡ made.history.history
+  more_events = (merged code s before seats mid r.seats_are limit few now round run_laws r.few).events ∙ both_rounds.1
 
   run_more : IsRun bounds (one_thread code s) before more
-  run_more = run_on code s before old.threads.seats.items mid.threads.seats.items r.seats limit few mid.port round run_laws r.few
+  run_more = run_on code s before seats mid r.seats_are limit few now round run_laws r.few
 
-  words_more : behind.words ≡ mid.port
-  words_more = words_then code s before old.threads.seats.items mid.threads.seats.items r.seats limit few mid.port round run_laws r.few
+  words_more : then_.words ≡ now
+  words_more = words_then code s before seats mid r.seats_are limit few now round run_laws r.few
 
-  place_is : place_after code s (more ++ r.turns) ≡ behind
-  place_is = run_laws.places_join bounds code s (opening_of bounds (one_thread code s) (opening_words code s)) more r.turns
+  place_is : place_after code s (more ++ earlier) ≡ then_
+  place_is = run_laws.places_join bounds code s (opening_of bounds (one_thread code s) (opening_words code s)) more earlier
 
-  mid_seats : AreSeats code s behind.threads behind.made before.started mid.threads.seats.items
-  mid_seats = seats_then code s before old.threads.seats.items mid.threads.seats.items r.seats limit few mid.port round run_laws r.few
+  mid_seats : AreSeats code s then_.threads then_.made before.started mid
+  mid_seats = seats_then code s before seats mid r.seats_are limit few now round run_laws r.few
 
-  module _ (new : Rounds) (count : length new.threads.seats.items ≡ length mid.threads.seats.items)
-      (each : (t : ℕ) → t < THREADS → HasBegun code s mid.port t (get_or mid.threads.seats.items t None) (get_or new.threads.seats.items t None)) where
-    started_now : (t : ℕ) → (is_started bounds mid.port t || before.started t) ≡ behind.started t
+  module _ (new : List Seat) (count : length new ≡ length mid) (each : (t : ℕ) → t < THREADS → HasBegun code s now t (get_or mid t None) (get_or new t None)) where
+    started_now : (t : ℕ) → (is_started bounds now t || before.started t) ≡ then_.started t
     started_now t =
         ap (λ (ws : List ℕ). is_started bounds ws t || before.started t) (sym words_more)
-        ∙ sym (standing.told code s r.turns more run_more
-        (were_started code s before old.threads.seats.items mid.threads.seats.items r.seats limit few mid.port round run_laws r.few) t)
+        ∙ sym (standing.told code s earlier more run_more (were_started code s before seats mid r.seats_are limit few now round run_laws r.few) t)
 
-    are_seats : AreSeats code s behind.threads behind.made behind.started new.threads.seats.items
-    are_seats = tables.same code s behind.threads behind.made (λ t. is_started bounds mid.port t || before.started t) behind.started new.threads.seats.items started_now
-        (tables.begin code s behind.threads behind.made before.started mid.port mid.threads.seats.items new.threads.seats.items mid_seats count each).0
+    are_seats : AreSeats code s then_.threads then_.made then_.started new
+    are_seats = tables.same code s then_.threads then_.made (λ t. is_started bounds now t || before.started t) then_.started new started_now
+        (tables.begin code s then_.threads then_.made before.started now mid new mid_seats count each).0
 
-    pub are_rounds : new.port ≡ mid.port → length mid.port ≡ words_of s → AreRounds code s limit new
-    are_rounds same long = record {
-      turns = more ++ r.turns;
-      count = ap (λ (ws : List ℕ). length ws) same ∙ long;
-      run = (run_laws.join bounds code s (opening_of bounds (one_thread code s) (opening_words code s)) more r.turns).1 (r.run, run_more);
-      few = λ t. subst (λ (g : Standing). g.made t ≤ limit) (sym place_is) (bound_then code s before old.threads.seats.items mid.threads.seats.items r.seats limit few mid.port round run_laws r.few t);
-      words = same ∙ sym words_more ∙ ap (λ (g : Standing). g.words) (sym place_is);
-      seats = subst (λ (g : Standing). AreSeats code s g.threads g.made g.started new.threads.seats.items) (sym place_is) are_seats;
+    stands : StandsAt code s limit (more ++ earlier) now new
+    stands = record {
+      run = (run_laws.join bounds code s (opening_of bounds (one_thread code s) (opening_words code s)) more earlier).1 (r.run, run_more);
+      few = λ t. subst (λ (g : Standing). g.made t ≤ limit) (sym place_is) (bound_then code s before seats mid r.seats_are limit few now round run_laws r.few t);
+      words_are = sym words_more ∙ ap (λ (g : Standing). g.words) (sym place_is);
+      seats_are = subst (λ (g : Standing). AreSeats code s g.threads g.made g.started new) (sym place_is) are_seats;
     }
 
-    pub fewer : ((t : ℕ) × (may_turn_at old.port limit (get_or old.threads.seats.items t None) ≡ true)) → left limit new.threads.seats.items < left limit old.threads.seats.items
-    fewer one = ⊎_elim (λ less. less) (λ (more_left : left limit old.threads.seats.items ≤ left limit new.threads.seats.items). absurd (stops more_left)) (cases_lt (left limit new.threads.seats.items) (left limit old.threads.seats.items))
+    fewer : ((t : ℕ) × (may_turn_at words limit (get_or seats t None) ≡ true)) → left limit new < left limit seats
+    fewer one = ⊎_elim (λ less. less) (λ (more_left : left limit seats ≤ left limit new). absurd (stops more_left)) (cases_lt (left limit new) (left limit seats))
       where
-        stops : left limit old.threads.seats.items ≤ left limit new.threads.seats.items → ⊥
+        stops : left limit seats ≤ left limit new → ⊥
         stops more_left =
             let t = one.0 in
-            let enabled : is_enabled code s limit before t ≡ true = sym (tables.enabled code s limit before old.port old.threads.seats.items record { words_are = r.words; are = r.seats } t) ∙ one.1 in
+            let enabled : is_enabled code s limit before t ≡ true = sym (tables.enabled code s limit before words seats record { words_are = r.words_are; are = r.seats_are } t) ∙ one.1 in
             let started = both (before.started t) _ enabled in
             let going = both (may_go (before.threads t).at.state) _ started.1 in
             let low = both (nat_lt (before.made t) limit) _ going.1 in
             let off : waits_now code s before.words (before.threads t) ≡ false = not_true (waits_now code s before.words (before.threads t)) low.1 in
-            let some : turns_of t more ≢ [] = made_turn code s before old.threads.seats.items mid.threads.seats.items r.seats limit few mid.port round run_laws r.few t started.0 going.0 (lt_true (before.made t) limit low.0) in
-            let same : left limit new.threads.seats.items ≡ left limit mid.threads.seats.items =
-            (tables.begin code s behind.threads behind.made before.started mid.port mid.threads.seats.items new.threads.seats.items mid_seats count each).1 limit in
-            let none = no_event code s before old.threads.seats.items mid.threads.seats.items r.seats limit few mid.port round run_laws r.few (omega (arith, more_left, same)) in
+            let some : turns_of t more ≢ [] = made_turn code s before seats mid r.seats_are limit few now round run_laws r.few t started.0 going.0 (lt_true (before.made t) limit low.0) in
+            let same : left limit new ≡ left limit mid = (tables.begin code s then_.threads then_.made before.started now mid new mid_seats count each).1 limit in
+            let none = no_event code s before seats mid r.seats_are limit few now round run_laws r.few (omega (arith, more_left, same)) in
             let waits : waits_now code s before.words (before.threads t) ≡ true = (standing.idle code s before more run_more none).waits t some in
             let e : true ≡ false = sym waits ∙ off in cc
+
+    pub gone_on : GoneOn code s limit earlier words now seats new made.history.history
+    gone_on = record { more = more; stands = stands; events_are = more_events; fewer = fewer }
+
+pub goes_on : RunLaws → StandingLaws → TableLaws → RoundsGoOn
+goes_on run_laws standing tables code s limit earlier words now seats mid new few r made count each = gone_on run_laws standing tables code s limit few earlier words now seats mid r made new count each

@@ -7,11 +7,13 @@
 
 mod gate;
 mod hand;
+mod laws;
 mod round;
 mod run;
 mod worker;
 
 pub use gate::{Gate, GatedPort};
 pub use hand::QUANTUM;
+pub use laws::round_laws;
 pub use run::{RoundsRun, run_rounds};
 pub use sharc_threads::End;

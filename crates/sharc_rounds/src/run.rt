@@ -7,11 +7,12 @@ ghost use Rattle.sharc_rounds.specs.Round.{AreRounds};
 ghost use Rattle.sharc_rounds.specs.Run.{IsRoundsRun};
 
 use crate::gate::Gate;
+use crate::laws::round_laws;
 use crate::round::Rounds;
-use sharc_code::{Code, Shape, fits_law, opening, run_laws, standing_laws};
+use sharc_code::{Code, Shape, fits_law, opening, run_laws};
 use sharc_cpu::Thread;
 use sharc_threads::{End, ThreadTable, table_laws};
-use sharc_word::{MemPort, history_laws};
+use sharc_word::MemPort;
 use std::alloc::{AllocError, Global};
 use std::thread::Threads;
 
@@ -55,10 +56,7 @@ impl Rounds {
         ensures less { IfOk result (λ r. left limit r.threads.seats.items < left limit self.threads.seats.items) }
     {
         fits_law(code, shape);
-        run_laws();
-        standing_laws();
-        table_laws();
-        history_laws();
+        round_laws();
         let Rounds { mut threads, port } = self.make(rt, alloc, code, shape, workers, limit, gate)?;
         let words = port.words();
         threads.begin(alloc, code, shape, words)?;

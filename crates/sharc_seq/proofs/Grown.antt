@@ -20,9 +20,9 @@ use Rattle.sharc_cpu.specs.Thread.{ThreadView}
 use Rattle.sharc_threads.specs.Ends.{Standing, is_enabled}
 use Rattle.sharc_threads.specs.Laws.{TableLaws}
 use Rattle.sharc_threads.specs.Seats.{Sits, IsSeat, AreSeats, AreOf, may_turn_at, left, left_to}
-use Rattle.sharc_seq.specs.declared.table.Table.{Table}
+use Rattle.sharc_seq.specs.declared.walk.Walk.{Walk}
 use Rattle.sharc_seq.specs.Run.{enabled, IsChosen}
-use Rattle.sharc_seq.specs.Table.{IsThreadAt, MadeTurn, MadeTurnAt, Began, HaveBegun, IsTable, numbers_of}
+use Rattle.sharc_seq.specs.Walk.{IsThreadAt, MadeTurn, MadeTurnAt, ToldAt, Began, HaveBegun, StandsAt, WentOn, numbers_of, has_step, has_event}
 use Rattle.sharc_seq.proofs.Made.{both, lt_true}
 use Rattle.sharc_seq.proofs.Choosing.{picked, any_default, filter_same, filter_less}
 
@@ -47,6 +47,10 @@ after_found t (Asks step go) found = refl
 asked : (t : ℕ) (a : Act) (found : ℕ) → step_of (event_in t a found) ≡ asked_by a
 asked t (Local m) found = refl
 asked t (Asks step go) found = refl
+
+has_both : (t : ℕ) (a : Act) (found : ℕ) → has_event (event_in t a found) ≡ has_step (asked_by a)
+has_both t (Local m) found = refl
+has_both t (Asks step go) found = refl
 
 own : (t : ℕ) (a : Act) (found : ℕ) → IsOf t (event_in t a found)
 own t (Local m) found = tt
@@ -187,16 +191,16 @@ pub record SitsAt (code : Code) (s : Shape) (limit : ℕ) (words : List ℕ) (se
   pub thread : IsThreadAt code s x
   pub may : may_turn_at words limit x ≡ true
 
-pub sits : (laws : TableLaws) (answers : ℕ → ℕ → ℕ → Type 0) (code : Code) (s : Shape) (limit : ℕ) (g : Standing) (count : ℕ) (words : List ℕ) (seats : List (Option ThreadView)) (t : ℕ) (x : Option ThreadView)
-    → s.threads ≡ THREADS → AreOf code s g words seats → Chose answers code s limit g count t → x ≡ get_or seats t None → SitsAt code s limit words seats g t x
-sits laws answers code s limit g count words seats t x fits of chosen e =
-    let low : t < THREADS = omega (arith, chosen.low, fits) in
+pub sits : (laws : TableLaws) (code : Code) (s : Shape) (limit : ℕ) (g : Standing) (words : List ℕ) (seats : List (Option ThreadView)) (t : ℕ) (x : Option ThreadView)
+    → AreOf code s g words seats → is_enabled code s limit g t ≡ true → x ≡ get_or seats t None → SitsAt code s limit words seats g t x
+sits laws code s limit g words seats t x of on e =
+    let low : t < THREADS = of.are.few t (enabled_started code s limit g t on) in
     let is : IsSeat code s g.threads g.made g.started t x = subst (IsSeat code s g.threads g.made g.started t) (sym e) (of.are.each t low) in
     record {
       low = omega (arith, low, of.are.count);
       is = is;
       thread = thread_at code s g.threads g.made g.started t x is;
-      may = ap (may_turn_at words limit) e ∙ laws.enabled code s limit g words seats of t ∙ chosen.yes;
+      may = ap (may_turn_at words limit) e ∙ laws.enabled code s limit g words seats of t ∙ on;
     }
 
 or_known : (a b : Bool) → (a ≡ true → b ≡ true) → (a || b) ≡ b
@@ -211,21 +215,23 @@ same_some seats t old new low is k =
     (λ (ne : k ≡ t → ⊥). ap is_some (get_or-set_other seats t k (Some new) None ne))
     (cases_eq k t)
 
-module _ (standing : StandingLaws) (laws : TableLaws) (answers : ℕ → ℕ → ℕ → Type 0) (code : Code) (s : Shape) (limit : ℕ) (old new : Table) (t : ℕ) (fits : s.threads ≡ THREADS) (few : limit ≤ 100000000)
-    (table : IsTable answers code s limit old) (one : Chose answers code s limit (place_after code s table.turns) (length old.schedule.items) t)
-    (schedule : new.schedule.items ≡ old.schedule.items ++ t ∷ []) where
+module _ (standing : StandingLaws) (laws : TableLaws) (code : Code) (s : Shape) (limit : ℕ) (turns : List Turn) (old new : Walk) (t : ℕ) (few : limit ≤ 100000000)
+    (walk : StandsAt code s turns old) (on : is_enabled code s limit (place_after code s turns) t ≡ true) where
   abbrev g : Standing
-  g = place_after code s table.turns
+  g = place_after code s turns
 
   started_g : g.started t ≡ true
-  started_g = (both (g.started t) _ one.yes).0
+  started_g = (both (g.started t) _ on).0
 
-  module _ (was now : ThreadView) (at : get_or old.threads.seats.items t None ≡ Some was) (made : MadeTurn code s g.words new.port was now) where
+  low_of_all : t < THREADS
+  low_of_all = walk.seats.few t started_g
+
+  module _ (was now : ThreadView) (at : get_or old.threads.seats.items t None ≡ Some was) (made : MadeTurn code s g.words new.port.port was now) where
     sits_t : Sits code s g.threads g.made t was
-    sits_t = (subst (IsSeat code s g.threads g.made g.started t) at (table.seats.each t (omega (arith, one.low, fits)))).1
+    sits_t = (subst (IsSeat code s g.threads g.made g.started t) at (walk.seats.each t low_of_all)).1
 
     abbrev this : Turn
-    this = this_turn code s g t was now new.port started_g sits_t made
+    this = this_turn code s g t was now new.port.port started_g sits_t made
 
     abbrev place : Standing
     place = after_turn bounds (one_thread code s) g this
@@ -233,84 +239,95 @@ module _ (standing : StandingLaws) (laws : TableLaws) (answers : ℕ → ℕ →
     abbrev seats : List (Option ThreadView)
     seats = set old.threads.seats.items t (Some now)
 
-    words : words_now g.words this.event ≡ new.port
-    words = new_words code s g t was now new.port started_g sits_t made
+    words : words_now g.words this.event ≡ new.port.port
+    words = new_words code s g t was now new.port.port started_g sits_t made
 
     set_seats : AreSeats code s place.threads place.made g.started seats
-    set_seats = seats_now code s g t was now new.port started_g sits_t made old.threads.seats.items table.seats
+    set_seats = seats_now code s g t was now new.port.port started_g sits_t made old.threads.seats.items walk.seats
 
     may : MayTurn bounds (one_thread code s) g this
     may =
-        let parts = both (g.started t) _ one.yes in
+        let parts = both (g.started t) _ on in
         let goes = both (may_go (g.threads t).at.state) _ parts.1 in
         let left = both (nat_lt (g.made t) limit) _ goes.1 in
-        may_turn_now code s g t was now new.port started_g sits_t made limit few started_g goes.0 (lt_true (g.made t) limit left.0)
+        may_turn_now code s g t was now new.port.port started_g sits_t made limit few started_g goes.0 (lt_true (g.made t) limit left.0)
 
     -- a turn that starts no thread
     unstarted : begins_of was.machine.own.stage ≡ None → (k : ℕ) → g.started k ≡ place.started k
     unstarted none k = sym (or_known (is_started bounds (words_now g.words this.event) k) (g.started k)
-        (λ e. standing.started code s table.turns k
-        (standing.spawns code s table.turns this k may (λ is. let f : None ≡ Some k = sym none ∙ ap (λ (m : Machine). begins_of m.own.stage) sits_t.machine ∙ is in cc) e)))
+        (λ e. standing.started code s turns k
+        (standing.spawns code s turns this k may (λ is. let f : None ≡ Some k = sym none ∙ ap (λ (m : Machine). begins_of m.own.stage) sits_t.machine ∙ is in cc) e)))
 
-    same_now : (k : ℕ) → (is_started bounds new.port k || g.started k) ≡ place.started k
+    same_now : (k : ℕ) → (is_started bounds new.port.port k || g.started k) ≡ place.started k
     same_now k = ap (λ (ws : List ℕ). is_started bounds ws k || g.started k) (sym words)
 
     low_t : t < length old.threads.seats.items
-    low_t = omega (arith, one.low, fits, table.seats.count)
+    low_t = omega (arith, low_of_all, walk.seats.count)
 
     record Then_ : Type 0 where
       seats_are : AreSeats code s place.threads place.made place.started new.threads.seats.items
       numbers : new.started.items ≡ numbers_of new.threads.seats.items
 
-    began : (begins : Option ℕ) → begins ≡ begins_of was.machine.own.stage → Began code s new.port begins seats new.threads.seats.items old.started.items new.started.items → Then_
+    began : (begins : Option ℕ) → begins ≡ begins_of was.machine.own.stage → Began code s new.port.port begins seats new.threads.seats.items old.started.items new.started.items → Then_
     began None is all = record {
       seats_are = subst (AreSeats code s place.threads place.made place.started) (sym all.0) (laws.same code s place.threads place.made g.started place.started seats (unstarted (sym is)) set_seats);
-      numbers = all.1 ∙ table.numbers
+      numbers = all.1 ∙ walk.numbers
           ∙ sym (filter_same (λ k. is_some (get_or seats k None)) (λ k. is_some (get_or old.threads.seats.items k None)) (range_with_len 0 THREADS) (same_some old.threads.seats.items t was now low_t at))
           ∙ ap numbers_of (sym all.0);
     }
     began (Some n) is all = record {
-      seats_are = laws.same code s place.threads place.made (λ k. is_started bounds new.port k || g.started k) place.started new.threads.seats.items same_now
-          (laws.begin code s place.threads place.made g.started new.port seats new.threads.seats.items set_seats all.count all.each).0;
+      seats_are = laws.same code s place.threads place.made (λ k. is_started bounds new.port.port k || g.started k) place.started new.threads.seats.items same_now
+          (laws.begin code s place.threads place.made g.started new.port.port seats new.threads.seats.items set_seats all.count all.each).0;
       numbers = all.numbers;
     }
 
-    grown_by : (begins : Option ℕ) → begins ≡ begins_of was.machine.own.stage → Began code s new.port begins seats new.threads.seats.items old.started.items new.started.items → IsTable answers code s limit new
-    grown_by begins is all =
+    went_by : (begins : Option ℕ) → begins ≡ begins_of was.machine.own.stage → Began code s new.port.port begins seats new.threads.seats.items old.started.items new.started.items
+        → new.port.told ≡ has_step (asked_by (turn code s was.machine)) → WentOn code s t turns new.port.told new
+    went_by begins is all told =
         let then = began begins is all in
         record {
-          turns = this ∷ table.turns;
-          count = made.count ∙ ap (λ (ws : List ℕ). length ws) (sym table.words) ∙ table.count;
-          run = (table.run, may);
-          chosen = (table.chosen, subst (λ n. IsChosen answers n (enabled code s limit g) t) (as_many old.schedule.items table.turns table.schedule) one.chosen);
-          schedule = one_later old.schedule.items new.schedule.items table.turns this table.schedule schedule;
-          words = sym words;
-          seats = then.seats_are;
-          numbers = then.numbers;
+          one = this;
+          own = refl;
+          counts = ap (λ (m : Machine). counted m.at.state) (sym (stands code s g t was now new.port.port started_g sits_t made)) ∙ made.event;
+          told_is = told ∙ ap (λ (m : Machine). has_step (asked_by (turn code s m))) sits_t.machine ∙ sym (has_both t (turn code s (g.threads t)) made.found);
+          stands = record {
+            count = made.count ∙ ap (λ (ws : List ℕ). length ws) (sym walk.words) ∙ walk.count;
+            run = (walk.run, may);
+            words = sym words;
+            seats = then.seats_are;
+            numbers = then.numbers;
+          };
         }
 
     -- what is left
-    left_begun : (begins : Option ℕ) → Began code s new.port begins seats new.threads.seats.items old.started.items new.started.items → left limit new.threads.seats.items ≡ left limit seats
+    left_begun : (begins : Option ℕ) → Began code s new.port.port begins seats new.threads.seats.items old.started.items new.started.items → left limit new.threads.seats.items ≡ left limit seats
     left_begun None all = ap (left limit) all.0
-    left_begun (Some n) all = (laws.begin code s place.threads place.made g.started new.port seats new.threads.seats.items set_seats all.count all.each).1 limit
+    left_begun (Some n) all = (laws.begin code s place.threads place.made g.started new.port.port seats new.threads.seats.items set_seats all.count all.each).1 limit
 
-    less_by : (begins : Option ℕ) → Began code s new.port begins seats new.threads.seats.items old.started.items new.started.items → left limit new.threads.seats.items < left limit old.threads.seats.items
+    less_by : (begins : Option ℕ) → Began code s new.port.port begins seats new.threads.seats.items old.started.items new.started.items → left limit new.threads.seats.items < left limit old.threads.seats.items
     less_by begins all =
         let e = left_begun begins all in
         let f : left limit seats + left_to limit (get_or old.threads.seats.items t None) ≡ left limit old.threads.seats.items + left_to limit (Some now) = sum_by-set (left_to limit) old.threads.seats.items t (Some now) None low_t in
         let h : left_to limit (get_or old.threads.seats.items t None) ≡ limit - was.made = ap (left_to limit) at in
-        let parts = both (g.started t) _ one.yes in
+        let parts = both (g.started t) _ on in
         let goes = both (may_go (g.threads t).at.state) _ parts.1 in
         let left = both (nat_lt (g.made t) limit) _ goes.1 in
         let low : g.made t < limit = lt_true (g.made t) limit left.0 in
         omega (arith, e, f, h, made.made, sits_t.made_is, low)
 
   pub record Grown : Type 0 where
-    pub table_is : IsTable answers code s limit new
+    pub went : WentOn code s t turns new.port.told new
     pub less : left limit new.threads.seats.items < left limit old.threads.seats.items
 
-  pub grown : (x y : Option ThreadView) (begins : Option ℕ) → get_or old.threads.seats.items t None ≡ x → MadeTurnAt code s g.words new.port x y begins
-      → Began code s new.port begins (set old.threads.seats.items t y) new.threads.seats.items old.started.items new.started.items → Grown
-  grown None y begins at made all = absurd made
-  grown (Some was) None begins at made all = absurd made
-  grown (Some was) (Some now) begins at made all = record { table_is = grown_by was now at made.0 begins made.1 all; less = less_by was now at made.0 begins all }
+  pub grown : (x y : Option ThreadView) (begins : Option ℕ) → get_or old.threads.seats.items t None ≡ x → MadeTurnAt code s g.words new.port.port x y begins → ToldAt code s x new.port.told
+      → Began code s new.port.port begins (set old.threads.seats.items t y) new.threads.seats.items old.started.items new.started.items → Grown
+  grown None y begins at made told all = absurd made
+  grown (Some was) None begins at made told all = absurd made
+  grown (Some was) (Some now) begins at made told all = record { went = went_by was now at made.0 begins made.1 all told; less = less_by was now at made.0 begins all }
+
+-- it does not matter by which run it is told who is enabled
+pub enabled_too : (laws : TableLaws) (code : Code) (s : Shape) (limit : ℕ) (one other : List Turn) (walk : Walk) (t : ℕ) → StandsAt code s one walk → StandsAt code s other walk
+    → is_enabled code s limit (place_after code s one) t ≡ true → is_enabled code s limit (place_after code s other) t ≡ true
+enabled_too laws code s limit one other walk t a b on =
+    sym (laws.enabled code s limit (place_after code s other) walk.port.port walk.threads.seats.items record { words_are = b.words; are = b.seats } t)
+    ∙ laws.enabled code s limit (place_after code s one) walk.port.port walk.threads.seats.items record { words_are = a.words; are = a.seats } t ∙ on

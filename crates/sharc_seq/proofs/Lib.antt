@@ -1,3 +1,4 @@
 pub mod Choosing
 pub mod Grown
 pub mod Made
+pub mod Telling

@@ -1,3 +1,5 @@
 pub mod Choice
 pub mod Run
+pub mod Told
+pub mod Walk
 pub mod Table

@@ -13,6 +13,8 @@ ghost use Rattle.sharc_seq.specs.Table.{Ends};
 
 use crate::chooser::Chooser;
 use crate::table::Table;
+use crate::told::ToldPort;
+use crate::walk::Walk;
 use sharc_code::{Code, Shape, fits_law, run_laws};
 use sharc_cpu::Thread;
 use sharc_threads::{End, table_laws};
@@ -31,16 +33,17 @@ pub struct SeqRun {
 
 // The run that ended there.
 fn finish(alloc: Global, table: Table) -> Result<SeqRun, AllocError>
-    requires { (t : ℕ) → has_number (slice_index_or table.threads.seats.items t None) }
-    ensures { IfOk result (λ run. (code : Code) (s : Shape) (g : Standing) → s.threads ≡ threads → AreOf code s g table.port table.threads.seats.items → Ends code s g table.schedule.items run) }
+    requires { (t : ℕ) → has_number (slice_index_or table.walk.threads.seats.items t None) }
+    ensures { IfOk result (λ run. (code : Code) (s : Shape) (g : Standing) → s.threads ≡ threads → AreOf code s g table.walk.port.port table.walk.threads.seats.items → Ends code s g table.schedule.items run) }
 {
     table_laws();
-    let Table {
+    let Table { walk, schedule } = table;
+    let Walk {
         threads,
         started: _,
         port,
-        schedule,
-    } = table;
+    } = walk;
+    let ToldPort { port, told: _ } = port;
     let end = threads.end(port.words());
     Ok(SeqRun {
         schedule,

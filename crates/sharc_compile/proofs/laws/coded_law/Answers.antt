@@ -3,6 +3,7 @@ use Rattle.sharc_guarded_form.specs.Form.{IsGuarded}
 use Rattle.sharc_code.specs.Path.{begun, machine_after}
 use Rattle.sharc_code.specs.Paced.{paced_in}
 use Rattle.sharc_gen.specs.Consistent.{said_in}
+use Rattle.sharc_gen.specs.Lowered.{lowered_in}
 use Rattle.sharc_gen.specs.Correct.{IsBeginning, HasCome}
 use Rattle.sharc_gen.specs.Generated.{program_of}
 use Rattle.sharc_compile.proofs.Joined.{joined}
@@ -15,8 +16,9 @@ returns c = λ flat dropped g code ok framed same made s thread elements founds 
     let first = begun code s thread in
     let m = machine_after code s first founds in
     let said = said_in code s first elements founds in
+    let lowered = lowered_in code s first elements founds in
     let paced = paced_in code s first founds in
     ⊎_elim
     (λ (h : IsBeginning m said paced). inl h)
-    (λ (h : HasCome code s (program_of g) (elements (length founds)) thread m said paced). inr (joined c.guarded_law.ensures flat dropped g code ok same made s (elements (length founds)) thread m said paced h))
+    (λ (h : HasCome code s (program_of g) (elements (length founds)) thread m said lowered paced). inr (joined c.guarded_law.ensures flat dropped g code ok same made s (elements (length founds)) thread m said lowered paced h))
     (c.paths_law.ensures g code made good s thread elements founds path cons)

@@ -3,6 +3,7 @@ use Rattle.sharc_code.specs.Path.{begun, machine_after}
 use Rattle.sharc_code.specs.Paced.{paced_in}
 use Rattle.sharc_flat_form.specs.Made.{flat_of}
 use Rattle.sharc_gen.specs.Consistent.{said_in}
+use Rattle.sharc_gen.specs.Lowered.{lowered_in}
 use Rattle.sharc_gen.specs.Correct.{IsBeginning}
 use Rattle.sharc_compile.specs.Coded.{FollowsFlat}
 use Rattle.sharc_compile.proofs.Sourced.{follows}
@@ -13,8 +14,9 @@ returns c = λ m flat code same ok framed is s thread elements founds path consi
     let first = begun code s thread in
     let at = machine_after code s first founds in
     let said = said_in code s first elements founds in
+    let lowered = lowered_in code s first elements founds in
     let paced = paced_in code s first founds in
     ⊎_elim
     (λ (h : IsBeginning at said paced). inl h)
-    (λ (h : FollowsFlat code is.g (flat_of flat) thread at said paced). inr (follows c.paths_are_runs.ensures m (flat_of flat) same code is.g thread at said paced h))
+    (λ (h : FollowsFlat code is.g (flat_of flat) thread at said lowered paced). inr (follows c.paths_are_runs.ensures m (flat_of flat) same code is.g thread at said lowered paced h))
     (c.made_law.ensures flat code ok framed is s thread elements founds path consistent)

@@ -1,4 +1,4 @@
 use Rattle.sharc_flat_laws.proofs.laws.typed_is_framed.Goals as goal
 
 pub returns : goal.returns
-returns c = λ m resolved placed low least well locks code is fits. c.made_is_framed.ensures m (c.typed_suits.ensures m resolved placed low least well locks) code is fits
+returns c = λ m resolved placed low least well code is fits. c.made_is_framed.ensures m (c.typed_suits.ensures m resolved placed low least well) code is fits

@@ -1,4 +1,4 @@
-use Rattle.std.proofs.Common.{◌∙◌}
+use Rattle.std.proofs.Common.{[], ◌∙◌}
 use Rattle.std.proofs.lemmas.Result.{IfOk-weaker}
 use Rattle.sharc_code.specs.Whole.{place_after}
 use Rattle.sharc_threads.specs.Ends.{Standing}
@@ -12,7 +12,7 @@ finish-requires g c = λ t.
     let s = c.args.shape.now in
     let over : IsOver (goal.F-post g c.args.chooser.now.f) code s c.args.limit c.turn.new.self = c.in_ok-turn.ensures.over c.if-not-branch.true in
     let place : Standing = place_after code s over.table_is.turns in
-    c.table_laws.ensures.numbers code s place.threads place.made place.started c.turn.new.self.threads.seats.items over.table_is.seats t
+    c.table_laws.ensures.numbers code s place.threads place.made place.started c.turn.new.self.walk.threads.seats.items over.table_is.stands.seats t
 
 pub returns-then-not-branch : goal.returns-then-not-branch
 returns-then-not-branch g c =
@@ -23,10 +23,10 @@ returns-then-not-branch g c =
     let place : Standing = place_after code s table.turns in
     IfOk-weaker c.finish.result _ (IsSeqRun (goal.F-post g c.args.chooser.now.f) code s c.args.limit)
     (λ run h.
-    let ends : Ends code s place c.turn.new.self.schedule.items run = h code s place c.requires.fits.threads record { words_are = table.words; are = table.seats } in
+    let ends : Ends code s place c.turn.new.self.schedule.items run = h code s place c.requires.fits.threads record { words_are = table.stands.words; are = table.stands.seats } in
     record {
       turns = table.turns;
-      checked = (c.run_laws.ensures.checked code s table.turns).1 table.run;
+      checked = (c.run_laws.ensures.checked code s table.turns).1 table.stands.run;
       chosen = table.chosen;
       over = over.over;
       schedule = ends.schedule_is ∙ table.schedule;
@@ -35,3 +35,6 @@ returns-then-not-branch g c =
       end_is = ends.end_is;
     })
     c.finish.ensures
+
+pub turns-init : goal.turns-init
+turns-init g c = record { turns = []; stands = c.in_ok-table.ensures.0; chosen = tt; schedule = c.in_ok-table.ensures.1 }

@@ -1,4 +1,4 @@
-use Rattle.sharc_threads.specs.Seats.{left}
+use Rattle.sharc_seq.specs.Walk.{events_left}
 use Rattle.sharc_seq.specs.Table.{IsTable}
 use Rattle.sharc_seq.proofs.run.run_seq.Given as goal
 
@@ -6,4 +6,4 @@ abbrev pub invariant-turns : goal.invariant-turns
 invariant-turns g l = IsTable (goal.F-post g l.chooser.f) l.code l.shape l.limit l.table
 
 abbrev pub decreases-turns : goal.decreases-turns
-decreases-turns g l = left l.limit l.table.threads.seats.items
+decreases-turns g l = events_left l.limit l.table.walk

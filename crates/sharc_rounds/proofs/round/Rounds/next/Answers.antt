@@ -1,8 +1,8 @@
-use Rattle.std.proofs.Common.{◌≡◌, ℕ, ◌<◌, List, None, get_or, refl, ◌∙◌, subst}
+use Rattle.std.proofs.Common.{◌≡◌, ◌++◌, ℕ, ◌<◌, List, None, get_or, ◌∙◌, subst}
 use Rattle.sharc_word.specs.declared.step.TheConstants.{THREADS}
 use Rattle.sharc_threads.specs.Seats.{HasBegun}
 use Rattle.sharc_rounds.specs.declared.round.Rounds.{Rounds}
-use Rattle.sharc_rounds.proofs.Going.{next_length, are_rounds, fewer}
+use Rattle.sharc_rounds.specs.Laws.{GoneOn}
 use Rattle.sharc_rounds.proofs.round.Rounds.next.Goals as goal
 
 pub begin-requires-clause-count : goal.begin-requires-clause-count
@@ -12,18 +12,33 @@ pub returns-clause-rounds : goal.returns-clause-rounds
 returns-clause-rounds g c =
     let code = c.args.code.now in
     let s = c.args.shape.now in
+    let old : Rounds = c.args.self in
+    let r = c.requires.rounds in
     let mid : Rounds = c.in_ok-threads.field-0 in
-    let new : Rounds = record { threads = c.begin.new.self; port = mid.port } in
-    let each = subst (λ (ws : List ℕ). (t : ℕ) → t < THREADS → HasBegun code s ws t (get_or mid.threads.seats.items t None) (get_or new.threads.seats.items t None)) c.words-words.ensures c.in_ok-begin.ensures.each in
-    are_rounds c.run_laws.ensures c.standing_laws.ensures c.table_laws.ensures code s c.args.limit c.requires.limit c.args.self c.requires.rounds mid c.in_ok-threads.ensures
-    new c.begin.ensures.count each refl (next_length c.history_laws.ensures code s c.args.limit c.args.self.port mid.port c.args.self.threads.seats.items mid.threads.seats.items c.in_ok-threads.ensures ∙ c.requires.rounds.count)
+    let made = c.in_ok-threads.ensures in
+    let each = subst (λ (ws : List ℕ). (t : ℕ) → t < THREADS → HasBegun code s ws t (get_or mid.threads.seats.items t None) (get_or c.begin.new.self.seats.items t None)) c.words-words.ensures c.in_ok-begin.ensures.each in
+    let gone : GoneOn code s c.args.limit r.turns old.port mid.port old.threads.seats.items c.begin.new.self.seats.items made.history.history =
+    c.round_laws.ensures.goes_on code s c.args.limit r.turns old.port mid.port old.threads.seats.items mid.threads.seats.items c.begin.new.self.seats.items c.requires.limit
+    record { run = r.run; few = r.few; words_are = r.words; seats_are = r.seats } made c.begin.ensures.count each in
+    record {
+      turns = gone.more ++ r.turns;
+      count = c.round_laws.ensures.length_stays code s c.args.limit old.port mid.port old.threads.seats.items mid.threads.seats.items made ∙ r.count;
+      run = gone.stands.run;
+      few = gone.stands.few;
+      words = gone.stands.words_are;
+      seats = gone.stands.seats_are;
+    }
 
 pub returns-clause-less : goal.returns-clause-less
 returns-clause-less g c =
     let code = c.args.code.now in
     let s = c.args.shape.now in
+    let old : Rounds = c.args.self in
+    let r = c.requires.rounds in
     let mid : Rounds = c.in_ok-threads.field-0 in
-    let new : Rounds = record { threads = c.begin.new.self; port = mid.port } in
-    let each = subst (λ (ws : List ℕ). (t : ℕ) → t < THREADS → HasBegun code s ws t (get_or mid.threads.seats.items t None) (get_or new.threads.seats.items t None)) c.words-words.ensures c.in_ok-begin.ensures.each in
-    fewer c.run_laws.ensures c.standing_laws.ensures c.table_laws.ensures code s c.args.limit c.requires.limit c.args.self c.requires.rounds mid c.in_ok-threads.ensures
-    new c.begin.ensures.count each c.requires.one
+    let made = c.in_ok-threads.ensures in
+    let each = subst (λ (ws : List ℕ). (t : ℕ) → t < THREADS → HasBegun code s ws t (get_or mid.threads.seats.items t None) (get_or c.begin.new.self.seats.items t None)) c.words-words.ensures c.in_ok-begin.ensures.each in
+    let gone : GoneOn code s c.args.limit r.turns old.port mid.port old.threads.seats.items c.begin.new.self.seats.items made.history.history =
+    c.round_laws.ensures.goes_on code s c.args.limit r.turns old.port mid.port old.threads.seats.items mid.threads.seats.items c.begin.new.self.seats.items c.requires.limit
+    record { run = r.run; few = r.few; words_are = r.words; seats_are = r.seats } made c.begin.ensures.count each in
+    gone.fewer c.requires.one

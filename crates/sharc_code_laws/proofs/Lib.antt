@@ -1,0 +1,4 @@
+pub mod Places
+pub mod Sorts
+pub mod Standing
+pub mod Tells

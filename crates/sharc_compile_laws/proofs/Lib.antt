@@ -1,0 +1,4 @@
+pub mod Fitting
+pub mod Spawning
+pub mod Telling
+pub mod Words

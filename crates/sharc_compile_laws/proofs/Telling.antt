@@ -1,0 +1,217 @@
+-- What the threads of a run tell, among the events of all threads.
+use Rattle.std.proofs.Common.{◌≡◌, ℕ, zero, suc, ◌+◌, ◌<◌, inl, inr, ⊎_elim, Bool, true, false, cond, List, [], ◌∷◌, ◌++◌, length, map, reverse, refl, sym, ap, ◌∙◌, subst, arith, slice_get}
+use Rattle.std.specs.Prelude.{◌==◌, nat_eq, filter, slice_index_or}
+use Rattle.std.proofs.lemmas.Bool.Decides.{nat_tests}
+use Rattle.std.proofs.lemmas.List.{append-nil, reverse-append, reverse-reverse}
+use Rattle.std.proofs.lemmas.List.Elements.{filter-append}
+use Rattle.sharc_tree.specs.declared.event.SourceEvent.{SourceEvent}
+use Rattle.sharc_tree.specs.Tree.{Function}
+use Rattle.sharc_ctype.specs.Resolved.{functions_in}
+use Rattle.sharc_mode.specs.Moded.{Assignment}
+use Rattle.sharc_meaning.specs.Events.{events_of, is_of}
+use Rattle.sharc_meaning.specs.Meaning.{asks}
+use Rattle.sharc_meaning.specs.Runs.{IsNamedAt, answers_of, by}
+use Rattle.sharc_code.specs.declared.code.Function.{Function as Row}
+use Rattle.sharc_code.specs.declared.code.GlobalCells.{GlobalCells}
+use Rattle.sharc_code.specs.Machine.{no_function}
+use Rattle.sharc_code.specs.Runs.{Said, said_by}
+use Rattle.sharc_code.specs.Whole.{Erase}
+use Rattle.sharc_flat_form.specs.Made.{flat_of}
+use Rattle.sharc_flat.specs.Flattened.{function_code, rows_of}
+use Rattle.sharc_flat.specs.Flattens.{names_of}
+use Rattle.sharc_flat.specs.Laid.{AreNamed}
+use Rattle.sharc_flat.specs.Tables.{globals_of}
+use Rattle.sharc_guard.specs.Guard.{entered_at, place}
+use Rattle.sharc_guard.specs.Known.{dropped}
+use Rattle.sharc_gen.specs.Correct.{begins}
+use Rattle.sharc_gen.specs.Generated.{program_of}
+use Rattle.sharc_gen.specs.OfRuns.{told_in}
+use Rattle.sharc_compile.specs.Runs.{RunsFollowSource}
+use Rattle.sharc_compile.specs.Source.{FollowsSource}
+use Rattle.sharc_compile_laws.specs.Threads.{TellsIn, ThreadsTell}
+use Rattle.sharc_compile_laws.proofs.Fitting.{named_count}
+
+-- ---- lists
+reverse_cons : {A : Type 0} (x : A) (xs : List A) → reverse (x ∷ xs) ≡ reverse xs ++ x ∷ []
+reverse_cons x xs = reverse-append (x ∷ []) xs
+
+filter_reverse : (f : SourceEvent → Bool) (xs : List SourceEvent) → filter f (reverse xs) ≡ reverse (filter f xs)
+filter_reverse f [] = refl
+filter_reverse f (x ∷ xs) =
+    ap (filter f) (reverse_cons x xs) ∙ filter-append f (reverse xs) (x ∷ []) ∙ ap (λ ys. ys ++ filter f (x ∷ [])) (filter_reverse f xs) ∙ by (f x)
+  where
+    by : (b : Bool) → reverse (filter f xs) ++ cond b (x ∷ []) [] ≡ reverse (cond b (x ∷ filter f xs) (filter f xs))
+    by true = sym (reverse_cons x (filter f xs))
+    by false = append-nil (reverse (filter f xs))
+
+same_test : (a b : ℕ) → (a == b) ≡ nat_eq b a
+same_test a b = by (a == b) (nat_eq b a) refl refl
+  where
+    equal : (a == b) ≡ true → a ≡ b
+    equal e = grind (arith, nat_tests)
+
+    other : (a == b) ≡ false → a ≡ b → ⊥
+    other e q = grind (arith, nat_tests)
+
+    equal_too : nat_eq b a ≡ true → b ≡ a
+    equal_too e = grind (arith, nat_tests)
+
+    other_too : nat_eq b a ≡ false → b ≡ a → ⊥
+    other_too e q = grind (arith, nat_tests)
+
+    by : (x y : Bool) → (a == b) ≡ x → nat_eq b a ≡ y → x ≡ y
+    by true true p q = refl
+    by false false p q = refl
+    by true false p q = absurd (other_too q (sym (equal p)))
+    by false true p q = absurd (other p (sym (equal_too q)))
+
+-- ---- whose events they are
+abbrev AreOf : ℕ → List SourceEvent → Type 0
+AreOf t [] = Unit {0}
+AreOf t (e ∷ es) = (e.thread ≡ t) × AreOf t es
+
+of_append : (t : ℕ) (xs ys : List SourceEvent) → AreOf t xs → AreOf t ys → AreOf t (xs ++ ys)
+of_append t [] ys a b = b
+of_append t (x ∷ xs) ys a b = (a.0, of_append t xs ys a.1 b)
+
+of_reverse : (t : ℕ) (xs : List SourceEvent) → AreOf t xs → AreOf t (reverse xs)
+of_reverse t [] h = tt
+of_reverse t (x ∷ xs) h = subst (AreOf t) (sym (reverse_cons x xs)) (of_append t (reverse xs) (x ∷ []) (of_reverse t xs h.1) (h.0, tt))
+
+of_map : (t : ℕ) (es : List SourceEvent) → AreOf t (map (by t) es)
+of_map t [] = tt
+of_map t (e ∷ es) = (refl, of_map t es)
+
+-- each is said by its own thread
+abbrev AreSaidByOwn : List (Said SourceEvent) → Type 0
+AreSaidByOwn [] = Unit {0}
+AreSaidByOwn (s ∷ says) = (s.told.thread ≡ s.thread) × AreSaidByOwn says
+
+all_own : (says : List (Said SourceEvent)) → ((t : ℕ) → AreOf t (told_in (said_by t says))) → AreSaidByOwn says
+all_own [] h = tt
+all_own (s ∷ says) h = (head, all_own says (λ t. drops t (nat_eq t s.thread) (h t)))
+  where
+    self : nat_eq s.thread s.thread ≡ true
+    self = grind (arith, nat_tests)
+
+    head : s.told.thread ≡ s.thread
+    head = (subst (AreOf s.thread) (ap (λ b. told_in (cond b (s ∷ said_by s.thread says) (said_by s.thread says))) self) (h s.thread)).0
+
+    drops : (t : ℕ) (b : Bool) → AreOf t (told_in (cond b (s ∷ said_by t says) (said_by t says))) → AreOf t (told_in (said_by t says))
+    drops t true k = k.1
+    drops t false k = k
+
+filtered : (t : ℕ) (says : List (Said SourceEvent)) → AreSaidByOwn says → filter (is_of t) (told_in says) ≡ told_in (said_by t says)
+filtered t [] h = refl
+filtered t (s ∷ says) h =
+    ap (λ b. cond b (s.told ∷ filter (is_of t) (told_in says)) (filter (is_of t) (told_in says))) (ap (λ n. n == t) h.0 ∙ same_test s.thread t)
+    ∙ ap (λ es. cond (nat_eq t s.thread) (s.told ∷ es) es) (filtered t says h.1) ∙ by (nat_eq t s.thread)
+  where
+    by : (b : Bool) → cond b (s.told ∷ told_in (said_by t says)) (told_in (said_by t says)) ≡ told_in (cond b (s ∷ said_by t says) (said_by t says))
+    by true = refl
+    by false = refl
+
+-- ---- where its first event stands
+record IsSplit (t : ℕ) (R : List SourceEvent) (e : SourceEvent) (es : List SourceEvent) : Type 0 where
+  before : List SourceEvent
+  after : List SourceEvent
+  is : R ≡ before ++ e ∷ after
+  none : events_of t before ≡ []
+  rest : events_of t after ≡ es
+
+split : (t : ℕ) (R : List SourceEvent) (e : SourceEvent) (es : List SourceEvent) → events_of t R ≡ e ∷ es → IsSplit t R e es
+split t [] e es q = absurd (cc)
+split t (x ∷ R) e es q = by (is_of t x) refl q (split t R e es)
+  where
+    by : (b : Bool) → is_of t x ≡ b → cond b (x ∷ events_of t R) (events_of t R) ≡ e ∷ es → (events_of t R ≡ e ∷ es → IsSplit t R e es) → IsSplit t (x ∷ R) e es
+    by true w q rec = record { before = []; after = R; is = let h : x ≡ e = cc in ap (λ x. x ∷ R) h; none = refl; rest = cc }
+    by false w q rec =
+        let h = rec q in
+        record {
+          before = x ∷ h.before;
+          after = h.after;
+          is = ap (λ R. x ∷ R) h.is;
+          none = ap (λ b. cond b (x ∷ events_of t h.before) (events_of t h.before)) w ∙ h.none;
+          rest = h.rest;
+        }
+
+-- ---- the site of a Started is the name of its function
+entered_site : (pl : ℕ → ℕ) (rows : List Row) (n : ℕ) → n < length rows → (slice_index_or (map (entered_at pl) rows) n no_function).site ≡ (slice_index_or rows n no_function).site
+entered_site pl [] n lt = absurd (omega arith)
+entered_site pl (x ∷ rows) zero lt = refl
+entered_site pl (x ∷ rows) (suc n) lt = entered_site pl rows n (omega arith)
+
+named_site : (bytes : List ℕ) (told : List Row) (names : List (List ℕ)) (made : List Row) (n : ℕ) → AreNamed bytes told names made → (slice_index_or made n no_function).site ≡ (slice_index_or told n no_function).site
+named_site bytes [] [] [] n h = refl
+named_site bytes (x ∷ xs) (k ∷ ks) (y ∷ ys) zero h = ap (λ (r : Row). r.site) h.0.is
+named_site bytes (x ∷ xs) (k ∷ ks) (y ∷ ys) (suc n) h = named_site bytes xs ks ys n h.1
+named_site bytes [] [] (y ∷ ys) n h = absurd h
+named_site bytes [] (k ∷ ks) ys n h = absurd h
+named_site bytes (x ∷ xs) [] ys n h = absurd h
+named_site bytes (x ∷ xs) (k ∷ ks) [] n h = absurd h
+
+row_site : (m : Assignment) (globals : List GlobalCells) (pc : ℕ) (fs : List Function) (n : ℕ) → n < length (rows_of m globals pc fs) → IsNamedAt (slice_get fs n) (slice_index_or (rows_of m globals pc fs) n no_function).site
+row_site m globals pc [] n lt = absurd (omega arith)
+row_site m globals pc (f ∷ rest) zero lt = refl
+row_site m globals pc (f ∷ rest) (suc n) lt = row_site m globals (pc + length (function_code m globals pc f)) rest n (omega arith)
+
+-- ---- all together
+answers_by : (t : ℕ) (es : List SourceEvent) → answers_of (map (by t) es) ≡ answers_of es
+answers_by t [] = refl
+answers_by t (e ∷ es) = ap (λ xs. e.answer ∷ xs) (answers_by t es)
+
+tail_same : (a b : SourceEvent) (xs ys : List SourceEvent) → a ∷ xs ≡ b ∷ ys → xs ≡ ys
+tail_same a b xs ys e = cc
+
+pub tell : RunsFollowSource → ThreadsTell
+tell law m suits flat made fits code is s run checked consistent t =
+    let says = Erase code s run in
+    let R = reverse (told_in says) in
+    let told : ℕ → List SourceEvent = λ t. reverse (told_in (said_by t (Erase code s run))) in
+    let owned : (t : ℕ) → AreOf t (told_in (said_by t says)) = λ t.
+    subst (AreOf t) (reverse-reverse (told_in (said_by t says)))
+    (of_reverse t (told t)
+    (⊎_elim
+    (λ b. subst (AreOf t) (sym b.nothing) tt)
+    (λ (h : FollowsSource m code (program_of is.g) (length flat.functions.items) t _ (told t) _ _). subst (AreOf t) (sym h.starts) (refl, of_map t h.after))
+    (law m suits flat made fits code is s t run checked (consistent t))))
+    in
+    let events : events_of t R ≡ told t = filter_reverse (is_of t) (told_in says) ∙ ap reverse (filtered t says (all_own says owned)) in
+    ⊎_elim
+    (λ b. inl (events ∙ b.nothing))
+    (λ (h : FollowsSource m code (program_of is.g) (length flat.functions.items) t _ (told t) _ _). inr (tells R h events))
+    (law m suits flat made fits code is s t run checked (consistent t))
+  where
+    tells : {at : _} {lowered : List ℕ} {paced : ℕ} {said : List SourceEvent} (R : List SourceEvent) → (h : FollowsSource m code (program_of is.g) (length flat.functions.items) t at said lowered paced) → events_of t R ≡ said → TellsIn m R t
+    tells R h events =
+        let fs = functions_in m.typed.program.items in
+        let gs = globals_of m.typed in
+        let pl = place (dropped (flat_of flat)) flat.lines.items in
+        let start = by t (begins (program_of is.g) h.function h.argument) in
+        let sp = split t R start (map (by t) h.after) (events ∙ h.starts) in
+        let count = named_count flat.texts.items (rows_of m gs 0 fs) (names_of fs) flat.functions.items made.lays.functions in
+        let known = h.known in
+        let site : start.site ≡ (slice_index_or (rows_of m gs 0 fs) h.function no_function).site =
+        ap (λ (rows : List Row). (slice_index_or rows h.function no_function).site) is.made.functions ∙ entered_site pl flat.functions.items h.function h.known
+        ∙ named_site flat.texts.items (rows_of m gs 0 fs) (names_of fs) flat.functions.items h.function made.lays.functions
+        in
+        record {
+          function = h.function;
+          argument = h.argument;
+          before = sp.before;
+          begins = start;
+          after = sp.after;
+          stands = sp.is;
+          own = refl;
+          first = sp.none;
+          act = refl;
+          answer = refl;
+          site = subst (IsNamedAt (slice_get fs h.function)) (sym site) (row_site m gs 0 fs h.function (omega arith));
+          asked = λ may.
+              let k = h.told may in
+              let same : map (by t) (asks m h.function h.argument h.answers k.fuel).events ≡ map (by t) h.after = tail_same _ _ _ _ (sym k.events ∙ h.starts) in
+              let own : answers_of (events_of t sp.after) ≡ h.answers =
+              ap answers_of (sp.rest ∙ sym same) ∙ answers_by t (asks m h.function h.argument h.answers k.fuel).events ∙ sym k.own
+              in
+              (k.fuel, ap (λ xs. map (by t) (asks m h.function h.argument xs k.fuel).events) own ∙ same ∙ sym sp.rest);
+        }

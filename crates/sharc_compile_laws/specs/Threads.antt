@@ -1,0 +1,45 @@
+-- What a thread tells in a checked run of the code of a program, in any interleaving, is what the program asks for by the answers of these events.
+use Rattle.std.specs.Prelude.{ℕ, ℤ, pos, ◌≡◌, ◌⊎◌, List, [], map, reverse}
+use Rattle.sharc_tree.specs.declared.event.Act.TheVariants.{Started}
+use Rattle.sharc_tree.specs.declared.event.SourceEvent.{SourceEvent}
+use Rattle.sharc_ctype.specs.Resolved.{function_at}
+use Rattle.sharc_mode.specs.Moded.{Assignment}
+use Rattle.sharc_meaning.specs.Events.{Stands, events_of}
+use Rattle.sharc_meaning.specs.Meaning.{asks}
+use Rattle.sharc_meaning.specs.Runs.{IsNamedAt, answers_of, by}
+use Rattle.sharc_code.specs.declared.code.Code.{Code}
+use Rattle.sharc_code.specs.declared.shape.Shape.{Shape}
+use Rattle.sharc_code.specs.Path.{begun}
+use Rattle.sharc_code.specs.Runs.{Turn, turns_of}
+use Rattle.sharc_code.specs.Whole.{CheckedRun, Erase}
+use Rattle.sharc_flat_form.specs.declared.flat.Flat.{Flat as FlatCode}
+use Rattle.sharc_flat_form.specs.Made.{flat_of}
+use Rattle.sharc_flat.specs.Correct.{MayStart, ProgramSuits}
+use Rattle.sharc_flat.specs.Flattens.{Flattens}
+use Rattle.sharc_flat.specs.Laws.{FitsMade}
+use Rattle.sharc_gen.specs.Consistent.{IsConsistent}
+use Rattle.sharc_gen.specs.OfRuns.{elements_before, founds_of, told_in}
+use Rattle.sharc_compile.specs.Made.{IsCodeOf}
+
+-- It begins with the Started of a function, at the name of that; and with some fuel the program asks for exactly the events after it, if the function may be started.
+-- Nothing is said of who started it.
+pub record TellsIn (m : Assignment) (R : List SourceEvent) (thread : ℕ) : Type 0 where
+  pub function : ℕ
+  pub argument : ℤ
+  pub before : List SourceEvent
+  pub begins : SourceEvent
+  pub after : List SourceEvent
+  pub stands : Stands R before begins after
+  pub own : begins.thread ≡ thread
+  pub first : events_of thread before ≡ []
+  pub act : begins.act ≡ Started argument
+  pub answer : begins.answer ≡ pos 0
+  pub site : IsNamedAt (function_at m.typed function) begins.site
+  pub asked : MayStart m function → (fuel : ℕ) × (map (by thread) (asks m function argument (answers_of (events_of thread after)) fuel).events ≡ events_of thread after)
+
+-- a thread tells nothing, or this; where the results of the paths of all threads are consistent
+abbrev pub ThreadsTell : Type 0
+ThreadsTell = (m : Assignment) → ProgramSuits m → (flat : FlatCode) → Flattens m flat → FitsMade (flat_of flat) → (code : Code) → IsCodeOf flat code
+    → (s : Shape) (run : List Turn) → CheckedRun code s run
+    → ((thread : ℕ) → IsConsistent code s (begun code s thread) (elements_before code s thread run) (founds_of (turns_of thread run)))
+    → (thread : ℕ) → let R = reverse (told_in (Erase code s run)) in (events_of thread R ≡ []) ⊎ TellsIn m R thread

@@ -1,0 +1,238 @@
+// Cells of elements and places of fields.
+
+ghost use Rattle.std.specs.Prelude.{◌≡◌, ◌+◌, length, IfOk, position, unwrap_or, if◌then◌else◌, ◌==◌};
+ghost use Rattle.std.specs.Option.{option_copied};
+ghost use Rattle.std.specs.Str.{bytes_eq};
+ghost use Rattle.sharc_names.specs.View.{view_kind, view_root};
+ghost use Rattle.sharc_ctype.specs.Resolved.{global_at, declaration_at, structs_in};
+ghost use Rattle.sharc_mode.specs.View.{view_lock};
+ghost use Rattle.sharc_mode.specs.Cells.{is_behind_pointer};
+ghost use Rattle.sharc_mode.specs.WellFormed.{fields_named, fields_behind};
+ghost use Rattle.sharc_meaning.specs.Cells.{struct_cells, base_cells, element_cells, global_elements, field_place, field_place_named, field_place_behind};
+ghost use Rattle.sharc_ctype.specs.Globals.{elements_of as elements_of_form};
+ghost use Rattle.sharc_flat.specs.Flattened.{struct_layout, base_layout, layout_of};
+ghost use Rattle.sharc_flat_form.specs.Machine.{first_cell};
+
+use crate::scope::next;
+use crate::source::Source;
+use sharc_ctype::typed::Typed;
+use sharc_mode::cell::named_kind;
+use sharc_mode::sharing::{Lock, is_sibling_lock};
+use sharc_names::fault::Named;
+use sharc_names::kind::{Kind, Root, is_pointer};
+use sharc_tree::tree::{Declaration, GlobalForm};
+use std::alloc::AllocError;
+
+/// A number of cells, of elements or of lines as one of 32 bits; where it is none, there would not be enough memory.
+pub fn small(n: usize) -> Result<u32, AllocError>
+    ensures { IfOk result (λ k. k ≡ n) }
+{
+    match u32::try_from(n) {
+        Ok(k) => Ok(k),
+        Err(_) => Err(AllocError),
+    }
+}
+
+fn struct_cells(p: &Source<'_>, name: &[u8]) -> u32
+    ensures { result ≡ struct_cells (structs_in p.now.m.now.typed.program.items) name.now }
+{
+    match p.structs.get(name) {
+        None => 1,
+        Some(row) => row.cells,
+    }
+}
+
+fn base_cells(p: &Source<'_>, root: Root<'_>) -> u32
+    ensures { result ≡ base_cells p.now.m.now.typed (view_root root.entry) }
+{
+    match root {
+        Root::Int => 1,
+        Root::Char => 1,
+        Root::Long => 1,
+        Root::Mutex => 1,
+        Root::Void => 1,
+        Root::Struct(name) => struct_cells(p, name),
+    }
+}
+
+fn cells_behind(p: &Source<'_>, root: Root<'_>, stars: usize) -> u32
+    ensures { result ≡ (if stars == 0 then base_cells p.now.m.now.typed (view_root root.entry) else 1) }
+{
+    if stars == 0 { base_cells(p, root) } else { 1 }
+}
+
+/// The cells of one element.
+pub fn element_cells(p: &Source<'_>, kind: Kind<'_>) -> u32
+    ensures { result ≡ element_cells p.now.m.now.typed (view_kind kind.entry) }
+{
+    match kind {
+        Kind::Object(root, stars) => cells_behind(p, root, stars),
+        Kind::Array(root, stars) => cells_behind(p, root, stars),
+        Kind::Null => 1,
+        Kind::Function => 1,
+    }
+}
+
+/// How many elements the form of a global gives it.
+pub fn elements_of_form(form: &GlobalForm) -> u64
+    ensures { result ≡ elements_of_form form.now }
+{
+    match form {
+        GlobalForm::Plain => 1,
+        GlobalForm::Array(_, count) => count.value.unsigned_abs(),
+        GlobalForm::Initial(_, _, _) => 1,
+    }
+}
+
+/// How many elements a global has.
+pub fn global_elements(t: &Typed, number: u32) -> Result<u32, AllocError>
+    ensures { IfOk result (λ n. n ≡ global_elements (global_at t.now number)) }
+{
+    match t.global_at(number) {
+        None => Ok(0),
+        Some(global) => match u32::try_from(elements_of_form(&global.form)) {
+            Ok(n) => Ok(n),
+            Err(_) => Err(AllocError),
+        },
+    }
+}
+
+/// The place of a field's cell among those of an element.
+pub fn field_place(p: &Source<'_>, token: u32) -> u32
+    ensures { result ≡ field_place p.now.m.now.typed token }
+{
+    p.fields.get(&token).copied().unwrap_or(0)
+}
+
+/// The place of the field that a name names.
+pub fn field_named(p: &Source<'_>, named: Named) -> u32
+    ensures { result ≡ field_place_named p.now.m.now.typed named }
+{
+    match named {
+        Named::Field(token) => field_place(p, token),
+        Named::Struct(_) => 0,
+        Named::Global(_) => 0,
+        Named::Function(_) => 0,
+        Named::Variable(_) => 0,
+        Named::Known => 0,
+    }
+}
+
+fn fields_named(t: &Typed, named: Named) -> &[Declaration]
+    ensures { result.now ≡ fields_named t.now named }
+{
+    match named {
+        Named::Struct(number) => match t.struct_at(number) {
+            None => &[],
+            Some(definition) => definition.fields.as_slice(),
+        },
+        _ => &[],
+    }
+}
+
+fn fields_behind<'a>(t: &'a Typed, declaration: Option<&Declaration>) -> &'a [Declaration]
+    ensures { result.now ≡ fields_behind t.now (option_copied declaration.entry) }
+{
+    match declaration {
+        None => &[],
+        Some(declaration) => fields_named(t, t.named(declaration.written.base.token)),
+    }
+}
+
+/// The place of the first field with this name. There are as many steps as fields of a struct, which has at most 256.
+fn place_of_name(fields: &[Declaration], name: &[u8]) -> Result<u32, AllocError>
+    ensures { IfOk result (λ n. n ≡ unwrap_or (position (λ d. bytes_eq d.name.text name.now) fields.now) 0) }
+{
+    let mut place = 0u32;
+    for field in fields {
+        if field.name.text.as_slice() == name {
+            return Ok(place);
+        }
+        place = next(place)?;
+    }
+    Ok(0)
+}
+
+/// The place of the field with this name, in the struct to which the variable that this token declares points.
+pub fn field_place_behind(t: &Typed, variable: u32, name: &[u8]) -> Result<u32, AllocError>
+    ensures { IfOk result (λ n. n ≡ field_place_behind t.now variable name.now) }
+{
+    place_of_name(fields_behind(t, t.declaration_at(variable)), name)
+}
+
+/// Whether a path names a sibling that points to a mutex.
+pub fn is_behind_pointer(t: &Typed, lock: Lock<'_>) -> bool
+    ensures { result ≡ is_behind_pointer t.now (view_lock lock.entry) }
+{
+    is_sibling_lock(t, lock) && is_pointer(named_kind(t, t.named(lock.first)))
+}
+
+/// The first cell of a global.
+pub fn first_cell(p: &Source<'_>, number: u32) -> Result<u32, AllocError>
+    ensures { IfOk result (λ n. n ≡ first_cell p.now.globals.items number) }
+{
+    let globals = p.globals.as_slice();
+    let number = number as usize;
+    if number >= globals.len() {
+        return Ok(0);
+    }
+    match globals[number].granule.checked_mul(2) {
+        Some(cell) => Ok(cell),
+        None => Err(AllocError),
+    }
+}
+
+/// The cell of this field of a global's first element.
+pub fn cell_in(p: &Source<'_>, number: u32, field: u32) -> Result<u32, AllocError>
+    ensures { IfOk result (λ n. n ≡ first_cell p.now.globals.items number + field) }
+{
+    match first_cell(p, number)?.checked_add(field) {
+        Some(cell) => Ok(cell),
+        None => Err(AllocError),
+    }
+}
+
+/// The number after those of all layouts of structs.
+fn last_layout(t: &Typed) -> Result<u32, AllocError>
+    ensures { IfOk result (λ n. n ≡ length (structs_in t.now.program.items) + 2) }
+{
+    match small(t.struct_count())?.checked_add(2) {
+        Some(n) => Ok(n),
+        None => Err(AllocError),
+    }
+}
+
+fn struct_layout(p: &Source<'_>, name: &[u8]) -> Result<u32, AllocError>
+    ensures { IfOk result (λ n. n ≡ struct_layout 2 (structs_in p.now.m.now.typed.program.items) name.now) }
+{
+    match p.structs.get(name) {
+        None => last_layout(p.m.typed()),
+        Some(row) => Ok(row.layout),
+    }
+}
+
+fn base_layout(p: &Source<'_>, root: Root<'_>) -> Result<u32, AllocError>
+    ensures { IfOk result (λ n. n ≡ base_layout (structs_in p.now.m.now.typed.program.items) (view_root root.entry)) }
+{
+    match root {
+        Root::Struct(name) => struct_layout(p, name),
+        Root::Int => Ok(0),
+        Root::Char => Ok(0),
+        Root::Long => Ok(0),
+        Root::Mutex => Ok(0),
+        Root::Void => Ok(0),
+    }
+}
+
+/// The number of the layout of an element.
+pub fn layout_of(p: &Source<'_>, kind: Kind<'_>) -> Result<u32, AllocError>
+    ensures { IfOk result (λ n. n ≡ layout_of (structs_in p.now.m.now.typed.program.items) (view_kind kind.entry)) }
+{
+    match kind {
+        Kind::Object(root, 0) => base_layout(p, root),
+        Kind::Object(_, _) => Ok(1),
+        Kind::Array(_, _) => Ok(0),
+        Kind::Null => Ok(0),
+        Kind::Function => Ok(0),
+    }
+}

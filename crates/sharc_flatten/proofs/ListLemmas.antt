@@ -1,0 +1,19 @@
+-- The element of a list at a place, and what is left behind it.
+use Rattle.std.proofs.Common.{◌≡◌, ℕ, ◌+◌, List, [], ◌∷◌, ◌++◌, take, drop, get_or, set, Some, ap, sym, ◌∙◌, arith, add-zero}
+use Rattle.std.proofs.lemmas.List.{drop_more, take_more, drop-drop, drop-set-lt, get_or-drop}
+use Rattle.std.proofs.lemmas.Option.{slice_get_within, get_or_from_slice_get}
+use Rattle.std.specs.Prelude.{slice_get}
+
+pub drop_got : {X : Type 0} (xs : List X) (n : ℕ) (x : X) → slice_get xs n ≡ Some x → drop n xs ≡ x ∷ drop (n + 1) xs
+drop_got xs n x at = drop_more xs n x (slice_get_within xs n x at) ∙ ap (λ y. y ∷ drop (n + 1) xs) (get_or_from_slice_get xs n x x at)
+
+pub take_got : {X : Type 0} (xs : List X) (n : ℕ) (x : X) → slice_get xs n ≡ Some x → take (n + 1) xs ≡ take n xs ++ x ∷ []
+take_got xs n x at = take_more xs n x (slice_get_within xs n x at) ∙ ap (λ y. take n xs ++ y ∷ []) (get_or_from_slice_get xs n x x at)
+
+-- where the rest of two lists is the same, so is the element there, and the rest behind it
+pub same_at : {X : Type 0} (xs ys : List X) (n : ℕ) (d : X) → drop n xs ≡ drop n ys → get_or xs n d ≡ get_or ys n d
+same_at xs ys n d same =
+    ap (λ k. get_or xs k d) (sym (add-zero n)) ∙ (sym (get_or-drop n xs 0 d) ∙ (ap (λ l. get_or l 0 d) same ∙ (get_or-drop n ys 0 d ∙ ap (λ k. get_or ys k d) (add-zero n))))
+
+pub left_more : {X : Type 0} (told lines : List X) (n : ℕ) (p : X) → drop n lines ≡ drop n told → drop (n + 1) (set lines n p) ≡ drop (n + 1) told
+left_more told lines n p same = drop-set-lt (n + 1) lines n p (omega arith) ∙ (sym (drop-drop 1 n lines) ∙ (ap (λ l. drop 1 l) same ∙ drop-drop 1 n told))

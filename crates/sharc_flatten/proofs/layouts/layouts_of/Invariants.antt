@@ -1,0 +1,10 @@
+use Rattle.std.proofs.Common.{◌≡◌, ◌++◌, length, drop}
+use Rattle.sharc_ctype.specs.Resolved.{structs_in}
+use Rattle.sharc_flat.specs.Tables.{layouts_from, layouts_of, all_pointers, pointers_of}
+use Rattle.sharc_flatten.proofs.layouts.layouts_of.Given as goal
+
+abbrev pub invariant-loop-number : goal.invariant-loop-number
+invariant-loop-number l = record {
+  list : l.all.list.items ++ layouts_from (length l.all.pointers.items) (drop l.number (structs_in l.t.program.items)) ≡ layouts_of l.t;
+  pointers : l.all.pointers.items ++ all_pointers (drop l.number (structs_in l.t.program.items)) ≡ pointers_of l.t;
+}

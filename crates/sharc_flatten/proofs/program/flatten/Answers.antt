@@ -1,0 +1,12 @@
+use Rattle.std.proofs.Common.{length, ap, sym, ◌∙◌}
+use Rattle.sharc_ctype.specs.Resolved.{Resolution, functions_in}
+use Rattle.sharc_flat.specs.Tables.{globals_of}
+use Rattle.sharc_flatten.proofs.RowLemmas.{rows_length}
+use Rattle.sharc_flatten.proofs.program.flatten.Goals as goal
+
+pub lay_texts-requires : goal.lay_texts-requires
+lay_texts-requires c =
+    let m = c.args.m.now in
+    ap length c.in_ok-lines.ensures.functions
+    ∙ (rows_length m (globals_of m.typed) 0 (functions_in m.typed.program.items)
+    ∙ ap (λ (r : Resolution). length (functions_in r.program.items)) (sym c.typed-t.ensures))

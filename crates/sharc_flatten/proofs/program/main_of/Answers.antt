@@ -1,0 +1,16 @@
+use Rattle.std.proofs.Common.{◌≡◌, true, Some, sym, subst, ◌∙◌}
+use Rattle.std.proofs.lemmas.Slice.Eq.{bytes_eq-Decides}
+use Rattle.std.specs.Str.{bytes_eq}
+use Rattle.sharc_tree.specs.View.{view_function}
+use Rattle.sharc_ctype.specs.Resolved.{Resolution, function_at}
+use Rattle.sharc_flatten.proofs.program.main_of.Goals as goal
+
+pub returns-then-eq : goal.returns-then-eq
+returns-then-eq c =
+    let f = view_function c.in-Some.of.now in
+    let n = c.loop-number.number in
+    let same : bytes_eq c.as_slice.result.now c.as_slice-in-Some.result.now ≡ true = sym c.eq.ensures ∙ c.if-eq.true in (
+      f,
+      subst (λ (r : Resolution). function_at r n ≡ Some f) c.typed-t.ensures (sym c.in-Some.ensures),
+      sym c.as_slice.ensures ∙ ((bytes_eq-Decides c.as_slice.result.now c.as_slice-in-Some.result.now).0 same ∙ c.as_slice-in-Some.ensures),
+    )

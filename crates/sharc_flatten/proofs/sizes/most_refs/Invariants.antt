@@ -1,0 +1,6 @@
+use Rattle.std.proofs.Common.{◌≡◌, take}
+use Rattle.sharc_code.specs.Path.{most_refs}
+use Rattle.sharc_flatten.proofs.sizes.most_refs.Given as goal
+
+abbrev pub invariant-loop-row : goal.invariant-loop-row
+invariant-loop-row l = l.most ≡ most_refs (take l.row-index l.rows)

@@ -1,0 +1,13 @@
+use Rattle.std.proofs.Common.{◌≡◌, ℕ, List, ◌++◌, length, take, drop}
+use Rattle.sharc_tree.specs.Texts.{tokens_text}
+use Rattle.sharc_flat.specs.Laid.{AreLaid}
+use Rattle.sharc_flatten.specs.Places.{Grows}
+use Rattle.sharc_flatten.proofs.texts.Words.lay.Given as goal
+
+abbrev pub invariant-loop-line : goal.invariant-loop-line
+invariant-loop-line l = record {
+  grows : Grows (tokens_text l.self.t.now.program.tokens.list) l.bytes.items;
+  size : length l.lines.items ≡ length l.initial.lines.items;
+  left : drop l.line l.lines.items ≡ drop l.line l.initial.lines.items;
+  laid : (more : List ℕ) → AreLaid l.self.t.now (l.bytes.items ++ more) (take l.line l.initial.lines.items) (take l.line l.lines.items);
+}

@@ -1,0 +1,14 @@
+use Rattle.std.proofs.Common.{◌≡◌, ℕ, List, ◌++◌, length, take, drop}
+use Rattle.sharc_ctype.specs.Resolved.{functions_in}
+use Rattle.sharc_flat.specs.Flattens.{names_of}
+use Rattle.sharc_flat.specs.Laid.{AreNamed}
+use Rattle.sharc_flatten.specs.Places.{Grows}
+use Rattle.sharc_flatten.proofs.texts.lay_names.Given as goal
+
+abbrev pub invariant-loop-number : goal.invariant-loop-number
+invariant-loop-number l = record {
+  grows : Grows l.initial.bytes.items l.bytes.items;
+  size : length l.rows.items ≡ length l.initial.rows.items;
+  left : drop l.number l.rows.items ≡ drop l.number l.initial.rows.items;
+  named : (more : List ℕ) → AreNamed (l.bytes.items ++ more) (take l.number l.initial.rows.items) (take l.number (names_of (functions_in l.t.program.items))) (take l.number l.rows.items);
+}

@@ -1,0 +1,134 @@
+// From the meaning of a program to its flat form.
+
+ghost use Rattle.std.specs.Prelude.{◌≡◌, ◌≤◌, length, IfOk};
+ghost use Rattle.sharc_ctype.specs.Resolved.{functions_in, globals_in};
+ghost use Rattle.sharc_flat_form.specs.Made.{flat_of};
+ghost use Rattle.sharc_flat.specs.Flattened.{rows_of, functions_code};
+ghost use Rattle.sharc_flat.specs.Flattens.{names_of, Flattens, IsMainOf};
+ghost use Rattle.sharc_flat.specs.Laid.{AreLaid, AreNamed};
+ghost use Rattle.sharc_flat.specs.Laws.{FitsMade};
+ghost use Rattle.sharc_flat.specs.Tables.{globals_of, all_granules, all_first_words};
+
+use crate::functions::functions;
+use crate::globals::{Globals, globals_of};
+use crate::layouts::layouts_of;
+use crate::sizes::{cells_fit, frames_fit};
+use crate::texts::{Words, lay_names};
+use sharc_code::Function;
+use sharc_ctype::typed::Typed;
+use sharc_flat_form::{Flat, Op};
+use sharc_flat_walk::lookups::small;
+use sharc_flat_walk::source::Source;
+use sharc_mode::moded::Moded;
+use std::alloc::{AllocError, Global};
+
+/// The lines of all functions and the table of these, whose texts are told by tokens, with the globals.
+#[derive(Drop)]
+struct Parts {
+    lines: Vec<Op>,
+    functions: Vec<Function>,
+    globals: Globals,
+}
+
+/// The number of `main`, which every typed program has.
+fn main_of(m: &Moded) -> Result<u32, AllocError>
+    ensures { IfOk result (λ n. IsMainOf m.now n) }
+{
+    let t = m.typed();
+    for number in 0..small(t.function_count())? {
+        match t.function_at(number) {
+            None => return Err(AllocError),
+            Some(of) => {
+                if of.name.text.as_slice() == b"main".as_slice() {
+                    return Ok(number);
+                }
+            }
+        }
+    }
+    Err(AllocError)
+}
+
+/// The code, before its texts are laid out.
+fn parts_of(alloc: Global, m: &Moded) -> Result<Parts, AllocError>
+    ensures lines { IfOk result (λ parts. parts.lines.items ≡ functions_code m.now (globals_of m.now.typed) 0 (functions_in m.now.typed.program.items)) }
+    ensures functions { IfOk result (λ parts. parts.functions.items ≡ rows_of m.now (globals_of m.now.typed) 0 (functions_in m.now.typed.program.items)) }
+    ensures list { IfOk result (λ parts. parts.globals.list.items ≡ globals_of m.now.typed) }
+    ensures granules { IfOk result (λ parts. parts.globals.granules ≡ all_granules m.now.typed (globals_in m.now.typed.program.items)) }
+    ensures initial { IfOk result (λ parts. parts.globals.initial.items ≡ all_first_words m.now.typed (globals_in m.now.typed.program.items)) }
+{
+    let source = Source::of(alloc, m)?;
+    let globals = globals_of(alloc, &source)?;
+    let list = Vec::from_slice(alloc, globals.list.as_slice())?;
+    let source = source.with_globals(list);
+    let mut lines = Vec::new(alloc);
+    let functions = functions(alloc, &source, &mut lines)?;
+    drop(source);
+    Ok(Parts {
+        lines,
+        functions,
+        globals,
+    })
+}
+
+/// The bytes of all texts; the lines and the rows get the places of theirs.
+fn lay_texts(
+    alloc: Global,
+    t: &Typed,
+    lines: &mut Vec<Op>,
+    rows: &mut Vec<Function>,
+) -> Result<Vec<u8>, AllocError>
+    requires { length rows.old.items ≡ length (functions_in t.now.program.items) }
+    ensures lines { IfOk result (λ bytes. AreLaid t.now bytes.items lines.old.items lines.new.items) }
+    ensures rows { IfOk result (λ bytes. AreNamed bytes.items rows.old.items (names_of (functions_in t.now.program.items)) rows.new.items) }
+{
+    let mut bytes = Vec::new(alloc);
+    let words = Words::of(alloc, t, &mut bytes)?;
+    words.lay(alloc, lines, &mut bytes)?;
+    drop(words);
+    lay_names(t, rows, &mut bytes)?;
+    Ok(bytes)
+}
+
+/// A number of granules that a state may have; else there would not be enough memory.
+fn few_granules(granules: u32) -> Result<u32, AllocError>
+    ensures is { IfOk result (λ n. n ≡ granules) }
+    ensures few { IfOk result (λ n. n ≤ 65536) }
+{
+    if granules <= 65536 {
+        Ok(granules)
+    } else {
+        Err(AllocError)
+    }
+}
+
+/// The flat form of a program, with the time and memory of a constant number of operations for each token of the source.
+///
+/// It fails where memory is short, and where a number of the flat form would not be one of 32 bits or the globals would have more granules than a state may
+/// have, as no program within the limits of the language has.
+pub fn flatten(alloc: Global, m: &Moded) -> Result<Flat, AllocError>
+    ensures { IfOk result (λ code. Flattens m.now code × FitsMade (flat_of code)) }
+{
+    let t = m.typed();
+    let Parts {
+        mut lines,
+        mut functions,
+        globals,
+    } = parts_of(alloc, m)?;
+    let texts = lay_texts(alloc, t, &mut lines, &mut functions)?;
+    frames_fit(functions.as_slice())?;
+    cells_fit(lines.as_slice())?;
+    let layouts = layouts_of(alloc, t)?;
+    let files = t.program().files.copy(alloc)?;
+    Ok(Flat {
+        lines,
+        functions,
+        main: main_of(m)?,
+        globals: globals.list,
+        granules: few_granules(globals.granules)?,
+        initial: globals.initial,
+        layouts: layouts.list,
+        pointers: layouts.pointers,
+        texts,
+        files,
+    })
+}

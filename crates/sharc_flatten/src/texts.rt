@@ -1,0 +1,232 @@
+// The texts of a program: that of all its tokens, then the lock paths of its lines, then the names of its functions.
+
+ghost use Rattle.std.specs.Prelude.{◌≡◌, ◌++◌, length, slice_get, IfOk, OnOk};
+ghost use Rattle.std.specs.Option.{option_copied};
+ghost use Rattle.sharc_ctype.specs.Resolved.{functions_in};
+ghost use Rattle.sharc_mode.specs.WellFormed.{fields_named, fields_behind};
+ghost use Rattle.sharc_flat.specs.Flattens.{names_of};
+ghost use Rattle.sharc_flat.specs.Laid.{words_of, name_of, field_behind, beside_words, lock_text_of, AreNamed};
+ghost use Rattle.sharc_flatten.specs.Places.{places_from, LiesIn, Grows};
+
+use crate::tokens::{add_text, lay_tokens};
+use crate::told::{spot_in, with_texts};
+use sharc_code::{Function, PlaceMode, Text};
+use sharc_ctype::typed::Typed;
+use sharc_flat_form::{Op, Spot};
+use sharc_flat_walk::lookups::small;
+use sharc_mode::text::text_at;
+use sharc_names::fault::Named;
+use sharc_tree::print::print_span;
+use sharc_tree::tree::Declaration;
+use std::alloc::{AllocError, Global};
+
+fn fields_named(t: &Typed, named: Named) -> &[Declaration]
+    ensures { result.now ≡ fields_named t.now named }
+{
+    match named {
+        Named::Struct(number) => match t.struct_at(number) {
+            None => &[],
+            Some(definition) => definition.fields.as_slice(),
+        },
+        _ => &[],
+    }
+}
+
+/// The fields of what a declared pointer leads to.
+fn fields_behind<'a>(t: &'a Typed, declaration: Option<&Declaration>) -> &'a [Declaration]
+    ensures { result.now ≡ fields_behind t.now (option_copied declaration.entry) }
+{
+    match declaration {
+        None => &[],
+        Some(declaration) => fields_named(t, t.named(declaration.written.base.token)),
+    }
+}
+
+fn name_at(fields: &[Declaration], place: u32) -> &[u8]
+    ensures { result.now ≡ name_of (slice_get fields.now place) }
+{
+    match fields.get(place as usize) {
+        None => &[],
+        Some(field) => field.name.text.as_slice(),
+    }
+}
+
+/// The name of the field at this place of what a variable points to.
+fn field_behind(t: &Typed, named: Named, place: u32) -> &[u8]
+    ensures { result.now ≡ field_behind t.now named place }
+{
+    match named {
+        Named::Variable(token) => name_at(fields_behind(t, t.declaration_at(token)), place),
+        Named::Struct(_) => &[],
+        Named::Global(_) => &[],
+        Named::Function(_) => &[],
+        Named::Field(_) => &[],
+        Named::Known => &[],
+    }
+}
+
+/// The text of the tokens from the first number up to the second, at the end of these bytes.
+fn add_words(
+    alloc: Global,
+    t: &Typed,
+    from: u32,
+    until: u32,
+    bytes: &mut Vec<u8>,
+) -> Result<(), AllocError>
+    ensures { OnOk result (bytes.new.items ≡ bytes.old.items ++ words_of t.now from until) }
+{
+    let program = t.program();
+    let until = (until as usize).min(program.tokens.list.len());
+    if (from as usize) < until {
+        let words = print_span(alloc, program, from, until as u32 - 1)?;
+        bytes.extend_from_slice(words.as_slice())
+    } else {
+        Ok(())
+    }
+}
+
+/// The lvalue without the parentheses around it, with its last token replaced by the mutex's name, at the end of these bytes.
+fn add_beside(
+    alloc: Global,
+    t: &Typed,
+    lvalue: Text,
+    lock: Text,
+    bytes: &mut Vec<u8>,
+) -> Result<(), AllocError>
+    ensures { OnOk result (bytes.new.items ≡ bytes.old.items ++ beside_words t.now lvalue lock) }
+{
+    let open = lock.from.saturating_sub(lvalue.from);
+    let last = lvalue.until.saturating_sub(1).saturating_sub(open);
+    add_words(alloc, t, lock.from, last, bytes)?;
+    bytes.extend_from_slice(text_at(t, lock.until))
+}
+
+/// The path of the lock of a mode, as reports print it, at the end of these bytes; nothing for a mode without one.
+fn add_lock(alloc: Global, t: &Typed, spot: Spot, bytes: &mut Vec<u8>) -> Result<(), AllocError>
+    ensures { OnOk result (bytes.new.items ≡ bytes.old.items ++ lock_text_of t.now spot.mode spot.lvalue spot.lock_text) }
+{
+    let token = spot.lock_text.until;
+    match spot.mode {
+        PlaceMode::LockedGlobal(_, _) => bytes.extend_from_slice(text_at(t, token)),
+        PlaceMode::LockedThrough(_, place) => {
+            bytes.extend_from_slice(text_at(t, token))?;
+            bytes.extend_from_slice(b"->")?;
+            bytes.extend_from_slice(field_behind(t, t.named(token), place))
+        }
+        PlaceMode::LockedSibling(_, _) => add_beside(alloc, t, spot.lvalue, spot.lock_text, bytes),
+        PlaceMode::LockedLoaded => {
+            bytes.extend_from_slice(b"*")?;
+            add_beside(alloc, t, spot.lvalue, spot.lock_text, bytes)
+        }
+        PlaceMode::Private => Ok(()),
+        PlaceMode::Readonly => Ok(()),
+        PlaceMode::Racy => Ok(()),
+        PlaceMode::Dynamic => Ok(()),
+    }
+}
+
+/// The same with where it lies.
+fn lock_text(alloc: Global, t: &Typed, spot: Spot, bytes: &mut Vec<u8>) -> Result<Text, AllocError>
+    ensures grows { OnOk result (Grows bytes.old.items bytes.new.items) }
+    ensures lies { IfOk result (λ lock. LiesIn bytes.new.items lock (lock_text_of t.now spot.mode spot.lvalue spot.lock_text)) }
+{
+    let from = small(bytes.len())?;
+    add_lock(alloc, t, spot, bytes)?;
+    let until = small(bytes.len())?;
+    Ok(Text { from, until })
+}
+
+/// Where the tokens of a program lie among the bytes of all texts, which begin with the text of all tokens.
+#[derive(Drop)]
+pub struct Words<'a> {
+    t: &'a Typed,
+    places: Vec<Text>,
+    ghost are: { places.items ≡ places_from 0 t.now.program.tokens.list },
+}
+
+impl<'a> Words<'a> {
+    ghost use Rattle.std.specs.Prelude.{◌≡◌, ◌++◌, [], List, ℕ, IfOk, OnOk};
+    ghost use Rattle.sharc_tree.specs.Texts.{tokens_text};
+    ghost use Rattle.sharc_flat.specs.Laid.{words_of, IsLaid, AreLaid};
+    ghost use Rattle.sharc_flatten.specs.Places.{LiesIn, Grows};
+
+    /// The text of all tokens of a program, and where these lie in it.
+    pub fn of(alloc: Global, t: &'a Typed, bytes: &mut Vec<u8>) -> Result<Self, AllocError>
+        requires { bytes.old.items ≡ [] }
+        ensures t { IfOk result (λ words. words.t.now ≡ t.now) }
+        ensures bytes { OnOk result (bytes.new.items ≡ tokens_text t.now.program.tokens.list) }
+    {
+        let tokens = t.program().tokens.list.as_slice();
+        let places = lay_tokens(alloc, tokens, bytes)?;
+        Ok(Words { t, places })
+    }
+
+    /// Where the tokens from the first number up to the second lie.
+    fn place(&self, from: u32, until: u32) -> Text
+        ensures { LiesIn (tokens_text self.now.t.now.program.tokens.list) result (words_of self.now.t.now from until) }
+    {
+        let until = (until as usize).min(self.places.len());
+        let from = from as usize;
+        if from < until {
+            Text {
+                from: self.places[from].from,
+                until: self.places[until - 1].until,
+            }
+        } else {
+            Text { from: 0, until: 0 }
+        }
+    }
+
+    /// An operation whose texts are told by tokens, with where they lie.
+    fn laid(&self, alloc: Global, op: Op, bytes: &mut Vec<u8>) -> Result<Op, AllocError>
+        requires { Grows (tokens_text self.now.t.now.program.tokens.list) bytes.old.items }
+        ensures grows { OnOk result (Grows bytes.old.items bytes.new.items) }
+        ensures laid { IfOk result (λ made. (more : List ℕ) → IsLaid self.now.t.now (bytes.new.items ++ more) op made) }
+    {
+        match spot_in(op) {
+            None => Ok(op),
+            Some(spot) => {
+                let lvalue = self.place(spot.lvalue.from, spot.lvalue.until);
+                let lock = lock_text(alloc, self.t, spot, bytes)?;
+                Ok(with_texts(lvalue, lock, op))
+            }
+        }
+    }
+
+    /// All lines with where their texts lie; their lock paths come to the end of the bytes.
+    pub fn lay(
+        &self,
+        alloc: Global,
+        lines: &mut Vec<Op>,
+        bytes: &mut Vec<u8>,
+    ) -> Result<(), AllocError>
+        requires { Grows (tokens_text self.now.t.now.program.tokens.list) bytes.old.items }
+        ensures { OnOk result ((more : List ℕ) → AreLaid self.now.t.now (bytes.new.items ++ more) lines.old.items lines.new.items) }
+    {
+        for line in 0..lines.len() {
+            lines[line] = self.laid(alloc, lines[line], bytes)?;
+        }
+        Ok(())
+    }
+}
+
+/// All rows with where the names of their functions lie; these come to the end of the bytes.
+pub fn lay_names(t: &Typed, rows: &mut Vec<Function>, bytes: &mut Vec<u8>) -> Result<(), AllocError>
+    requires { length rows.old.items ≡ length (functions_in t.now.program.items) }
+    ensures grows { OnOk result (Grows bytes.old.items bytes.new.items) }
+    ensures named { OnOk result (AreNamed bytes.new.items rows.old.items (names_of (functions_in t.now.program.items)) rows.new.items) }
+{
+    for number in 0..rows.len() {
+        match t.function_at(small(number)?) {
+            None => return Err(AllocError),
+            Some(of) => {
+                let name = add_text(of.name.text.as_slice(), bytes)?;
+                rows[number] = Function {
+                    name,
+                    ..rows[number]
+                };
+            }
+        }
+    }
+    Ok(())
+}

@@ -1,0 +1,310 @@
+-- What the event of a turn is about: an access, an object that is made, given or freed; and whose it is.
+use Rattle.std.proofs.Common.{◌≡◌, ℕ, zero, suc, ◌+◌, ◌*◌, ◌%◌, ◌^◌, ◌<◌, Bool, true, false, Option, Some, None, if◌then◌else◌, refl, sym, ap, ◌∙◌, arith}
+use Rattle.std.specs.Prelude.{◌==◌, ◌||◌}
+use Rattle.sharc_tree.specs.declared.event.SourceEvent.{SourceEvent}
+use Rattle.sharc_tree.specs.declared.event.CellAt.{CellAt}
+use Rattle.sharc_granule.specs.State.{NewView}
+use Rattle.sharc_granule.specs.declared.stage.Stage.{Stage as NewStage}
+use Rattle.sharc_granule.specs.declared.stage.Stage.TheVariants as news
+use Rattle.sharc_cond.specs.Waiters.{waits_in}
+use Rattle.sharc_code.specs.declared.code.Code.{Code}
+use Rattle.sharc_code.specs.declared.instr.Cell.{Cell}
+use Rattle.sharc_code.specs.declared.instr.Register.{Register}
+use Rattle.sharc_code.specs.declared.instr.Instr.{Instr}
+use Rattle.sharc_code.specs.declared.instr.Instr.TheVariants as instrs
+use Rattle.sharc_code.specs.declared.state.Stage.{Stage}
+use Rattle.sharc_code.specs.declared.state.Stage.TheVariants.{Rests, Looks, Clears, Makes, Empties, Lowers, FreeLooks, FreeClears, Uncounts, Links, Names, Hands, Begins, Enters, Withdraws, WithdrawsFrom, Leaves as Leaving, Wakes}
+use Rattle.sharc_code.specs.Machine.{Machine, ref}
+use Rattle.sharc_code.specs.Says.{said, reference, take_local, nobody, in_signal, in_exit, in_spawn, in_start, in_free, in_new, new_event, cell_at, mode_of, place_at}
+use Rattle.sharc_meaning.specs.Events.{Access, access_by, made_by, given_by, freed_by}
+use Rattle.sharc_meaning.specs.Reference.{number_of}
+use Rattle.sharc_invariant.specs.Types.{Targets, Field}
+use Rattle.sharc_invariant.specs.Labels.{Label, Labels}
+use Rattle.sharc_invariant.specs.Typed.{Fine, Accesses}
+use Rattle.sharc_history_laws.proofs.Tables.{header_at, header_in, header_of}
+
+abbrev pub access_said : Option SourceEvent → Option Access
+access_said None = None
+access_said (Some e) = access_by e.act
+
+abbrev pub made_said : Option SourceEvent → Option ℕ
+made_said None = None
+made_said (Some e) = made_by e e.act
+
+abbrev pub given_said : Option SourceEvent → Option ℕ
+given_said None = None
+given_said (Some e) = given_by e.act
+
+abbrev pub freed_said : Option SourceEvent → Option ℕ
+freed_said None = None
+freed_said (Some e) = freed_by e.act
+
+abbrev pub thread_said : ℕ → Option SourceEvent → ℕ
+thread_said t None = t
+thread_said t (Some e) = e.thread
+
+-- ---- what a turn gives and frees
+abbrev pub given_at : Instr → Machine → Option ℕ
+given_at (instrs.Give r site) m = Some (ref m r)
+given_at _ m = None
+
+abbrev pub freed_in : Stage → ℕ → Option ℕ
+freed_in (Uncounts all) o = Some o
+freed_in _ o = None
+
+abbrev pub freed_at : Instr → Machine → Option ℕ
+freed_at (instrs.Free r layout site) m = freed_in m.own.stage (ref m r)
+freed_at _ m = None
+
+pub record About (t : ℕ) (made given freed : Option ℕ) (e : Option SourceEvent) : Type 0 where
+  pub thread : thread_said t e ≡ t
+  pub makes : made_said e ≡ made
+  pub gives : given_said e ≡ given
+  pub frees : freed_said e ≡ freed
+
+either : (t : ℕ) (made given freed : Option ℕ) (b : Bool) (x y : Option SourceEvent) → About t made given freed x → About t made given freed y → About t made given freed (if b then x else y)
+either t made given freed true x y h k = h
+either t made given freed false x y h k = k
+
+number_back : (n elements : ℕ) → n < 2 ^ 32 → number_of (reference n elements) ≡ n
+number_back zero elements lt = refl
+number_back (suc k) elements lt = let e : (suc k + 2 ^ 32 * elements) % 2 ^ 32 ≡ suc k = omega arith in e
+
+module _ (code : Code) (m : Machine) where
+  abbrev t : ℕ
+  t = m.own.number
+
+  abbrev Plain : Option SourceEvent → Type 0
+  Plain = About m.own.number None None None
+
+  none : Plain None
+  none = record { thread = refl; makes = refl; gives = refl; frees = refl }
+
+  at_local : (site number elements : ℕ) → Plain (take_local code m site number elements)
+  at_local site zero elements = none
+  at_local site (suc k) elements = record { thread = refl; makes = refl; gives = refl; frees = refl }
+
+  at_spawn : (function : ℕ) (from : Register) (site elements : ℕ) (stage : Stage) → Plain (in_spawn code m function from site elements stage)
+  at_spawn function from site elements (Begins k) = record { thread = refl; makes = refl; gives = refl; frees = refl }
+  at_spawn function from site elements _ = none
+
+  at_start : (found elements : ℕ) (stage : Stage) → Plain (in_start code m found elements stage)
+  at_start found elements (Enters function) = record { thread = refl; makes = refl; gives = refl; frees = refl }
+  at_start found elements _ = none
+
+  at_exit : (stage : Stage) → Plain (in_exit code m stage)
+  at_exit (Withdraws row) = none
+  at_exit (WithdrawsFrom row seen) = none
+  at_exit Leaving = record { thread = refl; makes = refl; gives = refl; frees = refl }
+  at_exit _ = record { thread = refl; makes = refl; gives = refl; frees = refl }
+
+  at_nobody : (cell : Cell) (site found : ℕ) → Plain (nobody code m cell site found)
+  at_nobody cell site zero = record { thread = refl; makes = refl; gives = refl; frees = refl }
+  at_nobody cell site (suc k) = none
+
+  at_signal : (cell : Cell) (site found : ℕ) (stage : Stage) → Plain (in_signal code m cell site found stage)
+  at_signal cell site found (Wakes seen) = either m.own.number None None None (found == seen) _ _ (record { thread = refl; makes = refl; gives = refl; frees = refl }) (at_nobody cell site found)
+  at_signal cell site found _ = at_nobody cell site found
+
+  at_free : (r site elements : ℕ) (stage : Stage) → ((all : ℕ) → stage ≡ Uncounts all → ref m r < 2 ^ 32) → About m.own.number None None (freed_in stage (ref m r)) (in_free code m r site elements stage)
+  at_free r site elements (Uncounts all) lt = record { thread = refl; makes = refl; gives = refl; frees = ap (λ n. Some n) (number_back (ref m r) elements (lt all refl)) }
+  at_free r site elements _ lt = none
+
+  at_new_stage : (site cells : ℕ) (v : NewView) (stage : NewStage) → ((header : ℕ) → header_at stage ≡ Some header → header < 2 ^ 32) → About m.own.number (header_at stage) None None (new_event code m site cells v stage)
+  at_new_stage site cells v (news.Length header) low = record { thread = refl; makes = ap (λ n. Some n) (number_back header v.arguments.elements (low header refl)); gives = refl; frees = refl }
+  at_new_stage site cells v _ low = none
+
+  at_new : (site cells : ℕ) (stage : Stage) → ((header : ℕ) → header_in stage ≡ Some header → header < 2 ^ 32) → About m.own.number (header_in stage) None None (in_new code m site cells stage)
+  at_new site cells (Makes v) low = at_new_stage site cells v v.stage low
+  at_new site cells _ low = none
+
+  -- the numbers are of 32 bits
+  pub record AreLow (i : Instr) : Type 0 where
+    pub header : (header : ℕ) → header_of i m.own.stage ≡ Some header → header < 2 ^ 32
+    pub given : (r site : ℕ) → i ≡ instrs.Give r site → ref m r < 2 ^ 32
+    pub freed : (r layout site all : ℕ) → i ≡ instrs.Free r layout site → m.own.stage ≡ Uncounts all → ref m r < 2 ^ 32
+
+  pub about : (i : Instr) (found elements : ℕ) → AreLow i → About m.own.number (header_of i m.own.stage) (given_at i m) (freed_at i m) (said code i m found elements)
+  about (instrs.Constant r v) found elements low = none
+  about (instrs.Move r from) found elements low = none
+  about (instrs.MoveReference r from) found elements low = none
+  about (instrs.Null r) found elements low = none
+  about (instrs.ComputeInt operator r a b site) found elements low = none
+  about (instrs.ComputeLong operator r a b site) found elements low = none
+  about (instrs.NegateInt r a site) found elements low = none
+  about (instrs.NegateLong r a site) found elements low = none
+  about (instrs.Complement r a) found elements low = none
+  about (instrs.Not r a) found elements low = none
+  about (instrs.SameReference r a b) found elements low = none
+  about (instrs.ChkWidth width r site) found elements low = none
+  about (instrs.Jump pc) found elements low = none
+  about (instrs.JumpIfZero r pc) found elements low = none
+  about (instrs.JumpIfNull r pc) found elements low = none
+  about (instrs.Call pc ints refs site) found elements low = none
+  about (instrs.Return site) found elements low = none
+  about (instrs.ChkNull r site) found elements low = none
+  about (instrs.ChkHeld c site) found elements low = none
+  about (instrs.ChkNotHeld c site) found elements low = none
+  about (instrs.ChkPositive r site) found elements low = none
+  about (instrs.ChkRoom site) found elements low = none
+  about (instrs.ChkLock c site) found elements low = none
+  about (instrs.ChkLockLoaded site) found elements low = none
+  about (instrs.Bounds r base count field site) found elements low = none
+  about (instrs.GlobalBounds r all count field site) found elements low = none
+  about (instrs.ChkRead c site) found elements low = none
+  about (instrs.ChkWrite c site) found elements low = none
+  about (instrs.Raise r from) found elements low = none
+  about (instrs.RaiseLoaded r) found elements low = none
+  about (instrs.Lower r) found elements low = none
+  about (instrs.TestSole r site) found elements low = none
+  about (instrs.Clear r cells) found elements low = none
+  about (instrs.Load r c site) found elements low = record { thread = refl; makes = refl; gives = refl; frees = refl }
+  about (instrs.Store r c site) found elements low = record { thread = refl; makes = refl; gives = refl; frees = refl }
+  about (instrs.LoadRef c site) found elements low = record { thread = refl; makes = refl; gives = refl; frees = refl }
+  about (instrs.Exchange r c site) found elements low = record { thread = refl; makes = refl; gives = refl; frees = refl }
+  about (instrs.TakeCell r c site) found elements low = record { thread = refl; makes = refl; gives = refl; frees = refl }
+  about (instrs.Unlock r c site) found elements low = record { thread = refl; makes = refl; gives = refl; frees = refl }
+  about (instrs.Print r site) found elements low = record { thread = refl; makes = refl; gives = refl; frees = refl }
+  about (instrs.CondEnter c site) found elements low = record { thread = refl; makes = refl; gives = refl; frees = refl }
+  about (instrs.CondBroadcast c site) found elements low = record { thread = refl; makes = refl; gives = refl; frees = refl }
+  about (instrs.TakeLocal r from site) found elements low = at_local site (ref m from) elements
+  about (instrs.Give r site) found elements low = record { thread = refl; makes = refl; gives = ap (λ n. Some n) (number_back (ref m r) elements (low.given r site refl)); frees = refl }
+  about (instrs.New r count cells site) found elements low = at_new site cells m.own.stage low.header
+  about (instrs.Free r layout site) found elements low = at_free r site elements m.own.stage (λ all e. low.freed r layout site all refl e)
+  about (instrs.Lock c site) found elements low = either m.own.number None None None (found == 0) _ _ (record { thread = refl; makes = refl; gives = refl; frees = refl }) none
+  about (instrs.Spawn r function from site) found elements low = at_spawn function from site elements m.own.stage
+  about (instrs.Join r site) found elements low = either m.own.number None None None (found == 0 || (found == 1 || found == 2)) _ _ none (record { thread = refl; makes = refl; gives = refl; frees = refl })
+  about (instrs.Start site) found elements low = at_start found elements m.own.stage
+  about instrs.Exit found elements low = at_exit m.own.stage
+  about (instrs.CondWait c site) found elements low = either m.own.number None None None (waits_in found m.own.number) _ _ none (record { thread = refl; makes = refl; gives = refl; frees = refl })
+  about (instrs.CondSignal c site) found elements low = at_signal c site found m.own.stage
+
+-- ---- accesses
+abbrev pub is_access : Instr → Bool
+is_access (instrs.Load r c site) = true
+is_access (instrs.Store r c site) = true
+is_access (instrs.LoadRef c site) = true
+is_access (instrs.Exchange r c site) = true
+is_access (instrs.TakeCell r c site) = true
+is_access _ = false
+
+either_none : (b : Bool) (x y : Option SourceEvent) → access_said x ≡ None → access_said y ≡ None → access_said (if b then x else y) ≡ None
+either_none true x y h k = h
+either_none false x y h k = k
+
+module _ (code : Code) (m : Machine) where
+  abbrev Silent : Option SourceEvent → Type 0
+  Silent e = access_said e ≡ None
+
+  silent_local : (site number elements : ℕ) → Silent (take_local code m site number elements)
+  silent_local site zero elements = refl
+  silent_local site (suc k) elements = refl
+
+  silent_spawn : (function : ℕ) (from : Register) (site elements : ℕ) (stage : Stage) → Silent (in_spawn code m function from site elements stage)
+  silent_spawn function from site elements (Begins k) = refl
+  silent_spawn function from site elements _ = refl
+
+  silent_start : (found elements : ℕ) (stage : Stage) → Silent (in_start code m found elements stage)
+  silent_start found elements (Enters function) = refl
+  silent_start found elements _ = refl
+
+  silent_exit : (stage : Stage) → Silent (in_exit code m stage)
+  silent_exit (Withdraws row) = refl
+  silent_exit (WithdrawsFrom row seen) = refl
+  silent_exit Leaving = refl
+  silent_exit _ = refl
+
+  silent_nobody : (cell : Cell) (site found : ℕ) → Silent (nobody code m cell site found)
+  silent_nobody cell site zero = refl
+  silent_nobody cell site (suc k) = refl
+
+  silent_signal : (cell : Cell) (site found : ℕ) (stage : Stage) → Silent (in_signal code m cell site found stage)
+  silent_signal cell site found (Wakes seen) = either_none (found == seen) _ _ refl (silent_nobody cell site found)
+  silent_signal cell site found _ = silent_nobody cell site found
+
+  silent_free : (r site elements : ℕ) (stage : Stage) → Silent (in_free code m r site elements stage)
+  silent_free r site elements (Uncounts all) = refl
+  silent_free r site elements _ = refl
+
+  silent_new_stage : (site cells : ℕ) (v : NewView) (stage : NewStage) → Silent (new_event code m site cells v stage)
+  silent_new_stage site cells v (news.Length header) = refl
+  silent_new_stage site cells v _ = refl
+
+  silent_new : (site cells : ℕ) (stage : Stage) → Silent (in_new code m site cells stage)
+  silent_new site cells (Makes v) = silent_new_stage site cells v v.stage
+  silent_new site cells _ = refl
+
+  pub no_access : (i : Instr) (found elements : ℕ) → is_access i ≡ false → access_said (said code i m found elements) ≡ None
+  no_access (instrs.Constant r v) found elements e = refl
+  no_access (instrs.Move r from) found elements e = refl
+  no_access (instrs.MoveReference r from) found elements e = refl
+  no_access (instrs.Null r) found elements e = refl
+  no_access (instrs.ComputeInt operator r a b site) found elements e = refl
+  no_access (instrs.ComputeLong operator r a b site) found elements e = refl
+  no_access (instrs.NegateInt r a site) found elements e = refl
+  no_access (instrs.NegateLong r a site) found elements e = refl
+  no_access (instrs.Complement r a) found elements e = refl
+  no_access (instrs.Not r a) found elements e = refl
+  no_access (instrs.SameReference r a b) found elements e = refl
+  no_access (instrs.ChkWidth width r site) found elements e = refl
+  no_access (instrs.Jump pc) found elements e = refl
+  no_access (instrs.JumpIfZero r pc) found elements e = refl
+  no_access (instrs.JumpIfNull r pc) found elements e = refl
+  no_access (instrs.Call pc ints refs site) found elements e = refl
+  no_access (instrs.Return site) found elements e = refl
+  no_access (instrs.ChkNull r site) found elements e = refl
+  no_access (instrs.ChkHeld c site) found elements e = refl
+  no_access (instrs.ChkNotHeld c site) found elements e = refl
+  no_access (instrs.ChkPositive r site) found elements e = refl
+  no_access (instrs.ChkRoom site) found elements e = refl
+  no_access (instrs.ChkLock c site) found elements e = refl
+  no_access (instrs.ChkLockLoaded site) found elements e = refl
+  no_access (instrs.Bounds r base count field site) found elements e = refl
+  no_access (instrs.GlobalBounds r all count field site) found elements e = refl
+  no_access (instrs.ChkRead c site) found elements e = refl
+  no_access (instrs.ChkWrite c site) found elements e = refl
+  no_access (instrs.Raise r from) found elements e = refl
+  no_access (instrs.RaiseLoaded r) found elements e = refl
+  no_access (instrs.Lower r) found elements e = refl
+  no_access (instrs.TestSole r site) found elements e = refl
+  no_access (instrs.Clear r cells) found elements e = refl
+  no_access (instrs.Unlock r c site) found elements e = refl
+  no_access (instrs.Print r site) found elements e = refl
+  no_access (instrs.CondEnter c site) found elements e = refl
+  no_access (instrs.CondBroadcast c site) found elements e = refl
+  no_access (instrs.Give r site) found elements e = refl
+  no_access (instrs.Load r c site) found elements e = absurd (let f : true ≡ false = e in cc)
+  no_access (instrs.Store r c site) found elements e = absurd (let f : true ≡ false = e in cc)
+  no_access (instrs.LoadRef c site) found elements e = absurd (let f : true ≡ false = e in cc)
+  no_access (instrs.Exchange r c site) found elements e = absurd (let f : true ≡ false = e in cc)
+  no_access (instrs.TakeCell r c site) found elements e = absurd (let f : true ≡ false = e in cc)
+  no_access (instrs.TakeLocal r from site) found elements e = silent_local site (ref m from) elements
+  no_access (instrs.New r count cells site) found elements e = silent_new site cells m.own.stage
+  no_access (instrs.Free r layout site) found elements e = silent_free r site elements m.own.stage
+  no_access (instrs.Lock c site) found elements e = either_none (found == 0) _ _ refl refl
+  no_access (instrs.Spawn r function from site) found elements e = silent_spawn function from site elements m.own.stage
+  no_access (instrs.Join r site) found elements e = either_none (found == 0 || (found == 1 || found == 2)) _ _ refl refl
+  no_access (instrs.Start site) found elements e = silent_start found elements m.own.stage
+  no_access instrs.Exit found elements e = silent_exit m.own.stage
+  no_access (instrs.CondWait c site) found elements e = either_none (waits_in found m.own.number) _ _ refl refl
+  no_access (instrs.CondSignal c site) found elements e = silent_signal c site found m.own.stage
+
+-- the access that a turn of typed code tells
+abbrev pub access_at : Code → Machine → Cell → ℕ → Bool → Access
+access_at code m c site write = record { cell = cell_at code m c; mode = mode_of code m (cell_at code m c) (place_at code site).mode; is_write = write }
+
+pub record IsAccess (x : Targets) (code : Code) (ls : Labels) (m : Machine) (i : Instr) (found elements : ℕ) : Type 0 where
+  pub write : Bool
+  pub cell : Cell
+  pub site : ℕ
+  pub field : Field
+  pub accesses : Accesses x code ls (ls.at m.at.pc) write cell site field
+  pub said_is : access_said (said code i m found elements) ≡ Some (access_at code m cell site write)
+
+pub access_of : (x : Targets) (code : Code) (ls : Labels) (m : Machine) (i : Instr) (found elements : ℕ) → is_access i ≡ true → Fine x code ls m.at.pc (ls.at m.at.pc) i → IsAccess x code ls m i found elements
+access_of x code ls m (instrs.Load r c site) found elements e f = record { write = false; cell = c; site = site; field = f.1.0; accesses = f.1.2; said_is = refl }
+access_of x code ls m (instrs.Store r c site) found elements e f = record { write = true; cell = c; site = site; field = f.0; accesses = f.2; said_is = refl }
+access_of x code ls m (instrs.LoadRef c site) found elements e f = record { write = false; cell = c; site = site; field = f.0; accesses = f.2; said_is = refl }
+access_of x code ls m (instrs.Exchange r c site) found elements e f = record { write = true; cell = c; site = site; field = f.1.0; accesses = f.1.2; said_is = refl }
+access_of x code ls m (instrs.TakeCell r c site) found elements e f = record { write = true; cell = c; site = site; field = f.1.0; accesses = f.1.2; said_is = refl }
+access_of x code ls m _ found elements e f = absurd (let g : false ≡ true = e in cc)

@@ -1,0 +1,312 @@
+-- At an access under a lock the thread holds that mutex by its events.
+use Rattle.std.proofs.Common.{◌≡◌, ℕ, ℤ, pos, zero, suc, ◌+◌, ◌-◌, ◌*◌, ◌<◌, ◌≤◌, ◌≢◌, ◌⊎◌, inl, inr, Bool, true, false, not, ◌||◌, ◌&&◌, cond, length, List, [], ◌∷◌, ◌++◌, reverse, Option, Some, None, is_some, if◌then◌else◌, refl, sym, ap, ◌∙◌, subst, ⊎_elim, arith, eqb-true}
+use Rattle.std.specs.Prelude.{nat_lt, ◌==◌, slice_index_or, All, filter}
+use Rattle.std.proofs.lemmas.Bool.{cases_eq, cases_lt}
+use Rattle.std.proofs.lemmas.Bool.Decides.{nat_tests}
+use Rattle.sharc_tree.specs.declared.event.Act.TheVariants as acts
+use Rattle.sharc_tree.specs.declared.event.SourceEvent.{SourceEvent}
+use Rattle.sharc_tree.specs.declared.event.CellAt.{CellAt}
+use Rattle.sharc_tree.specs.declared.event.CellMode.TheVariants as modes
+use Rattle.sharc_tree.specs.declared.event.Object.{Object}
+use Rattle.sharc_tree.specs.declared.event.Object.TheVariants as objects
+use Rattle.sharc_locks.specs.declared.held_log.HeldMutex.{HeldMutex}
+use Rattle.sharc_locks.specs.HeldLog.{with_mutex, without, object_of}
+use Rattle.sharc_code.specs.declared.code.Code.{Code}
+use Rattle.sharc_code.specs.declared.code.PlaceMode.{PlaceMode}
+use Rattle.sharc_code.specs.declared.code.PlaceMode.TheVariants as places
+use Rattle.sharc_code.specs.declared.instr.Cell.{Cell}
+use Rattle.sharc_code.specs.declared.instr.Cell.TheVariants as cells
+use Rattle.sharc_code.specs.declared.instr.Instr.{Instr}
+use Rattle.sharc_code.specs.declared.instr.Instr.TheVariants as instrs
+use Rattle.sharc_code.specs.declared.shape.Shape.{Shape}
+use Rattle.sharc_code.specs.Arithmetic.{word_of}
+use Rattle.sharc_code.specs.Laws.{RunLaws}
+use Rattle.sharc_code.specs.Layout.{Fits, first_cell, words_of, cell_of, cell_word}
+use Rattle.sharc_code.specs.Machine.{Machine, instr_at, ref, int, place, object, word, is_held, taken, act}
+use Rattle.sharc_code.specs.Path.{turn, after, may_go}
+use Rattle.sharc_code.specs.Ranges.{IsInGlobal}
+use Rattle.sharc_code.specs.Runs.{Turn, Global, MayTurn, after_turn, put, state_now, result_of}
+use Rattle.sharc_code.specs.Whole.{one_thread, bounds, place_after}
+use Rattle.sharc_code.specs.Says.{said, cell_at, global_cell, made_cell, mode_of, place_at, no_global, speaks_of}
+use Rattle.sharc_gen.specs.Consistent.{IsThere, IsMutex, IsApart}
+use Rattle.sharc_meaning.specs.Events.{same_object, same_cell, locks, unlocks, is_of, locked_by, unlocked_by}
+use Rattle.sharc_invariant.specs.Types.{Targets, Field, FieldMode, FieldLock, Lock, StaticType, ObjectType, Content, cells_of}
+use Rattle.sharc_invariant.specs.Types.Lock.{Global as GlobalLock, Through, Self}
+use Rattle.sharc_invariant.specs.Types.FieldLock.{OfType, OfGlobals, OfElement}
+use Rattle.sharc_invariant.specs.Labels.{Gate, Holds, HoldsLoaded, Refers, Element, Named, Nth, OfElement as OfElementCell, OfGlobal, Entry, Label, Labels, SameReference, Itself, IsCopy, HasCopy, Copies}
+use Rattle.sharc_invariant.specs.Typed.{IsWellTyped, Fine, HasField, HasCell, MayAccess, IsMode, IsTypeMode, IsLockMode, IsLockCell, IsTypeLock, IsMutexOf, IsSibling, no_lock}
+use Rattle.sharc_invariant.specs.World.{RegisterOf, World, ObjectState, in_ref}
+use Rattle.sharc_invariant.specs.State.{State, StageStands, GateStands, EntryStands, NumberStands, ElementStands, OnHold, View, view_of, refs_at, types_at}
+use Rattle.sharc_invariant.specs.MachineInvariant.{IsOn}
+use Rattle.sharc_invariant.specs.Laws.{CellsAreThere}
+use Rattle.sharc_history_laws.proofs.Single.{single, rests_hold}
+use Rattle.sharc_history_laws.proofs.Stands.{top, gate, reads_ref, known_ref, rn}
+use Rattle.sharc_history_laws.proofs.Finds.{is_there, mutex_cell}
+use Rattle.sharc_history_laws.proofs.Lists.{Newest}
+use Rattle.sharc_history_laws.proofs.Holding.{cell_eq, holds_in, holds_other, holds_own}
+
+-- ---- entries of a log
+abbrev pub IsIn : HeldMutex → List HeldMutex → Type 0
+IsIn h [] = ⊥
+IsIn h (k ∷ log) = (k ≡ h) ⊎ IsIn h log
+
+all_in : (P : HeldMutex → Type 0) (log : List HeldMutex) (h : HeldMutex) → All P log → IsIn h log → P h
+all_in P [] h all is = absurd is
+all_in P (k ∷ log) h all is = ⊎_elim
+    (λ (e : k ≡ h). subst P e (all 0 k (omega arith)))
+    (λ rest. all_in P log h (λ j d lt. all (suc j) d (omega arith)) rest)
+    is
+
+pub held_in : (log : List HeldMutex) (word : ℕ) → is_some (object_of log word) ≡ true → (h : HeldMutex) × IsIn h log × (h.word ≡ word)
+held_in [] word e = absurd (let f : false ≡ true = e in cc)
+held_in (k ∷ log) word e = elim (k.word == word) as (λ b. (k.word == word) ≡ b → is_some (if b then Some k.object else object_of log word) ≡ true → (h : HeldMutex) × IsIn h (k ∷ log) × (h.word ≡ word)) [
+  | true ↦ λ q z. (k, inl refl, eqb-true k.word word q)
+  | false ↦ λ q z. let r = held_in log word z in (r.0, inr r.1, r.2)
+] refl e
+
+pub in_append : (log : List HeldMutex) (k h : HeldMutex) → IsIn h (log ++ k ∷ []) → IsIn h log ⊎ (h ≡ k)
+in_append [] k h is = ⊎_elim (λ (e : k ≡ h). inr (sym e)) (λ z. absurd z) is
+in_append (y ∷ log) k h is = ⊎_elim (λ (e : y ≡ h). inl (inl e)) (λ rest. ⊎_elim (λ z. inl (inr z)) (λ z. inr z) (in_append log k h rest)) is
+
+pub in_without : (log : List HeldMutex) (word : ℕ) (h : HeldMutex) → IsIn h (without log word) → IsIn h log × (h.word ≡ word → ⊥)
+in_without [] word h is = absurd is
+in_without (k ∷ log) word h is = elim (k.word == word) as (λ b. (k.word == word) ≡ b → IsIn h (cond (not b) (k ∷ without log word) (without log word)) → IsIn h (k ∷ log) × (h.word ≡ word → ⊥)) [
+  | true ↦ λ q z. let r = in_without log word h z in (inr r.0, r.1)
+  | false ↦ λ q z. ⊎_elim
+      (λ (e : k ≡ h). (inl e, λ w. let f : (k.word == word) ≡ true = ap (λ (k : HeldMutex). k.word == word) e ∙ (let y : h.word ≡ word = w in (grind (arith, nat_tests))) in let g : true ≡ false = sym f ∙ q in cc))
+      (λ rest. let r = in_without log word h rest in (inr r.0, r.1))
+      z
+] refl is
+
+-- ---- cells as the log has them: the number of the object, and the place counted from granule 0
+abbrev pub NamesIn : Code → Object → ℕ → ℕ → ℕ → Type 0
+NamesIn code (objects.Made n) cell o at = (n ≡ o) × (o ≢ 0) × (at ≡ cell_of n cell)
+NamesIn code (objects.Global g) cell o at = (o ≡ 0) × IsInGlobal code.globals.items g at × (at ≡ 2 * (slice_index_or code.globals.items g no_global).granule + cell)
+
+abbrev pub Names : Code → CellAt → ℕ → ℕ → Type 0
+Names code c o at = NamesIn code c.object c.cell o at
+
+module _ (x : Targets) (code : Code) (ls : Labels) (wt : IsWellTyped x code ls) where
+  one_global : (g h at : ℕ) → IsInGlobal code.globals.items g at → IsInGlobal code.globals.items h at → g ≡ h
+  one_global g h at a b = ⊎_elim
+      (λ (e : g ≡ h). e)
+      (λ (ne : g ≡ h → ⊥). ⊎_elim
+      (λ (lt : g < h). let z = wt.globals.apart g h lt b.known in let p = a.high in let q = b.low in absurd (omega arith))
+      (λ (ge : h ≤ g). let z = wt.globals.apart h g (smaller h g ge (λ e. ne (sym e))) a.known in let p = b.high in let q = a.low in absurd (omega arith))
+      (cases_lt g h))
+      (cases_eq g h)
+    where
+      smaller : (p o : ℕ) → p ≤ o → (p ≡ o → ⊥) → p < o
+      smaller p o le ne = ⊎_elim (λ (l : p < o). l) (λ (ge : o ≤ p). absurd (ne (omega arith))) (cases_lt p o)
+
+  -- no two cells are named so
+  one_in : (a b : Object) (i j o at : ℕ) → NamesIn code a i o at → NamesIn code b j o at → (a ≡ b) × (i ≡ j)
+  one_in (objects.Made n) (objects.Made k) i j o at p q = let e : n ≡ k = p.0 ∙ sym q.0 in let r = p.2 in let u = q.2 in (ap objects.Made e, omega arith)
+  one_in (objects.Global g) (objects.Global h) i j o at p q =
+      let e = one_global g h at p.1 q.1 in
+      let r = p.2 in let u = q.2 in
+      let same : (slice_index_or code.globals.items g no_global).granule ≡ (slice_index_or code.globals.items h no_global).granule = ap (λ g. (slice_index_or code.globals.items g no_global).granule) e in
+      (ap objects.Global e, omega arith)
+  one_in (objects.Made n) (objects.Global h) i j o at p q = absurd (p.1 q.0)
+  one_in (objects.Global g) (objects.Made k) i j o at p q = absurd (q.1 p.0)
+
+  pub names_one : (c d : CellAt) (o at : ℕ) → Names code c o at → Names code d o at → c ≡ d
+  names_one c d o at p q = let e = one_in c.object d.object c.cell d.cell o at p q in let a = e.0 in let b = e.1 in λ i. record { object = a i; cell = b i }
+
+-- a cell has one place
+pub one_place : (code : Code) (a : Object) (i o p at from : ℕ) → NamesIn code a i o at → NamesIn code a i p from → at ≡ from
+one_place code (objects.Made n) i o p at from h k = h.2 ∙ sym k.2
+one_place code (objects.Global g) i o p at from h k = h.2 ∙ sym k.2
+
+-- the cell that an instruction names
+pub names_cell : (code : Code) (m : Machine) (c : Cell) → IsThere code m c → Names code (cell_at code m c) (object m c) (place m c)
+names_cell code m (cells.Global g p) there = (refl, there, (let low = there.low in omega arith))
+names_cell code m (cells.GlobalAt g r) there = (refl, there, (let low = there.low in omega arith))
+names_cell code m (cells.Object r p) there = (refl, above (ref m r) there, refl)
+  where
+    above : (n : ℕ) → 0 < n → n ≢ 0
+    above n lt e = omega arith
+names_cell code m (cells.ObjectAt r i) there = (refl, above (ref m r) there, refl)
+  where
+    above : (n : ℕ) → 0 < n → n ≢ 0
+    above n lt e = omega arith
+
+-- ---- what the log says of the events
+abbrev pub LogTold : Code → Shape → Newest → ℕ → List HeldMutex → Type 0
+LogTold code s L t log = (h : HeldMutex) → IsIn h log → (c : CellAt) (at : ℕ) → h.word ≡ first_cell s + at → Names code c h.object at → holds_in L t c ≡ true
+
+-- a mutex that the log has is held
+pub held_told : (code : Code) (s : Shape) (L : Newest) (t : ℕ) (log : List HeldMutex) (o at : ℕ) (c : CellAt) → LogTold code s L t log → IsApart s log o at → is_some (object_of log (cell_word s at)) ≡ true → Names code c o at → holds_in L t c ≡ true
+held_told code s L t log o at c told apart held names =
+    let h = held_in log (cell_word s at) held in
+    let e : nat_lt (first_cell s + at) (words_of s) ≡ true = below (first_cell s + at) (words_of s) apart.inside in
+    let w : h.0.word ≡ first_cell s + at = h.2 ∙ ap (λ b. if b then first_cell s + at else 0) e in
+    let same : h.0.object ≡ o = all_in (λ h. h.word ≡ first_cell s + at → h.object ≡ o) log h.0 apart.apart h.1 w in
+    told h.0 h.1 c at w (subst (λ o. Names code c o at) (sym same) names)
+  where
+    below : (a b : ℕ) → a < b → nat_lt a b ≡ true
+    below a b lt = grind (arith, nat_tests)
+
+-- ---- the mutex that a mode names
+element_one : (names : ℕ → ℤ) (n k : ℕ) (e : Element) → ElementStands names n e → ElementStands names k e → n ≡ k
+element_one names n k (Named name) a b = let e : pos n ≡ pos k = sym a ∙ b in cc
+element_one names n k (Nth i) a b = a ∙ sym b
+
+pub through_is : (n j : ℕ) (mutex : CellAt) → Rattle.sharc_code.specs.Says.lock_through n j ≡ Some mutex → (mutex ≡ made_cell n j) × (n ≢ 0)
+through_is zero j mutex e = absurd (let f : None ≡ Some mutex = e in cc)
+through_is (suc n) j mutex e = ((let f : made_cell (suc n) j ≡ mutex = cc in sym f), λ z. omega arith)
+
+some_eq : (a b : CellAt) → modes.Locked (Some a) ≡ modes.Locked (Some b) → a ≡ b
+some_eq a b e = cc
+
+pub lock_eq : (a : Option CellAt) (b : CellAt) → modes.Locked a ≡ modes.Locked (Some b) → a ≡ Some b
+lock_eq a b e = cc
+
+module _ (x : Targets) (code : Code) (s : Shape) (ls : Labels) (wt : IsWellTyped x code ls) (fits : Fits code s) (g : Global Machine) (world : World) (st : State x code s ls g world) (t : ℕ) (on : IsOn g t) (hold : OnHold (g.threads t).own.stage) where
+  abbrev m : Machine
+  m = g.threads t
+
+  abbrev here : Label
+  here = ls.at (g.threads t).at.pc
+
+  abbrev view : View
+  view = view_of st.elements world t (g.threads t)
+
+  abbrev refs : ℕ → ℕ
+  refs = refs_at view (g.threads t).at.refs
+
+  copy_of : (r : ℕ) → refs (here.same r) ≡ refs r
+  copy_of r = (top x code s ls wt fits g world st t on hold (suc r) 0).same r (omega arith)
+
+  same_in : (a b : ℕ) → SameReference here a b → refs a ≡ refs b
+  same_in a b (Itself e) = ap refs e
+  same_in a b (IsCopy e) = sym (copy_of a) ∙ ap refs e
+  same_in a b (HasCopy e) = sym (ap refs e) ∙ copy_of b
+  same_in a b (Copies e) = sym (copy_of a) ∙ ap refs e ∙ copy_of b
+
+  same_refs : (a b : ℕ) → SameReference here a b → ref (g.threads t) a ≡ ref (g.threads t) b
+  same_refs a b h = reads_ref x code s ls wt fits g world st t on hold a ∙ same_in a b h ∙ sym (reads_ref x code s ls wt fits g world st t on hold b)
+
+  -- what integer registers hold
+  number_of_global : (i first count elements : ℕ) (e : Element) → here.ints i ≡ OfGlobal first count elements e → (n : ℕ) × (int (g.threads t) i ≡ pos (first + n * count)) × ElementStands (rn x code s ls wt fits g world st t on hold).names n e
+  number_of_global i first count elements e q =
+      let k : NumberStands x st.elements refs (types_at view m.at.refs) (rn x code s ls wt fits g world st t on hold).names (int m i) (OfGlobal first count elements e) =
+      subst (NumberStands x st.elements refs (types_at view m.at.refs) (rn x code s ls wt fits g world st t on hold).names (int m i)) q ((top x code s ls wt fits g world st t on hold 0 (suc i)).numbers i (omega arith)) in
+      (k.0, k.2, k.3)
+
+  number_of_element : (i b field : ℕ) (e : Element) → here.ints i ≡ OfElementCell b field e → (n : ℕ) × (int (g.threads t) i ≡ pos (n * cells_of x (types_at view (g.threads t).at.refs b).target + field)) × ElementStands (rn x code s ls wt fits g world st t on hold).names n e
+  number_of_element i b field e q =
+      let k : NumberStands x st.elements refs (types_at view m.at.refs) (rn x code s ls wt fits g world st t on hold).names (int m i) (OfElementCell b field e) =
+      subst (NumberStands x st.elements refs (types_at view m.at.refs) (rn x code s ls wt fits g world st t on hold).names (int m i)) q ((top x code s ls wt fits g world st t on hold 0 (suc i)).numbers i (omega arith)) in
+      (k.0, k.2, k.3)
+
+  -- two registers with one reference have its type
+  same_type : (a b : ℕ) → ref (g.threads t) a ≢ 0 → ref (g.threads t) a ≡ ref (g.threads t) b → types_at view (g.threads t).at.refs a ≡ types_at view (g.threads t).at.refs b
+  same_type a b nz e =
+      let ra = reads_ref x code s ls wt fits g world st t on hold a in
+      let rb = reads_ref x code s ls wt fits g world st t on hold b in
+      let fa = st.inv.words.fits (Rattle.sharc_invariant.specs.World.In (RegisterOf t (m.at.refs + a))) (λ z. nz (ra ∙ z)) in
+      let fb = st.inv.words.fits (Rattle.sharc_invariant.specs.World.In (RegisterOf t (m.at.refs + b))) (λ z. nz (e ∙ rb ∙ z)) in
+      sym fa.typed ∙ ap (λ o. (world.obj o).ty) (sym ra ∙ e ∙ rb) ∙ fb.typed
+
+  some_ref : (r : ℕ) → 0 < ref (g.threads t) r → ref (g.threads t) r ≢ 0
+  some_ref r lt e = omega arith
+
+  -- the lock of a type, and the cell that it names
+  lock_names : (at : CellAt) (r : ℕ) (lock : Lock) (d : Cell) (mode : PlaceMode) (mutex : CellAt) → IsLockCell code here r lock d → IsLockMode code here r lock mode → mode_of code (g.threads t) at mode ≡ modes.Locked (Some mutex) → IsThere code (g.threads t) d
+      → Names code mutex (object (g.threads t) d) (place (g.threads t) d)
+  lock_names at r (GlobalLock j) (cells.Global g' p) mode mutex cell is e there =
+      let q : modes.Locked (Some (global_cell code is.0 (j + 2))) ≡ modes.Locked (Some mutex) = sym (ap (mode_of code m at) is.1) ∙ e in
+      let same = some_eq (global_cell code is.0 (j + 2)) mutex q in
+      let inside : IsInGlobal code.globals.items is.0 (j + 2) = record { known = is.2.is; low = is.2.from; high = is.2.until } in
+      let low = is.2.from in
+      subst (λ c. Names code c 0 p) same (refl, subst (IsInGlobal code.globals.items is.0) (sym cell.0) inside, (let z = cell.0 in omega arith))
+  lock_names at r (GlobalLock j) (cells.GlobalAt g' i) mode mutex cell is e there = absurd cell
+  lock_names at r (GlobalLock j) (cells.Object a i) mode mutex cell is e there = absurd cell
+  lock_names at r (GlobalLock j) (cells.ObjectAt a i) mode mutex cell is e there = absurd cell
+  lock_names at r (Through q j) (cells.Object a i) mode mutex cell is e there =
+      let k = through_is (ref m is.0) j mutex (lock_eq (Rattle.sharc_code.specs.Says.lock_through (ref m is.0) j) mutex (sym (ap (mode_of code m at) is.1) ∙ e)) in
+      let same : ref m is.0 ≡ ref m a = same_refs is.0 q is.2 ∙ sym (same_refs a q cell.1) in
+      subst (λ c. Names code c (ref m a) (cell_of (ref m a) i)) (sym k.0) (same, some_ref a there, ap (λ n. cell_of n i) (sym same) ∙ ap (cell_of (ref m is.0)) cell.0)
+  lock_names at r (Through q j) (cells.Global g' p) mode mutex cell is e there = absurd cell
+  lock_names at r (Through q j) (cells.GlobalAt g' i) mode mutex cell is e there = absurd cell
+  lock_names at r (Through q j) (cells.ObjectAt a i) mode mutex cell is e there = absurd cell
+  lock_names at r (Self j) (cells.Object a i) mode mutex cell is e there =
+      let k = through_is (ref m is.0) j mutex (lock_eq (Rattle.sharc_code.specs.Says.lock_through (ref m is.0) j) mutex (sym (ap (mode_of code m at) is.1) ∙ e)) in
+      let same : ref m is.0 ≡ ref m a = same_refs is.0 r is.2 ∙ sym (same_refs a r cell.1) in
+      subst (λ c. Names code c (ref m a) (cell_of (ref m a) i)) (sym k.0) (same, some_ref a there, ap (λ n. cell_of n i) (sym same) ∙ ap (cell_of (ref m is.0)) cell.0)
+  lock_names at r (Self j) (cells.Global g' p) mode mutex cell is e there = absurd cell
+  lock_names at r (Self j) (cells.GlobalAt g' i) mode mutex cell is e there = absurd cell
+  lock_names at r (Self j) (cells.ObjectAt a i) mode mutex cell is e there = absurd cell
+
+  refers_eq : (a b : StaticType) → Refers a ≡ Refers b → a ≡ b
+  refers_eq a b e = cc
+
+  type_names : (at : CellAt) (k : ℕ) (c d : Cell) (mode : PlaceMode) (mutex : CellAt) → IsTypeLock code here k c d → IsTypeMode code here k c mode → mode_of code (g.threads t) at mode ≡ modes.Locked (Some mutex) → IsThere code (g.threads t) d
+      → Names code mutex (object (g.threads t) d) (place (g.threads t) d)
+  type_names at k (cells.Global g' p) d mode mutex cell is e there = absurd cell
+  type_names at k (cells.GlobalAt g' i) d mode mutex cell is e there = absurd cell
+  type_names at k (cells.Object r i) d mode mutex cell is e there =
+      let same : is.0 ≡ cell.0 = refers_eq is.0 cell.0 (sym is.1 ∙ cell.1) in
+      lock_names at r (slice_index_or cell.0.locks k no_lock) d mode mutex cell.3 (subst (λ (ty : StaticType). IsLockMode code here r (slice_index_or ty.locks k no_lock) mode) same is.2) e there
+  type_names at k (cells.ObjectAt r i) d mode mutex cell is e there =
+      let same : is.0 ≡ cell.0 = refers_eq is.0 cell.0 (sym is.1 ∙ cell.1) in
+      lock_names at r (slice_index_or cell.0.locks k no_lock) d mode mutex cell.3 (subst (λ (ty : StaticType). IsLockMode code here r (slice_index_or ty.locks k no_lock) mode) same is.2) e there
+
+  -- the mutex of the same element
+  sibling_names : (c d : Cell) (field mutex : ℕ) → IsSibling here field mutex c d → Rattle.sharc_invariant.specs.Typed.HasBefore code here field c → IsThere code (g.threads t) d
+      → Names code (record { object = (cell_at code (g.threads t) c).object; cell = (cell_at code (g.threads t) c).cell - field + mutex }) (object (g.threads t) d) (place (g.threads t) d)
+  sibling_names (cells.Global g' p) (cells.Global h q) field mutex is before there =
+      let inside : IsInGlobal code.globals.items g' q = subst (λ g. IsInGlobal code.globals.items g q) (sym is.0) there in
+      let a = is.2 in
+      (refl, inside, omega arith)
+  sibling_names (cells.GlobalAt g' i) (cells.GlobalAt h j) field mutex is before there =
+      let k = is.1 in
+      let first = k.0 in
+      let a = number_of_global i first k.1 k.2 k.3 k.4 in
+      let b = number_of_global j (first - field + mutex) k.1 k.2 k.3 k.6 in
+      let n : a.0 ≡ b.0 = element_one (rn x code s ls wt fits g world st t on hold).names a.0 b.0 k.3 a.2 b.2 in
+      let same : before.0 ≡ first = let f : OfGlobal before.0 before.1 before.2 before.3 ≡ OfGlobal first k.1 k.2 k.3 = sym before.4 ∙ k.4 in cc in
+      let low = before.5 in
+      let inside : IsInGlobal code.globals.items g' (word_of (int m j)) = subst (λ g. IsInGlobal code.globals.items g (word_of (int m j))) (sym is.0) there in
+      let wi : word_of (int m i) ≡ first + a.0 * k.1 = ap word_of a.1 in
+      let wj : word_of (int m j) ≡ first - field + mutex + b.0 * k.1 = ap word_of b.1 in
+      let times : a.0 * k.1 ≡ b.0 * k.1 = ap (λ n. n * k.1) n in
+      (refl, inside, omega arith)
+  sibling_names (cells.Object r i) (cells.Object q j) field mutex is before there =
+      let same = same_refs r q is.0 in
+      (same, some_ref q there, ap (λ n. cell_of n j) (sym same) ∙ ap (cell_of (ref m r)) is.2)
+  sibling_names (cells.ObjectAt r i) (cells.ObjectAt q j) field mutex is before there =
+      let same = same_refs r q is.0 in
+      let k = is.1 in
+      let a = number_of_element i r field k.0 k.1 in
+      let b = number_of_element j q mutex k.0 k.2 in
+      let n : a.0 ≡ b.0 = element_one (rn x code s ls wt fits g world st t on hold).names a.0 b.0 k.0 a.2 b.2 in
+      let nz : ref m r ≢ 0 = λ z. some_ref q there (sym same ∙ z) in
+      let count : cells_of x (types_at view m.at.refs r).target ≡ cells_of x (types_at view m.at.refs q).target = ap (λ (ty : ObjectType). cells_of x ty.target) (same_type r q nz same) in
+      let times : a.0 * cells_of x (types_at view m.at.refs r).target ≡ b.0 * cells_of x (types_at view m.at.refs q).target = ap (λ n. n * cells_of x (types_at view m.at.refs r).target) n ∙ ap (λ c. b.0 * c) count in
+      let wi : word_of (int m i) ≡ a.0 * cells_of x (types_at view m.at.refs r).target + field = ap word_of a.1 in
+      let wj : word_of (int m j) ≡ b.0 * cells_of x (types_at view m.at.refs q).target + mutex = ap word_of b.1 in
+      let cell : word_of (int m j) ≡ word_of (int m i) - field + mutex = omega arith in
+      (same, some_ref q there, ap (λ n. cell_of n (word_of (int m j))) (sym same) ∙ ap (cell_of (ref m r)) cell)
+  sibling_names (cells.Global g' p) (cells.GlobalAt h j) field mutex is before there = absurd is
+  sibling_names (cells.Global g' p) (cells.Object q j) field mutex is before there = absurd is
+  sibling_names (cells.Global g' p) (cells.ObjectAt q j) field mutex is before there = absurd is
+  sibling_names (cells.GlobalAt g' i) (cells.Global h q) field mutex is before there = absurd is
+  sibling_names (cells.GlobalAt g' i) (cells.Object q j) field mutex is before there = absurd is
+  sibling_names (cells.GlobalAt g' i) (cells.ObjectAt q j) field mutex is before there = absurd is
+  sibling_names (cells.Object r i) (cells.Global h q) field mutex is before there = absurd is
+  sibling_names (cells.Object r i) (cells.GlobalAt h j) field mutex is before there = absurd is
+  sibling_names (cells.Object r i) (cells.ObjectAt q j) field mutex is before there = absurd is
+  sibling_names (cells.ObjectAt r i) (cells.Global h q) field mutex is before there = absurd is
+  sibling_names (cells.ObjectAt r i) (cells.GlobalAt h j) field mutex is before there = absurd is
+  sibling_names (cells.ObjectAt r i) (cells.Object q j) field mutex is before there = absurd is
+
+  pub mutex_names : (c d : Cell) (lock : FieldLock) (mode : PlaceMode) (mutex : CellAt) → IsMutexOf code here lock c d → IsMode code here c (FieldMode.Under lock) mode → mode_of code (g.threads t) (cell_at code (g.threads t) c) mode ≡ modes.Locked (Some mutex) → IsThere code (g.threads t) d
+      → Names code mutex (object (g.threads t) d) (place (g.threads t) d)
+  mutex_names c d (OfType k) mode mutex cell is e there = type_names (cell_at code m c) k c d mode mutex cell is e there
+  mutex_names c d (OfGlobals j) mode mutex cell is e there = lock_names (cell_at code m c) 0 (GlobalLock j) d mode mutex cell is e there
+  mutex_names c d (OfElement field other) mode mutex cell is e there =
+      let named : CellAt = record { object = (cell_at code m c).object; cell = (cell_at code m c).cell - field + other } in
+      let q : modes.Locked (Some named) ≡ modes.Locked (Some mutex) = sym (ap (mode_of code m (cell_at code m c)) is.0) ∙ e in
+      subst (λ c. Names code c (object m d) (place m d)) (some_eq named mutex q) (sibling_names c d field other cell is.1 there)

@@ -1,0 +1,145 @@
+-- A turn that is none of Lock or Unlock tells no event of a mutex.
+use Rattle.std.proofs.Common.{◌≡◌, ℕ, zero, suc, ◌+◌, ◌*◌, ◌%◌, ◌^◌, ◌<◌, Bool, true, false, Option, Some, None, if◌then◌else◌, refl, sym, ap, ◌∙◌, arith}
+use Rattle.std.specs.Prelude.{◌==◌, ◌||◌}
+use Rattle.sharc_tree.specs.declared.event.SourceEvent.{SourceEvent}
+use Rattle.sharc_tree.specs.declared.event.CellAt.{CellAt}
+use Rattle.sharc_granule.specs.State.{NewView}
+use Rattle.sharc_granule.specs.declared.stage.Stage.{Stage as NewStage}
+use Rattle.sharc_granule.specs.declared.stage.Stage.TheVariants as news
+use Rattle.sharc_cond.specs.Waiters.{waits_in}
+use Rattle.sharc_code.specs.declared.code.Code.{Code}
+use Rattle.sharc_code.specs.declared.instr.Cell.{Cell}
+use Rattle.sharc_code.specs.declared.instr.Register.{Register}
+use Rattle.sharc_code.specs.declared.instr.Instr.{Instr}
+use Rattle.sharc_code.specs.declared.instr.Instr.TheVariants as instrs
+use Rattle.sharc_code.specs.declared.state.Stage.{Stage}
+use Rattle.sharc_code.specs.declared.state.Stage.TheVariants.{Rests, Looks, Clears, Makes, Empties, Lowers, FreeLooks, FreeClears, Uncounts, Links, Names, Hands, Begins, Enters, Withdraws, WithdrawsFrom, Leaves as Leaving, Wakes}
+use Rattle.sharc_code.specs.Machine.{Machine, ref}
+use Rattle.sharc_code.specs.Says.{said, reference, take_local, nobody, in_signal, in_exit, in_spawn, in_start, in_free, in_new, new_event, cell_at, mode_of, place_at}
+use Rattle.sharc_meaning.specs.Events.{Access, access_by, made_by, given_by, freed_by}
+use Rattle.sharc_meaning.specs.Reference.{number_of}
+use Rattle.sharc_invariant.specs.Types.{Targets, Field}
+use Rattle.sharc_invariant.specs.Labels.{Label, Labels}
+use Rattle.sharc_invariant.specs.Typed.{Fine, Accesses}
+use Rattle.sharc_history_laws.proofs.Tables.{header_at, header_in, header_of}
+
+use Rattle.sharc_tree.specs.declared.event.Act.{Act}
+use Rattle.sharc_tree.specs.declared.event.Act.TheVariants as acts
+use Rattle.sharc_meaning.specs.Events.{locked_by, unlocked_by}
+use Rattle.sharc_history_laws.proofs.Logs.{is_locking}
+
+abbrev pub is_mutex_act : Act → Bool
+is_mutex_act (acts.Lock c) = true
+is_mutex_act (acts.Unlock c) = true
+is_mutex_act _ = false
+
+abbrev pub mutex_said : Option SourceEvent → Bool
+mutex_said None = false
+mutex_said (Some e) = is_mutex_act e.act
+
+pub not_locked : (a : Act) → is_mutex_act a ≡ false → (locked_by a ≡ None) × (unlocked_by a ≡ None)
+not_locked (acts.Lock c) e = absurd (let f : true ≡ false = e in cc)
+not_locked (acts.Unlock c) e = absurd (let f : true ≡ false = e in cc)
+not_locked _ e = (refl, refl)
+
+either_no : (b : Bool) (x y : Option SourceEvent) → mutex_said x ≡ false → mutex_said y ≡ false → mutex_said (if b then x else y) ≡ false
+either_no true x y h k = h
+either_no false x y h k = k
+
+module _ (code : Code) (m : Machine) where
+  abbrev Mutexless : Option SourceEvent → Type 0
+  Mutexless e = mutex_said e ≡ false
+
+  mutexless_local : (site number elements : ℕ) → Mutexless (take_local code m site number elements)
+  mutexless_local site zero elements = refl
+  mutexless_local site (suc k) elements = refl
+
+  mutexless_spawn : (function : ℕ) (from : Register) (site elements : ℕ) (stage : Stage) → Mutexless (in_spawn code m function from site elements stage)
+  mutexless_spawn function from site elements (Begins k) = refl
+  mutexless_spawn function from site elements _ = refl
+
+  mutexless_start : (found elements : ℕ) (stage : Stage) → Mutexless (in_start code m found elements stage)
+  mutexless_start found elements (Enters function) = refl
+  mutexless_start found elements _ = refl
+
+  mutexless_exit : (stage : Stage) → Mutexless (in_exit code m stage)
+  mutexless_exit (Withdraws row) = refl
+  mutexless_exit (WithdrawsFrom row seen) = refl
+  mutexless_exit Leaving = refl
+  mutexless_exit _ = refl
+
+  mutexless_nobody : (cell : Cell) (site found : ℕ) → Mutexless (nobody code m cell site found)
+  mutexless_nobody cell site zero = refl
+  mutexless_nobody cell site (suc k) = refl
+
+  mutexless_signal : (cell : Cell) (site found : ℕ) (stage : Stage) → Mutexless (in_signal code m cell site found stage)
+  mutexless_signal cell site found (Wakes seen) = either_no (found == seen) _ _ refl (mutexless_nobody cell site found)
+  mutexless_signal cell site found _ = mutexless_nobody cell site found
+
+  mutexless_free : (r site elements : ℕ) (stage : Stage) → Mutexless (in_free code m r site elements stage)
+  mutexless_free r site elements (Uncounts all) = refl
+  mutexless_free r site elements _ = refl
+
+  mutexless_new_stage : (site cells : ℕ) (v : NewView) (stage : NewStage) → Mutexless (new_event code m site cells v stage)
+  mutexless_new_stage site cells v (news.Length header) = refl
+  mutexless_new_stage site cells v _ = refl
+
+  mutexless_new : (site cells : ℕ) (stage : Stage) → Mutexless (in_new code m site cells stage)
+  mutexless_new site cells (Makes v) = mutexless_new_stage site cells v v.stage
+  mutexless_new site cells _ = refl
+
+  pub no_mutex : (i : Instr) (found elements : ℕ) → is_locking i ≡ false → mutex_said (said code i m found elements) ≡ false
+  no_mutex (instrs.Constant r v) found elements e = refl
+  no_mutex (instrs.Move r from) found elements e = refl
+  no_mutex (instrs.MoveReference r from) found elements e = refl
+  no_mutex (instrs.Null r) found elements e = refl
+  no_mutex (instrs.ComputeInt operator r a b site) found elements e = refl
+  no_mutex (instrs.ComputeLong operator r a b site) found elements e = refl
+  no_mutex (instrs.NegateInt r a site) found elements e = refl
+  no_mutex (instrs.NegateLong r a site) found elements e = refl
+  no_mutex (instrs.Complement r a) found elements e = refl
+  no_mutex (instrs.Not r a) found elements e = refl
+  no_mutex (instrs.SameReference r a b) found elements e = refl
+  no_mutex (instrs.ChkWidth width r site) found elements e = refl
+  no_mutex (instrs.Jump pc) found elements e = refl
+  no_mutex (instrs.JumpIfZero r pc) found elements e = refl
+  no_mutex (instrs.JumpIfNull r pc) found elements e = refl
+  no_mutex (instrs.Call pc ints refs site) found elements e = refl
+  no_mutex (instrs.Return site) found elements e = refl
+  no_mutex (instrs.ChkNull r site) found elements e = refl
+  no_mutex (instrs.ChkHeld c site) found elements e = refl
+  no_mutex (instrs.ChkNotHeld c site) found elements e = refl
+  no_mutex (instrs.ChkPositive r site) found elements e = refl
+  no_mutex (instrs.ChkRoom site) found elements e = refl
+  no_mutex (instrs.ChkLock c site) found elements e = refl
+  no_mutex (instrs.ChkLockLoaded site) found elements e = refl
+  no_mutex (instrs.Bounds r base count field site) found elements e = refl
+  no_mutex (instrs.GlobalBounds r all count field site) found elements e = refl
+  no_mutex (instrs.ChkRead c site) found elements e = refl
+  no_mutex (instrs.ChkWrite c site) found elements e = refl
+  no_mutex (instrs.Raise r from) found elements e = refl
+  no_mutex (instrs.RaiseLoaded r) found elements e = refl
+  no_mutex (instrs.Lower r) found elements e = refl
+  no_mutex (instrs.TestSole r site) found elements e = refl
+  no_mutex (instrs.Clear r cells) found elements e = refl
+  no_mutex (instrs.Unlock r c site) found elements e = absurd (let f : true ≡ false = e in cc)
+  no_mutex (instrs.Print r site) found elements e = refl
+  no_mutex (instrs.CondEnter c site) found elements e = refl
+  no_mutex (instrs.CondBroadcast c site) found elements e = refl
+  no_mutex (instrs.Give r site) found elements e = refl
+  no_mutex (instrs.Load r c site) found elements e = refl
+  no_mutex (instrs.Store r c site) found elements e = refl
+  no_mutex (instrs.LoadRef c site) found elements e = refl
+  no_mutex (instrs.Exchange r c site) found elements e = refl
+  no_mutex (instrs.TakeCell r c site) found elements e = refl
+  no_mutex (instrs.TakeLocal r from site) found elements e = mutexless_local site (ref m from) elements
+  no_mutex (instrs.New r count cells site) found elements e = mutexless_new site cells m.own.stage
+  no_mutex (instrs.Free r layout site) found elements e = mutexless_free r site elements m.own.stage
+  no_mutex (instrs.Lock c site) found elements e = absurd (let f : true ≡ false = e in cc)
+  no_mutex (instrs.Spawn r function from site) found elements e = mutexless_spawn function from site elements m.own.stage
+  no_mutex (instrs.Join r site) found elements e = either_no (found == 0 || (found == 1 || found == 2)) _ _ refl refl
+  no_mutex (instrs.Start site) found elements e = mutexless_start found elements m.own.stage
+  no_mutex instrs.Exit found elements e = mutexless_exit m.own.stage
+  no_mutex (instrs.CondWait c site) found elements e = either_no (waits_in found m.own.number) _ _ refl refl
+  no_mutex (instrs.CondSignal c site) found elements e = mutexless_signal c site found m.own.stage
+

@@ -1,0 +1,398 @@
+-- Each access of a run of typed code is to a live object, by its owner where the cell is private, and no write under mode readonly.
+use Rattle.std.proofs.Common.{◌≡◌, ℕ, zero, suc, ◌+◌, ◌^◌, ◌<◌, ◌≢◌, ◌⊎◌, inl, inr, Bool, true, false, ◌||◌, cond, List, [], ◌∷◌, ◌++◌, reverse, Option, Some, None, if◌then◌else◌, refl, sym, ap, ◌∙◌, subst, ⊎_elim, arith, eqb-true}
+use Rattle.std.specs.Prelude.{nat_eq, ◌==◌}
+use Rattle.std.proofs.lemmas.Bool.{cases_eq}
+use Rattle.std.proofs.lemmas.Bool.Decides.{nat_tests}
+use Rattle.sharc_tree.specs.declared.event.SourceEvent.{SourceEvent}
+use Rattle.sharc_tree.specs.declared.event.CellMode.TheVariants as modes
+use Rattle.sharc_tree.specs.declared.event.Object.TheVariants as objects
+use Rattle.sharc_granule.specs.declared.stage.Stage.{Stage as NewStage}
+use Rattle.sharc_granule.specs.declared.stage.Stage.TheVariants as news
+use Rattle.sharc_code.specs.declared.code.Code.{Code}
+use Rattle.sharc_code.specs.declared.code.PlaceMode.{PlaceMode}
+use Rattle.sharc_code.specs.declared.instr.Cell.{Cell}
+use Rattle.sharc_code.specs.declared.instr.Cell.TheVariants as cells
+use Rattle.sharc_code.specs.declared.instr.Instr.{Instr}
+use Rattle.sharc_code.specs.declared.instr.Instr.TheVariants as instrs
+use Rattle.sharc_code.specs.declared.shape.Shape.{Shape}
+use Rattle.sharc_code.specs.declared.state.Stage.{Stage}
+use Rattle.sharc_code.specs.declared.state.Stage.TheVariants.{Rests, Looks, Clears, Makes, Empties, Lowers, FreeLooks, FreeClears, Uncounts, Links, Names, Hands, Begins, Enters, Withdraws, WithdrawsFrom, Leaves, Wakes}
+use Rattle.sharc_code.specs.Laws.{RunLaws}
+use Rattle.sharc_code.specs.Layout.{Fits}
+use Rattle.sharc_code.specs.Machine.{Machine, instr_at, ref}
+use Rattle.sharc_code.specs.Opening.{opening_words}
+use Rattle.sharc_code.specs.Runs.{Said, Turn, Global, IsRun, MayTurn, after_turn, put, result_of, with_told, opening_of}
+use Rattle.sharc_code.specs.Whole.{one_thread, bounds, place_after, Erase}
+use Rattle.sharc_code.specs.Says.{said, cell_at, mode_of, place_at, speaks_of}
+use Rattle.sharc_gen.specs.Consistent.{said_now}
+use Rattle.sharc_gen.specs.OfRuns.{told_in, table_of}
+use Rattle.sharc_meaning.specs.Events.{Access, makes, gives, frees, begins, is_number, made_by, given_by, freed_by}
+use Rattle.sharc_meaning.specs.Obeys.{History, IsAccess, IsThere, is_owner}
+use Rattle.sharc_invariant.specs.Types.{Targets, Field, FieldMode, field_in, mode_in}
+use Rattle.sharc_invariant.specs.Labels.{Label, Labels}
+use Rattle.sharc_invariant.specs.Typed.{IsWellTyped, Fine, Accesses}
+use Rattle.sharc_invariant.specs.World.{ObjectState, World, CanBy, Right, base_of}
+use Rattle.sharc_invariant.specs.Words.{lang_of}
+use Rattle.sharc_invariant.specs.Cells.{IsThere as CellIsThere}
+use Rattle.sharc_invariant.specs.Objects.{objects_behind, made_behind, new_behind, freed_behind, objects_now, owned, gone, type_held}
+use Rattle.sharc_invariant.specs.State.{State, IsSmall, StageStands, OnHold, base_of_cell, object_of_cell, number_in}
+use Rattle.sharc_invariant.specs.MachineInvariant.{IsOn}
+use Rattle.sharc_invariant.specs.Laws.{Keeps, Begins as CodeBegins, CellsAreThere, PointersAreThere, AccessesAreAllowed}
+use Rattle.sharc_history_laws.specs.History.{history_of, KeepsRules}
+use Rattle.sharc_history_laws.proofs.Single.{single, rests_hold}
+use Rattle.sharc_history_laws.proofs.Stands.{live_low, known_ref, there, live_ref, sole_ref}
+use Rattle.sharc_history_laws.proofs.Tables.{header_at, header_in, header_of, was_live}
+use Rattle.sharc_history_laws.proofs.Consists.{Consists, consists_then, objects_then, given, header_built, built_low}
+use Rattle.sharc_history_laws.proofs.Acts.{access_said, made_said, given_said, freed_said, thread_said, given_at, freed_in, freed_at, About, about, AreLow, is_access, no_access, access_at, IsAccess as TellsAccess, access_of}
+use Rattle.sharc_history_laws.proofs.Lists.{Newest, EachAccess, no_event, each_push, live_in, owned_in, is_live_in, owned_is, live_made, live_other, owned_begun, owned_other}
+use Rattle.sharc_history_laws.proofs.Modes.{private_field, readonly_field}
+
+-- ---- numbers of objects
+pub number_yes : (n : ℕ) → is_number n (Some n) ≡ true
+number_yes n = let e : (n == n) ≡ true = grind (arith, nat_tests) in e
+
+number_not : (n : ℕ) (o : Option ℕ) → (o ≡ Some n → ⊥) → is_number n o ≡ false
+number_not n None h = refl
+number_not n (Some k) h = let ne : n ≡ k → ⊥ = λ e. h (ap (λ j. Some j) (sym e)) in let e : (n == k) ≡ false = grind (arith, nat_tests) in e
+
+eq_refl : (n : ℕ) → (n == n) ≡ true
+eq_refl n = grind (arith, nat_tests)
+
+pub put_same : {A : Type 0} (f : ℕ → A) (i : ℕ) (v : A) → put f i v i ≡ v
+put_same f i v = rw (eq_refl i) refl
+
+pub put_other : {A : Type 0} (f : ℕ → A) (i j : ℕ) (v : A) → (j ≡ i → ⊥) → put f i v j ≡ f j
+put_other f i j v ne = let e : nat_eq j i ≡ false = grind (arith, nat_tests) in rw e refl
+
+-- ---- objects after a turn
+module _ (ls : Labels) (t : ℕ) (m m' : Machine) (f : ℕ → ObjectState) (n : ℕ) where
+  new_owner : (r : ℕ) (y : NewStage) → header_at y ≡ Some n → (new_behind ls t r m' y f n).owner ≡ t
+  new_owner r (news.Length header) e = let same : header ≡ n = cc in ap (λ h. (put f h (owned t (type_held ls m' r)) n).owner) same ∙ ap (λ (o : ObjectState). o.owner) (put_same f n (owned t (type_held ls m' r)))
+  new_owner r _ e = absurd (cc)
+
+  makes_owner : (r : ℕ) (y : Stage) → header_in y ≡ Some n → (made_behind ls t r m' y f n).owner ≡ t
+  makes_owner r (Makes v) e = new_owner r v.stage e
+  makes_owner r _ e = absurd (cc)
+
+  pub made_owner : (i : Instr) → header_of i m.own.stage ≡ Some n → (objects_behind ls t i m m' f n).owner ≡ t
+  made_owner (instrs.New r count cells site) e = makes_owner r m.own.stage e
+  made_owner _ e = absurd (cc)
+
+  pub given_owner : (i : Instr) → given_at i m ≡ Some n → (objects_behind ls t i m m' f n).owner ≡ t
+  given_owner (instrs.Give r site) e = let same : ref m r ≡ n = cc in ap (λ h. (put f h (owned t (type_held ls m' r)) n).owner) same ∙ ap (λ (o : ObjectState). o.owner) (put_same f n (owned t (type_held ls m' r)))
+  given_owner _ e = absurd (cc)
+
+  freed_dead : (o : ℕ) (y : Stage) → freed_in y o ≡ Some n → (freed_behind o y f n).live ≡ false
+  freed_dead o (Uncounts all) e = let same : o ≡ n = cc in ap (λ h. (put f h gone n).live) same ∙ ap (λ (y : ObjectState). y.live) (put_same f n gone)
+  freed_dead o _ e = absurd (cc)
+
+  pub freed_gone : (i : Instr) → freed_at i m ≡ Some n → (objects_behind ls t i m m' f n).live ≡ false
+  freed_gone (instrs.Free r layout site) e = freed_dead (ref m r) m.own.stage e
+  freed_gone _ e = absurd (cc)
+
+  same_new : (r : ℕ) (y : NewStage) → (header_at y ≡ Some n → ⊥) → new_behind ls t r m' y f n ≡ f n
+  same_new r (news.Length header) never = put_other f header n (owned t (type_held ls m' r)) (λ e. never (ap (λ k. Some k) (sym e)))
+  same_new r _ never = refl
+
+  same_makes : (r : ℕ) (y : Stage) → (header_in y ≡ Some n → ⊥) → made_behind ls t r m' y f n ≡ f n
+  same_makes r (Makes v) never = same_new r v.stage never
+  same_makes r _ never = refl
+
+  same_freed : (o : ℕ) (y : Stage) → (freed_in y o ≡ Some n → ⊥) → freed_behind o y f n ≡ f n
+  same_freed o (Uncounts all) never = put_other f o n gone (λ e. never (ap (λ k. Some k) (sym e)))
+  same_freed o _ never = refl
+
+  pub same_behind : (i : Instr) → (header_of i m.own.stage ≡ Some n → ⊥) → (given_at i m ≡ Some n → ⊥) → (freed_at i m ≡ Some n → ⊥) → objects_behind ls t i m m' f n ≡ f n
+  same_behind (instrs.New r count cells site) a b c = same_makes r m.own.stage a
+  same_behind (instrs.Give r site) a b c = put_other f (ref m r) n (owned t (type_held ls m' r)) (λ e. b (ap (λ k. Some k) (sym e)))
+  same_behind (instrs.Free r layout site) a b c = same_freed (ref m r) m.own.stage c
+  same_behind _ a b c = refl
+
+-- ---- what holds of each access
+pub record AllowedAccess (before : History) (e : SourceEvent) (a : Access) : Type 0 where
+  pub there : IsThere before a.cell.object
+  pub owner : a.mode ≡ modes.Private → is_owner before a.cell.object e.thread ≡ true
+  pub unwritten : a.mode ≡ modes.Readonly → a.is_write ≡ false
+
+-- ---- the history of a run
+abbrev pub newest : Code → Shape → List Turn → Newest
+newest code s run = told_in (Erase code s run)
+
+abbrev pub pushed : Option SourceEvent → Newest → Newest
+pushed None L = L
+pushed (Some e) L = e ∷ L
+
+told_push : (t : ℕ) (e : Option SourceEvent) (says : List (Said SourceEvent)) → told_in (with_told t e says) ≡ pushed e (told_in says)
+told_push t None says = refl
+told_push t (Some e) says = refl
+
+pub newest_now : (code : Code) (s : Shape) (one : Turn) (earlier : List Turn)
+    → newest code s (one ∷ earlier) ≡ pushed (said_now code (table_of code s earlier) ((place_after code s earlier).threads one.thread) (result_of one.event)) (newest code s earlier)
+newest_now code s one earlier = told_push one.thread (said_now code (table_of code s earlier) ((place_after code s earlier).threads one.thread) (result_of one.event)) (Erase code s earlier)
+
+-- objects are live, and have the owners, that the events say
+pub record ObjectsTold (L : Newest) (obj : ℕ → ObjectState) : Type 0 where
+  pub live : (n : ℕ) → n ≢ 0 → (obj n).live ≡ true → live_in L n ≡ true
+  pub owner : (n : ℕ) → n ≢ 0 → (obj n).live ≡ true → owned_in L n (obj n).owner ≡ true
+
+decide : (o : Option ℕ) (n : ℕ) → (o ≡ Some n) ⊎ (o ≡ Some n → ⊥)
+decide None n = inr (λ e. let f : None ≡ Some n = e in cc)
+decide (Some k) n = ⊎_elim (λ (e : k ≡ n). inl (ap (λ j. Some j) e)) (λ (ne : k ≡ n → ⊥). inr (λ e. ne (let f : k ≡ n = cc in f))) (cases_eq k n)
+
+-- ---- one turn
+module _ (cell_laws : CellsAreThere) (pointers : PointersAreThere) (rights : AccessesAreAllowed) (laws : RunLaws) (keeps : Keeps) (x : Targets) (code : Code) (s : Shape) (ls : Labels) (wt : IsWellTyped x code ls) (fits : Fits code s) (few : IsSmall code s)
+    (one : Turn) (earlier : List Turn) (h : Consists x code s ls earlier) (may : MayTurn bounds (one_thread code s) (place_after code s earlier) one) where
+  abbrev g : Global Machine
+  g = place_after code s earlier
+
+  abbrev t : ℕ
+  t = one.thread
+
+  abbrev m : Machine
+  m = (place_after code s earlier).threads one.thread
+
+  abbrev i : Instr
+  i = instr_at code ((place_after code s earlier).threads one.thread).at.pc
+
+  abbrev world : World
+  world = h.world
+
+  abbrev then_ : Consists x code s ls (one ∷ earlier)
+  then_ = consists_then laws keeps cell_laws pointers x code s ls wt fits few one earlier h may
+
+  abbrev found : ℕ
+  found = result_of one.event
+
+  abbrev elements : ℕ
+  elements = table_of code s earlier (speaks_of (instr_at code ((place_after code s earlier).threads one.thread).at.pc) ((place_after code s earlier).threads one.thread) (result_of one.event))
+
+  pub is_on : IsOn (place_after code s earlier) one.thread
+  is_on = (may.started, may.next.runs)
+
+  pub number_is : ((place_after code s earlier).threads one.thread).own.number ≡ one.thread
+  number_is = (h.state.threads t).has.number
+
+  stage_here : (j : Instr) → i ≡ j → StageStands code s h.state.elements h.world h.state.heap (place_after code s earlier).words one.thread ((place_after code s earlier).threads one.thread) j ((place_after code s earlier).threads one.thread).own.stage
+  stage_here j e = subst (λ j. StageStands code s h.state.elements h.world h.state.heap g.words t m j m.own.stage) e ((h.state.threads t).runs is_on.0 is_on.1).stage
+
+  fine_here : (j : Instr) → i ≡ j → Fine x code ls ((place_after code s earlier).threads one.thread).at.pc (ls.at ((place_after code s earlier).threads one.thread).at.pc) j
+  fine_here j e = subst (Fine x code ls m.at.pc (ls.at m.at.pc)) e (wt.fine m.at.pc)
+
+  -- the numbers of objects that the turn tells of are of 32 bits
+  low_live : (n : ℕ) → (h.world.obj n).live ≡ true → n < 2 ^ 32
+  low_live n live = let lt = live_low x code s ls wt fits g world h.state n live in omega arith
+
+  pub low_numbers : AreLow code ((place_after code s earlier).threads one.thread) i
+  low_numbers = record {
+    header = λ header e. (built_low x code s ls wt fits g world h.state header t (header_built x code s ls wt fits g world h.state t is_on header e)).1;
+    given = λ r site e. low_live (ref m r) (given laws keeps cell_laws pointers x code s ls wt fits few one earlier h may r site e);
+    freed = λ r layout site all e at.
+        let hold : OnHold m.own.stage = subst OnHold (sym at) tt in
+        let f = fine_here (instrs.Free r layout site) e in
+        low_live (ref m r) (live_ref x code s ls wt fits g world h.state t is_on hold r (sole_ref x code s ls wt fits g world h.state t is_on hold r f.0.0 f.0.1));
+  }
+
+  -- what the event is about
+  pub about_now : About ((place_after code s earlier).threads one.thread).own.number (header_of i ((place_after code s earlier).threads one.thread).own.stage) (given_at i ((place_after code s earlier).threads one.thread)) (freed_at i ((place_after code s earlier).threads one.thread)) (said code i ((place_after code s earlier).threads one.thread) found elements)
+  about_now = about code m i found elements low_numbers
+
+  -- ---- objects
+  module _ (obj : ℕ → ObjectState) (obj_is : obj ≡ objects_now code s ls (place_after code s earlier) one h.world.obj) (L : Newest) (old : ObjectsTold L h.world.obj) (n : ℕ) (nz : n ≢ 0) (live : (obj n).live ≡ true) where
+    abbrev m' : Machine
+    m' = (after_turn bounds (one_thread code s) (place_after code s earlier) one).threads one.thread
+
+    abbrev behind : ℕ → ObjectState
+    behind = objects_behind ls one.thread i ((place_after code s earlier).threads one.thread) m' h.world.obj
+
+    at_n : obj n ≡ behind n
+    at_n = ap (λ (f : ℕ → ObjectState). f n) obj_is
+
+    live' : (behind n).live ≡ true
+    live' = ap (λ (y : ObjectState). y.live) (sym at_n) ∙ live
+
+    unfreed : freed_at i ((place_after code s earlier).threads one.thread) ≡ Some n → ⊥
+    unfreed e = let f : true ≡ false = sym live' ∙ freed_gone ls t m m' world.obj n i e in cc
+
+    before : (header_of i ((place_after code s earlier).threads one.thread).own.stage ≡ Some n → ⊥) → (h.world.obj n).live ≡ true
+    before never = ⊎_elim (λ (z : (world.obj n).live ≡ true). z) (λ z. absurd (never z)) (was_live ls t m m' world.obj n i (λ r site e. given laws keeps cell_laws pointers x code s ls wt fits few one earlier h may r site e) live')
+
+    -- an event that is there
+    module _ (e : SourceEvent) (tells : About ((place_after code s earlier).threads one.thread).own.number (header_of i ((place_after code s earlier).threads one.thread).own.stage) (given_at i ((place_after code s earlier).threads one.thread)) (freed_at i ((place_after code s earlier).threads one.thread)) (Some e)) where
+      thread_is : e.thread ≡ one.thread
+      thread_is = tells.thread ∙ number_is
+
+      make_yes : header_of i ((place_after code s earlier).threads one.thread).own.stage ≡ Some n → makes (objects.Made n) e ≡ true
+      make_yes is = ap (is_number n) (tells.makes ∙ is) ∙ number_yes n
+
+      make_no : (header_of i ((place_after code s earlier).threads one.thread).own.stage ≡ Some n → ⊥) → makes (objects.Made n) e ≡ false
+      make_no never = number_not n (made_by e e.act) (λ q. never (sym tells.makes ∙ q))
+
+      give_yes : given_at i ((place_after code s earlier).threads one.thread) ≡ Some n → gives (objects.Made n) e ≡ true
+      give_yes is = ap (is_number n) (tells.gives ∙ is) ∙ number_yes n
+
+      give_no : (given_at i ((place_after code s earlier).threads one.thread) ≡ Some n → ⊥) → gives (objects.Made n) e ≡ false
+      give_no never = number_not n (given_by e.act) (λ q. never (sym tells.gives ∙ q))
+
+      free_no : frees (objects.Made n) e ≡ false
+      free_no = number_not n (freed_by e.act) (λ q. unfreed (sym tells.frees ∙ q))
+
+      live_still : live_in (e ∷ L) n ≡ true
+      live_still = ⊎_elim
+          (λ (made : header_of i m.own.stage ≡ Some n). live_made e L n (make_yes made))
+          (λ (never : header_of i m.own.stage ≡ Some n → ⊥). live_other e L n (make_no never) free_no ∙ old.live n nz (before never))
+          (decide (header_of i m.own.stage) n)
+
+      mine : begins (objects.Made n) e ≡ true → (behind n).owner ≡ one.thread → owned_in (e ∷ L) n (obj n).owner ≡ true
+      mine begun owner =
+          let o : (obj n).owner ≡ e.thread = ap (λ (y : ObjectState). y.owner) at_n ∙ owner ∙ sym thread_is in
+          ap (owned_in (e ∷ L) n) o ∙ owned_begun e L n begun ∙ eq_refl e.thread
+
+      or_left : (a b : Bool) → a ≡ true → (a || b) ≡ true
+      or_left true b e = refl
+      or_left false b e = cc
+
+      or_right : (a b : Bool) → b ≡ true → (a || b) ≡ true
+      or_right true b e = refl
+      or_right false b e = e
+
+      or_false : (a b : Bool) → a ≡ false → b ≡ false → (a || b) ≡ false
+      or_false true b e f = e
+      or_false false b e f = f
+
+      owner_still : owned_in (e ∷ L) n (obj n).owner ≡ true
+      owner_still = ⊎_elim
+          (λ (made : header_of i m.own.stage ≡ Some n). mine (or_left (makes (objects.Made n) e) (gives (objects.Made n) e) (make_yes made)) (made_owner ls t m m' world.obj n i made))
+          (λ (never : header_of i m.own.stage ≡ Some n → ⊥). ⊎_elim
+          (λ (gave : given_at i m ≡ Some n). mine (or_right (makes (objects.Made n) e) (gives (objects.Made n) e) (give_yes gave)) (given_owner ls t m m' world.obj n i gave))
+          (λ (not : given_at i m ≡ Some n → ⊥).
+          let same : obj n ≡ world.obj n = at_n ∙ same_behind ls t m m' world.obj n i never not unfreed in
+          ap (λ (y : ObjectState). owned_in (e ∷ L) n y.owner) same
+          ∙ owned_other e L n (world.obj n).owner (or_false (makes (objects.Made n) e) (gives (objects.Made n) e) (make_no never) (give_no not))
+          ∙ old.owner n nz (before never))
+          (decide (given_at i m) n))
+          (decide (header_of i m.own.stage) n)
+
+    -- no event: no object changes
+    module _ (tells : About ((place_after code s earlier).threads one.thread).own.number (header_of i ((place_after code s earlier).threads one.thread).own.stage) (given_at i ((place_after code s earlier).threads one.thread)) (freed_at i ((place_after code s earlier).threads one.thread)) None) where
+      nothing : obj n ≡ h.world.obj n
+      nothing = at_n ∙ same_behind ls t m m' world.obj n i (λ e. let f : None ≡ Some n = tells.makes ∙ e in cc) (λ e. let f : None ≡ Some n = tells.gives ∙ e in cc) unfreed
+
+      live_kept : live_in L n ≡ true
+      live_kept = old.live n nz (ap (λ (y : ObjectState). y.live) (sym nothing) ∙ live)
+
+      owner_kept : owned_in L n (obj n).owner ≡ true
+      owner_kept = ap (λ (y : ObjectState). owned_in L n y.owner) nothing ∙ old.owner n nz (ap (λ (y : ObjectState). y.live) (sym nothing) ∙ live)
+
+  pub objects_told : (obj : ℕ → ObjectState) → obj ≡ objects_now code s ls (place_after code s earlier) one h.world.obj → (L : Newest) → ObjectsTold L h.world.obj → (ev : Option SourceEvent)
+      → About ((place_after code s earlier).threads one.thread).own.number (header_of i ((place_after code s earlier).threads one.thread).own.stage) (given_at i ((place_after code s earlier).threads one.thread)) (freed_at i ((place_after code s earlier).threads one.thread)) ev → ObjectsTold (pushed ev L) obj
+  objects_told obj is L old None tells = record { live = λ n nz live. live_kept obj is L old n nz live tells; owner = λ n nz live. owner_kept obj is L old n nz live tells }
+  objects_told obj is L old (Some e) tells = record { live = λ n nz live. live_still obj is L old n nz live e tells; owner = λ n nz live. owner_still obj is L old n nz live e tells }
+
+  -- ---- accesses
+  pub hold_access : is_access i ≡ true → OnHold ((place_after code s earlier).threads one.thread).own.stage
+  hold_access e = rests_hold code s h.state.elements world h.state.heap g.words t m i m.own.stage (access_single i e) ((h.state.threads t).runs is_on.0 is_on.1).stage
+    where
+      access_single : (j : Instr) → is_access j ≡ true → single j ≡ true
+      access_single (instrs.Load r c site) e = refl
+      access_single (instrs.Store r c site) e = refl
+      access_single (instrs.LoadRef c site) e = refl
+      access_single (instrs.Exchange r c site) e = refl
+      access_single (instrs.TakeCell r c site) e = refl
+      access_single _ e = absurd (cc)
+
+  module _ (hold : OnHold ((place_after code s earlier).threads one.thread).own.stage) (k : TellsAccess x code ls ((place_after code s earlier).threads one.thread) i found elements) where
+    pub cell_is : CellIsThere x s h.state.cells h.world one.thread ((place_after code s earlier).threads one.thread) k.cell k.field
+    cell_is = there x code s ls wt fits g world h.state t is_on hold cell_laws k.cell k.field k.accesses.cell
+
+    -- what the thread may do
+    pub can : CanBy (lang_of x) h.world one.thread k.write (object_of_cell ((place_after code s earlier).threads one.thread) k.cell) (number_in ((place_after code s earlier).threads one.thread) k.cell)
+        (mode_in (h.world.obj (object_of_cell ((place_after code s earlier).threads one.thread) k.cell)).ty (number_in ((place_after code s earlier).threads one.thread) k.cell) k.field.mode)
+    can =
+        let right = rights x code s ls wt fits g world h.state t is_on hold k.write k.cell k.site k.field k.accesses in
+        let o = object_of_cell m k.cell in
+        let j = number_in m k.cell in
+        let a = subst (λ o. CanBy (lang_of x) world t k.write o j (mode_in (world.obj o).ty j (field_in x (world.obj o).ty j).mode)) cell_is.base right.can in
+        subst (λ (f : Field). CanBy (lang_of x) world t k.write o j (mode_in (world.obj o).ty j f.mode)) cell_is.field a
+
+    pub can_mode : (f : FieldMode) → k.field.mode ≡ f → CanBy (lang_of x) h.world one.thread k.write (object_of_cell ((place_after code s earlier).threads one.thread) k.cell) (number_in ((place_after code s earlier).threads one.thread) k.cell)
+        (mode_in (h.world.obj (object_of_cell ((place_after code s earlier).threads one.thread) k.cell)).ty (number_in ((place_after code s earlier).threads one.thread) k.cell) f)
+    can_mode f e = subst (λ f. CanBy (lang_of x) world t k.write (object_of_cell m k.cell) (number_in m k.cell) (mode_in (world.obj (object_of_cell m k.cell)).ty (number_in m k.cell) f)) e can
+
+    some_base : (c : Cell) → Rattle.sharc_invariant.specs.Typed.HasBase (ls.at ((place_after code s earlier).threads one.thread).at.pc) c → (L : Newest) → ObjectsTold L h.world.obj → (h.world.obj (object_of_cell ((place_after code s earlier).threads one.thread) c)).live ≡ true
+        → IsThere (reverse L) (cell_at code ((place_after code s earlier).threads one.thread) c).object
+    some_base (cells.Global q p) b L old live = tt
+    some_base (cells.GlobalAt q p) b L old live = tt
+    some_base (cells.Object r p) b L old live = is_live_in L (ref m r) ∙ old.live (ref m r) (known_ref x code s ls wt fits g world h.state t is_on hold r b) live
+    some_base (cells.ObjectAt r p) b L old live = is_live_in L (ref m r) ∙ old.live (ref m r) (known_ref x code s ls wt fits g world h.state t is_on hold r b) live
+
+    owner_base : (c : Cell) → Rattle.sharc_invariant.specs.Typed.HasBase (ls.at ((place_after code s earlier).threads one.thread).at.pc) c → (L : Newest) → ObjectsTold L h.world.obj → (h.world.obj (object_of_cell ((place_after code s earlier).threads one.thread) c)).live ≡ true
+        → (who : ℕ) → (h.world.obj (object_of_cell ((place_after code s earlier).threads one.thread) c)).owner ≡ who → is_owner (reverse L) (cell_at code ((place_after code s earlier).threads one.thread) c).object who ≡ true
+    owner_base (cells.Global q p) b L old live who e = let z : who ≡ 0 = sym e ∙ ap (λ (y : ObjectState). y.owner) h.state.globals in ap (λ n. n == 0) z
+    owner_base (cells.GlobalAt q p) b L old live who e = let z : who ≡ 0 = sym e ∙ ap (λ (y : ObjectState). y.owner) h.state.globals in ap (λ n. n == 0) z
+    owner_base (cells.Object r p) b L old live who e = owned_is L (ref m r) who ∙ ap (owned_in L (ref m r)) (sym e) ∙ old.owner (ref m r) (known_ref x code s ls wt fits g world h.state t is_on hold r b) live
+    owner_base (cells.ObjectAt r p) b L old live who e = owned_is L (ref m r) who ∙ ap (owned_in L (ref m r)) (sym e) ∙ old.owner (ref m r) (known_ref x code s ls wt fits g world h.state t is_on hold r b) live
+
+    pub allowed : (L : Newest) → ObjectsTold L h.world.obj → (e : SourceEvent) → e.thread ≡ one.thread → AllowedAccess (reverse L) e (access_at code ((place_after code s earlier).threads one.thread) k.cell k.site k.write)
+    allowed L old e thread =
+        let at = cell_at code m k.cell in
+        let mode = (place_at code k.site).mode in
+        record {
+          there = some_base k.cell k.accesses.cell.base L old cell_is.live;
+          owner = λ q. owner_base k.cell k.accesses.cell.base L old cell_is.live e.thread
+              (can_mode FieldMode.Private (private_field code m at (ls.at m.at.pc) k.cell k.field.mode mode k.accesses.mode q) ∙ sym thread);
+          unwritten = λ q. can_mode FieldMode.Readonly (readonly_field code m at (ls.at m.at.pc) k.cell k.field.mode mode k.accesses.mode q);
+        }
+
+  -- the event of the turn, if it is an access, is one that is allowed
+  pub allowed_now : (L : Newest) → ObjectsTold L h.world.obj → (e : SourceEvent) → said code i ((place_after code s earlier).threads one.thread) found elements ≡ Some e → (a : Access) → IsAccess e a → AllowedAccess (reverse L) e a
+  allowed_now L old e said_is a is =
+      let q : access_said (said code i m found elements) ≡ Some a = ap access_said said_is ∙ is in
+      elim (is_access i) as (λ b. is_access i ≡ b → AllowedAccess (reverse L) e a) [
+        | true ↦ λ yes.
+            let hold = hold_access yes in
+            let k = access_of x code ls m i found elements yes (wt.fine m.at.pc) in
+            let same : access_at code m k.cell k.site k.write ≡ a = let both : Some (access_at code m k.cell k.site k.write) ≡ Some a = sym k.said_is ∙ q in cc in
+            let thread : e.thread ≡ t = ap (thread_said m.own.number) (sym said_is) ∙ about_now.thread ∙ number_is in
+            subst (AllowedAccess (reverse L) e) same (allowed hold k L old e thread)
+        | false ↦ λ never. absurd (let f : None ≡ Some a = sym (no_access code m i found elements never) ∙ q in cc)
+      ] refl
+
+-- ---- runs
+pub record Obeyed (x : Targets) (code : Code) (s : Shape) (ls : Labels) (run : List Turn) : Type 0 where
+  pub consists : Consists x code s ls run
+  pub objects : ObjectsTold (newest code s run) consists.world.obj
+  pub allowed : EachAccess AllowedAccess (history_of code s run)
+
+module _ (cell_laws : CellsAreThere) (pointers : PointersAreThere) (rights : AccessesAreAllowed) (laws : RunLaws) (begins_law : CodeBegins) (keeps : Keeps) (x : Targets) (code : Code) (s : Shape) (ls : Labels) (wt : IsWellTyped x code ls) (fits : Fits code s) (few : IsSmall code s) where
+  pushed_rules : (ev : Option SourceEvent) (L : Newest) → EachAccess AllowedAccess (reverse L) → ((e : SourceEvent) → ev ≡ Some e → (a : Access) → IsAccess e a → AllowedAccess (reverse L) e a) → EachAccess AllowedAccess (reverse (pushed ev L))
+  pushed_rules None L old new = old
+  pushed_rules (Some e) L old new = each_push AllowedAccess e L old (new e refl)
+
+  nothing_live : (o : ℕ) → o ≢ 0 → ((Rattle.sharc_invariant.specs.Opened.first_world x).obj o).live ≡ true → ⊥
+  nothing_live o nz live =
+      let e : (o == 0) ≡ false = grind (arith, nat_tests) in
+      let f : ((Rattle.sharc_invariant.specs.Opened.first_world x).obj o).live ≡ false = rw e refl in let g : true ≡ false = sym live ∙ f in cc
+
+  pub obeyed : (run : List Turn) → IsRun bounds (one_thread code s) (opening_of bounds (one_thread code s) (opening_words code s)) run → Obeyed x code s ls run
+  obeyed [] run = record {
+    consists = Rattle.sharc_history_laws.proofs.Consists.at_first begins_law x code s ls wt fits;
+    objects = record { live = λ n nz live. absurd (nothing_live n nz live); owner = λ n nz live. absurd (nothing_live n nz live) };
+    allowed = no_event AllowedAccess;
+  }
+  obeyed (one ∷ earlier) run =
+      let old = obeyed earlier run.0 in
+      let h = old.consists in
+      let may = run.1 in
+      let g = place_after code s earlier in
+      let ev = said_now code (table_of code s earlier) (g.threads one.thread) (result_of one.event) in
+      let L = newest code s earlier in
+      let now = newest_now code s one earlier in
+      let then' = consists_then laws keeps cell_laws pointers x code s ls wt fits few one earlier h may in
+      let tells = about_now cell_laws pointers rights laws keeps x code s ls wt fits few one earlier h may in
+      record {
+        consists = then';
+        objects = subst (λ (L : Newest). ObjectsTold L then'.world.obj) (sym now)
+            (objects_told cell_laws pointers rights laws keeps x code s ls wt fits few one earlier h may then'.world.obj (objects_then laws keeps cell_laws pointers x code s ls wt fits few one earlier h may) L old.objects ev tells);
+        allowed = subst (λ (L : Newest). EachAccess AllowedAccess (reverse L)) (sym now)
+            (pushed_rules ev L old.allowed (λ e is a access. allowed_now cell_laws pointers rights laws keeps x code s ls wt fits few one earlier h may L old.objects e is a access));
+      }

@@ -1,0 +1,76 @@
+-- Instructions of one turn: a thread that stands at one is in the middle of nothing.
+use Rattle.std.proofs.Common.{◌≡◌, ℕ, Bool, true, false, List, refl, sym, subst}
+use Rattle.sharc_code.specs.declared.code.Code.{Code}
+use Rattle.sharc_code.specs.declared.instr.Instr.{Instr}
+use Rattle.sharc_code.specs.declared.instr.Instr.TheVariants as instrs
+use Rattle.sharc_code.specs.declared.instr.Register.{Register}
+use Rattle.sharc_code.specs.declared.shape.Shape.{Shape}
+use Rattle.sharc_code.specs.declared.state.Stage.{Stage}
+use Rattle.sharc_code.specs.declared.state.Stage.TheVariants.{Rests, Looks, Clears, Makes, Empties, Lowers, FreeLooks, FreeClears, Uncounts, Links, Names, Hands, Begins, Enters, Withdraws, WithdrawsFrom, Leaves, Wakes}
+use Rattle.sharc_code.specs.Machine.{Machine}
+use Rattle.sharc_invariant.specs.World.{World}
+use Rattle.sharc_invariant.specs.Blocks.{Heap}
+use Rattle.sharc_invariant.specs.State.{StageStands, OnClear, OnNew, OnFree, OnSpawn, OnStart, OnExit, OnSignal, OnHold}
+
+-- ---- instructions of one turn
+abbrev pub single : Instr → Bool
+single (instrs.Clear r n) = false
+single (instrs.New r c n site) = false
+single (instrs.Free r l site) = false
+single (instrs.Spawn r f from site) = false
+single (instrs.Start site) = false
+single instrs.Exit = false
+single (instrs.CondSignal c site) = false
+single _ = true
+
+no_clear : (P : ℕ → ℕ → Type 0) (i : Instr) → single i ≡ true → OnClear P i → ⊥
+no_clear P (instrs.Clear r n) e h = absurd (cc)
+no_clear P _ e h = h
+
+no_new : (P : ℕ → ℕ → ℕ → Type 0) (i : Instr) → single i ≡ true → OnNew P i → ⊥
+no_new P (instrs.New r c n site) e h = absurd (cc)
+no_new P _ e h = h
+
+no_free : (P : ℕ → ℕ → Type 0) (i : Instr) → single i ≡ true → OnFree P i → ⊥
+no_free P (instrs.Free r l site) e h = absurd (cc)
+no_free P _ e h = h
+
+no_spawn : (P : ℕ → Register → Type 0) (i : Instr) → single i ≡ true → OnSpawn P i → ⊥
+no_spawn P (instrs.Spawn r f from site) e h = absurd (cc)
+no_spawn P _ e h = h
+
+no_start : (P : Type 0) (i : Instr) → single i ≡ true → OnStart P i → ⊥
+no_start P (instrs.Start site) e h = absurd (cc)
+no_start P _ e h = h
+
+no_exit : (P : Type 0) (i : Instr) → single i ≡ true → OnExit P i → ⊥
+no_exit P instrs.Exit e h = absurd (cc)
+no_exit P _ e h = h
+
+no_signal : (i : Instr) → single i ≡ true → OnSignal i → ⊥
+no_signal (instrs.CondSignal c site) e h = absurd (cc)
+no_signal _ e h = h
+
+pub single_rests : (code : Code) (s : Shape) (elements : ℕ → ℕ) (w : World) (heap : Heap) (words : List ℕ) (t : ℕ) (m : Machine) (i : Instr) (stage : Stage) → single i ≡ true → StageStands code s elements w heap words t m i stage → stage ≡ Rests
+single_rests code s elements w heap words t m i Rests e h = refl
+single_rests code s elements w heap words t m i (Looks a b) e h = absurd (no_clear _ i e h)
+single_rests code s elements w heap words t m i (Clears a b c) e h = absurd (no_clear _ i e h)
+single_rests code s elements w heap words t m i (Makes v) e h = absurd (no_new _ i e h)
+single_rests code s elements w heap words t m i (Empties a b) e h = absurd (no_free _ i e h)
+single_rests code s elements w heap words t m i (Lowers a b c) e h = absurd (no_free _ i e h)
+single_rests code s elements w heap words t m i (FreeLooks a b) e h = absurd (no_free _ i e h)
+single_rests code s elements w heap words t m i (FreeClears a b c) e h = absurd (no_free _ i e h)
+single_rests code s elements w heap words t m i (Uncounts a) e h = absurd (no_free _ i e h)
+single_rests code s elements w heap words t m i (Links a) e h = absurd (no_free _ i e h)
+single_rests code s elements w heap words t m i (Names n) e h = absurd (no_spawn _ i e h)
+single_rests code s elements w heap words t m i (Hands n) e h = absurd (no_spawn _ i e h)
+single_rests code s elements w heap words t m i (Begins n) e h = absurd (no_spawn _ i e h)
+single_rests code s elements w heap words t m i (Enters f) e h = absurd (no_start _ i e h)
+single_rests code s elements w heap words t m i (Withdraws a) e h = absurd (no_exit _ i e h)
+single_rests code s elements w heap words t m i (WithdrawsFrom a b) e h = absurd (no_exit _ i e h)
+single_rests code s elements w heap words t m i Leaves e h = absurd (no_exit _ i e h)
+single_rests code s elements w heap words t m i (Wakes a) e h = absurd (no_signal i e h)
+
+-- so its block is not to be linked
+pub rests_hold : (code : Code) (s : Shape) (elements : ℕ → ℕ) (w : World) (heap : Heap) (words : List ℕ) (t : ℕ) (m : Machine) (i : Instr) (stage : Stage) → single i ≡ true → StageStands code s elements w heap words t m i stage → OnHold stage
+rests_hold code s elements w heap words t m i stage one h = subst OnHold (sym (single_rests code s elements w heap words t m i stage one h)) tt

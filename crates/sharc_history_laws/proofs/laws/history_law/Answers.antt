@@ -1,0 +1,21 @@
+use Rattle.sharc_history_laws.proofs.Locking.{lock_runs}
+use Rattle.sharc_history_laws.proofs.Rules.{newest, obeyed}
+use Rattle.sharc_history_laws.proofs.Sets.{clean_shares}
+use Rattle.sharc_history_laws.proofs.Shared.{shares}
+use Rattle.sharc_history_laws.proofs.laws.history_law.Goals as goal
+
+pub returns : goal.returns
+returns c = λ x code s ls wt fits few run checked.
+    let laws = c.run_laws.ensures in
+    let there = c.cells_are_there.ensures in
+    let is_run = (laws.checked code s run).0 checked in
+    let h = obeyed there.cells there.pointers there.rights laws c.begins.ensures.opens c.keeps.ensures x code s ls wt fits few run is_run in
+    let k = shares c.state_stands.ensures there.cells there.pointers there.rights laws c.begins.ensures.opens c.keeps.ensures x code s ls wt fits few run is_run in
+    let l = lock_runs there.cells there.pointers there.rights laws c.begins.ensures.opens c.keeps.ensures x code s ls wt fits few run is_run in
+    record {
+      live = λ before e after a stands is. (h.allowed before e after a stands is).there;
+      owner = λ before e after a stands is private. (h.allowed before e after a stands is).owner private;
+      unwritten = λ before e after a stands is readonly. (h.allowed before e after a stands is).unwritten readonly;
+      under_lock = λ before e after a mutex stands is mode. (l.under before e after a stands is) mutex mode;
+      shared = clean_shares (newest code s run) k.clean;
+    }

@@ -1,0 +1,8 @@
+//! Checked runs of typed code: the paths of their threads have consistent results, and their source events keep the rules of the modes.
+//!
+//! The layer above may call the laws of src/laws.rt, each the contract of a function that does nothing.
+#![tactic(auto)]
+
+mod laws;
+
+pub use laws::{history_law, paths_law};

@@ -1,0 +1,9 @@
+-- The word events of a run that goes on.
+use Rattle.std.proofs.Common.{◌≡◌, List, [], ◌∷◌, ◌++◌, sym, ap, ◌∙◌, append_assoc}
+use Rattle.std.proofs.lemmas.List.{append-nil}
+use Rattle.sharc_code.specs.Runs.{Turn, word_events, event_list}
+
+pub events-append : (later earlier : List Turn) → word_events (later ++ earlier) ≡ word_events earlier ++ word_events later
+events-append [] earlier = sym (append-nil (word_events earlier))
+events-append (turn ∷ later) earlier =
+    ap (λ es. es ++ event_list turn.event) (events-append later earlier) ∙ append_assoc (word_events earlier) (word_events later) (event_list turn.event)

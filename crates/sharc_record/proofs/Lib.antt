@@ -1,0 +1,5 @@
+pub mod Dealing
+pub mod Places
+pub mod Rounding
+pub mod Running
+pub mod Appending

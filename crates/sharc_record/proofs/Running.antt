@@ -1,0 +1,109 @@
+-- What a quantum over a port of a journal makes of a thread and of its seat.
+use Rattle.std.proofs.Common.{◌≡◌, ℕ, ◌+◌, ◌<◌, ◌≤◌, ◌==◌, Bool, true, false, List, [], ◌++◌, length, Some, None, refl, sym, ap, ◌∙◌, subst, arith}
+use Rattle.std.specs.Prelude.{if◌then◌else◌}
+use Rattle.std.proofs.lemmas.Bool.Decides.{nat_tests}
+use Rattle.std.proofs.lemmas.List.{append-nil}
+use Rattle.sharc_word.specs.Place.{Place, LeadsInEvents, place_of_events}
+use Rattle.sharc_word.specs.Laws.{PlaceLaws}
+use Rattle.sharc_code.specs.declared.code.Code.{Code}
+use Rattle.sharc_code.specs.declared.shape.Shape.{Shape}
+use Rattle.sharc_code.specs.declared.state.State.{State}
+use Rattle.sharc_code.specs.declared.state.State.TheVariants.{Runs, Tries, Stopped, Ended}
+use Rattle.sharc_code.specs.Machine.{Machine}
+use Rattle.sharc_code.specs.Path.{IsPath, may_go, machine_after, events_of_path, made_in}
+use Rattle.sharc_cpu.specs.Thread.{ThreadView, IsThread}
+use Rattle.sharc_cpu.specs.Quantum.{IsQuantum, pause_of}
+use Rattle.sharc_cpu.specs.declared.quantum.Pause.{Pause}
+use Rattle.sharc_cpu.specs.declared.quantum.Pause.TheVariants.{Ran, Spent}
+use Rattle.sharc_journal.specs.Shared.{SharedView, SeatView}
+use Rattle.sharc_record.specs.declared.hand.TheConstants.{QUANTUM}
+use Rattle.sharc_record.specs.declared.hand.Hand.{Hand}
+use Rattle.sharc_rounds.specs.Round.{Seat}
+use Rattle.sharc_record.specs.Round.{HasRun}
+
+-- below the limit no turn at all is answered with Ran where one may come
+below : (made limit : ℕ) → made < limit → (made == limit) ≡ false
+below made limit h = grind (arith, nat_tests)
+
+ran_or_spent : (b : Bool) → b ≡ false → (if b then Spent else Ran) ≡ Ran
+ran_or_spent true e = cc
+ran_or_spent false e = refl
+
+none_ran : (state : State) (made limit : ℕ) → may_go state ≡ true → made < limit → pause_of state 0 made limit ≡ Ran
+none_ran Ended made limit may h = cc
+none_ran Stopped made limit may h = cc
+none_ran Runs made limit may h = ran_or_spent (made == limit) (below made limit h)
+none_ran Tries made limit may h = ran_or_spent (made == limit) (below made limit h)
+
+module _ (code : Code) (s : Shape) (limit : ℕ) where
+  -- a thread that is gone or stopped stays as it is
+  pub idle : (thread : ThreadView) (port : SeatView) → IsThread code s thread → thread.made ≤ limit → may_go thread.machine.at.state ≡ false
+      → HasRun code s limit record { seat = Some thread; port = port } record { seat = Some thread; port = port }
+  idle thread port is within off = record {
+    events = [];
+    made = record {
+      thread = is;
+      founds = [];
+      path = tt;
+      machine = refl;
+      events_are = refl;
+      number = refl;
+      made = omega arith;
+      within = within;
+      some = λ on. absurd (let e : true ≡ false = sym on ∙ off in cc);
+    };
+    id_is = refl;
+    count_is = refl;
+    number = refl;
+    events_are = sym (append-nil port.events);
+  }
+
+  -- and so does a place with none
+  pub nobody : (seat : Seat) (port : SeatView) → seat ≡ None → HasRun code s limit record { seat = seat; port = port } record { seat = None; port = port }
+  nobody seat port e = subst (λ (x : Seat). HasRun code s limit record { seat = x; port = port } record { seat = None; port = port }) (sym e) record {
+    events = [];
+    made = refl;
+    id_is = refl;
+    count_is = refl;
+    number = refl;
+    events_are = sym (append-nil port.events);
+  }
+
+  module _ (laws : PlaceLaws) (serves : ℕ → Type 0) (old new : ThreadView) (port after : SeatView) (pause : Pause)
+      (q : IsQuantum serves LeadsInEvents code s QUANTUM limit old new (place_of_events port.events) (place_of_events after.events) pause) where
+    no_turn : q.goes.founds ≡ [] → may_go old.machine.at.state ≡ true → old.made < limit → ⊥
+    no_turn e may low =
+        let none : q.turns ≡ 0 = q.goes.turns_are ∙ ap (λ (xs : List ℕ). length xs) e in
+        let same : new.machine ≡ old.machine = q.goes.machine ∙ ap (machine_after code s old.machine) e in
+        let made : new.made ≡ old.made = omega (arith, q.made, q.goes.made_are ∙ ap (made_in code s old.machine) e) in
+        let is : pause ≡ pause_of old.machine.at.state 0 old.made limit =
+        q.pause_is ∙ ap (λ (m : Machine). pause_of m.at.state q.turns new.made limit) same ∙ ap (λ (n : ℕ). pause_of old.machine.at.state n new.made limit) none ∙ ap (λ (n : ℕ). pause_of old.machine.at.state 0 n limit) made in
+        let most : q.turns ≡ QUANTUM = q.ran (is ∙ none_ran old.machine.at.state old.made limit may low) in
+        omega (arith, none, most)
+
+    events_after : serves old.machine.own.number → after.events ≡ port.events ++ events_of_path code s old.machine q.goes.founds
+    events_after serves =
+        let led : place_of_events after.events ≡ place_of_events (port.events ++ events_of_path code s old.machine q.goes.founds) =
+        (laws.events (place_of_events port.events) (place_of_events after.events) (events_of_path code s old.machine q.goes.founds)).0 (q.goes.led serves) in
+        ap (λ (p : Place). p.events) led
+
+    pub ran : IsThread code s new → new.machine.own.number ≡ old.machine.own.number → serves old.machine.own.number → after.id ≡ port.id → after.count ≡ port.count → after.number ≡ port.number
+        → HasRun code s limit record { seat = Some old; port = port } record { seat = Some new; port = after }
+    ran thread number serves id port_count port_number = record {
+      events = events_of_path code s old.machine q.goes.founds;
+      made = record {
+        thread = thread;
+        founds = q.goes.founds;
+        path = q.goes.path;
+        machine = q.goes.machine;
+        events_are = refl;
+        number = number;
+        made = q.made ∙ ap (λ n. old.made + n) q.goes.made_are;
+        within = q.within;
+        some = λ on low e. no_turn e on low;
+      };
+      id_is = id;
+      count_is = port_count;
+      number = port_number;
+      events_are = events_after serves;
+    }

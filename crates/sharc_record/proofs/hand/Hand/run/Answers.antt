@@ -1,0 +1,14 @@
+use Rattle.std.proofs.Common.{Some, sym, subst}
+use Rattle.sharc_rounds.specs.Round.{Seat}
+use Rattle.sharc_record.specs.Round.{MayQuantumAt, HasRun}
+use Rattle.sharc_record.proofs.Running.{nobody}
+use Rattle.sharc_record.proofs.hand.Hand.run.Goals as goal
+
+pub run_thread-requires-clause-may : goal.run_thread-requires-clause-may
+run_thread-requires-clause-may g c = subst (λ (x : Seat). MayQuantumAt c.args.code.now c.args.shape.now c.args.limit x c.args.self.port.number) c.in-Some.is c.requires.may.may
+
+pub returns-in-None : goal.returns-in-None
+returns-in-None g c = nobody c.args.code.now c.args.shape.now c.args.limit c.args.self.seat c.args.self.port c.in-None.is
+
+pub returns-in-Some : goal.returns-in-Some
+returns-in-Some g c = subst (λ (x : Seat). HasRun c.args.code.now c.args.shape.now c.args.limit record { seat = x; port = c.args.self.port } c.run_thread.result) (sym c.in-Some.is) c.run_thread.ensures

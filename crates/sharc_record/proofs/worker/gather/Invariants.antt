@@ -1,0 +1,16 @@
+use Rattle.std.proofs.Common.{◌≡◌, ℕ, ◌<◌, ◌≤◌, ◌%◌, Some, length, get_or}
+use Rattle.sharc_word.specs.declared.step.TheConstants.{THREADS}
+use Rattle.sharc_journal.specs.Shared.{SeatView}
+use Rattle.sharc_rounds.specs.Round.{Seat}
+use Rattle.sharc_record.specs.declared.worker.Worker.{Worker}
+use Rattle.sharc_record.specs.Round.{hand_at}
+use Rattle.sharc_record.proofs.worker.gather.Given as goal
+
+abbrev pub invariant-loop-n : goal.invariant-loop-n
+invariant-loop-n l = record {
+  count : length l.workers.items ≡ length l.fn.workers.items;
+  seats : length l.seats.items ≡ l.n;
+  ports : length l.ports.items ≡ l.n;
+  left : (m : ℕ) (d : Worker) → l.n ≤ m → m < THREADS → hand_at l.workers.items (m % length l.fn.workers.items) m d ≡ hand_at l.fn.workers.items (m % length l.fn.workers.items) m d;
+  done : (m : ℕ) (d : Worker) (a : Seat) (p : SeatView) → m < l.n → hand_at l.fn.workers.items (m % length l.fn.workers.items) m d ≡ Some record { seat = get_or l.seats.items m a; port = get_or l.ports.items m p };
+}

@@ -1,0 +1,108 @@
+//! One round.
+
+ghost use Rattle.std.specs.Prelude.{◌≡◌, ◌<◌, ℕ, None, length, IfOk, OnOk, slice_index_or};
+ghost use Rattle.sharc_word.specs.declared.step.TheConstants.{THREADS as threads};
+ghost use Rattle.sharc_code.specs.Layout.{Fits, words_of};
+ghost use Rattle.sharc_rounds.specs.Round.{MayBegin};
+ghost use Rattle.sharc_record.specs.Round.{HasRoom, HasRoomAt, RecordedRound};
+
+use crate::hand::QUANTUM;
+use crate::worker::{deal, gather, run_all};
+use sharc_code::{Code, Shape};
+use sharc_cpu::Thread;
+use sharc_journal::{Journal, SharedJournal};
+use sharc_rounds::Gate;
+use sharc_threads::{ThreadTable, is_on};
+use sharc_word::{MemPort, THREADS, WordEvent};
+use std::alloc::{AllocError, Global};
+use std::sync::Wait;
+use std::thread::Threads;
+
+// The events for which room is made before a round: a quantum of each thread.
+const ROOM: usize = 155_000;
+
+/// The threads, the words and the events so far, between two rounds.
+#[derive(Drop)]
+pub(crate) struct Rounds {
+    pub(crate) threads: ThreadTable,
+    pub(crate) port: MemPort,
+    pub(crate) events: Vec<WordEvent>,
+}
+
+// Makes room for the prints of a quantum, if the thread goes on.
+fn make_room(thread: &mut Thread) -> Result<(), AllocError>
+    ensures { OnOk result (HasRoom thread.old thread.new) }
+{
+    if is_on(thread) {
+        thread.reserve(QUANTUM)?;
+    }
+    Ok(())
+}
+
+fn make_room_at(seat: &mut Option<Thread>) -> Result<(), AllocError>
+    ensures { OnOk result (HasRoomAt seat.old seat.new) }
+{
+    match seat {
+        None => Ok(()),
+        Some(thread) => make_room(thread),
+    }
+}
+
+// Makes room in each thread.
+fn reserve(seats: &mut Vec<Option<Thread>>) -> Result<(), AllocError>
+    ensures count { length seats.new.items ≡ length seats.old.items }
+    ensures each { OnOk result ((n : ℕ) → n < length seats.old.items → HasRoomAt (slice_index_or seats.old.items n None) (slice_index_or seats.new.items n None)) }
+{
+    for n in 0..seats.len() {
+        make_room_at(&mut seats[n])?;
+    }
+    Ok(())
+}
+
+impl Rounds {
+    /// Each worker gives each of its threads a quantum over one journal.
+    ///
+    /// An `Err` says that memory was not found.
+    pub(crate) fn make<R: Threads + Wait + Sync, G: Gate + Sync>(
+        self,
+        rt: &R,
+        alloc: Global,
+        code: &Code,
+        shape: &Shape,
+        workers: u32,
+        limit: u64,
+        gate: &G,
+    ) -> Result<Rounds, AllocError>
+        requires fits { Fits code.now shape.now }
+        requires workers { 0 < workers }
+        requires words { length self.port ≡ words_of shape.now }
+        requires seats { MayBegin code.now shape.now limit self.threads.seats.items }
+        ensures { IfOk result (λ r. RecordedRound code.now shape.now limit self.port r.port self.threads.seats.items r.threads.seats.items self.events.items r.events.items) }
+    {
+        let Rounds {
+            threads,
+            port,
+            mut events,
+        } = self;
+        let ThreadTable { mut seats } = threads;
+        reserve(&mut seats)?;
+        events.reserve(ROOM)?;
+        let journal = Journal {
+            words: port,
+            events,
+        };
+        let (shared, ports) = SharedJournal::open(alloc, journal, THREADS)?;
+        let mut workers = deal(alloc, workers.min(THREADS), seats, ports)?;
+        run_all(rt, code, shape, &shared, gate, limit, &mut workers);
+        let (seats, ports) = gather(alloc, workers)?;
+        let Journal {
+            words: port,
+            events,
+        } = shared.close(ports);
+        Ok(Rounds {
+            threads: ThreadTable { seats },
+            port,
+            events,
+        })
+    }
+}

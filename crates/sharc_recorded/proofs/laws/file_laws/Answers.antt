@@ -1,0 +1,14 @@
+use Rattle.std.proofs.Common.{sym, ◌∙◌}
+use Rattle.sharc_recorded.specs.File.{lines_in}
+use Rattle.sharc_recorded.specs.Laws.{FilesSayOneThing}
+use Rattle.sharc_recorded.proofs.PlaceLines.{ok_is}
+use Rattle.sharc_recorded.proofs.SourceLines.{reads, reads_all, faults}
+use Rattle.sharc_recorded.proofs.Few.{few}
+use Rattle.sharc_recorded.proofs.Written.{again}
+use Rattle.sharc_recorded.proofs.laws.file_laws.Goals as goal
+
+one_thing : FilesSayOneThing
+one_thing bytes one other is was = ok_is one other (sym (reads_all (lines_in bytes) one is) ∙ reads_all (lines_in bytes) other was)
+
+pub returns : goal.returns
+returns c = record { reads = reads; all = reads_all; faults = faults; one = one_thing; again = again; few = few }

@@ -1,0 +1,91 @@
+-- A place that comes after others, counted together with them.
+use Rattle.std.proofs.Common.{◌≡◌, ◌≢◌, ℕ, zero, suc, ◌+◌, ◌<◌, ◌≤◌, Bool, true, false, nat_eq, List, [], ◌∷◌, ◌++◌, length, get_or, set, refl, sym, ap, ◌∙◌, subst, arith, eq-eqb, ne_eqb, if◌then◌else◌}
+use native.Mathlib.Decide.{ℕ_discrete}
+use Rattle.sharc_schedule.specs.Schedule.{place_in, counted_in, counted_together}
+use Rattle.sharc_schedule.proofs.Plain.{if_no, if_yes}
+
+abbrev pub add_last : ℕ → List (ℕ × ℕ) → List (ℕ × ℕ)
+add_last p [] = (p, 1) ∷ []
+add_last p (x ∷ []) = if nat_eq p x.0 then (x.0, suc x.1) ∷ [] else x ∷ (p, 1) ∷ []
+add_last p (x ∷ y ∷ more) = x ∷ add_last p (y ∷ more)
+
+add_in : (p q : ℕ) (xs : List (ℕ × ℕ)) → counted_in q (add_last p xs) ≡ add_last p (counted_in q xs)
+add_in p q [] = by (ℕ_discrete q p) where
+  by : Dec (q ≡ p) → counted_in q ((p, 1) ∷ []) ≡ add_last p ((q, 1) ∷ [])
+  by (yes e) =
+      if_yes (nat_eq q p) ((p, 2) ∷ []) ((q, 1) ∷ (p, 1) ∷ []) (eq-eqb q p e)
+      ∙ (ap (λ n. (n, 2) ∷ []) (sym e) ∙ sym (if_yes (nat_eq p q) ((q, 2) ∷ []) ((q, 1) ∷ (p, 1) ∷ []) (eq-eqb p q (sym e))))
+  by (no e) =
+      if_no (nat_eq q p) ((p, 2) ∷ []) ((q, 1) ∷ (p, 1) ∷ []) (ne_eqb q p e)
+      ∙ sym (if_no (nat_eq p q) ((q, 2) ∷ []) ((q, 1) ∷ (p, 1) ∷ []) (ne_eqb p q (λ h. e (sym h))))
+add_in p q (x ∷ []) = by (nat_eq p x.0) (nat_eq q x.0) refl refl where
+  by : (a b : Bool) → nat_eq p x.0 ≡ a → nat_eq q x.0 ≡ b
+      → counted_in q (if a then (x.0, suc x.1) ∷ [] else x ∷ (p, 1) ∷ []) ≡ add_last p (if b then (x.0, suc x.1) ∷ [] else (q, 1) ∷ x ∷ [])
+  by true true ea eb =
+      if_yes (nat_eq q x.0) ((x.0, suc (suc x.1)) ∷ []) ((q, 1) ∷ (x.0, suc x.1) ∷ []) eb
+      ∙ sym (if_yes (nat_eq p x.0) ((x.0, suc (suc x.1)) ∷ []) ((x.0, suc x.1) ∷ (p, 1) ∷ []) ea)
+  by true false ea eb =
+      if_no (nat_eq q x.0) ((x.0, suc (suc x.1)) ∷ []) ((q, 1) ∷ (x.0, suc x.1) ∷ []) eb
+      ∙ sym (ap (λ (ys : List (ℕ × ℕ)). (q, 1) ∷ ys) (if_yes (nat_eq p x.0) ((x.0, suc x.1) ∷ []) (x ∷ (p, 1) ∷ []) ea))
+  by false true ea eb =
+      if_yes (nat_eq q x.0) ((x.0, suc x.1) ∷ (p, 1) ∷ []) ((q, 1) ∷ x ∷ (p, 1) ∷ []) eb
+      ∙ sym (if_no (nat_eq p x.0) ((x.0, suc (suc x.1)) ∷ []) ((x.0, suc x.1) ∷ (p, 1) ∷ []) ea)
+  by false false ea eb =
+      if_no (nat_eq q x.0) ((x.0, suc x.1) ∷ (p, 1) ∷ []) ((q, 1) ∷ x ∷ (p, 1) ∷ []) eb
+      ∙ sym (ap (λ (ys : List (ℕ × ℕ)). (q, 1) ∷ ys) (if_no (nat_eq p x.0) ((x.0, suc x.1) ∷ []) (x ∷ (p, 1) ∷ []) ea))
+add_in p q (x ∷ y ∷ more) = by (nat_eq q x.0) where
+  by : (b : Bool) → (if b then (x.0, suc x.1) ∷ add_last p (y ∷ more) else (q, 1) ∷ x ∷ add_last p (y ∷ more)) ≡ add_last p (if b then (x.0, suc x.1) ∷ y ∷ more else (q, 1) ∷ x ∷ y ∷ more)
+  by true = refl
+  by false = refl
+
+pub together_last : (before : List ℕ) (p : ℕ) → counted_together (before ++ p ∷ []) ≡ add_last p (counted_together before)
+together_last [] p = refl
+together_last (q ∷ before) p = ap (counted_in q) (together_last before p) ∙ add_in p q (counted_together before)
+
+-- the last one is of the same place
+pub add_same : (xs : List (ℕ × ℕ)) (n p : ℕ) (r : ℕ × ℕ) → length xs ≡ suc n → r ≡ get_or xs n r → r.0 ≡ p → set xs n (p, r.1 + 1) ≡ add_last p xs
+add_same [] n p r many is e = absurd (omega (arith, many))
+add_same (x ∷ []) zero p r many is e =
+    let same : p ≡ x.0 = sym e ∙ ap (λ (y : ℕ × ℕ). y.0) is in
+    let count : r.1 + 1 ≡ suc x.1 = ap (λ (y : ℕ × ℕ). y.1 + 1) is ∙ omega arith in
+    ap (λ k. (k, r.1 + 1) ∷ []) same ∙ (ap (λ k. (x.0, k) ∷ []) count ∙ sym (if_yes (nat_eq p x.0) ((x.0, suc x.1) ∷ []) (x ∷ (p, 1) ∷ []) (eq-eqb p x.0 same)))
+add_same (x ∷ []) (suc n) p r many is e = absurd (omega (arith, many))
+add_same (x ∷ y ∷ more) zero p r many is e = absurd (omega (arith, many))
+add_same (x ∷ y ∷ more) (suc n) p r many is e = ap (λ (ys : List (ℕ × ℕ)). x ∷ ys) (add_same (y ∷ more) n p r (omega (arith, many)) is e)
+
+-- the last one is of another place
+pub add_other : (xs : List (ℕ × ℕ)) (n p : ℕ) (r : ℕ × ℕ) → length xs ≡ suc n → r ≡ get_or xs n r → r.0 ≢ p → xs ++ (p, 1) ∷ [] ≡ add_last p xs
+add_other [] n p r many is apart = absurd (omega (arith, many))
+add_other (x ∷ []) zero p r many is apart =
+    sym (if_no (nat_eq p x.0) ((x.0, suc x.1) ∷ []) (x ∷ (p, 1) ∷ []) (ne_eqb p x.0 (λ h. apart (ap (λ (y : ℕ × ℕ). y.0) is ∙ sym h))))
+add_other (x ∷ []) (suc n) p r many is apart = absurd (omega (arith, many))
+add_other (x ∷ y ∷ more) zero p r many is apart = absurd (omega (arith, many))
+add_other (x ∷ y ∷ more) (suc n) p r many is apart = ap (λ (ys : List (ℕ × ℕ)). x ∷ ys) (add_other (y ∷ more) n p r (omega (arith, many)) is apart)
+
+pub add_first : (xs : List (ℕ × ℕ)) (p : ℕ) → length xs ≡ 0 → xs ++ (p, 1) ∷ [] ≡ add_last p xs
+add_first [] p none = refl
+add_first (x ∷ xs) p none = absurd (omega (arith, none))
+
+-- ---- where a number stands
+pub place_here : (t : ℕ) (xs : List ℕ) (d : ℕ) → place_in t xs < length xs → get_or xs (place_in t xs) d ≡ t
+place_here t [] d low = absurd (omega (arith, low))
+place_here t (x ∷ xs) d low = by (ℕ_discrete t x) (place_here t xs d) where
+  by : Dec (t ≡ x) → (place_in t xs < length xs → get_or xs (place_in t xs) d ≡ t) → get_or (x ∷ xs) (place_in t (x ∷ xs)) d ≡ t
+  by (yes e) r = ap (λ n. get_or (x ∷ xs) n d) (if_yes (nat_eq t x) 0 (suc (place_in t xs)) (eq-eqb t x e)) ∙ sym e
+  by (no e) r =
+      let is : place_in t (x ∷ xs) ≡ suc (place_in t xs) = if_no (nat_eq t x) 0 (suc (place_in t xs)) (ne_eqb t x e) in
+      ap (λ n. get_or (x ∷ xs) n d) is ∙ r (let h : suc (place_in t xs) < suc (length xs) = subst (λ n. n < suc (length xs)) is low in omega (arith, h))
+
+pub place_first : (t : ℕ) (xs : List ℕ) (i d : ℕ) → i < length xs → get_or xs i d ≡ t → place_in t xs ≤ i
+place_first t [] i d low is = absurd (omega (arith, low))
+place_first t (x ∷ xs) i d low is = by (ℕ_discrete t x) i low is (λ k. place_first t xs k d) where
+  by : Dec (t ≡ x) → (i : ℕ) → i < suc (length xs) → get_or (x ∷ xs) i d ≡ t → ((k : ℕ) → k < length xs → get_or xs k d ≡ t → place_in t xs ≤ k) → place_in t (x ∷ xs) ≤ i
+  by (yes e) i low is r = let h = if_yes (nat_eq t x) 0 (suc (place_in t xs)) (eq-eqb t x e) in omega (arith, h)
+  by (no e) zero low is r = absurd (e (sym is))
+  by (no e) (suc i) low is r = let h = if_no (nat_eq t x) 0 (suc (place_in t xs)) (ne_eqb t x e) in let k = r i (omega (arith, low)) is in omega (arith, h, k)
+
+-- an element that is there is the same whatever stands where there is none
+pub same_at : {A : Type 0} (xs : List A) (n : ℕ) (a b : A) → n < length xs → get_or xs n a ≡ get_or xs n b
+same_at [] n a b low = absurd (omega (arith, low))
+same_at (x ∷ xs) zero a b low = refl
+same_at (x ∷ xs) (suc n) a b low = same_at xs n a b (omega (arith, low))

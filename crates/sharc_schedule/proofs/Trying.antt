@@ -1,0 +1,172 @@
+-- A checked run without its failed tries is a checked run with the same ends.
+use Rattle.std.proofs.Common.{◌≡◌, ◌≢◌, ℕ, ◌+◌, ◌≤◌, Bool, true, false, ◌||◌, nat_eq, List, [], ◌∷◌, refl, sym, ap, ◌∙◌, subst, arith, eq-eqb, ne_eqb, if◌then◌else◌}
+use native.Mathlib.Decide.{ℕ_discrete}
+use Rattle.sharc_tree.specs.declared.event.SourceEvent.{SourceEvent}
+use Rattle.sharc_code.specs.declared.code.Code.{Code}
+use Rattle.sharc_code.specs.declared.shape.Shape.{Shape}
+use Rattle.sharc_code.specs.declared.state.State.{State}
+use Rattle.sharc_code.specs.declared.state.State.TheVariants.{Runs, Tries, Stopped, Ended}
+use Rattle.sharc_code.specs.Machine.{Machine, fails}
+use Rattle.sharc_code.specs.Opening.{opening_words}
+use Rattle.sharc_code.specs.Path.{turn, after, asked_by, may_go, counted}
+use Rattle.sharc_code.specs.Runs.{Turn, Global, OneThread, MayTurn, IsRun, Answered, is_started, result_of, put, state_now, made_now, words_now, after_turn, opening_of}
+use Rattle.sharc_code.specs.ThreadLaws.{ThreadLaws, settle, settled}
+use Rattle.sharc_code.specs.Whole.{one_thread, bounds, place_after}
+use Rattle.sharc_schedule.specs.Schedule.{is_try, without_tries}
+use Rattle.sharc_schedule.specs.Laws.{SameEnds}
+use Rattle.sharc_schedule.proofs.Plain.{if_no, if_yes, or_known}
+
+-- ---- one thread
+pub tries_where : (state : State) → is_try state ≡ true → state ≡ Tries
+tries_where Runs e = absurd cc
+tries_where Tries e = refl
+tries_where Stopped e = absurd cc
+tries_where Ended e = absurd cc
+
+goes_settled : (state : State) → may_go state ≡ true → settle state ≡ Runs
+goes_settled Runs e = refl
+goes_settled Tries e = refl
+goes_settled Stopped e = absurd cc
+goes_settled Ended e = absurd cc
+
+pub may_settle : (state : State) → may_go (settle state) ≡ may_go state
+may_settle Runs = refl
+may_settle Tries = refl
+may_settle Stopped = refl
+may_settle Ended = refl
+
+pub same_may : (m n : Machine) → settled m ≡ settled n → may_go m.at.state ≡ may_go n.at.state
+same_may m n e = sym (may_settle m.at.state) ∙ (ap (λ (x : Machine). may_go x.at.state) e ∙ may_settle n.at.state)
+
+pub turns_alike : ThreadLaws → (code : Code) (s : Shape) (m n : Machine) → settled m ≡ settled n → turn code s m ≡ turn code s n
+turns_alike laws code s m n e = sym (laws.forgets code s m) ∙ (ap (λ x. turn code s x) e ∙ laws.forgets code s n)
+
+-- a failed try leaves the thread as it was
+try_settled : (m x : Machine) → may_go m.at.state ≡ true → x ≡ fails m → settled m ≡ settled x
+try_settled m x goes is = (λ i. record m { at = record m.at { state = goes_settled m.at.state goes i } }) ∙ ap settled (sym is)
+
+pub put_other : {A : Type 0} (f : ℕ → A) (i : ℕ) (v : A) (j : ℕ) → j ≢ i → put f i v j ≡ f j
+put_other f i v j apart = if_no (nat_eq j i) v (f j) (ne_eqb j i apart)
+
+pub put_own : {A : Type 0} (f : ℕ → A) (i : ℕ) (v : A) (j : ℕ) → j ≡ i → put f i v j ≡ v
+put_own f i v j same = if_yes (nat_eq j i) v (f j) (eq-eqb j i same)
+
+module _ (laws : ThreadLaws) (code : Code) (s : Shape) where
+  abbrev m : OneThread Machine SourceEvent
+  m = one_thread code s
+
+  -- a thread whose state word is 1 was started
+  pub now_started : (t : ℕ) (turns : List Turn) → is_started bounds (place_after code s turns).words t ≡ true → (place_after code s turns).started t ≡ true
+  now_started t [] e = e
+  now_started t (turn ∷ earlier) e = ap (λ b. b || (place_after code s earlier).started t) e
+
+  -- ---- one turn
+  module _ (g h : Global Machine) (same : SameEnds h g) (one : Turn) (may : MayTurn bounds m g one) where
+    abbrev t : ℕ
+    t = one.thread
+
+    abbrev old : Machine
+    old = g.threads one.thread
+
+    alike : turn code s (h.threads t) ≡ turn code s old
+    alike = turns_alike laws code s (h.threads t) old (same.threads t)
+
+    pub state_same : state_now m h one ≡ state_now m g one
+    state_same = ap (λ a. after a (result_of one.event)) alike
+
+    made_same : made_now m h one ≡ made_now m g one
+    made_same = ap (λ n. n + counted (state_now m h one).at.state) (same.made t) ∙ ap (λ (y : Machine). g.made t + counted y.at.state) state_same
+
+    pub may_kept : MayTurn bounds m h one
+    may_kept = record {
+      started = same.started t ∙ may.started;
+      next = record {
+        runs = same_may (h.threads t) old (same.threads t) ∙ may.next.runs;
+        asks = may.next.asks ∙ ap asked_by (sym alike);
+        own = may.next.own;
+      };
+      answered = subst (λ ws. Answered ws one.event) (sym same.words) may.answered;
+      room = subst (λ n. n ≤ 100000000) (sym made_same) may.room;
+    }
+
+    threads_kept : (u : ℕ) → settled (put h.threads t (state_now m h one) u) ≡ settled (put g.threads t (state_now m g one) u)
+    threads_kept u = by (ℕ_discrete u t) where
+      by : Dec (u ≡ t) → settled (put h.threads t (state_now m h one) u) ≡ settled (put g.threads t (state_now m g one) u)
+      by (yes e) = ap settled (put_own h.threads t (state_now m h one) u e ∙ (state_same ∙ sym (put_own g.threads t (state_now m g one) u e)))
+      by (no e) = ap settled (put_other h.threads t (state_now m h one) u e) ∙ (same.threads u ∙ sym (ap settled (put_other g.threads t (state_now m g one) u e)))
+
+    made_kept : (u : ℕ) → put h.made t (made_now m h one) u ≡ put g.made t (made_now m g one) u
+    made_kept u = by (ℕ_discrete u t) where
+      by : Dec (u ≡ t) → put h.made t (made_now m h one) u ≡ put g.made t (made_now m g one) u
+      by (yes e) = put_own h.made t (made_now m h one) u e ∙ (made_same ∙ sym (put_own g.made t (made_now m g one) u e))
+      by (no e) = put_other h.made t (made_now m h one) u e ∙ (same.made u ∙ sym (put_other g.made t (made_now m g one) u e))
+
+    pub kept_same : SameEnds (after_turn bounds m h one) (after_turn bounds m g one)
+    kept_same = record {
+      words = ap (λ (ws : List ℕ). words_now ws one.event) same.words;
+      threads = threads_kept;
+      started = (λ u. ap (λ (ws : List ℕ). is_started bounds (words_now ws one.event) u || h.started u) same.words ∙ ap (λ b. is_started bounds (words_now g.words one.event) u || b) (same.started u));
+      made = made_kept;
+    }
+
+    module _ (try : is_try (state_now m g one).at.state ≡ true) (now : (u : ℕ) → is_started bounds g.words u ≡ true → g.started u ≡ true) where
+      tries : (state_now m g one).at.state ≡ Tries
+      tries = tries_where (state_now m g one).at.state try
+
+      words_stay : words_now g.words one.event ≡ g.words
+      words_stay = laws.words code s g.words old one.event may.next.asks may.answered tries
+
+      threads_dropped : (u : ℕ) → settled (h.threads u) ≡ settled (put g.threads t (state_now m g one) u)
+      threads_dropped u = by (ℕ_discrete u t) where
+        by : Dec (u ≡ t) → settled (h.threads u) ≡ settled (put g.threads t (state_now m g one) u)
+        by (yes e) =
+            same.threads u
+            ∙ (ap (λ v. settled (g.threads v)) e
+            ∙ (try_settled old (state_now m g one) may.next.runs (laws.tries code s old (result_of one.event) tries) ∙ ap settled (sym (put_own g.threads t (state_now m g one) u e))))
+        by (no e) = same.threads u ∙ sym (ap settled (put_other g.threads t (state_now m g one) u e))
+
+      made_dropped : (u : ℕ) → h.made u ≡ put g.made t (made_now m g one) u
+      made_dropped u = by (ℕ_discrete u t) where
+        none : made_now m g one ≡ g.made t
+        none = ap (λ state. g.made t + counted state) tries ∙ omega arith
+
+        by : Dec (u ≡ t) → h.made u ≡ put g.made t (made_now m g one) u
+        by (yes e) = same.made u ∙ (ap g.made e ∙ (sym none ∙ sym (put_own g.made t (made_now m g one) u e)))
+        by (no e) = same.made u ∙ sym (put_other g.made t (made_now m g one) u e)
+
+      started_dropped : (u : ℕ) → h.started u ≡ (is_started bounds (words_now g.words one.event) u || g.started u)
+      started_dropped u =
+          same.started u ∙ sym (ap (λ (ws : List ℕ). is_started bounds ws u || g.started u) words_stay ∙ or_known (is_started bounds g.words u) (g.started u) (now u))
+
+      pub dropped_same : SameEnds h (after_turn bounds m g one)
+      dropped_same = record {
+        words = same.words ∙ sym words_stay;
+        threads = threads_dropped;
+        started = started_dropped;
+        made = made_dropped;
+      }
+
+  -- ---- all turns
+  abbrev Run : List Turn → Type 0
+  Run turns = IsRun bounds m (opening_of bounds m (opening_words code s)) turns
+
+  -- no turn is a failed try
+  abbrev pub NoTries : List Turn → Type 0
+  NoTries [] = Unit {0}
+  NoTries (one ∷ earlier) = NoTries earlier × (is_try (state_now m (place_after code s earlier) one).at.state ≡ false)
+
+  abbrev Alike : List Turn → List Turn → Type 0
+  Alike kept turns = Run kept × SameEnds (place_after code s kept) (place_after code s turns) × NoTries kept
+
+  pub without : (turns : List Turn) → Run turns → Alike (without_tries code s turns) turns
+  without [] run = (tt, record { words = refl; threads = (λ t. refl); started = (λ t. refl); made = (λ t. refl) }, tt)
+  without (one ∷ earlier) run = by (is_try (state_now m (place_after code s earlier) one).at.state) refl (without earlier run.0) where
+    by : (b : Bool) → is_try (state_now m (place_after code s earlier) one).at.state ≡ b → Alike (without_tries code s earlier) earlier
+        → Alike (if b then without_tries code s earlier else one ∷ without_tries code s earlier) (one ∷ earlier)
+    by true e r =
+        (r.0, dropped_same (place_after code s earlier) (place_after code s (without_tries code s earlier)) r.1 one run.1 e (λ u on. now_started u earlier on), r.2)
+    by false e r = (
+      (r.0, may_kept (place_after code s earlier) (place_after code s (without_tries code s earlier)) r.1 one run.1),
+      kept_same (place_after code s earlier) (place_after code s (without_tries code s earlier)) r.1 one run.1,
+      (r.2, ap (λ (x : Machine). is_try x.at.state) (state_same (place_after code s earlier) (place_after code s (without_tries code s earlier)) r.1 one run.1) ∙ e),
+    )

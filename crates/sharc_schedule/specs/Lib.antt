@@ -1,0 +1,5 @@
+pub mod Schedule
+pub mod Places
+pub mod Journal
+pub mod Going
+pub mod Laws

@@ -1,0 +1,96 @@
+-- Runs of which the caller picks each turn: where such a run stands, and what one more turn makes of it.
+use Rattle.std.specs.Prelude.{ℕ, ◌≡◌, ◌<◌, ◌+◌, Bool, true, false, List, [], ◌∷◌, length, filter, is_some, Option, Some, None, slice_index_or}
+use Rattle.std.specs.List.{range_with_len}
+use Rattle.sharc_word.specs.Place.{LeadsInWords, place_of_words}
+use Rattle.sharc_word.specs.declared.step.WordEvent.{WordEvent}
+use Rattle.sharc_word.specs.declared.step.WordStep.{WordStep}
+use Rattle.sharc_word.specs.declared.step.TheConstants.{THREADS}
+use Rattle.sharc_code.specs.declared.code.Code.{Code}
+use Rattle.sharc_code.specs.declared.shape.Shape.{Shape}
+use Rattle.sharc_code.specs.Layout.{words_of}
+use Rattle.sharc_code.specs.Path.{turn, after, asked_by, counted, TurnLeads}
+use Rattle.sharc_code.specs.Opening.{opening_words}
+use Rattle.sharc_code.specs.Runs.{Turn, IsRun, opening_of, state_now}
+use Rattle.sharc_code.specs.Stages.{begins_of}
+use Rattle.sharc_code.specs.Whole.{one_thread, bounds, place_after}
+use Rattle.sharc_cpu.specs.Thread.{ThreadView, IsThread}
+use Rattle.sharc_threads.specs.Ends.{is_enabled}
+use Rattle.sharc_threads.specs.Seats.{AreSeats, HasBegun, left}
+use Rattle.sharc_seq.specs.declared.walk.Walk.{Walk}
+
+-- ---- a turn that made one event
+pub record MadeTurn (code : Code) (s : Shape) (words now : List ℕ) (old new : ThreadView) : Type 0 where
+  pub thread : IsThread code s new
+  pub found : ℕ
+  pub machine : new.machine ≡ after (turn code s old.machine) found
+  pub number : new.machine.own.number ≡ old.machine.own.number
+  pub led : TurnLeads LeadsInWords old.machine.own.number (turn code s old.machine) found (place_of_words words) (place_of_words now)
+  pub count : length now ≡ length words
+  pub event : counted new.machine.at.state ≡ 1
+  pub made : new.made ≡ old.made + 1
+
+-- whether it has a word operation
+abbrev pub has_step : Option WordStep → Bool
+has_step None = false
+has_step (Some step) = true
+
+abbrev pub has_event : Option WordEvent → Bool
+has_event None = false
+has_event (Some event) = true
+
+-- so it is at a place of the table, of a turn that starts this thread or none
+abbrev pub IsThreadAt : Code → Shape → Option ThreadView → Type 0
+IsThreadAt code s None = Unit {0}
+IsThreadAt code s (Some thread) = IsThread code s thread
+
+abbrev pub MadeTurnAt : Code → Shape → List ℕ → List ℕ → Option ThreadView → Option ThreadView → Option ℕ → Type 0
+MadeTurnAt code s words now (Some old) (Some new) begins = MadeTurn code s words now old new × (begins ≡ begins_of old.machine.own.stage)
+MadeTurnAt code s words now (Some old) None begins = ⊥
+MadeTurnAt code s words now None new begins = ⊥
+
+abbrev pub ToldAt : Code → Shape → Option ThreadView → Bool → Type 0
+ToldAt code s (Some old) told = told ≡ has_step (asked_by (turn code s old.machine))
+ToldAt code s None told = ⊥
+
+-- ---- threads that begin
+-- the numbers of the threads that are there
+abbrev pub numbers_of : List (Option ThreadView) → List ℕ
+numbers_of seats = filter (λ t. is_some (slice_index_or seats t None)) (range_with_len 0 THREADS)
+
+pub record HaveBegun (code : Code) (s : Shape) (words : List ℕ) (old new : List (Option ThreadView)) (started : List ℕ) : Type 0 where
+  pub count : length new ≡ length old
+  pub each : (t : ℕ) → t < THREADS → HasBegun code s words t (slice_index_or old t None) (slice_index_or new t None)
+  pub numbers : started ≡ numbers_of new
+
+-- where the turn starts no thread all is as it was; else the threads whose state words are 1 are there from now on
+abbrev pub Began : Code → Shape → List ℕ → Option ℕ → List (Option ThreadView) → List (Option ThreadView) → List ℕ → List ℕ → Type 0
+Began code s words None old new before started = (new ≡ old) × (started ≡ before)
+Began code s words (Some n) old new before started = HaveBegun code s words old new started
+
+-- ---- where it stands
+-- this run stands there
+pub record StandsAt (code : Code) (s : Shape) (turns : List Turn) (walk : Walk) : Type 0 where
+  pub count : length walk.port.port ≡ words_of s
+  pub run : IsRun bounds (one_thread code s) (opening_of bounds (one_thread code s) (opening_words code s)) turns
+  pub words : walk.port.port ≡ (place_after code s turns).words
+  pub seats : AreSeats code s (place_after code s turns).threads (place_after code s turns).made (place_after code s turns).started walk.threads.seats.items
+  pub numbers : walk.started.items ≡ numbers_of walk.threads.seats.items
+
+abbrev pub IsWalk : Code → Shape → Walk → Type 0
+IsWalk code s walk = (turns : List Turn) × StandsAt code s turns walk
+
+-- and this thread is enabled there
+abbrev pub MayGoOn : Code → Shape → ℕ → ℕ → Walk → Type 0
+MayGoOn code s limit t walk = (turns : List Turn) × StandsAt code s turns walk × (is_enabled code s limit (place_after code s turns) t ≡ true)
+
+-- the run has one more turn, of this thread. It is no failed try, and it is told whether it has a word operation
+pub record WentOn (code : Code) (s : Shape) (t : ℕ) (turns : List Turn) (told : Bool) (walk : Walk) : Type 0 where
+  pub one : Turn
+  pub own : one.thread ≡ t
+  pub counts : counted (state_now (one_thread code s) (place_after code s turns) one).at.state ≡ 1
+  pub told_is : told ≡ has_event one.event
+  pub stands : StandsAt code s (one ∷ turns) walk
+
+-- the events that are left to all threads
+abbrev pub events_left : ℕ → Walk → ℕ
+events_left limit walk = left limit walk.threads.seats.items

@@ -1,0 +1,18 @@
+//! Laws of code that is made of typed flat code.
+
+ghost use Rattle.sharc_typed.specs.Laws.{PiecesAreTyped, PiecesAreScoped, TypedFlatIsTyped};
+
+/// The statements that an operation becomes are typed one after the other, from what is known before its line to what may be known after it.
+pub fn pieces_law()
+    ensures { PiecesAreTyped }
+{}
+
+/// What is known at each of their places names registers of the frame that hold something.
+pub fn scopes_law()
+    ensures { PiecesAreScoped }
+{}
+
+/// The code of typed flat code is typed.
+pub fn typed_law()
+    ensures { TypedFlatIsTyped }
+{}
