@@ -1,6 +1,7 @@
 //! What the top call answers over sources and sinks in memory.
 
 use sharc_io::{MemSink, MemSource, SureSink, SureSource};
+use sharc_rounds::Gate;
 use sharc_run::OpenGate;
 use sharc_top::sharc_top;
 use std::alloc::{AllocError, Global};
@@ -37,6 +38,23 @@ pub(crate) fn answered<R: Threads + Sync>(
 ) -> Result<Outcome, AllocError> {
     let words = words_of(alloc, words)?;
     outcome_of(rt, alloc, &words, input, room)
+}
+
+/// The outcome of the call under a gate, over an input that never fails, and a sink with so much room.
+pub(crate) fn gated<R: Threads + Sync, G: Gate + Sync>(
+    rt: &R,
+    gate: &G,
+    alloc: Global,
+    words: &[&str],
+    input: &[u8],
+    room: usize,
+) -> Result<Outcome, AllocError> {
+    let words = words_of(alloc, words)?;
+    let mut source = SureSource::new(input.to_vec(alloc)?);
+    let mut sink = SureSink::new(alloc, room)?;
+    let status = sharc_top(rt, gate, alloc, &words, &mut source, &mut sink);
+    let text = sink.bytes().to_vec(alloc)?;
+    Ok(Outcome { status, text })
 }
 
 fn outcome_of<R: Threads + Sync>(
