@@ -1,4 +1,5 @@
 pub mod Accessing
+pub mod Holding
 pub mod Joined
 pub mod Same
 pub mod Sourced

@@ -49,17 +49,17 @@ use Rattle.sharc_compile.specs.Source.{WantsEventAt, IsStopOf, IsOverAs, IsToldB
 
 -- ---- events, and what is given up
 -- no event is told, and nothing is taken back of what was given up
-abbrev IsStill : At → At → Type 0
+abbrev pub IsStill : At → At → Type 0
 IsStill m m2 = (m2.events ≡ m.events) × (extra : List GivenUp) × (m2.given ≡ m.given ++ extra)
 
 -- nor by a turn before it is answered; and what comes with the answer tells no other event
-abbrev IsQuiet : At → Turn → Type 0
+abbrev pub IsQuiet : At → Turn → Type 0
 IsQuiet m (goes m2) = IsStill m m2
-IsQuiet m (asks m2 site act held go) = IsStill m m2 × ((v : ℤ) (n : At) → (go v n).events ≡ n.events)
+IsQuiet m (asks m2 site act held go) = IsStill m m2 × (m2.refs ≡ m.refs) × ((v : ℤ) (n : At) → (go v n).events ≡ n.events)
 IsQuiet m (halts o) = Unit {0}
 
 -- as much is given up
-same_given : (m : At) → m.given ≡ m.given ++ []
+pub same_given : (m : At) → m.given ≡ m.given ++ []
 same_given m = sym (append-nil m.given)
 
 cond_quiet : (b : Bool) (x y : Turn) (m : At) → IsQuiet m x → IsQuiet m y → IsQuiet m (cond b x y)
@@ -86,7 +86,7 @@ accesses_quiet : (globals : List GlobalCells) (cell : Cell) (spot : Spot) (act :
 accesses_quiet globals cell spot act then_ m k =
     cond_quiet (lock_is_null m spot spot.mode) (stops null_base spot)
     (asks m spot.site (act (cell_at globals m cell) (mode_of globals m (cell_at globals m cell) spot.mode)) (pos 0) (λ v n. accessed (next (then_ (cell_at globals m cell) v n)))) m tt
-    ((refl, [], same_given m), k (cell_at globals m cell))
+    ((refl, [], same_given m), refl, k (cell_at globals m cell))
 
 returned_quiet : (flat : Flat) (frames : List Caller) (spot : Spot) (m : At) → IsQuiet m (returned flat frames spot m)
 returned_quiet flat [] spot m = cond_quiet (not (nat_lt 0 (length (held_mutexes m.events)))) (goes (record m { pc = length flat.lines })) (stops returns_with_a_lock spot) m (refl, [], same_given m) tt
@@ -94,7 +94,7 @@ returned_quiet flat (c ∷ rest) spot m = (refl, [], same_given m)
 
 takes_quiet : (r x : ℕ) (spot : Spot) (m : At) (b : Bool) → IsQuiet m (takes_local r x spot m b)
 takes_quiet r x spot m true = (refl, [], same_given m)
-takes_quiet r x spot m false = ((refl, [], same_given m), λ v n. refl)
+takes_quiet r x spot m false = ((refl, [], same_given m), refl, λ v n. refl)
 
 base_events : (cell : Cell) (n : At) → (without_base cell n).events ≡ n.events
 base_events (cells.Global g place) n = refl
@@ -129,28 +129,28 @@ op_quiet flat (op.TakeCell r cell spot) m = accesses_quiet flat.globals cell spo
 op_quiet flat (op.TakeLocal r x spot) m = takes_quiet r x spot m (is_null (ref m x))
 op_quiet flat (op.Pop r) m = (refl, Released (number_of (ref m r)) ∷ [], refl)
 op_quiet flat (op.Settle x from) m = (refl, Released (number_of (ref m x)) ∷ [], refl)
-op_quiet flat (op.Free r layout spot) m = ((refl, Emptied (number_of (ref m r)) ∷ [], refl), λ v n. refl)
-op_quiet flat (op.LoadGuard cell spot) m = ((refl, [], same_given m), λ v n. refl)
-op_quiet flat (op.New r count cells spot) m = ((refl, [], same_given m), λ v n. refl)
-op_quiet flat (op.Give r cells spot) m = ((refl, [], same_given m), λ v n. refl)
-op_quiet flat (op.Lock cell spot) m = ((refl, [], same_given m), λ v n. base_events cell n)
-op_quiet flat (op.Unlock r cell spot) m = ((refl, [], same_given m), λ v n. refl)
-op_quiet flat (op.CondEnter cell spot) m = ((refl, [], same_given m), λ v n. refl)
-op_quiet flat (op.CondWait cell spot) m = ((refl, [], same_given m), λ v n. refl)
-op_quiet flat (op.CondSignal cell spot) m = ((refl, [], same_given m), λ v n. refl)
-op_quiet flat (op.CondBroadcast cell spot) m = ((refl, [], same_given m), λ v n. refl)
-op_quiet flat (op.Spawn i f from spot) m = ((refl, [], same_given m), λ v n. handed_events from n)
-op_quiet flat (op.Join i spot) m = ((refl, [], same_given m), λ v n. refl)
-op_quiet flat (op.Print i spot) m = ((refl, [], same_given m), λ v n. refl)
+op_quiet flat (op.Free r layout spot) m = ((refl, Emptied (number_of (ref m r)) ∷ [], refl), refl, λ v n. refl)
+op_quiet flat (op.LoadGuard cell spot) m = ((refl, [], same_given m), refl, λ v n. refl)
+op_quiet flat (op.New r count cells spot) m = ((refl, [], same_given m), refl, λ v n. refl)
+op_quiet flat (op.Give r cells spot) m = ((refl, [], same_given m), refl, λ v n. refl)
+op_quiet flat (op.Lock cell spot) m = ((refl, [], same_given m), refl, λ v n. base_events cell n)
+op_quiet flat (op.Unlock r cell spot) m = ((refl, [], same_given m), refl, λ v n. refl)
+op_quiet flat (op.CondEnter cell spot) m = ((refl, [], same_given m), refl, λ v n. refl)
+op_quiet flat (op.CondWait cell spot) m = ((refl, [], same_given m), refl, λ v n. refl)
+op_quiet flat (op.CondSignal cell spot) m = ((refl, [], same_given m), refl, λ v n. refl)
+op_quiet flat (op.CondBroadcast cell spot) m = ((refl, [], same_given m), refl, λ v n. refl)
+op_quiet flat (op.Spawn i f from spot) m = ((refl, [], same_given m), refl, λ v n. handed_events from n)
+op_quiet flat (op.Join i spot) m = ((refl, [], same_given m), refl, λ v n. refl)
+op_quiet flat (op.Print i spot) m = ((refl, [], same_given m), refl, λ v n. refl)
 op_quiet flat _ m = (refl, [], same_given m)
 
-line_quiet : (flat : Flat) (o : Option Op) (m : At) → IsQuiet m (line_turn flat o m)
+pub line_quiet : (flat : Flat) (o : Option Op) (m : At) → IsQuiet m (line_turn flat o m)
 line_quiet flat (Some o) m = op_quiet flat o m
 line_quiet flat None m = by_place (m.pc - length flat.lines)
   where
     by_place : (n : ℕ) → IsQuiet m (end_turn flat m n)
-    by_place zero = ((refl, [], same_given m), λ v n. refl)
-    by_place (suc zero) = ((refl, [], same_given m), λ v n. refl)
+    by_place zero = ((refl, [], same_given m), refl, λ v n. refl)
+    by_place (suc zero) = ((refl, [], same_given m), refl, λ v n. refl)
     by_place (suc (suc n)) = tt
 
 -- so what is not answered leaves the events as they are, and gives up more at most
@@ -220,7 +220,7 @@ told_one (goes m2) now x q = ap answers_of q.0 ∙ sym (append-nil (answers_of n
 told_one (asks m2 site act held go) now x q =
     let answer = answer_of (λ token. held) act x in
     let e = event_of site act answer in
-    ap answers_of (q.1 answer (with_event e m2)) ∙ map-append (λ (e : SourceEvent). e.answer) m2.events (e ∷ []) ∙ ap (λ es. answers_of es ++ answer ∷ []) q.0.0
+    ap answers_of (q.2 answer (with_event e m2)) ∙ map-append (λ (e : SourceEvent). e.answer) m2.events (e ∷ []) ∙ ap (λ es. answers_of es ++ answer ∷ []) q.0.0
 told_one (halts o) now x q = sym (append-nil (answers_of now.events))
 
 told_all : (flat : Flat) (m : At) (answers : List ℤ) → answers_of (at_after flat m answers).events ≡ answers_of m.events ++ asked flat m (given_in flat m answers)
@@ -278,11 +278,11 @@ module _ (runs : PathsAreRuns) (flat : Flat) (st : At) (answers : List ℤ) (pat
       ap (λ n. (exec flat n (asked flat st answers) st).outcome) e ∙ ap (λ xs. (exec flat (length h.earlier + 0) xs st).outcome) h.asked_is ∙ ap (λ (c : Came). c.outcome) (runs flat st h.earlier h.path 0 h.rest)
 
   -- so many turns lead one turn beyond the path at least
-  record IsBeyond (later : ℕ) : Type 0 where
-    more : ℕ
-    is : exec flat later (asked flat st answers) st ≡ exec flat (suc more) [] (at_after flat st answers)
+  pub record IsBeyond (later : ℕ) : Type 0 where
+    pub more : ℕ
+    pub is : exec flat later (asked flat st answers) st ≡ exec flat (suc more) [] (at_after flat st answers)
 
-  beyond : (later : ℕ) → (length answers + 1 ≤ later) ⊎ (exec flat (length answers + 1) (asked flat st answers) st ≡ exec flat later (asked flat st answers) st) → IsBeyond later
+  pub beyond : (later : ℕ) → (length answers + 1 ≤ later) ⊎ (exec flat (length answers + 1) (asked flat st answers) st ≡ exec flat later (asked flat st answers) st) → IsBeyond later
   beyond later (inl le) =
       let e : later ≡ length answers + suc (later - (length answers + 1)) = omega arith in
       record { more = later - (length answers + 1); is = ap (λ n. exec flat n (asked flat st answers) st) e ∙ goes_beyond (suc (later - (length answers + 1))) }

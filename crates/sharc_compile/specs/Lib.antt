@@ -1,5 +1,6 @@
 pub mod Checked
 pub mod Coded
+pub mod Held
 pub mod Made
 pub mod Program
 pub mod Runs

@@ -2,6 +2,7 @@
 
 ghost use Rattle.sharc_compile.specs.Checked.{CodeIsChecked};
 ghost use Rattle.sharc_compile.specs.Coded.{CodeFollowsFlat};
+ghost use Rattle.sharc_compile.specs.Held.{CodeCounts};
 ghost use Rattle.sharc_compile.specs.Made.{MadeCodeFollows};
 ghost use Rattle.sharc_compile.specs.Program.{ProgramCodeFollows};
 ghost use Rattle.sharc_compile.specs.Runs.{RunsFollowSource};
@@ -10,7 +11,7 @@ ghost use Rattle.sharc_compile.specs.Source.{CodeFollowsSource};
 use sharc_flat::laws::{made_asks_the_same, made_is_framed};
 use sharc_flat_form::laws::paths_are_runs;
 use sharc_gen::{paths_law, run_paths_law};
-use sharc_guard::{checked_law, framed_law, guarded_law};
+use sharc_guard::{checked_law, counted_law, framed_law, guarded_law};
 
 /// The paths of code with consistent results are those of the flat code that it was made of, whichever checks are dropped: the same
 /// events, the same stops, at most five counted turns for each line.
@@ -63,4 +64,15 @@ pub fn checks_law()
     ensures { CodeIsChecked }
 {
     checked_law();
+}
+
+/// What a thread of that code counts in its registers, the program holds at its next want, its stop or its end, or it gives that up on the
+/// way there, after all that the code has lowered; where the flat code overwrites no reference and names the mutexes of its locks.
+pub fn held_law()
+    ensures { CodeCounts }
+{
+    paths_law();
+    framed_law();
+    counted_law();
+    paths_are_runs();
 }

@@ -17,7 +17,7 @@ use Rattle.sharc_code.specs.Runs.{Turn, Global, MayTurn}
 use Rattle.sharc_code.specs.Whole.{one_thread, bounds}
 use Rattle.sharc_code.proofs.Places.{ne_eq}
 use Rattle.sharc_invariant.specs.Types.{Targets, ObjectType, Lock, Global as OfGlobals, Through, Self, mutex_of}
-use Rattle.sharc_invariant.specs.Labels.{Entry, Empty, Refers, Number, Anything, Exactly, Within, Indexes, OfElement, OfGlobal, Closed, Pass, IsIn, Label, Labels, Leads, Less, HasBase}
+use Rattle.sharc_invariant.specs.Labels.{Entry, Empty, Refers, Unknown, Number, Anything, Exactly, Within, Indexes, OfElement, OfGlobal, Closed, Pass, IsIn, Label, Labels, Leads, Less, HasBase}
 use Rattle.sharc_invariant.specs.Typed.{IsWellTyped, Calls, Passes, PassesLock, called_label, entry_label, below, below_number, below_pass}
 use Rattle.sharc_invariant.specs.World.{World}
 use Rattle.sharc_invariant.specs.Effect.{Silently}
@@ -93,6 +93,9 @@ module _ (x : Targets) (t : ℕ) (v : View) (base ints : ℕ) (names : ℕ → �
   pub passed_entry : (r : ℕ) (given want : Entry) → Passes l k (k + r) given want → EntryStands refs (types_at v base) (k + r) given → EntryStands refs' (types_at v (base + k)) r want
   passed_entry r Empty Empty h st = sym (shifted r) ∙ st
   passed_entry r (Refers s) Empty h st = let z : Refers s ≡ Empty = h in cc
+  passed_entry r Unknown Empty h st = let z : Unknown ≡ Empty = h in cc
+  passed_entry r Unknown (Refers q) h st = absurd h
+  passed_entry r given Unknown h st = tt
   passed_entry r Empty (Refers q) h st = λ nz. absurd (nz (sym (shifted r) ∙ st))
   passed_entry r (Refers s) (Refers q) h st = λ nz.
       let ty : types_at v base (k + r) ≡ types_at v (base + k) r = ap v.types (omega arith) in

@@ -18,7 +18,7 @@ use Rattle.sharc_code.specs.Runs.{Turn, Global, put, MayTurn, after_turn}
 use Rattle.sharc_code.specs.Whole.{one_thread, bounds}
 use Rattle.sharc_code.proofs.Places.{put_same, put_other}
 use Rattle.sharc_invariant.specs.Types.{nothing, Targets, type_of}
-use Rattle.sharc_invariant.specs.Labels.{Empty, Refers, Closed, Label, Labels, Leads, fill, empty}
+use Rattle.sharc_invariant.specs.Labels.{Empty, Refers, Unknown, Closed, Label, Labels, Leads, fill, empty}
 use Rattle.sharc_invariant.specs.Typed.{IsWellTyped, IsRef, IsVacant, Fine}
 use Rattle.sharc_invariant.specs.World.{TypedReference, RegisterOf, World, Shut, Sole, In, Slot, in_ref, place, null, none, grow, drop, set_win, set_slot, Fits, WorldInvariant}
 use Rattle.sharc_invariant.specs.Words.{lang_of, conc_of, Shows, count_at, store, set_reg, has_returned}
@@ -110,6 +110,7 @@ module _ (x : Targets) (code : Code) (s : Shape) (ls : Labels) (wt : IsWellTyped
         let stands : FilledStands refs o (types_at view base from) (here.env from) = elim (here.env from) as (λ e. EntryStands refs (types_at view base) from e → FilledStands refs o (types_at view base from) e) [
           | Empty ↦ λ k. eo ∙ k
           | Refers ty ↦ λ k ne. k (λ z. ne (eo ∙ z)) ∙ ap (λ p. type_of refs p ty) (sym eo)
+          | Unknown ↦ λ k. k
         ] ((tops (suc from) 0).env from (omega arith)) in
         fill_stands x t view base m.at.ints names here (Rattle.sharc_invariant.specs.Typed.ints_in code here.function) (Rattle.sharc_invariant.specs.Typed.refs_in code here.function) d o (types_at view base from) (here.env from) (here.same from) (here.known from)
         sc gone (λ q. sc.paths from d q gone) stands

@@ -13,7 +13,7 @@ use Rattle.sharc_code.proofs.Places.{eq_refl, put_same, put_other, put_all}
 use Rattle.sharc_invariant.specs.Granules.{Passed}
 use Rattle.sharc_invariant.specs.Types.{Targets, ObjectType, Mutex, Lock, StaticType, mutex_of, type_of, SomeNames, Mentions, cells_of}
 use Rattle.sharc_invariant.specs.Types.Lock.{Global, Through, Self}
-use Rattle.sharc_invariant.specs.Labels.{Entry, Empty, Refers, Element, Number, Anything, Exactly, Within, Indexes, OfElement, OfGlobal, Pass, IsIn, Label, Labels, SameReference, Itself, IsCopy, HasCopy, Copies, SameLock, AllSame, SameType, LessEntry, Narrower, LessNumber, Less, EntryMentions, HasBase, IsScoped, fill, empty, without_copies, without_index, without_base, is_base}
+use Rattle.sharc_invariant.specs.Labels.{Entry, Empty, Refers, Unknown, Element, Number, Anything, Exactly, Within, Indexes, OfElement, OfGlobal, Pass, IsIn, Label, Labels, SameReference, Itself, IsCopy, HasCopy, Copies, SameLock, AllSame, SameType, LessEntry, Narrower, LessNumber, Less, EntryMentions, HasBase, IsScoped, fill, empty, without_copies, without_index, without_base, is_base}
 use Rattle.sharc_invariant.specs.Typed.{below, below_copy, below_number, below_pass, called_label, Calls}
 use Rattle.sharc_invariant.specs.State.{frame_at, BelowStands, View, EntryStands, NumberStands, PassStands, FrameStands, TopStands, refs_at, types_at}
 
@@ -55,6 +55,8 @@ same_type l refs st r a b h =
 -- ---- less is known
 pub less_entry : (l : Label) (refs : ℕ → ℕ) (types : ℕ → ObjectType) → ((r : ℕ) → refs (l.same r) ≡ refs r) → (r : ℕ) (a b : Entry) → LessEntry l r a b → EntryStands refs types r a → EntryStands refs types r b
 less_entry l refs types st r a Empty h k = subst (EntryStands refs types r) h k
+less_entry l refs types st r a Unknown h k = tt
+less_entry l refs types st r Unknown (Refers s) h k = absurd h
 less_entry l refs types st r Empty (Refers s) h k = λ ne. absurd (ne k)
 less_entry l refs types st r (Refers a) (Refers b) h k = λ ne. k ne ∙ same_type l refs st r a b h
 
@@ -108,6 +110,7 @@ type_kept f g o s h = ap (with_locks s.target) (names_kept f g o s.locks h)
 
 pub entry_kept : (f g : ℕ → ℕ) (ty tz : ℕ → ObjectType) (r : ℕ) (e : Entry) → f r ≡ g r → ty r ≡ tz r → ((q : ℕ) → EntryMentions e q → f q ≡ g q) → EntryStands f ty r e → EntryStands g tz r e
 entry_kept f g ty tz r Empty e et h k = sym e ∙ k
+entry_kept f g ty tz r Unknown e et h k = tt
 entry_kept f g ty tz r (Refers s) e et h k = λ ne. sym et ∙ k (λ z. ne (sym e ∙ z)) ∙ ap (λ o. type_of f o s) e ∙ type_kept f g (g r) s h
 
 -- the base of an index, if it has one
@@ -145,6 +148,7 @@ put_base f base d r a ne = put_other f (base + d) (base + r) a (λ e. ne (omega 
 abbrev pub FilledStands : (ℕ → ℕ) → ℕ → ObjectType → Entry → Type 0
 FilledStands refs o ty Empty = o ≡ 0
 FilledStands refs o ty (Refers s) = o ≢ 0 → ty ≡ type_of refs o s
+FilledStands refs o ty Unknown = Unit {0}
 
 pub fill_stands : (x : Targets) (t : ℕ) (v : View) (base ints : ℕ) (names : ℕ → ℤ) (l : Label) (lim_i lim : ℕ) (d : ℕ) (o : ℕ) (ty : ObjectType) (e : Entry) (s : ℕ) (b : Bool)
     → IsScoped lim_i lim l → l.env d ≡ Empty → (EntryMentions e d → ⊥) → FilledStands (refs_at v base) o ty e → (s ≡ d) ⊎ ((s ≡ d → ⊥) × (refs_at v base s ≡ o)) → (b ≡ true → o ≢ 0)
@@ -160,6 +164,7 @@ fill_stands x t v base ints names l lim_i lim d o ty e s b sc gone fresh here co
     let not_d : (r : ℕ) → l.env r ≢ Empty → r ≡ d → ⊥ = λ r ne q. ne (ap l.env q ∙ gone) in
     let new : EntryStands g (types_at v' base) d e = elim e as (λ e. (EntryMentions e d → ⊥) → FilledStands f o ty e → EntryStands g (types_at v' base) d e) [
       | Empty ↦ λ _ k. g_d ∙ k
+      | Unknown ↦ λ _ k. k
       | Refers st ↦ λ fr k ne. t_d ∙ k (λ z. ne (g_d ∙ z)) ∙ ap (λ p. type_of f p st) (sym g_d) ∙ type_kept f g (g d) st (λ q mq. at q (λ i. fr (subst (Mentions st) i mq)))
     ] fresh here in
     record {

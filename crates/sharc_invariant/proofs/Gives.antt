@@ -287,7 +287,7 @@ module _ (x : Targets) (code : Code) (s : Shape) (ls : Labels) (wt : IsWellTyped
   unfolding give_turned
   given_objects =
       let m'' = (after_turn bounds (one_thread code s) g tr).threads t in
-      let held = owned_is x code s ls g tr may.started w' give_turned.1 m' g.words gives_now rest refl r o T (place_same world.slots (In (RegisterOf t k)) h) nz in
+      let held = owned_is x code s ls g tr may.started w' give_turned.1 m' g.words gives_now rest refl r o T (place_same world.slots (In (RegisterOf t k)) h) nz f.2.6 in
       ap (λ T. put world.obj o (owned t T)) held ∙ ap (λ q. put world.obj q (owned t (type_held ls m'' r))) (sym reads_object)
       ∙ sym (ap (λ i. objects_behind ls t i m m'' world.obj) is)
 

@@ -23,7 +23,7 @@ use Rattle.sharc_code.specs.Runs.{Turn, Global, put, MayTurn, after_turn}
 use Rattle.sharc_code.specs.Whole.{one_thread, bounds}
 use Rattle.sharc_code.proofs.Places.{put_all}
 use Rattle.sharc_invariant.specs.Types.{Targets, Field, nothing, field_in, is_mutex, type_of}
-use Rattle.sharc_invariant.specs.Labels.{Closed, Holds, Empty, Refers, Label, Labels, Leads, IsFree, empty, fill}
+use Rattle.sharc_invariant.specs.Labels.{Closed, Holds, Empty, Refers, Unknown, Label, Labels, Leads, IsFree, empty, fill}
 use Rattle.sharc_invariant.specs.Typed.{IsWellTyped, IsRef, IsVacant, IsBaseFree, HasCell, refs_in, ints_in, without_base_of, unlocked_label}
 use Rattle.sharc_invariant.specs.World.{TypedReference, Slot, RegisterOf, ArgumentOf, LogOf, In, Cell as CellOf, Shut, Sole, World, WorldInvariant, in_ref, none, place, put2, shift}
 use Rattle.sharc_invariant.specs.Words.{conc_of, lang_of, Shows, cell_at, logged, noted_by, register_of, set_reg, has_returned}
@@ -344,6 +344,7 @@ module _ (x : Targets) (code : Code) (s : Shape) (ls : Labels) (wt : IsWellTyped
           let v : view_of st.elements (with_slots fs) t m' ≡ filled view kr h.reference h.ty = view_filled st.elements (with_slots f1) (with_slots fs) t kr h m m' (λ _. refl) refl refl in
           let stands : FilledStands refs h.reference h.ty (here.env b) = elim (here.env b) as (λ e. EntryStands refs (types_at view base) b e → FilledStands refs h.reference h.ty e) [
             | Empty ↦ λ q. eb ∙ q
+            | Unknown ↦ λ q. q
             | Refers ty ↦ λ q ne. ety ∙ q nzb ∙ ap (λ p. type_of refs p ty) (sym eb)
           ] ((tops (suc b) 0).env b (omega arith)) in
           let sc = wt.scoped m.at.pc in

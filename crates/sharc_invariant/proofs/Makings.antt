@@ -540,7 +540,7 @@ module _ (x : Targets) (code : Code) (s : Shape) (ls : Labels) (wt : IsWellTyped
   unfolding makes_turned
   made_objects =
       let m'' = (after_turn bounds (one_thread code s) g tr).threads t in
-      let held = owned_is x code s ls g tr may.started w' makes_turned.1 m' words done.0 refl refl r b ty (place_same world.slots (In (RegisterOf t k)) (record { ty = ty; reference = b })) low_b.0 in
+      let held = owned_is x code s ls g tr may.started w' makes_turned.1 m' words done.0 refl refl r b ty (place_same world.slots (In (RegisterOf t k)) (record { ty = ty; reference = b })) low_b.0 f.2.7 in
       ap (λ T. put world.obj b (owned t T)) held ∙ sym (ap (λ y. new_behind ls t r m'' y world.obj) at_b) ∙ sym (ap (λ y. made_behind ls t r m'' y world.obj) at_v) ∙ sym (ap (λ i. objects_behind ls t i m m'' world.obj) is)
 
   pub new_makes : (k : Turned x code s ls g world tr) × (k.0.obj ≡ objects_now code s ls g tr world.obj)

@@ -3,7 +3,7 @@ use Rattle.std.proofs.Common.{◌≡◌, ℕ, ℤ, zero, suc, ◌+◌, ◌<◌, 
 use mathlib.Core.Path.{fun_ext}
 use Rattle.std.specs.Prelude.{length, slice_index, slice_set, ◌==◌}
 use Rattle.std.proofs.lemmas.Bool.Decides.{nat_tests}
-use Rattle.std.proofs.lemmas.List.{length-set}
+use Rattle.std.proofs.lemmas.List.{length-set, set-set, set-get_or}
 use Rattle.sharc_count.specs.Count.{test_of}
 use Rattle.sharc_code.specs.declared.code.Code.{Code}
 use Rattle.sharc_code.specs.declared.instr.Instr.{Instr}
@@ -16,7 +16,7 @@ use Rattle.sharc_code.specs.Runs.{Turn, Global, put, MayTurn, after_turn}
 use Rattle.sharc_code.specs.Whole.{one_thread, bounds}
 use Rattle.sharc_code.proofs.Places.{put_same, put_other}
 use Rattle.sharc_invariant.specs.Types.{Targets, nothing, Mentions}
-use Rattle.sharc_invariant.specs.Labels.{Empty, Refers, Closed, Label, Labels, Leads, EntryMentions, fill, empty, IsFree}
+use Rattle.sharc_invariant.specs.Labels.{Empty, Refers, Unknown, Closed, Label, Labels, Leads, EntryMentions, fill, empty, IsFree}
 use Rattle.sharc_invariant.specs.Typed.{IsWellTyped, IsRef, IsVacant, refs_in, ints_in, moved_copy}
 use Rattle.sharc_invariant.specs.World.{TypedReference, RegisterOf, ArgumentOf, In, Slot, Cell as CellOf, World, Shut, Sole, in_ref, none, place, put2, shift}
 use Rattle.sharc_invariant.specs.Words.{lang_of, conc_of, Shows, register_of, set_reg}
@@ -35,6 +35,7 @@ use Rattle.sharc_invariant.proofs.Filled.{refs_set, view_filled, below_filled, f
 use Rattle.sharc_invariant.proofs.CheckTurns.{put_put}
 use Rattle.sharc_invariant.proofs.Accesses.{loaded_words}
 use Rattle.sharc_invariant.proofs.Scoped.{scoped_empty}
+use Rattle.sharc_invariant.proofs.Steps.{leads as stays}
 use Rattle.sharc_invariant.proofs.Others.{loses}
 
 module _ (x : Targets) (code : Code) (s : Shape) (ls : Labels) (wt : IsWellTyped x code ls) (fits : Fits code s) (g : Global Machine) (world : World) (st : State x code s ls g world) (tr : Turn)
@@ -109,6 +110,7 @@ module _ (x : Targets) (code : Code) (s : Shape) (ls : Labels) (wt : IsWellTyped
       let refs = refs_at view base in
       let entry : FilledStands (refs_at v base) h.reference h.ty (here.env from) = elim (here.env from) as (λ e. (EntryMentions e from → ⊥) → EntryStands refs (types_at view base) from e → FilledStands (refs_at v base) h.reference h.ty e) [
         | Empty ↦ λ _ q. q
+        | Unknown ↦ λ _ q. q
         | Refers ty ↦ λ nm q nz. q nz ∙ type_kept refs (refs_at v base) h.reference ty (λ p mp. sym (put_base view.refs base from p 0 (λ e. nm (subst (Mentions ty) e mp))))
       ] self ((tops (suc from) 0).env from (omega arith)) in
       let copy : (moved_copy here r from ≡ r) ⊎ ((moved_copy here r from ≡ r → ⊥) × (refs_at v base (moved_copy here r from) ≡ h.reference)) =
@@ -198,6 +200,10 @@ module _ (x : Targets) (code : Code) (s : Shape) (ls : Labels) (wt : IsWellTyped
         }),
       )
 
+-- from a register to itself nothing goes
+move_same : (m : Machine) (r : ℕ) → move_ref m r r ≡ m
+move_same m r = ap (λ refs. record m { refs = refs }) (set-set m.refs (m.at.refs + r) 0 (ref m r) ∙ set-get_or m.refs (m.at.refs + r) 0)
+
 module _ (x : Targets) (code : Code) (s : Shape) (ls : Labels) (wt : IsWellTyped x code ls) (fits : Fits code s) (g : Global Machine) (world : World) (st : State x code s ls g world) (tr : Turn)
     (may : MayTurn bounds (one_thread code s) g tr) where
   abbrev mm : Machine
@@ -207,8 +213,11 @@ module _ (x : Targets) (code : Code) (s : Shape) (ls : Labels) (wt : IsWellTyped
   Move_reference_keeps r from is =
       let i = instrs.MoveReference r from in
       let f = fine x code s ls wt g world st tr.thread may.started may.next.runs i is refl in
-      moved_state x code s ls wt fits g world st tr may i is refl r from f.0 f.1 f.2 f.3 f.4 f.5 f.6
-      (local_turn code s g tr may (goes (move_ref mm r from)) (ap (λ i. Rattle.sharc_code.specs.Machine.act code s i mm) is))
+      let e : turn code s (g.threads tr.thread) ≡ Local (goes (move_ref mm r from)) = ap (λ i. Rattle.sharc_code.specs.Machine.act code s i mm) is in
+      ⊎_elim
+      (λ (h : (r ≡ from) × Leads ls (mm.at.pc + 1) (ls.at mm.at.pc)). stays x code s ls wt g world st tr may i is refl (mm.at.pc + 1) (e ∙ ap (λ q. Local (goes (move_ref mm r q))) (sym h.0) ∙ ap (λ m. Local (goes m)) (move_same mm r)) f.0 h.1)
+      (λ h. moved_state x code s ls wt fits g world st tr may i is refl r from f.0 h.0 h.1 h.2 h.3 h.4 h.5 (local_turn code s g tr may (goes (move_ref mm r from)) e))
+      f.1
 
   pub Take_local_keeps : (r from site : ℕ) → instr_at code (g.threads tr.thread).at.pc ≡ instrs.TakeLocal r from site → Turned x code s ls g world tr
   Take_local_keeps r from site is =

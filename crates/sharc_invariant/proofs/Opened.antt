@@ -27,7 +27,7 @@ use Rattle.sharc_code.specs.Whole.{bounds}
 use Rattle.sharc_code.proofs.Places.{eq_refl, ne_eq}
 use Rattle.sharc_invariant.specs.Types.{Targets, ObjectType, Content, Field, field_in, global_field, type_at, is_mutex, is_pointer, nothing}
 use Rattle.sharc_invariant.specs.Types.Content.{Integer, MutexWord, Waiters, Pointer}
-use Rattle.sharc_invariant.specs.Labels.{Entry, Empty, Refers, Labels, Pass, IsIn, Anything}
+use Rattle.sharc_invariant.specs.Labels.{Entry, Empty, Refers, Unknown, Labels, Pass, IsIn, Anything}
 use Rattle.sharc_invariant.specs.Typed.{refs_in, ints_in, IsWellTyped, Initial}
 use Rattle.sharc_invariant.specs.World.{In, Cell, Slot, ObjectState, World, WorldInvariant}
 use Rattle.sharc_invariant.specs.Words.{if_reference, note_number, conc_of, Shows, FitsContent, Reads, argument_of, cell_at, lang_of}
@@ -221,6 +221,7 @@ module _ (x : Targets) (code : Code) (s : Shape) (ls : Labels) (wt : IsWellTyped
 
   null_stands : (e : Entry) → EntryStands (λ r. 0) (λ r. nothing) 0 e
   null_stands Empty = refl
+  null_stands Unknown = tt
   null_stands (Refers ty) = λ ne. absurd (ne refl)
 
   opened_heap : HeapStands s cells0 g0 w0.obj (first_heap code s)

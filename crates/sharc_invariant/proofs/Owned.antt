@@ -13,7 +13,7 @@ use Rattle.sharc_code.specs.Machine.{Machine, instr_at, ref}
 use Rattle.sharc_code.specs.Path.{may_go}
 use Rattle.sharc_code.specs.Runs.{Global, Turn, after_turn, is_started}
 use Rattle.sharc_invariant.specs.Types.{Targets, type_of, ObjectType}
-use Rattle.sharc_invariant.specs.Labels.{Empty, Refers, Labels}
+use Rattle.sharc_invariant.specs.Labels.{Empty, Refers, Unknown, Labels}
 use Rattle.sharc_invariant.specs.World.{TypeRules, RegisterOf, In, World, ObjectState, in_ref, TypedReference}
 use Rattle.sharc_invariant.specs.Effect.{Effect, Silently, Accesses, Clears, Gives, Frees, Makes as MakesOf, Locks, Unlocks, Returns, Withdraws}
 use Rattle.sharc_invariant.specs.Objects.{changes_objects, makes_object, frees_object, is_length, new_behind, made_behind, freed_behind, objects_behind, type_held, entry_type}
@@ -59,8 +59,8 @@ behind_same ls t _ m m' f e = refl
 
 -- ---- the type of what a register refers to is the one that the place says
 pub type_is_held : (x : Targets) (code : Code) (s : Shape) (ls : Labels) (g : Global Machine) (w : World) (st : State x code s ls g w) (t r : ℕ) → g.started t ≡ true → may_go (g.threads t).at.state ≡ true → (g.threads t).own.stage ≡ Rests
-    → in_ref w (RegisterOf t ((g.threads t).at.refs + r)) ≢ 0 → (w.slots (In (RegisterOf t ((g.threads t).at.refs + r)))).ty ≡ type_held ls (g.threads t) r
-type_is_held x code s ls g w st t r on go rest nz =
+    → (ls.at (g.threads t).at.pc).env r ≢ Unknown → in_ref w (RegisterOf t ((g.threads t).at.refs + r)) ≢ 0 → (w.slots (In (RegisterOf t ((g.threads t).at.refs + r)))).ty ≡ type_held ls (g.threads t) r
+type_is_held x code s ls g w st t r on go rest told nz =
     let m = g.threads t in
     let base = m.at.refs in
     let v : View = view_of st.elements w t m in
@@ -69,23 +69,24 @@ type_is_held x code s ls g w st t r on go rest nz =
     let tp : TopStands x t v base m.at.ints rn.names (ls.at m.at.pc) = subst (TopStands x t v base m.at.ints rn.names) here rn.top in
     let entry = (tp (suc r) 0).env r (omega arith) in
     let same : refs_at v base ≡ ref m = fun_ext (λ q. st.sim.regs t (base + q) ∙ register_plain code m rest (base + q)) in
-    elim ((ls.at m.at.pc).env r) as (λ e. EntryStands (refs_at v base) (types_at v base) r e → (w.slots (In (RegisterOf t (base + r)))).ty ≡ entry_type (ref m) (ref m r) e) [
-      | Empty ↦ λ k. absurd (nz k)
-      | Refers y ↦ λ k. k nz ∙ ap (λ (f : ℕ → ℕ). type_of f (f r) y) same
-    ] entry
+    elim ((ls.at m.at.pc).env r) as (λ e. e ≢ Unknown → EntryStands (refs_at v base) (types_at v base) r e → (w.slots (In (RegisterOf t (base + r)))).ty ≡ entry_type (ref m) (ref m r) e) [
+      | Empty ↦ λ _ k. absurd (nz k)
+      | Unknown ↦ λ u k. absurd (u refl)
+      | Refers y ↦ λ _ k. k nz ∙ ap (λ (f : ℕ → ℕ). type_of f (f r) y) same
+    ] told entry
 
 -- so it is of the type that a turn gave it
 pub owned_is : (x : Targets) (code : Code) (s : Shape) (ls : Labels) (g : Global Machine) (tr : Turn) → g.started tr.thread ≡ true → (w : World) (st : State x code s ls (after_turn bounds (one_thread code s) g tr) w)
     → (m' : Machine) (words : List ℕ) → after_turn bounds (one_thread code s) g tr ≡ made_turn g tr.thread words m' → m'.own.stage ≡ Rests → may_go m'.at.state ≡ true
-    → (r o : ℕ) (ty : ObjectType) → w.slots (In (RegisterOf tr.thread (m'.at.refs + r))) ≡ record { ty = ty; reference = o } → o ≢ 0
+    → (r o : ℕ) (ty : ObjectType) → w.slots (In (RegisterOf tr.thread (m'.at.refs + r))) ≡ record { ty = ty; reference = o } → o ≢ 0 → (ls.at m'.at.pc).env r ≢ Unknown
     → ty ≡ type_held ls ((after_turn bounds (one_thread code s) g tr).threads tr.thread) r
-owned_is x code s ls g tr on w st m' words done rest go r o ty slot nz =
+owned_is x code s ls g tr on w st m' words done rest go r o ty slot nz told =
     let t = tr.thread in
     let after = after_turn bounds (one_thread code s) g tr in
     let now : after.threads t ≡ m' = ap (λ (g : Global Machine). g.threads t) done ∙ put_same g.threads t m' in
     let on' : after.started t ≡ true = ap (λ (g : Global Machine). g.started t) done ∙ or_on (is_started bounds words t) (g.started t) on in
     let at : w.slots (In (RegisterOf t ((after.threads t).at.refs + r))) ≡ record { ty = ty; reference = o } = ap (λ (m : Machine). w.slots (In (RegisterOf t (m.at.refs + r)))) now ∙ slot in
-    let held = type_is_held x code s ls after w st t r on' (ap (λ (m : Machine). may_go m.at.state) now ∙ go) (ap (λ (m : Machine). m.own.stage) now ∙ rest) (λ z. nz (sym (ap (λ (h : TypedReference). h.reference) at) ∙ z)) in
+    let held = type_is_held x code s ls after w st t r on' (ap (λ (m : Machine). may_go m.at.state) now ∙ go) (ap (λ (m : Machine). m.own.stage) now ∙ rest) (λ z. told (sym (ap (λ (m : Machine). (ls.at m.at.pc).env r) now) ∙ z)) (λ z. nz (sym (ap (λ (h : TypedReference). h.reference) at) ∙ z)) in
     sym (ap (λ (h : TypedReference). h.ty) at) ∙ held
   where
     or_on : (a b : Bool) → b ≡ true → (a || b) ≡ true

@@ -17,7 +17,7 @@ use Rattle.sharc_code.specs.Runs.{Turn, Global, MayTurn}
 use Rattle.sharc_code.specs.Whole.{one_thread, bounds}
 use Rattle.sharc_code.proofs.Places.{ne_eq}
 use Rattle.sharc_invariant.specs.Types.{Targets, ObjectType, type_of}
-use Rattle.sharc_invariant.specs.Labels.{Entry, Empty, Refers, Element, Named, Nth, IsNamed, HasName, HasBase, Number, Anything, Exactly, Within, Indexes, OfElement, OfGlobal, Gate, Closed, Pass, IsIn, Label, Labels, Leads, Less, EntryMentions}
+use Rattle.sharc_invariant.specs.Labels.{Entry, Empty, Refers, Unknown, Element, Named, Nth, IsNamed, HasName, HasBase, Number, Anything, Exactly, Within, Indexes, OfElement, OfGlobal, Gate, Closed, Pass, IsIn, Label, Labels, Leads, Less, EntryMentions}
 use Rattle.sharc_invariant.specs.Typed.{IsWellTyped, Fine, IsPlain, MayStart, Returns, called_label, below, below_copy, below_number}
 use Rattle.sharc_invariant.specs.World.{World, Shut}
 use Rattle.sharc_invariant.specs.Effect.{Silently}
@@ -61,6 +61,7 @@ module _ (x : Targets) (t : ℕ) (v : View) (base ints : ℕ) (names names' : �
 
   result_entry : (e : Entry) → ((q : ℕ) → EntryMentions e q → ⊥) → EntryStands refs' (types_at v (base + k)) 0 e → EntryStands refs (types_at v base) k e
   result_entry Empty none h = ap v.refs (omega arith) ∙ h
+  result_entry Unknown none h = tt
   result_entry (Refers ty) none h = λ nz.
       let er : refs k ≡ refs' 0 = ap v.refs (omega arith) in
       ap v.types (omega arith) ∙ h (λ z. nz (er ∙ z)) ∙ ap (λ o. type_of refs' o ty) (sym er) ∙ type_kept refs' refs (refs k) ty (λ q m. absurd (none q m))

@@ -442,10 +442,10 @@ module _ (code : Code) (is : IsSample code) where
   p27 = m 27 m27 (Constant 0 (pos 1)) refl (refl, (let b = ints_m in omega arith), less_refl m28) s27
 
   p28 : Right 28 m28 (New 2 0 3 0)
-  p28 = m 28 m28 (New 2 0 3 0) refl (refl, vacant m28 2 (sym refs_m) (omega arith) refl, (the_private, (λ e. omega arith), omega arith, refl, omega arith, (λ h. h), less_refl m29)) s28
+  p28 = m 28 m28 (New 2 0 3 0) refl (refl, vacant m28 2 (sym refs_m) (omega arith) refl, (the_private, (λ e. omega arith), omega arith, refl, omega arith, (λ h. h), less_refl m29, (λ e. cc))) s28
 
   p29 : Right 29 m29 (MoveReference 0 2)
-  p29 = m 29 m29 (MoveReference 0 2) refl (refl, vacant m29 0 (sym refs_m) (omega arith) refl, (let b = refs_m in omega arith), (λ e. omega arith), free_by m29 2 k29, (λ h. h), less_refl m30) s29
+  p29 = m 29 m29 (MoveReference 0 2) refl (refl, inr (vacant m29 0 (sym refs_m) (omega arith) refl, (let b = refs_m in omega arith), (λ e. omega arith), free_by m29 2 k29, (λ h. h), less_refl m30)) s29
 
   p30 : Right 30 m30 (TakeLocal 2 0 0)
   p30 = m 30 m30 (TakeLocal 2 0 0) refl (refl, vacant m30 2 (sym refs_m) (omega arith) refl, (let b = refs_m in omega arith), (λ e. omega arith), free_by m30 0 k30, (λ h. h), less_refl m31) s30
@@ -460,10 +460,10 @@ module _ (code : Code) (is : IsSample code) where
   p33 = m 33 m33 (Clear 2 3) refl (refl, (λ p h e. absurd h), (the_private, refl, refl, less_refl m34)) s33
 
   p34 : Right 34 m34 (Give 2 0)
-  p34 = m 34 m34 (Give 2 0) refl (refl, free_by m34 2 k31, (the_private, the_dynamic, refl, record { some = λ e. omega arith; is_row = omega arith; cells = refl; same = recast_same }, (λ h. h), given_less)) s34
+  p34 = m 34 m34 (Give 2 0) refl (refl, free_by m34 2 k31, (the_private, the_dynamic, refl, record { some = λ e. omega arith; is_row = omega arith; cells = refl; same = recast_same }, (λ h. h), given_less, (λ e. cc))) s34
 
   p35 : Right 35 m35 (MoveReference 1 2)
-  p35 = m 35 m35 (MoveReference 1 2) refl (refl, vacant m35 1 (sym refs_m) (omega arith) refl, (let b = refs_m in omega arith), (λ e. omega arith), free_by m35 2 k35, (λ h. h), less_refl m36) s35
+  p35 = m 35 m35 (MoveReference 1 2) refl (refl, inr (vacant m35 1 (sym refs_m) (omega arith) refl, (let b = refs_m in omega arith), (λ e. omega arith), free_by m35 2 k35, (λ h. h), less_refl m36)) s35
 
   p36 : Right 36 m36 (Raise 2 1)
   p36 = m 36 m36 (Raise 2 1) refl (refl, vacant m36 2 (sym refs_m) (omega arith) refl, (let b = refs_m in omega arith), less_refl m37) s36

@@ -8,7 +8,7 @@ use Rattle.sharc_code.specs.Runs.{put}
 use Rattle.sharc_code.proofs.Places.{put_same, put_other, put_all}
 use Rattle.sharc_invariant.specs.Types.{Lock, StaticType, Mentions}
 use Rattle.sharc_invariant.specs.Types.Lock.{Global, Through, Self}
-use Rattle.sharc_invariant.specs.Labels.{Entry, Empty, Refers, Number, Anything, Exactly, Within, Indexes, OfElement, OfGlobal, Gate, Closed, Checked, Holds, Loaded, HoldsLoaded, Sole, Label, Itself, IsCopy, SameLock, AllSame, LessEntry, Narrower, LessNumber, LessGate, Less, EntryMentions, HasBase, IsScoped, set_number, fill, empty, gated, knows, without_copies, without_index}
+use Rattle.sharc_invariant.specs.Labels.{Entry, Empty, Refers, Unknown, Number, Anything, Exactly, Within, Indexes, OfElement, OfGlobal, Gate, Closed, Checked, Holds, Loaded, HoldsLoaded, Sole, Label, Itself, IsCopy, SameLock, AllSame, LessEntry, Narrower, LessNumber, LessGate, Less, EntryMentions, HasBase, IsScoped, set_number, fill, empty, gated, knows, without_copies, without_index}
 use Rattle.sharc_invariant.proofs.Frames.{kept_pass}
 
 -- ---- less than itself
@@ -23,6 +23,7 @@ all_same_refl l r (x ∷ xs) = (same_lock_refl l r x, all_same_refl l r xs)
 
 pub less_entry_refl : (l : Label) (r : ℕ) (e : Entry) → LessEntry l r e e
 less_entry_refl l r Empty = refl
+less_entry_refl l r Unknown = tt
 less_entry_refl l r (Refers s) = record { target = refl; locks = all_same_refl l r s.locks }
 
 narrower_refl : (w : Width) → Narrower w w

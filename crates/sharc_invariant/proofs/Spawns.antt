@@ -31,7 +31,7 @@ use Rattle.sharc_code.specs.Runs.{Turn, Global, put, is_started, MayTurn, after_
 use Rattle.sharc_code.specs.Whole.{one_thread, bounds}
 use Rattle.sharc_code.proofs.Places.{put_same, put_other, put_all, ne_eq}
 use Rattle.sharc_invariant.specs.Types.{Targets, ObjectType, nothing, is_private}
-use Rattle.sharc_invariant.specs.Labels.{LessGate, Entry, Empty, Refers, Number, Anything, Exactly, Within, Indexes, OfElement, OfGlobal, Named, Nth, HasName, empty, set_number, Closed, Label, Labels, Leads, HasBase}
+use Rattle.sharc_invariant.specs.Labels.{LessGate, Entry, Empty, Refers, Unknown, Number, Anything, Exactly, Within, Indexes, OfElement, OfGlobal, Named, Nth, HasName, empty, set_number, Closed, Label, Labels, Leads, HasBase}
 use Rattle.sharc_invariant.specs.Typed.{IsShared, Passes, IsWellTyped, Fine}
 use Rattle.sharc_invariant.specs.World.{Window, TypedReference, Holder, RegisterOf, ArgumentOf, LogOf, Staged, In, Slot, Cell as CellOf, World, Shut, Sole, WorldInvariant, in_ref, none, place, shift}
 use Rattle.sharc_invariant.specs.Words.{MachineView, conc_of, lang_of, Shows, is_first, is_unread, if_reference, note_number, register_of, argument_of, staged_of, noted_by, logged, is_ended, has_withdrawn, set_reg, making_of}
@@ -301,6 +301,7 @@ module _ (x : Targets) (code : Code) (s : Shape) (ls : Labels) (wt : IsWellTyped
 
     fits_unset : (h : TypedReference) (e : Entry) → h.reference ≡ 0 → EntryStands (λ r. h.reference) (λ r. h.ty) 0 e
     fits_unset h Empty z = z
+    fits_unset h Unknown z = tt
     fits_unset h (Refers y) z = λ nz. absurd (nz z)
 
     one_of : (u : ℕ) → slice_index words (state_word u) ≡ 1 → u < THREADS → slice_index g.words (state_word u) ≡ 1
@@ -940,6 +941,7 @@ arg_put x s cells elements c w sim n h args et eu =
 
 shared_type : (x : Targets) (refs : ℕ → ℕ) (o : ℕ) (ty : ObjectType) (e : Entry) → IsShared x e → EntryStands (λ r. o) (λ r. ty) 0 e → o ≢ 0 → is_private x ty ≡ false
 shared_type x refs o ty Empty sh h nz = absurd (nz h)
+shared_type x refs o ty Unknown sh h nz = absurd sh
 shared_type x refs o ty (Refers s) sh h nz = ap (is_private x) (h nz) ∙ sh
 
 module _ (x : Targets) (code : Code) (s : Shape) (ls : Labels) (wt : IsWellTyped x code ls) (fits : Fits code s) (few : IsSmall code s) (g : Global Machine) (world : World) (st : State x code s ls g world) (tr : Turn)

@@ -20,7 +20,7 @@ use Rattle.sharc_code.specs.Runs.{Global}
 use Rattle.sharc_code.proofs.Places.{ne_eq}
 use Rattle.sharc_invariant.specs.Granules.{one, sum_to}
 use Rattle.sharc_invariant.specs.Types.{Targets, cells_of, field_in, is_pointer, is_private, type_at, type_of}
-use Rattle.sharc_invariant.specs.Labels.{Gate, Closed, Checked, Holds, Loaded, HoldsLoaded, Sole, Empty, Refers, Label, Labels}
+use Rattle.sharc_invariant.specs.Labels.{Gate, Closed, Checked, Holds, Loaded, HoldsLoaded, Sole, Empty, Refers, Unknown, Label, Labels}
 use Rattle.sharc_invariant.specs.Typed.{IsWellTyped}
 use Rattle.sharc_invariant.specs.World.{TypedReference, Holder, RegisterOf, ArgumentOf, LogOf, Staged, Slot, In, Cell as CellOf, ObjectState, Window, May, Loaded as IsLoaded, Sole as IsSoleOf, World, WinOk, Based, base_of, total, Size, in_ref, Refers as RefersTo, Laws}
 use Rattle.sharc_invariant.specs.Words.{lang_of, register_of, argument_of, is_freed, count_at, cell_at}
@@ -225,6 +225,7 @@ module _ (x : Targets) (code : Code) (s : Shape) (ls : Labels) (wt : IsWellTyped
         let typed : (obj (refs r)).ty ≡ (world.slots (In (RegisterOf t (base + r)))).ty = ap (λ q. (obj q).ty) (sym (st.sim.regs t (base + r))) ∙ (st.inv.words.fits (In (RegisterOf t (base + r))) nz').typed in
         elim ((label_of code ls m).env r) as (λ e. EntryStands (refs_at v base) (types_at v base) r e → HasType obj refs (refs r) e) [
           | Empty ↦ λ k. absurd (nz' k)
+          | Unknown ↦ λ k. k
           | Refers y ↦ λ k. typed ∙ k nz' ∙ ap (λ (f : ℕ → ℕ). type_of f (f r) y) same
         ] ((rn.top (suc r) 0).env r (omega arith))
 

@@ -32,7 +32,7 @@ use Rattle.sharc_code.specs.Runs.{Turn, Global, put, MayTurn, after_turn}
 use Rattle.sharc_code.specs.Whole.{one_thread, bounds}
 use Rattle.sharc_code.proofs.Places.{put_same, put_other, put_all, ne_eq}
 use Rattle.sharc_invariant.specs.Types.{Targets, nothing}
-use Rattle.sharc_invariant.specs.Labels.{Empty, Refers, Label, Labels, Less, HasBase}
+use Rattle.sharc_invariant.specs.Labels.{Empty, Refers, Unknown, Label, Labels, Less, HasBase}
 use Rattle.sharc_invariant.specs.Typed.{IsWellTyped, Fine, MayStart, entry_label, refs_in}
 use Rattle.sharc_invariant.specs.World.{TypedReference, Holder, RegisterOf, ArgumentOf, LogOf, Staged, In, Slot, Cell as CellOf, World, Shut, Sole, WorldInvariant, Free, in_ref, none, place, put2, shift}
 use Rattle.sharc_invariant.specs.Words.{MachineView, conc_of, lang_of, Shows, is_first, is_unread, if_reference, note_number, register_of, argument_of, staged_of, noted_by, logged, is_ended, has_withdrawn, making_of}
@@ -261,7 +261,7 @@ module _ (x : Targets) (code : Code) (s : Shape) (ls : Labels) (wt : IsWellTyped
               let f = (ls.signature (slice_index g.words (function_word u))).takes 0 in
               let P : TypedReference → Type 0 = λ h. EntryStands (λ r. h.reference) (λ r. h.ty) 0 f in
               ⊎_elim (λ (e : w'.slots (In (ArgumentOf u)) ≡ world.slots (In (ArgumentOf u))). subst P (sym e) (st.begins.argument u lt))
-              (λ (e : w'.slots (In (ArgumentOf u)) ≡ none). subst P (sym e) (elim f as (λ f. EntryStands (λ r. 0) (λ r. nothing) 0 f) [ Empty ↦ refl | Refers y ↦ λ nz. absurd (nz refl) ])) (args u);
+              (λ (e : w'.slots (In (ArgumentOf u)) ≡ none). subst P (sym e) (elim f as (λ f. EntryStands (λ r. 0) (λ r. nothing) 0 f) [ Empty ↦ refl | Refers y ↦ λ nz. absurd (nz refl) | Unknown ↦ tt ])) (args u);
           one = λ a b n ha hb.
               let keeps : (u : ℕ) → SpawnsNow (now.threads u).own.stage n → SpawnsNow (g.threads u).own.stage n =
               put_all (λ u (y : Machine). SpawnsNow y.own.stage n → SpawnsNow (g.threads u).own.stage n) g.threads t m' (λ h. absurd (early_spawns m'.own.stage n early' h)) (λ u _ h. h) in

@@ -17,7 +17,7 @@ use Rattle.sharc_code.specs.Whole.{one_thread, bounds}
 use Rattle.sharc_code.proofs.Places.{put_same, put_other}
 use Rattle.sharc_invariant.specs.Types.{Targets, ObjectType, Field, StaticType, type_at, type_of, mode_at, field_in, is_pointer, Mentions, CellMode}
 use Rattle.sharc_invariant.specs.Types.CellMode.{Private, Readonly, Racy, Dynamic, Locked, Sibling, Behind}
-use Rattle.sharc_invariant.specs.Labels.{Entry, Empty, Refers, Closed, Label, Labels, Leads, LessEntry, fill, empty}
+use Rattle.sharc_invariant.specs.Labels.{Entry, Empty, Refers, Unknown, Closed, Label, Labels, Leads, LessEntry, fill, empty}
 use Rattle.sharc_invariant.specs.Typed.{IsWellTyped, IsRef, PointsTo, Accesses as IsAccess, refs_in, ints_in}
 use Rattle.sharc_invariant.specs.World.{TypeRules, TypedReference, Holder, RegisterOf, In, Slot, Cell as CellOf, World, Shut, Sole, Base, By, Global as OfGlobals, Based, Right, CanBy, Inside, WorldInvariant, base_of, in_ref, place, set_win, set_slot, swap}
 use Rattle.sharc_invariant.specs.Words.{lang_of, conc_of, Shows, cell_at, store, set_reg}
@@ -275,6 +275,7 @@ module _ (x : Targets) (code : Code) (s : Shape) (ls : Labels) (wt : IsWellTyped
   entry_type : (refs : ℕ → ℕ) (types : ℕ → ObjectType) (T : ObjectType) (r : ℕ) (ty : StaticType) (e : Entry) → ((q : ℕ) → refs (l.same q) ≡ refs q) → ((n : ℕ) → T ≡ type_of refs n ty)
       → LessEntry l r e (Refers ty) → EntryStands refs types r e → refs r ≢ 0 → types r ≡ T
   entry_type refs types T r ty Empty all pointed less h nz = absurd (nz h)
+  entry_type refs types T r ty Unknown all pointed less h nz = absurd less
   entry_type refs types T r ty (Refers a) all pointed less h nz = h nz ∙ same_type l refs all r a ty less ∙ sym (pointed (refs r))
 
   pub Exchange_keeps : (r : ℕ) (c : Cell) (site : ℕ) → instr_at code (g.threads tr.thread).at.pc ≡ instrs.Exchange r c site → Turned x code s ls g world tr

@@ -12,7 +12,7 @@ use Rattle.sharc_code.specs.Path.{may_go, most_refs}
 use Rattle.sharc_code.specs.Runs.{Global}
 use Rattle.sharc_invariant.specs.Granules.{one, sum_to}
 use Rattle.sharc_invariant.specs.Types.{Targets, CellMode, field_in, mode_at, type_at, type_of, cells_of, is_pointer, is_private}
-use Rattle.sharc_invariant.specs.Labels.{Gate, Checked, Loaded, HoldsLoaded, Sole, Entry, Refers, Label, Labels}
+use Rattle.sharc_invariant.specs.Labels.{Gate, Checked, Loaded, HoldsLoaded, Sole, Entry, Empty, Refers, Unknown, Label, Labels}
 use Rattle.sharc_invariant.specs.World.{ObjectState}
 use Rattle.sharc_invariant.specs.Words.{register_of, argument_of, logged, staged_of}
 use Rattle.sharc_invariant.specs.State.{label_now, object_of_cell, number_in}
@@ -114,7 +114,8 @@ label_of code ls m = label_now (ls.at m.at.pc) (instr_at code m.at.pc) m.own.sta
 
 abbrev pub HasType : (ℕ → ObjectState) → (ℕ → ℕ) → ℕ → Entry → Type 0
 HasType obj refs o (Refers s) = (obj o).ty ≡ type_of refs o s
-HasType obj refs o _ = ⊥
+HasType obj refs o Unknown = Unit {0}
+HasType obj refs o Empty = ⊥
 
 pub record MachineInvariant (x : Targets) (code : Code) (s : Shape) (ls : Labels) (g : Global Machine) (obj : ℕ → ObjectState) : Type 0 where
   -- the count word of each live object is the number of references to it

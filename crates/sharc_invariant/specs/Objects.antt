@@ -13,7 +13,7 @@ use Rattle.sharc_code.specs.Machine.{Machine, instr_at, ref}
 use Rattle.sharc_code.specs.Runs.{Turn, Global, put, at, after_turn}
 use Rattle.sharc_code.specs.Whole.{one_thread, bounds}
 use Rattle.sharc_invariant.specs.Types.{ObjectType, nothing, type_of}
-use Rattle.sharc_invariant.specs.Labels.{Entry, Empty, Refers, Labels}
+use Rattle.sharc_invariant.specs.Labels.{Entry, Empty, Refers, Unknown, Labels}
 use Rattle.sharc_invariant.specs.World.{ObjectState}
 
 -- ---- turns that change an object
@@ -41,6 +41,7 @@ changes_objects _ m = false
 abbrev pub entry_type : (ℕ → ℕ) → ℕ → Entry → ObjectType
 entry_type refs o Empty = nothing
 entry_type refs o (Refers s) = type_of refs o s
+entry_type refs o Unknown = nothing
 
 -- of what register r refers to, where the thread stands
 abbrev pub type_held : Labels → Machine → ℕ → ObjectType

@@ -27,7 +27,7 @@ use Rattle.sharc_code.specs.Path.{begun, may_go, most_ints, most_refs}
 use Rattle.sharc_code.specs.Runs.{Global}
 use Rattle.sharc_invariant.specs.Granules.{GranuleState, sum_to, Passed}
 use Rattle.sharc_invariant.specs.Types.{Targets, ObjectType, nothing, cells_of, field_in, globals_target, is_mutex, type_of}
-use Rattle.sharc_invariant.specs.Labels.{Entry, Empty, Refers, Element, Named, Nth, Number, Anything, Exactly, Within, Indexes, OfElement, OfGlobal, Gate, Closed, Checked, Holds, Loaded, HoldsLoaded, Sole, Pass, IsIn, Label, Labels, Leads, empty}
+use Rattle.sharc_invariant.specs.Labels.{Entry, Empty, Refers, Unknown, Element, Named, Nth, Number, Anything, Exactly, Within, Indexes, OfElement, OfGlobal, Gate, Closed, Checked, Holds, Loaded, HoldsLoaded, Sole, Pass, IsIn, Label, Labels, Leads, empty}
 use Rattle.sharc_invariant.specs.Typed.{Calls, called_label}
 use Rattle.sharc_invariant.specs.World.{RegisterOf, ArgumentOf, In, Cell as CellOf, ObjectState, Base, By, Global as OfGlobals, Shut, May, Loaded as IsLoaded, Sole as IsSole, World, Size, WorldInvariant, in_ref}
 use Rattle.sharc_invariant.specs.Words.{lang_of, conc_of, head_of, is_unread, Apart, Shows, cell_at}
@@ -63,6 +63,7 @@ types_at v base r = v.types (base + r)
 abbrev pub EntryStands : (ℕ → ℕ) → (ℕ → ObjectType) → ℕ → Entry → Type 0
 EntryStands refs types r Empty = refs r ≡ 0
 EntryStands refs types r (Refers s) = refs r ≢ 0 → types r ≡ type_of refs (refs r) s
+EntryStands refs types r Unknown = Unit {0}
 
 abbrev pub ElementStands : (ℕ → ℤ) → ℕ → Element → Type 0
 ElementStands names n (Named name) = names name ≡ pos n

@@ -23,7 +23,7 @@ use Rattle.sharc_invariant.specs.Types.Lock.{Global, Through, Self}
 use Rattle.sharc_invariant.specs.Types.FieldLock.{OfType, OfGlobals, OfElement as OfSameElement}
 use Rattle.sharc_invariant.specs.Types.FieldMode.{Private, Readonly, Racy, Dynamic, Under, Behind}
 use Rattle.sharc_invariant.specs.Types.Content.{Integer, MutexWord, Waiters, Pointer}
-use Rattle.sharc_invariant.specs.Labels.{Entry, Empty, Refers, Element, Named, Nth, Number, Anything, Exactly, Within, Indexes, OfElement, OfGlobal, Gate, Closed, Checked, Holds, Loaded, HoldsLoaded, Sole, Pass, IsIn, Label, Signature, Labels, SameReference, SameLock, AllSame, LessEntry, LessNumber, Leads, EntryMentions, HasBase as NumberHasBase, HasName, Fresh, IsScoped, set_number, fill, empty, gated, knows, without_base, IsFree}
+use Rattle.sharc_invariant.specs.Labels.{Entry, Empty, Refers, Unknown, Element, Named, Nth, Number, Anything, Exactly, Within, Indexes, OfElement, OfGlobal, Gate, Closed, Checked, Holds, Loaded, HoldsLoaded, Sole, Pass, IsIn, Label, Signature, Labels, SameReference, SameLock, AllSame, LessEntry, LessNumber, Leads, EntryMentions, HasBase as NumberHasBase, HasName, Fresh, IsScoped, set_number, fill, empty, gated, knows, without_base, IsFree}
 
 -- ---- frames
 -- the registers of each bank that a frame of the function has
@@ -256,6 +256,8 @@ abbrev pub Passes : Label → ℕ → ℕ → Entry → Entry → Type 0
 Passes l k a given Empty = given ≡ Empty
 Passes l k a Empty (Refers t) = Unit {0}
 Passes l k a (Refers s) (Refers t) = (s.target ≡ t.target) × AllSame (PassesLock l k a) s.locks t.locks
+Passes l k a Unknown (Refers t) = ⊥
+Passes l k a given Unknown = Unit {0}
 
 -- what is known at a function's entry
 abbrev pub entry_label : Labels → ℕ → Label
@@ -318,6 +320,7 @@ pub record Returns (ls : Labels) (l : Label) (f : ℕ) : Type 0 where
 abbrev pub IsShared : Targets → Entry → Type 0
 IsShared x Empty = Unit {0}
 IsShared x (Refers s) = is_private x record { target = s.target; locks = [] } ≡ false
+IsShared x Unknown = ⊥
 
 abbrev pub Hands : Targets → Code → Labels → Label → ℕ → Register → Type 0
 Hands x code ls l f (registers.Int i) = ((function_of code f).parameter ≡ parameters.Int) × LessNumber (l.ints i) ((ls.signature f).takes_ints 0) × ((w : Width) × Fits (l.ints i) w)
@@ -413,8 +416,9 @@ abbrev pub Fine : Targets → Code → Labels → ℕ → Label → Instr → Ty
 Fine x code ls pc l (Constant r v) = Numbers code ls l pc r (Exactly v)
 Fine x code ls pc l (Move r from) = Numbers code ls l pc r (l.ints from)
     ⊎ ((name : ℕ) × Fresh l name × IsInt code l from × Numbers code ls (record l { ints = put l.ints from (Indexes name) }) pc r (Indexes name))
-Fine x code ls pc l (MoveReference r from) = (l.gate ≡ Closed) × IsVacant code l r × IsRef code l from × (r ≢ from) × IsFree l from × (EntryMentions (l.env from) from → ⊥)
-    × Leads ls (pc + 1) (fill (empty l from) r (l.env from) (moved_copy l r from) (l.known from))
+Fine x code ls pc l (MoveReference r from) = (l.gate ≡ Closed) × (((r ≡ from) × Leads ls (pc + 1) l)
+    ⊎ (IsVacant code l r × IsRef code l from × (r ≢ from) × IsFree l from × (EntryMentions (l.env from) from → ⊥)
+    × Leads ls (pc + 1) (fill (empty l from) r (l.env from) (moved_copy l r from) (l.known from))))
 Fine x code ls pc l (Null r) = (l.gate ≡ Closed) × IsVacant code l r × Leads ls (pc + 1) l
 Fine x code ls pc l (ComputeInt operator r a b site) = Operands l Int operator a b × Numbers code ls l pc r (Within Int)
 Fine x code ls pc l (ComputeLong operator r a b site) = Operands l Long operator a b × Numbers code ls l pc r (Within Long)
@@ -453,14 +457,16 @@ Fine x code ls pc l (Raise r from) = (l.gate ≡ Closed) × IsVacant code l r ×
 Fine x code ls pc l (RaiseLoaded r) = IsVacant code l r × ((c : Cell) × (f : Field) × (s : StaticType) × (l.gate ≡ Loaded c) × HasCell x code l c f × PointsTo l c f s × (Mentions s r → ⊥) × Leads ls (pc + 1) (fill l r (Refers s) r false))
 Fine x code ls pc l (Lower r) = (l.gate ≡ Closed) × IsRef code l r × IsFree l r × Leads ls (pc + 1) (empty l r)
 Fine x code ls pc l (New r count cells site) = (l.gate ≡ Closed) × IsVacant code l r
-    × ((s : StaticType) × (s.target ≢ 0) × (s.target < length x.rows) × (cells ≡ cells_of x s.target) × (1 ≤ cells) × (Mentions s r → ⊥) × Leads ls (pc + 1) (fill l r (Refers s) r true))
+    × ((s : StaticType) × (s.target ≢ 0) × (s.target < length x.rows) × (cells ≡ cells_of x s.target) × (1 ≤ cells) × (Mentions s r → ⊥) × Leads ls (pc + 1) (fill l r (Refers s) r true)
+    × ((ls.at (pc + 1)).env r ≢ Unknown))
 Fine x code ls pc l (TakeCell r c site) = IsVacant code l r × ((f : Field) × (s : StaticType) × Accesses x code ls l true c site f × PointsTo l c f s × (Mentions s r → ⊥) × Leads ls (pc + 1) (fill l r (Refers s) r false))
 Fine x code ls pc l (TakeLocal r from site) = (l.gate ≡ Closed) × IsVacant code l r × IsRef code l from × (r ≢ from) × IsFree l from × (EntryMentions (l.env from) from → ⊥)
     × Leads ls (pc + 1) (fill (empty l from) r (l.env from) (moved_copy l r from) (l.known from))
 Fine x code ls pc l (TestSole r site) = (l.gate ≡ Closed) × IsRef code l r × (l.known r ≡ true) × Leads ls (pc + 1) (record l { gate = Sole r false; passed = without_base r l.passed })
 Fine x code ls pc l (Clear r cells) = (l.gate ≡ Sole r false) × IsUnpassed l r × ((s : StaticType) × (l.env r ≡ Refers s) × (cells ≡ cells_of x s.target) × Leads ls (pc + 1) (gated l (Sole r true)))
 Fine x code ls pc l (Give r site) = (l.gate ≡ Sole r true) × IsFree l r
-    × ((s : StaticType) × (t : StaticType) × (l.env r ≡ Refers s) × Recasts x l r s t × (Mentions t r → ⊥) × Leads ls (pc + 1) (fill (empty l r) r (Refers t) r true))
+    × ((s : StaticType) × (t : StaticType) × (l.env r ≡ Refers s) × Recasts x l r s t × (Mentions t r → ⊥) × Leads ls (pc + 1) (fill (empty l r) r (Refers t) r true)
+    × ((ls.at (pc + 1)).env r ≢ Unknown))
 Fine x code ls pc l (Free r layout site) = ((cleared : Bool) × (l.gate ≡ Sole r cleared)) × IsFree l r × IsUnpassed l r × ((s : StaticType) × (l.env r ≡ Refers s) × IsLayout x code layout s.target) × Leads ls (pc + 1) (empty l r)
 Fine x code ls pc l (LockCell c site) = (l.gate ≡ Closed) × (l.room ≡ true) × ((f : Field) × HasCell x code l c f × IsMutex f) × IsBaseFree l c × Leads ls (pc + 1) (record (without_base_of l c) { room = false })
 Fine x code ls pc l (Unlock r c site) = (l.gate ≡ Holds c) × IsVacant code l r × ((f : Field) × HasCell x code l c f × IsMutex f) × Leads ls (pc + 1) (unlocked_label l r c)

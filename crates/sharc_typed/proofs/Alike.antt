@@ -10,8 +10,8 @@ use Rattle.sharc_invariant.specs.Types.Lock.{Global, Through, Self}
 use Rattle.sharc_invariant.specs.Types.FieldLock.{OfType, OfGlobals, OfElement}
 use Rattle.sharc_invariant.specs.Types.FieldMode.{Private, Readonly, Racy, Dynamic, Under, Behind}
 use Rattle.sharc_invariant.specs.Types.Content.{Integer, MutexWord, Waiters, Pointer}
-use Rattle.sharc_invariant.specs.Labels.{Entry, Empty, Refers, Gate, Pass, Label, SameReference, Itself, IsCopy, HasCopy, Copies, SameLock, AllSame, LessEntry}
-use Rattle.sharc_invariant.specs.Typed.{HasField, HasBase, HasCell, IsSibling, IsLockCell, IsTypeLock, IsMutexOf, IsLockMode, IsTypeMode, IsMode, IsFieldLock, IsAnyLock, AreFieldLocks, PointsTo, IsSameFieldLock, IsSameContent, Recasts, IsPlace, no_lock}
+use Rattle.sharc_invariant.specs.Labels.{Entry, Empty, Refers, Unknown, Gate, Pass, Label, SameReference, Itself, IsCopy, HasCopy, Copies, SameLock, AllSame, LessEntry}
+use Rattle.sharc_invariant.specs.Typed.{HasField, HasBase, HasCell, IsSibling, IsLockCell, IsTypeLock, IsMutexOf, IsLockMode, IsTypeMode, HasBefore, IsMode, IsFieldLock, IsAnyLock, AreFieldLocks, PointsTo, IsSameFieldLock, IsSameContent, Recasts, IsPlace, no_lock}
 
 pub all_same : {A B : Type 0} (R S : A → B → Type 0) (each : (a : A) (b : B) → R a b → S a b) (xs : List A) (ys : List B) → AllSame R xs ys → AllSame S xs ys
 all_same R S each [] [] h = tt
@@ -76,6 +76,12 @@ module _ (l : Label) (known : ℕ → Bool) (gate : Gate) (passed : List Pass) w
   type_mode code k (cells.ObjectAt r i) mode h = (h.0, h.1, lock_mode code r (slice_index_or h.0.locks k no_lock) mode h.2)
   type_mode code k _ mode h = absurd h
 
+  before : (code : Code) (field : ℕ) (c : Cell) → HasBefore code l field c → HasBefore code b field c
+  before code field (cells.Global g p) h = h
+  before code field (cells.GlobalAt g i) h = h
+  before code field (cells.Object r i) h = h
+  before code field (cells.ObjectAt r i) h = h
+
   pub mode_is : (code : Code) (c : Cell) (f : FieldMode) (mode : PlaceMode) → IsMode code l c f mode → IsMode code b c f mode
   mode_is code c Private mode h = h
   mode_is code c Readonly mode h = h
@@ -83,7 +89,7 @@ module _ (l : Label) (known : ℕ → Bool) (gate : Gate) (passed : List Pass) w
   mode_is code c Dynamic mode h = h
   mode_is code c (Under (OfType k)) mode h = type_mode code k c mode h
   mode_is code c (Under (OfGlobals j)) mode h = lock_mode code 0 (Global j) mode h
-  mode_is code c (Under (OfElement field mutex)) mode h = h
+  mode_is code c (Under (OfElement field mutex)) mode h = (h.0, before code field c h.1)
   mode_is code c (Behind field pointer) mode h = h
 
   pub same_lock : (r : ℕ) (s t : Lock) → SameLock l r s t → SameLock b r s t
@@ -96,6 +102,8 @@ module _ (l : Label) (known : ℕ → Bool) (gate : Gate) (passed : List Pass) w
 
   pub less_entry : (r : ℕ) (e f : Entry) → LessEntry l r e f → LessEntry b r e f
   less_entry r e Empty h = h
+  less_entry r e Unknown h = tt
+  less_entry r Unknown (Refers t) h = absurd h
   less_entry r Empty (Refers t) h = h
   less_entry r (Refers s) (Refers t) h = record { target = h.target; locks = all_same (SameLock l r) (SameLock b r) (same_lock r) s.locks t.locks h.locks }
 

@@ -20,7 +20,7 @@ use Rattle.sharc_invariant.specs.Types.{Targets, Lock, Field, FieldLock, FieldMo
 use Rattle.sharc_invariant.specs.Types.Lock.{Global, Through, Self}
 use Rattle.sharc_invariant.specs.Types.FieldLock.{OfType, OfGlobals, OfElement as OfSameElement}
 use Rattle.sharc_invariant.specs.Types.FieldMode.{Private, Readonly, Racy, Dynamic, Under, Behind}
-use Rattle.sharc_invariant.specs.Labels.{Entry, Empty, Refers, Element, Named, Nth, Number, Anything, Exactly, Within, Indexes, OfElement, OfGlobal, Gate, Closed, Checked, Holds, HoldsLoaded, Pass, Label, Labels, Less, IsCopy, gated}
+use Rattle.sharc_invariant.specs.Labels.{Entry, Empty, Refers, Unknown, Element, Named, Nth, Number, Anything, Exactly, Within, Indexes, OfElement, OfGlobal, Gate, Closed, Checked, Holds, HoldsLoaded, Pass, Label, Labels, Less, IsCopy, gated}
 use Rattle.sharc_invariant.specs.Typed.{HasField, HasBase, HasCell, IsPlace, IsOwn, Directly, Earlier, Covers, MayAccess, Accesses, IsNotSole, IsMode, IsLockMode, IsTypeMode, LeadsChecked, knows_base, no_lock}
 use Rattle.sharc_invariant.proofs.Scoped.{less_refl}
 use Rattle.sharc_typed.specs.Steps.{all_at, Steps, Chain}
@@ -77,6 +77,7 @@ module _ (x : Targets) (code : Code) (l : Label) (write : Bool) where
   element_is r i field e has p (Refers s) (Indexes m) entry is h = absurd (none-some p h)
   element_is r i field e has p (Refers s) (OfGlobal a b c d) entry is h = absurd (none-some p h)
   element_is r i field e has p Empty n entry is h = absurd (none-some p h)
+  element_is r i field e has p Unknown n entry is h = absurd (none-some p h)
 
   pub pass_is : (c : Cell) (f : Field) → HasField x code l c f → (p : Pass) → pass_of x l write c ≡ Some p → IsPass x l write c p
   pass_is (cells.Global g q) f has p e = let k = global_is write q p e in record { kind = k.kind; place = (k.base, k.cell) }
@@ -131,7 +132,7 @@ type_locks code l k _ mode h = absurd h
 locks : (code : Code) (l : Label) (c : Cell) (lock : FieldLock) (mode : PlaceMode) → IsMode code l c (Under lock) mode → IsLocked mode
 locks code l c (OfType k) mode h = type_locks code l k c mode h
 locks code l c (OfGlobals j) mode h = lock_locks code l 0 (Global j) mode h
-locks code l c (OfSameElement field mutex) mode h = subst IsLocked (sym h) tt
+locks code l c (OfSameElement field mutex) mode h = subst IsLocked (sym h.0) tt
 
 own_is : (ls : Labels) (l b : Label) → l.function ≡ b.function → (c : Cell) → IsOwn ls l c → IsOwn ls b c
 own_is ls l b e (cells.Global g p) h = (h.0, (sym e ∙ h.1.0, h.1.1))

@@ -1,5 +1,5 @@
 -- The piece of guarded code that a line becomes is typed from what is known before the line to what may be known after it.
-use Rattle.std.proofs.Common.{◌≡◌, ◌≢◌, ℕ, Bool, true, false, List, [], ◌∷◌, ◌++◌, refl, sym, ap, ◌∙◌, subst, append_assoc}
+use Rattle.std.proofs.Common.{◌≡◌, ◌≢◌, ℕ, Bool, true, false, List, [], ◌∷◌, ◌++◌, refl, sym, ap, ◌∙◌, subst, inr, append_assoc}
 use Rattle.std.specs.Prelude.{map}
 use Rattle.std.proofs.lemmas.List.{map-append}
 use Rattle.sharc_code.specs.declared.code.Code.{Code}
@@ -47,7 +47,7 @@ module _ (x : Targets) (code : Code) (ls : Labels) (n : ℕ) (l k : Label) where
       let other : from ≡ to → ⊥ = λ e. h.apart (sym e) in
       let plain : EntryMentions ((empty l to).env from) from → ⊥ = λ m. h.plain (subst (λ e. EntryMentions e from) (put_other l.env to from Empty other) m) in (
         (h.closed, h.target, h.target_free, less_refl (empty l to)),
-        ((refl, record { is = h.target; empty = put_same l.env to Empty }, h.source, h.apart, free_without l to from h.source_free, plain, h.next), tt),
+        ((refl, inr (record { is = h.target; empty = put_same l.env to Empty }, h.source, h.apart, free_without l to from h.source_free, plain, h.next)), tt),
       )
 
   gives : (r cells : ℕ) → Gives x code l k r cells
@@ -56,7 +56,7 @@ module _ (x : Targets) (code : Code) (ls : Labels) (n : ℕ) (l k : Label) where
     (h.closed, h.register, h.known, less_refl (tested l r)),
     (
       (refl, unpassed l r, (h.before, h.is, h.size, less_refl (cleared l r))),
-      ((refl, record { paths = h.free.paths }, (h.before, h.given, h.is, recasts l l.known (Sole r true) (cleared l r).passed x r h.before h.given h.recasts, h.other, h.next)), tt),
+      ((refl, record { paths = h.free.paths }, (h.before, h.given, h.is, recasts l l.known (Sole r true) (cleared l r).passed x r h.before h.given h.recasts, h.other, h.next, h.told)), tt),
     ),
   )
 

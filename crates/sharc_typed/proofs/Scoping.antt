@@ -13,7 +13,7 @@ use Rattle.sharc_flat_form.specs.declared.op.Op.TheVariants as op
 use Rattle.sharc_flat_form.specs.declared.op.Spot.{Spot}
 use Rattle.sharc_invariant.specs.Types.{Targets, StaticType, Field, FieldMode, Mentions, cells_of}
 use Rattle.sharc_invariant.specs.Types.FieldMode.{Private, Readonly, Racy, Dynamic, Under, Behind}
-use Rattle.sharc_invariant.specs.Labels.{Entry, Empty, Refers, Named, Nth, Number, Anything, Exactly, Within, Indexes, OfElement, OfGlobal, Gate, Loaded, Sole, Pass, IsIn, Label, Labels, IsScoped, EntryMentions, empty, without_base}
+use Rattle.sharc_invariant.specs.Labels.{Entry, Empty, Refers, Unknown, Named, Nth, Number, Anything, Exactly, Within, Indexes, OfElement, OfGlobal, Gate, Loaded, Sole, Pass, IsIn, Label, Labels, IsScoped, EntryMentions, empty, without_base}
 use Rattle.sharc_invariant.specs.Typed.{HasField, IsMode, knows_base, ints_in, refs_in}
 use Rattle.sharc_invariant.proofs.Frames.{kept_pass}
 use Rattle.sharc_invariant.proofs.Scoped.{scoped_gate, scoped_fill, scoped_empty}
@@ -94,6 +94,7 @@ module _ (x : Targets) (code : Code) (ints refs : ℕ) (l : Label) (h : IsScoped
   by_element write r full (Refers s) (Indexes m) p is = absurd (none-some p is)
   by_element write r full (Refers s) (OfGlobal a b c d) p is = absurd (none-some p is)
   by_element write r full Empty n p is = absurd (none-some p is)
+  by_element write r full Unknown n p is = absurd (none-some p is)
 
   pass_scoped : (write : Bool) (c : Cell) (f : Field) → HasField x code l c f → (p : Pass) → pass_of x l write c ≡ Some p → PassScoped p
   pass_scoped write (cells.Global g q) f has p e = by_global write q p e

@@ -13,7 +13,7 @@ use Rattle.sharc_guard.specs.Guard.{body}
 use Rattle.sharc_invariant.specs.Types.{Targets, AreTargets, StaticType, Field, FieldType, FieldLock, FieldMode, Content, cells_of, is_pointer, Mentions}
 use Rattle.sharc_invariant.specs.Types.FieldMode.{Private, Readonly, Racy, Dynamic, Under, Behind}
 use Rattle.sharc_invariant.specs.Types.Content.{Integer}
-use Rattle.sharc_invariant.specs.Labels.{Empty, Refers, Anything, Within, Closed, Loaded, Pass, IsIn, Label, Labels, Less, LessEntry, EntryMentions, IsScoped, set_number, fill, empty, gated, knows, IsFree}
+use Rattle.sharc_invariant.specs.Labels.{Empty, Refers, Unknown, Anything, Within, Closed, Loaded, Pass, IsIn, Label, Labels, Less, LessEntry, EntryMentions, IsScoped, set_number, fill, empty, gated, knows, IsFree}
 use Rattle.sharc_invariant.specs.Typed.{IsRef, IsInt, IsVacant, HasField, HasCell, IsMutex, IsMutexOf, IsPlace, Covers, IsOwn, PointsTo, PointsToMutex, IsSibling, IsMode, Fits, Recasts, IsLayout, AreGlobals, IsPlain, MayStart, moved_copy, ints_in, refs_in, entry_label}
 use Rattle.sharc_typed.specs.Steps.{Steps}
 use Rattle.sharc_typed.specs.Inside.{FlatLabels, lock_of, behind, outside, cleared, tested}
@@ -134,6 +134,7 @@ pub record Gives (x : Targets) (code : Code) (l k : Label) (r cells : ℕ) : Typ
   pub recasts : Recasts x l r before given
   pub other : Mentions given r → ⊥
   pub next : Less (fill (empty (cleared l r) r) r (Refers given) r true) k
+  pub told : k.env r ≢ Unknown
 
 pub record Frees (x : Targets) (code : Code) (l k : Label) (r layout : ℕ) : Type 0 where
   pub type : StaticType
