@@ -80,7 +80,7 @@ all_or_paths m touched x =
     let code = items_notes m m.typed.program.items in
     named_in_both x ((types ++ threads) ++ globals) code
     ∙ ap (λ t. t || is_named x code)
-      (ends x (types ++ threads) globals (none_of_touched touched x 0 (globals_in m.typed.program.items)) ∙ ends x types threads (none_of_spawned m x 0 (functions_in m.typed.program.items)))
+    (ends x (types ++ threads) globals (none_of_touched touched x 0 (globals_in m.typed.program.items)) ∙ ends x types threads (none_of_spawned m x 0 (functions_in m.typed.program.items)))
     ∙ sym (named_in_both x types code)
 
 pub told_by : (m : Assignment) (touched : ℕ → Bool) (flags : List Bool) (notes : List Note) → flags ≡ marks notes → notes ≡ notes_about m touched → TellNamed m flags

@@ -1,7 +1,7 @@
 //! Sources with suggested casts written into their trees: the mismatch is gone, and all else is told as before.
 
 use crate::tables::{FILE, text_or_end};
-use crate::told::{Refused, Said, Telling, Untold, judged, moded, said, types};
+use crate::told::{Answer, Refusal, Telling, Untold, judged, moded, said, types};
 use sharc_mode::moded::Moded;
 use sharc_suggest::apply;
 use std::alloc::{AllocError, Global};
@@ -9,7 +9,7 @@ use std::process::Abort;
 use std::test::Fail;
 
 /// A program with the first cast that is suggested for its errors.
-fn first_applied(alloc: Global, refused: &Refused) -> Result<Moded, AllocError> {
+fn first_applied(alloc: Global, refused: &Refusal) -> Result<Moded, AllocError> {
     match refused.casts.as_slice() {
         [first, ..] => apply(alloc, &refused.program, first),
         [] => Err(AllocError),
@@ -19,11 +19,11 @@ fn first_applied(alloc: Global, refused: &Refused) -> Result<Moded, AllocError> 
 /// The same, if a cast is suggested.
 fn with_a_cast(alloc: Global, m: Moded) -> Result<Moded, AllocError> {
     match said(alloc, m)? {
-        Said::Accepted(checked) => {
+        Answer::Accepted(checked) => {
             drop(checked);
             Err(AllocError)
         }
-        Said::Refused(refused) => {
+        Answer::Refused(refused) => {
             let written = first_applied(alloc, &refused);
             drop(refused);
             written

@@ -100,7 +100,7 @@ pub(crate) fn moded(alloc: Global, source: &[u8]) -> Result<Moded, Untold> {
 
 /// A program whose modes are refused, with its errors and the casts that are suggested for them.
 #[derive(Drop)]
-pub(crate) struct Refused {
+pub(crate) struct Refusal {
     pub(crate) program: Moded,
     pub(crate) errors: ModeErrors,
     pub(crate) casts: Casts,
@@ -108,9 +108,9 @@ pub(crate) struct Refused {
 
 /// What the checker says of a program.
 #[derive(Drop)]
-pub(crate) enum Said {
+pub(crate) enum Answer {
     Accepted(Checked),
-    Refused(Refused),
+    Refused(Refusal),
 }
 
 /// A refused program with the casts that are suggested for its errors.
@@ -119,13 +119,13 @@ fn refused(
     program: Moded,
     errors: ModeErrors,
     named: NamedVariables,
-) -> Result<Said, AllocError>
+) -> Result<Answer, AllocError>
     requires { TellNamed program named }
 {
     let suggested = suggest_all(alloc, &program, &named, &errors);
     drop(named);
     match suggested {
-        Ok(casts) => Ok(Said::Refused(Refused {
+        Ok(casts) => Ok(Answer::Refused(Refusal {
             program,
             errors,
             casts,
@@ -139,11 +139,11 @@ fn refused(
 }
 
 /// What the checker says of a program in which this is reached.
-fn said_where(alloc: Global, program: Moded, reached: &Reached) -> Result<Said, AllocError>
+fn said_where(alloc: Global, program: Moded, reached: &Reached) -> Result<Answer, AllocError>
     requires { AreReached program.typed reached.now }
 {
     match check(alloc, program, reached) {
-        Ok(checked) => Ok(Said::Accepted(checked)),
+        Ok(checked) => Ok(Answer::Accepted(checked)),
         Err(CheckFault::Memory(program)) => {
             drop(program);
             Err(AllocError)
@@ -153,7 +153,7 @@ fn said_where(alloc: Global, program: Moded, reached: &Reached) -> Result<Said, 
 }
 
 /// What the checker says of a program.
-pub(crate) fn said(alloc: Global, program: Moded) -> Result<Said, AllocError> {
+pub(crate) fn said(alloc: Global, program: Moded) -> Result<Answer, AllocError> {
     match reach(alloc, program.typed()) {
         Ok(reached) => {
             let said = said_where(alloc, program, &reached);
@@ -178,12 +178,12 @@ fn accepted(alloc: Global, c: &Checked) -> Result<Vec<u8>, AllocError> {
 /// The verdict over a program.
 pub(crate) fn judged(alloc: Global, program: Moded) -> Result<Vec<u8>, AllocError> {
     match said(alloc, program)? {
-        Said::Accepted(checked) => {
+        Answer::Accepted(checked) => {
             let text = accepted(alloc, &checked);
             drop(checked);
             text
         }
-        Said::Refused(refused) => {
+        Answer::Refused(refused) => {
             let text = check_text(alloc, &refused.program, &refused.errors, &refused.casts);
             drop(refused);
             text

@@ -1,4 +1,7 @@
 //! What `check`, `explain` and `run` make of a program with its modes.
+//!
+//! Where `check` has its text the program is not taken apart, which would take a fifth of the time of `check`: the process ends then, and the system takes
+//! back its memory.
 
 ghost use Rattle.std.specs.Prelude.{◌≡◌, ◌++◌, IfOk};
 ghost use Rattle.sharc_reach.specs.Reaching.{AreReached};
@@ -24,6 +27,7 @@ use sharc_report::{accepted_text, check_text, explain_text};
 use sharc_rounds::Gate;
 use sharc_suggest::suggest_all;
 use std::alloc::{AllocError, Global};
+use std::mem::forget;
 use std::thread::Threads;
 
 /// The warnings of a program whose modes are accepted, and that they are.
@@ -63,9 +67,15 @@ fn checked(alloc: Global, program: Moded, reached: &Reached) -> Result<Reply, Al
     ensures { IfOk result (λ reply. Checks program reply.status reply.text.items) }
 {
     match check(alloc, program, reached) {
-        Ok(checked) => acceptance(alloc, &checked),
+        Ok(checked) => {
+            let reply = acceptance(alloc, &checked);
+            forget(checked);
+            reply
+        }
         Err(CheckFault::Modes(program, errors, named)) => {
-            mode_refusal(alloc, &program, &named, &errors)
+            let reply = mode_refusal(alloc, &program, &named, &errors);
+            forget(program);
+            reply
         }
         Err(CheckFault::Memory(_)) => Err(AllocError),
     }

@@ -1,6 +1,5 @@
 use Rattle.std.proofs.Common.{◌≡◌, ap, sym, ◌∙◌, subst, List}
 use Rattle.sharc_mode.specs.declared.error.ModeError.{ModeError}
-use Rattle.sharc_ctype.specs.Resolved.{Resolution}
 use Rattle.sharc_mode.specs.Notes.{errors_of}
 use Rattle.sharc_mode.specs.WellModed.{notes_about}
 use Rattle.sharc_check.specs.Orders.{IsInOrder}

@@ -1,6 +1,5 @@
 use Rattle.std.proofs.Common.{ap, ◌∙◌, refl}
-use Rattle.std.specs.List.{flat_map}
-use Rattle.sharc_check.specs.Settles.{settled, marks}
+use Rattle.sharc_check.specs.Settles.{marks}
 use Rattle.sharc_check.proofs.SettleLemmas.{all_settled}
 use Rattle.sharc_check.proofs.moved_variables.settle.Goals as goal
 
