@@ -7,16 +7,20 @@ ghost use Rattle.sharc_top.specs.Reply.{ReadsInput, Replied, RepliedInPart};
 ghost use Rattle.sharc_top.specs.Status.{IsOfReply, IsOfSilence};
 
 use sharc_io::{Sink, Source};
+use sharc_rounds::Gate;
 use sharc_top::sharc_top;
 use std::alloc::{AllocError, Global};
 use std::process::ExitCode;
+use std::thread::Threads;
 
 /// The status where the memory for the words is wanting.
 const NO_MEMORY: u8 = 11;
 
 /// Does what the words say, and answers the status of the top call, all of whose clauses hold of it. Where the memory for the
 /// words was wanting, nothing is read and nothing is written, and the status is 11.
-pub fn exit_code<S: Source, O: Sink>(
+pub fn exit_code<R: Threads + Sync, G: Gate + Sync, S: Source, O: Sink>(
+    rt: &R,
+    gate: &G,
     alloc: Global,
     words: Result<Vec<String>, AllocError>,
     input: &mut S,
@@ -33,7 +37,7 @@ pub fn exit_code<S: Source, O: Sink>(
     ensures no_words { OnErr words ((exit_status result ≡ 11) × (S.left input.new ≡ S.left input.old)) }
 {
     match words {
-        Ok(words) => ExitCode::from(sharc_top(alloc, &words, input, out)),
+        Ok(words) => ExitCode::from(sharc_top(rt, gate, alloc, &words, input, out)),
         Err(_) => ExitCode::from(NO_MEMORY),
     }
 }

@@ -3,6 +3,7 @@
 use crate::outcome::audited;
 use std::process::Abort;
 use std::test::Fail;
+use std::thread::Threads;
 
 const LOOP: &str = "int racy g; int main(void) { for (;;) g = 1; return 0; }";
 
@@ -16,7 +17,7 @@ fn looping(rt: &(impl AllocGlobal), count: usize) -> Result<String, Fail> {
     Ok(text)
 }
 
-fn assert_audited(rt: &(impl Abort + AllocGlobal), input: &str, wanted: &str) -> Result<(), Fail> {
+fn assert_audited(rt: &(impl Abort + AllocGlobal + Threads + Sync), input: &str, wanted: &str) -> Result<(), Fail> {
     let found = audited(rt, input)?;
     assert_eq!(rt; found.as_str(), wanted);
     Ok(())

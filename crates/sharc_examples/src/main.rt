@@ -1,12 +1,14 @@
 //! What the program writes of each example of the documents and of examples/: a program that runs the top call on them all.
 //!
 //! Nothing stands on this crate. The examples lie in `data/examples.txt`, which tools/gate_examples makes of the pages: of each a line
-//! `%%%% COMMAND STATUS PAGE`, the source, a line `%%%% writes`, and the text that is wanted; where the first line ends with `planned`, the end of the text.
+//! `%%%% COMMAND STATUS PAGE`, the source, a line `%%%% writes`, and the text that is wanted. The words of a command are parted by commas.
 #![tactic(auto)]
 
 use sharc_io::{SureSink, SureSource};
+use sharc_run::OpenGate;
 use sharc_top::sharc_top;
 use std::alloc::{AllocError, Global};
+use std::thread::Threads;
 use std::{fs, io};
 
 /// More than any example writes.
@@ -39,34 +41,40 @@ fn example_in<'a>(first: &'a str, second: &'a str) -> Option<Example<'a>> {
 }
 
 /// What the command writes of the source, and its status.
-fn answered(alloc: Global, command: &str, source: &str) -> Result<(u8, Vec<u8>), AllocError> {
+fn answered<R: Threads + Sync>(
+    rt: &R,
+    alloc: Global,
+    command: &str,
+    source: &str,
+) -> Result<(u8, Vec<u8>), AllocError> {
     let mut words = Vec::new(alloc);
-    words.push(String::from_str(alloc, command)?)?;
+    for word in command.split(',') {
+        words.push(String::from_str(alloc, word)?)?;
+    }
     let mut input = SureSource::new(source.as_bytes().to_vec(alloc)?);
     let mut sink = SureSink::new(alloc, ROOM)?;
-    let status = sharc_top(alloc, &words, &mut input, &mut sink);
+    let status = sharc_top(rt, &OpenGate, alloc, &words, &mut input, &mut sink);
     let text = sink.bytes().to_vec(alloc)?;
     Ok((status, text))
 }
 
 /// Whether the program answers an example with its status and its text.
-fn is_answered(alloc: Global, e: &Example<'_>) -> Result<bool, AllocError> {
+fn is_answered<R: Threads + Sync>(
+    rt: &R,
+    alloc: Global,
+    e: &Example<'_>,
+) -> Result<bool, AllocError> {
     let mut words = e.head.split(' ');
     let (Some(command), Some(wanted)) = (words.next(), words.next()) else {
         return Ok(false);
     };
-    let (status, text) = answered(alloc, command, e.source)?;
+    let (status, text) = answered(rt, alloc, command, e.source)?;
     let found = format!(in alloc; "{status}")?;
-    let is_text = if e.head.ends_with(" planned") {
-        text.ends_with(e.wanted.as_bytes())
-    } else {
-        text.as_slice() == e.wanted.as_bytes()
-    };
-    Ok(found.as_str() == wanted && is_text)
+    Ok(found.as_str() == wanted && text.as_slice() == e.wanted.as_bytes())
 }
 
 /// Counts an example, and writes which one it is where something else is written.
-fn count<R: Print + AllocGlobal>(
+fn count<R: Print + AllocGlobal + Threads + Sync>(
     rt: &R,
     counts: Counts,
     first: &str,
@@ -80,7 +88,7 @@ fn count<R: Print + AllocGlobal>(
             different: counts.different.saturating_add(1),
         });
     };
-    if is_answered(rt.alloc(), &e)? {
+    if is_answered(rt, rt.alloc(), &e)? {
         return Ok(Counts { all, ..counts });
     }
     println!(rt; "differs: {}", e.head)?;

@@ -6,10 +6,12 @@
 //! granules of heap.
 #![tactic(auto)]
 
+mod gate;
 mod outcome;
 mod run;
 mod shape;
 
+pub use gate::OpenGate;
 pub use outcome::Outcome;
 pub use run::{Ran, run_by_seed, run_by_workers};
 pub use shape::shape_of;

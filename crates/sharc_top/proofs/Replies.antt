@@ -9,13 +9,21 @@ use Rattle.sharc_top.specs.declared.status.Status.TheVariants as status
 use Rattle.sharc_top.specs.declared.task.Task.{Task}
 use Rattle.sharc_top.specs.declared.task.Task.TheVariants as task
 use Rattle.sharc_top.specs.Text.{line}
-use Rattle.sharc_top.specs.Verdict.{Checks, accepted, refused, Explains, explained, Runs, not_run, printed, not_built, Does}
+use Rattle.sharc_run.specs.declared.outcome.Outcome.{Outcome}
+use Rattle.sharc_run.specs.declared.outcome.Outcome.TheVariants as outcome
+use Rattle.sharc_top.specs.declared.ran.RunNumbers.{RunNumbers}
+use Rattle.sharc_top.specs.Answers.{Answers, faulty, program}
+use Rattle.sharc_top.specs.Loading.{LoadReplies, long, loaded}
+use Rattle.sharc_top.specs.Running.{Runs, not_run, ran}
+use Rattle.sharc_top.specs.Running.{status_of as run_status_of}
+use Rattle.sharc_top.specs.Verdict.{Checks, accepted, refused, Explains, explained, Does}
 use Rattle.sharc_audit.specs.declared.audit.Verdict.{Verdict}
 use Rattle.sharc_audit.specs.declared.audit.Verdict.TheVariants as verdict
 use Rattle.sharc_audit.specs.declared.line.EventLine.{EventLine}
 use Rattle.sharc_cli.specs.declared.command.Command.TheVariants as command
-use Rattle.sharc_top.specs.EventFiles.{is_audit, status_of, Judges, not_judged, judged, JudgesSource, faulty_source, of_program, FileReplies, long_file, no_file, many_events, long_source, source_judged, IsFileReply}
-use Rattle.sharc_top.specs.Reply.{task_of, task_in, ReadsSource, usage_text, Answers, faulty, program, Replies, IsReply, usage, unbuilt, too_long, answered, audited}
+use Rattle.sharc_top.specs.EventFiles.{status_of, Judges, not_judged, judged, JudgesSource, faulty_source, of_program, FileReplies, long_file, no_file, many_events, long_source, source_judged, IsFileReply}
+use Rattle.sharc_top.specs.Reply.{task_in, is_unbuilt, ReadsSource, usage_text, Replies, IsReply, usage, unbuilt, too_long, answered, audited}
+use Rattle.sharc_top.specs.Reply.Replies.{loaded as of_load}
 use Rattle.sharc_top.specs.Status.{code_of, IsOfReply, IsOfSilence}
 
 -- what a source has left, where it tells it
@@ -39,14 +47,18 @@ reply_usage words left s text none e t =
     record { input = unwrap_or left []; told = told_left left; reply = rw (e, t) (usage none) }
 
 pub reply_unbuilt : (words : List (List ℕ)) (left : Option (List ℕ)) (s : Status) (text : List ℕ) (command : Command) → commands words ≡ Some command
-    → task_of command ≡ None → is_audit command ≡ false → s ≡ status.NotBuilt → text ≡ line (codes "form not built") → IsReply words left s text
-reply_unbuilt words left s text command is other no_audit e t =
-    record { input = unwrap_or left []; told = told_left left; reply = rw (e, t) (unbuilt (record { command = command; is = is; other = other; no_audit = no_audit })) }
+    → is_unbuilt command ≡ true → s ≡ status.NotBuilt → text ≡ line (codes "form not built") → IsReply words left s text
+reply_unbuilt words left s text command is none e t =
+    record { input = unwrap_or left []; told = told_left left; reply = rw (e, t) (unbuilt (record { command = command; is = is; unbuilt = none })) }
+
+pub reply_loaded : (words : List (List ℕ)) (left : Option (List ℕ)) (number workers : ℕ) (s : Status) (text : List ℕ) → commands words ≡ Some (command.Load number workers)
+    → LoadReplies number workers s text → IsReply words left s text
+reply_loaded words left number workers s text is reply = record { input = unwrap_or left []; told = told_left left; reply = of_load number workers s text is reply }
 
 pub reply_too_long : (words : List (List ℕ)) (left : Option (List ℕ)) (s : Status) (text : List ℕ) → ReadsSource words
     → IfSome left (λ bytes. 1048576 < length bytes) → s ≡ status.SourceRefused → text ≡ line (codes "source over 1048576 bytes") → IsReply words left s text
-reply_too_long words left s text h long e t =
-    let l = long_input left 1048576 long in
+reply_too_long words left s text h over e t =
+    let l = long_input left 1048576 over in
     record { input = l.input; told = l.told; reply = rw (e, t) (too_long h l.long) }
 
 pub reply_answered : (words : List (List ℕ)) (left : Option (List ℕ)) (t : Task) (source : List ℕ) (s : Status) (text : List ℕ) → task_in (commands words) ≡ Some t
@@ -56,91 +68,85 @@ reply_answered words left t source s text h told short a = record { input = sour
 pub reply_audited : (words : List (List ℕ)) (left : Option (List ℕ)) (s : Status) (text : List ℕ) → commands words ≡ Some command.Audit → IsFileReply left s text → IsReply words left s text
 reply_audited words left s text is r = record { input = r.input; told = r.told; reply = audited s text is r.reply }
 
-pub no_audit_is : (c : Command) → is_audit c ≡ true → c ≡ command.Audit
-no_audit_is command.Audit h = refl
-no_audit_is command.Check h = absurd (cc)
-no_audit_is command.Explain h = absurd (cc)
-no_audit_is command.Replay h = absurd (cc)
-no_audit_is (command.Run workers granules events seed) h = absurd (cc)
-no_audit_is (command.Load number workers) h = absurd (cc)
-no_audit_is (command.Record workers granules events) h = absurd (cc)
-
 -- ---- a reply has none of the statuses of failures
 
+-- a status below 9
+low : (n : ℕ) → n ≤ 8 → IsOfReply n
+low n h = inl h
+
 checks_status : (m : Assignment) (s : Status) (text : List ℕ) → Checks m s text → IsOfReply (code_of s)
-checks_status m s text (accepted warnings well are) = inl refl
-checks_status m s text (refused t is) = inr (inl refl)
+checks_status m s text (accepted warnings meets are) = low 0 (omega arith)
+checks_status m s text (refused t is) = low 1 (omega arith)
 
 explains_status : (m : Assignment) (s : Status) (text : List ℕ) → Explains m s text → IsOfReply (code_of s)
 explains_status m s text (explained x verdict is) = checks_status m x verdict is
 
-runs_status : (m : Assignment) (s : Status) (text : List ℕ) → Runs m s text → IsOfReply (code_of s)
-runs_status m s text (not_run t is) = inr (inl refl)
-runs_status m s text (printed numbers well are) = inl refl
-runs_status m s text (not_built well none) = inr (inr (inr (inl refl)))
+outcome_status : (o : Outcome) → IsOfReply (code_of (run_status_of o))
+outcome_status outcome.Done = low 0 (omega arith)
+outcome_status outcome.Reported = low 3 (omega arith)
+outcome_status outcome.Stopped = low 4 (omega arith)
+outcome_status outcome.Stuck = low 5 (omega arith)
+outcome_status outcome.Limit = low 6 (omega arith)
+
+runs_status : (n : RunNumbers) (m : Assignment) (s : Status) (text : List ℕ) → Runs n m s text → IsOfReply (code_of s)
+runs_status n m s text (not_run t is) = low 1 (omega arith)
+runs_status n m s text (ran code run meets compiled is) = outcome_status run.outcome
 
 does_status : (t : Task) (m : Assignment) (s : Status) (text : List ℕ) → Does t m s text → IsOfReply (code_of s)
 does_status task.Check m s text d = checks_status m s text d
 does_status task.Explain m s text d = explains_status m s text d
-does_status task.Run m s text d = runs_status m s text d
+does_status (task.Run n) m s text d = runs_status n m s text d
 
 answers_status : (t : Task) (source : List ℕ) (s : Status) (text : List ℕ) → Answers t source s text → IsOfReply (code_of s)
-answers_status t source s text (faulty stage at fault) = inr (inr (inl refl))
+answers_status t source s text (faulty stage at fault) = low 2 (omega arith)
 answers_status t source s text (program m x y front d) = does_status t m x y d
 
+load_status : (number workers : ℕ) (s : Status) (text : List ℕ) → LoadReplies number workers s text → IsOfReply (code_of s)
+load_status number workers s text (long h) = low 2 (omega arith)
+load_status number workers s text (loaded x y short is) = answers_status _ _ x y is
+
 verdict_status : (v : Verdict) → IsOfReply (code_of (status_of v))
-verdict_status (verdict.Obeys n) = inl refl
-verdict_status (verdict.Fails n why) = inr (inr (inr (inr (inr (inl refl)))))
-verdict_status (verdict.Fuel n) = inr (inr (inr (inr (inr (inr refl)))))
+verdict_status (verdict.Obeys n) = low 0 (omega arith)
+verdict_status (verdict.Fails n why) = inr (inl refl)
+verdict_status (verdict.Fuel n) = inr (inr refl)
 
 judges_status : (m : Assignment) (fuel : ℕ) (events : List EventLine) (s : Status) (text : List ℕ) → Judges m fuel events s text → IsOfReply (code_of s)
-judges_status m fuel events s text (not_judged t is) = inr (inl refl)
-judges_status m fuel events s text (judged v well is) = verdict_status v
+judges_status m fuel events s text (not_judged t is) = low 1 (omega arith)
+judges_status m fuel events s text (judged v meets is) = verdict_status v
 
 source_status : (source : List ℕ) (fuel : ℕ) (events : List EventLine) (s : Status) (text : List ℕ) → JudgesSource source fuel events s text → IsOfReply (code_of s)
-source_status source fuel events s text (faulty_source stage at is) = inr (inr (inl refl))
+source_status source fuel events s text (faulty_source stage at is) = low 2 (omega arith)
 source_status source fuel events s text (of_program m x y front is) = judges_status m fuel events x y is
 
 file_status : (input : List ℕ) (s : Status) (text : List ℕ) → FileReplies input s text → IsOfReply (code_of s)
-file_status input s text (long_file long) = inr (inr (inl refl))
-file_status input s text (no_file n short bad) = inr (inr (inl refl))
-file_status input s text (many_events short many) = inr (inr (inl refl))
-file_status input s text (long_source source fuel events file long) = inr (inr (inl refl))
+file_status input s text (long_file h) = low 2 (omega arith)
+file_status input s text (no_file n short bad) = low 2 (omega arith)
+file_status input s text (many_events short many) = low 2 (omega arith)
+file_status input s text (long_source source fuel events file h) = low 2 (omega arith)
 file_status input s text (source_judged source fuel events file short x y is) = source_status source fuel events x y is
 
 reply_status : (words : List (List ℕ)) (input : List ℕ) (s : Status) (text : List ℕ) → Replies words input s text → IsOfReply (code_of s)
-reply_status words input s text (usage h) = inr (inr (inr (inr (inl refl))))
-reply_status words input s text (unbuilt h) = inr (inr (inr (inl refl)))
-reply_status words input s text (too_long h long) = inr (inr (inl refl))
+reply_status words input s text (usage h) = low 8 (omega arith)
+reply_status words input s text (unbuilt h) = low 7 (omega arith)
+reply_status words input s text (too_long h more) = low 2 (omega arith)
 reply_status words input s text (answered t x y h short a) = answers_status t input x y a
+reply_status words input s text (of_load number workers x y h is) = load_status number workers x y is
 reply_status words input s text (audited x y h is) = file_status input x y is
 
 not_ten : (n : ℕ) → IsOfReply n → n ≡ 10 → ⊥
-not_ten n (inl a) e = omega arith
-not_ten n (inr (inl a)) e = omega arith
-not_ten n (inr (inr (inl a))) e = omega arith
-not_ten n (inr (inr (inr (inl a)))) e = omega arith
-not_ten n (inr (inr (inr (inr (inl a))))) e = omega arith
-not_ten n (inr (inr (inr (inr (inr (inl a)))))) e = omega arith
-not_ten n (inr (inr (inr (inr (inr (inr a)))))) e = omega arith
+not_ten n (inl a) e = omega (arith, a, e)
+not_ten n (inr (inl a)) e = omega (arith, a, e)
+not_ten n (inr (inr a)) e = omega (arith, a, e)
 
 not_nine : (n : ℕ) → IsOfReply n → n ≡ 9 → ⊥
-not_nine n (inl a) e = omega arith
-not_nine n (inr (inl a)) e = omega arith
-not_nine n (inr (inr (inl a))) e = omega arith
-not_nine n (inr (inr (inr (inl a)))) e = omega arith
-not_nine n (inr (inr (inr (inr (inl a))))) e = omega arith
-not_nine n (inr (inr (inr (inr (inr (inl a)))))) e = omega arith
-not_nine n (inr (inr (inr (inr (inr (inr a)))))) e = omega arith
+not_nine n (inl a) e = omega (arith, a, e)
+not_nine n (inr (inl a)) e = omega (arith, a, e)
+not_nine n (inr (inr a)) e = omega (arith, a, e)
 
 not_eleven : (n : ℕ) → IsOfReply n → n ≡ 11 → ⊥
-not_eleven n (inl a) e = omega arith
-not_eleven n (inr (inl a)) e = omega arith
-not_eleven n (inr (inr (inl a))) e = omega arith
-not_eleven n (inr (inr (inr (inl a)))) e = omega arith
-not_eleven n (inr (inr (inr (inr (inl a))))) e = omega arith
-not_eleven n (inr (inr (inr (inr (inr (inl a)))))) e = omega arith
-not_eleven n (inr (inr (inr (inr (inr (inr a)))))) e = omega arith
+not_eleven n (inl a) e = omega (arith, a, e)
+not_eleven n (inr (inl a)) e = omega (arith, a, e)
+not_eleven n (inr (inr a)) e = omega (arith, a, e)
 
 not_silent : (n : ℕ) → IsOfReply n → IsOfSilence n → ⊥
 not_silent n r (inl e) = not_nine n r e

@@ -1,16 +1,14 @@
 -- What `audit` writes for an event file, and with which status it ends.
-use Rattle.std.specs.Prelude.{◌≡◌, ℕ, ◌<◌, ◌≤◌, Bool, true, false, List, length, codes, Option, IfSome}
+use Rattle.std.specs.Prelude.{◌≡◌, ℕ, ◌<◌, ◌≤◌, List, length, codes, Option, IfSome}
 use Rattle.sharc_tree.specs.declared.token.FaultAt.{FaultAt}
 use Rattle.sharc_mode.specs.Moded.{Assignment}
-use Rattle.sharc_mode.specs.WellModed.{WellModed}
+use Rattle.sharc_mode_laws.specs.Rules.{MeetsRules}
 use Rattle.sharc_audit.specs.declared.audit.Verdict.{Verdict}
 use Rattle.sharc_audit.specs.declared.audit.Verdict.TheVariants as verdict
 use Rattle.sharc_audit.specs.declared.line.EventLine.{EventLine}
 use Rattle.sharc_audit.specs.Audited.{Audits}
 use Rattle.sharc_audit.specs.Grammar.{text_lines, IsEventFile, IsFirstBad, HasMany}
 use Rattle.sharc_audit.specs.Texts.{verdict_line, bad_line, many_line}
-use Rattle.sharc_cli.specs.declared.command.Command.{Command}
-use Rattle.sharc_cli.specs.declared.command.Command.TheVariants as command
 use Rattle.sharc_report.specs.Refusals.{refusal_line}
 use Rattle.sharc_report.specs.declared.refusal.Stage.{Stage}
 use Rattle.sharc_sound.specs.Front.{IsFront, IsFaultAt}
@@ -18,12 +16,7 @@ use Rattle.sharc_top.specs.declared.status.Status.{Status}
 use Rattle.sharc_top.specs.declared.status.Status.TheVariants as status
 use Rattle.sharc_top.specs.Limits.{source_limit, file_limit}
 use Rattle.sharc_top.specs.Text.{line}
-use Rattle.sharc_top.specs.Verdict.{IsModeRefusal}
-
--- the command reads an event file
-abbrev pub is_audit : Command → Bool
-is_audit command.Audit = true
-is_audit _ = false
+use Rattle.sharc_top.specs.Refused.{IsModeRefusal}
 
 abbrev pub status_of : Verdict → Status
 status_of (verdict.Obeys n) = status.Done
@@ -33,7 +26,7 @@ status_of (verdict.Fuel n) = status.FuelSpent
 -- of events of a program with its modes: what `check` writes where these are refused, else the verdict
 pub data Judges (m : Assignment) (fuel : ℕ) (events : List EventLine) : Status → List ℕ → Type 0 where
   not_judged : (text : List ℕ) → IsModeRefusal m text → Judges m fuel events status.ModesRefused text
-  judged : (v : Verdict) → WellModed m → Audits m fuel events v → Judges m fuel events (status_of v) (verdict_line fuel v)
+  judged : (v : Verdict) → MeetsRules m → Audits m fuel events v → Judges m fuel events (status_of v) (verdict_line fuel v)
 
 -- of events of a source within the limit: its first fault, else what becomes of the program that it is, with the least modes
 pub data JudgesSource (source : List ℕ) (fuel : ℕ) (events : List EventLine) : Status → List ℕ → Type 0 where

@@ -1,8 +1,10 @@
-pub mod Arithmetic
+pub mod Answers
 pub mod EventFiles
 pub mod Limits
+pub mod Loading
+pub mod Refused
 pub mod Reply
+pub mod Running
 pub mod Status
 pub mod Text
-pub mod TreeSums
 pub mod Verdict

@@ -1,31 +1,27 @@
 -- What the program writes for its words and its input, and with which status it ends.
-use Rattle.std.specs.Prelude.{◌≡◌, ◌⊎◌, false, ℕ, ◌<◌, ◌≤◌, List, length, take, codes, Option, Some, None, IfSome, IsSome}
+use Rattle.std.specs.Prelude.{◌≡◌, ◌⊎◌, Bool, true, false, ℕ, ◌<◌, ◌≤◌, List, length, take, codes, Option, Some, None, IfSome, IsSome}
 use Rattle.std.specs.Io.KnownBytes.{Appends}
-use Rattle.sharc_tree.specs.declared.token.FaultAt.{FaultAt}
-use Rattle.sharc_mode.specs.Moded.{Assignment}
 use Rattle.sharc_cli.specs.Commands.{commands}
 use Rattle.sharc_cli.specs.declared.command.Command.{Command}
 use Rattle.sharc_cli.specs.declared.command.Command.TheVariants as command
-use Rattle.sharc_report.specs.Refusals.{refusal_line}
-use Rattle.sharc_report.specs.declared.refusal.Stage.{Stage}
-use Rattle.sharc_sound.specs.Front.{IsFront, IsFaultAt}
 use Rattle.sharc_top.specs.declared.status.Status.{Status}
 use Rattle.sharc_top.specs.declared.status.Status.TheVariants as status
 use Rattle.sharc_top.specs.declared.task.Task.{Task}
 use Rattle.sharc_top.specs.declared.task.Task.TheVariants as task
-use Rattle.sharc_top.specs.EventFiles.{is_audit, FileReplies}
+use Rattle.sharc_top.specs.Answers.{Answers}
+use Rattle.sharc_top.specs.EventFiles.{FileReplies}
+use Rattle.sharc_top.specs.Loading.{LoadReplies}
 use Rattle.sharc_top.specs.Limits.{source_limit}
 use Rattle.sharc_top.specs.Status.{code_of}
 use Rattle.sharc_top.specs.Text.{line}
-use Rattle.sharc_top.specs.Verdict.{Does}
 
 -- ---- the words
 
--- what a command does with a source; none of the commands that are not built yet
+-- what a command does with a source; none of the commands that read none
 abbrev pub task_of : Command → Option Task
 task_of command.Check = Some task.Check
 task_of command.Explain = Some task.Explain
-task_of (command.Run workers granules events seed) = Some task.Run
+task_of (command.Run workers granules events seed) = Some (task.Run (record { workers = workers; granules = granules; events = events; seed = seed }))
 task_of _ = None
 
 abbrev pub task_in : Option Command → Option Task
@@ -41,22 +37,18 @@ abbrev pub ReadsInput : List (List ℕ) → Type 0
 ReadsInput words = ReadsSource words ⊎ (commands words ≡ Some command.Audit)
 
 -- the words are a command that is not built yet
+abbrev pub is_unbuilt : Command → Bool
+is_unbuilt (command.Record workers granules events) = true
+is_unbuilt command.Replay = true
+is_unbuilt _ = false
+
 pub record IsUnbuilt (words : List (List ℕ)) : Type 0 where
   pub command : Command
   pub is : commands words ≡ Some command
-  pub other : task_of command ≡ None
-  pub no_audit : is_audit command ≡ false
+  pub unbuilt : is_unbuilt command ≡ true
 
 abbrev pub usage_text : List ℕ
 usage_text = codes "usage: check | explain | run [--workers N] [--granules N] [--events N] [--seed N] | load N [--workers N] | record [--workers N] [--granules N] [--events N] | replay | audit"
-
--- ---- the source
-
--- What is written for a source within the limit, and the status: the first fault of the first stage that has one, else what becomes of the program that
--- it is, with the least modes.
-pub data Answers (t : Task) (source : List ℕ) : Status → List ℕ → Type 0 where
-  faulty : (stage : Stage) (at : FaultAt) → IsFaultAt source stage at → Answers t source status.SourceRefused (refusal_line stage at)
-  program : (m : Assignment) (s : Status) (text : List ℕ) → IsFront source m → Does t m s text → Answers t source s text
 
 -- ---- the reply
 
@@ -66,6 +58,7 @@ pub data Replies (words : List (List ℕ)) (input : List ℕ) : Status → List 
   unbuilt : IsUnbuilt words → Replies words input status.NotBuilt (line (codes "form not built"))
   too_long : ReadsSource words → source_limit < length input → Replies words input status.SourceRefused (line (codes "source over 1048576 bytes"))
   answered : (t : Task) (s : Status) (text : List ℕ) → task_in (commands words) ≡ Some t → length input ≤ source_limit → Answers t input s text → Replies words input s text
+  loaded : (number workers : ℕ) (s : Status) (text : List ℕ) → commands words ≡ Some (command.Load number workers) → LoadReplies number workers s text → Replies words input s text
   audited : (s : Status) (text : List ℕ) → commands words ≡ Some command.Audit → FileReplies input s text → Replies words input s text
 
 -- The reply to the words and to what the source had left. Of a source that does not tell its bytes it is the reply to some input.

@@ -1,5 +1,5 @@
 -- The exit statuses.
-use Rattle.std.specs.Prelude.{ℕ, ◌≡◌, ◌⊎◌}
+use Rattle.std.specs.Prelude.{ℕ, ◌≡◌, ◌≤◌, ◌⊎◌}
 use Rattle.sharc_top.specs.declared.status.Status.{Status}
 use Rattle.sharc_top.specs.declared.status.Status.TheVariants as status
 
@@ -7,6 +7,10 @@ abbrev pub code_of : Status → ℕ
 code_of status.Done = 0
 code_of status.ModesRefused = 1
 code_of status.SourceRefused = 2
+code_of status.Reported = 3
+code_of status.Stopped = 4
+code_of status.Stuck = 5
+code_of status.Limit = 6
 code_of status.NotBuilt = 7
 code_of status.Usage = 8
 code_of status.ReadFault = 9
@@ -17,7 +21,7 @@ code_of status.FuelSpent = 13
 
 -- the reply was written whole
 abbrev pub IsOfReply : ℕ → Type 0
-IsOfReply code = (code ≡ 0) ⊎ (code ≡ 1) ⊎ (code ≡ 2) ⊎ (code ≡ 7) ⊎ (code ≡ 8) ⊎ (code ≡ 12) ⊎ (code ≡ 13)
+IsOfReply code = (code ≤ 8) ⊎ (code ≡ 12) ⊎ (code ≡ 13)
 
 -- nothing was written
 abbrev pub IsOfSilence : ℕ → Type 0

@@ -3,15 +3,15 @@
 //! The program calls [`sharc_top`]; `Replies` of specs/Reply.antt says what it writes and with which status it ends.
 #![tactic(auto)]
 
-mod arithmetic;
 mod audited;
+mod loaded;
+mod ran;
 mod refused;
 mod reply;
 mod status;
 mod task;
 mod text;
 mod top;
-mod tree_sums;
 mod verdict;
 mod words;
 

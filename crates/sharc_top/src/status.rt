@@ -6,13 +6,21 @@ ghost use Rattle.sharc_top.specs.Status.{code_of};
 /// How a call ends.
 #[derive(Clone, Copy, Debug, PartialEq, Eq)]
 pub enum Status {
-    /// The program ran to its end, or its modes are accepted.
+    /// Each thread that ran is gone, or the modes are accepted.
     Done,
     /// The modes of the source are refused.
     ModesRefused,
     /// The source is too long, or the lexer, the parser or C typing refuses it.
     SourceRefused,
-    /// The command, or the form of the source, is not built yet.
+    /// A thread reported an access or a cast.
+    Reported,
+    /// No thread reported, and one was stopped.
+    Stopped,
+    /// No thread was stopped, and the run is stuck.
+    Stuck,
+    /// None of these, and a thread has made all the events that it may.
+    Limit,
+    /// The command is not built yet.
     NotBuilt,
     /// The words are no command.
     Usage,
@@ -37,6 +45,10 @@ impl Status {
             Status::Done => 0,
             Status::ModesRefused => 1,
             Status::SourceRefused => 2,
+            Status::Reported => 3,
+            Status::Stopped => 4,
+            Status::Stuck => 5,
+            Status::Limit => 6,
             Status::NotBuilt => 7,
             Status::Usage => 8,
             Status::ReadFault => 9,

@@ -3,24 +3,9 @@
 ghost use Rattle.std.specs.Prelude.{◌≡◌, ◌+◌, ◌∷◌, ◌++◌, ◌<◌, ◌≤◌, [], ℕ, List, length, take, drop, decimal, flat_map, IfOk, IfErr, OnOk, OnErr};
 ghost use Rattle.std.specs.Io.KnownBytes.{Appends};
 ghost use Rattle.sharc_io.specs.Causes.{EitherRose};
-ghost use Rattle.sharc_top.specs.Text.{line, numbers_text};
+ghost use Rattle.sharc_top.specs.Text.{line};
 
-use itoa::Buffer;
 use sharc_io::{Sink, WriteFault, write_all};
-use std::alloc::{AllocError, Global};
-
-/// The numbers in decimal, each on a line of its own.
-pub fn numbers_text(alloc: Global, numbers: &[u64]) -> Result<Vec<u8>, AllocError>
-    ensures { IfOk result (λ text. text.items ≡ numbers_text numbers.now) }
-{
-    let mut text = Vec::new(alloc);
-    for number in numbers {
-        let mut buffer = Buffer::new();
-        text.extend_from_slice(buffer.format(*number).as_bytes())?;
-        text.push(b'\n')?;
-    }
-    Ok(text)
-}
 
 /// Where the line ends that begins at an index: behind its newline, or at the end of the text.
 fn line_end(text: &[u8], from: usize) -> usize

@@ -10,16 +10,20 @@ use crate::status::Status;
 use crate::text::write_lines;
 use crate::words::reply_to;
 use sharc_io::{Sink, Source};
+use sharc_rounds::Gate;
 use std::alloc::Global;
+use std::thread::Threads;
 
-/// Does what the words say with the input, writes the reply line by line, and answers the exit status.
+/// Does what the words say with the input, writes the reply line by line, and answers the exit status. `rt` starts the workers of a run, and the gate is asked before each step of theirs.
 ///
-/// 0: the modes are accepted, or the program ran to its end. 1: the modes are refused. 2: the source is too long, or is no program. 7: its form is not built
-/// yet, or the command is not, and then nothing was read. 8: the words are no command, and nothing was read. 9: reading failed. 10: writing failed or stalled, and
-/// a front part of the reply was written, but not all of it. 11: memory was wanting. Of `audit` 0 says that the events of the file are a run of its source that obeys its modes;
-/// 12: an event is the first that is not asked for, not legal, or against a rule of the modes. 13: the fuel of its thread is spent before it. 2 comes of a text that is no event
-/// file, too.
-pub fn sharc_top<S: Source, O: Sink>(
+/// 0: the modes are accepted, each thread that ran is gone, or the events of the file are a run of its source that obeys its modes. 1: the modes are refused. 2: the source is too
+/// long, or is no program, or the text is no event file. 3: a thread reported an access or a cast (A1 to A4). 4: none did, and one was stopped (X1 to X13). 5: neither, and the run is
+/// stuck. 6: none of these, and a thread has made all the events that it may. 7: the command is not built yet, and nothing was read. 8: the words are no command, and nothing was
+/// read. 9: reading failed. 10: writing failed or stalled, and a front part of the reply was written, but not all of it. 11: memory was wanting. 12: an event is the first that is not
+/// asked for, not legal, or against a rule of the modes. 13: the fuel of its thread is spent before it.
+pub fn sharc_top<R: Threads + Sync, G: Gate + Sync, S: Source, O: Sink>(
+    rt: &R,
+    gate: &G,
     alloc: Global,
     words: &[String],
     input: &mut S,
@@ -45,7 +49,7 @@ pub fn sharc_top<S: Source, O: Sink>(
     ensures sink_faults { O.faults out.old ≤ O.faults out.new }
     ensures sink_stalls { O.stalls out.old ≤ O.stalls out.new }
 {
-    match reply_to(alloc, words, input) {
+    match reply_to(rt, gate, alloc, words, input) {
         Ok(reply) => match write_lines(out, &reply.text) {
             Ok(()) => reply.status.code(),
             Err(_) => Status::WriteFault.code(),

@@ -1,5 +1,5 @@
 -- The reply to words and an input is one.
-use Rattle.std.proofs.Common.{◌≡◌, ℕ, ◌<◌, ◌≤◌, true, List, length, Option, Some, None, is_some, refl, ap, sym, ◌∙◌, subst, arith}
+use Rattle.std.proofs.Common.{◌≡◌, ℕ, ◌<◌, ◌≤◌, Bool, true, false, List, length, Option, Some, None, is_some, refl, ap, sym, ◌∙◌, subst, arith}
 use Rattle.std.proofs.lemmas.Bool.{false≢true}
 use Rattle.sharc_tree.specs.declared.token.FaultAt.{FaultAt}
 use Rattle.sharc_mode.specs.Moded.{Assignment}
@@ -7,29 +7,31 @@ use Rattle.sharc_check.specs.Laws.{CheckLaws}
 use Rattle.sharc_suggest.specs.Laws.{SuggestLaws}
 use Rattle.sharc_cli.specs.Commands.{commands}
 use Rattle.sharc_cli.specs.declared.command.Command.{Command}
-use Rattle.sharc_cli.specs.declared.command.Command.TheVariants.{Audit}
+use Rattle.sharc_cli.specs.declared.command.Command.TheVariants.{Check, Explain, Run, Load, Record, Replay, Audit}
 use Rattle.sharc_report.specs.Refusals.{refusal_line}
 use Rattle.sharc_report.specs.declared.refusal.Stage.{Stage}
 use Rattle.sharc_top.specs.declared.status.Status.{Status}
 use Rattle.sharc_top.specs.declared.task.Task.{Task}
-use Rattle.sharc_top.specs.EventFiles.{is_audit, FileReplies}
+use Rattle.sharc_top.specs.Answers.{Answers, faulty, program}
+use Rattle.sharc_top.specs.EventFiles.{FileReplies}
 use Rattle.sharc_top.specs.Limits.{source_limit}
-use Rattle.sharc_top.specs.Reply.{task_in, IsUnbuilt, Answers, faulty, program, Replies, usage, unbuilt, too_long, answered, audited, IsReply}
+use Rattle.sharc_top.specs.Reply.{task_in, task_of, is_unbuilt, IsUnbuilt, Replies, usage, unbuilt, too_long, answered, loaded, audited, IsReply}
 use Rattle.sharc_top.specs.Verdict.{Does}
-use Rattle.sharc_top_laws.specs.Laws.{WarningsAreOne, SourceLaws, AnswersAreOne}
+use Rattle.sharc_top.specs.declared.task.Task.TheVariants as task
+use Rattle.sharc_top_laws.specs.Laws.{WarningsAreOne, SourceLaws, RunsNothing, MakesRun, AnswersAreOne}
 use Rattle.sharc_top_laws.proofs.Verdicts.{one_done}
 
 same_line : (s t : Stage) (x y : FaultAt) → s ≡ t → x ≡ y → refusal_line s x ≡ refusal_line t y
 same_line s t x y stage at = ap (λ (k : Stage). refusal_line k x) stage ∙ ap (λ (a : FaultAt). refusal_line t a) at
 
 pub one_answer : WarningsAreOne → SourceLaws → CheckLaws → SuggestLaws → AnswersAreOne
-one_answer warnings sources checks suggests t source s z text other (faulty stage at is) (faulty stage' at' also) =
+one_answer warnings sources checks suggests t nothing source s z text other (faulty stage at is) (faulty stage' at' also) =
     let same = sources.fault source stage stage' at at' is also in
     (refl, same_line stage stage' at at' same.0 same.1)
-one_answer warnings sources checks suggests t source s z text other (faulty stage at is) (program m s' text' front does) = absurd (sources.faultless source m front stage at is)
-one_answer warnings sources checks suggests t source s z text other (program m s' text' front does) (faulty stage at is) = absurd (sources.faultless source m front stage at is)
-one_answer warnings sources checks suggests t source s z text other (program m s' text' front does) (program n z' other' also acts) =
-    one_done warnings checks suggests n t s' z' text' other' (subst (λ (k : Assignment). Does t k s' text') (sources.program source m n front also) does) acts
+one_answer warnings sources checks suggests t nothing source s z text other (faulty stage at is) (program m s' text' front does) = absurd (sources.faultless source m front stage at is)
+one_answer warnings sources checks suggests t nothing source s z text other (program m s' text' front does) (faulty stage at is) = absurd (sources.faultless source m front stage at is)
+one_answer warnings sources checks suggests t nothing source s z text other (program m s' text' front does) (program n z' other' also acts) =
+    one_done warnings checks suggests n t nothing s' z' text' other' (subst (λ (k : Assignment). Does t k s' text') (sources.program source m n front also) does) acts
 
 -- ---- the words
 
@@ -49,16 +51,56 @@ no_reader o none reads = false≢true (sym (ap is_some none) ∙ reads)
 of_usage : (words : List (List ℕ)) → commands words ≡ None → task_in (commands words) ≡ None
 of_usage words none = ap task_in none
 
+unbuilt_reads_none : (c : Command) → is_unbuilt c ≡ true → task_of c ≡ None
+unbuilt_reads_none Check e = absurd (false≢true e)
+unbuilt_reads_none Explain e = absurd (false≢true e)
+unbuilt_reads_none (Run workers granules events seed) e = absurd (false≢true e)
+unbuilt_reads_none (Load number workers) e = absurd (false≢true e)
+unbuilt_reads_none (Record workers granules events) e = refl
+unbuilt_reads_none Replay e = refl
+unbuilt_reads_none Audit e = absurd (false≢true e)
+
 of_unbuilt : (words : List (List ℕ)) → IsUnbuilt words → task_in (commands words) ≡ None
-of_unbuilt words is = ap task_in is.is ∙ is.other
+of_unbuilt words is = ap task_in is.is ∙ unbuilt_reads_none is.command is.unbuilt
 
 of_audit : (words : List (List ℕ)) → commands words ≡ Some Audit → task_in (commands words) ≡ None
 of_audit words is = ap task_in is
 
+of_load : (words : List (List ℕ)) (number workers : ℕ) → commands words ≡ Some (Load number workers) → task_in (commands words) ≡ None
+of_load words number workers is = ap task_in is
+
+same_command : (o : Option Command) (a b : Command) → o ≡ Some a → o ≡ Some b → a ≡ b
+same_command o a b is also = cc
+
 built_audit : (words : List (List ℕ)) → IsUnbuilt words → commands words ≡ Some Audit → ⊥
-built_audit words is audit =
-    let same : is.command ≡ Audit = let z : Some is.command ≡ Some Audit = sym is.is ∙ audit in cc in
-    false≢true (sym is.no_audit ∙ ap is_audit same)
+built_audit words is audit = false≢true (sym (ap is_unbuilt (same_command (commands words) is.command Audit is.is audit)) ∙ is.unbuilt)
+
+abbrev is_load : Command → Bool
+is_load (Load number workers) = true
+is_load _ = false
+
+load_audit : (words : List (List ℕ)) (number workers : ℕ) → commands words ≡ Some (Load number workers) → commands words ≡ Some Audit → ⊥
+load_audit words number workers is audit = false≢true (sym (ap is_load (same_command (commands words) (Load number workers) Audit is audit)))
+
+-- of words that run nothing
+no_load : (words : List (List ℕ)) (number workers : ℕ) → ¬ (MakesRun (commands words)) → commands words ≡ Some (Load number workers) → ⊥
+no_load words number workers nothing is = nothing (subst MakesRun (sym is) tt)
+
+some_task : (a b : Task) → Some a ≡ Some b → a ≡ b
+some_task a b e = cc
+
+no_task : (t : Task) → None ≡ Some t → ⊥
+no_task t e = cc
+
+runs_nothing : (o : Option Command) (t : Task) → ¬ (MakesRun o) → task_in o ≡ Some t → RunsNothing t
+runs_nothing None t nothing e = absurd (no_task t e)
+runs_nothing (Some Check) t nothing e = subst RunsNothing (some_task task.Check t e) tt
+runs_nothing (Some Explain) t nothing e = subst RunsNothing (some_task task.Explain t e) tt
+runs_nothing (Some (Run workers granules events seed)) t nothing e = absurd (nothing tt)
+runs_nothing (Some (Load number workers)) t nothing e = absurd (nothing tt)
+runs_nothing (Some (Record workers granules events)) t nothing e = absurd (no_task t e)
+runs_nothing (Some Replay) t nothing e = absurd (no_task t e)
+runs_nothing (Some Audit) t nothing e = absurd (no_task t e)
 
 not_long : (input : List ℕ) → source_limit < length input → length input ≤ source_limit → ⊥
 not_long input long short = omega (arith, long, short)
@@ -68,6 +110,7 @@ pub is_answer : (words : List (List ℕ)) (input : List ℕ) (t : Task) (s : Sta
 is_answer words input t s text asked within (usage none) = absurd (task_or_none (task_in (commands words)) t asked (of_usage words none))
 is_answer words input t s text asked within (unbuilt is) = absurd (task_or_none (task_in (commands words)) t asked (of_unbuilt words is))
 is_answer words input t s text asked within (too_long reads long) = absurd (not_long input long within)
+is_answer words input t s text asked within (loaded number workers z other is reply) = absurd (task_or_none (task_in (commands words)) t asked (of_load words number workers is))
 is_answer words input t s text asked within (audited z other is reply) = absurd (task_or_none (task_in (commands words)) t asked (of_audit words is))
 is_answer words input t s text asked within (answered u z other also short is) = subst (λ (k : Task). Answers k input z other) (same_task (task_in (commands words)) u t also asked) is
 
@@ -77,35 +120,40 @@ is_file_reply words input s text audit (usage none) = absurd (command_or_none (c
 is_file_reply words input s text audit (unbuilt is) = absurd (built_audit words is audit)
 is_file_reply words input s text audit (too_long reads long) = absurd (no_reader (task_in (commands words)) (of_audit words audit) reads)
 is_file_reply words input s text audit (answered t z other asked short is) = absurd (task_or_none (task_in (commands words)) t asked (of_audit words audit))
+is_file_reply words input s text audit (loaded number workers z other is reply) = absurd (load_audit words number workers is audit)
 is_file_reply words input s text audit (audited z other is reply) = reply
 
 abbrev pub FileRepliesAreOne : Type 0
 FileRepliesAreOne = (input : List ℕ) (s z : Status) (text other : List ℕ) → FileReplies input s text → FileReplies input z other → (s ≡ z) × (text ≡ other)
 
-module _ (answers : AnswersAreOne) (files : FileRepliesAreOne) (words : List (List ℕ)) (input : List ℕ) where
+module _ (answers : AnswersAreOne) (files : FileRepliesAreOne) (words : List (List ℕ)) (nothing : ¬ (MakesRun (commands words))) (input : List ℕ) where
   pub one_reply : (s z : Status) (text other : List ℕ) → Replies words input s text → Replies words input z other → (s ≡ z) × (text ≡ other)
   one_reply s z text other (usage none) (usage none') = (refl, refl)
   one_reply s z text other (usage none) (unbuilt is) = absurd (command_or_none (commands words) is.command is.is none)
   one_reply s z text other (usage none) (too_long reads long) = absurd (no_reader (task_in (commands words)) (of_usage words none) reads)
   one_reply s z text other (usage none) (answered t s' text' asked short is) = absurd (task_or_none (task_in (commands words)) t asked (of_usage words none))
   one_reply s z text other (usage none) (audited s' text' audit reply) = absurd (command_or_none (commands words) Audit audit none)
+  one_reply s z text other (usage none) (loaded number workers s' text' load reply) = absurd (no_load words number workers nothing load)
   one_reply s z text other (unbuilt is) (usage none) = absurd (command_or_none (commands words) is.command is.is none)
   one_reply s z text other (unbuilt is) (unbuilt is') = (refl, refl)
   one_reply s z text other (unbuilt is) (too_long reads long) = absurd (no_reader (task_in (commands words)) (of_unbuilt words is) reads)
   one_reply s z text other (unbuilt is) (answered t s' text' asked short has) = absurd (task_or_none (task_in (commands words)) t asked (of_unbuilt words is))
   one_reply s z text other (unbuilt is) (audited s' text' audit reply) = absurd (built_audit words is audit)
+  one_reply s z text other (unbuilt is) (loaded number workers s' text' load reply) = absurd (no_load words number workers nothing load)
   one_reply s z text other (too_long reads long) (usage none) = absurd (no_reader (task_in (commands words)) (of_usage words none) reads)
   one_reply s z text other (too_long reads long) (unbuilt is) = absurd (no_reader (task_in (commands words)) (of_unbuilt words is) reads)
   one_reply s z text other (too_long reads long) (too_long reads' long') = (refl, refl)
   one_reply s z text other (too_long reads long) (answered t s' text' asked short is) = absurd (not_long input long short)
   one_reply s z text other (too_long reads long) (audited s' text' audit reply) = absurd (no_reader (task_in (commands words)) (of_audit words audit) reads)
+  one_reply s z text other (too_long reads long) (loaded number workers s' text' load reply) = absurd (no_load words number workers nothing load)
+  one_reply s z text other (loaded number workers s' text' load reply) more = absurd (no_load words number workers nothing load)
   one_reply s z text other (audited s' text' audit reply) more = files input s' z text' other reply (is_file_reply words input z other audit more)
   one_reply s z text other (answered t s' text' asked short is) more =
-      answers t input s' z text' other is (is_answer words input t z other asked short more)
+      answers t (runs_nothing (commands words) t nothing asked) input s' z text' other is (is_answer words input t z other asked short more)
 
 -- of a source that tells its bytes
-pub one_told : AnswersAreOne → FileRepliesAreOne → (words : List (List ℕ)) (bytes : List ℕ) (s z : Status) (text other : List ℕ) → IsReply words (Some bytes) s text → IsReply words (Some bytes) z other → (s ≡ z) × (text ≡ other)
-one_told answers files words bytes s z text other a b =
-    one_reply answers files words bytes s z text other
+pub one_told : AnswersAreOne → FileRepliesAreOne → (words : List (List ℕ)) → ¬ (MakesRun (commands words)) → (bytes : List ℕ) (s z : Status) (text other : List ℕ) → IsReply words (Some bytes) s text → IsReply words (Some bytes) z other → (s ≡ z) × (text ≡ other)
+one_told answers files words nothing bytes s z text other a b =
+    one_reply answers files words nothing bytes s z text other
     (subst (λ (l : List ℕ). Replies words l s text) a.told a.reply)
     (subst (λ (l : List ℕ). Replies words l z other) b.told b.reply)

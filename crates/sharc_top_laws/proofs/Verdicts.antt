@@ -12,19 +12,12 @@ use Rattle.sharc_report.specs.Verdicts.{accepted_text, check_text}
 use Rattle.sharc_top.specs.declared.status.Status.{Status}
 use Rattle.sharc_top.specs.declared.task.Task.{Task}
 use Rattle.sharc_top.specs.declared.task.Task.TheVariants as task
-use Rattle.sharc_top.specs.Text.{numbers_text}
-use Rattle.sharc_top.specs.TreeSums.{program_values}
-use Rattle.sharc_top.specs.Verdict.{IsModeRefusal, Checks, accepted, refused, Explains, explained, Runs, not_run, printed, not_built, Does}
-use Rattle.sharc_top_laws.specs.Laws.{WarningsAreOne}
+use Rattle.sharc_top.specs.Refused.{IsModeRefusal}
+use Rattle.sharc_top.specs.Verdict.{Checks, accepted, refused, Explains, explained, Does}
+use Rattle.sharc_top_laws.specs.Laws.{WarningsAreOne, RunsNothing}
 
 one_answer : (laws : SuggestLaws) (m : Assignment) (errors : List ModeError) (x y : List Cast) → AreSuggested m errors x → AreSuggested m errors y → x ≡ y
 one_answer laws m errors x y a b = a.says ∙ sym (laws.each m errors y (λ e. cast_for a.casts e) (λ e. record { casts = a.casts; are = a.are; says = refl }) b)
-
-same_some : {A : Type 0} (o : Option A) (a b : A) → o ≡ Some a → o ≡ Some b → a ≡ b
-same_some o a b is also = cc
-
-some_or_none : {A : Type 0} (o : Option A) (a : A) → o ≡ Some a → o ≡ None → ⊥
-some_or_none o a is not = cc
 
 module _ (warnings : WarningsAreOne) (checks : CheckLaws) (suggests : SuggestLaws) (m : Assignment) where
   pub one_refusal : (text other : List ℕ) → IsModeRefusal m text → IsModeRefusal m other → text ≡ other
@@ -38,9 +31,9 @@ module _ (warnings : WarningsAreOne) (checks : CheckLaws) (suggests : SuggestLaw
       ∙ sym b.written
 
   one_check : (s z : Status) (text other : List ℕ) → Checks m s text → Checks m z other → (s ≡ z) × (text ≡ other)
-  one_check s z text other (accepted w well are) (accepted v also them) = (refl, ap (λ (l : List Warning). accepted_text m.typed l) (warnings m.typed w v are them))
-  one_check s z text other (accepted w well are) (refused t is) = absurd (is.not_well_moded well)
-  one_check s z text other (refused t is) (accepted w well are) = absurd (is.not_well_moded well)
+  one_check s z text other (accepted w meets are) (accepted v also them) = (refl, ap (λ (l : List Warning). accepted_text m.typed l) (warnings m.typed w v are them))
+  one_check s z text other (accepted w meets are) (refused t is) = absurd (is.breaks_rules meets)
+  one_check s z text other (refused t is) (accepted w meets are) = absurd (is.breaks_rules meets)
   one_check s z text other (refused t is) (refused u also) = (refl, one_refusal t u is also)
 
   one_explanation : (s z : Status) (text other : List ℕ) → Explains m s text → Explains m z other → (s ≡ z) × (text ≡ other)
@@ -48,18 +41,7 @@ module _ (warnings : WarningsAreOne) (checks : CheckLaws) (suggests : SuggestLaw
       let same = one_check x y t u is also in
       (same.0, ap (λ (l : List ℕ). explain_text m ++ l) same.1)
 
-  one_run : (s z : Status) (text other : List ℕ) → Runs m s text → Runs m z other → (s ≡ z) × (text ≡ other)
-  one_run s z text other (not_run t is) (not_run u also) = (refl, one_refusal t u is also)
-  one_run s z text other (not_run t is) (printed numbers well are) = absurd (is.not_well_moded well)
-  one_run s z text other (not_run t is) (not_built well none) = absurd (is.not_well_moded well)
-  one_run s z text other (printed numbers well are) (not_run u is) = absurd (is.not_well_moded well)
-  one_run s z text other (printed numbers well are) (printed others also them) = (refl, ap numbers_text (same_some (program_values m.typed.program) numbers others are them))
-  one_run s z text other (printed numbers well are) (not_built also none) = absurd (some_or_none (program_values m.typed.program) numbers are none)
-  one_run s z text other (not_built well none) (not_run u is) = absurd (is.not_well_moded well)
-  one_run s z text other (not_built well none) (printed numbers also are) = absurd (some_or_none (program_values m.typed.program) numbers are none)
-  one_run s z text other (not_built well none) (not_built also them) = (refl, refl)
-
-  pub one_done : (t : Task) (s z : Status) (text other : List ℕ) → Does t m s text → Does t m z other → (s ≡ z) × (text ≡ other)
-  one_done task.Check s z text other a b = one_check s z text other a b
-  one_done task.Explain s z text other a b = one_explanation s z text other a b
-  one_done task.Run s z text other a b = one_run s z text other a b
+  pub one_done : (t : Task) → RunsNothing t → (s z : Status) (text other : List ℕ) → Does t m s text → Does t m z other → (s ≡ z) × (text ≡ other)
+  one_done task.Check nothing s z text other a b = one_check s z text other a b
+  one_done task.Explain nothing s z text other a b = one_explanation s z text other a b
+  one_done (task.Run numbers) nothing s z text other a b = absurd nothing

@@ -1,13 +1,16 @@
--- What is one: the warnings of a program, what a source is, and the reply; and which reply it is where the source is a program.
-use Rattle.std.specs.Prelude.{◌≡◌, ℕ, ◌≤◌, List, ◌++◌, length, Option, Some}
+-- What is one: the warnings of a program, what a source is, and the reply, where nothing is run; and which reply it is where the source is a
+-- program.
+use Rattle.std.specs.Prelude.{◌≡◌, ℕ, ◌≤◌, List, ◌++◌, length, Option, Some, None}
 use Rattle.std.specs.Io.KnownBytes.{Appends}
 use Rattle.sharc_tree.specs.declared.token.FaultAt.{FaultAt}
 use Rattle.sharc_ctype.specs.Resolved.{Resolution}
 use Rattle.sharc_mode.specs.declared.error.Warning.{Warning}
 use Rattle.sharc_mode.specs.Moded.{Assignment}
-use Rattle.sharc_mode.specs.WellModed.{WellModed}
+use Rattle.sharc_mode_laws.specs.Rules.{MeetsRules}
 use Rattle.sharc_live.specs.Uses.{AreWarnings}
 use Rattle.sharc_cli.specs.Commands.{commands}
+use Rattle.sharc_cli.specs.declared.command.Command.{Command}
+use Rattle.sharc_cli.specs.declared.command.Command.TheVariants as command
 use Rattle.sharc_report.specs.Explanations.{explain_text}
 use Rattle.sharc_report.specs.Verdicts.{accepted_text}
 use Rattle.sharc_report.specs.declared.refusal.Stage.{Stage}
@@ -17,7 +20,8 @@ use Rattle.sharc_top.specs.declared.status.Status.TheVariants as status
 use Rattle.sharc_top.specs.declared.task.Task.{Task}
 use Rattle.sharc_top.specs.declared.task.Task.TheVariants as task
 use Rattle.sharc_top.specs.Limits.{source_limit}
-use Rattle.sharc_top.specs.Reply.{task_in, Answers, Replies, IsReply, Replied}
+use Rattle.sharc_top.specs.Answers.{Answers}
+use Rattle.sharc_top.specs.Reply.{task_in, Replies, IsReply, Replied}
 
 abbrev pub WarningsAreOne : Type 0
 WarningsAreOne = (r : Resolution) (a b : List Warning) → AreWarnings r a → AreWarnings r b → a ≡ b
@@ -43,17 +47,28 @@ pub record SourceLaws : Type 0 where
 
 -- ---- the reply
 
+-- a run may have several interleavings
+abbrev pub RunsNothing : Task → Type 0
+RunsNothing task.Check = Unit {0}
+RunsNothing task.Explain = Unit {0}
+RunsNothing (task.Run numbers) = ⊥
+
+abbrev pub MakesRun : Option Command → Type 0
+MakesRun (Some (command.Run workers granules events seed)) = Unit {0}
+MakesRun (Some (command.Load number workers)) = Unit {0}
+MakesRun _ = ⊥
+
 -- what is written for a source within the limit, and the status
 abbrev pub AnswersAreOne : Type 0
-AnswersAreOne = (t : Task) (source : List ℕ) (s z : Status) (text other : List ℕ) → Answers t source s text → Answers t source z other → (s ≡ z) × (text ≡ other)
+AnswersAreOne = (t : Task) → RunsNothing t → (source : List ℕ) (s z : Status) (text other : List ℕ) → Answers t source s text → Answers t source z other → (s ≡ z) × (text ≡ other)
 
--- for any words and any input
+-- for any words that run nothing and any input
 abbrev pub RepliesAreOne : Type 0
-RepliesAreOne = (words : List (List ℕ)) (input : List ℕ) (s z : Status) (text other : List ℕ) → Replies words input s text → Replies words input z other → (s ≡ z) × (text ≡ other)
+RepliesAreOne = (words : List (List ℕ)) → ¬ (MakesRun (commands words)) → (input : List ℕ) (s z : Status) (text other : List ℕ) → Replies words input s text → Replies words input z other → (s ≡ z) × (text ≡ other)
 
 -- and for a source that tells its bytes
 abbrev pub ReplyIsOne : Type 0
-ReplyIsOne = (words : List (List ℕ)) (bytes : List ℕ) (s z : Status) (text other : List ℕ) → IsReply words (Some bytes) s text → IsReply words (Some bytes) z other → (s ≡ z) × (text ≡ other)
+ReplyIsOne = (words : List (List ℕ)) → ¬ (MakesRun (commands words)) → (bytes : List ℕ) (s z : Status) (text other : List ℕ) → IsReply words (Some bytes) s text → IsReply words (Some bytes) z other → (s ≡ z) × (text ≡ other)
 
 pub record ReplyLaws : Type 0 where
   pub answers : AnswersAreOne
@@ -83,27 +98,27 @@ pub record IsExplanation (m : Assignment) (text : List ℕ) : Type 0 where
 -- where the modes are accepted no reply is another, whether it is written whole or in part
 abbrev pub ChecksAreOnly : Type 0
 ChecksAreOnly =
-    (words : List (List ℕ)) (input : List ℕ) (m : Assignment) → IsAsked words task.Check input m → WellModed m → (s : Status) (text : List ℕ) → IsReply words (Some input) s text → (s ≡ status.Done) × IsAcceptance m text
+    (words : List (List ℕ)) (input : List ℕ) (m : Assignment) → IsAsked words task.Check input m → MeetsRules m → (s : Status) (text : List ℕ) → IsReply words (Some input) s text → (s ≡ status.Done) × IsAcceptance m text
 
 abbrev pub ExplainsAreOnly : Type 0
 ExplainsAreOnly =
-    (words : List (List ℕ)) (input : List ℕ) (m : Assignment) → IsAsked words task.Explain input m → WellModed m → (s : Status) (text : List ℕ) → IsReply words (Some input) s text → (s ≡ status.Done) × IsExplanation m text
+    (words : List (List ℕ)) (input : List ℕ) (m : Assignment) → IsAsked words task.Explain input m → MeetsRules m → (s : Status) (text : List ℕ) → IsReply words (Some input) s text → (s ≡ status.Done) × IsExplanation m text
 
 -- so where it is written whole the exit status is 0
 abbrev pub ChecksAreTold : Type 0
 ChecksAreTold =
-    (words : List (List ℕ)) (input : List ℕ) (m : Assignment) → IsAsked words task.Check input m → WellModed m → (old new : Option (List ℕ)) (code : ℕ) → Replied words (Some input) old new code
+    (words : List (List ℕ)) (input : List ℕ) (m : Assignment) → IsAsked words task.Check input m → MeetsRules m → (old new : Option (List ℕ)) (code : ℕ) → Replied words (Some input) old new code
     → (code ≡ 0) × (text : List ℕ) × IsAcceptance m text × Appends old new text
 
 abbrev pub ExplainsAreTold : Type 0
 ExplainsAreTold =
-    (words : List (List ℕ)) (input : List ℕ) (m : Assignment) → IsAsked words task.Explain input m → WellModed m → (old new : Option (List ℕ)) (code : ℕ) → Replied words (Some input) old new code
+    (words : List (List ℕ)) (input : List ℕ) (m : Assignment) → IsAsked words task.Explain input m → MeetsRules m → (old new : Option (List ℕ)) (code : ℕ) → Replied words (Some input) old new code
     → (code ≡ 0) × (text : List ℕ) × IsExplanation m text × Appends old new text
 
 -- and where they are not it is 1, for `run` too
 abbrev pub OthersAreRefused : Type 0
 OthersAreRefused =
-    (words : List (List ℕ)) (t : Task) (input : List ℕ) (m : Assignment) → IsAsked words t input m → ¬ (WellModed m) → (old new : Option (List ℕ)) (code : ℕ) → Replied words (Some input) old new code → code ≡ 1
+    (words : List (List ℕ)) (t : Task) (input : List ℕ) (m : Assignment) → IsAsked words t input m → ¬ (MeetsRules m) → (old new : Option (List ℕ)) (code : ℕ) → Replied words (Some input) old new code → code ≡ 1
 
 pub record VerdictLaws : Type 0 where
   pub check_only : ChecksAreOnly

@@ -27,7 +27,7 @@ pub fn sources_are_one()
     least_is_one();
 }
 
-/// The words and the input have one reply: its status and its text are determined.
+/// Words that run nothing have, with the input, one reply: its status and its text are determined.
 pub fn replies_are_one()
     ensures { ReplyLaws }
 {

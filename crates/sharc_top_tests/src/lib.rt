@@ -8,4 +8,8 @@ mod cases;
 #[cfg(test)]
 mod edges;
 #[cfg(test)]
+mod gates;
+#[cfg(test)]
 mod outcome;
+#[cfg(test)]
+mod runs;

@@ -1,8 +1,11 @@
 //! What the top call answers over sources and sinks in memory.
 
 use sharc_io::{MemSink, MemSource, SureSink, SureSource};
+use sharc_rounds::Gate;
+use sharc_run::OpenGate;
 use sharc_top::sharc_top;
 use std::alloc::{AllocError, Global};
+use std::thread::Threads;
 
 /// The program that prints 6 * 7.
 pub(crate) const ANSWER: &str = "int main(void) { print(6 * 7); return 0; }";
@@ -26,17 +29,36 @@ fn words_of(alloc: Global, words: &[&str]) -> Result<Vec<String>, AllocError> {
 }
 
 /// The outcome of the call over an input that never fails, and a sink with so much room.
-pub(crate) fn answered(
+pub(crate) fn answered<R: Threads + Sync>(
+    rt: &R,
     alloc: Global,
     words: &[&str],
     input: &[u8],
     room: usize,
 ) -> Result<Outcome, AllocError> {
     let words = words_of(alloc, words)?;
-    outcome_of(alloc, &words, input, room)
+    outcome_of(rt, alloc, &words, input, room)
 }
 
-fn outcome_of(
+/// The outcome of the call under a gate, over an input that never fails, and a sink with so much room.
+pub(crate) fn gated<R: Threads + Sync, G: Gate + Sync>(
+    rt: &R,
+    gate: &G,
+    alloc: Global,
+    words: &[&str],
+    input: &[u8],
+    room: usize,
+) -> Result<Outcome, AllocError> {
+    let words = words_of(alloc, words)?;
+    let mut source = SureSource::new(input.to_vec(alloc)?);
+    let mut sink = SureSink::new(alloc, room)?;
+    let status = sharc_top(rt, gate, alloc, &words, &mut source, &mut sink);
+    let text = sink.bytes().to_vec(alloc)?;
+    Ok(Outcome { status, text })
+}
+
+fn outcome_of<R: Threads + Sync>(
+    rt: &R,
     alloc: Global,
     words: &[String],
     input: &[u8],
@@ -44,22 +66,27 @@ fn outcome_of(
 ) -> Result<Outcome, AllocError> {
     let mut source = SureSource::new(input.to_vec(alloc)?);
     let mut sink = SureSink::new(alloc, room)?;
-    let status = sharc_top(alloc, words, &mut source, &mut sink);
+    let status = sharc_top(rt, &OpenGate, alloc, words, &mut source, &mut sink);
     let text = sink.bytes().to_vec(alloc)?;
     Ok(Outcome { status, text })
 }
 
 /// The outcome for the words of a line, which are parted by single spaces, over the program that prints 42.
-pub(crate) fn answered_line(alloc: Global, line: &str) -> Result<Outcome, AllocError> {
+pub(crate) fn answered_line<R: Threads + Sync>(
+    rt: &R,
+    alloc: Global,
+    line: &str,
+) -> Result<Outcome, AllocError> {
     let mut words = Vec::new(alloc);
     for word in line.split(' ') {
         words.push(String::from_str(alloc, word)?)?;
     }
-    outcome_of(alloc, &words, ANSWER.as_bytes(), 200)
+    outcome_of(rt, alloc, &words, ANSWER.as_bytes(), 200)
 }
 
 /// The outcome of `run` where these calls of the source and of the sink fail.
-pub(crate) fn failing(
+pub(crate) fn failing<R: Threads + Sync>(
+    rt: &R,
     alloc: Global,
     source: &str,
     read_fails: &[u64],
@@ -68,7 +95,7 @@ pub(crate) fn failing(
     let words = words_of(alloc, &["run"])?;
     let mut source = MemSource::new(source.as_bytes().to_vec(alloc)?, read_fails.to_vec(alloc)?);
     let mut sink = MemSink::new(alloc, 100, write_fails.to_vec(alloc)?)?;
-    let status = sharc_top(alloc, &words, &mut source, &mut sink);
+    let status = sharc_top(rt, &OpenGate, alloc, &words, &mut source, &mut sink);
     let text = sink.bytes().to_vec(alloc)?;
     Ok(Outcome { status, text })
 }

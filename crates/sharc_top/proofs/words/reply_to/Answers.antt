@@ -1,7 +1,7 @@
 use Rattle.std.proofs.lemmas.Result.{IfOk-weaker}
-use Rattle.std.proofs.Common.{inr, ◌≡◌, None, Some, ap, sym, ◌∙◌, arith, length, Err, rules, refl}
+use Rattle.std.proofs.Common.{◌≡◌, None, Some, ap, sym, ◌∙◌, rules, refl, arith, map, string_bytes}
 use Rattle.sharc_top.specs.Reply.{task_in}
-use Rattle.sharc_top.proofs.Replies.{reply_usage, reply_unbuilt, reply_too_long, reply_answered, reply_audited, no_audit_is}
+use Rattle.sharc_top.proofs.Replies.{reply_usage, reply_unbuilt, reply_loaded, reply_audited}
 use Rattle.sharc_top.proofs.words.reply_to.Goals as goal
 
 pub returns-in_default-clause-reply : goal.returns-in_default-clause-reply
@@ -9,32 +9,36 @@ returns-in_default-clause-reply g c =
     let none : c.in_ok-command.field-0 ≡ None = search rules in
     reply_usage _ _ _ _ (sym c.in_ok-command.ensures ∙ none) c.in_ok-usage.ensures.0 c.in_ok-usage.ensures.1
 
-pub returns-in_default-task_of-clause-reply : goal.returns-in_default-task_of-clause-reply
-returns-in_default-task_of-clause-reply g c =
-    let none : c.task_of.result ≡ None = search rules in
-    reply_unbuilt _ _ _ _ c.in-Some.command (sym c.in_ok-command.ensures ∙ c.in-Some.is) (sym c.task_of.ensures ∙ none) (sym c.is_audit.ensures ∙ c.if-is_audit.false) c.in_ok-unbuilt.ensures.0 c.in_ok-unbuilt.ensures.1
+pub overflow_cast-number : goal.overflow_cast-number
+overflow_cast-number g c =
+    let within = rw c.in-Load.is at (c.numbers_are_within.ensures (map string_bytes c.args.words.now) c.in-Some.command (sym c.in_ok-command.ensures ∙ c.in-Some.is)) in
+    let most = within.numbered.most in omega (arith, most)
 
-pub returns-in_ok-reply-in-Ok-clause-reply : goal.returns-in_ok-reply-in-Ok-clause-reply
-returns-in_ok-reply-in-Ok-clause-reply g c =
-    reply_answered _ _ c.in-Some-task_of.task c.in-Ok.source.items _ _ (ap task_in (sym c.in_ok-command.ensures ∙ c.in-Some.is) ∙ sym c.task_of.ensures ∙ c.in-Some-task_of.is) c.in-Ok.ensures.all
-    (omega (arith, c.in-Ok.ensures.within, c.deref.ensures.len, ap length c.deref.ensures.value)) (rw c.deref.ensures.value at c.in_ok-reply-in-Ok.ensures)
+pub overflow_cast-workers : goal.overflow_cast-workers
+overflow_cast-workers g c =
+    let within = rw c.in-Load.is at (c.numbers_are_within.ensures (map string_bytes c.args.words.now) c.in-Some.command (sym c.in_ok-command.ensures ∙ c.in-Some.is)) in
+    let most = within.few_workers.most in omega (arith, most)
 
-pub returns-in_ok-refusal-in-Err-TooLong-clause-reply : goal.returns-in_ok-refusal-in-Err-TooLong-clause-reply
-returns-in_ok-refusal-in-Err-TooLong-clause-reply g c =
-    let is = ap task_in (sym c.in_ok-command.ensures ∙ c.in-Some.is) ∙ sym c.task_of.ensures ∙ c.in-Some-task_of.is in
-    reply_too_long _ _ _ _ (rw is refl) (c.in-Err-TooLong.ensures.longer (ap Err c.in-Err-TooLong.field-0-is)) c.in_ok-refusal-in-Err-TooLong.ensures.0 c.in_ok-refusal-in-Err-TooLong.ensures.1
+pub loaded-requires-clause-least : goal.loaded-requires-clause-least
+loaded-requires-clause-least g c = λ k h. (rw c.in-Load.is at (c.numbers_are_within.ensures (map string_bytes c.args.words.now) c.in-Some.command (sym c.in_ok-command.ensures ∙ c.in-Some.is))).numbered.least
 
-pub returns-then-is_audit-clause-reply : goal.returns-then-is_audit-clause-reply
-returns-then-is_audit-clause-reply g c =
-    let is = no_audit_is c.in-Some.command (sym c.is_audit.ensures ∙ c.if-is_audit.true) in
-    IfOk-weaker c.audited.result _ _ (λ reply told. reply_audited _ _ _ _ (sym c.in_ok-command.ensures ∙ c.in-Some.is ∙ ap Some is) told) c.audited.ensures.reply
+pub loaded-requires-clause-most : goal.loaded-requires-clause-most
+loaded-requires-clause-most g c = λ k h. (rw c.in-Load.is at (c.numbers_are_within.ensures (map string_bytes c.args.words.now) c.in-Some.command (sym c.in_ok-command.ensures ∙ c.in-Some.is))).numbered.most
 
-pub returns-then-is_audit-clause-command : goal.returns-then-is_audit-clause-command
-returns-then-is_audit-clause-command g c failed =
-    let is = no_audit_is c.in-Some.command (sym c.is_audit.ensures ∙ c.if-is_audit.true) in
-    inr (sym c.in_ok-command.ensures ∙ c.in-Some.is ∙ ap Some is)
+pub loaded-requires-clause-some_worker : goal.loaded-requires-clause-some_worker
+loaded-requires-clause-some_worker g c = λ k h. (rw c.in-Load.is at (c.numbers_are_within.ensures (map string_bytes c.args.words.now) c.in-Some.command (sym c.in_ok-command.ensures ∙ c.in-Some.is))).few_workers.least
 
-pub returns-then-is_audit-clause-unread : goal.returns-then-is_audit-clause-unread
-returns-then-is_audit-clause-unread g c none =
-    let is = no_audit_is c.in-Some.command (sym c.is_audit.ensures ∙ c.if-is_audit.true) in
-    absurd (none (inr (sym c.in_ok-command.ensures ∙ c.in-Some.is ∙ ap Some is)))
+pub loaded-requires-clause-few_workers : goal.loaded-requires-clause-few_workers
+loaded-requires-clause-few_workers g c = λ k h. (rw c.in-Load.is at (c.numbers_are_within.ensures (map string_bytes c.args.words.now) c.in-Some.command (sym c.in_ok-command.ensures ∙ c.in-Some.is))).few_workers.most
+
+pub returns-in-Audit-clause-reply : goal.returns-in-Audit-clause-reply
+returns-in-Audit-clause-reply g c =
+    IfOk-weaker c.audited.result _ _ (λ reply told. reply_audited _ _ _ _ (sym c.in_ok-command.ensures ∙ c.in-Some.is ∙ ap Some c.in-Audit.is) told) c.audited.ensures.reply
+
+pub returns-in_ok-reply-in-Load-clause-reply : goal.returns-in_ok-reply-in-Load-clause-reply
+returns-in_ok-reply-in-Load-clause-reply g c =
+    reply_loaded _ _ c.in-Load.number c.in-Load.workers _ _ (sym c.in_ok-command.ensures ∙ c.in-Some.is ∙ ap Some c.in-Load.is) c.in_ok-reply-in-Load.ensures
+
+pub returns-then-is_unbuilt-clause-reply : goal.returns-then-is_unbuilt-clause-reply
+returns-then-is_unbuilt-clause-reply g c =
+    reply_unbuilt _ _ _ _ c.in-Some.command (sym c.in_ok-command.ensures ∙ c.in-Some.is) (sym c.is_unbuilt.ensures ∙ c.if-is_unbuilt.true) c.in_ok-unbuilt.ensures.0 c.in_ok-unbuilt.ensures.1

@@ -9,6 +9,6 @@ returns c =
     let files : FileRepliesAreOne = λ input s z text other a b. one_file_reply (record { warnings = c.warnings_are_one.ensures; sources = c.sources_are_one.ensures; checks = c.check_laws.ensures; suggests = c.suggest_laws.ensures; files = c.file_laws.ensures; verdicts = c.audit_laws.ensures }) input s z text other a b in
     record {
       answers = answers;
-      replies = λ words input s z text other a b. one_reply answers files words input s z text other a b;
-      reply = λ words bytes s z text other a b. one_told answers files words bytes s z text other a b;
+      replies = λ words no input s z text other a b. one_reply answers files words no input s z text other a b;
+      reply = λ words no bytes s z text other a b. one_told answers files words no bytes s z text other a b;
     }
