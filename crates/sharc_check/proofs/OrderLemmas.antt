@@ -6,26 +6,29 @@ use Rattle.sharc_mode.specs.declared.error.ModeError.{ModeError}
 use Rattle.sharc_mode.specs.Laws.{ModeLaws}
 use Rattle.sharc_mode.specs.Moded.{Assignment}
 use Rattle.sharc_mode.specs.WellModed.{AreModeErrors, WellModed}
+use Rattle.sharc_mode_laws.specs.Laws.{RulesAreMet}
+use Rattle.sharc_mode_laws.specs.Rules.{MeetsRules}
 use Rattle.sharc_check.specs.Checks.{AreAll, IsRefused}
 
 empty_of_length : (l : List ModeError) → length l ≡ 0 → l ≡ []
 empty_of_length [] h = refl
 empty_of_length (e ∷ rest) h = grind arith
 
--- where none is listed, none arises
-pub well : (m : Assignment) (errors : List ModeError) → AreAll m errors → length errors ≡ 0 → WellModed m
-well m errors all none =
+-- where none is listed, none arises, and the rules are met
+pub met : (rules : RulesAreMet) (m : Assignment) (errors : List ModeError) → AreAll m errors → length errors ≡ 0 → MeetsRules m
+met rules m errors all none =
     let same = length_permutation all.found errors all.ordered.each_once in
-    subst (AreModeErrors m) (empty_of_length all.found (sym same ∙ none)) all.arise
+    let well : WellModed m = subst (AreModeErrors m) (empty_of_length all.found (sym same ∙ none)) all.arise in
+    (rules m).0 well
 
 -- where some are listed, the program is refused
-pub refused : (laws : ModeLaws) (m : Assignment) (errors : List ModeError) → AreAll m errors → (length errors ≡ 0 → ⊥) → IsRefused m errors
-refused laws m errors all some =
+pub refused : (rules : RulesAreMet) (laws : ModeLaws) (m : Assignment) (errors : List ModeError) → AreAll m errors → (length errors ≡ 0 → ⊥) → IsRefused m errors
+refused rules laws m errors all some =
     let same = length_permutation all.found errors all.ordered.each_once in
     record {
       all = all;
       some = λ h. some (ap length h);
-      not_well_moded = λ w. some (same ∙ ap length (laws.one m all.found [] all.arise w));
+      breaks_rules = λ meets. some (same ∙ ap length (laws.one m all.found [] all.arise ((rules m).1 meets)));
     }
 
 pub none_listed : (empty : Bool) (n : ℕ) → empty ≡ (n == 0) → empty ≡ true → n ≡ 0

@@ -4,9 +4,11 @@ use Rattle.std.specs.declared.result.Result.{Result}
 use Rattle.std.specs.declared.result.Result.TheVariants.{Ok, Err}
 use Rattle.sharc_mode.specs.declared.error.ModeError.{ModeError}
 use Rattle.sharc_mode.specs.Moded.{Assignment}
-use Rattle.sharc_mode.specs.WellModed.{AreModeErrors, WellModed}
+use Rattle.sharc_mode.specs.WellModed.{AreModeErrors}
+use Rattle.sharc_mode_laws.specs.Rules.{MeetsRules}
 use Rattle.sharc_check.specs.declared.answer.CheckFault.{CheckFault}
 use Rattle.sharc_check.specs.declared.answer.CheckFault.TheVariants.{Modes, Memory}
+use Rattle.sharc_check.specs.Named.{TellNamed}
 use Rattle.sharc_check.specs.Orders.{IsInOrder}
 
 -- all the cases that arise, each once, in order
@@ -15,14 +17,14 @@ pub record AreAll (m : Assignment) (errors : List ModeError) : Type 0 where
   pub arise : AreModeErrors m found
   pub ordered : IsInOrder found errors
 
--- there are some, and the program is not well-moded
+-- there are some, and the program does not meet the rules
 pub record IsRefused (m : Assignment) (errors : List ModeError) : Type 0 where
   pub all : AreAll m errors
   pub some : ¬ (errors ≡ [])
-  pub not_well_moded : ¬ (WellModed m)
+  pub breaks_rules : ¬ (MeetsRules m)
 
--- it is accepted or refused as it is, and in any case handed back
+-- it is accepted or refused as it is, and in any case handed back; with the errors comes which variables and globals lock paths name
 abbrev pub Checks : Assignment → Result Assignment CheckFault → Type 0
-Checks m (Ok c) = (c ≡ m) × WellModed m
-Checks m (Err (Modes back errors)) = (back ≡ m) × IsRefused m errors
+Checks m (Ok c) = (c ≡ m) × MeetsRules m
+Checks m (Err (Modes back errors named)) = (back ≡ m) × IsRefused m errors × TellNamed m named
 Checks m (Err (Memory back)) = back ≡ m

@@ -5,5 +5,4 @@ pub mod Named
 pub mod Orders
 pub mod Passed
 pub mod Settles
-pub mod Spawned
 pub mod Threads

@@ -1,31 +1,41 @@
 // Which variables and globals lock paths name.
 
-ghost use Rattle.std.specs.Prelude.{◌≡◌, IfOk};
-ghost use Rattle.sharc_check.specs.Named.{TellNamed, said_of_paths};
+ghost use Rattle.std.specs.Prelude.{◌≡◌, false, slice_index_or};
 
-use crate::settle::marks;
-use crate::statement::items;
-use crate::types::types;
-use sharc_mode::moded::Moded;
-use sharc_mode::note::Note;
-use std::alloc::{AllocError, Global};
+use std::marker::Model;
 
-/// What is said of types, expressions and statements.
-fn paths_said(alloc: Global, m: &Moded) -> Result<Vec<Note>, AllocError>
-    ensures { IfOk result (λ notes. notes.items ≡ said_of_paths m.now) }
-{
-    let mut notes = Vec::new(alloc);
-    types(alloc, m, &mut notes)?;
-    items(alloc, m, m.typed().program().items.as_slice(), &mut notes)?;
-    Ok(notes)
+/// Which variables and globals the lock paths of a program name. A contract sees it as a flag for each token that may declare one; there are none for
+/// the tokens past the last that is named.
+#[derive(Drop)]
+pub struct NamedVariables {
+    flags: Vec<bool>,
 }
 
-/// Which variables and globals the lock paths of a program name, those that are written, those that a call substitutes and those that a field makes: a flag for
-/// each token that may declare one, and none for the tokens past the last that is named.
-pub fn named_variables(alloc: Global, m: &Moded) -> Result<Vec<bool>, AllocError>
-    ensures { IfOk result (λ flags. TellNamed m.now flags.items) }
-{
-    let notes = paths_said(alloc, m)?;
-    let flags = marks(alloc, notes.as_slice())?;
-    Ok(flags)
+impl Model for NamedVariables {
+    ghost use Rattle.std.specs.Prelude.{List, Bool};
+
+    ghost Value = { List Bool };
+
+    ghost view = { λ v. v.flags.items };
+}
+
+impl NamedVariables {
+    /// Those with these flags.
+    pub(crate) fn of(flags: Vec<bool>) -> NamedVariables
+        ensures { result ≡ flags.items }
+    {
+        NamedVariables { flags }
+    }
+
+    /// Whether a lock path names the variable or the global that this token declares. It takes no memory and one step.
+    pub fn has(&self, token: u32) -> bool
+        ensures { result ≡ slice_index_or self.now token false }
+    {
+        let place = token as usize;
+        if place < self.flags.len() {
+            self.flags[place]
+        } else {
+            false
+        }
+    }
 }

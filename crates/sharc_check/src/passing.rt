@@ -1,6 +1,6 @@
 // What is passed at a call or a spawn, and to which parameters.
 
-ghost use Rattle.std.specs.Prelude.{◌≡◌};
+ghost use Rattle.std.specs.Prelude.{◌≡◌, drop};
 ghost use Rattle.sharc_ctype.specs.Transfers.{parameters_named};
 ghost use Rattle.sharc_mode.specs.Rows.{at_call, argument_use};
 ghost use Rattle.sharc_mode.specs.View.{view_reading};
@@ -27,11 +27,11 @@ pub struct Passing<'a> {
 }
 
 /// The parameters of what a name names.
-pub fn parameters_named(t: &Typed, named: Named) -> &[Declaration]
-    ensures { result.now ≡ parameters_named t.now named }
+pub fn parameters_named(typed: &Typed, named: Named) -> &[Declaration]
+    ensures { result.now ≡ parameters_named typed.now named }
 {
     match named {
-        Named::Function(number) => match t.function_at(number) {
+        Named::Function(number) => match typed.function_at(number) {
             None => &[],
             Some(function) => function.parameters.as_slice(),
         },
@@ -40,6 +40,16 @@ pub fn parameters_named(t: &Typed, named: Named) -> &[Declaration]
         Named::Variable(_) => &[],
         Named::Field(_) => &[],
         Named::Known => &[],
+    }
+}
+
+/// The parameters after the first that is left.
+pub fn without_first(left: &[Declaration]) -> &[Declaration]
+    ensures { result.now ≡ drop 1 left.now }
+{
+    match left {
+        [] => left,
+        [_, rest @ ..] => rest,
     }
 }
 
@@ -55,12 +65,12 @@ impl<'a> Passing<'a> {
     }
 
     /// What is passed for the parameter that this token declares, where it is a constant variable.
-    pub(crate) fn argument_use(self, t: &Typed, wanted: u32) -> Option<u32>
-        ensures { result ≡ argument_use t.now self.entry.parameters.now (view_passed self.entry.passed) wanted }
+    pub(crate) fn argument_use(self, typed: &Typed, wanted: u32) -> Option<u32>
+        ensures { result ≡ argument_use typed.now self.entry.parameters.now (view_passed self.entry.passed) wanted }
     {
         match self.passed {
-            Passed::All(arguments) => argument_use(t, self.parameters, arguments, wanted),
-            Passed::One(value) => spawn_argument_use(t, self.parameters, value, wanted),
+            Passed::All(arguments) => argument_use(typed, self.parameters, arguments, wanted),
+            Passed::One(value) => spawn_argument_use(typed, self.parameters, value, wanted),
         }
     }
 }

@@ -8,7 +8,7 @@ ghost use Rattle.sharc_mode.specs.Notes.{levels_of, private_notes, path_notes, m
 ghost use Rattle.sharc_mode.specs.WellFormed.{place_of, holds_private, first_unfit_path, first_unfit_mode};
 ghost use Rattle.sharc_check.specs.Levels.{is_shared_top, holds_below};
 
-use crate::say::{error, mismatch, name_in};
+use crate::rules::{error, mismatch, name_in};
 use sharc_ctype::entity::Numbered;
 use sharc_ctype::typed::Typed;
 use sharc_mode::cell::top_of;
@@ -50,15 +50,15 @@ fn is_shared_top(role: Role, levels: &[Option<Mode>]) -> bool
 }
 
 /// Whether a level that is not private stands directly above a private target.
-fn holds_private(m: &Moded, numbered: &Numbered) -> bool
-    requires { numbered.now.first + positions_of numbered.now.entity ≤ position_count m.now.typed }
-    ensures { result ≡ holds_private (levels_of m.now numbered.now) }
+fn holds_private(program: &Moded, numbered: &Numbered) -> bool
+    requires { numbered.now.first + positions_of numbered.now.entity ≤ position_count program.now.typed }
+    ensures { result ≡ holds_private (levels_of program.now numbered.now) }
 {
-    let _all = m.position_count();
+    let _all = program.position_count();
     let levels = numbered.entity.written.ctype.levels.as_slice();
     let mut above = is_shared_top(numbered.entity.role, levels);
     for i in 0..numbered.entity.positions() {
-        let private = is_private_mode(m.mode(numbered.first + i as u32));
+        let private = is_private_mode(program.mode(numbered.first + i as u32));
         if above && private {
             return true;
         }
@@ -70,16 +70,16 @@ fn holds_private(m: &Moded, numbered: &Numbered) -> bool
 /// M3
 fn private(
     alloc: Global,
-    m: &Moded,
+    program: &Moded,
     numbered: &Numbered,
     notes: &mut Vec<Note>,
 ) -> Result<(), AllocError>
-    requires { numbered.now.first + positions_of numbered.now.entity ≤ position_count m.now.typed }
-    ensures { OnOk result (notes.new.items ≡ notes.old.items ++ private_notes m.now numbered.now) }
+    requires { numbered.now.first + positions_of numbered.now.entity ≤ position_count program.now.typed }
+    ensures { OnOk result (notes.new.items ≡ notes.old.items ++ private_notes program.now numbered.now) }
 {
-    if holds_private(m, numbered) {
-        let expected = printed_type(alloc, m, numbered)?;
-        let found = printed_type(alloc, m, numbered)?;
+    if holds_private(program, numbered) {
+        let expected = printed_type(alloc, program, numbered)?;
+        let found = printed_type(alloc, program, numbered)?;
         let span = numbered.entity.written.span;
         notes.push(mismatch(alloc, 3, span, expected, found))?;
     }
@@ -89,16 +89,16 @@ fn private(
 /// M4
 fn path(
     alloc: Global,
-    t: &Typed,
+    typed: &Typed,
     numbered: &Numbered,
     notes: &mut Vec<Note>,
 ) -> Result<(), AllocError>
-    ensures { OnOk result (notes.new.items ≡ notes.old.items ++ path_notes numbered.now.entity.written.span (first_unfit_path t.now (place_of numbered.now.entity.role) numbered.now.entity.written.ctype.base numbered.now.entity.written.ctype.levels)) }
+    ensures { OnOk result (notes.new.items ≡ notes.old.items ++ path_notes numbered.now.entity.written.span (first_unfit_path typed.now (place_of numbered.now.entity.role) numbered.now.entity.written.ctype.base numbered.now.entity.written.ctype.levels)) }
 {
     let place = place_of(numbered.entity.role);
     let written = &numbered.entity.written;
     let levels = written.ctype.levels.as_slice();
-    match first_unfit_path(t, place, &written.ctype.base, levels) {
+    match first_unfit_path(typed, place, &written.ctype.base, levels) {
         None => Ok(()),
         Some(path) => {
             let text = path_text(alloc, path)?;
@@ -158,35 +158,39 @@ fn is_field(role: Role) -> bool
 /// M6
 fn private_field(
     alloc: Global,
-    t: &Typed,
+    typed: &Typed,
     numbered: &Numbered,
     notes: &mut Vec<Note>,
 ) -> Result<(), AllocError>
-    ensures { OnOk result (notes.new.items ≡ notes.old.items ++ private_field_notes t.now numbered.now) }
+    ensures { OnOk result (notes.new.items ≡ notes.old.items ++ private_field_notes typed.now numbered.now) }
 {
     let entity = &numbered.entity;
     if is_field(entity.role) && any_private(entity.written.ctype.levels.as_slice()) {
-        let name = Name::from_slice(alloc, text_at(t, entity.token))?;
+        let name = Name::from_slice(alloc, text_at(typed, entity.token))?;
         notes.push(error(alloc, 6, entity.written.span, name))?;
     }
     Ok(())
 }
 
-fn name_in_level(t: &Typed, level: &Option<Mode>, notes: &mut Vec<Note>) -> Result<(), AllocError>
-    ensures { OnOk result (notes.new.items ≡ notes.old.items ++ names_in_level t.now level.now) }
+fn name_in_level(
+    typed: &Typed,
+    level: &Option<Mode>,
+    notes: &mut Vec<Note>,
+) -> Result<(), AllocError>
+    ensures { OnOk result (notes.new.items ≡ notes.old.items ++ names_in_level typed.now level.now) }
 {
     match level {
         None => Ok(()),
-        Some(mode) => name_in(t, sharing_of(mode), notes),
+        Some(mode) => name_in(typed, sharing_of(mode), notes),
     }
 }
 
 /// The variables and globals that the paths of a type name.
-fn names(t: &Typed, levels: &[Option<Mode>], notes: &mut Vec<Note>) -> Result<(), AllocError>
-    ensures { OnOk result (notes.new.items ≡ notes.old.items ++ flat_map (names_in_level t.now) levels.now) }
+fn names(typed: &Typed, levels: &[Option<Mode>], notes: &mut Vec<Note>) -> Result<(), AllocError>
+    ensures { OnOk result (notes.new.items ≡ notes.old.items ++ flat_map (names_in_level typed.now) levels.now) }
 {
     for level in levels {
-        name_in_level(t, level, notes)?;
+        name_in_level(typed, level, notes)?;
     }
     Ok(())
 }
@@ -194,28 +198,32 @@ fn names(t: &Typed, levels: &[Option<Mode>], notes: &mut Vec<Note>) -> Result<()
 /// Says what is to be said of the type of an entity.
 fn type_said(
     alloc: Global,
-    m: &Moded,
+    program: &Moded,
     numbered: &Numbered,
     notes: &mut Vec<Note>,
 ) -> Result<(), AllocError>
-    requires { numbered.now.first + positions_of numbered.now.entity ≤ position_count m.now.typed }
-    ensures { OnOk result (notes.new.items ≡ notes.old.items ++ type_notes m.now numbered.now) }
+    requires { numbered.now.first + positions_of numbered.now.entity ≤ position_count program.now.typed }
+    ensures { OnOk result (notes.new.items ≡ notes.old.items ++ type_notes program.now numbered.now) }
 {
-    let t = m.typed();
-    private(alloc, m, numbered, notes)?;
-    path(alloc, t, numbered, notes)?;
+    let typed = program.typed();
+    private(alloc, program, numbered, notes)?;
+    path(alloc, typed, numbered, notes)?;
     mode(alloc, numbered, notes)?;
-    private_field(alloc, t, numbered, notes)?;
-    names(t, numbered.entity.written.ctype.levels.as_slice(), notes)
+    private_field(alloc, typed, numbered, notes)?;
+    names(
+        typed,
+        numbered.entity.written.ctype.levels.as_slice(),
+        notes,
+    )
 }
 
 /// Says what is to be said of all types.
-pub(crate) fn types(alloc: Global, m: &Moded, notes: &mut Vec<Note>) -> Result<(), AllocError>
-    ensures { OnOk result (notes.new.items ≡ notes.old.items ++ flat_map (type_notes m.now) (numbered (entities_in m.now.typed.program.items))) }
+pub(crate) fn types(alloc: Global, program: &Moded, notes: &mut Vec<Note>) -> Result<(), AllocError>
+    ensures { OnOk result (notes.new.items ≡ notes.old.items ++ flat_map (type_notes program.now) (numbered (entities_in program.now.typed.program.items))) }
 {
-    let t = m.typed();
-    for numbered in t.entities() {
-        type_said(alloc, m, numbered, notes)?;
+    let typed = program.typed();
+    for numbered in typed.entities() {
+        type_said(alloc, program, numbered, notes)?;
     }
     Ok(())
 }

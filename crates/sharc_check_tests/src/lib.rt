@@ -16,8 +16,6 @@ mod repaired;
 #[cfg(test)]
 mod rules;
 #[cfg(test)]
-mod single;
-#[cfg(test)]
 mod tables;
 #[cfg(test)]
 mod told;

@@ -34,6 +34,17 @@ int private * b = SCAST(int private *, a); }
 --
 accepted
 ==
+int dynamic * g(void) { return NULL; }
+void r(int dynamic * a) {
+int private * b = g();
+b = a;
+b = g(); }
+--
+input:4: M1 mode mismatch: expected int private *, found int dynamic *
+input:5: M1 mode mismatch: expected int private *, found int dynamic *
+input:5: suggest SCAST(int private *, a)
+input:6: M1 mode mismatch: expected int private *, found int dynamic *
+==
 void f(int dynamic * a) { }
 void r(int private * b) {
 f(b); }

@@ -1,41 +1,31 @@
 //! Sources with suggested casts written into their trees: the mismatch is gone, and all else is told as before.
 
 use crate::tables::{FILE, text_or_end};
-use crate::told::{Telling, Untold, judged, moded, types};
-use sharc_check::{CheckFault, check};
-use sharc_mode::error::ModeErrors;
+use crate::told::{Answer, Refusal, Telling, Untold, judged, moded, said, types};
 use sharc_mode::moded::Moded;
-use sharc_suggest::{apply, suggest_all};
+use sharc_suggest::apply;
 use std::alloc::{AllocError, Global};
 use std::process::Abort;
 use std::test::Fail;
 
 /// A program with the first cast that is suggested for its errors.
-fn first_applied(alloc: Global, m: &Moded, errors: &ModeErrors) -> Result<Moded, AllocError> {
-    let casts = suggest_all(alloc, m, errors)?;
-    let written = match casts.as_slice() {
-        [first, ..] => apply(alloc, m, first),
+fn first_applied(alloc: Global, refused: &Refusal) -> Result<Moded, AllocError> {
+    match refused.casts.as_slice() {
+        [first, ..] => apply(alloc, &refused.program, first),
         [] => Err(AllocError),
-    };
-    drop(casts);
-    written
+    }
 }
 
 /// The same, if a cast is suggested.
 fn with_a_cast(alloc: Global, m: Moded) -> Result<Moded, AllocError> {
-    match check(alloc, m) {
-        Ok(checked) => {
+    match said(alloc, m)? {
+        Answer::Accepted(checked) => {
             drop(checked);
             Err(AllocError)
         }
-        Err(CheckFault::Memory(m)) => {
-            drop(m);
-            Err(AllocError)
-        }
-        Err(CheckFault::Modes(m, errors)) => {
-            let written = first_applied(alloc, &m, &errors);
-            drop(m);
-            drop(errors);
+        Answer::Refused(refused) => {
+            let written = first_applied(alloc, &refused);
+            drop(refused);
             written
         }
     }

@@ -13,16 +13,16 @@ use std::alloc::AllocError;
 
 /// The source of `free` is nulled.
 fn on_place(
-    t: &Typed,
+    typed: &Typed,
     token: u32,
     call: PlaceCall,
     source: &Expr,
     steps: &mut Vec<Step>,
 ) -> Result<(), AllocError>
-    ensures { OnOk result (steps.new.items ≡ steps.old.items ++ listing (of_place_call call goes_on (nulls (variable_of t.now (view_expr source.now)) token))) }
+    ensures { OnOk result (steps.new.items ≡ steps.old.items ++ listing (of_place_call call goes_on (nulls (variable_of typed.now (view_expr source.now)) token))) }
 {
     match call {
-        PlaceCall::Free => nulls(variable_of(t, source), token, steps),
+        PlaceCall::Free => nulls(variable_of(typed, source), token, steps),
         PlaceCall::Lock => Ok(()),
         PlaceCall::Unlock => Ok(()),
     }
@@ -30,30 +30,34 @@ fn on_place(
 
 /// Adds the steps of a value.
 #[cycle(expression)]
-pub(crate) fn expression(t: &Typed, expr: &Expr, steps: &mut Vec<Step>) -> Result<(), AllocError>
-    ensures { OnOk result (steps.new.items ≡ steps.old.items ++ listing (flow t.now (view_expr expr.now))) }
+pub(crate) fn expression(
+    typed: &Typed,
+    expr: &Expr,
+    steps: &mut Vec<Step>,
+) -> Result<(), AllocError>
+    ensures { OnOk result (steps.new.items ≡ steps.old.items ++ listing (flow typed.now (view_expr expr.now))) }
 {
     match expr {
         Expr::Identifier(_, name) => {
             let token = name.site.token;
-            reads(variable_named(t.named(token)), token, steps)
+            reads(variable_named(typed.named(token)), token, steps)
         }
         Expr::Constant(_, _) => Ok(()),
-        Expr::Parentheses(_, inner) => expression(t, inner, steps),
-        Expr::Call(_, _, all) => arguments(t, all.as_slice(), steps),
-        Expr::Spawn(_, _, value) => expression(t, value, steps),
-        Expr::OnValue(_, _, value) => expression(t, value, steps),
+        Expr::Parentheses(_, inner) => expression(typed, inner, steps),
+        Expr::Call(_, _, all) => arguments(typed, all.as_slice(), steps),
+        Expr::Spawn(_, _, value) => expression(typed, value, steps),
+        Expr::OnValue(_, _, value) => expression(typed, value, steps),
         Expr::OnPlace(span, call, source) => {
-            place(t, source, steps)?;
-            on_place(t, span.first.token, *call, source, steps)
+            place(typed, source, steps)?;
+            on_place(typed, span.first.token, *call, source, steps)
         }
         Expr::Cast(span, _, source) => {
-            place(t, source, steps)?;
-            nulls(variable_of(t, source), span.first.token, steps)
+            place(typed, source, steps)?;
+            nulls(variable_of(typed, source), span.first.token, steps)
         }
         Expr::Index(_, base, index) => {
-            expression(t, base, steps)?;
-            expression(t, index, steps)
+            expression(typed, base, steps)?;
+            expression(typed, index, steps)
         }
         Expr::Field {
             span,
@@ -61,32 +65,32 @@ pub(crate) fn expression(t: &Typed, expr: &Expr, steps: &mut Vec<Step>) -> Resul
             access,
             ..
         } => {
-            field_base(t, *access, base, steps)?;
+            field_base(typed, *access, base, steps)?;
             reads(
-                through(*access, variable_of(t, base)),
+                through(*access, variable_of(typed, base)),
                 span.first.token,
                 steps,
             )
         }
-        Expr::Unary(_, _, operand) => expression(t, operand, steps),
+        Expr::Unary(_, _, operand) => expression(typed, operand, steps),
         Expr::Binary {
             operator,
             left,
             right,
             ..
         } => {
-            expression(t, left, steps)?;
-            right_operand(t, *operator, right, steps)
+            expression(typed, left, steps)?;
+            right_operand(typed, *operator, right, steps)
         }
     }
 }
 
 #[cycle(expression)]
-fn arguments(t: &Typed, all: &[Expr], steps: &mut Vec<Step>) -> Result<(), AllocError>
-    ensures { OnOk result (steps.new.items ≡ steps.old.items ++ listing (flow_all t.now (view_arguments all.now))) }
+fn arguments(typed: &Typed, all: &[Expr], steps: &mut Vec<Step>) -> Result<(), AllocError>
+    ensures { OnOk result (steps.new.items ≡ steps.old.items ++ listing (flow_all typed.now (view_arguments all.now))) }
 {
     for expr in all {
-        expression(t, expr, steps)?;
+        expression(typed, expr, steps)?;
     }
     Ok(())
 }
@@ -94,54 +98,54 @@ fn arguments(t: &Typed, all: &[Expr], steps: &mut Vec<Step>) -> Result<(), Alloc
 /// The right operand, which is evaluated or not by `&&` and `||`.
 #[cycle(expression)]
 fn right_operand(
-    t: &Typed,
+    typed: &Typed,
     operator: BinaryOperator,
     operand: &Expr,
     steps: &mut Vec<Step>,
 ) -> Result<(), AllocError>
-    ensures { OnOk result (steps.new.items ≡ steps.old.items ++ listing (of_operands operator goes_on (flow t.now (view_expr operand.now)))) }
+    ensures { OnOk result (steps.new.items ≡ steps.old.items ++ listing (of_operands operator goes_on (flow typed.now (view_expr operand.now)))) }
 {
     match operator {
         BinaryOperator::LogicalAnd | BinaryOperator::LogicalOr => {
             steps.push(Step::Fork)?;
             steps.push(Step::Other)?;
-            expression(t, operand, steps)?;
+            expression(typed, operand, steps)?;
             steps.push(Step::Join)?;
             Ok(())
         }
-        _ => expression(t, operand, steps),
+        _ => expression(typed, operand, steps),
     }
 }
 
 /// What stands before `.` is a place, before `->` a value.
 #[cycle(expression)]
 fn field_base(
-    t: &Typed,
+    typed: &Typed,
     access: Access,
     base: &Expr,
     steps: &mut Vec<Step>,
 ) -> Result<(), AllocError>
-    ensures { OnOk result (steps.new.items ≡ steps.old.items ++ listing (of_base access (place_flow t.now (view_expr base.now)) (flow t.now (view_expr base.now)))) }
+    ensures { OnOk result (steps.new.items ≡ steps.old.items ++ listing (of_base access (place_flow typed.now (view_expr base.now)) (flow typed.now (view_expr base.now)))) }
 {
     match access {
-        Access::Dot => place(t, base, steps),
-        Access::Arrow => expression(t, base, steps),
+        Access::Dot => place(typed, base, steps),
+        Access::Arrow => expression(typed, base, steps),
     }
 }
 
 /// Adds the steps by which the place that an lvalue names is found.
 #[cycle(expression)]
-pub(crate) fn place(t: &Typed, expr: &Expr, steps: &mut Vec<Step>) -> Result<(), AllocError>
-    ensures { OnOk result (steps.new.items ≡ steps.old.items ++ listing (place_flow t.now (view_expr expr.now))) }
+pub(crate) fn place(typed: &Typed, expr: &Expr, steps: &mut Vec<Step>) -> Result<(), AllocError>
+    ensures { OnOk result (steps.new.items ≡ steps.old.items ++ listing (place_flow typed.now (view_expr expr.now))) }
 {
     match expr {
-        Expr::Parentheses(_, inner) => place(t, inner, steps),
+        Expr::Parentheses(_, inner) => place(typed, inner, steps),
         Expr::Index(_, base, index) => {
-            expression(t, base, steps)?;
-            expression(t, index, steps)
+            expression(typed, base, steps)?;
+            expression(typed, index, steps)
         }
-        Expr::Field { base, access, .. } => field_base(t, *access, base, steps),
-        Expr::Unary(_, UnaryOperator::Dereference, operand) => expression(t, operand, steps),
+        Expr::Field { base, access, .. } => field_base(typed, *access, base, steps),
+        Expr::Unary(_, UnaryOperator::Dereference, operand) => expression(typed, operand, steps),
         _ => Ok(()),
     }
 }

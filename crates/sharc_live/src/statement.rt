@@ -16,34 +16,34 @@ use sharc_tree::tree::{
 };
 use std::alloc::{AllocError, Global};
 
-fn optional(t: &Typed, expr: &Option<Expr>, steps: &mut Vec<Step>) -> Result<(), AllocError>
-    ensures { OnOk result (steps.new.items ≡ steps.old.items ++ listing (of_option (flow t.now) (view_option view_expr expr.now))) }
+fn optional(typed: &Typed, expr: &Option<Expr>, steps: &mut Vec<Step>) -> Result<(), AllocError>
+    ensures { OnOk result (steps.new.items ≡ steps.old.items ++ listing (of_option (flow typed.now) (view_option view_expr expr.now))) }
 {
     match expr {
         None => Ok(()),
-        Some(expr) => expression(t, expr, steps),
+        Some(expr) => expression(typed, expr, steps),
     }
 }
 
-fn right(t: &Typed, right: &Right, steps: &mut Vec<Step>) -> Result<(), AllocError>
-    ensures { OnOk result (steps.new.items ≡ steps.old.items ++ listing (right_flow t.now (view_right right.now))) }
+fn right(typed: &Typed, right: &Right, steps: &mut Vec<Step>) -> Result<(), AllocError>
+    ensures { OnOk result (steps.new.items ≡ steps.old.items ++ listing (right_flow typed.now (view_right right.now))) }
 {
     match right {
-        Right::Value(expr) => expression(t, expr, steps),
-        Right::Malloc(_, count, _) => optional(t, count, steps),
+        Right::Value(expr) => expression(typed, expr, steps),
+        Right::Malloc(_, count, _) => optional(typed, count, steps),
     }
 }
 
-fn simple(t: &Typed, simple: &Simple, steps: &mut Vec<Step>) -> Result<(), AllocError>
-    ensures { OnOk result (steps.new.items ≡ steps.old.items ++ listing (simple_flow t.now (view_simple simple.now))) }
+fn simple(typed: &Typed, simple: &Simple, steps: &mut Vec<Step>) -> Result<(), AllocError>
+    ensures { OnOk result (steps.new.items ≡ steps.old.items ++ listing (simple_flow typed.now (view_simple simple.now))) }
 {
     match simple {
         Simple::Assign(_, left, value) => {
-            place(t, left, steps)?;
-            right(t, value, steps)?;
-            writes(variable_of(t, left), steps)
+            place(typed, left, steps)?;
+            right(typed, value, steps)?;
+            writes(variable_of(typed, left), steps)
         }
-        Simple::Call(call) => expression(t, call, steps),
+        Simple::Call(call) => expression(typed, call, steps),
     }
 }
 
@@ -54,47 +54,51 @@ fn declares(of: &Declaration, steps: &mut Vec<Step>) -> Result<(), AllocError>
     Ok(())
 }
 
-fn initial(t: &Typed, value: &Option<Right>, steps: &mut Vec<Step>) -> Result<(), AllocError>
-    ensures { OnOk result (steps.new.items ≡ steps.old.items ++ listing (of_option (right_flow t.now) (view_option view_right value.now))) }
+fn initial(typed: &Typed, value: &Option<Right>, steps: &mut Vec<Step>) -> Result<(), AllocError>
+    ensures { OnOk result (steps.new.items ≡ steps.old.items ++ listing (of_option (right_flow typed.now) (view_option view_right value.now))) }
 {
     match value {
         None => Ok(()),
-        Some(value) => right(t, value, steps),
+        Some(value) => right(typed, value, steps),
     }
 }
 
-fn local(t: &Typed, local: &Local, steps: &mut Vec<Step>) -> Result<(), AllocError>
-    ensures { OnOk result (steps.new.items ≡ steps.old.items ++ listing (local_flow t.now (view_local local.now))) }
+fn local(typed: &Typed, local: &Local, steps: &mut Vec<Step>) -> Result<(), AllocError>
+    ensures { OnOk result (steps.new.items ≡ steps.old.items ++ listing (local_flow typed.now (view_local local.now))) }
 {
     declares(&local.declaration, steps)?;
-    initial(t, &local.initial, steps)?;
+    initial(typed, &local.initial, steps)?;
     declares(&local.declaration, steps)
 }
 
-fn first(t: &Typed, first: &ForFirst, steps: &mut Vec<Step>) -> Result<(), AllocError>
-    ensures { OnOk result (steps.new.items ≡ steps.old.items ++ listing (first_flow t.now (view_first first.now))) }
+fn first(typed: &Typed, first: &ForFirst, steps: &mut Vec<Step>) -> Result<(), AllocError>
+    ensures { OnOk result (steps.new.items ≡ steps.old.items ++ listing (first_flow typed.now (view_first first.now))) }
 {
     match first {
         ForFirst::Nothing => Ok(()),
-        ForFirst::Declares(declared) => local(t, declared, steps),
-        ForFirst::Does(x) => simple(t, x, steps),
+        ForFirst::Declares(declared) => local(typed, declared, steps),
+        ForFirst::Does(x) => simple(typed, x, steps),
     }
 }
 
-fn step(t: &Typed, step: &Option<Simple>, steps: &mut Vec<Step>) -> Result<(), AllocError>
-    ensures { OnOk result (steps.new.items ≡ steps.old.items ++ listing (of_option (simple_flow t.now) (view_option view_simple step.now))) }
+fn step(typed: &Typed, step: &Option<Simple>, steps: &mut Vec<Step>) -> Result<(), AllocError>
+    ensures { OnOk result (steps.new.items ≡ steps.old.items ++ listing (of_option (simple_flow typed.now) (view_option view_simple step.now))) }
 {
     match step {
         None => Ok(()),
-        Some(x) => simple(t, x, steps),
+        Some(x) => simple(typed, x, steps),
     }
 }
 
-fn returned(t: &Typed, value: &Option<Box<Expr>>, steps: &mut Vec<Step>) -> Result<(), AllocError>
-    ensures { OnOk result (steps.new.items ≡ steps.old.items ++ listing (first_then (of_option (flow t.now) (view_option (λ b. view_expr b.value) value.now)) (goes_to Ends))) }
+fn returned(
+    typed: &Typed,
+    value: &Option<Box<Expr>>,
+    steps: &mut Vec<Step>,
+) -> Result<(), AllocError>
+    ensures { OnOk result (steps.new.items ≡ steps.old.items ++ listing (first_then (of_option (flow typed.now) (view_option (λ b. view_expr b.value) value.now)) (goes_to Ends))) }
 {
     if let Some(expr) = value {
-        expression(t, expr, steps)?;
+        expression(typed, expr, steps)?;
     }
     steps.push(Step::Return)?;
     Ok(())
@@ -121,8 +125,8 @@ fn ends_loop(steps: &mut Vec<Step>) -> Result<(), AllocError>
 }
 
 /// Begins a turn, with its test if there is one.
-fn begins_turn(t: &Typed, test: &Option<Expr>, steps: &mut Vec<Step>) -> Result<(), AllocError>
-    ensures { OnOk result (steps.new.items ≡ steps.old.items ++ turn_begins (test_flow t.now (view_option view_expr test.now))) }
+fn begins_turn(typed: &Typed, test: &Option<Expr>, steps: &mut Vec<Step>) -> Result<(), AllocError>
+    ensures { OnOk result (steps.new.items ≡ steps.old.items ++ turn_begins (test_flow typed.now (view_option view_expr test.now))) }
 {
     match test {
         None => {
@@ -130,7 +134,7 @@ fn begins_turn(t: &Typed, test: &Option<Expr>, steps: &mut Vec<Step>) -> Result<
             Ok(())
         }
         Some(test) => {
-            expression(t, test, steps)?;
+            expression(typed, test, steps)?;
             begins_body(steps)
         }
     }
@@ -160,20 +164,20 @@ fn jump(jump: Jump, steps: &mut Vec<Step>) -> Result<(), AllocError>
 }
 
 #[cycle(statement)]
-fn statement(t: &Typed, stmt: &Stmt, steps: &mut Vec<Step>) -> Result<(), AllocError>
-    ensures { OnOk result (steps.new.items ≡ steps.old.items ++ listing (statement_flow t.now (view_stmt stmt.now))) }
+fn statement(typed: &Typed, stmt: &Stmt, steps: &mut Vec<Step>) -> Result<(), AllocError>
+    ensures { OnOk result (steps.new.items ≡ steps.old.items ++ listing (statement_flow typed.now (view_stmt stmt.now))) }
 {
     match stmt {
         Stmt::Empty(_) => Ok(()),
-        Stmt::Block(_, all) => statements(t, all.as_slice(), steps),
-        Stmt::Declare(_, declared) => local(t, declared, steps),
-        Stmt::Simple(_, x) => simple(t, x, steps),
+        Stmt::Block(_, all) => statements(typed, all.as_slice(), steps),
+        Stmt::Declare(_, declared) => local(typed, declared, steps),
+        Stmt::Simple(_, x) => simple(typed, x, steps),
         Stmt::Jump(_, to) => jump(*to, steps),
-        Stmt::Return(_, value) => returned(t, value, steps),
+        Stmt::Return(_, value) => returned(typed, value, steps),
         Stmt::If(_, test, then) => {
-            expression(t, test, steps)?;
+            expression(typed, test, steps)?;
             steps.push(Step::Fork)?;
-            statement(t, then, steps)?;
+            statement(typed, then, steps)?;
             steps.push(Step::Other)?;
             steps.push(Step::Join)?;
             Ok(())
@@ -184,46 +188,51 @@ fn statement(t: &Typed, stmt: &Stmt, steps: &mut Vec<Step>) -> Result<(), AllocE
             otherwise,
             ..
         } => {
-            expression(t, test, steps)?;
+            expression(typed, test, steps)?;
             steps.push(Step::Fork)?;
-            statement(t, then, steps)?;
+            statement(typed, then, steps)?;
             steps.push(Step::Other)?;
-            statement(t, otherwise, steps)?;
+            statement(typed, otherwise, steps)?;
             steps.push(Step::Join)?;
             Ok(())
         }
         Stmt::While(_, test, body) => {
             steps.push(Step::Head)?;
-            expression(t, test, steps)?;
+            expression(typed, test, steps)?;
             begins_body(steps)?;
-            statement(t, body, steps)?;
+            statement(typed, body, steps)?;
             steps.push(Step::Caught)?;
             ends_loop(steps)
         }
-        Stmt::For(_, head, body) => for_loop(t, head, body, steps),
+        Stmt::For(_, head, body) => for_loop(typed, head, body, steps),
     }
 }
 
 #[cycle(statement)]
-fn for_loop(t: &Typed, head: &ForHead, body: &Stmt, steps: &mut Vec<Step>) -> Result<(), AllocError>
-    ensures { OnOk result (steps.new.items ≡ steps.old.items ++ listing (for_flow t.now (view_head head.now) (statement_flow t.now (view_stmt body.now)))) }
+fn for_loop(
+    typed: &Typed,
+    head: &ForHead,
+    body: &Stmt,
+    steps: &mut Vec<Step>,
+) -> Result<(), AllocError>
+    ensures { OnOk result (steps.new.items ≡ steps.old.items ++ listing (for_flow typed.now (view_head head.now) (statement_flow typed.now (view_stmt body.now)))) }
 {
-    first(t, &head.first, steps)?;
+    first(typed, &head.first, steps)?;
     steps.push(Step::Head)?;
-    begins_turn(t, &head.test, steps)?;
-    statement(t, body, steps)?;
+    begins_turn(typed, &head.test, steps)?;
+    statement(typed, body, steps)?;
     steps.push(Step::Caught)?;
-    step(t, &head.step, steps)?;
+    step(typed, &head.step, steps)?;
     ends_turn(&head.test, steps)?;
     Ok(())
 }
 
 #[cycle(statement)]
-fn statements(t: &Typed, all: &[Stmt], steps: &mut Vec<Step>) -> Result<(), AllocError>
-    ensures { OnOk result (steps.new.items ≡ steps.old.items ++ listing (statements_flow t.now (view_statements all.now))) }
+fn statements(typed: &Typed, all: &[Stmt], steps: &mut Vec<Step>) -> Result<(), AllocError>
+    ensures { OnOk result (steps.new.items ≡ steps.old.items ++ listing (statements_flow typed.now (view_statements all.now))) }
 {
     for stmt in all {
-        statement(t, stmt, steps)?;
+        statement(typed, stmt, steps)?;
     }
     Ok(())
 }
@@ -240,13 +249,13 @@ fn parameters(all: &[Declaration], steps: &mut Vec<Step>) -> Result<(), AllocErr
 /// The steps of a function: its parameters are written, and then its body begins.
 pub(crate) fn function(
     alloc: Global,
-    t: &Typed,
+    typed: &Typed,
     of: &FunctionDefinition,
 ) -> Result<Vec<Step>, AllocError>
-    ensures { IfOk result (λ v. v.items ≡ listing (function_flow t.now (view_function of.now))) }
+    ensures { IfOk result (λ v. v.items ≡ listing (function_flow typed.now (view_function of.now))) }
 {
     let mut steps = Vec::new(alloc);
     parameters(of.parameters.as_slice(), &mut steps)?;
-    statements(t, of.statements.as_slice(), &mut steps)?;
+    statements(typed, of.statements.as_slice(), &mut steps)?;
     Ok(steps)
 }

@@ -66,13 +66,13 @@ pub(crate) fn through(access: Access, variable: Option<u32>) -> Option<u32>
 }
 
 /// The local that an lvalue names, or has a part of.
-pub(crate) fn variable_of(t: &Typed, expr: &Expr) -> Option<u32>
-    ensures { result ≡ variable_of t.now (view_expr expr.now) }
+pub(crate) fn variable_of(typed: &Typed, expr: &Expr) -> Option<u32>
+    ensures { result ≡ variable_of typed.now (view_expr expr.now) }
 {
     match expr {
-        Expr::Identifier(_, name) => variable_named(t.named(name.site.token)),
-        Expr::Parentheses(_, inner) => variable_of(t, inner),
-        Expr::Field { base, access, .. } => through(*access, variable_of(t, base)),
+        Expr::Identifier(_, name) => variable_named(typed.named(name.site.token)),
+        Expr::Parentheses(_, inner) => variable_of(typed, inner),
+        Expr::Field { base, access, .. } => through(*access, variable_of(typed, base)),
         _ => None,
     }
 }

@@ -24,13 +24,13 @@ use std::alloc::{AllocError, Global};
 /// Adds the reads of nulled locals of a function.
 fn with_function(
     alloc: Global,
-    t: &Typed,
+    typed: &Typed,
     of: &FunctionDefinition,
     found: Vec<Found>,
 ) -> Result<Vec<Found>, AllocError>
-    ensures { IfOk result (λ v. AddsUses (function_flow t.now (view_function of.now)) found.items v.items) }
+    ensures { IfOk result (λ v. AddsUses (function_flow typed.now (view_function of.now)) found.items v.items) }
 {
-    let steps = function(alloc, t, of)?;
+    let steps = function(alloc, typed, of)?;
     let more = nulled_reads(alloc, steps.as_slice(), found)?;
     Ok(more)
 }
@@ -38,15 +38,15 @@ fn with_function(
 /// Adds those of an item, if it is a function.
 fn with_item(
     alloc: Global,
-    t: &Typed,
+    typed: &Typed,
     item: &Item,
     found: Vec<Found>,
 ) -> Result<Vec<Found>, AllocError>
-    ensures { IfOk result (λ v. AddsAll t.now (functions_in (view_items (item.now ∷ []))) found.items v.items) }
+    ensures { IfOk result (λ v. AddsAll typed.now (functions_in (view_items (item.now ∷ []))) found.items v.items) }
 {
     match item {
         Item::Function(definition) => {
-            let more = with_function(alloc, t, definition, found)?;
+            let more = with_function(alloc, typed, definition, found)?;
             Ok(more)
         }
         Item::Struct(_) => Ok(found),
@@ -55,21 +55,21 @@ fn with_item(
 }
 
 /// The reads of nulled locals of all functions.
-fn gathered(alloc: Global, t: &Typed, items: &[Item]) -> Result<Vec<Found>, AllocError>
-    ensures { IfOk result (λ v. AddsAll t.now (functions_in (view_items items.now)) [] v.items) }
+fn gathered(alloc: Global, typed: &Typed, items: &[Item]) -> Result<Vec<Found>, AllocError>
+    ensures { IfOk result (λ v. AddsAll typed.now (functions_in (view_items items.now)) [] v.items) }
 {
     let mut found = Vec::new(alloc);
     for item in items {
-        found = with_item(alloc, t, item, found)?;
+        found = with_item(alloc, typed, item, found)?;
     }
     Ok(found)
 }
 
 /// The place of a token; line 0 of the first file past the last one.
-fn site_at(t: &Typed, token: u32) -> Site
-    ensures { result ≡ site_at t.now token }
+fn site_at(typed: &Typed, token: u32) -> Site
+    ensures { result ≡ site_at typed.now token }
 {
-    let tokens = t.program().tokens.list.as_slice();
+    let tokens = typed.program().tokens.list.as_slice();
     let place = token as usize;
     if place < tokens.len() {
         Site {
@@ -86,23 +86,23 @@ fn site_at(t: &Typed, token: u32) -> Site
     }
 }
 
-fn warning_at(alloc: Global, t: &Typed, found: Found) -> Result<Warning, AllocError>
-    ensures { IfOk result (λ w. w ≡ warning_at t.now found) }
+fn warning_at(alloc: Global, typed: &Typed, found: Found) -> Result<Warning, AllocError>
+    ensures { IfOk result (λ w. w ≡ warning_at typed.now found) }
 {
-    let name = Name::from_slice(alloc, text_at(t, found.read))?;
+    let name = Name::from_slice(alloc, text_at(typed, found.read))?;
     Ok(Warning {
-        read: site_at(t, found.read),
-        nulled: site_at(t, found.since),
+        read: site_at(typed, found.read),
+        nulled: site_at(typed, found.since),
         name,
     })
 }
 
-fn told(alloc: Global, t: &Typed, found: &[Found]) -> Result<Vec<Warning>, AllocError>
-    ensures { IfOk result (λ v. v.items ≡ map (warning_at t.now) found.now) }
+fn told(alloc: Global, typed: &Typed, found: &[Found]) -> Result<Vec<Warning>, AllocError>
+    ensures { IfOk result (λ v. v.items ≡ map (warning_at typed.now) found.now) }
 {
     let mut list = Vec::new(alloc);
     for w in found {
-        list.push(warning_at(alloc, t, *w)?)?;
+        list.push(warning_at(alloc, typed, *w)?)?;
     }
     Ok(list)
 }
@@ -110,12 +110,12 @@ fn told(alloc: Global, t: &Typed, found: &[Found]) -> Result<Vec<Warning>, Alloc
 /// A warning for each read of a local to which some path in its function leads from a sharing cast or a `free` of that local with no write of it between, in the
 /// order of the reads; it names the first such cast or `free` of the source. Both ways of each test are open, and a declaration is a write both before and
 /// after its initialiser (own). It is refused for want of memory only.
-pub fn nulled_uses(alloc: Global, c: &Checked) -> Result<Warnings, AllocError>
-    ensures { IfOk result (λ w. AreWarnings c.now.typed w) }
+pub fn nulled_uses(alloc: Global, checked: &Checked) -> Result<Warnings, AllocError>
+    ensures { IfOk result (λ w. AreWarnings checked.now.typed w) }
 {
-    let t = c.moded().typed();
-    let found = gathered(alloc, t, t.program().items.as_slice())?;
+    let typed = checked.moded().typed();
+    let found = gathered(alloc, typed, typed.program().items.as_slice())?;
     let found = firsts(alloc, found)?;
-    let list = told(alloc, t, found.as_slice())?;
+    let list = told(alloc, typed, found.as_slice())?;
     Ok(Listed::of(list))
 }

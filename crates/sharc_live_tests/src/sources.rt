@@ -4,7 +4,6 @@ use sharc_check::{Checked, check};
 use sharc_ctype::typed::{Typed, type_program};
 use sharc_infer::infer;
 use sharc_lex::lex;
-use sharc_mode::moded::Moded;
 use sharc_parse::parse;
 use sharc_reach::reach;
 use std::process::Abort;
@@ -26,23 +25,17 @@ fn typed(rt: &(impl Abort + AllocGlobal), source: &str) -> Result<Typed, Fail> {
     }
 }
 
-/// The program of a source, with the modes that it is inferred to have.
-fn inferred(rt: &(impl Abort + AllocGlobal), source: &str) -> Result<Moded, Fail> {
+/// The accepted program of a source.
+pub(crate) fn checked(rt: &(impl Abort + AllocGlobal), source: &str) -> Result<Checked, Fail> {
     let typed = typed(rt, source)?;
     match reach(rt.alloc(), &typed) {
         Err(_) => panic!(rt; "no memory"),
         Ok(reached) => match infer(rt.alloc(), typed, &reached) {
-            Ok(moded) => Ok(moded),
             Err(_) => panic!(rt; "no memory"),
+            Ok(moded) => match check(rt.alloc(), moded, &reached) {
+                Ok(checked) => Ok(checked),
+                Err(_) => panic!(rt; "not accepted: {source}"),
+            },
         },
-    }
-}
-
-/// The accepted program of a source.
-pub(crate) fn checked(rt: &(impl Abort + AllocGlobal), source: &str) -> Result<Checked, Fail> {
-    let moded = inferred(rt, source)?;
-    match check(rt.alloc(), moded) {
-        Ok(checked) => Ok(checked),
-        Err(_) => panic!(rt; "not accepted: {source}"),
     }
 }

@@ -1,9 +1,15 @@
 -- A program is well-moded exactly where it meets the rules.
-use Rattle.std.specs.Prelude.{◌↔◌}
+use Rattle.std.specs.Prelude.{◌≡◌, ◌↔◌, ℕ, true}
+use Rattle.sharc_ctype.specs.Reaches.{Spawns}
+use Rattle.sharc_ctype.specs.Resolved.{Resolution}
 use Rattle.sharc_mode.specs.Moded.{Assignment}
-use Rattle.sharc_mode.specs.WellModed.{WellModed}
+use Rattle.sharc_mode.specs.WellModed.{WellModed, is_spawned}
 use Rattle.sharc_mode_laws.specs.Rules.{MeetsRules}
 
 -- of every program with a mode for each of its positions, or for some
 abbrev pub RulesAreMet : Type 0
 RulesAreMet = (m : Assignment) → WellModed m ↔ MeetsRules m
+
+-- a function passes the test of those that are spawned exactly where some function spawns it
+abbrev pub SpawnedAreTold : Type 0
+SpawnedAreTold = (r : Resolution) (k : ℕ) → (is_spawned r k ≡ true) ↔ ((n : ℕ) × Spawns r n k)

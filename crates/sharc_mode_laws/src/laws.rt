@@ -1,8 +1,13 @@
-// The law, the contract of a function that does nothing.
+// The laws, each the contract of a function that does nothing.
 
-ghost use Rattle.sharc_mode_laws.specs.Laws.{RulesAreMet};
+ghost use Rattle.sharc_mode_laws.specs.Laws.{RulesAreMet, SpawnedAreTold};
 
 /// A program is well-moded exactly where it meets the eleven rules.
 pub fn rules_are_met()
     ensures { RulesAreMet }
+{}
+
+/// A function passes the test of those that are spawned exactly where some function spawns it.
+pub fn spawned_are_told()
+    ensures { SpawnedAreTold }
 {}

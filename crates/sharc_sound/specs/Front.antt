@@ -8,11 +8,13 @@ use Rattle.sharc_grammar.specs.Places.{Reads}
 use Rattle.sharc_parse.specs.Programs as parser
 use Rattle.sharc_ctype.specs.Resolved.{Resolution, IsResolved}
 use Rattle.sharc_ctype.specs.Typings as typing
+use Rattle.sharc_reach.specs.Reaching.{AreReached}
 use Rattle.sharc_mode.specs.Flows.{IsLeastAssignment}
 use Rattle.sharc_mode.specs.Moded.{Assignment}
 use Rattle.sharc_report.specs.Refusals.{message_of}
 use Rattle.sharc_report.specs.declared.refusal.Stage.{Stage}
 use Rattle.sharc_report.specs.declared.refusal.Stage.TheVariants.{Lexer, Parser, Typing}
+use Rattle.sharc_sound.specs.declared.program.ReachedProgram.{ReachedProgram}
 use Rattle.sharc_sound.specs.declared.program.Refusal.{Refusal}
 use Rattle.sharc_sound.specs.declared.program.Refusal.TheVariants.{Source, Modes, Memory}
 
@@ -62,6 +64,7 @@ abbrev pub Types : List ℕ → Result Resolution Refusal → Type 0
 Types source (Ok r) = IsTypedFrom source r
 Types source (Err e) = IsRefusal source e
 
-abbrev pub Fronts : List ℕ → Result Assignment Refusal → Type 0
-Fronts source (Ok m) = IsFront source m
+-- with the program comes what threads reach in it
+abbrev pub Fronts : List ℕ → Result ReachedProgram Refusal → Type 0
+Fronts source (Ok found) = IsFront source found.program × AreReached found.program.typed found.reached
 Fronts source (Err e) = IsRefusal source e

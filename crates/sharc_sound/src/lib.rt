@@ -1,8 +1,8 @@
 //! The front end as one call: from the bytes of a source to a program with its modes.
 //!
-//! The layer above uses `front`. What it answers stands in specs/Front.antt, in terms of the grammars, of C typing and of the least assignment.
+//! The layer above uses `front`, `ReachedProgram` and `Refusal`. What it answers stands in specs/Front.antt, in terms of the grammars, of C typing and of the least assignment.
 #![tactic(auto)]
 
 mod program;
 
-pub use program::{Refusal, SourceFault, front};
+pub use program::{ReachedProgram, Refusal, SourceFault, front};

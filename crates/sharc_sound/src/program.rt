@@ -10,7 +10,7 @@ use sharc_lex::{LexFault, lex};
 use sharc_mode::error::ModeErrors;
 use sharc_mode::moded::Moded;
 use sharc_parse::{ParseFault, parse};
-use sharc_reach::reach;
+use sharc_reach::{Reached, reach};
 use sharc_report::Stage;
 use sharc_tree::token::FaultAt;
 use std::alloc::{AllocError, Global};
@@ -31,6 +31,13 @@ pub enum Refusal {
     Modes(Moded, ModeErrors),
     /// Memory was wanting.
     Memory,
+}
+
+/// A program with its modes, and what threads reach in it.
+#[derive(Drop)]
+pub struct ReachedProgram {
+    pub program: Moded,
+    pub reached: Reached,
 }
 
 /// The typed program of a source.
@@ -68,8 +75,9 @@ fn typed(alloc: Global, source: &[u8]) -> Result<Typed, Refusal>
     }
 }
 
-/// The program that a source is, with the least assignment of modes, or the first fault of the first stage that has one (own).
-pub fn front(alloc: Global, source: &[u8]) -> Result<Moded, Refusal>
+/// The program that a source is, with the least assignment of modes and with what threads reach in it, or the first fault of the first stage that has
+/// one (own).
+pub fn front(alloc: Global, source: &[u8]) -> Result<ReachedProgram, Refusal>
     requires { length source.now ≤ 1_048_576 }
     ensures { Fronts source.now result }
 {
@@ -78,7 +86,7 @@ pub fn front(alloc: Global, source: &[u8]) -> Result<Moded, Refusal>
         return Err(Refusal::Memory);
     };
     match infer(alloc, typed, &reached) {
-        Ok(moded) => Ok(moded),
+        Ok(program) => Ok(ReachedProgram { program, reached }),
         Err(_) => Err(Refusal::Memory),
     }
 }

@@ -26,10 +26,9 @@ call_suggested m named scope e s f list slice ps is slice_is ps_is =
     let A = λ (qs : List Declaration) (l : List Expr). casts_of_all m named scope qs (view_arguments l) qs (view_arguments l) in
     ap (A ps) slice_is ∙ ap (λ qs. A qs list) ps_is ∙ sym (ap (casts_of m named scope) is)
 
-pub casts_are : (m : Assignment) (flags slice : List Bool) (before after : List Cast) (items : List Item) → before ≡ [] → slice ≡ flags → items ≡ m.typed.program.items
-    → after ≡ before ++ items_casts m (told slice) items → after ≡ items_casts m (told flags) m.typed.program.items
-casts_are m flags slice before after items none slice_is items_is is =
-    is ∙ ap (λ c. c ++ items_casts m (told slice) items) none ∙ ap (λ l. items_casts m (told l) items) slice_is ∙ ap (items_casts m (told flags)) items_is
+pub casts_are : (m : Assignment) (flags : List Bool) (before after : List Cast) (items : List Item) → before ≡ [] → items ≡ m.typed.program.items
+    → after ≡ before ++ items_casts m (told flags) items → after ≡ items_casts m (told flags) m.typed.program.items
+casts_are m flags before after items none items_is is = is ∙ ap (λ c. c ++ items_casts m (told flags) items) none ∙ ap (items_casts m (told flags)) items_is
 
 row_is : (casts : List Cast) (rows : CastRows) → HasFirst casts rows → (e : ModeError) → row_for rows e ≡ cast_for casts e
 row_is casts rows first e = ap (λ o. cond (e.code == 1) o None) (first e.site.token)

@@ -3,34 +3,31 @@
 ghost use Rattle.std.specs.Prelude.{◌≡◌, ◌++◌, IfOk, OnOk};
 ghost use Rattle.std.specs.List.{flat_map};
 ghost use Rattle.std.specs.Option.{option_copied};
-ghost use Rattle.sharc_suggest.specs.Casts.{AreCasts, cast_at, cast_for, IsSuggested, AreSuggested, of_option};
+ghost use Rattle.sharc_check.specs.Named.{TellNamed};
+ghost use Rattle.sharc_suggest.specs.Casts.{AreCasts, cast_at, cast_for, AreSuggested, of_option};
 ghost use Rattle.sharc_suggest.specs.Firsts.{HasFirst, row_for};
 
 use crate::repair::Known;
 use crate::statement::items;
 use indexmap::IndexMap;
-use sharc_check::named::named_variables;
+use sharc_check::named::NamedVariables;
 use sharc_mode::error::{Cast, Casts, ModeError, ModeErrors};
 use sharc_mode::moded::Moded;
 use sharc_tree::listed::Listed;
 use std::alloc::{AllocError, Global};
 
 /// The casts that are suggested in a program, in source order.
-fn casts(alloc: Global, m: &Moded) -> Result<Vec<Cast>, AllocError>
-    ensures { IfOk result (λ casts. AreCasts m.now casts.items) }
+fn casts(alloc: Global, program: &Moded, named: &NamedVariables) -> Result<Vec<Cast>, AllocError>
+    requires { TellNamed program.now named.now }
+    ensures { IfOk result (λ casts. AreCasts program.now casts.items) }
 {
-    let named = named_variables(alloc, m)?;
     let known = Known {
-        moded: m,
-        named: named.as_slice(),
+        moded: program,
+        named,
     };
+    let tree = program.typed().program();
     let mut casts = Vec::new(alloc);
-    items(
-        alloc,
-        known,
-        m.typed().program().items.as_slice(),
-        &mut casts,
-    )?;
+    items(alloc, known, tree.items.as_slice(), &mut casts)?;
     Ok(casts)
 }
 
@@ -62,13 +59,13 @@ fn copy_cast(alloc: Global, cast: &Cast) -> Result<Cast, AllocError>
 }
 
 /// The cast for an error, if one is suggested.
-fn found<'a>(first: &IndexMap<u32, &'a Cast>, e: &ModeError) -> Option<&'a Cast>
-    ensures { option_copied result ≡ row_for first.now.entries e.now }
+fn found<'a>(first: &IndexMap<u32, &'a Cast>, error: &ModeError) -> Option<&'a Cast>
+    ensures { option_copied result ≡ row_for first.now.entries error.now }
 {
-    if e.code != 1 {
+    if error.code != 1 {
         return None;
     }
-    match first.get(&e.site.token) {
+    match first.get(&error.site.token) {
         None => None,
         Some(cast) => Some(*cast),
     }
@@ -78,12 +75,12 @@ fn found<'a>(first: &IndexMap<u32, &'a Cast>, e: &ModeError) -> Option<&'a Cast>
 fn add(
     alloc: Global,
     first: &IndexMap<u32, &Cast>,
-    e: &ModeError,
+    error: &ModeError,
     answer: &mut Vec<Cast>,
 ) -> Result<(), AllocError>
-    ensures { OnOk result (answer.new.items ≡ answer.old.items ++ of_option (row_for first.now.entries e.now)) }
+    ensures { OnOk result (answer.new.items ≡ answer.old.items ++ of_option (row_for first.now.entries error.now)) }
 {
-    if let Some(cast) = found(first, e) {
+    if let Some(cast) = found(first, error) {
         answer.push(copy_cast(alloc, cast)?)?;
     }
     Ok(())
@@ -98,30 +95,25 @@ fn all_found(
     ensures { IfOk result (λ answer. answer.items ≡ flat_map (λ e. of_option (row_for first.now.entries e)) errors.now) }
 {
     let mut answer = Vec::new(alloc);
-    for e in errors {
-        add(alloc, first, e, &mut answer)?;
+    for error in errors {
+        add(alloc, first, error, &mut answer)?;
     }
     Ok(answer)
 }
 
-/// The casts that are suggested for errors of a program, at most one for each and in their order. It takes one pass over the program.
-pub fn suggest_all(alloc: Global, m: &Moded, errors: &ModeErrors) -> Result<Casts, AllocError>
-    ensures { IfOk result (λ answer. AreSuggested m.now errors.now answer) }
+/// The casts that are suggested for errors of a program, at most one for each and in their order. It takes one pass over the program. `named` is what
+/// `check` answers beside the errors.
+pub fn suggest_all(
+    alloc: Global,
+    program: &Moded,
+    named: &NamedVariables,
+    errors: &ModeErrors,
+) -> Result<Casts, AllocError>
+    requires { TellNamed program.now named.now }
+    ensures { IfOk result (λ answer. AreSuggested program.now errors.now answer) }
 {
-    let casts = casts(alloc, m)?;
+    let casts = casts(alloc, program, named)?;
     let first = by_token(alloc, casts.as_slice())?;
     let answer = all_found(alloc, &first, errors.as_slice())?;
     Ok(Listed::of(answer))
-}
-
-/// The cast that is suggested for an error of a program, if one is. It takes a pass over the program: for many errors there is `suggest_all`.
-pub fn suggest(alloc: Global, m: &Moded, e: &ModeError) -> Result<Option<Cast>, AllocError>
-    ensures { IfOk result (λ answer. IsSuggested m.now e.now answer) }
-{
-    let casts = casts(alloc, m)?;
-    let first = by_token(alloc, casts.as_slice())?;
-    match found(&first, e) {
-        None => Ok(None),
-        Some(cast) => Ok(Some(copy_cast(alloc, cast)?)),
-    }
 }

@@ -40,14 +40,14 @@ fn base_site(types: &[Numbered], base: &Base, site: Site) -> Site
     site
 }
 
-fn recast_of(alloc: Global, t: &Typed, c: &Cast) -> Result<Recast, AllocError>
-    ensures { IfOk result (λ r. r ≡ recast_of t.now c.now) }
+fn recast_of(alloc: Global, typed: &Typed, cast: &Cast) -> Result<Recast, AllocError>
+    ensures { IfOk result (λ r. r ≡ recast_of typed.now cast.now) }
 {
-    let base = base_site(t.entities(), &c.to.base, c.site);
-    let to = c.to.copy(alloc)?;
+    let base = base_site(typed.entities(), &cast.to.base, cast.site);
+    let to = cast.to.copy(alloc)?;
     Ok(Recast {
-        from: c.from,
-        until: c.until,
+        from: cast.from,
+        until: cast.until,
         base,
         to,
     })
@@ -87,68 +87,73 @@ fn typed_again(alloc: Global, program: Program) -> Result<Typed, AllocError>
         return Err(AllocError);
     }
     match type_program(alloc, program) {
-        Ok(t) => {
-            t.program();
-            Ok(t)
+        Ok(typed) => {
+            typed.program();
+            Ok(typed)
         }
         Err(_) => Err(AllocError),
     }
 }
 
-fn typed_with(alloc: Global, t: &Typed, c: &Cast) -> Result<Typed, AllocError>
-    ensures { IfOk result (λ new. new ≡ resolution_with c.now t.now) }
+fn typed_with(alloc: Global, typed: &Typed, cast: &Cast) -> Result<Typed, AllocError>
+    ensures { IfOk result (λ new. new ≡ resolution_with cast.now typed.now) }
 {
-    let recast = recast_of(alloc, t, c)?;
-    let program = recast.program(alloc, t.program())?;
+    let recast = recast_of(alloc, typed, cast)?;
+    let program = recast.program(alloc, typed.program())?;
     typed_again(alloc, program)
 }
 
 /// The number of the first position of the cast at these tokens.
-fn first_of(t: &Typed, from: u32, until: u32) -> u32
-    ensures { result ≡ first_of (entity_at t.now from until) }
+fn first_of(typed: &Typed, from: u32, until: u32) -> u32
+    ensures { result ≡ first_of (entity_at typed.now from until) }
 {
-    match t.entity_at(from, until) {
+    match typed.entity_at(from, until) {
         None => 0,
         Some(numbered) => numbered.first,
     }
 }
 
 /// The modes of a program, in their order.
-fn modes_of(alloc: Global, m: &Moded) -> Result<Vec<Mode>, AllocError>
-    ensures { IfOk result (λ list. list.items ≡ m.now.modes) }
+fn modes_of(alloc: Global, program: &Moded) -> Result<Vec<Mode>, AllocError>
+    ensures { IfOk result (λ list. list.items ≡ program.now.modes) }
 {
-    let count = m.position_count();
+    let count = program.position_count();
     let mut list = Vec::new(alloc);
     for position in 0..count {
-        list.push(m.mode(position).copy(alloc)?)?;
+        list.push(program.mode(position).copy(alloc)?)?;
     }
     Ok(list)
 }
 
 /// The reasons of a program, in their order.
-fn reasons_of(alloc: Global, m: &Moded) -> Result<Vec<Option<Reason>>, AllocError>
-    ensures { IfOk result (λ list. list.items ≡ m.now.reasons) }
+fn reasons_of(alloc: Global, program: &Moded) -> Result<Vec<Option<Reason>>, AllocError>
+    ensures { IfOk result (λ list. list.items ≡ program.now.reasons) }
 {
-    let count = m.position_count();
+    let count = program.position_count();
     let mut list = Vec::new(alloc);
     for position in 0..count {
-        list.push(m.reason(position))?;
+        list.push(program.reason(position))?;
     }
     Ok(list)
 }
 
 /// The modes with those of the cast's targets among them.
-fn new_modes(alloc: Global, m: &Moded, c: &Cast, first: u32) -> Result<Vec<Mode>, AllocError>
-    ensures { IfOk result (λ list. list.items ≡ inserted first (targets c.now.to.levels) m.now.modes) }
+fn new_modes(
+    alloc: Global,
+    program: &Moded,
+    cast: &Cast,
+    first: u32,
+) -> Result<Vec<Mode>, AllocError>
+    ensures { IfOk result (λ list. list.items ≡ inserted first (targets cast.now.to.levels) program.now.modes) }
 {
-    let modes = modes_of(alloc, m)?;
+    let modes = modes_of(alloc, program)?;
     if first as usize > modes.len() {
         return Err(AllocError);
     }
     modes_with(
         alloc,
         first as usize,
-        c.to.levels.as_slice(),
+        cast.to.levels.as_slice(),
         modes.as_slice(),
     )
 }
@@ -156,13 +161,13 @@ fn new_modes(alloc: Global, m: &Moded, c: &Cast, first: u32) -> Result<Vec<Mode>
 /// The reasons with room for the cast's targets among them.
 fn new_reasons(
     alloc: Global,
-    m: &Moded,
+    program: &Moded,
     first: u32,
     count: u32,
 ) -> Result<Vec<Option<Reason>>, AllocError>
-    ensures { IfOk result (λ list. list.items ≡ map (moved first count) (inserted first (replicate count None) m.now.reasons)) }
+    ensures { IfOk result (λ list. list.items ≡ map (moved first count) (inserted first (replicate count None) program.now.reasons)) }
 {
-    let reasons = reasons_of(alloc, m)?;
+    let reasons = reasons_of(alloc, program)?;
     if first as usize > reasons.len() {
         return Err(AllocError);
     }
@@ -188,37 +193,42 @@ fn assigned(
 /// The modes and the reasons, where the cast's first position has this number.
 fn parts(
     alloc: Global,
-    m: &Moded,
-    c: &Cast,
+    program: &Moded,
+    cast: &Cast,
     first: u32,
 ) -> Result<(Vec<Mode>, Vec<Option<Reason>>), AllocError>
-    ensures modes { IfOk result (λ p. p.0.items ≡ inserted first (targets c.now.to.levels) m.now.modes) }
-    ensures reasons { IfOk result (λ p. p.1.items ≡ map (moved first (length (targets c.now.to.levels))) (inserted first (replicate (length (targets c.now.to.levels)) None) m.now.reasons)) }
+    ensures modes { IfOk result (λ p. p.0.items ≡ inserted first (targets cast.now.to.levels) program.now.modes) }
+    ensures reasons { IfOk result (λ p. p.1.items ≡ map (moved first (length (targets cast.now.to.levels))) (inserted first (replicate (length (targets cast.now.to.levels)) None) program.now.reasons)) }
 {
-    let count = below(c.to.levels.as_slice()).len();
+    let count = below(cast.to.levels.as_slice()).len();
     if count > u32::MAX as usize {
         return Err(AllocError);
     }
-    let reasons = new_reasons(alloc, m, first, count as u32)?;
-    let modes = new_modes(alloc, m, c, first)?;
+    let reasons = new_reasons(alloc, program, first, count as u32)?;
+    let modes = new_modes(alloc, program, cast, first)?;
     Ok((modes, reasons))
 }
 
-fn moded_with(alloc: Global, m: &Moded, c: &Cast, typed: Typed) -> Result<Moded, AllocError>
-    requires { typed ≡ resolution_with c.now m.now.typed }
-    ensures { IfOk result (λ new. new ≡ assignment_with c.now m.now) }
+fn moded_with(
+    alloc: Global,
+    program: &Moded,
+    cast: &Cast,
+    typed: Typed,
+) -> Result<Moded, AllocError>
+    requires { typed ≡ resolution_with cast.now program.now.typed }
+    ensures { IfOk result (λ new. new ≡ assignment_with cast.now program.now) }
 {
-    let first = first_of(&typed, c.from, c.until);
-    let (modes, reasons) = parts(alloc, m, c, first)?;
+    let first = first_of(&typed, cast.from, cast.until);
+    let (modes, reasons) = parts(alloc, program, cast, first)?;
     assigned(typed, modes, reasons)
 }
 
 /// The program with the cast written round the expression that has its tokens, wherever that is passed, assigned or returned, or initialises a local. The modes of all old
 /// positions are kept, and those of the new cast are the modes of its type. No token is added. Nothing is asked of the cast. Where it is none that is suggested, the program
 /// may be one that is not typed: then want of memory is the answer, too.
-pub fn apply(alloc: Global, m: &Moded, c: &Cast) -> Result<Moded, AllocError>
-    ensures { IfOk result (λ new. new ≡ assignment_with c.now m.now) }
+pub fn apply(alloc: Global, program: &Moded, cast: &Cast) -> Result<Moded, AllocError>
+    ensures { IfOk result (λ new. new ≡ assignment_with cast.now program.now) }
 {
-    let typed = typed_with(alloc, m.typed(), c)?;
-    moded_with(alloc, m, c, typed)
+    let typed = typed_with(alloc, program.typed(), cast)?;
+    moded_with(alloc, program, cast, typed)
 }

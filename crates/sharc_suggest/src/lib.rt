@@ -1,7 +1,6 @@
 //! Sharing casts that repair a mismatch of modes: which M1 of a program has one, and what it is.
 //!
-//! The layer above may use `suggest`, `suggest_all` and `apply`. What is answered is `IsSuggested` and `AreSuggested` of specs/Casts.antt, and `assignment_with` of
-//! specs/Applied.antt.
+//! The layer above may use `suggest_all` and `apply`. What is answered is `AreSuggested` of specs/Casts.antt, and `assignment_with` of specs/Applied.antt.
 #![tactic(auto)]
 
 mod answer;
@@ -12,5 +11,5 @@ mod modes;
 mod repair;
 mod statement;
 
-pub use answer::{suggest, suggest_all};
+pub use answer::suggest_all;
 pub use applied::apply;

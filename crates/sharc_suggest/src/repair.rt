@@ -5,17 +5,18 @@ ghost use Rattle.std.specs.Option.{option_map};
 ghost use Rattle.sharc_tree.specs.View.{view_expr};
 ghost use Rattle.sharc_names.specs.View.{view_bounds};
 ghost use Rattle.sharc_mode.specs.Moded.{position_count};
-ghost use Rattle.sharc_mode.specs.Notes.{taken_variable};
 ghost use Rattle.sharc_mode.specs.Rows.{modes_of};
 ghost use Rattle.sharc_mode.specs.View.{view_row, view_rows, view_sharing, EndsWithin};
 ghost use Rattle.sharc_suggest.specs.Repairs.{differ_first, is_free, may_be_cast, told, keeps_named, keeps, keeps_all, cast_to, is_repairable, repair};
 
+use sharc_check::named::NamedVariables;
+use sharc_check::rules::taken_variable;
 use sharc_ctype::typed::Typed;
 use sharc_mode::cell::{cell_of, pointed};
 use sharc_mode::error::Cast;
 use sharc_mode::moded::Moded;
 use sharc_mode::row::{Row, row_of};
-use sharc_mode::sharing::{Sharing, is_readonly, object_named};
+use sharc_mode::sharing::{Sharing, is_readonly};
 use sharc_mode::shown::{root_of_kind, row_laws, same_rows, shown};
 use sharc_mode::text::text_at;
 use sharc_names::fault::Named;
@@ -24,47 +25,35 @@ use sharc_names::names::Names;
 use sharc_tree::tree::Expr;
 use std::alloc::{AllocError, Global};
 
-/// A program, and which variables its lock paths name, by the token that declares them.
+/// A program, and which variables and globals its lock paths name.
 #[derive(Clone, Copy)]
 pub(crate) struct Known<'a> {
     pub(crate) moded: &'a Moded,
-    pub(crate) named: &'a [bool],
+    pub(crate) named: &'a NamedVariables,
 }
 
 /// Whether two types differ only in the mode at depth 1.
-fn differ_first(m: &Moded, expected: Row<'_>, found: Row<'_>) -> bool
-    requires expected { expected.first + expected.count ≤ position_count m.now.typed }
-    requires found { found.first + found.count ≤ position_count m.now.typed }
-    ensures { result ≡ differ_first m.now.typed (modes_of m.now (view_row expected.entry)) (modes_of m.now (view_row found.entry)) }
+fn differ_first(program: &Moded, expected: Row<'_>, found: Row<'_>) -> bool
+    requires expected { expected.first + expected.count ≤ position_count program.now.typed }
+    requires found { found.first + found.count ≤ position_count program.now.typed }
+    ensures { result ≡ differ_first program.now.typed (modes_of program.now (view_row expected.entry)) (modes_of program.now (view_row found.entry)) }
 {
     row_laws();
-    let _all = m.position_count();
-    if same_rows(m, expected, found) {
+    let _all = program.position_count();
+    if same_rows(program, expected, found) {
         false
     } else {
-        same_rows(m, expected.deeper(), found.deeper())
-    }
-}
-
-/// The flag at a number; none past the last one.
-fn is_told(flags: &[bool], variable: u32) -> bool
-    ensures { result ≡ told flags.now variable }
-{
-    let place = variable as usize;
-    if place < flags.len() {
-        flags[place]
-    } else {
-        false
+        same_rows(program, expected.deeper(), found.deeper())
     }
 }
 
 /// Whether no lock path names the variable, if it is one.
-fn is_free(flags: &[bool], variable: Option<u32>) -> bool
-    ensures { result ≡ is_free (told flags.now) variable }
+fn is_free(named: &NamedVariables, variable: Option<u32>) -> bool
+    ensures { result ≡ is_free (told named.now) variable }
 {
     match variable {
         None => true,
-        Some(variable) => !is_told(flags, variable),
+        Some(variable) => !named.has(variable),
     }
 }
 
@@ -84,12 +73,15 @@ fn keeps_named(named: Named, bound: Option<Bound<'_>>) -> bool
 }
 
 /// Whether the lock path of a mode names the same thing where these variables are in scope.
-fn keeps(t: &Typed, scope: &Names<'_>, s: Sharing<'_>) -> bool
-    ensures { result ≡ keeps t.now scope.now (view_sharing s.entry) }
+fn keeps(typed: &Typed, scope: &Names<'_>, s: Sharing<'_>) -> bool
+    ensures { result ≡ keeps typed.now scope.now (view_sharing s.entry) }
 {
     match s {
         Sharing::Locked(lock) => {
-            keeps_named(t.named(lock.first), scope.find(text_at(t, lock.first)))
+            keeps_named(
+                typed.named(lock.first),
+                scope.find(text_at(typed, lock.first)),
+            )
         }
         Sharing::Private => true,
         Sharing::Readonly => true,
@@ -99,16 +91,16 @@ fn keeps(t: &Typed, scope: &Names<'_>, s: Sharing<'_>) -> bool
 }
 
 /// Whether all lock paths of a type do.
-fn keeps_all(m: &Moded, scope: &Names<'_>, row: Row<'_>) -> bool
-    requires { row.first + row.count ≤ position_count m.now.typed }
-    ensures { result ≡ keeps_all m.now.typed scope.now (modes_of m.now (view_row row.entry)) }
+fn keeps_all(program: &Moded, scope: &Names<'_>, row: Row<'_>) -> bool
+    requires { row.first + row.count ≤ position_count program.now.typed }
+    ensures { result ≡ keeps_all program.now.typed scope.now (modes_of program.now (view_row row.entry)) }
 {
     row_laws();
-    let t = m.typed();
-    let _all = m.position_count();
+    let typed = program.typed();
+    let _all = program.position_count();
     let mut left = row;
     while left.count > 0 {
-        if !keeps(t, scope, pointed(m, Some(left))) {
+        if !keeps(typed, scope, pointed(program, Some(left))) {
             return false;
         }
         left = left.deeper();
@@ -116,53 +108,50 @@ fn keeps_all(m: &Moded, scope: &Names<'_>, row: Row<'_>) -> bool
     true
 }
 
-/// The variable or the global that an expression is, if it is one, by the token that declares it.
-fn taken_variable(t: &Typed, place: &Expr) -> Option<u32>
-    ensures { result ≡ taken_variable t.now (view_expr place.now) }
-{
-    match place {
-        Expr::Identifier(_, name) => object_named(t, t.named(name.site.token)),
-        _ => None,
-    }
-}
-
 /// Whether a cast of the expression raises neither C5, nor M9, nor M10: it is an lvalue, no cell of mode readonly, and no variable or global that a
 /// lock path names.
-fn may_be_cast(k: Known<'_>, expr: &Expr) -> bool
-    ensures { result ≡ may_be_cast k.entry.moded.now (told k.entry.named.now) (view_expr expr.now) }
+fn may_be_cast(known: Known<'_>, expr: &Expr) -> bool
+    ensures { result ≡ may_be_cast known.entry.moded.now (told known.entry.named.now) (view_expr expr.now) }
 {
-    let m = k.moded;
-    if !expr.is_lvalue() || is_readonly(cell_of(m, expr)) {
+    let program = known.moded;
+    if !expr.is_lvalue() || is_readonly(cell_of(program, expr)) {
         return false;
     }
-    let variable = taken_variable(m.typed(), expr.without_parentheses());
-    is_free(k.named, variable)
+    let variable = taken_variable(program.typed(), expr.without_parentheses());
+    is_free(known.named, variable)
 }
 
 /// Whether a cast of the expression repairs that its modes are not those that are expected.
 fn is_repairable(
-    k: Known<'_>,
+    known: Known<'_>,
     scope: &Names<'_>,
     expr: &Expr,
     expected: Row<'_>,
     found: Row<'_>,
 ) -> bool
-    requires expected { expected.first + expected.count ≤ position_count k.moded.now.typed }
-    requires found { found.first + found.count ≤ position_count k.moded.now.typed }
-    ensures { result ≡ is_repairable k.entry.moded.now (told k.entry.named.now) scope.now (view_expr expr.now) (modes_of k.entry.moded.now (view_row expected.entry)) (modes_of k.entry.moded.now (view_row found.entry)) }
+    requires expected { expected.first + expected.count ≤ position_count known.moded.now.typed }
+    requires found { found.first + found.count ≤ position_count known.moded.now.typed }
+    ensures { result ≡ is_repairable known.entry.moded.now (told known.entry.named.now) scope.now (view_expr expr.now) (modes_of known.entry.moded.now (view_row expected.entry)) (modes_of known.entry.moded.now (view_row found.entry)) }
 {
-    let m = k.moded;
-    differ_first(m, expected, found) && may_be_cast(k, expr) && keeps_all(m, scope, expected)
+    let program = known.moded;
+    differ_first(program, expected, found)
+        && may_be_cast(known, expr)
+        && keeps_all(program, scope, expected)
 }
 
 /// The cast around an expression to the type that is expected.
-fn cast_to(alloc: Global, m: &Moded, expr: &Expr, expected: Row<'_>) -> Result<Cast, AllocError>
-    requires { expected.first + expected.count ≤ position_count m.now.typed }
-    ensures { IfOk result (λ c. c ≡ cast_to m.now (view_expr expr.now) (modes_of m.now (view_row expected.entry))) }
+fn cast_to(
+    alloc: Global,
+    program: &Moded,
+    expr: &Expr,
+    expected: Row<'_>,
+) -> Result<Cast, AllocError>
+    requires { expected.first + expected.count ≤ position_count program.now.typed }
+    ensures { IfOk result (λ c. c ≡ cast_to program.now (view_expr expr.now) (modes_of program.now (view_row expected.entry))) }
 {
-    let root = root_of_kind(m.typed().kind_at(expr));
+    let root = root_of_kind(program.typed().kind_at(expr));
     let span = expr.span();
-    let to = shown(alloc, m, root, expected)?;
+    let to = shown(alloc, program, root, expected)?;
     Ok(Cast {
         site: span.first,
         to,
@@ -174,20 +163,20 @@ fn cast_to(alloc: Global, m: &Moded, expr: &Expr, expected: Row<'_>) -> Result<C
 /// Adds the cast that is suggested for an expression where those modes are expected, if one is.
 pub(crate) fn repair(
     alloc: Global,
-    k: Known<'_>,
+    known: Known<'_>,
     scope: &Names<'_>,
     expected: Option<Row<'_>>,
     expr: &Expr,
     casts: &mut Vec<Cast>,
 ) -> Result<(), AllocError>
-    requires { EndsWithin k.moded.now.typed expected }
-    ensures { OnOk result (casts.new.items ≡ casts.old.items ++ repair k.entry.moded.now (told k.entry.named.now) scope.now (option_map (modes_of k.entry.moded.now) (view_rows expected.entry)) (view_expr expr.now)) }
+    requires { EndsWithin known.moded.now.typed expected }
+    ensures { OnOk result (casts.new.items ≡ casts.old.items ++ repair known.entry.moded.now (told known.entry.named.now) scope.now (option_map (modes_of known.entry.moded.now) (view_rows expected.entry)) (view_expr expr.now)) }
 {
-    let m = k.moded;
-    match (expected, row_of(m.typed(), expr)) {
+    let program = known.moded;
+    match (expected, row_of(program.typed(), expr)) {
         (Some(expected), Some(found)) => {
-            if is_repairable(k, scope, expr, expected, found) {
-                casts.push(cast_to(alloc, m, expr, expected)?)?;
+            if is_repairable(known, scope, expr, expected, found) {
+                casts.push(cast_to(alloc, program, expr, expected)?)?;
             }
             Ok(())
         }

@@ -30,159 +30,159 @@ fn declare<'a>(scope: &mut Names<'a>, declaration: &'a Declaration) -> Result<()
 
 fn optional(
     alloc: Global,
-    k: Known<'_>,
+    known: Known<'_>,
     scope: &Names<'_>,
     expr: &Option<Expr>,
     casts: &mut Vec<Cast>,
 ) -> Result<(), AllocError>
-    ensures { OnOk result (casts.new.items ≡ casts.old.items ++ option_casts (casts_of k.entry.moded.now (told k.entry.named.now) scope.now) (view_option view_expr expr.now)) }
+    ensures { OnOk result (casts.new.items ≡ casts.old.items ++ option_casts (casts_of known.entry.moded.now (told known.entry.named.now) scope.now) (view_option view_expr expr.now)) }
 {
     match expr {
         None => Ok(()),
-        Some(expr) => expression(alloc, k, scope, expr, casts),
+        Some(expr) => expression(alloc, known, scope, expr, casts),
     }
 }
 
 /// What stands right of `=`, beside the modes that are expected there.
 fn right(
     alloc: Global,
-    k: Known<'_>,
+    known: Known<'_>,
     scope: &Names<'_>,
     want: Option<Row<'_>>,
     right: &Right,
     casts: &mut Vec<Cast>,
 ) -> Result<(), AllocError>
-    requires { EndsWithin k.moded.now.typed want }
-    ensures { OnOk result (casts.new.items ≡ casts.old.items ++ right_casts k.entry.moded.now (told k.entry.named.now) scope.now (option_map (modes_of k.entry.moded.now) (view_rows want.entry)) (view_right right.now)) }
+    requires { EndsWithin known.moded.now.typed want }
+    ensures { OnOk result (casts.new.items ≡ casts.old.items ++ right_casts known.entry.moded.now (told known.entry.named.now) scope.now (option_map (modes_of known.entry.moded.now) (view_rows want.entry)) (view_right right.now)) }
 {
     match right {
         Right::Value(expr) => {
-            expression(alloc, k, scope, expr, casts)?;
-            repair(alloc, k, scope, want, expr, casts)
+            expression(alloc, known, scope, expr, casts)?;
+            repair(alloc, known, scope, want, expr, casts)
         }
-        Right::Malloc(_, count, _) => optional(alloc, k, scope, count, casts),
+        Right::Malloc(_, count, _) => optional(alloc, known, scope, count, casts),
     }
 }
 
 fn simple(
     alloc: Global,
-    k: Known<'_>,
+    known: Known<'_>,
     scope: &Names<'_>,
     simple: &Simple,
     casts: &mut Vec<Cast>,
 ) -> Result<(), AllocError>
-    ensures { OnOk result (casts.new.items ≡ casts.old.items ++ simple_casts k.entry.moded.now (told k.entry.named.now) scope.now (view_simple simple.now)) }
+    ensures { OnOk result (casts.new.items ≡ casts.old.items ++ simple_casts known.entry.moded.now (told known.entry.named.now) scope.now (view_simple simple.now)) }
 {
     match simple {
         Simple::Assign(_, place, value) => {
-            expression(alloc, k, scope, place, casts)?;
-            let want = row_of(k.moded.typed(), place);
-            right(alloc, k, scope, want, value, casts)
+            expression(alloc, known, scope, place, casts)?;
+            let want = row_of(known.moded.typed(), place);
+            right(alloc, known, scope, want, value, casts)
         }
-        Simple::Call(call) => expression(alloc, k, scope, call, casts),
+        Simple::Call(call) => expression(alloc, known, scope, call, casts),
     }
 }
 
 fn initial(
     alloc: Global,
-    k: Known<'_>,
+    known: Known<'_>,
     scope: &Names<'_>,
     want: Option<Row<'_>>,
     value: &Option<Right>,
     casts: &mut Vec<Cast>,
 ) -> Result<(), AllocError>
-    requires { EndsWithin k.moded.now.typed want }
-    ensures { OnOk result (casts.new.items ≡ casts.old.items ++ option_casts (right_casts k.entry.moded.now (told k.entry.named.now) scope.now (option_map (modes_of k.entry.moded.now) (view_rows want.entry))) (view_option view_right value.now)) }
+    requires { EndsWithin known.moded.now.typed want }
+    ensures { OnOk result (casts.new.items ≡ casts.old.items ++ option_casts (right_casts known.entry.moded.now (told known.entry.named.now) scope.now (option_map (modes_of known.entry.moded.now) (view_rows want.entry))) (view_option view_right value.now)) }
 {
     match value {
         None => Ok(()),
-        Some(value) => right(alloc, k, scope, want, value, casts),
+        Some(value) => right(alloc, known, scope, want, value, casts),
     }
 }
 
 /// A local, which is in scope in its initialiser and afterwards.
 fn local<'a>(
     alloc: Global,
-    k: Known<'_>,
+    known: Known<'_>,
     scope: &mut Names<'a>,
     local: &'a Local,
     casts: &mut Vec<Cast>,
 ) -> Result<(), AllocError>
     ensures scope { OnOk result (scope.new ≡ entry_of (view_local local.now).declaration ∷ scope.old) }
-    ensures casts { OnOk result (casts.new.items ≡ casts.old.items ++ local_casts k.entry.moded.now (told k.entry.named.now) scope.old (view_local local.now)) }
+    ensures casts { OnOk result (casts.new.items ≡ casts.old.items ++ local_casts known.entry.moded.now (told known.entry.named.now) scope.old (view_local local.now)) }
 {
     let token = local.declaration.name.site.token;
-    let want = declared_row(k.moded.typed(), Reading::Written, token);
+    let want = declared_row(known.moded.typed(), Reading::Written, token);
     declare(scope, &local.declaration)?;
-    initial(alloc, k, scope, Some(want), &local.initial, casts)
+    initial(alloc, known, scope, Some(want), &local.initial, casts)
 }
 
 /// What stands first in the head of a `for`; what it declares is in scope afterwards.
 fn first<'a>(
     alloc: Global,
-    k: Known<'_>,
+    known: Known<'_>,
     scope: &mut Names<'a>,
     first: &'a ForFirst,
     casts: &mut Vec<Cast>,
 ) -> Result<(), AllocError>
     ensures scope { OnOk result (scope.new ≡ behind_first scope.old (view_first first.now)) }
-    ensures casts { OnOk result (casts.new.items ≡ casts.old.items ++ first_casts k.entry.moded.now (told k.entry.named.now) scope.old (view_first first.now)) }
+    ensures casts { OnOk result (casts.new.items ≡ casts.old.items ++ first_casts known.entry.moded.now (told known.entry.named.now) scope.old (view_first first.now)) }
 {
     match first {
         ForFirst::Nothing => Ok(()),
-        ForFirst::Declares(declared) => local(alloc, k, scope, declared, casts),
-        ForFirst::Does(x) => simple(alloc, k, scope, x, casts),
+        ForFirst::Declares(declared) => local(alloc, known, scope, declared, casts),
+        ForFirst::Does(x) => simple(alloc, known, scope, x, casts),
     }
 }
 
 fn step(
     alloc: Global,
-    k: Known<'_>,
+    known: Known<'_>,
     scope: &Names<'_>,
     step: &Option<Simple>,
     casts: &mut Vec<Cast>,
 ) -> Result<(), AllocError>
-    ensures { OnOk result (casts.new.items ≡ casts.old.items ++ option_casts (simple_casts k.entry.moded.now (told k.entry.named.now) scope.now) (view_option view_simple step.now)) }
+    ensures { OnOk result (casts.new.items ≡ casts.old.items ++ option_casts (simple_casts known.entry.moded.now (told known.entry.named.now) scope.now) (view_option view_simple step.now)) }
 {
     match step {
         None => Ok(()),
-        Some(x) => simple(alloc, k, scope, x, casts),
+        Some(x) => simple(alloc, known, scope, x, casts),
     }
 }
 
 /// The head of a `for`; what it declares is in scope afterwards.
 fn head<'a>(
     alloc: Global,
-    k: Known<'_>,
+    known: Known<'_>,
     scope: &mut Names<'a>,
     head: &'a ForHead,
     casts: &mut Vec<Cast>,
 ) -> Result<(), AllocError>
     ensures scope { OnOk result (scope.new ≡ behind_first scope.old (view_head head.now).first) }
-    ensures casts { OnOk result (casts.new.items ≡ casts.old.items ++ head_casts k.entry.moded.now (told k.entry.named.now) scope.old (view_head head.now)) }
+    ensures casts { OnOk result (casts.new.items ≡ casts.old.items ++ head_casts known.entry.moded.now (told known.entry.named.now) scope.old (view_head head.now)) }
 {
-    first(alloc, k, scope, &head.first, casts)?;
-    optional(alloc, k, scope, &head.test, casts)?;
-    step(alloc, k, scope, &head.step, casts)
+    first(alloc, known, scope, &head.first, casts)?;
+    optional(alloc, known, scope, &head.test, casts)?;
+    step(alloc, known, scope, &head.step, casts)
 }
 
 /// What is returned in the function whose name is the token with this number.
 fn returned(
     alloc: Global,
-    k: Known<'_>,
+    known: Known<'_>,
     scope: &Names<'_>,
     function: u32,
     value: &Option<Box<Expr>>,
     casts: &mut Vec<Cast>,
 ) -> Result<(), AllocError>
-    ensures { OnOk result (casts.new.items ≡ casts.old.items ++ option_casts (return_casts k.entry.moded.now (told k.entry.named.now) scope.now function) (view_option (λ b. view_expr b.value) value.now)) }
+    ensures { OnOk result (casts.new.items ≡ casts.old.items ++ option_casts (return_casts known.entry.moded.now (told known.entry.named.now) scope.now function) (view_option (λ b. view_expr b.value) value.now)) }
 {
     match value {
         None => Ok(()),
         Some(expr) => {
-            expression(alloc, k, scope, expr, casts)?;
-            let want = declared_row(k.moded.typed(), Reading::Written, function);
-            repair(alloc, k, scope, Some(want), expr, casts)
+            expression(alloc, known, scope, expr, casts)?;
+            let want = declared_row(known.moded.typed(), Reading::Written, function);
+            repair(alloc, known, scope, Some(want), expr, casts)
         }
     }
 }
@@ -192,30 +192,30 @@ fn returned(
 #[tactic(auto, using(crate::proofs::ScopeLemmas::longer_first, crate::proofs::ScopeLemmas::left_first, crate::proofs::ScopeLemmas::longer_all, crate::proofs::ScopeLemmas::left_all))]
 fn statement<'a>(
     alloc: Global,
-    k: Known<'_>,
+    known: Known<'_>,
     scope: &mut Names<'a>,
     function: u32,
     stmt: &'a Stmt,
     casts: &mut Vec<Cast>,
 ) -> Result<(), AllocError>
     ensures scope { OnOk result (scope.new ≡ after scope.old (view_stmt stmt.now)) }
-    ensures casts { OnOk result (casts.new.items ≡ casts.old.items ++ casts_in k.entry.moded.now (told k.entry.named.now) scope.old function (view_stmt stmt.now)) }
+    ensures casts { OnOk result (casts.new.items ≡ casts.old.items ++ casts_in known.entry.moded.now (told known.entry.named.now) scope.old function (view_stmt stmt.now)) }
 {
     match stmt {
         Stmt::Empty(_) => Ok(()),
         Stmt::Block(_, all) => {
             let mark = scope.len();
-            statements(alloc, k, scope, function, all.as_slice(), casts)?;
+            statements(alloc, known, scope, function, all.as_slice(), casts)?;
             scope.leave(mark)?;
             Ok(())
         }
-        Stmt::Declare(_, declared) => local(alloc, k, scope, declared, casts),
-        Stmt::Simple(_, x) => simple(alloc, k, scope, x, casts),
+        Stmt::Declare(_, declared) => local(alloc, known, scope, declared, casts),
+        Stmt::Simple(_, x) => simple(alloc, known, scope, x, casts),
         Stmt::Jump(_, _) => Ok(()),
-        Stmt::Return(_, value) => returned(alloc, k, scope, function, value, casts),
+        Stmt::Return(_, value) => returned(alloc, known, scope, function, value, casts),
         Stmt::If(_, test, then) => {
-            expression(alloc, k, scope, test, casts)?;
-            nested(alloc, k, scope, function, then, casts)
+            expression(alloc, known, scope, test, casts)?;
+            nested(alloc, known, scope, function, then, casts)
         }
         Stmt::IfElse {
             test,
@@ -223,18 +223,18 @@ fn statement<'a>(
             otherwise,
             ..
         } => {
-            expression(alloc, k, scope, test, casts)?;
-            nested(alloc, k, scope, function, then, casts)?;
-            nested(alloc, k, scope, function, otherwise, casts)
+            expression(alloc, known, scope, test, casts)?;
+            nested(alloc, known, scope, function, then, casts)?;
+            nested(alloc, known, scope, function, otherwise, casts)
         }
         Stmt::While(_, test, body) => {
-            expression(alloc, k, scope, test, casts)?;
-            nested(alloc, k, scope, function, body, casts)
+            expression(alloc, known, scope, test, casts)?;
+            nested(alloc, known, scope, function, body, casts)
         }
         Stmt::For(_, parts, body) => {
             let mark = scope.len();
-            head(alloc, k, scope, parts, casts)?;
-            nested(alloc, k, scope, function, body, casts)?;
+            head(alloc, known, scope, parts, casts)?;
+            nested(alloc, known, scope, function, body, casts)?;
             scope.leave(mark)
         }
     }
@@ -245,17 +245,17 @@ fn statement<'a>(
 #[tactic(auto, using(crate::proofs::ScopeLemmas::longer_after, crate::proofs::ScopeLemmas::left_after))]
 fn nested<'a>(
     alloc: Global,
-    k: Known<'_>,
+    known: Known<'_>,
     scope: &mut Names<'a>,
     function: u32,
     stmt: &'a Stmt,
     casts: &mut Vec<Cast>,
 ) -> Result<(), AllocError>
     ensures scope { OnOk result (scope.new ≡ scope.old) }
-    ensures casts { OnOk result (casts.new.items ≡ casts.old.items ++ casts_in k.entry.moded.now (told k.entry.named.now) scope.old function (view_stmt stmt.now)) }
+    ensures casts { OnOk result (casts.new.items ≡ casts.old.items ++ casts_in known.entry.moded.now (told known.entry.named.now) scope.old function (view_stmt stmt.now)) }
 {
     let mark = scope.len();
-    statement(alloc, k, scope, function, stmt, casts)?;
+    statement(alloc, known, scope, function, stmt, casts)?;
     scope.leave(mark)
 }
 
@@ -263,17 +263,17 @@ fn nested<'a>(
 #[cycle(statement)]
 fn statements<'a>(
     alloc: Global,
-    k: Known<'_>,
+    known: Known<'_>,
     scope: &mut Names<'a>,
     function: u32,
     all: &'a [Stmt],
     casts: &mut Vec<Cast>,
 ) -> Result<(), AllocError>
     ensures scope { OnOk result (scope.new ≡ after_all scope.old (view_statements all.now)) }
-    ensures casts { OnOk result (casts.new.items ≡ casts.old.items ++ casts_in_all k.entry.moded.now (told k.entry.named.now) scope.old function (view_statements all.now)) }
+    ensures casts { OnOk result (casts.new.items ≡ casts.old.items ++ casts_in_all known.entry.moded.now (told known.entry.named.now) scope.old function (view_statements all.now)) }
 {
     for stmt in all {
-        statement(alloc, k, scope, function, stmt, casts)?;
+        statement(alloc, known, scope, function, stmt, casts)?;
     }
     Ok(())
 }
@@ -288,8 +288,13 @@ fn parameters<'a>(scope: &mut Names<'a>, list: &'a [Declaration]) -> Result<(), 
     Ok(())
 }
 
-fn item(alloc: Global, k: Known<'_>, item: &Item, casts: &mut Vec<Cast>) -> Result<(), AllocError>
-    ensures { OnOk result (casts.new.items ≡ casts.old.items ++ item_casts k.entry.moded.now (told k.entry.named.now) (view_item item.now)) }
+fn item(
+    alloc: Global,
+    known: Known<'_>,
+    item: &Item,
+    casts: &mut Vec<Cast>,
+) -> Result<(), AllocError>
+    ensures { OnOk result (casts.new.items ≡ casts.old.items ++ item_casts known.entry.moded.now (told known.entry.named.now) (view_item item.now)) }
 {
     match item {
         Item::Struct(_) => Ok(()),
@@ -299,7 +304,7 @@ fn item(alloc: Global, k: Known<'_>, item: &Item, casts: &mut Vec<Cast>) -> Resu
             parameters(&mut scope, definition.parameters.as_slice())?;
             let function = definition.name.site.token;
             let all = definition.statements.as_slice();
-            statements(alloc, k, &mut scope, function, all, casts)
+            statements(alloc, known, &mut scope, function, all, casts)
         }
     }
 }
@@ -307,14 +312,14 @@ fn item(alloc: Global, k: Known<'_>, item: &Item, casts: &mut Vec<Cast>) -> Resu
 /// Adds the casts that are suggested in items.
 pub(crate) fn items(
     alloc: Global,
-    k: Known<'_>,
+    known: Known<'_>,
     items: &[Item],
     casts: &mut Vec<Cast>,
 ) -> Result<(), AllocError>
-    ensures { OnOk result (casts.new.items ≡ casts.old.items ++ items_casts k.entry.moded.now (told k.entry.named.now) (view_items items.now)) }
+    ensures { OnOk result (casts.new.items ≡ casts.old.items ++ items_casts known.entry.moded.now (told known.entry.named.now) (view_items items.now)) }
 {
     for one in items {
-        item(alloc, k, one, casts)?;
+        item(alloc, known, one, casts)?;
     }
     Ok(())
 }

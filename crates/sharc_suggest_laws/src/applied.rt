@@ -12,11 +12,11 @@ use sharc_mode::error::{Cast, ModeError};
 use sharc_mode::moded::Moded;
 
 /// Of a program that was read, what `apply` answers of the cast that is suggested for an error has no M1 at the place of that error.
-pub fn is_repaired(m: &Moded, e: &ModeError, c: &Cast, new: &Moded)
-    ensures { IsPlaced m.now.typed.program → IsLow m.now.typed.program → IsSuggested m.now e.now (Some c.now) → new.now ≡ assignment_with c.now m.now → IsGone new.now e.now.site.token }
+pub fn is_repaired(program: &Moded, error: &ModeError, cast: &Cast, repaired: &Moded)
+    ensures { IsPlaced program.now.typed.program → IsLow program.now.typed.program → IsSuggested program.now error.now (Some cast.now) → repaired.now ≡ assignment_with cast.now program.now → IsGone repaired.now error.now.site.token }
 {
     repairs();
-    m.typed().program();
-    m.position_count();
-    new.typed().program();
+    program.typed().program();
+    program.position_count();
+    repaired.typed().program();
 }

@@ -2,7 +2,7 @@
 use Rattle.std.proofs.Common.{◌≡◌, ℕ, ◌<◌, ◌≤◌, List, length, Option, Some, None, IfSome, subst}
 use Rattle.sharc_tree.specs.declared.token.FaultAt.{FaultAt}
 use Rattle.sharc_mode.specs.Moded.{Assignment}
-use Rattle.sharc_mode.specs.WellModed.{WellModed}
+use Rattle.sharc_mode_laws.specs.Rules.{MeetsRules}
 use Rattle.sharc_audit.specs.declared.audit.Verdict.{Verdict}
 use Rattle.sharc_audit.specs.declared.file.FileFault.{FileFault}
 use Rattle.sharc_audit.specs.declared.file.FileFault.TheVariants as fault
@@ -25,8 +25,8 @@ use Rattle.std.specs.Prelude.{codes}
 pub judges_refused : (m : Assignment) (fuel : ℕ) (events : List EventLine) (s : Status) (text : List ℕ) → s ≡ status.ModesRefused → IsModeRefusal m text → Judges m fuel events s text
 judges_refused m fuel events s text e is = rw e (not_judged text is)
 
-pub judges_by : (m : Assignment) (fuel : ℕ) (events : List EventLine) (s : Status) (text : List ℕ) (v : Verdict) → WellModed m → Audits m fuel events v → s ≡ status_of v → text ≡ verdict_line fuel v → Judges m fuel events s text
-judges_by m fuel events s text v well audits e t = rw (e, t) (judged v well audits)
+pub judges_by : (m : Assignment) (fuel : ℕ) (events : List EventLine) (s : Status) (text : List ℕ) (v : Verdict) → MeetsRules m → Audits m fuel events v → s ≡ status_of v → text ≡ verdict_line fuel v → Judges m fuel events s text
+judges_by m fuel events s text v meets audits e t = rw (e, t) (judged v meets audits)
 
 pub source_faulty : (source : List ℕ) (fuel : ℕ) (events : List EventLine) (s : Status) (text : List ℕ) (stage : Stage) (at : FaultAt) → IsFaultAt source stage at → s ≡ status.SourceRefused → text ≡ refusal_line stage at
     → JudgesSource source fuel events s text

@@ -68,7 +68,7 @@ no_audit_is (command.Record workers granules events) h = absurd (cc)
 -- ---- a reply has none of the statuses of failures
 
 checks_status : (m : Assignment) (s : Status) (text : List ℕ) → Checks m s text → IsOfReply (code_of s)
-checks_status m s text (accepted warnings well are) = inl refl
+checks_status m s text (accepted warnings meets are) = inl refl
 checks_status m s text (refused t is) = inr (inl refl)
 
 explains_status : (m : Assignment) (s : Status) (text : List ℕ) → Explains m s text → IsOfReply (code_of s)
@@ -76,8 +76,8 @@ explains_status m s text (explained x verdict is) = checks_status m x verdict is
 
 runs_status : (m : Assignment) (s : Status) (text : List ℕ) → Runs m s text → IsOfReply (code_of s)
 runs_status m s text (not_run t is) = inr (inl refl)
-runs_status m s text (printed numbers well are) = inl refl
-runs_status m s text (not_built well none) = inr (inr (inr (inl refl)))
+runs_status m s text (printed numbers meets are) = inl refl
+runs_status m s text (not_built meets none) = inr (inr (inr (inl refl)))
 
 does_status : (t : Task) (m : Assignment) (s : Status) (text : List ℕ) → Does t m s text → IsOfReply (code_of s)
 does_status task.Check m s text d = checks_status m s text d
@@ -95,7 +95,7 @@ verdict_status (verdict.Fuel n) = inr (inr (inr (inr (inr (inr refl)))))
 
 judges_status : (m : Assignment) (fuel : ℕ) (events : List EventLine) (s : Status) (text : List ℕ) → Judges m fuel events s text → IsOfReply (code_of s)
 judges_status m fuel events s text (not_judged t is) = inr (inl refl)
-judges_status m fuel events s text (judged v well is) = verdict_status v
+judges_status m fuel events s text (judged v meets is) = verdict_status v
 
 source_status : (source : List ℕ) (fuel : ℕ) (events : List EventLine) (s : Status) (text : List ℕ) → JudgesSource source fuel events s text → IsOfReply (code_of s)
 source_status source fuel events s text (faulty_source stage at is) = inr (inr (inl refl))

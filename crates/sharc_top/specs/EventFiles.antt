@@ -2,7 +2,7 @@
 use Rattle.std.specs.Prelude.{◌≡◌, ℕ, ◌<◌, ◌≤◌, Bool, true, false, List, length, codes, Option, IfSome}
 use Rattle.sharc_tree.specs.declared.token.FaultAt.{FaultAt}
 use Rattle.sharc_mode.specs.Moded.{Assignment}
-use Rattle.sharc_mode.specs.WellModed.{WellModed}
+use Rattle.sharc_mode_laws.specs.Rules.{MeetsRules}
 use Rattle.sharc_audit.specs.declared.audit.Verdict.{Verdict}
 use Rattle.sharc_audit.specs.declared.audit.Verdict.TheVariants as verdict
 use Rattle.sharc_audit.specs.declared.line.EventLine.{EventLine}
@@ -33,7 +33,7 @@ status_of (verdict.Fuel n) = status.FuelSpent
 -- of events of a program with its modes: what `check` writes where these are refused, else the verdict
 pub data Judges (m : Assignment) (fuel : ℕ) (events : List EventLine) : Status → List ℕ → Type 0 where
   not_judged : (text : List ℕ) → IsModeRefusal m text → Judges m fuel events status.ModesRefused text
-  judged : (v : Verdict) → WellModed m → Audits m fuel events v → Judges m fuel events (status_of v) (verdict_line fuel v)
+  judged : (v : Verdict) → MeetsRules m → Audits m fuel events v → Judges m fuel events (status_of v) (verdict_line fuel v)
 
 -- of events of a source within the limit: its first fault, else what becomes of the program that it is, with the least modes
 pub data JudgesSource (source : List ℕ) (fuel : ℕ) (events : List EventLine) : Status → List ℕ → Type 0 where

@@ -2,7 +2,8 @@
 
 ghost use Rattle.std.specs.Prelude.{◌≡◌, ◌≤◌, length, IfOk, IsErrOf};
 ghost use Rattle.sharc_io.specs.Causes.{Rose};
-ghost use Rattle.sharc_mode.specs.WellModed.{WellModed};
+ghost use Rattle.sharc_reach.specs.Reaching.{AreReached};
+ghost use Rattle.sharc_mode_laws.specs.Rules.{MeetsRules};
 ghost use Rattle.sharc_audit.specs.Grammar.{text_lines};
 ghost use Rattle.sharc_audit.specs.Files.{IsFault};
 ghost use Rattle.sharc_top.specs.EventFiles.{is_audit, status_of, Judges, JudgesSource, IsFewIn, FileReplies, IsFileReply};
@@ -18,7 +19,8 @@ use sharc_check::{CheckFault, Checked, check};
 use sharc_cli::Command;
 use sharc_io::{ReadError, Source, read_all};
 use sharc_mode::moded::Moded;
-use sharc_sound::{Refusal, front};
+use sharc_reach::Reached;
+use sharc_sound::{ReachedProgram, Refusal, front};
 use std::alloc::{AllocError, Global};
 
 /// The largest event file, in bytes (own).
@@ -46,12 +48,12 @@ fn status_of(verdict: Verdict) -> Status
 }
 
 /// The verdict of the events of a program whose modes are accepted.
-fn judged(alloc: Global, c: &Checked, file: &EventFile) -> Result<Reply, AllocError>
+fn judged(alloc: Global, checked: &Checked, file: &EventFile) -> Result<Reply, AllocError>
     requires { length file.now.events ≤ 4096 }
-    ensures { IfOk result (λ reply. Judges c.now file.now.fuel file.now.events reply.status reply.text.items) }
+    ensures { IfOk result (λ reply. Judges checked.now file.now.fuel file.now.events reply.status reply.text.items) }
 {
-    c.moded();
-    let verdict = audit(alloc, c, &file.events, file.fuel)?;
+    checked.moded();
+    let verdict = audit(alloc, checked, &file.events, file.fuel)?;
     let text = verdict_text(alloc, verdict, file.fuel)?;
     Ok(Reply {
         status: status_of(verdict),
@@ -60,13 +62,21 @@ fn judged(alloc: Global, c: &Checked, file: &EventFile) -> Result<Reply, AllocEr
 }
 
 /// What is written for the events of a program with its modes.
-fn judged_with(alloc: Global, m: Moded, file: &EventFile) -> Result<Reply, AllocError>
-    requires { length file.now.events ≤ 4096 }
-    ensures { IfOk result (λ reply. Judges m file.now.fuel file.now.events reply.status reply.text.items) }
+fn judged_with(
+    alloc: Global,
+    program: Moded,
+    reached: &Reached,
+    file: &EventFile,
+) -> Result<Reply, AllocError>
+    requires few { length file.now.events ≤ 4096 }
+    requires reached { AreReached program.typed reached.now }
+    ensures { IfOk result (λ reply. Judges program file.now.fuel file.now.events reply.status reply.text.items) }
 {
-    match check(alloc, m) {
+    match check(alloc, program, reached) {
         Ok(checked) => judged(alloc, &checked, file),
-        Err(CheckFault::Modes(m, errors)) => mode_refusal(alloc, &m, &errors),
+        Err(CheckFault::Modes(program, errors, named)) => {
+            mode_refusal(alloc, &program, &named, &errors)
+        }
         Err(CheckFault::Memory(_)) => Err(AllocError),
     }
 }
@@ -78,7 +88,7 @@ fn source_judged(alloc: Global, file: &EventFile) -> Result<Reply, AllocError>
     ensures { IfOk result (λ reply. JudgesSource file.now.source.items file.now.fuel file.now.events reply.status reply.text.items) }
 {
     match front(alloc, &file.source) {
-        Ok(m) => judged_with(alloc, m, file),
+        Ok(ReachedProgram { program, reached }) => judged_with(alloc, program, &reached, file),
         Err(Refusal::Source(fault)) => refusal(alloc, &fault),
         Err(Refusal::Modes(..)) => unreachable!(),
         Err(Refusal::Memory) => Err(AllocError),

@@ -1,8 +1,12 @@
 //! What `check`, `explain` and `run` make of a program with its modes.
+//!
+//! A program is not taken apart at the end, which would take a fifth of the time of `check`: the process ends then, and the system takes back its memory.
 
 ghost use Rattle.std.specs.Prelude.{◌≡◌, ◌++◌, IfOk};
-ghost use Rattle.sharc_mode.specs.WellModed.{WellModed};
+ghost use Rattle.sharc_reach.specs.Reaching.{AreReached};
+ghost use Rattle.sharc_mode_laws.specs.Rules.{MeetsRules};
 ghost use Rattle.sharc_check.specs.Checks.{IsRefused};
+ghost use Rattle.sharc_check.specs.Named.{TellNamed};
 ghost use Rattle.sharc_report.specs.Explanations.{explain_text};
 ghost use Rattle.sharc_top.specs.declared.status.Status.TheVariants.{ModesRefused};
 ghost use Rattle.sharc_top.specs.Verdict.{IsModeRefusal, Checks, Explains, Runs, Does};
@@ -12,20 +16,23 @@ use crate::status::Status;
 use crate::task::Task;
 use crate::text::numbers_text;
 use crate::tree_sums::program_values;
+use sharc_check::named::NamedVariables;
 use sharc_check::{CheckFault, Checked, check};
 use sharc_live::nulled_uses;
 use sharc_mode::error::ModeErrors;
 use sharc_mode::moded::Moded;
+use sharc_reach::Reached;
 use sharc_report::{accepted_text, check_text, explain_text};
 use sharc_suggest::suggest_all;
 use std::alloc::{AllocError, Global};
+use std::mem::forget;
 
 /// The warnings of a program whose modes are accepted, and that they are.
-fn acceptance(alloc: Global, c: &Checked) -> Result<Reply, AllocError>
-    ensures { IfOk result (λ reply. Checks c.now reply.status reply.text.items) }
+fn acceptance(alloc: Global, checked: &Checked) -> Result<Reply, AllocError>
+    ensures { IfOk result (λ reply. Checks checked.now reply.status reply.text.items) }
 {
-    let warnings = nulled_uses(alloc, c)?;
-    let text = accepted_text(alloc, c.moded(), &warnings)?;
+    let warnings = nulled_uses(alloc, checked)?;
+    let text = accepted_text(alloc, checked.moded(), &warnings)?;
     Ok(Reply {
         status: Status::Done,
         text,
@@ -35,14 +42,16 @@ fn acceptance(alloc: Global, c: &Checked) -> Result<Reply, AllocError>
 /// The errors of a program whose modes are refused, each with the cast that would repair it.
 pub(crate) fn mode_refusal(
     alloc: Global,
-    m: &Moded,
+    program: &Moded,
+    named: &NamedVariables,
     errors: &ModeErrors,
 ) -> Result<Reply, AllocError>
-    requires { IsRefused m.now errors.now }
-    ensures { IfOk result (λ reply. (reply.status ≡ ModesRefused) × IsModeRefusal m.now reply.text.items) }
+    requires refused { IsRefused program.now errors.now }
+    requires named { TellNamed program.now named.now }
+    ensures { IfOk result (λ reply. (reply.status ≡ ModesRefused) × IsModeRefusal program.now reply.text.items) }
 {
-    let casts = suggest_all(alloc, m, errors)?;
-    let text = check_text(alloc, m, errors, &casts)?;
+    let casts = suggest_all(alloc, program, named, errors)?;
+    let text = check_text(alloc, program, errors, &casts)?;
     Ok(Reply {
         status: Status::ModesRefused,
         text,
@@ -50,22 +59,37 @@ pub(crate) fn mode_refusal(
 }
 
 /// What `check` writes.
-fn checked(alloc: Global, m: Moded) -> Result<Reply, AllocError>
-    ensures { IfOk result (λ reply. Checks m reply.status reply.text.items) }
+fn checked(alloc: Global, program: Moded, reached: &Reached) -> Result<Reply, AllocError>
+    requires { AreReached program.typed reached.now }
+    ensures { IfOk result (λ reply. Checks program reply.status reply.text.items) }
 {
-    match check(alloc, m) {
-        Ok(checked) => acceptance(alloc, &checked),
-        Err(CheckFault::Modes(m, errors)) => mode_refusal(alloc, &m, &errors),
+    match check(alloc, program, reached) {
+        Ok(checked) => {
+            let reply = acceptance(alloc, &checked);
+            forget(checked);
+            reply
+        }
+        Err(CheckFault::Modes(program, errors, named)) => {
+            let reply = mode_refusal(alloc, &program, &named, &errors);
+            forget(program);
+            reply
+        }
         Err(CheckFault::Memory(_)) => Err(AllocError),
     }
 }
 
 /// What `check` writes, behind a text.
-fn checked_behind(alloc: Global, m: Moded, mut text: Vec<u8>) -> Result<Reply, AllocError>
-    requires { text.items ≡ explain_text m }
-    ensures { IfOk result (λ reply. Explains m reply.status reply.text.items) }
+fn checked_behind(
+    alloc: Global,
+    program: Moded,
+    reached: &Reached,
+    mut text: Vec<u8>,
+) -> Result<Reply, AllocError>
+    requires reached { AreReached program.typed reached.now }
+    requires text { text.items ≡ explain_text program }
+    ensures { IfOk result (λ reply. Explains program reply.status reply.text.items) }
 {
-    let verdict = checked(alloc, m)?;
+    let verdict = checked(alloc, program, reached)?;
     text.extend_from_slice(&verdict.text)?;
     Ok(Reply {
         status: verdict.status,
@@ -74,21 +98,22 @@ fn checked_behind(alloc: Global, m: Moded, mut text: Vec<u8>) -> Result<Reply, A
 }
 
 /// What `explain` writes: every variable's type with its modes and reasons, and then what `check` writes.
-fn explained(alloc: Global, m: Moded) -> Result<Reply, AllocError>
-    ensures { IfOk result (λ reply. Explains m reply.status reply.text.items) }
+fn explained(alloc: Global, program: Moded, reached: &Reached) -> Result<Reply, AllocError>
+    requires { AreReached program.typed reached.now }
+    ensures { IfOk result (λ reply. Explains program reply.status reply.text.items) }
 {
-    match explain_text(alloc, &m) {
-        Ok(text) => checked_behind(alloc, m, text),
+    match explain_text(alloc, &program) {
+        Ok(text) => checked_behind(alloc, program, reached, text),
         Err(_) => Err(AllocError),
     }
 }
 
 /// What a program prints whose modes are accepted.
-fn prints(alloc: Global, m: &Moded) -> Result<Reply, AllocError>
-    requires { WellModed m.now }
-    ensures { IfOk result (λ reply. Runs m.now reply.status reply.text.items) }
+fn prints(alloc: Global, program: &Moded) -> Result<Reply, AllocError>
+    requires { MeetsRules program.now }
+    ensures { IfOk result (λ reply. Runs program.now reply.status reply.text.items) }
 {
-    match program_values(alloc, m.typed().program())? {
+    match program_values(alloc, program.typed().program())? {
         Some(values) => {
             let text = numbers_text(alloc, &values)?;
             Ok(Reply {
@@ -101,23 +126,38 @@ fn prints(alloc: Global, m: &Moded) -> Result<Reply, AllocError>
 }
 
 /// What `run` writes: what `check` writes where the modes are refused.
-fn run(alloc: Global, m: Moded) -> Result<Reply, AllocError>
-    ensures { IfOk result (λ reply. Runs m reply.status reply.text.items) }
+fn run(alloc: Global, program: Moded, reached: &Reached) -> Result<Reply, AllocError>
+    requires { AreReached program.typed reached.now }
+    ensures { IfOk result (λ reply. Runs program reply.status reply.text.items) }
 {
-    match check(alloc, m) {
-        Ok(checked) => prints(alloc, checked.moded()),
-        Err(CheckFault::Modes(m, errors)) => mode_refusal(alloc, &m, &errors),
+    match check(alloc, program, reached) {
+        Ok(checked) => {
+            let reply = prints(alloc, checked.moded());
+            forget(checked);
+            reply
+        }
+        Err(CheckFault::Modes(program, errors, named)) => {
+            let reply = mode_refusal(alloc, &program, &named, &errors);
+            forget(program);
+            reply
+        }
         Err(CheckFault::Memory(_)) => Err(AllocError),
     }
 }
 
 /// What becomes of a program with its modes.
-pub fn done(alloc: Global, task: Task, m: Moded) -> Result<Reply, AllocError>
-    ensures { IfOk result (λ reply. Does task m reply.status reply.text.items) }
+pub fn done(
+    alloc: Global,
+    task: Task,
+    program: Moded,
+    reached: &Reached,
+) -> Result<Reply, AllocError>
+    requires { AreReached program.typed reached.now }
+    ensures { IfOk result (λ reply. Does task program reply.status reply.text.items) }
 {
     match task {
-        Task::Check => checked(alloc, m),
-        Task::Explain => explained(alloc, m),
-        Task::Run => run(alloc, m),
+        Task::Check => checked(alloc, program, reached),
+        Task::Explain => explained(alloc, program, reached),
+        Task::Run => run(alloc, program, reached),
     }
 }

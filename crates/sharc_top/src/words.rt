@@ -12,7 +12,7 @@ use crate::task::{Task, task_of};
 use crate::verdict::done;
 use sharc_cli::read_words;
 use sharc_io::{ReadError, Source, read_all};
-use sharc_sound::{Refusal, front};
+use sharc_sound::{ReachedProgram, Refusal, front};
 use std::alloc::{AllocError, Global};
 
 /// What the words may be.
@@ -25,7 +25,7 @@ fn answer(alloc: Global, task: Task, source: &[u8]) -> Result<Reply, AllocError>
     ensures { IfOk result (λ reply. Answers task source.now reply.status reply.text.items) }
 {
     match front(alloc, source) {
-        Ok(m) => done(alloc, task, m),
+        Ok(ReachedProgram { program, reached }) => done(alloc, task, program, &reached),
         Err(Refusal::Source(fault)) => refusal(alloc, &fault),
         Err(Refusal::Modes(..)) => unreachable!(),
         Err(Refusal::Memory) => Err(AllocError),

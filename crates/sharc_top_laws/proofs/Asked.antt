@@ -2,7 +2,7 @@
 use Rattle.std.proofs.Common.{◌≡◌, ℕ, List, Option, Some, refl, ap, ◌∙◌, subst}
 use Rattle.std.specs.Io.KnownBytes.{Appends}
 use Rattle.sharc_mode.specs.Moded.{Assignment}
-use Rattle.sharc_mode.specs.WellModed.{WellModed}
+use Rattle.sharc_mode_laws.specs.Rules.{MeetsRules}
 use Rattle.sharc_sound.specs.Front.{IsFront}
 use Rattle.sharc_top.specs.declared.status.Status.{Status}
 use Rattle.sharc_top.specs.declared.status.Status.TheVariants as status
@@ -19,28 +19,28 @@ does_of : SourceLaws → (t : Task) (source : List ℕ) (m : Assignment) (s : St
 does_of laws t source m s text front (faulty stage at is) = absurd (laws.faultless source m front stage at is)
 does_of laws t source m s text front (program n z other also does) = subst (λ (k : Assignment). Does t k z other) (laws.program source n m also front) does
 
-only_accepted : (m : Assignment) (s : Status) (text : List ℕ) → WellModed m → Checks m s text → (s ≡ status.Done) × IsAcceptance m text
-only_accepted m s text well (accepted w also are) = (refl, record { warnings = w; are = are; written = refl })
-only_accepted m s text well (refused t is) = absurd (is.not_well_moded well)
+only_accepted : (m : Assignment) (s : Status) (text : List ℕ) → MeetsRules m → Checks m s text → (s ≡ status.Done) × IsAcceptance m text
+only_accepted m s text meets (accepted w also are) = (refl, record { warnings = w; are = are; written = refl })
+only_accepted m s text meets (refused t is) = absurd (is.breaks_rules meets)
 
-only_explained : (m : Assignment) (s : Status) (text : List ℕ) → WellModed m → Explains m s text → (s ≡ status.Done) × IsExplanation m text
-only_explained m s text well (explained z verdict is) =
-    let only = only_accepted m z verdict well is in
+only_explained : (m : Assignment) (s : Status) (text : List ℕ) → MeetsRules m → Explains m s text → (s ≡ status.Done) × IsExplanation m text
+only_explained m s text meets (explained z verdict is) =
+    let only = only_accepted m z verdict meets is in
     (only.0, record { verdict = verdict; accepts = only.1; written = refl })
 
-check_refused : (m : Assignment) (s : Status) (text : List ℕ) → ¬ (WellModed m) → Checks m s text → s ≡ status.ModesRefused
-check_refused m s text ill (accepted w well are) = absurd (ill well)
+check_refused : (m : Assignment) (s : Status) (text : List ℕ) → ¬ (MeetsRules m) → Checks m s text → s ≡ status.ModesRefused
+check_refused m s text ill (accepted w meets are) = absurd (ill meets)
 check_refused m s text ill (refused t is) = refl
 
-explain_refused : (m : Assignment) (s : Status) (text : List ℕ) → ¬ (WellModed m) → Explains m s text → s ≡ status.ModesRefused
+explain_refused : (m : Assignment) (s : Status) (text : List ℕ) → ¬ (MeetsRules m) → Explains m s text → s ≡ status.ModesRefused
 explain_refused m s text ill (explained z verdict is) = check_refused m z verdict ill is
 
-run_refused : (m : Assignment) (s : Status) (text : List ℕ) → ¬ (WellModed m) → Runs m s text → s ≡ status.ModesRefused
+run_refused : (m : Assignment) (s : Status) (text : List ℕ) → ¬ (MeetsRules m) → Runs m s text → s ≡ status.ModesRefused
 run_refused m s text ill (not_run t is) = refl
-run_refused m s text ill (printed numbers well are) = absurd (ill well)
-run_refused m s text ill (not_built well none) = absurd (ill well)
+run_refused m s text ill (printed numbers meets are) = absurd (ill meets)
+run_refused m s text ill (not_built meets none) = absurd (ill meets)
 
-only_refused : (t : Task) (m : Assignment) (s : Status) (text : List ℕ) → ¬ (WellModed m) → Does t m s text → s ≡ status.ModesRefused
+only_refused : (t : Task) (m : Assignment) (s : Status) (text : List ℕ) → ¬ (MeetsRules m) → Does t m s text → s ≡ status.ModesRefused
 only_refused task.Check m s text ill does = check_refused m s text ill does
 only_refused task.Explain m s text ill does = explain_refused m s text ill does
 only_refused task.Run m s text ill does = run_refused m s text ill does
@@ -51,21 +51,21 @@ module _ (laws : SourceLaws) (words : List (List ℕ)) (input : List ℕ) (m : A
       does_of laws t input m s text is.front
       (is_answer words input t s text is.asked is.within (subst (λ (l : List ℕ). Replies words l s text) reply.told reply.reply))
 
-  pub check_only : IsAsked words task.Check input m → WellModed m → (s : Status) (text : List ℕ) → IsReply words (Some input) s text → (s ≡ status.Done) × IsAcceptance m text
-  check_only is well s text reply = only_accepted m s text well (does_reply task.Check is s text reply)
+  pub check_only : IsAsked words task.Check input m → MeetsRules m → (s : Status) (text : List ℕ) → IsReply words (Some input) s text → (s ≡ status.Done) × IsAcceptance m text
+  check_only is meets s text reply = only_accepted m s text meets (does_reply task.Check is s text reply)
 
-  pub explain_only : IsAsked words task.Explain input m → WellModed m → (s : Status) (text : List ℕ) → IsReply words (Some input) s text → (s ≡ status.Done) × IsExplanation m text
-  explain_only is well s text reply = only_explained m s text well (does_reply task.Explain is s text reply)
+  pub explain_only : IsAsked words task.Explain input m → MeetsRules m → (s : Status) (text : List ℕ) → IsReply words (Some input) s text → (s ≡ status.Done) × IsExplanation m text
+  explain_only is meets s text reply = only_explained m s text meets (does_reply task.Explain is s text reply)
 
-  pub checked : IsAsked words task.Check input m → WellModed m → (old new : Option (List ℕ)) (code : ℕ) → Replied words (Some input) old new code → (code ≡ 0) × (text : List ℕ) × IsAcceptance m text × Appends old new text
-  checked is well old new code replied =
-      let only = check_only is well replied.status replied.text replied.reply in
+  pub checked : IsAsked words task.Check input m → MeetsRules m → (old new : Option (List ℕ)) (code : ℕ) → Replied words (Some input) old new code → (code ≡ 0) × (text : List ℕ) × IsAcceptance m text × Appends old new text
+  checked is meets old new code replied =
+      let only = check_only is meets replied.status replied.text replied.reply in
       (replied.ends ∙ ap code_of only.0, replied.text, only.1, replied.written)
 
-  pub explains : IsAsked words task.Explain input m → WellModed m → (old new : Option (List ℕ)) (code : ℕ) → Replied words (Some input) old new code → (code ≡ 0) × (text : List ℕ) × IsExplanation m text × Appends old new text
-  explains is well old new code replied =
-      let only = explain_only is well replied.status replied.text replied.reply in
+  pub explains : IsAsked words task.Explain input m → MeetsRules m → (old new : Option (List ℕ)) (code : ℕ) → Replied words (Some input) old new code → (code ≡ 0) × (text : List ℕ) × IsExplanation m text × Appends old new text
+  explains is meets old new code replied =
+      let only = explain_only is meets replied.status replied.text replied.reply in
       (replied.ends ∙ ap code_of only.0, replied.text, only.1, replied.written)
 
-  pub ends_refused : (t : Task) → IsAsked words t input m → ¬ (WellModed m) → (old new : Option (List ℕ)) (code : ℕ) → Replied words (Some input) old new code → code ≡ 1
+  pub ends_refused : (t : Task) → IsAsked words t input m → ¬ (MeetsRules m) → (old new : Option (List ℕ)) (code : ℕ) → Replied words (Some input) old new code → code ≡ 1
   ends_refused t is ill old new code replied = replied.ends ∙ ap code_of (only_refused t m replied.status replied.text ill (does_reply t is replied.status replied.text replied.reply))

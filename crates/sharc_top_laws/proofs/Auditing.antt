@@ -17,7 +17,7 @@ use Rattle.sharc_top_laws.proofs.Replying.{is_file_reply}
 module _ (laws : FileReplyLaws) (words : List (List ℕ)) (input : List ℕ) (m : Assignment) (fuel : ℕ) (events : List EventLine) where
   pub audit_only : IsAudited words input m fuel events → (s : Status) (text : List ℕ) → IsReply words (Some input) s text → IsVerdict m fuel events s text
   audit_only is s text reply =
-      file_only laws input is.source m fuel events s text is.file is.within is.front is.well (is_file_reply words input s text is.asked (subst (λ (l : List ℕ). Replies words l s text) reply.told reply.reply))
+      file_only laws input is.source m fuel events s text is.file is.within is.front is.meets (is_file_reply words input s text is.asked (subst (λ (l : List ℕ). Replies words l s text) reply.told reply.reply))
 
   pub audit_told : IsAudited words input m fuel events → (v : Verdict) → Audits m fuel events v → (old new : Option (List ℕ)) (code : ℕ) → Replied words (Some input) old new code
       → (code ≡ code_of (status_of v)) × Appends old new (verdict_line fuel v)

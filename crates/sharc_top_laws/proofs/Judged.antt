@@ -3,7 +3,7 @@ use Rattle.std.proofs.Common.{◌≡◌, ℕ, ◌<◌, ◌≤◌, List, length, 
 use Rattle.sharc_tree.specs.declared.token.FaultAt.{FaultAt}
 use Rattle.sharc_ctype.specs.Resolved.{IsResolved}
 use Rattle.sharc_mode.specs.Moded.{Assignment}
-use Rattle.sharc_mode.specs.WellModed.{WellModed}
+use Rattle.sharc_mode_laws.specs.Rules.{MeetsRules}
 use Rattle.sharc_check.specs.Laws.{CheckLaws}
 use Rattle.sharc_suggest.specs.Laws.{SuggestLaws}
 use Rattle.sharc_audit.specs.declared.line.EventLine.{EventLine}
@@ -38,9 +38,9 @@ not_long limit input long short = omega (arith, long, short)
 module _ (laws : FileReplyLaws) where
   one_judging : (m : Assignment) → IsResolved m.typed → (fuel : ℕ) (events : List EventLine) (s z : Status) (text other : List ℕ) → Judges m fuel events s text → Judges m fuel events z other → Same s z text other
   one_judging m typed fuel events s z text other (not_judged t is) (not_judged u also) = (refl, one_refusal laws.warnings laws.checks laws.suggests m t u is also)
-  one_judging m typed fuel events s z text other (not_judged t is) (judged v well a) = absurd (is.not_well_moded well)
-  one_judging m typed fuel events s z text other (judged v well a) (not_judged t is) = absurd (is.not_well_moded well)
-  one_judging m typed fuel events s z text other (judged v well a) (judged w also b) = let same = laws.verdicts m fuel events v w typed a b in (ap status_of same, ap (verdict_line fuel) same)
+  one_judging m typed fuel events s z text other (not_judged t is) (judged v meets a) = absurd (is.breaks_rules meets)
+  one_judging m typed fuel events s z text other (judged v meets a) (not_judged t is) = absurd (is.breaks_rules meets)
+  one_judging m typed fuel events s z text other (judged v meets a) (judged w also b) = let same = laws.verdicts m fuel events v w typed a b in (ap status_of same, ap (verdict_line fuel) same)
 
   one_source : (source : List ℕ) (fuel : ℕ) (events : List EventLine) (s z : Status) (text other : List ℕ) → JudgesSource source fuel events s text → JudgesSource source fuel events z other → Same s z text other
   one_source source fuel events s z text other (faulty_source stage at is) (faulty_source stage' at' also) =
@@ -106,19 +106,19 @@ module _ (laws : FileReplyLaws) where
       one_source source' fuel' events' y x t u (moved input source source' fuel fuel' events events' y t f f' is) also
 
   -- ---- of a program whose modes are accepted
-  judged_only : (m : Assignment) (fuel : ℕ) (events : List EventLine) (s : Status) (text : List ℕ) → WellModed m → Judges m fuel events s text → IsVerdict m fuel events s text
-  judged_only m fuel events s text well (not_judged t is) = absurd (is.not_well_moded well)
-  judged_only m fuel events s text well (judged v also a) = record { verdict = v; audits = a; ends = refl; written = refl }
+  judged_only : (m : Assignment) (fuel : ℕ) (events : List EventLine) (s : Status) (text : List ℕ) → MeetsRules m → Judges m fuel events s text → IsVerdict m fuel events s text
+  judged_only m fuel events s text meets (not_judged t is) = absurd (is.breaks_rules meets)
+  judged_only m fuel events s text meets (judged v also a) = record { verdict = v; audits = a; ends = refl; written = refl }
 
-  source_only : (source : List ℕ) (m : Assignment) (fuel : ℕ) (events : List EventLine) (s : Status) (text : List ℕ) → IsFront source m → WellModed m → JudgesSource source fuel events s text → IsVerdict m fuel events s text
-  source_only source m fuel events s text front well (faulty_source stage at is) = absurd (laws.sources.faultless source m front stage at is)
-  source_only source m fuel events s text front well (of_program n y t also does) = judged_only m fuel events y t well (subst (λ (k : Assignment). Judges k fuel events y t) (laws.sources.program source n m also front) does)
+  source_only : (source : List ℕ) (m : Assignment) (fuel : ℕ) (events : List EventLine) (s : Status) (text : List ℕ) → IsFront source m → MeetsRules m → JudgesSource source fuel events s text → IsVerdict m fuel events s text
+  source_only source m fuel events s text front meets (faulty_source stage at is) = absurd (laws.sources.faultless source m front stage at is)
+  source_only source m fuel events s text front meets (of_program n y t also does) = judged_only m fuel events y t meets (subst (λ (k : Assignment). Judges k fuel events y t) (laws.sources.program source n m also front) does)
 
-  pub file_only : (input source : List ℕ) (m : Assignment) (fuel : ℕ) (events : List EventLine) (s : Status) (text : List ℕ) → IsFewIn input source fuel events → length source ≤ source_limit → IsFront source m → WellModed m
+  pub file_only : (input source : List ℕ) (m : Assignment) (fuel : ℕ) (events : List EventLine) (s : Status) (text : List ℕ) → IsFewIn input source fuel events → length source ≤ source_limit → IsFront source m → MeetsRules m
       → FileReplies input s text → IsVerdict m fuel events s text
-  file_only input source m fuel events s text f small front well (long_file long) = absurd (not_long file_limit input long f.short)
-  file_only input source m fuel events s text f small front well (no_file n short bad) = absurd (bad_or_few input source fuel events n bad f)
-  file_only input source m fuel events s text f small front well (many_events short many) = absurd (many_or_few input source fuel events many f)
-  file_only input source m fuel events s text f small front well (long_source source' fuel' events' f' big) = absurd (long_or_short input source' source fuel' fuel events' events f' f big small)
-  file_only input source m fuel events s text f small front well (source_judged source' fuel' events' f' small' y t is) =
-      source_only source m fuel events y t front well (moved input source' source fuel' fuel events' events y t f' f is)
+  file_only input source m fuel events s text f small front meets (long_file long) = absurd (not_long file_limit input long f.short)
+  file_only input source m fuel events s text f small front meets (no_file n short bad) = absurd (bad_or_few input source fuel events n bad f)
+  file_only input source m fuel events s text f small front meets (many_events short many) = absurd (many_or_few input source fuel events many f)
+  file_only input source m fuel events s text f small front meets (long_source source' fuel' events' f' big) = absurd (long_or_short input source' source fuel' fuel events' events f' f big small)
+  file_only input source m fuel events s text f small front meets (source_judged source' fuel' events' f' small' y t is) =
+      source_only source m fuel events y t front meets (moved input source' source fuel' fuel events' events y t f' f is)

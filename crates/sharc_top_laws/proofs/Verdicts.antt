@@ -38,9 +38,9 @@ module _ (warnings : WarningsAreOne) (checks : CheckLaws) (suggests : SuggestLaw
       ∙ sym b.written
 
   one_check : (s z : Status) (text other : List ℕ) → Checks m s text → Checks m z other → (s ≡ z) × (text ≡ other)
-  one_check s z text other (accepted w well are) (accepted v also them) = (refl, ap (λ (l : List Warning). accepted_text m.typed l) (warnings m.typed w v are them))
-  one_check s z text other (accepted w well are) (refused t is) = absurd (is.not_well_moded well)
-  one_check s z text other (refused t is) (accepted w well are) = absurd (is.not_well_moded well)
+  one_check s z text other (accepted w meets are) (accepted v also them) = (refl, ap (λ (l : List Warning). accepted_text m.typed l) (warnings m.typed w v are them))
+  one_check s z text other (accepted w meets are) (refused t is) = absurd (is.breaks_rules meets)
+  one_check s z text other (refused t is) (accepted w meets are) = absurd (is.breaks_rules meets)
   one_check s z text other (refused t is) (refused u also) = (refl, one_refusal t u is also)
 
   one_explanation : (s z : Status) (text other : List ℕ) → Explains m s text → Explains m z other → (s ≡ z) × (text ≡ other)
@@ -50,14 +50,14 @@ module _ (warnings : WarningsAreOne) (checks : CheckLaws) (suggests : SuggestLaw
 
   one_run : (s z : Status) (text other : List ℕ) → Runs m s text → Runs m z other → (s ≡ z) × (text ≡ other)
   one_run s z text other (not_run t is) (not_run u also) = (refl, one_refusal t u is also)
-  one_run s z text other (not_run t is) (printed numbers well are) = absurd (is.not_well_moded well)
-  one_run s z text other (not_run t is) (not_built well none) = absurd (is.not_well_moded well)
-  one_run s z text other (printed numbers well are) (not_run u is) = absurd (is.not_well_moded well)
-  one_run s z text other (printed numbers well are) (printed others also them) = (refl, ap numbers_text (same_some (program_values m.typed.program) numbers others are them))
-  one_run s z text other (printed numbers well are) (not_built also none) = absurd (some_or_none (program_values m.typed.program) numbers are none)
-  one_run s z text other (not_built well none) (not_run u is) = absurd (is.not_well_moded well)
-  one_run s z text other (not_built well none) (printed numbers also are) = absurd (some_or_none (program_values m.typed.program) numbers are none)
-  one_run s z text other (not_built well none) (not_built also them) = (refl, refl)
+  one_run s z text other (not_run t is) (printed numbers meets are) = absurd (is.breaks_rules meets)
+  one_run s z text other (not_run t is) (not_built meets none) = absurd (is.breaks_rules meets)
+  one_run s z text other (printed numbers meets are) (not_run u is) = absurd (is.breaks_rules meets)
+  one_run s z text other (printed numbers meets are) (printed others also them) = (refl, ap numbers_text (same_some (program_values m.typed.program) numbers others are them))
+  one_run s z text other (printed numbers meets are) (not_built also none) = absurd (some_or_none (program_values m.typed.program) numbers are none)
+  one_run s z text other (not_built meets none) (not_run u is) = absurd (is.breaks_rules meets)
+  one_run s z text other (not_built meets none) (printed numbers also are) = absurd (some_or_none (program_values m.typed.program) numbers are none)
+  one_run s z text other (not_built meets none) (not_built also them) = (refl, refl)
 
   pub one_done : (t : Task) (s z : Status) (text other : List ℕ) → Does t m s text → Does t m z other → (s ≡ z) × (text ≡ other)
   one_done task.Check s z text other a b = one_check s z text other a b

@@ -2,7 +2,7 @@
 use Rattle.std.specs.Prelude.{◌≡◌, ℕ, ◌≤◌, List, length, Option, Some}
 use Rattle.std.specs.Io.KnownBytes.{Appends}
 use Rattle.sharc_mode.specs.Moded.{Assignment}
-use Rattle.sharc_mode.specs.WellModed.{WellModed}
+use Rattle.sharc_mode_laws.specs.Rules.{MeetsRules}
 use Rattle.sharc_audit.specs.declared.audit.Verdict.{Verdict}
 use Rattle.sharc_audit.specs.declared.line.EventLine.{EventLine}
 use Rattle.sharc_audit.specs.Audited.{Audits}
@@ -23,7 +23,7 @@ pub record IsAudited (words : List (List ℕ)) (input : List ℕ) (m : Assignmen
   pub file : IsFewIn input source fuel events
   pub within : length source ≤ source_limit
   pub front : IsFront source m
-  pub well : WellModed m
+  pub meets : MeetsRules m
 
 -- a reply is the line of a verdict of its events
 pub record IsVerdict (m : Assignment) (fuel : ℕ) (events : List EventLine) (s : Status) (text : List ℕ) : Type 0 where

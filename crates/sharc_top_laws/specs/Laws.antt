@@ -5,7 +5,7 @@ use Rattle.sharc_tree.specs.declared.token.FaultAt.{FaultAt}
 use Rattle.sharc_ctype.specs.Resolved.{Resolution}
 use Rattle.sharc_mode.specs.declared.error.Warning.{Warning}
 use Rattle.sharc_mode.specs.Moded.{Assignment}
-use Rattle.sharc_mode.specs.WellModed.{WellModed}
+use Rattle.sharc_mode_laws.specs.Rules.{MeetsRules}
 use Rattle.sharc_live.specs.Uses.{AreWarnings}
 use Rattle.sharc_cli.specs.Commands.{commands}
 use Rattle.sharc_report.specs.Explanations.{explain_text}
@@ -83,27 +83,27 @@ pub record IsExplanation (m : Assignment) (text : List ℕ) : Type 0 where
 -- where the modes are accepted no reply is another, whether it is written whole or in part
 abbrev pub ChecksAreOnly : Type 0
 ChecksAreOnly =
-    (words : List (List ℕ)) (input : List ℕ) (m : Assignment) → IsAsked words task.Check input m → WellModed m → (s : Status) (text : List ℕ) → IsReply words (Some input) s text → (s ≡ status.Done) × IsAcceptance m text
+    (words : List (List ℕ)) (input : List ℕ) (m : Assignment) → IsAsked words task.Check input m → MeetsRules m → (s : Status) (text : List ℕ) → IsReply words (Some input) s text → (s ≡ status.Done) × IsAcceptance m text
 
 abbrev pub ExplainsAreOnly : Type 0
 ExplainsAreOnly =
-    (words : List (List ℕ)) (input : List ℕ) (m : Assignment) → IsAsked words task.Explain input m → WellModed m → (s : Status) (text : List ℕ) → IsReply words (Some input) s text → (s ≡ status.Done) × IsExplanation m text
+    (words : List (List ℕ)) (input : List ℕ) (m : Assignment) → IsAsked words task.Explain input m → MeetsRules m → (s : Status) (text : List ℕ) → IsReply words (Some input) s text → (s ≡ status.Done) × IsExplanation m text
 
 -- so where it is written whole the exit status is 0
 abbrev pub ChecksAreTold : Type 0
 ChecksAreTold =
-    (words : List (List ℕ)) (input : List ℕ) (m : Assignment) → IsAsked words task.Check input m → WellModed m → (old new : Option (List ℕ)) (code : ℕ) → Replied words (Some input) old new code
+    (words : List (List ℕ)) (input : List ℕ) (m : Assignment) → IsAsked words task.Check input m → MeetsRules m → (old new : Option (List ℕ)) (code : ℕ) → Replied words (Some input) old new code
     → (code ≡ 0) × (text : List ℕ) × IsAcceptance m text × Appends old new text
 
 abbrev pub ExplainsAreTold : Type 0
 ExplainsAreTold =
-    (words : List (List ℕ)) (input : List ℕ) (m : Assignment) → IsAsked words task.Explain input m → WellModed m → (old new : Option (List ℕ)) (code : ℕ) → Replied words (Some input) old new code
+    (words : List (List ℕ)) (input : List ℕ) (m : Assignment) → IsAsked words task.Explain input m → MeetsRules m → (old new : Option (List ℕ)) (code : ℕ) → Replied words (Some input) old new code
     → (code ≡ 0) × (text : List ℕ) × IsExplanation m text × Appends old new text
 
 -- and where they are not it is 1, for `run` too
 abbrev pub OthersAreRefused : Type 0
 OthersAreRefused =
-    (words : List (List ℕ)) (t : Task) (input : List ℕ) (m : Assignment) → IsAsked words t input m → ¬ (WellModed m) → (old new : Option (List ℕ)) (code : ℕ) → Replied words (Some input) old new code → code ≡ 1
+    (words : List (List ℕ)) (t : Task) (input : List ℕ) (m : Assignment) → IsAsked words t input m → ¬ (MeetsRules m) → (old new : Option (List ℕ)) (code : ℕ) → Replied words (Some input) old new code → code ≡ 1
 
 pub record VerdictLaws : Type 0 where
   pub check_only : ChecksAreOnly

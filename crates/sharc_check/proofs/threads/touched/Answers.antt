@@ -7,9 +7,9 @@ use Rattle.sharc_check.proofs.threads.touched.Goals as goal
 
 pub loop-n-preserved : goal.loop-n-preserved
 loop-n-preserved c =
-    let m = c.args.m.now in
+    let m = c.args.program.now in
     let a = c.args.reached.now in
-    let typed = c.typed-t.ensures in
+    let typed = c.typed-typed.ensures in
     let gs = globals_in m.typed.program.items in
     let n = c.loop-n.n in
     let before = c.loop-n.notes.items in

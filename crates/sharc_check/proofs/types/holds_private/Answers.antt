@@ -7,7 +7,7 @@ use Rattle.sharc_check.proofs.types.holds_private.Goals.{else-above-via-then-abo
 
 pub returns-then-private : goal.returns-then-private
 returns-then-private c =
-    let m = c.args.m.now in
+    let m = c.args.program.now in
     let n = c.args.numbered.now in
     let whole = c.position_count-all.ensures.whole.modes in
     let below : c.loop-i.i < positions_of n.entity = omega (arith, c.loop-i-test.true, c.positions-i-end.ensures) in
@@ -17,7 +17,7 @@ returns-then-private c =
 
 pub loop-i-preserved : goal.loop-i-preserved
 loop-i-preserved c =
-    let m = c.args.m.now in
+    let m = c.args.program.now in
     let n = c.args.numbered.now in
     let whole = c.position_count-all.ensures.whole.modes in
     let above = c.loop-i.above in

@@ -4,4 +4,4 @@ use Rattle.sharc_mode.specs.Notes.{names_in_level}
 use Rattle.sharc_check.proofs.types.names.Given as goal
 
 abbrev pub invariant-loop-level : goal.invariant-loop-level
-invariant-loop-level l = l.notes.items ++ flat_map (names_in_level l.t) (drop l.level-index l.levels) ≡ l.fn.notes.items ++ flat_map (names_in_level l.t) l.levels
+invariant-loop-level l = l.notes.items ++ flat_map (names_in_level l.typed) (drop l.level-index l.levels) ≡ l.fn.notes.items ++ flat_map (names_in_level l.typed) l.levels

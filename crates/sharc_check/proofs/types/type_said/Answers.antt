@@ -9,9 +9,9 @@ use Rattle.sharc_check.proofs.types.type_said.Goals as goal
 
 pub returns : goal.returns
 returns c =
-    let m = c.args.m.now in
+    let m = c.args.program.now in
     let n = c.args.numbered.now in
-    let typed = c.typed-t.ensures in
+    let typed = c.typed-typed.ensures in
     let span = n.entity.written.span in
     let base = n.entity.written.ctype.base in
     let levels = n.entity.written.ctype.levels in
@@ -27,5 +27,5 @@ returns c =
     (c.in_ok-path.ensures ∙ ap (λ r. n1 ++ P r) typed) c.in_ok-mode.ensures (c.in_ok-private_field.ensures ∙ ap (λ r. n3 ++ F r) typed)
     in
     subst (λ l. OnOk c.names.result (c.names.new.notes.items ≡ l))
-    (ap (λ l. n4 ++ flat_map (names_in_level c.typed-t.result.now) l) c.as_slice.ensures ∙ ap (λ r. n4 ++ N r) typed ∙ said)
+    (ap (λ l. n4 ++ flat_map (names_in_level c.typed-typed.result.now) l) c.as_slice.ensures ∙ ap (λ r. n4 ++ N r) typed ∙ said)
     c.names.ensures

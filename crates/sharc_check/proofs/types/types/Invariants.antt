@@ -6,5 +6,5 @@ use Rattle.sharc_check.proofs.types.types.Given as goal
 
 abbrev pub invariant-loop-numbered : goal.invariant-loop-numbered
 invariant-loop-numbered l =
-    l.notes.items ++ flat_map (type_notes l.m) (drop l.numbered-index (numbered (entities_in l.m.typed.program.items)))
-    ≡ l.fn.notes.items ++ flat_map (type_notes l.m) (numbered (entities_in l.m.typed.program.items))
+    l.notes.items ++ flat_map (type_notes l.program) (drop l.numbered-index (numbered (entities_in l.program.typed.program.items)))
+    ≡ l.fn.notes.items ++ flat_map (type_notes l.program) (numbered (entities_in l.program.typed.program.items))

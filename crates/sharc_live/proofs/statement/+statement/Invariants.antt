@@ -5,4 +5,4 @@ use Rattle.sharc_live.specs.Flows.{statements_flow}
 use Rattle.sharc_live.proofs.statement.+statement.Given as goal
 
 abbrev pub invariant-statements-loop-stmt : goal.invariant-statements-loop-stmt
-invariant-statements-loop-stmt l = l.steps.items ++ listing (statements_flow l.t (view_statements (drop l.stmt-index l.all))) ≡ l.fn.steps.items ++ listing (statements_flow l.t (view_statements l.all))
+invariant-statements-loop-stmt l = l.steps.items ++ listing (statements_flow l.typed (view_statements (drop l.stmt-index l.all))) ≡ l.fn.steps.items ++ listing (statements_flow l.typed (view_statements l.all))

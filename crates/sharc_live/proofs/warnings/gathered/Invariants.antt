@@ -6,4 +6,4 @@ use Rattle.sharc_live.specs.Gathers.{AddsAll}
 use Rattle.sharc_live.proofs.warnings.gathered.Given as goal
 
 abbrev pub invariant-loop-item : goal.invariant-loop-item
-invariant-loop-item l = (last : List Warning) → AddsAll l.t (functions_in (view_items (drop l.item-index l.items))) l.found.items last → AddsAll l.t (functions_in (view_items l.items)) [] last
+invariant-loop-item l = (last : List Warning) → AddsAll l.typed (functions_in (view_items (drop l.item-index l.items))) l.found.items last → AddsAll l.typed (functions_in (view_items l.items)) [] last

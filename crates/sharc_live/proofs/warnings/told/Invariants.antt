@@ -3,4 +3,4 @@ use Rattle.sharc_live.specs.Uses.{warning_at}
 use Rattle.sharc_live.proofs.warnings.told.Given as goal
 
 abbrev pub invariant-loop-w : goal.invariant-loop-w
-invariant-loop-w l = l.list.items ++ map (warning_at l.t) (drop l.w-index l.found) ≡ map (warning_at l.t) l.found
+invariant-loop-w l = l.list.items ++ map (warning_at l.typed) (drop l.w-index l.found) ≡ map (warning_at l.typed) l.found

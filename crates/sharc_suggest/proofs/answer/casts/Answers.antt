@@ -6,11 +6,11 @@ use Rattle.sharc_suggest.proofs.answer.casts.Goals as goal
 
 pub returns : goal.returns
 returns c =
-    let flags = c.in_ok-named.named.items in
+    let flags = c.args.named.now in
     record {
       named = told flags;
-      tells = c.in_ok-named.ensures;
-      are = casts_are c.args.m.now flags c.as_slice.result.now c.new-casts.result.items c.items.new.casts.items (view_items c.as_slice-2.result.now) c.new-casts.ensures.items c.as_slice.ensures.value
-          (ap view_items c.as_slice-2.ensures ∙ ap (λ p. p.items) c.program.ensures.program ∙ ap (λ r. r.program.items) c.typed.ensures)
+      tells = c.requires;
+      are = casts_are c.args.program.now flags c.new-casts.result.items c.items.new.casts.items (view_items c.as_slice.result.now) c.new-casts.ensures.items
+          (ap view_items c.as_slice.ensures ∙ ap (λ p. p.items) c.program-tree.ensures.program ∙ ap (λ r. r.program.items) c.typed.ensures)
           c.in_ok-items.ensures;
     }

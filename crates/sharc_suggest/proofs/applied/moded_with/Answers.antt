@@ -10,8 +10,8 @@ use Rattle.sharc_suggest.proofs.applied.moded_with.Goals as goal
 
 pub returns : goal.returns
 returns c =
-    let cast = c.args.c.now in
-    let old = c.args.m.now in
+    let cast = c.args.cast.now in
+    let old = c.args.program.now in
     let new : List Mode = targets cast.to.levels in
     let first : c.first_of-first.result ≡ first_new cast old.typed = c.first_of-first.ensures ∙ ap (λ (r : Resolution). first_of (entity_at r cast.from cast.until)) c.requires in
     let modes : c.in_ok-modes.modes.items ≡ (assignment_with cast old).modes = c.in_ok-modes.ensures.modes ∙ ap (λ (n : ℕ). inserted n new old.modes) first in

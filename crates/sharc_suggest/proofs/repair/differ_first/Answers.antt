@@ -5,7 +5,7 @@ use Rattle.sharc_suggest.proofs.repair.differ_first.Goals as goal
 
 pub returns-else-same_rows : goal.returns-else-same_rows
 returns-else-same_rows c =
-    let m = c.args.m.now in
+    let m = c.args.program.now in
     let whole = c.position_count-all.ensures.whole.modes in
     let expected = view_row c.args.expected in
     let found = view_row c.args.found in

@@ -8,7 +8,7 @@ use Rattle.sharc_suggest.proofs.repair.keeps_all.Goals as goal
 
 pub loop-left-preserved : goal.loop-left-preserved
 loop-left-preserved c =
-    let m = c.args.m.now in
+    let m = c.args.program.now in
     let scope = c.args.scope.now in
     let laws = c.row_laws.ensures in
     let limit = position_count m.typed in
@@ -22,5 +22,5 @@ loop-left-preserved c =
     record {
       ends = step_ends laws limit row next ends c.deeper-left.ensures;
       kept = kept_one m.typed scope (modes_of m row) (modes_of m next) s (keeps_all m.typed scope (modes_of m (view_row c.args.row))) step
-          (ap (λ r. keeps r scope s) (sym c.typed-t.ensures) ∙ sym c.keeps.ensures ∙ c.if-not-keeps.false) c.loop-left.invariant.kept;
+          (ap (λ r. keeps r scope s) (sym c.typed-typed.ensures) ∙ sym c.keeps.ensures ∙ c.if-not-keeps.false) c.loop-left.invariant.kept;
     }

@@ -7,8 +7,8 @@ use Rattle.sharc_suggest.proofs.repair.keeps_all.Given as goal
 
 abbrev pub invariant-loop-left : goal.invariant-loop-left
 invariant-loop-left l = record {
-  ends : l.left.first + l.left.count ≤ position_count l.m.typed;
-  kept : keeps_all l.m.typed l.scope (modes_of l.m (view_row l.left)) ≡ keeps_all l.m.typed l.scope (modes_of l.m (view_row l.fn.row));
+  ends : l.left.first + l.left.count ≤ position_count l.program.typed;
+  kept : keeps_all l.program.typed l.scope (modes_of l.program (view_row l.left)) ≡ keeps_all l.program.typed l.scope (modes_of l.program (view_row l.fn.row));
 }
 
 abbrev pub decreases-loop-left : goal.decreases-loop-left

@@ -7,8 +7,8 @@ use Rattle.sharc_suggest.proofs.statement.+statement.Goals as goal
 
 pub statement-returns-in_ok-leave-in-Block-clause-casts : goal.statement-returns-in_ok-leave-in-Block-clause-casts
 statement-returns-in_ok-leave-in-Block-clause-casts t c =
-    let m = c.args.k.moded.now in
-    let named = told c.args.k.named.now in
+    let m = c.args.known.moded.now in
+    let named = told c.args.known.named.now in
     let scope = c.args.scope.now in
     let f = c.args.function in
     let same : casts_in_all m named scope f (view_statements c.as_slice.result.now) ≡ casts_in m named scope f (view_stmt c.args.stmt.now) =

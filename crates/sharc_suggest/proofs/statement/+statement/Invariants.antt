@@ -7,5 +7,5 @@ use Rattle.sharc_suggest.proofs.statement.+statement.Given as goal
 abbrev pub invariant-statements-loop-stmt : goal.invariant-statements-loop-stmt
 invariant-statements-loop-stmt l = record {
   scope : after_all l.scope (view_statements (drop l.stmt-index l.all)) ≡ after_all l.fn.scope (view_statements l.all);
-  casts : l.casts.items ++ casts_in_all l.k.moded.now (told l.k.named.now) l.scope l.function (view_statements (drop l.stmt-index l.all)) ≡ l.fn.casts.items ++ casts_in_all l.k.moded.now (told l.k.named.now) l.fn.scope l.function (view_statements l.all);
+  casts : l.casts.items ++ casts_in_all l.known.moded.now (told l.known.named.now) l.scope l.function (view_statements (drop l.stmt-index l.all)) ≡ l.fn.casts.items ++ casts_in_all l.known.moded.now (told l.known.named.now) l.fn.scope l.function (view_statements l.all);
 }

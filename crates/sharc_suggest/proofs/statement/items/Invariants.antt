@@ -5,4 +5,4 @@ use Rattle.sharc_suggest.specs.Repairs.{told}
 use Rattle.sharc_suggest.proofs.statement.items.Given as goal
 
 abbrev pub invariant-loop-one : goal.invariant-loop-one
-invariant-loop-one l = l.casts.items ++ items_casts l.k.moded.now (told l.k.named.now) (view_items (drop l.one-index l.items)) ≡ l.fn.casts.items ++ items_casts l.k.moded.now (told l.k.named.now) (view_items l.items)
+invariant-loop-one l = l.casts.items ++ items_casts l.known.moded.now (told l.known.named.now) (view_items (drop l.one-index l.items)) ≡ l.fn.casts.items ++ items_casts l.known.moded.now (told l.known.named.now) (view_items l.items)

@@ -1,6 +1,7 @@
 use Rattle.std.proofs.Common.{sym, subst, IfOk}
 use Rattle.std.proofs.lemmas.Result.{IfOk-weaker}
 use Rattle.sharc_check.specs.Checks.{IsRefused}
+use Rattle.sharc_check.specs.Named.{TellNamed}
 use Rattle.sharc_top.specs.EventFiles.{Judges}
 use Rattle.sharc_top.specs.Verdict.{IsModeRefusal}
 use Rattle.sharc_top.proofs.Judging.{judges_refused}
@@ -9,10 +10,15 @@ use Rattle.sharc_top.proofs.audited.judged_with.Goals as goal
 pub returns-in-Ok : goal.returns-in-Ok
 returns-in-Ok c = subst (λ x. IfOk c.judged.result (λ reply. Judges x c.args.file.now.fuel c.args.file.now.events reply.status reply.text.items)) c.in-Ok.ensures.0 c.judged.ensures
 
-pub mode_refusal-requires : goal.mode_refusal-requires
-mode_refusal-requires c =
+pub mode_refusal-requires-clause-refused : goal.mode_refusal-requires-clause-refused
+mode_refusal-requires-clause-refused c =
     let told = rw c.in-Err-Modes.field-0-is at c.in-Err-Modes.ensures in
     subst (λ x. IsRefused x c.in-Err-Modes.errors) (sym told.0) told.1
+
+pub mode_refusal-requires-clause-named : goal.mode_refusal-requires-clause-named
+mode_refusal-requires-clause-named c =
+    let told = rw c.in-Err-Modes.field-0-is at c.in-Err-Modes.ensures in
+    subst (λ x. TellNamed x c.in-Err-Modes.named) (sym told.0) told.2
 
 pub returns-in-Err-Modes : goal.returns-in-Err-Modes
 returns-in-Err-Modes c =

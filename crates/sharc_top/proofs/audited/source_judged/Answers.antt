@@ -7,7 +7,7 @@ use Rattle.sharc_top.proofs.audited.source_judged.Goals as goal
 pub returns-in-Ok : goal.returns-in-Ok
 returns-in-Ok c =
     let front = rw c.deref.ensures.value at c.in-Ok.ensures in
-    IfOk-weaker c.judged_with.result _ _ (λ reply is. source_program c.args.file.now.source.items _ _ _ _ _ front is) c.judged_with.ensures
+    IfOk-weaker c.judged_with.result _ _ (λ reply is. source_program c.args.file.now.source.items _ _ _ _ _ front.0 is) c.judged_with.ensures
 
 pub refusal-requires : goal.refusal-requires
 refusal-requires c =

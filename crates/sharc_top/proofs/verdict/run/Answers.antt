@@ -1,19 +1,25 @@
 use Rattle.std.proofs.Common.{◌∙◌, sym, subst, IfOk}
 use Rattle.std.proofs.lemmas.Result.{IfOk-weaker}
 use Rattle.sharc_check.specs.Checks.{IsRefused}
+use Rattle.sharc_check.specs.Named.{TellNamed}
 use Rattle.sharc_top.specs.Verdict.{Runs, IsModeRefusal}
 use Rattle.sharc_top.proofs.Verdicts.{runs_refused}
 use Rattle.sharc_top.proofs.verdict.run.Goals as goal
 
 pub returns-in-Ok : goal.returns-in-Ok
-returns-in-Ok c = subst (λ x. IfOk c.prints.result (λ reply. Runs x reply.status reply.text.items)) (c.moded.ensures.moded ∙ c.in-Ok.ensures.0) c.prints.ensures
+returns-in-Ok c = subst (λ x. IfOk c.prints-reply.result (λ reply. Runs x reply.status reply.text.items)) (c.moded.ensures.moded ∙ c.in-Ok.ensures.0) c.prints-reply.ensures
 
-pub mode_refusal-requires : goal.mode_refusal-requires
-mode_refusal-requires c =
+pub mode_refusal-reply-requires-clause-refused : goal.mode_refusal-reply-requires-clause-refused
+mode_refusal-reply-requires-clause-refused c =
     let told = rw c.in-Err-Modes.field-0-is at c.in-Err-Modes.ensures in
     subst (λ x. IsRefused x c.in-Err-Modes.errors) (sym told.0) told.1
+
+pub mode_refusal-reply-requires-clause-named : goal.mode_refusal-reply-requires-clause-named
+mode_refusal-reply-requires-clause-named c =
+    let told = rw c.in-Err-Modes.field-0-is at c.in-Err-Modes.ensures in
+    subst (λ x. TellNamed x c.in-Err-Modes.named) (sym told.0) told.2
 
 pub returns-in-Err-Modes : goal.returns-in-Err-Modes
 returns-in-Err-Modes c =
     let told = rw c.in-Err-Modes.field-0-is at c.in-Err-Modes.ensures in
-    IfOk-weaker c.mode_refusal.result _ _ (λ reply is. runs_refused _ _ _ is.0 (subst (λ x. IsModeRefusal x reply.text.items) told.0 is.1)) c.mode_refusal.ensures
+    IfOk-weaker c.mode_refusal-reply.result _ _ (λ reply is. runs_refused _ _ _ is.0 (subst (λ x. IsModeRefusal x reply.text.items) told.0 is.1)) c.mode_refusal-reply.ensures

@@ -5,7 +5,7 @@ use Rattle.sharc_top.proofs.Verdicts.{answers_faulty, answers_program}
 use Rattle.sharc_top.proofs.words.answer.Goals as goal
 
 pub returns-in-Ok : goal.returns-in-Ok
-returns-in-Ok c = IfOk-weaker c.done.result _ _ (λ reply is. answers_program _ _ _ _ _ c.in-Ok.ensures is) c.done.ensures
+returns-in-Ok c = IfOk-weaker c.done.result _ _ (λ reply is. answers_program _ _ _ _ _ c.in-Ok.ensures.0 is) c.done.ensures
 
 pub refusal-requires : goal.refusal-requires
 refusal-requires c =

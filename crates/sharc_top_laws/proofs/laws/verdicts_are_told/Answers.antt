@@ -5,9 +5,9 @@ pub returns : goal.returns
 returns c =
     let laws = c.sources_are_one.ensures in
     record {
-      check_only = λ words input m is well s text reply. check_only laws words input m is well s text reply;
-      explain_only = λ words input m is well s text reply. explain_only laws words input m is well s text reply;
-      checks = λ words input m is well old new code replied. checked laws words input m is well old new code replied;
-      explains = λ words input m is well old new code replied. explains laws words input m is well old new code replied;
+      check_only = λ words input m is meets s text reply. check_only laws words input m is meets s text reply;
+      explain_only = λ words input m is meets s text reply. explain_only laws words input m is meets s text reply;
+      checks = λ words input m is meets old new code replied. checked laws words input m is meets old new code replied;
+      explains = λ words input m is meets old new code replied. explains laws words input m is meets old new code replied;
       refused = λ words t input m is ill old new code replied. ends_refused laws words input m t is ill old new code replied;
     }

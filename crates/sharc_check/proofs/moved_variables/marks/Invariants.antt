@@ -1,0 +1,6 @@
+use Rattle.std.proofs.Common.{◌≡◌, drop, fold}
+use Rattle.sharc_check.specs.Settles.{marked, marks}
+use Rattle.sharc_check.proofs.moved_variables.marks.Given as goal
+
+abbrev pub invariant-loop-note : goal.invariant-loop-note
+invariant-loop-note l = fold marked l.flags.items (drop l.note-index l.notes) ≡ marks l.notes

@@ -1,0 +1,16 @@
+use Rattle.std.proofs.Common.{◌≡◌, ◌+◌, ◌≤◌}
+use Rattle.sharc_mode.specs.Moded.{position_count}
+use Rattle.std.specs.List.{list_any}
+use Rattle.sharc_mode.specs.Rows.{modes_of}
+use Rattle.sharc_mode.specs.Sharings.{is_sibling}
+use Rattle.sharc_mode.specs.View.{view_row}
+use Rattle.sharc_check.proofs.rules.any_sibling.Given as goal
+
+abbrev pub invariant-loop-left : goal.invariant-loop-left
+invariant-loop-left l = record {
+  ends : l.left.first + l.left.count ≤ position_count l.program.typed;
+  any : list_any (is_sibling l.program.typed) (modes_of l.program (view_row l.left)) ≡ list_any (is_sibling l.program.typed) (modes_of l.program (view_row l.fn.row));
+}
+
+abbrev pub decreases-loop-left : goal.decreases-loop-left
+decreases-loop-left l = l.left.count

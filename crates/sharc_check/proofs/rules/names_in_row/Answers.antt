@@ -1,0 +1,26 @@
+use Rattle.std.proofs.Common.{◌+◌, ◌≤◌, ◌++◌, length, ap, ◌∙◌, arith}
+use Rattle.sharc_mode.specs.Moded.{position_count}
+use Rattle.sharc_mode.specs.Rows.{modes_of}
+use Rattle.sharc_mode.specs.View.{view_row, view_sharing}
+use Rattle.sharc_check.proofs.RowLemmas.{step_row, step_ends, said_one}
+use Rattle.sharc_check.proofs.rules.names_in_row.Goals as goal
+use Rattle.sharc_mode.specs.Notes.{names_in, names_in_all}
+
+pub loop-left-preserved : goal.loop-left-preserved
+loop-left-preserved c =
+    let m = c.args.program.now in
+    let laws = c.row_laws.ensures in
+    let limit = position_count m.typed in
+    let whole = c.position_count-all.ensures.whole.modes in
+    let row = view_row c.loop-left.left in
+    let next = view_row c.deeper-left.result in
+    let s = view_sharing c.pointed.result in
+    let ends = c.loop-left.invariant.ends in
+    let ends_row : row.first + row.count ≤ length m.modes = omega (arith, ends, whole) in
+    let step = step_row laws m row next s c.loop-left-test.true ends_row c.pointed.ensures c.deeper-left.ensures in
+    let f = names_in m.typed in
+    record {
+      ends = step_ends laws limit row next ends c.deeper-left.ensures;
+      said = said_one f (modes_of m row) (modes_of m next) s c.loop-left.notes.items c.name_in.new.notes.items (c.args.notes.now.items ++ names_in_all m.typed (modes_of m (view_row c.args.row))) step
+          (c.in_ok-name_in.ensures ∙ ap (λ r. c.loop-left.notes.items ++ names_in r s) c.typed-typed.ensures) c.loop-left.invariant.said;
+    }

@@ -1,0 +1,9 @@
+use Rattle.std.proofs.Common.{◌≡◌, ◌++◌, drop}
+use Rattle.std.specs.List.{flat_map}
+use Rattle.sharc_mode.specs.Notes.{names_read}
+use Rattle.sharc_mode.specs.View.{view_reading}
+use Rattle.sharc_check.proofs.rules.names_read.Given as goal
+
+abbrev pub invariant-loop-level : goal.invariant-loop-level
+invariant-loop-level l =
+    l.notes.items ++ flat_map (names_read l.typed (view_reading l.reading)) (drop l.level-index l.levels) ≡ l.fn.notes.items ++ flat_map (names_read l.typed (view_reading l.reading)) l.levels

@@ -1,0 +1,29 @@
+use Rattle.std.proofs.Common.{◌+◌, ◌≤◌, length, ap, ◌∙◌, arith}
+use Rattle.sharc_mode.specs.Moded.{position_count}
+use Rattle.sharc_mode.specs.Rows.{modes_of}
+use Rattle.sharc_mode.specs.View.{view_row, view_sharing}
+use Rattle.sharc_check.proofs.RowLemmas.{step_row, step_ends, unmet_one}
+use Rattle.sharc_check.proofs.rules.unmet_in.Goals as goal
+use Rattle.std.specs.Option.{option_or}
+use Rattle.sharc_mode.specs.Notes.{unmet, unmet_in}
+use Rattle.sharc_check.specs.Passed.{view_passed, view_locks}
+
+pub loop-left-preserved : goal.loop-left-preserved
+loop-left-preserved c =
+    let m = c.args.program.now in
+    let laws = c.row_laws.ensures in
+    let limit = position_count m.typed in
+    let whole = c.position_count-all.ensures.whole.modes in
+    let row = view_row c.loop-left.left in
+    let next = view_row c.deeper-left.result in
+    let s = view_sharing c.pointed.result in
+    let ends = c.loop-left.invariant.ends in
+    let ends_row : row.first + row.count ≤ length m.modes = omega (arith, ends, whole) in
+    let step = step_row laws m row next s c.loop-left-test.true ends_row c.pointed.ensures c.deeper-left.ensures in
+    let ds = c.args.passing.parameters.now in
+    let args = view_passed c.args.passing.passed in
+    record {
+      ends = step_ends laws limit row next ends c.deeper-left.ensures;
+      first = unmet_one m.typed ds args (modes_of m row) (modes_of m next) s (view_locks c.loop-left.found) (view_locks c.or_else-found.result) (unmet_in m.typed ds args (modes_of m (view_row c.args.row))) step
+          (c.or_else-found.ensures ∙ ap (λ x. option_or x (view_locks c.loop-left.found)) (c.unmet.ensures ∙ ap (λ r. unmet r ds args s) c.typed-typed.ensures)) c.loop-left.invariant.first;
+    }

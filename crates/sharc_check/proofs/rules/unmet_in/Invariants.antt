@@ -1,0 +1,17 @@
+use Rattle.std.proofs.Common.{◌≡◌, ◌+◌, ◌≤◌}
+use Rattle.sharc_mode.specs.Moded.{position_count}
+use Rattle.std.specs.Option.{option_or}
+use Rattle.sharc_mode.specs.Notes.{unmet_in}
+use Rattle.sharc_mode.specs.Rows.{modes_of}
+use Rattle.sharc_mode.specs.View.{view_row}
+use Rattle.sharc_check.specs.Passed.{view_passed, view_locks}
+use Rattle.sharc_check.proofs.rules.unmet_in.Given as goal
+
+abbrev pub invariant-loop-left : goal.invariant-loop-left
+invariant-loop-left l = record {
+  ends : l.left.first + l.left.count ≤ position_count l.program.typed;
+  first : option_or (unmet_in l.program.typed l.passing.parameters.now (view_passed l.passing.passed) (modes_of l.program (view_row l.left))) (view_locks l.found) ≡ unmet_in l.program.typed l.passing.parameters.now (view_passed l.passing.passed) (modes_of l.program (view_row l.fn.row));
+}
+
+abbrev pub decreases-loop-left : goal.decreases-loop-left
+decreases-loop-left l = l.left.count

@@ -1,5 +1,0 @@
-use Rattle.std.proofs.Common.{length}
-use Rattle.sharc_check.proofs.say.+unmet_written.Given as goal
-
-abbrev pub decreases-unmet_written : goal.decreases-unmet_written
-decreases-unmet_written l = length l.levels.now

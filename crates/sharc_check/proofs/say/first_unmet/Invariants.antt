@@ -1,9 +1,0 @@
-use Rattle.std.proofs.Common.{◌≡◌, drop}
-use Rattle.sharc_mode.specs.Notes.{first_unmet}
-use Rattle.sharc_check.specs.Passed.{view_passed}
-use Rattle.sharc_check.proofs.say.first_unmet.Given as goal
-
-abbrev pub invariant-loop-parameter : goal.invariant-loop-parameter
-invariant-loop-parameter l =
-    first_unmet l.m l.passing.parameters.now (view_passed l.passing.passed) (drop l.parameter-index l.passing.parameters.now)
-    ≡ first_unmet l.m l.passing.parameters.now (view_passed l.passing.passed) l.passing.parameters.now

@@ -1,0 +1,136 @@
+// From what is said of all constructs to the cases that arise: M10 is decided when all is known.
+
+ghost use Rattle.std.specs.Prelude.{◌≡◌, ◌++◌, false, fold, replicate, reverse, IfOk, OnOk};
+ghost use Rattle.std.specs.List.{flat_map};
+ghost use Rattle.sharc_mode.specs.Notes.{errors_of};
+ghost use Rattle.sharc_check.specs.Settles.{taken_errors, settled, marked, marks, past, past_all};
+
+use crate::named::NamedVariables;
+use crate::rules::error;
+use sharc_ctype::typed::Typed;
+use sharc_mode::error::ModeError;
+use sharc_mode::note::Note;
+use sharc_mode::text::text_at;
+use sharc_tree::name::Name;
+use sharc_tree::token::Span;
+use std::alloc::{AllocError, Global};
+
+/// The number behind the highest token so far that a path names.
+fn past(limit: usize, note: &Note) -> usize
+    ensures { result ≡ past limit note.now }
+{
+    match note {
+        Note::Names(variable) => limit.max(*variable as usize + 1),
+        Note::Wrong(_) => limit,
+        Note::Takes(_, _) => limit,
+    }
+}
+
+/// The number behind the highest token that a path names.
+fn past_all(notes: &[Note]) -> usize
+    ensures { result ≡ past_all notes.now }
+{
+    let mut limit = 0;
+    for note in notes {
+        limit = past(limit, note);
+    }
+    limit
+}
+
+#[tactic(auto, using(std::proofs::lemmas::List::set_past))]
+fn mark(flags: &mut Vec<bool>, note: &Note)
+    ensures { flags.new.items ≡ marked flags.old.items note.now }
+{
+    match note {
+        Note::Names(variable) => {
+            let place = *variable as usize;
+            if place < flags.len() {
+                flags[place] = true;
+            }
+        }
+        Note::Wrong(_) => {}
+        Note::Takes(_, _) => {}
+    }
+}
+
+/// Which variables and globals paths name, by the token that declares them.
+fn marks(alloc: Global, notes: &[Note]) -> Result<NamedVariables, AllocError>
+    ensures { IfOk result (λ named. named ≡ marks notes.now) }
+{
+    let mut flags = vec![in alloc; false; past_all(notes)]?;
+    for note in notes {
+        mark(&mut flags, note);
+    }
+    Ok(NamedVariables::of(flags))
+}
+
+/// The case that a variable or a global is taken that a path names.
+fn taken(
+    alloc: Global,
+    typed: &Typed,
+    named: bool,
+    taken: (Span, u32),
+    errors: &mut Vec<ModeError>,
+) -> Result<(), AllocError>
+    ensures { OnOk result (errors.new.items ≡ errors.old.items ++ taken_errors typed.now named taken.0 taken.1) }
+{
+    if named {
+        let subject = Name::from_slice(alloc, text_at(typed, taken.1))?;
+        if let Note::Wrong(case) = error(alloc, 10, taken.0, subject) {
+            errors.push(case)?;
+        }
+    }
+    Ok(())
+}
+
+fn settle_one(
+    alloc: Global,
+    typed: &Typed,
+    named: &NamedVariables,
+    note: Note,
+    errors: &mut Vec<ModeError>,
+) -> Result<(), AllocError>
+    ensures { OnOk result (errors.new.items ≡ errors.old.items ++ settled typed.now named.now note) }
+{
+    match note {
+        Note::Wrong(case) => {
+            errors.push(case)?;
+            Ok(())
+        }
+        Note::Names(_) => Ok(()),
+        Note::Takes(span, variable) => {
+            taken(alloc, typed, named.has(variable), (span, variable), errors)
+        }
+    }
+}
+
+/// The cases of the notes, the last one first.
+fn settle_back(
+    alloc: Global,
+    typed: &Typed,
+    named: &NamedVariables,
+    mut list: Vec<Note>,
+) -> Result<Vec<ModeError>, AllocError>
+    ensures { IfOk result (λ errors. reverse errors.items ≡ flat_map (settled typed.now named.now) list.items) }
+{
+    let mut errors = Vec::new(alloc);
+    while let Some(note) = list.pop() {
+        settle_one(alloc, typed, named, note, &mut errors)?;
+    }
+    Ok(errors)
+}
+
+/// The cases that arise, in the order in which they were found, and which variables and globals paths name.
+pub(crate) fn settle(
+    alloc: Global,
+    typed: &Typed,
+    notes: Vec<Note>,
+) -> Result<(Vec<ModeError>, NamedVariables), AllocError>
+    ensures errors { IfOk result (λ found. found.0.items ≡ errors_of typed.now notes.items) }
+    ensures named { IfOk result (λ found. found.1 ≡ marks notes.items) }
+{
+    let named = marks(alloc, notes.as_slice())?;
+    let mut errors = settle_back(alloc, typed, &named, notes)?;
+    errors.reverse();
+    Ok((errors, named))
+}
