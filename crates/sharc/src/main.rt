@@ -13,12 +13,5 @@ use std::process::ExitCode;
 fn main(rt: HostRuntime) -> ExitCode {
     let mut input = StdSource::new(rt.stdin());
     let mut out = StdSink::new(rt.stdout());
-    exit_code(
-        &rt,
-        &OpenGate,
-        rt.alloc(),
-        words(&rt),
-        &mut input,
-        &mut out,
-    )
+    exit_code(&rt, &OpenGate, rt.alloc(), words(&rt), &mut input, &mut out)
 }

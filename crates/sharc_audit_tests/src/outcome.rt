@@ -8,7 +8,10 @@ use std::test::Fail;
 use std::thread::Threads;
 
 /// The status, a blank, and what was written without its last newline.
-pub(crate) fn audited(rt: &(impl Abort + AllocGlobal + Threads + Sync), input: &str) -> Result<String, Fail> {
+pub(crate) fn audited(
+    rt: &(impl Abort + AllocGlobal + Threads + Sync),
+    input: &str,
+) -> Result<String, Fail> {
     let alloc = rt.alloc();
     let words = vec![in alloc; String::from_str(alloc, "audit")?]?;
     let mut source = SureSource::new(input.as_bytes().to_vec(alloc)?);

@@ -17,7 +17,11 @@ fn looping(rt: &(impl AllocGlobal), count: usize) -> Result<String, Fail> {
     Ok(text)
 }
 
-fn assert_audited(rt: &(impl Abort + AllocGlobal + Threads + Sync), input: &str, wanted: &str) -> Result<(), Fail> {
+fn assert_audited(
+    rt: &(impl Abort + AllocGlobal + Threads + Sync),
+    input: &str,
+    wanted: &str,
+) -> Result<(), Fail> {
     let found = audited(rt, input)?;
     assert_eq!(rt; found.as_str(), wanted);
     Ok(())

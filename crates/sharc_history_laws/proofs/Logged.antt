@@ -293,9 +293,9 @@ module _ (cell_laws : CellsAreThere) (pointers : PointersAreThere) (rights : Acc
     at_check : (kind : Kind) (granule site' old : ℕ) → Shows (checked m kind granule site' old) × Halts (checked m kind granule site' old)
     at_check kind granule site' old = elim (conflicts_in old m.own.number kind (wrote m granule old)) as (λ b. Shows (if b then stopped m (Conflict record { kind = kind; site = site'; granule = granule; epoch = epoch_of old; old = old }) else with_own m (with_note m.own granule kind (epoch_of old) site'))
         × Halts (if b then stopped m (Conflict record { kind = kind; site = site'; granule = granule; epoch = epoch_of old; old = old }) else with_own m (with_note m.own granule kind (epoch_of old) site'))) [
-      | true ↦ (λ site word is. absurd (let f : Some (Conflict record { kind = kind; site = site'; granule = granule; epoch = epoch_of old; old = old }) ≡ Some (NoLock site word) = is in cc), λ _. refl)
-      | false ↦ (shows_none (with_own m (with_note m.own granule kind (epoch_of old) site')) (note_stop m.own granule kind (epoch_of old) site' ∙ fresh), halts_none (with_own m (with_note m.own granule kind (epoch_of old) site')) (note_stop m.own granule kind (epoch_of old) site' ∙ fresh))
-    ]
+          | true ↦ (λ site word is. absurd (let f : Some (Conflict record { kind = kind; site = site'; granule = granule; epoch = epoch_of old; old = old }) ≡ Some (NoLock site word) = is in cc), λ _. refl)
+          | false ↦ (shows_none (with_own m (with_note m.own granule kind (epoch_of old) site')) (note_stop m.own granule kind (epoch_of old) site' ∙ fresh), halts_none (with_own m (with_note m.own granule kind (epoch_of old) site')) (note_stop m.own granule kind (epoch_of old) site' ∙ fresh))
+        ]
       where
         note_stop : (own : Own) (granule : ℕ) (kind : Kind) (epoch site : ℕ) → (with_note own granule kind epoch site).stop ≡ own.stop
         note_stop own granule kind epoch site =

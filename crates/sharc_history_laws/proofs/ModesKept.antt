@@ -184,8 +184,8 @@ module _ (state_law : StateStands) (cell_laws : CellsAreThere) (pointers : Point
         (λ (z : o ≡ 0). ap then_.state.cells z ∙ then_.state.globals_cells ∙ sym h.state.globals_cells ∙ ap h.state.cells (sym z))
         (λ (nz : o ≡ 0 → ⊥).
         let count : then_.state.elements o ≡ h.state.elements o = then_.state.sim.lengths o nz live_then
-            ∙ length_kept x code s ls g world h.state t o nz live one.event (turn code s m) may.next.asks (writes cell_laws pointers x code s ls wt fits g world h.state t on)
-            ∙ sym (h.state.sim.lengths o nz live) in
+        ∙ length_kept x code s ls g world h.state t o nz live one.event (turn code s m) may.next.asks (writes cell_laws pointers x code s ls wt fits g world h.state t on)
+        ∙ sym (h.state.sim.lengths o nz live) in
         (then_.state.whole o nz live_then).1 ∙ ap (λ n. n * cells_of x (then_.world.obj o).ty.target) count
         ∙ ap (λ (y : ObjectState). h.state.elements o * cells_of x y.ty.target) same ∙ sym (h.state.whole o nz live).1)
         (cases_eq o 0)

@@ -22,7 +22,6 @@ use Rattle.sharc_invariant.specs.Types.{Targets, Field}
 use Rattle.sharc_invariant.specs.Labels.{Label, Labels}
 use Rattle.sharc_invariant.specs.Typed.{Fine, Accesses}
 use Rattle.sharc_history_laws.proofs.Tables.{header_at, header_in, header_of}
-
 use Rattle.sharc_tree.specs.declared.event.Act.{Act}
 use Rattle.sharc_tree.specs.declared.event.Act.TheVariants as acts
 use Rattle.sharc_meaning.specs.Events.{locked_by, unlocked_by}
@@ -142,4 +141,3 @@ module _ (code : Code) (m : Machine) where
   no_mutex instrs.Exit found elements e = mutexless_exit m.own.stage
   no_mutex (instrs.CondWait c site) found elements e = either_no (waits_in found m.own.number) _ _ refl refl
   no_mutex (instrs.CondSignal c site) found elements e = mutexless_signal c site found m.own.stage
-

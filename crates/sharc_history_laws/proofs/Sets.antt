@@ -80,17 +80,21 @@ in_set (d ∷ L) o granule e a h = by (λ k. in_set L o granule e a k) (split d 
     by back (Earlier rest after stands) =
         let begun = any_append (begins o) rest d (ap (list_any (begins o)) (sym after) ∙ h.begun) in
         let ended = own_goes e.thread rest d (ap (λ xs. list_any (λ d. ends until_return d.act) (events_of e.thread xs)) (sym after) ∙ h.ended) in
-        inr (begun.1, ended.1, back (record {
-          before = h.before;
-          after = rest;
-          stands = stands;
-          access = h.access;
-          object = h.object;
-          granule_is = h.granule_is;
-          is_dynamic = h.is_dynamic;
-          begun = begun.0;
-          ended = ended.0;
-        }))
+        inr (
+          begun.1,
+          ended.1,
+          back (record {
+            before = h.before;
+            after = rest;
+            stands = stands;
+            access = h.access;
+            object = h.object;
+            granule_is = h.granule_is;
+            is_dynamic = h.is_dynamic;
+            begun = begun.0;
+            ended = ended.0;
+          }),
+        )
 
 -- ---- sets without two threads of which one writes
 pub record NoConflict (L : Newest) : Type 0 where
