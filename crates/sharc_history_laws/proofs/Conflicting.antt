@@ -234,7 +234,7 @@ granule_low s g = elim (nat_lt g (granules s)) as (λ b. nat_lt g (granules s) �
   | false ↦ λ e. omega arith
 ] refl
 
-granule_same : (s : Shape) (g : ℕ) → granule_at s (granule_at s g) ≡ granule_at s g
+pub granule_same : (s : Shape) (g : ℕ) → granule_at s (granule_at s g) ≡ granule_at s g
 granule_same s g = let lt = granule_low s g in let e : nat_lt (granule_at s g) (granules s) ≡ true = below (granule_at s g) (granules s) lt in ap (λ b. if b then granule_at s g else 0) e
   where
     below : (a b : ℕ) → a < b → nat_lt a b ≡ true
