@@ -1,5 +1,5 @@
 -- Each note in the access table of a thread is of a check that the thread made in the run, and that passed.
-use Rattle.std.proofs.Common.{◌≡◌, ℕ, zero, suc, ◌+◌, ◌⊎◌, inl, inr, Bool, true, false, List, [], ◌∷◌, ◌++◌, Option, Some, None, is_some, if◌then◌else◌, refl, sym, ap, ◌∙◌, subst, ⊎_elim, arith}
+use Rattle.std.proofs.Common.{◌≡◌, ℕ, zero, suc, ◌+◌, ◌⊎◌, inl, inr, Bool, true, false, List, [], ◌∷◌, Some, None, is_some, if◌then◌else◌, refl, sym, ap, ◌∙◌, subst, ⊎_elim}
 use Rattle.std.specs.Prelude.{slice_index, slice_index_or, slice_set, replicate}
 use Rattle.std.proofs.lemmas.Bool.{cases_eq}
 use Rattle.std.proofs.lemmas.List.{get_or-set_other}
@@ -26,7 +26,7 @@ use Rattle.sharc_code.specs.Path.{turn, after, may_go, asked_by}
 use Rattle.sharc_code.specs.Runs.{Turn, Global, IsRun, MayTurn, after_turn, put, state_now, result_of, opening_of}
 use Rattle.sharc_code.specs.Whole.{one_thread, bounds, place_after}
 use Rattle.sharc_invariant.specs.Bits.{CheckOf, touch_of}
-use Rattle.sharc_history_laws.specs.Conflicts.{site_of_check, IsCheck, IsNoted}
+use Rattle.sharc_history_laws.specs.Conflicts.{site_of_check, IsNoted}
 use Rattle.sharc_history_laws.proofs.Conflicting.{granule_same}
 use Rattle.sharc_history_laws.proofs.Consists.{found_is}
 use Rattle.sharc_history_laws.proofs.Rules.{put_same, put_other}
