@@ -1,12 +1,12 @@
 -- What an effect on the world leaves of a passed check, or of an object that a thread has alone or that is gone.
-use Rattle.std.proofs.Common.{◌≡◌, ℕ, suc, ◌≢◌, ◌⊎◌, inl, inr, Bool, true, false, ◌&&◌, cond, if◌then◌else◌, refl, sym, ap, ◌∙◌, subst, ⊎_elim, arith}
+use Rattle.std.proofs.Common.{◌≡◌, ℕ, suc, ◌≢◌, ◌⊎◌, inl, inr, Bool, true, false, ◌&&◌, if◌then◌else◌, refl, sym, ap, ◌∙◌, subst, ⊎_elim, arith}
 use Rattle.std.specs.Prelude.{nat_eq}
 use Rattle.std.proofs.lemmas.Bool.{cases_eq}
 use Rattle.std.proofs.lemmas.Bool.Decides.{nat_tests}
 use Rattle.sharc_code.specs.Runs.{put}
 use Rattle.sharc_invariant.specs.Granules.{GranuleState, Passed, cleared, withdrawn}
 use Rattle.sharc_invariant.specs.Types.{ObjectType}
-use Rattle.sharc_invariant.specs.World.{TypeRules, Size, RegisterOf, Slot, In, TypedReference, ObjectState, Window, Shut, Sole, World, WorldInvariant, WinOk, in_ref, put2, place, none, retype, same_slot, give, make, freed, set_gran}
+use Rattle.sharc_invariant.specs.World.{TypeRules, Size, RegisterOf, Slot, In, TypedReference, ObjectState, Shut, Sole, World, WorldInvariant, WinOk, in_ref, put2, place, none, retype, give, make, freed, set_gran}
 use Rattle.sharc_invariant.specs.Effect.{Effect, Silent, Silently, Accesses, Clears, Gives, Frees, Makes, Locks, Unlocks, Returns, Withdraws}
 use Rattle.sharc_invariant.specs.History.{Closing, Without}
 
@@ -124,12 +124,12 @@ module _ (z : Size) (l : TypeRules) (w : World) (inv : WorldInvariant z l w) (t 
       (λ (c : Closing w n).
       let v = c.0 in let q = c.1.0 in
       let still : in_ref (make l w (RegisterOf t r) o ty found) (RegisterOf v q) ≡ in_ref w (RegisterOf v q) = ⊎_elim
-          (λ (mine : v ≡ t). ⊎_elim
-          (λ (same : q ≡ r). absurd (sole_some v q c.1.1.0 (ap (λ v. in_ref w (RegisterOf v q)) mine ∙ ap (λ q. in_ref w (RegisterOf t q)) same ∙ empty)))
-          (λ (other : q ≡ r → ⊥). ap (λ (h : TypedReference). h.reference) (beside_slot (retype w.slots o (l.cell ty o)) t r v q y other))
-          (cases_eq q r))
-          (λ (other : v ≡ t → ⊥). ap (λ (h : TypedReference). h.reference) (other_slot (retype w.slots o (l.cell ty o)) t r v q y other))
-          (cases_eq v t) in
+      (λ (mine : v ≡ t). ⊎_elim
+      (λ (same : q ≡ r). absurd (sole_some v q c.1.1.0 (ap (λ v. in_ref w (RegisterOf v q)) mine ∙ ap (λ q. in_ref w (RegisterOf t q)) same ∙ empty)))
+      (λ (other : q ≡ r → ⊥). ap (λ (h : TypedReference). h.reference) (beside_slot (retype w.slots o (l.cell ty o)) t r v q y other))
+      (cases_eq q r))
+      (λ (other : v ≡ t → ⊥). ap (λ (h : TypedReference). h.reference) (other_slot (retype w.slots o (l.cell ty o)) t r v q y other))
+      (cases_eq v t) in
       inr (inl (v, (q, (c.1.1.0, still ∙ c.1.1.1)))))
       (λ (dead : (w.obj n).live ≡ false). inr (inr (ap (λ (y : ObjectState). y.live) (put_other w.obj o n (record { live = true; global = false; ty = ty; owner = t }) ne) ∙ dead)))
       k)
@@ -165,7 +165,7 @@ module _ (z : Size) (l : TypeRules) (w : World) (inv : WorldInvariant z l w) (t 
   carried returned changes w' (Frees r c e q) give make back h = subst (λ w'. Stands w' n j u write) (sym q) (at_freed r e h)
   carried returned changes w' (Makes r o ty found c dead empty q) gave made back h =
       let other : n ≡ o → ⊥ = λ same. made c (ap (λ n. (w.obj n).live) same ∙ dead)
-          (ap (λ (w' : World). (w'.obj n).live) q ∙ ap (λ n. ((make l w (RegisterOf t r) o ty found).obj n).live) same ∙ ap (λ (y : ObjectState). y.live) (put_same w.obj o (record { live = true; global = false; ty = ty; owner = t }))) in
+      (ap (λ (w' : World). (w'.obj n).live) q ∙ ap (λ n. ((make l w (RegisterOf t r) o ty found).obj n).live) same ∙ ap (λ (y : ObjectState). y.live) (put_same w.obj o (record { live = true; global = false; ty = ty; owner = t }))) in
       subst (λ w'. Stands w' n j u write) (sym q) (at_make r o ty found empty other h)
   carried returned changes w' (Locks o i f q s) give make back h = silent (record w' { mutex = w.mutex }) s h
   carried returned changes w' (Unlocks o i f q s) give make back h = silent (record w' { mutex = w.mutex }) s h
@@ -211,12 +211,12 @@ module _ (z : Size) (l : TypeRules) (w : World) (inv : WorldInvariant z l w) (t 
       (λ (c : Closing w n).
       let v = c.0 in let q = c.1.0 in
       let still : in_ref (make l w (RegisterOf t r) o ty found) (RegisterOf v q) ≡ in_ref w (RegisterOf v q) = ⊎_elim
-          (λ (mine : v ≡ t). ⊎_elim
-          (λ (same : q ≡ r). absurd (sole_some z l w inv t n 0 0 true v q c.1.1.0 (ap (λ v. in_ref w (RegisterOf v q)) mine ∙ ap (λ q. in_ref w (RegisterOf t q)) same ∙ empty)))
-          (λ (other : q ≡ r → ⊥). ap (λ (h : TypedReference). h.reference) (beside_slot (retype w.slots o (l.cell ty o)) t r v q y other))
-          (cases_eq q r))
-          (λ (other : v ≡ t → ⊥). ap (λ (h : TypedReference). h.reference) (other_slot (retype w.slots o (l.cell ty o)) t r v q y other))
-          (cases_eq v t) in
+      (λ (mine : v ≡ t). ⊎_elim
+      (λ (same : q ≡ r). absurd (sole_some z l w inv t n 0 0 true v q c.1.1.0 (ap (λ v. in_ref w (RegisterOf v q)) mine ∙ ap (λ q. in_ref w (RegisterOf t q)) same ∙ empty)))
+      (λ (other : q ≡ r → ⊥). ap (λ (h : TypedReference). h.reference) (beside_slot (retype w.slots o (l.cell ty o)) t r v q y other))
+      (cases_eq q r))
+      (λ (other : v ≡ t → ⊥). ap (λ (h : TypedReference). h.reference) (other_slot (retype w.slots o (l.cell ty o)) t r v q y other))
+      (cases_eq v t) in
       inl (v, (q, (c.1.1.0, still ∙ c.1.1.1))))
       (λ (dead : (w.obj n).live ≡ false). inr (ap (λ (y : ObjectState). y.live) (put_other w.obj o n (record { live = true; global = false; ty = ty; owner = t }) ne) ∙ dead))
       k
@@ -235,7 +235,7 @@ module _ (z : Size) (l : TypeRules) (w : World) (inv : WorldInvariant z l w) (t 
   without_carried returned changes w' (Frees r c e q) gave made h = subst (λ w'. Without w' n) (sym q) (without_freed r e h)
   without_carried returned changes w' (Makes r o ty found c dead empty q) gave made h =
       let other : n ≡ o → ⊥ = λ same. made c (ap (λ n. (w.obj n).live) same ∙ dead)
-          (ap (λ (w' : World). (w'.obj n).live) q ∙ ap (λ n. ((make l w (RegisterOf t r) o ty found).obj n).live) same ∙ ap (λ (y : ObjectState). y.live) (put_same w.obj o (record { live = true; global = false; ty = ty; owner = t }))) in
+      (ap (λ (w' : World). (w'.obj n).live) q ∙ ap (λ n. ((make l w (RegisterOf t r) o ty found).obj n).live) same ∙ ap (λ (y : ObjectState). y.live) (put_same w.obj o (record { live = true; global = false; ty = ty; owner = t }))) in
       subst (λ w'. Without w' n) (sym q) (without_make r o ty found empty other h)
   without_carried returned changes w' (Locks o i f q s) gave made h = without_silent (record w' { mutex = w.mutex }) s h
   without_carried returned changes w' (Unlocks o i f q s) gave made h = without_silent (record w' { mutex = w.mutex }) s h

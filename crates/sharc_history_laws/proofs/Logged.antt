@@ -1,5 +1,5 @@
 -- What a thread holds by its events is in its held log, so where a lock check is refused it does not hold the mutex.
-use Rattle.std.proofs.Common.{◌≡◌, ℕ, pos, zero, suc, ◌+◌, ◌<◌, ◌≢◌, ◌⊎◌, inl, inr, Bool, true, false, not, cond, ◌||◌, ◌&&◌, length, List, [], ◌∷◌, ◌++◌, reverse, Option, Some, None, is_some, if◌then◌else◌, refl, sym, ap, ◌∙◌, subst, ⊎_elim, arith, eqb-true}
+use Rattle.std.proofs.Common.{◌≡◌, ℕ, pos, zero, suc, ◌+◌, ◌<◌, ◌⊎◌, inl, inr, Bool, true, false, not, cond, ◌||◌, ◌&&◌, length, List, [], ◌∷◌, ◌++◌, reverse, Option, Some, None, is_some, if◌then◌else◌, refl, sym, ap, ◌∙◌, subst, ⊎_elim, arith, eqb-true}
 use Rattle.std.specs.Prelude.{nat_lt, ◌==◌}
 use Rattle.std.proofs.lemmas.Bool.{cases_eq}
 use Rattle.std.proofs.lemmas.Bool.Decides.{nat_tests}
@@ -28,8 +28,8 @@ use Rattle.sharc_code.specs.Opening.{opening_words}
 use Rattle.sharc_code.specs.Path.{turn, after, may_go}
 use Rattle.sharc_code.specs.Runs.{Turn, Global, IsRun, MayTurn, after_turn, put, state_now, result_of, opening_of}
 use Rattle.sharc_code.specs.Whole.{one_thread, bounds, place_after}
-use Rattle.sharc_code.specs.Says.{said, cell_at, made_cell, place_at, speaks_of, event_at}
-use Rattle.sharc_gen.specs.Consistent.{said_now, MayFind, IsLock, IsMutex, IsApart, IsFree, IsHeld}
+use Rattle.sharc_code.specs.Says.{said, cell_at, made_cell, speaks_of, event_at}
+use Rattle.sharc_gen.specs.Consistent.{said_now, MayFind, IsLock, IsMutex, IsApart, IsFree}
 use Rattle.sharc_gen.specs.OfRuns.{table_of}
 use Rattle.sharc_meaning.specs.Events.{same_cell, is_cell, locks, unlocks, is_of, events_of, holds_mutex}
 use Rattle.sharc_invariant.specs.Types.{Targets}
@@ -293,9 +293,9 @@ module _ (cell_laws : CellsAreThere) (pointers : PointersAreThere) (rights : Acc
     at_check : (kind : Kind) (granule site' old : ℕ) → Shows (checked m kind granule site' old) × Halts (checked m kind granule site' old)
     at_check kind granule site' old = elim (conflicts_in old m.own.number kind (wrote m granule old)) as (λ b. Shows (if b then stopped m (Conflict record { kind = kind; site = site'; granule = granule; epoch = epoch_of old; old = old }) else with_own m (with_note m.own granule kind (epoch_of old) site'))
         × Halts (if b then stopped m (Conflict record { kind = kind; site = site'; granule = granule; epoch = epoch_of old; old = old }) else with_own m (with_note m.own granule kind (epoch_of old) site'))) [
-      | true ↦ (λ site word is. absurd (let f : Some (Conflict record { kind = kind; site = site'; granule = granule; epoch = epoch_of old; old = old }) ≡ Some (NoLock site word) = is in cc), λ _. refl)
-      | false ↦ (shows_none (with_own m (with_note m.own granule kind (epoch_of old) site')) (note_stop m.own granule kind (epoch_of old) site' ∙ fresh), halts_none (with_own m (with_note m.own granule kind (epoch_of old) site')) (note_stop m.own granule kind (epoch_of old) site' ∙ fresh))
-    ]
+          | true ↦ (λ site word is. absurd (let f : Some (Conflict record { kind = kind; site = site'; granule = granule; epoch = epoch_of old; old = old }) ≡ Some (NoLock site word) = is in cc), λ _. refl)
+          | false ↦ (shows_none (with_own m (with_note m.own granule kind (epoch_of old) site')) (note_stop m.own granule kind (epoch_of old) site' ∙ fresh), halts_none (with_own m (with_note m.own granule kind (epoch_of old) site')) (note_stop m.own granule kind (epoch_of old) site' ∙ fresh))
+        ]
       where
         note_stop : (own : Own) (granule : ℕ) (kind : Kind) (epoch site : ℕ) → (with_note own granule kind epoch site).stop ≡ own.stop
         note_stop own granule kind epoch site =

@@ -1,12 +1,11 @@
 -- Access sets by a history with its newest event first.
-use Rattle.std.proofs.Common.{◌≡◌, ℕ, zero, suc, ◌≢◌, Bool, true, false, ◌||◌, ◌&&◌, cond, List, [], ◌∷◌, ◌++◌, reverse, Option, Some, None, refl, sym, ap, ◌∙◌, subst, ⊎_elim, ◌⊎◌, inl, inr, if◌then◌else◌}
-use Rattle.std.specs.Prelude.{◌==◌, filter}
+use Rattle.std.proofs.Common.{◌≡◌, ℕ, ◌≢◌, Bool, true, false, ◌||◌, ◌&&◌, cond, [], ◌∷◌, ◌++◌, reverse, refl, sym, ap, ◌∙◌, subst, ⊎_elim, ◌⊎◌, inl, inr, if◌then◌else◌}
 use Rattle.std.specs.List.{list_any}
 use Rattle.sharc_tree.specs.declared.event.SourceEvent.{SourceEvent}
 use Rattle.sharc_tree.specs.declared.event.CellMode.TheVariants.{Dynamic}
 use Rattle.sharc_tree.specs.declared.event.Object.{Object}
 use Rattle.sharc_meaning.specs.Events.{Access, granule_of, begins, is_of, events_of}
-use Rattle.sharc_meaning.specs.Obeys.{History, IsAccess, AccessSet, Until, until_return, ends, ReadSharedOrOwn}
+use Rattle.sharc_meaning.specs.Obeys.{History, IsAccess, AccessSet, until_return, ends, ReadSharedOrOwn}
 use Rattle.sharc_history_laws.proofs.Lists.{Newest, Split, Last, Earlier, split, reverse_push}
 
 -- the event is an access of mode dynamic to that granule, by this thread, and a write or not
@@ -80,17 +79,21 @@ in_set (d ∷ L) o granule e a h = by (λ k. in_set L o granule e a k) (split d 
     by back (Earlier rest after stands) =
         let begun = any_append (begins o) rest d (ap (list_any (begins o)) (sym after) ∙ h.begun) in
         let ended = own_goes e.thread rest d (ap (λ xs. list_any (λ d. ends until_return d.act) (events_of e.thread xs)) (sym after) ∙ h.ended) in
-        inr (begun.1, ended.1, back (record {
-          before = h.before;
-          after = rest;
-          stands = stands;
-          access = h.access;
-          object = h.object;
-          granule_is = h.granule_is;
-          is_dynamic = h.is_dynamic;
-          begun = begun.0;
-          ended = ended.0;
-        }))
+        inr (
+          begun.1,
+          ended.1,
+          back (record {
+            before = h.before;
+            after = rest;
+            stands = stands;
+            access = h.access;
+            object = h.object;
+            granule_is = h.granule_is;
+            is_dynamic = h.is_dynamic;
+            begun = begun.0;
+            ended = ended.0;
+          }),
+        )
 
 -- ---- sets without two threads of which one writes
 pub record NoConflict (L : Newest) : Type 0 where
