@@ -1,12 +1,12 @@
 -- What an effect on the world leaves of a passed check, or of an object that a thread has alone or that is gone.
-use Rattle.std.proofs.Common.{◌≡◌, ℕ, suc, ◌≢◌, ◌⊎◌, inl, inr, Bool, true, false, ◌&&◌, cond, if◌then◌else◌, refl, sym, ap, ◌∙◌, subst, ⊎_elim, arith}
+use Rattle.std.proofs.Common.{◌≡◌, ℕ, suc, ◌≢◌, ◌⊎◌, inl, inr, Bool, true, false, ◌&&◌, if◌then◌else◌, refl, sym, ap, ◌∙◌, subst, ⊎_elim, arith}
 use Rattle.std.specs.Prelude.{nat_eq}
 use Rattle.std.proofs.lemmas.Bool.{cases_eq}
 use Rattle.std.proofs.lemmas.Bool.Decides.{nat_tests}
 use Rattle.sharc_code.specs.Runs.{put}
 use Rattle.sharc_invariant.specs.Granules.{GranuleState, Passed, cleared, withdrawn}
 use Rattle.sharc_invariant.specs.Types.{ObjectType}
-use Rattle.sharc_invariant.specs.World.{TypeRules, Size, RegisterOf, Slot, In, TypedReference, ObjectState, Window, Shut, Sole, World, WorldInvariant, WinOk, in_ref, put2, place, none, retype, same_slot, give, make, freed, set_gran}
+use Rattle.sharc_invariant.specs.World.{TypeRules, Size, RegisterOf, Slot, In, TypedReference, ObjectState, Shut, Sole, World, WorldInvariant, WinOk, in_ref, put2, place, none, retype, give, make, freed, set_gran}
 use Rattle.sharc_invariant.specs.Effect.{Effect, Silent, Silently, Accesses, Clears, Gives, Frees, Makes, Locks, Unlocks, Returns, Withdraws}
 use Rattle.sharc_invariant.specs.History.{Closing, Without}
 

@@ -1,5 +1,5 @@
 -- A refused check of an access comes from checks that others made, in a run of typed code.
-use Rattle.std.proofs.Common.{◌≡◌, ℕ, zero, suc, ◌+◌, ◌<◌, ◌⊎◌, inl, inr, Bool, true, false, ◌||◌, List, [], ◌∷◌, ◌++◌, Option, Some, None, is_some, nat_lt, if◌then◌else◌, refl, sym, ap, ◌∙◌, subst, ⊎_elim, arith}
+use Rattle.std.proofs.Common.{◌≡◌, ℕ, ◌+◌, ◌<◌, inl, inr, Bool, true, false, List, [], ◌∷◌, Option, Some, None, is_some, nat_lt, if◌then◌else◌, refl, sym, ap, ◌∙◌, subst, ⊎_elim, arith}
 use Rattle.std.specs.Prelude.{slice_index, ◌==◌}
 use Rattle.std.proofs.lemmas.Bool.{cases_eq}
 use Rattle.std.proofs.lemmas.Bool.Decides.{nat_tests}
@@ -33,7 +33,7 @@ use Rattle.sharc_invariant.specs.Opened.{first_place}
 use Rattle.sharc_invariant.specs.Bits.{Touch, Untouched, CheckOf, ClearOf, WithdrawOf, Marks, cleared_by, freed_by, withdrawn_by, touch_of, with_check, without_thread, marks_by, marks_after}
 use Rattle.sharc_invariant.specs.Reports.{RunsConflict, CheckStands, touch_at}
 use Rattle.sharc_invariant.specs.Laws.{RunsBits}
-use Rattle.sharc_history_laws.specs.Conflicts.{site_of_check, IsCheck, Past, MadeSince, Opposes, ShowsConflict}
+use Rattle.sharc_history_laws.specs.Conflicts.{site_of_check, Past, MadeSince, Opposes, ShowsConflict}
 use Rattle.sharc_history_laws.proofs.Consists.{found_is}
 use Rattle.sharc_history_laws.proofs.Rules.{put_same, put_other}
 use Rattle.sharc_history_laws.proofs.Quits.{Quits, Still, Traps, is_trap, is_reporting, quits}
@@ -234,7 +234,7 @@ granule_low s g = elim (nat_lt g (granules s)) as (λ b. nat_lt g (granules s) �
   | false ↦ λ e. omega arith
 ] refl
 
-granule_same : (s : Shape) (g : ℕ) → granule_at s (granule_at s g) ≡ granule_at s g
+pub granule_same : (s : Shape) (g : ℕ) → granule_at s (granule_at s g) ≡ granule_at s g
 granule_same s g = let lt = granule_low s g in let e : nat_lt (granule_at s g) (granules s) ≡ true = below (granule_at s g) (granules s) lt in ap (λ b. if b then granule_at s g else 0) e
   where
     below : (a b : ℕ) → a < b → nat_lt a b ≡ true

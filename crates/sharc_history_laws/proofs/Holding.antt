@@ -1,12 +1,12 @@
 -- The mutexes that a thread holds by a history that grows by one event.
-use Rattle.std.proofs.Common.{◌≡◌, ℕ, Bool, true, false, not, ◌||◌, ◌&&◌, cond, List, [], ◌∷◌, ◌++◌, reverse, Option, Some, None, refl, sym, ap, ◌∙◌, subst, if◌then◌else◌, eqb-true}
-use Rattle.std.specs.Prelude.{◌==◌, filter}
+use Rattle.std.proofs.Common.{◌≡◌, ℕ, Bool, true, false, not, ◌||◌, ◌&&◌, List, [], ◌∷◌, ◌++◌, reverse, Option, Some, None, refl, sym, ap, ◌∙◌, if◌then◌else◌, eqb-true}
+use Rattle.std.specs.Prelude.{◌==◌}
 use Rattle.std.specs.List.{list_any}
 use Rattle.sharc_tree.specs.declared.event.SourceEvent.{SourceEvent}
 use Rattle.sharc_tree.specs.declared.event.CellAt.{CellAt}
 use Rattle.sharc_tree.specs.declared.event.Object.{Object}
 use Rattle.sharc_tree.specs.declared.event.Object.TheVariants as objects
-use Rattle.sharc_meaning.specs.Events.{same_object, same_cell, is_cell, locked_by, unlocked_by, locks, unlocks, is_of, events_of, unless_unlocked, held_mutexes, holds_mutex}
+use Rattle.sharc_meaning.specs.Events.{same_object, same_cell, is_cell, locked_by, locks, unlocks, is_of, events_of, unless_unlocked, held_mutexes, holds_mutex}
 use Rattle.sharc_meaning.specs.Obeys.{History}
 use Rattle.sharc_history_laws.proofs.Lists.{Newest, reverse_push}
 use Rattle.sharc_history_laws.proofs.Sets.{own_append}

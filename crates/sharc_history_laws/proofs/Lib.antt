@@ -15,6 +15,7 @@ pub mod Logs
 pub mod Modes
 pub mod ModesKept
 pub mod Mutexless
+pub mod Noting
 pub mod OneMode
 pub mod Quits
 pub mod Rules
@@ -24,6 +25,7 @@ pub mod Since
 pub mod Single
 pub mod Sole
 pub mod Stands
+pub mod Tabled
 pub mod Tables
 pub mod Unwritten
 pub mod Writes

@@ -1,10 +1,10 @@
 -- Histories that grow by one event: those of a run, the newest event first, and as the rules have them.
-use Rattle.std.proofs.Common.{◌≡◌, ℕ, zero, suc, Bool, true, false, ◌||◌, ◌&&◌, cond, List, [], ◌∷◌, ◌++◌, reverse, Option, Some, None, refl, sym, ap, ◌∙◌, subst, ⊎_elim, ◌⊎◌, inl, inr}
-use Rattle.std.specs.Prelude.{◌==◌, find, filter}
+use Rattle.std.proofs.Common.{◌≡◌, ℕ, Bool, true, false, ◌||◌, cond, List, [], ◌∷◌, ◌++◌, reverse, Some, refl, sym, ap, ◌∙◌, subst, ⊎_elim, ◌⊎◌, inl, inr}
+use Rattle.std.specs.Prelude.{◌==◌, find}
 use Rattle.std.proofs.lemmas.List.{reverse-append, reverse-reverse}
 use Rattle.sharc_tree.specs.declared.event.SourceEvent.{SourceEvent}
 use Rattle.sharc_tree.specs.declared.event.Object.TheVariants.{Made}
-use Rattle.sharc_meaning.specs.Events.{Access, Stands, latest, makes, frees, begins, access_by, is_number, made_by, given_by, freed_by}
+use Rattle.sharc_meaning.specs.Events.{Access, Stands, latest, makes, frees, begins}
 use Rattle.sharc_meaning.specs.Obeys.{History, IsAccess}
 use Rattle.sharc_meaning.specs.Store.{meets, is_live}
 

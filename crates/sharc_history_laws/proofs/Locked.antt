@@ -1,49 +1,38 @@
 -- At an access under a lock the thread holds that mutex by its events.
-use Rattle.std.proofs.Common.{◌≡◌, ℕ, ℤ, pos, zero, suc, ◌+◌, ◌-◌, ◌*◌, ◌<◌, ◌≤◌, ◌≢◌, ◌⊎◌, inl, inr, Bool, true, false, not, ◌||◌, ◌&&◌, cond, length, List, [], ◌∷◌, ◌++◌, reverse, Option, Some, None, is_some, if◌then◌else◌, refl, sym, ap, ◌∙◌, subst, ⊎_elim, arith, eqb-true}
-use Rattle.std.specs.Prelude.{nat_lt, ◌==◌, slice_index_or, All, filter}
+use Rattle.std.proofs.Common.{◌≡◌, ℕ, ℤ, pos, zero, suc, ◌+◌, ◌-◌, ◌*◌, ◌<◌, ◌≤◌, ◌≢◌, ◌⊎◌, inl, inr, true, false, not, cond, List, [], ◌∷◌, ◌++◌, Option, Some, None, is_some, if◌then◌else◌, refl, sym, ap, ◌∙◌, subst, ⊎_elim, arith, eqb-true}
+use Rattle.std.specs.Prelude.{nat_lt, ◌==◌, slice_index_or, All}
 use Rattle.std.proofs.lemmas.Bool.{cases_eq, cases_lt}
 use Rattle.std.proofs.lemmas.Bool.Decides.{nat_tests}
-use Rattle.sharc_tree.specs.declared.event.Act.TheVariants as acts
-use Rattle.sharc_tree.specs.declared.event.SourceEvent.{SourceEvent}
 use Rattle.sharc_tree.specs.declared.event.CellAt.{CellAt}
 use Rattle.sharc_tree.specs.declared.event.CellMode.TheVariants as modes
 use Rattle.sharc_tree.specs.declared.event.Object.{Object}
 use Rattle.sharc_tree.specs.declared.event.Object.TheVariants as objects
 use Rattle.sharc_locks.specs.declared.held_log.HeldMutex.{HeldMutex}
-use Rattle.sharc_locks.specs.HeldLog.{with_mutex, without, object_of}
+use Rattle.sharc_locks.specs.HeldLog.{without, object_of}
 use Rattle.sharc_code.specs.declared.code.Code.{Code}
 use Rattle.sharc_code.specs.declared.code.PlaceMode.{PlaceMode}
-use Rattle.sharc_code.specs.declared.code.PlaceMode.TheVariants as places
 use Rattle.sharc_code.specs.declared.instr.Cell.{Cell}
 use Rattle.sharc_code.specs.declared.instr.Cell.TheVariants as cells
-use Rattle.sharc_code.specs.declared.instr.Instr.{Instr}
-use Rattle.sharc_code.specs.declared.instr.Instr.TheVariants as instrs
 use Rattle.sharc_code.specs.declared.shape.Shape.{Shape}
 use Rattle.sharc_code.specs.Arithmetic.{word_of}
-use Rattle.sharc_code.specs.Laws.{RunLaws}
 use Rattle.sharc_code.specs.Layout.{Fits, first_cell, words_of, cell_of, cell_word}
-use Rattle.sharc_code.specs.Machine.{Machine, instr_at, ref, int, place, object, word, is_held, taken, act}
-use Rattle.sharc_code.specs.Path.{turn, after, may_go}
+use Rattle.sharc_code.specs.Machine.{Machine, ref, int, place, object, word}
 use Rattle.sharc_code.specs.Ranges.{IsInGlobal}
-use Rattle.sharc_code.specs.Runs.{Turn, Global, MayTurn, after_turn, put, state_now, result_of}
-use Rattle.sharc_code.specs.Whole.{one_thread, bounds, place_after}
+use Rattle.sharc_code.specs.Runs.{Global}
 use Rattle.sharc_code.specs.Says.{said, cell_at, global_cell, made_cell, mode_of, place_at, no_global, speaks_of}
-use Rattle.sharc_gen.specs.Consistent.{IsThere, IsMutex, IsApart}
-use Rattle.sharc_meaning.specs.Events.{same_object, same_cell, locks, unlocks, is_of, locked_by, unlocked_by}
-use Rattle.sharc_invariant.specs.Types.{Targets, Field, FieldMode, FieldLock, Lock, StaticType, ObjectType, Content, cells_of}
+use Rattle.sharc_gen.specs.Consistent.{IsThere, IsApart}
+use Rattle.sharc_invariant.specs.Types.{Targets, FieldMode, FieldLock, Lock, StaticType, ObjectType, cells_of}
 use Rattle.sharc_invariant.specs.Types.Lock.{Global as GlobalLock, Through, Self}
 use Rattle.sharc_invariant.specs.Types.FieldLock.{OfType, OfGlobals, OfElement}
 use Rattle.sharc_invariant.specs.Labels.{Gate, Holds, HoldsLoaded, Refers, Element, Named, Nth, OfElement as OfElementCell, OfGlobal, Entry, Label, Labels, SameReference, Itself, IsCopy, HasCopy, Copies, Chained}
+use Rattle.sharc_invariant.specs.Labels.{Refers, Element, Named, Nth, OfElement as OfElementCell, OfGlobal, Label, Labels, SameReference, Itself, IsCopy, HasCopy, Copies}
 use Rattle.sharc_invariant.specs.Typed.{IsWellTyped, Fine, HasField, HasCell, MayAccess, IsMode, IsTypeMode, IsLockMode, IsLockCell, IsTypeLock, IsMutexOf, IsSibling, no_lock}
 use Rattle.sharc_invariant.specs.World.{RegisterOf, World, ObjectState, in_ref}
-use Rattle.sharc_invariant.specs.State.{State, StageStands, GateStands, EntryStands, NumberStands, ElementStands, OnHold, View, view_of, refs_at, types_at}
+use Rattle.sharc_invariant.specs.State.{State, NumberStands, ElementStands, OnHold, View, view_of, refs_at, types_at}
 use Rattle.sharc_invariant.specs.MachineInvariant.{IsOn}
-use Rattle.sharc_invariant.specs.Laws.{CellsAreThere}
-use Rattle.sharc_history_laws.proofs.Single.{single, rests_hold}
-use Rattle.sharc_history_laws.proofs.Stands.{top, gate, reads_ref, known_ref, rn}
-use Rattle.sharc_history_laws.proofs.Finds.{is_there, mutex_cell}
+use Rattle.sharc_history_laws.proofs.Stands.{top, reads_ref, rn}
 use Rattle.sharc_history_laws.proofs.Lists.{Newest}
-use Rattle.sharc_history_laws.proofs.Holding.{cell_eq, holds_in, holds_other, holds_own}
+use Rattle.sharc_history_laws.proofs.Holding.{holds_in}
 
 -- ---- entries of a log
 abbrev pub IsIn : HeldMutex → List HeldMutex → Type 0

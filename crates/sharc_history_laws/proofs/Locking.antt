@@ -1,5 +1,5 @@
 -- The held logs of threads are those that their events tell, so an access under a lock comes while the thread holds the mutex.
-use Rattle.std.proofs.Common.{◌≡◌, ℕ, zero, suc, ◌+◌, ◌<◌, ◌≢◌, ◌⊎◌, inl, inr, Bool, true, false, not, ◌||◌, ◌&&◌, cond, length, List, [], ◌∷◌, ◌++◌, reverse, Option, Some, None, is_some, if◌then◌else◌, refl, sym, ap, ◌∙◌, subst, ⊎_elim, arith}
+use Rattle.std.proofs.Common.{◌≡◌, ℕ, zero, suc, ◌+◌, ◌<◌, ◌≢◌, ◌⊎◌, inl, Bool, true, false, not, ◌||◌, ◌&&◌, length, List, [], ◌∷◌, ◌++◌, reverse, Option, Some, None, if◌then◌else◌, refl, sym, ap, ◌∙◌, subst, ⊎_elim, arith}
 use Rattle.std.specs.Prelude.{nat_lt, ◌==◌}
 use Rattle.std.proofs.lemmas.Bool.{cases_eq}
 use Rattle.std.proofs.lemmas.Bool.Decides.{nat_tests}
@@ -10,7 +10,7 @@ use Rattle.sharc_tree.specs.declared.event.CellMode.TheVariants as modes
 use Rattle.sharc_tree.specs.declared.event.Object.{Object}
 use Rattle.sharc_tree.specs.declared.event.Object.TheVariants as objects
 use Rattle.sharc_locks.specs.declared.held_log.HeldMutex.{HeldMutex}
-use Rattle.sharc_locks.specs.HeldLog.{with_mutex, without, object_of}
+use Rattle.sharc_locks.specs.HeldLog.{with_mutex, without}
 use Rattle.sharc_code.specs.declared.code.Code.{Code}
 use Rattle.sharc_code.specs.declared.code.PlaceMode.{PlaceMode}
 use Rattle.sharc_code.specs.declared.instr.Cell.{Cell}
@@ -18,32 +18,32 @@ use Rattle.sharc_code.specs.declared.instr.Instr.{Instr}
 use Rattle.sharc_code.specs.declared.instr.Instr.TheVariants as instrs
 use Rattle.sharc_code.specs.declared.shape.Shape.{Shape}
 use Rattle.sharc_code.specs.Laws.{RunLaws}
-use Rattle.sharc_code.specs.Layout.{Fits, first_cell, words_of, cell_of, cell_word}
+use Rattle.sharc_code.specs.Layout.{Fits, first_cell, words_of, cell_of}
 use Rattle.sharc_code.specs.Machine.{Machine, instr_at, ref, place, object, word, is_held, taken, act, locked, goes, fails}
 use Rattle.sharc_code.specs.Opening.{opening_words}
-use Rattle.sharc_code.specs.Path.{turn, after, may_go}
+use Rattle.sharc_code.specs.Path.{turn, after}
 use Rattle.sharc_code.specs.Runs.{Turn, Global, IsRun, MayTurn, after_turn, put, state_now, result_of, opening_of}
 use Rattle.sharc_code.specs.Whole.{one_thread, bounds, place_after}
-use Rattle.sharc_code.specs.Says.{said, cell_at, mode_of, place_at, speaks_of, event_at, made_cell, lock_through}
-use Rattle.sharc_gen.specs.Consistent.{said_now, IsMutex, IsApart}
+use Rattle.sharc_code.specs.Says.{said, cell_at, mode_of, place_at, speaks_of, event_at, lock_through}
+use Rattle.sharc_gen.specs.Consistent.{said_now, IsMutex}
 use Rattle.sharc_gen.specs.OfRuns.{table_of}
 use Rattle.sharc_meaning.specs.Events.{Access, same_object, same_cell, is_cell, locks, unlocks, is_of}
 use Rattle.sharc_meaning.specs.Obeys.{History, IsAccess}
-use Rattle.sharc_invariant.specs.Types.{Targets, Field, FieldMode}
-use Rattle.sharc_invariant.specs.Labels.{Gate, Holds, HoldsLoaded, Labels}
+use Rattle.sharc_invariant.specs.Types.{Targets, FieldMode}
+use Rattle.sharc_invariant.specs.Labels.{Labels}
 use Rattle.sharc_invariant.specs.Typed.{IsWellTyped, Fine, MayAccess, IsMode}
 use Rattle.sharc_invariant.specs.World.{World}
-use Rattle.sharc_invariant.specs.State.{State, IsSmall, StageStands, GateStands, OnHold}
+use Rattle.sharc_invariant.specs.State.{IsSmall, StageStands, GateStands, OnHold}
 use Rattle.sharc_invariant.specs.MachineInvariant.{IsOn}
 use Rattle.sharc_invariant.specs.Laws.{Keeps, Begins as CodeBegins, CellsAreThere, PointersAreThere, AccessesAreAllowed}
 use Rattle.sharc_history_laws.specs.History.{history_of}
-use Rattle.sharc_history_laws.proofs.Single.{single, rests_hold}
+use Rattle.sharc_history_laws.proofs.Single.{rests_hold}
 use Rattle.sharc_history_laws.proofs.Stands.{gate}
-use Rattle.sharc_history_laws.proofs.Finds.{is_there, mutex_cell, pending_apart}
+use Rattle.sharc_history_laws.proofs.Finds.{mutex_cell, pending_apart}
 use Rattle.sharc_history_laws.proofs.Consists.{Consists, consists_then, at_first}
-use Rattle.sharc_history_laws.proofs.Acts.{access_said, thread_said, About, is_access, no_access, access_at, IsAccess as TellsAccess, access_of}
+use Rattle.sharc_history_laws.proofs.Acts.{access_said, thread_said, is_access, no_access, access_at, IsAccess as TellsAccess, access_of}
 use Rattle.sharc_history_laws.proofs.Lists.{Newest, EachAccess, no_event, each_push}
-use Rattle.sharc_history_laws.proofs.Rules.{pushed, newest, newest_now, is_on, number_is, about_now, hold_access, put_same, put_other}
+use Rattle.sharc_history_laws.proofs.Rules.{pushed, newest, newest_now, number_is, about_now, hold_access, put_same, put_other}
 use Rattle.sharc_history_laws.proofs.Holding.{cell_eq, holds_in, holds_other, holds_own}
 use Rattle.sharc_history_laws.proofs.Logs.{is_locking, logs}
 use Rattle.sharc_history_laws.proofs.Mutexless.{mutex_said, no_mutex, not_locked}

@@ -1,5 +1,5 @@
 -- What a thread holds by its events is in its held log, so where a lock check is refused it does not hold the mutex.
-use Rattle.std.proofs.Common.{◌≡◌, ℕ, pos, zero, suc, ◌+◌, ◌<◌, ◌≢◌, ◌⊎◌, inl, inr, Bool, true, false, not, cond, ◌||◌, ◌&&◌, length, List, [], ◌∷◌, ◌++◌, reverse, Option, Some, None, is_some, if◌then◌else◌, refl, sym, ap, ◌∙◌, subst, ⊎_elim, arith, eqb-true}
+use Rattle.std.proofs.Common.{◌≡◌, ℕ, pos, zero, suc, ◌+◌, ◌<◌, ◌⊎◌, inl, inr, Bool, true, false, not, cond, ◌||◌, ◌&&◌, length, List, [], ◌∷◌, ◌++◌, reverse, Option, Some, None, is_some, if◌then◌else◌, refl, sym, ap, ◌∙◌, subst, ⊎_elim, arith, eqb-true}
 use Rattle.std.specs.Prelude.{nat_lt, ◌==◌}
 use Rattle.std.proofs.lemmas.Bool.{cases_eq}
 use Rattle.std.proofs.lemmas.Bool.Decides.{nat_tests}
@@ -28,8 +28,8 @@ use Rattle.sharc_code.specs.Opening.{opening_words}
 use Rattle.sharc_code.specs.Path.{turn, after, may_go}
 use Rattle.sharc_code.specs.Runs.{Turn, Global, IsRun, MayTurn, after_turn, put, state_now, result_of, opening_of}
 use Rattle.sharc_code.specs.Whole.{one_thread, bounds, place_after}
-use Rattle.sharc_code.specs.Says.{said, cell_at, made_cell, place_at, speaks_of, event_at}
-use Rattle.sharc_gen.specs.Consistent.{said_now, MayFind, IsLock, IsMutex, IsApart, IsFree, IsHeld}
+use Rattle.sharc_code.specs.Says.{said, cell_at, made_cell, speaks_of, event_at}
+use Rattle.sharc_gen.specs.Consistent.{said_now, MayFind, IsLock, IsMutex, IsApart, IsFree}
 use Rattle.sharc_gen.specs.OfRuns.{table_of}
 use Rattle.sharc_meaning.specs.Events.{same_cell, is_cell, locks, unlocks, is_of, events_of, holds_mutex}
 use Rattle.sharc_invariant.specs.Types.{Targets}

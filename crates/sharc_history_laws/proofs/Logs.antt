@@ -1,5 +1,5 @@
 -- A turn that is none of Lock or Unlock leaves the held log of its thread.
-use Rattle.std.proofs.Common.{◌≡◌, ℕ, ℤ, pos, negsuc, zero, suc, ◌+◌, ◌*◌, ◌⊎◌, inl, inr, min, Bool, true, false, not, ◌&&◌, ◌||◌, ◌==◌, nat_lt, length, is_some, if◌then◌else◌, refl, sym, ap, ◌∙◌}
+use Rattle.std.proofs.Common.{◌≡◌, ℕ, ℤ, pos, negsuc, zero, suc, ◌+◌, ◌*◌, min, Bool, true, false, not, ◌&&◌, ◌||◌, ◌==◌, nat_lt, length, is_some, if◌then◌else◌, refl}
 use Rattle.std.specs.Prelude.{Result, Ok, Err}
 use Rattle.sharc_word.specs.declared.step.TheConstants.{THREADS}
 use Rattle.sharc_word.specs.declared.step.WordOp.TheVariants as ops
@@ -16,8 +16,6 @@ use Rattle.sharc_code.specs.declared.code.Code.{Code}
 use Rattle.sharc_code.specs.declared.code.Layout.{Layout}
 use Rattle.sharc_code.specs.declared.code.Parameter.{Parameter}
 use Rattle.sharc_code.specs.declared.code.Parameter.TheVariants as parameters
-use Rattle.sharc_code.specs.declared.instr.Cell.{Cell}
-use Rattle.sharc_code.specs.declared.instr.Cell.TheVariants as cells
 use Rattle.sharc_code.specs.declared.instr.Register.{Register}
 use Rattle.sharc_code.specs.declared.instr.Register.TheVariants as registers
 use Rattle.sharc_code.specs.declared.instr.Width.TheVariants.{Int, Long}
@@ -28,8 +26,8 @@ use Rattle.sharc_code.specs.declared.state.Stage.{Stage}
 use Rattle.sharc_code.specs.declared.state.Stage.TheVariants.{Rests, Looks, Clears, Makes, Empties, Lowers, FreeLooks, FreeClears, Uncounts, Links, Names, Hands, Begins, Enters, Withdraws, WithdrawsFrom, Leaves, Wakes}
 use Rattle.sharc_code.specs.Arithmetic.{computed, negated, is_zero, holds}
 use Rattle.sharc_code.specs.Layout.{granule_at, granule_of, cell_of, cell_word, state_word}
-use Rattle.sharc_code.specs.Machine.{Machine, Own, act, int, ref, goes, goes_to, asserts, with_result, has_room, called, returned, holds_none, is_of_null, is_held, indexed, wrote, with_note, checked, lock_checked, raise, lower, test, tested, after_new, asks_new, new, new_state, elements_of, looks, clear, data_granules, free_looks, empties, emptied, free, layout_at, spawn, with_parameter, entered, start, function_of, withdraws, exit, wakes, signal, is_positive, fields, largest, at_stage, place, set_ref, accessed, move_ref, trapped, locked, joined, join, woken, word, Local, Asks, step_of, without_base}
-use Rattle.sharc_code.specs.Path.{after, may_go}
+use Rattle.sharc_code.specs.Machine.{Machine, Own, act, int, ref, goes, goes_to, asserts, with_result, has_room, called, returned, holds_none, is_of_null, is_held, indexed, wrote, with_note, checked, lock_checked, raise, lower, test, tested, after_new, asks_new, new, new_state, elements_of, looks, clear, data_granules, free_looks, empties, emptied, free, layout_at, spawn, with_parameter, entered, start, function_of, withdraws, exit, wakes, signal, is_positive, fields, largest, at_stage, place, set_ref, accessed, move_ref, trapped, joined, join, woken, word, Local, Asks, step_of}
+use Rattle.sharc_code.specs.Path.{after}
 
 -- the log is as it was
 pub record Logs (m x : Machine) : Type 0 where

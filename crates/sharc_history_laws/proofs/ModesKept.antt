@@ -1,5 +1,5 @@
 -- In each run of typed code the cells of an object keep their modes until it is given or freed.
-use Rattle.std.proofs.Common.{◌≡◌, ℕ, zero, suc, ◌+◌, ◌-◌, ◌*◌, ◌<◌, ◌≢◌, ◌⊎◌, inl, inr, Bool, true, false, ◌||◌, List, [], ◌∷◌, reverse, Option, Some, None, refl, sym, ap, ◌∙◌, subst, ⊎_elim, arith}
+use Rattle.std.proofs.Common.{◌≡◌, ℕ, ◌+◌, ◌-◌, ◌*◌, ◌<◌, ◌≢◌, ◌⊎◌, inl, inr, Bool, true, false, ◌||◌, List, [], ◌∷◌, reverse, Option, Some, None, refl, sym, ap, ◌∙◌, subst, ⊎_elim}
 use Rattle.std.specs.Prelude.{slice_index}
 use Rattle.std.proofs.lemmas.Bool.{cases_eq}
 use Rattle.std.proofs.lemmas.List.{get_or-set_other}
@@ -14,7 +14,6 @@ use Rattle.sharc_tree.specs.declared.event.CellMode.{CellMode as EventMode}
 use Rattle.sharc_tree.specs.declared.event.CellMode.TheVariants as modes
 use Rattle.sharc_tree.specs.declared.event.Object.{Object}
 use Rattle.sharc_tree.specs.declared.event.Object.TheVariants as objects
-use Rattle.sharc_tree.specs.declared.event.Taken.TheVariants as takes
 use Rattle.sharc_code.specs.declared.code.Code.{Code}
 use Rattle.sharc_code.specs.declared.instr.Cell.{Cell}
 use Rattle.sharc_code.specs.declared.instr.Cell.TheVariants as cells
@@ -32,7 +31,7 @@ use Rattle.sharc_gen.specs.Consistent.{said_now}
 use Rattle.sharc_gen.specs.OfRuns.{table_of}
 use Rattle.sharc_meaning.specs.Events.{Access, makes, gives, begins, frees, is_number}
 use Rattle.sharc_meaning.specs.Obeys.{IsAccess}
-use Rattle.sharc_invariant.specs.Types.{Targets, Field, FieldMode, CellMode, FieldLock, cells_of, field_in, mode_in, mode_at, is_pointer, lock_number}
+use Rattle.sharc_invariant.specs.Types.{Targets, Field, FieldMode, CellMode, cells_of, field_in, mode_in, mode_at, is_pointer, lock_number}
 use Rattle.sharc_invariant.specs.Types.FieldLock.{OfType, OfGlobals, OfElement}
 use Rattle.sharc_invariant.specs.Labels.{Labels}
 use Rattle.sharc_invariant.specs.Typed.{IsWellTyped}
@@ -41,7 +40,7 @@ use Rattle.sharc_invariant.specs.Words.{lang_of, has_returned, length_at}
 use Rattle.sharc_invariant.specs.Words as Words
 use Rattle.sharc_invariant.specs.History.{Closing, Without}
 use Rattle.sharc_invariant.specs.Objects.{changes_objects}
-use Rattle.sharc_invariant.specs.State.{State, IsSmall, OnHold, object_of_cell, number_in, size_of_run}
+use Rattle.sharc_invariant.specs.State.{IsSmall, OnHold, object_of_cell, number_in, size_of_run}
 use Rattle.sharc_invariant.specs.MachineInvariant.{IsOn}
 use Rattle.sharc_invariant.specs.Laws.{Keeps, Begins as CodeBegins, CellsAreThere, PointersAreThere, AccessesAreAllowed, StateStands}
 use Rattle.sharc_history_laws.specs.History.{history_of}

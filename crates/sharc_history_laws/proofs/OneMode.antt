@@ -1,12 +1,6 @@
 -- From its New or Give to its next Give or Freed each cell of an object is accessed under one mode, and a cell of a global always.
-use Rattle.std.proofs.Common.{◌≡◌, ℕ, ℤ, pos, zero, suc, ◌+◌, ◌-◌, ◌*◌, ◌<◌, ◌≤◌, ◌≢◌, ◌⊎◌, inl, inr, Bool, true, false, ◌||◌, cond, length, List, [], ◌∷◌, reverse, Option, Some, None, if◌then◌else◌, refl, sym, ap, ◌∙◌, subst, ⊎_elim, arith}
-use Rattle.std.specs.Prelude.{map, slice_index, slice_index_or, slice_set, ◌==◌}
-use Rattle.std.proofs.lemmas.Bool.{cases_eq}
-use Rattle.std.proofs.lemmas.List.{get_or-set_other}
-use Rattle.sharc_word.specs.declared.step.WordStep.{WordStep}
-use Rattle.sharc_word.specs.declared.step.WordEvent.{WordEvent}
-use Rattle.sharc_word.specs.Words.{word_after, words_after_step}
-use Rattle.sharc_tree.specs.declared.event.SourceEvent.{SourceEvent}
+use Rattle.std.proofs.Common.{◌≡◌, ℕ, zero, suc, ◌+◌, ◌-◌, ◌*◌, ◌≤◌, ◌≢◌, Bool, true, false, List, [], ◌∷◌, Some, refl, sym, ap, ◌∙◌, subst, arith}
+use Rattle.std.specs.Prelude.{map, slice_index_or}
 use Rattle.sharc_tree.specs.declared.event.CellAt.{CellAt}
 use Rattle.sharc_tree.specs.declared.event.CellMode.{CellMode as EventMode}
 use Rattle.sharc_tree.specs.declared.event.CellMode.TheVariants as modes
@@ -17,49 +11,27 @@ use Rattle.sharc_code.specs.declared.code.PlaceMode.{PlaceMode}
 use Rattle.sharc_code.specs.declared.code.PlaceMode.TheVariants as places
 use Rattle.sharc_code.specs.declared.instr.Cell.{Cell}
 use Rattle.sharc_code.specs.declared.instr.Cell.TheVariants as cells
-use Rattle.sharc_code.specs.declared.instr.Instr.{Instr}
 use Rattle.sharc_code.specs.declared.shape.Shape.{Shape}
 use Rattle.sharc_code.specs.Arithmetic.{word_of}
-use Rattle.sharc_code.specs.Laws.{RunLaws}
-use Rattle.sharc_code.specs.Layout.{Fits, cell_of}
-use Rattle.sharc_code.specs.Machine.{Machine, Turn as Act, Local, Asks, instr_at, ref, int, place}
-use Rattle.sharc_code.specs.Opening.{opening_words}
-use Rattle.sharc_code.specs.Path.{turn, asked_by}
+use Rattle.sharc_code.specs.Layout.{Fits}
+use Rattle.sharc_code.specs.Machine.{Machine, ref, int, place}
 use Rattle.sharc_code.specs.Ranges.{IsInGlobal}
-use Rattle.sharc_code.specs.Runs.{Turn, Global, IsRun, MayTurn, after_turn, result_of, step_of, words_now, opening_of}
-use Rattle.sharc_code.specs.Whole.{one_thread, bounds, place_after}
-use Rattle.sharc_code.specs.Says.{said, cell_at, global_cell, made_cell, mode_of, place_at, no_global, speaks_of, lock_through}
-use Rattle.sharc_gen.specs.Consistent.{said_now}
-use Rattle.sharc_gen.specs.OfRuns.{table_of}
-use Rattle.sharc_meaning.specs.Events.{Access, makes, gives, begins, frees, is_number}
-use Rattle.sharc_meaning.specs.Obeys.{IsAccess}
+use Rattle.sharc_code.specs.Runs.{Global}
+use Rattle.sharc_code.specs.Says.{cell_at, global_cell, made_cell, mode_of, no_global, lock_through}
 use Rattle.sharc_invariant.specs.Types.{Targets, Field, FieldMode, FieldLock, Lock, Mutex, ObjectType, StaticType, CellMode, field_in, mode_in, mode_at, is_pointer, lock_number, mutex_of, type_of, no_mutex}
 use Rattle.sharc_invariant.specs.Types.Lock.{Global as GlobalLock, Through, Self}
 use Rattle.sharc_invariant.specs.Types.FieldLock.{OfType, OfGlobals, OfElement}
-use Rattle.sharc_invariant.specs.Labels.{Gate, Holds, HoldsLoaded, Entry, Refers, OfGlobal, OfElement as OfElementCell, Label, Labels, SameReference}
-use Rattle.sharc_invariant.specs.Typed.{IsWellTyped, Fine, HasCell, HasBase, MayAccess, IsMode, IsTypeMode, IsLockMode, IsLockCell, IsTypeLock, IsMutexOf, IsSibling, no_lock}
-use Rattle.sharc_invariant.specs.World.{RegisterOf, In, Cell as CellOf, Loaded as IsLoaded, World, ObjectState, WinOk, in_ref, base_of}
-use Rattle.sharc_invariant.specs.Words.{lang_of, has_returned}
-use Rattle.sharc_invariant.specs.Words as Words
-use Rattle.sharc_invariant.specs.History.{Closing, Without}
-use Rattle.sharc_invariant.specs.Objects.{changes_objects, objects_behind, objects_now}
-use Rattle.sharc_invariant.specs.State.{State, IsSmall, GateStands, EntryStands, OnHold, View, view_of, refs_at, types_at, base_of_cell, object_of_cell, number_in, size_of_run}
+use Rattle.sharc_invariant.specs.Labels.{HoldsLoaded, Refers, Label, Labels}
+use Rattle.sharc_invariant.specs.Typed.{IsWellTyped, HasCell, HasBase, MayAccess, IsMode, IsTypeMode, IsLockMode, IsLockCell, IsTypeLock, IsSibling, no_lock}
+use Rattle.sharc_invariant.specs.World.{RegisterOf, In, Cell as CellOf, Loaded as IsLoaded, World, WinOk, in_ref, base_of}
+use Rattle.sharc_invariant.specs.Words.{lang_of}
+use Rattle.sharc_invariant.specs.State.{State, GateStands, EntryStands, OnHold, View, view_of, refs_at, types_at, base_of_cell, object_of_cell, number_in}
 use Rattle.sharc_invariant.specs.MachineInvariant.{IsOn}
-use Rattle.sharc_invariant.specs.Laws.{Keeps, Begins as CodeBegins, CellsAreThere, PointersAreThere, AccessesAreAllowed, StateStands}
-use Rattle.sharc_history_laws.specs.History.{history_of}
+use Rattle.sharc_invariant.specs.Laws.{CellsAreThere}
 use Rattle.sharc_history_laws.proofs.Stands.{top, gate, reads_ref, known_ref, there, rn}
 use Rattle.sharc_history_laws.proofs.Finds.{is_there}
-use Rattle.sharc_history_laws.proofs.Tables.{header_of, was_live, length_kept}
-use Rattle.sharc_history_laws.proofs.Writes.{writes}
-use Rattle.sharc_history_laws.proofs.Unwritten.{Spares, SparesTurn, Leaves, Elsewhere, Had, spares}
-use Rattle.sharc_history_laws.proofs.Consists.{Consists, consists_then, objects_then, effect_then, at_first, given}
-use Rattle.sharc_history_laws.proofs.Acts.{access_said, made_said, given_said, freed_said, given_at, freed_at, About, is_access, no_access, access_at, IsAccess as TellsAccess, access_of}
-use Rattle.sharc_history_laws.proofs.Lists.{Newest, EachAccess, no_event, each_push}
-use Rattle.sharc_history_laws.proofs.Rules.{pushed, newest, newest_now, about_now, hold_access, cell_is, same_behind, number_yes}
-use Rattle.sharc_history_laws.proofs.Shared.{number_of, closing_own, some_closing, not_sole, unless_given, unless_made}
-use Rattle.sharc_history_laws.proofs.Carried.{without_carried}
-use Rattle.sharc_history_laws.proofs.Locked.{Names, names_one, same_in, same_refs, number_of_global, number_of_element, same_type, element_one, some_eq}
-use Rattle.sharc_history_laws.proofs.Since.{IsTo, Since, AsBefore, as_before}
+use Rattle.sharc_history_laws.proofs.Shared.{number_of}
+use Rattle.sharc_history_laws.proofs.Locked.{Names, names_one, same_refs, number_of_global, number_of_element, same_type, element_one}
 
 yes : true ≡ false → ⊥
 yes e = cc

@@ -1,5 +1,5 @@
 -- Each access of a run of typed code is to a live object, by its owner where the cell is private, and no write under mode readonly.
-use Rattle.std.proofs.Common.{◌≡◌, ℕ, zero, suc, ◌+◌, ◌^◌, ◌<◌, ◌≢◌, ◌⊎◌, inl, inr, Bool, true, false, ◌||◌, cond, List, [], ◌∷◌, ◌++◌, reverse, Option, Some, None, if◌then◌else◌, refl, sym, ap, ◌∙◌, subst, ⊎_elim, arith, eqb-true}
+use Rattle.std.proofs.Common.{◌≡◌, ℕ, ◌^◌, ◌<◌, ◌≢◌, ◌⊎◌, inl, inr, Bool, true, false, ◌||◌, List, [], ◌∷◌, reverse, Option, Some, None, refl, sym, ap, ◌∙◌, subst, ⊎_elim, arith}
 use Rattle.std.specs.Prelude.{nat_eq, ◌==◌}
 use Rattle.std.proofs.lemmas.Bool.{cases_eq}
 use Rattle.std.proofs.lemmas.Bool.Decides.{nat_tests}
@@ -9,33 +9,32 @@ use Rattle.sharc_tree.specs.declared.event.Object.TheVariants as objects
 use Rattle.sharc_granule.specs.declared.stage.Stage.{Stage as NewStage}
 use Rattle.sharc_granule.specs.declared.stage.Stage.TheVariants as news
 use Rattle.sharc_code.specs.declared.code.Code.{Code}
-use Rattle.sharc_code.specs.declared.code.PlaceMode.{PlaceMode}
 use Rattle.sharc_code.specs.declared.instr.Cell.{Cell}
 use Rattle.sharc_code.specs.declared.instr.Cell.TheVariants as cells
 use Rattle.sharc_code.specs.declared.instr.Instr.{Instr}
 use Rattle.sharc_code.specs.declared.instr.Instr.TheVariants as instrs
 use Rattle.sharc_code.specs.declared.shape.Shape.{Shape}
 use Rattle.sharc_code.specs.declared.state.Stage.{Stage}
-use Rattle.sharc_code.specs.declared.state.Stage.TheVariants.{Rests, Looks, Clears, Makes, Empties, Lowers, FreeLooks, FreeClears, Uncounts, Links, Names, Hands, Begins, Enters, Withdraws, WithdrawsFrom, Leaves, Wakes}
+use Rattle.sharc_code.specs.declared.state.Stage.TheVariants.{Makes, Uncounts}
 use Rattle.sharc_code.specs.Laws.{RunLaws}
 use Rattle.sharc_code.specs.Layout.{Fits}
 use Rattle.sharc_code.specs.Machine.{Machine, instr_at, ref}
 use Rattle.sharc_code.specs.Opening.{opening_words}
 use Rattle.sharc_code.specs.Runs.{Said, Turn, Global, IsRun, MayTurn, after_turn, put, result_of, with_told, opening_of}
 use Rattle.sharc_code.specs.Whole.{one_thread, bounds, place_after, Erase}
-use Rattle.sharc_code.specs.Says.{said, cell_at, mode_of, place_at, speaks_of}
+use Rattle.sharc_code.specs.Says.{said, cell_at, place_at, speaks_of}
 use Rattle.sharc_gen.specs.Consistent.{said_now}
 use Rattle.sharc_gen.specs.OfRuns.{told_in, table_of}
 use Rattle.sharc_meaning.specs.Events.{Access, makes, gives, frees, begins, is_number, made_by, given_by, freed_by}
 use Rattle.sharc_meaning.specs.Obeys.{History, IsAccess, IsThere, is_owner}
 use Rattle.sharc_invariant.specs.Types.{Targets, Field, FieldMode, field_in, mode_in}
-use Rattle.sharc_invariant.specs.Labels.{Label, Labels}
+use Rattle.sharc_invariant.specs.Labels.{Labels}
 use Rattle.sharc_invariant.specs.Typed.{IsWellTyped, Fine, Accesses}
-use Rattle.sharc_invariant.specs.World.{ObjectState, World, CanBy, Right, base_of}
+use Rattle.sharc_invariant.specs.World.{ObjectState, World, CanBy}
 use Rattle.sharc_invariant.specs.Words.{lang_of}
 use Rattle.sharc_invariant.specs.Cells.{IsThere as CellIsThere}
 use Rattle.sharc_invariant.specs.Objects.{objects_behind, made_behind, new_behind, freed_behind, objects_now, owned, gone, type_held}
-use Rattle.sharc_invariant.specs.State.{State, IsSmall, StageStands, OnHold, base_of_cell, object_of_cell, number_in}
+use Rattle.sharc_invariant.specs.State.{IsSmall, StageStands, OnHold, object_of_cell, number_in}
 use Rattle.sharc_invariant.specs.MachineInvariant.{IsOn}
 use Rattle.sharc_invariant.specs.Laws.{Keeps, Begins as CodeBegins, CellsAreThere, PointersAreThere, AccessesAreAllowed}
 use Rattle.sharc_history_laws.specs.History.{history_of}
@@ -43,7 +42,7 @@ use Rattle.sharc_history_laws.proofs.Single.{single, rests_hold}
 use Rattle.sharc_history_laws.proofs.Stands.{live_low, known_ref, there, live_ref, sole_ref}
 use Rattle.sharc_history_laws.proofs.Tables.{header_at, header_in, header_of, was_live}
 use Rattle.sharc_history_laws.proofs.Consists.{Consists, consists_then, objects_then, given, header_built, built_low}
-use Rattle.sharc_history_laws.proofs.Acts.{access_said, made_said, given_said, freed_said, thread_said, given_at, freed_in, freed_at, About, about, AreLow, is_access, no_access, access_at, IsAccess as TellsAccess, access_of}
+use Rattle.sharc_history_laws.proofs.Acts.{access_said, thread_said, given_at, freed_in, freed_at, About, about, AreLow, is_access, no_access, access_at, IsAccess as TellsAccess, access_of}
 use Rattle.sharc_history_laws.proofs.Lists.{Newest, EachAccess, no_event, each_push, live_in, owned_in, is_live_in, owned_is, live_made, live_other, owned_begun, owned_other}
 use Rattle.sharc_history_laws.proofs.Modes.{private_field, readonly_field}
 

@@ -1,11 +1,10 @@
 -- No access set of a run of typed code holds accesses of two threads of which one writes.
-use Rattle.std.proofs.Common.{◌≡◌, ℕ, ℤ, pos, zero, suc, ◌+◌, ◌-◌, ◌*◌, ◌/◌, ◌^◌, ◌<◌, ◌≤◌, ◌≢◌, ◌⊎◌, inl, inr, Bool, true, false, ◌||◌, ◌&&◌, cond, List, [], ◌∷◌, ◌++◌, reverse, Option, Some, None, if◌then◌else◌, refl, sym, ap, ◌∙◌, subst, ⊎_elim, arith}
-use Rattle.std.specs.Prelude.{nat_eq, ◌==◌, slice_index, slice_index_or}
+use Rattle.std.proofs.Common.{◌≡◌, ℕ, ◌+◌, ◌-◌, ◌*◌, ◌/◌, ◌≤◌, ◌≢◌, ◌⊎◌, inl, inr, Bool, true, false, ◌||◌, ◌&&◌, List, [], ◌∷◌, Option, Some, None, refl, sym, ap, ◌∙◌, subst, ⊎_elim, arith}
+use Rattle.std.specs.Prelude.{◌==◌, slice_index, slice_index_or}
 use Rattle.std.proofs.lemmas.Bool.{cases_eq}
 use Rattle.std.proofs.lemmas.Bool.Decides.{nat_tests}
 use Rattle.sharc_tree.specs.declared.event.Act.TheVariants as acts
 use Rattle.sharc_tree.specs.declared.event.SourceEvent.{SourceEvent}
-use Rattle.sharc_tree.specs.declared.event.CellAt.{CellAt}
 use Rattle.sharc_tree.specs.declared.event.CellMode.TheVariants as modes
 use Rattle.sharc_tree.specs.declared.event.Object.{Object}
 use Rattle.sharc_tree.specs.declared.event.Object.TheVariants as objects
@@ -17,40 +16,39 @@ use Rattle.sharc_code.specs.declared.instr.Instr.TheVariants as instrs
 use Rattle.sharc_code.specs.declared.shape.Shape.{Shape}
 use Rattle.sharc_code.specs.declared.state.State.TheVariants as states
 use Rattle.sharc_code.specs.declared.state.Stage.{Stage}
-use Rattle.sharc_code.specs.declared.state.Stage.TheVariants.{Rests, Looks, Clears, Makes, Empties, Lowers, FreeLooks, FreeClears, Uncounts, Links, Names, Hands, Begins, Enters, Withdraws, WithdrawsFrom, Leaves, Wakes}
+use Rattle.sharc_code.specs.declared.state.Stage.TheVariants.{Rests, Makes, Uncounts, Links, Withdraws, WithdrawsFrom, Leaves}
 use Rattle.sharc_code.specs.Laws.{RunLaws}
 use Rattle.sharc_code.specs.Layout.{Fits}
 use Rattle.sharc_code.specs.Machine.{Machine, instr_at, ref, place, act}
 use Rattle.sharc_code.specs.Opening.{opening_words}
 use Rattle.sharc_code.specs.Path.{turn, after, may_go}
-use Rattle.sharc_code.specs.Runs.{Said, Turn, Global, IsRun, MayTurn, after_turn, put, state_now, result_of, opening_of}
+use Rattle.sharc_code.specs.Runs.{Turn, Global, IsRun, MayTurn, after_turn, put, state_now, result_of, opening_of}
 use Rattle.sharc_code.specs.Whole.{one_thread, bounds, place_after}
 use Rattle.sharc_code.specs.Says.{said, cell_at, place_at, speaks_of, in_exit, no_global}
 use Rattle.sharc_gen.specs.Consistent.{said_now}
 use Rattle.sharc_gen.specs.OfRuns.{table_of}
 use Rattle.sharc_meaning.specs.Events.{Access, granule_of, makes, gives, begins, is_of, access_by}
-use Rattle.sharc_meaning.specs.Obeys.{IsAccess, until_return, ends}
+use Rattle.sharc_meaning.specs.Obeys.{until_return, ends}
 use Rattle.sharc_invariant.specs.Granules.{Passed}
 use Rattle.sharc_invariant.specs.Types.{Targets, Field, FieldMode}
 use Rattle.sharc_invariant.specs.Labels.{Gate, Closed, Checked, Holds, Loaded, HoldsLoaded, Sole, Labels}
 use Rattle.sharc_invariant.specs.Typed.{IsWellTyped, Fine, IsNotSole}
 use Rattle.sharc_invariant.specs.World.{RegisterOf, ObjectState, Shut, Sole as IsSole, World, WinOk, in_ref}
-use Rattle.sharc_invariant.specs.Words.{lang_of, has_returned, is_withdrawing, is_ended, is_freed}
-use Rattle.sharc_invariant.specs.Effect.{Effect}
+use Rattle.sharc_invariant.specs.Words.{lang_of, has_returned, is_withdrawing, is_ended}
 use Rattle.sharc_invariant.specs.History.{Closing, Without}
 use Rattle.sharc_invariant.specs.Objects.{changes_objects, makes_object, frees_object, objects_behind}
-use Rattle.sharc_invariant.specs.State.{State, Runs, IsSmall, StageStands, GateStands, StopStands, OnHold, OnExit, base_of_cell, object_of_cell, number_in, label_now, size_of_run}
+use Rattle.sharc_invariant.specs.State.{State, Runs, IsSmall, StageStands, GateStands, StopStands, OnHold, OnExit, object_of_cell, number_in, label_now, size_of_run}
 use Rattle.sharc_invariant.specs.MachineInvariant.{IsOn, MachineInvariant, IsAlone, WindowStands, label_of}
 use Rattle.sharc_invariant.specs.Laws.{Keeps, Begins as CodeBegins, CellsAreThere, PointersAreThere, AccessesAreAllowed, StateStands}
 use Rattle.sharc_history_laws.proofs.Single.{single, rests_hold}
-use Rattle.sharc_history_laws.proofs.Stands.{register_is, gate, sole_ref, reads_ref}
+use Rattle.sharc_history_laws.proofs.Stands.{register_is, gate, reads_ref}
 use Rattle.sharc_history_laws.proofs.Finds.{is_there}
-use Rattle.sharc_history_laws.proofs.Tables.{header_at, header_in, header_of, was_live}
+use Rattle.sharc_history_laws.proofs.Tables.{header_of, was_live}
 use Rattle.sharc_history_laws.proofs.Consists.{Consists, consists_then, objects_then, effect_then, given, at_first}
-use Rattle.sharc_history_laws.proofs.Acts.{access_said, made_said, given_said, thread_said, given_at, freed_in, freed_at, About, is_access, no_access, access_at, IsAccess as TellsAccess, access_of}
+use Rattle.sharc_history_laws.proofs.Acts.{access_said, thread_said, given_at, freed_in, freed_at, About, is_access, no_access, access_at, IsAccess as TellsAccess, access_of}
 use Rattle.sharc_history_laws.proofs.Lists.{Newest}
 use Rattle.sharc_history_laws.proofs.Modes.{dynamic_field}
-use Rattle.sharc_history_laws.proofs.Rules.{pushed, newest, newest_now, is_on, number_is, about_now, hold_access, cell_is, can_mode, freed_gone, number_yes, put_same, put_other}
+use Rattle.sharc_history_laws.proofs.Rules.{pushed, newest, newest_now, number_is, about_now, hold_access, cell_is, can_mode, freed_gone, number_yes, put_same, put_other}
 use Rattle.sharc_history_laws.proofs.Sets.{IsHere, Goes, InSet, NoConflict, Clean}
 use Rattle.sharc_history_laws.proofs.Carried.{Stands, carried}
 use Rattle.sharc_history_laws.proofs.Going.{is_exit, going}

@@ -1,5 +1,5 @@
 -- Accesses of a cell since its object was made or given, by a history with its newest event first.
-use Rattle.std.proofs.Common.{◌≡◌, ℕ, Bool, true, false, ◌||◌, List, [], ◌∷◌, ◌++◌, reverse, refl, sym, ap, ◌∙◌, subst, ◌⊎◌, inl, inr}
+use Rattle.std.proofs.Common.{◌≡◌, false, ◌||◌, [], ◌∷◌, ◌++◌, reverse, refl, sym, ap, ◌∙◌, subst, ◌⊎◌, inl, inr}
 use Rattle.std.specs.List.{list_any}
 use Rattle.sharc_tree.specs.declared.event.SourceEvent.{SourceEvent}
 use Rattle.sharc_tree.specs.declared.event.CellAt.{CellAt}

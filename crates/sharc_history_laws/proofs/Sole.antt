@@ -1,10 +1,9 @@
 -- A thread that stopped at a test of a sole reference found the number of references to its object, of which there is another one.
-use Rattle.std.proofs.Common.{◌≡◌, ℕ, zero, suc, ◌+◌, ◌*◌, ◌<◌, ◌≤◌, ◌⊎◌, inl, inr, Bool, true, false, List, [], ◌∷◌, ◌++◌, Option, Some, None, is_some, if◌then◌else◌, refl, sym, ap, ◌∙◌, subst, ⊎_elim, arith, eqb-true}
+use Rattle.std.proofs.Common.{◌≡◌, ℕ, zero, suc, ◌+◌, ◌*◌, ◌<◌, ◌≤◌, ◌⊎◌, inl, inr, Bool, true, false, List, [], ◌∷◌, Option, Some, None, is_some, if◌then◌else◌, refl, sym, ap, ◌∙◌, subst, ⊎_elim, arith, eqb-true}
 use Rattle.std.specs.Prelude.{nat_eq, slice_index, ◌==◌}
 use Rattle.std.proofs.lemmas.Bool.{cases_eq}
 use Rattle.sharc_word.specs.declared.step.TheConstants.{THREADS}
 use Rattle.sharc_count.specs.Count.{test_of}
-use Rattle.sharc_word.specs.declared.step.WordStep.{WordStep}
 use Rattle.sharc_shadow.specs.declared.shadow_word.Kind.{Kind}
 use Rattle.sharc_shadow.specs.declared.shadow_word.Kind.TheVariants.{Read, Write}
 use Rattle.sharc_shadow.specs.Accesses.{note_of, site_at}
@@ -17,7 +16,6 @@ use Rattle.sharc_code.specs.declared.instr.Instr.TheVariants as instrs
 use Rattle.sharc_code.specs.declared.shape.Shape.{Shape}
 use Rattle.sharc_code.specs.declared.state.Stop.{Stop}
 use Rattle.sharc_code.specs.declared.state.Stop.TheVariants.{Conflict, NoLock, NotSole, Trap}
-use Rattle.sharc_code.specs.Laws.{RunLaws}
 use Rattle.sharc_code.specs.Layout.{Fits, granules, words_of, cell_of, cell_word, count_word, granule_at, granule_of}
 use Rattle.sharc_code.specs.Machine.{Machine, Own, instr_at, act, ref, place, word, is_held, is_of_null, goes, stopped, checked, lock_checked, tested, with_own, wrote, with_note}
 use Rattle.sharc_code.specs.Opening.{opening_words}
@@ -35,7 +33,7 @@ use Rattle.sharc_invariant.specs.Opened.{first_world, first_place}
 use Rattle.sharc_invariant.specs.Objects.{objects_after}
 use Rattle.sharc_invariant.specs.MachineInvariant.{register_refers, log_refers, hand_refers, cell_refers, references_to}
 use Rattle.sharc_invariant.specs.Reports.{RunsTest, TestStands}
-use Rattle.sharc_history_laws.specs.Reports.{OtherReference, InRegister, InArgument, InLog, InHand, InCell, CountsOthers, FindsOthers}
+use Rattle.sharc_history_laws.specs.Reports.{OtherReference, InRegister, InArgument, InLog, InHand, InCell, FindsOthers}
 use Rattle.sharc_history_laws.proofs.Consists.{found_is}
 use Rattle.sharc_history_laws.proofs.Rules.{put_same, put_other}
 use Rattle.sharc_history_laws.proofs.Quits.{Quits, Still, Traps, is_trap, is_reporting, quits}

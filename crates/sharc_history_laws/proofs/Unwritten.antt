@@ -1,5 +1,5 @@
 -- A readonly pointer cell of an object that no thread has alone is written by no turn of typed code.
-use Rattle.std.proofs.Common.{◌≡◌, ℕ, ℤ, pos, negsuc, zero, suc, ◌+◌, ◌*◌, ◌/◌, ◌<◌, ◌≤◌, ◌≢◌, Bool, true, false, nat_lt, List, if◌then◌else◌, refl, sym, ap, ◌∙◌, subst, arith, ⊎_elim, cond}
+use Rattle.std.proofs.Common.{◌≡◌, ℕ, ℤ, pos, negsuc, zero, suc, ◌+◌, ◌*◌, ◌/◌, ◌<◌, ◌≤◌, ◌≢◌, Bool, true, false, nat_lt, List, if◌then◌else◌, refl, sym, ap, ◌∙◌, subst, arith, ⊎_elim}
 use Rattle.std.specs.Prelude.{slice_index, ◌==◌}
 use Rattle.std.proofs.lemmas.Bool.{cases_eq, cases_lt}
 use Rattle.std.proofs.lemmas.Bool.Decides.{nat_tests}
@@ -29,7 +29,7 @@ use Rattle.sharc_code.specs.Runs.{Global}
 use Rattle.sharc_invariant.specs.Types.{Targets, Field}
 use Rattle.sharc_invariant.specs.Labels.{Sole, Label, Labels}
 use Rattle.sharc_invariant.specs.Typed.{IsWellTyped, Fine, HasCell}
-use Rattle.sharc_invariant.specs.World.{World, ObjectState}
+use Rattle.sharc_invariant.specs.World.{World}
 use Rattle.sharc_invariant.specs.Words.{cell_at}
 use Rattle.sharc_invariant.specs.Blocks.{Heap, Built, Live}
 use Rattle.sharc_invariant.specs.State.{State, Runs, StageStands, BuildsAt, all_pointers, OnHold, object_of_cell, number_in}

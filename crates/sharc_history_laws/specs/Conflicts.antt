@@ -2,7 +2,9 @@
 use Rattle.std.specs.Prelude.{◌≡◌, ◌≢◌, ℕ, ◌⊎◌, Bool, true, false, List, [], ◌∷◌, ◌++◌, Option, Some, None, slice_index}
 use Rattle.sharc_shadow.specs.declared.shadow_word.Kind.{Kind}
 use Rattle.sharc_shadow.specs.declared.shadow_word.Kind.TheVariants.{Write}
-use Rattle.sharc_shadow.specs.ShadowWord.{stands}
+use Rattle.sharc_shadow.specs.declared.access_table.Note.{Note}
+use Rattle.sharc_shadow.specs.Accesses.{note_of}
+use Rattle.sharc_shadow.specs.ShadowWord.{stands, epoch_of}
 use Rattle.sharc_code.specs.declared.code.Code.{Code}
 use Rattle.sharc_code.specs.declared.instr.Instr.{Instr}
 use Rattle.sharc_code.specs.declared.instr.Instr.TheVariants.{ChkRead, ChkWrite}
@@ -74,3 +76,19 @@ abbrev pub AccessReportsShow : Type 0
 AccessReportsShow = (x : Targets) (code : Code) (s : Shape) (ls : Labels) → IsWellTyped x code ls → Fits code s → IsSmall code s
     → (run : List Turn) → CheckedRun code s run → (t : ℕ) (c : ConflictAt) → ((place_after code s run).threads t).own.stop ≡ Some (Conflict c)
     → ShowsConflict code s run t c
+
+-- ---- notes
+-- thread j made a check of this kind of the granule that passed, at the site of the note, where the word had the note's epoch
+pub record IsNoted (code : Code) (s : Shape) (run : List Turn) (j p : ℕ) (kind : Kind) (note : Note) : Type 0 where
+  pub later : List Turn
+  pub check : Turn
+  pub earlier : List Turn
+  pub parts : run ≡ later ++ check ∷ earlier
+  pub is_check : IsCheck code s earlier check j kind p note.site true
+  pub epoch : epoch_of (slice_index (place_after code s earlier).words (shadow_word s p)) ≡ note.epoch
+
+-- so it is of each note in a table of a thread
+abbrev pub NotesAreOfChecks : Type 0
+NotesAreOfChecks = (x : Targets) (code : Code) (s : Shape) (ls : Labels) → IsWellTyped x code ls → Fits code s → IsSmall code s
+    → (run : List Turn) → CheckedRun code s run → (j p : ℕ) (kind : Kind) (note : Note) → note_of ((place_after code s run).threads j).own.table p kind ≡ Some note
+    → IsNoted code s run j p kind note

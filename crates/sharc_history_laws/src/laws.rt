@@ -1,6 +1,6 @@
 //! The laws, each the contract of a function that does nothing.
 
-ghost use Rattle.sharc_history_laws.specs.Conflicts.{AccessReportsShow};
+ghost use Rattle.sharc_history_laws.specs.Conflicts.{AccessReportsShow, NotesAreOfChecks};
 ghost use Rattle.sharc_history_laws.specs.History.{HistoriesObey};
 ghost use Rattle.sharc_history_laws.specs.Paths.{PathsAreConsistent};
 ghost use Rattle.sharc_history_laws.specs.Reports.{CastReportsShow, LockReportsShow};
@@ -30,12 +30,14 @@ pub fn history_law()
     cells_are_there();
 }
 
-/// A thread of a checked run of typed code that has stopped at a lock check does not hold the mutex by its events, and one that has stopped at a test of
-/// a sole reference found the number of references to its object, of which another than the one tested is there.
+/// What reports of checked runs of typed code show. A thread that has stopped at a lock check does not hold the mutex by its events; one that has stopped
+/// at a test of a sole reference found the number of references to its object, of which another than the one tested is there; and one that has stopped at
+/// the check of an access found the bit of another thread that had made a check of the granule. Each note of a thread is of a check that it made.
 pub fn reports_law()
     ensures locks { LockReportsShow }
     ensures casts { CastReportsShow }
     ensures accesses { AccessReportsShow }
+    ensures notes { NotesAreOfChecks }
 {
     run_laws();
     begins();

@@ -8,3 +8,4 @@ pub mod Preorder
 pub mod Weaker
 pub mod Anyhow
 pub mod Passing
+pub mod Sampled

@@ -1,6 +1,7 @@
 //! Laws of code that is made of typed flat code.
 
 ghost use Rattle.sharc_typed.specs.Laws.{PiecesAreTyped, PiecesAreScoped, TypedFlatIsTyped, AnyhowIsTyped, CodeIsTyped};
+ghost use Rattle.sharc_typed.specs.Sample.{SampleIsTyped};
 
 /// The statements that an operation becomes are typed one after the other, from what is known before its line to what may be known after it.
 pub fn pieces_law()
@@ -29,3 +30,8 @@ pub fn code_law()
     anyhow_law();
     typed_law();
 }
+
+/// There is flat code that is typed whatever checks are remembered, of which a check is dropped.
+pub fn sample_law()
+    ensures { SampleIsTyped }
+{}

@@ -6,4 +6,4 @@
 
 mod laws;
 
-pub use laws::{anyhow_law, code_law, pieces_law, scopes_law, typed_law};
+pub use laws::{anyhow_law, code_law, pieces_law, sample_law, scopes_law, typed_law};
