@@ -14,17 +14,7 @@ use Rattle.sharc_code.specs.declared.instr.Instr.TheVariants as instrs
 use Rattle.sharc_code.specs.declared.state.Stage.{Stage}
 use Rattle.sharc_code.specs.declared.state.Stage.TheVariants.{Makes, Uncounts, Begins, Enters, Withdraws, WithdrawsFrom, Leaves as Leaving, Wakes}
 use Rattle.sharc_code.specs.Machine.{Machine, ref}
-<<<<<<< HEAD
-use Rattle.sharc_code.specs.Says.{said, reference, take_local, nobody, in_signal, in_exit, in_spawn, in_start, in_free, in_new, new_event, cell_at, mode_of, place_at}
-use Rattle.sharc_meaning.specs.Events.{Access, access_by, made_by, given_by, freed_by}
-use Rattle.sharc_meaning.specs.Reference.{number_of}
-use Rattle.sharc_invariant.specs.Types.{Targets, Field}
-use Rattle.sharc_invariant.specs.Labels.{Label, Labels}
-use Rattle.sharc_invariant.specs.Typed.{Fine, Accesses}
-use Rattle.sharc_history_laws.proofs.Tables.{header_at, header_in, header_of}
-=======
 use Rattle.sharc_code.specs.Says.{said, take_local, nobody, in_signal, in_exit, in_spawn, in_start, in_free, in_new, new_event}
->>>>>>> 4dd09511afa12e6864b17e7ac9277f0a46a19b2e
 use Rattle.sharc_tree.specs.declared.event.Act.{Act}
 use Rattle.sharc_tree.specs.declared.event.Act.TheVariants as acts
 use Rattle.sharc_meaning.specs.Events.{locked_by, unlocked_by}
