@@ -68,6 +68,7 @@ pub record ShowsConflict (code : Code) (s : Shape) (run : List Turn) (t : ℕ) (
   pub parts : run ≡ later ++ check ∷ earlier
   pub is_check : IsCheck code s earlier check t c.kind c.granule c.site false
   pub word : slice_index (place_after code s earlier).words (shadow_word s c.granule) ≡ c.old
+  pub epoch : epoch_of c.old ≡ c.epoch
   pub others : (j : ℕ) → stands c.old j ≡ true → (kind : Kind) × MadeSince code s earlier j c.granule kind
   pub cause : Opposes code s earlier t c.old c.granule c.kind
 
