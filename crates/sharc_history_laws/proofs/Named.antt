@@ -1,6 +1,6 @@
 -- The other access that a report names is a check that its thread made in the run.
-use Rattle.std.proofs.Common.{◌≡◌, ℕ, Bool, true, false, List, Option, Some, None, if◌then◌else◌, refl, sym, ap, ◌∙◌, subst, eqb-true}
-use Rattle.std.specs.Prelude.{◌==◌, slice_index}
+use Rattle.std.proofs.Common.{◌≡◌, ℕ, true, false, List, Option, Some, None, if◌then◌else◌, refl, ap, ◌∙◌, subst, eqb-true}
+use Rattle.std.specs.Prelude.{◌==◌}
 use Rattle.sharc_shadow.specs.declared.shadow_word.Kind.{Kind}
 use Rattle.sharc_shadow.specs.declared.access_table.Note.{Note}
 use Rattle.sharc_shadow.specs.Accesses.{note_of, site_at}
