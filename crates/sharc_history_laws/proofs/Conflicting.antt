@@ -173,8 +173,8 @@ module _ (code : Code) (s : Shape) (j p : ℕ) where
 
 -- ---- the turn that stopped there
 pub data Refused (s : Shape) (m : Machine) (found : ℕ) (i : Instr) (c : ConflictAt) : Type 0 where
-  OfRead : (cell : Cell) → i ≡ instrs.ChkRead cell c.site → c.kind ≡ Read → c.granule ≡ granule_at s (granule_of (place m cell)) → c.old ≡ found → Refused s m found i c
-  OfWrite : (cell : Cell) → i ≡ instrs.ChkWrite cell c.site → c.kind ≡ Write → c.granule ≡ granule_at s (granule_of (place m cell)) → c.old ≡ found → Refused s m found i c
+  OfRead : (cell : Cell) → i ≡ instrs.ChkRead cell c.site → c.kind ≡ Read → c.granule ≡ granule_at s (granule_of (place m cell)) → c.old ≡ found → c.epoch ≡ epoch_of found → Refused s m found i c
+  OfWrite : (cell : Cell) → i ≡ instrs.ChkWrite cell c.site → c.kind ≡ Write → c.granule ≡ granule_at s (granule_of (place m cell)) → c.old ≡ found → c.epoch ≡ epoch_of found → Refused s m found i c
 
 module _ (code : Code) (s : Shape) (m : Machine) (fresh : m.own.stop ≡ None) (found : ℕ) (c : ConflictAt) where
   abbrev IsThat : Machine → Type 0
@@ -221,10 +221,10 @@ module _ (code : Code) (s : Shape) (m : Machine) (fresh : m.own.stop ≡ None) (
   conflict_stop (instrs.ChkLockLoaded at) is = absurd (lock_check (m.pending == 0) (cell_word s (cell_of m.pending 0)) at is)
   conflict_stop (instrs.ChkRead cell at) is =
       let e = check Read (granule_at s (granule_of (place m cell))) at is in
-      OfRead cell (ap (λ (c : ConflictAt). instrs.ChkRead cell c.site) e) (ap (λ (c : ConflictAt). c.kind) (sym e)) (ap (λ (c : ConflictAt). c.granule) (sym e)) (ap (λ (c : ConflictAt). c.old) (sym e))
+      OfRead cell (ap (λ (c : ConflictAt). instrs.ChkRead cell c.site) e) (ap (λ (c : ConflictAt). c.kind) (sym e)) (ap (λ (c : ConflictAt). c.granule) (sym e)) (ap (λ (c : ConflictAt). c.old) (sym e)) (ap (λ (c : ConflictAt). c.epoch) (sym e))
   conflict_stop (instrs.ChkWrite cell at) is =
       let e = check Write (granule_at s (granule_of (place m cell))) at is in
-      OfWrite cell (ap (λ (c : ConflictAt). instrs.ChkWrite cell c.site) e) (ap (λ (c : ConflictAt). c.kind) (sym e)) (ap (λ (c : ConflictAt). c.granule) (sym e)) (ap (λ (c : ConflictAt). c.old) (sym e))
+      OfWrite cell (ap (λ (c : ConflictAt). instrs.ChkWrite cell c.site) e) (ap (λ (c : ConflictAt). c.kind) (sym e)) (ap (λ (c : ConflictAt). c.granule) (sym e)) (ap (λ (c : ConflictAt). c.old) (sym e)) (ap (λ (c : ConflictAt). c.epoch) (sym e))
   conflict_stop (instrs.TestSole r at) is = absurd (sole_test at is)
   conflict_stop i is = absurd (quiet i refl is)
 
@@ -271,8 +271,8 @@ module _ (conflicts : RunsConflict) (bits : RunsBits) (x : Targets) (code : Code
     -- the check, whose kind is this
     shows_of : (kind : Kind) (cell : Cell) → touch_of s i m (result_of one.event) m' ≡ CheckOf kind (granule_at s (granule_of (place m cell))) (may_go m'.at.state) → site_of_check i ≡ Some c.site
         → asked_by (turn code s m) ≡ Some (step_of (shadow_word s (granule_of (place m cell))) (ops.Or (bits_of m.own.number kind)))
-        → c.kind ≡ kind → c.granule ≡ granule_at s (granule_of (place m cell)) → c.old ≡ result_of one.event → ShowsConflict code s (one ∷ earlier) one.thread c
-    shows_of kind cell touched site_is asked kind_is granule_is old_is =
+        → c.kind ≡ kind → c.granule ≡ granule_at s (granule_of (place m cell)) → c.old ≡ result_of one.event → c.epoch ≡ epoch_of (result_of one.event) → ShowsConflict code s (one ∷ earlier) one.thread c
+    shows_of kind cell touched site_is asked kind_is granule_is old_is epoch_is =
         let q = granule_of (place m cell) in
         let p = granule_at s q in
         let touch : touch_of s i m (result_of one.event) m' ≡ CheckOf kind p false = touched ∙ ap (CheckOf kind p) stopped_now in
@@ -296,6 +296,7 @@ module _ (conflicts : RunsConflict) (bits : RunsBits) (x : Targets) (code : Code
           parts = refl;
           is_check = record { thread = refl; touch = touch ∙ ap (λ k. CheckOf k p false) (sym kind_is) ∙ ap (λ p. CheckOf c.kind p false) (sym granule_is); site_is = site_is };
           word = ap (λ p. slice_index g.words (shadow_word s p)) granule_is ∙ word;
+          epoch = ap epoch_of old_is ∙ sym epoch_is;
           others = subst (λ p. (j : ℕ) → stands c.old j ≡ true → (kind : Kind) × MadeSince code s earlier j p kind) (sym granule_is) others;
           cause = subst (λ p. Opposes code s earlier one.thread c.old p c.kind) (sym granule_is) (subst (Opposes code s earlier one.thread c.old p) (sym kind_is) opposes);
         }
@@ -304,8 +305,8 @@ module _ (conflicts : RunsConflict) (bits : RunsBits) (x : Targets) (code : Code
     shows_conflict = by (conflict_stop code s m fresh (result_of one.event) c i is)
       where
         by : Refused s m (result_of one.event) i c → ShowsConflict code s (one ∷ earlier) one.thread c
-        by (OfRead cell at kind granule old) = shows_of Read cell (ap (λ j. touch_of s j m (result_of one.event) m') at) (ap site_of_check at) (ap (λ j. asked_by (act code s j m)) at) kind granule old
-        by (OfWrite cell at kind granule old) = shows_of Write cell (ap (λ j. touch_of s j m (result_of one.event) m') at) (ap site_of_check at) (ap (λ j. asked_by (act code s j m)) at) kind granule old
+        by (OfRead cell at kind granule old epoch) = shows_of Read cell (ap (λ j. touch_of s j m (result_of one.event) m') at) (ap site_of_check at) (ap (λ j. asked_by (act code s j m)) at) kind granule old epoch
+        by (OfWrite cell at kind granule old epoch) = shows_of Write cell (ap (λ j. touch_of s j m (result_of one.event) m') at) (ap site_of_check at) (ap (λ j. asked_by (act code s j m)) at) kind granule old epoch
 
   further : (one : Turn) (earlier : List Turn) (t : ℕ) (c : ConflictAt) → ShowsConflict code s earlier t c → ShowsConflict code s (one ∷ earlier) t c
   further one earlier t c k = record {
@@ -315,6 +316,7 @@ module _ (conflicts : RunsConflict) (bits : RunsBits) (x : Targets) (code : Code
     parts = ap (λ (l : List Turn). one ∷ l) k.parts;
     is_check = k.is_check;
     word = k.word;
+    epoch = k.epoch;
     others = k.others;
     cause = k.cause;
   }

@@ -15,6 +15,7 @@ pub mod Logs
 pub mod Modes
 pub mod ModesKept
 pub mod Mutexless
+pub mod Named
 pub mod Noting
 pub mod OneMode
 pub mod Quits

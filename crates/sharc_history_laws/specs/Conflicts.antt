@@ -3,7 +3,7 @@ use Rattle.std.specs.Prelude.{◌≡◌, ◌≢◌, ℕ, ◌⊎◌, Bool, true, 
 use Rattle.sharc_shadow.specs.declared.shadow_word.Kind.{Kind}
 use Rattle.sharc_shadow.specs.declared.shadow_word.Kind.TheVariants.{Write}
 use Rattle.sharc_shadow.specs.declared.access_table.Note.{Note}
-use Rattle.sharc_shadow.specs.Accesses.{note_of}
+use Rattle.sharc_shadow.specs.Accesses.{note_of, site_at}
 use Rattle.sharc_shadow.specs.ShadowWord.{stands, epoch_of}
 use Rattle.sharc_code.specs.declared.code.Code.{Code}
 use Rattle.sharc_code.specs.declared.instr.Instr.{Instr}
@@ -12,7 +12,7 @@ use Rattle.sharc_code.specs.declared.shape.Shape.{Shape}
 use Rattle.sharc_code.specs.declared.state.ConflictAt.{ConflictAt}
 use Rattle.sharc_code.specs.declared.state.Stop.TheVariants.{Conflict}
 use Rattle.sharc_code.specs.Layout.{Fits, shadow_word}
-use Rattle.sharc_code.specs.Machine.{instr_at}
+use Rattle.sharc_code.specs.Machine.{Machine, instr_at}
 use Rattle.sharc_code.specs.Runs.{Turn}
 use Rattle.sharc_code.specs.Whole.{CheckedRun, place_after}
 use Rattle.sharc_invariant.specs.Types.{Targets}
@@ -68,6 +68,7 @@ pub record ShowsConflict (code : Code) (s : Shape) (run : List Turn) (t : ℕ) (
   pub parts : run ≡ later ++ check ∷ earlier
   pub is_check : IsCheck code s earlier check t c.kind c.granule c.site false
   pub word : slice_index (place_after code s earlier).words (shadow_word s c.granule) ≡ c.old
+  pub epoch : epoch_of c.old ≡ c.epoch
   pub others : (j : ℕ) → stands c.old j ≡ true → (kind : Kind) × MadeSince code s earlier j c.granule kind
   pub cause : Opposes code s earlier t c.old c.granule c.kind
 
@@ -92,3 +93,24 @@ abbrev pub NotesAreOfChecks : Type 0
 NotesAreOfChecks = (x : Targets) (code : Code) (s : Shape) (ls : Labels) → IsWellTyped x code ls → Fits code s → IsSmall code s
     → (run : List Turn) → CheckedRun code s run → (j p : ℕ) (kind : Kind) (note : Note) → note_of ((place_after code s run).threads j).own.table p kind ≡ Some note
     → IsNoted code s run j p kind note
+
+-- ---- the other access of a report
+-- by its table or by its own stop, the thread of this machine made a check of this kind at this site, of the granule of a conflict and in its epoch
+pub data Names (m : Machine) (c : ConflictAt) (kind : Kind) (site : ℕ) : Type 0 where
+  ByNote : site_at (note_of m.own.table c.granule kind) c.epoch ≡ Some site → Names m c kind site
+  ByStop : (d : ConflictAt) → m.own.stop ≡ Some (Conflict d) → d.granule ≡ c.granule → d.epoch ≡ c.epoch → d.kind ≡ kind → d.site ≡ site → Names m c kind site
+
+-- thread j made that check in the run, and the word had that epoch
+pub record CheckedThere (code : Code) (s : Shape) (run : List Turn) (j p epoch : ℕ) (kind : Kind) (site : ℕ) : Type 0 where
+  pub later : List Turn
+  pub check : Turn
+  pub earlier : List Turn
+  pub parts : run ≡ later ++ check ∷ earlier
+  pub passed : Bool
+  pub is_check : IsCheck code s earlier check j kind p site passed
+  pub epoch_is : epoch_of (slice_index (place_after code s earlier).words (shadow_word s p)) ≡ epoch
+
+abbrev pub NamedAreChecked : Type 0
+NamedAreChecked = (x : Targets) (code : Code) (s : Shape) (ls : Labels) → IsWellTyped x code ls → Fits code s → IsSmall code s
+    → (run : List Turn) → CheckedRun code s run → (j : ℕ) (c : ConflictAt) (kind : Kind) (site : ℕ) → Names ((place_after code s run).threads j) c kind site
+    → CheckedThere code s run j c.granule c.epoch kind site

@@ -1,6 +1,6 @@
 //! The laws, each the contract of a function that does nothing.
 
-ghost use Rattle.sharc_history_laws.specs.Conflicts.{AccessReportsShow, NotesAreOfChecks};
+ghost use Rattle.sharc_history_laws.specs.Conflicts.{AccessReportsShow, NamedAreChecked, NotesAreOfChecks};
 ghost use Rattle.sharc_history_laws.specs.History.{HistoriesObey};
 ghost use Rattle.sharc_history_laws.specs.Paths.{PathsAreConsistent};
 ghost use Rattle.sharc_history_laws.specs.Reports.{CastReportsShow, LockReportsShow};
@@ -32,12 +32,14 @@ pub fn history_law()
 
 /// What reports of checked runs of typed code show. A thread that has stopped at a lock check does not hold the mutex by its events; one that has stopped
 /// at a test of a sole reference found the number of references to its object, of which another than the one tested is there; and one that has stopped at
-/// the check of an access found the bit of another thread that had made a check of the granule. Each note of a thread is of a check that it made.
+/// the check of an access found the bit of another thread that had made a check of the granule. Each note of a thread is of a check that it made,
+/// and so is each other access that a report may name.
 pub fn reports_law()
     ensures locks { LockReportsShow }
     ensures casts { CastReportsShow }
     ensures accesses { AccessReportsShow }
     ensures notes { NotesAreOfChecks }
+    ensures named { NamedAreChecked }
 {
     run_laws();
     begins();

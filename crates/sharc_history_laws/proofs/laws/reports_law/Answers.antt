@@ -1,5 +1,6 @@
 use Rattle.sharc_history_laws.proofs.Conflicting.{accesses_show}
 use Rattle.sharc_history_laws.proofs.Logged.{lacking}
+use Rattle.sharc_history_laws.proofs.Named.{named}
 use Rattle.sharc_history_laws.proofs.Noting.{notes_told}
 use Rattle.sharc_history_laws.proofs.Sole.{casts_show}
 use Rattle.sharc_history_laws.proofs.laws.reports_law.Goals as goal
@@ -28,3 +29,13 @@ returns-clause-accesses c = λ x code s ls wt fits few run checked.
 
 pub returns-clause-notes : goal.returns-clause-notes
 returns-clause-notes c = λ x code s ls wt fits few run checked. notes_told code s run ((c.run_laws.ensures.checked code s run).0 checked)
+
+pub returns-clause-named : goal.returns-clause-named
+returns-clause-named c = λ x code s ls wt fits few run checked j report kind site names.
+    let laws = c.run_laws.ensures in
+    let there = c.cells_are_there.ensures in
+    let is_run = (laws.checked code s run).0 checked in
+    let conflict = accesses_show c.runs_report.ensures.conflicts c.runs_bits.ensures x code s ls wt fits few
+    (λ run is_run. record { halts = (lacking there.cells there.pointers there.rights laws c.begins.ensures.opens c.keeps.ensures x code s ls wt fits few run is_run).halts })
+    run is_run j in
+    named code s run j report kind site conflict (notes_told code s run is_run j) names
