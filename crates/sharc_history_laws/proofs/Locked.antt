@@ -24,8 +24,7 @@ use Rattle.sharc_gen.specs.Consistent.{IsThere, IsApart}
 use Rattle.sharc_invariant.specs.Types.{Targets, FieldMode, FieldLock, Lock, StaticType, ObjectType, cells_of}
 use Rattle.sharc_invariant.specs.Types.Lock.{Global as GlobalLock, Through, Self}
 use Rattle.sharc_invariant.specs.Types.FieldLock.{OfType, OfGlobals, OfElement}
-use Rattle.sharc_invariant.specs.Labels.{Gate, Holds, HoldsLoaded, Refers, Element, Named, Nth, OfElement as OfElementCell, OfGlobal, Entry, Label, Labels, SameReference, Itself, IsCopy, HasCopy, Copies, Chained}
-use Rattle.sharc_invariant.specs.Labels.{Refers, Element, Named, Nth, OfElement as OfElementCell, OfGlobal, Label, Labels, SameReference, Itself, IsCopy, HasCopy, Copies}
+use Rattle.sharc_invariant.specs.Labels.{Refers, Element, Named, Nth, OfElement as OfElementCell, OfGlobal, Label, Labels, SameReference, Itself, IsCopy, HasCopy, Copies, Chained}
 use Rattle.sharc_invariant.specs.Typed.{IsWellTyped, Fine, HasField, HasCell, MayAccess, IsMode, IsTypeMode, IsLockMode, IsLockCell, IsTypeLock, IsMutexOf, IsSibling, no_lock}
 use Rattle.sharc_invariant.specs.World.{RegisterOf, World, ObjectState, in_ref}
 use Rattle.sharc_invariant.specs.State.{State, NumberStands, ElementStands, OnHold, View, view_of, refs_at, types_at}
