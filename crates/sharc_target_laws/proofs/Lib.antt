@@ -1,0 +1,9 @@
+pub mod Alike
+pub mod Fits
+pub mod Forms
+pub mod Lists
+pub mod Numbers
+pub mod Owners
+pub mod Settling
+pub mod Siblings
+pub mod Table

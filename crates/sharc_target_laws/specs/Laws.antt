@@ -1,0 +1,26 @@
+-- What the table of targets is to those who type code by it.
+use Rattle.std.specs.Prelude.{◌≡◌, ℕ, ◌<◌, List, ◌∷◌, length, Contains}
+use Rattle.sharc_tree.specs.declared.ctype.Base.{Base}
+use Rattle.sharc_mode.specs.Moded.{Assignment}
+use Rattle.sharc_invariant.specs.Types.{row_of, cells_of}
+use Rattle.sharc_meaning.specs.Cells.{element_cells}
+use Rattle.sharc_target_laws.specs.Shapes.{Form, Shape, kind_of, shapes, number}
+use Rattle.sharc_target_laws.specs.Targets.{shape_row, targets_of}
+
+-- a shape has a row, which is not that of nothing
+pub record IsNumbered (m : Assignment) (s : Shape) : Type 0 where
+  pub row : row_of (targets_of m) (number m s) ≡ shape_row m s
+  pub some : number m s ≡ 0 → ⊥
+  pub inside : number m s < length (targets_of m).rows
+
+-- each shape of the program is numbered
+abbrev pub NumbersFound : Type 0
+NumbersFound = (m : Assignment) (s : Shape) → Contains (shapes m) s → IsNumbered m s
+
+-- what an element of a shape points to is of one
+abbrev pub ShapesClosed : Type 0
+ShapesClosed = (m : Assignment) (b : Base) (f g : Form) (below : List Form) → Contains (shapes m) (record { base = b; forms = f ∷ g ∷ below }) → Contains (shapes m) (record { base = b; forms = g ∷ below })
+
+-- an element has as many cells as its type has in the source
+abbrev pub CellsAre : Type 0
+CellsAre = (m : Assignment) (s : Shape) → Contains (shapes m) s → cells_of (targets_of m) (number m s) ≡ element_cells m.typed (kind_of s)
