@@ -73,7 +73,7 @@ down_fit b (f ∷ below) h = (h, down_fit b below (fit_below b f below h))
 no_struct : (name : List ℕ) → base.Mutex ≡ base.Struct name → ⊥
 no_struct name h = cc
 
-struct_base : (b : Base) → is_struct_base b ≡ true → (name : List ℕ) × (b ≡ base.Struct name)
+pub struct_base : (b : Base) → is_struct_base b ≡ true → (name : List ℕ) × (b ≡ base.Struct name)
 struct_base base.Int h = absurd (false≢true h)
 struct_base base.Char h = absurd (false≢true h)
 struct_base base.Long h = absurd (false≢true h)
@@ -130,7 +130,7 @@ module _ (m : Assignment) (least : IsLeastAssignment m) (rules : MeetsRules m) w
     by_settled k low guarded (is_written is) = by_written k low guarded (get_dropped depth levels k (Some Racy) is)
     by_settled k low guarded (is_meant is) = by_top k low (otherwise_top n.entity.role levels Racy is racy_dynamic)
 
-    never_racy : (k : ℕ) → k < positions_of n.entity → (depth + k + 1 < length levels) ⊎ ((name : List ℕ) × (n.entity.written.ctype.base ≡ base.Struct name)) → slice_get m.modes (n.first + k) ≡ Some Racy → ⊥
+    pub never_racy : (k : ℕ) → k < positions_of n.entity → (depth + k + 1 < length levels) ⊎ ((name : List ℕ) × (n.entity.written.ctype.base ≡ base.Struct name)) → slice_get m.modes (n.first + k) ≡ Some Racy → ⊥
     never_racy k low guarded at =
         let s = settled_there k Racy low at in
         by_settled k low guarded (settled_from n.entity.written.ctype.base (otherwise_of n.entity.role levels) (written_modes n.entity) k Racy low (racy_found _ s.finding s.found))

@@ -77,3 +77,10 @@ map_at f (x ∷ rest) d (suc k) = map_at f rest d k
 pub map_length : {A B : Type 0} (f : A → B) (list : List A) → length (map f list) ≡ length list
 map_length f [] = refl
 map_length f (x ∷ rest) = ap suc (map_length f rest)
+
+next_place : {A : Type 0} (y x : A) (rest : List A) → (k : ℕ) × (slice_get rest k ≡ Some x) → (k : ℕ) × (slice_get (y ∷ rest) k ≡ Some x)
+next_place y x rest found = (suc found.0, found.1)
+
+pub place_of_element : {A : Type 0} (list : List A) (x : A) → Contains list x → (k : ℕ) × (slice_get list k ≡ Some x)
+place_of_element [] x has = absurd (none_there x has)
+place_of_element (y ∷ rest) x has = ⊎_elim (λ is. (zero, ap Some is)) (λ later. next_place y x rest (place_of_element rest x later)) (head_or_tail y x rest has)

@@ -24,6 +24,7 @@ use Rattle.sharc_ctype.specs.Globals.{sizes_notes}
 use Rattle.sharc_ctype.specs.Heads.{heads_notes, no_heads}
 use Rattle.sharc_ctype.specs.Items.{field_notes, fields_notes, item_notes, items_notes, main_missing, file_scope, notes_about}
 use Rattle.sharc_ctype.specs.Resolved.{Resolution, IsResolved, named_at, structs_in}
+use Rattle.sharc_mode.specs.Sharings.{lock_of}
 use Rattle.sharc_ctype_laws.specs.Laws.{Tells, IsToldOnce, EachNameOnce, OnlyNames}
 use Rattle.sharc_target_laws.proofs.Lists.{none_there, head_there, tail_there, head_or_tail, left_there, right_there, either_there, same_some, none_some}
 
@@ -60,6 +61,12 @@ no_faults (x ∷ rest) place code has none = ⊎_elim (λ is. here x is none) (�
     there (fault p c) none more = cc
     there (refers n named) none more = more none
     there (yields n named) none more = more none
+
+-- the field of this token is one of these
+pub record IsSibling (fields : List Declaration) (f : ℕ) : Type 0 where
+  pub sibling : Declaration
+  pub has : Contains fields sibling
+  pub is : sibling.name.site.token ≡ f
 
 module _ (once : EachNameOnce) (only : OnlyNames) (r : Resolution) (resolved : IsResolved r) (placed : IsPlaced r.program) (low : IsLow r.program) where
   told : (note : Note) (token : ℕ) (what : Named) → Contains (notes_about r.program) note → Tells note token what → named_at r token ≡ what
@@ -103,11 +110,6 @@ module _ (once : EachNameOnce) (only : OnlyNames) (r : Resolution) (resolved : I
       (left_there _ (sizes_notes file.structs 0 r.program.items) note (right_there (heads_notes no_heads r.program.items) (items_notes file r.program.items) note at))
 
   -- ---- the first name of a path
-  pub record IsSibling (fields : List Declaration) (f : ℕ) : Type 0 where
-    pub sibling : Declaration
-    pub has : Contains fields sibling
-    pub is : sibling.name.site.token ≡ f
-
   found_there : (fields : List Declaration) (name : List ℕ) (d : Declaration) → field_of fields name ≡ Some d → Contains fields d
   found_there [] name d is = absurd (none_some d is)
   found_there (x ∷ rest) name d is = by (bytes_eq x.name.text name) is (found_there rest name d)
@@ -136,17 +138,13 @@ module _ (once : EachNameOnce) (only : OnlyNames) (r : Resolution) (resolved : I
       let n = told (refers token (named.Field d.name.site.token)) token (named.Field d.name.site.token) (inside _ (head_there _ [])) (refl, refl) in
       record { sibling = d; has = found_there fields name d found; is = same_field _ _ (sym n ∙ is) }
 
-  abbrev pub first_of : Path → ℕ
-  first_of (One m token) = token
-  first_of (Through x token m) = token
-
-  by_path : (fields : List Declaration) (path : Path) (f : ℕ) → ((note : Note) → Contains (path_notes file fields path) note → Contains (notes_about r.program) note) → named_at r (first_of path) ≡ named.Field f → IsSibling fields f
+  by_path : (fields : List Declaration) (path : Path) (f : ℕ) → ((note : Note) → Contains (path_notes file fields path) note → Contains (notes_about r.program) note) → named_at r (lock_of path).first ≡ named.Field f → IsSibling fields f
   by_path fields (One m token) f inside is = by_first fields token m (field_of fields m) (look_up file.names m) refl f inside is
   by_path fields (Through x token m) f inside is =
       by_first fields token x (field_of fields x) (look_up file.names x) refl f
       (λ note at. inside note (left_there (first_notes token (field_of fields x) (look_up file.names x)) _ note at)) is
 
   pub sibling_named : (s : StructDefinition) (d : Declaration) (path : Path) (f : ℕ) → Contains (structs_in r.program.items) s → Contains s.fields d → Contains d.written.ctype.levels (Some (Locked path))
-      → named_at r (first_of path) ≡ named.Field f → IsSibling s.fields f
+      → named_at r (lock_of path).first ≡ named.Field f → IsSibling s.fields f
   sibling_named s d path f is_struct is_member is_level is =
       by_path s.fields path f (λ note at. in_program note (in_items r.program.items s note is_struct (in_fields s.fields [] s.fields d note is_member (in_type s.fields d.written path note is_level at)))) is

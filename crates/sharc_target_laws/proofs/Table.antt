@@ -63,7 +63,7 @@ none_good x shared = record {
 none_beside : AreBeside []
 none_beside k a p low = absurd (omega (arith, low))
 
-no_row_good : (x : Targets) → IsGoodRow x no_target
+pub no_row_good : (x : Targets) → IsGoodRow x no_target
 no_row_good x = record { fields = tt; beside = none_beside }
 
 -- ---- modes of cells
