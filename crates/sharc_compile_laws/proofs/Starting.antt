@@ -1,12 +1,7 @@
 -- `main` and what is spawned may be started: they have one parameter at most, and their results are no references.
-use Rattle.std.proofs.Common.{◌≡◌, ◌≤◌, ℕ, ◌⊎◌, ⊎_elim, Some, List, [], ◌∷◌, length, refl, sym, ap, ◌∙◌, subst, arith}
-use Rattle.sharc_tree.specs.Low.{IsLow}
-use Rattle.sharc_tree.specs.Placed.{IsPlaced}
+use Rattle.std.proofs.Common.{◌≡◌, ℕ, ⊎_elim, length, sym, ap, ◌∙◌, subst, arith}
 use Rattle.sharc_tree.specs.Tree.{Function}
-use Rattle.sharc_tree.specs.declared.tree.declaration.Declaration.{Declaration}
-use Rattle.sharc_names.specs.Kinds.{declared_kind}
 use Rattle.sharc_ctype.specs.Reaches.{Spawns}
-use Rattle.sharc_ctype.specs.Resolved.{IsResolved, function_at}
 use Rattle.sharc_ctype_laws.specs.Callable.{IsThread}
 use Rattle.sharc_ctype_laws.specs.Laws.{HasMain, OneFunctionOfName, SpawnsThreads}
 use Rattle.sharc_ctype_laws.specs.Limits.{IsMain}
