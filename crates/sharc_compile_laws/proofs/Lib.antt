@@ -1,4 +1,6 @@
 pub mod Fitting
+pub mod Pathing
 pub mod Spawning
+pub mod Starting
 pub mod Telling
 pub mod Words

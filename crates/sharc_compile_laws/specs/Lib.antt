@@ -1,3 +1,5 @@
 pub mod Fits
+pub mod Paths
+pub mod Started
 pub mod Threads
 pub mod Typed

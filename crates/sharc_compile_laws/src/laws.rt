@@ -1,11 +1,15 @@
 //! The laws, each the contract of a function that calls at most the laws that it joins.
 
 ghost use Rattle.sharc_compile_laws.specs.Fits.{MadeTablesFit};
+ghost use Rattle.sharc_compile_laws.specs.Paths.{OfTyped, PathsTell, ThreadsTellInRuns};
+ghost use Rattle.sharc_compile_laws.specs.Started.{ThreadsMayStart};
 ghost use Rattle.sharc_compile_laws.specs.Threads.{ThreadsTell};
 ghost use Rattle.sharc_compile_laws.specs.Typed.{TypedCodeCounts, TypedThreadsTell};
 
-use sharc_compile::{held_law, run_law};
-use sharc_ctype_laws::laws::{meets_globals, spawns_threads, within_limits};
+use sharc_compile::{held_law, program_law, run_law};
+use sharc_ctype_laws::laws::{
+    has_main, meets_globals, one_function_of_name, spawns_threads, within_limits,
+};
 use sharc_flat_laws::laws::{typed_asks_the_same, typed_is_framed, typed_suits};
 use sharc_guard_laws::laws::{made_locks_stand, typed_is_level};
 
@@ -33,6 +37,26 @@ pub fn typed_threads_tell()
 {
     typed_suits();
     threads_tell();
+}
+
+/// And each path of a thread of that code whose results are consistent tells what the program asks for, is over as the program is, and keeps
+/// the pace; so does each thread of a checked run whose path is such a one.
+pub fn typed_paths_tell()
+    ensures paths { OfTyped PathsTell }
+    ensures threads { OfTyped ThreadsTellInRuns }
+{
+    typed_suits();
+    program_law();
+    run_law();
+}
+
+/// The functions that threads have, `main` and what is spawned, may be started.
+pub fn threads_may_start()
+    ensures { ThreadsMayStart }
+{
+    has_main();
+    one_function_of_name();
+    spawns_threads();
 }
 
 /// What the registers of a thread of that code have, the program holds or gives up before it asks for more; and it wants what A1 to A4

@@ -1,0 +1,12 @@
+pub mod Lists
+pub mod Same
+pub mod Transferred
+pub mod Locals
+pub mod Given
+pub mod Registers
+pub mod Written
+pub mod Names
+pub mod Passed
+pub mod Places
+pub mod FileNames
+pub mod Walk

@@ -1,0 +1,55 @@
+// The laws, each the contract of a function that does nothing.
+
+ghost use Rattle.sharc_static_laws.specs.Calls.{ArgumentsPass};
+ghost use Rattle.sharc_static_laws.specs.Laws.{GivenLaws};
+ghost use Rattle.sharc_static_laws.specs.Scopes.{ScopeLaws};
+ghost use Rattle.sharc_static_laws.specs.Standing.{FunctionsStand};
+ghost use Rattle.sharc_static_laws.specs.Taken.{TakenLaws};
+
+use sharc_ctype_laws::laws::{
+    all_fair, each_names_found, each_names_itself, each_path_found, each_type_found,
+    meets_constraints,
+};
+use sharc_mode_laws::laws::rules_are_met;
+
+/// What is assigned, begun with and returned has the type of what it is given to.
+pub fn given_laws()
+    ensures { GivenLaws }
+{
+    rules_are_met();
+    all_fair();
+    each_names_itself();
+}
+
+/// Each pointer that stands has its own register, and types name registers of pointers that stand.
+pub fn scope_laws()
+    ensures { ScopeLaws }
+{}
+
+/// What is taken by SCAST or `free` is named by no type.
+pub fn taken_laws()
+    ensures { TakenLaws }
+{
+    rules_are_met();
+}
+
+/// What is passed at a call has the type that the parameter has there.
+pub fn arguments_pass()
+    ensures { ArgumentsPass }
+{
+    each_type_found();
+    rules_are_met();
+    all_fair();
+    each_names_itself();
+}
+
+/// The lock paths of the types of a function's expressions and locals lead through pointers that stand.
+pub fn functions_stand()
+    ensures { FunctionsStand }
+{
+    each_names_itself();
+    each_names_found();
+    each_path_found();
+    each_type_found();
+    meets_constraints();
+}

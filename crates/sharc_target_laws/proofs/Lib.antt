@@ -1,0 +1,16 @@
+pub mod Alike
+pub mod Cells
+pub mod Fits
+pub mod Forms
+pub mod Found
+pub mod Globals
+pub mod Good
+pub mod Lists
+pub mod Members
+pub mod Numbers
+pub mod Owners
+pub mod Rows
+pub mod Settling
+pub mod Siblings
+pub mod Table
+pub mod Whole
