@@ -164,17 +164,17 @@ single_are x shared q b own = one_good x shared (single q b) (single_good x shar
 pub none_are : (x : Targets) (shared : Bool) → AreGood x shared []
 none_are x shared = record { each = tt; beside = λ k a p low h. absurd (omega (arith, low)) }
 
-at_left : (a b : List Field) (k : ℕ) → k < length a → slice_index_or (a ++ b) k no_field ≡ slice_index_or a k no_field
+pub at_left : (a b : List Field) (k : ℕ) → k < length a → slice_index_or (a ++ b) k no_field ≡ slice_index_or a k no_field
 at_left [] b k low = absurd (omega (arith, low))
 at_left (x ∷ a) b zero low = refl
 at_left (x ∷ a) b (suc k) low = at_left a b k (omega (arith, low))
 
-at_right : (a b : List Field) (j k : ℕ) → j ≡ length a + k → slice_index_or (a ++ b) j no_field ≡ slice_index_or b k no_field
+pub at_right : (a b : List Field) (j k : ℕ) → j ≡ length a + k → slice_index_or (a ++ b) j no_field ≡ slice_index_or b k no_field
 at_right [] b j k e = let z : j ≡ k = omega (arith, e) in ap (λ i. slice_index_or b i no_field) z
 at_right (x ∷ a) b zero k e = absurd (omega (arith, e))
 at_right (x ∷ a) b (suc j) k e = at_right a b j k (omega (arith, e))
 
-size : (a b : List Field) → length (a ++ b) ≡ length a + length b
+pub size : (a b : List Field) → length (a ++ b) ≡ length a + length b
 size [] b = omega arith
 size (x ∷ a) b = let e = size a b in omega (arith, e)
 
