@@ -1,0 +1,23 @@
+//! Laws of flattened code.
+
+ghost use Rattle.sharc_labels_laws.specs.Laws.{LinesAreTyped, LinesTell, PartsAreTyped, StretchesJoin};
+
+/// Lines that stand in a table of marks are typed whatever checks are remembered.
+pub fn lines_law()
+    ensures { LinesAreTyped }
+{}
+
+/// Before each of them is said what is remembered there of copies and of the numbers at hand.
+pub fn tells_law()
+    ensures { LinesTell }
+{}
+
+/// Typed stretches of code one after the other are one.
+pub fn stretches_law()
+    ensures { StretchesJoin }
+{}
+
+/// The parts of expressions that speak of no type of the source are typed.
+pub fn parts_law()
+    ensures { PartsAreTyped }
+{}
