@@ -1,4 +1,5 @@
 pub mod Fitting
+pub mod Naming
 pub mod Pathing
 pub mod Spawning
 pub mod Starting

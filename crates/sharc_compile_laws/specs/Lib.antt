@@ -1,4 +1,5 @@
 pub mod Fits
+pub mod Names
 pub mod Paths
 pub mod Started
 pub mod Threads

@@ -1,6 +1,7 @@
 //! The laws, each the contract of a function that calls at most the laws that it joins.
 
 ghost use Rattle.sharc_compile_laws.specs.Fits.{MadeTablesFit};
+ghost use Rattle.sharc_compile_laws.specs.Names.{CodeHasMain, FunctionsAreNamed};
 ghost use Rattle.sharc_compile_laws.specs.Paths.{OfTyped, PathsTell, ThreadsTellInRuns};
 ghost use Rattle.sharc_compile_laws.specs.Started.{ThreadsMayStart};
 ghost use Rattle.sharc_compile_laws.specs.Threads.{ThreadsTell};
@@ -70,3 +71,9 @@ pub fn typed_code_counts()
     made_locks_stand();
     held_law();
 }
+
+/// The functions of the code are those of the program by their numbers, and the code's first function is `main`.
+pub fn functions_are_named()
+    ensures named { FunctionsAreNamed }
+    ensures main { CodeHasMain }
+{}
