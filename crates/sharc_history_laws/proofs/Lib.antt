@@ -3,11 +3,15 @@ pub mod Calm
 pub mod Carried
 pub mod Conflicting
 pub mod Consists
+pub mod Doing
 pub mod Finds
+pub mod Followed
 pub mod Gates
 pub mod Going
 pub mod Holding
 pub mod Lists
+pub mod LockModes
+pub mod LockShown
 pub mod Locked
 pub mod Locking
 pub mod Logged
@@ -19,8 +23,10 @@ pub mod Named
 pub mod Noting
 pub mod OneMode
 pub mod Quits
+pub mod Remaining
 pub mod Rules
 pub mod Sets
+pub mod Shadows
 pub mod Shared
 pub mod Since
 pub mod Single
@@ -29,4 +35,5 @@ pub mod Stands
 pub mod Tabled
 pub mod Tables
 pub mod Unwritten
+pub mod Withdrawing
 pub mod Writes
