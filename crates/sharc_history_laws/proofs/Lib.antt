@@ -5,8 +5,10 @@ pub mod Carried
 pub mod Conflicting
 pub mod Consists
 pub mod Contents
+pub mod Doing
 pub mod Emptying
 pub mod Finds
+pub mod Followed
 pub mod Gates
 pub mod Given
 pub mod Going
@@ -14,6 +16,8 @@ pub mod Holding
 pub mod Legal
 pub mod Lists
 pub mod Living
+pub mod LockModes
+pub mod LockShown
 pub mod Locked
 pub mod Locking
 pub mod Logged
@@ -27,8 +31,10 @@ pub mod Noting
 pub mod OneMode
 pub mod Opening
 pub mod Quits
+pub mod Remaining
 pub mod Rules
 pub mod Sets
+pub mod Shadows
 pub mod Shared
 pub mod Since
 pub mod Single
@@ -44,4 +50,5 @@ pub mod Threaded
 pub mod Unwritten
 pub mod Valued
 pub mod Values
+pub mod Withdrawing
 pub mod Writes

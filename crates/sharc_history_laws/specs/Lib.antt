@@ -1,4 +1,5 @@
 pub mod Conflicts
+pub mod Followed
 pub mod History
 pub mod Paths
 pub mod Reports

@@ -1,6 +1,7 @@
 //! The laws, each the contract of a function that does nothing.
 
 ghost use Rattle.sharc_history_laws.specs.Conflicts.{AccessReportsShow, NamedAreChecked, NotesAreOfChecks};
+ghost use Rattle.sharc_history_laws.specs.Followed.{AccessesFollow, LockReportsBreakRules, LockReportsShowAccess};
 ghost use Rattle.sharc_history_laws.specs.History.{HistoriesObey};
 ghost use Rattle.sharc_history_laws.specs.Paths.{PathsAreConsistent};
 ghost use Rattle.sharc_history_laws.specs.Reports.{CastReportsShow, LockReportsShow};
@@ -74,6 +75,20 @@ pub fn starts_law()
 {
     run_laws();
     standing_laws();
+    begins();
+    keeps();
+    cells_are_there();
+}
+
+/// Where each check of the code is directly before its access: each check of an access that a thread made in a checked run of typed code, and that passed, is
+/// followed by that access, as its thread's next turn; where a thread has stopped at a lock check, the mode of the access that was refused names the mutex that
+/// the check looks for, and no history that keeps the rules of the modes goes on with that access.
+pub fn followed_law()
+    ensures accesses { AccessesFollow }
+    ensures locks { LockReportsShowAccess }
+    ensures rules { LockReportsBreakRules }
+{
+    run_laws();
     begins();
     keeps();
     cells_are_there();

@@ -1,5 +1,9 @@
 -- Which mismatch of modes a sharing cast repairs, where an expression stands beside the modes that are expected of it.
-use Rattle.std.specs.Prelude.{ℕ, Bool, true, false, not, ◌&&◌, List, [], ◌∷◌, drop, slice_index_or, Option, Some, None, if◌then◌else◌}
+use Rattle.std.specs.Prelude.{ℕ, ◌+◌, Bool, true, false, not, ◌&&◌, ◌||◌, List, [], ◌∷◌, drop, slice_get, slice_index_or, Option, Some, None, is_none, if◌then◌else◌, codes}
+use Rattle.std.specs.Str.{bytes_eq}
+use Rattle.sharc_tree.specs.declared.token.Token.{Token}
+use Rattle.sharc_tree.specs.declared.token.TokenKind.{TokenKind}
+use Rattle.sharc_tree.specs.declared.token.TokenKind.TheVariants as kind
 use Rattle.sharc_tree.specs.Forms.{without_parentheses, is_lvalue}
 use Rattle.sharc_tree.specs.Spans.{span_of}
 use Rattle.sharc_tree.specs.Tree.{Expression}
@@ -13,7 +17,7 @@ use Rattle.sharc_mode.specs.Cells.{cell_at}
 use Rattle.sharc_mode.specs.Moded.{Assignment}
 use Rattle.sharc_mode.specs.Notes.{shown, base_of, taken_variable}
 use Rattle.sharc_mode.specs.Rows.{modes_at}
-use Rattle.sharc_mode.specs.Sharings.{Sharing, private, readonly, locked, racy, dynamic, same_all, same_named, is_readonly, text_at}
+use Rattle.sharc_mode.specs.Sharings.{Lock, Sharing, private, readonly, locked, racy, dynamic, same_all, same_named, is_readonly, text_at}
 
 -- ---- the two types differ only in the mode at depth 1
 abbrev pub differ_first : Resolution → List Sharing → List Sharing → Bool
@@ -37,18 +41,40 @@ told flags x = slice_index_or flags x false
 abbrev pub entry_of : Declaration → Entry
 entry_of d = record { name = d.name.text; block = 0; meaning = variable d }
 
--- a variable is the one that its name means there; a global or a function is hidden by no variable; a field is no name outside of its struct
-abbrev pub keeps_named : Named → Option Entry → Bool
-keeps_named (named.Variable x) (Some e) = same_named (named.Variable x) (named_of e.meaning)
-keeps_named (named.Global g) None = true
-keeps_named (named.Function f) None = true
-keeps_named _ _ = false
+-- `wait`, `signal` and `broadcast` are told by their names, where the program defines none of them
+abbrev pub is_call_name : List ℕ → Bool
+is_call_name text = bytes_eq (codes "wait") text || (bytes_eq (codes "signal") text || bytes_eq (codes "broadcast") text)
 
--- the second name of `x->m` is a field of the struct that `x` points to, wherever it stands
+abbrev pub is_identifier : TokenKind → Bool
+is_identifier kind.Identifier = true
+is_identifier _ = false
+
+abbrev pub is_call_word : Option Token → Bool
+is_call_word None = false
+is_call_word (Some t) = is_identifier t.kind && is_call_name t.text
+
+unfoldable pub is_call_at : Resolution → ℕ → Bool
+is_call_at r token = is_call_word (slice_get r.program.tokens.list token)
+
+-- The first name of a path: a variable is the one that its name means there; a global, a function or a known call is hidden by no variable; a field is no name outside of its struct
+abbrev pub keeps_named : Bool → Named → Option Entry → Bool
+keeps_named call (named.Variable x) (Some e) = same_named (named.Variable x) (named_of e.meaning)
+keeps_named call (named.Global g) None = true
+keeps_named call (named.Function f) None = true
+keeps_named call named.Known None = call
+keeps_named call _ _ = false
+
+abbrev pub keeps_first : Resolution → List Entry → ℕ → Bool
+keeps_first r scope token = keeps_named (is_call_at r token) (named_at r token) (look_up scope (text_at r token))
+
+-- the second name of `x->m` is a field of the struct that `x` points to, wherever it stands; its token, two behind the first, is no known call's
+abbrev pub keeps_second : Resolution → Lock → Bool
+keeps_second r l = is_none l.second || not (is_call_at r (l.first + 2))
+
 abbrev pub keeps : Resolution → List Entry → Sharing → Bool
 keeps r scope private = true
 keeps r scope readonly = true
-keeps r scope (locked l) = keeps_named (named_at r l.first) (look_up scope (text_at r l.first))
+keeps r scope (locked l) = keeps_first r scope l.first && keeps_second r l
 keeps r scope racy = true
 keeps r scope dynamic = true
 

@@ -1,13 +1,12 @@
 // Which mismatch of modes a sharing cast repairs.
 
-ghost use Rattle.std.specs.Prelude.{◌≡◌, ◌+◌, ◌≤◌, ◌++◌, drop, IfOk, OnOk};
+ghost use Rattle.std.specs.Prelude.{◌≡◌, ◌+◌, ◌≤◌, ◌++◌, drop, Some, IfOk, OnOk};
 ghost use Rattle.std.specs.Option.{option_map};
 ghost use Rattle.sharc_tree.specs.View.{view_expr};
-ghost use Rattle.sharc_names.specs.View.{view_bounds};
 ghost use Rattle.sharc_mode.specs.Moded.{position_count};
 ghost use Rattle.sharc_mode.specs.Rows.{modes_of};
-ghost use Rattle.sharc_mode.specs.View.{view_row, view_rows, view_sharing, EndsWithin};
-ghost use Rattle.sharc_suggest.specs.Repairs.{differ_first, is_free, may_be_cast, told, keeps_named, keeps, keeps_all, cast_to, is_repairable, repair};
+ghost use Rattle.sharc_mode.specs.View.{view_row, view_rows, view_lock, view_sharing, EndsWithin};
+ghost use Rattle.sharc_suggest.specs.Repairs.{differ_first, is_free, may_be_cast, told, is_call_name, is_call_word, is_call_at, keeps_first, keeps_second, keeps, keeps_all, cast_to, is_repairable, repair};
 
 use sharc_check::named::NamedVariables;
 use sharc_check::rules::taken_variable;
@@ -16,12 +15,13 @@ use sharc_mode::cell::{cell_of, pointed};
 use sharc_mode::error::Cast;
 use sharc_mode::moded::Moded;
 use sharc_mode::row::{Row, row_of};
-use sharc_mode::sharing::{Sharing, is_readonly};
+use sharc_mode::sharing::{Lock, Sharing, is_readonly};
 use sharc_mode::shown::{root_of_kind, row_laws, same_rows, shown};
 use sharc_mode::text::text_at;
 use sharc_names::fault::Named;
 use sharc_names::meaning::{Bound, named_of};
 use sharc_names::names::Names;
+use sharc_tree::token::{Token, TokenKind};
 use sharc_tree::tree::Expr;
 use std::alloc::{AllocError, Global};
 
@@ -57,18 +57,59 @@ fn is_free(named: &NamedVariables, variable: Option<u32>) -> bool
     }
 }
 
-/// Whether the name that a path begins with means the same where it means that, if anything, among the variables in scope.
-fn keeps_named(named: Named, bound: Option<Bound<'_>>) -> bool
-    ensures { result ≡ keeps_named named (view_bounds bound.entry) }
+/// Whether this is the name of a call of condition variables.
+fn is_call_name(text: &[u8]) -> bool
+    ensures { result ≡ is_call_name text.now }
 {
-    match (named, bound) {
+    b"wait".as_slice() == text || b"signal".as_slice() == text || b"broadcast".as_slice() == text
+}
+
+/// Whether a token is an identifier of such a name.
+fn is_call_word(token: &Token) -> bool
+    ensures { result ≡ is_call_word (Some token.now) }
+{
+    match token.kind {
+        TokenKind::Identifier => is_call_name(token.text.as_slice()),
+        _ => false,
+    }
+}
+
+/// Whether the token with this number is one.
+fn is_call_at(typed: &Typed, token: usize) -> bool
+    ensures { result ≡ is_call_at typed.now token }
+{
+    let tokens = typed.program().tokens.list.as_slice();
+    if token < tokens.len() {
+        is_call_word(&tokens[token])
+    } else {
+        false
+    }
+}
+
+/// Whether the first name of a path means the same, if anything, where these variables are in scope. What names nothing that the program defines is
+/// told by its text: it is a call of condition variables.
+fn keeps_first(typed: &Typed, scope: &Names<'_>, token: u32) -> bool
+    ensures { result ≡ keeps_first typed.now scope.now token }
+{
+    match (typed.named(token), scope.find(text_at(typed, token))) {
         (Named::Variable(token), Some(bound)) => match named_of(bound.meaning) {
             Named::Variable(other) => token == other,
             _ => false,
         },
         (Named::Global(_), None) => true,
         (Named::Function(_), None) => true,
+        (Named::Known, None) => is_call_at(typed, token as usize),
         _ => false,
+    }
+}
+
+/// Whether no such call is named two tokens after the first name of a path, where C typing takes its second name to be.
+fn keeps_second(typed: &Typed, lock: Lock<'_>) -> bool
+    ensures { result ≡ keeps_second typed.now (view_lock lock.entry) }
+{
+    match lock.second {
+        None => true,
+        Some(_) => !is_call_at(typed, lock.first as usize + 2),
     }
 }
 
@@ -78,10 +119,7 @@ fn keeps(typed: &Typed, scope: &Names<'_>, s: Sharing<'_>) -> bool
 {
     match s {
         Sharing::Locked(lock) => {
-            keeps_named(
-                typed.named(lock.first),
-                scope.find(text_at(typed, lock.first)),
-            )
+            keeps_first(typed, scope, lock.first) && keeps_second(typed, lock)
         }
         Sharing::Private => true,
         Sharing::Readonly => true,

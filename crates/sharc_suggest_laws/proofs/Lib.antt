@@ -4,6 +4,7 @@ pub mod Apart
 pub mod Arguments
 pub mod Bases
 pub mod CallNames
+pub mod Calls
 pub mod Clear
 pub mod Constants
 pub mod Counted

@@ -1,5 +1,5 @@
 -- What is said of the type of a cast that is suggested does no harm: its names name there what they name where they stand.
-use Rattle.std.proofs.Common.{◌≡◌, inl, inr, ℕ, ◌+◌, Bool, true, false, List, [], ◌∷◌, ◌++◌, map, Option, Some, None, refl, ap, sym, subst, ◌∙◌, eqb-true}
+use Rattle.std.proofs.Common.{◌≡◌, inl, inr, ℕ, ◌+◌, Bool, true, false, not, List, [], ◌∷◌, ◌++◌, map, Option, Some, None, refl, ap, sym, subst, ◌∙◌, eqb-true}
 use Rattle.std.proofs.lemmas.Bool.{false≢true, and_parts}
 use Rattle.sharc_tree.specs.declared.ctype.Base.{Base}
 use Rattle.sharc_tree.specs.declared.ctype.Base.TheVariants as base
@@ -18,7 +18,7 @@ use Rattle.sharc_names.specs.Types.{name_notes, main_notes, second_in, second_no
 use Rattle.sharc_ctype.specs.Resolved.{Resolution, named_at}
 use Rattle.sharc_ctype.specs.Statements.{with_names}
 use Rattle.sharc_mode.specs.Sharings.{Sharing, private, readonly, locked, racy, dynamic, is_field, same_named, mode_of, path_with, text_at}
-use Rattle.sharc_suggest.specs.Repairs.{keeps_named, keeps, keeps_all}
+use Rattle.sharc_suggest.specs.Repairs.{is_call_at, keeps_named, keeps_first, keeps_second, keeps, keeps_all}
 use Rattle.sharc_suggest_laws.specs.Names.{is_dull}
 use Rattle.sharc_suggest_laws.proofs.Noted.{Clean, left, right, no_fault, Noted, done, added, both, more_faults, new_fault, quiet, main_faults, unless_faults}
 use Rattle.sharc_suggest_laws.proofs.Scoped.{IsFoundAs, Scoped}
@@ -29,9 +29,10 @@ is_filed (named.Global n) = true
 is_filed (named.Function n) = true
 is_filed _ = false
 
--- a token that names a global or a function has the text of what the file knows as that
-abbrev pub IsSpelled : Resolution → List Entry → Type 0
-IsSpelled r file = (token : ℕ) → is_filed (named_at r token) ≡ true → (e : Entry) → look_up file (text_at r token) ≡ Some e → named_of e.meaning ≡ named_at r token
+-- a token that names a global or a function has the text of what the file knows as that, and the name of a known call is what the file knows as such a call
+pub record IsSpelled (r : Resolution) (file : List Entry) : Type 0 where
+  pub filed : (token : ℕ) → is_filed (named_at r token) ≡ true → (e : Entry) → look_up file (text_at r token) ≡ Some e → named_of e.meaning ≡ named_at r token
+  pub called : (token : ℕ) → named_at r token ≡ named.Known → is_call_at r token ≡ true → (e : Entry) → look_up file (text_at r token) ≡ Some e → named_of e.meaning ≡ named.Known
 
 -- ---- the first name of a lock path
 
@@ -44,13 +45,13 @@ variable_is x (named.Field f) is = absurd (false≢true is)
 variable_is x named.Known is = absurd (false≢true is)
 
 -- what it names where the cast stands is what it names where it stands
-named_there : (r : Resolution) (file names : List Entry) (token : ℕ) → IsSpelled r file → (v : Named) → named_at r token ≡ v → (c : Option Entry) → keeps_named v c ≡ true
+named_there : (r : Resolution) (file names : List Entry) (token : ℕ) → IsSpelled r file → (v : Named) → named_at r token ≡ v → (c : Option Entry) → keeps_named (is_call_at r token) v c ≡ true
     → IsFoundAs c (look_up names (text_at r token)) (look_up file (text_at r token)) → (e : Entry) → look_up names (text_at r token) ≡ Some e → named_at r token ≡ named_of e.meaning
 named_there r file names token spelled (named.Struct n) is None kept found e at = absurd (false≢true kept)
 named_there r file names token spelled (named.Struct n) is (Some x) kept found e at = absurd (false≢true kept)
-named_there r file names token spelled (named.Global n) is None kept found e at = sym (spelled token (ap is_filed is) e (sym found ∙ at))
+named_there r file names token spelled (named.Global n) is None kept found e at = sym (spelled.filed token (ap is_filed is) e (sym found ∙ at))
 named_there r file names token spelled (named.Global n) is (Some x) kept found e at = absurd (false≢true kept)
-named_there r file names token spelled (named.Function n) is None kept found e at = sym (spelled token (ap is_filed is) e (sym found ∙ at))
+named_there r file names token spelled (named.Function n) is None kept found e at = sym (spelled.filed token (ap is_filed is) e (sym found ∙ at))
 named_there r file names token spelled (named.Function n) is (Some x) kept found e at = absurd (false≢true kept)
 named_there r file names token spelled (named.Variable x) is None kept found e at = absurd (false≢true kept)
 named_there r file names token spelled (named.Variable x) is (Some c) kept found e at =
@@ -60,32 +61,37 @@ named_there r file names token spelled (named.Variable x) is (Some c) kept found
     one_some a b h = cc
 named_there r file names token spelled (named.Field f) is None kept found e at = absurd (false≢true kept)
 named_there r file names token spelled (named.Field f) is (Some x) kept found e at = absurd (false≢true kept)
-named_there r file names token spelled named.Known is None kept found e at = absurd (false≢true kept)
+named_there r file names token spelled named.Known is None kept found e at = is ∙ sym (spelled.called token is kept e (sym found ∙ at))
 named_there r file names token spelled named.Known is (Some x) kept found e at = absurd (false≢true kept)
 
 name_mild : (r : Resolution) (token : ℕ) (o : Option Entry) → ((e : Entry) → o ≡ Some e → named_at r token ≡ named_of e.meaning) → Clean (name_notes token o) → Noted r [] (name_notes token o)
 name_mild r token None is clean = absurd (no_fault _ _ _ clean)
 name_mild r token (Some e) is clean = added (inl (is e refl)) (quiet r [] (main_notes token e.meaning) tt (main_faults token e.meaning))
 
-second_mild : (r : Resolution) (token : ℕ) (o : Option (Option Declaration)) → Noted r [] (second_notes token o)
-second_mild r token None = done
-second_mild r token (Some None) = new_fault done
-second_mild r token (Some (Some d)) = added refl done
+second_mild : (r : Resolution) (token : ℕ) → is_call_at r token ≡ false → (o : Option (Option Declaration)) → Noted r [] (second_notes token o)
+second_mild r token apart None = done
+second_mild r token apart (Some None) = new_fault done
+second_mild r token apart (Some (Some d)) = added (refl, apart) done
 
-path_mild : (r : Resolution) (scope : Scope) (token : ℕ) (text : List ℕ) (second : Option (List ℕ)) → ((e : Entry) → look_up scope.names text ≡ Some e → named_at r token ≡ named_of e.meaning)
-    → Clean (path_notes scope [] (path_with token text second)) → Noted r [] (path_notes scope [] (path_with token text second))
-path_mild r scope token text None is clean = name_mild r token (look_up scope.names text) is clean
-path_mild r scope token text (Some m) is clean =
+no_call : (b : Bool) → not b ≡ true → b ≡ false
+no_call true h = absurd (false≢true h)
+no_call false h = refl
+
+path_mild : (r : Resolution) (scope : Scope) (token : ℕ) (text : List ℕ) (second : Option (List ℕ)) → keeps_second r (record { first = token; second = second }) ≡ true
+    → ((e : Entry) → look_up scope.names text ≡ Some e → named_at r token ≡ named_of e.meaning) → Clean (path_notes scope [] (path_with token text second)) → Noted r [] (path_notes scope [] (path_with token text second))
+path_mild r scope token text None apart is clean = name_mild r token (look_up scope.names text) is clean
+path_mild r scope token text (Some m) apart is clean =
     both r [] (name_notes token (look_up scope.names text)) [] _ (name_mild r token (look_up scope.names text) is (left _ _ clean))
-    (second_mild r (token + 2) (second_in scope.structs m (first_kind None (look_up scope.names text))))
+    (second_mild r (token + 2) (no_call (is_call_at r (token + 2)) apart) (second_in scope.structs m (first_kind None (look_up scope.names text))))
 
 mode_mild : (r : Resolution) (file : Scope) (names scope : List Entry) → IsSpelled r file.names → Scoped file.names names scope → (s : Sharing) → keeps r scope s ≡ true
     → Clean (mode_notes (with_names file names) [] (Some (mode_of r s))) → Noted r [] (mode_notes (with_names file names) [] (Some (mode_of r s)))
 mode_mild r file names scope spelled scoped private kept clean = done
 mode_mild r file names scope spelled scoped readonly kept clean = done
 mode_mild r file names scope spelled scoped (locked l) kept clean =
-    path_mild r (with_names file names) l.first (text_at r l.first) l.second
-    (named_there r file.names names l.first spelled (named_at r l.first) refl (look_up scope (text_at r l.first)) kept (scoped (text_at r l.first))) clean
+    let parts : (keeps_first r scope l.first ≡ true) × (keeps_second r l ≡ true) = and_parts (keeps_first r scope l.first) (keeps_second r l) kept in
+    path_mild r (with_names file names) l.first (text_at r l.first) l.second parts.1
+    (named_there r file.names names l.first spelled (named_at r l.first) refl (look_up scope (text_at r l.first)) parts.0 (scoped (text_at r l.first))) clean
 mode_mild r file names scope spelled scoped racy kept clean = done
 mode_mild r file names scope spelled scoped dynamic kept clean = done
 
@@ -107,9 +113,13 @@ struct_dull : (s : StructMeaning) → is_dull (named_struct s) ≡ true
 struct_dull (meaning.defined n fields) = refl
 struct_dull meaning.known = refl
 
+struct_apart : (s : StructMeaning) → is_field (named_struct s) ≡ false
+struct_apart (meaning.defined n fields) = refl
+struct_apart meaning.known = refl
+
 struct_mild : (r : Resolution) (token : ℕ) (o : Option StructMeaning) → (is_dull (named_at r token) ≡ true) × (is_field (named_at r token) ≡ false) → Noted r [] (struct_note token o)
 struct_mild r token None is = new_fault done
-struct_mild r token (Some s) is = added (inr (is.0, is.1, struct_dull s)) done
+struct_mild r token (Some s) is = added (inr (is.0, is.1, struct_dull s, struct_apart s)) done
 
 base_mild : (r : Resolution) (structs : StructTable) (token : ℕ) (b : Base) → NamesBase r token b → Noted r [] (base_notes structs token b)
 base_mild r structs token base.Int is = done

@@ -1,9 +1,9 @@
 -- What the cells of globals hold at first is a value of their content.
-use Rattle.std.proofs.Common.{◌≡◌, ⊎_elim, inl, inr, ℕ, zero, suc, ℤ, pos, negsuc, ◌+◌, ◌-◌, ◌*◌, ◌^◌, ◌<◌, ◌≤◌, Bool, true, false, cond, List, [], ◌∷◌, ◌++◌, length, take, replicate, slice_index_or, refl, ap, sym, ◌∙◌, subst, arith, Option, Some, None, Contains, to_z-of_z}
+use Rattle.std.proofs.Common.{◌≡◌, inl, inr, ℕ, zero, suc, ℤ, pos, negsuc, ◌-◌, ◌*◌, ◌^◌, ◌<◌, ◌≤◌, Bool, true, false, cond, List, [], ◌∷◌, ◌++◌, length, take, replicate, slice_index_or, refl, ap, sym, ◌∙◌, subst, arith, Some, to_z-of_z}
 use Rattle.std.proofs.lemmas.Bool.{lt-ltb, false≢true}
 use Rattle.std.specs.Int.{w64}
 use Rattle.std.specs.List.{AllByRecursion}
-use Rattle.std.specs.Prelude.{IsTrue, FitsSigned, neg_ℤ, slice_index, unsigned_abs}
+use Rattle.std.specs.Prelude.{FitsSigned, neg_ℤ, slice_index}
 use Rattle.sharc_tree.specs.declared.ctype.Base.{Base}
 use Rattle.sharc_tree.specs.declared.ctype.Base.TheVariants as base
 use Rattle.sharc_tree.specs.declared.tree.expression.Constant.{Constant}
@@ -11,24 +11,23 @@ use Rattle.sharc_tree.specs.declared.tree.expression.Constant.TheVariants.{Numbe
 use Rattle.sharc_tree.specs.declared.tree.item.GlobalDefinition.{GlobalDefinition}
 use Rattle.sharc_tree.specs.declared.tree.item.GlobalForm.{GlobalForm}
 use Rattle.sharc_tree.specs.declared.tree.item.GlobalForm.TheVariants as form
-use Rattle.sharc_names.specs.Kinds.{Kind, object, is_pointer, is_integral, declared_kind}
+use Rattle.sharc_names.specs.Kinds.{object, is_pointer, is_integral, declared_kind}
 use Rattle.sharc_code.specs.declared.instr.Width.TheVariants.{Char, Int, Long}
-use Rattle.sharc_code.specs.Arithmetic.{word_of, int_of, holds}
+use Rattle.sharc_code.specs.Arithmetic.{word_of, holds}
 use Rattle.sharc_ctype.specs.Globals.{elements_of}
 use Rattle.sharc_ctype.specs.Resolved.{Resolution, globals_in}
-use Rattle.sharc_ctype_laws.specs.Constraints.{IsInteger, IsPointer}
+use Rattle.sharc_ctype_laws.specs.Constraints.{IsInteger}
 use Rattle.sharc_ctype_laws.specs.Initials.{IsHeldBy, MeetsInitial, MeetsGlobal, number_of}
 use Rattle.sharc_ctype_laws.specs.Laws.{MeetsGlobals}
 use Rattle.sharc_meaning.specs.Reference.{constant_value}
 use Rattle.sharc_meaning.specs.Store.{form_value}
 use Rattle.sharc_mode.specs.Moded.{Assignment}
-use Rattle.sharc_mode.specs.Notes.{base_of}
 use Rattle.sharc_flat.specs.Places.{base_as_width}
 use Rattle.sharc_flat.specs.Tables.{cells_in, granules_in, first_words, all_first_words}
 use Rattle.sharc_invariant.specs.Types.{FieldMode, Content, Integer, MutexWord, Waiters, Pointer, Field, no_field}
 use Rattle.sharc_invariant.specs.Typed.{Initial}
 use Rattle.sharc_target_laws.specs.Laws.{IsCounted, CountedForm, GlobalsBegin}
-use Rattle.sharc_target_laws.specs.Targets.{declared_content, single, base_fields, top_mode, global_element, repeated, global_fields, all_global_fields}
+use Rattle.sharc_target_laws.specs.Targets.{declared_content, base_fields, top_mode, global_element, repeated, global_fields, all_global_fields}
 use Rattle.sharc_target_laws.proofs.Laying.{global_count}
 use Rattle.sharc_target_laws.proofs.Lists.{same_some, none_some}
 
@@ -118,9 +117,11 @@ integer_element : (m : Assignment) (g : GlobalDefinition) → IsInteger (declare
 integer_element m g (b, is, kind) =
     let same : g.declaration.written.ctype.base ≡ b = is_some_base _ b _ 0 kind in
     let integral : is_integral g.declaration.written.ctype.base ≡ true = ap is_integral same ∙ is in
-    let plain : is_pointer (declared_kind g.declaration.written) ≡ false = ap is_pointer kind in
-    (integral, ap (λ z. (slice_index_or (cond z (record { mode = top_mode m g; holds = declared_content m 0 g.declaration } ∷ []) (base_fields m (top_mode m g) g.declaration.written.ctype.base)) 0 no_field).holds) plain
-    ∙ integer_fields m (top_mode m g) g.declaration.written.ctype.base integral)
+    let plain : is_pointer (declared_kind g.declaration.written) ≡ false = ap is_pointer kind in (
+      integral,
+      ap (λ z. (slice_index_or (cond z (record { mode = top_mode m g; holds = declared_content m 0 g.declaration } ∷ []) (base_fields m (top_mode m g) g.declaration.written.ctype.base)) 0 no_field).holds) plain
+          ∙ integer_fields m (top_mode m g) g.declaration.written.ctype.base integral,
+    )
 
 first_holds : (m : Assignment) (g : GlobalDefinition) (c : Content) (n : ℕ) → elements_of g.form ≡ 1 → (slice_index_or (global_element m g) 0 no_field).holds ≡ c → (slice_index_or (repeated 1 (global_element m g) ++ replicate n no_field) 0 no_field).holds ≡ c
 first_holds m g c n one is = by (global_element m g) n is

@@ -1,6 +1,6 @@
 -- The rows of expressions and of what is declared: how many targets they have, and that the first one's shape is one of the program.
-use Rattle.std.proofs.Common.{◌≡◌, ⊎_elim, ℕ, zero, suc, ◌+◌, ◌-◌, ◌<◌, ◌≤◌, ◌==◌, eqb-true, Bool, true, false, cond, List, [], ◌∷◌, ◌++◌, length, map, take, drop, refl, ap, sym, ◌∙◌, subst, arith, Option, Some, None, Contains, bytes_eq}
-use Rattle.std.proofs.lemmas.Bool.{ne_eqb, eqb-false, false≢true}
+use Rattle.std.proofs.Common.{◌≡◌, ℕ, zero, suc, ◌+◌, ◌-◌, ◌<◌, ◌≤◌, ◌==◌, eqb-true, Bool, true, false, cond, List, [], ◌∷◌, length, map, take, drop, refl, ap, sym, ◌∙◌, subst, arith, Option, Some, None, Contains, bytes_eq}
+use Rattle.std.proofs.lemmas.Bool.{eqb-false}
 use Rattle.std.specs.List.{AllByRecursion}
 use Rattle.sharc_tree.specs.declared.ctype.Base.{Base}
 use Rattle.sharc_tree.specs.declared.ctype.Mode.{Mode}
@@ -18,8 +18,6 @@ use Rattle.sharc_tree.specs.declared.tree.item.GlobalForm.TheVariants.{Plain, Ar
 use Rattle.sharc_tree.specs.declared.tree.item.StructDefinition.{StructDefinition}
 use Rattle.sharc_tree.specs.Measures.{expressions, in_function}
 use Rattle.sharc_tree.specs.Tree.{Expression, Function}
-use Rattle.sharc_tree.specs.Tree as tree
-use Rattle.sharc_names.specs.declared.fault.Named.{Named}
 use Rattle.sharc_names.specs.declared.fault.Named.TheVariants as named
 use Rattle.sharc_names.specs.declared.types.Role.{Role}
 use Rattle.sharc_names.specs.declared.types.Role.TheVariants as role
@@ -30,24 +28,24 @@ use Rattle.sharc_ctype.specs.declared.entity.Entity.{Entity}
 use Rattle.sharc_ctype.specs.declared.entity.Numbered.{Numbered}
 use Rattle.sharc_ctype.specs.Entities.{declared, cast_entity, result_of, entities_in, entity_at, positions_of, first_depth}
 use Rattle.sharc_ctype.specs.Expressions.{constant_kind, number_kind}
-use Rattle.sharc_ctype.specs.Resolved.{Resolution, named_at, declaration_at, global_at, function_at, globals_in, functions_in, structs_in, kind_at}
+use Rattle.sharc_ctype.specs.Resolved.{Resolution, named_at, declaration_at, globals_in, functions_in, structs_in, kind_at}
 use Rattle.sharc_ctype_laws.specs.Constraints.{Callee, of_program, of_conditions, Common, both_shorter, left_long, right_long, HasType, struct_named, IsMemberOf}
 use Rattle.sharc_ctype_laws.specs.Constraints as typing
 use Rattle.sharc_ctype_laws.specs.Found.{IsFound, EachTypeFound}
 use Rattle.sharc_ctype_laws.specs.Laws.{MeetsConstraints, OneType}
 use Rattle.sharc_mode.specs.Moded.{Assignment, position_count}
 use Rattle.sharc_mode.specs.Notes.{base_of}
-use Rattle.sharc_mode.specs.Rows.{Reading, written, Row, no_row, deeper, targets_from, entity_row, declared_row, cast_row, global_row, named_row, result_row, called_row, behind, constant_row, reading_through, base_use, unary_row, row_at, modes_of}
+use Rattle.sharc_mode.specs.Rows.{Reading, written, Row, no_row, deeper, targets_from, entity_row, declared_row, global_row, named_row, result_row, called_row, behind, constant_row, reading_through, base_use, row_at, modes_of}
 use Rattle.sharc_mode_laws.specs.Constructs.{IsEntity}
 use Rattle.sharc_target_laws.specs.Laws.{IsRowOf, ExpressionsFound, VariablesFound, ResultsFound}
-use Rattle.sharc_target_laws.specs.Shapes.{Form, Shape, form_of, shape_of, row_shape, shapes, stars_in}
+use Rattle.sharc_target_laws.specs.Shapes.{Form, form_of, row_shape, shapes, stars_in}
 use Rattle.sharc_target_laws.proofs.Fits.{entity_there}
-use Rattle.sharc_target_laws.proofs.Forms.{mode_form, row_forms, row_length, same_forms, skipped}
+use Rattle.sharc_target_laws.proofs.Forms.{mode_form, row_forms, row_length, same_forms}
 use Rattle.sharc_target_laws.proofs.Found.{front, IsThere, is_there, field_found, global_found}
 use Rattle.sharc_target_laws.proofs.Lists.{place_there, same_some, none_some, head_there, tail_there, of_each, to_each}
 use Rattle.sharc_target_laws.proofs.Numbers.{shapes_closed}
 use Rattle.sharc_target_laws.proofs.Settling.{positioned, dropped_length}
-use Rattle.sharc_target_laws.proofs.Walk.{CastFound, IsDeclared, declaration_found, function_casts, function_closed, result_found}
+use Rattle.sharc_target_laws.proofs.Walk.{CastFound, declaration_found, function_casts, function_closed, result_found}
 
 -- ---- one level further
 tail_forms : (count first : ℕ) (modes : List Mode) → first + suc count ≤ length modes → (f : Form) × (map mode_form (take (suc count) (drop first modes)) ≡ f ∷ map mode_form (take count (drop (first + 1) modes)))
@@ -299,7 +297,7 @@ pub expressions_found : EachTypeFound → MeetsConstraints → OneType → Expre
 expressions_found found meets one m resolved placed low size e at row is =
     let all = found m.typed resolved placed low in
     let types : HasType m.typed e (kind_at m.typed e) = of_each (λ x. HasType m.typed x (kind_at m.typed x)) (in_function at.owner) e
-        (of_each (λ f. AllByRecursion (λ x. HasType m.typed x (kind_at m.typed x)) (in_function f)) (functions_in m.typed.program.items) at.owner (meets m.typed resolved placed low) at.stands) at.inside in
+    (of_each (λ f. AllByRecursion (λ x. HasType m.typed x (kind_at m.typed x)) (in_function f)) (functions_in m.typed.program.items) at.owner (meets m.typed resolved placed low) at.stands) at.inside in
     let casts = function_casts m.typed all at.owner at.stands in
     expression_row m size all (one m.typed resolved placed low) e (kind_at m.typed e) types
     (to_each (CastFound m.typed) (expressions e) (λ x has. of_each (CastFound m.typed) (in_function at.owner) x casts (function_closed at.owner e x at.inside has))) row is

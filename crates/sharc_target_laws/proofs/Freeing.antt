@@ -1,6 +1,6 @@
 -- The layouts of elements are those of the rows: what Free clears.
-use Rattle.std.proofs.Common.{◌≡◌, ⊎_elim, ℕ, zero, suc, ◌+◌, ◌-◌, ◌*◌, ◌^◌, ◌<◌, ◌≤◌, Bool, true, false, cond, List, [], ◌∷◌, ◌++◌, length, slice_index_or, refl, ap, sym, ◌∙◌, subst, arith, Option, Some, None, Contains, bytes_eq}
-use Rattle.std.proofs.lemmas.Bool.{false≢true, true≢false, cases_lt}
+use Rattle.std.proofs.Common.{◌≡◌, ⊎_elim, ℕ, zero, suc, ◌+◌, ◌-◌, ◌*◌, ◌^◌, ◌<◌, ◌≤◌, Bool, true, false, cond, List, [], ◌∷◌, ◌++◌, length, slice_index_or, refl, ap, sym, ◌∙◌, subst, arith, Some, bytes_eq}
+use Rattle.std.proofs.lemmas.Bool.{false≢true, cases_lt}
 use Rattle.std.specs.List.{AllByRecursion}
 use Rattle.std.specs.Prelude.{slice_get, slice_index}
 use Rattle.sharc_tree.specs.declared.ctype.Base.{Base}
@@ -17,15 +17,15 @@ use Rattle.sharc_mode.specs.Moded.{Assignment}
 use Rattle.sharc_mode.specs.Rows.{written, declared_row, modes_of}
 use Rattle.sharc_flat.specs.Flattened.{struct_layout, base_layout, layout_of}
 use Rattle.sharc_flat.specs.Tables.{pointers_among, layouts_from, layouts_of, all_pointers, pointers_of}
-use Rattle.sharc_invariant.specs.Types.{FieldMode, Content, Pointer, Field, Target, no_field, is_pointer, row_of}
+use Rattle.sharc_invariant.specs.Types.{FieldMode, Field, Target, no_field, is_pointer, row_of}
 use Rattle.sharc_invariant.specs.Typed.{IsLayout}
 use Rattle.sharc_target_laws.specs.Laws.{LayoutsAre}
-use Rattle.sharc_target_laws.specs.Shapes.{Form, Shape, shapes, kind_of, number}
-use Rattle.sharc_target_laws.specs.Targets.{own_mode, base_content, pointer_content, declared_content, single, member, members, struct_fields, base_fields, shape_fields, targets_of}
+use Rattle.sharc_target_laws.specs.Shapes.{Form, kind_of, number}
+use Rattle.sharc_target_laws.specs.Targets.{own_mode, base_content, pointer_content, declared_content, single, members, struct_fields, base_fields, shape_fields, targets_of}
 use Rattle.sharc_target_laws.proofs.Cells.{member_count, has_forms}
 use Rattle.sharc_target_laws.proofs.Good.{not_pointer}
 use Rattle.sharc_target_laws.proofs.Lists.{same_some, none_some}
-use Rattle.sharc_target_laws.proofs.Members.{members_at, some_there, below_there}
+use Rattle.sharc_target_laws.proofs.Members.{members_at, some_there}
 use Rattle.sharc_target_laws.proofs.Numbers.{numbers_found}
 
 -- a layout says which of these fields are pointers

@@ -1,15 +1,11 @@
 -- Where the cells of structs and of globals stand in the table.
-use Rattle.std.proofs.Common.{◌≡◌, ⊎_elim, ℕ, zero, suc, ◌+◌, ◌-◌, ◌*◌, ◌/◌, ◌<◌, ◌≤◌, Bool, true, false, cond, List, [], ◌∷◌, ◌++◌, length, replicate, slice_index_or, refl, ap, sym, ◌∙◌, subst, arith, Option, Some, None, Contains, bytes_eq}
+use Rattle.std.proofs.Common.{◌≡◌, ℕ, zero, suc, ◌+◌, ◌-◌, ◌*◌, ◌/◌, ◌<◌, ◌≤◌, Bool, true, false, cond, List, [], ◌∷◌, ◌++◌, length, replicate, slice_index_or, refl, ap, sym, ◌∙◌, subst, arith, Some, Contains, bytes_eq}
 use Rattle.std.proofs.lemmas.Bool.{lt-ltb, ne_eqb}
 use Rattle.std.proofs.Math.Nat.{suc-mul}
 use Rattle.std.specs.Prelude.{slice_get}
-use Rattle.sharc_tree.specs.declared.ctype.Base.{Base}
-use Rattle.sharc_tree.specs.declared.ctype.Base.TheVariants as base
-use Rattle.sharc_tree.specs.declared.tree.declaration.Declaration.{Declaration}
 use Rattle.sharc_tree.specs.declared.tree.item.GlobalDefinition.{GlobalDefinition}
 use Rattle.sharc_tree.specs.declared.tree.item.StructDefinition.{StructDefinition}
 use Rattle.sharc_names.specs.Kinds.{object, is_pointer, declared_kind}
-use Rattle.sharc_code.specs.declared.code.GlobalCells.{GlobalCells}
 use Rattle.sharc_code.specs.Says.{no_global}
 use Rattle.sharc_ctype.specs.Globals.{elements_of}
 use Rattle.sharc_ctype.specs.Resolved.{Resolution, structs_in, globals_in}
@@ -18,9 +14,9 @@ use Rattle.sharc_meaning.specs.Cells.{element_cells, base_cells, field_place}
 use Rattle.sharc_mode.specs.Moded.{Assignment}
 use Rattle.sharc_flat_form.specs.Machine.{first_cell}
 use Rattle.sharc_flat.specs.Tables.{cells_in, granules_in, globals_from, globals_of, all_granules}
-use Rattle.sharc_invariant.specs.Types.{FieldMode, Field, no_field, global_field}
-use Rattle.sharc_target_laws.specs.Laws.{IsMemberAt, MembersAre, IsGlobalAt, GlobalsAre, GlobalsEnd}
-use Rattle.sharc_target_laws.specs.Targets.{member, members, struct_fields, base_fields, declared_content, top_mode, global_element, repeated, global_fields, all_global_fields, targets_of}
+use Rattle.sharc_invariant.specs.Types.{FieldMode, Field, no_field}
+use Rattle.sharc_target_laws.specs.Laws.{MembersAre, GlobalsAre, GlobalsEnd}
+use Rattle.sharc_target_laws.specs.Targets.{member, members, struct_fields, base_fields, declared_content, top_mode, global_element, repeated, global_fields, all_global_fields}
 use Rattle.sharc_target_laws.proofs.Cells.{member_count, base_count}
 use Rattle.sharc_target_laws.proofs.Good.{at_left, at_right, size}
 use Rattle.sharc_target_laws.proofs.Lists.{head_there, tail_there, same_some, none_some, place_of_element}

@@ -1,5 +1,5 @@
 -- What a function declares and casts to is found by its tokens.
-use Rattle.std.proofs.Common.{◌≡◌, ⊎_elim, ℕ, ◌==◌, eqb-true, Bool, true, false, cond, List, [], ◌∷◌, ◌++◌, map, refl, sym, ◌∙◌, subst, Option, Some, None, Contains}
+use Rattle.std.proofs.Common.{◌≡◌, ⊎_elim, ℕ, ◌==◌, eqb-true, Bool, true, false, cond, List, [], ◌∷◌, ◌++◌, map, refl, sym, subst, Option, Some, None, Contains}
 use Rattle.std.specs.List.{AllByRecursion}
 use Rattle.sharc_tree.specs.declared.tree.declaration.Declaration.{Declaration}
 use Rattle.sharc_tree.specs.Measures.{expressions, in_arguments, in_option, in_right, in_simple, in_local, in_first, in_head, in_statement, in_statements, in_function}
@@ -8,13 +8,12 @@ use Rattle.sharc_tree.specs.Tree as tree
 use Rattle.sharc_names.specs.declared.types.Role.{Role}
 use Rattle.sharc_names.specs.declared.types.Role.TheVariants as role
 use Rattle.sharc_ctype.specs.declared.entity.Entity.{Entity}
-use Rattle.sharc_ctype.specs.Entities.{declared, cast_entity, casts, local_entities, first_entities, head_entities, statement_entities, statements_entities, result_of, function_entities, entities_in}
-use Rattle.sharc_ctype.specs.Resolved.{Resolution, structs_in, functions_in, declarations_of, declarations_in, declared_at, declaration_at}
+use Rattle.sharc_ctype.specs.Entities.{declared, cast_entity, casts, first_entities, head_entities, statement_entities, statements_entities, result_of, function_entities, entities_in}
+use Rattle.sharc_ctype.specs.Resolved.{Resolution, functions_in, declarations_of, declarations_in, declared_at, declaration_at}
 use Rattle.sharc_ctype.specs.Statements.{first_locals, locals_in, locals_in_all}
 use Rattle.sharc_ctype_laws.specs.Found.{IsFound}
-use Rattle.sharc_mode.specs.Moded.{Assignment}
 use Rattle.sharc_target_laws.proofs.Forms.{skipped}
-use Rattle.sharc_target_laws.proofs.Found.{IsThere, is_there, front, back}
+use Rattle.sharc_target_laws.proofs.Found.{front, back}
 use Rattle.sharc_target_laws.proofs.Lists.{none_there, head_there, tail_there, head_or_tail, left_there, right_there, either_there, of_each, each_mapped, both, same_some, none_some}
 
 module _ (r : Resolution) where
