@@ -3,13 +3,14 @@
 ghost use Rattle.sharc_compile_laws.specs.Fits.{MadeTablesFit};
 ghost use Rattle.sharc_compile_laws.specs.Names.{CodeHasMain, FunctionsAreNamed};
 ghost use Rattle.sharc_compile_laws.specs.Paths.{OfTyped, PathsTell, ThreadsTellInRuns};
-ghost use Rattle.sharc_compile_laws.specs.Started.{ThreadsMayStart};
+ghost use Rattle.sharc_compile_laws.specs.Started.{SpawnedAreThreads, ThreadsMayStart};
 ghost use Rattle.sharc_compile_laws.specs.Threads.{ThreadsTell};
 ghost use Rattle.sharc_compile_laws.specs.Typed.{TypedCodeCounts, TypedThreadsTell};
 
 use sharc_compile::{held_law, program_law, run_law};
 use sharc_ctype_laws::laws::{
-    has_main, meets_globals, one_function_of_name, spawns_threads, within_limits,
+    has_main, meets_globals, one_function_of_name, spawns_name_functions, spawns_threads,
+    within_limits,
 };
 use sharc_flat_laws::laws::{typed_asks_the_same, typed_is_framed, typed_suits};
 use sharc_guard_laws::laws::{made_locks_stand, typed_is_level};
@@ -77,3 +78,10 @@ pub fn functions_are_named()
     ensures named { FunctionsAreNamed }
     ensures main { CodeHasMain }
 {}
+
+/// What an instruction of the code of a typed program spawns, some function of the program spawns.
+pub fn spawned_are_threads()
+    ensures { SpawnedAreThreads }
+{
+    spawns_name_functions();
+}

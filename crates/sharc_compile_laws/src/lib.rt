@@ -11,6 +11,6 @@
 mod laws;
 
 pub use laws::{
-    functions_are_named, made_tables_fit, threads_may_start, threads_tell, typed_code_counts, typed_paths_tell,
-    typed_threads_tell,
+    functions_are_named, made_tables_fit, spawned_are_threads, threads_may_start, threads_tell,
+    typed_code_counts, typed_paths_tell, typed_threads_tell,
 };

@@ -306,14 +306,17 @@ module _ (laws : ShadowLaws) (cell_laws : CellsAreThere) (x : Targets) (code : C
       (λ (mine : k ≡ t).
       let a = stop_is d (ap (λ k. (g'.threads k).own.stop) (sym mine) ∙ e.is) in
       let q : a.1 ≡ p = sym (ap (λ (d : ConflictAt). d.granule) a.5) ∙ e.granule in
-      inr (mine, record {
-        kind = a.0;
-        touched = a.4 ∙ ap (λ q. CheckOf a.0 q false) q;
-        kind_is = ap (λ (d : ConflictAt). d.kind) a.5;
-        old_is = ap (λ (d : ConflictAt). d.old) a.5 ∙ ap old_at q;
-        site = a.2;
-        at = subst (λ q. IsCheckAt s m i a.0 q a.2) q a.3;
-      }))
+      inr (
+        mine,
+        record {
+          kind = a.0;
+          touched = a.4 ∙ ap (λ q. CheckOf a.0 q false) q;
+          kind_is = ap (λ (d : ConflictAt). d.kind) a.5;
+          old_is = ap (λ (d : ConflictAt). d.old) a.5 ∙ ap old_at q;
+          site = a.2;
+          at = subst (λ q. IsCheckAt s m i a.0 q a.2) q a.3;
+        },
+      ))
       (λ (ne : k ≡ t → ⊥).
       let is : (g.threads k).own.stop ≡ Some (Conflict d) = ap (λ (y : Machine). y.own.stop) (sym (others k ne)) ∙ e.is in
       let low = h.low_stop k d is in
@@ -586,9 +589,10 @@ module _ (laws : ShadowLaws) (cell_laws : CellsAreThere) (x : Targets) (code : C
       let kind : now.1.kind ≡ Write = sym now.1.kind_is ∙ is.kind in
       let touched : touch ≡ CheckOf Write p false = now.1.touched ∙ ap (λ k. CheckOf k p false) kind in
       let a = check_bit Write p false lt touched in
-      let never : touch ≡ CheckOf Write p true → ⊥ = λ q. let f : CheckOf Write p false ≡ CheckOf Write p true = sym touched ∙ q in cc in
-      (a.written ∙ or_right (is_written (old_at p)) (is_write Write) refl,
-      λ u n. yes (sym (noted_writes p (checked_granule now.1.kind p now.1.site now.1.at) u (noted_was u p never a.epoch n)) ∙ ap is_written (sym now.1.old_is) ∙ is.old)))
+      let never : touch ≡ CheckOf Write p true → ⊥ = λ q. let f : CheckOf Write p false ≡ CheckOf Write p true = sym touched ∙ q in cc in (
+        a.written ∙ or_right (is_written (old_at p)) (is_write Write) refl,
+        λ u n. yes (sym (noted_writes p (checked_granule now.1.kind p now.1.site now.1.at) u (noted_was u p never a.epoch n)) ∙ ap is_written (sym now.1.old_is) ∙ is.old),
+      ))
       (stop_was k p d e)
 
   -- ---- who has withdrawn

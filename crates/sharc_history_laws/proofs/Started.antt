@@ -47,7 +47,7 @@ use Rattle.sharc_invariant.specs.State.{IsSmall, StageStands, OnSpawn, OnHold, v
 use Rattle.sharc_invariant.specs.MachineInvariant.{IsOn}
 use Rattle.sharc_invariant.specs.Laws.{Keeps, Begins as CodeBegins, CellsAreThere, PointersAreThere, AccessesAreAllowed}
 use Rattle.sharc_history_laws.specs.History.{history_of}
-use Rattle.sharc_history_laws.specs.Starts.{IsOfMain, IsStartedBy}
+use Rattle.sharc_history_laws.specs.Starts.{IsOfMain, IsSpawnedByCode, IsStartedBy}
 use Rattle.sharc_history_laws.proofs.Consists.{Consists, consists_then, at_first, found_is, same_table}
 use Rattle.sharc_history_laws.proofs.Contents.{back_again, fits_in}
 use Rattle.sharc_history_laws.proofs.Given.{spares_given, given_stays}
@@ -108,7 +108,7 @@ argument_given g t = slice_index g.words (argument_word t)
 -- it is to begin with main, or with what a Spawn gave it
 abbrev pub WasGiven : Code → Newest → Elements → Global Machine → ℕ → Type 0
 WasGiven code L T g t = ((t ≡ 0) × (function_given g t ≡ code.main) × (argument_given g t ≡ 0))
-    ⊎ ((t ≢ 0) × SpawnedIn L t (function_given g t) (started_with (function_of code (function_given g t)).parameter (argument_given g t) (T (argument_given g t))))
+    ⊎ ((t ≢ 0) × IsSpawnedByCode code (function_given g t) × SpawnedIn L t (function_given g t) (started_with (function_of code (function_given g t)).parameter (argument_given g t) (T (argument_given g t))))
 
 pub record StartsTold (code : Code) (L : Newest) (T : Elements) (g : Global Machine) : Type 0 where
   pub unread : (t : ℕ) → Unheard L t → is_unread (g.threads t) ≡ true
@@ -255,13 +255,14 @@ module _ (cell_laws : CellsAreThere) (pointers : PointersAreThere) (rights : Acc
       given_still : WasGiven code (pushed event L) T' g' t
       given_still = ⊎_elim
           (λ (z : (t ≡ 0) × (function_given g t ≡ code.main) × (argument_given g t ≡ 0)). inl (z.0, stays.0 ∙ z.1, stays.1 ∙ z.2))
-          (λ (z : (t ≢ 0) × SpawnedIn L t (function_given g t) (started_with (function_of code (function_given g t)).parameter (argument_given g t) (T (argument_given g t)))).
+          (λ (z : (t ≢ 0) × IsSpawnedByCode code (function_given g t) × SpawnedIn L t (function_given g t) (started_with (function_of code (function_given g t)).parameter (argument_given g t) (T (argument_given g t)))).
           let f = function_given g t in
           let a = argument_given g t in
           let moved : SpawnedIn (pushed event L) t f (started_with (function_of code f).parameter a (T' a)) =
-          subst (SpawnedIn (pushed event L) t f) (same_argument (function_of code f).parameter refl) (spawned_still L event t f _ z.1) in
+          subst (SpawnedIn (pushed event L) t f) (same_argument (function_of code f).parameter refl) (spawned_still L event t f _ z.2) in
           inr (
             z.0,
+            subst (IsSpawnedByCode code) (sym stays.0) z.1,
             subst (λ n. SpawnedIn (pushed event L) t n (started_with (function_of code n).parameter (argument_given g' t) (T' (argument_given g' t)))) (sym stays.0)
                 (subst (λ n. SpawnedIn (pushed event L) t f (started_with (function_of code f).parameter n (T' n))) (sym stays.1) moved),
           ))
@@ -312,6 +313,7 @@ module _ (cell_laws : CellsAreThere) (pointers : PointersAreThere) (rights : Acc
           let here : SpawnedIn (pushed event L) t f v = subst (λ ev. SpawnedIn (pushed ev L) t f v) (sym said_is) (inl (ap (acts.Spawn f) (value_is from refl), refl)) in
           inr (
             λ z. omega arith,
+            subst (IsSpawnedByCode code) (sym function_is) (m.at.pc, r, from, site, is),
             subst (λ n. SpawnedIn (pushed event L) t n (started_with (function_of code n).parameter (argument_given g' t) (T' (argument_given g' t)))) (sym function_is)
                 (subst (λ n. SpawnedIn (pushed event L) t f (started_with (function_of code f).parameter n (T' n))) (sym argument_is) here),
           )
@@ -383,14 +385,19 @@ module _ (cell_laws : CellsAreThere) (pointers : PointersAreThere) (rights : Acc
             function = f;
             known = (wt.starts f (subst (λ f. ls.starts f ≡ true) f_is (h.state.begins.function u lt state))).is;
             site = ap (λ (d : SourceEvent). d.site) (sym same);
+            begins = ⊎_elim
+                (λ (z : (u ≡ 0) × (function_given g u ≡ code.main) × (argument_given g u ≡ 0)). inl (sym f_is ∙ z.1))
+                (λ (z : (u ≢ 0) × IsSpawnedByCode code (function_given g u) × SpawnedIn L u (function_given g u) (started_with (function_of code (function_given g u)).parameter (argument_given g u) (T (argument_given g u)))).
+                inr (subst (IsSpawnedByCode code) f_is z.1))
+                (old.given u lt quiet state);
             right = ⊎_elim
                 (λ (z : (u ≡ 0) × (function_given g u ≡ code.main) × (argument_given g u ≡ 0)).
                 inl (record { first = thread_now ∙ z.0; main = sym f_is ∙ z.1; nothing = value ∙ ap (λ n. started_with (function_of code f).parameter n (T n)) z.2 ∙ nothing (function_of code f).parameter (T 0) }))
-                (λ (z : (u ≢ 0) × SpawnedIn L u (function_given g u) (started_with (function_of code (function_given g u)).parameter (argument_given g u) (T (argument_given g u)))).
+                (λ (z : (u ≢ 0) × IsSpawnedByCode code (function_given g u) × SpawnedIn L u (function_given g u) (started_with (function_of code (function_given g u)).parameter (argument_given g u) (T (argument_given g u)))).
                 inr (record {
                   other = λ q. z.0 (sym thread_now ∙ q);
                   spawned = subst (λ n. Any (IsStart n f v) (reverse L)) (sym thread_now)
-                      (subst (λ v. Any (IsStart u f v) (reverse L)) (sym value) (subst (λ n. Any (IsStart u n (started_with (function_of code n).parameter (argument_given g u) (T (argument_given g u)))) (reverse L)) f_is (spawned_any L u _ _ z.1)));
+                      (subst (λ v. Any (IsStart u f v) (reverse L)) (sym value) (subst (λ n. Any (IsStart u n (started_with (function_of code n).parameter (argument_given g u) (T (argument_given g u)))) (reverse L)) f_is (spawned_any L u _ _ z.2)));
                 }))
                 (old.given u lt quiet state);
           }

@@ -3,9 +3,11 @@ use Rattle.std.specs.Prelude.{◌≡◌, ◌≢◌, ◌<◌, ◌⊎◌, ℕ, ℤ
 use Rattle.sharc_tree.specs.declared.event.Act.TheVariants.{Started}
 use Rattle.sharc_tree.specs.declared.event.SourceEvent.{SourceEvent}
 use Rattle.sharc_code.specs.declared.code.Code.{Code}
+use Rattle.sharc_code.specs.declared.instr.Instr.TheVariants.{Spawn}
+use Rattle.sharc_code.specs.declared.instr.Register.{Register}
 use Rattle.sharc_code.specs.declared.shape.Shape.{Shape}
 use Rattle.sharc_code.specs.Layout.{Fits}
-use Rattle.sharc_code.specs.Machine.{function_of}
+use Rattle.sharc_code.specs.Machine.{function_of, instr_at}
 use Rattle.sharc_code.specs.Runs.{Turn}
 use Rattle.sharc_code.specs.Whole.{CheckedRun}
 use Rattle.sharc_meaning.specs.Events.{Stands, events_of}
@@ -23,11 +25,16 @@ pub record IsOfMain (code : Code) (thread f : ℕ) (argument : ℤ) : Type 0 whe
   pub main : f ≡ code.main
   pub nothing : argument ≡ pos 0
 
+-- an instruction of the code spawns this function
+abbrev pub IsSpawnedByCode : Code → ℕ → Type 0
+IsSpawnedByCode code f = (pc : ℕ) × (to : ℕ) × (from : Register) × (site : ℕ) × (instr_at code pc ≡ Spawn to f from site)
+
 -- a Started at the name of a function, which thread 0 has, or which an earlier Spawn gave to the thread with this argument
 pub record IsStartedBy (code : Code) (before : History) (e : SourceEvent) (argument : ℤ) : Type 0 where
   pub function : ℕ
   pub known : function < length code.functions.items
   pub site : e.site ≡ (function_of code function).site
+  pub begins : (function ≡ code.main) ⊎ IsSpawnedByCode code function
   pub right : IsOfMain code e.thread function argument ⊎ IsSpawned before e.thread function argument
 
 -- so is the first event of each thread

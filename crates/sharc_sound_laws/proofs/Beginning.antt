@@ -1,9 +1,10 @@
 -- The first words of the globals, one after the other, are those that their definitions say.
 use Rattle.std.proofs.Common.{◌≡◌, ℕ, ℤ, pos, negsuc, zero, suc, ◌+◌, ◌-◌, ◌*◌, ◌/◌, ◌^◌, ◌<◌, ◌≤◌, ◌≢◌, ◌⊎◌, inl, inr, Bool, true, false, cond, length, List, [], ◌∷◌, ◌++◌, take, Option, Some, None, refl, sym, ap, ◌∙◌, subst, arith}
-use Rattle.std.specs.Prelude.{nat_lt, slice_index, slice_index_or, slice_get, replicate, neg_ℤ, unsigned_abs, AllByRecursion}
+use Rattle.std.specs.Prelude.{◌==◌, nat_lt, slice_index, slice_index_or, slice_get, replicate, neg_ℤ, unsigned_abs}
+use Rattle.std.specs.List.{AllByRecursion}
 use Rattle.std.proofs.lemmas.Bool.Decides.{nat_tests}
-use Rattle.sharc_tree.specs.declared.tree.ctype.Base.{Base}
-use Rattle.sharc_tree.specs.declared.tree.ctype.Base.TheVariants.{Int, Char, Long, Mutex, Void, Struct}
+use Rattle.sharc_tree.specs.declared.ctype.Base.{Base}
+use Rattle.sharc_tree.specs.declared.ctype.Base.TheVariants.{Int, Char, Long, Mutex, Void, Struct}
 use Rattle.sharc_tree.specs.declared.tree.declaration.WrittenType.{WrittenType}
 use Rattle.sharc_tree.specs.declared.tree.expression.Constant.{Constant}
 use Rattle.sharc_tree.specs.declared.tree.expression.Constant.TheVariants.{Number, Character, Null}
@@ -31,16 +32,16 @@ front (suc n) (x ∷ xs) ys zero lt le = refl
 front (suc n) (x ∷ xs) ys (suc k) lt le = front n xs ys k (omega arith) (omega arith)
 
 behind : (n : ℕ) (xs ys : List ℕ) (k : ℕ) → n ≤ length xs → slice_index (take n xs ++ ys) (n + k) ≡ slice_index ys k
-behind zero xs ys k le = refl
+behind zero xs ys k le = let e : 0 + k ≡ k = omega arith in ap (slice_index ys) e
 behind (suc n) [] ys k le = absurd (omega arith)
-behind (suc n) (x ∷ xs) ys k le = behind n xs ys k (omega arith)
+behind (suc n) (x ∷ xs) ys k le = let e : suc n + k ≡ suc (n + k) = omega arith in ap (slice_index (x ∷ (take n xs ++ ys))) e ∙ behind n xs ys k (omega arith)
 
 zeros : (n k : ℕ) → slice_index (replicate n 0) k ≡ 0
 zeros zero k = refl
 zeros (suc n) zero = refl
 zeros (suc n) (suc k) = zeros n k
 
-so_many : (n : ℕ) → length (replicate n 0) ≡ n
+so_many : (n : ℕ) → length {A = ℕ} (replicate n 0) ≡ n
 so_many zero = refl
 so_many (suc n) = ap suc (so_many n)
 
@@ -122,17 +123,20 @@ module _ (r : Resolution) (g : GlobalDefinition) (unsigned : IsUnsigned g.form) 
           integer_cells : Rattle.sharc_ctype_laws.specs.Constraints.IsInteger (declared_kind g.declaration.written) → element_cells r (declared_kind g.declaration.written) ≡ 1
           integer_cells k = ap (element_cells r) k.2 ∙ integral k.0 k.1
             where
-              integral : (b : Base) → Rattle.std.specs.Prelude.IsTrue (Rattle.sharc_names.specs.Kinds.is_integral b) → element_cells r (Rattle.sharc_names.specs.declared.kind.Kind.TheVariants.object b 0) ≡ 1
+              integral : (b : Base) → Rattle.std.specs.Prelude.IsTrue (Rattle.sharc_names.specs.Kinds.is_integral b) → element_cells r (Rattle.sharc_names.specs.Kinds.object b 0) ≡ 1
               integral Int h = refl
               integral Char h = refl
               integral Long h = refl
-              integral Mutex h = absurd h
-              integral Void h = absurd h
-              integral (Struct s) h = absurd h
+              integral Mutex h = absurd (let f : false ≡ true = h in cc)
+              integral Void h = absurd (let f : false ≡ true = h in cc)
+              integral (Struct s) h = absurd (let f : false ≡ true = h in cc)
       by (Initial span minus c) is (inr h) = absurd (single span minus c is (pointer_cells h.0))
         where
           pointer_cells : Rattle.sharc_ctype_laws.specs.Constraints.IsPointer (declared_kind g.declaration.written) → element_cells r (declared_kind g.declaration.written) ≡ 1
-          pointer_cells k = ap (element_cells r) k.2 ∙ refl
+          pointer_cells k = ap (element_cells r) k.2 ∙ (let e : (k.1 + 1 == 0) ≡ false = some k.1 in ap (λ b. cond b (Rattle.sharc_meaning.specs.Cells.base_cells r k.0) 1) e)
+            where
+              some : (n : ℕ) → (n + 1 == 0) ≡ false
+              some n = grind (arith, nat_tests)
 
   granules_hold : cells_in r g ≤ 2 * granules_in r g
   granules_hold = omega arith

@@ -3,9 +3,11 @@
 ghost use Rattle.sharc_sound_laws.specs.Begins.{MadeCodeBegins};
 ghost use Rattle.sharc_sound_laws.specs.Sound.{SoundIfTyped};
 
-use sharc_compile_laws::laws::typed_threads_tell;
-use sharc_ctype_laws::laws::meets_globals;
-use sharc_history_laws::{history_law, paths_law, stores_law};
+use sharc_compile_laws::{
+    functions_are_named, spawned_are_threads, threads_may_start, typed_threads_tell,
+};
+use sharc_ctype_laws::laws::{each_names_itself, meets_globals};
+use sharc_history_laws::{history_law, paths_law, starts_law, stores_law};
 
 /// The globals of the code of a typed program hold at first what their definitions say, if the numbers at which they begin have no sign of their own.
 pub fn made_code_begins()
@@ -14,14 +16,20 @@ pub fn made_code_begins()
     meets_globals();
 }
 
-/// In every checked run of the code of a typed, well-moded program with its least assignment, if that code is typed: each thread tells what the program asks
-/// for by the answers of the events, each event but those that tell who waits may come after those before it, and the events keep the rules of the modes.
+/// In every checked run of the code of a typed, well-moded program with its least assignment, if that code is typed: each thread asks for the events that are
+/// its own, after the Started with which main or an earlier Spawn began it; each event but those that tell who waits may come after those before it; so where
+/// nobody is woken the events are a run of the source without checks; and they keep the rules of the modes.
 pub fn sound_if_typed()
     ensures { SoundIfTyped }
 {
     made_code_begins();
+    each_names_itself();
+    functions_are_named();
+    spawned_are_threads();
+    threads_may_start();
     typed_threads_tell();
     paths_law();
     history_law();
+    starts_law();
     stores_law();
 }
