@@ -37,6 +37,7 @@ impl Drop for Built {
 }
 
 /// Why there is no code of a source.
+#[derive(Drop)]
 pub enum BuildFault {
     /// The first fault of the first stage that has one.
     Source(SourceFault),
@@ -44,20 +45,6 @@ pub enum BuildFault {
     Modes(Moded, ModeErrors, NamedVariables),
     /// There was not enough memory. It is the answer, too, where a number of the code would be too large.
     Memory,
-}
-
-impl Drop for BuildFault {
-    fn drop(self) {
-        match self {
-            BuildFault::Source(fault) => drop(fault),
-            BuildFault::Modes(program, errors, named) => {
-                drop(program);
-                drop(errors);
-                drop(named);
-            }
-            BuildFault::Memory => {}
-        }
-    }
 }
 
 /// The checked code of a program with its modes. Its numbers are in their ranges, if the program is typed and well-moded.
