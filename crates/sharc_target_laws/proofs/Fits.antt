@@ -1,5 +1,5 @@
 -- In a well-moded program no shape has a racy pointer or struct, nor a private target below one that is not.
-use Rattle.std.proofs.Common.{◌≡◌, ◌⊎◌, inl, inr, ⊎_elim, ℕ, zero, suc, ◌+◌, ◌-◌, ◌<◌, ◌≤◌, Bool, true, false, List, [], ◌∷◌, ◌++◌, length, map, drop, slice_index_or, refl, ap, sym, ◌∙◌, subst, arith, Option, Some, None, Contains}
+use Rattle.std.proofs.Common.{◌≡◌, ◌⊎◌, inl, inr, ⊎_elim, ℕ, zero, suc, ◌+◌, ◌-◌, ◌<◌, true, List, [], ◌∷◌, length, map, slice_index_or, refl, ap, sym, ◌∙◌, subst, arith, Option, Some, None, Contains}
 use Rattle.std.proofs.lemmas.Bool.{false≢true, cases_lt}
 use Rattle.std.specs.List.{AllByRecursion}
 use Rattle.std.specs.Prelude.{slice_get}
@@ -7,7 +7,6 @@ use Rattle.sharc_tree.specs.declared.ctype.Base.{Base}
 use Rattle.sharc_tree.specs.declared.ctype.Base.TheVariants as base
 use Rattle.sharc_tree.specs.declared.ctype.Mode.{Mode}
 use Rattle.sharc_tree.specs.declared.ctype.Mode.TheVariants.{Private, Readonly, Locked, Racy, Dynamic}
-use Rattle.sharc_names.specs.declared.types.Role.{Role}
 use Rattle.sharc_names.specs.declared.types.Role.TheVariants as role
 use Rattle.sharc_names.specs.Kinds.{is_struct_base}
 use Rattle.sharc_ctype.specs.declared.entity.Numbered.{Numbered}
@@ -18,12 +17,12 @@ use Rattle.sharc_mode.specs.Pairs.{IsBelow}
 use Rattle.sharc_mode.specs.Rows.{written, entity_row, modes_of}
 use Rattle.sharc_mode.specs.Settled.{settled, field_target, otherwise_of, settled_modes}
 use Rattle.sharc_mode_laws.specs.Constructs.{IsEntity, IsWritten}
-use Rattle.sharc_mode_laws.specs.Rules.{MeetsRules, IsModeAllowed}
+use Rattle.sharc_mode_laws.specs.Rules.{MeetsRules}
 use Rattle.sharc_target_laws.specs.Shapes.{Form, private_form, readonly_form, locked_form, racy_form, dynamic_form, Shape, form_of, shapes_down, entity_shapes, shapes_of, shapes}
 use Rattle.sharc_target_laws.specs.Targets.{is_private_form}
-use Rattle.sharc_target_laws.proofs.Forms.{mode_form, IsModeAt, IsLevel, skipped, level_of}
-use Rattle.sharc_target_laws.proofs.Lists.{both, none_there, head_there, tail_there, left_there, right_there, head_or_tail, same_some, none_some}
-use Rattle.sharc_target_laws.proofs.Settling.{IsPositioned, positioned, racy_found, private_found, SettledAt, settled_by, IsLast, SettledBy, a_mutex, is_written, is_meant, settled_from, never_open, get_dropped, dropped_length, otherwise_top}
+use Rattle.sharc_target_laws.proofs.Forms.{mode_form, IsLevel, skipped, level_of}
+use Rattle.sharc_target_laws.proofs.Lists.{both, none_there, head_there, tail_there, left_there, right_there, head_or_tail}
+use Rattle.sharc_target_laws.proofs.Settling.{positioned, racy_found, private_found, SettledAt, settled_by, IsLast, SettledBy, a_mutex, is_written, is_meant, settled_from, never_open, get_dropped, dropped_length, otherwise_top}
 
 -- ---- forms of modes
 pub form_racy : (mode : Mode) → mode_form mode ≡ racy_form → mode ≡ Racy

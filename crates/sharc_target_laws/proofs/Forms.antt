@@ -9,10 +9,10 @@ use Rattle.sharc_ctype.specs.declared.entity.Numbered.{Numbered}
 use Rattle.sharc_ctype.specs.Entities.{positions_of}
 use Rattle.sharc_ctype.specs.Resolved.{Resolution}
 use Rattle.sharc_mode.specs.Moded.{Assignment}
-use Rattle.sharc_mode.specs.Rows.{Reading, written, Row, deeper, targets_from, entity_row, read, modes_of}
+use Rattle.sharc_mode.specs.Rows.{Reading, written, Row, targets_from, entity_row, read, modes_of}
 use Rattle.sharc_mode.specs.Sharings.{Sharing, private, readonly, locked, racy, dynamic, sharing_of}
 use Rattle.sharc_target_laws.specs.Shapes.{Form, form_of}
-use Rattle.sharc_target_laws.proofs.Lists.{same_some, none_some}
+use Rattle.sharc_target_laws.proofs.Lists.{same_some}
 
 abbrev pub mode_form : Mode → Form
 mode_form mode = form_of (sharing_of mode)

@@ -1,9 +1,6 @@
 -- The cells of the globals of a well-moded program are good.
-use Rattle.std.proofs.Common.{◌≡◌, inl, inr, ℕ, zero, suc, ◌+◌, ◌-◌, ◌*◌, ◌<◌, ◌≤◌, Bool, true, false, cond, List, [], ◌∷◌, ◌++◌, length, map, replicate, slice_index_or, refl, ap, sym, ◌∙◌, subst, arith, Option, Some, None, ⊎_elim, Contains}
-use Rattle.std.specs.List.{AllByRecursion}
+use Rattle.std.proofs.Common.{◌≡◌, inl, inr, ℕ, zero, suc, ◌+◌, ◌-◌, ◌*◌, ◌<◌, Bool, true, false, cond, List, [], ◌∷◌, length, map, replicate, slice_index_or, refl, ap, sym, ◌∙◌, subst, arith, Some, Contains}
 use Rattle.std.specs.Prelude.{slice_get}
-use Rattle.sharc_tree.specs.declared.ctype.Base.{Base}
-use Rattle.sharc_tree.specs.declared.ctype.Base.TheVariants as base
 use Rattle.sharc_tree.specs.declared.ctype.Mode.{Mode}
 use Rattle.sharc_tree.specs.declared.ctype.Mode.TheVariants as mode
 use Rattle.sharc_tree.specs.declared.tree.declaration.WrittenType.{WrittenType}
@@ -11,29 +8,28 @@ use Rattle.sharc_tree.specs.declared.tree.item.GlobalDefinition.{GlobalDefinitio
 use Rattle.sharc_tree.specs.Low.{IsLow}
 use Rattle.sharc_names.specs.declared.types.Role.TheVariants as role
 use Rattle.sharc_names.specs.Kinds.{is_pointer, is_struct_base, declared_kind}
-use Rattle.sharc_ctype.specs.declared.entity.Numbered.{Numbered}
 use Rattle.sharc_ctype.specs.Entities.{declared, positions_of, first_depth, entity_at}
 use Rattle.sharc_ctype.specs.Globals.{elements_of}
 use Rattle.sharc_ctype.specs.Resolved.{globals_in}
 use Rattle.sharc_mode.specs.Cells.{first_mode}
 use Rattle.sharc_mode.specs.Moded.{Assignment, mode_at}
 use Rattle.sharc_mode.specs.Pairs.{IsBelow}
-use Rattle.sharc_mode.specs.Rows.{Row, written, entity_row, declared_row, modes_of}
-use Rattle.sharc_mode.specs.Sharings.{Sharing, racy, private, sharing_of}
-use Rattle.sharc_invariant.specs.Types.{FieldMode, FieldLock, Pointer, Field, no_field, AreTargets}
+use Rattle.sharc_mode.specs.Rows.{written, entity_row, declared_row, modes_of}
+use Rattle.sharc_mode.specs.Sharings.{racy, sharing_of}
+use Rattle.sharc_invariant.specs.Types.{Field, no_field, AreTargets}
 use Rattle.sharc_invariant.specs.Types.{FieldMode as field}
 use Rattle.sharc_flat.specs.Tables.{cells_in, granules_in}
-use Rattle.sharc_target_laws.specs.Shapes.{Form, private_form, Shape, form_of, shape_of, shapes, number}
+use Rattle.sharc_target_laws.specs.Shapes.{private_form, form_of, shape_of, shapes}
 use Rattle.sharc_target_laws.specs.Targets.{starts_private, global_mode, field_locks, base_content, pointer_content, declared_content, base_fields, top_mode, global_element, repeated, global_fields, all_global_fields, targets_of}
 use Rattle.sharc_target_laws.proofs.Fits.{struct_base, entity_there, never_racy, form_private}
-use Rattle.sharc_target_laws.proofs.Forms.{mode_form, IsLevel, level_of, skipped}
+use Rattle.sharc_target_laws.proofs.Forms.{level_of, skipped}
 use Rattle.sharc_target_laws.proofs.Found.{IsThere, global_found, global_low}
 use Rattle.sharc_target_laws.proofs.Good.{IsOwn, AreGood, global_own, global_racy, none_are, both_good, padding_good, one_good, pointer_good}
-use Rattle.sharc_target_laws.proofs.Lists.{none_there, head_there, tail_there}
+use Rattle.sharc_target_laws.proofs.Lists.{head_there, tail_there}
 use Rattle.sharc_target_laws.proofs.Members.{levels_many, some_there}
 use Rattle.sharc_target_laws.proofs.Rows.{IsKnown, starts_at, targets_many, ends_within, base_good, rows_good}
 use Rattle.sharc_target_laws.proofs.Settling.{dropped_length}
-use Rattle.sharc_target_laws.proofs.Table.{IsGood, AreBeside, IsGoodTable, are_targets}
+use Rattle.sharc_target_laws.proofs.Table.{IsGood, IsGoodTable, are_targets}
 
 sharing_racy : (x : Mode) → sharing_of x ≡ racy → x ≡ mode.Racy
 sharing_racy mode.Private h = cc

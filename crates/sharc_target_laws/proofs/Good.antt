@@ -1,5 +1,5 @@
 -- Good fields of the table: of one cell, and of a pointer to a shape of the program.
-use Rattle.std.proofs.Common.{◌≡◌, ℕ, zero, suc, ◌+◌, ◌-◌, ◌<◌, ◌≤◌, Bool, true, false, cond, List, [], ◌∷◌, ◌++◌, length, replicate, slice_index_or, refl, ap, sym, ◌∙◌, subst, arith, Option, Some, None, ⊎_elim, Contains}
+use Rattle.std.proofs.Common.{◌≡◌, ℕ, zero, suc, ◌+◌, ◌-◌, ◌<◌, Bool, true, false, List, [], ◌∷◌, ◌++◌, length, replicate, slice_index_or, refl, ap, sym, ◌∙◌, subst, arith, ⊎_elim, Contains}
 use Rattle.std.proofs.lemmas.Bool.{false≢true, cases_lt}
 use Rattle.std.specs.List.{AllByRecursion}
 use Rattle.sharc_tree.specs.declared.ctype.Base.{Base}
@@ -7,7 +7,7 @@ use Rattle.sharc_tree.specs.declared.ctype.Base.TheVariants as base
 use Rattle.sharc_mode.specs.Moded.{Assignment}
 use Rattle.sharc_mode.specs.Sharings.{Sharing, private, readonly, locked, racy, dynamic}
 use Rattle.sharc_ctype.specs.Resolved.{Resolution}
-use Rattle.sharc_invariant.specs.Types.{FieldLock, OfType, FieldMode, Under, FieldType, Content, Integer, MutexWord, Waiters, Pointer, Field, Target, Targets, row_of, no_field, is_mutex, is_pointer}
+use Rattle.sharc_invariant.specs.Types.{FieldLock, FieldMode, Under, FieldType, Content, MutexWord, Waiters, Pointer, Field, Target, Targets, row_of, no_field, is_mutex, is_pointer}
 use Rattle.sharc_invariant.specs.Types.{FieldMode as field}
 use Rattle.sharc_target_laws.specs.Shapes.{Form, private_form, readonly_form, locked_form, racy_form, dynamic_form, Shape, shapes, number}
 use Rattle.sharc_target_laws.specs.Targets.{own_mode, global_mode, is_private_mode, is_private_form, starts_private, base_content, single, targets_of}
@@ -164,17 +164,17 @@ single_are x shared q b own = one_good x shared (single q b) (single_good x shar
 pub none_are : (x : Targets) (shared : Bool) → AreGood x shared []
 none_are x shared = record { each = tt; beside = λ k a p low h. absurd (omega (arith, low)) }
 
-at_left : (a b : List Field) (k : ℕ) → k < length a → slice_index_or (a ++ b) k no_field ≡ slice_index_or a k no_field
+pub at_left : (a b : List Field) (k : ℕ) → k < length a → slice_index_or (a ++ b) k no_field ≡ slice_index_or a k no_field
 at_left [] b k low = absurd (omega (arith, low))
 at_left (x ∷ a) b zero low = refl
 at_left (x ∷ a) b (suc k) low = at_left a b k (omega (arith, low))
 
-at_right : (a b : List Field) (j k : ℕ) → j ≡ length a + k → slice_index_or (a ++ b) j no_field ≡ slice_index_or b k no_field
+pub at_right : (a b : List Field) (j k : ℕ) → j ≡ length a + k → slice_index_or (a ++ b) j no_field ≡ slice_index_or b k no_field
 at_right [] b j k e = let z : j ≡ k = omega (arith, e) in ap (λ i. slice_index_or b i no_field) z
 at_right (x ∷ a) b zero k e = absurd (omega (arith, e))
 at_right (x ∷ a) b (suc j) k e = at_right a b j k (omega (arith, e))
 
-size : (a b : List Field) → length (a ++ b) ≡ length a + length b
+pub size : (a b : List Field) → length (a ++ b) ≡ length a + length b
 size [] b = omega arith
 size (x ∷ a) b = let e = size a b in omega (arith, e)
 

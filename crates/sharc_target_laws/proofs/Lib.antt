@@ -1,10 +1,14 @@
 pub mod Alike
+pub mod Beginning
 pub mod Cells
+pub mod Expressing
 pub mod Fits
 pub mod Forms
 pub mod Found
+pub mod Freeing
 pub mod Globals
 pub mod Good
+pub mod Laying
 pub mod Lists
 pub mod Members
 pub mod Numbers
@@ -13,4 +17,5 @@ pub mod Rows
 pub mod Settling
 pub mod Siblings
 pub mod Table
+pub mod Walk
 pub mod Whole

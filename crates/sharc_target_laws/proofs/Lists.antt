@@ -1,5 +1,5 @@
 -- What is an element of a list, and what holds of each.
-use Rattle.std.proofs.Common.{◌≡◌, ◌⊎◌, inl, inr, ⊎_elim, ℕ, zero, suc, ◌+◌, ◌<◌, List, [], ◌∷◌, ◌++◌, length, map, slice_index_or, slice_get, refl, ap, subst, arith, Some, None, Contains}
+use Rattle.std.proofs.Common.{◌≡◌, ◌⊎◌, inl, inr, ⊎_elim, ℕ, zero, suc, ◌<◌, List, [], ◌∷◌, ◌++◌, length, map, slice_index_or, slice_get, refl, ap, subst, arith, Some, None, Contains}
 use Rattle.std.specs.List.{AllByRecursion}
 
 pub none_there : {A : Type 0} (x : A) → Contains [] x → ⊥

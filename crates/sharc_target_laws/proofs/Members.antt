@@ -1,54 +1,31 @@
 -- The fields of structs are good in each element.
-use Rattle.std.proofs.Common.{◌≡◌, inl, inr, ℕ, zero, suc, ◌+◌, ◌-◌, ◌<◌, ◌≤◌, ◌==◌, eqb-true, Bool, true, false, ◌&&◌, cond, List, [], ◌∷◌, ◌++◌, length, map, slice_index_or, refl, ap, sym, ◌∙◌, subst, arith, Option, Some, None, ⊎_elim, Contains, bytes_eq}
-use Rattle.std.proofs.lemmas.Bool.{false≢true, and_parts, le-ltb, ltb-true, ltb-false, eq-eqb}
-use Rattle.std.specs.List.{AllByRecursion, find}
-use Rattle.std.specs.Prelude.{slice_get, nat_lt, is_none}
+use Rattle.std.proofs.Common.{◌≡◌, ℕ, zero, suc, ◌+◌, ◌-◌, ◌<◌, eqb-true, Bool, true, false, cond, List, [], ◌∷◌, length, map, slice_index_or, refl, ap, sym, ◌∙◌, subst, arith, Option, Some, None, Contains}
+use Rattle.std.proofs.lemmas.Bool.{false≢true, le-ltb, ltb-true, ltb-false, eq-eqb}
+use Rattle.std.specs.List.{AllByRecursion}
+use Rattle.std.specs.Prelude.{slice_get}
 use Rattle.sharc_tree.specs.declared.ctype.Base.{Base}
 use Rattle.sharc_tree.specs.declared.ctype.Base.TheVariants as base
 use Rattle.sharc_tree.specs.declared.ctype.Mode.{Mode}
 use Rattle.sharc_tree.specs.declared.ctype.Mode.TheVariants as mode
 use Rattle.sharc_tree.specs.declared.ctype.Path.{Path}
-use Rattle.sharc_tree.specs.declared.ctype.Path.TheVariants.{One, Through}
 use Rattle.sharc_tree.specs.declared.tree.declaration.Declaration.{Declaration}
 use Rattle.sharc_tree.specs.declared.tree.declaration.WrittenType.{WrittenType}
-use Rattle.sharc_tree.specs.declared.tree.item.StructDefinition.{StructDefinition}
-use Rattle.sharc_tree.specs.Low.{IsLow}
-use Rattle.sharc_tree.specs.Placed.{IsPlaced}
-use Rattle.sharc_tree.specs.Tree.{Item, structure, global, function}
-use Rattle.sharc_names.specs.declared.fault.Named.{Named}
-use Rattle.sharc_names.specs.declared.fault.Named.TheVariants as named
-use Rattle.sharc_names.specs.declared.types.Role.TheVariants as role
 use Rattle.sharc_names.specs.Kinds.{Kind, object, array, null, is_pointer, declared_kind}
 use Rattle.sharc_names.specs.Kinds as kinds
-use Rattle.sharc_ctype.specs.declared.entity.Entity.{Entity}
-use Rattle.sharc_ctype.specs.declared.entity.Numbered.{Numbered}
-use Rattle.sharc_ctype.specs.Entities.{declared, item_entities, entities_in, numbered, entity_at, positions_of, is_told_by}
-use Rattle.sharc_ctype.specs.Resolved.{Resolution, IsResolved, named_at, named_kind, declaration_at, structs_in}
-use Rattle.sharc_ctype_laws.specs.Declared.{IsItself, NameThemselves}
-use Rattle.sharc_ctype_laws.specs.Found.{IsFound}
-use Rattle.sharc_ctype_laws.specs.Laws.{EachNameOnce, OnlyNames}
-use Rattle.sharc_meaning.specs.Cells.{field_place, field_place_named}
+use Rattle.sharc_ctype.specs.Resolved.{Resolution, named_at}
+use Rattle.sharc_meaning.specs.Cells.{field_place_named}
 use Rattle.sharc_mode.specs.Cells.{is_mutex_kind, is_behind_pointer, top_of}
-use Rattle.sharc_mode.specs.Flows.{IsLeastAssignment}
 use Rattle.sharc_mode.specs.Moded.{Assignment}
-use Rattle.sharc_mode.specs.Rows.{written, entity_row, declared_row, modes_of}
-use Rattle.sharc_mode.specs.Sharings.{Lock, is_field, is_sibling_lock, lock_of}
-use Rattle.sharc_mode_laws.specs.Constructs.{IsEntity, IsWritten}
-use Rattle.sharc_mode_laws.specs.Paths.{IsLockPointer, IsAllowed, global_mutex, sibling_mutex, sibling_pointer, through_constant}
-use Rattle.sharc_mode_laws.specs.Rules.{MeetsRules}
+use Rattle.sharc_mode.specs.Rows.{written, declared_row, modes_of}
+use Rattle.sharc_mode.specs.Sharings.{Lock, lock_of}
 use Rattle.sharc_invariant.specs.Types.{FieldMode, Under, Content, Pointer, Field, no_field, is_mutex}
 use Rattle.sharc_invariant.specs.Types as types
 use Rattle.sharc_invariant.specs.Types.{FieldMode as field}
-use Rattle.sharc_target_laws.specs.Shapes.{Form, private_form, Shape, form_of, shape_of, shapes}
-use Rattle.sharc_target_laws.specs.Targets.{is_private_mode, is_private_form, starts_private, locked_mode, written_mode, field_mode, base_content, pointer_content, declared_content, member, members, struct_fields, targets_of, field_lock}
+use Rattle.sharc_target_laws.specs.Shapes.{form_of, shape_of, shapes}
+use Rattle.sharc_target_laws.specs.Targets.{is_private_mode, starts_private, locked_mode, written_mode, field_mode, base_content, pointer_content, member, members, targets_of, field_lock}
 use Rattle.sharc_target_laws.proofs.Cells.{member_count}
-use Rattle.sharc_target_laws.proofs.Fits.{entity_there, field_shared, private_form_is}
-use Rattle.sharc_target_laws.proofs.Forms.{entity_length, skipped}
 use Rattle.sharc_target_laws.proofs.Good.{IsOwn, AreGood, private_mode_is, racy_private, private_racy, racy_behind, not_pointer, mutex_base, plain_good, pointer_good}
-use Rattle.sharc_target_laws.proofs.Lists.{none_there, head_there, tail_there, head_or_tail, of_each, each_mapped, same_some, none_some, place_there}
-use Rattle.sharc_target_laws.proofs.Owners.{place_is}
-use Rattle.sharc_target_laws.proofs.Settling.{IsPositioned, positioned, dropped_length}
-use Rattle.sharc_target_laws.proofs.Siblings.{IsSibling, sibling_named}
+use Rattle.sharc_target_laws.proofs.Lists.{head_there, tail_there, same_some, none_some, place_there}
 use Rattle.sharc_target_laws.proofs.Table.{IsGood, IsBeside, AreBeside}
 
 -- ---- kinds

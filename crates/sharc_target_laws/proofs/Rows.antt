@@ -1,8 +1,8 @@
 -- The rows of a well-moded program are good.
-use Rattle.std.proofs.Common.{◌≡◌, inl, inr, ℕ, zero, suc, ◌+◌, ◌-◌, ◌<◌, ◌≤◌, Bool, true, false, cond, List, [], ◌∷◌, ◌++◌, length, map, slice_index_or, refl, ap, sym, ◌∙◌, subst, arith, Option, Some, None, ⊎_elim, Contains, bytes_eq}
+use Rattle.std.proofs.Common.{◌≡◌, ℕ, ◌+◌, ◌<◌, ◌≤◌, Bool, true, false, cond, List, [], ◌∷◌, length, map, refl, ap, sym, ◌∙◌, subst, arith, Option, Some, Contains, bytes_eq}
 use Rattle.std.proofs.lemmas.Bool.{false≢true, and_parts}
 use Rattle.std.specs.List.{AllByRecursion}
-use Rattle.std.specs.Prelude.{slice_get, is_none}
+use Rattle.std.specs.Prelude.{slice_get}
 use Rattle.sharc_tree.specs.declared.ctype.Base.{Base}
 use Rattle.sharc_tree.specs.declared.ctype.Base.TheVariants as base
 use Rattle.sharc_tree.specs.declared.ctype.Mode.{Mode}
@@ -12,7 +12,6 @@ use Rattle.sharc_tree.specs.declared.ctype.Path.TheVariants.{One, Through}
 use Rattle.sharc_tree.specs.declared.tree.declaration.Declaration.{Declaration}
 use Rattle.sharc_tree.specs.declared.tree.declaration.WrittenType.{WrittenType}
 use Rattle.sharc_tree.specs.declared.tree.item.StructDefinition.{StructDefinition}
-use Rattle.sharc_names.specs.declared.fault.Named.{Named}
 use Rattle.sharc_names.specs.declared.fault.Named.TheVariants as named
 use Rattle.sharc_names.specs.declared.types.Role.TheVariants as role
 use Rattle.sharc_names.specs.Kinds.{is_pointer, is_struct_base, declared_kind}
@@ -21,19 +20,19 @@ use Rattle.sharc_ctype.specs.Entities.{declared, entities_in, positions_of, firs
 use Rattle.sharc_ctype.specs.Resolved.{Resolution, named_at, named_kind, declaration_at, structs_in}
 use Rattle.sharc_ctype_laws.specs.Declared.{IsItself}
 use Rattle.sharc_ctype_laws.specs.Found.{IsFound}
-use Rattle.sharc_meaning.specs.Cells.{field_place_in, field_place, field_place_named}
+use Rattle.sharc_meaning.specs.Cells.{field_place, field_place_named}
 use Rattle.sharc_mode.specs.Cells.{is_mutex_kind, is_behind_pointer, top_of}
 use Rattle.sharc_mode.specs.Flows.{IsLeastAssignment}
 use Rattle.sharc_mode.specs.Moded.{Assignment}
-use Rattle.sharc_mode.specs.Rows.{Row, written, entity_row, declared_row, modes_of}
-use Rattle.sharc_mode.specs.Sharings.{Lock, is_field, is_sibling_lock, lock_of}
+use Rattle.sharc_mode.specs.Rows.{written, entity_row, declared_row, modes_of}
+use Rattle.sharc_mode.specs.Sharings.{is_field, is_sibling_lock, lock_of}
 use Rattle.sharc_mode_laws.specs.Constructs.{IsEntity, IsWritten}
 use Rattle.sharc_mode_laws.specs.Paths.{IsLockPointer, IsAllowed, global_mutex, sibling_mutex, sibling_pointer, through_constant}
 use Rattle.sharc_mode_laws.specs.Rules.{MeetsRules}
-use Rattle.sharc_invariant.specs.Types.{FieldMode, Pointer, Field, no_target}
+use Rattle.sharc_invariant.specs.Types.{FieldMode, Pointer}
 use Rattle.sharc_invariant.specs.Types.{FieldMode as field}
 use Rattle.sharc_target_laws.specs.Shapes.{Form, private_form, Shape, form_of, shape_of, shapes, number}
-use Rattle.sharc_target_laws.specs.Targets.{is_private_form, starts_private, own_mode, lock_count, type_locks, single, members, struct_fields, base_fields, shape_fields, shape_row, targets_of}
+use Rattle.sharc_target_laws.specs.Targets.{is_private_form, starts_private, own_mode, lock_count, type_locks, members, struct_fields, base_fields, shape_fields, shape_row, targets_of}
 use Rattle.sharc_target_laws.proofs.Fits.{AreFit, IsFitShape, shapes_fit, entity_there, field_shared, private_form_is}
 use Rattle.sharc_target_laws.proofs.Forms.{entity_length, skipped}
 use Rattle.sharc_target_laws.proofs.Found.{IsThere, field_found}

@@ -6,12 +6,12 @@ use Rattle.std.specs.Option.{option_or}
 use Rattle.sharc_tree.specs.declared.ctype.Base.{Base}
 use Rattle.sharc_tree.specs.declared.ctype.Base.TheVariants as base
 use Rattle.sharc_tree.specs.declared.ctype.Mode.{Mode}
-use Rattle.sharc_tree.specs.declared.ctype.Mode.TheVariants.{Private, Readonly, Locked, Racy, Dynamic}
+use Rattle.sharc_tree.specs.declared.ctype.Mode.TheVariants.{Private, Racy, Dynamic}
 use Rattle.sharc_names.specs.declared.types.Role.{Role}
 use Rattle.sharc_names.specs.declared.types.Role.TheVariants as role
 use Rattle.sharc_ctype.specs.declared.entity.Entity.{Entity}
 use Rattle.sharc_ctype.specs.declared.entity.Numbered.{Numbered}
-use Rattle.sharc_ctype.specs.Entities.{entities_in, numbered_from, positions_of, positions_in, written_modes, first_depth}
+use Rattle.sharc_ctype.specs.Entities.{entities_in, numbered_from, positions_of, positions_in, written_modes}
 use Rattle.sharc_graph.specs.declared.graph.Finding.{Finding}
 use Rattle.sharc_graph.specs.declared.graph.Finding.TheVariants.{Apart, Source, Behind}
 use Rattle.sharc_graph.specs.Findings.{finding_at}

@@ -1,5 +1,5 @@
 -- A lock path in the type of a field that names a field names one of the same struct.
-use Rattle.std.proofs.Common.{◌≡◌, ⊎_elim, ℕ, Bool, true, false, cond, List, [], ◌∷◌, ◌++◌, length, refl, ap, sym, ◌∙◌, subst, Option, Some, None, Contains, bytes_eq}
+use Rattle.std.proofs.Common.{◌≡◌, ⊎_elim, ℕ, Bool, true, false, cond, List, [], ◌∷◌, ◌++◌, length, refl, sym, ◌∙◌, subst, Option, Some, None, Contains, bytes_eq}
 use Rattle.sharc_tree.specs.declared.ctype.Mode.{Mode}
 use Rattle.sharc_tree.specs.declared.ctype.Mode.TheVariants.{Locked}
 use Rattle.sharc_tree.specs.declared.ctype.Path.{Path}
@@ -19,7 +19,7 @@ use Rattle.sharc_names.specs.declared.types.Role.TheVariants as role
 use Rattle.sharc_names.specs.Names.{Entry, Meaning, look_up, field_of, named_of}
 use Rattle.sharc_names.specs.Names as meaning
 use Rattle.sharc_names.specs.Notes.{Note, fault, refers, yields, fault_unless, faults, referred}
-use Rattle.sharc_names.specs.Types.{first_kind, first_notes, main_notes, name_notes, second_in, second_notes, path_notes, mode_notes, modes_notes, base_notes, allowed_there, type_notes}
+use Rattle.sharc_names.specs.Types.{first_notes, main_notes, name_notes, path_notes, mode_notes, modes_notes, base_notes, allowed_there, type_notes}
 use Rattle.sharc_ctype.specs.Globals.{sizes_notes}
 use Rattle.sharc_ctype.specs.Heads.{heads_notes, no_heads}
 use Rattle.sharc_ctype.specs.Items.{field_notes, fields_notes, item_notes, items_notes, main_missing, file_scope, notes_about}

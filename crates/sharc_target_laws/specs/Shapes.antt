@@ -3,7 +3,7 @@
 use Rattle.std.specs.Prelude.{ℕ, ◌+◌, ◌-◌, Bool, true, false, ◌&&◌, List, [], ◌∷◌, ◌++◌, length, map, Some, if◌then◌else◌}
 use Rattle.sharc_tree.specs.declared.ctype.Base.{Base}
 use Rattle.sharc_tree.specs.Tree.{Expression}
-use Rattle.sharc_names.specs.Kinds.{Kind, object, same_base}
+use Rattle.sharc_names.specs.Kinds.{Kind, object, array, null, function, same_base}
 use Rattle.sharc_ctype.specs.declared.entity.Numbered.{Numbered}
 use Rattle.sharc_ctype.specs.Entities.{entities_in, numbered}
 use Rattle.sharc_ctype.specs.Resolved.{kind_at}
@@ -95,3 +95,10 @@ kind_of s = object s.base (length s.forms - 1)
 -- the shape of what the value of an expression refers to, whose type has this row
 abbrev pub expression_shape : Assignment → Expression → Row → Shape
 expression_shape m e row = row_shape m (base_of (kind_at m.typed e)) row
+
+-- the stars of a type: so many targets it has
+abbrev pub stars_in : Kind → ℕ
+stars_in (object b stars) = stars
+stars_in (array b stars) = stars
+stars_in null = 0
+stars_in function = 0

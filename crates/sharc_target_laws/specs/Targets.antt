@@ -23,7 +23,7 @@ use Rattle.sharc_meaning.specs.Cells.{field_place, field_place_named}
 use Rattle.sharc_flat_form.specs.Machine.{first_cell}
 use Rattle.sharc_flat.specs.Places.{base_as_width}
 use Rattle.sharc_flat.specs.Tables.{cells_in, granules_in, globals_of}
-use Rattle.sharc_invariant.specs.Types.{FieldLock, OfType, OfGlobals, OfElement, FieldMode, Under, FieldType, Content, Integer, MutexWord, Waiters, Pointer, Field, Target, Targets, no_field, no_target}
+use Rattle.sharc_invariant.specs.Types.{FieldLock, OfType, OfGlobals, OfElement, FieldMode, Under, Content, Integer, MutexWord, Waiters, Pointer, Field, Target, Targets, no_field, no_target}
 use Rattle.sharc_invariant.specs.Types.{FieldMode as own}
 use Rattle.sharc_target_laws.specs.Shapes.{Form, private_form, readonly_form, locked_form, racy_form, dynamic_form, Shape, shape_of, shapes, number}
 

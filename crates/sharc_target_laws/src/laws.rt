@@ -1,8 +1,11 @@
 // The laws of the table of targets, each the contract of a function that does nothing.
 
-ghost use Rattle.sharc_target_laws.specs.Laws.{NumbersFound, ShapesClosed, CellsAre, TargetsAre};
+ghost use Rattle.sharc_target_laws.specs.Laws.{NumbersFound, ShapesClosed, CellsAre, TargetsAre, ExpressionsFound, VariablesFound, ResultsFound, MembersAre, GlobalsAre, GlobalsEnd, GlobalsBegin, LayoutsAre};
 
-use sharc_ctype_laws::laws::{each_name_once, each_names_itself, each_type_found, only_names};
+use sharc_ctype_laws::laws::{
+    each_name_once, each_names_itself, each_type_found, meets_constraints, meets_globals, one_type,
+    only_names, within_limits,
+};
 use sharc_mode_laws::laws::rules_are_met;
 
 /// Each shape of a program has a row of its own, which is not that of nothing.
@@ -29,4 +32,56 @@ pub fn targets_are()
     each_type_found();
     each_names_itself();
     rules_are_met();
+}
+
+/// An expression of a function that has a row has a target for each star, and the shape of the first is one of the program.
+pub fn expressions_found()
+    ensures { ExpressionsFound }
+{
+    each_type_found();
+    meets_constraints();
+    one_type();
+}
+
+/// So has each field, parameter and local, however its type is read.
+pub fn variables_found()
+    ensures { VariablesFound }
+{
+    each_type_found();
+}
+
+/// And each result.
+pub fn results_found()
+    ensures { ResultsFound }
+{
+    each_type_found();
+}
+
+/// The field of a struct is the cell of its place in each element of that struct.
+pub fn members_are()
+    ensures { MembersAre }
+{}
+
+/// The cells of a global are those of its elements, one after the other from its first cell on.
+pub fn globals_are()
+    ensures { GlobalsAre }
+{}
+
+/// The globals have whole granules.
+pub fn globals_end()
+    ensures { GlobalsEnd }
+{}
+
+/// What the cells of globals hold at first is a value of the type that the table has for them, where no number in their forms is below 0.
+pub fn globals_begin()
+    ensures { GlobalsBegin }
+{
+    meets_globals();
+}
+
+/// The layout of a type is that of its shape: so many cells, of which those are pointers.
+pub fn layouts_are()
+    ensures { LayoutsAre }
+{
+    within_limits();
 }
