@@ -45,7 +45,7 @@ use Rattle.sharc_static_laws.proofs.Same.{forms_of_same, locks_of_same}
 use Rattle.sharc_static_laws.proofs.Transferred.{own_passed, Passes as FairlyPasses, calls_pass}
 use Rattle.sharc_static_laws.proofs.Given.{Fair, is_nothing, is_like, fair, null_modes, meets, no_variable, parameter_declared, same_kinds}
 use Rattle.sharc_static_laws.proofs.Written.{raw, row_good, found_there}
-use Rattle.sharc_static_laws.proofs.Names.{reading_kept, same_raw, mapped_there, both_hold}
+use Rattle.sharc_static_laws.proofs.Origins.{reading_kept, same_raw, mapped_there, both_hold}
 
 -- ---- arguments
 -- what is given to a parameter

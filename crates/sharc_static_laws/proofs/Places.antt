@@ -45,7 +45,7 @@ use Rattle.sharc_flat.specs.Suits.{PathNamed, PathStands, IfThere}
 use Rattle.sharc_static_laws.specs.Scopes.{AllStand, DeclaredStands}
 use Rattle.sharc_static_laws.specs.Standing.{ExpressionStands, ExpressionsStand}
 use Rattle.sharc_static_laws.proofs.Lists.{both, front, back, same_some, none_some}
-use Rattle.sharc_static_laws.proofs.Names.{reading_kept, deeper_hold}
+use Rattle.sharc_static_laws.proofs.Origins.{reading_kept, deeper_hold}
 use Rattle.sharc_static_laws.proofs.Passed.{first_kind}
 use Rattle.sharc_static_laws.proofs.Written.{raw, row_good, found_there}
 

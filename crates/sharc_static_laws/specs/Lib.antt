@@ -1,6 +1,7 @@
-pub mod Static
-pub mod Scopes
-pub mod Laws
-pub mod Taken
 pub mod Calls
+pub mod Held
+pub mod Laws
+pub mod Scopes
 pub mod Standing
+pub mod Static
+pub mod Taken

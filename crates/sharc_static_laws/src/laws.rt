@@ -1,6 +1,7 @@
 // The laws, each the contract of a function that does nothing.
 
 ghost use Rattle.sharc_static_laws.specs.Calls.{ArgumentsPass};
+ghost use Rattle.sharc_static_laws.specs.Held.{HeldLaws};
 ghost use Rattle.sharc_static_laws.specs.Laws.{GivenLaws};
 ghost use Rattle.sharc_static_laws.specs.Scopes.{ScopeLaws};
 ghost use Rattle.sharc_static_laws.specs.Standing.{FunctionsStand};
@@ -29,6 +30,13 @@ pub fn scope_laws()
 /// What is taken by SCAST or `free` is named by no type.
 pub fn taken_laws()
     ensures { TakenLaws }
+{
+    rules_are_met();
+}
+
+/// Lock paths lead through variables that keep their references: constant ones, of which nothing takes it.
+pub fn held_laws()
+    ensures { HeldLaws }
 {
     rules_are_met();
 }
