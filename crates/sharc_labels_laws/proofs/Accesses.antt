@@ -1,6 +1,8 @@
 -- Operations that access cells, each by itself: their checks are typed whether they are dropped or not.
 use Rattle.std.proofs.Common.{◌≡◌, ◌≢◌, ℕ, ◌+◌, ◌<◌, ◌≤◌, ◌⊎◌, Bool, true, false, cond, List, [], ◌∷◌, Option, Some, None, refl, sym, ap, ◌∙◌, subst, inl, inr, ⊎_elim, arith}
 use Rattle.std.proofs.lemmas.Bool.{false≢true, cases_eq}
+use Rattle.std.proofs.lemmas.Option.{same_Some, none-some}
+use Rattle.sharc_shadow.specs.declared.shadow_word.Kind.TheVariants.{Read, Write}
 use Rattle.sharc_code.specs.declared.code.PlaceMode.{PlaceMode}
 use Rattle.sharc_code.specs.declared.code.PlaceMode.TheVariants as modes
 use Rattle.sharc_code.specs.declared.instr.Cell.{Cell}
@@ -11,7 +13,7 @@ use Rattle.sharc_code.proofs.Places.{put_same, put_other, put_all}
 use Rattle.sharc_flat_form.specs.declared.op.Op.{Op}
 use Rattle.sharc_flat_form.specs.declared.op.Op.TheVariants as op
 use Rattle.sharc_flat_form.specs.declared.op.Spot.{Spot}
-use Rattle.sharc_guard.specs.Known.{Know, know_next, is_straight}
+use Rattle.sharc_guard.specs.Known.{Access, access, Know, know_next, is_straight}
 use Rattle.sharc_invariant.specs.Types.{Targets, StaticType, Field, FieldType, FieldMode, Content, is_pointer, Mentions}
 use Rattle.sharc_invariant.specs.Types.FieldMode.{Private, Readonly, Racy, Dynamic, Under, Behind}
 use Rattle.sharc_invariant.specs.Types.Content.{Integer, MutexWord, Waiters, Pointer}
@@ -22,7 +24,7 @@ use Rattle.sharc_typed.specs.Lines.{MayPass, PassesCheck}
 use Rattle.sharc_typed.specs.Passes.{with_passes, with_all, IsPassed}
 use Rattle.sharc_typed.proofs.Alike.{same_reference, less_entry, has_field, has_cell, sibling, mutex_of, mode_is, place_is, points_to}
 use Rattle.sharc_typed.proofs.Preorder.{less_through}
-use Rattle.sharc_labels_laws.specs.Stretches.{Mark, Setting, labels_by, Tells, Fits, IsTypedAt, IsLine}
+use Rattle.sharc_labels_laws.specs.Stretches.{Mark, Setting, labels_by, Tells, Fits, IsTypedAt, IsAtHand, IsLine}
 use Rattle.sharc_labels_laws.specs.Places.{MayReach, mark}
 use Rattle.sharc_labels_laws.proofs.Rules.{free_too}
 
@@ -109,8 +111,8 @@ module _ (around : Setting) (f : ℕ) (table : ℕ → Mark) (pc : ℕ) (s e : M
   abbrev Told : Op → Type 0
   Told o = is_straight o ≡ true → (k : Know) → Tells around.targets k s → Tells around.targets (know_next o k) e
 
-  goes_on : (o : Op) → Told o → IsTypedAt around table pc s o → IsLine around f table pc s o
-  goes_on o told typed = record { owned = here.owned; scoped = here.scoped; typed = typed; tells = λ straight k h. next.tells (know_next o k) (told straight k h) }
+  goes_on : (o : Op) → ((a : Access) → access o ≡ Some a → IsAtHand s a.cell) → Told o → IsTypedAt around table pc s o → IsLine around f table pc s o
+  goes_on o cells told typed = record { owned = here.owned; scoped = here.scoped; typed = typed; cells = cells; tells = λ straight k h. next.tells (know_next o k) (told straight k h) }
 
   lesser : (a : Label) (known : ℕ → Bool) (ps qs : List Pass) → Less a e.label → ((r : ℕ) → a.known r ≡ true → known r ≡ true) → ((p : Pass) → IsIn p qs → IsIn p ps) → Less (record a { known = known; passed = ps }) (with_passes t qs)
   lesser a known ps qs h more sub = with_more a t known ps qs (less_through a e.label t h next.less) more sub
@@ -118,9 +120,9 @@ module _ (around : Setting) (f : ℕ) (table : ℕ → Mark) (pc : ℕ) (s e : M
   integer_only : (w : Width) (h : Content) → h ≡ Integer w → is_pointer h ≡ false
   integer_only w h e = ap is_pointer e
 
-  pub on_load : (i : ℕ) (c : Cell) (spot : Spot) (field : Field) (w : Width) → i < ints_in around.code l.function → MayReach around l false c spot field → field.holds ≡ Integer w → Less (set_number l i (Within w)) e.label → Told (op.Load i c spot)
+  pub on_load : (i : ℕ) (c : Cell) (spot : Spot) (field : Field) (w : Width) → IsAtHand s c → i < ints_in around.code l.function → MayReach around l false c spot field → field.holds ≡ Integer w → Less (set_number l i (Within w)) e.label → Told (op.Load i c spot)
       → IsLine around f table pc s (op.Load i c spot)
-  on_load i c spot field w int may holds less told = goes_on (op.Load i c spot) told (λ dropped passes repeats jumps on. record {
+  on_load i c spot field w hand int may holds less told = goes_on (op.Load i c spot) (λ a z. subst (λ (a : Access). IsAtHand s a.cell) (same_Some (record { kind = Read; cell = c; spot = spot }) a z) hand) told (λ dropped passes repeats jumps on. record {
     field = field;
     width = w;
     register = int;
@@ -130,8 +132,8 @@ module _ (around : Setting) (f : ℕ) (table : ℕ → Mark) (pc : ℕ) (s e : M
         (λ r k. more_behind (with_passes l (passes pc)) spot spot.mode r k) on;
   })
 
-  pub on_store : (i : ℕ) (c : Cell) (spot : Spot) (field : Field) (w : Width) → MayReach around l true c spot field → field.holds ≡ Integer w → FitsWidth (l.ints i) w → Less (gated l Closed) e.label → Told (op.Store i c spot) → IsLine around f table pc s (op.Store i c spot)
-  on_store i c spot field w may holds fits less told = goes_on (op.Store i c spot) told (λ dropped passes repeats jumps on. record {
+  pub on_store : (i : ℕ) (c : Cell) (spot : Spot) (field : Field) (w : Width) → IsAtHand s c → MayReach around l true c spot field → field.holds ≡ Integer w → FitsWidth (l.ints i) w → Less (gated l Closed) e.label → Told (op.Store i c spot) → IsLine around f table pc s (op.Store i c spot)
+  on_store i c spot field w hand may holds fits less told = goes_on (op.Store i c spot) (λ a z. subst (λ (a : Access). IsAtHand s a.cell) (same_Some (record { kind = Write; cell = c; spot = spot }) a z) hand) told (λ dropped passes repeats jumps on. record {
     field = field;
     width = w;
     access = check_passes around table passes l true c spot (passes pc) dropped field repeats (λ _. integer_only w field.holds holds) may;
@@ -144,9 +146,9 @@ module _ (around : Setting) (f : ℕ) (table : ℕ → Mark) (pc : ℕ) (s e : M
   vacant_too : (r : ℕ) (ps : List Pass) → IsVacant around.code l r → IsVacant around.code (with_passes l ps) r
   vacant_too r ps h = record { is = h.is; empty = h.empty }
 
-  pub on_load_reference : (r : ℕ) (c : Cell) (spot : Spot) (field : Field) (type : StaticType) → IsVacant around.code l r → MayReach around l false c spot field → PointsTo l c field type → (Mentions type r → ⊥)
+  pub on_load_reference : (r : ℕ) (c : Cell) (spot : Spot) (field : Field) (type : StaticType) → IsAtHand s c → IsVacant around.code l r → MayReach around l false c spot field → PointsTo l c field type → (Mentions type r → ⊥)
       → Less (fill l r (Refers type) r false) e.label → Told (op.LoadRef r c spot) → IsLine around f table pc s (op.LoadRef r c spot)
-  on_load_reference r c spot field type vacant may points other less told = goes_on (op.LoadRef r c spot) told (λ dropped passes repeats jumps on. record {
+  on_load_reference r c spot field type hand vacant may points other less told = goes_on (op.LoadRef r c spot) (λ a z. subst (λ (a : Access). IsAtHand s a.cell) (same_Some (record { kind = Read; cell = c; spot = spot }) a z) hand) told (λ dropped passes repeats jumps on. record {
     field = field;
     type = type;
     register = vacant_too r (passes pc) vacant;
@@ -159,7 +161,7 @@ module _ (around : Setting) (f : ℕ) (table : ℕ → Mark) (pc : ℕ) (s e : M
 
   pub on_take_cell : (r : ℕ) (c : Cell) (spot : Spot) (field : Field) (type : StaticType) → IsVacant around.code l r → MayReach around l true c spot field → PointsTo l c field type → (Mentions type r → ⊥)
       → Less (fill l r (Refers type) r false) e.label → IsLine around f table pc s (op.TakeCell r c spot)
-  on_take_cell r c spot field type vacant may points other less = goes_on (op.TakeCell r c spot) (λ z. never z) (λ dropped passes repeats jumps on. record {
+  on_take_cell r c spot field type vacant may points other less = goes_on (op.TakeCell r c spot) (λ a z. absurd (none-some a z)) (λ z. never z) (λ dropped passes repeats jumps on. record {
     field = field;
     type = type;
     register = vacant_too r (passes pc) vacant;
@@ -170,9 +172,9 @@ module _ (around : Setting) (f : ℕ) (table : ℕ → Mark) (pc : ℕ) (s e : M
         (λ q k. cleared_too l.known (known_behind (with_passes l (passes pc)) spot spot.mode) r (λ q z. more_behind (with_passes l (passes pc)) spot spot.mode q z) q k) (λ p h. absurd (on p h));
   })
 
-  pub on_store_reference : (r : ℕ) (c : Cell) (spot : Spot) (field : Field) → r < refs_in around.code l.function → MayReach around l true c spot field → PointsTo l c field s.replaced → LessEntry l r (l.env r) (Refers s.replaced) → IsFree l r
+  pub on_store_reference : (r : ℕ) (c : Cell) (spot : Spot) (field : Field) → IsAtHand s c → r < refs_in around.code l.function → MayReach around l true c spot field → PointsTo l c field s.replaced → LessEntry l r (l.env r) (Refers s.replaced) → IsFree l r
       → (Mentions s.replaced r → ⊥) → ((q : ℕ) → Mentions s.replaced q → l.env q ≢ Empty) → Less (empty (fill (empty l r) r (Refers s.replaced) r false) r) e.label → Told (op.StoreRef r c spot) → IsLine around f table pc s (op.StoreRef r c spot)
-  on_store_reference r c spot field ref may points value free other paths less told = goes_on (op.StoreRef r c spot) told (λ dropped passes repeats jumps on.
+  on_store_reference r c spot field hand ref may points value free other paths less told = goes_on (op.StoreRef r c spot) (λ a z. subst (λ (a : Access). IsAtHand s a.cell) (same_Some (record { kind = Write; cell = c; spot = spot }) a z) hand) told (λ dropped passes repeats jumps on.
       let kb = known_behind (with_passes l (passes pc)) spot spot.mode in record {
         field = field;
         register = ref;
@@ -191,7 +193,7 @@ module _ (around : Setting) (f : ℕ) (table : ℕ → Mark) (pc : ℕ) (s e : M
 
   pub on_load_guard : (c : Cell) (spot : Spot) (field : Field) (to : FieldType) → l.gate ≡ Closed → HasCell around.targets around.code l c field → field.mode ≡ Readonly → field.holds ≡ Pointer to → Less (gated l (Loaded c)) e.label → Told (op.LoadGuard c spot)
       → IsLine around f table pc s (op.LoadGuard c spot)
-  on_load_guard c spot field to closed cell mode holds less told = goes_on (op.LoadGuard c spot) told (λ dropped passes repeats jumps on. record {
+  on_load_guard c spot field to closed cell mode holds less told = goes_on (op.LoadGuard c spot) (λ a z. absurd (none-some a z)) told (λ dropped passes repeats jumps on. record {
     field = field;
     to = to;
     closed = closed;

@@ -1,6 +1,7 @@
 -- Calls, returns and new threads, each by itself.
 use Rattle.std.proofs.Common.{◌≡◌, ◌≢◌, ℕ, ◌+◌, ◌<◌, ◌≤◌, ◌⊎◌, Bool, true, false, List, [], ◌∷◌, length, refl, Some, sym, ap, ◌∙◌, subst, inl, inr, arith}
 use Rattle.std.specs.Prelude.{filter}
+use Rattle.std.proofs.lemmas.Option.{none-some}
 use Rattle.sharc_code.specs.declared.instr.Register.{Register}
 use Rattle.sharc_code.specs.declared.instr.Register.TheVariants as registers
 use Rattle.sharc_code.specs.declared.instr.Width.TheVariants.{Char}
@@ -61,6 +62,7 @@ module _ (around : Setting) (f : ℕ) (table : ℕ → Mark) (pc : ℕ) (s : Mar
     owned = here.owned;
     scoped = here.scoped;
     typed = λ dropped passes repeats jumps on. (closed, (f, here.owned, record { result = less_entry l l.known l.gate (passes pc) 0 (l.env 0) (around.signature f).result result; result_int = number; empty = others }));
+    cells = λ a z. absurd (none-some a z);
     tells = λ z. never z;
   }
 
@@ -92,6 +94,7 @@ module _ (around : Setting) (f : ℕ) (table : ℕ → Mark) (pc : ℕ) (s : Mar
           last (called_label (labels_by around table) l g ints refs) (filter (λ p. below_pass refs p.base) (passes pc)) (passes (pc + 1)) less (λ p k. on p k),
         ),
       );
+      cells = λ a z. absurd (none-some a z);
       tells = λ z. never z;
     }
 
@@ -101,11 +104,13 @@ module _ (around : Setting) (f : ℕ) (table : ℕ → Mark) (pc : ℕ) (s : Mar
       owned = here.owned;
       scoped = here.scoped;
       typed = λ dropped passes repeats jumps on. (closed, int, is, starts, shared, hands (passes pc), last (set_number l i (Within Char)) (passes pc) (passes (pc + 1)) less (λ p k. on p k));
+      cells = λ a z. absurd (none-some a z);
       tells = λ z. never z;
     }
     on_spawn i g (registers.Reference r) spot closed int is starts shared hands less = record {
       owned = here.owned;
       scoped = here.scoped;
       typed = λ dropped passes repeats jumps on. (closed, int, is, starts, shared, hands (passes pc), last (set_number (empty l r) i (Within Char)) (without_base r (passes pc)) (passes (pc + 1)) less (λ p k. on p k));
+      cells = λ a z. absurd (none-some a z);
       tells = λ z. never z;
     }

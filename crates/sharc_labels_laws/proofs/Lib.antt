@@ -12,3 +12,4 @@ pub mod Variables
 pub mod Indexes
 pub mod Lines
 pub mod Law
+pub mod Accessed

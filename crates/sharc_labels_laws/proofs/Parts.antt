@@ -85,6 +85,9 @@ module _ (around : Setting) (f : ℕ) (D : (ℕ → Mark) → Type 0) (named : �
   pub post : (s e t : Mark) (os : List Op) → Fits around.targets e t → (Scoped e → Scoped t) → P s os e → P s os t
   post s e t os fits sc p = λ w h. let a = p w h in record { stretch = λ pc. flow.wider_end around f D s pc os e t fits (a.stretch pc); scoped = sc a.scoped }
 
+  pub pre : (t s e : Mark) (os : List Op) → Fits around.targets t s → (Scoped t → Scoped s) → P s os e → P t os e
+  pre t s e os fits sc p = λ w h. let a = p w (sc h) in record { stretch = λ pc. flow.wider around f D t s pc os e fits (a.stretch pc); scoped = a.scoped }
+
   pub none : (s e : Mark) → Fits around.targets s e → (Scoped s → Scoped e) → P s [] e
   none s e fits sc = λ w h. record { stretch = λ pc. flow.nothing around f D s pc e fits; scoped = sc h }
 

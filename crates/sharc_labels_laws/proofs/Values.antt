@@ -18,7 +18,7 @@ use Rattle.sharc_invariant.specs.Labels.{Entry, Empty, Refers, Number, Anything,
 use Rattle.sharc_invariant.specs.Typed.{IsVacant, PointsTo, HasCell, Fits as FitsWidth, ints_in, refs_in}
 use Rattle.sharc_invariant.proofs.Scoped.{less_refl, less_entry_refl, less_number_refl, scoped_fill}
 use Rattle.sharc_typed.specs.Passes.{IsNumberOf}
-use Rattle.sharc_labels_laws.specs.Stretches.{Mark, Setting, Tells, Fits, IsLine, LeadsWithin}
+use Rattle.sharc_labels_laws.specs.Stretches.{Mark, Setting, Tells, Fits, IsAtHand, IsLine, LeadsWithin}
 use Rattle.sharc_labels_laws.specs.Places.{Stands, IsNamed, MayReach, mark}
 use Rattle.sharc_labels_laws.proofs.Fitting.{fits_same, fits_through, fits_by}
 use Rattle.sharc_labels_laws.proofs.Standing.{less_by, without_same, uncopied, scoped_frame, unnamed, stands_number, stands_fill, Unnamed}
@@ -74,15 +74,15 @@ module _ (around : Setting) (f : ℕ) (D : (ℕ → Mark) → Type 0) (named : �
         (λ j n a b z. same_number around f D named top low from (over l g Closed) (over l g (Loaded cell)) n (g j) (λ q _. refl) z) t))
 
     -- an integer
-    pub load_at : (c : Gate) (until : ℕ) → i ≤ until → (cell : Cell) (spot : Spot) (field : Field) (w : Width) → MayReach around (over l g c) false cell spot field → field.holds ≡ Integer w
+    pub load_at : (c : Gate) (until : ℕ) → i ≤ until → (cell : Cell) (spot : Spot) (field : Field) (w : Width) → IsAtHand (mark (over l g c) from until) cell → MayReach around (over l g c) false cell spot field → field.holds ≡ Integer w
         → Q (mark (over l g c) from until) (op.Load i cell spot ∷ []) (with_number around f D named top low from l i (Within w))
-    load_at c until le cell spot field w may holds =
+    load_at c until le cell spot field w hand may holds =
         let a = over l g c in
         let n : Number = Within w in
         one (mark a from until) (op.Load i cell spot) (mark (set_number l i n) from (i + 1))
         (λ in_it h. scoped_frame named (i + 1) r (set_number l i n) (stands_number named i r l at.stands n (λ q b. absurd b)) fi fr h.few
         (put_all (λ j y. fi ≤ j → y ≡ Anything) l.ints i n (λ ge. absurd (omega (arith, in_it, ge))) (λ j _ ge. at.stands.numbers j (omega (arith, in_it, ge)))))
-        (λ table pc in_it h next. on_load around f table pc (mark a from until) (mark (set_number l i n) from (i + 1)) next (here c until h) i cell spot field w (subst (λ o. i < ints_in around.code o) (sym at.owned) in_it) may holds
+        (λ table pc in_it h next. on_load around f table pc (mark a from until) (mark (set_number l i n) from (i + 1)) next (here c until h) i cell spot field w hand (subst (λ o. i < ints_in around.code o) (sym at.owned) in_it) may holds
         (less_by (set_number a i n) (set_number l i n) refl (λ q. less_entry_refl (set_number a i n) q (l.env q)) (λ q. refl) (λ q e. e) (λ j. less_put j) tt at.stands.nothing_passed (λ e. e))
         (λ _ k t. told_number (op.Load i cell spot) i (λ q. refl) (λ j. refl) around k (mark a from until) (mark (set_number l i n) from (i + 1)) (λ m is. absurd (none_some m is)) (λ q. refl) (omega arith) (omega arith) le
         (λ j m small z. subst (IsNumberOf around.targets (set_number l i n) m) (sym (put_other l.ints i j n (λ e. omega (arith, e, small)))) (numbers_kept (set_number l i n) (λ q _. refl) c j m small z)) t))
@@ -107,10 +107,10 @@ module _ (around : Setting) (f : ℕ) (D : (ℕ → Mark) → Type 0) (named : �
     own_not t fits m = let z = (fits r m).0 in omega (arith, z)
 
     -- a reference
-    pub load_reference_at : (c : Gate) (until : ℕ) → i ≤ until → (cell : Cell) (spot : Spot) (field : Field) (t : StaticType) → IsNamed named r t → MayReach around (over l g c) false cell spot field → PointsTo (over l g c) cell field t
+    pub load_reference_at : (c : Gate) (until : ℕ) → i ≤ until → (cell : Cell) (spot : Spot) (field : Field) (t : StaticType) → IsNamed named r t → IsAtHand (mark (over l g c) from until) cell → MayReach around (over l g c) false cell spot field → PointsTo (over l g c) cell field t
         → Q (mark (over l g c) from until) (op.LoadRef r cell spot ∷ []) (mark (got t) from i)
-    load_reference_at c until le cell spot field t fits may points = one (mark (over l g c) from until) (op.LoadRef r cell spot) (mark (got t) from i) (λ in_it h. scoped_got t fits c until in_it h)
-        (λ table pc in_it h next. on_load_reference around f table pc (mark (over l g c) from until) (mark (got t) from i) next (here c until h) r cell spot field t (vacant_at c in_it) may points (own_not t fits) (less_got t c)
+    load_reference_at c until le cell spot field t fits hand may points = one (mark (over l g c) from until) (op.LoadRef r cell spot) (mark (got t) from i) (λ in_it h. scoped_got t fits c until in_it h)
+        (λ table pc in_it h next. on_load_reference around f table pc (mark (over l g c) from until) (mark (got t) from i) next (here c until h) r cell spot field t hand (vacant_at c in_it) may points (own_not t fits) (less_got t c)
         (λ _ k s. told around.targets (op.LoadRef r cell spot) k (mark (over l g c) from until) (mark (got t) from i) s (λ q x _ is. absurd (none_some x is))
         (λ q a _. put_other l.same r q r (other_than q r a)) (λ j n _ _ a. absurd (false≢true a))
         (λ j n a b _ is. numbers_kept (got t) (λ q lt. put_other l.env r q (Refers t) (λ e. omega (arith, e, lt))) c j n b (s.numbers j n a (omega (arith, b, le)) is))))
@@ -122,10 +122,10 @@ module _ (around : Setting) (f : ℕ) (D : (ℕ → Mark) → Type 0) (named : �
         (λ table pc in_it h next. on_take_cell around f table pc (mark (over l g c) from until) (mark (got t) from i) next (here c until h) r cell spot field t (vacant_at c in_it) may points (own_not t fits) (less_got t c))
 
     -- an integer is stored
-    pub store_at : (c : Gate) (until vi : ℕ) → i ≤ until → (cell : Cell) (spot : Spot) (field : Field) (w : Width) → MayReach around (over l g c) true cell spot field → field.holds ≡ Integer w → FitsWidth (g vi) w
+    pub store_at : (c : Gate) (until vi : ℕ) → i ≤ until → (cell : Cell) (spot : Spot) (field : Field) (w : Width) → IsAtHand (mark (over l g c) from until) cell → MayReach around (over l g c) true cell spot field → field.holds ≡ Integer w → FitsWidth (g vi) w
         → Q (mark (over l g c) from until) (op.Store vi cell spot ∷ []) (mark l from i)
-    store_at c until vi le cell spot field w may holds fits = one (mark (over l g c) from until) (op.Store vi cell spot) (mark l from i) (λ _ h. scoped_frame named i r l at.stands fi fr h.few (few_ints h.numbers))
-        (λ table pc in_it h next. on_store around f table pc (mark (over l g c) from until) (mark l from i) next (here c until h) vi cell spot field w may holds fits
+    store_at c until vi le cell spot field w hand may holds fits = one (mark (over l g c) from until) (op.Store vi cell spot) (mark l from i) (λ _ h. scoped_frame named i r l at.stands fi fr h.few (few_ints h.numbers))
+        (λ table pc in_it h next. on_store around f table pc (mark (over l g c) from until) (mark l from i) next (here c until h) vi cell spot field w hand may holds fits
         (less_by (over l g Closed) l refl (λ q. less_entry_refl (over l g Closed) q (l.env q)) (λ q. refl) (λ q e. e) less_ints (subst (λ y. LessGate Closed y) (sym at.stands.closed) tt) at.stands.nothing_passed (λ e. e))
         (λ _ k s. told_same (op.Store vi cell spot) (λ q. refl) (λ j. refl) around k (mark (over l g c) from until) (mark l from i) (λ q. refl) (omega arith) le (λ j n a b z. numbers_kept l (λ q _. refl) c j n b z) s))
 
@@ -158,14 +158,14 @@ module _ (around : Setting) (f : ℕ) (D : (ℕ → Mark) → Type 0) (named : �
             subst (LessNumber (without_index r (without_index r (g j)))) (ap (λ n. without_index r (without_index r n)) (below j small) ∙ ap (without_index r) e ∙ e) (less_number_refl (without_index r (without_index r (g j)))))
             (λ (ge : i ≤ j). subst (LessNumber (without_index r (without_index r (g j)))) (sym (at.stands.numbers j ge)) tt) (cases_lt j i)
 
-    pub store_reference_at : top ≤ r → (c : Gate) (until : ℕ) → i ≤ until → (cell : Cell) (spot : Spot) (field : Field) (t : StaticType) (v : ℕ) (b : Bool) → IsNamed named r t → MayReach around (stored t v b c) true cell spot field → PointsTo (stored t v b c) cell field t
+    pub store_reference_at : top ≤ r → (c : Gate) (until : ℕ) → i ≤ until → (cell : Cell) (spot : Spot) (field : Field) (t : StaticType) (v : ℕ) (b : Bool) → IsNamed named r t → IsAtHand (mark (stored t v b c) from until) cell → MayReach around (stored t v b c) true cell spot field → PointsTo (stored t v b c) cell field t
         → Q (record (mark (stored t v b c) from until) { replaced = t }) (op.StoreRef r cell spot ∷ []) (mark l from i)
-    store_reference_at le c until le2 cell spot field t v b fits may points =
+    store_reference_at le c until le2 cell spot field t v b fits hand may points =
         let y = stored t v b c in
         let s : Mark = record (mark y from until) { replaced = t } in
         one s (op.StoreRef r cell spot) (mark l from i)
         (λ _ h. scoped_frame named i r l at.stands fi fr (λ q ge. ⊎_elim (λ (e : q ≡ r). at.stands.free q (omega (arith, e))) (λ (ne : q ≡ r → ⊥). sym (put_other l.env r q (Refers t) ne) ∙ h.few q ge) (cases_eq q r)) (few_ints h.numbers))
-        (λ table pc in_it h next. on_store_reference around f table pc s (mark l from i) next (record { owned = at.owned; scoped = h }) r cell spot field (subst (λ o. r < refs_in around.code o) (sym at.owned) in_it) may points
+        (λ table pc in_it h next. on_store_reference around f table pc s (mark l from i) next (record { owned = at.owned; scoped = h }) r cell spot field hand (subst (λ o. r < refs_in around.code o) (sym at.owned) in_it) may points
         (subst (λ e. LessEntry y r e (Refers t)) (sym (put_same l.env r (Refers t))) (less_entry_refl y r (Refers t)))
         (record { paths = λ q ne m. put_all (λ q y. (q ≡ r → ⊥) → EntryMentions y r → ⊥) l.env r (Refers t) (λ no _. no refl) (λ q _ no m. let z = low r (at.stands.paths q r m).1 in omega (arith, z, le)) q ne m })
         (own_not t fits) (λ q m e. at.stands.full q (fits q m).0 (sym (put_other l.env r q (Refers t) (λ z. own_not t fits (subst (Mentions t) z m))) ∙ e)) (less_stored t v b c)

@@ -7,10 +7,10 @@ use Rattle.sharc_flat_form.specs.declared.op.Op.{Op}
 use Rattle.sharc_flat_form.specs.Machine.{Flat}
 use Rattle.sharc_flat.specs.Places.{pointee_code}
 use Rattle.sharc_flat.specs.Flattened.{drop_code, truth_code, compare_code, logical_code, either_code}
-use Rattle.sharc_guard.specs.Known.{known}
+use Rattle.sharc_guard.specs.Known.{Access, access, known}
 use Rattle.sharc_invariant.specs.Types.{StaticType}
 use Rattle.sharc_invariant.specs.Labels.{Refers, Within, Label, set_number, fill}
-use Rattle.sharc_typed.specs.Passes.{TypedAnyhow}
+use Rattle.sharc_typed.specs.Passes.{TypedAnyhow, Knows}
 use Rattle.sharc_labels_laws.specs.Stretches.{Mark, Setting, Tells, IsLine, flat_labels, Way, LeadsAmong}
 use Rattle.sharc_labels_laws.specs.Places.{Stands, IsNamed, AreLow, mark}
 
@@ -27,6 +27,10 @@ LinesAreTyped = (z : Setting) (owner : ℕ → ℕ) (table : ℕ → Mark) (flat
 -- and before each is said what sharc_guard remembers there of copies and of the numbers at hand
 abbrev pub LinesTell : Type 0
 LinesTell = (z : Setting) (owner : ℕ → ℕ) (table : ℕ → Mark) (flat : Flat) → AreAllLines z owner table flat → (n : ℕ) → n < length flat.lines → Tells z.targets (known flat n) (table n)
+
+-- so at each access what is known of its cell
+abbrev pub LinesKnow : Type 0
+LinesKnow = (z : Setting) (owner : ℕ → ℕ) (table : ℕ → Mark) (flat : Flat) → AreAllLines z owner table flat → (n : ℕ) (o : Op) (a : Access) → slice_get flat.lines n ≡ Some o → access o ≡ Some a → Knows z.targets (known flat n) (table n).label a.cell
 
 -- ---- stretches
 -- one after the other

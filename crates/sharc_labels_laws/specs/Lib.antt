@@ -1,3 +1,4 @@
 pub mod Stretches
 pub mod Places
+pub mod Premises
 pub mod Laws

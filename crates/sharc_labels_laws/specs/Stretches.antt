@@ -1,9 +1,11 @@
 -- Stretches of flat code, with what is said before each of their lines.
 use Rattle.std.specs.Prelude.{ℕ, ◌+◌, ◌≡◌, ◌<◌, ◌≤◌, Bool, true, List, [], ◌∷◌, ◌++◌, length, Some}
 use Rattle.sharc_code.specs.declared.code.Code.{Code}
+use Rattle.sharc_code.specs.declared.instr.Cell.{Cell}
+use Rattle.sharc_code.specs.declared.instr.Cell.TheVariants as cells
 use Rattle.sharc_flat_form.specs.declared.op.Op.{Op}
 use Rattle.sharc_flat_form.specs.Framed.{OpWrites}
-use Rattle.sharc_guard.specs.Known.{is_straight, leads_to, Know, know_next}
+use Rattle.sharc_guard.specs.Known.{is_straight, leads_to, Access, access, Know, know_next}
 use Rattle.sharc_invariant.specs.Types.{Targets, StaticType}
 use Rattle.sharc_invariant.specs.Labels.{Pass, IsIn, Label, Signature, Labels, Less, IsScoped}
 use Rattle.sharc_invariant.specs.Typed.{ints_in, refs_in}
@@ -51,10 +53,18 @@ IsTypedAt z table pc s o = (dropped : Bool) (passes : ℕ → List Pass) → (dr
     → ((p : Pass) → IsIn p (passes (pc + 1)) → IsIn p (remembered z.targets dropped s.label o (passes pc)))
     → TypedLine z.targets z.code (with_all (labels_by z table) passes) z.lines dropped s.replaced pc (with_passes s.label (passes pc)) (with_passes (table (pc + 1)).label (passes (pc + 1))) o
 
+-- the number of the cell that is accessed is at hand, where it is found by an index
+abbrev pub IsAtHand : Mark → Cell → Type 0
+IsAtHand s (cells.Global g place) = Unit {0}
+IsAtHand s (cells.GlobalAt g i) = (s.from ≤ i) × (i < s.until)
+IsAtHand s (cells.Object r n) = Unit {0}
+IsAtHand s (cells.ObjectAt r i) = (s.from ≤ i) × (i < s.until)
+
 pub record IsLine (z : Setting) (f : ℕ) (table : ℕ → Mark) (pc : ℕ) (s : Mark) (o : Op) : Type 0 where
   pub owned : s.label.function ≡ Some f
   pub scoped : IsScoped (ints_in z.code (Some f)) (refs_in z.code (Some f)) s.label
   pub typed : IsTypedAt z table pc s o
+  pub cells : (a : Access) → access o ≡ Some a → IsAtHand s a.cell
   pub tells : is_straight o ≡ true → (k : Know) → Tells z.targets k s → Tells z.targets (know_next o k) (table (pc + 1))
 
 -- ---- lines one after the other

@@ -1,6 +1,6 @@
 //! Laws of flattened code.
 
-ghost use Rattle.sharc_labels_laws.specs.Laws.{LinesAreTyped, LinesTell, PartsAreTyped, StretchesJoin};
+ghost use Rattle.sharc_labels_laws.specs.Laws.{LinesAreTyped, LinesKnow, LinesTell, PartsAreTyped, StretchesJoin};
 
 /// Lines that stand in a table of marks are typed whatever checks are remembered.
 pub fn lines_law()
@@ -10,6 +10,11 @@ pub fn lines_law()
 /// Before each of them is said what is remembered there of copies and of the numbers at hand.
 pub fn tells_law()
     ensures { LinesTell }
+{}
+
+/// So at each access it is said of the base and of the index of its cell.
+pub fn knows_law()
+    ensures { LinesKnow }
 {}
 
 /// Typed stretches of code one after the other are one.
