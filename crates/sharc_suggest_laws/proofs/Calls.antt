@@ -10,7 +10,7 @@ use Rattle.sharc_tree.specs.declared.token.TokenKind.{TokenKind}
 use Rattle.sharc_tree.specs.declared.token.TokenKind.TheVariants as kind
 use Rattle.sharc_tree.specs.declared.tree.declaration.Declaration.{Declaration}
 use Rattle.sharc_tree.specs.declared.tree.item.StructDefinition.{StructDefinition}
-use Rattle.sharc_tree.specs.Marks.{Mark, a_name, a_cast, keyword_marks, kind_marks, marks_from, items_marks}
+use Rattle.sharc_tree.specs.Marks.{Mark, keyword_marks, kind_marks, marks_from, items_marks}
 use Rattle.sharc_tree.specs.Tree.{Item, structure, global, function}
 use Rattle.sharc_names.specs.declared.fault.Named.{Named}
 use Rattle.sharc_names.specs.declared.fault.Named.TheVariants as named
