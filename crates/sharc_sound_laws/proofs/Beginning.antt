@@ -1,5 +1,5 @@
 -- The first words of the globals, one after the other, are those that their definitions say.
-use Rattle.std.proofs.Common.{◌≡◌, ℕ, ℤ, pos, negsuc, zero, suc, ◌+◌, ◌-◌, ◌*◌, ◌/◌, ◌^◌, ◌<◌, ◌≤◌, ◌≢◌, ◌⊎◌, inl, inr, Bool, true, false, cond, length, List, [], ◌∷◌, ◌++◌, take, Option, Some, None, refl, sym, ap, ◌∙◌, subst, arith}
+use Rattle.std.proofs.Common.{◌≡◌, ℕ, ℤ, pos, negsuc, zero, suc, ◌+◌, ◌-◌, ◌*◌, ◌^◌, ◌<◌, ◌≤◌, inl, inr, Bool, true, false, cond, length, List, [], ◌∷◌, ◌++◌, take, Some, None, refl, sym, ap, ◌∙◌, subst, arith}
 use Rattle.std.specs.Prelude.{◌==◌, nat_lt, slice_index, slice_index_or, slice_get, replicate, neg_ℤ, unsigned_abs}
 use Rattle.std.specs.List.{AllByRecursion}
 use Rattle.std.proofs.lemmas.Bool.Decides.{nat_tests}
@@ -13,7 +13,7 @@ use Rattle.sharc_tree.specs.declared.tree.item.GlobalForm.{GlobalForm}
 use Rattle.sharc_tree.specs.declared.tree.item.GlobalForm.TheVariants.{Plain, Array, Initial}
 use Rattle.sharc_names.specs.Kinds.{declared_kind}
 use Rattle.sharc_ctype.specs.Resolved.{Resolution, globals_in}
-use Rattle.sharc_ctype_laws.specs.Initials.{IsHeldBy, MeetsInitial, MeetsGlobal, number_of}
+use Rattle.sharc_ctype_laws.specs.Initials.{IsHeldBy, MeetsInitial, MeetsGlobal}
 use Rattle.sharc_ctype_laws.specs.Laws.{MeetsGlobals}
 use Rattle.sharc_code.specs.declared.code.GlobalCells.{GlobalCells}
 use Rattle.sharc_code.specs.Arithmetic.{word_of, int_of}
@@ -22,7 +22,7 @@ use Rattle.sharc_meaning.specs.Cells.{element_cells}
 use Rattle.sharc_meaning.specs.Reference.{constant_value}
 use Rattle.sharc_meaning.specs.Store.{form_value, global_value}
 use Rattle.sharc_flat.specs.Tables.{cells_in, granules_in, globals_from, first_words, all_first_words}
-use Rattle.sharc_sound_laws.specs.Begins.{AreUnsigned, MadeCodeBegins}
+use Rattle.sharc_sound_laws.specs.Begins.{MadeCodeBegins}
 
 -- ---- lists
 front : (n : ℕ) (xs ys : List ℕ) (k : ℕ) → k < n → n ≤ length xs → slice_index (take n xs ++ ys) k ≡ slice_index xs k

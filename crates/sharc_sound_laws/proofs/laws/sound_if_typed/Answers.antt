@@ -1,4 +1,4 @@
-use Rattle.std.proofs.Common.{◌≡◌, ℕ, ◌⊎◌, inl, inr, ◌<◌, sym, ap, ◌∙◌, subst, ⊎_elim, [], length}
+use Rattle.std.proofs.Common.{◌≡◌, ℕ, ◌⊎◌, inl, inr, ap, ◌∙◌, ⊎_elim, []}
 use Rattle.sharc_meaning.specs.Events.{events_of}
 use Rattle.sharc_meaning.specs.Runs.{Follows}
 use Rattle.sharc_compile_laws.specs.Threads.{TellsIn}
