@@ -1,6 +1,8 @@
 pub mod Acts
+pub mod Arriving
 pub mod Calm
 pub mod Carried
+pub mod Cleared
 pub mod Conflicting
 pub mod Consists
 pub mod Doing
