@@ -11,6 +11,7 @@ pub mod Followed
 pub mod Gates
 pub mod Going
 pub mod Holding
+pub mod Leaving
 pub mod Lists
 pub mod LockModes
 pub mod LockShown
@@ -34,8 +35,10 @@ pub mod Since
 pub mod Single
 pub mod Sole
 pub mod Stands
+pub mod Staying
 pub mod Tabled
 pub mod Tables
 pub mod Unwritten
+pub mod Wholes
 pub mod Withdrawing
 pub mod Writes
