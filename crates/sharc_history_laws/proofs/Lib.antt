@@ -1,7 +1,9 @@
 pub mod Acts
 pub mod Born
+pub mod Arriving
 pub mod Calm
 pub mod Carried
+pub mod Cleared
 pub mod Conflicting
 pub mod Consists
 pub mod Contents
@@ -14,6 +16,7 @@ pub mod Given
 pub mod Going
 pub mod Holding
 pub mod Legal
+pub mod Leaving
 pub mod Lists
 pub mod Living
 pub mod LockModes
@@ -43,6 +46,7 @@ pub mod Sparing
 pub mod Stands
 pub mod Started
 pub mod Stored
+pub mod Staying
 pub mod Tabled
 pub mod Tables
 pub mod Telling
@@ -50,5 +54,6 @@ pub mod Threaded
 pub mod Unwritten
 pub mod Valued
 pub mod Values
+pub mod Wholes
 pub mod Withdrawing
 pub mod Writes
