@@ -1,6 +1,7 @@
 -- Which mismatch of modes a sharing cast repairs, where an expression stands beside the modes that are expected of it.
-use Rattle.std.specs.Prelude.{ℕ, ◌+◌, Bool, true, false, not, ◌&&◌, ◌||◌, List, [], ◌∷◌, drop, slice_get, slice_index_or, Option, Some, None, is_none, if◌then◌else◌, codes}
+use Rattle.std.specs.Prelude.{ℕ, ◌-◌, Bool, true, false, not, ◌&&◌, ◌||◌, List, [], ◌∷◌, drop, slice_get, slice_index_or, Option, Some, None, if◌then◌else◌, codes}
 use Rattle.std.specs.Str.{bytes_eq}
+use Rattle.sharc_tree.specs.declared.token.Keyword.TheVariants as keyword
 use Rattle.sharc_tree.specs.declared.token.Token.{Token}
 use Rattle.sharc_tree.specs.declared.token.TokenKind.{TokenKind}
 use Rattle.sharc_tree.specs.declared.token.TokenKind.TheVariants as kind
@@ -17,7 +18,7 @@ use Rattle.sharc_mode.specs.Cells.{cell_at}
 use Rattle.sharc_mode.specs.Moded.{Assignment}
 use Rattle.sharc_mode.specs.Notes.{shown, base_of, taken_variable}
 use Rattle.sharc_mode.specs.Rows.{modes_at}
-use Rattle.sharc_mode.specs.Sharings.{Lock, Sharing, private, readonly, locked, racy, dynamic, same_all, same_named, is_readonly, text_at}
+use Rattle.sharc_mode.specs.Sharings.{Sharing, private, readonly, locked, racy, dynamic, same_all, same_named, is_readonly, text_at}
 
 -- ---- the two types differ only in the mode at depth 1
 abbrev pub differ_first : Resolution → List Sharing → List Sharing → Bool
@@ -41,7 +42,8 @@ told flags x = slice_index_or flags x false
 abbrev pub entry_of : Declaration → Entry
 entry_of d = record { name = d.name.text; block = 0; meaning = variable d }
 
--- `wait`, `signal` and `broadcast` are told by their names, where the program defines none of them
+-- A path that begins with a call of condition variables that the program does not define is told by its words: `locked`, `(` and the name of the call.
+
 abbrev pub is_call_name : List ℕ → Bool
 is_call_name text = bytes_eq (codes "wait") text || (bytes_eq (codes "signal") text || bytes_eq (codes "broadcast") text)
 
@@ -49,12 +51,17 @@ abbrev pub is_identifier : TokenKind → Bool
 is_identifier kind.Identifier = true
 is_identifier _ = false
 
-abbrev pub is_call_word : Option Token → Bool
-is_call_word None = false
-is_call_word (Some t) = is_identifier t.kind && is_call_name t.text
+abbrev pub is_locked : TokenKind → Bool
+is_locked (kind.Keyword keyword.Locked) = true
+is_locked _ = false
 
+abbrev pub begins_call : Option Token → Option Token → Bool
+begins_call (Some before) (Some name) = is_locked before.kind && (is_identifier name.kind && is_call_name name.text)
+begins_call _ _ = false
+
+-- whether one begins at the token
 unfoldable pub is_call_at : Resolution → ℕ → Bool
-is_call_at r token = is_call_word (slice_get r.program.tokens.list token)
+is_call_at r token = begins_call (slice_get r.program.tokens.list (token - 2)) (slice_get r.program.tokens.list token)
 
 -- The first name of a path: a variable is the one that its name means there; a global, a function or a known call is hidden by no variable; a field is no name outside of its struct
 abbrev pub keeps_named : Bool → Named → Option Entry → Bool
@@ -67,14 +74,11 @@ keeps_named call _ _ = false
 abbrev pub keeps_first : Resolution → List Entry → ℕ → Bool
 keeps_first r scope token = keeps_named (is_call_at r token) (named_at r token) (look_up scope (text_at r token))
 
--- the second name of `x->m` is a field of the struct that `x` points to, wherever it stands; its token, two behind the first, is no known call's
-abbrev pub keeps_second : Resolution → Lock → Bool
-keeps_second r l = is_none l.second || not (is_call_at r (l.first + 2))
-
+-- the second name of `x->m` is a field of the struct that `x` points to, wherever it stands
 abbrev pub keeps : Resolution → List Entry → Sharing → Bool
 keeps r scope private = true
 keeps r scope readonly = true
-keeps r scope (locked l) = keeps_first r scope l.first && keeps_second r l
+keeps r scope (locked l) = keeps_first r scope l.first
 keeps r scope racy = true
 keeps r scope dynamic = true
 

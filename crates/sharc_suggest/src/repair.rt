@@ -5,8 +5,8 @@ ghost use Rattle.std.specs.Option.{option_map};
 ghost use Rattle.sharc_tree.specs.View.{view_expr};
 ghost use Rattle.sharc_mode.specs.Moded.{position_count};
 ghost use Rattle.sharc_mode.specs.Rows.{modes_of};
-ghost use Rattle.sharc_mode.specs.View.{view_row, view_rows, view_lock, view_sharing, EndsWithin};
-ghost use Rattle.sharc_suggest.specs.Repairs.{differ_first, is_free, may_be_cast, told, is_call_name, is_call_word, is_call_at, keeps_first, keeps_second, keeps, keeps_all, cast_to, is_repairable, repair};
+ghost use Rattle.sharc_mode.specs.View.{view_row, view_rows, view_sharing, EndsWithin};
+ghost use Rattle.sharc_suggest.specs.Repairs.{differ_first, is_free, may_be_cast, told, is_call_name, begins_call, is_call_at, keeps_first, keeps, keeps_all, cast_to, is_repairable, repair};
 
 use sharc_check::named::NamedVariables;
 use sharc_check::rules::taken_variable;
@@ -15,13 +15,13 @@ use sharc_mode::cell::{cell_of, pointed};
 use sharc_mode::error::Cast;
 use sharc_mode::moded::Moded;
 use sharc_mode::row::{Row, row_of};
-use sharc_mode::sharing::{Lock, Sharing, is_readonly};
+use sharc_mode::sharing::{Sharing, is_readonly};
 use sharc_mode::shown::{root_of_kind, row_laws, same_rows, shown};
 use sharc_mode::text::text_at;
 use sharc_names::fault::Named;
 use sharc_names::meaning::{Bound, named_of};
 use sharc_names::names::Names;
-use sharc_tree::token::{Token, TokenKind};
+use sharc_tree::token::{Keyword, Token, TokenKind};
 use sharc_tree::tree::Expr;
 use std::alloc::{AllocError, Global};
 
@@ -64,30 +64,34 @@ fn is_call_name(text: &[u8]) -> bool
     b"wait".as_slice() == text || b"signal".as_slice() == text || b"broadcast".as_slice() == text
 }
 
-/// Whether a token is an identifier of such a name.
-fn is_call_word(token: &Token) -> bool
-    ensures { result ≡ is_call_word (Some token.now) }
+/// Whether two words, with one between them, are those of a path that begins with such a call: `locked`, `(` and its name.
+fn begins_call(before: &Token, name: &Token) -> bool
+    ensures { result ≡ begins_call (Some before.now) (Some name.now) }
 {
-    match token.kind {
-        TokenKind::Identifier => is_call_name(token.text.as_slice()),
+    match (before.kind, name.kind) {
+        (TokenKind::Keyword(Keyword::Locked), TokenKind::Identifier) => {
+            is_call_name(name.text.as_slice())
+        }
         _ => false,
     }
 }
 
-/// Whether the token with this number is one.
-fn is_call_at(typed: &Typed, token: usize) -> bool
+/// Whether such a path begins at the token with this number.
+fn is_call_at(typed: &Typed, token: u32) -> bool
     ensures { result ≡ is_call_at typed.now token }
 {
     let tokens = typed.program().tokens.list.as_slice();
+    let token = token as usize;
     if token < tokens.len() {
-        is_call_word(&tokens[token])
+        let before = token.saturating_sub(2);
+        begins_call(&tokens[before], &tokens[token])
     } else {
         false
     }
 }
 
 /// Whether the first name of a path means the same, if anything, where these variables are in scope. What names nothing that the program defines is
-/// told by its text: it is a call of condition variables.
+/// told by its words: a path that begins with it begins with a call of condition variables.
 fn keeps_first(typed: &Typed, scope: &Names<'_>, token: u32) -> bool
     ensures { result ≡ keeps_first typed.now scope.now token }
 {
@@ -98,18 +102,8 @@ fn keeps_first(typed: &Typed, scope: &Names<'_>, token: u32) -> bool
         },
         (Named::Global(_), None) => true,
         (Named::Function(_), None) => true,
-        (Named::Known, None) => is_call_at(typed, token as usize),
+        (Named::Known, None) => is_call_at(typed, token),
         _ => false,
-    }
-}
-
-/// Whether no such call is named two tokens after the first name of a path, where C typing takes its second name to be.
-fn keeps_second(typed: &Typed, lock: Lock<'_>) -> bool
-    ensures { result ≡ keeps_second typed.now (view_lock lock.entry) }
-{
-    match lock.second {
-        None => true,
-        Some(_) => !is_call_at(typed, lock.first as usize + 2),
     }
 }
 
@@ -118,9 +112,7 @@ fn keeps(typed: &Typed, scope: &Names<'_>, s: Sharing<'_>) -> bool
     ensures { result ≡ keeps typed.now scope.now (view_sharing s.entry) }
 {
     match s {
-        Sharing::Locked(lock) => {
-            keeps_first(typed, scope, lock.first) && keeps_second(typed, lock)
-        }
+        Sharing::Locked(lock) => keeps_first(typed, scope, lock.first),
         Sharing::Private => true,
         Sharing::Readonly => true,
         Sharing::Racy => true,

@@ -1,16 +1,10 @@
 -- Calls of condition variables that a program does not define: what the file knows of their names, and what the token of one names with the cast written.
-use Rattle.std.proofs.Common.{◌≡◌, ◌⊎◌, inl, inr, ⊎_elim, ℕ, zero, suc, ◌+◌, ◌<◌, ◌≤◌, ◌==◌, ◌||◌, Bool, true, false, cond, List, [], ◌∷◌, ◌++◌, length, get_or, Contains, Option, Some, None, is_some, slice_get, bytes_eq, codes, refl, ap, sym, subst, ◌∙◌, eqb-true, arith}
+use Rattle.std.proofs.Common.{◌≡◌, ◌⊎◌, inl, inr, ⊎_elim, ℕ, ◌<◌, ◌≤◌, ◌==◌, ◌||◌, Bool, true, false, cond, List, [], ◌∷◌, ◌++◌, length, get_or, Option, Some, None, is_some, bytes_eq, codes, refl, ap, sym, ◌∙◌, eqb-true}
 use Rattle.std.specs.List.{AllByRecursion}
 use Rattle.std.specs.Map.{lookup}
-use Rattle.std.proofs.lemmas.Bool.{false≢true, and_parts, cases_lt}
-use Rattle.sharc_tree.specs.declared.token.Keyword.{Keyword}
-use Rattle.sharc_tree.specs.declared.token.Keyword.TheVariants.{Scast}
-use Rattle.sharc_tree.specs.declared.token.Token.{Token}
-use Rattle.sharc_tree.specs.declared.token.TokenKind.{TokenKind}
-use Rattle.sharc_tree.specs.declared.token.TokenKind.TheVariants as kind
+use Rattle.std.proofs.lemmas.Bool.{false≢true, cases_lt}
 use Rattle.sharc_tree.specs.declared.tree.declaration.Declaration.{Declaration}
 use Rattle.sharc_tree.specs.declared.tree.item.StructDefinition.{StructDefinition}
-use Rattle.sharc_tree.specs.Marks.{Mark, keyword_marks, kind_marks, marks_from, items_marks}
 use Rattle.sharc_tree.specs.Tree.{Item, structure, global, function}
 use Rattle.sharc_names.specs.declared.fault.Named.{Named}
 use Rattle.sharc_names.specs.declared.fault.Named.TheVariants as named
@@ -22,61 +16,11 @@ use Rattle.sharc_names.specs.Notes.{Note, fault, refers, yields, is_free}
 use Rattle.sharc_ctype.specs.Condition.{defines_condition, call_entry, with_conditions}
 use Rattle.sharc_ctype.specs.Heads.{Heading, with_struct, with_entry, global_entry, function_entry, behind, behind_all, no_heads}
 use Rattle.sharc_ctype.specs.Items.{file_scope, notes_about, named_in}
-use Rattle.sharc_ctype.specs.Reaches.{name_tokens}
 use Rattle.sharc_ctype.specs.Resolved.{Resolution, named_at}
-use Rattle.sharc_mode.specs.Sharings.{is_field, text_of, text_at}
-use Rattle.sharc_suggest.specs.Repairs.{is_call_name, is_identifier, is_call_word, is_call_at}
+use Rattle.sharc_mode.specs.Sharings.{is_field}
+use Rattle.sharc_suggest.specs.Repairs.{is_call_name, is_call_at}
 use Rattle.sharc_suggest_laws.proofs.Folded.{seen, named_seen, named_past, IsOwnAt}
 use Rattle.sharc_suggest_laws.proofs.Noted.{IsHarmless, Noted, done, kept, added, old_fault, new_fault}
-
--- ---- the token of such a name is among those of the names
-
-later : (n t : ℕ) (list : List ℕ) → Contains list t → Contains (n ∷ list) t
-later n t list (k, low, is) = (suc k, omega (arith, low), is)
-
-first_named : (n : ℕ) (k : TokenKind) (text : List ℕ) (more : List Mark) → is_identifier k ≡ true → Contains (name_tokens (kind_marks k text n ++ more)) n
-first_named n kind.Identifier text more is = (0, omega arith, refl)
-first_named n (kind.Keyword w) text more is = absurd (false≢true is)
-first_named n (kind.Number v) text more is = absurd (false≢true is)
-first_named n (kind.Character v) text more is = absurd (false≢true is)
-first_named n (kind.Punctuator p) text more is = absurd (false≢true is)
-first_named n kind.LeftOut text more is = absurd (false≢true is)
-
-skip_word : (n t : ℕ) (w : Keyword) (more : List Mark) → Contains (name_tokens more) t → Contains (name_tokens (keyword_marks w n ++ more)) t
-skip_word n t Scast more c = c
-skip_word n t _ more c = c
-
-skip_kind : (n t : ℕ) (k : TokenKind) (text : List ℕ) (more : List Mark) → Contains (name_tokens more) t → Contains (name_tokens (kind_marks k text n ++ more)) t
-skip_kind n t kind.Identifier text more c = later n t (name_tokens more) c
-skip_kind n t (kind.Keyword w) text more c = skip_word n t w more c
-skip_kind n t (kind.Number v) text more c = c
-skip_kind n t (kind.Character v) text more c = c
-skip_kind n t (kind.Punctuator p) text more c = c
-skip_kind n t kind.LeftOut text more c = c
-
-word_named : (n k t : ℕ) (l : List Token) → n + k ≡ t → is_call_word (slice_get l k) ≡ true → Contains (name_tokens (marks_from n l)) t
-word_named n k t [] at is = absurd (false≢true is)
-word_named n zero t (x ∷ rest) at is =
-    let same : n ≡ t = omega (arith, at) in
-    subst (λ (j : ℕ). Contains (name_tokens (kind_marks x.kind x.text n ++ marks_from (n + 1) rest)) j) same
-    (first_named n x.kind x.text (marks_from (n + 1) rest) (and_parts (is_identifier x.kind) (is_call_name x.text) is).0)
-word_named n (suc k) t (x ∷ rest) at is =
-    let next : (n + 1) + k ≡ t = omega (arith, at) in
-    skip_kind n t x.kind x.text (marks_from (n + 1) rest) (word_named (n + 1) k t rest next is)
-
-pub name_there : (r : Resolution) (t : ℕ) → items_marks r.program.items ≡ marks_from 0 r.program.tokens.list → is_call_at r t ≡ true → Contains (name_tokens (items_marks r.program.items)) t
-unfolding is_call_at
-name_there r t marked is =
-    let at : 0 + t ≡ t = omega arith in
-    subst (λ (l : List Mark). Contains (name_tokens l) t) (sym marked) (word_named 0 t t r.program.tokens.list at is)
-
-word_text : (o : Option Token) → is_call_word o ≡ true → is_call_name (text_of o) ≡ true
-word_text None is = absurd (false≢true is)
-word_text (Some x) is = (and_parts (is_identifier x.kind) (is_call_name x.text) is).1
-
-pub call_text : (r : Resolution) (t : ℕ) → is_call_at r t ≡ true → is_call_name (text_at r t) ≡ true
-unfolding is_call_at
-call_text r t is = word_text (slice_get r.program.tokens.list t) is
 
 -- ---- a file that knows something that it does not define
 

@@ -43,4 +43,5 @@ pub mod Strong
 pub mod Suggested
 pub mod Types
 pub mod Wants
+pub mod Words
 pub mod Written

@@ -1,5 +1,5 @@
 -- What is said of the type of a cast that is suggested does no harm: its names name there what they name where they stand.
-use Rattle.std.proofs.Common.{◌≡◌, inl, inr, ℕ, ◌+◌, Bool, true, false, not, List, [], ◌∷◌, ◌++◌, map, Option, Some, None, refl, ap, sym, subst, ◌∙◌, eqb-true}
+use Rattle.std.proofs.Common.{◌≡◌, inl, inr, ℕ, ◌+◌, Bool, true, false, List, [], ◌∷◌, ◌++◌, map, Option, Some, None, refl, ap, sym, subst, ◌∙◌, eqb-true}
 use Rattle.std.proofs.lemmas.Bool.{false≢true, and_parts}
 use Rattle.sharc_tree.specs.declared.ctype.Base.{Base}
 use Rattle.sharc_tree.specs.declared.ctype.Base.TheVariants as base
@@ -18,8 +18,9 @@ use Rattle.sharc_names.specs.Types.{name_notes, main_notes, second_in, second_no
 use Rattle.sharc_ctype.specs.Resolved.{Resolution, named_at}
 use Rattle.sharc_ctype.specs.Statements.{with_names}
 use Rattle.sharc_mode.specs.Sharings.{Sharing, private, readonly, locked, racy, dynamic, is_field, same_named, mode_of, path_with, text_at}
-use Rattle.sharc_suggest.specs.Repairs.{is_call_at, keeps_named, keeps_first, keeps_second, keeps, keeps_all}
+use Rattle.sharc_suggest.specs.Repairs.{is_call_at, keeps_named, keeps, keeps_all}
 use Rattle.sharc_suggest_laws.specs.Names.{is_dull}
+use Rattle.sharc_suggest_laws.proofs.Words.{calls_apart}
 use Rattle.sharc_suggest_laws.proofs.Noted.{Clean, left, right, no_fault, Noted, done, added, both, more_faults, new_fault, quiet, main_faults, unless_faults}
 use Rattle.sharc_suggest_laws.proofs.Scoped.{IsFoundAs, Scoped}
 
@@ -29,10 +30,12 @@ is_filed (named.Global n) = true
 is_filed (named.Function n) = true
 is_filed _ = false
 
--- a token that names a global or a function has the text of what the file knows as that, and the name of a known call is what the file knows as such a call
+-- A token that names a global or a function has the text of what the file knows as that, and the name of a known call is what the file knows as such a call. What names a
+-- variable, a global or a function is no word `locked`, so no path begins two tokens after it.
 pub record IsSpelled (r : Resolution) (file : List Entry) : Type 0 where
   pub filed : (token : ℕ) → is_filed (named_at r token) ≡ true → (e : Entry) → look_up file (text_at r token) ≡ Some e → named_of e.meaning ≡ named_at r token
   pub called : (token : ℕ) → named_at r token ≡ named.Known → is_call_at r token ≡ true → (e : Entry) → look_up file (text_at r token) ≡ Some e → named_of e.meaning ≡ named.Known
+  pub apart : (token : ℕ) → is_dull (named_at r token) ≡ false → is_call_at r (token + 2) ≡ false
 
 -- ---- the first name of a lock path
 
@@ -73,25 +76,33 @@ second_mild r token apart None = done
 second_mild r token apart (Some None) = new_fault done
 second_mild r token apart (Some (Some d)) = added (refl, apart) done
 
-no_call : (b : Bool) → not b ≡ true → b ≡ false
-no_call true h = absurd (false≢true h)
-no_call false h = refl
+-- where the first name of a path is kept, no path begins where its second name is looked for
+seconds_apart : (r : Resolution) (file : List Entry) (token : ℕ) → IsSpelled r file → (v : Named) → named_at r token ≡ v → (c : Option Entry) → keeps_named (is_call_at r token) v c ≡ true → is_call_at r (token + 2) ≡ false
+seconds_apart r file token spelled (named.Struct n) is None kept = absurd (false≢true kept)
+seconds_apart r file token spelled (named.Struct n) is (Some e) kept = absurd (false≢true kept)
+seconds_apart r file token spelled (named.Global n) is c kept = spelled.apart token (ap is_dull is)
+seconds_apart r file token spelled (named.Function n) is c kept = spelled.apart token (ap is_dull is)
+seconds_apart r file token spelled (named.Variable x) is c kept = spelled.apart token (ap is_dull is)
+seconds_apart r file token spelled (named.Field f) is None kept = absurd (false≢true kept)
+seconds_apart r file token spelled (named.Field f) is (Some e) kept = absurd (false≢true kept)
+seconds_apart r file token spelled named.Known is None kept = calls_apart r token kept
+seconds_apart r file token spelled named.Known is (Some e) kept = absurd (false≢true kept)
 
-path_mild : (r : Resolution) (scope : Scope) (token : ℕ) (text : List ℕ) (second : Option (List ℕ)) → keeps_second r (record { first = token; second = second }) ≡ true
+path_mild : (r : Resolution) (scope : Scope) (token : ℕ) (text : List ℕ) (second : Option (List ℕ)) → is_call_at r (token + 2) ≡ false
     → ((e : Entry) → look_up scope.names text ≡ Some e → named_at r token ≡ named_of e.meaning) → Clean (path_notes scope [] (path_with token text second)) → Noted r [] (path_notes scope [] (path_with token text second))
 path_mild r scope token text None apart is clean = name_mild r token (look_up scope.names text) is clean
 path_mild r scope token text (Some m) apart is clean =
     both r [] (name_notes token (look_up scope.names text)) [] _ (name_mild r token (look_up scope.names text) is (left _ _ clean))
-    (second_mild r (token + 2) (no_call (is_call_at r (token + 2)) apart) (second_in scope.structs m (first_kind None (look_up scope.names text))))
+    (second_mild r (token + 2) apart (second_in scope.structs m (first_kind None (look_up scope.names text))))
 
 mode_mild : (r : Resolution) (file : Scope) (names scope : List Entry) → IsSpelled r file.names → Scoped file.names names scope → (s : Sharing) → keeps r scope s ≡ true
     → Clean (mode_notes (with_names file names) [] (Some (mode_of r s))) → Noted r [] (mode_notes (with_names file names) [] (Some (mode_of r s)))
 mode_mild r file names scope spelled scoped private kept clean = done
 mode_mild r file names scope spelled scoped readonly kept clean = done
 mode_mild r file names scope spelled scoped (locked l) kept clean =
-    let parts : (keeps_first r scope l.first ≡ true) × (keeps_second r l ≡ true) = and_parts (keeps_first r scope l.first) (keeps_second r l) kept in
-    path_mild r (with_names file names) l.first (text_at r l.first) l.second parts.1
-    (named_there r file.names names l.first spelled (named_at r l.first) refl (look_up scope (text_at r l.first)) parts.0 (scoped (text_at r l.first))) clean
+    path_mild r (with_names file names) l.first (text_at r l.first) l.second
+    (seconds_apart r file.names l.first spelled (named_at r l.first) refl (look_up scope (text_at r l.first)) kept)
+    (named_there r file.names names l.first spelled (named_at r l.first) refl (look_up scope (text_at r l.first)) kept (scoped (text_at r l.first))) clean
 mode_mild r file names scope spelled scoped racy kept clean = done
 mode_mild r file names scope spelled scoped dynamic kept clean = done
 

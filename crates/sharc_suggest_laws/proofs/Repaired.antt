@@ -135,7 +135,7 @@ repairs once only in_types same_kinds m e c resolved placed low whole says typed
     let site : IsFor m tells c (items_givings items) = (has_site m e c says).for in
     let g : Giving = site.giving in
     let kept = names_stay once only in_types m e c resolved placed low says typed in
-    let said_again : Noted r (notes_about r.program) (notes_about (now m c).program) = notes_grown once in_types m e c resolved placed low says typed in
+    let said_again : Noted r (notes_about r.program) (notes_about (now m c).program) = notes_grown once only in_types m e c resolved placed low says typed in
     let own : (t : ℕ) → AllByRecursion (IsOwnAt t (named_at r t)) (notes_about r.program) = λ t. all_own r t (only r resolved placed low t) (once r resolved placed low t) in
     let frame : Frame m c = record {
       kept = kept;

@@ -1,5 +1,6 @@
 -- The same of statements, and of the whole program.
 use Rattle.std.proofs.Common.{◌≡◌, ⊎_elim, ℕ, ◌+◌, ◌<◌, ◌≤◌, ◌==◌, ◌||◌, not, nat_lt, Bool, true, false, cond, List, [], ◌∷◌, ◌++◌, length, get_or, Contains, Option, Some, None, IfSome, is_some, bytes_eq, codes, refl, ap, sym, subst, ◌∙◌, eqb-true}
+use Rattle.std.specs.List.{AllByRecursion}
 use Rattle.std.proofs.lemmas.Bool.{false≢true, true≢false, cases_lt}
 use Rattle.std.proofs.lemmas.Slice.Eq.{bytes_eq-Decides}
 use Rattle.sharc_tree.specs.declared.tree.declaration.Declaration.{Declaration}
@@ -16,7 +17,7 @@ use Rattle.sharc_names.specs.Kinds.{Kind, void, same_kind, declared_kind}
 use Rattle.sharc_names.specs.Needs.{met}
 use Rattle.sharc_names.specs.declared.need.Need.TheVariants.{Value, Integer}
 use Rattle.sharc_names.specs.Names.{Entry, look_up, named_of, field_of}
-use Rattle.sharc_names.specs.Notes.{Note, is_free, fault, refers, yields, fault_unless, fault_where}
+use Rattle.sharc_names.specs.Notes.{Note, is_free, fault, refers, yields, fault_unless, fault_where, referred}
 use Rattle.sharc_names.specs.Types.{is_fine, type_notes}
 use Rattle.sharc_ctype.specs.Expressions.{type_of, place_kind}
 use Rattle.sharc_ctype.specs.declared.expr.Standing.TheVariants.{AsValue, AsLvalue}
@@ -28,8 +29,11 @@ use Rattle.sharc_ctype.specs.Resolved.{Resolution, IsResolved, named_at}
 use Rattle.sharc_ctype.specs.Statements.{Around, opened, looping, with_names, declared, declared_notes, is_here, test_notes, count_notes, right_notes, simple_notes, is_made, is_aggregate, wanted_by, returned_as, initial_notes, local_notes, return_notes, first_notes, behind_first, tests_notes, step_notes, after, notes_in, notes_in_all, locals_in_all}
 use Rattle.sharc_mode.specs.Sharings.{is_field, text_at}
 use Rattle.sharc_ctype_laws.specs.Laws.{Tells, IsToldOnce}
-use Rattle.sharc_suggest_laws.proofs.Folded.{seen, named_seen, named_past}
-use Rattle.sharc_suggest_laws.proofs.Calls.{KnowsCalls, no_global, no_function, name_there, call_text, calls_known}
+use Rattle.sharc_suggest_laws.specs.Names.{is_dull}
+use Rattle.sharc_suggest_laws.proofs.Folded.{seen, named_seen, named_past, IsOwnAt}
+use Rattle.sharc_suggest_laws.proofs.Owned.{told_or_not}
+use Rattle.sharc_suggest_laws.proofs.Words.{name_there, name_apart, call_text}
+use Rattle.sharc_suggest_laws.proofs.Calls.{KnowsCalls, no_global, no_function, calls_known}
 use Rattle.sharc_suggest_laws.proofs.Listed.{joint, back}
 use Rattle.sharc_suggest_laws.proofs.Mild.{IsSpelled, is_filed}
 use Rattle.sharc_suggest_laws.proofs.Noted.{Clean, left, right, behind_head, not_wrong, unless_faults, where_faults, unmet_faults, unagreed_faults, place_faults}
@@ -295,12 +299,28 @@ known_said r file t all told known =
     let said : IsSpelt r file told.note = (back (IsSpelt r file) told.before (told.note ∷ told.after) (subst (AreSpelt r file) told.notes all)).0 in
     known_by r file t told.note said (subst (Tells told.note t) (sym told.named ∙ known) told.tells)
 
-pub spelled : (r : Resolution) → IsResolved r → IsPlaced r.program → Clean (notes_about r.program) → ((token : ℕ) → Contains (name_tokens (items_marks r.program.items)) token → IsToldOnce r token)
+-- a token of which nothing is told names nothing
+none_told : (t : ℕ) (l : List Note) → AllByRecursion (IsOwnAt t named.Known) l → seen t l named.Known ≡ named.Known
+none_told t [] own = refl
+none_told t (fault place code ∷ rest) own = none_told t rest own.1
+none_told t (refers n w ∷ rest) own = ap (seen t rest) (by (n == t) (λ at. own.0 (eqb-true n t at))) ∙ none_told t rest own.1
+  where
+    by : (b : Bool) → (b ≡ true → w ≡ named.Known) → cond b w named.Known ≡ named.Known
+    by true is = is refl
+    by false is = refl
+none_told t (yields n w ∷ rest) own = ap (seen t rest) (by (n == t) (λ at. own.0 (eqb-true n t at))) ∙ none_told t rest own.1
+  where
+    by : (b : Bool) → (b ≡ true → w ≡ named.Known) → cond b (cond (is_free named.Known) w named.Known) named.Known ≡ named.Known
+    by true is = is refl
+    by false is = refl
+
+pub spelled : (r : Resolution) → IsResolved r → IsPlaced r.program → Clean (notes_about r.program) → ((token : ℕ) → Contains (referred (notes_about r.program)) token → Contains (name_tokens (items_marks r.program.items)) token) → ((token : ℕ) → Contains (name_tokens (items_marks r.program.items)) token → IsToldOnce r token)
     → IsSpelled r (file_scope r.program.items).names
-spelled r resolved placed clean once = record {
+spelled r resolved placed clean only once = record {
   filed = λ token filed e found. ⊎_elim (of_a_token token filed e found) (outside token filed e) (cases_lt token (length r.program.tokens.list));
   called = λ token known call e found.
       calls_known r.program.items (known_said r file token all (once token (name_there r token placed.marked call)) known) (text_at r token) (call_text r token call) e found;
+  apart = λ token dull. ⊎_elim (λ c. name_apart r token placed.marked (only token c)) (λ own. absurd (false≢true (sym dull ∙ ap is_dull (untold token own)))) (told_or_not token named.Known (notes_about r.program));
 }
   where
     file : Scope
@@ -311,6 +331,10 @@ spelled r resolved placed clean once = record {
 
     old : (token : ℕ) → named_at r token ≡ get_or (named_in r.program) token named.Known
     old token = ap (λ (l : List Named). get_or l token named.Known) resolved.named
+
+    untold : (token : ℕ) → AllByRecursion (IsOwnAt token named.Known) (notes_about r.program) → named_at r token ≡ named.Known
+    untold token own =
+        ⊎_elim (λ low. old token ∙ named_seen r.program token low ∙ none_told token (notes_about r.program) own) (λ past. old token ∙ named_past r.program token past) (cases_lt token (length r.program.tokens.list))
 
     one_some : (a b : Entry) → Some a ≡ Some b → a ≡ b
     one_some a b h = cc

@@ -23,7 +23,7 @@ use Rattle.sharc_mode.specs.Notes.{is_named, names_of, names_in, names_in_all, n
 use Rattle.sharc_mode.specs.Rows.{Reading, at_call, Row, is_constant_named, constant_use, argument_use, lock_through, with_base, lock_for, read_lock, read, reading_through, declared_row, modes_of}
 use Rattle.sharc_mode.specs.Sharings.{Lock, Sharing, private, readonly, locked, racy, dynamic, sharing_of, is_field, variable_named, object_named, text_at}
 use Rattle.sharc_suggest.specs.Applied.{recast_of, targets, inserted, assignment_with}
-use Rattle.sharc_suggest.specs.Repairs.{is_free, is_call_at, keeps_named, keeps_first, keeps_second, keeps, keeps_all}
+use Rattle.sharc_suggest.specs.Repairs.{is_free, is_call_at, keeps_named, keeps, keeps_all}
 use Rattle.sharc_suggest_laws.specs.Givings.{beyond}
 use Rattle.sharc_suggest_laws.specs.Names.{is_dull, KeepsName}
 use Rattle.sharc_suggest_laws.proofs.Arguments.{nth, args_met, one_nth}
@@ -116,8 +116,7 @@ through_by m c frame scope at l true is good =
     ap (λ (f : Bool). cond (f && is_none l.second) (record { first = at; second = Some (text_at m.typed l.first) }) l) (later ∙ sym is)
 through_by m c frame scope at l false is good =
     let plain : lock_through m.typed at l ≡ l = ap (λ (f : Bool). cond (f && is_none l.second) (record { first = at; second = Some (text_at m.typed l.first) }) l) is in
-    let kept : keeps m.typed scope (locked l) ≡ true = subst (λ (x : Lock). keeps m.typed scope (locked x) ≡ true) plain good in
-    let first : keeps_first m.typed scope l.first ≡ true = (and_parts (keeps_first m.typed scope l.first) (keeps_second m.typed l) kept).0 in
+    let first : keeps m.typed scope (locked l) ≡ true = subst (λ (x : Lock). keeps m.typed scope (locked x) ≡ true) plain good in
     let later : is_field (named_at (now m c) l.first) ≡ false =
     kept_apart (is_call_at m.typed l.first) (named_at m.typed l.first) (named_at (now m c) l.first) (frame.kept l.first) (look_up scope (text_at m.typed l.first)) first (frame.calls l.first) is in
     ap (λ (f : Bool). cond (f && is_none l.second) (record { first = at; second = Some (text_at m.typed l.first) }) l) (later ∙ sym is)
