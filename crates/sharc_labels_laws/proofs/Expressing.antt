@@ -1,6 +1,6 @@
 -- The code of an expression is typed, by what the types of the source say of it.
-use Rattle.std.proofs.Common.{◌≡◌, ◌≢◌, ℕ, ◌+◌, ◌<◌, ◌≤◌, ◌⊎◌, Bool, true, false, cond, List, [], ◌∷◌, ◌++◌, length, Option, Some, None, refl, sym, ap, ◌∙◌, subst, inl, inr, ⊎_elim, arith}
-use Rattle.std.proofs.lemmas.Bool.{false≢true, cases_eq}
+use Rattle.std.proofs.Common.{◌≡◌, ◌≢◌, ℕ, ◌+◌, ◌<◌, ◌≤◌, ◌⊎◌, Bool, true, false, cond, List, [], ◌∷◌, ◌++◌, length, Option, Some, None, refl, sym, ap, ◌∙◌, subst, inl, inr, ⊎_elim, arith, append_assoc}
+use Rattle.std.proofs.lemmas.Bool.{false≢true, cases_eq, cases_lt}
 use Rattle.sharc_tree.specs.declared.token.Site.{Site}
 use Rattle.sharc_tree.specs.declared.token.Span.{Span}
 use Rattle.sharc_tree.specs.declared.tree.declaration.Identifier.{Identifier}
@@ -19,9 +19,9 @@ use Rattle.sharc_names.specs.declared.fault.Named.TheVariants as named
 use Rattle.sharc_names.specs.Kinds.{Kind, is_array, is_integer, element_kind, promoted}
 use Rattle.sharc_code.specs.declared.code.Use.TheVariants as uses
 use Rattle.sharc_code.specs.declared.instr.Register.{Register}
-use Rattle.sharc_code.specs.declared.instr.Register.TheVariants.{Int, Reference}
+use Rattle.sharc_code.specs.declared.instr.Register.TheVariants as registers
 use Rattle.sharc_code.specs.declared.instr.Width.{Width}
-use Rattle.sharc_code.specs.declared.instr.Width.TheVariants.{Char}
+use Rattle.sharc_code.specs.declared.instr.Width.TheVariants.{Char, Int, Long}
 use Rattle.sharc_code.specs.Runs.{put}
 use Rattle.sharc_code.proofs.Places.{put_same, put_other}
 use Rattle.sharc_ctype.specs.Resolved.{global_at}
@@ -34,11 +34,12 @@ use Rattle.sharc_flat_form.specs.Machine.{first_cell}
 use Rattle.sharc_flat.specs.declared.slot.Lvalue.{Lvalue}
 use Rattle.sharc_flat.specs.Scope.{Context, int_count, ref_count, register_of, at_site}
 use Rattle.sharc_flat.specs.Places.{Target, variable, in_global, in_global_at, in_object, in_object_at, target, own_field, global_of, has_base, base_width, index_width, guard_width, copy_code, cell_value_code, value_code, index_code, pointee_code, bounds_code, width_of}
-use Rattle.sharc_flat.specs.Flattened.{kind_of, is_ref, target_of, mode_of, what_names, lvalue_in, guard_of, constant_code, named_code, truth_code, unary_code, binary_code, behind_int, behind_ref, operator_of, lvalue_code, field_code, unary_place_code, expression_code, place_code}
+use Rattle.sharc_flat.specs.Flattened.{kind_of, is_ref, target_of, mode_of, what_names, lvalue_in, guard_of, constant_code, named_code, truth_code, compare_code, unary_code, binary_code, behind_int, behind_ref, operator_of, lvalue_code, field_code, unary_place_code, expression_code, place_code}
 use Rattle.sharc_flat.specs.Suits.{Either, is_cell}
 use Rattle.sharc_invariant.specs.Types.{StaticType, cells_of}
-use Rattle.sharc_invariant.specs.Labels.{Entry, Empty, Refers, Element, Number, Anything, Nth, Exactly, Within, OfElement, OfGlobal, Closed, Label, LessNumber, LessEntry, LessGate, HasBase, fill, set_number}
+use Rattle.sharc_invariant.specs.Labels.{Entry, Empty, Refers, Element, Number, Anything, Nth, Exactly, Within, Indexes, OfElement, OfGlobal, Closed, Label, Narrower, LessNumber, LessEntry, LessGate, HasBase, fill, set_number}
 use Rattle.sharc_invariant.specs.Typed.{ints_in, refs_in}
+use Rattle.sharc_invariant.proofs.Frames.{wider}
 use Rattle.sharc_invariant.proofs.Scoped.{less_entry_refl, less_number_refl, scoped_fill}
 use Rattle.sharc_labels_laws.specs.Stretches.{Mark, Setting, Way, AreOpen}
 use Rattle.sharc_labels_laws.specs.Places.{Stands, IsNamed, AreLow, no_type, mark}
@@ -50,9 +51,44 @@ use Rattle.sharc_labels_laws.proofs.Telling.{told, other_than}
 use Rattle.sharc_labels_laws.proofs.Rules.{on_nothing}
 use Rattle.sharc_labels_laws.proofs.Parts.{P, At, at_number, at_fill, number_above, none_some, does, then_do, before, pre, post, none, enter, constant_at, null_kept_at, from_free, from_written, false_at, compute_at, negate_at, complement_at, number_dropped, truth_at, pop_at, compare_at, logical_at, either_at, check_at, pointee_at, print_at, join_at, with_number}
 use Rattle.sharc_labels_laws.proofs.Variables.{local_at, move_at}
-use Rattle.sharc_labels_laws.proofs.Indexes.{IsPlain, FindsElement}
+use Rattle.sharc_labels_laws.proofs.Indexes.{IsPlain, FindsElement, element_of, fresh_name}
 use Rattle.sharc_labels_laws.proofs.Accessed.{Frame, placed, based, ints_of, indexed, int_value, reference_value, holds_over, wider_names}
 use Rattle.sharc_labels_laws.proofs.Placing.{AreFew, which, bounds_at, finds_object, finds_global}
+
+plain_base : (n : Number) (r q : ℕ) → IsPlain n → HasBase n q → q < r
+plain_base Anything r q plain h = absurd h
+plain_base (Exactly z) r q plain h = absurd h
+plain_base (Within w) r q plain h = absurd h
+plain_base (Indexes m) r q plain h = absurd plain
+plain_base (OfElement base place e) r q plain h = absurd plain
+plain_base (OfGlobal first count elements e) r q plain h = absurd plain
+
+-- a number of one width is one of another
+abbrev IsWithin : Number → Type 0
+IsWithin (Within w) = Unit {0}
+IsWithin _ = ⊥
+
+narrower_through : (u v w : Width) → Narrower u v → Narrower v w → Narrower u w
+narrower_through Char v w g h = tt
+narrower_through Int Int w g h = h
+narrower_through Int Long Long g h = tt
+narrower_through Int Char w g h = absurd g
+narrower_through Int Long Char g h = absurd h
+narrower_through Int Long Int g h = absurd h
+narrower_through Long Long w g h = h
+narrower_through Long Char w g h = absurd g
+narrower_through Long Int w g h = absurd g
+
+other_number : (n : Number) (v : Width) → n ≡ Within v → IsWithin n
+other_number n v e = subst IsWithin (sym e) tt
+
+widened : (n : Number) (v w : Width) → LessNumber n (Within v) → Widens v w → LessNumber n (Within w)
+widened (Within u) v w a b = narrower_through u v w a b
+widened (Exactly z) v w a b = wider v w z b a
+widened Anything v w a b = absurd (other_number Anything v a)
+widened (Indexes m) v w a b = absurd (other_number (Indexes m) v a)
+widened (OfElement base place e) v w a b = absurd (other_number (OfElement base place e) v a)
+widened (OfGlobal first count elements e) v w a b = absurd (other_number (OfGlobal first count elements e) v a)
 
 module _ (around : Setting) (f : ℕ) (ways : List Way) (y : Typing) (c : Context) (low : AreLow (y.named c) (ref_count c.scope)) where
   abbrev D : (ℕ → Mark) → Type 0
@@ -183,8 +219,8 @@ module _ (around : Setting) (f : ℕ) (ways : List Way) (y : Typing) (c : Contex
   goes_is e s t is goes = ⊎_elim (λ (z : e ≡ Empty). absurd (not_null s e is z)) (λ (z : e ≡ Refers t). same_type s t (sym is ∙ z)) goes
 
   copied : (from i r : ℕ) (l : Label) → F from i r l → (e : Expression) (x : Register) → VariableTyped around f ways y c e x → ValueOf from i r l (copy_code i r x) e
-  copied from i r l fr e (Int j) h = int_by from i r l (op.Move i j ∷ []) e h.0 (record { number = Within (y.width c j); plain = tt; fits = subst (λ w. LessNumber (Within (y.width c j)) (Within w)) h.2 (less_number_refl (Within (y.width c j))); piece = move_at around f D N top low from i r l fr.at j (y.width c j) (fr.holds.integers j h.1) })
-  copied from i r l fr e (Reference q) h = let high = fr.high in let lt = h.1 in ref_by from i r l (op.Local r q ∷ []) e h.0 (λ s goes fits.
+  copied from i r l fr e (registers.Int j) h = int_by from i r l (op.Move i j ∷ []) e h.0 (record { number = Within (y.width c j); plain = tt; fits = subst (λ w. LessNumber (Within (y.width c j)) (Within w)) h.2 (less_number_refl (Within (y.width c j))); piece = move_at around f D N top low from i r l fr.at j (y.width c j) (fr.holds.integers j h.1) })
+  copied from i r l fr e (registers.Reference q) h = let high = fr.high in let lt = h.1 in ref_by from i r l (op.Local r q ∷ []) e h.0 (λ s goes fits.
       let is : y.pointer c q ≡ s = goes_is (y.entry c e) (y.pointer c q) s h.2 goes in
       record { copy = q; small = inr h.1; piece = local_at around f D N top low from i r l fr.at s q i (in_frame from i r l fr s fits) (omega (arith, high, lt)) (fr.holds.references q h.1 ∙ ap Refers is) (fr.holds.copies q h.1) })
 
@@ -253,3 +289,154 @@ module _ (around : Setting) (f : ℕ) (ways : List Way) (y : Typing) (c : Contex
         piece = subst (λ t. Q from (mark l from i) (pointee_code r site os) (mark (fill l r (Refers t) b.copy true) from (i + 0))) same (subst (λ n. Q from (mark l from i) (pointee_code r site os) (mark (fill l r (Refers s) b.copy true) from n)) z
             (pointee_at around f D N top low from i r l fr.at s b.copy false fits (small_copy from i r l fr b.copy b.small) (mark l from i) i site os b.piece));
       }
+
+  -- ---- elements
+  -- a register that holds something is one of the frame
+  taken_register : (from : ℕ) (s e : Mark) (os : List Op) (r : ℕ) (t : StaticType) → s.label.env r ≡ Refers t → (r < refs_in around.code (Some f) → Q from s os e) → Q from s os e
+  taken_register from s e os r t is rest = λ w h. rest (⊎_elim (λ (lt : r < refs_in around.code (Some f)). lt) (λ ge. absurd (not_null t (s.label.env r) is (h.few r ge))) (cases_lt r (refs_in around.code (Some f)))) w h
+
+  few_at : (from count n : ℕ) (guard : Option ℕ) → AreFields around f ways y count n guard → AreFew around f D y c low from count n guard
+  few_at from count n None h = h
+  few_at from count n (Some mutex) h = h
+
+  -- of an array
+  array_place : (from i r : ℕ) (l : Label) → F from i r l → (g elements count n : ℕ) (guard : Option ℕ) (ground : Ground) → ground.base ≡ no_type → ground.count ≡ count → ground.elements ≡ elements → AreFields around f ways y count n guard → (xs ys : List Op) (w : Width) (site : Site)
+      → Q from (mark l from i) xs (mark l from i) → IntValue from i r l ys w
+      → PlaceValue from i r l (xs ++ (ys ++ bounds_code (λ i n. op.GlobalBounds i elements count (first_cell c.globals g + n) (at_site site)) i n guard)) (in_global_at g n) guard ground
+  array_place from i r l fr g elements count n guard ground none_based same_count same_elements few xs ys w site p v =
+      let first = first_cell c.globals g in
+      let finds = finds_global around f D y c low from elements count first (at_site site) l fr.at.owned in
+      let elem = which around f D y c low from i r l fr.at (λ i n. op.GlobalBounds i elements count (first + n) (at_site site)) (λ n e. OfGlobal (first + n) count elements e) count finds fr.early v.number v.plain in
+      let os = bounds_code (λ i n. op.GlobalBounds i elements count (first + n) (at_site site)) i n guard in
+      let end : Q from (with_number around f D N top low from l i v.number) os (mark (record l { ints = indexed around f D y c low from l.ints i guard (λ n. OfGlobal (first + n) count elements elem) n; gate = Closed }) from (i + guard_width guard)) =
+      bounds_at around f D y c low from i r l fr.at (λ i n. op.GlobalBounds i elements count (first + n) (at_site site)) (λ n e. OfGlobal (first + n) count elements e) count finds fr.early v.number v.plain n guard (few_at from count n guard few) in
+      record {
+        element = elem;
+        copy = r;
+        small = omega arith;
+        fits = subst (IsNamed N r) (sym none_based) (no_names r);
+        piece = joins from (mark l from i) (mark l from i) (placed around f D y c low from (in_global_at g n) guard ground elem i r r l) xs (ys ++ os) p
+            (joins from (mark l from i) (with_number around f D N top low from l i v.number) (placed around f D y c low from (in_global_at g n) guard ground elem i r r l) ys os v.piece
+            (subst (λ k. Q from (with_number around f D N top low from l i v.number) os (mark (record l { ints = indexed around f D y c low from l.ints i guard (λ n. OfGlobal (first + n) k ground.elements elem) n; gate = Closed }) from (i + guard_width guard))) (sym same_count)
+            (subst (λ k. Q from (with_number around f D N top low from l i v.number) os (mark (record l { ints = indexed around f D y c low from l.ints i guard (λ n. OfGlobal (first + n) count k elem) n; gate = Closed }) from (i + guard_width guard))) (sym same_elements) end)));
+      }
+
+  -- of what a pointer refers to
+  element_place : (from i r : ℕ) (l : Label) → F from i r l → (e : Expression) (count n : ℕ) (guard : Option ℕ) (ground : Ground) → type_by (y.entry c e) ≡ ground.base → count ≡ cells_of around.targets (type_by (y.entry c e)).target → AreFields around f ways y count n guard → (xs : List Op) (ys : ℕ → List Op) (w : Width) (site : Site)
+      → IsPointer around f ways y c e → ValueOf from i r l xs e → ((l : Label) → F from i (r + 1) l → IntValue from i (r + 1) l (ys (r + 1)) w)
+      → PlaceValue from i r l (xs ++ (op.ChkNull r (at_site site) ∷ (ys (r + 1) ++ bounds_code (λ i n. op.Bounds i r count n (at_site site)) i n guard))) (in_object_at n) guard ground
+  element_place from i r l fr e count n guard ground same size few xs ys w site is v number =
+      let b = base_of from i r l xs e is v in
+      let s = type_by (y.entry c e) in
+      let fits = in_frame from i r l fr s is.2 in
+      let small = small_copy from i r l fr b.copy b.small in
+      let X = fill l r (Refers s) b.copy true in
+      let fx = frame_fill from i r l fr s b.copy true fits small in
+      let m = number X fx in
+      let o : ℕ → ℕ → Op = λ i n. op.Bounds i r count n (at_site site) in
+      let elem = element_of m.number (fresh_name (set_number X i m.number) (i + 1)) in
+      let os = bounds_code o i n guard in
+      let start = with_number around f D N top low from X i m.number in
+      let after = mark (record X { ints = indexed around f D y c low from X.ints i guard (λ n. OfElement r n elem) n; gate = Closed }) from (i + guard_width guard) in
+      let end : Q from start os after = taken_register from start after os r s (put_same l.env r (Refers s)) (λ ref.
+      bounds_at around f D y c low from i (r + 1) X fx.at o (λ n e. OfElement r n e) count (finds_object around f D y c low from r s count (at_site site) X fr.at.owned ref (put_same l.env r (Refers s)) (put_same l.known r true) size) fr.early m.number m.plain n guard (few_at from count n guard few)) in
+      record {
+        element = elem;
+        copy = b.copy;
+        small = small;
+        fits = subst (IsNamed N r) same fits;
+        piece = subst (λ t. Q from (mark l from i) (xs ++ (op.ChkNull r (at_site site) ∷ (ys (r + 1) ++ os))) (mark (record (fill l r (Refers t) b.copy true) { ints = indexed around f D y c low from l.ints i guard (λ n. OfElement r n elem) n; gate = Closed }) from (i + guard_width guard))) same
+            (joins from (mark l from i) (mark (fill l r (Refers s) b.copy false) from i) after xs (op.ChkNull r (at_site site) ∷ (ys (r + 1) ++ os)) b.piece
+            (joins from (mark (fill l r (Refers s) b.copy false) from i) (mark X from i) after (op.ChkNull r (at_site site) ∷ []) (ys (r + 1) ++ os) (check_at around f D N top low from i r l fr.at s b.copy false fits small i (at_site site))
+            (joins from (mark X from i) start after (ys (r + 1)) os m.piece end)));
+      }
+
+  -- ---- tests and operators
+  -- a value that decides
+  truth_of : (from i r : ℕ) (l : Label) → F from i r l → (e : Expression) (os : List Op) → HasType around f ways y c e → ValueOf from i r l os e → Q from (mark l from i) (os ++ truth_code (is_ref c e) i r) (mark l from i)
+  truth_of from i r l fr e os h v = by (is_ref c e) refl
+    where
+      by : (b : Bool) → is_ref c e ≡ b → Q from (mark l from i) (os ++ truth_code b i r) (mark l from i)
+      by true is =
+          let t = h.0 is in
+          let b = ref_of from i r l os e is v t.0 t.1 t.2 in
+          let fits = in_frame from i r l fr t.0 t.2 in
+          joins from (mark l from i) (mark (fill l r (Refers t.0) b.copy false) from i) (mark l from i) os (truth_code true i r) b.piece
+          (number_dropped around f D N top low from i r l fr.at (Within Char) (truth_code true i r) (mark (fill l r (Refers t.0) b.copy false) from i)
+          (truth_at around f D N top low from i r l fr.at fr.high t.0 b.copy false fits (small_copy from i r l fr b.copy b.small)))
+      by false is =
+          let n = int_of from i r l os e (is, h.1 is) v in
+          joins from (mark l from i) (mark l from i) (mark l from i) os [] (number_dropped around f D N top low from i r l fr.at n.number os (mark l from i) n.piece) (none around f D N top low from (mark l from i) (mark l from i) (fits_same around.targets (mark l from i)) (λ z. z))
+
+  -- 0 or 1
+  truth_value : (from i r : ℕ) (l : Label) (os : List Op) (e : Expression) → IsNumber around f ways y c e → Q from (mark l from i) os (with_number around f D N top low from l i (Within Char)) → ValueOf from i r l os e
+  truth_value from i r l os e is p = int_by from i r l os e is (record { number = Within Char; plain = tt; fits = tt; piece = p })
+
+  not_value : (from i r : ℕ) (l : Label) → F from i r l → (e a : Expression) (os : List Op) → IsNumber around f ways y c e → HasType around f ways y c a → ValueOf from i r l os a → ValueOf from i r l (os ++ (truth_code (is_ref c a) i r ++ op.IsFalse i i ∷ [])) e
+  not_value from i r l fr e a os is h v = truth_value from i r l (os ++ (truth_code (is_ref c a) i r ++ op.IsFalse i i ∷ [])) e is
+      (subst (λ xs. Q from (mark l from i) xs (with_number around f D N top low from l i (Within Char))) (append_assoc os (truth_code (is_ref c a) i r) (op.IsFalse i i ∷ []))
+      (joins from (mark l from i) (mark l from i) (with_number around f D N top low from l i (Within Char)) (os ++ truth_code (is_ref c a) i r) (op.IsFalse i i ∷ []) (truth_of from i r l fr a os h v)
+      (from_free around f D N top low from i r l fr.at (op.IsFalse i i) (Within Char) (false_at around f D N top low from i r l fr.at i))))
+
+  negated : (from i r : ℕ) (l : Label) → F from i r l → (e a : Expression) (os : List Op) (site : Site) → UnaryTyped around f ways y c e Negate a → ValueOf from i r l os a → ValueOf from i r l (os ++ op.Negate (width_of (promoted (kind_of c a))) i i (at_site site) ∷ []) e
+  negated from i r l fr e a os site h v =
+      let n = int_of from i r l os a h.0 v in
+      let w = width_of (promoted (kind_of c a)) in
+      int_by from i r l (os ++ op.Negate w i i (at_site site) ∷ []) e h.1 (record {
+        number = Within w;
+        plain = tt;
+        fits = h.3;
+        piece = joins from (mark l from i) (with_number around f D N top low from l i n.number) (with_number around f D N top low from l i (Within w)) os (op.Negate w i i (at_site site) ∷ []) n.piece (negate_at around f D N top low from i r l fr.at w n.number (at_site site) h.2);
+      })
+
+  complemented : (from i r : ℕ) (l : Label) → F from i r l → (e a : Expression) (os : List Op) → UnaryTyped around f ways y c e Complement a → ValueOf from i r l os a → ValueOf from i r l (os ++ op.Complement i i ∷ []) e
+  complemented from i r l fr e a os h v =
+      let n = int_of from i r l os a h.0 v in
+      let w = width_of (kind_of c a) in
+      int_by from i r l (os ++ op.Complement i i ∷ []) e h.1 (record {
+        number = Within w;
+        plain = tt;
+        fits = h.2;
+        piece = joins from (mark l from i) (with_number around f D N top low from l i n.number) (with_number around f D N top low from l i (Within w)) os (op.Complement i i ∷ []) n.piece (complement_at around f D N top low from i r l fr.at w n.number n.fits);
+      })
+
+  -- an operator on two values, of which the second one stands after the first one
+  computed : (from i r : ℕ) (l : Label) → F from i r l → (e : Expression) (site : Site) (o : BinaryOperator) (a b : Expression) (xs : List Op) (ys : ℕ → ℕ → List Op) → IsNumber around f ways y c e → ComparedTyped around f ways y c e o a b (is_ref c a) → HasType around f ways y c a → HasType around f ways y c b → ValueOf from i r l xs a
+      → ((i2 r2 : ℕ) (l2 : Label) → F from i2 r2 l2 → ValueOf from i2 r2 l2 (ys i2 r2) b)
+      → ValueOf from i r l (xs ++ (ys (behind_int (is_ref c a) i) (behind_ref (is_ref c a) r) ++ (cond (is_ref c a) (compare_code o i r) (op.Compute (result_of around f ways y c o a b) (operator_of o) i i (i + 1) (at_site site) ∷ [])))) e
+  computed from i r l fr e site o a b xs ys is typed ta tb va vb = by (is_ref c a) refl typed
+    where
+      w : Width
+      w = result_of around f ways y c o a b
+
+      by : (z : Bool) → is_ref c a ≡ z → ComparedTyped around f ways y c e o a b z → ValueOf from i r l (xs ++ (ys (behind_int z i) (behind_ref z r) ++ (cond z (compare_code o i r) (op.Compute w (operator_of o) i i (i + 1) (at_site site) ∷ [])))) e
+      by true is_a is_b =
+          let t = ta.0 is_a in
+          let s = tb.0 is_b in
+          let fits = in_frame from i r l fr t.0 t.2 in
+          let fits2 = in_frame from i r l fr s.0 s.2 in
+          let pa = ref_of from i r l xs a is_a va t.0 t.1 t.2 in
+          let small = small_copy from i r l fr pa.copy pa.small in
+          let X = fill l r (Refers t.0) pa.copy false in
+          let fx = frame_fill from i r l fr t.0 pa.copy false fits small in
+          let pb = ref_of from i (r + 1) X (ys i (r + 1)) b is_b (vb i (r + 1) X fx) s.0 s.1 s.2 in
+          let high = fr.high in
+          let other : (pb.copy ≡ r + 1) ⊎ (pb.copy < r) = ⊎_elim (λ (z : pb.copy ≡ r + 1). inl z) (λ (z : pb.copy < top). inr (omega (arith, z, high))) pb.small in
+          truth_value from i r l (xs ++ (ys i (r + 1) ++ compare_code o i r)) e is
+          (joins from (mark l from i) (mark X from i) (with_number around f D N top low from l i (Within Char)) xs (ys i (r + 1) ++ compare_code o i r) pa.piece
+          (joins from (mark X from i) (mark (fill X (r + 1) (Refers s.0) pb.copy false) from i) (with_number around f D N top low from l i (Within Char)) (ys i (r + 1)) (compare_code o i r) pb.piece
+          (compare_at around f D N top low from i r l fr.at fr.high t.0 s.0 pa.copy pb.copy false false fits fits2 small other o)))
+      by false is_a h =
+          let na = int_of from i r l xs a h.left va in
+          let X = set_number l i na.number in
+          let fx = frame_number from i r l fr na.number (λ q z. plain_base na.number r q na.plain z) in
+          let nb = int_of from (i + 1) r X (ys (i + 1) r) b h.right (vb (i + 1) r X fx) in
+          let end = with_number around f D N top low from l i (Within w) in
+          int_by from i r l (xs ++ (ys (i + 1) r ++ op.Compute w (operator_of o) i i (i + 1) (at_site site) ∷ [])) e is (record {
+            number = Within w;
+            plain = tt;
+            fits = h.result;
+            piece = joins from (mark l from i) (with_number around f D N top low from l i na.number) end xs (ys (i + 1) r ++ op.Compute w (operator_of o) i i (i + 1) (at_site site) ∷ []) na.piece
+                (joins from (mark X from (i + 1)) (with_number around f D N top low from X (i + 1) nb.number) end (ys (i + 1) r) (op.Compute w (operator_of o) i i (i + 1) (at_site site) ∷ []) nb.piece
+                (compute_at around f D N top low from i r l fr.at w (operator_of o) na.number nb.number (at_site site) h.wide (widened na.number (width_of (kind_of c a)) w na.fits h.first) (λ z. widened nb.number (width_of (kind_of c b)) w nb.fits (h.second z))));
+          })
