@@ -28,12 +28,13 @@ use Rattle.sharc_ctype.specs.Resolved.{global_at}
 use Rattle.sharc_mode.specs.Sharings.{Sharing}
 use Rattle.sharc_meaning.specs.Cells.{element_cells, field_place_named, global_elements}
 use Rattle.sharc_meaning.specs.Reference.{constant_value}
+use Rattle.sharc_meaning.specs.State.{is_reference}
 use Rattle.sharc_flat_form.specs.declared.op.Op.{Op}
 use Rattle.sharc_flat_form.specs.declared.op.Op.TheVariants as op
 use Rattle.sharc_flat_form.specs.Machine.{first_cell}
 use Rattle.sharc_flat.specs.declared.slot.Lvalue.{Lvalue}
 use Rattle.sharc_flat.specs.Scope.{Context, int_count, ref_count, register_of, at_site}
-use Rattle.sharc_flat.specs.Places.{Target, variable, in_global, in_global_at, in_object, in_object_at, target, own_field, global_of, has_base, base_width, index_width, guard_width, copy_code, cell_value_code, value_code, index_code, pointee_code, bounds_code, width_of}
+use Rattle.sharc_flat.specs.Places.{Target, variable, in_global, in_global_at, in_object, in_object_at, target, named_target, own_field, global_of, has_base, base_width, index_width, guard_width, copy_code, cell_value_code, value_code, index_code, pointee_code, bounds_code, width_of}
 use Rattle.sharc_flat.specs.Flattened.{kind_of, is_ref, target_of, mode_of, what_names, lvalue_in, guard_of, constant_code, named_code, truth_code, compare_code, unary_code, binary_code, behind_int, behind_ref, operator_of, lvalue_code, field_code, unary_place_code, expression_code, place_code}
 use Rattle.sharc_flat.specs.Suits.{Either, is_cell}
 use Rattle.sharc_invariant.specs.Types.{StaticType, cells_of}
@@ -440,3 +441,162 @@ module _ (around : Setting) (f : ℕ) (ways : List Way) (y : Typing) (c : Contex
                 (joins from (mark X from (i + 1)) (with_number around f D N top low from X (i + 1) nb.number) end (ys (i + 1) r) (op.Compute w (operator_of o) i i (i + 1) (at_site site) ∷ []) nb.piece
                 (compute_at around f D N top low from i r l fr.at w (operator_of o) na.number nb.number (at_site site) h.wide (widened na.number (width_of (kind_of c a)) w na.fits h.first) (λ z. widened nb.number (width_of (kind_of c b)) w nb.fits (h.second z))));
           })
+
+  -- ---- one statement or expression more is entered
+  entered_piece : (from i r : ℕ) (l : Label) → F from i r l → (os : List Op) (e : Mark) → Q from (mark l from i) os e → Q from (mark l from i) (op.Enter ∷ os) e
+  entered_piece from i r l fr os e p = enter around f D N top low from i r l fr.at i os e p
+
+  entered : (from i r : ℕ) (l : Label) → F from i r l → (os : List Op) (e : Expression) → ValueOf from i r l os e → ValueOf from i r l (op.Enter ∷ os) e
+  entered from i r l fr os e v = by (is_ref c e) (is_integer (kind_of c e)) v
+    where
+      by : (a b : Bool) → Value from i r l os e a b → Value from i r l (op.Enter ∷ os) e a b
+      by true b v = λ s goes fits. let w = v s goes fits in record { copy = w.copy; small = w.small; piece = entered_piece from i r l fr os (mark (fill l r (Refers s) w.copy false) from i) w.piece }
+      by false true v = record { number = v.number; plain = v.plain; fits = v.fits; piece = entered_piece from i r l fr os (with_number around f D N top low from l i v.number) v.piece }
+      by false false v = entered_piece from i r l fr os (mark l from i) v
+
+  entered_place : (from i r : ℕ) (l : Label) → F from i r l → (os : List Op) (t : Target) (guard : Option ℕ) (ground : Ground) → PlaceValue from i r l os t guard ground → PlaceValue from i r l (op.Enter ∷ os) t guard ground
+  entered_place from i r l fr os t guard ground p = record { element = p.element; copy = p.copy; small = p.small; fits = p.fits; piece = entered_piece from i r l fr os (placed around f D y c low from t guard ground p.element i r p.copy l) p.piece }
+
+  -- in parentheses
+  same_value : (from i r : ℕ) (l : Label) (os : List Op) (e a : Expression) → kind_of c e ≡ kind_of c a → y.entry c e ≡ y.entry c a → ValueOf from i r l os a → ValueOf from i r l os e
+  same_value from i r l os e a kinds entries v = subst (λ k. Value from i r l os e (is_reference k) (is_integer k)) (sym kinds) (by (is_ref c a) (is_integer (kind_of c a)) v)
+    where
+      by : (p q : Bool) → Value from i r l os a p q → Value from i r l os e p q
+      by true q v = λ s goes fits. v s (subst (λ z. GoesTo z s) entries goes) fits
+      by false true v = subst (λ k. IntValue from i r l os (width_of k)) (sym kinds) v
+      by false false v = v
+
+  -- ---- names
+  no_place : (from i r : ℕ) (l : Label) → F from i r l → (g n : ℕ) (guard : Option ℕ) (ground : Ground) → ground.base ≡ no_type → PlaceValue from i r l [] (in_global g n) guard ground
+  no_place from i r l fr g n guard ground none_based = record { element = Nth 0; copy = r; small = omega arith; fits = subst (IsNamed N r) (sym none_based) (no_names r); piece = opened from i r l fr }
+
+  variable_place : (from i r : ℕ) (l : Label) → F from i r l → (x : ℕ) (guard : Option ℕ) (ground : Ground) → ground.base ≡ no_type → PlaceValue from i r l [] (variable x) guard ground
+  variable_place from i r l fr x guard ground none_based = record { element = Nth 0; copy = r; small = omega arith; fits = subst (IsNamed N r) (sym none_based) (no_names r); piece = opened from i r l fr }
+
+  void_by : (from i r : ℕ) (l : Label) (os : List Op) (e : Expression) → IsVoid around f ways y c e → Q from (mark l from i) os (mark l from i) → ValueOf from i r l os e
+  void_by from i r l os e is p = subst (λ b. Value from i r l os e b (is_integer (kind_of c e))) (sym is.0) (subst (λ b. Value from i r l os e false b) (sym is.1) p)
+
+  stays : (from i : ℕ) (l : Label) → Q from (mark l from i) [] (mark l from i)
+  stays from i l = none around f D N top low from (mark l from i) (mark l from i) (fits_same around.targets (mark l from i)) (λ z. z)
+
+  named_value : (from i r : ℕ) (l : Label) → F from i r l → (s : Span) (x : Identifier) (n : Named) → NameTyped around f ways y c (identifier s x) x.site n
+      → ValueOf from i r l (named_code c i r x.site (lvalue_in c (identifier s x)) (mode_of c (identifier s x)) (is_ref c (identifier s x)) n) (identifier s x)
+  named_value from i r l fr s x (named.Variable v) h = copied from i r l fr (identifier s x) (register_of c.scope v) h
+  named_value from i r l fr s x (named.Global g) h = read from i r l fr (identifier s x) x.site (in_global g 0) [] (no_place from i r l fr g 0 (guard_of c (identifier s x)) (ground_of around f ways y c (identifier s x)) refl) refl h
+  named_value from i r l fr s x (named.Field v) h = void_by from i r l [] (identifier s x) h (stays from i l)
+  named_value from i r l fr s x (named.Struct v) h = void_by from i r l [] (identifier s x) h (stays from i l)
+  named_value from i r l fr s x (named.Function v) h = void_by from i r l [] (identifier s x) h (stays from i l)
+  named_value from i r l fr s x named.Known h = void_by from i r l [] (identifier s x) h (stays from i l)
+
+  named_place : (from i r : ℕ) (l : Label) → F from i r l → (n : Named) (place : ℕ) (guard : Option ℕ) (ground : Ground) → ground.base ≡ no_type → PlaceValue from i r l [] (named_target n place) guard ground
+  named_place from i r l fr (named.Variable v) place guard ground h = variable_place from i r l fr v guard ground h
+  named_place from i r l fr (named.Global g) place guard ground h = no_place from i r l fr g place guard ground h
+  named_place from i r l fr (named.Field v) place guard ground h = variable_place from i r l fr 0 guard ground h
+  named_place from i r l fr (named.Struct v) place guard ground h = variable_place from i r l fr 0 guard ground h
+  named_place from i r l fr (named.Function v) place guard ground h = variable_place from i r l fr 0 guard ground h
+  named_place from i r l fr named.Known place guard ground h = variable_place from i r l fr 0 guard ground h
+
+  -- ---- indexes
+  array_base : (from i r : ℕ) (l : Label) → F from i r l → (xs : List Op) (t : Target) (g : ℕ) (ground : Ground) → t ≡ in_global g 0 → PlaceValue from i r l xs t None ground → Q from (mark l from i) xs (mark l from i)
+  array_base from i r l fr xs t g ground is p =
+      let q = subst (λ t. PlaceValue from i r l xs t None ground) is p in
+      let same : record l { gate = Closed } ≡ l = ap (λ g. record l { gate = g }) (sym fr.at.stands.closed) in
+      let z : i + 0 ≡ i = omega arith in
+      subst (λ n. Q from (mark l from i) xs (mark l from n)) z (subst (λ k. Q from (mark l from i) xs (mark k from (i + 0))) same q.piece)
+
+  index_place : (from i r : ℕ) (l : Label) → F from i r l → (site : Site) (own guard : Option ℕ) (s : Span) (a n : Expression) (xs zs : List Op) (ys : ℕ → List Op) (X Y Z : Type 0) → (X → PlaceValue from i r l xs (target c.program.typed None a) None (ground_of around f ways y c a)) → (Y → ValueOf from i r l zs a)
+      → (Z → (r2 : ℕ) (l2 : Label) → F from i r2 l2 → ValueOf from i r2 l2 (ys r2) n) → IndexTypable around f ways y c own guard a n X Y Z
+      → PlaceValue from i r l (index_code c i r site own guard a xs zs ys) (target c.program.typed own (index s a n)) guard (ground_of around f ways y c (index s a n))
+  index_place from i r l fr site own guard s a n xs zs ys X Y Z px py pn h = by (is_array (kind_of c a)) h.0
+    where
+      count : ℕ
+      count = element_cells c.program.typed (element_kind (kind_of c a))
+
+      g : ℕ
+      g = global_of (target c.program.typed None a)
+
+      elements : ℕ
+      elements = global_elements (global_at c.program.typed g)
+
+      by : (b : Bool) → Either b (X × (target c.program.typed None a ≡ in_global g 0)) (Y × IsPointer around f ways y c a × (count ≡ cells_of around.targets (type_by (y.entry c a)).target))
+          → PlaceValue from i r l
+          (cond b (xs ++ (ys r ++ bounds_code (λ i n. op.GlobalBounds i elements count (first_cell c.globals g + n) (at_site site)) i (own_field own 0) guard))
+          (zs ++ (op.ChkNull r (at_site site) ∷ (ys (r + 1) ++ bounds_code (λ i n. op.Bounds i r count n (at_site site)) i (own_field own 0) guard))))
+          (cond b (in_global_at g (own_field own 0)) (in_object_at (own_field own 0))) guard (record { base = cond b no_type (type_by (y.entry c a)); count = count; elements = elements })
+      by true z = array_place from i r l fr g elements count (own_field own 0) guard (record { base = no_type; count = count; elements = elements }) refl refl refl h.3 xs (ys r) (width_of (kind_of c n)) site (array_base from i r l fr xs (target c.program.typed None a) g (ground_of around f ways y c a) z.1 (px z.0))
+          (int_of from i r l (ys r) n h.2 (pn h.1 r l fr))
+      by false z = element_place from i r l fr a count (own_field own 0) guard (record { base = type_by (y.entry c a); count = count; elements = elements }) refl z.2 h.3 zs ys (width_of (kind_of c n)) site z.1 (py z.0) (λ l2 f2. int_of from i (r + 1) l2 (ys (r + 1)) n h.2 (pn h.1 (r + 1) l2 f2))
+
+  -- ---- the whole
+  mutual
+    pub expressions : (from i r : ℕ) (l : Label) → F from i r l → (e : Expression) → Typed e → ValueOf from i r l (expression_code c i r e) e
+    expressions from i r l fr (identifier s x) h = entered from i r l fr _ (identifier s x) (named_value from i r l fr s x (what_names c x.site.token) h)
+    expressions from i r l fr (constant s k) h = entered from i r l fr _ (constant s k) (constant_value_of from i r l fr (constant s k) k (is_ref c (constant s k)) refl h)
+    expressions from i r l fr (parentheses s a) h = entered from i r l fr (expression_code c i r a) (parentheses s a) (same_value from i r l (expression_code c i r a) (parentheses s a) a refl h.1 (expressions from i r l fr a h.0))
+    expressions from i r l fr (call s x all) h = absurd h
+    expressions from i r l fr (spawn s x a) h = absurd h
+    expressions from i r l fr (on_value s Join a) h =
+        let n = int_of from i r l (expression_code c i r a) a h.1 (expressions from i r l fr a h.0) in
+        let at2 = at_number around f D N top low from i r l fr.at n.number (λ q z. plain_base n.number r q n.plain z) in
+        entered_piece from i r l fr _ (mark l from i) (number_dropped around f D N top low from i r l fr.at n.number _ (mark l from i)
+        (joins from (mark l from i) (with_number around f D N top low from l i n.number) (with_number around f D N top low from l i n.number) (expression_code c i r a) (op.Join i (at_site s.first) ∷ []) n.piece (join_at around f D N top low from (i + 1) r (set_number l i n.number) at2 (i + 1) i (at_site s.first))))
+    expressions from i r l fr (on_value s Print a) h =
+        let n = int_of from i r l (expression_code c i r a) a h.1 (expressions from i r l fr a h.0) in
+        let at2 = at_number around f D N top low from i r l fr.at n.number (λ q z. plain_base n.number r q n.plain z) in
+        entered_piece from i r l fr _ (mark l from i) (number_dropped around f D N top low from i r l fr.at n.number _ (mark l from i)
+        (joins from (mark l from i) (with_number around f D N top low from l i n.number) (with_number around f D N top low from l i n.number) (expression_code c i r a) (op.Print i (at_site s.first) ∷ []) n.piece (print_at around f D N top low from (i + 1) r (set_number l i n.number) at2 (i + 1) i (at_site s.first))))
+    expressions from i r l fr (on_place s w a) h = absurd h
+    expressions from i r l fr (cast s t a) h = absurd h
+    expressions from i r l fr (index s a n) h =
+        let e = index s a n in
+        entered from i r l fr _ e (read from i r l fr e s.first (target_of c e) (index_code c i r s.first None (guard_of c e) a (place_code c i r s.first None None a) (expression_code c i r a) (λ d. expression_code c i d n))
+        (index_place from i r l fr s.first None (guard_of c e) s a n (place_code c i r s.first None None a) (expression_code c i r a) (λ d. expression_code c i d n) (PlaceTyped None None a) (Typed a) (Typed n)
+        (λ (k : PlaceTyped None None a). places from i r l fr s.first None None a k) (λ (k : Typed a). expressions from i r l fr a k) (λ (k : Typed n). λ r2 l2 f2. expressions from i r2 l2 f2 n k) h.0) h.1.0 h.1.1)
+    expressions from i r l fr (field s a Dot n) h =
+        let e = field s a Dot n in
+        let own = Some (field_place_named c.program.typed (what_names c n.site.token)) in
+        entered from i r l fr _ e (read from i r l fr e s.first (target_of c e) (place_code c i r s.first own (guard_of c e) a) (places from i r l fr s.first own (guard_of c e) a h.0) h.1.0 h.1.1)
+    expressions from i r l fr (field s a Arrow n) h =
+        let e = field s a Arrow n in
+        entered from i r l fr _ e (read from i r l fr e s.first (target_of c e) (pointee_code r s.first (expression_code c i r a)) (object_place from i r l fr a s.first (expression_code c i r a) (field_place_named c.program.typed (what_names c n.site.token)) (guard_of c e) (ground_of around f ways y c e) refl h.0.1
+        (expressions from i r l fr a h.0.0)) h.1.0 h.1.1)
+    expressions from i r l fr (unary s Dereference a) h =
+        let e = unary s Dereference a in
+        entered from i r l fr _ e (read from i r l fr e s.first (target_of c e) (pointee_code r s.first (expression_code c i r a)) (object_place from i r l fr a s.first (expression_code c i r a) 0 (guard_of c e) (ground_of around f ways y c e) refl h.1 (expressions from i r l fr a h.0)) h.2.0 h.2.1)
+    expressions from i r l fr (unary s Negate a) h = entered from i r l fr _ (unary s Negate a) (negated from i r l fr (unary s Negate a) a (expression_code c i r a) s.first h.2 (expressions from i r l fr a h.0))
+    expressions from i r l fr (unary s Not a) h = entered from i r l fr _ (unary s Not a) (not_value from i r l fr (unary s Not a) a (expression_code c i r a) h.2 h.1 (expressions from i r l fr a h.0))
+    expressions from i r l fr (unary s Complement a) h = entered from i r l fr _ (unary s Complement a) (complemented from i r l fr (unary s Complement a) a (expression_code c i r a) h.2 (expressions from i r l fr a h.0))
+    expressions from i r l fr (binary s LogicalAnd at a b) h = entered from i r l fr _ (binary s LogicalAnd at a b) (truth_value from i r l _ (binary s LogicalAnd at a b) h.4
+        (logical_at around f D N top low from i r l fr.at (expression_code c i r a ++ truth_code (is_ref c a) i r) (expression_code c i r b ++ truth_code (is_ref c b) i r) (truth_of from i r l fr a (expression_code c i r a) h.1 (expressions from i r l fr a h.0)) (truth_of from i r l fr b (expression_code c i r b) h.3 (expressions from i r l fr b h.2))))
+    expressions from i r l fr (binary s LogicalOr at a b) h = entered from i r l fr _ (binary s LogicalOr at a b) (truth_value from i r l _ (binary s LogicalOr at a b) h.4
+        (either_at around f D N top low from i r l fr.at (expression_code c i r a ++ truth_code (is_ref c a) i r) (expression_code c i r b ++ truth_code (is_ref c b) i r) (truth_of from i r l fr a (expression_code c i r a) h.1 (expressions from i r l fr a h.0)) (truth_of from i r l fr b (expression_code c i r b) h.3 (expressions from i r l fr b h.2))))
+    expressions from i r l fr (binary s BitOr at a b) h = entered from i r l fr _ (binary s BitOr at a b) (computed from i r l fr (binary s BitOr at a b) at BitOr a b (expression_code c i r a) (λ i2 r2. expression_code c i2 r2 b) h.4.0 h.4.1 h.1 h.3 (expressions from i r l fr a h.0) (λ i2 r2 l2 f2. expressions from i2 r2 l2 f2 b h.2))
+    expressions from i r l fr (binary s BitXor at a b) h = entered from i r l fr _ (binary s BitXor at a b) (computed from i r l fr (binary s BitXor at a b) at BitXor a b (expression_code c i r a) (λ i2 r2. expression_code c i2 r2 b) h.4.0 h.4.1 h.1 h.3 (expressions from i r l fr a h.0) (λ i2 r2 l2 f2. expressions from i2 r2 l2 f2 b h.2))
+    expressions from i r l fr (binary s BitAnd at a b) h = entered from i r l fr _ (binary s BitAnd at a b) (computed from i r l fr (binary s BitAnd at a b) at BitAnd a b (expression_code c i r a) (λ i2 r2. expression_code c i2 r2 b) h.4.0 h.4.1 h.1 h.3 (expressions from i r l fr a h.0) (λ i2 r2 l2 f2. expressions from i2 r2 l2 f2 b h.2))
+    expressions from i r l fr (binary s Equal at a b) h = entered from i r l fr _ (binary s Equal at a b) (computed from i r l fr (binary s Equal at a b) at Equal a b (expression_code c i r a) (λ i2 r2. expression_code c i2 r2 b) h.4.0 h.4.1 h.1 h.3 (expressions from i r l fr a h.0) (λ i2 r2 l2 f2. expressions from i2 r2 l2 f2 b h.2))
+    expressions from i r l fr (binary s NotEqual at a b) h = entered from i r l fr _ (binary s NotEqual at a b) (computed from i r l fr (binary s NotEqual at a b) at NotEqual a b (expression_code c i r a) (λ i2 r2. expression_code c i2 r2 b) h.4.0 h.4.1 h.1 h.3 (expressions from i r l fr a h.0) (λ i2 r2 l2 f2. expressions from i2 r2 l2 f2 b h.2))
+    expressions from i r l fr (binary s Less at a b) h = entered from i r l fr _ (binary s Less at a b) (computed from i r l fr (binary s Less at a b) at Less a b (expression_code c i r a) (λ i2 r2. expression_code c i2 r2 b) h.4.0 h.4.1 h.1 h.3 (expressions from i r l fr a h.0) (λ i2 r2 l2 f2. expressions from i2 r2 l2 f2 b h.2))
+    expressions from i r l fr (binary s Greater at a b) h = entered from i r l fr _ (binary s Greater at a b) (computed from i r l fr (binary s Greater at a b) at Greater a b (expression_code c i r a) (λ i2 r2. expression_code c i2 r2 b) h.4.0 h.4.1 h.1 h.3 (expressions from i r l fr a h.0) (λ i2 r2 l2 f2. expressions from i2 r2 l2 f2 b h.2))
+    expressions from i r l fr (binary s LessOrEqual at a b) h = entered from i r l fr _ (binary s LessOrEqual at a b) (computed from i r l fr (binary s LessOrEqual at a b) at LessOrEqual a b (expression_code c i r a) (λ i2 r2. expression_code c i2 r2 b) h.4.0 h.4.1 h.1 h.3 (expressions from i r l fr a h.0) (λ i2 r2 l2 f2. expressions from i2 r2 l2 f2 b h.2))
+    expressions from i r l fr (binary s GreaterOrEqual at a b) h = entered from i r l fr _ (binary s GreaterOrEqual at a b) (computed from i r l fr (binary s GreaterOrEqual at a b) at GreaterOrEqual a b (expression_code c i r a) (λ i2 r2. expression_code c i2 r2 b) h.4.0 h.4.1 h.1 h.3 (expressions from i r l fr a h.0) (λ i2 r2 l2 f2. expressions from i2 r2 l2 f2 b h.2))
+    expressions from i r l fr (binary s ShiftLeft at a b) h = entered from i r l fr _ (binary s ShiftLeft at a b) (computed from i r l fr (binary s ShiftLeft at a b) at ShiftLeft a b (expression_code c i r a) (λ i2 r2. expression_code c i2 r2 b) h.4.0 h.4.1 h.1 h.3 (expressions from i r l fr a h.0) (λ i2 r2 l2 f2. expressions from i2 r2 l2 f2 b h.2))
+    expressions from i r l fr (binary s ShiftRight at a b) h = entered from i r l fr _ (binary s ShiftRight at a b) (computed from i r l fr (binary s ShiftRight at a b) at ShiftRight a b (expression_code c i r a) (λ i2 r2. expression_code c i2 r2 b) h.4.0 h.4.1 h.1 h.3 (expressions from i r l fr a h.0) (λ i2 r2 l2 f2. expressions from i2 r2 l2 f2 b h.2))
+    expressions from i r l fr (binary s Add at a b) h = entered from i r l fr _ (binary s Add at a b) (computed from i r l fr (binary s Add at a b) at Add a b (expression_code c i r a) (λ i2 r2. expression_code c i2 r2 b) h.4.0 h.4.1 h.1 h.3 (expressions from i r l fr a h.0) (λ i2 r2 l2 f2. expressions from i2 r2 l2 f2 b h.2))
+    expressions from i r l fr (binary s Subtract at a b) h = entered from i r l fr _ (binary s Subtract at a b) (computed from i r l fr (binary s Subtract at a b) at Subtract a b (expression_code c i r a) (λ i2 r2. expression_code c i2 r2 b) h.4.0 h.4.1 h.1 h.3 (expressions from i r l fr a h.0) (λ i2 r2 l2 f2. expressions from i2 r2 l2 f2 b h.2))
+    expressions from i r l fr (binary s Multiply at a b) h = entered from i r l fr _ (binary s Multiply at a b) (computed from i r l fr (binary s Multiply at a b) at Multiply a b (expression_code c i r a) (λ i2 r2. expression_code c i2 r2 b) h.4.0 h.4.1 h.1 h.3 (expressions from i r l fr a h.0) (λ i2 r2 l2 f2. expressions from i2 r2 l2 f2 b h.2))
+    expressions from i r l fr (binary s Divide at a b) h = entered from i r l fr _ (binary s Divide at a b) (computed from i r l fr (binary s Divide at a b) at Divide a b (expression_code c i r a) (λ i2 r2. expression_code c i2 r2 b) h.4.0 h.4.1 h.1 h.3 (expressions from i r l fr a h.0) (λ i2 r2 l2 f2. expressions from i2 r2 l2 f2 b h.2))
+    expressions from i r l fr (binary s Remainder at a b) h = entered from i r l fr _ (binary s Remainder at a b) (computed from i r l fr (binary s Remainder at a b) at Remainder a b (expression_code c i r a) (λ i2 r2. expression_code c i2 r2 b) h.4.0 h.4.1 h.1 h.3 (expressions from i r l fr a h.0) (λ i2 r2 l2 f2. expressions from i2 r2 l2 f2 b h.2))
+
+    pub places : (from i r : ℕ) (l : Label) → F from i r l → (site : Site) (own guard : Option ℕ) (e : Expression) → PlaceTyped own guard e → PlaceValue from i r l (place_code c i r site own guard e) (target c.program.typed own e) guard (ground_of around f ways y c e)
+    places from i r l fr site own guard (identifier s x) h = entered_place from i r l fr [] _ guard _ (named_place from i r l fr (what_names c x.site.token) (own_field own 0) guard _ refl)
+    places from i r l fr site own guard (parentheses s a) h = entered_place from i r l fr _ _ guard _ (places from i r l fr site own guard a h)
+    places from i r l fr site own guard (index s a n) h = entered_place from i r l fr _ _ guard _
+        (index_place from i r l fr site own guard s a n (place_code c i r site None None a) (expression_code c i r a) (λ d. expression_code c i d n) (PlaceTyped None None a) (Typed a) (Typed n)
+        (λ (k : PlaceTyped None None a). places from i r l fr site None None a k) (λ (k : Typed a). expressions from i r l fr a k) (λ (k : Typed n). λ r2 l2 f2. expressions from i r2 l2 f2 n k) h)
+    places from i r l fr site own guard (field s a Dot n) h = entered_place from i r l fr _ _ guard _ (places from i r l fr site (Some (own_field own (field_place_named c.program.typed (what_names c n.site.token)))) guard a h)
+    places from i r l fr site own guard (field s a Arrow n) h = entered_place from i r l fr _ _ guard _ (object_place from i r l fr a site (expression_code c i r a) (own_field own (field_place_named c.program.typed (what_names c n.site.token))) guard _ refl h.1 (expressions from i r l fr a h.0))
+    places from i r l fr site own guard (unary s Dereference a) h = entered_place from i r l fr _ _ guard _ (object_place from i r l fr a site (expression_code c i r a) (own_field own 0) guard _ refl h.1 (expressions from i r l fr a h.0))
+    places from i r l fr site own guard (unary s Negate a) h = entered_place from i r l fr [] (variable 0) guard _ (variable_place from i r l fr 0 guard _ refl)
+    places from i r l fr site own guard (unary s Not a) h = entered_place from i r l fr [] (variable 0) guard _ (variable_place from i r l fr 0 guard _ refl)
+    places from i r l fr site own guard (unary s Complement a) h = entered_place from i r l fr [] (variable 0) guard _ (variable_place from i r l fr 0 guard _ refl)
+    places from i r l fr site own guard _ h = entered_place from i r l fr [] (variable 0) guard _ (variable_place from i r l fr 0 guard _ refl)
