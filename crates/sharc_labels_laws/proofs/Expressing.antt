@@ -43,7 +43,7 @@ use Rattle.sharc_invariant.specs.Typed.{ints_in, refs_in}
 use Rattle.sharc_invariant.proofs.Frames.{wider}
 use Rattle.sharc_invariant.proofs.Scoped.{less_entry_refl, less_number_refl, scoped_fill}
 use Rattle.sharc_labels_laws.specs.Stretches.{Mark, Setting, Way, AreOpen}
-use Rattle.sharc_labels_laws.specs.Places.{Stands, IsNamed, AreLow, no_type, mark}
+use Rattle.sharc_labels_laws.specs.Places.{Stands, IsNamed, IsPlain, AreLow, no_type, mark}
 use Rattle.sharc_labels_laws.specs.Premises.{Typing, HoldsVariables, Ground, number_in_global, IntegerTyped, ReferenceTyped}
 use Rattle.sharc_labels_laws.specs.Typable.{type_by, GoesTo, Widens, IsTypeIn, IsVoid, IsNumber, IsPointer, ground_of, CellTyped, ValueTyped, VariableTyped, NameTyped, ConstantTyped, UnaryTyped, result_of, IntegersTyped, ComparedTyped, BinaryTyped, HasType, AreFields, ElementTyped, IndexTypable, FieldTypable, IsTypable, IsPlaceTypable}
 use Rattle.sharc_labels_laws.proofs.Fitting.{fits_same, fits_by}
@@ -52,7 +52,7 @@ use Rattle.sharc_labels_laws.proofs.Telling.{told, other_than}
 use Rattle.sharc_labels_laws.proofs.Rules.{on_nothing}
 use Rattle.sharc_labels_laws.proofs.Parts.{P, At, at_number, at_fill, number_above, none_some, does, then_do, before, pre, post, none, enter, constant_at, null_kept_at, from_free, from_written, false_at, compute_at, negate_at, complement_at, number_dropped, truth_at, pop_at, compare_at, logical_at, either_at, check_at, pointee_at, print_at, join_at, with_number}
 use Rattle.sharc_labels_laws.proofs.Variables.{local_at, move_at}
-use Rattle.sharc_labels_laws.proofs.Indexes.{IsPlain, FindsElement, element_of, fresh_name}
+use Rattle.sharc_labels_laws.proofs.Indexes.{FindsElement, element_of, fresh_name}
 use Rattle.sharc_labels_laws.proofs.Accessed.{Frame, placed, based, ints_of, indexed, int_value, reference_value, holds_over, wider_names}
 use Rattle.sharc_labels_laws.proofs.Placing.{AreFew, which, bounds_at, finds_object, finds_global}
 

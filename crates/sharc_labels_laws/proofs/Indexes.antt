@@ -18,7 +18,7 @@ use Rattle.sharc_invariant.specs.Typed.{IsElement, ints_in, refs_in}
 use Rattle.sharc_invariant.proofs.Scoped.{less_refl, less_entry_refl, less_number_refl}
 use Rattle.sharc_typed.specs.Passes.{with_passes, IsNumberOf}
 use Rattle.sharc_labels_laws.specs.Stretches.{Mark, Setting, Tells, Fits, IsLine}
-use Rattle.sharc_labels_laws.specs.Places.{Stands, mark}
+use Rattle.sharc_labels_laws.specs.Places.{Stands, IsPlain, mark}
 use Rattle.sharc_labels_laws.proofs.Standing.{less_by, scoped_frame, stands_number}
 use Rattle.sharc_labels_laws.proofs.Telling.{told, other_than, same_as}
 use Rattle.sharc_labels_laws.proofs.Rules.{Plain, on_move, on_move_named, on_bounds, on_global_bounds}
@@ -87,15 +87,6 @@ IsValue (Within w) = Unit {0}
 IsValue (Indexes n) = Unit {0}
 IsValue (OfElement base field e) = ⊥
 IsValue (OfGlobal first count elements e) = ⊥
-
--- a number that is at hand as a value
-abbrev pub IsPlain : Number → Type 0
-IsPlain Anything = Unit {0}
-IsPlain (Exactly z) = Unit {0}
-IsPlain (Within w) = Unit {0}
-IsPlain (Indexes n) = ⊥
-IsPlain (OfElement base field e) = ⊥
-IsPlain (OfGlobal first count elements e) = ⊥
 
 plain_value : (n : Number) → IsPlain n → IsValue n
 plain_value Anything h = tt

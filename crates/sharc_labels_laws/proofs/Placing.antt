@@ -15,12 +15,12 @@ use Rattle.sharc_invariant.specs.Types.{StaticType, cells_of}
 use Rattle.sharc_invariant.specs.Labels.{Empty, Refers, Element, Nth, Number, Anything, OfElement, OfGlobal, Closed, Label, HasBase, Fresh, set_number, fill}
 use Rattle.sharc_invariant.specs.Typed.{ints_in, refs_in}
 use Rattle.sharc_labels_laws.specs.Stretches.{Mark, Setting}
-use Rattle.sharc_labels_laws.specs.Places.{IsNamed, mark}
+use Rattle.sharc_labels_laws.specs.Places.{IsNamed, IsPlain, mark}
 use Rattle.sharc_labels_laws.specs.Premises.{Typing}
 use Rattle.sharc_labels_laws.proofs.Standing.{Unnamed}
 use Rattle.sharc_labels_laws.proofs.Rules.{Plain, on_bounds, on_global_bounds}
 use Rattle.sharc_labels_laws.proofs.Parts.{P, At, at_number, with_number}
-use Rattle.sharc_labels_laws.proofs.Indexes.{IsPlain, FindsElement, element_of, fresh_name, is_fresh, bound_at, beside_at}
+use Rattle.sharc_labels_laws.proofs.Indexes.{FindsElement, element_of, fresh_name, is_fresh, bound_at, beside_at}
 use Rattle.sharc_labels_laws.proofs.Accessed.{indexed}
 
 module _ (around : Setting) (f : ℕ) (D : (ℕ → Mark) → Type 0) (y : Typing) (c : Context) (low : (p : ℕ) → y.named c p ≡ true → p < ref_count c.scope) (from : ℕ) where
