@@ -179,7 +179,7 @@ module _ (around : Setting) (f : ℕ) (D : (ℕ → Mark) → Type 0) (y : Typin
   written : (ints : ℕ → Number) (j : ℕ) (w : Width) → LessNumber (put ints j (Within w) j) (Within w)
   written ints j w = subst (λ n. LessNumber n (Within w)) (sym (put_same ints j (Within w))) (less_number_refl (Within w))
 
-  wider_names : (r k : ℕ) (s : StaticType) → r ≤ k → IsNamed named r s → IsNamed named k s
+  pub wider_names : (r k : ℕ) (s : StaticType) → r ≤ k → IsNamed named r s → IsNamed named k s
   wider_names r k s le fits p m = let z = fits p m in let lt = z.0 in (omega (arith, lt, le), z.1)
 
   module _ (i r : ℕ) (l : Label) (fr : Frame i r l) (guard : Option ℕ) (ground : Ground) (e : Element) (v : ℕ) (base_fits : IsNamed named r ground.base) (copy : v ≤ r) where

@@ -18,7 +18,7 @@ use Rattle.sharc_invariant.specs.Typed.{IsElement, ints_in, refs_in}
 use Rattle.sharc_invariant.proofs.Scoped.{less_refl, less_entry_refl, less_number_refl}
 use Rattle.sharc_typed.specs.Passes.{with_passes, IsNumberOf}
 use Rattle.sharc_labels_laws.specs.Stretches.{Mark, Setting, Tells, Fits, IsLine}
-use Rattle.sharc_labels_laws.specs.Places.{Stands, mark}
+use Rattle.sharc_labels_laws.specs.Places.{Stands, IsPlain, mark}
 use Rattle.sharc_labels_laws.proofs.Standing.{less_by, scoped_frame, stands_number}
 use Rattle.sharc_labels_laws.proofs.Telling.{told, other_than, same_as}
 use Rattle.sharc_labels_laws.proofs.Rules.{Plain, on_move, on_move_named, on_bounds, on_global_bounds}
@@ -87,15 +87,6 @@ IsValue (Within w) = Unit {0}
 IsValue (Indexes n) = Unit {0}
 IsValue (OfElement base field e) = ⊥
 IsValue (OfGlobal first count elements e) = ⊥
-
--- a number that is at hand as a value
-abbrev pub IsPlain : Number → Type 0
-IsPlain Anything = Unit {0}
-IsPlain (Exactly z) = Unit {0}
-IsPlain (Within w) = Unit {0}
-IsPlain (Indexes n) = ⊥
-IsPlain (OfElement base field e) = ⊥
-IsPlain (OfGlobal first count elements e) = ⊥
 
 plain_value : (n : Number) → IsPlain n → IsValue n
 plain_value Anything h = tt
@@ -189,7 +180,7 @@ pub record FindsElement (around : Setting) (f : ℕ) (l : Label) (o : ℕ → �
   pub within : (i n : ℕ) → OpWrites (ints_in around.code (Some f)) (refs_in around.code (Some f)) (o i n) → i < ints_in around.code (Some f)
   pub is : (g : ℕ → Number) (n e m : ℕ) → m ≡ e * count + offset n → IsNumberOf around.targets (record l { ints = g; gate = Closed }) m (place n (Nth e))
   pub based : (n : ℕ) (e : Element) (q : ℕ) → HasBase (place n e) q → l.env q ≢ Empty
-  pub rule : (table : ℕ → Mark) (pc : ℕ) (g : ℕ → Number) (from until : ℕ) (e : Mark) (next : Fits around.targets e (table (pc + 1))) (i n : ℕ) (elem : Element) → Plain around f (mark (record l { ints = g; gate = Closed }) from until)
+  pub rule : (table : ℕ → Mark) (pc : ℕ) (g : ℕ → Number) (from until : ℕ) (e : Mark) (next : Fits around.targets e (table (pc + 1))) (i n : ℕ) (elem : Element) → n < count → Plain around f (mark (record l { ints = g; gate = Closed }) from until)
       → OpWrites (ints_in around.code (Some f)) (refs_in around.code (Some f)) (o i n) → ((ps : List Pass) → IsElement (with_passes (record l { ints = g; gate = Closed }) ps) (g i) elem) → Less (set_number (record l { ints = g; gate = Closed }) i (place n elem)) e.label
       → ((k : Know) → Tells around.targets k (mark (record l { ints = g; gate = Closed }) from until) → Tells around.targets (know_next (o i n) k) e) → IsLine around f table pc (mark (record l { ints = g; gate = Closed }) from until) (o i n)
 
@@ -224,14 +215,14 @@ module _ (around : Setting) (f : ℕ) (D : (ℕ → Mark) → Type 0) (named : �
     element_known n name e z = ap (λ y. element_of y name) z
 
     -- with no mutex beside it
-    pub bound_at : (m : Number) (n name : ℕ) → IsPlain m → Fresh (set_number l i m) name → Q (V l i m) (o i n ∷ []) (V l i (place n (element_of m name)))
-    bound_at m n name plain_m fresh =
+    pub bound_at : (m : Number) (n name : ℕ) → n < count → IsPlain m → Fresh (set_number l i m) name → Q (V l i m) (o i n ∷ []) (V l i (place n (element_of m name)))
+    bound_at m n name few plain_m fresh =
         let g : ℕ → Number = put l.ints i m in
         let elem = element_of m name in
         number_op around f D named top low from i r l at g Closed (i + 1) refl (λ j lt. put_other l.ints i j m (λ e. omega (arith, e, lt))) (omega arith) (place n elem) (below_refs n elem) (o i n) (finds.refs i n) (finds.ints i n)
         (λ k h q is. remembered k g i m n name (i + 1) (put_same l.ints i m) early (omega arith) (plain_value m plain_m) h elem (λ e z. element_known m name e z) (put l.ints i (place n elem)) q is)
         (finds.within i n)
-        (λ table pc in_it plain next less tells. finds.rule table pc g from (i + 1) (V l i (place n elem)) next i n elem plain in_it
+        (λ table pc in_it plain next less tells. finds.rule table pc g from (i + 1) (V l i (place n elem)) next i n elem few plain in_it
         (λ ps. subst (λ y. IsElement (with_passes (record l { ints = g; gate = Closed }) ps) y elem) (sym (put_same l.ints i m)) (is_element (with_passes (record l { ints = g; gate = Closed }) ps) m name plain_m fresh)) less tells)
 
     -- ---- with the number of the mutex beside it
@@ -293,8 +284,8 @@ module _ (around : Setting) (f : ℕ) (D : (ℕ → Mark) → Type 0) (named : �
     moves (OfGlobal first elements size e) name plain fresh = absurd plain
 
     -- the first one becomes a place
-    first_at : (m2 : Number) (n name : ℕ) (elem : Element) → IsValue m2 → ((ps : List Pass) (g : ℕ → Number) → IsElement (with_passes (record l { ints = g; gate = Closed }) ps) m2 elem) → ((e : ℕ) → m2 ≡ Exactly (pos e) → elem ≡ Nth e) → Q (two m2 m2) (o i n ∷ []) (two (place n elem) m2)
-    first_at m2 n name elem value is_elem known =
+    first_at : (m2 : Number) (n name : ℕ) (elem : Element) → n < count → IsValue m2 → ((ps : List Pass) (g : ℕ → Number) → IsElement (with_passes (record l { ints = g; gate = Closed }) ps) m2 elem) → ((e : ℕ) → m2 ≡ Exactly (pos e) → elem ≡ Nth e) → Q (two m2 m2) (o i n ∷ []) (two (place n elem) m2)
+    first_at m2 n name elem few value is_elem known =
         let g : ℕ → Number = put (put l.ints i m2) (i + 1) m2 in
         let E = place n elem in
         let g2 : ℕ → Number = put (put l.ints i E) (i + 1) m2 in
@@ -308,7 +299,7 @@ module _ (around : Setting) (f : ℕ) (D : (ℕ → Mark) → Type 0) (named : �
           bases = put_all (λ j y. (q : ℕ) → HasBase y q → l.env q ≢ Empty) (put l.ints i E) (i + 1) m2 (λ q b. at.stands.full q (value_base m2 r q value b)) (λ j _. put_all (λ j y. (q : ℕ) → HasBase y q → l.env q ≢ Empty) l.ints i E (λ q b. at.stands.full q (below_refs n elem q b)) (λ j _ q b. at.stands.full q (at.stands.bases j q b)) j);
           numbers = λ j ge. swapped E m2 j (finds.within i n in_it) (h.numbers j ge) ge;
         })
-        (λ table pc in_it h next. finds.rule table pc g from (i + 1 + 1) (two E m2) next i n elem (record { owned = at.owned; scoped = h; closed = refl }) in_it
+        (λ table pc in_it h next. finds.rule table pc g from (i + 1 + 1) (two E m2) next i n elem few (record { owned = at.owned; scoped = h; closed = refl }) in_it
         (λ ps. subst (λ y. IsElement (with_passes (record l { ints = g; gate = Closed }) ps) y elem) (sym at_i) (is_elem ps g))
         (same_ints (put g i E) g2 (λ j. again E m2 j))
         (λ k t. told around.targets (o i n) k (two m2 m2) (two E m2) t (λ q v w _. absurd (false≢true (sym (finds.refs i n q) ∙ w))) (λ q _ _. refl)
@@ -330,26 +321,26 @@ module _ (around : Setting) (f : ℕ) (D : (ℕ → Mark) → Type 0) (named : �
         swapped E m2 j lt e ge = sym (unchanged E m2 j (λ z. omega (arith, z, lt, ge))) ∙ e
 
     -- and the second one
-    second_at : (m2 a : Number) (n name : ℕ) (elem : Element) → ((q : ℕ) → HasBase a q → q < r) → IsValue m2 → ((ps : List Pass) (g : ℕ → Number) → IsElement (with_passes (record l { ints = g; gate = Closed }) ps) m2 elem) → ((e : ℕ) → m2 ≡ Exactly (pos e) → elem ≡ Nth e) → Q (two a m2) (o (i + 1) n ∷ []) (two a (place n elem))
-    second_at m2 a n name elem base value is_elem known =
+    second_at : (m2 a : Number) (n name : ℕ) (elem : Element) → n < count → ((q : ℕ) → HasBase a q → q < r) → IsValue m2 → ((ps : List Pass) (g : ℕ → Number) → IsElement (with_passes (record l { ints = g; gate = Closed }) ps) m2 elem) → ((e : ℕ) → m2 ≡ Exactly (pos e) → elem ≡ Nth e) → Q (two a m2) (o (i + 1) n ∷ []) (two a (place n elem))
+    second_at m2 a n name elem few base value is_elem known =
         let l2 = set_number l i a in
         let g : ℕ → Number = put (put l.ints i a) (i + 1) m2 in
         let at2 = at_number around f D named top low from i r l at a base in
         number_op around f D named top low from (i + 1) r l2 at2 g Closed (i + 1 + 1) refl (λ j lt. put_other (put l.ints i a) (i + 1) j m2 (λ e. omega (arith, e, lt))) (omega arith) (place n elem) (below_refs n elem) (o (i + 1) n) (finds.refs (i + 1) n) (finds.ints (i + 1) n)
         (λ k h q is. remembered k g (i + 1) m2 n name (i + 1 + 1) (put_same (put l.ints i a) (i + 1) m2) (omega (arith, early)) (omega arith) value h elem known (put (put l.ints i a) (i + 1) (place n elem)) q is)
         (finds.within (i + 1) n)
-        (λ table pc in_it plain next less tells. finds.rule table pc g from (i + 1 + 1) (two a (place n elem)) next (i + 1) n elem plain in_it
+        (λ table pc in_it plain next less tells. finds.rule table pc g from (i + 1 + 1) (two a (place n elem)) next (i + 1) n elem few plain in_it
         (λ ps. subst (λ y. IsElement (with_passes (record l { ints = g; gate = Closed }) ps) y elem) (sym (put_same (put l.ints i a) (i + 1) m2)) (is_elem ps g)) less tells)
 
-    pub beside_at : (m : Number) (n k name : ℕ) → IsPlain m → Fresh (set_number l i m) name → Q (V l i m) (op.Move (i + 1) i ∷ o i n ∷ o (i + 1) k ∷ []) (two (place n (element_of m name)) (place k (element_of m name)))
-    beside_at m n k name plain fresh =
+    pub beside_at : (m : Number) (n k name : ℕ) → n < count → k < count → IsPlain m → Fresh (set_number l i m) name → Q (V l i m) (op.Move (i + 1) i ∷ o i n ∷ o (i + 1) k ∷ []) (two (place n (element_of m name)) (place k (element_of m name)))
+    beside_at m n k name few few2 plain fresh =
         let elem = element_of m name in
         let m2 = named_number m name in
         let value = named_value m name in
         before around f D named top low from (V l i m) (two m2 m2) (op.Move (i + 1) i) (o i n ∷ o (i + 1) k ∷ []) (two (place n elem) (place k elem)) (moves m name plain fresh)
         (before around f D named top low from (two m2 m2) (two (place n elem) m2) (o i n) (o (i + 1) k ∷ []) (two (place n elem) (place k elem))
-        (first_at m2 n name elem value (λ ps g. is_element_named (with_passes (record l { ints = g; gate = Closed }) ps) m name) (λ e z. named_nth m name e z))
-        (second_at m2 (place n elem) k name elem (below_refs n elem) value (λ ps g. is_element_named (with_passes (record l { ints = g; gate = Closed }) ps) m name) (λ e z. named_nth m name e z)))
+        (first_at m2 n name elem few value (λ ps g. is_element_named (with_passes (record l { ints = g; gate = Closed }) ps) m name) (λ e z. named_nth m name e z))
+        (second_at m2 (place n elem) k name elem few2 (below_refs n elem) value (λ ps g. is_element_named (with_passes (record l { ints = g; gate = Closed }) ps) m name) (λ e z. named_nth m name e z)))
       where
         named_nth : (m : Number) (name e : ℕ) → named_number m name ≡ Exactly (pos e) → element_of m name ≡ Nth e
         named_nth (Exactly (pos n)) name e z = same_nth n e z

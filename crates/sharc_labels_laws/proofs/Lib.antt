@@ -13,3 +13,5 @@ pub mod Indexes
 pub mod Lines
 pub mod Law
 pub mod Accessed
+pub mod Placing
+pub mod Expressing

@@ -2,17 +2,22 @@
 use Rattle.std.specs.Prelude.{ℕ, ◌+◌, ◌≡◌, ◌<◌, ◌≤◌, ◌⊎◌, Bool, true, false, List, [], ◌∷◌, ◌++◌, length, slice_get, Some}
 use Rattle.sharc_tree.specs.declared.token.Site.{Site}
 use Rattle.sharc_tree.specs.declared.tree.expression.BinaryOperator.{BinaryOperator}
+use Rattle.sharc_tree.specs.Tree.{Expression}
+use Rattle.sharc_names.specs.Kinds.{is_integer}
 use Rattle.sharc_code.specs.declared.instr.Width.TheVariants.{Char}
 use Rattle.sharc_flat_form.specs.declared.op.Op.{Op}
 use Rattle.sharc_flat_form.specs.Machine.{Flat}
-use Rattle.sharc_flat.specs.Places.{pointee_code}
-use Rattle.sharc_flat.specs.Flattened.{drop_code, truth_code, compare_code, logical_code, either_code}
+use Rattle.sharc_flat.specs.Places.{pointee_code, width_of}
+use Rattle.sharc_flat.specs.Flattened.{kind_of, is_ref, expression_code, drop_code, truth_code, compare_code, logical_code, either_code}
+use Rattle.sharc_flat.specs.Scope.{Context, ref_count}
 use Rattle.sharc_guard.specs.Known.{Access, access, known}
 use Rattle.sharc_invariant.specs.Types.{StaticType}
-use Rattle.sharc_invariant.specs.Labels.{Refers, Within, Label, set_number, fill}
+use Rattle.sharc_invariant.specs.Labels.{Refers, Number, Within, Label, LessNumber, set_number, fill}
 use Rattle.sharc_typed.specs.Passes.{TypedAnyhow, Knows}
 use Rattle.sharc_labels_laws.specs.Stretches.{Mark, Setting, Tells, IsLine, flat_labels, Way, LeadsAmong}
-use Rattle.sharc_labels_laws.specs.Places.{Stands, IsNamed, AreLow, mark}
+use Rattle.sharc_labels_laws.specs.Places.{Stands, IsNamed, IsPlain, AreLow, mark}
+use Rattle.sharc_labels_laws.specs.Premises.{Typing}
+use Rattle.sharc_labels_laws.specs.Typable.{GoesTo, StandsIn, IsTypable}
 
 -- ---- lines
 -- each line of flat code is one of a function
@@ -77,3 +82,29 @@ module _ (z : Setting) (f : ℕ) (ways : List Way) (named : ℕ → Bool) (top f
 -- The parts of expressions that speak of no type of the source, where the first registers of a frame are taken.
 abbrev pub PartsAreTyped : Type 0
 PartsAreTyped = (z : Setting) (f : ℕ) (ways : List Way) (named : ℕ → Bool) (top from i r : ℕ) (l : Label) → AreLow named top → top ≤ r → Stands named i r l → l.function ≡ Some f → PartsLead z f ways named top from i r l
+
+-- ---- expressions
+module _ (z : Setting) (f : ℕ) (ways : List Way) (y : Typing) (c : Context) (from i r : ℕ) (l : Label) (os : List Op) (e : Expression) where
+  -- A reference of the type to which it goes comes to the first free register, and may be a copy of a variable's.
+  pub record ReferenceComes (s : StaticType) : Type 0 where
+    pub copy : ℕ
+    pub is : (copy ≡ r) ⊎ (copy < ref_count c.scope)
+    pub leads : LeadsAmong z f ways (mark l from i) os (mark (fill l r (Refers s) copy false) from i)
+
+  -- an integer of its width comes to the first free register, and its number may be known
+  pub record NumberComes : Type 0 where
+    pub number : Number
+    pub plain : IsPlain number
+    pub fits : LessNumber number (Within (width_of (kind_of c e)))
+    pub leads : LeadsAmong z f ways (mark l from i) os (mark (set_number l i number) from (i + 1))
+
+  -- by whether it is a reference, and else an integer
+  abbrev pub ValueComes : Bool → Bool → Type 0
+  ValueComes true integer = (s : StaticType) → GoesTo (y.entry c e) s → IsNamed (y.named c) (ref_count c.scope) s → ReferenceComes s
+  ValueComes false true = NumberComes
+  ValueComes false false = LeadsAmong z f ways (mark l from i) os (mark l from i)
+
+-- The code of an expression of which the types say what is asked is typed, wherever it is.
+abbrev pub ExpressionsAreTyped : Type 0
+ExpressionsAreTyped = (z : Setting) (f : ℕ) (ways : List Way) (y : Typing) (c : Context) → AreLow (y.named c) (ref_count c.scope) → (from i r : ℕ) (l : Label) → StandsIn y c f from i r l → (e : Expression) → IsTypable z f ways y c e
+    → ValueComes z f ways y c from i r l (expression_code c i r e) e (is_ref c e) (is_integer (kind_of c e))

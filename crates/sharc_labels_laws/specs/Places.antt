@@ -3,7 +3,7 @@ use Rattle.std.specs.Prelude.{ℕ, ◌≡◌, ◌≢◌, ◌<◌, ◌≤◌, ◌
 use Rattle.sharc_code.specs.declared.instr.Cell.{Cell}
 use Rattle.sharc_flat_form.specs.declared.op.Spot.{Spot}
 use Rattle.sharc_invariant.specs.Types.{StaticType, Field, Mentions}
-use Rattle.sharc_invariant.specs.Labels.{Empty, Anything, Closed, Label, EntryMentions, HasBase}
+use Rattle.sharc_invariant.specs.Labels.{Empty, Number, Anything, Exactly, Within, Indexes, OfElement, OfGlobal, Closed, Label, EntryMentions, HasBase}
 use Rattle.sharc_invariant.specs.Typed.{HasCell, IsMode}
 use Rattle.sharc_typed.specs.Inside.{lock_of}
 use Rattle.sharc_typed.specs.Lines.{MayPass}
@@ -26,6 +26,15 @@ pub record Stands (named : ℕ → Bool) (ints refs : ℕ) (l : Label) : Type 0 
 -- types that name constants alone
 abbrev pub IsNamed : (ℕ → Bool) → ℕ → StaticType → Type 0
 IsNamed named refs s = (p : ℕ) → Mentions s p → (p < refs) × (named p ≡ true)
+
+-- a number that is that of a value
+abbrev pub IsPlain : Number → Type 0
+IsPlain Anything = Unit {0}
+IsPlain (Exactly z) = Unit {0}
+IsPlain (Within w) = Unit {0}
+IsPlain (Indexes n) = ⊥
+IsPlain (OfElement base field e) = ⊥
+IsPlain (OfGlobal first count elements e) = ⊥
 
 -- constants stand among the first registers
 abbrev pub AreLow : (ℕ → Bool) → ℕ → Type 0

@@ -1,6 +1,6 @@
 //! Laws of flattened code.
 
-ghost use Rattle.sharc_labels_laws.specs.Laws.{LinesAreTyped, LinesKnow, LinesTell, PartsAreTyped, StretchesJoin};
+ghost use Rattle.sharc_labels_laws.specs.Laws.{ExpressionsAreTyped, LinesAreTyped, LinesKnow, LinesTell, PartsAreTyped, StretchesJoin};
 
 /// Lines that stand in a table of marks are typed whatever checks are remembered.
 pub fn lines_law()
@@ -25,4 +25,9 @@ pub fn stretches_law()
 /// The parts of expressions that speak of no type of the source are typed.
 pub fn parts_law()
     ensures { PartsAreTyped }
+{}
+
+/// The code of an expression of which the types of the source say what is asked is typed.
+pub fn expressions_law()
+    ensures { ExpressionsAreTyped }
 {}
