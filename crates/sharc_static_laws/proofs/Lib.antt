@@ -7,6 +7,7 @@ pub mod Names
 pub mod Origins
 pub mod Passed
 pub mod Places
+pub mod Points
 pub mod Registers
 pub mod Same
 pub mod Transferred
