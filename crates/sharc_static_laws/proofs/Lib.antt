@@ -8,6 +8,7 @@ pub mod Origins
 pub mod Passed
 pub mod Places
 pub mod Points
+pub mod Recasting
 pub mod Registers
 pub mod Same
 pub mod Transferred

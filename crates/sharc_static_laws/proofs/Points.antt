@@ -73,7 +73,7 @@ use Rattle.sharc_target_laws.specs.Targets.{lock_named as table_lock, field_lock
 
 -- ---- lists of locks
 -- the one behind so many
-nth : (pre rest : List TypeLock) (x d : TypeLock) → slice_index_or (pre ++ x ∷ rest) (length pre) d ≡ x
+pub nth : (pre rest : List TypeLock) (x d : TypeLock) → slice_index_or (pre ++ x ∷ rest) (length pre) d ≡ x
 nth [] rest x d = refl
 nth (y ∷ pre) rest x d = nth pre rest x d
 

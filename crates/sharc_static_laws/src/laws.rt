@@ -1,6 +1,7 @@
 // The laws, each the contract of a function that does nothing.
 
 ghost use Rattle.sharc_static_laws.specs.Calls.{ArgumentsPass};
+ghost use Rattle.sharc_static_laws.specs.Casting.{CastsRecast};
 ghost use Rattle.sharc_static_laws.specs.Held.{HeldLaws};
 ghost use Rattle.sharc_static_laws.specs.Laws.{GivenLaws};
 ghost use Rattle.sharc_static_laws.specs.Pointing.{PlacesPoint};
@@ -14,7 +15,7 @@ use sharc_ctype_laws::laws::{
 };
 use sharc_mode::shown::row_laws;
 use sharc_mode_laws::laws::rules_are_met;
-use sharc_target_laws::laws::expressions_found;
+use sharc_target_laws::laws::{expressions_found, numbers_found};
 
 /// What is assigned, begun with and returned has the type of what it is given to.
 pub fn given_laws()
@@ -75,5 +76,17 @@ pub fn places_point()
     rules_are_met();
     each_type_found();
     each_path_found();
+    meets_constraints();
+}
+
+/// What the cells of an object are and refer to does not change by a cast.
+pub fn casts_recast()
+    ensures { CastsRecast }
+{
+    row_laws();
+    numbers_found();
+    expressions_found();
+    one_type();
+    rules_are_met();
     meets_constraints();
 }
