@@ -11,6 +11,7 @@ pub mod Points
 pub mod Recasting
 pub mod Registers
 pub mod Same
+pub mod Starts
 pub mod Transferred
 pub mod Walk
 pub mod Written

@@ -265,6 +265,16 @@ module _ (rows : RowLaws) (numbers_found : NumbersFound) (expressions_found : Ex
         subst (λ z. Contains (shapes m2) (row_shape m2 (base_of z) row)) k (f.there (omega (arith, count))),
       )
 
+  -- a type by its base and its modes
+  same_static : (k : Kind) (modes : List Sharing) (b : Base) (q : Sharing) (rest : List Sharing) → base_of k ≡ b → modes ≡ q ∷ rest → static_of c k modes ≡ record { target = number m2 (shape_of b (q ∷ rest)); locks = locks_at c (q ∷ rest) }
+  same_static k modes b q rest one is = ap (static_of c k) is ∙ ap (λ z. record { target = number m2 (shape_of z (q ∷ rest)); locks = locks_at c (q ∷ rest) }) one
+
+  same_below : (b : Base) (p : Sharing) (other rest : List Sharing) → map form_of other ≡ map form_of rest → locks_at c other ≡ locks_at c rest
+      → static_of c (object b 1) (p ∷ other) ≡ static_of c (object b 1) (p ∷ rest)
+  same_below b p other rest forms locks =
+      ap (λ fs. record { target = number m2 (record { base = b; forms = form_of p ∷ fs }); locks = locks_at c (p ∷ other) }) forms
+      ∙ ap (λ ls. record { target = number m2 (shape_of b (p ∷ rest)); locks = ls }) (locks_first c p other ∙ ap (λ ls. first_lock c p ++ ls) locks ∙ sym (locks_first c p rest))
+
   cast_recasts : (found : List Sharing) → modes_at m2 a ≡ Some found → (l : Label) (r : ℕ) → Recasts (targets_of m2) l r (static_of c (kind_at r2 a) found) (static_of c (declared_kind t) (modes_of m2 (cast_row r2 s)))
   cast_recasts found is l r = by (row_at r2 a) refl is
     where
@@ -288,12 +298,9 @@ module _ (rows : RowLaws) (numbers_found : NumbersFound) (expressions_found : Ex
           let from_there : Contains (shapes m2) (shape_of b (q ∷ rest)) = subst (λ z. Contains (shapes m2) (shape_of b z)) from.0 from.1 in
           let to_there : Contains (shapes m2) (shape_of b (p ∷ rest)) =
           subst (λ fs. Contains (shapes m2) (record { base = b; forms = form_of p ∷ fs })) forms (subst (λ z. Contains (shapes m2) (shape_of b z)) to.0 to.1) in
-          let from_is : static_of c (kind_at r2 a) found ≡ from_type numbers_found c b q p rest =
-          ap (static_of c (kind_at r2 a)) found_is ∙ ap (λ z. record { target = number m2 (shape_of z (q ∷ rest)); locks = locks_at c (q ∷ rest) }) base_a in
+          let from_is : static_of c (kind_at r2 a) found ≡ from_type numbers_found c b q p rest = same_static (kind_at r2 a) found b q rest base_a found_is in
           let to_is : static_of c (declared_kind t) (modes_of m2 (cast_row r2 s)) ≡ to_type numbers_found c b q p rest =
-          ap (static_of c (declared_kind t)) to.0 ∙ ap (λ z. record { target = number m2 (shape_of z (p ∷ other)); locks = locks_at c (p ∷ other) }) base_t
-          ∙ ap (λ fs. record { target = number m2 (record { base = b; forms = form_of p ∷ fs }); locks = locks_at c (p ∷ other) }) forms
-          ∙ ap (λ ls. record { target = number m2 (shape_of b (p ∷ rest)); locks = ls }) (locks_first c p other ∙ ap (λ ls. first_lock c p ++ ls) locks ∙ sym (locks_first c p rest)) in
+          ◌∙◌ {b = static_of c (object b 1) (p ∷ other)} (same_static (declared_kind t) (modes_of m2 (cast_row r2 s)) b p other base_t to.0) (same_below b p other rest forms locks) in
           subst (λ z. Recasts (targets_of m2) l r z (static_of c (declared_kind t) (modes_of m2 (cast_row r2 s)))) (sym from_is)
           (subst (Recasts (targets_of m2) l r (from_type numbers_found c b q p rest)) (sym to_is) (recasts numbers_found c b q p rest from_there to_there l r))
 

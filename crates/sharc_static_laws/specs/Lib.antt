@@ -5,5 +5,6 @@ pub mod Laws
 pub mod Pointing
 pub mod Scopes
 pub mod Standing
+pub mod Starting
 pub mod Static
 pub mod Taken

@@ -7,15 +7,16 @@ ghost use Rattle.sharc_static_laws.specs.Laws.{GivenLaws};
 ghost use Rattle.sharc_static_laws.specs.Pointing.{PlacesPoint};
 ghost use Rattle.sharc_static_laws.specs.Scopes.{ScopeLaws};
 ghost use Rattle.sharc_static_laws.specs.Standing.{FunctionsStand};
+ghost use Rattle.sharc_static_laws.specs.Starting.{SpawnedBegin};
 ghost use Rattle.sharc_static_laws.specs.Taken.{TakenLaws};
 
 use sharc_ctype_laws::laws::{
     all_fair, each_names_found, each_names_itself, each_path_found, each_type_found,
-    meets_constraints, one_type,
+    meets_constraints, one_type, spawns_threads,
 };
 use sharc_mode::shown::row_laws;
 use sharc_mode_laws::laws::rules_are_met;
-use sharc_target_laws::laws::{expressions_found, numbers_found};
+use sharc_target_laws::laws::{expressions_found, numbers_found, variables_found};
 
 /// What is assigned, begun with and returned has the type of what it is given to.
 pub fn given_laws()
@@ -89,4 +90,17 @@ pub fn casts_recast()
     one_type();
     rules_are_met();
     meets_constraints();
+}
+
+/// What a function that is spawned takes is shared, and its type names nothing of another frame.
+pub fn spawned_begin()
+    ensures { SpawnedBegin }
+{
+    row_laws();
+    numbers_found();
+    variables_found();
+    spawns_threads();
+    rules_are_met();
+    all_fair();
+    each_names_itself();
 }
