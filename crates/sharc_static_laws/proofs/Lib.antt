@@ -7,8 +7,11 @@ pub mod Names
 pub mod Origins
 pub mod Passed
 pub mod Places
+pub mod Points
+pub mod Recasting
 pub mod Registers
 pub mod Same
+pub mod Starts
 pub mod Transferred
 pub mod Walk
 pub mod Written

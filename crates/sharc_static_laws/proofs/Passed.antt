@@ -98,12 +98,12 @@ parameter_among (x ∷ ds) (argument a all) d e has =
     (head_or_tail (given x a) (given d e) (passed ds all) has)
 
 -- what is constant where it is used
-record Use (r : Resolution) (e : Expression) (at : ℕ) : Type 0 where
-  variable : ℕ
-  names : named_at r at ≡ named.Variable variable
-  kind : kind_at r e ≡ variable_kind (declaration_at r variable)
+pub record Use (r : Resolution) (e : Expression) (at : ℕ) : Type 0 where
+  pub variable : ℕ
+  pub names : named_at r at ≡ named.Variable variable
+  pub kind : kind_at r e ≡ variable_kind (declaration_at r variable)
 
-use_named : (r : Resolution) (e : Expression) (at : ℕ) → constant_use r e ≡ Some at → Use r e at
+pub use_named : (r : Resolution) (e : Expression) (at : ℕ) → constant_use r e ≡ Some at → Use r e at
 use_named r (tree.identifier s i) at h = by (is_constant_named r (named_at r i.site.token)) refl h
   where
     one : (n : Named) → named_at r i.site.token ≡ n → is_constant_named r n ≡ true → i.site.token ≡ at → Use r (tree.identifier s i) at

@@ -201,11 +201,11 @@ file_known r (function x ∷ rest) f s =
     record { fields = k.fields; globals = k.globals; results = ((own.0, s.0), k.results) }
 
 -- ---- lists
-abbrev IfSome : {A : Type 0} → (A → Type 0) → Option A → Type 0
+abbrev pub IfSome : {A : Type 0} → (A → Type 0) → Option A → Type 0
 IfSome P None = Unit {0}
 IfSome P (Some x) = P x
 
-at_number : {A : Type 0} (P : A → Type 0) (list : List A) (n : ℕ) → AllByRecursion P list → IfSome P (slice_get list n)
+pub at_number : {A : Type 0} (P : A → Type 0) (list : List A) (n : ℕ) → AllByRecursion P list → IfSome P (slice_get list n)
 at_number P [] n all = tt
 at_number P (x ∷ rest) zero all = all.0
 at_number P (x ∷ rest) (suc n) all = at_number P rest n all.1
@@ -214,11 +214,11 @@ found_or_later : {A : Type 0} (P : A → Type 0) (x y : A) (later : Option A) (b
 found_or_later P x y later true h p q = subst P (same_some x y h) p
 found_or_later P x y later false h p q = q h
 
-struct_fields : (r : Resolution) (list : List StructDefinition) (name : List ℕ) (s : StructDefinition) → AllByRecursion (λ x. AllByRecursion (FieldInFile r) x.fields) list → struct_named list name ≡ Some s → AllByRecursion (FieldInFile r) s.fields
+pub struct_fields : (r : Resolution) (list : List StructDefinition) (name : List ℕ) (s : StructDefinition) → AllByRecursion (λ x. AllByRecursion (FieldInFile r) x.fields) list → struct_named list name ≡ Some s → AllByRecursion (FieldInFile r) s.fields
 struct_fields r [] name s all is = absurd (none_some s is)
 struct_fields r (x ∷ rest) name s all is = found_or_later (λ (z : StructDefinition). AllByRecursion (FieldInFile r) z.fields) x s (struct_named rest name) (bytes_eq x.name.text name) is all.0 (λ h. struct_fields r rest name s all.1 h)
 
-field_found : (r : Resolution) (list : List Declaration) (name : List ℕ) (d : Declaration) → AllByRecursion (FieldInFile r) list → field_of list name ≡ Some d → FieldInFile r d
+pub field_found : (r : Resolution) (list : List Declaration) (name : List ℕ) (d : Declaration) → AllByRecursion (FieldInFile r) list → field_of list name ≡ Some d → FieldInFile r d
 field_found r [] name d all is = absurd (none_some d is)
 field_found r (x ∷ rest) name d all is = found_or_later (FieldInFile r) x d (field_of rest name) (bytes_eq x.name.text name) is all.0 (λ h. field_found r rest name d all.1 h)
 

@@ -276,7 +276,7 @@ lower_type c r q x closed got h =
     let is = n.is in
     omega (arith, low, same, count, is)
 
-names_lower : NamesLower
+pub names_lower : NamesLower
 names_lower c r q closed h = by (slice_get (pointers c.scope) r) refl h
   where
     by : (o : Option ℕ) → slice_get (pointers c.scope) r ≡ o → EntryMentions (entry_named c o) q → q < r
