@@ -1,3 +1,4 @@
 pub mod Laws
+pub mod Lvalues
 pub mod Shapes
 pub mod Targets

@@ -1,6 +1,7 @@
 // The laws of the table of targets, each the contract of a function that does nothing.
 
 ghost use Rattle.sharc_target_laws.specs.Laws.{NumbersFound, ShapesClosed, CellsAre, TargetsAre, ExpressionsFound, VariablesFound, ResultsFound, MembersAre, GlobalsAre, GlobalsEnd, GlobalsBegin, LayoutsAre};
+ghost use Rattle.sharc_target_laws.specs.Lvalues.{LvaluesFit};
 
 use sharc_ctype_laws::laws::{
     each_name_once, each_names_itself, each_type_found, meets_constraints, meets_globals, one_type,
@@ -84,4 +85,17 @@ pub fn layouts_are()
     ensures { LayoutsAre }
 {
     within_limits();
+}
+
+/// Each lvalue of a function that is no struct names a variable, or a cell that the table has with what it holds and with its mode.
+pub fn lvalues_fit()
+    ensures { LvaluesFit }
+{
+    each_name_once();
+    only_names();
+    each_type_found();
+    each_names_itself();
+    meets_constraints();
+    one_type();
+    rules_are_met();
 }
