@@ -15,10 +15,12 @@ pub mod Members
 pub mod Moding
 pub mod Numbers
 pub mod Owners
+pub mod Pointees
 pub mod Ready
 pub mod Rows
 pub mod Settling
 pub mod Siblings
 pub mod Table
+pub mod Tables
 pub mod Walk
 pub mod Whole

@@ -1,6 +1,6 @@
 -- Each lvalue that is no struct names a variable, or a cell that the table has with its content and its mode.
-use Rattle.std.proofs.Common.{◌≡◌, ◌⊎◌, inl, inr, ⊎_elim, ℕ, zero, suc, ◌+◌, ◌-◌, ◌<◌, ◌≤◌, Bool, true, false, cond, ◌&&◌, eq-eqb, List, [], ◌∷◌, ◌++◌, length, map, take, drop, slice_index_or, refl, ap, sym, ◌∙◌, subst, arith, Option, Some, None, Contains}
-use Rattle.std.proofs.lemmas.Bool.{false≢true, true≢false, lt-ltb, ne_eqb}
+use Rattle.std.proofs.Common.{◌≡◌, inl, inr, ℕ, zero, suc, ◌+◌, ◌-◌, ◌<◌, ◌≤◌, true, false, cond, ◌&&◌, eq-eqb, List, [], ◌∷◌, ◌++◌, length, map, take, drop, slice_index_or, refl, ap, sym, ◌∙◌, subst, arith, Option, Some, None, Contains}
+use Rattle.std.proofs.lemmas.Bool.{true≢false, lt-ltb, ne_eqb}
 use Rattle.std.specs.Prelude.{option_map}
 use Rattle.sharc_tree.specs.declared.ctype.Base.{Base}
 use Rattle.sharc_tree.specs.declared.ctype.Base.TheVariants as base
@@ -8,7 +8,6 @@ use Rattle.sharc_tree.specs.declared.ctype.Mode.{Mode}
 use Rattle.sharc_tree.specs.declared.ctype.Mode.TheVariants as mode
 use Rattle.sharc_tree.specs.declared.ctype.Path.{Path}
 use Rattle.sharc_tree.specs.declared.tree.declaration.Declaration.{Declaration}
-use Rattle.sharc_tree.specs.declared.tree.declaration.WrittenType.{WrittenType}
 use Rattle.sharc_tree.specs.declared.token.NumberType.TheVariants as number_type
 use Rattle.sharc_tree.specs.declared.tree.declaration.Identifier.{Identifier}
 use Rattle.sharc_tree.specs.declared.tree.expression.Access.TheVariants.{Dot, Arrow}
@@ -21,35 +20,30 @@ use Rattle.sharc_tree.specs.declared.tree.item.StructDefinition.{StructDefinitio
 use Rattle.sharc_tree.specs.Measures.{expressions, in_arguments}
 use Rattle.sharc_tree.specs.Tree.{Expression}
 use Rattle.sharc_tree.specs.Tree as tree
-use Rattle.sharc_names.specs.declared.fault.Named.{Named}
 use Rattle.sharc_names.specs.declared.fault.Named.TheVariants as named
-use Rattle.sharc_names.specs.declared.types.Role.TheVariants as role
 use Rattle.sharc_names.specs.Kinds.{Kind, object, array, is_array, is_null, is_pointer, is_struct_base, is_struct_behind, declared_kind, element_kind}
 use Rattle.sharc_names.specs.Kinds as kinds
 use Rattle.sharc_names.specs.Names.{global_kind, field_of}
-use Rattle.sharc_names.specs.Types.{allowed_there}
-use Rattle.sharc_ctype.specs.declared.entity.Entity.{Entity}
-use Rattle.sharc_ctype.specs.Entities.{declared}
 use Rattle.sharc_ctype.specs.Expressions.{constant_kind, number_kind}
-use Rattle.sharc_ctype.specs.Resolved.{Resolution, named_at, declaration_at, global_at, kind_at, structs_in, globals_in}
+use Rattle.sharc_ctype.specs.Resolved.{Resolution, named_at, declaration_at, global_at, kind_at, structs_in}
 use Rattle.sharc_ctype_laws.specs.Constraints.{HasType, Common, both_shorter, left_long, right_long, struct_named, IsMemberOf, Callee, of_program, of_conditions}
 use Rattle.sharc_ctype_laws.specs.Constraints as typing
-use Rattle.sharc_mode.specs.Cells.{is_mutex_kind, top_of, field_cell, first_of, pointed, named_cell, first_mode, global_cell, declared_cell, field_named, instance, cell_at}
-use Rattle.sharc_mode.specs.Moded.{Assignment, mode_at}
+use Rattle.sharc_mode.specs.Cells.{is_mutex_kind, top_of, field_cell, first_of, pointed, named_cell, global_cell, declared_cell, field_named, cell_at}
+use Rattle.sharc_mode.specs.Moded.{Assignment}
 use Rattle.sharc_mode.specs.Notes.{base_of}
-use Rattle.sharc_mode.specs.Rows.{Reading, written, Row, constant_row, deeper, declared_row, global_row, named_row, reading_through, base_use, behind, row_at, read, modes_of, modes_at}
+use Rattle.sharc_mode.specs.Rows.{Reading, written, Row, constant_row, deeper, declared_row, global_row, named_row, reading_through, base_use, behind, row_at, read, modes_of}
 use Rattle.sharc_mode.specs.Sharings.{Lock, Sharing, locked, lock_of, sharing_of}
 use Rattle.sharc_mode.specs.Sharings as sharings
 use Rattle.sharc_mode_laws.specs.Constructs.{IsExpression}
 use Rattle.sharc_meaning.specs.Cells.{field_place, field_place_named}
 use Rattle.sharc_flat.specs.Places.{Target, variable, in_object, in_object_at, in_global, in_global_at, named_target, own_field, target, global_of}
-use Rattle.sharc_invariant.specs.Types.{FieldMode, FieldLock, Field, Content, Pointer, Target as TableTarget, no_field, row_of, cells_of, field_at}
-use Rattle.sharc_target_laws.specs.Laws.{IsRowOf, IsMemberAt, MembersAre}
-use Rattle.sharc_target_laws.specs.Lvalues.{pointer_of, IsOfObject, IsOfGlobal, LocksFit, are_written, of_type, PointerFits, ContentFits, ModeFits, FieldFits, IsBehindPointer, IsInFile, NamesCell, no_cell, of_object, of_global}
-use Rattle.sharc_target_laws.specs.Shapes.{Form, Shape, form_of, shape_of, row_shape, expression_shape, shapes, number}
-use Rattle.sharc_target_laws.specs.Targets.{own_mode, global_mode, lock_count, type_locks, field_locks, is_private_mode, base_content, pointer_content, declared_content, single, member, base_fields, shape_fields, shape_row, top_mode, global_element, targets_of}
+use Rattle.sharc_invariant.specs.Types.{FieldMode, FieldLock, Field, Content, Pointer, Target as TableTarget, no_field, row_of}
+use Rattle.sharc_target_laws.specs.Laws.{IsRowOf, IsMemberAt}
+use Rattle.sharc_target_laws.specs.Lvalues.{pointer_of, IsOfObject, IsOfGlobal, LocksFit, are_written, of_type, ContentFits, ModeFits, FieldFits, IsBehindPointer, IsInFile, NamesCell, no_cell, of_object, of_global}
+use Rattle.sharc_target_laws.specs.Shapes.{Shape, form_of, shape_of, row_shape, expression_shape, shapes, number}
+use Rattle.sharc_target_laws.specs.Targets.{own_mode, lock_count, type_locks, field_locks, is_private_mode, base_content, pointer_content, declared_content, single, member, base_fields, shape_fields, top_mode, global_element, targets_of}
 use Rattle.sharc_target_laws.proofs.Forms.{row_length}
-use Rattle.sharc_target_laws.proofs.Lists.{head_there, tail_there, left_there, map_length, place_there, same_some, none_some}
+use Rattle.sharc_target_laws.proofs.Lists.{head_there, tail_there, left_there, map_length}
 use Rattle.sharc_target_laws.proofs.Moding.{PathNames, own_fits, global_fits, private_both, global_both, field_fits}
 use Rattle.sharc_target_laws.proofs.Numbers.{numbers_found}
 use Rattle.sharc_target_laws.proofs.Walk.{function_closed}

@@ -1,35 +1,17 @@
 -- The modes of fields in the source and in the table.
-use Rattle.std.proofs.Common.{◌≡◌, ◌⊎◌, inl, inr, ⊎_elim, ℕ, zero, suc, ◌+◌, ◌-◌, ◌<◌, ◌≤◌, ◌==◌, ◌&&◌, Bool, true, false, cond, List, [], ◌∷◌, ◌++◌, length, map, take, drop, slice_index_or, refl, ap, sym, ◌∙◌, subst, arith, Option, Some, None, Contains}
-use Rattle.std.proofs.lemmas.Bool.{false≢true, true≢false, and_parts, lt-ltb, ltb-true}
-use Rattle.std.specs.List.{AllByRecursion}
-use Rattle.std.specs.Prelude.{slice_get, is_none}
-use Rattle.sharc_tree.specs.declared.ctype.Base.{Base}
-use Rattle.sharc_tree.specs.declared.ctype.Base.TheVariants as base
+use Rattle.std.proofs.Common.{◌≡◌, ℕ, ◌-◌, ◌&&◌, Bool, true, false, cond, List, [], ◌∷◌, refl, ap, sym, ◌∙◌, subst, Option, Some, None}
+use Rattle.std.specs.Prelude.{is_none}
 use Rattle.sharc_tree.specs.declared.ctype.Mode.{Mode}
 use Rattle.sharc_tree.specs.declared.ctype.Mode.TheVariants as mode
 use Rattle.sharc_tree.specs.declared.ctype.Path.{Path}
-use Rattle.sharc_tree.specs.declared.ctype.Path.TheVariants.{One, Through}
-use Rattle.sharc_tree.specs.declared.tree.declaration.Declaration.{Declaration}
+use Rattle.sharc_tree.specs.declared.ctype.Path.TheVariants.{One}
 use Rattle.sharc_tree.specs.declared.tree.declaration.WrittenType.{WrittenType}
-use Rattle.sharc_tree.specs.declared.tree.expression.Access.TheVariants.{Dot, Arrow}
-use Rattle.sharc_tree.specs.declared.tree.expression.Constant.{Constant}
-use Rattle.sharc_tree.specs.declared.tree.expression.Constant.TheVariants.{Number, Character, Null}
-use Rattle.sharc_tree.specs.declared.tree.expression.UnaryOperator.TheVariants.{Dereference}
-use Rattle.sharc_tree.specs.declared.tree.item.GlobalDefinition.{GlobalDefinition}
-use Rattle.sharc_tree.specs.declared.tree.item.StructDefinition.{StructDefinition}
-use Rattle.sharc_tree.specs.Measures.{expressions, in_function}
-use Rattle.sharc_tree.specs.Tree.{Expression}
-use Rattle.sharc_tree.specs.Tree as tree
 use Rattle.sharc_names.specs.declared.fault.Named.{Named}
 use Rattle.sharc_names.specs.declared.fault.Named.TheVariants as named
-use Rattle.sharc_names.specs.declared.types.Role.{Role}
-use Rattle.sharc_names.specs.declared.types.Role.TheVariants as role
-use Rattle.sharc_names.specs.Kinds.{Kind, object, array, is_array, is_null, is_pointer, is_struct_base, is_struct_behind, declared_kind}
-use Rattle.sharc_names.specs.Kinds as kinds
+use Rattle.sharc_names.specs.Kinds.{is_pointer, declared_kind}
 use Rattle.sharc_ctype.specs.declared.entity.Entity.{Entity}
-use Rattle.sharc_ctype.specs.Resolved.{Resolution, named_at, named_kind, declaration_at, global_at, kind_at, structs_in}
-use Rattle.sharc_mode.specs.Cells.{is_mutex_kind, is_behind_pointer, top_of, written_cell, field_cell, first_of}
-use Rattle.sharc_mode.specs.Moded.{Assignment}
+use Rattle.sharc_ctype.specs.Resolved.{Resolution, named_at, named_kind}
+use Rattle.sharc_mode.specs.Cells.{is_mutex_kind, is_behind_pointer, top_of, written_cell, field_cell}
 use Rattle.sharc_mode.specs.Sharings.{Lock, Sharing, private, readonly, locked, racy, dynamic, lock_of, is_field, is_sibling_lock, sharing_of}
 use Rattle.sharc_mode.specs.Sharings as sharings
 use Rattle.sharc_mode_laws.specs.Paths.{IsAllowed, global_mutex, sibling_mutex, sibling_pointer, through_constant}
@@ -38,12 +20,11 @@ use Rattle.sharc_mode.specs.declared.place.Place.TheVariants as place
 use Rattle.sharc_meaning.specs.Cells.{field_place, field_place_named}
 use Rattle.sharc_flat_form.specs.Machine.{first_cell}
 use Rattle.sharc_flat.specs.Tables.{globals_of}
-use Rattle.sharc_invariant.specs.Types.{FieldLock, OfType, OfGlobals, OfElement, FieldMode, Under}
+use Rattle.sharc_invariant.specs.Types.{OfGlobals, OfElement, FieldMode, Under}
 use Rattle.sharc_invariant.specs.Types.{FieldMode as own}
 use Rattle.sharc_target_laws.specs.Lvalues.{ModeFits, is_private, is_readonly, is_racy, is_dynamic, locked_by_type, locked_by_global, locked_by_sibling, locked_behind}
-use Rattle.sharc_target_laws.specs.Shapes.{Form, form_of}
+use Rattle.sharc_target_laws.specs.Shapes.{form_of}
 use Rattle.sharc_target_laws.specs.Targets.{lock_named, field_lock, own_mode, global_mode, is_private_mode, locked_mode, written_mode, field_mode}
-use Rattle.sharc_target_laws.proofs.Lists.{same_some, none_some}
 
 -- ---- paths that are allowed
 -- what a path names that may stand in a field or a global

@@ -1,5 +1,5 @@
 -- What the cells of lvalues stand on, by the laws of typed programs and of modes.
-use Rattle.std.proofs.Common.{◌≡◌, ⊎_elim, ℕ, zero, suc, ◌+◌, ◌-◌, ◌<◌, ◌==◌, ◌&&◌, ◌||◌, eq-eqb, Bool, true, false, cond, List, [], ◌∷◌, length, map, slice_index_or, refl, ap, sym, ◌∙◌, subst, arith, Option, Some, None, Contains, bytes_eq}
+use Rattle.std.proofs.Common.{◌≡◌, ℕ, zero, suc, ◌+◌, ◌-◌, ◌<◌, ◌==◌, ◌&&◌, ◌||◌, Bool, true, false, cond, List, [], ◌∷◌, length, map, slice_index_or, refl, ap, sym, ◌∙◌, subst, arith, Option, Some, None, Contains, bytes_eq}
 use Rattle.std.proofs.lemmas.Bool.{false≢true, ne_eqb, ltb-true}
 use Rattle.std.specs.List.{AllByRecursion}
 use Rattle.std.specs.Prelude.{slice_get, nat_lt}
@@ -14,35 +14,32 @@ use Rattle.sharc_tree.specs.declared.tree.item.GlobalDefinition.{GlobalDefinitio
 use Rattle.sharc_tree.specs.declared.tree.item.StructDefinition.{StructDefinition}
 use Rattle.sharc_tree.specs.Low.{IsLow}
 use Rattle.sharc_tree.specs.Measures.{in_function}
-use Rattle.sharc_tree.specs.Placed.{IsPlaced}
 use Rattle.sharc_names.specs.declared.fault.Named.TheVariants as named
 use Rattle.sharc_names.specs.declared.types.Role.{Role}
 use Rattle.sharc_names.specs.declared.types.Role.TheVariants as role
-use Rattle.sharc_names.specs.Kinds.{object, is_array, is_struct_base, is_struct_behind, declared_kind}
+use Rattle.sharc_names.specs.Kinds.{object, is_struct_base, is_struct_behind}
 use Rattle.sharc_names.specs.Names.{field_of}
 use Rattle.sharc_names.specs.Types.{is_allowed, allowed_there}
 use Rattle.sharc_ctype.specs.declared.entity.Entity.{Entity}
 use Rattle.sharc_ctype.specs.declared.entity.Numbered.{Numbered}
 use Rattle.sharc_ctype.specs.Entities.{declared, entities_in, entity_at, positions_of, written_modes, first_depth}
-use Rattle.sharc_ctype.specs.Resolved.{Resolution, IsResolved, named_at, kind_at, global_at, structs_in, globals_in, functions_in}
-use Rattle.sharc_ctype_laws.specs.Constraints.{HasType, struct_named}
+use Rattle.sharc_ctype.specs.Resolved.{Resolution, named_at, kind_at, global_at, structs_in, globals_in, functions_in}
+use Rattle.sharc_ctype_laws.specs.Constraints.{HasType}
 use Rattle.sharc_ctype_laws.specs.Declared.{IsItself}
 use Rattle.sharc_ctype_laws.specs.Found.{EachTypeFound}
 use Rattle.sharc_ctype_laws.specs.Laws.{EachNameOnce, OnlyNames, EachNamesItself, MeetsConstraints, OneType}
 use Rattle.sharc_graph.specs.declared.graph.Finding.TheVariants.{Apart, Source, Behind}
 use Rattle.sharc_mode.specs.Cells.{top_of, first_mode, global_cell}
-use Rattle.sharc_mode.specs.Flows.{IsLeastAssignment, mode_found}
-use Rattle.sharc_mode.specs.Moded.{Assignment, mode_at}
-use Rattle.sharc_mode.specs.Rows.{Reading, written, Row, targets_from, entity_row, declared_row, modes_of}
-use Rattle.sharc_mode.specs.Settled.{otherwise_of, settled_modes}
+use Rattle.sharc_mode.specs.Flows.{mode_found}
+use Rattle.sharc_mode.specs.Moded.{Assignment}
+use Rattle.sharc_mode.specs.Rows.{Reading, written, targets_from, entity_row, modes_of}
+use Rattle.sharc_mode.specs.Settled.{otherwise_of}
 use Rattle.sharc_mode.specs.Sharings.{Lock, locked, lock_of, sharing_of}
 use Rattle.sharc_mode.specs.WellFormed.{place_of}
-use Rattle.sharc_mode.specs.WellModed.{WellModed}
 use Rattle.sharc_mode.specs.declared.place.Place.TheVariants as place
 use Rattle.sharc_mode_laws.specs.Constructs.{IsExpression, IsWritten}
 use Rattle.sharc_mode_laws.specs.Laws.{RulesAreMet}
 use Rattle.sharc_mode_laws.specs.Paths.{IsAllowed, global_mutex, sibling_mutex, sibling_pointer, through_constant}
-use Rattle.sharc_target_laws.specs.Laws.{IsRowOf}
 use Rattle.sharc_target_laws.specs.Lvalues.{LvaluesFit}
 use Rattle.sharc_target_laws.specs.Shapes.{form_of}
 use Rattle.sharc_target_laws.proofs.Expressing.{expressions_found}

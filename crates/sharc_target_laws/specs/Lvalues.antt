@@ -1,6 +1,5 @@
 -- The cell of an lvalue, as the table has it: what it holds, and under which mode.
-use Rattle.std.specs.Prelude.{◌≡◌, ◌⊎◌, ℕ, zero, suc, ◌+◌, ◌-◌, ◌<◌, true, false, List, [], ◌∷◌, length, map, Option, Some, None, slice_index_or, if◌then◌else◌}
-use Rattle.sharc_tree.specs.declared.ctype.Base.{Base}
+use Rattle.std.specs.Prelude.{◌≡◌, ◌⊎◌, ℕ, zero, suc, ◌-◌, ◌<◌, true, false, List, [], ◌∷◌, length, map, Option, Some, None, slice_index_or, if◌then◌else◌}
 use Rattle.sharc_tree.specs.declared.tree.item.GlobalDefinition.{GlobalDefinition}
 use Rattle.sharc_tree.specs.declared.tree.expression.Access.TheVariants.{Dot, Arrow}
 use Rattle.sharc_tree.specs.declared.tree.expression.UnaryOperator.TheVariants.{Dereference}
@@ -21,7 +20,7 @@ use Rattle.sharc_meaning.specs.Cells.{field_place}
 use Rattle.sharc_flat_form.specs.Machine.{first_cell}
 use Rattle.sharc_flat.specs.Places.{Target, in_object, in_object_at, in_global, in_global_at, target}
 use Rattle.sharc_flat.specs.Tables.{globals_of}
-use Rattle.sharc_invariant.specs.Types.{FieldLock, OfType, OfGlobals, OfElement, FieldMode, Under, FieldType, Content, Pointer, Field, no_field, cells_of, field_at}
+use Rattle.sharc_invariant.specs.Types.{FieldLock, OfType, OfGlobals, OfElement, FieldMode, Under, Content, Pointer, Field, no_field, cells_of, field_at}
 use Rattle.sharc_invariant.specs.Types.{FieldMode as own}
 use Rattle.sharc_target_laws.specs.Shapes.{form_of, expression_shape, number}
 use Rattle.sharc_target_laws.specs.Targets.{lock_count, type_locks, field_locks, base_content, global_element, targets_of}
