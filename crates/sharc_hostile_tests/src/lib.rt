@@ -1,0 +1,23 @@
+//! Hostile use of the top call: tests alone, over sources and sinks in memory.
+//!
+//! Nothing stands on this crate, and it has no code of its own.
+#![tactic(auto)]
+
+#[cfg(test)]
+mod cut;
+#[cfg(test)]
+mod deep;
+#[cfg(test)]
+mod limits;
+#[cfg(test)]
+mod long;
+#[cfg(test)]
+mod outcome;
+#[cfg(test)]
+mod refused;
+#[cfg(test)]
+mod streams;
+#[cfg(test)]
+mod texts;
+#[cfg(test)]
+mod values;
