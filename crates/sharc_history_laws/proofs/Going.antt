@@ -1,4 +1,4 @@
--- A thread that does not make a turn of Exit says neither that it returns nor that it is gone.
+-- A thread that does not make a turn of Exit says neither that it returns nor that it is gone, and never wakes somebody in a word without waiters.
 use Rattle.std.proofs.Common.{◌≡◌, ℕ, ℤ, pos, negsuc, zero, suc, ◌+◌, ◌*◌, min, Bool, true, false, not, ◌&&◌, ◌||◌, ◌==◌, nat_lt, length, is_some, if◌then◌else◌, refl, sym, ap, ◌∙◌}
 use Rattle.std.specs.Prelude.{Result, Ok, Err}
 use Rattle.sharc_word.specs.declared.step.TheConstants.{THREADS}
@@ -27,14 +27,20 @@ use Rattle.sharc_code.specs.declared.state.Stage.{Stage}
 use Rattle.sharc_code.specs.declared.state.Stage.TheVariants.{Rests, Looks, Clears, Makes, Empties, Lowers, FreeLooks, FreeClears, Uncounts, Links, Names, Hands, Begins, Enters, Wakes}
 use Rattle.sharc_code.specs.Arithmetic.{computed, negated, is_zero, holds}
 use Rattle.sharc_code.specs.Layout.{granule_at, granule_of, cell_of, cell_word, state_word}
-use Rattle.sharc_code.specs.Machine.{Machine, Own, act, int, ref, goes, goes_to, asserts, with_result, has_room, called, returned, holds_none, is_of_null, is_held, indexed, wrote, with_note, checked, lock_checked, raise, lower, test, tested, after_new, asks_new, new, new_state, elements_of, looks, clear, data_granules, free_looks, empties, emptied, free, layout_at, spawn, with_parameter, entered, start, function_of, wakes, signal, is_positive, fields, largest, at_stage, place, set_ref, accessed, move_ref, trapped, locked, joined, join, woken, word, Local, Asks, step_of}
+use Rattle.sharc_code.specs.Machine.{Machine, Own, act, int, ref, goes, goes_to, asserts, with_result, has_room, called, returned, holds_none, is_of_null, is_held, indexed, wrote, with_note, checked, lock_checked, raise, lower, test, tested, after_new, asks_new, new, new_state, elements_of, looks, clear, data_granules, free_looks, empties, emptied, free, layout_at, spawn, with_parameter, entered, start, function_of, rests, wakes, signal, is_positive, fields, largest, at_stage, place, set_ref, accessed, move_ref, trapped, locked, joined, join, woken, word, Local, Asks, step_of}
 use Rattle.sharc_invariant.specs.Words.{is_withdrawing, is_ended}
 use Rattle.sharc_code.specs.Path.{after}
 
--- it withdraws only where it did before, and has not ended
+-- it is to wake one of the waiters of a word without any
+abbrev pub wakes_nobody : Stage → Bool
+wakes_nobody (Wakes seen) = seen == 0
+wakes_nobody _ = false
+
+-- it withdraws only where it did before, has not ended, and wakes nobody only where it did before
 pub record Going (m x : Machine) : Type 0 where
   pub on : is_ended x.at.state ≡ false
   pub withdraws : is_withdrawing x.own.stage ≡ true → is_withdrawing m.own.stage ≡ true
+  pub wakes : wakes_nobody x.own.stage ≡ true → wakes_nobody m.own.stage ≡ true
 
 either : (m : Machine) (b : Bool) (x y : Machine) → Going m x → Going m y → Going m (if b then x else y)
 either m true x y h k = h
@@ -51,14 +57,14 @@ is_exit _ = false
 module _ (code : Code) (s : Shape) (m : Machine) where
   -- the stage is as it was
   same : (x : Machine) → is_ended x.at.state ≡ false → x.own.stage ≡ m.own.stage → Going m x
-  same x on stage = record { on = on; withdraws = λ q. ap is_withdrawing (sym stage) ∙ q }
+  same x on stage = record { on = on; withdraws = λ q. ap is_withdrawing (sym stage) ∙ q; wakes = λ q. ap wakes_nobody (sym stage) ∙ q }
 
   -- or one of another instruction
-  plain : (x : Machine) → is_ended x.at.state ≡ false → is_withdrawing x.own.stage ≡ false → Going m x
-  plain x on stage = record { on = on; withdraws = λ q. absurd (let f : true ≡ false = sym q ∙ stage in cc) }
+  plain : (x : Machine) → is_ended x.at.state ≡ false → is_withdrawing x.own.stage ≡ false → wakes_nobody x.own.stage ≡ false → Going m x
+  plain x on stage wakes = record { on = on; withdraws = λ q. absurd (let f : true ≡ false = sym q ∙ stage in cc); wakes = λ q. absurd (let f : true ≡ false = sym q ∙ wakes in cc) }
 
-  at_call : (x : Machine) (pc ints refs site : ℕ) → (is_withdrawing x.own.stage ≡ true → is_withdrawing m.own.stage ≡ true) → Going m (called x pc ints refs site)
-  at_call x pc ints refs site h = either m (has_room x ints refs) _ _ (record { on = refl; withdraws = h }) (record { on = refl; withdraws = h })
+  at_call : (x : Machine) (pc ints refs site : ℕ) → (is_withdrawing x.own.stage ≡ true → is_withdrawing m.own.stage ≡ true) → (wakes_nobody x.own.stage ≡ true → wakes_nobody m.own.stage ≡ true) → Going m (called x pc ints refs site)
+  at_call x pc ints refs site h k = either m (has_room x ints refs) _ _ (record { on = refl; withdraws = h; wakes = k }) (record { on = refl; withdraws = h; wakes = k })
 
   at_result : (r site : ℕ) (z : Result ℤ ℕ) → Going m (with_result m r site z)
   at_result r site (Ok z) = same _ refl refl
@@ -103,13 +109,13 @@ module _ (code : Code) (s : Shape) (m : Machine) where
   at_sole site found = either m (found == 1) _ _ (same _ refl refl) (same _ refl refl)
 
   at_after_new : (r site : ℕ) (state : NewView) (t : NewTurn) → Going m (after_new m r site state t)
-  at_after_new r site state (Do step) = plain _ refl refl
-  at_after_new r site state (Made header) = plain _ refl refl
+  at_after_new r site state (Do step) = plain _ refl refl refl
+  at_after_new r site state (Made header) = plain _ refl refl refl
   at_after_new r site state HeapFull = same _ refl refl
 
   at_ask_new : (r site : ℕ) (state : NewView) (t : NewTurn) (found : ℕ) → Going m (after (asks_new m r site state t) found)
   at_ask_new r site state (Do step) found = at_after_new r site (told state found) (turn_of (told state found))
-  at_ask_new r site state (Made header) found = plain _ refl refl
+  at_ask_new r site state (Made header) found = plain _ refl refl refl
   at_ask_new r site state HeapFull found = same _ refl refl
 
   at_new : (r elements cells site : ℕ) (stage : Stage) (found : ℕ) → Going m (after (new s m r elements cells site stage) found)
@@ -117,38 +123,38 @@ module _ (code : Code) (s : Shape) (m : Machine) where
   at_new r elements cells site _ found = at_ask_new r site (told (new_state s m elements cells) 0) (turn_of (told (new_state s m elements cells) 0)) found
 
   at_look : (done all : ℕ) → Going m (looks m done all)
-  at_look done all = either m (nat_lt done all) _ _ (plain _ refl refl) (plain _ refl refl)
+  at_look done all = either m (nat_lt done all) _ _ (plain _ refl refl refl) (plain _ refl refl refl)
 
   at_clear : (h cells : ℕ) (stage : Stage) (found : ℕ) → Going m (after (clear s m h cells stage) found)
-  at_clear h cells (Looks done all) found = plain _ refl refl
+  at_clear h cells (Looks done all) found = plain _ refl refl refl
   at_clear h cells (Clears done all seen) found = at_look (done + 1) all
   at_clear h cells _ found = at_look 0 (data_granules found cells)
 
   at_free_look : (l : Layout) (done elements : ℕ) → Going m (free_looks m l done elements)
-  at_free_look l done elements = either m (nat_lt done (data_granules elements l.cells)) _ _ (plain _ refl refl) (plain _ refl refl)
+  at_free_look l done elements = either m (nat_lt done (data_granules elements l.cells)) _ _ (plain _ refl refl refl) (plain _ refl refl refl)
 
   at_empty : (l : Layout) (i elements : ℕ) → Going m (empties m l i elements)
-  at_empty l i elements = either m (nat_lt i (min (elements * fields l) largest)) (at_stage m (Empties i elements)) (free_looks m l 0 elements) (plain _ refl refl) (at_free_look l 0 elements)
+  at_empty l i elements = either m (nat_lt i (min (elements * fields l) largest)) (at_stage m (Empties i elements)) (free_looks m l 0 elements) (plain _ refl refl refl) (at_free_look l 0 elements)
 
   at_emptied : (l : Layout) (i elements found : ℕ) → Going m (emptied m l i elements found)
   at_emptied l i elements zero = at_empty l (i + 1) elements
-  at_emptied l i elements (suc h) = plain _ refl refl
+  at_emptied l i elements (suc h) = plain _ refl refl refl
 
   at_free : (r : ℕ) (l : Layout) (stage : Stage) (found : ℕ) → Going m (after (free code s m r l stage) found)
   at_free r l (Empties i elements) found = at_emptied l i elements found
   at_free r l (Lowers i elements was) found = at_empty l (i + 1) elements
-  at_free r l (FreeLooks done elements) found = plain _ refl refl
+  at_free r l (FreeLooks done elements) found = plain _ refl refl refl
   at_free r l (FreeClears done elements seen) found = at_free_look l (done + 1) elements
-  at_free r l (Uncounts elements) found = plain _ refl refl
-  at_free r l (Links elements) found = plain _ refl refl
+  at_free r l (Uncounts elements) found = plain _ refl refl refl
+  at_free r l (Links elements) found = plain _ refl refl refl
   at_free r l _ found = at_empty l 0 found
 
   at_spawn : (r function : ℕ) (from : Register) (site : ℕ) (stage : Stage) (found : ℕ) → Going m (after (spawn m r function from site stage) found)
-  at_spawn r function from site (Names n) found = plain _ refl refl
-  at_spawn r function from site (Hands n) found = plain _ refl refl
-  at_spawn r function (registers.Int a) site (Begins n) found = plain _ refl refl
-  at_spawn r function (registers.Reference a) site (Begins n) found = plain _ refl refl
-  at_spawn r function from site _ found = either m (nat_lt found THREADS) _ _ (plain _ refl refl) (same _ refl refl)
+  at_spawn r function from site (Names n) found = plain _ refl refl refl
+  at_spawn r function from site (Hands n) found = plain _ refl refl refl
+  at_spawn r function (registers.Int a) site (Begins n) found = plain _ refl refl refl
+  at_spawn r function (registers.Reference a) site (Begins n) found = plain _ refl refl refl
+  at_spawn r function from site _ found = either m (nat_lt found THREADS) _ _ (plain _ refl refl refl) (same _ refl refl)
 
   at_joined : (site found : ℕ) → Going m (joined m site found)
   at_joined site found = either m (found == 0) _ _ (same _ refl refl) (either m (found == 1 || found == 2) _ _ (same _ refl refl) (same _ refl refl))
@@ -177,17 +183,20 @@ module _ (code : Code) (s : Shape) (m : Machine) where
       let f = function_of code function in
       let x = record m { own = record m.own { stage = Rests; function = function } } in
       let e : (with_parameter x f.parameter argument).own.stage ≡ Rests = parameter_stage x f.parameter argument in
-      at_call (with_parameter x f.parameter argument) f.entry 0 0 site (λ q. absurd (let g : true ≡ false = sym q ∙ ap is_withdrawing e in cc))
+      at_call (with_parameter x f.parameter argument) f.entry 0 0 site (λ q. absurd (let g : true ≡ false = sym q ∙ ap is_withdrawing e in cc)) (λ q. absurd (let g : true ≡ false = sym q ∙ ap wakes_nobody e in cc))
 
   at_start : (site : ℕ) (stage : Stage) (found : ℕ) → Going m (after (start code m site stage) found)
   at_start site (Enters function) found = at_enter function site found
-  at_start site _ found = plain _ refl refl
+  at_start site _ found = plain _ refl refl refl
 
   at_wake : (found : ℕ) → Going m (wakes m found)
-  at_wake found = either m (found == 0) _ _ (plain _ refl refl) (plain _ refl refl)
+  at_wake found = elim (found == 0) as (λ b. (found == 0) ≡ b → Going m (if b then rests m else at_stage m (Wakes found))) [
+    | true ↦ λ e. plain _ refl refl refl
+    | false ↦ λ e. plain _ refl refl e
+  ] refl
 
   at_signal : (cond : ℕ) (stage : Stage) (found : ℕ) → Going m (after (signal m cond stage) found)
-  at_signal cond (Wakes seen) found = either m (found == seen) _ _ (plain _ refl refl) (at_wake found)
+  at_signal cond (Wakes seen) found = either m (found == seen) _ _ (plain _ refl refl refl) (at_wake found)
   at_signal cond _ found = at_wake found
 
   pub going : (i : Instr) (found : ℕ) → is_exit i ≡ false → Going m (after (act code s i m) found)
@@ -206,7 +215,7 @@ module _ (code : Code) (s : Shape) (m : Machine) where
   going (Jump pc) found other = same _ refl refl
   going (JumpIfZero r pc) found other = at_jump (is_zero (int m r)) pc
   going (JumpIfNull r pc) found other = at_jump (ref m r == 0) pc
-  going (Call pc ints refs site) found other = at_call m pc ints refs site (λ q. q)
+  going (Call pc ints refs site) found other = at_call m pc ints refs site (λ q. q) (λ q. q)
   going (Return site) found other = at_return site
   going (ChkNull r site) found other = at_assert (not (ref m r == 0)) 1 site
   going (ChkHeld cell site) found other = at_assert (is_held m (word s m cell)) 5 site

@@ -1,4 +1,4 @@
--- A cell of data, of a live object, is written by no turn of typed code but that of an instruction that writes this cell, or of a Free that empties it.
+-- A cell of a live object that is no mutex is written by no turn of typed code but that of an instruction that writes this cell, or of a Free that empties it.
 use Rattle.std.proofs.Common.{◌≡◌, ℕ, ℤ, pos, negsuc, zero, suc, ◌+◌, ◌*◌, ◌/◌, ◌<◌, ◌≤◌, ◌≢◌, Bool, true, false, nat_lt, List, Option, Some, None, if◌then◌else◌, refl, sym, ap, ◌∙◌, subst, arith, ⊎_elim}
 use Rattle.std.specs.Prelude.{slice_index, ◌==◌}
 use Rattle.std.proofs.lemmas.Bool.{cases_eq, cases_lt}
@@ -56,6 +56,27 @@ abbrev pub is_value : Content → Bool
 is_value (Integer w) = true
 is_value (Pointer f) = true
 is_value _ = false
+
+abbrev pub holds_waiters : Content → Bool
+holds_waiters Waiters = true
+holds_waiters _ = false
+
+abbrev pub is_mutex : Content → Bool
+is_mutex MutexWord = true
+is_mutex _ = false
+
+value_other : (c : Content) → is_value c ≡ true → is_mutex c ≡ false
+value_other (Integer w) e = refl
+value_other (Pointer f) e = refl
+value_other MutexWord e = absurd (let z : false ≡ true = e in cc)
+value_other Waiters e = absurd (let z : false ≡ true = e in cc)
+
+-- the cell with waiters that the instruction changes
+abbrev pub waited_cell : Instr → Option Cell
+waited_cell (instrs.CondEnter c site) = Some c
+waited_cell (instrs.CondSignal c site) = Some c
+waited_cell (instrs.CondBroadcast c site) = Some c
+waited_cell _ = None
 
 -- the cell that the instruction writes
 abbrev pub written_cell : Instr → Option Cell
@@ -174,8 +195,9 @@ module _ (P : Type 0) (s : Shape) (target : ℕ) (high : first_cell s ≤ target
 
 -- ---- the turn of an instruction
 module _ (there_laws : CellsAreThere) (pointer_laws : PointersAreThere) (x : Targets) (code : Code) (s : Shape) (ls : Labels) (wt : IsWellTyped x code ls) (fits : Fits code s) (g : Global Machine) (world : World) (st : State x code s ls g world) (t : ℕ) (on : IsOn g t)
-    (o j : ℕ) (live : (world.obj o).live ≡ true) (inside : j < st.cells o) (value : is_value (field_in x (world.obj o).ty j).holds ≡ true) (P : Type 0)
+    (o j : ℕ) (live : (world.obj o).live ≡ true) (inside : j < st.cells o) (other : is_mutex (field_in x (world.obj o).ty j).holds ≡ false) (P : Type 0)
     (written : (c : Cell) → written_cell (instr_at code (g.threads t).at.pc) ≡ Some c → (site : ℕ) (f : Field) → Accesses x code ls (ls.at (g.threads t).at.pc) true c site f → object_of_cell (g.threads t) c ≡ o → number_in (g.threads t) c ≡ j → P)
+    (waited : (c : Cell) → waited_cell (instr_at code (g.threads t).at.pc) ≡ Some c → OnHold (g.threads t).own.stage → (f : Field) → HasCell x code (ls.at (g.threads t).at.pc) c f → f.holds ≡ Waiters → object_of_cell (g.threads t) c ≡ o → number_in (g.threads t) c ≡ j → P)
     (emptied : (r layout site q all : ℕ) → instr_at code (g.threads t).at.pc ≡ instrs.Free r layout site → (g.threads t).own.stage ≡ Empties q all → ref (g.threads t) r ≡ o → P) where
   abbrev target : ℕ
   target = cell_at s o j
@@ -248,12 +270,22 @@ module _ (there_laws : CellsAreThere) (pointer_laws : PointersAreThere) (x : Tar
       let th = there x code s ls wt fits g world st t on hold there_laws c f k in
       Elsewhere (λ e. other_cell (object_of_cell m c) (number_in m c) th.live th.number ne (sym th.word_is ∙ e))
 
-  -- one that holds no value
-  to_plain : (c : Cell) (f : Field) (op : WordOp) → (hold : OnHold (g.threads t).own.stage) → HasCell x code here c f → is_value f.holds ≡ false → Spares (cell_at s o j) P (step_of (word s (g.threads t) c) op)
-  to_plain c f op hold k plain = to_cell c f op hold k (λ eo ej.
+  -- a mutex
+  to_mutex : (c : Cell) (f : Field) (op : WordOp) → (hold : OnHold (g.threads t).own.stage) → HasCell x code here c f → is_mutex f.holds ≡ true → Spares (cell_at s o j) P (step_of (word s (g.threads t) c) op)
+  to_mutex c f op hold k mutex = to_cell c f op hold k (λ eo ej.
       let th = there x code s ls wt fits g world st t on hold there_laws c f k in
-      let q : is_value f.holds ≡ true = ap (λ (f : Field). is_value f.holds) (sym th.field) ∙ ap (λ n. is_value (field_in x (world.obj n).ty (number_in m c)).holds) eo ∙ ap (λ n. is_value (field_in x (world.obj o).ty n).holds) ej ∙ value in
-      let z : true ≡ false = sym q ∙ plain in cc)
+      let q : is_mutex f.holds ≡ false = ap (λ (f : Field). is_mutex f.holds) (sym th.field) ∙ ap (λ n. is_mutex (field_in x (world.obj n).ty (number_in m c)).holds) eo ∙ ap (λ n. is_mutex (field_in x (world.obj o).ty n).holds) ej ∙ other in
+      let z : true ≡ false = sym mutex ∙ q in cc)
+
+  -- one with waiters that change
+  to_waited : (c : Cell) (f : Field) (op : WordOp) → (hold : OnHold (g.threads t).own.stage) → waited_cell (instr_at code (g.threads t).at.pc) ≡ Some c → HasCell x code here c f → f.holds ≡ Waiters → Spares (cell_at s o j) P (step_of (word s (g.threads t) c) op)
+  to_waited c f op hold is k waiters = ⊎_elim
+      (λ (eo : object_of_cell m c ≡ o). ⊎_elim
+      (λ (ej : number_in m c ≡ j). Had (waited c is hold f k waiters eo ej))
+      (λ (ne : number_in m c ≡ j → ⊥). to_cell c f op hold k (λ eo ej. ne ej))
+      (cases_eq (number_in m c) j))
+      (λ (ne : object_of_cell m c ≡ o → ⊥). to_cell c f op hold k (λ eo ej. ne eo))
+      (cases_eq (object_of_cell m c) o)
 
   -- one that is written
   to_written : (c : Cell) (site : ℕ) (f : Field) (op : WordOp) → (hold : OnHold (g.threads t).own.stage) → written_cell (instr_at code (g.threads t).at.pc) ≡ Some c → Accesses x code ls here true c site f → Spares (cell_at s o j) P (step_of (word s (g.threads t) c) op)
@@ -417,22 +449,38 @@ module _ (there_laws : CellsAreThere) (pointer_laws : PointersAreThere) (x : Tar
       let f = fine_of (instrs.Give r site) is in
       Elsewhere (other_count (ref m r) (live_ref x code s ls wt fits g world st t on hold r (sole_ref x code s ls wt fits g world st t on hold r true f.0)))
   by_instr (instrs.Free r layout site) is = to_free r layout site m.own.stage is refl (subst (λ i. StageStands code s st.elements world st.heap g.words t m i m.own.stage) is rn.stage)
-  by_instr (instrs.Lock c site) is = let i = instrs.Lock c site in let f = fine_of i is in to_plain c f.2.0 _ (rest i is refl) f.2.1 (ap is_value f.2.2)
-  by_instr (instrs.Unlock r c site) is = let i = instrs.Unlock r c site in let f = fine_of i is in to_plain c f.2.0 _ (rest i is refl) f.2.1 (ap is_value f.2.2)
+  by_instr (instrs.Lock c site) is = let i = instrs.Lock c site in let f = fine_of i is in to_mutex c f.2.0 _ (rest i is refl) f.2.1 (ap is_mutex f.2.2)
+  by_instr (instrs.Unlock r c site) is = let i = instrs.Unlock r c site in let f = fine_of i is in to_mutex c f.2.0 _ (rest i is refl) f.2.1 (ap is_mutex f.2.2)
   by_instr (instrs.Spawn r f from site) is = to_spawn P s target high m r f from site m.own.stage (λ n e. spawn_low n e r f from site is) (λ n e. hand_low n e r f from site is) (λ n e. begin_low n e r f from site is)
   by_instr (instrs.Join r site) is = to_join P s target high m (int m r) site
   by_instr (instrs.Print r site) is = of_low P s target high _ _ (omega arith)
   by_instr (instrs.Start site) is = to_start P s target high code m site m.own.stage
   by_instr instrs.Exit is = to_exit P s target high m m.own.stage low_number
-  by_instr (instrs.CondEnter c site) is = let i = instrs.CondEnter c site in let f = fine_of i is in to_plain c f.1.0 _ (rest i is refl) f.1.1 (ap is_value f.1.2)
+  by_instr (instrs.CondEnter c site) is = let i = instrs.CondEnter c site in let f = fine_of i is in to_waited c f.1.0 _ (rest i is refl) (ap waited_cell is) f.1.1 f.1.2
   by_instr (instrs.CondWait c site) is = Leaves (λ v. refl)
   by_instr (instrs.CondSignal c site) is = let f = fine_of (instrs.CondSignal c site) is in
-      to_signal P s target high m (word s m c) m.own.stage (λ op. to_plain c f.1.0 op (signal_hold m.own.stage (subst (λ i. StageStands code s st.elements world st.heap g.words t m i m.own.stage) is rn.stage)) f.1.1 (ap is_value f.1.2))
+      to_signal P s target high m (word s m c) m.own.stage (λ op. to_waited c f.1.0 op (signal_hold m.own.stage (subst (λ i. StageStands code s st.elements world st.heap g.words t m i m.own.stage) is rn.stage)) (ap waited_cell is) f.1.1 f.1.2)
     where
       signal_hold : (stage : Stage) → StageStands code s st.elements world st.heap g.words t (g.threads t) (instrs.CondSignal c site) stage → OnHold stage
       signal_hold (Links all) h = absurd h
       signal_hold _ h = tt
-  by_instr (instrs.CondBroadcast c site) is = let i = instrs.CondBroadcast c site in let f = fine_of i is in to_plain c f.1.0 _ (rest i is refl) f.1.1 (ap is_value f.1.2)
+  by_instr (instrs.CondBroadcast c site) is = let i = instrs.CondBroadcast c site in let f = fine_of i is in to_waited c f.1.0 _ (rest i is refl) (ap waited_cell is) f.1.1 f.1.2
 
-  pub spares : Written (turn code s (g.threads t))
-  spares = by_instr (instr_at code m.at.pc) refl
+  pub spares_cell : Written (turn code s (g.threads t))
+  spares_cell = by_instr (instr_at code m.at.pc) refl
+
+-- ---- a cell that holds a value
+module _ (there_laws : CellsAreThere) (pointer_laws : PointersAreThere) (x : Targets) (code : Code) (s : Shape) (ls : Labels) (wt : IsWellTyped x code ls) (fits : Fits code s) (g : Global Machine) (world : World) (st : State x code s ls g world) (t : ℕ) (on : IsOn g t)
+    (o j : ℕ) (live : (world.obj o).live ≡ true) (inside : j < st.cells o) (value : is_value (field_in x (world.obj o).ty j).holds ≡ true) (P : Type 0) where
+  -- no waiters are in it
+  no_waiters : (c : Cell) → waited_cell (instr_at code (g.threads t).at.pc) ≡ Some c → OnHold (g.threads t).own.stage → (f : Field) → HasCell x code (ls.at (g.threads t).at.pc) c f → f.holds ≡ Waiters → object_of_cell (g.threads t) c ≡ o → number_in (g.threads t) c ≡ j → P
+  no_waiters c is hold f k waiters eo ej =
+      let m = g.threads t in
+      let th = there x code s ls wt fits g world st t on hold there_laws c f k in
+      let q : is_value f.holds ≡ true = ap (λ (f : Field). is_value f.holds) (sym th.field) ∙ ap (λ n. is_value (field_in x (world.obj n).ty (number_in m c)).holds) eo ∙ ap (λ n. is_value (field_in x (world.obj o).ty n).holds) ej ∙ value in
+      absurd (let z : true ≡ false = sym q ∙ ap is_value waiters in cc)
+
+  pub spares : ((c : Cell) → written_cell (instr_at code (g.threads t).at.pc) ≡ Some c → (site : ℕ) (f : Field) → Accesses x code ls (ls.at (g.threads t).at.pc) true c site f → object_of_cell (g.threads t) c ≡ o → number_in (g.threads t) c ≡ j → P)
+      → ((r layout site q all : ℕ) → instr_at code (g.threads t).at.pc ≡ instrs.Free r layout site → (g.threads t).own.stage ≡ Empties q all → ref (g.threads t) r ≡ o → P)
+      → SparesTurn (cell_at s o j) P (turn code s (g.threads t))
+  spares written emptied = spares_cell there_laws pointer_laws x code s ls wt fits g world st t on o j live inside (value_other (field_in x (world.obj o).ty j).holds value) P written no_waiters emptied

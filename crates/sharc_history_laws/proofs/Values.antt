@@ -29,7 +29,7 @@ use Rattle.sharc_history_laws.proofs.Consists.{Consists, consists_then, objects_
 use Rattle.sharc_history_laws.proofs.Contents.{value_held}
 use Rattle.sharc_history_laws.proofs.Rules.{put_same, same_behind, freed_gone, decide}
 use Rattle.sharc_history_laws.proofs.Single.{rests_hold}
-use Rattle.sharc_history_laws.proofs.Sparing.{is_value}
+use Rattle.sharc_history_laws.proofs.Sparing.{is_value, holds_waiters}
 use Rattle.sharc_history_laws.proofs.Stands.{target_ref, sole_ref}
 use Rattle.sharc_history_laws.proofs.Tables.{header_of, was_live, length_kept}
 use Rattle.sharc_history_laws.proofs.Writes.{writes}
@@ -40,13 +40,14 @@ yes e = cc
 -- ---- contents of one kind
 pub record SameContent (a b : Content) : Type 0 where
   pub kind : is_value a ≡ is_value b
+  pub waiters : holds_waiters a ≡ holds_waiters b
   pub held : (T : Elements) (v : ℕ) → value_held a T v ≡ value_held b T v
 
 same_as : (a b : Content) → a ≡ b → SameContent a b
-same_as a b e = subst (SameContent a) e (record { kind = refl; held = λ T v. refl })
+same_as a b e = subst (SameContent a) e (record { kind = refl; waiters = refl; held = λ T v. refl })
 
 recast : (l : Label) (r : ℕ) (s t : StaticType) (a b : Content) → IsSameContent l r s t a b → SameContent a b
-recast l r s t (Pointer f) (Pointer k) e = record { kind = refl; held = λ T v. refl }
+recast l r s t (Pointer f) (Pointer k) e = record { kind = refl; waiters = refl; held = λ T v. refl }
 recast l r s t (Pointer f) (Integer w) e = same_as (Pointer f) (Integer w) e
 recast l r s t (Pointer f) MutexWord e = same_as (Pointer f) MutexWord e
 recast l r s t (Pointer f) Waiters e = same_as (Pointer f) Waiters e
