@@ -1,13 +1,12 @@
 -- The cells of an object that a turn makes are 0, and its type is the one that its New's place says.
-use Rattle.std.proofs.Common.{◌≡◌, ℕ, zero, suc, ◌+◌, ◌*◌, ◌/◌, ◌^◌, ◌<◌, ◌≤◌, ◌≢◌, ◌⊎◌, min, max, Bool, true, false, nat_lt, List, ◌∷◌, Option, Some, None, if◌then◌else◌, refl, sym, ap, ◌∙◌, subst, ⊎_elim, arith}
+use Rattle.std.proofs.Common.{◌≡◌, ℕ, ◌+◌, ◌*◌, ◌/◌, ◌^◌, ◌<◌, ◌≢◌, min, max, Bool, true, false, nat_lt, List, ◌∷◌, Option, Some, None, if◌then◌else◌, refl, sym, ap, ◌∙◌, subst, arith}
 use Rattle.std.specs.Prelude.{slice_index}
-use Rattle.std.proofs.lemmas.Bool.Decides.{nat_tests}
 use Rattle.std.proofs.lemmas.List.{get_or-set_other}
 use Rattle.sharc_word.specs.declared.step.WordOp.TheVariants as ops
 use Rattle.sharc_word.specs.declared.step.WordStep.{WordStep}
 use Rattle.sharc_word.specs.declared.step.WordEvent.{WordEvent}
 use Rattle.sharc_word.specs.Words.{word_after}
-use Rattle.sharc_granule.specs.State.{NewView, told}
+use Rattle.sharc_granule.specs.State.{NewView}
 use Rattle.sharc_granule.specs.Asks.{word_number}
 use Rattle.sharc_granule.specs.Stages.{turn_of_stage}
 use Rattle.sharc_granule.specs.declared.arguments.NewArguments.{NewArguments}
@@ -20,16 +19,16 @@ use Rattle.sharc_code.specs.declared.shape.Shape.{Shape}
 use Rattle.sharc_code.specs.declared.state.Stage.{Stage}
 use Rattle.sharc_code.specs.declared.state.Stage.TheVariants.{Makes}
 use Rattle.sharc_code.specs.Laws.{RunLaws}
-use Rattle.sharc_code.specs.Layout.{Fits, first_cell, granules}
-use Rattle.sharc_code.specs.Machine.{Machine, instr_at, act, asks_new, elements_of, int, ref, new, new_state, all_cells}
+use Rattle.sharc_code.specs.Layout.{Fits, first_cell}
+use Rattle.sharc_code.specs.Machine.{Machine, instr_at, act, asks_new, elements_of, int, ref, new, all_cells}
 use Rattle.sharc_code.specs.Path.{turn, after, asked_by}
-use Rattle.sharc_code.specs.Runs.{Turn, Global, MayTurn, after_turn, put, state_now, result_of, words_now, step_of}
+use Rattle.sharc_code.specs.Runs.{Turn, Global, MayTurn, after_turn, state_now, result_of, words_now, step_of}
 use Rattle.sharc_code.specs.Whole.{one_thread, bounds, place_after}
-use Rattle.sharc_invariant.specs.Types.{Targets, ObjectType, StaticType, cells_of}
+use Rattle.sharc_invariant.specs.Types.{Targets, StaticType, cells_of}
 use Rattle.sharc_invariant.specs.Labels.{Entry, Empty, Refers, Unknown, Label, Labels, LessEntry, Leads, fill}
 use Rattle.sharc_invariant.specs.Typed.{IsWellTyped, Fine}
 use Rattle.sharc_invariant.specs.World.{ObjectState}
-use Rattle.sharc_invariant.specs.Words.{cell_at, length_at}
+use Rattle.sharc_invariant.specs.Words.{cell_at}
 use Rattle.sharc_invariant.specs.Objects.{objects_behind, made_behind, new_behind, owned, type_held, entry_type}
 use Rattle.sharc_invariant.specs.State.{IsSmall, StageStands, BuildsAt}
 use Rattle.sharc_invariant.specs.Laws.{Keeps, CellsAreThere, PointersAreThere}

@@ -1,10 +1,8 @@
 -- What cells hold by the events of a run, and as words.
-use Rattle.std.proofs.Common.{◌≡◌, ℕ, ℤ, pos, negsuc, zero, suc, ◌+◌, ◌-◌, ◌*◌, ◌^◌, ◌<◌, ◌≤◌, ◌≢◌, ◌⊎◌, Bool, true, false, ◌||◌, ◌&&◌, cond, List, [], ◌∷◌, reverse, Option, Some, None, refl, sym, ap, ◌∙◌, subst, arith, ltb-true}
-use Rattle.std.specs.Prelude.{slice_index, slice_index_or, find, nat_lt, nat_eq}
+use Rattle.std.proofs.Common.{◌≡◌, ℕ, ℤ, pos, negsuc, suc, ◌+◌, ◌-◌, ◌*◌, ◌^◌, ◌<◌, ◌⊎◌, Bool, true, false, cond, ◌∷◌, reverse, Some, sym, ap, ◌∙◌, subst, arith, ltb-true}
+use Rattle.std.specs.Prelude.{slice_index, find, nat_lt}
 use Rattle.std.proofs.lemmas.Bool.Decides.{nat_tests}
 use Rattle.sharc_tree.specs.declared.event.CellAt.{CellAt}
-use Rattle.sharc_tree.specs.declared.event.Object.{Object}
-use Rattle.sharc_tree.specs.declared.event.Object.TheVariants as objects
 use Rattle.sharc_tree.specs.declared.event.SourceEvent.{SourceEvent}
 use Rattle.sharc_ctype.specs.Resolved.{Resolution}
 use Rattle.sharc_code.specs.declared.code.Code.{Code}
@@ -12,14 +10,12 @@ use Rattle.sharc_code.specs.declared.instr.Width.{Width}
 use Rattle.sharc_code.specs.declared.instr.Width.TheVariants.{Char, Int, Long}
 use Rattle.sharc_code.specs.declared.shape.Shape.{Shape}
 use Rattle.sharc_code.specs.Arithmetic.{word_of, int_of, holds, value_bits}
-use Rattle.sharc_code.specs.Layout.{cell_of}
 use Rattle.sharc_code.specs.Machine.{Machine}
-use Rattle.sharc_code.specs.Ranges.{IsInGlobal}
 use Rattle.sharc_code.specs.Runs.{Global}
-use Rattle.sharc_code.specs.Says.{reference, no_global}
+use Rattle.sharc_code.specs.Says.{reference}
 use Rattle.sharc_gen.specs.Consistent.{Elements}
 use Rattle.sharc_meaning.specs.Store.{changes, value_left, value_by, value_after, initial_value}
-use Rattle.sharc_invariant.specs.Types.{Targets, ObjectType, Content, Integer, MutexWord, Waiters, Pointer, field_in}
+use Rattle.sharc_invariant.specs.Types.{Targets, ObjectType, Content, Pointer, field_in}
 use Rattle.sharc_invariant.specs.Labels.{Labels, Number, Anything, Exactly, Within, Indexes, OfElement, OfGlobal, Narrower, LessNumber}
 use Rattle.sharc_invariant.specs.Typed.{IsWellTyped}
 use Rattle.sharc_invariant.specs.World.{World}

@@ -1,6 +1,6 @@
 -- What a thread was given to begin with, its function and its argument, no turn writes once the thread is started.
-use Rattle.std.proofs.Common.{◌≡◌, ℕ, ℤ, pos, negsuc, zero, suc, ◌+◌, ◌*◌, ◌<◌, ◌≤◌, ◌≢◌, ◌⊎◌, inl, inr, Bool, true, false, nat_lt, List, Option, Some, None, if◌then◌else◌, refl, sym, ap, ◌∙◌, subst, ⊎_elim, arith}
-use Rattle.std.specs.Prelude.{slice_index, ◌==◌}
+use Rattle.std.proofs.Common.{◌≡◌, ℕ, ℤ, pos, negsuc, zero, suc, ◌+◌, ◌*◌, ◌<◌, ◌≤◌, ◌≢◌, true, false, nat_lt, List, Option, Some, None, if◌then◌else◌, refl, sym, ap, ◌∙◌, subst, arith}
+use Rattle.std.specs.Prelude.{slice_index}
 use Rattle.std.proofs.lemmas.List.{get_or-set_other}
 use Rattle.sharc_word.specs.declared.step.TheConstants.{THREADS}
 use Rattle.sharc_word.specs.declared.step.WordOp.{WordOp}
@@ -16,15 +16,14 @@ use Rattle.sharc_granule.specs.declared.stage.Stage.{Stage as NewStage}
 use Rattle.sharc_granule.specs.declared.stage.Stage.TheVariants as news
 use Rattle.sharc_code.specs.declared.code.Code.{Code}
 use Rattle.sharc_code.specs.declared.code.Layout.{Layout}
-use Rattle.sharc_code.specs.declared.instr.Cell.{Cell}
 use Rattle.sharc_code.specs.declared.instr.Register.{Register}
 use Rattle.sharc_code.specs.declared.instr.Instr.{Instr}
 use Rattle.sharc_code.specs.declared.instr.Instr.TheVariants as instrs
 use Rattle.sharc_code.specs.declared.shape.Shape.{Shape}
 use Rattle.sharc_code.specs.declared.state.Stage.{Stage}
 use Rattle.sharc_code.specs.declared.state.Stage.TheVariants.{Looks, Clears, Makes, Empties, Lowers, FreeLooks, FreeClears, Uncounts, Links, Names, Hands, Begins, Enters, Withdraws, WithdrawsFrom, Leaves as Leaving, Wakes}
-use Rattle.sharc_code.specs.Layout.{granules, granule_at, words_of, word_at, cell_word, cell_of, shadow_word, count_word, length_word, first_cell, first_shadow, state_word, function_word, argument_word}
-use Rattle.sharc_code.specs.Machine.{Machine, Turn as Act, Local, Asks, step_of, act, int, ref, word, place, raise, lower, test, new, asks_new, new_state, elements_of, clear, free, layout_at, spawn, join, start, exit, signal, goes, set_ref, accessed, move_ref, joined, trapped, instr_at, pointer_cell}
+use Rattle.sharc_code.specs.Layout.{words_of, cell_word, shadow_word, count_word, length_word, first_cell, first_shadow, state_word, function_word, argument_word}
+use Rattle.sharc_code.specs.Machine.{Machine, Turn as Act, Local, Asks, step_of, act, int, ref, word, place, raise, lower, test, new, asks_new, new_state, elements_of, clear, free, layout_at, spawn, join, start, exit, signal, joined, trapped, instr_at}
 use Rattle.sharc_code.specs.Path.{turn, asked_by}
 use Rattle.sharc_code.specs.Runs.{words_now}
 use Rattle.sharc_code.specs.Runs as Runs

@@ -1,15 +1,12 @@
 -- The event of each turn of typed code may come after those before it, if it does not tell who waits.
-use Rattle.std.proofs.Common.{◌≡◌, ℕ, ℤ, pos, negsuc, zero, suc, ◌+◌, ◌*◌, ◌^◌, ◌<◌, ◌≤◌, ◌≢◌, ◌⊎◌, inl, inr, Bool, true, false, ◌||◌, nat_lt, List, [], ◌∷◌, reverse, Option, Some, None, is_some, if◌then◌else◌, refl, sym, ap, ◌∙◌, subst, ⊎_elim, arith, eqb-true, ltb-true}
-use Rattle.std.specs.Prelude.{slice_index, slice_index_or, length, nat_eq, ◌==◌, Contains}
-use Rattle.std.proofs.lemmas.Bool.{cases_eq}
+use Rattle.std.proofs.Common.{◌≡◌, ℕ, ℤ, pos, negsuc, zero, suc, ◌+◌, ◌<◌, ◌≤◌, ◌≢◌, ◌⊎◌, inl, inr, Bool, true, false, ◌||◌, nat_lt, List, [], ◌∷◌, reverse, Option, Some, None, is_some, if◌then◌else◌, refl, sym, ap, ◌∙◌, subst, ⊎_elim, arith, eqb-true, ltb-true}
+use Rattle.std.specs.Prelude.{slice_index, ◌==◌, Contains}
 use Rattle.std.proofs.lemmas.Bool.Decides.{nat_tests}
 use Rattle.sharc_word.specs.declared.step.TheConstants.{THREADS}
 use Rattle.sharc_word.specs.declared.step.WordStep.{WordStep}
 use Rattle.sharc_word.specs.declared.step.WordOp.TheVariants as ops
 use Rattle.sharc_tree.specs.declared.event.Act.TheVariants as acts
-use Rattle.sharc_tree.specs.declared.event.CellAt.{CellAt}
 use Rattle.sharc_tree.specs.declared.event.SourceEvent.{SourceEvent}
-use Rattle.sharc_granule.specs.State.{NewView}
 use Rattle.sharc_granule.specs.declared.stage.Stage.{Stage as NewStage}
 use Rattle.sharc_granule.specs.declared.stage.Stage.TheVariants as news
 use Rattle.sharc_cond.specs.Waiters.{waits_in}
@@ -18,61 +15,56 @@ use Rattle.sharc_locks.specs.HeldLog.{object_of}
 use Rattle.sharc_ctype.specs.Resolved.{Resolution}
 use Rattle.sharc_code.specs.declared.code.Code.{Code}
 use Rattle.sharc_code.specs.declared.instr.Cell.{Cell}
-use Rattle.sharc_code.specs.declared.instr.Cell.TheVariants as cells
 use Rattle.sharc_code.specs.declared.instr.Instr.{Instr}
 use Rattle.sharc_code.specs.declared.instr.Instr.TheVariants as instrs
 use Rattle.sharc_code.specs.declared.instr.Register.{Register}
 use Rattle.sharc_code.specs.declared.shape.Shape.{Shape}
 use Rattle.sharc_code.specs.declared.state.Stage.{Stage}
 use Rattle.sharc_code.specs.declared.state.Stage.TheVariants.{Makes, Uncounts, Begins, Enters, Withdraws, WithdrawsFrom, Leaves, Wakes}
-use Rattle.sharc_code.specs.declared.state.State.{State}
-use Rattle.sharc_code.specs.declared.state.State.TheVariants as states
 use Rattle.sharc_code.specs.Laws.{RunLaws}
 use Rattle.sharc_code.specs.Arithmetic.{int_of}
-use Rattle.sharc_code.specs.Layout.{Fits, first_cell, state_word, cell_of, words_of}
+use Rattle.sharc_code.specs.Layout.{Fits, first_cell, state_word}
 use Rattle.sharc_code.specs.Machine.{Machine, step_of, instr_at, int, ref, word, act, place, object, is_held, join, joined, trapped, Local, Asks}
 use Rattle.sharc_code.specs.Path.{turn, asked_by}
 use Rattle.sharc_code.specs.Runs.{Turn, Global, MayTurn, result_of}
 use Rattle.sharc_code.specs.Says.{said, cell_at, speaks_of, take_local, nobody, in_signal, in_exit, in_spawn, in_start, in_free, in_new, new_event, event_at, reference}
 use Rattle.sharc_code.specs.Whole.{one_thread, bounds, place_after}
 use Rattle.sharc_code_laws.specs.Told.{state_of, TellsState}
-use Rattle.sharc_gen.specs.Consistent.{Elements, MayFind, IsFree, IsHeld, IsMutex}
+use Rattle.sharc_gen.specs.Consistent.{Elements, MayFind}
 use Rattle.sharc_gen.specs.OfRuns.{table_of}
-use Rattle.sharc_meaning.specs.Events.{locks, unlocks, is_cell, locked_by, unlocked_by, same_cell}
+use Rattle.sharc_meaning.specs.Events.{is_cell, locked_by, unlocked_by}
 use Rattle.sharc_meaning.specs.Obeys.{History}
-use Rattle.sharc_meaning.specs.Store.{MayCome, IsFresh, IsNewThread, was_spawned, went, is_live, is_locked, was_locked_by, value_after}
-use Rattle.sharc_invariant.specs.Types.{Targets, Field, Content, Integer, Pointer, field_in}
+use Rattle.sharc_meaning.specs.Store.{MayCome, IsFresh, was_spawned, went, was_locked_by, value_after}
+use Rattle.sharc_invariant.specs.Types.{Targets, Field, field_in}
 use Rattle.sharc_invariant.specs.Labels.{Labels}
 use Rattle.sharc_invariant.specs.Typed.{IsWellTyped, Fine, Accesses}
-use Rattle.sharc_invariant.specs.World.{World}
 use Rattle.sharc_invariant.specs.Words.{is_ended}
 use Rattle.sharc_invariant.specs.Words as Words
-use Rattle.sharc_invariant.specs.History.{Closing}
-use Rattle.sharc_invariant.specs.State.{IsSmall, StageStands, OnHold, object_of_cell, number_in}
+use Rattle.sharc_invariant.specs.State.{IsSmall, StageStands, OnHold, object_of_cell}
 use Rattle.sharc_invariant.specs.MachineInvariant.{IsOn}
 use Rattle.sharc_invariant.specs.Laws.{Keeps, CellsAreThere, PointersAreThere, AccessesAreAllowed, StateStands}
 use Rattle.sharc_history_laws.specs.Stores.{is_about_waiters}
 use Rattle.sharc_history_laws.proofs.Consists.{Consists, found_is, quiet_is, own_turn, header_built, built_low, live_not_built}
 use Rattle.sharc_history_laws.proofs.Contents.{value_is, newest_value, value_held, IsCellOf, content_of, word_of_cell, Contents}
-use Rattle.sharc_history_laws.proofs.Emptying.{IsFreeing, IsEmptied, is_emptying}
+use Rattle.sharc_history_laws.proofs.Emptying.{IsEmptied}
 use Rattle.sharc_history_laws.proofs.Holding.{cell_eq, holds_in}
 use Rattle.sharc_history_laws.proofs.Lists.{Newest, live_in, is_live_in}
 use Rattle.sharc_history_laws.proofs.Living.{LivesTold}
-use Rattle.sharc_history_laws.proofs.Locked.{IsIn, LogTold, Names, names_cell, one_place, held_told}
-use Rattle.sharc_history_laws.proofs.Locking.{cell_refl, word_is, is_below}
+use Rattle.sharc_history_laws.proofs.Locked.{IsIn, LogTold, names_cell, one_place, held_told}
+use Rattle.sharc_history_laws.proofs.Locking.{word_is}
 use Rattle.sharc_history_laws.proofs.Logged.{LogHas, is_logged}
 use Rattle.sharc_history_laws.proofs.Mutual.{Mutual, MayMutex, no_lock, locked_in, locked_by_in, locked_is, locked_by_is}
 use Rattle.sharc_history_laws.proofs.Mutexless.{mutex_said, no_mutex, not_locked}
 use Rattle.sharc_history_laws.proofs.Logs.{is_locking}
 use Rattle.sharc_history_laws.proofs.OneMode.{place_of, numbers_now}
 use Rattle.sharc_history_laws.proofs.Rules.{number_is}
-use Rattle.sharc_history_laws.proofs.Shared.{number_of, closing_own, some_closing, not_sole}
+use Rattle.sharc_history_laws.proofs.Shared.{number_of}
 use Rattle.sharc_history_laws.proofs.Single.{single, rests_hold}
 use Rattle.sharc_history_laws.proofs.Sparing.{is_value}
-use Rattle.sharc_history_laws.proofs.Stands.{there, gate}
+use Rattle.sharc_history_laws.proofs.Stands.{there}
 use Rattle.sharc_history_laws.proofs.Tables.{header_of}
 use Rattle.sharc_history_laws.proofs.Threaded.{ThreadsTold}
-use Rattle.sharc_history_laws.proofs.Unwritten.{emptying}
+use Rattle.sharc_history_laws.proofs.Unemptied.{not_emptied}
 use Rattle.sharc_history_laws.proofs.Valued.{cell_named}
 
 yes : true ≡ false → ⊥
@@ -86,10 +78,6 @@ IsLegal r R (Some e) = is_about_waiters e.act ≡ false → MayCome r R e e.act
 not_true : (b : Bool) → (b ≡ true → ⊥) → b ≡ false
 not_true true h = absurd (h refl)
 not_true false h = refl
-
-on_hold : (stage : Stage) → is_emptying stage ≡ true → OnHold stage
-on_hold (Rattle.sharc_code.specs.declared.state.Stage.TheVariants.Links all) e = absurd (yes (sym e))
-on_hold _ e = tt
 
 -- what is known of the events before a turn
 pub record Told (r : Resolution) (x : Targets) (code : Code) (s : Shape) (ls : Labels) (earlier : List Turn) (h : Consists x code s ls earlier) (L : Newest) : Type 0 where
@@ -149,29 +137,6 @@ module _ (state_law : StateStands) (cell_laws : CellsAreThere) (pointers : Point
     either false y z a b = b
 
     -- ---- accesses
-    -- nobody has the object of an access alone
-    register_of_cell : (k : Cell) → object_of_cell ((place_after code s earlier).threads one.thread) k ≢ 0 → (q : ℕ) × (slice_index ((place_after code s earlier).threads one.thread).refs q ≡ object_of_cell ((place_after code s earlier).threads one.thread) k)
-    register_of_cell (cells.Global q p) nz = absurd (nz refl)
-    register_of_cell (cells.GlobalAt q p) nz = absurd (nz refl)
-    register_of_cell (cells.Object q p) nz = (m.at.refs + q, refl)
-    register_of_cell (cells.ObjectAt q p) nz = (m.at.refs + q, refl)
-
-    not_alone : (hold : OnHold ((place_after code s earlier).threads one.thread).own.stage) (k : Cell) (site : ℕ) (f : Field) (write : Bool) → Accesses x code ls (ls.at ((place_after code s earlier).threads one.thread).at.pc) write k site f
-        → Closing h.world (object_of_cell ((place_after code s earlier).threads one.thread) k) → ⊥
-    not_alone hold k site f write acc c =
-        let n = object_of_cell m k in
-        let q = register_of_cell k (some_closing state_law x code s ls wt fits g h.world h.state n c) in
-        let mine : t ≡ c.0 = closing_own state_law x code s ls wt fits g h.world h.state n c t q.0 hold q.1 in
-        not_sole s h.world t m (ls.at m.at.pc).gate acc.apart (gate x code s ls wt fits g h.world h.state t on hold) c.1.0 (ap h.world.win mine ∙ c.1.1.0)
-
-    -- so no Free empties it
-    not_emptied : (hold : OnHold ((place_after code s earlier).threads one.thread).own.stage) (k : Cell) (site : ℕ) (f : Field) (write : Bool) → Accesses x code ls (ls.at ((place_after code s earlier).threads one.thread).at.pc) write k site f
-        → IsEmptied code (place_after code s earlier) (object_of_cell ((place_after code s earlier).threads one.thread) k) → ⊥
-    not_emptied hold k site f write acc z =
-        let u = z.0 in
-        let y = z.1.1 in
-        not_alone hold k site f write acc (emptying x code s ls wt fits g h.world h.state u (z.1.0, y.on) (on_hold (g.threads u).own.stage y.emptying) (object_of_cell m k) y.register y.layout y.site y.is_free y.object)
-
     -- what an access finds
     reads : (hold : OnHold ((place_after code s earlier).threads one.thread).own.stage) (k : Cell) (site : ℕ) (f : Field) (write : Bool) → Accesses x code ls (ls.at ((place_after code s earlier).threads one.thread).at.pc) write k site f
         → is_value f.holds ≡ true → found ≡ slice_index (place_after code s earlier).words (word s ((place_after code s earlier).threads one.thread) k)
@@ -192,7 +157,7 @@ module _ (state_law : StateStands) (cell_laws : CellsAreThere) (pointers : Point
         ⊎_elim
         (λ (v : newest_value r L d ≡ value_held (content_of x code h.world d) T (slice_index g.words (word_of_cell code s d))).
         sym (value_is r L d ∙ v ∙ ap (value_held (content_of x code h.world d) T) found_there ∙ ap (λ k. value_held k T found) content))
-        (λ (z : IsEmptied code g (number_of d.object)). absurd (not_emptied hold k site f write acc (subst (IsEmptied code g) n.0 z)))
+        (λ (z : IsEmptied code g (number_of d.object)). absurd (not_emptied state_law x code s ls wt fits g h.world h.state t on hold k acc.apart (subst (IsEmptied code g) n.0 z)))
         (told.contents d cell (ap is_value content ∙ value))
 
     held_by : (j : Instr) → i ≡ j → single j ≡ true → OnHold ((place_after code s earlier).threads one.thread).own.stage

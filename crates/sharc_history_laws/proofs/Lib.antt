@@ -57,3 +57,7 @@ pub mod Values
 pub mod Wholes
 pub mod Withdrawing
 pub mod Writes
+pub mod Queued
+pub mod Waiting
+pub mod Unemptied
+pub mod Woken

@@ -1,7 +1,6 @@
 -- An object that is live by the events of a run is live.
-use Rattle.std.proofs.Common.{◌≡◌, ℕ, ◌≢◌, ◌⊎◌, inl, inr, Bool, true, false, ◌||◌, cond, List, [], ◌∷◌, Option, Some, None, refl, sym, ap, ◌∙◌, subst, ⊎_elim}
+use Rattle.std.proofs.Common.{◌≡◌, ℕ, Bool, true, false, ◌||◌, cond, List, ◌∷◌, Option, Some, None, refl, sym, ap, ◌∙◌, ⊎_elim}
 use Rattle.std.specs.Prelude.{find}
-use Rattle.std.proofs.lemmas.Bool.{cases_eq}
 use Rattle.sharc_tree.specs.declared.event.SourceEvent.{SourceEvent}
 use Rattle.sharc_tree.specs.declared.event.Object.TheVariants as objects
 use Rattle.sharc_granule.specs.declared.stage.Stage.{Stage as NewStage}
@@ -16,10 +15,8 @@ use Rattle.sharc_code.specs.Laws.{RunLaws}
 use Rattle.sharc_code.specs.Layout.{Fits}
 use Rattle.sharc_code.specs.Machine.{Machine, instr_at, ref}
 use Rattle.sharc_code.specs.Runs.{Turn, Global, MayTurn, after_turn, result_of}
-use Rattle.sharc_code.specs.Says.{said, speaks_of}
 use Rattle.sharc_code.specs.Whole.{one_thread, bounds, place_after}
-use Rattle.sharc_gen.specs.OfRuns.{table_of}
-use Rattle.sharc_meaning.specs.Events.{makes, gives, frees, is_number, made_by, freed_by}
+use Rattle.sharc_meaning.specs.Events.{makes, frees, is_number, made_by}
 use Rattle.sharc_meaning.specs.Store.{meets}
 use Rattle.sharc_invariant.specs.Types.{Targets}
 use Rattle.sharc_invariant.specs.Labels.{Labels}
@@ -29,9 +26,9 @@ use Rattle.sharc_invariant.specs.Objects.{objects_behind, made_behind, new_behin
 use Rattle.sharc_invariant.specs.State.{IsSmall}
 use Rattle.sharc_invariant.specs.Laws.{Keeps, CellsAreThere, PointersAreThere, AccessesAreAllowed}
 use Rattle.sharc_history_laws.proofs.Acts.{given_at, freed_at, About}
-use Rattle.sharc_history_laws.proofs.Consists.{Consists, given}
+use Rattle.sharc_history_laws.proofs.Consists.{Consists}
 use Rattle.sharc_history_laws.proofs.Lists.{Newest, live_in, live_other}
-use Rattle.sharc_history_laws.proofs.Rules.{pushed, about_now, same_behind, put_same, decide, number_yes, number_not}
+use Rattle.sharc_history_laws.proofs.Rules.{pushed, same_behind, put_same, decide, number_yes, number_not}
 use Rattle.sharc_history_laws.proofs.Tables.{header_at, header_in, header_of}
 
 yes : true ≡ false → ⊥

@@ -1,6 +1,5 @@
 -- The source events of each run of typed code may come one after the other, but that nothing is said of those that tell who waits.
-use Rattle.std.proofs.Common.{◌≡◌, ℕ, ◌<◌, ◌++◌, Bool, true, false, List, [], ◌∷◌, reverse, Option, Some, None, refl, sym, ap, ◌∙◌, subst}
-use Rattle.sharc_word.specs.declared.step.TheConstants.{THREADS}
+use Rattle.std.proofs.Common.{◌≡◌, true, false, List, [], ◌∷◌, reverse, Option, Some, None, refl, sym, subst}
 use Rattle.sharc_tree.specs.declared.event.SourceEvent.{SourceEvent}
 use Rattle.sharc_ctype.specs.Resolved.{Resolution}
 use Rattle.sharc_code.specs.declared.code.Code.{Code}

@@ -1,5 +1,5 @@
 -- Who was started, and who has ended, by the events of a run.
-use Rattle.std.proofs.Common.{◌≡◌, ℕ, ℤ, pos, negsuc, zero, suc, ◌+◌, ◌*◌, ◌<◌, ◌≤◌, ◌≢◌, ◌⊎◌, inl, inr, Bool, true, false, ◌||◌, ◌&&◌, length, List, [], ◌∷◌, ◌++◌, reverse, Option, Some, None, if◌then◌else◌, refl, sym, ap, ◌∙◌, subst, ⊎_elim, arith, eqb-true}
+use Rattle.std.proofs.Common.{◌≡◌, ℕ, ℤ, pos, ◌+◌, ◌<◌, ◌⊎◌, inl, inr, Bool, true, false, ◌||◌, ◌&&◌, length, List, [], ◌∷◌, reverse, Option, Some, None, if◌then◌else◌, refl, sym, ap, ◌∙◌, subst, ⊎_elim, arith, eqb-true}
 use Rattle.std.specs.Prelude.{slice_index, nat_lt, nat_eq, ◌==◌}
 use Rattle.std.specs.List.{list_any}
 use Rattle.std.proofs.lemmas.Bool.{cases_eq}
@@ -19,7 +19,7 @@ use Rattle.sharc_code.specs.Laws.{RunLaws}
 use Rattle.sharc_code.specs.Layout.{Fits, state_word}
 use Rattle.sharc_code.specs.Machine.{Machine, instr_at, act, exit, spawn, withdraws, withdrew, at_stage}
 use Rattle.sharc_code.specs.Path.{turn, after, asked_by}
-use Rattle.sharc_code.specs.Runs.{Turn, Global, MayTurn, after_turn, put, state_now, result_of, words_now, is_started, step_of}
+use Rattle.sharc_code.specs.Runs.{Turn, Global, MayTurn, after_turn, put, state_now, result_of, words_now, is_started}
 use Rattle.sharc_code.specs.Says.{said, speaks_of, in_exit, in_spawn}
 use Rattle.sharc_code.specs.Whole.{one_thread, bounds, place_after}
 use Rattle.sharc_gen.specs.OfRuns.{table_of}
@@ -35,7 +35,7 @@ use Rattle.sharc_history_laws.proofs.Consists.{Consists, after_set}
 use Rattle.sharc_history_laws.proofs.Going.{is_exit, going}
 use Rattle.sharc_history_laws.proofs.Holding.{any_push}
 use Rattle.sharc_history_laws.proofs.Lists.{Newest, reverse_push}
-use Rattle.sharc_history_laws.proofs.Rules.{pushed, number_is, is_on, put_same, put_other}
+use Rattle.sharc_history_laws.proofs.Rules.{pushed, number_is, put_same, put_other}
 use Rattle.sharc_history_laws.proofs.Telling.{threads_said, is_threading, neither, no_thread}
 
 yes : true ≡ false → ⊥

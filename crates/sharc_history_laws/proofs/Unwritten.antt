@@ -1,5 +1,5 @@
 -- A readonly pointer cell of an object that no thread has alone is written by no turn of typed code.
-use Rattle.std.proofs.Common.{◌≡◌, ℕ, ◌+◌, ◌<◌, Bool, true, false, Some, refl, sym, ap, ◌∙◌, subst}
+use Rattle.std.proofs.Common.{◌≡◌, ℕ, ◌+◌, ◌<◌, true, false, Some, refl, sym, ◌∙◌, subst}
 use Rattle.sharc_code.specs.declared.code.Code.{Code}
 use Rattle.sharc_code.specs.declared.instr.Cell.{Cell}
 use Rattle.sharc_code.specs.declared.instr.Instr.{Instr}
@@ -13,7 +13,7 @@ use Rattle.sharc_code.specs.Runs.{Global}
 use Rattle.sharc_invariant.specs.Types.{Targets, Field, Content, Integer, MutexWord, Waiters, Pointer, CellMode, field_in, mode_at, is_pointer}
 use Rattle.sharc_invariant.specs.Labels.{Labels}
 use Rattle.sharc_invariant.specs.Typed.{IsWellTyped, Fine, Accesses}
-use Rattle.sharc_invariant.specs.World.{RegisterOf, Sole as IsSole, World, CanBy, base_of}
+use Rattle.sharc_invariant.specs.World.{Sole as IsSole, World, CanBy}
 use Rattle.sharc_invariant.specs.Words.{lang_of, cell_at}
 use Rattle.sharc_invariant.specs.History.{Closing}
 use Rattle.sharc_invariant.specs.State.{State, GateStands, OnHold, object_of_cell, number_in}

@@ -1,7 +1,6 @@
 -- Each turn of typed code leaves the cells with what the events say that they hold.
-use Rattle.std.proofs.Common.{◌≡◌, ℕ, ℤ, pos, zero, suc, ◌+◌, ◌*◌, ◌<◌, ◌≤◌, ◌≢◌, ◌⊎◌, inl, inr, Bool, true, false, ◌||◌, List, [], ◌∷◌, reverse, Option, Some, None, refl, sym, ap, ◌∙◌, subst, ⊎_elim, arith}
+use Rattle.std.proofs.Common.{◌≡◌, ℕ, pos, zero, suc, ◌+◌, ◌*◌, ◌≢◌, ◌⊎◌, inl, inr, Bool, true, false, ◌||◌, List, ◌∷◌, Option, Some, None, refl, sym, ap, ◌∙◌, subst, ⊎_elim, arith}
 use Rattle.std.specs.Prelude.{slice_index}
-use Rattle.std.proofs.lemmas.Bool.{cases_eq}
 use Rattle.sharc_word.specs.declared.step.WordOp.TheVariants as ops
 use Rattle.sharc_tree.specs.declared.event.Act.{Act}
 use Rattle.sharc_tree.specs.declared.event.Act.TheVariants as acts
@@ -16,13 +15,12 @@ use Rattle.sharc_code.specs.declared.instr.Cell.TheVariants as cells
 use Rattle.sharc_code.specs.declared.instr.Instr.{Instr}
 use Rattle.sharc_code.specs.declared.instr.Instr.TheVariants as instrs
 use Rattle.sharc_code.specs.declared.shape.Shape.{Shape}
-use Rattle.sharc_code.specs.declared.state.Stage.{Stage}
 use Rattle.sharc_code.specs.declared.state.Stage.TheVariants.{Empties}
-use Rattle.sharc_code.specs.Arithmetic.{word_of, int_of}
+use Rattle.sharc_code.specs.Arithmetic.{word_of}
 use Rattle.sharc_code.specs.Laws.{RunLaws}
-use Rattle.sharc_code.specs.Layout.{Fits, first_cell}
+use Rattle.sharc_code.specs.Layout.{Fits}
 use Rattle.sharc_code.specs.Machine.{Machine, instr_at, int, ref, word, act, object, place}
-use Rattle.sharc_code.specs.Path.{turn, after, asked_by}
+use Rattle.sharc_code.specs.Path.{turn, asked_by}
 use Rattle.sharc_code.specs.Runs.{Turn, Global, MayTurn, after_turn, result_of, words_now}
 use Rattle.sharc_code.specs.Says.{said, cell_at, speaks_of, reference}
 use Rattle.sharc_code.specs.Whole.{one_thread, bounds, place_after}
@@ -30,12 +28,12 @@ use Rattle.sharc_gen.specs.Consistent.{Elements}
 use Rattle.sharc_gen.specs.OfRuns.{table_of}
 use Rattle.sharc_meaning.specs.Events.{makes, is_cell, is_number, made_by, same_cell}
 use Rattle.sharc_meaning.specs.Store.{changes, cell_changed, value_left}
-use Rattle.sharc_invariant.specs.Types.{Targets, Field, FieldType, Content, Integer, MutexWord, Waiters, Pointer, field_in, is_pointer}
-use Rattle.sharc_invariant.specs.Labels.{Within, Label, Labels}
+use Rattle.sharc_invariant.specs.Types.{Targets, Field, Content, Integer, MutexWord, Waiters, Pointer, field_in, is_pointer}
+use Rattle.sharc_invariant.specs.Labels.{Labels}
 use Rattle.sharc_invariant.specs.Typed.{IsWellTyped, Fine, Accesses, HasCell}
-use Rattle.sharc_invariant.specs.World.{Cell as CellOf, ObjectState, World}
+use Rattle.sharc_invariant.specs.World.{Cell as CellOf, ObjectState}
 use Rattle.sharc_invariant.specs.Words as Words
-use Rattle.sharc_invariant.specs.State.{IsSmall, StageStands, NumberStands, OnHold, object_of_cell, number_in, view_of, refs_at, types_at}
+use Rattle.sharc_invariant.specs.State.{IsSmall, StageStands, OnHold, object_of_cell, number_in, view_of, refs_at, types_at}
 use Rattle.sharc_invariant.specs.MachineInvariant.{IsOn}
 use Rattle.sharc_invariant.specs.Laws.{Keeps, CellsAreThere, PointersAreThere, AccessesAreAllowed}
 use Rattle.sharc_history_laws.proofs.Acts.{given_at, freed_at, About, no_access}
@@ -54,12 +52,12 @@ use Rattle.sharc_history_laws.proofs.OneMode.{place_of, numbers_now}
 use Rattle.sharc_history_laws.proofs.Rules.{pushed, about_now, decide, number_yes, number_not, freed_gone}
 use Rattle.sharc_history_laws.proofs.Shared.{number_of}
 use Rattle.sharc_history_laws.proofs.Single.{single, rests_hold}
-use Rattle.sharc_history_laws.proofs.Sparing.{SparesTurn, is_value, written_cell, spares}
+use Rattle.sharc_history_laws.proofs.Sparing.{is_value, written_cell, spares}
 use Rattle.sharc_history_laws.proofs.Stands.{live_slot, some_base, there, top, rn}
 use Rattle.sharc_history_laws.proofs.Tables.{header_of}
 use Rattle.sharc_history_laws.proofs.Telling.{changed_said, unchanged_said}
 use Rattle.sharc_history_laws.proofs.Unwritten.{writes_single}
-use Rattle.sharc_history_laws.proofs.Values.{Kept, kept, SameContent}
+use Rattle.sharc_history_laws.proofs.Values.{Kept, kept}
 
 yes : true ≡ false → ⊥
 yes e = cc

@@ -5,3 +5,4 @@ pub mod Paths
 pub mod Reports
 pub mod Starts
 pub mod Stores
+pub mod Waiters

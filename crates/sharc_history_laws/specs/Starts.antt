@@ -1,5 +1,5 @@
 -- Who starts the threads of a checked run of typed code.
-use Rattle.std.specs.Prelude.{◌≡◌, ◌≢◌, ◌<◌, ◌⊎◌, ℕ, ℤ, pos, List, [], length}
+use Rattle.std.specs.Prelude.{◌≡◌, ◌<◌, ◌⊎◌, ℕ, ℤ, pos, List, [], length}
 use Rattle.sharc_tree.specs.declared.event.Act.TheVariants.{Started}
 use Rattle.sharc_tree.specs.declared.event.SourceEvent.{SourceEvent}
 use Rattle.sharc_code.specs.declared.code.Code.{Code}

@@ -7,9 +7,11 @@ ghost use Rattle.sharc_history_laws.specs.Paths.{PathsAreConsistent};
 ghost use Rattle.sharc_history_laws.specs.Reports.{CastReportsShow, LockReportsShow};
 ghost use Rattle.sharc_history_laws.specs.Starts.{StartsAreSpawned};
 ghost use Rattle.sharc_history_laws.specs.Stores.{StoresAreLegal};
+ghost use Rattle.sharc_history_laws.specs.Waiters.{EventsMayCome};
 
 use sharc_code::{run_laws, standing_laws};
 use sharc_code_laws::states_law;
+use sharc_cond::waiters_laws;
 use sharc_invariant::laws::{begins, cells_are_there, keeps, runs_bits, runs_report, state_stands};
 
 /// The path of each thread of each checked run of typed code has consistent results: its references are numbers, Bounds answers the elements of its object,
@@ -66,6 +68,20 @@ pub fn stores_law()
     keeps();
     state_stands();
     cells_are_there();
+}
+
+/// So may Woken and Signal, where behind each CondEnter of the code the thread unlocks a mutex and waits: a Woken comes to a thread that waits no longer, and a
+/// Signal answers the lowest-numbered thread that waits, or 0 where nobody does.
+pub fn waiters_law()
+    ensures { EventsMayCome }
+{
+    run_laws();
+    waiters_laws();
+    begins();
+    keeps();
+    state_stands();
+    cells_are_there();
+    stores_law();
 }
 
 /// The first event of each thread of each such run, if it is a Started, is that of main, or that of the function and the argument that an earlier Spawn gave to

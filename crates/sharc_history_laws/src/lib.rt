@@ -6,4 +6,6 @@
 
 mod laws;
 
-pub use laws::{followed_law, history_law, paths_law, reports_law, starts_law, stores_law};
+pub use laws::{
+    followed_law, history_law, paths_law, reports_law, starts_law, stores_law, waiters_law,
+};

@@ -1,0 +1,53 @@
+-- No Free empties the object of a cell at which a thread is whose gate is no sole reference.
+use Rattle.std.proofs.Common.{◌≡◌, ℕ, ◌+◌, ◌≢◌, true, false, refl, ap, ◌∙◌}
+use Rattle.std.specs.Prelude.{slice_index}
+use Rattle.sharc_code.specs.declared.code.Code.{Code}
+use Rattle.sharc_code.specs.declared.instr.Cell.{Cell}
+use Rattle.sharc_code.specs.declared.instr.Cell.TheVariants as cells
+use Rattle.sharc_code.specs.declared.shape.Shape.{Shape}
+use Rattle.sharc_code.specs.declared.state.Stage.{Stage}
+use Rattle.sharc_code.specs.declared.state.Stage.TheVariants.{Links}
+use Rattle.sharc_code.specs.Layout.{Fits}
+use Rattle.sharc_code.specs.Machine.{Machine}
+use Rattle.sharc_code.specs.Runs.{Global}
+use Rattle.sharc_invariant.specs.Types.{Targets}
+use Rattle.sharc_invariant.specs.Labels.{Labels}
+use Rattle.sharc_invariant.specs.Typed.{IsWellTyped, IsNotSole}
+use Rattle.sharc_invariant.specs.World.{World}
+use Rattle.sharc_invariant.specs.History.{Closing}
+use Rattle.sharc_invariant.specs.State.{State, OnHold, object_of_cell}
+use Rattle.sharc_invariant.specs.MachineInvariant.{IsOn}
+use Rattle.sharc_invariant.specs.Laws.{StateStands}
+use Rattle.sharc_history_laws.proofs.Emptying.{IsEmptied, is_emptying}
+use Rattle.sharc_history_laws.proofs.Shared.{closing_own, some_closing, not_sole}
+use Rattle.sharc_history_laws.proofs.Stands.{gate}
+use Rattle.sharc_history_laws.proofs.Unwritten.{emptying}
+
+on_hold : (stage : Stage) → is_emptying stage ≡ true → OnHold stage
+on_hold (Links all) e = absurd (let z : false ≡ true = e in cc)
+on_hold _ e = tt
+
+module _ (state_law : StateStands) (x : Targets) (code : Code) (s : Shape) (ls : Labels) (wt : IsWellTyped x code ls) (fits : Fits code s) (g : Global Machine) (world : World) (st : State x code s ls g world) (t : ℕ) (on : IsOn g t) (hold : OnHold (g.threads t).own.stage)
+    (k : Cell) (apart : IsNotSole (ls.at (g.threads t).at.pc).gate) where
+  abbrev m : Machine
+  m = g.threads t
+
+  register_of_cell : (k : Cell) → object_of_cell (g.threads t) k ≢ 0 → (q : ℕ) × (slice_index (g.threads t).refs q ≡ object_of_cell (g.threads t) k)
+  register_of_cell (cells.Global q p) nz = absurd (nz refl)
+  register_of_cell (cells.GlobalAt q p) nz = absurd (nz refl)
+  register_of_cell (cells.Object q p) nz = (m.at.refs + q, refl)
+  register_of_cell (cells.ObjectAt q p) nz = (m.at.refs + q, refl)
+
+  -- nobody has it alone
+  not_alone : Closing world (object_of_cell (g.threads t) k) → ⊥
+  not_alone c =
+      let n = object_of_cell m k in
+      let q = register_of_cell k (some_closing state_law x code s ls wt fits g world st n c) in
+      let mine : t ≡ c.0 = closing_own state_law x code s ls wt fits g world st n c t q.0 hold q.1 in
+      not_sole s world t m (ls.at m.at.pc).gate apart (gate x code s ls wt fits g world st t on hold) c.1.0 (ap world.win mine ∙ c.1.1.0)
+
+  pub not_emptied : IsEmptied code g (object_of_cell (g.threads t) k) → ⊥
+  not_emptied z =
+      let u = z.0 in
+      let y = z.1.1 in
+      not_alone (emptying x code s ls wt fits g world st u (z.1.0, y.on) (on_hold (g.threads u).own.stage y.emptying) (object_of_cell m k) y.register y.layout y.site y.is_free y.object)

@@ -1,0 +1,256 @@
+-- The source events of each run of typed code that tell who waits may come after those before them.
+use Rattle.std.proofs.Common.{◌≡◌, ℕ, pos, zero, suc, ◌+◌, ◌<◌, ◌^◌, ◌⊎◌, inl, inr, Bool, true, false, List, [], ◌∷◌, reverse, length, nat_lt, Option, Some, None, if◌then◌else◌, refl, sym, ap, ◌∙◌, subst, ⊎_elim, arith, eqb-true}
+use Rattle.std.specs.Prelude.{slice_index, ◌==◌}
+use Rattle.std.proofs.lemmas.Bool.{cases_eq}
+use Rattle.std.proofs.lemmas.Bool.Decides.{nat_tests}
+use Rattle.sharc_word.specs.declared.step.WordOp.{WordOp}
+use Rattle.sharc_word.specs.declared.step.WordOp.TheVariants as ops
+use Rattle.sharc_tree.specs.declared.event.Act.{Act}
+use Rattle.sharc_tree.specs.declared.event.Act.TheVariants as acts
+use Rattle.sharc_tree.specs.declared.event.Object.{Object}
+use Rattle.sharc_tree.specs.declared.event.Object.TheVariants as objects
+use Rattle.sharc_tree.specs.declared.event.CellAt.{CellAt}
+use Rattle.sharc_tree.specs.declared.event.SourceEvent.{SourceEvent}
+use Rattle.sharc_ctype.specs.Resolved.{Resolution}
+use Rattle.sharc_cond.specs.Laws.{WaitersLaws}
+use Rattle.sharc_cond.specs.Waiters.{waits_in, lowest_of, without_lowest}
+use Rattle.sharc_code.specs.declared.code.Code.{Code}
+use Rattle.sharc_code.specs.declared.instr.Cell.{Cell}
+use Rattle.sharc_code.specs.declared.instr.Instr.{Instr}
+use Rattle.sharc_code.specs.declared.instr.Instr.TheVariants as instrs
+use Rattle.sharc_code.specs.declared.shape.Shape.{Shape}
+use Rattle.sharc_code.specs.declared.state.Stage.{Stage}
+use Rattle.sharc_code.specs.declared.state.Stage.TheVariants.{Withdraws, WithdrawsFrom, Leaves, Wakes}
+use Rattle.sharc_code.specs.Laws.{RunLaws}
+use Rattle.sharc_code.specs.Layout.{Fits}
+use Rattle.sharc_code.specs.Machine.{Machine, instr_at, word, act, exit, withdraws, withdrew, signal, at_stage, step_of}
+use Rattle.sharc_code.specs.Opening.{opening_words}
+use Rattle.sharc_code.specs.Path.{turn, after, asked_by}
+use Rattle.sharc_code.specs.Runs.{Turn, Global, IsRun, MayTurn, after_turn, put, state_now, result_of, opening_of}
+use Rattle.sharc_code.specs.Says.{said, cell_at, speaks_of, nobody, in_signal, event_at}
+use Rattle.sharc_code.specs.Whole.{one_thread, bounds, place_after}
+use Rattle.sharc_gen.specs.Consistent.{said_now}
+use Rattle.sharc_gen.specs.OfRuns.{table_of}
+use Rattle.sharc_meaning.specs.Events.{Stands}
+use Rattle.sharc_meaning.specs.Obeys.{History}
+use Rattle.sharc_meaning.specs.Store.{MayCome, is_waiter}
+use Rattle.sharc_invariant.specs.Types.{Targets}
+use Rattle.sharc_invariant.specs.Labels.{Labels}
+use Rattle.sharc_invariant.specs.Typed.{IsWellTyped}
+use Rattle.sharc_invariant.specs.State.{IsSmall}
+use Rattle.sharc_invariant.specs.Laws.{Keeps, Begins as CodeBegins, CellsAreThere, PointersAreThere, AccessesAreAllowed, StateStands}
+use Rattle.sharc_history_laws.specs.History.{history_of}
+use Rattle.sharc_history_laws.specs.Stores.{BeginsWith, is_about_waiters}
+use Rattle.sharc_history_laws.specs.Waiters.{WaitsFollow}
+use Rattle.sharc_history_laws.proofs.Consists.{Consists, consists_then, at_first, found_is}
+use Rattle.sharc_history_laws.proofs.Contents.{IsCellOf, content_of, word_of_cell}
+use Rattle.sharc_history_laws.proofs.Emptying.{IsEmptied}
+use Rattle.sharc_history_laws.proofs.Going.{is_exit, going, wakes_nobody}
+use Rattle.sharc_history_laws.proofs.Lists.{Newest, Split, Last, Earlier, split}
+use Rattle.sharc_history_laws.proofs.Opening.{waiters_first, only_globals}
+use Rattle.sharc_history_laws.proofs.Queued.{waits_by, waiter_is, condition_of, condition_said, is_condition, no_condition}
+use Rattle.sharc_history_laws.proofs.Rules.{pushed, newest, newest_now, put_same, put_other}
+use Rattle.sharc_history_laws.proofs.Shared.{number_of}
+use Rattle.sharc_history_laws.proofs.Sparing.{waited_cell, holds_waiters}
+use Rattle.sharc_history_laws.proofs.Waiting.{WaitersStand, WordsTell, Here, here, here_at_wait, bit_here, words_then, stands_then}
+
+yes : true ≡ false → ⊥
+yes e = cc
+
+not_true : (b : Bool) → (b ≡ true → ⊥) → b ≡ false
+not_true true h = absurd (h refl)
+not_true false h = refl
+
+-- ---- a turn of Exit wakes nobody
+module _ (s : Shape) (m : Machine) (found : ℕ) where
+  withdraws_only : (row : ℕ) → wakes_nobody (withdraws m row).own.stage ≡ false
+  withdraws_only row = elim (nat_lt row (length m.own.table.order)) as (λ b. wakes_nobody (if b then at_stage m (Withdraws row) else at_stage m Leaves).own.stage ≡ false) [
+    | true ↦ refl
+    | false ↦ refl
+  ]
+
+  withdrew_only : (row seen : ℕ) → wakes_nobody (withdrew m row seen found).own.stage ≡ false
+  withdrew_only row seen = elim (found == seen) as (λ b. wakes_nobody (if b then withdraws m (row + 1) else at_stage m (WithdrawsFrom row found)).own.stage ≡ false) [
+    | true ↦ withdraws_only (row + 1)
+    | false ↦ refl
+  ]
+
+  exit_only : (stage : Stage) → wakes_nobody (after (exit s m stage) found).own.stage ≡ false
+  exit_only (Withdraws row) = refl
+  exit_only (WithdrawsFrom row seen) = withdrew_only row seen
+  exit_only Leaves = refl
+  exit_only _ = withdraws_only 0
+
+-- ---- one turn
+module _ (bits : WaitersLaws) (state_law : StateStands) (cell_laws : CellsAreThere) (pointers : PointersAreThere) (rights : AccessesAreAllowed) (laws : RunLaws) (keeps : Keeps) (x : Targets) (code : Code) (s : Shape) (ls : Labels) (wt : IsWellTyped x code ls) (fits : Fits code s) (few : IsSmall code s)
+    (one : Turn) (earlier : List Turn) (h : Consists x code s ls earlier) (may : MayTurn bounds (one_thread code s) (place_after code s earlier) one)
+    (r : Resolution) (L : Newest) (stand : WaitersStand code L (place_after code s earlier)) (old : WordsTell x code s L (place_after code s earlier) h.world h.state.cells) (wake : (u : ℕ) → wakes_nobody ((place_after code s earlier).threads u).own.stage ≡ false) where
+  abbrev g : Global Machine
+  g = place_after code s earlier
+
+  abbrev t : ℕ
+  t = one.thread
+
+  abbrev m : Machine
+  m = (place_after code s earlier).threads one.thread
+
+  abbrev i : Instr
+  i = instr_at code ((place_after code s earlier).threads one.thread).at.pc
+
+  abbrev found : ℕ
+  found = result_of one.event
+
+  abbrev elements : ℕ
+  elements = table_of code s earlier (speaks_of (instr_at code ((place_after code s earlier).threads one.thread).at.pc) ((place_after code s earlier).threads one.thread) (result_of one.event))
+
+  abbrev event : Option SourceEvent
+  event = said code i ((place_after code s earlier).threads one.thread) found elements
+
+  -- ---- stages
+  own_wakes : wakes_nobody (after (turn code s ((place_after code s earlier).threads one.thread)) found).own.stage ≡ false
+  own_wakes = by i refl
+    where
+      by : (j : Instr) → i ≡ j → wakes_nobody (after (act code s i ((place_after code s earlier).threads one.thread)) found).own.stage ≡ false
+      by instrs.Exit is = subst (λ j. wakes_nobody (after (act code s j m) found).own.stage ≡ false) (sym is) (exit_only s m found m.own.stage)
+      by _ is = not_true _ (λ w. yes (sym ((going code s m i found (ap is_exit is)).wakes w) ∙ wake t))
+
+  pub wakes_then : (u : ℕ) → wakes_nobody ((after_turn bounds (one_thread code s) (place_after code s earlier) one).threads u).own.stage ≡ false
+  wakes_then u =
+      let now = state_now (one_thread code s) g one in
+      ⊎_elim
+      (λ (same : u ≡ t). ap (λ u. wakes_nobody (put g.threads t now u).own.stage) same ∙ ap (λ (y : Machine). wakes_nobody y.own.stage) (put_same g.threads t now) ∙ own_wakes)
+      (λ (ne : u ≡ t → ⊥). ap (λ (y : Machine). wakes_nobody y.own.stage) (put_other g.threads t u now ne) ∙ wake u)
+      (cases_eq u t)
+
+  -- ---- events
+  abbrev Legal : Option SourceEvent → Type 0
+  Legal None = Unit {0}
+  Legal (Some e) = is_about_waiters e.act ≡ true → MayCome r (reverse L) e e.act
+
+  plain_legal : (ev : Option SourceEvent) → condition_said ev ≡ None → Legal ev
+  plain_legal None e = tt
+  plain_legal (Some d) e = λ w. absurd (by d.act e w)
+    where
+      by : (a : Act) → condition_of a ≡ None → is_about_waiters a ≡ true → ⊥
+      by (acts.Woken c) e w = let z : Some c ≡ None = e in cc
+      by (acts.Signal c) e w = let z : Some c ≡ None = e in cc
+      by _ e w = yes (sym w)
+
+  -- what the turn finds at a condition
+  module _ (k : Cell) (at : Here bits cell_laws pointers rights laws keeps x code s ls wt fits few one earlier h may k) (op : WordOp)
+      (asked : asked_by (turn code s ((place_after code s earlier).threads one.thread)) ≡ Some (step_of (word s ((place_after code s earlier).threads one.thread) k) op)) where
+    found_here : found ≡ slice_index (place_after code s earlier).words (word s ((place_after code s earlier).threads one.thread) k)
+    found_here = found_is g.words one.event (step_of (word s m k) op) (may.next.asks ∙ asked) may.answered
+
+    waits_there : (u : ℕ) → is_waiter (reverse L) (cell_at code ((place_after code s earlier).threads one.thread) k) u ≡ waits_in found u
+    waits_there u = waiter_is L (cell_at code m k) u ∙ bit_here bits cell_laws pointers rights laws keeps x code s ls wt fits few one earlier h may L stand old wake state_law k at u ∙ ap (λ n. waits_in n u) (sym found_here)
+
+    nobody_legal : (site n : ℕ) → found ≡ n → Legal (nobody code ((place_after code s earlier).threads one.thread) k site n)
+    nobody_legal site zero e = λ w. inl (refl, λ u. waits_there u ∙ ap (λ n. waits_in n u) e ∙ bits.empty u)
+    nobody_legal site (suc n) e = tt
+
+    wakes_legal : (site seen : ℕ) → ((place_after code s earlier).threads one.thread).own.stage ≡ Wakes seen → (b : Bool) → (found == seen) ≡ b
+        → Legal (if b then event_at code ((place_after code s earlier).threads one.thread) site (pos (lowest_of seen + 1)) (acts.Signal (cell_at code ((place_after code s earlier).threads one.thread) k)) else nobody code ((place_after code s earlier).threads one.thread) k site found)
+    wakes_legal site seen stage true e =
+        let same : found ≡ seen = eqb-true found seen e in
+        let small : seen < 2 ^ 64 = subst (λ n. n < 2 ^ 64) (sym found_here ∙ same) (h.state.are_words (word s m k)) in
+        let lowest = bits.lowest seen (positive seen (sym (ap wakes_nobody stage) ∙ wake t)) small in
+        λ w. inr (record {
+          thread = lowest_of seen;
+          tells = refl;
+          waits = waits_there (lowest_of seen) ∙ ap (λ n. waits_in n (lowest_of seen)) same ∙ lowest.waited;
+          lowest = λ lower lt. waits_there lower ∙ ap (λ n. waits_in n lower) same ∙ lowest.lowest lower lt;
+        })
+      where
+        positive : (n : ℕ) → (n == 0) ≡ false → 0 < n
+        positive n e = grind (arith, nat_tests)
+    wakes_legal site seen stage false e = nobody_legal site found refl
+
+    woken_legal : (site : ℕ) (b : Bool) → waits_in found ((place_after code s earlier).threads one.thread).own.number ≡ b
+        → Legal (if b then None else event_at code ((place_after code s earlier).threads one.thread) site (pos 0) (acts.Woken (cell_at code ((place_after code s earlier).threads one.thread) k)))
+    woken_legal site true e = tt
+    woken_legal site false e = λ w. waits_there m.own.number ∙ e
+
+  signal_legal : (k : Cell) (site : ℕ) → i ≡ instrs.CondSignal k site → (stage : Stage) → ((place_after code s earlier).threads one.thread).own.stage ≡ stage → Legal (in_signal code ((place_after code s earlier).threads one.thread) k site found stage)
+  signal_legal k site is (Wakes seen) at =
+      wakes_legal k (here bits cell_laws pointers rights laws keeps x code s ls wt fits few one earlier h may k (ap waited_cell is)) (ops.Cas seen (without_lowest seen))
+      (ap (λ j. asked_by (act code s j m)) is ∙ ap (λ y. asked_by (signal m (word s m k) y)) at) site seen at (found == seen) refl
+  signal_legal k site is stage at =
+      nobody_legal k (here bits cell_laws pointers rights laws keeps x code s ls wt fits few one earlier h may k (ap waited_cell is)) ops.Load
+      (ap (λ j. asked_by (act code s j m)) is ∙ ap (λ y. asked_by (signal m (word s m k) y)) at) site found refl
+
+  pub legal_now : Legal event
+  legal_now = by i refl
+    where
+      by : (j : Instr) → i ≡ j → Legal event
+      by (instrs.CondEnter k site) is = subst (λ j. Legal (said code j m found elements)) (sym is) (λ w. absurd (yes (sym w)))
+      by (instrs.CondBroadcast k site) is = subst (λ j. Legal (said code j m found elements)) (sym is) (λ w. absurd (yes (sym w)))
+      by (instrs.CondSignal k site) is = subst (λ j. Legal (said code j m found elements)) (sym is) (signal_legal k site is m.own.stage refl)
+      by (instrs.CondWait k site) is = subst (λ j. Legal (said code j m found elements)) (sym is)
+          (woken_legal k (here_at_wait bits cell_laws pointers rights laws keeps x code s ls wt fits few one earlier h may k site is) ops.Load (ap (λ j. asked_by (act code s j m)) is) site (waits_in found m.own.number) refl)
+      by _ is = plain_legal event (no_condition code m i found elements (ap is_condition is))
+
+-- ---- runs
+abbrev pub EachIsTold : Resolution → History → Type 0
+EachIsTold r R = (before : History) (e : SourceEvent) (after : History) → Stands R before e after → is_about_waiters e.act ≡ true → MayCome r before e e.act
+
+none_yet : (r : Resolution) → EachIsTold r []
+none_yet r [] e after stands = absurd (cc)
+none_yet r (b ∷ bs) e after stands = absurd (cc)
+
+abbrev LegalIn : Resolution → Newest → Option SourceEvent → Type 0
+LegalIn r L None = Unit {0}
+LegalIn r L (Some e) = is_about_waiters e.act ≡ true → MayCome r (reverse L) e e.act
+
+one_more : (r : Resolution) (e : SourceEvent) (L : Newest) → EachIsTold r (reverse L) → LegalIn r L (Some e) → EachIsTold r (reverse (e ∷ L))
+one_more r e L old new before d later stands = by (split e L before d later stands)
+  where
+    by : Split e L before d later → is_about_waiters d.act ≡ true → MayCome r before d d.act
+    by (Last b same n) = subst (λ before. is_about_waiters d.act ≡ true → MayCome r before d d.act) (sym b) (subst (λ (d : SourceEvent). is_about_waiters d.act ≡ true → MayCome r (reverse L) d d.act) (sym same) new)
+    by (Earlier rest n stands') = old before d rest stands'
+
+with_event : (r : Resolution) (ev : Option SourceEvent) (L : Newest) → EachIsTold r (reverse L) → LegalIn r L ev → EachIsTold r (reverse (pushed ev L))
+with_event r None L old new = old
+with_event r (Some e) L old new = one_more r e L old new
+
+pub record Awaited (r : Resolution) (x : Targets) (code : Code) (s : Shape) (ls : Labels) (run : List Turn) : Type 0 where
+  pub consists : Consists x code s ls run
+  pub stand : WaitersStand code (newest code s run) (place_after code s run)
+  pub words : WordsTell x code s (newest code s run) (place_after code s run) consists.world consists.state.cells
+  pub wakes : (u : ℕ) → wakes_nobody ((place_after code s run).threads u).own.stage ≡ false
+  pub legal : EachIsTold r (history_of code s run)
+
+module _ (bits : WaitersLaws) (state_law : StateStands) (cell_laws : CellsAreThere) (pointers : PointersAreThere) (rights : AccessesAreAllowed) (laws : RunLaws) (begins_law : CodeBegins) (keeps : Keeps) (x : Targets) (code : Code) (s : Shape) (ls : Labels) (wt : IsWellTyped x code ls) (fits : Fits code s) (few : IsSmall code s)
+    (follow : WaitsFollow code) (r : Resolution) (first : BeginsWith r code) where
+  pub awaited : (run : List Turn) → IsRun bounds (one_thread code s) (opening_of bounds (one_thread code s) (opening_words code s)) run → Awaited r x code s ls run
+  awaited [] run = record {
+    consists = at_first begins_law x code s ls wt fits;
+    stand = λ c u w. absurd (yes (sym w));
+    words = λ c cell holds. opened c c.object refl cell holds;
+    wakes = λ u. refl;
+    legal = none_yet r;
+  }
+    where
+      opened : (c : CellAt) (b : Object) → c.object ≡ b → IsCellOf code (at_first begins_law x code s ls wt fits).world (at_first begins_law x code s ls wt fits).state.cells c
+          → holds_waiters (content_of x code (at_first begins_law x code s ls wt fits).world c) ≡ true
+          → ((u : ℕ) → waits_by [] c u ≡ waits_in (slice_index (place_after code s []).words (word_of_cell code s c)) u) ⊎ IsEmptied code (place_after code s []) (number_of c.object)
+      opened c (objects.Global q) is cell holds = inl (λ u. sym (ap (λ n. waits_in n u) (waiters_first begins_law x code s ls wt fits r first q c is cell holds) ∙ bits.empty u))
+      opened c (objects.Made n) is cell holds = absurd (only_globals begins_law x code s ls wt fits r first n c is cell)
+  awaited (one ∷ earlier) run =
+      let old = awaited earlier run.0 in
+      let h = old.consists in
+      let may = run.1 in
+      let L = newest code s earlier in
+      let ev = said_now code (table_of code s earlier) ((place_after code s earlier).threads one.thread) (result_of one.event) in
+      let now = newest_now code s one earlier in
+      let then' = consists_then laws keeps cell_laws pointers x code s ls wt fits few one earlier h may in
+      let words = words_then bits cell_laws pointers rights laws keeps x code s ls wt fits few one earlier h may L old.stand old.words old.wakes in
+      let stand = stands_then bits cell_laws pointers rights laws keeps x code s ls wt fits few one earlier h may L old.stand old.words old.wakes state_law follow in
+      record {
+        consists = then';
+        stand = subst (λ (L : Newest). WaitersStand code L (place_after code s (one ∷ earlier))) (sym now) (λ c u w. stand c u w);
+        words = subst (λ (L : Newest). WordsTell x code s L (place_after code s (one ∷ earlier)) then'.world then'.state.cells) (sym now) words;
+        wakes = wakes_then bits state_law cell_laws pointers rights laws keeps x code s ls wt fits few one earlier h may r L old.stand old.words old.wakes;
+        legal = subst (λ (L : Newest). EachIsTold r (reverse L)) (sym now)
+            (with_event r ev L old.legal (legal_now bits state_law cell_laws pointers rights laws keeps x code s ls wt fits few one earlier h may r L old.stand old.words old.wakes));
+      }

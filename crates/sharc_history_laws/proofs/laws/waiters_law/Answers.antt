@@ -1,0 +1,20 @@
+use Rattle.std.proofs.Common.{◌≡◌, Bool, true, false, refl}
+use Rattle.sharc_tree.specs.declared.event.SourceEvent.{SourceEvent}
+use Rattle.sharc_ctype.specs.Resolved.{Resolution}
+use Rattle.sharc_meaning.specs.Obeys.{History}
+use Rattle.sharc_meaning.specs.Store.{MayCome}
+use Rattle.sharc_history_laws.specs.Stores.{is_about_waiters}
+use Rattle.sharc_history_laws.proofs.Woken.{awaited}
+use Rattle.sharc_history_laws.proofs.laws.waiters_law.Goals as goal
+
+-- whether it tells who waits or not
+both : (r : Resolution) (before : History) (e : SourceEvent) (b : Bool) → is_about_waiters e.act ≡ b → (is_about_waiters e.act ≡ true → MayCome r before e e.act) → (is_about_waiters e.act ≡ false → MayCome r before e e.act) → MayCome r before e e.act
+both r before e true is h k = h is
+both r before e false is h k = k is
+
+pub returns : goal.returns
+returns c = λ x code s ls wt fits few follow r first run checked before e after stands.
+    let laws = c.run_laws.ensures in
+    let there = c.cells_are_there.ensures in
+    let told = awaited c.waiters_laws.ensures c.state_stands.ensures there.cells there.pointers there.rights laws c.begins.ensures.opens c.keeps.ensures x code s ls wt fits few follow r first run ((laws.checked code s run).0 checked) in
+    both r before e (is_about_waiters e.act) refl (told.legal before e after stands) (c.stores_law.ensures x code s ls wt fits few r first run checked before e after stands)
