@@ -68,6 +68,7 @@ POINTER = "int main(void) { int * p = NULL; "
 NUMBER = "int main(void) { int x = 0; "
 END = " return 0; }"
 LOOPS = "while (1) {" * 20 + "free(p); if (p == NULL) break; if (p == NULL) continue;" + "}" * 20 + "\n"
+ALL = " && ".join("x" * 30)
 KINDS = {
     "a pointer that functions pass on": chain,
     "a pointer that locals copy": copies,
@@ -86,7 +87,7 @@ KINDS = {
     "a loop with many exits": body(NUMBER + "while (1) { ", "if (x) break; if (x) continue;\n", "break; } return 0; }"),
     "returns": body("int f(int x) { ", "if (x) return x;\n", "return 0; } int main(void) { print(f(0)); return 0; }"),
     "expressions of height 64": body(NUMBER, "x = " + "(" * 63 + "x" + ")" * 63 + ";\n", END),
-    "chains of logical operators": body(NUMBER, "x = " + " && ".join("x" * 30) + " || " + " && ".join("x" * 30) + ";\n", END),
+    "chains of logical operators": body(NUMBER, f"x = {ALL} || {ALL};\n", END),
     "arithmetic": body("int a; int b; int main(void) {", "a=b+b*b-b;", "return 0; }"),
 }
 
