@@ -281,6 +281,27 @@ input:2: M4 lock path wait is not constant
 input:2: M4 lock path signal is not constant
 input:2: M4 lock path wait is not constant
 input:3: M1 mode mismatch: expected int locked(wait) *, found int locked(signal) *
+input:3: suggest SCAST(int locked(wait) *, q)
+==
+struct t { int locked(wait) * k; int locked(m) * locked(broadcast) * l; };
+void r(struct t dynamic * a, int private * p, int private * private * q) {
+a->k = p; a->l = q;
+int wait; a->k = p; }
+--
+input:2: M4 lock path wait is not constant
+input:2: M4 lock path broadcast is not constant
+input:4: M1 mode mismatch: expected int locked(wait) *, found int private *
+input:4: suggest SCAST(int locked(wait) *, p)
+input:4: M1 mode mismatch: expected int locked(m) * locked(broadcast) *, found int private * private *
+input:5: M1 mode mismatch: expected int locked(wait) *, found int private *
+==
+void wait(void) { }
+void r(int private * p) { int locked(wait) * q;
+q = p; }
+--
+input:3: M4 lock path wait is not constant
+input:4: M1 mode mismatch: expected int locked(wait) *, found int private *
+input:4: suggest SCAST(int locked(wait) *, p)
 ";
 
 #[test]

@@ -131,6 +131,12 @@ g = p; { int m; g = p; } }
 --
 input:5: M1 mode mismatch: expected int locked(m) *, found int private *
 ==
+void r(int private * q) { int locked(wait) * p;
+p = q; }
+--
+input:2: M4 lock path wait is not constant
+input:3: M4 lock path wait is not constant
+==
 void f(int dynamic * a, int dynamic * b) { }
 void r(int private * c, int racy * d) { f(c, d); }
 --

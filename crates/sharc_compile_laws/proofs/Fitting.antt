@@ -51,13 +51,13 @@ told_asks : (Q : ℕ → Type 0) (lvalue lock : Text) (o : Op) → Asks Q o → 
 told_asks Q lvalue lock (op.Spawn i f from spot) h = h
 told_asks Q lvalue lock _ h = tt
 
-laid_ask : (Q : ℕ → Type 0) (r : Resolution) (bytes : List ℕ) (told made : List Op) → AreLaid r bytes told made → AllAsk Q told → AllAsk Q made
+pub laid_ask : (Q : ℕ → Type 0) (r : Resolution) (bytes : List ℕ) (told made : List Op) → AreLaid r bytes told made → AllAsk Q told → AllAsk Q made
 laid_ask Q r bytes [] [] l h = tt
 laid_ask Q r bytes (o ∷ os) (p ∷ ps) l h = (subst (Asks Q) (sym l.0.is) (told_asks Q l.0.lvalue l.0.lock o h.0), laid_ask Q r bytes os ps l.1 h.1)
 laid_ask Q r bytes [] (p ∷ ps) l h = absurd l
 laid_ask Q r bytes (o ∷ os) [] l h = absurd l
 
-asks_at : (Q : ℕ → Type 0) (lines : List Op) (n : ℕ) (o : Op) → AllAsk Q lines → slice_get lines n ≡ Some o → Asks Q o
+pub asks_at : (Q : ℕ → Type 0) (lines : List Op) (n : ℕ) (o : Op) → AllAsk Q lines → slice_get lines n ≡ Some o → Asks Q o
 asks_at Q [] n o h e = absurd (cc)
 asks_at Q (x ∷ lines) zero o h e = let s : x ≡ o = cc in subst (Asks Q) s h.0
 asks_at Q (x ∷ lines) (suc n) o h e = asks_at Q lines n o h.1 e

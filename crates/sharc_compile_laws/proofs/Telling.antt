@@ -1,24 +1,26 @@
 -- What the threads of a run tell, among the events of all threads.
-use Rattle.std.proofs.Common.{◌≡◌, ℕ, zero, suc, ◌+◌, ◌<◌, inl, inr, ⊎_elim, Bool, true, false, cond, List, [], ◌∷◌, ◌++◌, length, map, reverse, refl, sym, ap, ◌∙◌, subst, arith, slice_get}
+use Rattle.std.proofs.Common.{◌≡◌, ℕ, ℤ, zero, suc, ◌+◌, ◌<◌, inl, inr, ⊎_elim, Bool, true, false, cond, List, [], ◌∷◌, ◌++◌, length, map, reverse, refl, sym, ap, ◌∙◌, subst, arith, slice_get}
 use Rattle.std.specs.Prelude.{◌==◌, nat_eq, filter, slice_index_or}
 use Rattle.std.proofs.lemmas.Bool.Decides.{nat_tests}
 use Rattle.std.proofs.lemmas.List.{append-nil, reverse-append, reverse-reverse}
 use Rattle.std.proofs.lemmas.List.Elements.{filter-append}
 use Rattle.sharc_tree.specs.declared.event.SourceEvent.{SourceEvent}
 use Rattle.sharc_tree.specs.Tree.{Function}
-use Rattle.sharc_ctype.specs.Resolved.{functions_in}
+use Rattle.sharc_ctype.specs.Resolved.{function_at, functions_in}
 use Rattle.sharc_mode.specs.Moded.{Assignment}
 use Rattle.sharc_meaning.specs.Events.{events_of, is_of}
 use Rattle.sharc_meaning.specs.Meaning.{asks}
 use Rattle.sharc_meaning.specs.Runs.{IsNamedAt, answers_of, by}
+use Rattle.sharc_code.specs.declared.code.Code.{Code}
 use Rattle.sharc_code.specs.declared.code.Function.{Function as Row}
 use Rattle.sharc_code.specs.declared.code.GlobalCells.{GlobalCells}
 use Rattle.sharc_code.specs.Machine.{no_function}
 use Rattle.sharc_code.specs.Runs.{Said, said_by}
 use Rattle.sharc_code.specs.Whole.{Erase}
+use Rattle.sharc_flat_form.specs.declared.flat.Flat.{Flat as FlatCode}
 use Rattle.sharc_flat_form.specs.Made.{flat_of}
 use Rattle.sharc_flat.specs.Flattened.{function_code, rows_of}
-use Rattle.sharc_flat.specs.Flattens.{names_of}
+use Rattle.sharc_flat.specs.Flattens.{names_of, Flattens}
 use Rattle.sharc_flat.specs.Laid.{AreNamed}
 use Rattle.sharc_flat.specs.Tables.{globals_of}
 use Rattle.sharc_guard.specs.Guard.{entered_at, place}
@@ -26,6 +28,7 @@ use Rattle.sharc_guard.specs.Known.{dropped}
 use Rattle.sharc_gen.specs.Correct.{begins}
 use Rattle.sharc_gen.specs.Generated.{program_of}
 use Rattle.sharc_gen.specs.OfRuns.{told_in}
+use Rattle.sharc_compile.specs.Made.{IsCodeOf}
 use Rattle.sharc_compile.specs.Runs.{RunsFollowSource}
 use Rattle.sharc_compile.specs.Source.{FollowsSource}
 use Rattle.sharc_compile_laws.specs.Threads.{TellsIn, ThreadsTell}
@@ -155,12 +158,26 @@ row_site m globals pc [] n lt = absurd (omega arith)
 row_site m globals pc (f ∷ rest) zero lt = refl
 row_site m globals pc (f ∷ rest) (suc n) lt = row_site m globals (pc + length (function_code m globals pc f)) rest n (omega arith)
 
+-- the Started of a function that there is stands at its name
+pub started_at_name : (m : Assignment) (flat : FlatCode) → Flattens m flat → (code : Code) → (is : IsCodeOf flat code) → (f : ℕ) (argument : ℤ) → f < length flat.functions.items
+    → IsNamedAt (function_at m.typed f) (begins (program_of is.g) f argument).site
+started_at_name m flat made code is f argument known =
+    let fs = functions_in m.typed.program.items in
+    let gs = globals_of m.typed in
+    let pl = place (dropped (flat_of flat)) flat.lines.items in
+    let count = named_count flat.texts.items (rows_of m gs 0 fs) (names_of fs) flat.functions.items made.lays.functions in
+    let site : (begins (program_of is.g) f argument).site ≡ (slice_index_or (rows_of m gs 0 fs) f no_function).site =
+    ap (λ (rows : List Row). (slice_index_or rows f no_function).site) is.made.functions ∙ entered_site pl flat.functions.items f known
+    ∙ named_site flat.texts.items (rows_of m gs 0 fs) (names_of fs) flat.functions.items f made.lays.functions
+    in
+    subst (IsNamedAt (slice_get fs f)) (sym site) (row_site m gs 0 fs f (omega arith))
+
 -- ---- all together
-answers_by : (t : ℕ) (es : List SourceEvent) → answers_of (map (by t) es) ≡ answers_of es
+pub answers_by : (t : ℕ) (es : List SourceEvent) → answers_of (map (by t) es) ≡ answers_of es
 answers_by t [] = refl
 answers_by t (e ∷ es) = ap (λ xs. e.answer ∷ xs) (answers_by t es)
 
-tail_same : (a b : SourceEvent) (xs ys : List SourceEvent) → a ∷ xs ≡ b ∷ ys → xs ≡ ys
+pub tail_same : (a b : SourceEvent) (xs ys : List SourceEvent) → a ∷ xs ≡ b ∷ ys → xs ≡ ys
 tail_same a b xs ys e = cc
 
 pub tell : RunsFollowSource → ThreadsTell
@@ -184,17 +201,8 @@ tell law m suits flat made fits code is s run checked consistent t =
   where
     tells : {at : _} {lowered : List ℕ} {paced : ℕ} {said : List SourceEvent} (R : List SourceEvent) → (h : FollowsSource m code (program_of is.g) (length flat.functions.items) t at said lowered paced) → events_of t R ≡ said → TellsIn m R t
     tells R h events =
-        let fs = functions_in m.typed.program.items in
-        let gs = globals_of m.typed in
-        let pl = place (dropped (flat_of flat)) flat.lines.items in
         let start = by t (begins (program_of is.g) h.function h.argument) in
         let sp = split t R start (map (by t) h.after) (events ∙ h.starts) in
-        let count = named_count flat.texts.items (rows_of m gs 0 fs) (names_of fs) flat.functions.items made.lays.functions in
-        let known = h.known in
-        let site : start.site ≡ (slice_index_or (rows_of m gs 0 fs) h.function no_function).site =
-        ap (λ (rows : List Row). (slice_index_or rows h.function no_function).site) is.made.functions ∙ entered_site pl flat.functions.items h.function h.known
-        ∙ named_site flat.texts.items (rows_of m gs 0 fs) (names_of fs) flat.functions.items h.function made.lays.functions
-        in
         record {
           function = h.function;
           argument = h.argument;
@@ -206,7 +214,7 @@ tell law m suits flat made fits code is s run checked consistent t =
           first = sp.none;
           act = refl;
           answer = refl;
-          site = subst (IsNamedAt (slice_get fs h.function)) (sym site) (row_site m gs 0 fs h.function (omega arith));
+          site = started_at_name m flat made code is h.function h.argument h.known;
           asked = λ may.
               let k = h.told may in
               let same : map (by t) (asks m h.function h.argument h.answers k.fuel).events ≡ map (by t) h.after = tail_same _ _ _ _ (sym k.events ∙ h.starts) in

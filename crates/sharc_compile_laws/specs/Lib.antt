@@ -1,3 +1,6 @@
 pub mod Fits
+pub mod Names
+pub mod Paths
+pub mod Started
 pub mod Threads
 pub mod Typed

@@ -1,11 +1,17 @@
 //! The laws, each the contract of a function that calls at most the laws that it joins.
 
 ghost use Rattle.sharc_compile_laws.specs.Fits.{MadeTablesFit};
+ghost use Rattle.sharc_compile_laws.specs.Names.{CodeHasMain, FunctionsAreNamed};
+ghost use Rattle.sharc_compile_laws.specs.Paths.{OfTyped, PathsTell, ThreadsTellInRuns};
+ghost use Rattle.sharc_compile_laws.specs.Started.{SpawnedAreThreads, ThreadsMayStart};
 ghost use Rattle.sharc_compile_laws.specs.Threads.{ThreadsTell};
 ghost use Rattle.sharc_compile_laws.specs.Typed.{TypedCodeCounts, TypedThreadsTell};
 
-use sharc_compile::{held_law, run_law};
-use sharc_ctype_laws::laws::{meets_globals, spawns_threads, within_limits};
+use sharc_compile::{held_law, program_law, run_law};
+use sharc_ctype_laws::laws::{
+    has_main, meets_globals, one_function_of_name, spawns_name_functions, spawns_threads,
+    within_limits,
+};
 use sharc_flat_laws::laws::{typed_asks_the_same, typed_is_framed, typed_suits};
 use sharc_guard_laws::laws::{made_locks_stand, typed_is_level};
 
@@ -35,6 +41,26 @@ pub fn typed_threads_tell()
     threads_tell();
 }
 
+/// And each path of a thread of that code whose results are consistent tells what the program asks for, is over as the program is, and keeps
+/// the pace; so does each thread of a checked run whose path is such a one.
+pub fn typed_paths_tell()
+    ensures paths { OfTyped PathsTell }
+    ensures threads { OfTyped ThreadsTellInRuns }
+{
+    typed_suits();
+    program_law();
+    run_law();
+}
+
+/// The functions that threads have, `main` and what is spawned, may be started.
+pub fn threads_may_start()
+    ensures { ThreadsMayStart }
+{
+    has_main();
+    one_function_of_name();
+    spawns_threads();
+}
+
 /// What the registers of a thread of that code have, the program holds or gives up before it asks for more; and it wants what A1 to A4
 /// refuse.
 pub fn typed_code_counts()
@@ -45,4 +71,17 @@ pub fn typed_code_counts()
     typed_is_level();
     made_locks_stand();
     held_law();
+}
+
+/// The functions of the code are those of the program by their numbers, and the code's first function is `main`.
+pub fn functions_are_named()
+    ensures named { FunctionsAreNamed }
+    ensures main { CodeHasMain }
+{}
+
+/// What an instruction of the code of a typed program spawns, some function of the program spawns.
+pub fn spawned_are_threads()
+    ensures { SpawnedAreThreads }
+{
+    spawns_name_functions();
 }

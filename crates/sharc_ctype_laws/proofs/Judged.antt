@@ -505,6 +505,20 @@ spawn_by r structs names word i None all is h = absurd (no_fault r _ _ _ h)
 spawn_by r structs names word i (Some e) all is h =
     spawned_by r structs i e.name e.block e.meaning (found_name r structs names i.text e all is) (head_named r _ _ _ h) (well r (can_spawn e.meaning) word BadForm (right r _ _ (behind_head r _ _ _ h)))
 
+-- its name is that of a function
+spawn_names : (r : Resolution) (word : ℕ) (i : Identifier) (o : Option Entry) → Held r (spawn_notes word i.site.token o) → (n : ℕ) × (named_at r i.site.token ≡ named.Function n)
+spawn_names r word i None h = absurd (no_fault r _ _ _ h)
+spawn_names r word i (Some e) h = by e.meaning (head_named r _ _ _ h) (well r (can_spawn e.meaning) word BadForm (right r _ _ (behind_head r _ _ _ h)))
+  where
+    by : (m : Meaning) → named_at r i.site.token ≡ named_of m → can_spawn m ≡ true → (n : ℕ) × (named_at r i.site.token ≡ named.Function n)
+    by (meaning.variable d) is can = absurd (false≢true can)
+    by (meaning.global k g) is can = absurd (false≢true can)
+    by (meaning.function k f) is can = (k, is)
+    by (meaning.condition c) is can = absurd (false≢true can)
+
+pub spawned_name : (r : Resolution) (scope : Scope) (s : Span) (f : Identifier) (a : Expression) → Held r (notes_of scope (tree.spawn s f a)) → (n : ℕ) × (named_at r f.site.token ≡ named.Function n)
+spawned_name r scope s f a h = spawn_names r s.first.token f (look_up scope.names f.text) (right r _ _ (left r _ _ h))
+
 pub spawn_callee : (r : Resolution) (scope : Scope) → IsScene r scope → (s : Span) (f : Identifier) (a : Expression) → Held r (notes_of scope (tree.spawn s f a)) → IsSpawned r f (look_up scope.names f.text)
 spawn_callee r scope scene s f a h = spawn_by r scope.structs scope.names s.first.token f (look_up scope.names f.text) scene.names refl (right r _ _ (left r _ _ h))
 

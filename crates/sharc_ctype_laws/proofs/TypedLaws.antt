@@ -15,7 +15,7 @@ use Rattle.sharc_ctype.specs.Transfers.{IsFair, function_transfers}
 use Rattle.sharc_ctype.specs.Items.{file_scope, items_notes, notes_about, main_missing}
 use Rattle.sharc_ctype.specs.Globals.{sizes_notes}
 use Rattle.sharc_ctype.specs.Heads.{heads_notes, no_heads}
-use Rattle.sharc_ctype_laws.specs.Laws.{MeetsGlobals, SpawnsThreads, ReachesFunctions, OneType, EachNameOnce, OnlyNames, EachNamesItself, EachNamesOwn, NamesFound, EachNamesFound, EachPathFound, IsPlain, ArePlain, NamesInTypes, SameKinds, MeetsConstraints, MeetsStatements, AllFair, WithinLimits, HasMain}
+use Rattle.sharc_ctype_laws.specs.Laws.{MeetsGlobals, SpawnsByName, SpawnsNameFunctions, SpawnsThreads, ReachesFunctions, OneType, EachNameOnce, OnlyNames, EachNamesItself, EachNamesOwn, NamesFound, EachNamesFound, EachPathFound, IsPlain, ArePlain, NamesInTypes, SameKinds, MeetsConstraints, MeetsStatements, AllFair, WithinLimits, HasMain}
 use Rattle.sharc_ctype_laws.specs.Paths.{IsClosed, PathsAt, BodyStands}
 use Rattle.sharc_ctype_laws.specs.Places.{Placing, places_of, places_of_all}
 use Rattle.sharc_ctype.specs.Resolved.{Resolution, IsResolved, functions_in, declarations_in, kind_at}
@@ -28,7 +28,7 @@ use Rattle.sharc_ctype_laws.proofs.Fair.{fair_function}
 use Rattle.sharc_ctype_laws.proofs.FileScene.{file_scene, items_places, function_places, each_function}
 use Rattle.sharc_ctype_laws.proofs.Forgotten.{in_function_all}
 use Rattle.sharc_ctype_laws.proofs.Held.{Held, left, right, clean, clean_left, clean_right}
-use Rattle.sharc_ctype_laws.proofs.Judged.{named_by}
+use Rattle.sharc_ctype_laws.proofs.Judged.{named_by, spawned_name}
 use Rattle.sharc_ctype_laws.proofs.Limited.{few, small, few_cells, main_is}
 use Rattle.sharc_ctype_laws.proofs.OneType as types
 use Rattle.sharc_ctype_laws.specs.Found.{EachTypeFound}
@@ -82,6 +82,21 @@ meets_constraints r resolved placed low =
     each_function r (file_scope r.program.items) (λ f. AllByRecursion (λ e. HasType r e (kind_at r e)) (in_function f))
     (λ f d h. in_function_all (λ e. HasType r e (kind_at r e)) (file_scope r.program.items) f
     (each (JudgedAt r) (λ p. HasType r p.expression (kind_at r p.expression)) (λ p j. j.judged.has) (places_of (file_scope r.program.items) f) (function_places r (file_scope r.program.items) s.scene f d h)))
+    r.program.items s.declared s.items
+
+spawned_by_name : (r : Resolution) (p : Placing) → JudgedAt r p → SpawnsByName r p.expression
+spawned_by_name r p j = by p.expression j.held
+  where
+    by : (e : Expression) → Held r (notes_of p.scope e) → SpawnsByName r e
+    by (tree.spawn s f a) h = spawned_name r p.scope s f a h
+    by _ h = tt
+
+pub spawns_name_functions : SpawnsNameFunctions
+spawns_name_functions r resolved placed low =
+    let s = sound r resolved (own_tokens r.program placed) low in
+    each_function r (file_scope r.program.items) (λ f. AllByRecursion (SpawnsByName r) (in_function f))
+    (λ f d h. in_function_all (SpawnsByName r) (file_scope r.program.items) f
+    (each (JudgedAt r) (λ p. SpawnsByName r p.expression) (spawned_by_name r) (places_of (file_scope r.program.items) f) (function_places r (file_scope r.program.items) s.scene f d h)))
     r.program.items s.declared s.items
 
 pub meets_statements : MeetsStatements

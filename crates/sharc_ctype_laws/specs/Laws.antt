@@ -5,8 +5,9 @@ use Rattle.sharc_tree.specs.Low.{IsLow}
 use Rattle.sharc_tree.specs.Marks.{items_marks}
 use Rattle.sharc_tree.specs.Measures.{in_function}
 use Rattle.sharc_tree.specs.Placed.{IsPlaced}
-use Rattle.sharc_tree.specs.Tree.{Expression, identifier, Function, Program}
+use Rattle.sharc_tree.specs.Tree.{Expression, identifier, spawn, Function, Program}
 use Rattle.sharc_names.specs.declared.fault.Named.{Named}
+use Rattle.sharc_names.specs.declared.fault.Named.TheVariants as named
 use Rattle.sharc_names.specs.Kinds.{Kind, declared_kind}
 use Rattle.sharc_names.specs.Names.{Entry, look_up, named_of}
 use Rattle.sharc_names.specs.Notes.{Note, fault, refers, yields, referred}
@@ -129,3 +130,11 @@ IsPlain f = AllByRecursion (λ d. is_aggregate (declared_kind d.written) ≡ fal
 
 abbrev pub ArePlain : Type 0
 ArePlain = (r : Resolution) → IsResolved r → IsPlaced r.program → IsLow r.program → AllByRecursion IsPlain (functions_in r.program.items)
+
+-- the name in a `spawn` is that of a function of the program
+abbrev pub SpawnsByName : Resolution → Expression → Type 0
+SpawnsByName r (spawn s f a) = (n : ℕ) × (named_at r f.site.token ≡ named.Function n)
+SpawnsByName r _ = Unit {0}
+
+abbrev pub SpawnsNameFunctions : Type 0
+SpawnsNameFunctions = (r : Resolution) → IsResolved r → IsPlaced r.program → IsLow r.program → AllByRecursion (λ f. AllByRecursion (SpawnsByName r) (in_function f)) (functions_in r.program.items)

@@ -1,7 +1,7 @@
 // The laws of typed programs: each is the contract of a function that does nothing.
 
 ghost use Rattle.sharc_ctype_laws.specs.Found.{EachTypeFound};
-ghost use Rattle.sharc_ctype_laws.specs.Laws.{EachNameOnce, OnlyNames, EachNamesItself, EachNamesOwn, EachNamesFound, EachPathFound, ArePlain, NamesInTypes, SameKinds, MeetsConstraints, OneType, MeetsStatements, AllFair, MeetsGlobals, WithinLimits, HasMain, OneFunctionOfName, SpawnsThreads, ReachesFunctions, SomeTyped};
+ghost use Rattle.sharc_ctype_laws.specs.Laws.{EachNameOnce, OnlyNames, EachNamesItself, EachNamesOwn, EachNamesFound, EachPathFound, ArePlain, NamesInTypes, SameKinds, MeetsConstraints, OneType, MeetsStatements, AllFair, MeetsGlobals, WithinLimits, HasMain, OneFunctionOfName, SpawnsNameFunctions, SpawnsThreads, ReachesFunctions, SomeTyped};
 
 /// In a typed program at its tokens each name is referred to once.
 pub fn each_name_once()
@@ -96,6 +96,11 @@ pub fn one_function_of_name()
 /// What is spawned is a void function with one parameter, and not `main`.
 pub fn spawns_threads()
     ensures { SpawnsThreads }
+{}
+
+/// The name in each `spawn` is that of a function of the program.
+pub fn spawns_name_functions()
+    ensures { SpawnsNameFunctions }
 {}
 
 /// What is reached is a function of the program, and not `main`.

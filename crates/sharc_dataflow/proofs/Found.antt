@@ -8,7 +8,8 @@ use Rattle.sharc_dataflow.specs.Flow.{Inside, Ends, Reaches}
 use Rattle.sharc_dataflow.specs.Code.{Code, paths, listing}
 use Rattle.sharc_dataflow.specs.Sums.{warns}
 use Rattle.sharc_dataflow.specs.Passes.{Summing, Telling, summed, sum_start, told, tell_start, nowhere, heads}
-use Rattle.sharc_dataflow.specs.Uses.{warning, IsUse, AddsUses, all_nulled, all_warns}
+use Rattle.sharc_dataflow.specs.Gathered.{all_nulled, all_warns}
+use Rattle.sharc_dataflow.specs.Uses.{warning, IsUse, AddsUses}
 use Rattle.sharc_dataflow.proofs.Exact.{Warned, ShownPath}
 use Rattle.sharc_dataflow.proofs.Codes.{exact_code}
 use Rattle.sharc_dataflow.proofs.Named.{hit_nulls, in_code}

@@ -6,7 +6,7 @@ use Rattle.sharc_dataflow.specs.declared.step.Step.{Step}
 use Rattle.sharc_dataflow.specs.declared.way.Warning.{Warning}
 use Rattle.sharc_dataflow.specs.Code.{Code, listing}
 use Rattle.sharc_dataflow.specs.Sums.{warns}
-use Rattle.sharc_dataflow.specs.Uses.{all_warns}
+use Rattle.sharc_dataflow.specs.Gathered.{all_warns}
 use Rattle.sharc_dataflow.specs.Narrow.{IsBetween, AreBetween, Same, IsSame}
 use Rattle.sharc_dataflow.proofs.Found.{one_is}
 

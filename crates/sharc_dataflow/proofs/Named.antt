@@ -5,7 +5,7 @@ use Rattle.sharc_dataflow.specs.declared.step.Step.{Step}
 use Rattle.sharc_dataflow.specs.declared.step.Step.TheVariants as steps
 use Rattle.sharc_dataflow.specs.Flow.{Act, Nulls, From, Start, To, Next, Piece, Goes, goes, before, Does, done, ended, before as not_yet, Then, through, leaves, behind, Caught, on, as_is, Loop, left, ended as loop_ended, again, Hits}
 use Rattle.sharc_dataflow.specs.Code.{Code, goes_to, acts, first_then, one_of, catches, repeats, paths, listing, step_of}
-use Rattle.sharc_dataflow.specs.Uses.{nulled_at, all_nulled}
+use Rattle.sharc_dataflow.specs.Gathered.{nulled_at, all_nulled}
 
 abbrev pub NullIn : ℕ → List Act → Type 0
 NullIn x [] = ⊥

@@ -1,5 +1,6 @@
 pub mod Code
 pub mod Flow
+pub mod Gathered
 pub mod Narrow
 pub mod Orders
 pub mod Passes

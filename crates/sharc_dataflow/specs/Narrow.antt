@@ -1,4 +1,4 @@
--- The steps that matter to some variables: what is left out, and what stands in its place.
+-- The steps that matter to some variables: what is left out, and what stands in its place. It retraces the code.
 use Rattle.std.specs.Prelude.{◌≡◌, ℕ, ◌≤◌, nat_le, List, Contains, [], ◌∷◌, ◌++◌, Option, Bool, true, false, ◌&&◌, ◌||◌}
 use Rattle.sharc_dataflow.specs.declared.step.Step.{Step}
 use Rattle.sharc_dataflow.specs.declared.step.Step.TheVariants as steps

@@ -1,4 +1,4 @@
--- Two passes over the steps of code, for one variable: back over them for what stands at the end of a loop's turn, then forth for the warnings.
+-- Two passes over the steps of code, for one variable: back over them for what stands at the end of a loop's turn, then forth for the warnings. It retraces the code.
 use Rattle.std.specs.Prelude.{ℕ, List, [], ◌∷◌, ◌++◌, Option, None, nat_eq}
 use Rattle.sharc_dataflow.specs.declared.step.Step.{Step}
 use Rattle.sharc_dataflow.specs.declared.step.Step.TheVariants as steps

@@ -1,4 +1,4 @@
--- What a piece of code does to one variable, computed.
+-- What a piece of code does to one variable, computed. It retraces the code: what is answered is said by paths, in Flow and Uses.
 use Rattle.std.specs.Prelude.{ℕ, List, [], ◌∷◌, ◌++◌, Option, Some, None, Bool, true, false, min, nat_eq, ◌&&◌, ◌||◌}
 use Rattle.sharc_dataflow.specs.declared.way.Way.{Way}
 use Rattle.sharc_dataflow.specs.declared.way.Ways.{Ways}

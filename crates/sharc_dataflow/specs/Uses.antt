@@ -1,11 +1,8 @@
 -- What is answered of code: its reads of nulled variables.
-use Rattle.std.specs.Prelude.{ℕ, ◌<◌, ◌≤◌, List, [], ◌∷◌, ◌++◌, Contains, None, ◌⊎◌}
-use Rattle.sharc_dataflow.specs.declared.step.Step.{Step}
-use Rattle.sharc_dataflow.specs.declared.step.Step.TheVariants as steps
+use Rattle.std.specs.Prelude.{ℕ, ◌<◌, ◌≤◌, List, [], ◌∷◌, Contains, ◌⊎◌}
 use Rattle.sharc_dataflow.specs.declared.way.Warning.{Warning}
 use Rattle.sharc_dataflow.specs.Flow.{Reaches}
 use Rattle.sharc_dataflow.specs.Code.{Code, paths}
-use Rattle.sharc_dataflow.specs.Sums.{warns}
 
 abbrev pub warning : ℕ → ℕ → Warning
 warning r k = record { read = r; since = k }
@@ -39,18 +36,3 @@ pub record AreFirsts (found firsts : List Warning) : Type 0 where
   pub rising : Rising firsts
   pub only : (w : Warning) → Contains firsts w → Contains found w
   pub all : (k r : ℕ) → Contains found (warning r k) → HasWarning firsts k r
-
--- the variables that the steps null
-
-abbrev pub nulled_at : Step → List ℕ
-nulled_at (steps.Null x k) = x ∷ []
-nulled_at _ = []
-
-abbrev pub all_nulled : List Step → List ℕ
-all_nulled [] = []
-all_nulled (a ∷ rest) = nulled_at a ++ all_nulled rest
-
--- the warnings about some variables
-abbrev pub all_warns : Code → List ℕ → List Warning
-all_warns c [] = []
-all_warns c (x ∷ rest) = warns x c None ++ all_warns c rest

@@ -82,14 +82,14 @@ pub found_is : (words : List ℕ) (event : Option WordEvent) (step : WordStep) �
 found_is words None step q a = absurd (let f : None ≡ Some step = q in cc)
 found_is words (Some e) step q a = let same : e.step ≡ step = cc in a.result_is ∙ ap (λ (y : WordStep). slice_index words y.word) same
 
-after_set : (words : List ℕ) (event : Option WordEvent) (step : WordStep) → step_of event ≡ Some step → Answered words event → slice_index (words_now words event) step.word ≡ word_after step.op (slice_index words step.word)
+pub after_set : (words : List ℕ) (event : Option WordEvent) (step : WordStep) → step_of event ≡ Some step → Answered words event → slice_index (words_now words event) step.word ≡ word_after step.op (slice_index words step.word)
 after_set words None step q a = absurd (let f : None ≡ Some step = q in cc)
 after_set words (Some e) step q a =
     let same : e.step ≡ step = cc in
     subst (λ (x : WordStep). slice_index (words_after_step words e.step) x.word ≡ word_after x.op (slice_index words x.word)) same
     (set_here words e.step.word (word_after e.step.op (slice_index words e.step.word)) a.on_a_word)
 
-quiet_is : (event : Option WordEvent) → step_of event ≡ None → result_of event ≡ 0
+pub quiet_is : (event : Option WordEvent) → step_of event ≡ None → result_of event ≡ 0
 quiet_is None q = refl
 quiet_is (Some e) q = absurd (cc)
 
@@ -169,7 +169,7 @@ module _ (x : Targets) (code : Code) (s : Shape) (ls : Labels) (wt : IsWellTyped
   started_of : (u : ℕ) → (g.started u ≡ false → ⊥) → g.started u ≡ true
   started_of u h = not_false (g.started u) h
 
-  live_not_built : (n t : ℕ) → n ≢ 0 → (world.obj n).live ≡ true → st.heap.state n ≡ Built t → ⊥
+  pub live_not_built : (n t : ℕ) → n ≢ 0 → (world.obj n).live ≡ true → st.heap.state n ≡ Built t → ⊥
   live_not_built n t nz live built = let e : Built t ≡ Live = sym built ∙ (st.heap_stands.live n nz).0 live in cc
 
   -- ---- an object that thread t builds is referred to by no other thread
@@ -303,16 +303,16 @@ module _ (laws : RunLaws) (keeps : Keeps) (cells : CellsAreThere) (pointers : Po
   on : IsOn (place_after code s earlier) one.thread
   on = (may.started, may.next.runs)
 
-  headed : (n : ℕ) → n ≢ 0 → header_of i ((place_after code s earlier).threads one.thread).own.stage ≡ Some n → h.state.heap.state n ≡ Built one.thread
+  pub headed : (n : ℕ) → n ≢ 0 → header_of i ((place_after code s earlier).threads one.thread).own.stage ≡ Some n → h.state.heap.state n ≡ Built one.thread
   headed n nz e = header_built x code s ls wt fits g h.world h.state t on n e
 
   -- a number of elements changes only where the turn makes the object
-  same_table : (n : ℕ) → n ≢ 0 → (header_of i ((place_after code s earlier).threads one.thread).own.stage ≡ Some n → ⊥) → T' n ≡ T n
+  pub same_table : (n : ℕ) → n ≢ 0 → (header_of i ((place_after code s earlier).threads one.thread).own.stage ≡ Some n → ⊥) → T' n ≡ T n
   same_table n nz other = table_now code s one earlier n ∙ told_other T n code i m found (T (speaks_of i m found))
       (λ header e. ((built_low x code s ls wt fits g h.world h.state header t (header_built x code s ls wt fits g h.world h.state t on header e)).1, λ q. other (e ∙ ap (λ k. Some k) q)))
 
   -- ---- the elements of live objects
-  made_word : (n : ℕ) → n ≢ 0 → header_of i ((place_after code s earlier).threads one.thread).own.stage ≡ Some n
+  pub made_word : (n : ℕ) → n ≢ 0 → header_of i ((place_after code s earlier).threads one.thread).own.stage ≡ Some n
       → slice_index (words_now (place_after code s earlier).words one.event) (length_at s n) ≡ elements_in_stage ((place_after code s earlier).threads one.thread).own.stage
   made_word n nz e = by i refl e
     where

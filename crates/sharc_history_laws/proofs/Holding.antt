@@ -46,7 +46,7 @@ table false false true held locked unlocked rest h e = let u = h refl in sym (ap
     by false = refl
 table false false false held locked unlocked rest h e = e
 
-any_push : (test : SourceEvent → Bool) (xs : History) (e : SourceEvent) → list_any test (xs ++ e ∷ []) ≡ (list_any test xs || test e)
+pub any_push : (test : SourceEvent → Bool) (xs : History) (e : SourceEvent) → list_any test (xs ++ e ∷ []) ≡ (list_any test xs || test e)
 any_push test [] e = by (test e)
   where
     by : (b : Bool) → (b || false) ≡ b
@@ -84,7 +84,7 @@ module _ (c : CellAt) (e : SourceEvent) where
 abbrev pub holds_in : Newest → ℕ → CellAt → Bool
 holds_in L t c = holds_mutex (events_of t (reverse L)) c
 
-own_push : (e : SourceEvent) (L : Newest) (t : ℕ) → events_of t (reverse (e ∷ L)) ≡ (if is_of t e then events_of t (reverse L) ++ e ∷ [] else events_of t (reverse L))
+pub own_push : (e : SourceEvent) (L : Newest) (t : ℕ) → events_of t (reverse (e ∷ L)) ≡ (if is_of t e then events_of t (reverse L) ++ e ∷ [] else events_of t (reverse L))
 own_push e L t = ap (events_of t) (reverse_push e L) ∙ own_append t (reverse L) e
 
 pub holds_other : (e : SourceEvent) (L : Newest) (t : ℕ) (c : CellAt) → is_of t e ≡ false → holds_in (e ∷ L) t c ≡ holds_in L t c

@@ -57,7 +57,7 @@ above zero e = absurd (yes e)
 above (suc n) e = omega arith
 
 -- ---- entries of a log
-is_logged : (log : List HeldMutex) (h : HeldMutex) → IsIn h log → is_some (object_of log h.word) ≡ true
+pub is_logged : (log : List HeldMutex) (h : HeldMutex) → IsIn h log → is_some (object_of log h.word) ≡ true
 is_logged [] h is = absurd is
 is_logged (k ∷ log) h is = ⊎_elim
     (λ (e : k ≡ h). let w : k.word ≡ h.word = ap (λ (k : HeldMutex). k.word) e in let q : (k.word == h.word) ≡ true = grind (arith, nat_tests) in ap (λ b. is_some (if b then Some k.object else object_of log h.word)) q)

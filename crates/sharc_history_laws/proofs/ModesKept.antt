@@ -47,7 +47,8 @@ use Rattle.sharc_history_laws.specs.History.{history_of}
 use Rattle.sharc_history_laws.proofs.Stands.{gate}
 use Rattle.sharc_history_laws.proofs.Tables.{header_of, length_kept, step_leaves}
 use Rattle.sharc_history_laws.proofs.Writes.{writes}
-use Rattle.sharc_history_laws.proofs.Unwritten.{Spares, SparesTurn, Leaves, Elsewhere, Had, spares}
+use Rattle.sharc_history_laws.proofs.Sparing.{Spares, SparesTurn, Leaves, Elsewhere, Had}
+use Rattle.sharc_history_laws.proofs.Unwritten.{spares}
 use Rattle.sharc_history_laws.proofs.Consists.{Consists, consists_then, objects_then, effect_then, at_first}
 use Rattle.sharc_history_laws.proofs.Acts.{access_said, given_at, freed_at, About, is_access, no_access, access_at, IsAccess as TellsAccess, access_of}
 use Rattle.sharc_history_laws.proofs.Lists.{Newest, EachAccess, no_event, each_push}
@@ -68,7 +69,7 @@ module _ (target : ℕ) (P : Type 0) where
   step_spared words step (Elsewhere ne) = inl (get_or-set_other words step.word target (word_after step.op (slice_index words step.word)) 0 (λ e. ne (sym e)))
   step_spared words step (Had p) = inr p
 
-  word_spared : (words : List ℕ) (event : Option WordEvent) (a : Act) → step_of event ≡ asked_by a → SparesTurn target P a → (slice_index (words_now words event) target ≡ slice_index words target) ⊎ P
+  pub word_spared : (words : List ℕ) (event : Option WordEvent) (a : Act) → step_of event ≡ asked_by a → SparesTurn target P a → (slice_index (words_now words event) target ≡ slice_index words target) ⊎ P
   word_spared words None a asks h = inl refl
   word_spared words (Some e) (Local y) asks h = absurd (let f : Some e.step ≡ None = asks in cc)
   word_spared words (Some e) (Asks step go) asks h = let same : e.step ≡ step = cc in step_spared words e.step (subst (Spares target P) (sym same) h)

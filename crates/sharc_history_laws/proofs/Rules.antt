@@ -50,7 +50,7 @@ use Rattle.sharc_history_laws.proofs.Modes.{private_field, readonly_field}
 pub number_yes : (n : ℕ) → is_number n (Some n) ≡ true
 number_yes n = let e : (n == n) ≡ true = grind (arith, nat_tests) in e
 
-number_not : (n : ℕ) (o : Option ℕ) → (o ≡ Some n → ⊥) → is_number n o ≡ false
+pub number_not : (n : ℕ) (o : Option ℕ) → (o ≡ Some n → ⊥) → is_number n o ≡ false
 number_not n None h = refl
 number_not n (Some k) h = let ne : n ≡ k → ⊥ = λ e. h (ap (λ j. Some j) (sym e)) in let e : (n == k) ≡ false = grind (arith, nat_tests) in e
 
@@ -134,7 +134,7 @@ pub record ObjectsTold (L : Newest) (obj : ℕ → ObjectState) : Type 0 where
   pub live : (n : ℕ) → n ≢ 0 → (obj n).live ≡ true → live_in L n ≡ true
   pub owner : (n : ℕ) → n ≢ 0 → (obj n).live ≡ true → owned_in L n (obj n).owner ≡ true
 
-decide : (o : Option ℕ) (n : ℕ) → (o ≡ Some n) ⊎ (o ≡ Some n → ⊥)
+pub decide : (o : Option ℕ) (n : ℕ) → (o ≡ Some n) ⊎ (o ≡ Some n → ⊥)
 decide None n = inr (λ e. let f : None ≡ Some n = e in cc)
 decide (Some k) n = ⊎_elim (λ (e : k ≡ n). inl (ap (λ j. Some j) e)) (λ (ne : k ≡ n → ⊥). inr (λ e. ne (let f : k ≡ n = cc in f))) (cases_eq k n)
 

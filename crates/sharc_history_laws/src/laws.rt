@@ -1,11 +1,15 @@
 //! The laws, each the contract of a function that does nothing.
 
 ghost use Rattle.sharc_history_laws.specs.Conflicts.{AccessReportsShow, NamedAreChecked, NotesAreOfChecks};
+ghost use Rattle.sharc_history_laws.specs.Followed.{AccessesFollow, LockReportsBreakRules, LockReportsShowAccess};
 ghost use Rattle.sharc_history_laws.specs.History.{HistoriesObey};
 ghost use Rattle.sharc_history_laws.specs.Paths.{PathsAreConsistent};
 ghost use Rattle.sharc_history_laws.specs.Reports.{CastReportsShow, LockReportsShow};
+ghost use Rattle.sharc_history_laws.specs.Starts.{StartsAreSpawned};
+ghost use Rattle.sharc_history_laws.specs.Stores.{StoresAreLegal};
 
-use sharc_code::run_laws;
+use sharc_code::{run_laws, standing_laws};
+use sharc_code_laws::states_law;
 use sharc_invariant::laws::{begins, cells_are_there, keeps, runs_bits, runs_report, state_stands};
 
 /// The path of each thread of each checked run of typed code has consistent results: its references are numbers, Bounds answers the elements of its object,
@@ -47,4 +51,45 @@ pub fn reports_law()
     cells_are_there();
     runs_bits();
     runs_report();
+}
+
+/// The source events of each checked run of typed code may come one after the other, if the cells of its globals hold at first what the program says: each
+/// Read and Take answers what the last change of its cell left there, a New makes an object that is not live, a Lock takes a mutex that nobody holds, an
+/// Unlock gives back one that its thread locked last, a Spawn answers a new thread, and a Join comes after its thread has gone. Nothing is said of Woken and
+/// Signal.
+pub fn stores_law()
+    ensures { StoresAreLegal }
+{
+    run_laws();
+    states_law();
+    begins();
+    keeps();
+    state_stands();
+    cells_are_there();
+}
+
+/// The first event of each thread of each such run, if it is a Started, is that of main, or that of the function and the argument that an earlier Spawn gave to
+/// the thread.
+pub fn starts_law()
+    ensures { StartsAreSpawned }
+{
+    run_laws();
+    standing_laws();
+    begins();
+    keeps();
+    cells_are_there();
+}
+
+/// Where each check of the code is directly before its access: each check of an access that a thread made in a checked run of typed code, and that passed, is
+/// followed by that access, as its thread's next turn; where a thread has stopped at a lock check, the mode of the access that was refused names the mutex that
+/// the check looks for, and no history that keeps the rules of the modes goes on with that access.
+pub fn followed_law()
+    ensures accesses { AccessesFollow }
+    ensures locks { LockReportsShowAccess }
+    ensures rules { LockReportsBreakRules }
+{
+    run_laws();
+    begins();
+    keeps();
+    cells_are_there();
 }

@@ -1,8 +1,9 @@
-//! Checked runs of typed code: the paths of their threads have consistent results, and their source events keep the rules of the modes.
+//! Checked runs of typed code: the paths of their threads have consistent results, their source events keep the rules of the modes and may come one after
+//! the other, and their reports show causes.
 //!
 //! The layer above may call the laws of src/laws.rt, each the contract of a function that does nothing.
 #![tactic(auto)]
 
 mod laws;
 
-pub use laws::{history_law, paths_law};
+pub use laws::{followed_law, history_law, paths_law, reports_law, starts_law, stores_law};

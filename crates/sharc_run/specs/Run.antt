@@ -5,7 +5,8 @@ use Rattle.sharc_code.specs.declared.shape.Shape.{Shape}
 use Rattle.sharc_code.specs.Runs.{Turn}
 use Rattle.sharc_code.specs.Whole.{CheckedRun, place_after}
 use Rattle.sharc_cpu.specs.Thread.{ThreadView}
-use Rattle.sharc_threads.specs.Ends.{Standing, is_enabled, AreStarted}
+use Rattle.sharc_threads.specs.declared.end.End.{End}
+use Rattle.sharc_threads.specs.Ends.{Standing, is_enabled, AreStarted, EndIs}
 use Rattle.sharc_seq.specs.Choice.{seeded}
 use Rattle.sharc_seq.specs.Run.{AreChosen}
 use Rattle.sharc_run_text.specs.RunText.{IsRunText}
@@ -18,6 +19,13 @@ pub record IsEnd (code : Code) (s : Shape) (limit : ℕ) (g : Standing) (ran : R
   pub started : AreStarted code s g threads
   pub text : IsRunText code g.words threads ran.text.items
   pub outcome : HasOutcome code s limit g threads ran.outcome
+
+-- a run of these turns ended where no thread may make a turn, with these words and started threads, and so
+pub record HasEnded (code : Code) (s : Shape) (limit : ℕ) (words : List ℕ) (threads : List ThreadView) (end : End) (turns : List Turn) : Type 0 where
+  pub over : (t : ℕ) → is_enabled code s limit (place_after code s turns) t ≡ false
+  pub words_are : words ≡ (place_after code s turns).words
+  pub started : AreStarted code s (place_after code s turns) threads
+  pub end_is : EndIs code s (place_after code s turns) end
 
 -- a thread makes the turn of each number among those that may make one whose place the seed draws
 abbrev pub draws : ℕ → ℕ → ℕ → ℕ → Type 0

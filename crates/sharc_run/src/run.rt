@@ -1,12 +1,15 @@
 //! Runs, and what they write.
 
-ghost use Rattle.std.specs.Prelude.{◌≡◌, ◌≤◌, ◌<◌, IfOk};
+ghost use Rattle.std.specs.Prelude.{◌≡◌, ◌≤◌, ◌<◌, ℕ, List, IfOk};
+ghost use Rattle.sharc_code.specs.declared.shape.Shape.{Shape};
 ghost use Rattle.sharc_code.specs.Layout.{Fits};
+ghost use Rattle.sharc_code.specs.Runs.{Turn};
+ghost use Rattle.sharc_code.specs.Whole.{place_after};
 ghost use Rattle.sharc_seq.specs.Choice.{seeded};
 ghost use Rattle.sharc_run_text.specs.Others.{AreAllowed};
 ghost use Rattle.sharc_run_text.specs.RunText.{IsRunText};
 ghost use Rattle.sharc_run.specs.Outcome.{outcome_of};
-ghost use Rattle.sharc_run.specs.Run.{IsSeededRun, IsWorkersRun};
+ghost use Rattle.sharc_run.specs.Run.{HasEnded, IsEnd, IsSeededRun, IsWorkersRun};
 
 use crate::outcome::{Outcome, outcome_of};
 use sharc_code::{Code, Shape};
@@ -25,8 +28,10 @@ pub struct Ran {
     pub text: Vec<u8>,
 }
 
-/// The text and the outcome of a run of these threads that ended so.
-fn told(
+/// The text and the outcome of a run that ended with these words and threads, and so.
+///
+/// An `Err` says that memory was not found.
+pub fn told(
     alloc: Global,
     code: &Code,
     words: &[u64],
@@ -36,6 +41,7 @@ fn told(
     requires { AreAllowed threads.now }
     ensures text { IfOk result (λ ran. IsRunText code.now words.now threads.now ran.text.items) }
     ensures outcome { IfOk result (λ ran. ran.outcome ≡ outcome_of threads.now end) }
+    ensures ends { (s : Shape) (limit : ℕ) (turns : List Turn) → Fits code.now s → HasEnded code.now s limit words.now threads.now end turns → IfOk result (IsEnd code.now s limit (place_after code.now s turns)) }
 {
     let text = run_text(alloc, code, words, threads)?;
     Ok(Ran {

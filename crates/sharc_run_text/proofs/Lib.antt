@@ -1,2 +1,4 @@
 mod Firsts
+mod OneOrder
+mod OneText
 mod Pieces

@@ -1,3 +1,4 @@
+pub mod Laws
 pub mod Others
 pub mod Places
 pub mod RunText

@@ -3,7 +3,7 @@ use Rattle.std.specs.Prelude.{◌≡◌, ℕ, ◌-◌, ◌==◌, Bool, true, fal
 use Rattle.std.specs.Fmt.{signed_decimal}
 use Rattle.std.specs.List.{flat_map}
 use Rattle.std.specs.Ordering.{nat_cmp}
-use Rattle.std.specs.List.Sorted.{IsPermutation, IsSortedByKey}
+use Rattle.std.specs.List.Sorted.{IsPermutation, IsSortedByKey, IsStableByKey}
 use Rattle.sharc_shadow.specs.declared.shadow_word.Kind.{Kind}
 use Rattle.sharc_shadow.specs.declared.shadow_word.Kind.TheVariants.{Read, Write}
 use Rattle.sharc_code.specs.declared.code.Code.{Code}
@@ -31,10 +31,11 @@ place_of p = p.place
 abbrev pub prints_of : ThreadView → List Print
 prints_of t = t.machine.own.prints
 
--- all prints of these threads, in the order of their places
+-- all prints of these threads, in the order of their places. Those of one place, which no run has, are in the order of the threads
 pub record AreInOrder (threads : List ThreadView) (prints : List Print) : Type 0 where
   pub all : IsPermutation (flat_map prints_of threads) prints
   pub in_order : IsSortedByKey place_of nat_cmp prints
+  pub ties : IsStableByKey place_of nat_cmp (flat_map prints_of threads) prints
 
 abbrev pub print_line : Print → List ℕ
 print_line p = signed_decimal p.value ++ codes "\n"

@@ -1,5 +1,10 @@
 -- Which mismatch of modes a sharing cast repairs, where an expression stands beside the modes that are expected of it.
-use Rattle.std.specs.Prelude.{ℕ, Bool, true, false, not, ◌&&◌, List, [], ◌∷◌, drop, slice_index_or, Option, Some, None, if◌then◌else◌}
+use Rattle.std.specs.Prelude.{ℕ, ◌-◌, Bool, true, false, not, ◌&&◌, ◌||◌, List, [], ◌∷◌, drop, slice_get, slice_index_or, Option, Some, None, if◌then◌else◌, codes}
+use Rattle.std.specs.Str.{bytes_eq}
+use Rattle.sharc_tree.specs.declared.token.Keyword.TheVariants as keyword
+use Rattle.sharc_tree.specs.declared.token.Token.{Token}
+use Rattle.sharc_tree.specs.declared.token.TokenKind.{TokenKind}
+use Rattle.sharc_tree.specs.declared.token.TokenKind.TheVariants as kind
 use Rattle.sharc_tree.specs.Forms.{without_parentheses, is_lvalue}
 use Rattle.sharc_tree.specs.Spans.{span_of}
 use Rattle.sharc_tree.specs.Tree.{Expression}
@@ -37,18 +42,43 @@ told flags x = slice_index_or flags x false
 abbrev pub entry_of : Declaration → Entry
 entry_of d = record { name = d.name.text; block = 0; meaning = variable d }
 
--- a variable is the one that its name means there; a global or a function is hidden by no variable; a field is no name outside of its struct
-abbrev pub keeps_named : Named → Option Entry → Bool
-keeps_named (named.Variable x) (Some e) = same_named (named.Variable x) (named_of e.meaning)
-keeps_named (named.Global g) None = true
-keeps_named (named.Function f) None = true
-keeps_named _ _ = false
+-- A path that begins with a call of condition variables that the program does not define is told by its words: `locked`, `(` and the name of the call.
+
+abbrev pub is_call_name : List ℕ → Bool
+is_call_name text = bytes_eq (codes "wait") text || (bytes_eq (codes "signal") text || bytes_eq (codes "broadcast") text)
+
+abbrev pub is_identifier : TokenKind → Bool
+is_identifier kind.Identifier = true
+is_identifier _ = false
+
+abbrev pub is_locked : TokenKind → Bool
+is_locked (kind.Keyword keyword.Locked) = true
+is_locked _ = false
+
+abbrev pub begins_call : Option Token → Option Token → Bool
+begins_call (Some before) (Some name) = is_locked before.kind && (is_identifier name.kind && is_call_name name.text)
+begins_call _ _ = false
+
+-- whether one begins at the token
+unfoldable pub is_call_at : Resolution → ℕ → Bool
+is_call_at r token = begins_call (slice_get r.program.tokens.list (token - 2)) (slice_get r.program.tokens.list token)
+
+-- The first name of a path: a variable is the one that its name means there; a global, a function or a known call is hidden by no variable; a field is no name outside of its struct
+abbrev pub keeps_named : Bool → Named → Option Entry → Bool
+keeps_named call (named.Variable x) (Some e) = same_named (named.Variable x) (named_of e.meaning)
+keeps_named call (named.Global g) None = true
+keeps_named call (named.Function f) None = true
+keeps_named call named.Known None = call
+keeps_named call _ _ = false
+
+abbrev pub keeps_first : Resolution → List Entry → ℕ → Bool
+keeps_first r scope token = keeps_named (is_call_at r token) (named_at r token) (look_up scope (text_at r token))
 
 -- the second name of `x->m` is a field of the struct that `x` points to, wherever it stands
 abbrev pub keeps : Resolution → List Entry → Sharing → Bool
 keeps r scope private = true
 keeps r scope readonly = true
-keeps r scope (locked l) = keeps_named (named_at r l.first) (look_up scope (text_at r l.first))
+keeps r scope (locked l) = keeps_first r scope l.first
 keeps r scope racy = true
 keeps r scope dynamic = true
 

@@ -1,13 +1,12 @@
 // Which mismatch of modes a sharing cast repairs.
 
-ghost use Rattle.std.specs.Prelude.{◌≡◌, ◌+◌, ◌≤◌, ◌++◌, drop, IfOk, OnOk};
+ghost use Rattle.std.specs.Prelude.{◌≡◌, ◌+◌, ◌≤◌, ◌++◌, drop, Some, IfOk, OnOk};
 ghost use Rattle.std.specs.Option.{option_map};
 ghost use Rattle.sharc_tree.specs.View.{view_expr};
-ghost use Rattle.sharc_names.specs.View.{view_bounds};
 ghost use Rattle.sharc_mode.specs.Moded.{position_count};
 ghost use Rattle.sharc_mode.specs.Rows.{modes_of};
 ghost use Rattle.sharc_mode.specs.View.{view_row, view_rows, view_sharing, EndsWithin};
-ghost use Rattle.sharc_suggest.specs.Repairs.{differ_first, is_free, may_be_cast, told, keeps_named, keeps, keeps_all, cast_to, is_repairable, repair};
+ghost use Rattle.sharc_suggest.specs.Repairs.{differ_first, is_free, may_be_cast, told, is_call_name, begins_call, is_call_at, keeps_first, keeps, keeps_all, cast_to, is_repairable, repair};
 
 use sharc_check::named::NamedVariables;
 use sharc_check::rules::taken_variable;
@@ -22,6 +21,7 @@ use sharc_mode::text::text_at;
 use sharc_names::fault::Named;
 use sharc_names::meaning::{Bound, named_of};
 use sharc_names::names::Names;
+use sharc_tree::token::{Keyword, Token, TokenKind};
 use sharc_tree::tree::Expr;
 use std::alloc::{AllocError, Global};
 
@@ -57,17 +57,52 @@ fn is_free(named: &NamedVariables, variable: Option<u32>) -> bool
     }
 }
 
-/// Whether the name that a path begins with means the same where it means that, if anything, among the variables in scope.
-fn keeps_named(named: Named, bound: Option<Bound<'_>>) -> bool
-    ensures { result ≡ keeps_named named (view_bounds bound.entry) }
+/// Whether this is the name of a call of condition variables.
+fn is_call_name(text: &[u8]) -> bool
+    ensures { result ≡ is_call_name text.now }
 {
-    match (named, bound) {
+    b"wait".as_slice() == text || b"signal".as_slice() == text || b"broadcast".as_slice() == text
+}
+
+/// Whether two words, with one between them, are those of a path that begins with such a call: `locked`, `(` and its name.
+fn begins_call(before: &Token, name: &Token) -> bool
+    ensures { result ≡ begins_call (Some before.now) (Some name.now) }
+{
+    match (before.kind, name.kind) {
+        (TokenKind::Keyword(Keyword::Locked), TokenKind::Identifier) => {
+            is_call_name(name.text.as_slice())
+        }
+        _ => false,
+    }
+}
+
+/// Whether such a path begins at the token with this number.
+fn is_call_at(typed: &Typed, token: u32) -> bool
+    ensures { result ≡ is_call_at typed.now token }
+{
+    let tokens = typed.program().tokens.list.as_slice();
+    let token = token as usize;
+    if token < tokens.len() {
+        let before = token.saturating_sub(2);
+        begins_call(&tokens[before], &tokens[token])
+    } else {
+        false
+    }
+}
+
+/// Whether the first name of a path means the same, if anything, where these variables are in scope. What names nothing that the program defines is
+/// told by its words: a path that begins with it begins with a call of condition variables.
+fn keeps_first(typed: &Typed, scope: &Names<'_>, token: u32) -> bool
+    ensures { result ≡ keeps_first typed.now scope.now token }
+{
+    match (typed.named(token), scope.find(text_at(typed, token))) {
         (Named::Variable(token), Some(bound)) => match named_of(bound.meaning) {
             Named::Variable(other) => token == other,
             _ => false,
         },
         (Named::Global(_), None) => true,
         (Named::Function(_), None) => true,
+        (Named::Known, None) => is_call_at(typed, token),
         _ => false,
     }
 }
@@ -77,12 +112,7 @@ fn keeps(typed: &Typed, scope: &Names<'_>, s: Sharing<'_>) -> bool
     ensures { result ≡ keeps typed.now scope.now (view_sharing s.entry) }
 {
     match s {
-        Sharing::Locked(lock) => {
-            keeps_named(
-                typed.named(lock.first),
-                scope.find(text_at(typed, lock.first)),
-            )
-        }
+        Sharing::Locked(lock) => keeps_first(typed, scope, lock.first),
         Sharing::Private => true,
         Sharing::Readonly => true,
         Sharing::Racy => true,

@@ -141,7 +141,7 @@ kept_yields v w x y false own is h = h
 -- a note of the new ones alone
 
 abbrev IsMeant : Named → Named → Type 0
-IsMeant v w = (v ≡ w) ⊎ ((is_dull v ≡ true) × (is_field v ≡ false) × (is_dull w ≡ true))
+IsMeant v w = (v ≡ w) ⊎ ((is_dull v ≡ true) × (is_field v ≡ false) × (is_dull w ≡ true) × (is_field w ≡ false))
 
 no_field : (v : Named) {A : Type 0} → is_field v ≡ false → is_field v ≡ true → A
 no_field v not_so is = absurd (false≢true (sym not_so ∙ is))
@@ -185,7 +185,7 @@ beside r t x y _ _ own (added {n = fault place code} {old = old} {new = new} har
 beside r t x y _ _ own (added {n = refers n w} {old = old} {new = new} harmless more) h =
     beside r t x (cond (n == t) w y) old new own more (added_refers (named_at r t) w x y (n == t) (λ is. subst (λ (k : ℕ). IsMeant (named_at r k) w) (eqb-true n t is) harmless) h)
 beside r t x y _ _ own (added {n = yields n w} {old = old} {new = new} harmless more) h =
-    beside r t x (cond (n == t) (cond (is_free y) w y) y) old new own more (added_yields (named_at r t) w x y (n == t) harmless h)
+    beside r t x (cond (n == t) (cond (is_free y) w y) y) old new own more (added_yields (named_at r t) w x y (n == t) harmless.0 h)
 beside r t x y _ _ own (old_fault {old = old} {new = new} more) h = beside r t x y old new own.1 more h
 beside r t x y _ _ own (new_fault {old = old} {new = new} more) h = beside r t x y old new own more h
 

@@ -4,6 +4,7 @@ pub mod Apart
 pub mod Arguments
 pub mod Bases
 pub mod CallNames
+pub mod Calls
 pub mod Clear
 pub mod Constants
 pub mod Counted
@@ -42,4 +43,5 @@ pub mod Strong
 pub mod Suggested
 pub mod Types
 pub mod Wants
+pub mod Words
 pub mod Written

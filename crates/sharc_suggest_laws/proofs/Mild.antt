@@ -18,8 +18,9 @@ use Rattle.sharc_names.specs.Types.{name_notes, main_notes, second_in, second_no
 use Rattle.sharc_ctype.specs.Resolved.{Resolution, named_at}
 use Rattle.sharc_ctype.specs.Statements.{with_names}
 use Rattle.sharc_mode.specs.Sharings.{Sharing, private, readonly, locked, racy, dynamic, is_field, same_named, mode_of, path_with, text_at}
-use Rattle.sharc_suggest.specs.Repairs.{keeps_named, keeps, keeps_all}
+use Rattle.sharc_suggest.specs.Repairs.{is_call_at, keeps_named, keeps, keeps_all}
 use Rattle.sharc_suggest_laws.specs.Names.{is_dull}
+use Rattle.sharc_suggest_laws.proofs.Words.{calls_apart}
 use Rattle.sharc_suggest_laws.proofs.Noted.{Clean, left, right, no_fault, Noted, done, added, both, more_faults, new_fault, quiet, main_faults, unless_faults}
 use Rattle.sharc_suggest_laws.proofs.Scoped.{IsFoundAs, Scoped}
 
@@ -29,9 +30,12 @@ is_filed (named.Global n) = true
 is_filed (named.Function n) = true
 is_filed _ = false
 
--- a token that names a global or a function has the text of what the file knows as that
-abbrev pub IsSpelled : Resolution → List Entry → Type 0
-IsSpelled r file = (token : ℕ) → is_filed (named_at r token) ≡ true → (e : Entry) → look_up file (text_at r token) ≡ Some e → named_of e.meaning ≡ named_at r token
+-- A token that names a global or a function has the text of what the file knows as that, and the name of a known call is what the file knows as such a call. What names a
+-- variable, a global or a function is no word `locked`, so no path begins two tokens after it.
+pub record IsSpelled (r : Resolution) (file : List Entry) : Type 0 where
+  pub filed : (token : ℕ) → is_filed (named_at r token) ≡ true → (e : Entry) → look_up file (text_at r token) ≡ Some e → named_of e.meaning ≡ named_at r token
+  pub called : (token : ℕ) → named_at r token ≡ named.Known → is_call_at r token ≡ true → (e : Entry) → look_up file (text_at r token) ≡ Some e → named_of e.meaning ≡ named.Known
+  pub apart : (token : ℕ) → is_dull (named_at r token) ≡ false → is_call_at r (token + 2) ≡ false
 
 -- ---- the first name of a lock path
 
@@ -44,13 +48,13 @@ variable_is x (named.Field f) is = absurd (false≢true is)
 variable_is x named.Known is = absurd (false≢true is)
 
 -- what it names where the cast stands is what it names where it stands
-named_there : (r : Resolution) (file names : List Entry) (token : ℕ) → IsSpelled r file → (v : Named) → named_at r token ≡ v → (c : Option Entry) → keeps_named v c ≡ true
+named_there : (r : Resolution) (file names : List Entry) (token : ℕ) → IsSpelled r file → (v : Named) → named_at r token ≡ v → (c : Option Entry) → keeps_named (is_call_at r token) v c ≡ true
     → IsFoundAs c (look_up names (text_at r token)) (look_up file (text_at r token)) → (e : Entry) → look_up names (text_at r token) ≡ Some e → named_at r token ≡ named_of e.meaning
 named_there r file names token spelled (named.Struct n) is None kept found e at = absurd (false≢true kept)
 named_there r file names token spelled (named.Struct n) is (Some x) kept found e at = absurd (false≢true kept)
-named_there r file names token spelled (named.Global n) is None kept found e at = sym (spelled token (ap is_filed is) e (sym found ∙ at))
+named_there r file names token spelled (named.Global n) is None kept found e at = sym (spelled.filed token (ap is_filed is) e (sym found ∙ at))
 named_there r file names token spelled (named.Global n) is (Some x) kept found e at = absurd (false≢true kept)
-named_there r file names token spelled (named.Function n) is None kept found e at = sym (spelled token (ap is_filed is) e (sym found ∙ at))
+named_there r file names token spelled (named.Function n) is None kept found e at = sym (spelled.filed token (ap is_filed is) e (sym found ∙ at))
 named_there r file names token spelled (named.Function n) is (Some x) kept found e at = absurd (false≢true kept)
 named_there r file names token spelled (named.Variable x) is None kept found e at = absurd (false≢true kept)
 named_there r file names token spelled (named.Variable x) is (Some c) kept found e at =
@@ -60,24 +64,36 @@ named_there r file names token spelled (named.Variable x) is (Some c) kept found
     one_some a b h = cc
 named_there r file names token spelled (named.Field f) is None kept found e at = absurd (false≢true kept)
 named_there r file names token spelled (named.Field f) is (Some x) kept found e at = absurd (false≢true kept)
-named_there r file names token spelled named.Known is None kept found e at = absurd (false≢true kept)
+named_there r file names token spelled named.Known is None kept found e at = is ∙ sym (spelled.called token is kept e (sym found ∙ at))
 named_there r file names token spelled named.Known is (Some x) kept found e at = absurd (false≢true kept)
 
 name_mild : (r : Resolution) (token : ℕ) (o : Option Entry) → ((e : Entry) → o ≡ Some e → named_at r token ≡ named_of e.meaning) → Clean (name_notes token o) → Noted r [] (name_notes token o)
 name_mild r token None is clean = absurd (no_fault _ _ _ clean)
 name_mild r token (Some e) is clean = added (inl (is e refl)) (quiet r [] (main_notes token e.meaning) tt (main_faults token e.meaning))
 
-second_mild : (r : Resolution) (token : ℕ) (o : Option (Option Declaration)) → Noted r [] (second_notes token o)
-second_mild r token None = done
-second_mild r token (Some None) = new_fault done
-second_mild r token (Some (Some d)) = added refl done
+second_mild : (r : Resolution) (token : ℕ) → is_call_at r token ≡ false → (o : Option (Option Declaration)) → Noted r [] (second_notes token o)
+second_mild r token apart None = done
+second_mild r token apart (Some None) = new_fault done
+second_mild r token apart (Some (Some d)) = added (refl, apart) done
 
-path_mild : (r : Resolution) (scope : Scope) (token : ℕ) (text : List ℕ) (second : Option (List ℕ)) → ((e : Entry) → look_up scope.names text ≡ Some e → named_at r token ≡ named_of e.meaning)
-    → Clean (path_notes scope [] (path_with token text second)) → Noted r [] (path_notes scope [] (path_with token text second))
-path_mild r scope token text None is clean = name_mild r token (look_up scope.names text) is clean
-path_mild r scope token text (Some m) is clean =
+-- where the first name of a path is kept, no path begins where its second name is looked for
+seconds_apart : (r : Resolution) (file : List Entry) (token : ℕ) → IsSpelled r file → (v : Named) → named_at r token ≡ v → (c : Option Entry) → keeps_named (is_call_at r token) v c ≡ true → is_call_at r (token + 2) ≡ false
+seconds_apart r file token spelled (named.Struct n) is None kept = absurd (false≢true kept)
+seconds_apart r file token spelled (named.Struct n) is (Some e) kept = absurd (false≢true kept)
+seconds_apart r file token spelled (named.Global n) is c kept = spelled.apart token (ap is_dull is)
+seconds_apart r file token spelled (named.Function n) is c kept = spelled.apart token (ap is_dull is)
+seconds_apart r file token spelled (named.Variable x) is c kept = spelled.apart token (ap is_dull is)
+seconds_apart r file token spelled (named.Field f) is None kept = absurd (false≢true kept)
+seconds_apart r file token spelled (named.Field f) is (Some e) kept = absurd (false≢true kept)
+seconds_apart r file token spelled named.Known is None kept = calls_apart r token kept
+seconds_apart r file token spelled named.Known is (Some e) kept = absurd (false≢true kept)
+
+path_mild : (r : Resolution) (scope : Scope) (token : ℕ) (text : List ℕ) (second : Option (List ℕ)) → is_call_at r (token + 2) ≡ false
+    → ((e : Entry) → look_up scope.names text ≡ Some e → named_at r token ≡ named_of e.meaning) → Clean (path_notes scope [] (path_with token text second)) → Noted r [] (path_notes scope [] (path_with token text second))
+path_mild r scope token text None apart is clean = name_mild r token (look_up scope.names text) is clean
+path_mild r scope token text (Some m) apart is clean =
     both r [] (name_notes token (look_up scope.names text)) [] _ (name_mild r token (look_up scope.names text) is (left _ _ clean))
-    (second_mild r (token + 2) (second_in scope.structs m (first_kind None (look_up scope.names text))))
+    (second_mild r (token + 2) apart (second_in scope.structs m (first_kind None (look_up scope.names text))))
 
 mode_mild : (r : Resolution) (file : Scope) (names scope : List Entry) → IsSpelled r file.names → Scoped file.names names scope → (s : Sharing) → keeps r scope s ≡ true
     → Clean (mode_notes (with_names file names) [] (Some (mode_of r s))) → Noted r [] (mode_notes (with_names file names) [] (Some (mode_of r s)))
@@ -85,6 +101,7 @@ mode_mild r file names scope spelled scoped private kept clean = done
 mode_mild r file names scope spelled scoped readonly kept clean = done
 mode_mild r file names scope spelled scoped (locked l) kept clean =
     path_mild r (with_names file names) l.first (text_at r l.first) l.second
+    (seconds_apart r file.names l.first spelled (named_at r l.first) refl (look_up scope (text_at r l.first)) kept)
     (named_there r file.names names l.first spelled (named_at r l.first) refl (look_up scope (text_at r l.first)) kept (scoped (text_at r l.first))) clean
 mode_mild r file names scope spelled scoped racy kept clean = done
 mode_mild r file names scope spelled scoped dynamic kept clean = done
@@ -107,9 +124,13 @@ struct_dull : (s : StructMeaning) → is_dull (named_struct s) ≡ true
 struct_dull (meaning.defined n fields) = refl
 struct_dull meaning.known = refl
 
+struct_apart : (s : StructMeaning) → is_field (named_struct s) ≡ false
+struct_apart (meaning.defined n fields) = refl
+struct_apart meaning.known = refl
+
 struct_mild : (r : Resolution) (token : ℕ) (o : Option StructMeaning) → (is_dull (named_at r token) ≡ true) × (is_field (named_at r token) ≡ false) → Noted r [] (struct_note token o)
 struct_mild r token None is = new_fault done
-struct_mild r token (Some s) is = added (inr (is.0, is.1, struct_dull s)) done
+struct_mild r token (Some s) is = added (inr (is.0, is.1, struct_dull s, struct_apart s)) done
 
 base_mild : (r : Resolution) (structs : StructTable) (token : ℕ) (b : Base) → NamesBase r token b → Noted r [] (base_notes structs token b)
 base_mild r structs token base.Int is = done

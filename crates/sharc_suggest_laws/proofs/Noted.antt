@@ -29,6 +29,7 @@ use Rattle.sharc_ctype.specs.declared.expr.OperatorClass.{OperatorClass}
 use Rattle.sharc_ctype.specs.Expressions.{is_place, place_notes, suits, place_call_notes, keeps_kind, cast_notes, count_notes, may_join, binary_notes}
 use Rattle.sharc_ctype.specs.Resolved.{Resolution, named_at}
 use Rattle.sharc_mode.specs.Sharings.{is_field}
+use Rattle.sharc_suggest.specs.Repairs.{is_call_at}
 use Rattle.sharc_suggest_laws.specs.Names.{is_dull}
 
 -- ---- no fault among them
@@ -83,12 +84,13 @@ pub not_wrong : (b : Bool) (place : ℕ) (code : FaultCode) → Clean (fault_whe
 not_wrong true place code h = absurd (no_fault place code [] h)
 not_wrong false place code h = refl
 
--- ---- notes with others among them: these name what their tokens name, or are of tokens that name no variable, global or function, and say none
+-- ---- notes with others among them: these name what their tokens name, or are of tokens that name no variable, global or function, and say none; what yields is a field,
+-- at no known call's token
 
 abbrev pub IsHarmless : Resolution → Note → Type 0
 IsHarmless r (fault place code) = ⊥
-IsHarmless r (refers token what) = (named_at r token ≡ what) ⊎ ((is_dull (named_at r token) ≡ true) × (is_field (named_at r token) ≡ false) × (is_dull what ≡ true))
-IsHarmless r (yields token what) = is_field what ≡ true
+IsHarmless r (refers token what) = (named_at r token ≡ what) ⊎ ((is_dull (named_at r token) ≡ true) × (is_field (named_at r token) ≡ false) × (is_dull what ≡ true) × (is_field what ≡ false))
+IsHarmless r (yields token what) = (is_field what ≡ true) × (is_call_at r token ≡ false)
 
 -- what yields is a field
 abbrev pub IsTame : Note → Type 0

@@ -33,7 +33,7 @@ one_told r t once =
     (joint (IsOwnAt t once.what) once.before (once.note ∷ once.after) (none_told t once.what once.before once.not_before) (told_so t once.what once.note once.tells, none_told t once.what once.after once.not_after)))
 
 -- it is told, or all is well
-told_or_not : (t : ℕ) (v : Named) (l : List Note) → Contains (referred l) t ⊎ AllByRecursion (IsOwnAt t v) l
+pub told_or_not : (t : ℕ) (v : Named) (l : List Note) → Contains (referred l) t ⊎ AllByRecursion (IsOwnAt t v) l
 told_or_not t v [] = inr tt
 told_or_not t v (fault place code ∷ rest) = ⊎_elim (λ c. inl c) (λ h. inr (tt, h)) (told_or_not t v rest)
 told_or_not t v (refers n w ∷ rest) =

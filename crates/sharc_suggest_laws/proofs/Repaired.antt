@@ -36,13 +36,15 @@ use Rattle.sharc_suggest_laws.specs.Values.{count_of, met_by, met_in_items, begi
 use Rattle.sharc_suggest_laws.proofs.Added.{suggested_is_added_once, at_tokens}
 use Rattle.sharc_suggest_laws.proofs.Arguments.{IsGivenTo, in_items as arguments_in}
 use Rattle.sharc_suggest_laws.proofs.CallNames.{IsSaid, calls_said}
+use Rattle.sharc_suggest_laws.proofs.Calls.{call_stays}
 use Rattle.sharc_suggest_laws.proofs.Clear.{all_clear}
 use Rattle.sharc_suggest_laws.proofs.Counted.{counted, counted_append, in_items as items_counted}
 use Rattle.sharc_suggest_laws.proofs.Few.{at_most_one, begins_once}
 use Rattle.sharc_suggest_laws.proofs.Gone.{gone_again}
 use Rattle.sharc_suggest_laws.proofs.Lefts.{IsBehind, Stands, in_items as lefts_in}
 use Rattle.sharc_suggest_laws.proofs.Listed.{front, back}
-use Rattle.sharc_suggest_laws.proofs.Noted.{Clean, clean_from}
+use Rattle.sharc_suggest_laws.proofs.Folded.{IsOwnAt}
+use Rattle.sharc_suggest_laws.proofs.Noted.{Clean, clean_from, Noted}
 use Rattle.sharc_suggest_laws.proofs.Owned.{all_own}
 use Rattle.sharc_suggest_laws.proofs.RowsStay.{Frame, now, first_at}
 use Rattle.sharc_suggest_laws.proofs.Site.{IsFor, has_site}
@@ -117,8 +119,7 @@ wanted_again m e c says setup (of_parameter f all k) stands said given wants =
     let call : IsCall m c tells all g =
     record { few = given.0; number = given.1; given = given.2; there = there_at m c tells setup.site; free = free_at m c tells setup.site } in
     let again : expected (assignment_with c m) ds (all_with_cast (recast_of m.typed c) all) (beyond k ds) ≡ Some setup.site.expected =
-    parameter_wanted m c setup.frame (fits m e c says setup) setup.site.giving.scope tells ds all g call (beyond k ds) (beyond_clear m k ds (parameters_clear m c setup.frame (named_at m.typed f))) setup.site.expected
-    (keeps_expected m c tells setup.site)
+    parameter_wanted m c setup.frame (fits m e c says setup) tells ds all g call (beyond k ds) (beyond_clear m k ds (parameters_clear m c setup.frame (named_at m.typed f))) setup.site.expected
     (λ z h. named_so z (beyond_named (parameter_names m (at_call ds all)) z k ds h)) wants in
     ap (λ (l : List Declaration). wanted_of (assignment_with c m) l (all_with_cast (recast_of m.typed c) all) k) (parameters_same m c setup.frame f) ∙ again
 
@@ -134,16 +135,19 @@ repairs once only in_types same_kinds m e c resolved placed low whole says typed
     let site : IsFor m tells c (items_givings items) = (has_site m e c says).for in
     let g : Giving = site.giving in
     let kept = names_stay once only in_types m e c resolved placed low says typed in
+    let said_again : Noted r (notes_about r.program) (notes_about (now m c).program) = notes_grown once only in_types m e c resolved placed low says typed in
+    let own : (t : ℕ) → AllByRecursion (IsOwnAt t (named_at r t)) (notes_about r.program) = λ t. all_own r t (only r resolved placed low t) (once r resolved placed low t) in
     let frame : Frame m c = record {
       kept = kept;
       added = suggested_is_added_once m e c placed says;
       clear = all_clear r.program.tokens.list items (length r.program.tokens.list) placed.follow placed.items;
       begun = begun_at m c tells site;
+      calls = call_stays r (now m c) refl own said_again;
     } in
     let setup : Setup m e c says = record { frame = frame; whole = whole; placed = placed; site = site } in
     let clean : Clean (notes_about r.program) = clean_from (notes_about r.program) resolved.typed in
     let strong : AreStrong r (now m c) (notes_about r.program) =
-    all_strong r (now m c) resolved refl refl kept clean (λ t. all_own r t (only r resolved placed low t) (once r resolved placed low t)) (notes_grown in_types m e c resolved placed low says typed) in
+    all_strong r (now m c) resolved refl refl kept clean own said_again in
     let heads = heads_notes no_heads items in
     let sizes = sizes_notes file.structs 0 items in
     let missing = main_missing (length r.program.tokens.list) file.names in

@@ -30,7 +30,9 @@ use Rattle.sharc_ctype.specs.Resolved.{Resolution, named_at, globals_in, functio
 use Rattle.sharc_mode.specs.declared.error.Cast.{Cast}
 use Rattle.sharc_mode.specs.Moded.{Assignment}
 use Rattle.sharc_mode.specs.Rows.{Reading, written, Row, is_constant_named, constant_use, base_use, no_row, deeper, targets_from, entity_row, declared_row, global_row, named_row, result_row, called_row, behind, constant_row, reading_through, unary_row}
+use Rattle.sharc_mode.specs.Sharings.{is_field}
 use Rattle.sharc_suggest.specs.Applied.{recast_of, targets, resolution_with}
+use Rattle.sharc_suggest.specs.Repairs.{is_call_at}
 use Rattle.sharc_suggest_laws.specs.Names.{is_dull, KeepsName}
 use Rattle.sharc_suggest_laws.specs.Values.{met_in_items, begins_at}
 use Rattle.sharc_suggest_laws.proofs.Clear.{IsClearAt, begun_in, AreClear}
@@ -47,6 +49,7 @@ pub record Frame (m : Assignment) (c : Cast) : Type 0 where
   pub added : IsAdded m c
   pub clear : AreClear m.typed.program.items 0 (length m.typed.program.tokens.list)
   pub begun : 0 < met_in_items (begins_at c.from) m.typed.program.items
+  pub calls : (t : ℕ) → is_field (named_at m.typed t) ≡ false → is_call_at m.typed t ≡ true → is_field (named_at (resolution_with c m.typed) t) ≡ false
 
 abbrev pub now : Assignment → Cast → Resolution
 now m c = resolution_with c m.typed

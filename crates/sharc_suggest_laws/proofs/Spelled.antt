@@ -1,4 +1,5 @@
--- A token that names a global or a function in a program at its tokens has the text of what the file knows as that.
+-- A token that names a global or a function in a program at its tokens has the text of what the file knows as that; and one that names what the program does not define
+-- shows that the file knows the calls of condition variables.
 use Rattle.std.proofs.Common.{◌≡◌, ◌⊎◌, inl, inr, ⊎_elim, ℕ, zero, suc, ◌+◌, ◌<◌, Bool, true, false, cond, List, [], ◌∷◌, ◌++◌, length, drop, get_or, Option, Some, None, slice_get, bytes_eq, refl, ap, sym, ◌∙◌, arith}
 use Rattle.std.specs.List.{AllByRecursion}
 use Rattle.std.proofs.lemmas.Bool.{false≢true}
@@ -20,7 +21,7 @@ use Rattle.sharc_names.specs.declared.scope.Scope.{Scope}
 use Rattle.sharc_names.specs.declared.types.Role.{Role}
 use Rattle.sharc_names.specs.declared.types.Role.TheVariants as role
 use Rattle.sharc_names.specs.Kinds.{Kind}
-use Rattle.sharc_names.specs.Names.{Entry, Meaning, StructMeaning, look_up, named_of, named_struct, struct_of, field_of}
+use Rattle.sharc_names.specs.Names.{Entry, Meaning, StructMeaning, StructTable, look_up, named_of, struct_of, field_of}
 use Rattle.sharc_names.specs.Names as meaning
 use Rattle.sharc_names.specs.Notes.{Note, fault, refers, yields}
 use Rattle.sharc_names.specs.Needs.{met}
@@ -33,6 +34,7 @@ use Rattle.sharc_ctype.specs.Expressions.{access_need, operand_need, class_of, o
 use Rattle.sharc_ctype.specs.Resolved.{Resolution}
 use Rattle.sharc_ctype.specs.Statements.{with_names, declared, is_here}
 use Rattle.sharc_mode.specs.Sharings.{is_field, text_of, text_at}
+use Rattle.sharc_suggest_laws.proofs.Calls.{KnowsCalls}
 use Rattle.sharc_suggest_laws.proofs.Listed.{joint}
 use Rattle.sharc_suggest_laws.proofs.Mild.{is_filed}
 use Rattle.sharc_suggest_laws.proofs.Noted.{AreFaults, IsFault, unless_faults, unmet_faults, unagreed_faults, place_faults, place_call_faults, cast_faults, count_faults, main_faults, binary_faults}
@@ -42,24 +44,54 @@ use Rattle.sharc_suggest_laws.proofs.Noted.{AreFaults, IsFault, unless_faults, u
 abbrev pub IsFiledAs : Resolution → List Entry → ℕ → Named → Type 0
 IsFiledAs r file token what = is_filed what ≡ true → (e : Entry) × (look_up file (text_at r token) ≡ Some e) × (named_of e.meaning ≡ what)
 
-abbrev pub IsSpelt : Resolution → List Entry → Note → Type 0
+-- what a token is told, that is said of it: what names nothing of the program is what the file knows
+abbrev pub IsSaid : Resolution → Scope → ℕ → Named → Type 0
+IsSaid r file token what = IsFiledAs r file.names token what × (what ≡ named.Known → KnowsCalls file)
+
+abbrev pub IsSpelt : Resolution → Scope → Note → Type 0
 IsSpelt r file (fault place code) = Unit {0}
-IsSpelt r file (refers token what) = IsFiledAs r file token what
+IsSpelt r file (refers token what) = IsSaid r file token what
 IsSpelt r file (yields token what) = is_field what ≡ true
 
-abbrev pub AreSpelt : Resolution → List Entry → List Note → Type 0
+abbrev pub AreSpelt : Resolution → Scope → List Note → Type 0
 AreSpelt r file l = AllByRecursion (IsSpelt r file) l
 
 -- what is no global and no function
 pub not_filed : (r : Resolution) (file : List Entry) (token : ℕ) (what : Named) → is_filed what ≡ false → IsFiledAs r file token what
 not_filed r file token what not_so is = absurd (false≢true (sym not_so ∙ is))
 
-fault_spelt : (r : Resolution) (file : List Entry) (n : Note) → IsFault n → IsSpelt r file n
+-- a variable, a field or a struct of the program
+abbrev pub is_plain : Named → Bool
+is_plain (named.Struct n) = true
+is_plain (named.Global n) = false
+is_plain (named.Function n) = false
+is_plain (named.Variable x) = true
+is_plain (named.Field f) = true
+is_plain named.Known = false
+
+pub plainly : (r : Resolution) (file : Scope) (token : ℕ) (what : Named) → is_plain what ≡ true → IsSaid r file token what
+plainly r file token (named.Struct n) plain = ((λ filed. absurd (false≢true filed)), λ known. absurd (other known))
+  where
+    other : named.Struct n ≡ named.Known → ⊥
+    other h = cc
+plainly r file token (named.Global n) plain = absurd (false≢true plain)
+plainly r file token (named.Function n) plain = absurd (false≢true plain)
+plainly r file token (named.Variable x) plain = ((λ filed. absurd (false≢true filed)), λ known. absurd (other known))
+  where
+    other : named.Variable x ≡ named.Known → ⊥
+    other h = cc
+plainly r file token (named.Field f) plain = ((λ filed. absurd (false≢true filed)), λ known. absurd (other known))
+  where
+    other : named.Field f ≡ named.Known → ⊥
+    other h = cc
+plainly r file token named.Known plain = absurd (false≢true plain)
+
+fault_spelt : (r : Resolution) (file : Scope) (n : Note) → IsFault n → IsSpelt r file n
 fault_spelt r file (fault place code) f = tt
 fault_spelt r file (refers token what) f = absurd f
 fault_spelt r file (yields token what) f = absurd f
 
-pub faults_spelt : (r : Resolution) (file : List Entry) (l : List Note) → AreFaults l → AreSpelt r file l
+pub faults_spelt : (r : Resolution) (file : Scope) (l : List Note) → AreFaults l → AreSpelt r file l
 faults_spelt r file [] f = tt
 faults_spelt r file (n ∷ rest) f = (fault_spelt r file n f.0, faults_spelt r file rest f.1)
 
@@ -106,50 +138,58 @@ variable_not_filed (meaning.global k g) is filed = false≢true is
 variable_not_filed (meaning.function k f) is filed = false≢true is
 variable_not_filed (meaning.condition c) is filed = false≢true is
 
--- a name that is found in scope
-found_spelt : (r : Resolution) (file names : List Entry) → IsOver file names → (token : ℕ) (text : List ℕ) → text_at r token ≡ text → (e : Entry) → look_up names text ≡ Some e → IsFiledAs r file token (named_of e.meaning)
-found_spelt r file names over token text is e found filed =
-    ⊎_elim (λ v. absurd (variable_not_filed e.meaning v filed)) (λ there. (e, ap (look_up file) is ∙ there, refl)) (over text e found)
+variable_not_known : (m : Meaning) → is_variable m ≡ true → named_of m ≡ named.Known → ⊥
+variable_not_known (meaning.variable d) is known = cc
+variable_not_known (meaning.global k g) is known = false≢true is
+variable_not_known (meaning.function k f) is known = false≢true is
+variable_not_known (meaning.condition c) is known = false≢true is
 
-name_by : (r : Resolution) (file : List Entry) (token : ℕ) (o : Option Entry) → ((e : Entry) → o ≡ Some e → IsFiledAs r file token (named_of e.meaning)) → AreSpelt r file (name_notes token o)
+-- a name that is found in scope
+found_spelt : (r : Resolution) (file : Scope) (names : List Entry) → IsOver file.names names → (token : ℕ) (text : List ℕ) → text_at r token ≡ text → (e : Entry) → look_up names text ≡ Some e → IsSaid r file token (named_of e.meaning)
+found_spelt r file names over token text is e found = (
+  (λ filed. ⊎_elim (λ v. absurd (variable_not_filed e.meaning v filed)) (λ there. (e, ap (look_up file.names) is ∙ there, refl)) (over text e found)),
+  (λ known. ⊎_elim (λ v. absurd (variable_not_known e.meaning v known)) (λ there. inl (text, e, there, known)) (over text e found)),
+)
+
+name_by : (r : Resolution) (file : Scope) (token : ℕ) (o : Option Entry) → ((e : Entry) → o ≡ Some e → IsSaid r file token (named_of e.meaning)) → AreSpelt r file (name_notes token o)
 name_by r file token None is = (tt, tt)
 name_by r file token (Some e) is = (is e refl, faults_spelt r file (main_notes token e.meaning) (main_faults token e.meaning))
 
-name_spelt : (r : Resolution) (file names : List Entry) → IsOver file names → (token : ℕ) (text : List ℕ) → text_at r token ≡ text → AreSpelt r file (name_notes token (look_up names text))
+name_spelt : (r : Resolution) (file : Scope) (names : List Entry) → IsOver file.names names → (token : ℕ) (text : List ℕ) → text_at r token ≡ text → AreSpelt r file (name_notes token (look_up names text))
 name_spelt r file names over token text is = name_by r file token (look_up names text) (found_spelt r file names over token text is)
 
-callee_by : (r : Resolution) (file : List Entry) (stands : Standing) (token n : ℕ) (o : Option Entry) → ((e : Entry) → o ≡ Some e → IsFiledAs r file token (named_of e.meaning)) → AreSpelt r file (callee_notes stands token n o)
+callee_by : (r : Resolution) (file : Scope) (stands : Standing) (token n : ℕ) (o : Option Entry) → ((e : Entry) → o ≡ Some e → IsSaid r file token (named_of e.meaning)) → AreSpelt r file (callee_notes stands token n o)
 callee_by r file stands token n None is = (tt, tt)
 callee_by r file stands token n (Some e) is =
     (is e refl, joint (IsSpelt r file) (main_notes token e.meaning) _ (faults_spelt r file _ (main_faults token e.meaning)) (faults_spelt r file _ (count_faults stands token n (meaning.parameters_of e.meaning))))
 
-spawned_by : (r : Resolution) (file : List Entry) (word token : ℕ) (o : Option Entry) → ((e : Entry) → o ≡ Some e → IsFiledAs r file token (named_of e.meaning)) → AreSpelt r file (spawn_notes word token o)
+spawned_by : (r : Resolution) (file : Scope) (word token : ℕ) (o : Option Entry) → ((e : Entry) → o ≡ Some e → IsSaid r file token (named_of e.meaning)) → AreSpelt r file (spawn_notes word token o)
 spawned_by r file word token None is = (tt, tt)
 spawned_by r file word token (Some e) is = (is e refl, joint (IsSpelt r file) (main_notes token e.meaning) _ (faults_spelt r file _ (main_faults token e.meaning)) (faults_spelt r file _ (unless_faults _ word _)))
 
-field_spelt : (r : Resolution) (file : List Entry) (token : ℕ) (o : Option (Option Declaration)) → AreSpelt r file (field_notes token o)
+field_spelt : (r : Resolution) (file : Scope) (token : ℕ) (o : Option (Option Declaration)) → AreSpelt r file (field_notes token o)
 field_spelt r file token None = tt
 field_spelt r file token (Some None) = (tt, tt)
-field_spelt r file token (Some (Some d)) = (not_filed r file token (named.Field d.name.site.token) refl, tt)
+field_spelt r file token (Some (Some d)) = (plainly r file token (named.Field d.name.site.token) refl, tt)
 
 -- ---- in types
 
-first_by : (r : Resolution) (file names : List Entry) → IsOver file names → (token : ℕ) (text : List ℕ) → text_at r token ≡ text → (sibling : Option Declaration) → AreSpelt r file (first_notes token sibling (look_up names text))
-first_by r file names over token text is (Some d) = (not_filed r file token (named.Field d.name.site.token) refl, tt)
+first_by : (r : Resolution) (file : Scope) (names : List Entry) → IsOver file.names names → (token : ℕ) (text : List ℕ) → text_at r token ≡ text → (sibling : Option Declaration) → AreSpelt r file (first_notes token sibling (look_up names text))
+first_by r file names over token text is (Some d) = (plainly r file token (named.Field d.name.site.token) refl, tt)
 first_by r file names over token text is None = name_spelt r file names over token text is
 
-second_spelt : (r : Resolution) (file : List Entry) (token : ℕ) (o : Option (Option Declaration)) → AreSpelt r file (second_notes token o)
+second_spelt : (r : Resolution) (file : Scope) (token : ℕ) (o : Option (Option Declaration)) → AreSpelt r file (second_notes token o)
 second_spelt r file token None = tt
 second_spelt r file token (Some None) = (tt, tt)
 second_spelt r file token (Some (Some d)) = (refl, tt)
 
-path_spelt : (r : Resolution) (file : List Entry) (scope : Scope) → IsOver file scope.names → (siblings : List Declaration) (p : Path) → AreMarks r.program.tokens.list (path_marks p) → AreSpelt r file (path_notes scope siblings p)
+path_spelt : (r : Resolution) (file scope : Scope) → IsOver file.names scope.names → (siblings : List Declaration) (p : Path) → AreMarks r.program.tokens.list (path_marks p) → AreSpelt r file (path_notes scope siblings p)
 path_spelt r file scope over siblings (One m token) marks = first_by r file scope.names over token m (text_is r token m marks.0) (field_of siblings m)
 path_spelt r file scope over siblings (Through x token m) marks =
     joint (IsSpelt r file) (first_notes token (field_of siblings x) (look_up scope.names x)) _ (first_by r file scope.names over token x (text_is r token x marks.0) (field_of siblings x))
     (second_spelt r file (token + 2) (second_in scope.structs m (first_kind (field_of siblings x) (look_up scope.names x))))
 
-mode_spelt : (r : Resolution) (file : List Entry) (scope : Scope) → IsOver file scope.names → (siblings : List Declaration) (m : Option Mode) → AreMarks r.program.tokens.list (level_marks m) → AreSpelt r file (mode_notes scope siblings m)
+mode_spelt : (r : Resolution) (file scope : Scope) → IsOver file.names scope.names → (siblings : List Declaration) (m : Option Mode) → AreMarks r.program.tokens.list (level_marks m) → AreSpelt r file (mode_notes scope siblings m)
 mode_spelt r file scope over siblings None marks = tt
 mode_spelt r file scope over siblings (Some Private) marks = tt
 mode_spelt r file scope over siblings (Some Readonly) marks = tt
@@ -165,7 +205,7 @@ back_marks : (all : List Token) (a b : List Mark) → AreMarks all (a ++ b) → 
 back_marks all [] b h = h
 back_marks all (m ∷ rest) b h = back_marks all rest b h.1
 
-modes_spelt : (r : Resolution) (file : List Entry) (scope : Scope) → IsOver file scope.names → (siblings : List Declaration) (first : Bool) (bases : List Mark) (l : List (Option Mode)) → AreMarks r.program.tokens.list (levels_marks first bases l)
+modes_spelt : (r : Resolution) (file scope : Scope) → IsOver file.names scope.names → (siblings : List Declaration) (first : Bool) (bases : List Mark) (l : List (Option Mode)) → AreMarks r.program.tokens.list (levels_marks first bases l)
     → AreSpelt r file (modes_notes scope siblings l)
 modes_spelt r file scope over siblings first bases [] marks = tt
 modes_spelt r file scope over siblings true bases (m ∷ []) marks =
@@ -177,70 +217,68 @@ modes_spelt r file scope over siblings first bases (m ∷ (n ∷ below)) marks =
     (mode_spelt r file scope over siblings m (back_marks r.program.tokens.list (levels_marks first bases (n ∷ below)) (level_marks m) marks))
     (modes_spelt r file scope over siblings first bases (n ∷ below) (front_marks r.program.tokens.list (levels_marks first bases (n ∷ below)) (level_marks m) marks))
 
-struct_no : (s : StructMeaning) → is_filed (named_struct s) ≡ false
-struct_no (meaning.defined n fields) = refl
-struct_no meaning.known = refl
+struct_spelt : (r : Resolution) (file : Scope) (token : ℕ) (name : List ℕ) (o : Option StructMeaning) → struct_of file.structs name ≡ o → AreSpelt r file (struct_note token o)
+struct_spelt r file token name None at = (tt, tt)
+struct_spelt r file token name (Some (meaning.defined n fields)) at = (plainly r file token (named.Struct n) refl, tt)
+struct_spelt r file token name (Some meaning.known) at = (((λ filed. absurd (false≢true filed)), λ known. inr (name, at)), tt)
 
-struct_spelt : (r : Resolution) (file : List Entry) (token : ℕ) (o : Option StructMeaning) → AreSpelt r file (struct_note token o)
-struct_spelt r file token None = (tt, tt)
-struct_spelt r file token (Some s) = (not_filed r file token (named_struct s) (struct_no s), tt)
+-- the structs in scope are those of the file
+base_spelt : (r : Resolution) (file scope : Scope) → scope.structs ≡ file.structs → (token : ℕ) (b : Base) → AreSpelt r file (base_notes scope.structs token b)
+base_spelt r file scope same token base.Int = tt
+base_spelt r file scope same token base.Char = tt
+base_spelt r file scope same token base.Long = tt
+base_spelt r file scope same token base.Mutex = tt
+base_spelt r file scope same token base.Void = tt
+base_spelt r file scope same token (base.Struct name) = struct_spelt r file token name (struct_of scope.structs name) (ap (λ (t : StructTable). struct_of t name) (sym same))
 
-base_spelt : (r : Resolution) (file : List Entry) (scope : Scope) (token : ℕ) (b : Base) → AreSpelt r file (base_notes scope.structs token b)
-base_spelt r file scope token base.Int = tt
-base_spelt r file scope token base.Char = tt
-base_spelt r file scope token base.Long = tt
-base_spelt r file scope token base.Mutex = tt
-base_spelt r file scope token base.Void = tt
-base_spelt r file scope token (base.Struct name) = struct_spelt r file token (struct_of scope.structs name)
-
-pub type_spelt : (r : Resolution) (file : List Entry) (scope : Scope) → IsOver file scope.names → (siblings : List Declaration) (where_it_stands : Role) (w : WrittenType) → PlacedType r.program.tokens.list w → AreSpelt r file (type_notes scope siblings where_it_stands w)
-type_spelt r file scope over siblings where_it_stands w placed =
+pub type_spelt : (r : Resolution) (file scope : Scope) → IsOver file.names scope.names → scope.structs ≡ file.structs → (siblings : List Declaration) (where_it_stands : Role) (w : WrittenType) → PlacedType r.program.tokens.list w → AreSpelt r file (type_notes scope siblings where_it_stands w)
+type_spelt r file scope over same siblings where_it_stands w placed =
     joint (IsSpelt r file) _ (modes_notes scope siblings w.ctype.levels)
-    (joint (IsSpelt r file) (base_notes scope.structs w.base.token w.ctype.base) _ (base_spelt r file scope w.base.token w.ctype.base) (faults_spelt r file _ (unless_faults _ w.span.first.token _)))
+    (joint (IsSpelt r file) (base_notes scope.structs w.base.token w.ctype.base) _ (base_spelt r file scope same w.base.token w.ctype.base) (faults_spelt r file _ (unless_faults _ w.span.first.token _)))
     (modes_spelt r file scope over siblings w.mode_first (base_marks w.ctype.base w.base.token) w.ctype.levels placed.1)
 
 -- ---- in expressions
 
-pub behind_faults : (r : Resolution) (file : List Entry) (a b : List Note) → AreSpelt r file a → AreFaults b → AreSpelt r file (a ++ b)
+pub behind_faults : (r : Resolution) (file : Scope) (a b : List Note) → AreSpelt r file a → AreFaults b → AreSpelt r file (a ++ b)
 behind_faults r file a b h f = joint (IsSpelt r file) a b h (faults_spelt r file b f)
 
 mutual
-  pub inside : (r : Resolution) (file : Scope) (names : List Entry) → IsOver file.names names → (stands : Standing) (e : Expression) → Placed r.program.tokens.list e → AreSpelt r file.names (notes_at stands (with_names file names) e)
-  inside r file names over stands (identifier s i) placed = name_spelt r file.names names over i.site.token i.text (text_is r i.site.token i.text placed.1)
+  pub inside : (r : Resolution) (file : Scope) (names : List Entry) → IsOver file.names names → (stands : Standing) (e : Expression) → Placed r.program.tokens.list e → AreSpelt r file (notes_at stands (with_names file names) e)
+  inside r file names over stands (identifier s i) placed = name_spelt r file names over i.site.token i.text (text_is r i.site.token i.text placed.1)
   inside r file names over stands (constant s c) placed = tt
   inside r file names over stands (parentheses s a) placed = inside r file names over stands a placed.1
   inside r file names over stands (call s f all) placed =
-      joint (IsSpelt r file.names) _ _
-      (callee_by r file.names stands f.site.token (count all) (look_up names f.text) (found_spelt r file.names names over f.site.token f.text (text_is r f.site.token f.text placed.1)))
+      joint (IsSpelt r file) _ _
+      (callee_by r file stands f.site.token (count all) (look_up names f.text) (found_spelt r file names over f.site.token f.text (text_is r f.site.token f.text placed.1)))
       (inside_all r file names over (wanted (count all) (look_up names f.text)) all placed.2)
   inside r file names over stands (spawn s f a) placed =
-      behind_faults r file.names _ _
-      (joint (IsSpelt r file.names) _ _ (behind_faults r file.names _ _ (inside r file names over AsValue a placed.2) (unmet_faults Value a (type_of (with_names file names) a)))
-      (spawned_by r file.names s.first.token f.site.token (look_up names f.text) (found_spelt r file.names names over f.site.token f.text (text_is r f.site.token f.text placed.1))))
+      behind_faults r file _ _
+      (joint (IsSpelt r file) _ _ (behind_faults r file _ _ (inside r file names over AsValue a placed.2) (unmet_faults Value a (type_of (with_names file names) a)))
+      (spawned_by r file s.first.token f.site.token (look_up names f.text) (found_spelt r file names over f.site.token f.text (text_is r f.site.token f.text placed.1))))
       (unagreed_faults (spawn_wanted (look_up names f.text)) a (met Value (type_of (with_names file names) a)))
-  inside r file names over stands (on_value s w a) placed = behind_faults r file.names _ _ (inside r file names over AsValue a placed.1) (unmet_faults Integer a (type_of (with_names file names) a))
+  inside r file names over stands (on_value s w a) placed = behind_faults r file _ _ (inside r file names over AsValue a placed.1) (unmet_faults Integer a (type_of (with_names file names) a))
   inside r file names over stands (on_place s w a) placed =
-      behind_faults r file.names _ _ (behind_faults r file.names _ _ (inside r file names over AsLvalue a placed.1) (place_faults names a)) (place_call_faults s.first.token w (place_kind names a (type_of (with_names file names) a)))
+      behind_faults r file _ _ (behind_faults r file _ _ (inside r file names over AsLvalue a placed.1) (place_faults names a)) (place_call_faults s.first.token w (place_kind names a (type_of (with_names file names) a)))
   inside r file names over stands (cast s t a) placed =
-      behind_faults r file.names _ _
-      (behind_faults r file.names _ _
-      (joint (IsSpelt r file.names) (type_notes (with_names file names) [] role.Cast t) _ (type_spelt r file.names (with_names file names) over [] role.Cast t placed.1) (inside r file names over AsLvalue a placed.2)) (place_faults names a))
+      behind_faults r file _ _
+      (behind_faults r file _ _
+      (joint (IsSpelt r file) (type_notes (with_names file names) [] role.Cast t) _ (type_spelt r file (with_names file names) over refl [] role.Cast t placed.1) (inside r file names over AsLvalue a placed.2)) (place_faults names a))
       (cast_faults s.first.token (is_fine file.structs role.Cast t) t a (place_kind names a (type_of (with_names file names) a)))
   inside r file names over stands (index s a i) placed =
-      behind_faults r file.names _ _
-      (joint (IsSpelt r file.names) _ _ (behind_faults r file.names _ _ (inside r file names over AsValue a placed.1) (unmet_faults Indexed a (type_of (with_names file names) a))) (inside r file names over AsValue i placed.2)) (unmet_faults Integer i (type_of (with_names file names) i))
+      behind_faults r file _ _
+      (joint (IsSpelt r file) _ _ (behind_faults r file _ _ (inside r file names over AsValue a placed.1) (unmet_faults Indexed a (type_of (with_names file names) a))) (inside r file names over AsValue i placed.2)) (unmet_faults Integer i (type_of (with_names file names) i))
   inside r file names over stands (field s a w n) placed =
-      joint (IsSpelt r file.names) _ _ (behind_faults r file.names _ _ (inside r file names over AsValue a placed.1) (unmet_faults (access_need w) a (type_of (with_names file names) a))) (field_spelt r file.names n.site.token (field_in file.structs n.text (met (access_need w) (type_of (with_names file names) a))))
-  inside r file names over stands (unary s o a) placed = behind_faults r file.names _ _ (inside r file names over AsValue a placed.1) (unmet_faults (operand_need o) a (type_of (with_names file names) a))
+      joint (IsSpelt r file) _ _ (behind_faults r file _ _ (inside r file names over AsValue a placed.1) (unmet_faults (access_need w) a (type_of (with_names file names) a))) (field_spelt r file n.site.token (field_in file.structs n.text (met (access_need w) (type_of (with_names file names) a))))
+  inside r file names over stands (unary s o a) placed = behind_faults r file _ _ (inside r file names over AsValue a placed.1) (unmet_faults (operand_need o) a (type_of (with_names file names) a))
   inside r file names over stands (binary s o at a b) placed =
-      behind_faults r file.names _ _
-      (behind_faults r file.names _ _
-      (joint (IsSpelt r file.names) _ _ (behind_faults r file.names _ _ (inside r file names over AsValue a placed.1) (unmet_faults (operands_need (class_of o)) a (type_of (with_names file names) a))) (inside r file names over AsValue b placed.2)) (unmet_faults (operands_need (class_of o)) b (type_of (with_names file names) b)))
+      behind_faults r file _ _
+      (behind_faults r file _ _
+      (joint (IsSpelt r file) _ _ (behind_faults r file _ _ (inside r file names over AsValue a placed.1) (unmet_faults (operands_need (class_of o)) a (type_of (with_names file names) a))) (inside r file names over AsValue b placed.2)) (unmet_faults (operands_need (class_of o)) b (type_of (with_names file names) b)))
       (binary_faults (class_of o) b (met (operands_need (class_of o)) (type_of (with_names file names) a)) (met (operands_need (class_of o)) (type_of (with_names file names) b)))
 
-  inside_all : (r : Resolution) (file : Scope) (names : List Entry) → IsOver file.names names → (wants : List Kind) (all : Arguments) → AllPlaced r.program.tokens.list all → AreSpelt r file.names (notes_of_all (with_names file names) wants all)
+  inside_all : (r : Resolution) (file : Scope) (names : List Entry) → IsOver file.names names → (wants : List Kind) (all : Arguments) → AllPlaced r.program.tokens.list all → AreSpelt r file (notes_of_all (with_names file names) wants all)
   inside_all r file names over wants no_arguments placed = tt
   inside_all r file names over wants (argument a rest) placed =
-      joint (IsSpelt r file.names) _ _
-      (behind_faults r file.names _ _ (behind_faults r file.names _ _ (inside r file names over AsValue a placed.0) (unmet_faults Value a (type_of (with_names file names) a))) (unagreed_faults (first_wanted wants) a (met Value (type_of (with_names file names) a))))
+      joint (IsSpelt r file) _ _
+      (behind_faults r file _ _ (behind_faults r file _ _ (inside r file names over AsValue a placed.0) (unmet_faults Value a (type_of (with_names file names) a))) (unagreed_faults (first_wanted wants) a (met Value (type_of (with_names file names) a))))
       (inside_all r file names over (drop 1 wants) rest placed.1)

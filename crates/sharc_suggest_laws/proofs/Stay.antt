@@ -104,18 +104,18 @@ mild m c named placed types spelt site =
 -- ---- so
 
 -- the notes of the program with the cast
-pub notes_grown : NamesInTypes → (m : Assignment) (e : ModeError) (c : Cast) → IsResolved m.typed → IsPlaced m.typed.program → IsLow m.typed.program → IsSuggested m e (Some c) → IsTyped (program_with c m.typed)
+pub notes_grown : EachNameOnce → OnlyNames → NamesInTypes → (m : Assignment) (e : ModeError) (c : Cast) → IsResolved m.typed → IsPlaced m.typed.program → IsLow m.typed.program → IsSuggested m e (Some c) → IsTyped (program_with c m.typed)
     → Noted m.typed (notes_about m.typed.program) (notes_about (program_with c m.typed))
-notes_grown in_types m e c resolved placed low says typed =
+notes_grown once only in_types m e c resolved placed low says typed =
     let r : Resolution = m.typed in
     let rc : Recast = recast_of r c in
     let site : HasSite m e c says = has_site m e c says in
     let old : Clean (notes_about r.program) = clean_from (notes_about r.program) resolved.typed in
     let new : Clean (notes_about (program_with_cast rc r.program)) = clean_from (notes_about (program_with_cast rc r.program)) typed in
     let types : Have (IsNamedType r) (entities_in r.program.items) = of_items (IsNamedType r) r.program.items (in_types r resolved placed low) in
-    in_program r rc (mild m c says.are.named placed types (spelled r resolved placed old) site.for) new
+    in_program r rc (mild m c says.are.named placed types (spelled r resolved placed old (only r resolved placed low) (once r resolved placed low)) site.for) new
 
 pub names_stay : EachNameOnce → OnlyNames → NamesInTypes → NamesStay
 names_stay once only in_types m e c resolved placed low says typed token =
     let r : Resolution = m.typed in
-    keeps r (program_with c r) token resolved refl (all_own r token (only r resolved placed low token) (once r resolved placed low token)) (notes_grown in_types m e c resolved placed low says typed)
+    keeps r (program_with c r) token resolved refl (all_own r token (only r resolved placed low token) (once r resolved placed low token)) (notes_grown once only in_types m e c resolved placed low says typed)

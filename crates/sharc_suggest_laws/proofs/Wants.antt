@@ -23,7 +23,7 @@ use Rattle.sharc_mode.specs.Notes.{is_named, names_of, names_in, names_in_all, n
 use Rattle.sharc_mode.specs.Rows.{Reading, at_call, Row, is_constant_named, constant_use, argument_use, lock_through, with_base, lock_for, read_lock, read, reading_through, declared_row, modes_of}
 use Rattle.sharc_mode.specs.Sharings.{Lock, Sharing, private, readonly, locked, racy, dynamic, sharing_of, is_field, variable_named, object_named, text_at}
 use Rattle.sharc_suggest.specs.Applied.{recast_of, targets, inserted, assignment_with}
-use Rattle.sharc_suggest.specs.Repairs.{is_free, keeps_named, keeps, keeps_all}
+use Rattle.sharc_suggest.specs.Repairs.{is_free, is_call_at, keeps_named, keeps, keeps_all}
 use Rattle.sharc_suggest_laws.specs.Givings.{beyond}
 use Rattle.sharc_suggest_laws.specs.Names.{is_dull, KeepsName}
 use Rattle.sharc_suggest_laws.proofs.Arguments.{nth, args_met, one_nth}
@@ -81,22 +81,18 @@ modes_moved m c frame fits good how later alike old new moved are = by moved.pla
         ∙ read_all m.typed (now m c) good how later alike (take old.count (drop old.first m.modes)) good_ones
         ∙ ap (λ (x : Reading). modes_with m.typed x old.first old.count m.modes) (sym w.1)
 
--- ---- paths that begin with a variable, a global or a function name what they named
+-- ---- a path that begins with no field begins with none later
 
-kept_sharp : (v w : Named) → KeepsName v w → (e : Option Entry) → keeps_named v e ≡ true → w ≡ v
-kept_sharp (named.Struct n) w h None is = absurd (false≢true is)
-kept_sharp (named.Struct n) w h (Some e) is = absurd (false≢true is)
-kept_sharp (named.Global n) w (inl same) e is = sym same
-kept_sharp (named.Global n) w (inr p) e is = absurd (false≢true p.0)
-kept_sharp (named.Function n) w (inl same) None is = sym same
-kept_sharp (named.Function n) w (inr p) None is = absurd (false≢true p.0)
-kept_sharp (named.Function n) w h (Some e) is = absurd (false≢true is)
-kept_sharp (named.Variable x) w (inl same) e is = sym same
-kept_sharp (named.Variable x) w (inr p) e is = absurd (false≢true p.0)
-kept_sharp (named.Field f) w h None is = absurd (false≢true is)
-kept_sharp (named.Field f) w h (Some e) is = absurd (false≢true is)
-kept_sharp named.Known w h None is = absurd (false≢true is)
-kept_sharp named.Known w h (Some e) is = absurd (false≢true is)
+kept_apart : (so : Bool) (v w : Named) → KeepsName v w → (e : Option Entry) → keeps_named so v e ≡ true → (is_field v ≡ false → so ≡ true → is_field w ≡ false) → is_field v ≡ false → is_field w ≡ false
+kept_apart so v w (inl same) e is calls other = ap is_field (sym same) ∙ other
+kept_apart so (named.Struct n) w (inr p) None is calls other = absurd (false≢true is)
+kept_apart so (named.Struct n) w (inr p) (Some e) is calls other = absurd (false≢true is)
+kept_apart so (named.Global n) w (inr p) e is calls other = absurd (false≢true p.0)
+kept_apart so (named.Function n) w (inr p) e is calls other = absurd (false≢true p.0)
+kept_apart so (named.Variable x) w (inr p) e is calls other = absurd (false≢true p.0)
+kept_apart so (named.Field f) w (inr p) e is calls other = absurd (false≢true (sym other))
+kept_apart so named.Known w (inr p) None is calls other = calls other is
+kept_apart so named.Known w (inr p) (Some e) is calls other = absurd (false≢true is)
 
 abbrev IsKeeping : Assignment → List Entry → Sharing → Type 0
 IsKeeping m scope s = keeps m.typed scope s ≡ true
@@ -120,9 +116,10 @@ through_by m c frame scope at l true is good =
     ap (λ (f : Bool). cond (f && is_none l.second) (record { first = at; second = Some (text_at m.typed l.first) }) l) (later ∙ sym is)
 through_by m c frame scope at l false is good =
     let plain : lock_through m.typed at l ≡ l = ap (λ (f : Bool). cond (f && is_none l.second) (record { first = at; second = Some (text_at m.typed l.first) }) l) is in
-    let kept : keeps m.typed scope (locked l) ≡ true = subst (λ (x : Lock). keeps m.typed scope (locked x) ≡ true) plain good in
-    let same : named_at (now m c) l.first ≡ named_at m.typed l.first = kept_sharp (named_at m.typed l.first) (named_at (now m c) l.first) (frame.kept l.first) (look_up scope (text_at m.typed l.first)) kept in
-    ap (λ (v : Named). cond (is_field v && is_none l.second) (record { first = at; second = Some (text_at m.typed l.first) }) l) same
+    let first : keeps m.typed scope (locked l) ≡ true = subst (λ (x : Lock). keeps m.typed scope (locked x) ≡ true) plain good in
+    let later : is_field (named_at (now m c) l.first) ≡ false =
+    kept_apart (is_call_at m.typed l.first) (named_at m.typed l.first) (named_at (now m c) l.first) (frame.kept l.first) (look_up scope (text_at m.typed l.first)) first (frame.calls l.first) is in
+    ap (λ (f : Bool). cond (f && is_none l.second) (record { first = at; second = Some (text_at m.typed l.first) }) l) (later ∙ sym is)
 
 reads_alike : (m : Assignment) (c : Cast) → Frame m c → (scope : List Entry) (at : Option ℕ) → ReadAlike m.typed (now m c) (IsKeeping m scope) (reading_through at) (reading_through at)
 reads_alike m c frame scope None l good = refl
@@ -206,18 +203,16 @@ pub beyond_named : (f : Declaration → List Note) (x k : ℕ) (ds : List Declar
 beyond_named f x zero ds is = is
 beyond_named f x (suc k) ds is = beyond_named f x k ds (more_named f x (beyond k ds) is)
 
--- what is expected: its paths begin with a variable, a global or a function, and the variables are named
-record IsGood (m : Assignment) (scope : List Entry) (tells : ℕ → Bool) (s : Sharing) : Type 0 where
-  keeping : keeps m.typed scope s ≡ true
+-- what is expected: the variables that its paths name are named
+record IsGood (m : Assignment) (tells : ℕ → Bool) (s : Sharing) : Type 0 where
   named_so : (z : ℕ) → is_named z (names_in m.typed s) ≡ true → tells z ≡ true
 
-are_good : (m : Assignment) (scope : List Entry) (tells : ℕ → Bool) (l : List Sharing) → keeps_all m.typed scope l ≡ true → ((z : ℕ) → is_named z (names_in_all m.typed l) ≡ true → tells z ≡ true) → AllByRecursion (IsGood m scope tells) l
-are_good m scope tells [] is named_so = tt
-are_good m scope tells (s ∷ rest) is named_so =
-    let parts : (keeps m.typed scope s ≡ true) × (keeps_all m.typed scope rest ≡ true) = and_parts (keeps m.typed scope s) (keeps_all m.typed scope rest) is in (
-      record { keeping = parts.0; named_so = λ z h. named_so z (named_left z (names_in m.typed s) (names_in_all m.typed rest) h) },
-      are_good m scope tells rest parts.1 (λ z h. named_so z (named_right z (names_in m.typed s) (names_in_all m.typed rest) h)),
-    )
+are_good : (m : Assignment) (tells : ℕ → Bool) (l : List Sharing) → ((z : ℕ) → is_named z (names_in_all m.typed l) ≡ true → tells z ≡ true) → AllByRecursion (IsGood m tells) l
+are_good m tells [] named_so = tt
+are_good m tells (s ∷ rest) named_so = (
+  record { named_so = λ z h. named_so z (named_left z (names_in m.typed s) (names_in_all m.typed rest) h) },
+  are_good m tells rest (λ z h. named_so z (named_right z (names_in m.typed s) (names_in_all m.typed rest) h)),
+)
 
 -- arguments stay the constant variables that they were, but for one that the cast is put round
 
@@ -298,9 +293,9 @@ pub record IsCall (m : Assignment) (c : Cast) (tells : ℕ → Bool) (all : Argu
   pub there : is_there (recast_of m.typed c) e ≡ true
   pub free : is_free tells (taken_variable m.typed (without_parentheses e)) ≡ true
 
-variable_read : (m : Assignment) (c : Cast) (frame : Frame m c) (scope : List Entry) (tells : ℕ → Bool) (ds : List Declaration) (all : Arguments) (e : Expression) → IsCall m c tells all e → (l : Lock) (x : ℕ) (w : Option ℕ) → argument_use m.typed ds all x ≡ w
-    → IsGood m scope tells (locked (with_base w l)) → with_base (argument_use (now m c) ds (all_with_cast (recast_of m.typed c) all) x) l ≡ with_base w l
-variable_read m c frame scope tells ds all e at l x w is good =
+variable_read : (m : Assignment) (c : Cast) (frame : Frame m c) (tells : ℕ → Bool) (ds : List Declaration) (all : Arguments) (e : Expression) → IsCall m c tells all e → (l : Lock) (x : ℕ) (w : Option ℕ) → argument_use m.typed ds all x ≡ w
+    → IsGood m tells (locked (with_base w l)) → with_base (argument_use (now m c) ds (all_with_cast (recast_of m.typed c) all) x) l ≡ with_base w l
+variable_read m c frame tells ds all e at l x w is good =
     ap (λ (o : Option ℕ). with_base o l)
     (uses_same m c frame all x w ds all (λ a j h. (j, h))
     (λ a i y there_a is_there_a so used.
@@ -309,45 +304,55 @@ variable_read m c frame scope tells ds all e at l x w is good =
     (subst (λ (o : Option ℕ). (z : ℕ) → is_named z (names_in m.typed (locked (with_base o l))) ≡ true → tells z ≡ true) so good.named_so)) is)
 
 -- a path that begins with no variable stays as it is
-plain_lock : (m : Assignment) (c : Cast) (frame : Frame m c) (scope : List Entry) (tells : ℕ → Bool) (ds : List Declaration) (all : Arguments) (l : Lock) (v w : Named) → named_at m.typed l.first ≡ v → KeepsName v w → variable_named v ≡ None
-    → IsGood m scope tells (locked (lock_for m.typed ds all (variable_named v) l)) → lock_for (now m c) ds (all_with_cast (recast_of m.typed c) all) (variable_named w) l ≡ lock_for m.typed ds all (variable_named v) l
-plain_lock m c frame scope tells ds all l v w is h none good =
-    let plain : lock_for m.typed ds all (variable_named v) l ≡ l = ap (λ (o : Option ℕ). lock_for m.typed ds all o l) none in
-    let kept : keeps_named (named_at m.typed l.first) (look_up scope (text_at m.typed l.first)) ≡ true = subst (λ (x : Lock). keeps m.typed scope (locked x) ≡ true) plain good.keeping in
-    let same : w ≡ v = kept_sharp v w h (look_up scope (text_at m.typed l.first)) (ap (λ (x : Named). keeps_named x (look_up scope (text_at m.typed l.first))) (sym is) ∙ kept) in
-    ap (λ (o : Option ℕ). lock_for (now m c) ds (all_with_cast (recast_of m.typed c) all) o l) (ap variable_named same ∙ none) ∙ sym plain
 
-lock_read : (m : Assignment) (c : Cast) (frame : Frame m c) (scope : List Entry) (tells : ℕ → Bool) (ds : List Declaration) (all : Arguments) (e : Expression) → IsCall m c tells all e → (l : Lock) (v w : Named) → named_at m.typed l.first ≡ v → named_at (now m c) l.first ≡ w
-    → KeepsName v w → IsGood m scope tells (locked (lock_for m.typed ds all (variable_named v) l)) → lock_for (now m c) ds (all_with_cast (recast_of m.typed c) all) (variable_named w) l ≡ lock_for m.typed ds all (variable_named v) l
-lock_read m c frame scope tells ds all e at l (named.Variable x) w is later h good =
+dull_none : (w : Named) → is_dull w ≡ true → variable_named w ≡ None
+dull_none (named.Struct n) dull = refl
+dull_none (named.Global n) dull = refl
+dull_none (named.Function n) dull = refl
+dull_none (named.Variable x) dull = absurd (false≢true dull)
+dull_none (named.Field f) dull = refl
+dull_none named.Known dull = refl
+
+none_later : (v w : Named) → KeepsName v w → variable_named v ≡ None → variable_named w ≡ None
+none_later v w (inl same) none = ap variable_named (sym same) ∙ none
+none_later v w (inr p) none = dull_none w p.1
+
+plain_lock : (m : Assignment) (c : Cast) (ds : List Declaration) (all : Arguments) (l : Lock) (v w : Named) → KeepsName v w → variable_named v ≡ None
+    → lock_for (now m c) ds (all_with_cast (recast_of m.typed c) all) (variable_named w) l ≡ lock_for m.typed ds all (variable_named v) l
+plain_lock m c ds all l v w h none =
+    ap (λ (o : Option ℕ). lock_for (now m c) ds (all_with_cast (recast_of m.typed c) all) o l) (none_later v w h none) ∙ sym (ap (λ (o : Option ℕ). lock_for m.typed ds all o l) none)
+
+lock_read : (m : Assignment) (c : Cast) (frame : Frame m c) (tells : ℕ → Bool) (ds : List Declaration) (all : Arguments) (e : Expression) → IsCall m c tells all e → (l : Lock) (v w : Named) → named_at m.typed l.first ≡ v → named_at (now m c) l.first ≡ w
+    → KeepsName v w → IsGood m tells (locked (lock_for m.typed ds all (variable_named v) l)) → lock_for (now m c) ds (all_with_cast (recast_of m.typed c) all) (variable_named w) l ≡ lock_for m.typed ds all (variable_named v) l
+lock_read m c frame tells ds all e at l (named.Variable x) w is later h good =
     ap (λ (o : Option ℕ). lock_for (now m c) ds (all_with_cast (recast_of m.typed c) all) o l) (ap variable_named (same_variable x w h))
-    ∙ variable_read m c frame scope tells ds all e at l x (argument_use m.typed ds all x) refl good
+    ∙ variable_read m c frame tells ds all e at l x (argument_use m.typed ds all x) refl good
   where
     same_variable : (x : ℕ) (w : Named) → KeepsName (named.Variable x) w → w ≡ named.Variable x
     same_variable x w (inl same) = sym same
     same_variable x w (inr p) = absurd (false≢true p.0)
-lock_read m c frame scope tells ds all e at l (named.Struct n) w is later h good = plain_lock m c frame scope tells ds all l (named.Struct n) w is h refl good
-lock_read m c frame scope tells ds all e at l (named.Global n) w is later h good = plain_lock m c frame scope tells ds all l (named.Global n) w is h refl good
-lock_read m c frame scope tells ds all e at l (named.Function n) w is later h good = plain_lock m c frame scope tells ds all l (named.Function n) w is h refl good
-lock_read m c frame scope tells ds all e at l (named.Field n) w is later h good = plain_lock m c frame scope tells ds all l (named.Field n) w is h refl good
-lock_read m c frame scope tells ds all e at l named.Known w is later h good = plain_lock m c frame scope tells ds all l named.Known w is h refl good
+lock_read m c frame tells ds all e at l (named.Struct n) w is later h good = plain_lock m c ds all l (named.Struct n) w h refl
+lock_read m c frame tells ds all e at l (named.Global n) w is later h good = plain_lock m c ds all l (named.Global n) w h refl
+lock_read m c frame tells ds all e at l (named.Function n) w is later h good = plain_lock m c ds all l (named.Function n) w h refl
+lock_read m c frame tells ds all e at l (named.Field n) w is later h good = plain_lock m c ds all l (named.Field n) w h refl
+lock_read m c frame tells ds all e at l named.Known w is later h good = plain_lock m c ds all l named.Known w h refl
 
-call_alike : (m : Assignment) (c : Cast) (frame : Frame m c) (scope : List Entry) (tells : ℕ → Bool) (ds : List Declaration) (all : Arguments) (e : Expression) → IsCall m c tells all e
-    → ReadAlike m.typed (now m c) (IsGood m scope tells) (at_call ds all) (at_call ds (all_with_cast (recast_of m.typed c) all))
-call_alike m c frame scope tells ds all e at l good = by (is_some l.second) refl good
+call_alike : (m : Assignment) (c : Cast) (frame : Frame m c) (tells : ℕ → Bool) (ds : List Declaration) (all : Arguments) (e : Expression) → IsCall m c tells all e
+    → ReadAlike m.typed (now m c) (IsGood m tells) (at_call ds all) (at_call ds (all_with_cast (recast_of m.typed c) all))
+call_alike m c frame tells ds all e at l good = by (is_some l.second) refl good
   where
-    by : (b : Bool) → is_some l.second ≡ b → IsGood m scope tells (locked (lock_for m.typed ds all (cond b (variable_named (named_at m.typed l.first)) None) l))
+    by : (b : Bool) → is_some l.second ≡ b → IsGood m tells (locked (lock_for m.typed ds all (cond b (variable_named (named_at m.typed l.first)) None) l))
         → lock_for (now m c) ds (all_with_cast (recast_of m.typed c) all) (cond b (variable_named (named_at (now m c) l.first)) None) l ≡ lock_for m.typed ds all (cond b (variable_named (named_at m.typed l.first)) None) l
-    by true is good_so = lock_read m c frame scope tells ds all e at l (named_at m.typed l.first) (named_at (now m c) l.first) refl refl (frame.kept l.first) good_so
+    by true is good_so = lock_read m c frame tells ds all e at l (named_at m.typed l.first) (named_at (now m c) l.first) refl refl (frame.kept l.first) good_so
     by false is good_so = refl
 
 -- what the parameter expects
-pub parameter_wanted : (m : Assignment) (c : Cast) (frame : Frame m c) → first_at m c frame ≤ length m.modes → (scope : List Entry) (tells : ℕ → Bool) (ds : List Declaration) (all : Arguments) (e : Expression) → IsCall m c tells all e
-    → (left : List Declaration) → AreClearOf m left → (want : List Sharing) → keeps_all m.typed scope want ≡ true
+pub parameter_wanted : (m : Assignment) (c : Cast) (frame : Frame m c) → first_at m c frame ≤ length m.modes → (tells : ℕ → Bool) (ds : List Declaration) (all : Arguments) (e : Expression) → IsCall m c tells all e
+    → (left : List Declaration) → AreClearOf m left → (want : List Sharing)
     → ((z : ℕ) → is_named z (flat_map (parameter_names m (at_call ds all)) left) ≡ true → tells z ≡ true)
     → expected m ds all left ≡ Some want → expected (assignment_with c m) ds (all_with_cast (recast_of m.typed c) all) left ≡ Some want
-parameter_wanted m c frame fits scope tells ds all e at [] clear want kept told is = absurd (no_modes want is)
-parameter_wanted m c frame fits scope tells ds all e at (d ∷ rest) clear want kept told is =
+parameter_wanted m c frame fits tells ds all e at [] clear want told is = absurd (no_modes want is)
+parameter_wanted m c frame fits tells ds all e at (d ∷ rest) clear want told is =
     let how : Reading = at_call ds all in
     let later : Reading = at_call ds (all_with_cast (recast_of m.typed c) all) in
     let old : Row = declared_row m.typed how d.name.site.token in
@@ -356,5 +361,5 @@ parameter_wanted m c frame fits scope tells ds all e at (d ∷ rest) clear want 
     λ z h. told z
     (named_left z (parameter_names m how d) (flat_map (parameter_names m how) rest)
     (named_left z (names_in_all m.typed (modes_of m old)) (flat_map (names_read m.typed how) d.written.ctype.levels) (ap (λ (l : List Sharing). is_named z (names_in_all m.typed l)) same ∙ h))) in
-    let are : AllByRecursion (IsGood m scope tells) (modes_of m old) = subst (AllByRecursion (IsGood m scope tells)) (sym same) (are_good m scope tells want kept of_first) in
-    ap Some (modes_moved m c frame fits (IsGood m scope tells) how later (call_alike m c frame scope tells ds all e at) old (declared_row (now m c) later d.name.site.token) (clear_moved m c frame how later d.name.site.token clear.0) are ∙ same)
+    let are : AllByRecursion (IsGood m tells) (modes_of m old) = subst (AllByRecursion (IsGood m tells)) (sym same) (are_good m tells want of_first) in
+    ap Some (modes_moved m c frame fits (IsGood m tells) how later (call_alike m c frame tells ds all e at) old (declared_row (now m c) later d.name.site.token) (clear_moved m c frame how later d.name.site.token clear.0) are ∙ same)

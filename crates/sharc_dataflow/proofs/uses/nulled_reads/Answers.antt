@@ -1,5 +1,5 @@
 use Rattle.std.proofs.Common.{◌++◌, ◌∙◌, sym, ap, subst, Contains}
-use Rattle.sharc_dataflow.specs.Uses.{all_nulled, all_warns}
+use Rattle.sharc_dataflow.specs.Gathered.{all_nulled, all_warns}
 use Rattle.sharc_dataflow.specs.Narrow.{AreBetween}
 use Rattle.sharc_dataflow.proofs.Found.{adds_uses}
 use Rattle.sharc_dataflow.proofs.Halved.{about_these}

@@ -1,0 +1,39 @@
+-- What is built of a source: the checked code of the program that it is, or the reason why there is none.
+use Rattle.std.specs.Prelude.{ℕ, Bool, List, Result, Ok, Err}
+use Rattle.sharc_mode.specs.declared.error.ModeError.{ModeError}
+use Rattle.sharc_mode.specs.Moded.{Assignment}
+use Rattle.sharc_mode_laws.specs.Rules.{MeetsRules}
+use Rattle.sharc_check.specs.Checks.{IsRefused}
+use Rattle.sharc_check.specs.Named.{TellNamed}
+use Rattle.sharc_code.specs.Ranges.{NumbersFit}
+use Rattle.sharc_sound.specs.Compiled.{IsCompiled}
+use Rattle.sharc_sound.specs.Front.{IsFront, IsRefusedAt}
+use Rattle.sharc_build.specs.declared.building.Built.{Built}
+use Rattle.sharc_build.specs.declared.building.BuildFault.{BuildFault}
+use Rattle.sharc_build.specs.declared.building.BuildFault.TheVariants.{Source, Modes, Memory}
+use Rattle.sharc_build.specs.Faithful.{IsFaithful}
+
+-- It is this program, with its least modes, which meet the rules M1 to M11; and this is its code, whose numbers are in the
+-- ranges that the machine asks for, and which is faithful to the program.
+pub record IsBuilt (source : List ℕ) (built : Built) : Type 0 where
+  pub front : IsFront source built.checked
+  pub accepted : MeetsRules built.checked
+  pub compiled : IsCompiled built.checked built.code
+  pub numbers : NumbersFit built.code
+  pub faithful : IsFaithful built.checked built.code
+
+-- it is this program, which breaks the rules, in all these cases
+pub record IsIllModed (source : List ℕ) (m : Assignment) (errors : List ModeError) (named : List Bool) : Type 0 where
+  pub front : IsFront source m
+  pub refused : IsRefused m errors
+  pub paths : TellNamed m named
+
+-- the first fault of the first stage that has one, or all the cases of M1 to M11
+abbrev pub IsUnbuilt : List ℕ → BuildFault → Type 0
+IsUnbuilt source (Source fault) = IsRefusedAt source fault.stage fault.at
+IsUnbuilt source (Modes m errors named) = IsIllModed source m errors named
+IsUnbuilt source Memory = Unit {0}
+
+abbrev pub Builds : List ℕ → Result Built BuildFault → Type 0
+Builds source (Ok built) = IsBuilt source built
+Builds source (Err fault) = IsUnbuilt source fault

@@ -1,0 +1,27 @@
+-- Which functions threads have: `main`, and what some function spawns. Each may be started.
+use Rattle.std.specs.Prelude.{◌≡◌, ℕ, ◌⊎◌}
+use Rattle.sharc_tree.specs.Low.{IsLow}
+use Rattle.sharc_tree.specs.Placed.{IsPlaced}
+use Rattle.sharc_ctype.specs.Reaches.{Spawns}
+use Rattle.sharc_ctype.specs.Resolved.{IsResolved}
+use Rattle.sharc_mode.specs.Moded.{Assignment}
+use Rattle.sharc_code.specs.declared.code.Code.{Code}
+use Rattle.sharc_code.specs.declared.instr.Instr.TheVariants.{Spawn}
+use Rattle.sharc_code.specs.declared.instr.Register.{Register}
+use Rattle.sharc_code.specs.Machine.{instr_at}
+use Rattle.sharc_flat_form.specs.declared.flat.Flat.{Flat as FlatCode}
+use Rattle.sharc_flat.specs.Correct.{MayStart}
+use Rattle.sharc_flat.specs.Flattens.{Flattens, IsMainOf}
+use Rattle.sharc_compile.specs.Made.{IsCodeOf}
+
+abbrev pub HasThread : Assignment → ℕ → Type 0
+HasThread m f = IsMainOf m f ⊎ ((n : ℕ) × Spawns m.typed n f)
+
+-- in a typed program
+abbrev pub ThreadsMayStart : Type 0
+ThreadsMayStart = (m : Assignment) → IsResolved m.typed → IsPlaced m.typed.program → IsLow m.typed.program → (f : ℕ) → HasThread m f → MayStart m f
+
+-- An instruction of the code of a typed program spawns what some function of the program spawns.
+abbrev pub SpawnedAreThreads : Type 0
+SpawnedAreThreads = (m : Assignment) → IsResolved m.typed → IsPlaced m.typed.program → IsLow m.typed.program → (flat : FlatCode) → Flattens m flat → (code : Code) → IsCodeOf flat code
+    → (pc to function site : ℕ) (from : Register) → instr_at code pc ≡ Spawn to function from site → (n : ℕ) × Spawns m.typed n function

@@ -1,0 +1,127 @@
+-- In guarded code a check is directly before its access, and so in the code that is made of it.
+use Rattle.std.proofs.Common.{◌≡◌, ℕ, zero, suc, ◌+◌, Bool, true, false, List, [], ◌∷◌, ◌++◌, map, refl, sym, ap, ◌∙◌, subst, arith}
+use Rattle.std.specs.Prelude.{slice_index_or}
+use Rattle.std.proofs.lemmas.List.{map-append}
+use Rattle.sharc_code.specs.declared.code.Code.{Code}
+use Rattle.sharc_code.specs.declared.code.Function.{Function}
+use Rattle.sharc_code.specs.declared.code.PlaceMode.{PlaceMode}
+use Rattle.sharc_code.specs.declared.code.PlaceMode.TheVariants.{Private, Readonly, Racy, Dynamic, LockedGlobal, LockedSibling, LockedThrough, LockedLoaded}
+use Rattle.sharc_code.specs.declared.code.SourcePlace.{SourcePlace}
+use Rattle.sharc_code.specs.declared.instr.Cell.{Cell}
+use Rattle.sharc_code.specs.declared.instr.Operator.{Operator}
+use Rattle.sharc_code.specs.declared.instr.Width.{Width}
+use Rattle.sharc_code.specs.declared.instr.Width.TheVariants.{Char, Int, Long}
+use Rattle.sharc_code.specs.declared.instr.Instr.{Instr}
+use Rattle.sharc_code.specs.declared.instr.Instr.TheVariants as instrs
+use Rattle.sharc_code.specs.Machine.{instr_at}
+use Rattle.sharc_code.specs.Says.{place_at, no_place}
+use Rattle.sharc_flat_form.specs.declared.flat.Flat.{Flat as FlatCode}
+use Rattle.sharc_flat_form.specs.declared.op.Op.{Op}
+use Rattle.sharc_flat_form.specs.declared.op.Op.TheVariants as op
+use Rattle.sharc_flat_form.specs.declared.op.Spot.{Spot}
+use Rattle.sharc_flat_form.specs.Made.{flat_of}
+use Rattle.sharc_gen.specs.Generated.{instr_of, generated}
+use Rattle.sharc_guard.specs.Guard.{check_under, compute, negate, expand, expanded, place, source_of}
+use Rattle.sharc_guard.specs.Known.{dropped}
+use Rattle.sharc_compile.specs.Made.{IsCodeOf}
+use Rattle.sharc_history_laws.specs.Followed.{Accesses, IsLocked, IsFollowed, ChecksAreFollowed}
+
+abbrev next_of : List Instr → Instr
+next_of [] = instrs.Exit
+next_of (i ∷ is) = i
+
+-- ---- lists of instructions
+module _ (code : Code) where
+  abbrev AllFollowed : List Instr → Type 0
+  AllFollowed [] = Unit {0}
+  AllFollowed (i ∷ is) = IsFollowed code i (next_of is) × AllFollowed is
+
+  followed_at : (is : List Instr) → AllFollowed is → (j : ℕ) → IsFollowed code (slice_index_or is j instrs.Exit) (slice_index_or is (j + 1) instrs.Exit)
+  followed_at [] h j = tt
+  followed_at (i ∷ []) h zero = h.0
+  followed_at (i ∷ (k ∷ is)) h zero = h.0
+  followed_at (i ∷ is) h (suc j) =
+      let e : suc (j + 1) ≡ suc j + 1 = omega arith in
+      subst (λ n. IsFollowed code (slice_index_or is j instrs.Exit) (slice_index_or (i ∷ is) n instrs.Exit)) e (followed_at is h.1 j)
+
+  module _ (fs : List Function) where
+    abbrev f : Instr → Instr
+    f = instr_of fs
+
+    -- an access after its check, if it has one
+    under : (drop : Bool) (dynamic : Instr) (spot : Spot) (n : ℕ) (mode : PlaceMode) (it tail rest : List Instr) → (place_at code n).mode ≡ mode → (write : Bool) (c : Cell) → Accesses write c n (next_of (map f (it ++ tail) ++ rest))
+        → (mode ≡ Dynamic → IsFollowed code (f dynamic) (next_of (map f (it ++ tail) ++ rest))) → AllFollowed (map f (it ++ tail) ++ rest)
+        → AllFollowed (map f ((check_under drop dynamic spot n mode ++ it) ++ tail) ++ rest)
+    under true dynamic spot n Private it tail rest e write c a d h = h
+    under true dynamic spot n Readonly it tail rest e write c a d h = h
+    under true dynamic spot n Racy it tail rest e write c a d h = h
+    under true dynamic spot n Dynamic it tail rest e write c a d h = h
+    under true dynamic spot n (LockedGlobal g p) it tail rest e write c a d h = ((subst IsLocked (sym e) tt, (write, c, a)), h)
+    under true dynamic spot n (LockedSibling q m) it tail rest e write c a d h = ((subst IsLocked (sym e) tt, (write, c, a)), h)
+    under true dynamic spot n (LockedThrough r p) it tail rest e write c a d h = ((subst IsLocked (sym e) tt, (write, c, a)), h)
+    under true dynamic spot n LockedLoaded it tail rest e write c a d h = ((e, (write, c, a)), h)
+    under false dynamic spot n Private it tail rest e write c a d h = h
+    under false dynamic spot n Readonly it tail rest e write c a d h = h
+    under false dynamic spot n Racy it tail rest e write c a d h = h
+    under false dynamic spot n Dynamic it tail rest e write c a d h = (d refl, h)
+    under false dynamic spot n (LockedGlobal g p) it tail rest e write c a d h = ((subst IsLocked (sym e) tt, (write, c, a)), h)
+    under false dynamic spot n (LockedSibling q m) it tail rest e write c a d h = ((subst IsLocked (sym e) tt, (write, c, a)), h)
+    under false dynamic spot n (LockedThrough r p) it tail rest e write c a d h = ((subst IsLocked (sym e) tt, (write, c, a)), h)
+    under false dynamic spot n LockedLoaded it tail rest e write c a d h = ((e, (write, c, a)), h)
+
+    computed : (w : Width) (operator : Operator) (i a b n : ℕ) (rest : List Instr) → AllFollowed rest → AllFollowed (f (compute w operator i a b n) ∷ rest)
+    computed Char operator i a b n rest h = (tt, h)
+    computed Int operator i a b n rest h = (tt, h)
+    computed Long operator i a b n rest h = (tt, h)
+
+    negated : (w : Width) (i a n : ℕ) (rest : List Instr) → AllFollowed rest → AllFollowed (f (negate w i a n) ∷ rest)
+    negated Char i a n rest h = (tt, h)
+    negated Int i a n rest h = (tt, h)
+    negated Long i a n rest h = (tt, h)
+
+    -- what an operation becomes
+    piece : (drop : Bool) (pl : ℕ → ℕ) (n : ℕ) (o : Op) (rest : List Instr) → (place_at code n).mode ≡ (source_of o).mode → AllFollowed rest → AllFollowed (map f (expand pl drop n o) ++ rest)
+    piece drop pl n (op.Load i c spot) rest e h = under drop (instrs.ChkRead c n) spot n spot.mode (instrs.Load i c n ∷ []) [] rest e false c (refl, refl) (λ d. (e ∙ d, (refl, refl))) (tt, h)
+    piece drop pl n (op.Store i c spot) rest e h = under drop (instrs.ChkWrite c n) spot n spot.mode (instrs.Store i c n ∷ []) [] rest e true c (refl, refl) (λ d. (e ∙ d, (refl, refl))) (tt, h)
+    piece drop pl n (op.LoadRef r c spot) rest e h = under false (instrs.ChkRead c n) spot n spot.mode (instrs.LoadRef c n ∷ []) (instrs.RaiseLoaded r ∷ []) rest e false c (refl, refl) (λ d. (e ∙ d, (refl, refl))) (tt, (tt, h))
+    piece drop pl n (op.StoreRef r c spot) rest e h = under false (instrs.ChkWrite c n) spot n spot.mode (instrs.Exchange r c n ∷ []) (instrs.Lower r ∷ []) rest e true c (refl, refl) (λ d. (e ∙ d, (refl, refl))) (tt, (tt, h))
+    piece drop pl n (op.TakeCell r c spot) rest e h = under false (instrs.ChkWrite c n) spot n spot.mode (instrs.TakeCell r c n ∷ []) [] rest e true c (refl, refl) (λ d. (e ∙ d, (refl, refl))) (tt, h)
+    piece drop pl n (op.Give r cells spot) rest e h = (tt, (tt, (tt, h)))
+    piece drop pl n (op.Free r layout spot) rest e h = (tt, (tt, h))
+    piece drop pl n (op.Settle to from) rest e h = (tt, (tt, h))
+    piece drop pl n (op.Compute w operator i a b spot) rest e h = computed w operator i a b n rest h
+    piece drop pl n (op.Negate w i a spot) rest e h = negated w i a n rest h
+    piece drop pl n op.Enter rest e h = h
+    piece drop pl n op.BlockEnd rest e h = h
+    piece drop pl n o rest e h = (tt, h)
+
+    -- the lines from this one on have these sites
+    abbrev SitesFrom : ℕ → List Op → Type 0
+    SitesFrom k os = (j : ℕ) → place_at code (k + j) ≡ slice_index_or (map source_of os) j no_place
+
+    next_sites : (k : ℕ) (o : Op) (os : List Op) → SitesFrom k (o ∷ os) → SitesFrom (k + 1) os
+    next_sites k o os h j = let e : k + suc j ≡ k + 1 + j = omega arith in sym (ap (place_at code) e) ∙ h (suc j)
+
+    lines : (drop : ℕ → Bool) (pl : ℕ → ℕ) (k : ℕ) (os : List Op) → SitesFrom k os → AllFollowed (map f (expanded pl drop k os))
+    lines drop pl k [] sites = tt
+    lines drop pl k (o ∷ os) sites =
+        let e : k + 0 ≡ k = omega arith in
+        let site : (place_at code k).mode ≡ (source_of o).mode = ap (λ n. (place_at code n).mode) (sym e) ∙ ap (λ (p : SourcePlace). p.mode) (sites 0) in
+        subst AllFollowed (sym (map-append f (expand pl (drop k) k o) (expanded pl drop (k + 1) os)))
+        (piece (drop k) pl k o (map f (expanded pl drop (k + 1) os)) site (lines drop pl (k + 1) os (next_sites k o os sites)))
+
+-- ---- the code
+pub code_followed : (flat : FlatCode) (code : Code) → IsCodeOf flat code → ChecksAreFollowed code
+code_followed flat code is pc =
+    let d = dropped (flat_of flat) in
+    let all = flat.lines.items in
+    let pl = place d all in
+    let fs = code.functions.items in
+    let functions_are : code.functions.items ≡ is.g.functions.items = λ i. (is.generated.functions i).items in
+    let sites_are : code.sites.items ≡ map source_of all = (λ i. (is.generated.sites i).items) ∙ is.made.sites in
+    let instrs_are : code.instrs.items ≡ instrs.Start 0 ∷ instrs.Exit ∷ map (instr_of fs) (expanded pl d 0 all) =
+    is.generated.instrs ∙ ap (λ fs. generated fs is.g.statements.items) (sym functions_are) ∙ ap (generated fs) is.made.statements in
+    let sites : (j : ℕ) → place_at code (0 + j) ≡ slice_index_or (map source_of all) j no_place = λ j. let e : 0 + j ≡ j = omega arith in ap (place_at code) e ∙ ap (λ sites. slice_index_or sites j no_place) sites_are in
+    let whole : AllFollowed code (instrs.Start 0 ∷ instrs.Exit ∷ map (instr_of fs) (expanded pl d 0 all)) = (tt, (tt, lines code fs d pl 0 all sites)) in
+    subst (λ is. IsFollowed code (slice_index_or is pc instrs.Exit) (slice_index_or is (pc + 1) instrs.Exit)) (sym instrs_are)
+    (followed_at code (instrs.Start 0 ∷ instrs.Exit ∷ map (instr_of fs) (expanded pl d 0 all)) whole pc)

@@ -1,0 +1,120 @@
+-- What cells hold by the events of a run, and as words.
+use Rattle.std.proofs.Common.{◌≡◌, ℕ, ℤ, pos, negsuc, zero, suc, ◌+◌, ◌-◌, ◌*◌, ◌^◌, ◌<◌, ◌≤◌, ◌≢◌, ◌⊎◌, Bool, true, false, ◌||◌, ◌&&◌, cond, List, [], ◌∷◌, reverse, Option, Some, None, refl, sym, ap, ◌∙◌, subst, arith, ltb-true}
+use Rattle.std.specs.Prelude.{slice_index, slice_index_or, find, nat_lt, nat_eq}
+use Rattle.std.proofs.lemmas.Bool.Decides.{nat_tests}
+use Rattle.sharc_tree.specs.declared.event.CellAt.{CellAt}
+use Rattle.sharc_tree.specs.declared.event.Object.{Object}
+use Rattle.sharc_tree.specs.declared.event.Object.TheVariants as objects
+use Rattle.sharc_tree.specs.declared.event.SourceEvent.{SourceEvent}
+use Rattle.sharc_ctype.specs.Resolved.{Resolution}
+use Rattle.sharc_code.specs.declared.code.Code.{Code}
+use Rattle.sharc_code.specs.declared.instr.Width.{Width}
+use Rattle.sharc_code.specs.declared.instr.Width.TheVariants.{Char, Int, Long}
+use Rattle.sharc_code.specs.declared.shape.Shape.{Shape}
+use Rattle.sharc_code.specs.Arithmetic.{word_of, int_of, holds, value_bits}
+use Rattle.sharc_code.specs.Layout.{cell_of}
+use Rattle.sharc_code.specs.Machine.{Machine}
+use Rattle.sharc_code.specs.Ranges.{IsInGlobal}
+use Rattle.sharc_code.specs.Runs.{Global}
+use Rattle.sharc_code.specs.Says.{reference, no_global}
+use Rattle.sharc_gen.specs.Consistent.{Elements}
+use Rattle.sharc_meaning.specs.Store.{changes, value_left, value_by, value_after, initial_value}
+use Rattle.sharc_invariant.specs.Types.{Targets, ObjectType, Content, Integer, MutexWord, Waiters, Pointer, field_in}
+use Rattle.sharc_invariant.specs.Labels.{Labels, Number, Anything, Exactly, Within, Indexes, OfElement, OfGlobal, Narrower, LessNumber}
+use Rattle.sharc_invariant.specs.Typed.{IsWellTyped}
+use Rattle.sharc_invariant.specs.World.{World}
+use Rattle.sharc_invariant.specs.Words.{cell_at}
+use Rattle.sharc_invariant.specs.State.{NumberStands}
+use Rattle.sharc_history_laws.proofs.Emptying.{IsEmptied}
+use Rattle.sharc_history_laws.proofs.Lists.{Newest, latest_is}
+use Rattle.sharc_history_laws.proofs.Locked.{Names, names_one}
+use Rattle.sharc_history_laws.proofs.OneMode.{place_of}
+use Rattle.sharc_history_laws.proofs.Shared.{number_of}
+use Rattle.sharc_history_laws.proofs.Sparing.{is_value}
+
+-- ---- values by the events, the newest event first
+abbrev pub newest_value : Resolution → Newest → CellAt → ℤ
+newest_value r L c = value_by (initial_value r c.object) (find (changes c) L)
+
+pub value_is : (r : Resolution) (L : Newest) (c : CellAt) → value_after r (reverse L) c ≡ newest_value r L c
+value_is r L c = ap (value_by (initial_value r c.object)) (latest_is (changes c) L)
+
+pub value_changed : (r : Resolution) (e : SourceEvent) (L : Newest) (c : CellAt) → changes c e ≡ true → newest_value r (e ∷ L) c ≡ value_left e.act
+value_changed r e L c is = ap (λ b. value_by (initial_value r c.object) (cond b (Some e) (find (changes c) L))) is
+
+pub value_kept : (r : Resolution) (e : SourceEvent) (L : Newest) (c : CellAt) → changes c e ≡ false → newest_value r (e ∷ L) c ≡ newest_value r L c
+value_kept r e L c is = ap (λ b. value_by (initial_value r c.object) (cond b (Some e) (find (changes c) L))) is
+
+-- ---- values of words
+-- what a word is as the content of a cell: an integer, or a reference to an object with its elements
+abbrev pub value_held : Content → Elements → ℕ → ℤ
+value_held (Pointer f) T v = reference v (T v)
+value_held _ T v = int_of v
+
+-- a cell of a live object of this world
+pub record IsCellOf (code : Code) (w : World) (cells : ℕ → ℕ) (c : CellAt) : Type 0 where
+  pub live : (w.obj (number_of c.object)).live ≡ true
+  pub inside : place_of code c.object c.cell < cells (number_of c.object)
+  pub named : Names code c (number_of c.object) (2 * (number_of c.object + 1) + place_of code c.object c.cell)
+
+abbrev pub content_of : Targets → Code → World → CellAt → Content
+content_of x code w c = (field_in x (w.obj (number_of c.object)).ty (place_of code c.object c.cell)).holds
+
+-- the word of a cell
+abbrev pub word_of_cell : Code → Shape → CellAt → ℕ
+word_of_cell code s c = cell_at s (number_of c.object) (place_of code c.object c.cell)
+
+-- each cell of a live object that holds a value holds what the events left there, but where a Free empties its object
+abbrev pub Contents : Resolution → Targets → Code → Shape → Newest → Elements → Global Machine → World → (ℕ → ℕ) → Type 0
+Contents r x code s L T g w cells = (c : CellAt) → IsCellOf code w cells c → is_value (content_of x code w c) ≡ true
+    → (newest_value r L c ≡ value_held (content_of x code w c) T (slice_index g.words (word_of_cell code s c))) ⊎ IsEmptied code g (number_of c.object)
+
+-- one cell has these numbers
+pub one_cell : (x : Targets) (code : Code) (ls : Labels) (wt : IsWellTyped x code ls) (c d : CellAt) → Names code c (number_of c.object) (2 * (number_of c.object + 1) + place_of code c.object c.cell) → Names code d (number_of d.object) (2 * (number_of d.object + 1) + place_of code d.object d.cell)
+    → number_of c.object ≡ number_of d.object → place_of code c.object c.cell ≡ place_of code d.object d.cell → c ≡ d
+one_cell x code ls wt c d p q o j =
+    let at : 2 * (number_of d.object + 1) + place_of code d.object d.cell ≡ 2 * (number_of c.object + 1) + place_of code c.object c.cell = omega arith in
+    names_one x code ls wt c d (number_of c.object) (2 * (number_of c.object + 1) + place_of code c.object c.cell) p
+    (subst (λ n. Names code d n (2 * (number_of c.object + 1) + place_of code c.object c.cell)) (sym o) (subst (Names code d (number_of d.object)) at q))
+
+-- ---- integers that a type holds go into a word and come back
+abbrev sign_of : Bool → ℤ → ℤ → ℤ
+sign_of true a b = a
+sign_of false a b = b
+
+low_value : (w : Width) (n : ℕ) → nat_lt n (2 ^ value_bits w) ≡ true → n < 2 ^ 63
+low_value Char n h = let a : n < 2 ^ 7 = ltb-true n (2 ^ 7) h in omega arith
+low_value Int n h = let a : n < 2 ^ 31 = ltb-true n (2 ^ 31) h in omega arith
+low_value Long n h = ltb-true n (2 ^ 63) h
+
+pub back_again : (w : Width) (z : ℤ) → holds w z ≡ true → int_of (word_of z) ≡ z
+back_again w (pos n) h = let lt = low_value w n h in let e : nat_lt n (2 ^ 63) ≡ true = grind (arith, nat_tests) in ap (λ b. sign_of b (pos n) (negsuc (2 ^ 64 - suc n))) e
+back_again w (negsuc n) h =
+    let lt = low_value w n h in
+    let v = 2 ^ 64 - suc n in
+    let e : nat_lt (2 ^ 64 - suc n) (2 ^ 63) ≡ false = grind (arith, nat_tests) in
+    let q : 2 ^ 64 - suc (2 ^ 64 - suc n) ≡ n = omega arith in
+    ap (λ b. sign_of b (pos (2 ^ 64 - suc n)) (negsuc (2 ^ 64 - suc (2 ^ 64 - suc n)))) e ∙ ap negsuc q
+
+wider : (v w : Width) (z : ℤ) → Narrower v w → holds v z ≡ true → holds w z ≡ true
+wider Char Char z n h = h
+wider Char Int (pos k) n h = grind (arith, nat_tests)
+wider Char Int (negsuc k) n h = grind (arith, nat_tests)
+wider Char Long (pos k) n h = grind (arith, nat_tests)
+wider Char Long (negsuc k) n h = grind (arith, nat_tests)
+wider Int Char z n h = absurd n
+wider Int Int z n h = h
+wider Int Long (pos k) n h = grind (arith, nat_tests)
+wider Int Long (negsuc k) n h = grind (arith, nat_tests)
+wider Long Char z n h = absurd n
+wider Long Int z n h = absurd n
+wider Long Long z n h = h
+
+-- a number that fits a type is held by it
+pub fits_in : (x : Targets) (elements refs : ℕ → ℕ) (types : ℕ → ObjectType) (names : ℕ → ℤ) (z : ℤ) (a : Number) (w : Width) → LessNumber a (Within w) → NumberStands x elements refs types names z a → holds w z ≡ true
+fits_in x elements refs types names z (Within v) w h k = wider v w z h k
+fits_in x elements refs types names z (Exactly y) w h k = subst (λ (y : ℤ). holds w y ≡ true) (sym k) h
+fits_in x elements refs types names z Anything w h k = absurd (cc)
+fits_in x elements refs types names z (Indexes n) w h k = absurd (cc)
+fits_in x elements refs types names z (OfElement b f e) w h k = absurd (cc)
+fits_in x elements refs types names z (OfGlobal f c n e) w h k = absurd (cc)

@@ -1,0 +1,125 @@
+-- A thread says that it is gone by the last turn of its Exit alone.
+use Rattle.std.proofs.Common.{◌≡◌, ℕ, zero, suc, ◌+◌, Bool, true, false, Option, Some, None, if◌then◌else◌, refl, sym, ap, ◌∙◌}
+use Rattle.std.specs.Prelude.{◌==◌, ◌||◌}
+use Rattle.sharc_tree.specs.declared.event.SourceEvent.{SourceEvent}
+use Rattle.sharc_granule.specs.State.{NewView}
+use Rattle.sharc_granule.specs.declared.stage.Stage.{Stage as NewStage}
+use Rattle.sharc_granule.specs.declared.stage.Stage.TheVariants as news
+use Rattle.sharc_cond.specs.Waiters.{waits_in}
+use Rattle.sharc_code.specs.declared.code.Code.{Code}
+use Rattle.sharc_code.specs.declared.instr.Cell.{Cell}
+use Rattle.sharc_code.specs.declared.instr.Register.{Register}
+use Rattle.sharc_code.specs.declared.instr.Instr.{Instr}
+use Rattle.sharc_code.specs.declared.instr.Instr.TheVariants as instrs
+use Rattle.sharc_code.specs.declared.state.Stage.{Stage}
+use Rattle.sharc_code.specs.declared.state.Stage.TheVariants.{Makes, Uncounts, Begins, Enters, Withdraws, WithdrawsFrom, Leaves as Leaving, Wakes}
+use Rattle.sharc_code.specs.Machine.{Machine, ref}
+use Rattle.sharc_code.specs.Says.{said, reference, take_local, nobody, in_signal, in_exit, in_spawn, in_start, in_free, in_new, new_event, cell_at, mode_of, place_at}
+use Rattle.sharc_meaning.specs.Store.{is_gone}
+use Rattle.sharc_history_laws.proofs.Going.{is_exit}
+
+abbrev pub gone_said : Option SourceEvent → Bool
+gone_said None = false
+gone_said (Some e) = is_gone e.act
+
+either_no : (b : Bool) (x y : Option SourceEvent) → gone_said x ≡ false → gone_said y ≡ false → gone_said (if b then x else y) ≡ false
+either_no true x y h k = h
+either_no false x y h k = k
+
+module _ (code : Code) (m : Machine) where
+  abbrev Stays : Option SourceEvent → Type 0
+  Stays e = gone_said e ≡ false
+
+  stays_local : (site number elements : ℕ) → Stays (take_local code m site number elements)
+  stays_local site zero elements = refl
+  stays_local site (suc k) elements = refl
+
+  stays_spawn : (function : ℕ) (from : Register) (site elements : ℕ) (stage : Stage) → Stays (in_spawn code m function from site elements stage)
+  stays_spawn function from site elements (Begins k) = refl
+  stays_spawn function from site elements _ = refl
+
+  stays_start : (found elements : ℕ) (stage : Stage) → Stays (in_start code m found elements stage)
+  stays_start found elements (Enters function) = refl
+  stays_start found elements _ = refl
+
+  stays_nobody : (cell : Cell) (site found : ℕ) → Stays (nobody code m cell site found)
+  stays_nobody cell site zero = refl
+  stays_nobody cell site (suc k) = refl
+
+  stays_signal : (cell : Cell) (site found : ℕ) (stage : Stage) → Stays (in_signal code m cell site found stage)
+  stays_signal cell site found (Wakes seen) = either_no (found == seen) _ _ refl (stays_nobody cell site found)
+  stays_signal cell site found _ = stays_nobody cell site found
+
+  stays_free : (r site elements : ℕ) (stage : Stage) → Stays (in_free code m r site elements stage)
+  stays_free r site elements (Uncounts all) = refl
+  stays_free r site elements _ = refl
+
+  stays_new_stage : (site cells : ℕ) (v : NewView) (stage : NewStage) → Stays (new_event code m site cells v stage)
+  stays_new_stage site cells v (news.Length header) = refl
+  stays_new_stage site cells v _ = refl
+
+  stays_new : (site cells : ℕ) (stage : Stage) → Stays (in_new code m site cells stage)
+  stays_new site cells (Makes v) = stays_new_stage site cells v v.stage
+  stays_new site cells _ = refl
+
+  pub not_gone : (i : Instr) (found elements : ℕ) → is_exit i ≡ false → gone_said (said code i m found elements) ≡ false
+  not_gone (instrs.Constant r v) found elements e = refl
+  not_gone (instrs.Move r from) found elements e = refl
+  not_gone (instrs.MoveReference r from) found elements e = refl
+  not_gone (instrs.Null r) found elements e = refl
+  not_gone (instrs.ComputeInt operator r a b site) found elements e = refl
+  not_gone (instrs.ComputeLong operator r a b site) found elements e = refl
+  not_gone (instrs.NegateInt r a site) found elements e = refl
+  not_gone (instrs.NegateLong r a site) found elements e = refl
+  not_gone (instrs.Complement r a) found elements e = refl
+  not_gone (instrs.Not r a) found elements e = refl
+  not_gone (instrs.SameReference r a b) found elements e = refl
+  not_gone (instrs.ChkWidth width r site) found elements e = refl
+  not_gone (instrs.Jump pc) found elements e = refl
+  not_gone (instrs.JumpIfZero r pc) found elements e = refl
+  not_gone (instrs.JumpIfNull r pc) found elements e = refl
+  not_gone (instrs.Call pc ints refs site) found elements e = refl
+  not_gone (instrs.Return site) found elements e = refl
+  not_gone (instrs.ChkNull r site) found elements e = refl
+  not_gone (instrs.ChkHeld c site) found elements e = refl
+  not_gone (instrs.ChkNotHeld c site) found elements e = refl
+  not_gone (instrs.ChkPositive r site) found elements e = refl
+  not_gone (instrs.ChkRoom site) found elements e = refl
+  not_gone (instrs.ChkLock c site) found elements e = refl
+  not_gone (instrs.ChkLockLoaded site) found elements e = refl
+  not_gone (instrs.Bounds r base count field site) found elements e = refl
+  not_gone (instrs.GlobalBounds r all count field site) found elements e = refl
+  not_gone (instrs.ChkRead c site) found elements e = refl
+  not_gone (instrs.ChkWrite c site) found elements e = refl
+  not_gone (instrs.Raise r from) found elements e = refl
+  not_gone (instrs.RaiseLoaded r) found elements e = refl
+  not_gone (instrs.Lower r) found elements e = refl
+  not_gone (instrs.TestSole r site) found elements e = refl
+  not_gone (instrs.Clear r cells) found elements e = refl
+  not_gone (instrs.Unlock r c site) found elements e = refl
+  not_gone (instrs.Print r site) found elements e = refl
+  not_gone (instrs.CondEnter c site) found elements e = refl
+  not_gone (instrs.CondBroadcast c site) found elements e = refl
+  not_gone (instrs.Give r site) found elements e = refl
+  not_gone (instrs.Load r c site) found elements e = refl
+  not_gone (instrs.Store r c site) found elements e = refl
+  not_gone (instrs.LoadRef c site) found elements e = refl
+  not_gone (instrs.Exchange r c site) found elements e = refl
+  not_gone (instrs.TakeCell r c site) found elements e = refl
+  not_gone (instrs.TakeLocal r from site) found elements e = stays_local site (ref m from) elements
+  not_gone (instrs.New r count cells site) found elements e = stays_new site cells m.own.stage
+  not_gone (instrs.Free r layout site) found elements e = stays_free r site elements m.own.stage
+  not_gone (instrs.Lock c site) found elements e = either_no (found == 0) _ _ refl refl
+  not_gone (instrs.Spawn r function from site) found elements e = stays_spawn function from site elements m.own.stage
+  not_gone (instrs.Join r site) found elements e = either_no (found == 0 || (found == 1 || found == 2)) _ _ refl refl
+  not_gone (instrs.Start site) found elements e = stays_start found elements m.own.stage
+  not_gone instrs.Exit found elements e = absurd (let f : true ≡ false = e in cc)
+  not_gone (instrs.CondWait c site) found elements e = either_no (waits_in found m.own.number) _ _ refl refl
+  not_gone (instrs.CondSignal c site) found elements e = stays_signal c site found m.own.stage
+
+  -- at this stage of an Exit
+  pub leaves_at : (stage : Stage) → gone_said (in_exit code m stage) ≡ true → stage ≡ Leaving
+  leaves_at (Withdraws row) e = absurd (let f : false ≡ true = e in cc)
+  leaves_at (WithdrawsFrom row seen) e = absurd (let f : false ≡ true = e in cc)
+  leaves_at Leaving e = refl
+  leaves_at _ e = absurd (let f : false ≡ true = e in cc)

@@ -1,0 +1,461 @@
+-- The event of each turn of typed code may come after those before it, if it does not tell who waits.
+use Rattle.std.proofs.Common.{◌≡◌, ℕ, ℤ, pos, negsuc, zero, suc, ◌+◌, ◌*◌, ◌^◌, ◌<◌, ◌≤◌, ◌≢◌, ◌⊎◌, inl, inr, Bool, true, false, ◌||◌, nat_lt, List, [], ◌∷◌, reverse, Option, Some, None, is_some, if◌then◌else◌, refl, sym, ap, ◌∙◌, subst, ⊎_elim, arith, eqb-true, ltb-true}
+use Rattle.std.specs.Prelude.{slice_index, slice_index_or, length, nat_eq, ◌==◌, Contains}
+use Rattle.std.proofs.lemmas.Bool.{cases_eq}
+use Rattle.std.proofs.lemmas.Bool.Decides.{nat_tests}
+use Rattle.sharc_word.specs.declared.step.TheConstants.{THREADS}
+use Rattle.sharc_word.specs.declared.step.WordStep.{WordStep}
+use Rattle.sharc_word.specs.declared.step.WordOp.TheVariants as ops
+use Rattle.sharc_tree.specs.declared.event.Act.TheVariants as acts
+use Rattle.sharc_tree.specs.declared.event.CellAt.{CellAt}
+use Rattle.sharc_tree.specs.declared.event.SourceEvent.{SourceEvent}
+use Rattle.sharc_granule.specs.State.{NewView}
+use Rattle.sharc_granule.specs.declared.stage.Stage.{Stage as NewStage}
+use Rattle.sharc_granule.specs.declared.stage.Stage.TheVariants as news
+use Rattle.sharc_cond.specs.Waiters.{waits_in}
+use Rattle.sharc_locks.specs.declared.held_log.HeldMutex.{HeldMutex}
+use Rattle.sharc_locks.specs.HeldLog.{object_of}
+use Rattle.sharc_ctype.specs.Resolved.{Resolution}
+use Rattle.sharc_code.specs.declared.code.Code.{Code}
+use Rattle.sharc_code.specs.declared.instr.Cell.{Cell}
+use Rattle.sharc_code.specs.declared.instr.Cell.TheVariants as cells
+use Rattle.sharc_code.specs.declared.instr.Instr.{Instr}
+use Rattle.sharc_code.specs.declared.instr.Instr.TheVariants as instrs
+use Rattle.sharc_code.specs.declared.instr.Register.{Register}
+use Rattle.sharc_code.specs.declared.shape.Shape.{Shape}
+use Rattle.sharc_code.specs.declared.state.Stage.{Stage}
+use Rattle.sharc_code.specs.declared.state.Stage.TheVariants.{Makes, Uncounts, Begins, Enters, Withdraws, WithdrawsFrom, Leaves, Wakes}
+use Rattle.sharc_code.specs.declared.state.State.{State}
+use Rattle.sharc_code.specs.declared.state.State.TheVariants as states
+use Rattle.sharc_code.specs.Laws.{RunLaws}
+use Rattle.sharc_code.specs.Arithmetic.{int_of}
+use Rattle.sharc_code.specs.Layout.{Fits, first_cell, state_word, cell_of, words_of}
+use Rattle.sharc_code.specs.Machine.{Machine, step_of, instr_at, int, ref, word, act, place, object, is_held, join, joined, trapped, Local, Asks}
+use Rattle.sharc_code.specs.Path.{turn, asked_by}
+use Rattle.sharc_code.specs.Runs.{Turn, Global, MayTurn, result_of}
+use Rattle.sharc_code.specs.Says.{said, cell_at, speaks_of, take_local, nobody, in_signal, in_exit, in_spawn, in_start, in_free, in_new, new_event, event_at, reference}
+use Rattle.sharc_code.specs.Whole.{one_thread, bounds, place_after}
+use Rattle.sharc_code_laws.specs.Told.{state_of, TellsState}
+use Rattle.sharc_gen.specs.Consistent.{Elements, MayFind, IsFree, IsHeld, IsMutex}
+use Rattle.sharc_gen.specs.OfRuns.{table_of}
+use Rattle.sharc_meaning.specs.Events.{locks, unlocks, is_cell, locked_by, unlocked_by, same_cell}
+use Rattle.sharc_meaning.specs.Obeys.{History}
+use Rattle.sharc_meaning.specs.Store.{MayCome, IsFresh, IsNewThread, was_spawned, went, is_live, is_locked, was_locked_by, value_after}
+use Rattle.sharc_invariant.specs.Types.{Targets, Field, Content, Integer, Pointer, field_in}
+use Rattle.sharc_invariant.specs.Labels.{Labels}
+use Rattle.sharc_invariant.specs.Typed.{IsWellTyped, Fine, Accesses}
+use Rattle.sharc_invariant.specs.World.{World}
+use Rattle.sharc_invariant.specs.Words.{is_ended}
+use Rattle.sharc_invariant.specs.Words as Words
+use Rattle.sharc_invariant.specs.History.{Closing}
+use Rattle.sharc_invariant.specs.State.{IsSmall, StageStands, OnHold, object_of_cell, number_in}
+use Rattle.sharc_invariant.specs.MachineInvariant.{IsOn}
+use Rattle.sharc_invariant.specs.Laws.{Keeps, CellsAreThere, PointersAreThere, AccessesAreAllowed, StateStands}
+use Rattle.sharc_history_laws.specs.Stores.{is_about_waiters}
+use Rattle.sharc_history_laws.proofs.Consists.{Consists, found_is, quiet_is, own_turn, header_built, built_low, live_not_built}
+use Rattle.sharc_history_laws.proofs.Contents.{value_is, newest_value, value_held, IsCellOf, content_of, word_of_cell, Contents}
+use Rattle.sharc_history_laws.proofs.Emptying.{IsFreeing, IsEmptied, is_emptying}
+use Rattle.sharc_history_laws.proofs.Holding.{cell_eq, holds_in}
+use Rattle.sharc_history_laws.proofs.Lists.{Newest, live_in, is_live_in}
+use Rattle.sharc_history_laws.proofs.Living.{LivesTold}
+use Rattle.sharc_history_laws.proofs.Locked.{IsIn, LogTold, Names, names_cell, one_place, held_told}
+use Rattle.sharc_history_laws.proofs.Locking.{cell_refl, word_is, is_below}
+use Rattle.sharc_history_laws.proofs.Logged.{LogHas, is_logged}
+use Rattle.sharc_history_laws.proofs.Mutual.{Mutual, MayMutex, no_lock, locked_in, locked_by_in, locked_is, locked_by_is}
+use Rattle.sharc_history_laws.proofs.Mutexless.{mutex_said, no_mutex, not_locked}
+use Rattle.sharc_history_laws.proofs.Logs.{is_locking}
+use Rattle.sharc_history_laws.proofs.OneMode.{place_of, numbers_now}
+use Rattle.sharc_history_laws.proofs.Rules.{number_is}
+use Rattle.sharc_history_laws.proofs.Shared.{number_of, closing_own, some_closing, not_sole}
+use Rattle.sharc_history_laws.proofs.Single.{single, rests_hold}
+use Rattle.sharc_history_laws.proofs.Sparing.{is_value}
+use Rattle.sharc_history_laws.proofs.Stands.{there, gate}
+use Rattle.sharc_history_laws.proofs.Tables.{header_of}
+use Rattle.sharc_history_laws.proofs.Threaded.{ThreadsTold}
+use Rattle.sharc_history_laws.proofs.Unwritten.{emptying}
+use Rattle.sharc_history_laws.proofs.Valued.{cell_named}
+
+yes : true ≡ false → ⊥
+yes e = cc
+
+-- it may come, if it does not tell who waits
+abbrev pub IsLegal : Resolution → History → Option SourceEvent → Type 0
+IsLegal r R None = Unit {0}
+IsLegal r R (Some e) = is_about_waiters e.act ≡ false → MayCome r R e e.act
+
+not_true : (b : Bool) → (b ≡ true → ⊥) → b ≡ false
+not_true true h = absurd (h refl)
+not_true false h = refl
+
+on_hold : (stage : Stage) → is_emptying stage ≡ true → OnHold stage
+on_hold (Rattle.sharc_code.specs.declared.state.Stage.TheVariants.Links all) e = absurd (yes (sym e))
+on_hold _ e = tt
+
+-- what is known of the events before a turn
+pub record Told (r : Resolution) (x : Targets) (code : Code) (s : Shape) (ls : Labels) (earlier : List Turn) (h : Consists x code s ls earlier) (L : Newest) : Type 0 where
+  pub lives : LivesTold L h.world.obj
+  pub logs : (u : ℕ) → LogTold code s L u ((place_after code s earlier).threads u).own.held
+  pub has : (u : ℕ) → LogHas code s L u ((place_after code s earlier).threads u).own.held
+  pub mutexes : Mutual L
+  pub threads : ThreadsTold L (place_after code s earlier)
+  pub contents : Contents r x code s L (table_of code s earlier) (place_after code s earlier) h.world h.state.cells
+
+-- ---- one turn
+module _ (state_law : StateStands) (cell_laws : CellsAreThere) (pointers : PointersAreThere) (rights : AccessesAreAllowed) (laws : RunLaws) (keeps : Keeps) (x : Targets) (code : Code) (s : Shape) (ls : Labels) (wt : IsWellTyped x code ls) (fits : Fits code s) (few : IsSmall code s)
+    (one : Turn) (earlier : List Turn) (h : Consists x code s ls earlier) (may : MayTurn bounds (one_thread code s) (place_after code s earlier) one) where
+  abbrev g : Global Machine
+  g = place_after code s earlier
+
+  abbrev t : ℕ
+  t = one.thread
+
+  abbrev m : Machine
+  m = (place_after code s earlier).threads one.thread
+
+  abbrev i : Instr
+  i = instr_at code ((place_after code s earlier).threads one.thread).at.pc
+
+  abbrev found : ℕ
+  found = result_of one.event
+
+  abbrev T : Elements
+  T = table_of code s earlier
+
+  abbrev elements : ℕ
+  elements = table_of code s earlier (speaks_of (instr_at code ((place_after code s earlier).threads one.thread).at.pc) ((place_after code s earlier).threads one.thread) (result_of one.event))
+
+  abbrev event : Option SourceEvent
+  event = said code i ((place_after code s earlier).threads one.thread) found elements
+
+  on : IsOn (place_after code s earlier) one.thread
+  on = (may.started, may.next.runs)
+
+  stage_here : (j : Instr) → i ≡ j → StageStands code s h.state.elements h.world h.state.heap (place_after code s earlier).words one.thread ((place_after code s earlier).threads one.thread) j ((place_after code s earlier).threads one.thread).own.stage
+  stage_here j e = subst (λ j. StageStands code s h.state.elements h.world h.state.heap g.words t m j m.own.stage) e ((h.state.threads t).runs on.0 on.1).stage
+
+  may_find : (j : Instr) → i ≡ j → MayFind code s (table_of code s earlier) ((place_after code s earlier).threads one.thread) found j
+  may_find j e = subst (MayFind code s (table_of code s earlier) m found) e (own_turn laws keeps cell_laws pointers x code s ls wt fits few one earlier h may).finds
+
+  found_at : (step : WordStep) → asked_by (turn code s ((place_after code s earlier).threads one.thread)) ≡ Some step → found ≡ slice_index (place_after code s earlier).words step.word
+  found_at step asked = found_is g.words one.event step (may.next.asks ∙ asked) may.answered
+
+  -- ---- with what is known of the events before it
+  module _ (r : Resolution) (L : Newest) (told : Told r x code s ls earlier h L) (state : (u : ℕ) → u < THREADS → TellsState (place_after code s earlier) u) where
+    abbrev Legal : Option SourceEvent → Type 0
+    Legal = IsLegal r (reverse L)
+
+    either : (b : Bool) (y z : Option SourceEvent) → Legal y → Legal z → Legal (if b then y else z)
+    either true y z a b = a
+    either false y z a b = b
+
+    -- ---- accesses
+    -- nobody has the object of an access alone
+    register_of_cell : (k : Cell) → object_of_cell ((place_after code s earlier).threads one.thread) k ≢ 0 → (q : ℕ) × (slice_index ((place_after code s earlier).threads one.thread).refs q ≡ object_of_cell ((place_after code s earlier).threads one.thread) k)
+    register_of_cell (cells.Global q p) nz = absurd (nz refl)
+    register_of_cell (cells.GlobalAt q p) nz = absurd (nz refl)
+    register_of_cell (cells.Object q p) nz = (m.at.refs + q, refl)
+    register_of_cell (cells.ObjectAt q p) nz = (m.at.refs + q, refl)
+
+    not_alone : (hold : OnHold ((place_after code s earlier).threads one.thread).own.stage) (k : Cell) (site : ℕ) (f : Field) (write : Bool) → Accesses x code ls (ls.at ((place_after code s earlier).threads one.thread).at.pc) write k site f
+        → Closing h.world (object_of_cell ((place_after code s earlier).threads one.thread) k) → ⊥
+    not_alone hold k site f write acc c =
+        let n = object_of_cell m k in
+        let q = register_of_cell k (some_closing state_law x code s ls wt fits g h.world h.state n c) in
+        let mine : t ≡ c.0 = closing_own state_law x code s ls wt fits g h.world h.state n c t q.0 hold q.1 in
+        not_sole s h.world t m (ls.at m.at.pc).gate acc.apart (gate x code s ls wt fits g h.world h.state t on hold) c.1.0 (ap h.world.win mine ∙ c.1.1.0)
+
+    -- so no Free empties it
+    not_emptied : (hold : OnHold ((place_after code s earlier).threads one.thread).own.stage) (k : Cell) (site : ℕ) (f : Field) (write : Bool) → Accesses x code ls (ls.at ((place_after code s earlier).threads one.thread).at.pc) write k site f
+        → IsEmptied code (place_after code s earlier) (object_of_cell ((place_after code s earlier).threads one.thread) k) → ⊥
+    not_emptied hold k site f write acc z =
+        let u = z.0 in
+        let y = z.1.1 in
+        not_alone hold k site f write acc (emptying x code s ls wt fits g h.world h.state u (z.1.0, y.on) (on_hold (g.threads u).own.stage y.emptying) (object_of_cell m k) y.register y.layout y.site y.is_free y.object)
+
+    -- what an access finds
+    reads : (hold : OnHold ((place_after code s earlier).threads one.thread).own.stage) (k : Cell) (site : ℕ) (f : Field) (write : Bool) → Accesses x code ls (ls.at ((place_after code s earlier).threads one.thread).at.pc) write k site f
+        → is_value f.holds ≡ true → found ≡ slice_index (place_after code s earlier).words (word s ((place_after code s earlier).threads one.thread) k)
+        → value_held f.holds T found ≡ value_after r (reverse L) (cell_at code ((place_after code s earlier).threads one.thread) k)
+    reads hold k site f write acc value found_here =
+        let th = there x code s ls wt fits g h.world h.state t on hold cell_laws k f acc.cell in
+        let n = numbers_now cell_laws x code s ls wt fits g h.world h.state t on hold k f acc.cell in
+        let d = cell_at code m k in
+        let content : content_of x code h.world d ≡ f.holds =
+        ap (λ o. (field_in x (h.world.obj o).ty (place_of code d.object d.cell)).holds) n.0 ∙ ap (λ j. (field_in x (h.world.obj (object_of_cell m k)).ty j).holds) n.1 ∙ ap (λ (f : Field). f.holds) th.field in
+        let cell : IsCellOf code h.world h.state.cells d = record {
+          live = ap (λ o. (h.world.obj o).live) n.0 ∙ th.live;
+          inside = subst (λ o. place_of code d.object d.cell < h.state.cells o) (sym n.0) (subst (λ j. j < h.state.cells (object_of_cell m k)) (sym n.1) th.number);
+          named = cell_named cell_laws pointers rights laws keeps x code s ls wt fits few one earlier h may k f hold acc.cell;
+        } in
+        let word_at : word_of_cell code s d ≡ word s m k = ap (λ o. Words.cell_at s o (place_of code d.object d.cell)) n.0 ∙ ap (Words.cell_at s (object_of_cell m k)) n.1 ∙ sym th.word_is in
+        let found_there : slice_index g.words (word_of_cell code s d) ≡ found = ap (slice_index g.words) word_at ∙ sym found_here in
+        ⊎_elim
+        (λ (v : newest_value r L d ≡ value_held (content_of x code h.world d) T (slice_index g.words (word_of_cell code s d))).
+        sym (value_is r L d ∙ v ∙ ap (value_held (content_of x code h.world d) T) found_there ∙ ap (λ k. value_held k T found) content))
+        (λ (z : IsEmptied code g (number_of d.object)). absurd (not_emptied hold k site f write acc (subst (IsEmptied code g) n.0 z)))
+        (told.contents d cell (ap is_value content ∙ value))
+
+    held_by : (j : Instr) → i ≡ j → single j ≡ true → OnHold ((place_after code s earlier).threads one.thread).own.stage
+    held_by j is one = rests_hold code s h.state.elements h.world h.state.heap g.words t m j m.own.stage one (stage_here j is)
+
+    fine : (j : Instr) → i ≡ j → Fine x code ls ((place_after code s earlier).threads one.thread).at.pc (ls.at ((place_after code s earlier).threads one.thread).at.pc) j
+    fine j e = subst (Fine x code ls m.at.pc (ls.at m.at.pc)) e (wt.fine m.at.pc)
+
+    at_load : (q site : ℕ) (k : Cell) → i ≡ instrs.Load q k site → int_of found ≡ value_after r (reverse L) (cell_at code ((place_after code s earlier).threads one.thread) k)
+    at_load q site k is =
+        let f = fine (instrs.Load q k site) is in
+        let found_here = found_at (step_of (word s m k) ops.Load) (ap (λ j. asked_by (act code s j m)) is) in
+        ap (λ c. value_held c T found) (sym f.1.3) ∙ reads (held_by (instrs.Load q k site) is refl) k site f.1.0 false f.1.2 (ap is_value f.1.3) found_here
+
+    at_load_ref : (site : ℕ) (k : Cell) → i ≡ instrs.LoadRef k site → reference found elements ≡ value_after r (reverse L) (cell_at code ((place_after code s earlier).threads one.thread) k)
+    at_load_ref site k is =
+        let f = fine (instrs.LoadRef k site) is in
+        let found_here = found_at (step_of (word s m k) ops.Load) (ap (λ j. asked_by (act code s j m)) is) in
+        ap (λ j. reference found (T (speaks_of j m found))) is
+        ∙ ap (λ c. value_held c T found) (sym f.3) ∙ reads (held_by (instrs.LoadRef k site) is refl) k site f.0 false f.2 (ap is_value f.3) found_here
+
+    at_take : (q site : ℕ) (k : Cell) → i ≡ instrs.TakeCell q k site → reference found elements ≡ value_after r (reverse L) (cell_at code ((place_after code s earlier).threads one.thread) k)
+    at_take q site k is =
+        let f = fine (instrs.TakeCell q k site) is in
+        let found_here = found_at (step_of (word s m k) (ops.Swap 0)) (ap (λ j. asked_by (act code s j m)) is) in
+        ap (λ j. reference found (T (speaks_of j m found))) is
+        ∙ ap (λ c. value_held c T found) (sym f.1.3.holds) ∙ reads (held_by (instrs.TakeCell q k site) is refl) k site f.1.0 true f.1.2 (ap is_value f.1.3.holds) found_here
+
+    -- ---- mutexes
+    -- a mutex that is locked by the events is one whose word is not 0
+    unlocked : (k : Cell) (site : ℕ) → i ≡ instrs.Lock k site → found ≡ 0 → locked_in L (cell_at code ((place_after code s earlier).threads one.thread) k) ≡ false
+    unlocked k site is z = not_true (locked_in L (cell_at code m k)) (λ locked.
+        let free = may_find (instrs.Lock k site) is z in
+        let holder = told.mutexes.held (cell_at code m k) locked in
+        let u = holder.0 in
+        let entry = told.has u (cell_at code m k) holder.1 in
+        let b = entry.0 in
+        let at = entry.2.0 in
+        let same_at : at ≡ place m k = one_place code (cell_at code m k).object (cell_at code m k).cell b.object (object m k) at (place m k) entry.2.2 (names_cell code m k free.mutex.there) in
+        let w : b.word ≡ word s m k = entry.2.1 ∙ ap (λ n. first_cell s + n) same_at ∙ sym (word_is cell_laws pointers rights laws keeps x code s ls wt fits few one earlier h may k free.mutex) in
+        let inside = h.state.locks.logged u b (contains (g.threads u).own.held b entry.1) in
+        let o = b.object in
+        let j = inside.0 in
+        let held : is_held (g.threads u) (Words.cell_at s o j) ≡ true = ap (λ n. is_some (object_of (g.threads u).own.held n)) (sym inside.1.0) ∙ is_logged (g.threads u).own.held b entry.1 in
+        let few_ : u < THREADS = holder_few u b entry.1 in
+        let mutex : h.world.mutex o j ≡ suc u = (h.state.locks.held u o j few_ inside.1.1 inside.1.2 inside.1.3).1 held in
+        let word_there : h.world.mutex o j ≡ slice_index g.words (Words.cell_at s o j) = h.state.sim.mutexes o j inside.1.1 inside.1.2 inside.1.3 in
+        let found_here : found ≡ slice_index g.words (word s m k) = found_at (step_of (word s m k) (ops.Cas 0 (m.own.number + 1))) (ap (λ j. asked_by (act code s j m)) is) in
+        let zero_word : slice_index g.words (Words.cell_at s o j) ≡ 0 = ap (slice_index g.words) (sym inside.1.0 ∙ w) ∙ sym found_here ∙ z in
+        above u (sym mutex ∙ word_there ∙ zero_word))
+      where
+        above : (u : ℕ) → suc u ≡ 0 → ⊥
+        above u e = omega arith
+
+        contains : (log : List HeldMutex) (b : HeldMutex) → IsIn b log → Contains log b
+        contains [] b is = absurd is
+        contains (y ∷ log) b is = ⊎_elim (λ (e : y ≡ b). (0, omega arith, e)) (λ rest. let k = contains log b rest in let lt = k.1 in (suc k.0, omega arith, k.2)) is
+
+        holder_few : (u : ℕ) (b : HeldMutex) → IsIn b ((place_after code s earlier).threads u).own.held → u < THREADS
+        holder_few u b is = elim (g.started u) as (λ c. g.started u ≡ c → u < THREADS) [
+          | true ↦ λ e. h.state.begins.few u e
+          | false ↦ λ e. absurd (subst (IsIn b) (ap (λ (y : Machine). y.own.held) ((h.state.threads u).waits e)) is)
+        ] refl
+
+    holds_own : (q site : ℕ) (k : Cell) → i ≡ instrs.Unlock q k site → holds_in L one.thread (cell_at code ((place_after code s earlier).threads one.thread) k) ≡ true
+    holds_own q site k is =
+        let held = may_find (instrs.Unlock q k site) is in
+        held_told code s L t m.own.held (object m k) (place m k) (cell_at code m k) (told.logs t) held.mutex.apart held.own (names_cell code m k held.mutex.there)
+
+    number : ((place_after code s earlier).threads one.thread).own.number ≡ one.thread
+    number = number_is cell_laws pointers rights laws keeps x code s ls wt fits few one earlier h may
+
+    -- an event of a mutex
+    pub may_mutex : (e : SourceEvent) → event ≡ Some e → MayMutex L e
+    may_mutex e said_is = by i refl
+      where
+        locked_act : (k : Cell) (site : ℕ) → i ≡ instrs.Lock k site → found ≡ 0 → e.act ≡ acts.Lock (cell_at code ((place_after code s earlier).threads one.thread) k) → MayMutex L e
+        locked_act k site is z a = record {
+          free = λ c p. let same : c ≡ cell_at code m k = cell_eq c (cell_at code m k) (sym (ap (λ a. is_cell c (locked_by a)) a) ∙ p) in ap (locked_in L) same ∙ unlocked k site is z;
+          own = λ c p. absurd (yes (sym p ∙ ap (λ a. is_cell c (unlocked_by a)) a));
+          one = λ c p. ap (λ a. is_cell c (unlocked_by a)) a;
+        }
+
+        unlocked_act : (q site : ℕ) (k : Cell) → i ≡ instrs.Unlock q k site → e.act ≡ acts.Unlock (cell_at code ((place_after code s earlier).threads one.thread) k) → e.thread ≡ one.thread → MayMutex L e
+        unlocked_act q site k is a thread = record {
+          free = λ c p. absurd (yes (sym p ∙ ap (λ a. is_cell c (locked_by a)) a));
+          own = λ c p. let same : c ≡ cell_at code m k = cell_eq c (cell_at code m k) (sym (ap (λ a. is_cell c (unlocked_by a)) a) ∙ p) in ap (λ u. holds_in L u c) thread ∙ ap (holds_in L t) same ∙ holds_own q site k is;
+          one = λ c p. absurd (yes (sym p ∙ ap (λ a. is_cell c (locked_by a)) a));
+        }
+
+        act_of : Option SourceEvent → Rattle.sharc_tree.specs.declared.event.Act.Act
+        act_of None = acts.Return
+        act_of (Some d) = d.act
+
+        thread_of : Option SourceEvent → ℕ
+        thread_of None = 0
+        thread_of (Some d) = d.thread
+
+        at_lock : (k : Cell) (site : ℕ) → i ≡ instrs.Lock k site → (b : Bool) → (found == 0) ≡ b → (if b then event_at code ((place_after code s earlier).threads one.thread) site (pos 0) (acts.Lock (cell_at code ((place_after code s earlier).threads one.thread) k)) else None) ≡ Some e → MayMutex L e
+        at_lock k site is true z q = locked_act k site is (eqb-true found 0 z) (ap act_of (sym q))
+        at_lock k site is false z q = absurd (let f : None ≡ Some e = q in cc)
+
+        others : is_locking i ≡ false → MayMutex L e
+        others never =
+            let a = not_locked e.act (ap mutex_said (sym said_is) ∙ no_mutex code m i found elements never) in
+            no_lock L e (λ c. ap (is_cell c) a.0) (λ c. ap (is_cell c) a.1)
+
+        by : (j : Instr) → i ≡ j → MayMutex L e
+        by (instrs.Lock k site) is = at_lock k site is (found == 0) refl (sym (ap (λ j. said code j m found elements) is) ∙ said_is)
+        by (instrs.Unlock q k site) is = let now = sym (ap (λ j. said code j m found elements) is) ∙ said_is in unlocked_act q site k is (ap act_of (sym now)) (ap thread_of (sym now) ∙ number)
+        by _ is = others (ap is_locking is)
+
+    -- ---- new objects
+    fresh : (header elements' : ℕ) → header_of i ((place_after code s earlier).threads one.thread).own.stage ≡ Some header → IsFresh (reverse L) elements' (reference header elements')
+    fresh header elements' made =
+        let built = header_built x code s ls wt fits g h.world h.state t on header made in
+        let nz : h.state.heap.size header ≢ 0 = λ q. let e = h.state.heap_stands.kept.blocks.known header q in let f : Rattle.sharc_invariant.specs.Blocks.Built t ≡ Rattle.sharc_invariant.specs.Blocks.Unused = sym built ∙ e in cc in
+        let first = (h.state.heap_stands.kept.blocks.within header nz).0 in
+        let low = (built_low x code s ls wt fits g h.world h.state header t built).1 in
+        let some : header ≢ 0 = λ z. omega arith in
+        record {
+          number = header;
+          refers = refers header elements' some;
+          above = omega arith;
+          below = low;
+          fresh = is_live_in L header ∙ not_true (live_in L header) (λ live. live_not_built x code s ls wt fits g h.world h.state header t some (told.lives header live) built);
+        }
+      where
+        refers : (n k : ℕ) → n ≢ 0 → reference n k ≡ Rattle.sharc_meaning.specs.Reference.reference n k
+        refers zero k ne = absurd (ne refl)
+        refers (suc n) k ne = refl
+
+    at_new : (q count cells' site : ℕ) → i ≡ instrs.New q count cells' site → (stage : Stage) → ((place_after code s earlier).threads one.thread).own.stage ≡ stage → Legal (in_new code ((place_after code s earlier).threads one.thread) site cells' stage)
+    at_new q count cells' site is (Makes v) at = at_stage v.stage refl
+      where
+        at_stage : (y : NewStage) → v.stage ≡ y → Legal (new_event code ((place_after code s earlier).threads one.thread) site cells' v y)
+        at_stage (news.Length header) y_is = λ w. fresh header v.arguments.elements (ap (λ j. header_of j m.own.stage) is ∙ ap Rattle.sharc_history_laws.proofs.Tables.header_in at ∙ ap Rattle.sharc_history_laws.proofs.Tables.header_at y_is)
+        at_stage _ y_is = tt
+    at_new q count cells' site is _ at = tt
+
+    -- ---- threads
+    at_spawn : (q f site : ℕ) (from : Register) → i ≡ instrs.Spawn q f from site → (stage : Stage) → ((place_after code s earlier).threads one.thread).own.stage ≡ stage → Legal (in_spawn code ((place_after code s earlier).threads one.thread) f from site elements stage)
+    at_spawn q f site from is (Begins n) at = λ w.
+        let reserves = (subst (StageStands code s h.state.elements h.world h.state.heap g.words t m (instrs.Spawn q f from site)) at (stage_here (instrs.Spawn q f from site) is)).0 in
+        let first = reserves.first in
+        record {
+          thread = n;
+          tells = refl;
+          other = λ z. omega arith;
+          fresh = not_true (was_spawned (reverse L) n) (λ spawned.
+              let started = told.threads.spawned n spawned in
+              let off : g.started n ≡ false = (h.state.begins.started n reserves.few).0 reserves.state in
+              yes (sym started ∙ off));
+        }
+    at_spawn q f site from is _ at = tt
+
+    at_join : (q site : ℕ) → i ≡ instrs.Join q site → (b : Bool) → (found == 0 || (found == 1 || found == 2)) ≡ b → went (reverse L) (int ((place_after code s earlier).threads one.thread) q) ≡ true ⊎ (b ≡ true)
+    at_join q site is true e = inr refl
+    at_join q site is false e = inl (by (int m q) refl)
+      where
+        parts : (a b c : Bool) → (a || (b || c)) ≡ false → (a ≡ false) × (b ≡ false) × (c ≡ false)
+        parts true b c e = absurd (yes e)
+        parts false true c e = absurd (yes e)
+        parts false false c e = (refl, refl, e)
+
+        none_found : asked_by (turn code s ((place_after code s earlier).threads one.thread)) ≡ None → ⊥
+        none_found quiet = let z : found ≡ 0 = quiet_is one.event (may.next.asks ∙ quiet) in yes (sym (ap (λ n. n == 0) z) ∙ (parts (found == 0) (found == 1) (found == 2) e).0)
+
+        ended : (n : ℕ) → n < THREADS → found ≡ state_of (place_after code s earlier) n → is_ended ((place_after code s earlier).threads n).at.state ≡ true
+        ended n lt word =
+            let p = parts (found == 0) (found == 1) (found == 2) e in
+            let tells = state n lt in
+            let few' = tells.few in
+            let three : state_of g n ≡ 3 = sym word ∙ last found (subst (λ v. v ≤ 3) (sym word) few') p.0 p.1 p.2 in
+            ap is_ended (tells.ended.0 three)
+          where
+            last : (v : ℕ) → v ≤ 3 → (v == 0) ≡ false → (v == 1) ≡ false → (v == 2) ≡ false → v ≡ 3
+            last v le a b c = grind (arith, nat_tests)
+
+        by_word : (n : ℕ) (b : Bool) → int ((place_after code s earlier).threads one.thread) q ≡ pos n → nat_lt n THREADS ≡ b → went (reverse L) (pos n) ≡ true
+        by_word n true z lt =
+            let asked : asked_by (turn code s m) ≡ Some (step_of (state_word n) ops.Load) =
+            ap (λ j. asked_by (act code s j m)) is ∙ ap (λ z. asked_by (join m z site)) z ∙ ap (λ b. asked_by (if b then Asks (step_of (state_word n) ops.Load) (joined m site) else Local (trapped m 7 site))) lt in
+            told.threads.gone n (ended n (below n lt) (found_at (step_of (state_word n) ops.Load) asked))
+          where
+            below : (n : ℕ) → nat_lt n THREADS ≡ true → n < THREADS
+            below n e = ltb-true n THREADS e
+        by_word n false z lt = absurd (none_found (ap (λ j. asked_by (act code s j m)) is ∙ ap (λ z. asked_by (join m z site)) z
+            ∙ ap (λ b. asked_by (if b then Asks (step_of (state_word n) ops.Load) (joined m site) else Local (trapped m 7 site))) lt))
+
+        by : (z : ℤ) → int ((place_after code s earlier).threads one.thread) q ≡ z → went (reverse L) (int ((place_after code s earlier).threads one.thread) q) ≡ true
+        by (pos n) z = ap (went (reverse L)) z ∙ by_word n (nat_lt n THREADS) z refl
+        by (negsuc n) z = absurd (none_found (ap (λ j. asked_by (act code s j m)) is ∙ ap (λ z. asked_by (join m z site)) z))
+
+    join_legal : (q site : ℕ) → i ≡ instrs.Join q site → (b : Bool) → (found == 0 || (found == 1 || found == 2)) ≡ b
+        → Legal (if b then None else event_at code ((place_after code s earlier).threads one.thread) site (pos 0) (acts.Join (int ((place_after code s earlier).threads one.thread) q)))
+    join_legal q site is true e = tt
+    join_legal q site is false e = λ w. ⊎_elim (λ (z : went (reverse L) (int m q) ≡ true). z) (λ z. absurd (yes (sym z))) (at_join q site is false e)
+
+    -- ---- waiters
+    about_waiters : (b : Bool) (y z : Option SourceEvent) → Legal y → Legal z → Legal (if b then y else z)
+    about_waiters true y z a b = a
+    about_waiters false y z a b = b
+
+    nobody_legal : (k : Cell) (site found' : ℕ) → Legal (nobody code ((place_after code s earlier).threads one.thread) k site found')
+    nobody_legal k site zero = λ w. absurd (yes w)
+    nobody_legal k site (suc n) = tt
+
+    signal_legal : (k : Cell) (site : ℕ) (stage : Stage) → Legal (in_signal code ((place_after code s earlier).threads one.thread) k site found stage)
+    signal_legal k site (Wakes seen) = about_waiters (found == seen) _ _ (λ w. absurd (yes w)) (nobody_legal k site found)
+    signal_legal k site _ = nobody_legal k site found
+
+    -- ---- what needs nothing
+    local_legal : (site number' elements' : ℕ) → Legal (take_local code ((place_after code s earlier).threads one.thread) site number' elements')
+    local_legal site zero elements' = tt
+    local_legal site (suc n) elements' = λ w. tt
+
+    free_legal : (q site : ℕ) (stage : Stage) → Legal (in_free code ((place_after code s earlier).threads one.thread) q site elements stage)
+    free_legal q site (Uncounts all) = λ w. tt
+    free_legal q site _ = tt
+
+    start_legal : (stage : Stage) → Legal (in_start code ((place_after code s earlier).threads one.thread) found elements stage)
+    start_legal (Enters f) = λ w. tt
+    start_legal _ = tt
+
+    exit_legal : (stage : Stage) → Legal (in_exit code ((place_after code s earlier).threads one.thread) stage)
+    exit_legal (Withdraws row) = tt
+    exit_legal (WithdrawsFrom row seen) = tt
+    exit_legal Leaves = λ w. tt
+    exit_legal _ = λ w. tt
+
+    lock_legal : (k : Cell) (site : ℕ) → i ≡ instrs.Lock k site → (b : Bool) → (found == 0) ≡ b → Legal (if b then event_at code ((place_after code s earlier).threads one.thread) site (pos 0) (acts.Lock (cell_at code ((place_after code s earlier).threads one.thread) k)) else None)
+    lock_legal k site is true z = λ w. locked_is L (cell_at code m k) ∙ unlocked k site is (eqb-true found 0 z)
+    lock_legal k site is false z = tt
+
+    unlock_legal : (q site : ℕ) (k : Cell) → i ≡ instrs.Unlock q k site → was_locked_by (reverse L) (cell_at code ((place_after code s earlier).threads one.thread) k) ((place_after code s earlier).threads one.thread).own.number ≡ true
+    unlock_legal q site k is = locked_by_is L (cell_at code m k) m.own.number ∙ ap (locked_by_in L (cell_at code m k)) number ∙ (told.mutexes.last t (cell_at code m k) (holds_own q site k is)).1
+
+    pub legal_now : Legal event
+    legal_now = by i refl
+      where
+        at : (j : Instr) → i ≡ j → Legal (said code j ((place_after code s earlier).threads one.thread) found elements) → Legal event
+        at j is k = subst Legal (sym (ap (λ j. said code j m found elements) is)) k
+
+        by : (j : Instr) → i ≡ j → Legal event
+        by (instrs.Load q k site) is = at (instrs.Load q k site) is (λ w. at_load q site k is)
+        by (instrs.Store q k site) is = at (instrs.Store q k site) is (λ w. tt)
+        by (instrs.LoadRef k site) is = at (instrs.LoadRef k site) is (λ w. at_load_ref site k is)
+        by (instrs.Exchange q k site) is = at (instrs.Exchange q k site) is (λ w. tt)
+        by (instrs.TakeCell q k site) is = at (instrs.TakeCell q k site) is (λ w. at_take q site k is)
+        by (instrs.TakeLocal q from site) is = at (instrs.TakeLocal q from site) is (local_legal site (ref m from) elements)
+        by (instrs.Give q site) is = at (instrs.Give q site) is (λ w. tt)
+        by (instrs.New q count cells' site) is = at (instrs.New q count cells' site) is (at_new q count cells' site is m.own.stage refl)
+        by (instrs.Free q layout site) is = at (instrs.Free q layout site) is (free_legal q site m.own.stage)
+        by (instrs.Lock k site) is = at (instrs.Lock k site) is (lock_legal k site is (found == 0) refl)
+        by (instrs.Unlock q k site) is = at (instrs.Unlock q k site) is (λ w. unlock_legal q site k is)
+        by (instrs.Spawn q f from site) is = at (instrs.Spawn q f from site) is (at_spawn q f site from is m.own.stage refl)
+        by (instrs.Join q site) is = at (instrs.Join q site) is (join_legal q site is (found == 0 || (found == 1 || found == 2)) refl)
+        by (instrs.Print q site) is = at (instrs.Print q site) is (λ w. tt)
+        by (instrs.Start site) is = at (instrs.Start site) is (start_legal m.own.stage)
+        by instrs.Exit is = at instrs.Exit is (exit_legal m.own.stage)
+        by (instrs.CondEnter k site) is = at (instrs.CondEnter k site) is (λ w. tt)
+        by (instrs.CondWait k site) is = at (instrs.CondWait k site) is (about_waiters (waits_in found m.own.number) _ _ tt (λ w. absurd (yes w)))
+        by (instrs.CondSignal k site) is = at (instrs.CondSignal k site) is (signal_legal k site m.own.stage)
+        by (instrs.CondBroadcast k site) is = at (instrs.CondBroadcast k site) is (λ w. tt)
+        by _ is = subst Legal (sym (ap (λ j. said code j m found elements) is)) tt

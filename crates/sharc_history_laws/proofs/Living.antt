@@ -1,0 +1,126 @@
+-- An object that is live by the events of a run is live.
+use Rattle.std.proofs.Common.{◌≡◌, ℕ, ◌≢◌, ◌⊎◌, inl, inr, Bool, true, false, ◌||◌, cond, List, [], ◌∷◌, Option, Some, None, refl, sym, ap, ◌∙◌, subst, ⊎_elim}
+use Rattle.std.specs.Prelude.{find}
+use Rattle.std.proofs.lemmas.Bool.{cases_eq}
+use Rattle.sharc_tree.specs.declared.event.SourceEvent.{SourceEvent}
+use Rattle.sharc_tree.specs.declared.event.Object.TheVariants as objects
+use Rattle.sharc_granule.specs.declared.stage.Stage.{Stage as NewStage}
+use Rattle.sharc_granule.specs.declared.stage.Stage.TheVariants as news
+use Rattle.sharc_code.specs.declared.code.Code.{Code}
+use Rattle.sharc_code.specs.declared.instr.Instr.{Instr}
+use Rattle.sharc_code.specs.declared.instr.Instr.TheVariants as instrs
+use Rattle.sharc_code.specs.declared.shape.Shape.{Shape}
+use Rattle.sharc_code.specs.declared.state.Stage.{Stage}
+use Rattle.sharc_code.specs.declared.state.Stage.TheVariants.{Makes}
+use Rattle.sharc_code.specs.Laws.{RunLaws}
+use Rattle.sharc_code.specs.Layout.{Fits}
+use Rattle.sharc_code.specs.Machine.{Machine, instr_at, ref}
+use Rattle.sharc_code.specs.Runs.{Turn, Global, MayTurn, after_turn, result_of}
+use Rattle.sharc_code.specs.Says.{said, speaks_of}
+use Rattle.sharc_code.specs.Whole.{one_thread, bounds, place_after}
+use Rattle.sharc_gen.specs.OfRuns.{table_of}
+use Rattle.sharc_meaning.specs.Events.{makes, gives, frees, is_number, made_by, freed_by}
+use Rattle.sharc_meaning.specs.Store.{meets}
+use Rattle.sharc_invariant.specs.Types.{Targets}
+use Rattle.sharc_invariant.specs.Labels.{Labels}
+use Rattle.sharc_invariant.specs.Typed.{IsWellTyped}
+use Rattle.sharc_invariant.specs.World.{ObjectState}
+use Rattle.sharc_invariant.specs.Objects.{objects_behind, made_behind, new_behind, objects_now, owned, type_held}
+use Rattle.sharc_invariant.specs.State.{IsSmall}
+use Rattle.sharc_invariant.specs.Laws.{Keeps, CellsAreThere, PointersAreThere, AccessesAreAllowed}
+use Rattle.sharc_history_laws.proofs.Acts.{given_at, freed_at, About}
+use Rattle.sharc_history_laws.proofs.Consists.{Consists, given}
+use Rattle.sharc_history_laws.proofs.Lists.{Newest, live_in, live_other}
+use Rattle.sharc_history_laws.proofs.Rules.{pushed, about_now, same_behind, put_same, decide, number_yes, number_not}
+use Rattle.sharc_history_laws.proofs.Tables.{header_at, header_in, header_of}
+
+yes : true ≡ false → ⊥
+yes e = cc
+
+-- an event that frees the object, and does not make it
+live_freed : (e : SourceEvent) (L : Newest) (n : ℕ) → makes (objects.Made n) e ≡ false → frees (objects.Made n) e ≡ true → live_in (e ∷ L) n ≡ false
+live_freed e L n a b =
+    ap (λ b. meets (makes (objects.Made n)) (cond (b || frees (objects.Made n) e) (Some e) (find (λ e. makes (objects.Made n) e || frees (objects.Made n) e) L))) a
+    ∙ ap (λ b. meets (makes (objects.Made n)) (cond b (Some e) (find (λ e. makes (objects.Made n) e || frees (objects.Made n) e) L))) b
+    ∙ a
+
+-- ---- objects after a turn
+module _ (ls : Labels) (t : ℕ) (m m' : Machine) (f : ℕ → ObjectState) (n : ℕ) where
+  new_live : (r : ℕ) (y : NewStage) → header_at y ≡ Some n → (new_behind ls t r m' y f n).live ≡ true
+  new_live r (news.Length header) e = let same : n ≡ header = cc in ap (λ k. (Rattle.sharc_code.specs.Runs.put f header (owned t (type_held ls m' r)) k).live) same ∙ ap (λ (o : ObjectState). o.live) (put_same f header (owned t (type_held ls m' r)))
+  new_live r _ e = absurd (cc)
+
+  makes_live : (r : ℕ) (y : Stage) → header_in y ≡ Some n → (made_behind ls t r m' y f n).live ≡ true
+  makes_live r (Makes v) e = new_live r v.stage e
+  makes_live r _ e = absurd (cc)
+
+  pub made_live : (i : Instr) → header_of i m.own.stage ≡ Some n → (objects_behind ls t i m m' f n).live ≡ true
+  made_live (instrs.New r count cells site) e = makes_live r m.own.stage e
+  made_live _ e = absurd (cc)
+
+  given_live : (i : Instr) → given_at i m ≡ Some n → (objects_behind ls t i m m' f n).live ≡ true
+  given_live (instrs.Give r site) e = let same : n ≡ ref m r = cc in ap (λ k. (Rattle.sharc_code.specs.Runs.put f (ref m r) (owned t (type_held ls m' r)) k).live) same ∙ ap (λ (o : ObjectState). o.live) (put_same f (ref m r) (owned t (type_held ls m' r)))
+  given_live _ e = absurd (cc)
+
+  -- one that was there, and is not freed
+  pub still_live : (i : Instr) → (f n).live ≡ true → (freed_at i m ≡ Some n → ⊥) → (objects_behind ls t i m m' f n).live ≡ true
+  still_live i live kept = ⊎_elim
+      (λ (made : header_of i m.own.stage ≡ Some n). made_live i made)
+      (λ (never : header_of i m.own.stage ≡ Some n → ⊥). ⊎_elim
+      (λ (gave : given_at i m ≡ Some n). given_live i gave)
+      (λ (not : given_at i m ≡ Some n → ⊥). ap (λ (o : ObjectState). o.live) (same_behind ls t m m' f n i never not kept) ∙ live)
+      (decide (given_at i m) n))
+      (decide (header_of i m.own.stage) n)
+
+-- ---- one turn
+abbrev pub LivesTold : Newest → (ℕ → ObjectState) → Type 0
+LivesTold L obj = (n : ℕ) → live_in L n ≡ true → (obj n).live ≡ true
+
+module _ (cell_laws : CellsAreThere) (pointers : PointersAreThere) (rights : AccessesAreAllowed) (laws : RunLaws) (keeps : Keeps) (x : Targets) (code : Code) (s : Shape) (ls : Labels) (wt : IsWellTyped x code ls) (fits : Fits code s) (few : IsSmall code s)
+    (one : Turn) (earlier : List Turn) (h : Consists x code s ls earlier) (may : MayTurn bounds (one_thread code s) (place_after code s earlier) one) where
+  abbrev g : Global Machine
+  g = place_after code s earlier
+
+  abbrev t : ℕ
+  t = one.thread
+
+  abbrev m : Machine
+  m = (place_after code s earlier).threads one.thread
+
+  abbrev i : Instr
+  i = instr_at code ((place_after code s earlier).threads one.thread).at.pc
+
+  abbrev Tells : Option SourceEvent → Type 0
+  Tells = About ((place_after code s earlier).threads one.thread).own.number (header_of i ((place_after code s earlier).threads one.thread).own.stage) (given_at i ((place_after code s earlier).threads one.thread)) (freed_at i ((place_after code s earlier).threads one.thread))
+
+  module _ (obj : ℕ → ObjectState) (obj_is : obj ≡ objects_now code s ls (place_after code s earlier) one h.world.obj) (L : Newest) (old : LivesTold L h.world.obj) (n : ℕ) where
+    abbrev m' : Machine
+    m' = (after_turn bounds (one_thread code s) (place_after code s earlier) one).threads one.thread
+
+    abbrev behind : ℕ → ObjectState
+    behind = objects_behind ls one.thread i ((place_after code s earlier).threads one.thread) m' h.world.obj
+
+    at_n : (behind n).live ≡ true → (obj n).live ≡ true
+    at_n e = ap (λ (f : ℕ → ObjectState). (f n).live) obj_is ∙ e
+
+    kept : live_in L n ≡ true → (freed_at i ((place_after code s earlier).threads one.thread) ≡ Some n → ⊥) → (obj n).live ≡ true
+    kept live not = at_n (still_live ls t m m' h.world.obj n i (old n live) not)
+
+    by_event : (e : SourceEvent) → Tells (Some e) → live_in (e ∷ L) n ≡ true → (a b : Bool) → makes (objects.Made n) e ≡ a → frees (objects.Made n) e ≡ b → (obj n).live ≡ true
+    by_event e tells live true b p q = at_n (made_live ls t m m' h.world.obj n i (made_is (made_by e e.act) refl))
+      where
+        made_is : (o : Option ℕ) → made_by e e.act ≡ o → header_of i ((place_after code s earlier).threads one.thread).own.stage ≡ Some n
+        made_is None z = absurd (yes (sym p ∙ ap (is_number n) z))
+        made_is (Some k) z = sym tells.makes ∙ z ∙ ⊎_elim
+            (λ (w : Some k ≡ Some n). w)
+            (λ (ne : Some k ≡ Some n → ⊥). absurd (yes (sym p ∙ ap (is_number n) z ∙ number_not n (Some k) ne)))
+            (decide (Some k) n)
+    by_event e tells live false true p q = absurd (yes (sym live ∙ live_freed e L n p q))
+    by_event e tells live false false p q = kept (sym (live_other e L n p q) ∙ live) (λ is. yes (sym (ap (is_number n) (tells.frees ∙ is) ∙ number_yes n) ∙ q))
+
+    lives : (ev : Option SourceEvent) → Tells ev → live_in (pushed ev L) n ≡ true → (obj n).live ≡ true
+    lives None tells live = kept live (λ is. let f : None ≡ Some n = tells.frees ∙ is in cc)
+    lives (Some e) tells live = by_event e tells live (makes (objects.Made n) e) (frees (objects.Made n) e) refl refl
+
+  pub lives_told : (obj : ℕ → ObjectState) → obj ≡ objects_now code s ls (place_after code s earlier) one h.world.obj → (L : Newest) → LivesTold L h.world.obj → (ev : Option SourceEvent) → Tells ev → LivesTold (pushed ev L) obj
+  lives_told obj is L old ev tells n live = lives obj is L old n ev tells live

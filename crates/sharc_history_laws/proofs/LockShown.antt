@@ -1,0 +1,369 @@
+-- A lock check that is refused is of an access whose mode names the mutex that the check looks for.
+use Rattle.std.proofs.Common.{◌≡◌, ℕ, zero, suc, ◌+◌, ◌<◌, ◌⊎◌, inl, inr, Bool, true, false, List, [], ◌∷◌, ◌++◌, Option, Some, None, is_some, if◌then◌else◌, refl, sym, ap, ◌∙◌, subst, ⊎_elim, arith}
+use Rattle.std.specs.Prelude.{◌==◌}
+use Rattle.std.proofs.lemmas.Bool.{cases_eq}
+use Rattle.std.proofs.lemmas.Bool.Decides.{nat_tests}
+use Rattle.sharc_tree.specs.declared.event.CellAt.{CellAt}
+use Rattle.sharc_tree.specs.declared.event.CellMode.TheVariants as modes
+use Rattle.sharc_tree.specs.declared.event.SourceEvent.{SourceEvent}
+use Rattle.sharc_shadow.specs.declared.shadow_word.Kind.{Kind}
+use Rattle.sharc_shadow.specs.declared.shadow_word.Kind.TheVariants.{Read, Write}
+use Rattle.sharc_shadow.specs.Accesses.{note_of, site_at}
+use Rattle.sharc_shadow.specs.ShadowWord.{epoch_of}
+use Rattle.sharc_shadow.specs.Functions.{conflicts_in, noted}
+use Rattle.sharc_code.specs.declared.code.Code.{Code}
+use Rattle.sharc_code.specs.declared.code.PlaceMode.{PlaceMode}
+use Rattle.sharc_code.specs.declared.code.PlaceMode.TheVariants as places
+use Rattle.sharc_code.specs.declared.instr.Cell.{Cell}
+use Rattle.sharc_code.specs.declared.instr.Cell.TheVariants as cells
+use Rattle.sharc_code.specs.declared.instr.Instr.{Instr}
+use Rattle.sharc_code.specs.declared.instr.Instr.TheVariants as instrs
+use Rattle.sharc_code.specs.declared.shape.Shape.{Shape}
+use Rattle.sharc_code.specs.declared.state.Stop.{Stop}
+use Rattle.sharc_code.specs.declared.state.Stop.TheVariants.{Conflict, NoLock, NotSole, Trap}
+use Rattle.sharc_code.specs.Laws.{RunLaws}
+use Rattle.sharc_code.specs.Layout.{Fits, cell_of, cell_word, granule_at, granule_of}
+use Rattle.sharc_code.specs.Machine.{Machine, Own, instr_at, act, place, word, is_held, is_of_null, goes, stopped, checked, lock_checked, tested, with_own, wrote, with_note}
+use Rattle.sharc_code.specs.Opening.{opening_words}
+use Rattle.sharc_code.specs.Path.{turn, after, may_go}
+use Rattle.sharc_code.specs.Runs.{Turn, Global, IsRun, MayTurn, after_turn, put, state_now, result_of, opening_of}
+use Rattle.sharc_code.specs.Says.{cell_at, made_cell, mode_of, place_at, lock_through}
+use Rattle.sharc_code.specs.Whole.{one_thread, bounds, place_after}
+use Rattle.sharc_gen.specs.Consistent.{IsThere}
+use Rattle.sharc_meaning.specs.Events.{Access, access_by, events_of, holds_mutex}
+use Rattle.sharc_meaning.specs.Obeys.{History, Obeys, Until}
+use Rattle.sharc_invariant.specs.Types.{Targets, Field, FieldMode, Content}
+use Rattle.sharc_invariant.specs.Labels.{Gate, Closed, Checked, Holds, Loaded, HoldsLoaded, Sole, Label, Labels, Less, LessGate, LessNumber, SameReference, gated}
+use Rattle.sharc_invariant.specs.Typed.{IsWellTyped, Fine, Accesses as TypedAccess, MayAccess, IsMode, knows_base}
+use Rattle.sharc_invariant.specs.State.{State, IsSmall, OnHold}
+use Rattle.sharc_invariant.specs.MachineInvariant.{IsOn}
+use Rattle.sharc_invariant.specs.Laws.{CellsAreThere}
+use Rattle.sharc_history_laws.specs.Reports.{IsLockCheck, LacksLock}
+use Rattle.sharc_history_laws.specs.Followed.{Accesses, IsLocked, IsFollowed, ChecksAreFollowed, access_to, access_of, access_checked, ShowsLock}
+use Rattle.sharc_history_laws.proofs.Consists.{Consists}
+use Rattle.sharc_history_laws.proofs.Finds.{is_there}
+use Rattle.sharc_history_laws.proofs.Followed.{accessed_is}
+use Rattle.sharc_history_laws.proofs.LockModes.{same_copies, lock_mode_now}
+use Rattle.sharc_history_laws.proofs.Quits.{Quits, Still, Traps, is_trap, is_reporting, quits}
+use Rattle.sharc_history_laws.proofs.Rules.{put_same, put_other}
+use Rattle.sharc_history_laws.proofs.Single.{single, rests_hold}
+use Rattle.sharc_history_laws.proofs.Sole.{Halting, stop_none}
+
+yes : true ≡ false → ⊥
+yes e = cc
+
+-- ---- the turn that stopped there
+pub data LockStop (s : Shape) (m : Machine) (i : Instr) (site mutex : ℕ) (y : Machine) : Type 0 where
+  OfCell : (c : Cell) → i ≡ instrs.ChkLock c site → is_of_null m c ≡ false → y ≡ stopped m (NoLock site mutex) → LockStop s m i site mutex y
+  OfLoaded : i ≡ instrs.ChkLockLoaded site → (m.pending == 0) ≡ false → y ≡ stopped m (NoLock site mutex) → LockStop s m i site mutex y
+
+module _ (code : Code) (s : Shape) (m : Machine) (fresh : m.own.stop ≡ None) (found site mutex : ℕ) where
+  abbrev IsThat : Machine → Type 0
+  IsThat y = y.own.stop ≡ Some (NoLock site mutex)
+
+  not_none : (y : Machine) → y.own.stop ≡ None → IsThat y → ⊥
+  not_none y e is = let f : None ≡ Some (NoLock site mutex) = sym e ∙ is in cc
+
+  record Refused (null : Bool) (at : ℕ) (y : Machine) : Type 0 where
+    pub some : null ≡ false
+    pub at_site : at ≡ site
+    pub is : y ≡ stopped m (NoLock site mutex)
+
+  lock_check : (b : Bool) (own at : ℕ) → IsThat (lock_checked m b own at) → Refused b at (lock_checked m b own at)
+  lock_check true own at is = absurd (let f : Some (Trap 1 at) ≡ Some (NoLock site mutex) = is in cc)
+  lock_check false own at is = elim (is_held m own) as (λ b. IsThat (if b then goes m else stopped m (NoLock at own)) → Refused false at (if b then goes m else stopped m (NoLock at own))) [
+    | true ↦ λ z. absurd (not_none (goes m) fresh z)
+    | false ↦ λ z.
+        let f : Some (NoLock at own) ≡ Some (NoLock site mutex) = z in
+        let a : at ≡ site = cc in
+        let b : NoLock at own ≡ NoLock site mutex = cc in
+        record { some = refl; at_site = a; is = ap (stopped m) b }
+  ] is
+
+  sole_test : (at : ℕ) → IsThat (tested m at found) → ⊥
+  sole_test at is = elim (found == 1) as (λ b. IsThat (if b then goes m else stopped m (NotSole at found)) → ⊥) [
+    | true ↦ λ z. not_none (goes m) fresh z
+    | false ↦ λ z. let f : Some (NotSole at found) ≡ Some (NoLock site mutex) = z in cc
+  ] is
+
+  access_check : (kind : Kind) (granule at : ℕ) → IsThat (checked m kind granule at found) → ⊥
+  access_check kind granule at is = elim (conflicts_in found m.own.number kind (wrote m granule found)) as (λ b. IsThat (if b then stopped m (Conflict record { kind = kind; site = at; granule = granule; epoch = epoch_of found; old = found }) else with_own m (with_note m.own granule kind (epoch_of found) at)) → ⊥) [
+    | true ↦ λ z. let f : Some (Conflict record { kind = kind; site = at; granule = granule; epoch = epoch_of found; old = found }) ≡ Some (NoLock site mutex) = z in cc
+    | false ↦ λ z. not_none (with_own m (with_note m.own granule kind (epoch_of found) at)) (note_stop m.own granule kind (epoch_of found) at ∙ fresh) z
+  ] is
+    where
+      note_stop : (own : Own) (granule : ℕ) (kind : Kind) (epoch site : ℕ) → (with_note own granule kind epoch site).stop ≡ own.stop
+      note_stop own granule kind epoch site =
+          elim (is_some (site_at (note_of own.table granule kind) epoch)) as (λ b. (if b then own else record own { table = noted own.table granule kind record { epoch = epoch; site = site } }).stop ≡ own.stop) [ true ↦ refl | false ↦ refl ]
+
+  quiet : (i : Instr) → is_reporting i ≡ false → IsThat (after (act code s i m) found) → ⊥
+  quiet i other is = by (quits code s m i found other)
+    where
+      by : Quits m (after (act code s i m) found) → ⊥
+      by (Still e) = not_none (after (act code s i m) found) (e ∙ fresh) is
+      by (Traps e go) = yes (sym e ∙ ap is_trap is)
+
+  pub lock_stop : (i : Instr) → IsThat (after (act code s i m) found) → LockStop s m i site mutex (after (act code s i m) found)
+  lock_stop (instrs.ChkLock c at) is = let k = lock_check (is_of_null m c) (word s m c) at is in OfCell c (ap (instrs.ChkLock c) k.at_site) k.some k.is
+  lock_stop (instrs.ChkLockLoaded at) is = let k = lock_check (m.pending == 0) (cell_word s (cell_of m.pending 0)) at is in OfLoaded (ap instrs.ChkLockLoaded k.at_site) k.some k.is
+  lock_stop (instrs.ChkRead c at) is = absurd (access_check Read (granule_at s (granule_of (place m c))) at is)
+  lock_stop (instrs.ChkWrite c at) is = absurd (access_check Write (granule_at s (granule_of (place m c))) at is)
+  lock_stop (instrs.TestSole r at) is = absurd (sole_test at is)
+  lock_stop i is = absurd (quiet i refl is)
+
+-- ---- the access that the check is of
+-- of the instruction, which accesses this cell at this site
+record IsTypedAccess (x : Targets) (code : Code) (ls : Labels) (l : Label) (c : Cell) (site : ℕ) : Type 0 where
+  pub write : Bool
+  pub field : Field
+  pub accesses : TypedAccess x code ls l write c site field
+
+typed_access : (x : Targets) (code : Code) (ls : Labels) (pc : ℕ) (l : Label) (write : Bool) (c : Cell) (site : ℕ) (i : Instr) → Accesses write c site i → Fine x code ls pc l i → IsTypedAccess x code ls l c site
+typed_access x code ls pc l write c site i h fine = by write i h fine
+  where
+    moved : (d : Cell) (at : ℕ) (write : Bool) (f : Field) → c ≡ d → site ≡ at → TypedAccess x code ls l write d at f → IsTypedAccess x code ls l c site
+    moved d at write f e g k = record { write = write; field = f; accesses = subst (λ at. TypedAccess x code ls l write c at f) (sym g) (subst (λ d. TypedAccess x code ls l write d at f) (sym e) k) }
+
+    reads : (i : Instr) → Accesses false c site i → Fine x code ls pc l i → IsTypedAccess x code ls l c site
+    reads (instrs.Load r d at) h f = moved d at false f.1.0 h.0 h.1 f.1.2
+    reads (instrs.LoadRef d at) h f = moved d at false f.0 h.0 h.1 f.2
+    reads _ h f = absurd h
+
+    writes : (i : Instr) → Accesses true c site i → Fine x code ls pc l i → IsTypedAccess x code ls l c site
+    writes (instrs.Store r d at) h f = moved d at true f.0 h.0 h.1 f.2
+    writes (instrs.Exchange r d at) h f = moved d at true f.1.0 h.0 h.1 f.1.2
+    writes (instrs.TakeCell r d at) h f = moved d at true f.1.0 h.0 h.1 f.1.2
+    writes _ h f = absurd h
+
+    by : (write : Bool) (i : Instr) → Accesses write c site i → Fine x code ls pc l i → IsTypedAccess x code ls l c site
+    by true i h f = writes i h f
+    by false i h f = reads i h f
+
+holds_is : (c d : Cell) (y : Gate) → LessGate (Holds c) y → y ≡ Holds d → c ≡ d
+holds_is c d Closed h e = let f : Closed ≡ Holds d = e in cc
+holds_is c d (Checked w b) h e = let f : Checked w b ≡ Holds d = e in cc
+holds_is c d (Holds b) h e = let f : Holds b ≡ Holds c = h in let k : Holds b ≡ Holds d = e in cc
+holds_is c d (Loaded b) h e = let f : Loaded b ≡ Holds d = e in cc
+holds_is c d (HoldsLoaded b) h e = let f : HoldsLoaded b ≡ Holds d = e in cc
+holds_is c d (Sole r b) h e = let f : Sole r b ≡ Holds d = e in cc
+
+base_copies : (l : Label) (c : Cell) (g : Gate) (r : ℕ) → (gated (knows_base l c) g).same r ≡ l.same r
+base_copies l (cells.Global h p) g r = refl
+base_copies l (cells.GlobalAt h i) g r = refl
+base_copies l (cells.Object q i) g r = refl
+base_copies l (cells.ObjectAt q i) g r = refl
+
+base_numbers : (l : Label) (c : Cell) (g : Gate) (i : ℕ) → (gated (knows_base l c) g).ints i ≡ l.ints i
+base_numbers l (cells.Global h p) g i = refl
+base_numbers l (cells.GlobalAt h q) g i = refl
+base_numbers l (cells.Object q p) g i = refl
+base_numbers l (cells.ObjectAt q p) g i = refl
+
+base_gate : (l : Label) (c : Cell) (g : Gate) → (gated (knows_base l c) g).gate ≡ g
+base_gate l (cells.Global h p) g = refl
+base_gate l (cells.GlobalAt h q) g = refl
+base_gate l (cells.Object q p) g = refl
+base_gate l (cells.ObjectAt q p) g = refl
+
+-- a lock that a ChkLock looks for is that of a field that is under a lock
+module _ (x : Targets) (code : Code) (ls : Labels) (l : Label) (c : Cell) (write : Bool) (holds : Content) where
+  record IsUnder (mode : PlaceMode) : Type 0 where
+    pub lock : Rattle.sharc_invariant.specs.Types.FieldLock
+    pub is : IsMode code l c (FieldMode.Under lock) mode
+    pub may : MayAccess x code ls l write c holds (FieldMode.Under lock)
+
+  under : (f : FieldMode) (mode : PlaceMode) → IsLocked mode → IsMode code l c f mode → MayAccess x code ls l write c holds f → IsUnder mode
+  under FieldMode.Private mode locked is may = absurd (subst IsLocked is locked)
+  under FieldMode.Readonly mode locked is may = absurd (subst IsLocked is locked)
+  under FieldMode.Racy mode locked is may = absurd (subst IsLocked is locked)
+  under FieldMode.Dynamic mode locked is may = absurd (subst IsLocked is locked)
+  under (FieldMode.Under lock) mode locked is may = record { lock = lock; is = is; may = may }
+  under (FieldMode.Behind field pointer) mode locked is may = absurd (subst IsLocked is locked)
+
+module _ (cell_laws : CellsAreThere) (x : Targets) (code : Code) (s : Shape) (ls : Labels) (wt : IsWellTyped x code ls) (fits : Fits code s) (followed : ChecksAreFollowed code) (g : Global Machine) (world : Rattle.sharc_invariant.specs.World.World) (st : State x code s ls g world) (t : ℕ) (on : IsOn g t) where
+  abbrev m : Machine
+  m = g.threads t
+
+  abbrev here : Label
+  here = ls.at (g.threads t).at.pc
+
+  abbrev next : Label
+  next = ls.at ((g.threads t).at.pc + 1)
+
+  fine_here : (i : Instr) → instr_at code (g.threads t).at.pc ≡ i → Fine x code ls (g.threads t).at.pc here i
+  fine_here i is = subst (Fine x code ls m.at.pc here) is (wt.fine m.at.pc)
+
+  -- the access that was refused, by the machine before its check
+  pub record NamesLock (mutex : CellAt) : Type 0 where
+    pub access : Access
+    pub is : access_of code (g.threads t) (instr_at code ((g.threads t).at.pc + 1)) ≡ Some access
+    pub mode : access.mode ≡ modes.Locked (Some mutex)
+
+  pub of_cell : (d : Cell) (site : ℕ) → instr_at code (g.threads t).at.pc ≡ instrs.ChkLock d site → is_of_null (g.threads t) d ≡ false → NamesLock (cell_at code (g.threads t) d)
+  of_cell d site is some =
+      let i = instrs.ChkLock d site in
+      let pc = m.at.pc in
+      let f : IsFollowed code i (instr_at code (pc + 1)) = subst (λ j. IsFollowed code j (instr_at code (pc + 1))) is (followed pc) in
+      let locked = f.0 in
+      let write = f.1.0 in
+      let c = f.1.1 in
+      let fine = fine_here i is in
+      let leads = fine.2 in
+      let a = typed_access x code ls (pc + 1) next write c site (instr_at code (pc + 1)) f.1.2 (wt.fine (pc + 1)) in
+      let u = under x code ls next c a.write a.field.holds a.field.mode (place_at code site).mode locked a.accesses.mode a.accesses.may in
+      let same : d ≡ u.may.0 = holds_is d u.may.0 next.gate (subst (λ g. LessGate g next.gate) (base_gate here d (Holds d)) leads.gate) u.may.2 in
+      let hold : OnHold m.own.stage = rests_hold code s st.elements world st.heap g.words t m i m.own.stage refl (subst (λ i. Rattle.sharc_invariant.specs.State.StageStands code s st.elements world st.heap g.words t m i m.own.stage) is ((st.threads t).runs on.0 on.1).stage) in
+      let copies : (r : ℕ) → SameReference here r (next.same r) = λ r. same_copies (gated (knows_base here d) (Holds d)) here (base_copies here d (Holds d)) r (next.same r) (leads.same r) in
+      let values : (j : ℕ) → LessNumber (here.ints j) (next.ints j) = λ j. subst (λ n. LessNumber n (next.ints j)) (base_numbers here d (Holds d) j) (leads.ints j) in
+      let there : IsThere code m d = is_there cell_laws x code s ls wt fits g world st t on hold d fine.1.0 fine.1.1 some in
+      let mutex_of = subst (λ d. Rattle.sharc_invariant.specs.Typed.IsMutexOf code next u.lock c d) (sym same) u.may.5 in
+      record {
+        access = access_to code m c site write;
+        is = accessed_is code m c site write (instr_at code (pc + 1)) f.1.2;
+        mode = lock_mode_now x code s ls wt fits g world st t on hold next copies values c d u.lock (place_at code site).mode mutex_of u.is there;
+      }
+
+  pub of_loaded : (site : ℕ) → instr_at code (g.threads t).at.pc ≡ instrs.ChkLockLoaded site → ((g.threads t).pending == 0) ≡ false → NamesLock (made_cell (g.threads t).pending 0)
+  of_loaded site is some =
+      let pc = m.at.pc in
+      let f : IsFollowed code (instrs.ChkLockLoaded site) (instr_at code (pc + 1)) = subst (λ j. IsFollowed code j (instr_at code (pc + 1))) is (followed pc) in
+      let write = f.1.0 in
+      let c = f.1.1 in
+      record {
+        access = access_to code m c site write;
+        is = accessed_is code m c site write (instr_at code (pc + 1)) f.1.2;
+        mode = ap (mode_of code m (cell_at code m c)) f.0 ∙ ap (λ mutex. modes.Locked mutex) (through m.pending some);
+      }
+    where
+      through : (n : ℕ) → (n == 0) ≡ false → lock_through n 0 ≡ Some (made_cell n 0)
+      through zero e = absurd (yes e)
+      through (suc n) e = refl
+
+-- ---- the machine that stopped has the same registers
+module _ (code : Code) (m : Machine) (stop : Stop) where
+  same_cell : (c : Cell) → cell_at code (stopped m stop) c ≡ cell_at code m c
+  same_cell (cells.Global g p) = refl
+  same_cell (cells.GlobalAt g r) = refl
+  same_cell (cells.Object r p) = refl
+  same_cell (cells.ObjectAt r i) = refl
+
+  same_mode : (at : CellAt) (mode : PlaceMode) → mode_of code (stopped m stop) at mode ≡ mode_of code m at mode
+  same_mode at places.Private = refl
+  same_mode at places.Readonly = refl
+  same_mode at places.Racy = refl
+  same_mode at places.Dynamic = refl
+  same_mode at (places.LockedGlobal g p) = refl
+  same_mode at (places.LockedSibling f mutex) = refl
+  same_mode at (places.LockedThrough r p) = refl
+  same_mode at places.LockedLoaded = refl
+
+  same_to : (c : Cell) (site : ℕ) (write : Bool) → access_to code (stopped m stop) c site write ≡ access_to code m c site write
+  same_to c site write =
+      let a = same_cell c in
+      let b : mode_of code (stopped m stop) (cell_at code (stopped m stop) c) (place_at code site).mode ≡ mode_of code m (cell_at code m c) (place_at code site).mode =
+      same_mode (cell_at code (stopped m stop) c) (place_at code site).mode ∙ ap (λ at. mode_of code m at (place_at code site).mode) a in
+      λ i. record { cell = a i; mode = b i; is_write = write }
+
+  pub same_access : (i : Instr) → access_of code (stopped m stop) i ≡ access_of code m i
+  same_access (instrs.Load r c site) = ap (λ a. Some a) (same_to c site false)
+  same_access (instrs.LoadRef c site) = ap (λ a. Some a) (same_to c site false)
+  same_access (instrs.Store r c site) = ap (λ a. Some a) (same_to c site true)
+  same_access (instrs.Exchange r c site) = ap (λ a. Some a) (same_to c site true)
+  same_access (instrs.TakeCell r c site) = ap (λ a. Some a) (same_to c site true)
+  same_access _ = refl
+
+-- ---- runs
+module _ (cell_laws : CellsAreThere) (x : Targets) (code : Code) (s : Shape) (ls : Labels) (wt : IsWellTyped x code ls) (fits : Fits code s) (followed : ChecksAreFollowed code)
+    (all : (run : List Turn) → IsRun bounds (one_thread code s) (opening_of bounds (one_thread code s) (opening_words code s)) run → Halting code s run)
+    (stands : (run : List Turn) → IsRun bounds (one_thread code s) (opening_of bounds (one_thread code s) (opening_words code s)) run → Consists x code s ls run) where
+  abbrev RunOf : List Turn → Type 0
+  RunOf run = IsRun bounds (one_thread code s) (opening_of bounds (one_thread code s) (opening_words code s)) run
+
+  -- the mutex that the check looks for, and the access
+  pub record Names (m : Machine) (site : ℕ) : Type 0 where
+    pub mutex : CellAt
+    pub check : IsLockCheck code m (instr_at code m.at.pc) site mutex
+    pub access : Access
+    pub is : access_checked code m ≡ Some access
+    pub mode : access.mode ≡ modes.Locked (Some mutex)
+
+  module _ (one : Turn) (earlier : List Turn) (run : RunOf (one ∷ earlier)) (site word : ℕ) where
+    abbrev g : Global Machine
+    g = place_after code s earlier
+
+    abbrev checker : Machine
+    checker = (place_after code s earlier).threads one.thread
+
+    abbrev i : Instr
+    i = instr_at code ((place_after code s earlier).threads one.thread).at.pc
+
+    abbrev now : Machine
+    now = after (turn code s ((place_after code s earlier).threads one.thread)) (result_of one.event)
+
+    may : MayTurn bounds (one_thread code s) (place_after code s earlier) one
+    may = run.1
+
+    on : IsOn (place_after code s earlier) one.thread
+    on = (may.started, may.next.runs)
+
+    fresh : ((place_after code s earlier).threads one.thread).own.stop ≡ None
+    fresh = stop_none checker.own.stop (λ z. yes (sym may.next.runs ∙ (all earlier run.0).halts one.thread z))
+
+    abbrev st : State x code s ls (place_after code s earlier) (stands earlier run.0).world
+    st = (stands earlier run.0).state
+
+    names_now : LockStop s ((place_after code s earlier).threads one.thread) i site word now → Names now site
+    names_now (OfCell c is some y) =
+        let k = of_cell cell_laws x code s ls wt fits followed g (stands earlier run.0).world st one.thread on c site is some in
+        let stop = NoLock site word in
+        subst (λ y. Names y site) (sym y) (record {
+          mutex = cell_at code checker c;
+          check = subst (λ j. IsLockCheck code (stopped checker stop) j site (cell_at code checker c)) (sym is) (refl, sym (same_cell code checker stop c));
+          access = k.access;
+          is = same_access code checker stop (instr_at code (checker.at.pc + 1)) ∙ k.is;
+          mode = k.mode;
+        })
+    names_now (OfLoaded is some y) =
+        let k = of_loaded cell_laws x code s ls wt fits followed g (stands earlier run.0).world st one.thread on site is some in
+        let stop = NoLock site word in
+        subst (λ y. Names y site) (sym y) (record {
+          mutex = made_cell checker.pending 0;
+          check = subst (λ j. IsLockCheck code (stopped checker stop) j site (made_cell checker.pending 0)) (sym is) (refl, refl);
+          access = k.access;
+          is = same_access code checker stop (instr_at code (checker.at.pc + 1)) ∙ k.is;
+          mode = k.mode;
+        })
+
+    pub names_then : now.own.stop ≡ Some (NoLock site word) → Names now site
+    names_then is = names_now (lock_stop code s checker fresh (result_of one.event) site word i is)
+
+  pub locks_named : (run : List Turn) → RunOf run → (t site word : ℕ) → ((place_after code s run).threads t).own.stop ≡ Some (NoLock site word) → Names ((place_after code s run).threads t) site
+  locks_named [] run t site word is = absurd (let f : None ≡ Some (NoLock site word) = is in cc)
+  locks_named (one ∷ earlier) run t site word is =
+      let g = place_after code s earlier in
+      let now = state_now (one_thread code s) g one in
+      ⊎_elim
+      (λ (same : t ≡ one.thread).
+      let y : (place_after code s (one ∷ earlier)).threads t ≡ now = ap (put g.threads one.thread now) same ∙ put_same g.threads one.thread now in
+      subst (λ y. Names y site) (sym y) (names_then one earlier run site word (ap (λ (y : Machine). y.own.stop) (sym y) ∙ is)))
+      (λ (ne : t ≡ one.thread → ⊥).
+      let y : (place_after code s (one ∷ earlier)).threads t ≡ g.threads t = put_other g.threads one.thread t now ne in
+      subst (λ y. Names y site) (sym y) (locks_named earlier run.0 t site word (ap (λ (y : Machine). y.own.stop) (sym y) ∙ is)))
+      (cases_eq t one.thread)
+
+-- the check looks for one mutex
+one_mutex : (code : Code) (m : Machine) (i : Instr) (a b : ℕ) (c d : CellAt) → IsLockCheck code m i a c → IsLockCheck code m i b d → c ≡ d
+one_mutex code m (instrs.ChkLock cell at) a b c d h k = h.1 ∙ sym k.1
+one_mutex code m (instrs.ChkLockLoaded at) a b c d h k = h.1 ∙ sym k.1
+one_mutex code m _ a b c d h k = absurd h
+
+pub shows_lock : (code : Code) (R : History) (t : ℕ) (m : Machine) (site : ℕ) → LacksLock code R t m site → (mutex : CellAt) → IsLockCheck code m (instr_at code m.at.pc) site mutex → (a : Access) → access_checked code m ≡ Some a → a.mode ≡ modes.Locked (Some mutex) → ShowsLock code R t m site
+shows_lock code R t m site k mutex check a is mode =
+    let same : k.mutex ≡ mutex = one_mutex code m (instr_at code m.at.pc) site site k.mutex mutex k.check check in
+    record { mutex = mutex; check = check; access = a; is = is; mode = mode; unheld = subst (λ c. holds_mutex (events_of t R) c ≡ false) same k.unheld }
+
+-- ---- the rules
+pub breaks : (code : Code) (R : History) (t : ℕ) (m : Machine) (site : ℕ) → ShowsLock code R t m site → (e : SourceEvent) → e.thread ≡ t → access_by e.act ≡ access_checked code m → (until : Until) → Obeys (R ++ e ∷ []) until → ⊥
+breaks code R t m site k e thread is until obeys =
+    let held : holds_mutex (events_of e.thread R) k.mutex ≡ true = obeys.under_lock R e [] k.access k.mutex refl (is ∙ k.is) k.mode in
+    yes (sym held ∙ ap (λ t. holds_mutex (events_of t R) k.mutex) thread ∙ k.unheld)

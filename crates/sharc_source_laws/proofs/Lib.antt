@@ -1,0 +1,4 @@
+mod Behind
+mod Lines
+mod Percents
+mod Unsigned

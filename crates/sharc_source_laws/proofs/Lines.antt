@@ -1,0 +1,166 @@
+-- A source that holds a line of a schedule has two `%` in a row among its tokens, and so is no program.
+use Rattle.std.proofs.Common.{◌≡◌, ℕ, ◌+◌, ◌==◌, Bool, true, false, List, [], ◌∷◌, ◌++◌, drop, Option, Some, None, Result, Ok, Err, ok_or, is_ok, refl, sym, ap, ◌∙◌, subst, if◌then◌else◌}
+use Rattle.sharc_tree.specs.declared.token.FaultAt.{FaultAt}
+use Rattle.sharc_tree.specs.declared.token.Token.{Token}
+use Rattle.sharc_tree.specs.declared.token.Tokens.{Tokens}
+use Rattle.sharc_tree.specs.declared.token.TokenKind.TheVariants as kind
+use Rattle.sharc_tree.specs.declared.token.Punctuator.TheVariants as sign
+use Rattle.sharc_lex.specs.declared.fault.LineFault.{LineFault}
+use Rattle.sharc_lex.specs.declared.fault.Place.{Place}
+use Rattle.sharc_lex.specs.Grammar.{◌>>=◌, in_front, lines_of, token, tokens_of, behind_tokens, Read, opening, marked, with_tokens, marker_line, text_line, line_read, with_place, lines_read, tokens_read, reading}
+use Rattle.sharc_lex.specs.Markers.{is_marker_line}
+use Rattle.sharc_grammar.specs.Grammar.{mark}
+use Rattle.sharc_grammar.specs.Places.{word_of, words_of}
+use Rattle.sharc_recorded.specs.File.{schedule_word}
+use Rattle.sharc_source_laws.specs.Laws.{ProgramsHoldNoSchedule}
+use Rattle.sharc_source_laws.proofs.Percents.{Apart, program_apart, apart_before, not_twice}
+
+-- ---- tokens
+abbrev Fine : List Token → Type 0
+Fine tokens = Apart (words_of tokens)
+
+words_joined : (xs ys : List Token) → words_of (xs ++ ys) ≡ words_of xs ++ words_of ys
+words_joined [] ys = refl
+words_joined (x ∷ xs) ys = ap (λ l. word_of x ∷ l) (words_joined xs ys)
+
+fine_before : (xs ys : List Token) → Fine (xs ++ ys) → Fine xs
+fine_before xs ys h = apart_before (words_of xs) (words_of ys) (subst Apart (words_joined xs ys) h)
+
+two_in_a_row : (xs ys : List Token) (a b : Token) → word_of a ≡ mark sign.Percent → word_of b ≡ mark sign.Percent → Fine (xs ++ a ∷ b ∷ ys) → ⊥
+two_in_a_row xs ys a b p q h =
+    not_twice (words_of xs) (words_of ys)
+    (subst (λ w. Apart (words_of xs ++ mark sign.Percent ∷ w ∷ words_of ys)) q
+    (subst (λ w. Apart (words_of xs ++ w ∷ word_of b ∷ words_of ys)) p
+    (subst Apart (words_joined xs (a ∷ b ∷ ys)) h)))
+
+-- ---- what later lines add
+abbrev Keeps : {E : Type 0} → Read → Result Read E → Type 0
+Keeps read (Ok more) = Fine more.tokens → Fine read.tokens
+Keeps read (Err e) = Unit {0}
+
+module _ (read : Read) where
+  marker_keeps : (o : Option (ℕ × List ℕ)) (f : LineFault) → Keeps read (ok_or o f >>= λ found. Ok (marked read found))
+  marker_keeps None f = tt
+  marker_keeps (Some found) f = λ h. h
+
+  text_keeps : (r : Result (List Token) LineFault) → Keeps read (behind_tokens read.tokens r >>= λ tokens. Ok (with_tokens read tokens))
+  text_keeps (Ok tokens) = λ h. fine_before read.tokens tokens h
+  text_keeps (Err e) = tt
+
+  either_keeps : (b : Bool) (r q : Result Read LineFault) → Keeps read r → Keeps read q → Keeps read (if b then r else q)
+  either_keeps true r q h k = h
+  either_keeps false r q h k = k
+
+  line_keeps : (offset : ℕ) (line : List ℕ) → Keeps read (line_read read offset line)
+  line_keeps offset line = either_keeps (is_marker_line line) (marker_line read offset line) (text_line read offset line) (marker_keeps _ _) (text_keeps (tokens_of read.next 0 offset line))
+
+  placed_keeps : (r : Result Read LineFault) → Keeps read r → Keeps read (with_place read r)
+  placed_keeps (Ok more) h = h
+  placed_keeps (Err e) h = tt
+
+  joined_keeps : (more : Read) (q : Result Read FaultAt) → (Fine more.tokens → Fine read.tokens) → Keeps more q → Keeps read q
+  joined_keeps more (Ok last) h k = λ f. h (k f)
+  joined_keeps more (Err e) h k = tt
+
+  then_keeps : (r : Result Read FaultAt) (f : Read → Result Read FaultAt) → Keeps read r → ((more : Read) → Keeps more (f more)) → Keeps read (r >>= f)
+  then_keeps (Ok more) f h k = joined_keeps more (f more) h (k more)
+  then_keeps (Err e) f h k = tt
+
+lines_keep : (lines : List (List ℕ)) (read : Read) (offset : ℕ) → Keeps read (lines_read read offset lines)
+lines_keep [] read offset = λ h. h
+lines_keep (line ∷ lines) read offset =
+    then_keeps read (with_place read (line_read read offset line)) _ (placed_keeps read (line_read read offset line) (line_keeps read offset line)) (λ more. lines_keep lines more _)
+
+-- ---- a line that begins with two `%` and a letter
+abbrev Refuses : {E : Type 0} → Result Read E → Type 0
+Refuses (Ok more) = Fine more.tokens → ⊥
+Refuses (Err e) = Unit {0}
+
+text_refuses : (read : Read) (a b : Token) → word_of a ≡ mark sign.Percent → word_of b ≡ mark sign.Percent → (r : Result (List Token) LineFault)
+    → Refuses (behind_tokens read.tokens ((r >>= λ tokens. Ok (b ∷ tokens)) >>= λ tokens. Ok (a ∷ tokens)) >>= λ tokens. Ok (with_tokens read tokens))
+text_refuses read a b p q (Ok tokens) = λ h. two_in_a_row read.tokens tokens a b p q h
+text_refuses read a b p q (Err e) = tt
+
+abbrev percent : Place → ℕ → List ℕ → Token
+percent place offset bytes = token place offset bytes (record { len = 1; kind = kind.Punctuator sign.Percent })
+
+line_refuses : (read : Read) (offset : ℕ) (tail : List ℕ) → Refuses (line_read read offset (37 ∷ 37 ∷ 115 ∷ tail))
+line_refuses read offset tail =
+    text_refuses read (percent read.next offset (37 ∷ 37 ∷ 115 ∷ tail)) (percent read.next (offset + 1) (37 ∷ 115 ∷ tail)) refl refl (tokens_of read.next 0 (offset + 1 + 1) (115 ∷ tail))
+
+placed_refuses : (read : Read) (r : Result Read LineFault) → Refuses r → Refuses (with_place read r)
+placed_refuses read (Ok more) h = h
+placed_refuses read (Err e) h = tt
+
+kept_refuses : (more : Read) (q : Result Read FaultAt) → (Fine more.tokens → ⊥) → Keeps more q → Refuses q
+kept_refuses more (Ok last) h k = λ f. h (k f)
+kept_refuses more (Err e) h k = tt
+
+then_refuses : (r : Result Read FaultAt) (f : Read → Result Read FaultAt) → Refuses r → ((more : Read) → Keeps more (f more)) → Refuses (r >>= f)
+then_refuses (Ok more) f h k = kept_refuses more (f more) h (k more)
+then_refuses (Err e) f h k = tt
+
+later_refuses : (r : Result Read FaultAt) (f : Read → Result Read FaultAt) → ((more : Read) → Refuses (f more)) → Refuses (r >>= f)
+later_refuses (Ok more) f k = k more
+later_refuses (Err e) f k = tt
+
+lines_refuse : (front : List (List ℕ)) (tail : List ℕ) (lines : List (List ℕ)) (read : Read) (offset : ℕ) → Refuses (lines_read read offset (front ++ (37 ∷ 37 ∷ 115 ∷ tail) ∷ lines))
+lines_refuse [] tail lines read offset =
+    let line : List ℕ = 37 ∷ 37 ∷ 115 ∷ tail in
+    then_refuses (with_place read (line_read read offset line)) _ (placed_refuses read (line_read read offset line) (line_refuses read offset tail)) (λ more. lines_keep lines more _)
+lines_refuse (line ∷ front) tail lines read offset = later_refuses (with_place read (line_read read offset line)) _ (λ more. lines_refuse front tail lines more _)
+
+-- ---- the lines of such a source
+-- behind a newline stand the lines of the rest, and before them one at least
+record Behind (lines after : List (List ℕ)) : Type 0 where
+  first : List ℕ
+  others : List (List ℕ)
+  is : lines ≡ first ∷ (others ++ after)
+
+behind_step : (b : ℕ) (newline : Bool) (lines after : List (List ℕ)) → Behind lines after → Behind (if newline then [] ∷ lines else in_front b lines) after
+behind_step b true lines after h = record { first = []; others = h.first ∷ h.others; is = ap (λ l. [] ∷ l) h.is }
+behind_step b false lines after h = record { first = b ∷ h.first; others = h.others; is = ap (in_front b) h.is }
+
+behind_newline : (before rest : List ℕ) → Behind (lines_of (before ++ 10 ∷ rest)) (lines_of rest)
+behind_newline [] rest = record { first = []; others = []; is = refl }
+behind_newline (b ∷ before) rest = behind_step b (b == 10) (lines_of (before ++ 10 ∷ rest)) (lines_of rest) (behind_newline before rest)
+
+record Begun (lines : List (List ℕ)) : Type 0 where
+  tail : List ℕ
+  others : List (List ℕ)
+  is : lines ≡ (37 ∷ 37 ∷ 115 ∷ tail) ∷ others
+
+begun : (lines : List (List ℕ)) → Begun (in_front 37 (in_front 37 (in_front 115 lines)))
+begun [] = record { tail = []; others = []; is = refl }
+begun (line ∷ lines) = record { tail = line; others = lines; is = refl }
+
+-- the bytes of the word, behind its first three
+abbrev later : List ℕ → List ℕ
+later after = drop 3 (schedule_word ++ after)
+
+begun_schedule : (after : List ℕ) → Begun (lines_of (schedule_word ++ after))
+begun_schedule after = begun (lines_of (later after))
+
+source_refuses : (before after : List ℕ) (read : Read) (offset : ℕ) → Refuses (lines_read read offset (lines_of (before ++ 10 ∷ (schedule_word ++ after))))
+source_refuses before after read offset =
+    let lines = behind_newline before (schedule_word ++ after) in
+    let word = begun_schedule after in
+    subst (λ l. Refuses (lines_read read offset l)) (sym (lines.is ∙ ap (λ l. lines.first ∷ (lines.others ++ l)) word.is))
+    (lines_refuse (lines.first ∷ lines.others) word.tail word.others read offset)
+
+abbrev list_of : Result Tokens FaultAt → List Token
+list_of (Ok tokens) = tokens.list
+list_of (Err e) = []
+
+no_tokens : (r : Result Read FaultAt) (tokens : Tokens) → Refuses r → (r >>= λ read. Ok (tokens_read read)) ≡ Ok tokens → Fine tokens.list → ⊥
+no_tokens (Ok read) tokens refuses e h = refuses (subst Fine (sym (ap list_of e)) h)
+no_tokens (Err fault) tokens refuses e h = absurd (let no : false ≡ true = ap is_ok e in cc)
+
+not_read : (source : List ℕ) (tokens : Tokens) → Refuses (lines_read opening 0 (lines_of source)) → reading source ≡ Ok tokens → Fine tokens.list → ⊥
+unfolding reading
+not_read source tokens refuses read h = no_tokens (lines_read opening 0 (lines_of source)) tokens refuses read h
+
+pub no_schedule : ProgramsHoldNoSchedule
+no_schedule source tokens p read reads = λ before after is.
+    not_read source tokens (subst (λ s. Refuses (lines_read opening 0 (lines_of s))) (sym is) (source_refuses before after opening 0)) read
+    (subst Apart reads.spelled (program_apart reads.phrases))

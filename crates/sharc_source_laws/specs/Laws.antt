@@ -1,0 +1,22 @@
+-- Laws of sources that are programs, for the crates above.
+use Rattle.std.specs.Prelude.{ℕ, ◌≡◌, List, Ok, Some, Bool, pos, slice_get}
+use Rattle.sharc_tree.specs.declared.token.Number.{Number}
+use Rattle.sharc_tree.specs.declared.token.Span.{Span}
+use Rattle.sharc_tree.specs.declared.token.Tokens.{Tokens}
+use Rattle.sharc_tree.specs.declared.tree.expression.Constant.TheVariants as constants
+use Rattle.sharc_tree.specs.declared.tree.item.GlobalDefinition.{GlobalDefinition}
+use Rattle.sharc_tree.specs.declared.tree.item.GlobalForm.TheVariants.{Initial}
+use Rattle.sharc_tree.specs.Tree.{Program}
+use Rattle.sharc_ctype.specs.Resolved.{globals_in}
+use Rattle.sharc_lex.specs.Grammar.{reading}
+use Rattle.sharc_grammar.specs.Places.{Reads}
+use Rattle.sharc_recorded.specs.File.{HoldsNoSchedule}
+
+-- no newline of a program is followed by the word that begins the schedule in a recorded file
+abbrev pub ProgramsHoldNoSchedule : Type 0
+ProgramsHoldNoSchedule = (source : List ℕ) (tokens : Tokens) (p : Program) → reading source ≡ Ok tokens → Reads tokens p → HoldsNoSchedule source
+
+-- a number in a token has no sign of its own, so none at which a global of a program begins has one
+abbrev pub NumbersHaveNoSign : Type 0
+NumbersHaveNoSign = (source : List ℕ) (tokens : Tokens) (p : Program) → reading source ≡ Ok tokens → Reads tokens p
+    → (g : ℕ) (d : GlobalDefinition) → slice_get (globals_in p.items) g ≡ Some d → (span : Span) (minus : Bool) (k : Number) → d.form ≡ Initial span minus (constants.Number k) → (n : ℕ) × (k.value ≡ pos n)

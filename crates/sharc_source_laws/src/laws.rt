@@ -1,0 +1,13 @@
+//! The laws: each is the contract of a function that does nothing.
+
+ghost use Rattle.sharc_source_laws.specs.Laws.{NumbersHaveNoSign, ProgramsHoldNoSchedule};
+
+/// No newline of a program is followed by `%%schedule `: so a recorded file of a program ends it where the schedule begins.
+pub fn programs_hold_no_schedule()
+    ensures { ProgramsHoldNoSchedule }
+{}
+
+/// No number at which a global of a program begins has a sign of its own: its minus, if there is one, is a token before it.
+pub fn numbers_have_no_sign()
+    ensures { NumbersHaveNoSign }
+{}

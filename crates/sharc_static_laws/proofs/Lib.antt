@@ -1,0 +1,17 @@
+pub mod FileNames
+pub mod Given
+pub mod Holds
+pub mod Lists
+pub mod Locals
+pub mod Names
+pub mod Origins
+pub mod Passed
+pub mod Places
+pub mod Points
+pub mod Recasting
+pub mod Registers
+pub mod Same
+pub mod Starts
+pub mod Transferred
+pub mod Walk
+pub mod Written

@@ -1,0 +1,5 @@
+use Rattle.sharc_static_laws.proofs.Passed as passed
+use Rattle.sharc_static_laws.proofs.laws.arguments_pass.Goals as goal
+
+pub returns : goal.returns
+returns c = passed.arguments_pass c.each_type_found.ensures c.rules_are_met.ensures c.all_fair.ensures c.each_names_itself.ensures

@@ -1,0 +1,5 @@
+pub mod Laws
+pub mod Lvalues
+pub mod Pointees
+pub mod Shapes
+pub mod Targets
