@@ -13,7 +13,6 @@ use Rattle.sharc_code.specs.declared.instr.Width.{Width}
 use Rattle.sharc_code.specs.declared.instr.Width.TheVariants.{Char, Int, Long}
 use Rattle.sharc_code.specs.declared.instr.Instr.{Instr}
 use Rattle.sharc_code.specs.declared.instr.Instr.TheVariants as instrs
-use Rattle.sharc_code.specs.Machine.{instr_at}
 use Rattle.sharc_code.specs.Says.{place_at, no_place}
 use Rattle.sharc_flat_form.specs.declared.flat.Flat.{Flat as FlatCode}
 use Rattle.sharc_flat_form.specs.declared.op.Op.{Op}

@@ -1,1 +1,3 @@
-pub mod Followed
+mod Entered
+mod Entering
+mod Followed

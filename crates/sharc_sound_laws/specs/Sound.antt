@@ -1,6 +1,5 @@
 -- What every interleaving of the code of an accepted program keeps, where the code is typed.
-use Rattle.std.specs.Prelude.{◌≡◌, ℕ, false, List, [], ◌⊎◌}
-use Rattle.sharc_tree.specs.declared.event.SourceEvent.{SourceEvent}
+use Rattle.std.specs.Prelude.{List}
 use Rattle.sharc_mode.specs.Moded.{Assignment}
 use Rattle.sharc_code.specs.declared.code.Code.{Code}
 use Rattle.sharc_code.specs.declared.shape.Shape.{Shape}
@@ -13,29 +12,19 @@ use Rattle.sharc_flat.specs.Laws.{FitsMade}
 use Rattle.sharc_flat.specs.Flattens.{Flattens}
 use Rattle.sharc_compile.specs.Made.{IsCodeOf}
 use Rattle.sharc_compile_laws.specs.Typed.{IsTypedProgram}
-use Rattle.sharc_meaning.specs.Events.{Stands, events_of}
 use Rattle.sharc_meaning.specs.Obeys.{History, Obeys, until_return}
-use Rattle.sharc_meaning.specs.Runs.{Follows, SourceRun}
-use Rattle.sharc_meaning.specs.Store.{MayCome}
+use Rattle.sharc_meaning.specs.Runs.{SourceRun}
 use Rattle.sharc_invariant.specs.Types.{Targets}
 use Rattle.sharc_invariant.specs.Labels.{Labels}
 use Rattle.sharc_invariant.specs.Typed.{IsWellTyped}
 use Rattle.sharc_invariant.specs.State.{IsSmall}
 use Rattle.sharc_history_laws.specs.History.{history_of}
-use Rattle.sharc_history_laws.specs.Stores.{is_about_waiters}
 use Rattle.sharc_sound_laws.specs.Begins.{AreUnsigned}
 
--- no event tells who waits at a condition
-abbrev pub NobodyIsWoken : History → Type 0
-NobodyIsWoken R = (before : History) (e : SourceEvent) (after : History) → Stands R before e after → is_about_waiters e.act ≡ false
-
--- Each thread asks for the events that are its own, after the Started with which main or an earlier Spawn began it; each event may come after those before
--- it, but that nothing is said of those that tell who waits; and they keep the rules of the modes. So where nobody is woken they are a run of the source
--- without checks.
+-- They are a run of the source without checks: each thread asks for the events that are its own, after the Started with which main or an earlier Spawn began
+-- it, and each event may come after those before it. And they keep the rules of the modes.
 pub record KeepsTo (m : Assignment) (R : History) : Type 0 where
-  pub threads : (thread : ℕ) → (events_of thread R ≡ []) ⊎ ((fuel : ℕ) × Follows m R fuel thread)
-  pub may : (before : History) (e : SourceEvent) (after : History) → Stands R before e after → is_about_waiters e.act ≡ false → MayCome m.typed before e e.act
-  pub source : NobodyIsWoken R → SourceRun m R
+  pub source : SourceRun m R
   pub obeys : Obeys R until_return
 
 -- so does every checked run of the code of a typed, well-moded program with its least assignment, where that code is typed

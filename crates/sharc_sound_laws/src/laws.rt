@@ -10,7 +10,8 @@ use sharc_compile_laws::{
     functions_are_named, spawned_are_threads, threads_may_start, typed_threads_tell,
 };
 use sharc_ctype_laws::laws::{each_names_itself, meets_globals};
-use sharc_history_laws::{history_law, paths_law, starts_law, stores_law};
+use sharc_follow_laws::waits_law;
+use sharc_history_laws::{history_law, paths_law, starts_law, waiters_law};
 use sharc_source_laws::laws::numbers_have_no_sign;
 
 /// The globals of the code of a typed program hold at first what their definitions say, if the numbers at which they begin have no sign of their own.
@@ -20,9 +21,9 @@ pub fn made_code_begins()
     meets_globals();
 }
 
-/// In every checked run of the code of a typed, well-moded program with its least assignment, if that code is typed: each thread asks for the events that are
-/// its own, after the Started with which main or an earlier Spawn began it; each event but those that tell who waits may come after those before it; so where
-/// nobody is woken the events are a run of the source without checks; and they keep the rules of the modes.
+/// The source events of every checked run of the code of a typed, well-moded program with its least assignment, if that code is typed, are a run of the source
+/// without checks: each thread asks for the events that are its own, after the Started with which main or an earlier Spawn began it, and each event may come
+/// after those before it. And they keep the rules of the modes.
 pub fn sound_if_typed()
     ensures { SoundIfTyped }
 {
@@ -35,11 +36,12 @@ pub fn sound_if_typed()
     paths_law();
     history_law();
     starts_law();
-    stores_law();
+    waits_law();
+    waiters_law();
 }
 
-/// In every checked run of the code that is built of a source, by threads in any order, if that code is typed, the threads keep to the program that the source
-/// is: nothing else is asked of the source, the code or the run, and the shape is any that fits the code.
+/// Every checked run of the code that is built of a source, by threads in any order, if that code is typed, performs a run of the source without checks that
+/// keeps the rules of the modes: nothing else is asked of the source, the code or the run, and the shape is any that fits the code.
 pub fn built_is_sound_if_typed()
     ensures { BuiltIsSoundIfTyped }
 {
