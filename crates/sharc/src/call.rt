@@ -11,6 +11,7 @@ use sharc_rounds::Gate;
 use sharc_top::sharc_top;
 use std::alloc::{AllocError, Global};
 use std::process::ExitCode;
+use std::sync::Wait;
 use std::thread::Threads;
 
 /// The status where the memory for the words is wanting.
@@ -18,7 +19,7 @@ const NO_MEMORY: u8 = 11;
 
 /// Does what the words say, and answers the status of the top call, all of whose clauses hold of it. Where the memory for the
 /// words was wanting, nothing is read and nothing is written, and the status is 11.
-pub fn exit_code<R: Threads + Sync, G: Gate + Sync, S: Source, O: Sink>(
+pub fn exit_code<R: Threads + Wait + Sync, G: Gate + Sync, S: Source, O: Sink>(
     rt: &R,
     gate: &G,
     alloc: Global,

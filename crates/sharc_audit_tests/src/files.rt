@@ -5,10 +5,14 @@ use crate::outcome::audited;
 use crate::refused::REFUSED;
 use crate::runs::RUNS;
 use std::process::Abort;
+use std::sync::Wait;
 use std::test::Fail;
 use std::thread::Threads;
 
-fn assert_all(rt: &(impl Abort + AllocGlobal + Threads + Sync), table: &str) -> Result<(), Fail> {
+fn assert_all(
+    rt: &(impl Abort + AllocGlobal + Threads + Wait + Sync),
+    table: &str,
+) -> Result<(), Fail> {
     for case in table.split("\n====\n") {
         match case.split_once("\n----\n") {
             None => panic!(rt; "no case: {case}"),

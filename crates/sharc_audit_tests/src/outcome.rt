@@ -4,12 +4,13 @@ use sharc_io::{SureSink, SureSource};
 use sharc_run::OpenGate;
 use sharc_top::sharc_top;
 use std::process::Abort;
+use std::sync::Wait;
 use std::test::Fail;
 use std::thread::Threads;
 
 /// The status, a blank, and what was written without its last newline.
 pub(crate) fn audited(
-    rt: &(impl Abort + AllocGlobal + Threads + Sync),
+    rt: &(impl Abort + AllocGlobal + Threads + Wait + Sync),
     input: &str,
 ) -> Result<String, Fail> {
     let alloc = rt.alloc();

@@ -2,6 +2,7 @@
 
 use crate::outcome::audited;
 use std::process::Abort;
+use std::sync::Wait;
 use std::test::Fail;
 use std::thread::Threads;
 
@@ -18,7 +19,7 @@ fn looping(rt: &(impl AllocGlobal), count: usize) -> Result<String, Fail> {
 }
 
 fn assert_audited(
-    rt: &(impl Abort + AllocGlobal + Threads + Sync),
+    rt: &(impl Abort + AllocGlobal + Threads + Wait + Sync),
     input: &str,
     wanted: &str,
 ) -> Result<(), Fail> {

@@ -8,6 +8,7 @@ use sharc_io::{SureSink, SureSource};
 use sharc_run::OpenGate;
 use sharc_top::sharc_top;
 use std::alloc::{AllocError, Global};
+use std::sync::Wait;
 use std::thread::Threads;
 use std::{fs, io};
 
@@ -41,7 +42,7 @@ fn example_in<'a>(first: &'a str, second: &'a str) -> Option<Example<'a>> {
 }
 
 /// What the command writes of the source, and its status.
-fn answered<R: Threads + Sync>(
+fn answered<R: Threads + Wait + Sync>(
     rt: &R,
     alloc: Global,
     command: &str,
@@ -59,7 +60,7 @@ fn answered<R: Threads + Sync>(
 }
 
 /// Whether the program answers an example with its status and its text.
-fn is_answered<R: Threads + Sync>(
+fn is_answered<R: Threads + Wait + Sync>(
     rt: &R,
     alloc: Global,
     e: &Example<'_>,
@@ -74,7 +75,7 @@ fn is_answered<R: Threads + Sync>(
 }
 
 /// Counts an example, and writes which one it is where something else is written.
-fn count<R: Print + AllocGlobal + Threads + Sync>(
+fn count<R: Print + AllocGlobal + Threads + Wait + Sync>(
     rt: &R,
     counts: Counts,
     first: &str,

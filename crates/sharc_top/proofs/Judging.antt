@@ -19,7 +19,7 @@ use Rattle.sharc_top.specs.declared.status.Status.TheVariants as status
 use Rattle.sharc_top.specs.EventFiles.{status_of, Judges, not_judged, judged, JudgesSource, faulty_source, of_program, IsFewIn, FileReplies, long_file, no_file, many_events, long_source, source_judged, IsFileReply}
 use Rattle.sharc_top.specs.Text.{line}
 use Rattle.sharc_top.specs.Refused.{IsModeRefusal}
-use Rattle.sharc_top.proofs.Replies.{long_input}
+use Rattle.sharc_top.proofs.Replies.{input_over}
 use Rattle.std.specs.Prelude.{codes}
 
 pub judges_refused : (m : Assignment) (fuel : ℕ) (events : List EventLine) (s : Status) (text : List ℕ) → s ≡ status.ModesRefused → IsModeRefusal m text → Judges m fuel events s text
@@ -49,7 +49,7 @@ replies_fault input fault.Memory s text short is e t = absurd (let z : None ≡ 
 
 pub reply_long_file : (left : Option (List ℕ)) (s : Status) (text : List ℕ) → IfSome left (λ bytes. 16777216 < length bytes) → s ≡ status.SourceRefused → text ≡ line (codes "file over 16777216 bytes") → IsFileReply left s text
 reply_long_file left s text long e t =
-    let l = long_input left 16777216 long in
+    let l = input_over left 16777216 long in
     record { input = l.input; told = l.told; reply = rw (e, t) (long_file l.long) }
 
 pub reply_file : (left : Option (List ℕ)) (input : List ℕ) (s : Status) (text : List ℕ) → IfSome left (λ bytes. input ≡ bytes) → FileReplies input s text → IsFileReply left s text

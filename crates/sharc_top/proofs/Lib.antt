@@ -1,4 +1,5 @@
 pub mod Judging
 pub mod Lines
+pub mod Recording
 pub mod Replies
 pub mod Verdicts

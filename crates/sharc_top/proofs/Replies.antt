@@ -14,6 +14,11 @@ use Rattle.sharc_run.specs.declared.outcome.Outcome.TheVariants as outcome
 use Rattle.sharc_top.specs.declared.ran.RunNumbers.{RunNumbers}
 use Rattle.sharc_top.specs.Answers.{Answers, faulty, program}
 use Rattle.sharc_top.specs.Loading.{LoadReplies, long, loaded}
+use Rattle.sharc_top.specs.Recording.{GivesRun, not_made, made, GivesSource, at_fault, by_program, RecordReplies, long_input, IsRecordReply, ReplayReplies, long_recording, no_recording, long_source_in, IsReplayReply}
+use Rattle.sharc_top.specs.Recording.RecordReplies.{recorded as of_record}
+use Rattle.sharc_top.specs.Recording.ReplayReplies.{replayed as of_replay}
+use Rattle.sharc_code.specs.declared.code.Code.{Code}
+use Rattle.sharc_run.specs.declared.run.Ran.{Ran}
 use Rattle.sharc_top.specs.Running.{Runs, not_run, ran}
 use Rattle.sharc_top.specs.Running.{status_of as run_status_of}
 use Rattle.sharc_top.specs.Verdict.{Checks, accepted, refused, Explains, explained, Does}
@@ -22,7 +27,7 @@ use Rattle.sharc_audit.specs.declared.audit.Verdict.TheVariants as verdict
 use Rattle.sharc_audit.specs.declared.line.EventLine.{EventLine}
 use Rattle.sharc_cli.specs.declared.command.Command.TheVariants as command
 use Rattle.sharc_top.specs.EventFiles.{status_of, Judges, not_judged, judged, JudgesSource, faulty_source, of_program, FileReplies, long_file, no_file, many_events, long_source, source_judged, IsFileReply}
-use Rattle.sharc_top.specs.Reply.{task_in, is_unbuilt, ReadsSource, usage_text, Replies, IsReply, usage, unbuilt, too_long, answered, audited}
+use Rattle.sharc_top.specs.Reply.{task_in, ReadsSource, usage_text, Replies, IsReply, usage, too_long, answered, recorded, replayed, audited}
 use Rattle.sharc_top.specs.Reply.Replies.{loaded as of_load}
 use Rattle.sharc_top.specs.Status.{code_of, IsOfReply, IsOfSilence}
 
@@ -37,19 +42,14 @@ pub record LongInput (left : Option (List ℕ)) (limit : ℕ) : Type 0 where
   pub told : IfSome left (λ bytes. input ≡ bytes)
   pub long : limit < length input
 
-pub long_input : (left : Option (List ℕ)) (limit : ℕ) → IfSome left (λ bytes. limit < length bytes) → LongInput left limit
-long_input None limit h = record { input = replicate (limit + 1) 0; told = tt; long = omega (arith, length-replicate {A = ℕ} (limit + 1) 0) }
-long_input (Some bytes) limit h = record { input = bytes; told = refl; long = h }
+pub input_over : (left : Option (List ℕ)) (limit : ℕ) → IfSome left (λ bytes. limit < length bytes) → LongInput left limit
+input_over None limit h = record { input = replicate (limit + 1) 0; told = tt; long = omega (arith, length-replicate {A = ℕ} (limit + 1) 0) }
+input_over (Some bytes) limit h = record { input = bytes; told = refl; long = h }
 
 pub reply_usage : (words : List (List ℕ)) (left : Option (List ℕ)) (s : Status) (text : List ℕ) → commands words ≡ None
     → s ≡ status.Usage → text ≡ line usage_text → IsReply words left s text
 reply_usage words left s text none e t =
     record { input = unwrap_or left []; told = told_left left; reply = rw (e, t) (usage none) }
-
-pub reply_unbuilt : (words : List (List ℕ)) (left : Option (List ℕ)) (s : Status) (text : List ℕ) (command : Command) → commands words ≡ Some command
-    → is_unbuilt command ≡ true → s ≡ status.NotBuilt → text ≡ line (codes "form not built") → IsReply words left s text
-reply_unbuilt words left s text command is none e t =
-    record { input = unwrap_or left []; told = told_left left; reply = rw (e, t) (unbuilt (record { command = command; is = is; unbuilt = none })) }
 
 pub reply_loaded : (words : List (List ℕ)) (left : Option (List ℕ)) (number workers : ℕ) (s : Status) (text : List ℕ) → commands words ≡ Some (command.Load number workers)
     → LoadReplies number workers s text → IsReply words left s text
@@ -58,7 +58,7 @@ reply_loaded words left number workers s text is reply = record { input = unwrap
 pub reply_too_long : (words : List (List ℕ)) (left : Option (List ℕ)) (s : Status) (text : List ℕ) → ReadsSource words
     → IfSome left (λ bytes. 1048576 < length bytes) → s ≡ status.SourceRefused → text ≡ line (codes "source over 1048576 bytes") → IsReply words left s text
 reply_too_long words left s text h over e t =
-    let l = long_input left 1048576 over in
+    let l = input_over left 1048576 over in
     record { input = l.input; told = l.told; reply = rw (e, t) (too_long h l.long) }
 
 pub reply_answered : (words : List (List ℕ)) (left : Option (List ℕ)) (t : Task) (source : List ℕ) (s : Status) (text : List ℕ) → task_in (commands words) ≡ Some t
@@ -67,6 +67,13 @@ reply_answered words left t source s text h told short a = record { input = sour
 
 pub reply_audited : (words : List (List ℕ)) (left : Option (List ℕ)) (s : Status) (text : List ℕ) → commands words ≡ Some command.Audit → IsFileReply left s text → IsReply words left s text
 reply_audited words left s text is r = record { input = r.input; told = r.told; reply = audited s text is r.reply }
+
+pub reply_recorded : (words : List (List ℕ)) (left : Option (List ℕ)) (workers heap limit : ℕ) (s : Status) (text : List ℕ) → commands words ≡ Some (command.Record workers heap limit) → IsRecordReply heap limit left s text
+    → IsReply words left s text
+reply_recorded words left workers heap limit s text is r = record { input = r.input; told = r.told; reply = recorded workers heap limit s text is r.reply }
+
+pub reply_replayed : (words : List (List ℕ)) (left : Option (List ℕ)) (s : Status) (text : List ℕ) → commands words ≡ Some command.Replay → IsReplayReply left s text → IsReply words left s text
+reply_replayed words left s text is r = record { input = r.input; told = r.told; reply = replayed s text is r.reply }
 
 -- ---- a reply has none of the statuses of failures
 
@@ -125,12 +132,31 @@ file_status input s text (many_events short many) = low 2 (omega arith)
 file_status input s text (long_source source fuel events file h) = low 2 (omega arith)
 file_status input s text (source_judged source fuel events file short x y is) = source_status source fuel events x y is
 
+made_status : (m : Assignment) (Makes : Code → Ran → Type 0) (s : Status) (text : List ℕ) → GivesRun m Makes s text → IsOfReply (code_of s)
+made_status m Makes s text (not_made t is) = low 1 (omega arith)
+made_status m Makes s text (made code run meets compiled is) = outcome_status run.outcome
+
+given_status : (source : List ℕ) (Makes : Code → Ran → Type 0) (s : Status) (text : List ℕ) → GivesSource source Makes s text → IsOfReply (code_of s)
+given_status source Makes s text (at_fault stage at is) = low 2 (omega arith)
+given_status source Makes s text (by_program m x y front is) = made_status m Makes x y is
+
+record_status : (heap limit : ℕ) (input : List ℕ) (s : Status) (text : List ℕ) → RecordReplies heap limit input s text → IsOfReply (code_of s)
+record_status heap limit input s text (long_input h) = low 2 (omega arith)
+record_status heap limit input s text (of_record short x y is) = given_status _ _ x y is
+
+replay_status : (input : List ℕ) (s : Status) (text : List ℕ) → ReplayReplies input s text → IsOfReply (code_of s)
+replay_status input s text (long_recording h) = low 2 (omega arith)
+replay_status input s text (no_recording n short bad) = low 2 (omega arith)
+replay_status input s text (long_source_in file short is h) = low 2 (omega arith)
+replay_status input s text (of_replay file short has few x y is) = given_status _ _ x y is
+
 reply_status : (words : List (List ℕ)) (input : List ℕ) (s : Status) (text : List ℕ) → Replies words input s text → IsOfReply (code_of s)
 reply_status words input s text (usage h) = low 8 (omega arith)
-reply_status words input s text (unbuilt h) = low 7 (omega arith)
 reply_status words input s text (too_long h more) = low 2 (omega arith)
 reply_status words input s text (answered t x y h short a) = answers_status t input x y a
 reply_status words input s text (of_load number workers x y h is) = load_status number workers x y is
+reply_status words input s text (recorded workers heap limit x y h is) = record_status heap limit input x y is
+reply_status words input s text (replayed x y h is) = replay_status input x y is
 reply_status words input s text (audited x y h is) = file_status input x y is
 
 not_ten : (n : ℕ) → IsOfReply n → n ≡ 10 → ⊥

@@ -2,6 +2,7 @@ pub mod Answers
 pub mod EventFiles
 pub mod Limits
 pub mod Loading
+pub mod Recording
 pub mod Refused
 pub mod Reply
 pub mod Running

@@ -12,6 +12,7 @@ use Rattle.sharc_top.specs.Answers.{Answers}
 use Rattle.sharc_top.specs.EventFiles.{FileReplies}
 use Rattle.sharc_top.specs.Loading.{LoadReplies}
 use Rattle.sharc_top.specs.Limits.{source_limit}
+use Rattle.sharc_top.specs.Recording.{RecordReplies, ReplayReplies}
 use Rattle.sharc_top.specs.Status.{code_of}
 use Rattle.sharc_top.specs.Text.{line}
 
@@ -32,20 +33,15 @@ task_in (Some c) = task_of c
 abbrev pub ReadsSource : List (List ℕ) → Type 0
 ReadsSource words = IsSome (task_in (commands words))
 
--- these, or `audit`, which reads an event file
+-- `record`, which reads a source, and `replay` and `audit`, which read a file
+abbrev pub reads_more : Option Command → Bool
+reads_more (Some (command.Record workers granules events)) = true
+reads_more (Some command.Replay) = true
+reads_more (Some command.Audit) = true
+reads_more _ = false
+
 abbrev pub ReadsInput : List (List ℕ) → Type 0
-ReadsInput words = ReadsSource words ⊎ (commands words ≡ Some command.Audit)
-
--- the words are a command that is not built yet
-abbrev pub is_unbuilt : Command → Bool
-is_unbuilt (command.Record workers granules events) = true
-is_unbuilt command.Replay = true
-is_unbuilt _ = false
-
-pub record IsUnbuilt (words : List (List ℕ)) : Type 0 where
-  pub command : Command
-  pub is : commands words ≡ Some command
-  pub unbuilt : is_unbuilt command ≡ true
+ReadsInput words = ReadsSource words ⊎ (reads_more (commands words) ≡ true)
 
 abbrev pub usage_text : List ℕ
 usage_text = codes "usage: check | explain | run [--workers N] [--granules N] [--events N] [--seed N] | load N [--workers N] | record [--workers N] [--granules N] [--events N] | replay | audit"
@@ -55,10 +51,11 @@ usage_text = codes "usage: check | explain | run [--workers N] [--granules N] [-
 -- what is written for the words and the input, and the status
 pub data Replies (words : List (List ℕ)) (input : List ℕ) : Status → List ℕ → Type 0 where
   usage : commands words ≡ None → Replies words input status.Usage (line usage_text)
-  unbuilt : IsUnbuilt words → Replies words input status.NotBuilt (line (codes "form not built"))
   too_long : ReadsSource words → source_limit < length input → Replies words input status.SourceRefused (line (codes "source over 1048576 bytes"))
   answered : (t : Task) (s : Status) (text : List ℕ) → task_in (commands words) ≡ Some t → length input ≤ source_limit → Answers t input s text → Replies words input s text
   loaded : (number workers : ℕ) (s : Status) (text : List ℕ) → commands words ≡ Some (command.Load number workers) → LoadReplies number workers s text → Replies words input s text
+  recorded : (workers heap limit : ℕ) (s : Status) (text : List ℕ) → commands words ≡ Some (command.Record workers heap limit) → RecordReplies heap limit input s text → Replies words input s text
+  replayed : (s : Status) (text : List ℕ) → commands words ≡ Some command.Replay → ReplayReplies input s text → Replies words input s text
   audited : (s : Status) (text : List ℕ) → commands words ≡ Some command.Audit → FileReplies input s text → Replies words input s text
 
 -- The reply to the words and to what the source had left. Of a source that does not tell its bytes it is the reply to some input.

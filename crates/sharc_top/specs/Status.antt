@@ -11,7 +11,6 @@ code_of status.Reported = 3
 code_of status.Stopped = 4
 code_of status.Stuck = 5
 code_of status.Limit = 6
-code_of status.NotBuilt = 7
 code_of status.Usage = 8
 code_of status.ReadFault = 9
 code_of status.WriteFault = 10

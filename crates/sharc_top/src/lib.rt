@@ -6,7 +6,9 @@
 mod audited;
 mod loaded;
 mod ran;
+mod recorded;
 mod refused;
+mod replayed;
 mod reply;
 mod status;
 mod task;

@@ -28,7 +28,7 @@ pub struct RunNumbers {
 }
 
 /// How a call ends that writes a run which ended so.
-fn status_of(outcome: Outcome) -> Status
+pub(crate) fn status_of(outcome: Outcome) -> Status
     ensures { result ≡ status_of outcome }
 {
     match outcome {

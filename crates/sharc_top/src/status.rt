@@ -20,8 +20,6 @@ pub enum Status {
     Stuck,
     /// None of these, and a thread has made all the events that it may.
     Limit,
-    /// The command is not built yet.
-    NotBuilt,
     /// The words are no command.
     Usage,
     /// Reading failed.
@@ -49,7 +47,6 @@ impl Status {
             Status::Stopped => 4,
             Status::Stuck => 5,
             Status::Limit => 6,
-            Status::NotBuilt => 7,
             Status::Usage => 8,
             Status::ReadFault => 9,
             Status::WriteFault => 10,

@@ -12,16 +12,17 @@ use crate::words::reply_to;
 use sharc_io::{Sink, Source};
 use sharc_rounds::Gate;
 use std::alloc::Global;
+use std::sync::Wait;
 use std::thread::Threads;
 
 /// Does what the words say with the input, writes the reply line by line, and answers the exit status. `rt` starts the workers of a run, and the gate is asked before each step of theirs.
 ///
 /// 0: the modes are accepted, each thread that ran is gone, or the events of the file are a run of its source that obeys its modes. 1: the modes are refused. 2: the source is too
-/// long, or is no program, or the text is no event file. 3: a thread reported an access or a cast (A1 to A4). 4: none did, and one was stopped (X1 to X13). 5: neither, and the run is
-/// stuck. 6: none of these, and a thread has made all the events that it may. 7: the command is not built yet, and nothing was read. 8: the words are no command, and nothing was
+/// long, or is no program, or the text is no event file or no recorded one. 3: a thread reported an access or a cast (A1 to A4). 4: none did, and one was stopped (X1 to X13). 5: neither, and the run is
+/// stuck. 6: none of these, and a thread has made all the events that it may. 8: the words are no command, and nothing was
 /// read. 9: reading failed. 10: writing failed or stalled, and a front part of the reply was written, but not all of it. 11: memory was wanting. 12: an event is the first that is not
 /// asked for, not legal, or against a rule of the modes. 13: the fuel of its thread is spent before it.
-pub fn sharc_top<R: Threads + Sync, G: Gate + Sync, S: Source, O: Sink>(
+pub fn sharc_top<R: Threads + Wait + Sync, G: Gate + Sync, S: Source, O: Sink>(
     rt: &R,
     gate: &G,
     alloc: Global,

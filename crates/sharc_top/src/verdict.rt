@@ -112,7 +112,7 @@ fn explained(alloc: Global, program: Moded, reached: &Reached) -> Result<Reply, 
 }
 
 /// The program, checked, or what is written where its modes are refused.
-fn accepted(
+pub(crate) fn accepted(
     alloc: Global,
     program: Moded,
     reached: &Reached,

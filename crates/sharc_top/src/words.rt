@@ -4,12 +4,14 @@ ghost use Rattle.std.specs.Prelude.{◌≡◌, ◌≤◌, List, ℕ, Some, lengt
 ghost use Rattle.sharc_io.specs.Causes.{Rose};
 ghost use Rattle.sharc_cli.specs.Commands.{commands};
 ghost use Rattle.sharc_top.specs.Answers.{Answers};
-ghost use Rattle.sharc_top.specs.Reply.{is_unbuilt, task_in, ReadsInput, IsReply};
+ghost use Rattle.sharc_top.specs.Reply.{task_in, ReadsInput, IsReply};
 ghost use Rattle.sharc_top.specs.Verdict.{IsTask};
 
 use crate::audited::audited;
 use crate::loaded::loaded;
+use crate::recorded::recorded;
 use crate::refused::{Failure, SOURCE_LIMIT, refusal};
+use crate::replayed::replayed;
 use crate::reply::{Reply, line_reply};
 use crate::status::Status;
 use crate::task::{Task, task_of};
@@ -20,6 +22,7 @@ use sharc_io::{ReadError, Source, read_all};
 use sharc_rounds::Gate;
 use sharc_sound::{ReachedProgram, Refusal, front};
 use std::alloc::{AllocError, Global};
+use std::sync::Wait;
 use std::thread::Threads;
 
 /// What the words may be.
@@ -73,22 +76,8 @@ fn answered<R: Threads + Sync, G: Gate + Sync, S: Source>(
     }
 }
 
-/// Whether the command is not built yet.
-fn is_unbuilt(command: Command) -> bool
-    ensures { result ≡ is_unbuilt command }
-{
-    match command {
-        Command::Record { .. } | Command::Replay => true,
-        Command::Check
-        | Command::Explain
-        | Command::Run { .. }
-        | Command::Load { .. }
-        | Command::Audit => false,
-    }
-}
-
-/// The reply to the words and to the input. The input is read only where the words are `check`, `explain`, `run` or `audit`.
-pub fn reply_to<R: Threads + Sync, G: Gate + Sync, S: Source>(
+/// The reply to the words and to the input. The input is read only where the words are a command, and not `load`.
+pub fn reply_to<R: Threads + Wait + Sync, G: Gate + Sync, S: Source>(
     rt: &R,
     gate: &G,
     alloc: Global,
@@ -106,17 +95,18 @@ pub fn reply_to<R: Threads + Sync, G: Gate + Sync, S: Source>(
         let usage = line_reply(alloc, Status::Usage, USAGE)?;
         return Ok(usage);
     };
-    if is_unbuilt(command) {
-        let unbuilt = line_reply(alloc, Status::NotBuilt, b"form not built")?;
-        return Ok(unbuilt);
-    }
     match command {
         Command::Audit => audited(alloc, input),
         Command::Load { number, workers } => {
             let reply = loaded(rt, gate, alloc, number as u32, workers as u32)?;
             Ok(reply)
         }
-        Command::Record { .. } | Command::Replay => unreachable!(),
+        Command::Record {
+            workers,
+            granules,
+            events,
+        } => recorded(rt, gate, alloc, workers, granules, events, input),
+        Command::Replay => replayed(alloc, input),
         Command::Check | Command::Explain | Command::Run { .. } => match task_of(command) {
             Some(task) => answered(rt, gate, alloc, task, input),
             None => unreachable!(),

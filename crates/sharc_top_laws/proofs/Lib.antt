@@ -2,6 +2,7 @@ pub mod Asked
 pub mod Auditing
 pub mod FaultLemmas
 pub mod Judged
+pub mod Recorded
 pub mod Replying
 pub mod Sources
 pub mod Verdicts

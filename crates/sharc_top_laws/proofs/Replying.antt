@@ -15,7 +15,7 @@ use Rattle.sharc_top.specs.declared.task.Task.{Task}
 use Rattle.sharc_top.specs.Answers.{Answers, faulty, program}
 use Rattle.sharc_top.specs.EventFiles.{FileReplies}
 use Rattle.sharc_top.specs.Limits.{source_limit}
-use Rattle.sharc_top.specs.Reply.{task_in, task_of, is_unbuilt, IsUnbuilt, Replies, usage, unbuilt, too_long, answered, loaded, audited, IsReply}
+use Rattle.sharc_top.specs.Reply.{task_in, task_of, Replies, usage, too_long, answered, loaded, recorded, replayed, audited, IsReply}
 use Rattle.sharc_top.specs.Verdict.{Does}
 use Rattle.sharc_top.specs.declared.task.Task.TheVariants as task
 use Rattle.sharc_top_laws.specs.Laws.{WarningsAreOne, SourceLaws, RunsNothing, MakesRun, AnswersAreOne}
@@ -51,29 +51,20 @@ no_reader o none reads = false≢true (sym (ap is_some none) ∙ reads)
 of_usage : (words : List (List ℕ)) → commands words ≡ None → task_in (commands words) ≡ None
 of_usage words none = ap task_in none
 
-unbuilt_reads_none : (c : Command) → is_unbuilt c ≡ true → task_of c ≡ None
-unbuilt_reads_none Check e = absurd (false≢true e)
-unbuilt_reads_none Explain e = absurd (false≢true e)
-unbuilt_reads_none (Run workers granules events seed) e = absurd (false≢true e)
-unbuilt_reads_none (Load number workers) e = absurd (false≢true e)
-unbuilt_reads_none (Record workers granules events) e = refl
-unbuilt_reads_none Replay e = refl
-unbuilt_reads_none Audit e = absurd (false≢true e)
-
-of_unbuilt : (words : List (List ℕ)) → IsUnbuilt words → task_in (commands words) ≡ None
-of_unbuilt words is = ap task_in is.is ∙ unbuilt_reads_none is.command is.unbuilt
-
 of_audit : (words : List (List ℕ)) → commands words ≡ Some Audit → task_in (commands words) ≡ None
 of_audit words is = ap task_in is
 
 of_load : (words : List (List ℕ)) (number workers : ℕ) → commands words ≡ Some (Load number workers) → task_in (commands words) ≡ None
 of_load words number workers is = ap task_in is
 
+of_record : (words : List (List ℕ)) (workers heap limit : ℕ) → commands words ≡ Some (Record workers heap limit) → task_in (commands words) ≡ None
+of_record words workers heap limit is = ap task_in is
+
+of_replay : (words : List (List ℕ)) → commands words ≡ Some Replay → task_in (commands words) ≡ None
+of_replay words is = ap task_in is
+
 same_command : (o : Option Command) (a b : Command) → o ≡ Some a → o ≡ Some b → a ≡ b
 same_command o a b is also = cc
-
-built_audit : (words : List (List ℕ)) → IsUnbuilt words → commands words ≡ Some Audit → ⊥
-built_audit words is audit = false≢true (sym (ap is_unbuilt (same_command (commands words) is.command Audit is.is audit)) ∙ is.unbuilt)
 
 abbrev is_load : Command → Bool
 is_load (Load number workers) = true
@@ -82,9 +73,29 @@ is_load _ = false
 load_audit : (words : List (List ℕ)) (number workers : ℕ) → commands words ≡ Some (Load number workers) → commands words ≡ Some Audit → ⊥
 load_audit words number workers is audit = false≢true (sym (ap is_load (same_command (commands words) (Load number workers) Audit is audit)))
 
+abbrev is_record : Command → Bool
+is_record (Record workers heap limit) = true
+is_record _ = false
+
+record_audit : (words : List (List ℕ)) (workers heap limit : ℕ) → commands words ≡ Some (Record workers heap limit) → commands words ≡ Some Audit → ⊥
+record_audit words workers heap limit is audit = false≢true (sym (ap is_record (same_command (commands words) (Record workers heap limit) Audit is audit)))
+
+abbrev is_replay : Command → Bool
+is_replay Replay = true
+is_replay _ = false
+
+replay_audit : (words : List (List ℕ)) → commands words ≡ Some Replay → commands words ≡ Some Audit → ⊥
+replay_audit words is audit = false≢true (sym (ap is_replay (same_command (commands words) Replay Audit is audit)))
+
 -- of words that run nothing
 no_load : (words : List (List ℕ)) (number workers : ℕ) → ¬ (MakesRun (commands words)) → commands words ≡ Some (Load number workers) → ⊥
 no_load words number workers nothing is = nothing (subst MakesRun (sym is) tt)
+
+no_record : (words : List (List ℕ)) (workers heap limit : ℕ) → ¬ (MakesRun (commands words)) → commands words ≡ Some (Record workers heap limit) → ⊥
+no_record words workers heap limit nothing is = nothing (subst MakesRun (sym is) tt)
+
+no_replay : (words : List (List ℕ)) → ¬ (MakesRun (commands words)) → commands words ≡ Some Replay → ⊥
+no_replay words nothing is = nothing (subst MakesRun (sym is) tt)
 
 some_task : (a b : Task) → Some a ≡ Some b → a ≡ b
 some_task a b e = cc
@@ -98,8 +109,8 @@ runs_nothing (Some Check) t nothing e = subst RunsNothing (some_task task.Check 
 runs_nothing (Some Explain) t nothing e = subst RunsNothing (some_task task.Explain t e) tt
 runs_nothing (Some (Run workers granules events seed)) t nothing e = absurd (nothing tt)
 runs_nothing (Some (Load number workers)) t nothing e = absurd (nothing tt)
-runs_nothing (Some (Record workers granules events)) t nothing e = absurd (no_task t e)
-runs_nothing (Some Replay) t nothing e = absurd (no_task t e)
+runs_nothing (Some (Record workers granules events)) t nothing e = absurd (nothing tt)
+runs_nothing (Some Replay) t nothing e = absurd (nothing tt)
 runs_nothing (Some Audit) t nothing e = absurd (no_task t e)
 
 not_long : (input : List ℕ) → source_limit < length input → length input ≤ source_limit → ⊥
@@ -108,19 +119,21 @@ not_long input long short = omega (arith, long, short)
 -- a reply to words that read a source within the limit is what is written for it
 pub is_answer : (words : List (List ℕ)) (input : List ℕ) (t : Task) (s : Status) (text : List ℕ) → task_in (commands words) ≡ Some t → length input ≤ source_limit → Replies words input s text → Answers t input s text
 is_answer words input t s text asked within (usage none) = absurd (task_or_none (task_in (commands words)) t asked (of_usage words none))
-is_answer words input t s text asked within (unbuilt is) = absurd (task_or_none (task_in (commands words)) t asked (of_unbuilt words is))
 is_answer words input t s text asked within (too_long reads long) = absurd (not_long input long within)
 is_answer words input t s text asked within (loaded number workers z other is reply) = absurd (task_or_none (task_in (commands words)) t asked (of_load words number workers is))
+is_answer words input t s text asked within (recorded workers heap limit z other is reply) = absurd (task_or_none (task_in (commands words)) t asked (of_record words workers heap limit is))
+is_answer words input t s text asked within (replayed z other is reply) = absurd (task_or_none (task_in (commands words)) t asked (of_replay words is))
 is_answer words input t s text asked within (audited z other is reply) = absurd (task_or_none (task_in (commands words)) t asked (of_audit words is))
 is_answer words input t s text asked within (answered u z other also short is) = subst (λ (k : Task). Answers k input z other) (same_task (task_in (commands words)) u t also asked) is
 
 -- and a reply to `audit` is what is written for the event file
 pub is_file_reply : (words : List (List ℕ)) (input : List ℕ) (s : Status) (text : List ℕ) → commands words ≡ Some Audit → Replies words input s text → FileReplies input s text
 is_file_reply words input s text audit (usage none) = absurd (command_or_none (commands words) Audit audit none)
-is_file_reply words input s text audit (unbuilt is) = absurd (built_audit words is audit)
 is_file_reply words input s text audit (too_long reads long) = absurd (no_reader (task_in (commands words)) (of_audit words audit) reads)
 is_file_reply words input s text audit (answered t z other asked short is) = absurd (task_or_none (task_in (commands words)) t asked (of_audit words audit))
 is_file_reply words input s text audit (loaded number workers z other is reply) = absurd (load_audit words number workers is audit)
+is_file_reply words input s text audit (recorded workers heap limit z other is reply) = absurd (record_audit words workers heap limit is audit)
+is_file_reply words input s text audit (replayed z other is reply) = absurd (replay_audit words is audit)
 is_file_reply words input s text audit (audited z other is reply) = reply
 
 abbrev pub FileRepliesAreOne : Type 0
@@ -129,24 +142,22 @@ FileRepliesAreOne = (input : List ℕ) (s z : Status) (text other : List ℕ) �
 module _ (answers : AnswersAreOne) (files : FileRepliesAreOne) (words : List (List ℕ)) (nothing : ¬ (MakesRun (commands words))) (input : List ℕ) where
   pub one_reply : (s z : Status) (text other : List ℕ) → Replies words input s text → Replies words input z other → (s ≡ z) × (text ≡ other)
   one_reply s z text other (usage none) (usage none') = (refl, refl)
-  one_reply s z text other (usage none) (unbuilt is) = absurd (command_or_none (commands words) is.command is.is none)
   one_reply s z text other (usage none) (too_long reads long) = absurd (no_reader (task_in (commands words)) (of_usage words none) reads)
   one_reply s z text other (usage none) (answered t s' text' asked short is) = absurd (task_or_none (task_in (commands words)) t asked (of_usage words none))
   one_reply s z text other (usage none) (audited s' text' audit reply) = absurd (command_or_none (commands words) Audit audit none)
   one_reply s z text other (usage none) (loaded number workers s' text' load reply) = absurd (no_load words number workers nothing load)
-  one_reply s z text other (unbuilt is) (usage none) = absurd (command_or_none (commands words) is.command is.is none)
-  one_reply s z text other (unbuilt is) (unbuilt is') = (refl, refl)
-  one_reply s z text other (unbuilt is) (too_long reads long) = absurd (no_reader (task_in (commands words)) (of_unbuilt words is) reads)
-  one_reply s z text other (unbuilt is) (answered t s' text' asked short has) = absurd (task_or_none (task_in (commands words)) t asked (of_unbuilt words is))
-  one_reply s z text other (unbuilt is) (audited s' text' audit reply) = absurd (built_audit words is audit)
-  one_reply s z text other (unbuilt is) (loaded number workers s' text' load reply) = absurd (no_load words number workers nothing load)
+  one_reply s z text other (usage none) (recorded workers heap limit s' text' is reply) = absurd (no_record words workers heap limit nothing is)
+  one_reply s z text other (usage none) (replayed s' text' is reply) = absurd (no_replay words nothing is)
   one_reply s z text other (too_long reads long) (usage none) = absurd (no_reader (task_in (commands words)) (of_usage words none) reads)
-  one_reply s z text other (too_long reads long) (unbuilt is) = absurd (no_reader (task_in (commands words)) (of_unbuilt words is) reads)
   one_reply s z text other (too_long reads long) (too_long reads' long') = (refl, refl)
   one_reply s z text other (too_long reads long) (answered t s' text' asked short is) = absurd (not_long input long short)
   one_reply s z text other (too_long reads long) (audited s' text' audit reply) = absurd (no_reader (task_in (commands words)) (of_audit words audit) reads)
   one_reply s z text other (too_long reads long) (loaded number workers s' text' load reply) = absurd (no_load words number workers nothing load)
+  one_reply s z text other (too_long reads long) (recorded workers heap limit s' text' is reply) = absurd (no_record words workers heap limit nothing is)
+  one_reply s z text other (too_long reads long) (replayed s' text' is reply) = absurd (no_replay words nothing is)
   one_reply s z text other (loaded number workers s' text' load reply) more = absurd (no_load words number workers nothing load)
+  one_reply s z text other (recorded workers heap limit s' text' is reply) more = absurd (no_record words workers heap limit nothing is)
+  one_reply s z text other (replayed s' text' is reply) more = absurd (no_replay words nothing is)
   one_reply s z text other (audited s' text' audit reply) more = files input s' z text' other reply (is_file_reply words input z other audit more)
   one_reply s z text other (answered t s' text' asked short is) more =
       answers t (runs_nothing (commands words) t nothing asked) input s' z text' other is (is_answer words input t z other asked short more)

@@ -56,6 +56,8 @@ RunsNothing (task.Run numbers) = ⊥
 abbrev pub MakesRun : Option Command → Type 0
 MakesRun (Some (command.Run workers granules events seed)) = Unit {0}
 MakesRun (Some (command.Load number workers)) = Unit {0}
+MakesRun (Some (command.Record workers granules events)) = Unit {0}
+MakesRun (Some command.Replay) = Unit {0}
 MakesRun _ = ⊥
 
 -- what is written for a source within the limit, and the status

@@ -2,12 +2,17 @@
 
 ghost use Rattle.sharc_top_laws.specs.AuditLaws.{AuditLaws};
 ghost use Rattle.sharc_top_laws.specs.Laws.{WarningsAreOne, SourceLaws, ReplyLaws, VerdictLaws};
+ghost use Rattle.sharc_top_laws.specs.RecordLaws.{RecordLaws};
 
 use sharc_audit::laws::{audit_laws, file_laws};
 use sharc_check::laws::check_laws;
+use sharc_cli::laws::numbers_are_within;
 use sharc_grammar::laws::{one_reading, programs_are_low, programs_are_placed};
 use sharc_infer_laws::laws::least_is_one;
 use sharc_parse::laws::{one_fault, programs_have_no_fault};
+use sharc_recorded::file_laws as recorded_laws;
+use sharc_replay::replay_laws;
+use sharc_source_laws::laws::programs_hold_no_schedule;
 use sharc_suggest::laws::suggest_laws;
 
 /// A program has one list of warnings.
@@ -57,4 +62,17 @@ pub fn audits_are_told()
     suggest_laws();
     file_laws();
     audit_laws();
+}
+
+/// Of a source that is a program with accepted modes: the reply to `record` is one recorded file, with the status of a run of its code; it says the source, the heap, the limit
+/// and a schedule by which the same code has the text that follows in the file, and ends alike. And of such a file, the reply to `replay` is the text of the run of the code by
+/// the file's schedule, with the status of that run, whatever follows the schedule.
+pub fn records_are_told()
+    ensures { RecordLaws }
+{
+    sources_are_one();
+    replay_laws();
+    recorded_laws();
+    programs_hold_no_schedule();
+    numbers_are_within();
 }

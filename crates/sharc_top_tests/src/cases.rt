@@ -3,6 +3,7 @@
 use crate::outcome::{add_outcome, answered};
 use std::alloc::{AllocError, Global};
 use std::process::Abort;
+use std::sync::Wait;
 use std::test::Fail;
 use std::thread::Threads;
 
@@ -190,7 +191,7 @@ accepted
 ";
 
 /// The status and the text for words and a source.
-fn outcome_text<R: Threads + Sync>(
+fn outcome_text<R: Threads + Wait + Sync>(
     rt: &R,
     alloc: Global,
     words: &str,
@@ -204,7 +205,7 @@ fn outcome_text<R: Threads + Sync>(
 
 /// Asserts the status and the text of one case.
 fn assert_reply(
-    rt: &(impl Abort + AllocGlobal + Threads + Sync),
+    rt: &(impl Abort + AllocGlobal + Threads + Wait + Sync),
     words: &str,
     source: &str,
     wanted: &str,
@@ -215,7 +216,10 @@ fn assert_reply(
 }
 
 /// Asserts one of the cases.
-fn assert_case(rt: &(impl Abort + AllocGlobal + Threads + Sync), case: &str) -> Result<(), Fail> {
+fn assert_case(
+    rt: &(impl Abort + AllocGlobal + Threads + Wait + Sync),
+    case: &str,
+) -> Result<(), Fail> {
     let mut parts = case.split('|');
     let (Some(words), Some(source), Some(wanted)) = (parts.next(), parts.next(), parts.next())
     else {
@@ -271,7 +275,10 @@ const HANDED: &str = "check|SCAST(struct buf locked(s->m) *, p)|0 accepted\n\
 ~run|p|1 pipe.c:18: M1 mode mismatch: expected struct buf locked(s->m) *, found struct buf private *\npipe.c:18: suggest SCAST(struct buf locked(s->m) *, p)\n";
 
 /// Asserts one case of what is handed over.
-fn assert_handed(rt: &(impl Abort + AllocGlobal + Threads + Sync), case: &str) -> Result<(), Fail> {
+fn assert_handed(
+    rt: &(impl Abort + AllocGlobal + Threads + Wait + Sync),
+    case: &str,
+) -> Result<(), Fail> {
     let mut parts = case.split('|');
     let (Some(words), Some(handed), Some(wanted)) = (parts.next(), parts.next(), parts.next())
     else {

@@ -21,9 +21,9 @@ fn a_hundred_thousand_prints_are_written(rt: HostRuntime) -> Result<(), Fail> {
 const USAGE: &str =
     "usage: check | explain | run [--workers N] [--granules N] [--events N] [--seed N] | load N [--workers N] | record [--workers N] [--granules N] [--events N] | replay | audit\n";
 
-/// Words, parted by bars: six that are no command, two that are `run`, and those that are not built yet.
+/// Words, parted by bars: six that are no command, two that are `run`, and `replay`, to which the program is no recorded run.
 const COMMANDS: &str =
-    "help|run run|Run||run --workers 17|load|run|run --seed=7 --workers 2|record|replay";
+    "help|run run|Run||run --workers 17|load|run|run --seed=7 --workers 2|replay";
 
 #[test]
 fn words_have_their_reply(rt: HostRuntime) -> Result<(), Fail> {
@@ -32,13 +32,13 @@ fn words_have_their_reply(rt: HostRuntime) -> Result<(), Fail> {
         let found = answered_line(&rt, rt.alloc(), line)?;
         let text = match found.status {
             0 => "42\n",
-            7 => "form not built\n",
+            2 => "V1 not a recorded run at line 2\n",
             _ => USAGE,
         };
         assert_eq!(rt; found.text.as_slice(), text.as_bytes(), "{line}");
         codes.push(b'0' + found.status % 10)?;
     }
-    assert_eq!(rt; codes.as_slice(), b"8888880077".as_slice());
+    assert_eq!(rt; codes.as_slice(), b"888888002".as_slice());
     Ok(())
 }
 

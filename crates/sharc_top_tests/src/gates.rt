@@ -4,6 +4,7 @@ use crate::outcome::{Outcome, gated};
 use sharc_rounds::Gate;
 use std::alloc::{AllocError, Global};
 use std::process::Abort;
+use std::sync::Wait;
 use std::sync::atomic::{AtomicU64, Ordering};
 use std::test::Fail;
 use std::thread::Threads;
@@ -13,7 +14,7 @@ const LOOKS: u64 = 100_000_000;
 
 /// Holds the first step of thread 1 until so many steps of thread 2 were asked for, and the other way round, and counts how often it gave up.
 #[derive(Drop)]
-struct Holds {
+pub(crate) struct Holds {
     for_1: u64,
     for_2: u64,
     asked_1: AtomicU64,
@@ -22,7 +23,7 @@ struct Holds {
 }
 
 impl Holds {
-    fn new(for_1: u64, for_2: u64) -> Holds {
+    pub(crate) fn new(for_1: u64, for_2: u64) -> Holds {
         Holds {
             for_1,
             for_2,
@@ -30,6 +31,11 @@ impl Holds {
             asked_2: AtomicU64::new(0),
             given_up: AtomicU64::new(0),
         }
+    }
+
+    /// How often it gave up.
+    pub(crate) fn given_up(&self) -> u64 {
+        self.given_up.load(Ordering::SeqCst)
     }
 
     /// Counts the step, and holds it, if it is the first, until the other has asked for so many.
@@ -76,11 +82,11 @@ int main(void) {
 ";
 
 /// Two threads write a racy global by their third step.
-const WRITERS: &str =
+pub(crate) const WRITERS: &str =
     "int racy f; void w(int k) { f = k; } int main(void) { int a = spawn(w, 1); int b = spawn(w, 2); join(a); join(b); print(f); return 0; }";
 
 /// What `run --workers 2` answers under this gate, and how often the gate gave up.
-fn held<R: Threads + Sync>(
+fn held<R: Threads + Wait + Sync>(
     rt: &R,
     alloc: Global,
     source: &str,
@@ -96,13 +102,12 @@ fn held<R: Threads + Sync>(
         source.as_bytes(),
         100,
     )?;
-    let given_up = gate.given_up.load(Ordering::SeqCst);
-    Ok((found, given_up))
+    Ok((found, gate.given_up()))
 }
 
 /// Asserts what is written by a run that ends well under such a gate, which never gives up.
 fn assert_held(
-    rt: &(impl Abort + AllocGlobal + Threads + Sync),
+    rt: &(impl Abort + AllocGlobal + Threads + Wait + Sync),
     source: &str,
     for_1: u64,
     for_2: u64,

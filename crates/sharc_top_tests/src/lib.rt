@@ -12,4 +12,6 @@ mod gates;
 #[cfg(test)]
 mod outcome;
 #[cfg(test)]
+mod recorded;
+#[cfg(test)]
 mod runs;

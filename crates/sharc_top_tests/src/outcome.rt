@@ -5,6 +5,7 @@ use sharc_rounds::Gate;
 use sharc_run::OpenGate;
 use sharc_top::sharc_top;
 use std::alloc::{AllocError, Global};
+use std::sync::Wait;
 use std::thread::Threads;
 
 /// The program that prints 6 * 7.
@@ -29,7 +30,7 @@ fn words_of(alloc: Global, words: &[&str]) -> Result<Vec<String>, AllocError> {
 }
 
 /// The outcome of the call over an input that never fails, and a sink with so much room.
-pub(crate) fn answered<R: Threads + Sync>(
+pub(crate) fn answered<R: Threads + Wait + Sync>(
     rt: &R,
     alloc: Global,
     words: &[&str],
@@ -41,7 +42,7 @@ pub(crate) fn answered<R: Threads + Sync>(
 }
 
 /// The outcome of the call under a gate, over an input that never fails, and a sink with so much room.
-pub(crate) fn gated<R: Threads + Sync, G: Gate + Sync>(
+pub(crate) fn gated<R: Threads + Wait + Sync, G: Gate + Sync>(
     rt: &R,
     gate: &G,
     alloc: Global,
@@ -57,7 +58,7 @@ pub(crate) fn gated<R: Threads + Sync, G: Gate + Sync>(
     Ok(Outcome { status, text })
 }
 
-fn outcome_of<R: Threads + Sync>(
+fn outcome_of<R: Threads + Wait + Sync>(
     rt: &R,
     alloc: Global,
     words: &[String],
@@ -72,7 +73,7 @@ fn outcome_of<R: Threads + Sync>(
 }
 
 /// The outcome for the words of a line, which are parted by single spaces, over the program that prints 42.
-pub(crate) fn answered_line<R: Threads + Sync>(
+pub(crate) fn answered_line<R: Threads + Wait + Sync>(
     rt: &R,
     alloc: Global,
     line: &str,
@@ -85,7 +86,7 @@ pub(crate) fn answered_line<R: Threads + Sync>(
 }
 
 /// The outcome of `run` where these calls of the source and of the sink fail.
-pub(crate) fn failing<R: Threads + Sync>(
+pub(crate) fn failing<R: Threads + Wait + Sync>(
     rt: &R,
     alloc: Global,
     source: &str,

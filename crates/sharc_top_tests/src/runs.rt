@@ -3,11 +3,12 @@
 use crate::outcome::{Outcome, add_outcome, answered};
 use std::alloc::{AllocError, Global};
 use std::process::Abort;
+use std::sync::Wait;
 use std::test::Fail;
 use std::thread::Threads;
 
 /// Cases, parted by tildes, each of options of `run`, a source, and the status and the text that answer it, parted by bars.
-const RUNS: &str = "|int main(void) { print(6 * 7); return 0; }|0 42
+pub(crate) const RUNS: &str = "|int main(void) { print(6 * 7); return 0; }|0 42
 ~|int main(void) { print(2147483647 + 1); return 0; }|4 thread 0: X4 out of range at input:1
 ~|int main(void) { print(1); print(2147483647 * 2); return 0; }|4 1
 thread 0: X4 out of range at input:1
@@ -336,7 +337,7 @@ const CHOICES: &str =
     "--seed=1|--seed=2|--seed=77|--seed=18446744073709551615|--workers=1|--workers=4|--workers=16";
 
 /// What `run` answers with these options, which are parted by blanks.
-fn run_with<R: Threads + Sync>(
+fn run_with<R: Threads + Wait + Sync>(
     rt: &R,
     alloc: Global,
     options: &str,
@@ -352,7 +353,7 @@ fn run_with<R: Threads + Sync>(
 
 /// Asserts the answer to one case.
 fn assert_run(
-    rt: &(impl Abort + AllocGlobal + Threads + Sync),
+    rt: &(impl Abort + AllocGlobal + Threads + Wait + Sync),
     choice: &str,
     case: &str,
 ) -> Result<(), Fail> {
@@ -373,7 +374,10 @@ fn assert_run(
 }
 
 /// Asserts the answers to all cases, with this choice of the interleaving.
-fn assert_runs(rt: &(impl Abort + AllocGlobal + Threads + Sync), choice: &str) -> Result<(), Fail> {
+fn assert_runs(
+    rt: &(impl Abort + AllocGlobal + Threads + Wait + Sync),
+    choice: &str,
+) -> Result<(), Fail> {
     for case in RUNS.split('~') {
         assert_run(rt, choice, case)?;
     }
@@ -394,7 +398,7 @@ const LOADS: &str =
 
 /// Asserts the answer to `load`.
 fn assert_load(
-    rt: &(impl Abort + AllocGlobal + Threads + Sync),
+    rt: &(impl Abort + AllocGlobal + Threads + Wait + Sync),
     number: &str,
     option: &str,
     wanted: &str,

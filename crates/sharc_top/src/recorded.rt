@@ -1,0 +1,144 @@
+//! What `record` makes of a source: the file of a run of it.
+
+ghost use Rattle.std.specs.Prelude.{◌≡◌, ◌≤◌, length, IfOk, IsErrOf};
+ghost use Rattle.sharc_io.specs.Causes.{Rose};
+ghost use Rattle.sharc_reach.specs.Reaching.{AreReached};
+ghost use Rattle.sharc_mode_laws.specs.Rules.{MeetsRules};
+ghost use Rattle.sharc_cli.specs.Bounds.{IsWithin};
+ghost use Rattle.sharc_top.specs.Recording.{Records, GivesRun, GivesSource, RecordReplies, IsRecordReply, AreRecordNumbers};
+
+use crate::ran::status_of;
+use crate::refused::{Failure, SOURCE_LIMIT, refusal};
+use crate::reply::{Reply, line_reply};
+use crate::status::Status;
+use crate::verdict::accepted;
+use sharc_io::{ReadError, Source, read_all};
+use sharc_mode::moded::Moded;
+use sharc_reach::Reached;
+use sharc_replay::record_by_workers;
+use sharc_rounds::Gate;
+use sharc_run::shape_of;
+use sharc_sound::{ReachedProgram, Refusal, compile, front};
+use std::alloc::{AllocError, Global};
+use std::sync::Wait;
+use std::thread::Threads;
+
+/// The numbers of a recorded run.
+#[derive(Clone, Copy, Debug, PartialEq, Eq)]
+pub struct RecordNumbers {
+    /// How many workers make the turns: 1 to 16.
+    pub workers: u32,
+    /// How many granules of 16 bytes the heap has: 16 to 65,536.
+    pub granules: u32,
+    /// How many events a thread makes at most: 1 to 200,000.
+    pub events: u64,
+}
+
+/// The file of a run of a program whose modes are accepted.
+fn file_of_run<R: Threads + Wait + Sync, G: Gate + Sync>(
+    rt: &R,
+    gate: &G,
+    alloc: Global,
+    program: &Moded,
+    source: &[u8],
+    numbers: RecordNumbers,
+) -> Result<Reply, AllocError>
+    requires numbers { AreRecordNumbers numbers }
+    requires accepted { MeetsRules program.now }
+    ensures { IfOk result (λ reply. GivesRun program.now (Records source.now numbers.granules numbers.events) reply.status reply.text.items) }
+{
+    let code = compile(alloc, program)?;
+    let shape = shape_of(&code, numbers.granules);
+    let ran = record_by_workers(
+        rt,
+        alloc,
+        source,
+        &code,
+        &shape,
+        numbers.workers,
+        numbers.events,
+        gate,
+    )?;
+    Ok(Reply {
+        status: status_of(ran.outcome),
+        text: ran.text,
+    })
+}
+
+/// What is written for a program with its modes.
+fn program_recorded<R: Threads + Wait + Sync, G: Gate + Sync>(
+    rt: &R,
+    gate: &G,
+    alloc: Global,
+    program: Moded,
+    reached: &Reached,
+    source: &[u8],
+    numbers: RecordNumbers,
+) -> Result<Reply, AllocError>
+    requires reached { AreReached program.typed reached.now }
+    requires numbers { AreRecordNumbers numbers }
+    ensures { IfOk result (λ reply. GivesRun program (Records source.now numbers.granules numbers.events) reply.status reply.text.items) }
+{
+    match accepted(alloc, program, reached)? {
+        Ok(checked) => file_of_run(rt, gate, alloc, checked.moded(), source, numbers),
+        Err(refusal) => Ok(refusal),
+    }
+}
+
+/// What is written for a source within the limit.
+fn source_recorded<R: Threads + Wait + Sync, G: Gate + Sync>(
+    rt: &R,
+    gate: &G,
+    alloc: Global,
+    source: &[u8],
+    numbers: RecordNumbers,
+) -> Result<Reply, AllocError>
+    requires numbers { AreRecordNumbers numbers }
+    requires short { length source.now ≤ SOURCE_LIMIT }
+    ensures { IfOk result (λ reply. GivesSource source.now (Records source.now numbers.granules numbers.events) reply.status reply.text.items) }
+{
+    match front(alloc, source) {
+        Ok(ReachedProgram { program, reached }) => {
+            program_recorded(rt, gate, alloc, program, &reached, source, numbers)
+        }
+        Err(Refusal::Source(fault)) => refusal(alloc, &fault),
+        Err(Refusal::Modes(..)) => unreachable!(),
+        Err(Refusal::Memory) => Err(AllocError),
+    }
+}
+
+/// The reply to `record` with these numbers and the source that is read.
+pub(crate) fn recorded<R: Threads + Wait + Sync, G: Gate + Sync, S: Source>(
+    rt: &R,
+    gate: &G,
+    alloc: Global,
+    workers: u64,
+    granules: u64,
+    events: u64,
+    input: &mut S,
+) -> Result<Reply, Failure>
+    requires workers { IsWithin 1 16 workers }
+    requires granules { IsWithin 16 65536 granules }
+    requires events { IsWithin 1 200000 events }
+    ensures reply { IfOk result (λ reply. IsRecordReply granules events (S.left input.old) reply.status reply.text.items) }
+    ensures fault { IsErrOf result Failure.Source → Rose (S.faults input.old) (S.faults input.new) }
+    ensures counted { S.faults input.old ≤ S.faults input.new }
+{
+    let numbers = RecordNumbers {
+        workers: workers as u32,
+        granules: granules as u32,
+        events,
+    };
+    match read_all(alloc, input, SOURCE_LIMIT) {
+        Ok(source) => {
+            let reply = source_recorded(rt, gate, alloc, &source, numbers)?;
+            Ok(reply)
+        }
+        Err(ReadError::TooLong) => {
+            let refusal = line_reply(alloc, Status::SourceRefused, b"source over 1048576 bytes")?;
+            Ok(refusal)
+        }
+        Err(ReadError::ReadFault) => Err(Failure::Source),
+        Err(ReadError::Memory) => Err(Failure::Memory),
+    }
+}

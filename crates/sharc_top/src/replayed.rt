@@ -1,0 +1,144 @@
+//! What `replay` makes of a recorded file: the run that its schedule chooses.
+
+ghost use Rattle.std.specs.Prelude.{◌≡◌, ◌≤◌, length, IfOk, IsErrOf};
+ghost use Rattle.sharc_io.specs.Causes.{Rose};
+ghost use Rattle.sharc_reach.specs.Reaching.{AreReached};
+ghost use Rattle.sharc_mode_laws.specs.Rules.{MeetsRules};
+ghost use Rattle.sharc_recorded.specs.File.{IsFile, AreNumbers};
+ghost use Rattle.sharc_recorded.specs.Shown.{FaultIs, view_of};
+ghost use Rattle.sharc_top.specs.Recording.{Replays, GivesRun, GivesSource, ReplayReplies, IsReplayReply, bad_file_line, IsWithinFile};
+
+use crate::ran::status_of;
+use crate::refused::{Failure, SOURCE_LIMIT, refusal};
+use crate::reply::{Reply, line_reply};
+use crate::status::Status;
+use crate::verdict::accepted;
+use sharc_io::{ReadError, Source, read_all};
+use sharc_mode::moded::Moded;
+use sharc_reach::Reached;
+use sharc_recorded::{FileFault, RecordFile, file_laws, read_file};
+use sharc_replay::run_by_schedule;
+use sharc_run::shape_of;
+use sharc_sound::{ReachedProgram, Refusal, compile, front};
+use std::alloc::{AllocError, Global};
+
+/// The largest recorded file, in bytes (own).
+const FILE_LIMIT: usize = 1_073_741_824;
+
+/// The run of a program whose modes are accepted, by the schedule of its file.
+fn run_of_file(alloc: Global, program: &Moded, file: &RecordFile) -> Result<Reply, AllocError>
+    requires file { IsWithinFile (view_of file.now) }
+    requires accepted { MeetsRules program.now }
+    ensures { IfOk result (λ reply. GivesRun program.now (Replays (view_of file.now)) reply.status reply.text.items) }
+{
+    let code = compile(alloc, program)?;
+    let shape = shape_of(&code, file.heap);
+    let ran = run_by_schedule(alloc, &code, &shape, file.places.as_slice(), file.limit)?;
+    Ok(Reply {
+        status: status_of(ran.outcome),
+        text: ran.text,
+    })
+}
+
+/// What is written for a program with its modes.
+fn program_replayed(
+    alloc: Global,
+    program: Moded,
+    reached: &Reached,
+    file: &RecordFile,
+) -> Result<Reply, AllocError>
+    requires reached { AreReached program.typed reached.now }
+    requires file { IsWithinFile (view_of file.now) }
+    ensures { IfOk result (λ reply. GivesRun program (Replays (view_of file.now)) reply.status reply.text.items) }
+{
+    match accepted(alloc, program, reached)? {
+        Ok(checked) => run_of_file(alloc, checked.moded(), file),
+        Err(refusal) => Ok(refusal),
+    }
+}
+
+/// What is written for a file whose source is within the limit.
+fn source_replayed(alloc: Global, file: &RecordFile) -> Result<Reply, AllocError>
+    requires file { IsWithinFile (view_of file.now) }
+    requires short { length file.now.source.items ≤ SOURCE_LIMIT }
+    ensures { IfOk result (λ reply. GivesSource file.now.source.items (Replays (view_of file.now)) reply.status reply.text.items) }
+{
+    match front(alloc, &file.source) {
+        Ok(ReachedProgram { program, reached }) => program_replayed(alloc, program, &reached, file),
+        Err(Refusal::Source(fault)) => refusal(alloc, &fault),
+        Err(Refusal::Modes(..)) => unreachable!(),
+        Err(Refusal::Memory) => Err(AllocError),
+    }
+}
+
+/// What is written for the recorded file of this input.
+fn file_replayed(alloc: Global, bytes: &[u8], file: &RecordFile) -> Result<Reply, AllocError>
+    requires short { length bytes.now ≤ FILE_LIMIT }
+    requires file { IsFile bytes.now (view_of file.now) }
+    ensures { IfOk result (λ reply. ReplayReplies bytes.now reply.status reply.text.items) }
+{
+    // For the proof that a file has no more places than bytes.
+    file_laws();
+    if file.source.len() > SOURCE_LIMIT {
+        return line_reply(alloc, Status::SourceRefused, b"source over 1048576 bytes");
+    }
+    source_replayed(alloc, file)
+}
+
+/// The line of an input that is no recorded file.
+fn bad_file_text(alloc: Global, line: u32) -> Result<Vec<u8>, AllocError>
+    ensures { IfOk result (λ text. text.items ≡ bad_file_line line) }
+{
+    let mut text = String::new(alloc);
+    writeln!(text, "V1 not a recorded run at line {line}")?;
+    Ok(text.into_bytes())
+}
+
+/// What is written for an input that is no recorded file.
+fn file_refusal(alloc: Global, bytes: &[u8], fault: FileFault) -> Result<Reply, AllocError>
+    requires short { length bytes.now ≤ FILE_LIMIT }
+    requires fault { FaultIs bytes.now fault }
+    ensures { IfOk result (λ reply. ReplayReplies bytes.now reply.status reply.text.items) }
+{
+    match fault {
+        FileFault::Line(line) => {
+            let text = bad_file_text(alloc, line)?;
+            Ok(Reply {
+                status: Status::SourceRefused,
+                text,
+            })
+        }
+        FileFault::Memory => Err(AllocError),
+    }
+}
+
+/// What is written for an input within the limit.
+fn input_replayed(alloc: Global, bytes: &[u8]) -> Result<Reply, AllocError>
+    requires { length bytes.now ≤ FILE_LIMIT }
+    ensures { IfOk result (λ reply. ReplayReplies bytes.now reply.status reply.text.items) }
+{
+    match read_file(alloc, bytes) {
+        Ok(file) => file_replayed(alloc, bytes, &file),
+        Err(fault) => file_refusal(alloc, bytes, fault),
+    }
+}
+
+/// The reply to `replay` and the file that is read.
+pub(crate) fn replayed<S: Source>(alloc: Global, input: &mut S) -> Result<Reply, Failure>
+    ensures reply { IfOk result (λ reply. IsReplayReply (S.left input.old) reply.status reply.text.items) }
+    ensures fault { IsErrOf result Failure.Source → Rose (S.faults input.old) (S.faults input.new) }
+    ensures counted { S.faults input.old ≤ S.faults input.new }
+{
+    match read_all(alloc, input, FILE_LIMIT) {
+        Ok(bytes) => {
+            let reply = input_replayed(alloc, &bytes)?;
+            Ok(reply)
+        }
+        Err(ReadError::TooLong) => {
+            let refusal = line_reply(alloc, Status::SourceRefused, b"file over 1073741824 bytes")?;
+            Ok(refusal)
+        }
+        Err(ReadError::ReadFault) => Err(Failure::Source),
+        Err(ReadError::Memory) => Err(Failure::Memory),
+    }
+}
