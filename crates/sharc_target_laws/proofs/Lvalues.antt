@@ -25,7 +25,7 @@ use Rattle.sharc_names.specs.Kinds.{Kind, object, array, is_array, is_null, is_p
 use Rattle.sharc_names.specs.Kinds as kinds
 use Rattle.sharc_names.specs.Names.{global_kind, field_of}
 use Rattle.sharc_ctype.specs.Expressions.{constant_kind, number_kind}
-use Rattle.sharc_ctype.specs.Resolved.{Resolution, named_at, declaration_at, global_at, kind_at, structs_in}
+use Rattle.sharc_ctype.specs.Resolved.{Resolution, named_at, named_kind, declaration_at, global_at, kind_at, structs_in}
 use Rattle.sharc_ctype_laws.specs.Constraints.{HasType, Common, both_shorter, left_long, right_long, struct_named, IsMemberOf, Callee, of_program, of_conditions}
 use Rattle.sharc_ctype_laws.specs.Constraints as typing
 use Rattle.sharc_mode.specs.Cells.{is_mutex_kind, top_of, field_cell, first_of, pointed, named_cell, global_cell, declared_cell, field_named, cell_at}
@@ -150,7 +150,7 @@ pub record AreReady (m : Assignment) : Type 0 where
   pub field_path : (s : StructDefinition) (d : Declaration) → Contains (structs_in m.typed.program.items) s → Contains s.fields d → (path : Path) → top_of d.written.ctype.levels ≡ Some (mode.Locked path) → PathNames m.typed (lock_of path)
   pub field_plain : (s : StructDefinition) (d : Declaration) → Contains (structs_in m.typed.program.items) s → Contains s.fields d → is_struct_behind 0 (declared_kind d.written) ≡ false
   pub field_forms : (how : Reading) (token : ℕ) → map form_of (modes_of m (declared_row m.typed how token)) ≡ map form_of (modes_of m (declared_row m.typed written token))
-  pub global_path : (g : ℕ) (d : GlobalDefinition) → global_at m.typed g ≡ Some d → (l : Lock) → global_cell m (Some d) ≡ locked l → (k : ℕ) × (named_at m.typed l.first ≡ named.Global k)
+  pub global_path : (g : ℕ) (d : GlobalDefinition) → global_at m.typed g ≡ Some d → (l : Lock) → global_cell m (Some d) ≡ locked l → (k : ℕ) × (named_at m.typed l.first ≡ named.Global k) × (named_kind m.typed (named.Global k) ≡ kinds.mutex)
 
 module _ (m : Assignment) (ready : AreReady m) where
   abbrev r : Resolution

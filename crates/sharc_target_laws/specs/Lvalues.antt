@@ -7,8 +7,8 @@ use Rattle.sharc_tree.specs.Low.{IsLow}
 use Rattle.sharc_tree.specs.Placed.{IsPlaced}
 use Rattle.sharc_tree.specs.Tree.{Expression, parentheses, index, field, unary}
 use Rattle.sharc_names.specs.declared.fault.Named.TheVariants as named
-use Rattle.sharc_names.specs.Kinds.{Kind, object, is_array, is_struct_behind}
-use Rattle.sharc_ctype.specs.Resolved.{Resolution, IsResolved, named_at, global_at, kind_at}
+use Rattle.sharc_names.specs.Kinds.{Kind, object, mutex, is_array, is_struct_behind}
+use Rattle.sharc_ctype.specs.Resolved.{Resolution, IsResolved, named_at, named_kind, global_at, kind_at}
 use Rattle.sharc_mode.specs.Cells.{is_mutex_kind, is_behind_pointer, cell_at}
 use Rattle.sharc_mode.specs.Flows.{IsLeastAssignment}
 use Rattle.sharc_mode.specs.Moded.{Assignment}
@@ -69,7 +69,7 @@ pub data ModeFits (r : Resolution) (n : ℕ) (modes : List Sharing) : Sharing �
   is_racy : ModeFits r n modes racy own.Racy
   is_dynamic : ModeFits r n modes dynamic own.Dynamic
   locked_by_type : {l : Lock} {below : List Sharing} → modes ≡ locked l ∷ below → ModeFits r n modes (locked l) (Under (OfType 0))
-  locked_by_global : {l : Lock} {g : ℕ} → named_at r l.first ≡ named.Global g → ModeFits r n modes (locked l) (Under (OfGlobals (first_cell (globals_of r) g - 2)))
+  locked_by_global : {l : Lock} {g : ℕ} → named_at r l.first ≡ named.Global g → named_kind r (named.Global g) ≡ mutex → ModeFits r n modes (locked l) (Under (OfGlobals (first_cell (globals_of r) g - 2)))
   locked_by_sibling : {l : Lock} {f : ℕ} → named_at r l.first ≡ named.Field f → is_behind_pointer r l ≡ false → ModeFits r n modes (locked l) (Under (OfElement n (field_place r f)))
   locked_behind : {l : Lock} {f : ℕ} → named_at r l.first ≡ named.Field f → is_behind_pointer r l ≡ true → ModeFits r n modes (locked l) (own.Behind n (field_place r f))
 

@@ -1,5 +1,6 @@
 // The laws of the table of targets, each the contract of a function that does nothing.
 
+ghost use Rattle.sharc_target_laws.specs.Beside.{LocksStandBeside};
 ghost use Rattle.sharc_target_laws.specs.Laws.{NumbersFound, ShapesClosed, CellsAre, TargetsAre, ExpressionsFound, VariablesFound, ResultsFound, MembersAre, GlobalsAre, GlobalsEnd, GlobalsBegin, GlobalsHold, LayoutsAre};
 ghost use Rattle.sharc_target_laws.specs.Lvalues.{LvaluesFit};
 ghost use Rattle.sharc_target_laws.specs.Pointees.{PointeesFit, RecastsFit, SameForms};
@@ -122,3 +123,14 @@ pub fn recasts_fit()
 pub fn same_modes()
     ensures { SameForms }
 {}
+
+/// What locks a field from within its element is there: a mutex, or a readonly pointer to one.
+pub fn locks_stand_beside()
+    ensures { LocksStandBeside }
+{
+    each_name_once();
+    only_names();
+    each_type_found();
+    each_names_itself();
+    rules_are_met();
+}
