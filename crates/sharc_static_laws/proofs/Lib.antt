@@ -4,6 +4,7 @@ pub mod Holds
 pub mod Lists
 pub mod Locals
 pub mod Names
+pub mod Noted
 pub mod Origins
 pub mod Passed
 pub mod Places
@@ -11,6 +12,7 @@ pub mod Points
 pub mod Recasting
 pub mod Registers
 pub mod Same
+pub mod Scoping
 pub mod Starts
 pub mod Transferred
 pub mod Walk

@@ -222,7 +222,7 @@ pub field_found : (r : Resolution) (list : List Declaration) (name : List ℕ) (
 field_found r [] name d all is = absurd (none_some d is)
 field_found r (x ∷ rest) name d all is = found_or_later (FieldInFile r) x d (field_of rest name) (bytes_eq x.name.text name) is all.0 (λ h. field_found r rest name d all.1 h)
 
-entry_there : (names : List Entry) (name : List ℕ) (e : Entry) → look_up names name ≡ Some e → (x : ℕ) → meaning_token e.meaning ≡ Some x → IsVariableIn names x
+pub entry_there : (names : List Entry) (name : List ℕ) (e : Entry) → look_up names name ≡ Some e → (x : ℕ) → meaning_token e.meaning ≡ Some x → IsVariableIn names x
 entry_there [] name e is x h = absurd (none_some e is)
 entry_there (y ∷ rest) name e is x h = by (bytes_eq y.name name) is (entry_there rest name e)
   where

@@ -11,8 +11,8 @@ ghost use Rattle.sharc_static_laws.specs.Starting.{SpawnedBegin};
 ghost use Rattle.sharc_static_laws.specs.Taken.{TakenLaws};
 
 use sharc_ctype_laws::laws::{
-    all_fair, each_names_found, each_names_itself, each_path_found, each_type_found,
-    meets_constraints, one_type, spawns_threads,
+    all_fair, each_name_once, each_names_found, each_names_itself, each_path_found,
+    each_type_found, meets_constraints, one_type, only_names, spawns_threads,
 };
 use sharc_mode::shown::row_laws;
 use sharc_mode_laws::laws::rules_are_met;
@@ -50,6 +50,8 @@ pub fn held_laws()
 pub fn arguments_pass()
     ensures { ArgumentsPass }
 {
+    each_name_once();
+    only_names();
     each_type_found();
     rules_are_met();
     all_fair();
@@ -60,6 +62,8 @@ pub fn arguments_pass()
 pub fn functions_stand()
     ensures { FunctionsStand }
 {
+    each_name_once();
+    only_names();
     each_names_itself();
     each_names_found();
     each_path_found();
