@@ -1,0 +1,30 @@
+-- What is passed at a call has the type that the parameter has there.
+use Rattle.std.specs.Prelude.{◌≡◌, ℕ, ◌+◌, true, List, Some, Contains}
+use Rattle.sharc_tree.specs.declared.tree.declaration.Declaration.{Declaration}
+use Rattle.sharc_tree.specs.Tree.{Expression, Arguments, value}
+use Rattle.sharc_names.specs.declared.fault.Named.TheVariants as named
+use Rattle.sharc_names.specs.Kinds.{is_pointer, declared_kind}
+use Rattle.sharc_ctype.specs.Resolved.{named_at}
+use Rattle.sharc_ctype.specs.Transfers.{variable, passed}
+use Rattle.sharc_mode.specs.Rows.{argument_use}
+use Rattle.sharc_mode_laws.specs.Constructs.{IsCall}
+use Rattle.sharc_flat.specs.Flattened.{parameters_scope}
+use Rattle.sharc_flat.specs.Scope.{Context}
+use Rattle.sharc_invariant.specs.Labels.{Refers, Label, SameReference}
+use Rattle.sharc_invariant.specs.Typed.{Passes}
+use Rattle.sharc_static_laws.specs.Laws.{IsAccepted}
+use Rattle.sharc_static_laws.specs.Static.{register, variable_type, entry_of}
+
+-- where a function with these parameters begins
+abbrev pub at_entry : Context → List Declaration → Context
+at_entry c ds = record c { scope = parameters_scope ds }
+
+-- The frame of the callee begins at register k. Where the argument for a parameter is a constant variable, its register holds a copy of that.
+abbrev pub AreCopies : Context → List Declaration → Arguments → Label → ℕ → Type 0
+AreCopies c ds all l k = (x at y : ℕ) → argument_use c.program.typed ds all x ≡ Some at → named_at c.program.typed at ≡ named.Variable y → SameReference l (register c y) (k + register (at_entry c ds) x)
+
+-- an argument in register a
+abbrev pub ArgumentsPass : Type 0
+ArgumentsPass = (c : Context) → IsAccepted c.program → (ds : List Declaration) (all : Arguments) (d : Declaration) (e : Expression) → IsCall c.program ds all
+    → Contains (passed ds all) record { receiver = variable d; source = value e } → is_pointer (declared_kind d.written) ≡ true
+    → (l : Label) (k a : ℕ) → AreCopies c ds all l k → Passes l k a (entry_of c e) (Refers (variable_type (at_entry c ds) d.name.site.token))

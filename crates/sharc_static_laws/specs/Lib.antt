@@ -1,0 +1,10 @@
+pub mod Calls
+pub mod Casting
+pub mod Held
+pub mod Laws
+pub mod Pointing
+pub mod Scopes
+pub mod Standing
+pub mod Starting
+pub mod Static
+pub mod Taken
