@@ -15,3 +15,4 @@ pub mod Law
 pub mod Accessed
 pub mod Placing
 pub mod Expressing
+pub mod Locking
