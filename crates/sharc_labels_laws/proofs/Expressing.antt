@@ -9,6 +9,7 @@ use Rattle.sharc_tree.specs.declared.tree.expression.Access.TheVariants.{Dot, Ar
 use Rattle.sharc_tree.specs.declared.tree.expression.BinaryOperator.{BinaryOperator}
 use Rattle.sharc_tree.specs.declared.tree.expression.BinaryOperator.TheVariants.{LogicalOr, LogicalAnd, BitOr, BitXor, BitAnd, Equal, NotEqual, Less, Greater, LessOrEqual, GreaterOrEqual, ShiftLeft, ShiftRight, Add, Subtract, Multiply, Divide, Remainder}
 use Rattle.sharc_tree.specs.declared.tree.expression.Constant.{Constant}
+use Rattle.sharc_tree.specs.declared.tree.expression.PlaceCall.TheVariants.{Lock, Unlock, Free}
 use Rattle.sharc_tree.specs.declared.tree.expression.UnaryOperator.{UnaryOperator}
 use Rattle.sharc_tree.specs.declared.tree.expression.UnaryOperator.TheVariants.{Negate, Not, Complement, Dereference}
 use Rattle.sharc_tree.specs.declared.tree.expression.ValueCall.TheVariants.{Join, Print}
@@ -54,6 +55,7 @@ use Rattle.sharc_labels_laws.proofs.Parts.{P, At, at_number, at_fill, number_abo
 use Rattle.sharc_labels_laws.proofs.Variables.{local_at, move_at}
 use Rattle.sharc_labels_laws.proofs.Indexes.{FindsElement, element_of, fresh_name}
 use Rattle.sharc_labels_laws.proofs.Accessed.{Frame, placed, based, ints_of, indexed, int_value, reference_value, holds_over, wider_names}
+use Rattle.sharc_labels_laws.proofs.Locking.{locked_at, unlocked_at}
 use Rattle.sharc_labels_laws.proofs.Placing.{AreFew, which, bounds_at, finds_object, finds_global}
 
 plain_base : (n : Number) (r q : ℕ) → IsPlain n → HasBase n q → q < r
@@ -545,7 +547,15 @@ module _ (around : Setting) (f : ℕ) (ways : List Way) (y : Typing) (c : Contex
         let at2 = at_number around f D N top low from i r l fr.at n.number (λ q z. plain_base n.number r q n.plain z) in
         entered_piece from i r l fr _ (mark l from i) (number_dropped around f D N top low from i r l fr.at n.number _ (mark l from i)
         (joins from (mark l from i) (with_number around f D N top low from l i n.number) (with_number around f D N top low from l i n.number) (expression_code c i r a) (op.Print i (at_site s.first) ∷ []) n.piece (print_at around f D N top low from (i + 1) r (set_number l i n.number) at2 (i + 1) i (at_site s.first))))
-    expressions from i r l fr (on_place s w a) h = absurd h
+    expressions from i r l fr (on_place s Lock a) h =
+        let p = places from i r l fr (span_of a).first None None a h.0 in
+        entered_piece from i r l fr _ (mark l from i) (joins from (mark l from i) (placed around f D y c low from (target_of c a) None (ground_of around f ways y c a) p.element i r p.copy l) (mark l from i) (place_code c i r (span_of a).first None None a) _ p.piece
+        (locked_at around f D y c low from i r l fr (ground_of around f ways y c a) p.element p.copy p.fits p.small _ _ _ (target_of c a) h.1 h.2))
+    expressions from i r l fr (on_place s Unlock a) h =
+        let p = places from i r l fr (span_of a).first None None a h.0 in
+        entered_piece from i r l fr _ (mark l from i) (joins from (mark l from i) (placed around f D y c low from (target_of c a) None (ground_of around f ways y c a) p.element i r p.copy l) (mark l from i) (place_code c i r (span_of a).first None None a) _ p.piece
+        (unlocked_at around f D y c low from i r l fr (ground_of around f ways y c a) p.element p.copy p.fits p.small _ _ (at_site s.first) (target_of c a) h.1 h.2))
+    expressions from i r l fr (on_place s Free a) h = absurd h
     expressions from i r l fr (cast s t a) h = absurd h
     expressions from i r l fr (index s a n) h =
         let e = index s a n in

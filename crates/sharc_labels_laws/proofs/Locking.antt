@@ -19,7 +19,7 @@ use Rattle.sharc_invariant.proofs.Scoped.{less_refl, less_entry_refl, less_numbe
 use Rattle.sharc_typed.specs.Passes.{IsNumberOf}
 use Rattle.sharc_labels_laws.specs.Stretches.{Mark, Setting}
 use Rattle.sharc_labels_laws.specs.Places.{IsNamed, mark}
-use Rattle.sharc_labels_laws.specs.Premises.{Typing, HasMutex, Ground, MutexTyped}
+use Rattle.sharc_labels_laws.specs.Premises.{Typing, HasBaseAt, HasMutex, Ground, MutexTyped}
 use Rattle.sharc_labels_laws.proofs.Fitting.{fits_same}
 use Rattle.sharc_labels_laws.proofs.Standing.{less_by, less_emptied_over, without_same, scoped_frame, unnamed}
 use Rattle.sharc_labels_laws.proofs.Accesses.{InFrame}
@@ -203,3 +203,76 @@ module _ (around : Setting) (f : ℕ) (D : (ℕ → Mark) → Type 0) (y : Typin
         less (cells.GlobalAt h p) base = absurd base
         less (cells.Object q n) base = subst (λ z. Less (record (fill (over X g Closed) (r + 1) (X.env z) (X.same z) true) { room = true }) two) (sym base) less_two
         less (cells.ObjectAt q j) base = subst (λ z. Less (record (fill (over X g Closed) (r + 1) (X.env z) (X.same z) true) { room = true }) two) (sym base) less_two
+
+  -- ---- by what is named
+  module _ (i r : ℕ) (l : Label) (fr : Frame around f D y c low from i r l) (ground : Ground) (e : Element) (v : ℕ) (base_fits : IsNamed N r ground.base) (copy : v ≤ r) where
+    abbrev Start : Target → Mark
+    Start t = placed around f D y c low from t None ground e i r v l
+
+    abbrev ints_for : Target → ℕ → Number
+    ints_for t = ints_of around f D y c low from t None ground e i r l.ints
+
+    low_ints : (t : Target) (j : ℕ) → j < i → ints_for t j ≡ l.ints j
+    low_ints t j lt = ints_below around f D y c low from t None ground e i r l.ints j lt
+
+    mutex_global : (t : Target) → MutexTyped around y c f t None ground → HasBaseAt t ground r l → HasMutex around (over l (ints_for t) Closed) (cell_of c.globals i r t)
+    mutex_global t h base = h e i r (over l (ints_for t) Closed) (placed_by around f D y c low from i r l fr None ground e v base_fits copy t l (λ q lt. refl) (λ q lt. refl) fr.at.owned base (ints_for t) (λ j lt. refl))
+
+    abbrev X2 : Label
+    X2 = fill l r (Refers ground.base) v true
+
+    mutex_object : (t : Target) → MutexTyped around y c f t None ground → HasBaseAt t ground r X2 → HasMutex around (over X2 (ints_for t) Closed) (cell_of c.globals i r t)
+    mutex_object t h base = h e i r (over X2 (ints_for t) Closed) (placed_by around f D y c low from i r l fr None ground e v base_fits copy t X2 (env_base around f D y c low from i r l fr None ground e v base_fits copy) (same_base around f D y c low from i r l fr None ground e v base_fits copy) fr.at.owned base (ints_for t) (λ j lt. refl))
+
+    base_is : (X2.env r ≡ Refers ground.base) × (X2.known r ≡ true)
+    base_is = is_base around f D y c low from i r l fr None ground e v base_fits copy
+
+    module _ (a b d : Spot) where
+      pub locked_at : (t : Target) → is_cell t ≡ true → MutexTyped around y c f t None ground → Q (Start t) (op.ChkNotHeld (cell_of c.globals i r t) a ∷ op.ChkRoom b ∷ op.Lock (cell_of c.globals i r t) d ∷ []) (mark l from i)
+      locked_at (variable x) is h = absurd (false≢true is)
+      locked_at (in_global g n) is h =
+          let m = mutex_global (in_global g n) h tt in
+          joins (Start (in_global g n)) (mark (roomy (over l l.ints Closed)) from (i + 0)) (mark l from i) (op.ChkNotHeld _ a ∷ op.ChkRoom b ∷ []) (op.Lock _ d ∷ [])
+          (ready_at i r l fr.at l.ints (λ j lt. refl) (i + 0) (omega arith) _ a b m) (lock_global i r l fr.at l.ints (λ j lt. refl) (i + 0) (omega arith) _ d tt m)
+      locked_at (in_global_at g n) is h =
+          let t = in_global_at g n in
+          let m = mutex_global t h tt in
+          joins (Start t) (mark (roomy (over l (ints_for t) Closed)) from (i + 1)) (mark l from i) (op.ChkNotHeld _ a ∷ op.ChkRoom b ∷ []) (op.Lock _ d ∷ [])
+          (ready_at i r l fr.at (ints_for t) (low_ints t) (i + 1) (omega arith) _ a b m) (lock_global i r l fr.at (ints_for t) (low_ints t) (i + 1) (omega arith) _ d tt m)
+      locked_at (in_object n) is h =
+          let t = in_object n in
+          let m = mutex_object t h base_is in
+          let at2 = at_base around f D y c low from i r l fr None ground e v base_fits copy in
+          joins (Start t) (mark (roomy (over X2 l.ints Closed)) from (i + 0)) (mark l from i) (op.ChkNotHeld _ a ∷ op.ChkRoom b ∷ []) (op.Lock _ d ∷ [])
+          (ready_at i (r + 1) X2 at2 l.ints (λ j lt. refl) (i + 0) (omega arith) _ a b m) (lock_object i r l fr ground e v base_fits copy l.ints (λ j lt. refl) (i + 0) (omega arith) _ d refl m)
+      locked_at (in_object_at n) is h =
+          let t = in_object_at n in
+          let m = mutex_object t h base_is in
+          let at2 = at_base around f D y c low from i r l fr None ground e v base_fits copy in
+          joins (Start t) (mark (roomy (over X2 (ints_for t) Closed)) from (i + 1)) (mark l from i) (op.ChkNotHeld _ a ∷ op.ChkRoom b ∷ []) (op.Lock _ d ∷ [])
+          (ready_at i (r + 1) X2 at2 (ints_for t) (low_ints t) (i + 1) (omega arith) _ a b m) (lock_object i r l fr ground e v base_fits copy (ints_for t) (low_ints t) (i + 1) (omega arith) _ d refl m)
+
+      pub unlocked_at : (t : Target) → is_cell t ≡ true → MutexTyped around y c f t None ground → Q (Start t) (op.ChkHeld (cell_of c.globals i r t) a ∷ op.Unlock (r + base_width t) (cell_of c.globals i r t) b ∷ unlocked_code r t) (mark l from i)
+      unlocked_at (variable x) is h = absurd (false≢true is)
+      unlocked_at (in_global g n) is h =
+          let t = in_global g n in
+          let m = mutex_global t h tt in
+          joins (Start t) (mark (over l l.ints (Holds (cell_of c.globals i r t))) from (i + 0)) (mark l from i) (op.ChkHeld _ a ∷ []) (op.Unlock (r + 0) _ b ∷ [])
+          (held_at i r l fr.at l.ints (λ j lt. refl) (i + 0) (omega arith) _ a m) (unlock_global i r l fr.at l.ints (λ j lt. refl) (i + 0) (omega arith) _ b (r + 0) (omega arith) tt m)
+      unlocked_at (in_global_at g n) is h =
+          let t = in_global_at g n in
+          let m = mutex_global t h tt in
+          joins (Start t) (mark (over l (ints_for t) (Holds (cell_of c.globals i r t))) from (i + 1)) (mark l from i) (op.ChkHeld _ a ∷ []) (op.Unlock (r + 0) _ b ∷ [])
+          (held_at i r l fr.at (ints_for t) (low_ints t) (i + 1) (omega arith) _ a m) (unlock_global i r l fr.at (ints_for t) (low_ints t) (i + 1) (omega arith) _ b (r + 0) (omega arith) tt m)
+      unlocked_at (in_object n) is h =
+          let t = in_object n in
+          let m = mutex_object t h base_is in
+          let at2 = at_base around f D y c low from i r l fr None ground e v base_fits copy in
+          joins (Start t) (mark (over X2 l.ints (Holds (cell_of c.globals i r t))) from (i + 0)) (mark l from i) (op.ChkHeld _ a ∷ []) (op.Unlock (r + 1) _ b ∷ op.Pop (r + 1) ∷ op.Pop r ∷ [])
+          (held_at i (r + 1) X2 at2 l.ints (λ j lt. refl) (i + 0) (omega arith) _ a m) (unlock_object i r l fr ground e v base_fits copy l.ints (λ j lt. refl) (i + 0) (omega arith) _ b refl m)
+      unlocked_at (in_object_at n) is h =
+          let t = in_object_at n in
+          let m = mutex_object t h base_is in
+          let at2 = at_base around f D y c low from i r l fr None ground e v base_fits copy in
+          joins (Start t) (mark (over X2 (ints_for t) (Holds (cell_of c.globals i r t))) from (i + 1)) (mark l from i) (op.ChkHeld _ a ∷ []) (op.Unlock (r + 1) _ b ∷ op.Pop (r + 1) ∷ op.Pop r ∷ [])
+          (held_at i (r + 1) X2 at2 (ints_for t) (low_ints t) (i + 1) (omega arith) _ a m) (unlock_object i r l fr ground e v base_fits copy (ints_for t) (low_ints t) (i + 1) (omega arith) _ b refl m)

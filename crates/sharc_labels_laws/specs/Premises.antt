@@ -104,6 +104,10 @@ abbrev pub ThroughGuard : Setting → Context → Target → ℕ → ℕ → Opt
 ThroughGuard z c t i r None Holds q = Holds q
 ThroughGuard z c t i r (Some mutex) Holds q = ReadsGuard z q (guard_cell c.globals mutex i r t) × Holds (gated q (Loaded (guard_cell c.globals mutex i r t)))
 
+-- what is named is a mutex
+abbrev pub MutexTyped : Setting → Typing → Context → ℕ → Target → Option ℕ → Ground → Type 0
+MutexTyped z y c f t guard ground = (e : Element) (i r : ℕ) (q : Label) → IsPlaced y c f t guard ground e i r q → HasMutex z q (cell_of c.globals i r t)
+
 module _ (z : Setting) (y : Typing) (c : Context) (f : ℕ) (t : Target) (guard : Option ℕ) (ground : Ground) (site : Site) (lvalue : Lvalue) (mode : Sharing) (write : Bool) (use_made : Use) where
   abbrev pub IntegerTyped : Width → Type 0
   IntegerTyped w = (e : Element) (i r : ℕ) (q : Label) → IsPlaced y c f t guard ground e i r q
@@ -112,7 +116,3 @@ module _ (z : Setting) (y : Typing) (c : Context) (f : ℕ) (t : Target) (guard 
   abbrev pub ReferenceTyped : StaticType → Type 0
   ReferenceTyped s = (e : Element) (i r : ℕ) (q : Label) → IsPlaced y c f t guard ground e i r q
       → ThroughGuard z c t i r (guard_field c.program.typed mode) (λ k. ReachesReference z k write (cell_of c.globals i r t) (spot_of c i r site lvalue use_made mode t) s) q
-
-  -- what is named is a mutex
-  abbrev pub MutexTyped : Type 0
-  MutexTyped = (e : Element) (i r : ℕ) (q : Label) → IsPlaced y c f t guard ground e i r q → HasMutex z q (cell_of c.globals i r t)

@@ -9,6 +9,7 @@ use Rattle.sharc_tree.specs.declared.tree.expression.BinaryOperator.{BinaryOpera
 use Rattle.sharc_tree.specs.declared.tree.expression.BinaryOperator.TheVariants.{LogicalOr, LogicalAnd, Equal, NotEqual, ShiftLeft, ShiftRight}
 use Rattle.sharc_tree.specs.declared.tree.expression.Constant.{Constant}
 use Rattle.sharc_tree.specs.declared.tree.expression.PlaceCall.{PlaceCall}
+use Rattle.sharc_tree.specs.declared.tree.expression.PlaceCall.TheVariants.{Lock, Unlock, Free}
 use Rattle.sharc_tree.specs.declared.tree.expression.UnaryOperator.{UnaryOperator}
 use Rattle.sharc_tree.specs.declared.tree.expression.UnaryOperator.TheVariants.{Negate, Not, Complement, Dereference}
 use Rattle.sharc_tree.specs.Spans.{span_of}
@@ -37,7 +38,7 @@ use Rattle.sharc_invariant.specs.Labels.{Entry, Empty, Refers, Unknown, Element,
 use Rattle.sharc_invariant.specs.Typed.{is_shift}
 use Rattle.sharc_labels_laws.specs.Stretches.{Mark, Setting, Way, LeadsAmong}
 use Rattle.sharc_labels_laws.specs.Places.{Stands, IsNamed, no_type, mark}
-use Rattle.sharc_labels_laws.specs.Premises.{Typing, HoldsVariables, Ground, IntegerTyped, ReferenceTyped}
+use Rattle.sharc_labels_laws.specs.Premises.{Typing, HoldsVariables, Ground, IntegerTyped, ReferenceTyped, MutexTyped}
 
 -- ---- types
 abbrev pub type_by : Entry → StaticType
@@ -150,12 +151,6 @@ module _ (z : Setting) (f : ℕ) (ways : List Way) (y : Typing) where
   abbrev pub ElementTyped : Context → Expression → ℕ → Option ℕ → Type 0
   ElementTyped c a n guard = AreFields (element_cells c.program.typed (element_kind (kind_of c a))) n guard
 
-  -- ---- calls: after what they are handed
-  -- with a value in the first free register of its bank
-  abbrev pub value_mark : Bool → Label → ℕ → ℕ → ℕ → StaticType → ℕ → Width → Mark
-  value_mark true l from i r s v w = mark (fill l r (Refers s) v false) from i
-  value_mark false l from i r s v w = mark (set_number l i (Within w)) from (i + 1)
-
   -- `a[n]`, by what is asked of `a` as an array and as a pointer, and of `n`
   abbrev pub IndexTypable : Context → Option ℕ → Option ℕ → Expression → Expression → Type 0 → Type 0 → Type 0 → Type 0
   IndexTypable c own guard a n of_array of_pointer of_number = Either (is_array (kind_of c a)) (of_array × (target c.program.typed None a ≡ in_global (global_of (target c.program.typed None a)) 0))
@@ -166,6 +161,12 @@ module _ (z : Setting) (f : ℕ) (ways : List Way) (y : Typing) where
   FieldTypable c Dot a of_base of_pointer = of_base
   FieldTypable c Arrow a of_base of_pointer = of_pointer × IsPointer c a
 
+  -- `lock(a)` and `unlock(a)`, by what is asked of `a` as an lvalue
+  abbrev pub PlaceCallTypable : Context → PlaceCall → Expression → Type 0 → Type 0
+  PlaceCallTypable c Lock a of_place = of_place × (is_cell (target_of c a) ≡ true) × MutexTyped z y c f (target_of c a) None (ground_of c a)
+  PlaceCallTypable c Unlock a of_place = of_place × (is_cell (target_of c a) ≡ true) × MutexTyped z y c f (target_of c a) None (ground_of c a)
+  PlaceCallTypable c Free a of_place = ⊥
+
   abbrev mutual
     pub IsTypable : Context → Expression → Type 0
     IsTypable c (identifier s x) = NameTyped c (identifier s x) x.site (what_names c x.site.token)
@@ -174,7 +175,7 @@ module _ (z : Setting) (f : ℕ) (ways : List Way) (y : Typing) where
     IsTypable c (call s x all) = ⊥
     IsTypable c (spawn s x a) = ⊥
     IsTypable c (on_value s w a) = IsTypable c a × IsNumber c a
-    IsTypable c (on_place s w a) = ⊥
+    IsTypable c (on_place s w a) = PlaceCallTypable c w a (IsPlaceTypable c None None a)
     IsTypable c (cast s t a) = ⊥
     IsTypable c (index s a n) = IndexTypable c None (guard_of c (index s a n)) a n (IsPlaceTypable c None None a) (IsTypable c a) (IsTypable c n) × ValueTyped c (index s a n) s.first
     IsTypable c (field s a w n) = FieldTypable c w a (IsPlaceTypable c (Some (field_place_named c.program.typed (what_names c n.site.token))) (guard_of c (field s a w n)) a) (IsTypable c a) × ValueTyped c (field s a w n) s.first
