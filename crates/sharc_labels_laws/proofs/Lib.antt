@@ -14,5 +14,6 @@ pub mod Lines
 pub mod Law
 pub mod Accessed
 pub mod Placing
+pub mod Calling
 pub mod Expressing
 pub mod Locking

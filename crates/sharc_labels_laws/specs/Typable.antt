@@ -1,5 +1,5 @@
 -- What the types of a source have to say of an expression, so that its code is typed: one clause for each form.
-use Rattle.std.specs.Prelude.{ℕ, ◌+◌, ◌≡◌, ◌<◌, ◌≤◌, ◌⊎◌, Bool, true, false, List, [], ◌∷◌, drop, Option, Some, None, if◌then◌else◌}
+use Rattle.std.specs.Prelude.{ℕ, ◌+◌, ◌≡◌, ◌<◌, ◌≤◌, ◌⊎◌, Bool, true, false, List, [], ◌∷◌, length, drop, Option, Some, None, if◌then◌else◌}
 use Rattle.sharc_tree.specs.declared.token.Site.{Site}
 use Rattle.sharc_tree.specs.declared.token.Span.{Span}
 use Rattle.sharc_tree.specs.declared.tree.declaration.Identifier.{Identifier}
@@ -35,9 +35,9 @@ use Rattle.sharc_flat.specs.Suits.{Either, is_cell}
 use Rattle.sharc_flat_form.specs.Framed.{IsWide}
 use Rattle.sharc_invariant.specs.Types.{StaticType, cells_of}
 use Rattle.sharc_invariant.specs.Labels.{Entry, Empty, Refers, Unknown, Element, Exactly, Within, Label, LessNumber, fill, set_number}
-use Rattle.sharc_invariant.specs.Typed.{is_shift}
+use Rattle.sharc_invariant.specs.Typed.{is_shift, Passes}
 use Rattle.sharc_labels_laws.specs.Stretches.{Mark, Setting, Way, LeadsAmong}
-use Rattle.sharc_labels_laws.specs.Places.{Stands, IsNamed, no_type, mark}
+use Rattle.sharc_labels_laws.specs.Places.{Stands, IsNamed, IsPlain, no_type, mark}
 use Rattle.sharc_labels_laws.specs.Premises.{Typing, HoldsVariables, Ground, IntegerTyped, ReferenceTyped, MutexTyped}
 
 -- ---- types
@@ -58,6 +58,19 @@ pub record StandsIn (y : Typing) (c : Context) (f from i r : ℕ) (l : Label) : 
   pub high : ref_count c.scope ≤ r
   pub wide : int_count c.scope ≤ i
   pub early : from ≤ i
+
+-- the value of a variable that is named is a copy of it
+abbrev pub IsCopyIn : Register → ℕ → Type 0
+IsCopyIn (Int j) copy = Unit {0}
+IsCopyIn (Reference q) copy = copy ≡ q
+
+abbrev pub IsCopyNamed : Context → Named → ℕ → Type 0
+IsCopyNamed c (named.Variable x) copy = IsCopyIn (register_of c.scope x) copy
+IsCopyNamed c _ copy = Unit {0}
+
+abbrev pub IsCopyOf : Context → Expression → ℕ → Type 0
+IsCopyOf c (identifier s x) copy = IsCopyNamed c (what_names c x.site.token) copy
+IsCopyOf c _ copy = Unit {0}
 
 -- an integer of one width is one of another
 abbrev pub Widens : Width → Width → Type 0
@@ -167,12 +180,52 @@ module _ (z : Setting) (f : ℕ) (ways : List Way) (y : Typing) where
   PlaceCallTypable c Unlock a of_place = of_place × (is_cell (target_of c a) ≡ true) × MutexTyped z y c f (target_of c a) None (ground_of c a)
   PlaceCallTypable c Free a of_place = ⊥
 
+  -- ---- calls
+  -- What is passed is in its registers: references of these types, and integers that parameters of these types hold.
+  abbrev pub ArgumentAt : Context → List Kind → Expression → Bool → StaticType → ℕ → ℕ → Label → Type 0
+  ArgumentAt c kinds a true s i r l = (l.env r ≡ Refers s) × IsCopyOf c a (l.same r)
+  ArgumentAt c [] a false s i r l = Unit {0}
+  ArgumentAt c (kind ∷ kinds) a false s i r l = l.ints i ≡ Within (width_of kind)
+
+  abbrev pub ArgumentsAt : Context → List Kind → (ℕ → StaticType) → Arguments → ℕ → ℕ → Label → Type 0
+  ArgumentsAt c kinds wants no_arguments i r l = Unit {0}
+  ArgumentsAt c kinds wants (argument a rest) i r l = ArgumentAt c kinds a (is_ref c a) (wants 0) i r l × ArgumentsAt c (drop 1 kinds) (λ n. wants (n + 1)) rest (behind_int (is_ref c a) i) (behind_ref (is_ref c a) r) l
+
+  -- what the function gives, where there is a value
+  abbrev pub ResultTyped : Context → Expression → ℕ → Bool → Bool → Type 0
+  ResultTyped c e g true integer = (s : StaticType) × (y.entry c e ≡ Refers s) × IsTypeIn c s × ((z.signature g).result ≡ Refers s)
+  ResultTyped c e g false true = ((z.signature g).result ≡ Empty) × IsPlain (z.signature g).result_int × LessNumber (z.signature g).result_int (Within (width_of (kind_of c e)))
+  ResultTyped c e g false false = (z.signature g).result ≡ Empty
+
+  pub record CallTyped (c : Context) (e : Expression) (g : ℕ) (kinds : List Kind) (wants : ℕ → StaticType) (all : Arguments) : Type 0 where
+    pub is : g < length z.code.functions.items
+    pub alone : (z.signature g).alone ≡ true → (z.signature f).alone ≡ true
+    pub passes : (i r : ℕ) (l : Label) → HoldsVariables y c l → ArgumentsAt c kinds wants all i r l → (p : ℕ) → Passes l r (r + p) (l.env (r + p)) ((z.signature g).takes p)
+    pub numbers : (i r : ℕ) (l : Label) → HoldsVariables y c l → ArgumentsAt c kinds wants all i r l → (j : ℕ) → LessNumber (l.ints (i + j)) ((z.signature g).takes_ints j)
+    pub result : ResultTyped c e g (is_ref c e) (is_integer (kind_of c e))
+
+  -- an argument goes to its parameter
+  abbrev pub HasNoWidth : List Kind → Type 0
+  HasNoWidth [] = Unit {0}
+  HasNoWidth (kind ∷ kinds) = is_integer kind ≡ false
+
+  abbrev pub Goes : Context → List Kind → Expression → Bool → StaticType → Type 0
+  Goes c kinds a true s = GoesTo (y.entry c a) s × IsTypeIn c s × HasNoWidth kinds
+  Goes c [] a false s = ⊥
+  Goes c (kind ∷ kinds) a false s = (is_integer (kind_of c a) ≡ true) × (is_integer kind ≡ true)
+
+  -- by what is asked of the arguments; the calls of condition variables are not among them
+  abbrev pub CallTypable : Context → Expression → Named → Arguments → (List Kind → (ℕ → StaticType) → Type 0) → Type 0
+  CallTypable c e (named.Function g) all of_arguments = (wants : ℕ → StaticType) × of_arguments (declared_kinds (parameters_named c.program.typed (named.Function g))) wants
+      × CallTyped c e g (declared_kinds (parameters_named c.program.typed (named.Function g))) wants all
+  CallTypable c e _ all of_arguments = ⊥
+
   abbrev mutual
     pub IsTypable : Context → Expression → Type 0
     IsTypable c (identifier s x) = NameTyped c (identifier s x) x.site (what_names c x.site.token)
     IsTypable c (constant s k) = ConstantTyped c (constant s k) k (is_ref c (constant s k))
     IsTypable c (parentheses s a) = IsTypable c a × (y.entry c (parentheses s a) ≡ y.entry c a)
-    IsTypable c (call s x all) = ⊥
+    IsTypable c (call s x all) = CallTypable c (call s x all) (what_names c x.site.token) all (λ kinds wants. AreTypable c kinds wants all)
     IsTypable c (spawn s x a) = ⊥
     IsTypable c (on_value s w a) = IsTypable c a × IsNumber c a
     IsTypable c (on_place s w a) = PlaceCallTypable c w a (IsPlaceTypable c None None a)
@@ -191,3 +244,7 @@ module _ (z : Setting) (f : ℕ) (ways : List Way) (y : Typing) where
     IsPlaceTypable c own guard (field s a w n) = FieldTypable c w a (IsPlaceTypable c (Some (own_field own (field_place_named c.program.typed (what_names c n.site.token)))) guard a) (IsTypable c a)
     IsPlaceTypable c own guard (unary s Dereference a) = IsTypable c a × IsPointer c a
     IsPlaceTypable c own guard _ = Unit {0}
+
+    pub AreTypable : Context → List Kind → (ℕ → StaticType) → Arguments → Type 0
+    AreTypable c kinds wants no_arguments = Unit {0}
+    AreTypable c kinds wants (argument a rest) = IsTypable c a × Goes c kinds a (is_ref c a) (wants 0) × AreTypable c (drop 1 kinds) (λ n. wants (n + 1)) rest
