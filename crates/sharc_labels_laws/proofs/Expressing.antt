@@ -29,6 +29,7 @@ use Rattle.sharc_ctype.specs.Resolved.{global_at}
 use Rattle.sharc_ctype.specs.Transfers.{parameters_named}
 use Rattle.sharc_mode.specs.Sharings.{Sharing}
 use Rattle.sharc_meaning.specs.Cells.{element_cells, field_place_named, global_elements}
+use Rattle.sharc_meaning.specs.Expressions.{number_named}
 use Rattle.sharc_meaning.specs.Reference.{constant_value}
 use Rattle.sharc_meaning.specs.State.{is_reference}
 use Rattle.sharc_flat_form.specs.declared.op.Op.{Op}
@@ -38,7 +39,7 @@ use Rattle.sharc_flat_form.specs.Machine.{first_cell}
 use Rattle.sharc_flat.specs.declared.slot.Lvalue.{Lvalue}
 use Rattle.sharc_flat.specs.Scope.{Context, int_count, ref_count, register_of, at_site}
 use Rattle.sharc_flat.specs.Places.{Target, variable, in_global, in_global_at, in_object, in_object_at, target, named_target, own_field, global_of, has_base, base_width, index_width, guard_width, copy_code, cell_value_code, value_code, index_code, pointee_code, bounds_code, width_of}
-use Rattle.sharc_flat.specs.Flattened.{kind_of, is_ref, target_of, mode_of, what_names, lvalue_in, guard_of, constant_code, named_code, truth_code, compare_code, unary_code, binary_code, behind_int, behind_ref, operator_of, lvalue_code, field_code, unary_place_code, called_code, passed_code, expression_code, arguments_code, place_code}
+use Rattle.sharc_flat.specs.Flattened.{kind_of, is_ref, target_of, mode_of, what_names, lvalue_in, guard_of, constant_code, named_code, truth_code, compare_code, unary_code, binary_code, behind_int, behind_ref, operator_of, lvalue_code, field_code, unary_place_code, called_code, passed_code, spawn_code, expression_code, arguments_code, place_code}
 use Rattle.sharc_flat.specs.Suits.{Either, is_cell}
 use Rattle.sharc_invariant.specs.Types.{StaticType, cells_of}
 use Rattle.sharc_invariant.specs.Labels.{Entry, Empty, Refers, Element, Number, Anything, Nth, Exactly, Within, Indexes, OfElement, OfGlobal, Closed, Label, Narrower, LessNumber, LessEntry, LessGate, HasBase, fill, set_number}
@@ -48,7 +49,7 @@ use Rattle.sharc_invariant.proofs.Scoped.{less_refl, less_entry_refl, less_numbe
 use Rattle.sharc_labels_laws.specs.Stretches.{Mark, Setting, Way, AreOpen}
 use Rattle.sharc_labels_laws.specs.Places.{Stands, IsNamed, IsPlain, AreLow, no_type, mark}
 use Rattle.sharc_labels_laws.specs.Premises.{Typing, HoldsVariables, Ground, number_in_global, IntegerTyped, ReferenceTyped}
-use Rattle.sharc_labels_laws.specs.Typable.{type_by, IsCopyIn, IsCopyNamed, IsCopyOf, GoesTo, Widens, IsTypeIn, IsVoid, IsNumber, IsPointer, ground_of, CellTyped, ValueTyped, VariableTyped, NameTyped, ConstantTyped, UnaryTyped, result_of, IntegersTyped, ComparedTyped, BinaryTyped, HasType, AreFields, ElementTyped, IndexTypable, FieldTypable, ArgumentAt, ArgumentsAt, ResultTyped, CallTyped, HasNoWidth, Goes, CallTypable, IsTypable, AreTypable, IsPlaceTypable}
+use Rattle.sharc_labels_laws.specs.Typable.{type_by, IsCopyIn, IsCopyNamed, IsCopyOf, GoesTo, Widens, IsTypeIn, IsVoid, IsNumber, IsPointer, ground_of, CellTyped, ValueTyped, VariableTyped, NameTyped, ConstantTyped, UnaryTyped, result_of, IntegersTyped, ComparedTyped, BinaryTyped, HasType, AreFields, ElementTyped, IndexTypable, FieldTypable, ArgumentAt, ArgumentsAt, ResultTyped, CallTyped, HasNoWidth, Goes, Handed, SpawnTyped, CallTypable, IsTypable, AreTypable, IsPlaceTypable}
 use Rattle.sharc_labels_laws.proofs.Fitting.{fits_same, fits_by}
 use Rattle.sharc_labels_laws.proofs.Standing.{less_by}
 use Rattle.sharc_labels_laws.proofs.Telling.{told, other_than}
@@ -58,6 +59,7 @@ use Rattle.sharc_labels_laws.proofs.Variables.{local_at, move_at}
 use Rattle.sharc_labels_laws.proofs.Indexes.{FindsElement, element_of, fresh_name}
 use Rattle.sharc_labels_laws.proofs.Accessed.{Frame, placed, based, ints_of, indexed, int_value, reference_value, holds_over, wider_names}
 use Rattle.sharc_labels_laws.proofs.Calling.{call_reference, call_number, call_nothing}
+use Rattle.sharc_labels_laws.proofs.Spawning.{spawn_number, spawn_reference}
 use Rattle.sharc_labels_laws.proofs.Locking.{locked_at, unlocked_at}
 use Rattle.sharc_labels_laws.proofs.Placing.{AreFew, which, bounds_at, finds_object, finds_global}
 
@@ -689,6 +691,30 @@ module _ (around : Setting) (f : ℕ) (ways : List Way) (y : Typing) (c : Contex
   called_value from i r l fr e (named.Struct x) name all spot any_copy args h = absurd h
   called_value from i r l fr e named.Known name all spot any_copy args h = absurd h
 
+  -- ---- a new thread
+  spawn_value : (from i r : ℕ) (l : Label) → F from i r l → (e a : Expression) (g : ℕ) (kinds : List Kind) (os : List Op) (site : Site) (spot : Spot) → IsNumber around f ways y c e → SpawnTyped around f ways y c a g kinds → ValueOf from i r l os a → ValueOf from i r l (os ++ (passed_code i kinds site ++ spawn_code (is_ref c a) i r g spot)) e
+  spawn_value from i r l fr e a g kinds os site spot is h v = by (is_ref c a) refl kinds h.handed
+    where
+      by : (b : Bool) → is_ref c a ≡ b → (kinds : List Kind) → Handed around f ways y c kinds a g b → ValueOf from i r l (os ++ (passed_code i kinds site ++ spawn_code b i r g spot)) e
+      by true is_a kinds z =
+          let s = z.0 in
+          let w = ref_of from i r l os a is_a v s z.1 z.2 in
+          let k = mark (fill l r (Refers s) w.copy false) from i in
+          truth_value from i r l (os ++ (passed_code i kinds site ++ spawn_code true i r g spot)) e is (joins from (mark l from i) k (with_number around f D N top low from l i (Within Char)) os (passed_code i kinds site ++ spawn_code true i r g spot) w.piece
+          (subst (λ xs. Q from k (xs ++ spawn_code true i r g spot) (with_number around f D N top low from l i (Within Char))) (sym (no_width i kinds site z.3))
+          (spawn_reference around f D y c low from i r l fr g spot h.is h.starts h.shared s w.copy from i (in_frame from i r l fr s z.2) z.4 z.5 (λ k. z.6 r k) z.7)))
+      by false is_a [] z = absurd z
+      by false is_a (kind ∷ kinds) z =
+          let w = width_of kind in
+          let n = int_of from i r l os a (is_a, z.0) v in
+          let start = with_number around f D N top low from l i n.number in
+          let k = mark (set_number l i (Within w)) from i in
+          let check : Q from start (op.ChkWidth w i (at_site site) ∷ []) k = taken_number start k (op.ChkWidth w i (at_site site) ∷ []) i n.number (width_of (kind_of c a)) (put_same l.ints i n.number) n.fits (λ lt. width_at around f D N top low from i r l fr.at w n.number (at_site site) lt) in
+          truth_value from i r l (os ++ (passed_code i (kind ∷ kinds) site ++ spawn_code false i r g spot)) e is (joins from (mark l from i) start (with_number around f D N top low from l i (Within Char)) os (passed_code i (kind ∷ kinds) site ++ spawn_code false i r g spot) n.piece
+          (subst (λ b. Q from start (cond b (op.ChkWidth w i (at_site site) ∷ []) [] ++ spawn_code false i r g spot) (with_number around f D N top low from l i (Within Char))) (sym z.1)
+          (joins from start k (with_number around f D N top low from l i (Within Char)) (op.ChkWidth w i (at_site site) ∷ []) (spawn_code false i r g spot) check
+          (spawn_number around f D y c low from i r l fr g spot h.is h.starts h.shared w from i z.2 z.3))))
+
   -- ---- the whole
   mutual
     pub expressions : (from i r : ℕ) (l : Label) → F from i r l → (e : Expression) → Typed e → ValueOf from i r l (expression_code c i r e) e
@@ -697,7 +723,8 @@ module _ (around : Setting) (f : ℕ) (ways : List Way) (y : Typing) (c : Contex
     expressions from i r l fr (parentheses s a) h = entered from i r l fr (expression_code c i r a) (parentheses s a) (same_value from i r l (expression_code c i r a) (parentheses s a) a (λ copy. tt) refl h.1 (expressions from i r l fr a h.0))
     expressions from i r l fr (call s x all) h = entered from i r l fr _ (call s x all)
         (called_value from i r l fr (call s x all) (what_names c x.site.token) x.text all (at_site s.first) (λ copy. tt) (λ kinds wants k. arguments i r l (reframe from i r l fr i (omega arith)) kinds wants all k) h)
-    expressions from i r l fr (spawn s x a) h = absurd h
+    expressions from i r l fr (spawn s x a) h = entered from i r l fr _ (spawn s x a)
+        (spawn_value from i r l fr (spawn s x a) a (number_named (what_names c x.site.token)) (declared_kinds (parameters_named c.program.typed (what_names c x.site.token))) (expression_code c i r a) (span_of a).first (at_site s.first) h.1 h.2 (expressions from i r l fr a h.0))
     expressions from i r l fr (on_value s Join a) h =
         let n = int_of from i r l (expression_code c i r a) a h.1 (expressions from i r l fr a h.0) in
         let at2 = at_number around f D N top low from i r l fr.at n.number (λ q z. plain_base n.number r q n.plain z) in

@@ -15,5 +15,6 @@ pub mod Law
 pub mod Accessed
 pub mod Placing
 pub mod Calling
+pub mod Spawning
 pub mod Expressing
 pub mod Locking

@@ -17,11 +17,13 @@ use Rattle.sharc_tree.specs.Tree.{Expression, identifier, constant, parentheses,
 use Rattle.sharc_names.specs.declared.fault.Named.{Named}
 use Rattle.sharc_names.specs.declared.fault.Named.TheVariants as named
 use Rattle.sharc_names.specs.Kinds.{Kind, is_array, is_integer, element_kind, promoted, declared_kinds}
+use Rattle.sharc_code.specs.declared.code.Parameter.TheVariants as parameters
 use Rattle.sharc_code.specs.declared.code.Use.TheVariants as uses
 use Rattle.sharc_code.specs.declared.instr.Register.{Register}
 use Rattle.sharc_code.specs.declared.instr.Register.TheVariants.{Int, Reference}
 use Rattle.sharc_code.specs.declared.instr.Width.{Width}
 use Rattle.sharc_code.specs.declared.instr.Width.TheVariants.{Char}
+use Rattle.sharc_code.specs.Machine.{function_of}
 use Rattle.sharc_ctype.specs.Expressions.{class_of, binary_result}
 use Rattle.sharc_ctype.specs.Resolved.{global_at, kind_at}
 use Rattle.sharc_ctype.specs.Transfers.{parameters_named}
@@ -34,8 +36,8 @@ use Rattle.sharc_flat.specs.Flattened.{kind_of, is_ref, target_of, mode_of, lval
 use Rattle.sharc_flat.specs.Suits.{Either, is_cell}
 use Rattle.sharc_flat_form.specs.Framed.{IsWide}
 use Rattle.sharc_invariant.specs.Types.{StaticType, cells_of}
-use Rattle.sharc_invariant.specs.Labels.{Entry, Empty, Refers, Unknown, Element, Exactly, Within, Label, LessNumber, fill, set_number}
-use Rattle.sharc_invariant.specs.Typed.{is_shift, Passes}
+use Rattle.sharc_invariant.specs.Labels.{Entry, Empty, Refers, Unknown, Element, Exactly, Within, Label, LessNumber, EntryMentions, fill, set_number}
+use Rattle.sharc_invariant.specs.Typed.{is_shift, Passes, IsShared}
 use Rattle.sharc_labels_laws.specs.Stretches.{Mark, Setting, Way, LeadsAmong}
 use Rattle.sharc_labels_laws.specs.Places.{Stands, IsNamed, IsPlain, no_type, mark}
 use Rattle.sharc_labels_laws.specs.Premises.{Typing, HoldsVariables, Ground, IntegerTyped, ReferenceTyped, MutexTyped}
@@ -214,6 +216,19 @@ module _ (z : Setting) (f : ℕ) (ways : List Way) (y : Typing) where
   Goes c [] a false s = ⊥
   Goes c (kind ∷ kinds) a false s = (is_integer (kind_of c a) ≡ true) × (is_integer kind ≡ true)
 
+  -- what a thread is handed: an integer, or a reference whose type names no register and that is not private
+  abbrev pub Handed : Context → List Kind → Expression → ℕ → Bool → Type 0
+  Handed c kinds a g true = (s : StaticType) × GoesTo (y.entry c a) s × IsTypeIn c s × HasNoWidth kinds × ((function_of z.code g).parameter ≡ parameters.Reference) × ((q : ℕ) → EntryMentions ((z.signature g).takes 0) q → ⊥)
+      × ((r : ℕ) (l : Label) → Passes l r r (Refers s) ((z.signature g).takes 0)) × IsShared z.targets ((z.signature g).takes 0)
+  Handed c [] a g false = ⊥
+  Handed c (kind ∷ kinds) a g false = (is_integer (kind_of c a) ≡ true) × (is_integer kind ≡ true) × ((function_of z.code g).parameter ≡ parameters.Int) × LessNumber (Within (width_of kind)) ((z.signature g).takes_ints 0)
+
+  pub record SpawnTyped (c : Context) (a : Expression) (g : ℕ) (kinds : List Kind) : Type 0 where
+    pub is : g < length z.code.functions.items
+    pub starts : z.starts g ≡ true
+    pub shared : (z.signature g).alone ≡ false
+    pub handed : Handed c kinds a g (is_ref c a)
+
   -- by what is asked of the arguments; the calls of condition variables are not among them
   abbrev pub CallTypable : Context → Expression → Named → Arguments → (List Kind → (ℕ → StaticType) → Type 0) → Type 0
   CallTypable c e (named.Function g) all of_arguments = (wants : ℕ → StaticType) × of_arguments (declared_kinds (parameters_named c.program.typed (named.Function g))) wants
@@ -226,7 +241,7 @@ module _ (z : Setting) (f : ℕ) (ways : List Way) (y : Typing) where
     IsTypable c (constant s k) = ConstantTyped c (constant s k) k (is_ref c (constant s k))
     IsTypable c (parentheses s a) = IsTypable c a × (y.entry c (parentheses s a) ≡ y.entry c a)
     IsTypable c (call s x all) = CallTypable c (call s x all) (what_names c x.site.token) all (λ kinds wants. AreTypable c kinds wants all)
-    IsTypable c (spawn s x a) = ⊥
+    IsTypable c (spawn s x a) = IsTypable c a × IsNumber c (spawn s x a) × SpawnTyped c a (number_named (what_names c x.site.token)) (declared_kinds (parameters_named c.program.typed (what_names c x.site.token)))
     IsTypable c (on_value s w a) = IsTypable c a × IsNumber c a
     IsTypable c (on_place s w a) = PlaceCallTypable c w a (IsPlaceTypable c None None a)
     IsTypable c (cast s t a) = ⊥
