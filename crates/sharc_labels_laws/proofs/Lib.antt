@@ -16,5 +16,6 @@ pub mod Accessed
 pub mod Placing
 pub mod Calling
 pub mod Spawning
+pub mod Casting
 pub mod Expressing
 pub mod Locking
