@@ -4,6 +4,7 @@ use Rattle.std.proofs.lemmas.Bool.{false≢true, cases_eq, cases_lt}
 use Rattle.sharc_tree.specs.declared.token.Site.{Site}
 use Rattle.sharc_tree.specs.declared.token.Span.{Span}
 use Rattle.sharc_tree.specs.declared.tree.declaration.Identifier.{Identifier}
+use Rattle.sharc_tree.specs.declared.tree.declaration.WrittenType.{WrittenType}
 use Rattle.sharc_tree.specs.declared.tree.expression.Access.{Access}
 use Rattle.sharc_tree.specs.declared.tree.expression.Access.TheVariants.{Dot, Arrow}
 use Rattle.sharc_tree.specs.declared.tree.expression.BinaryOperator.{BinaryOperator}
@@ -18,6 +19,7 @@ use Rattle.sharc_tree.specs.Tree.{Expression, identifier, constant, parentheses,
 use Rattle.sharc_names.specs.declared.fault.Named.{Named}
 use Rattle.sharc_names.specs.declared.fault.Named.TheVariants as named
 use Rattle.sharc_names.specs.Kinds.{Kind, is_array, is_integer, element_kind, promoted, declared_kinds}
+use Rattle.sharc_code.specs.declared.code.Use.{Use}
 use Rattle.sharc_code.specs.declared.code.Use.TheVariants as uses
 use Rattle.sharc_code.specs.declared.instr.Register.{Register}
 use Rattle.sharc_code.specs.declared.instr.Register.TheVariants as registers
@@ -25,7 +27,7 @@ use Rattle.sharc_code.specs.declared.instr.Width.{Width}
 use Rattle.sharc_code.specs.declared.instr.Width.TheVariants.{Char, Int, Long}
 use Rattle.sharc_code.specs.Runs.{put}
 use Rattle.sharc_code.proofs.Places.{put_same, put_other}
-use Rattle.sharc_ctype.specs.Resolved.{global_at}
+use Rattle.sharc_ctype.specs.Resolved.{global_at, structs_in}
 use Rattle.sharc_ctype.specs.Transfers.{parameters_named}
 use Rattle.sharc_mode.specs.Sharings.{Sharing}
 use Rattle.sharc_meaning.specs.Cells.{element_cells, field_place_named, global_elements}
@@ -38,8 +40,8 @@ use Rattle.sharc_flat_form.specs.declared.op.Spot.{Spot}
 use Rattle.sharc_flat_form.specs.Machine.{first_cell}
 use Rattle.sharc_flat.specs.declared.slot.Lvalue.{Lvalue}
 use Rattle.sharc_flat.specs.Scope.{Context, int_count, ref_count, register_of, at_site}
-use Rattle.sharc_flat.specs.Places.{Target, variable, in_global, in_global_at, in_object, in_object_at, target, named_target, own_field, global_of, has_base, base_width, index_width, guard_width, copy_code, cell_value_code, value_code, index_code, pointee_code, bounds_code, width_of}
-use Rattle.sharc_flat.specs.Flattened.{kind_of, is_ref, target_of, mode_of, what_names, lvalue_in, guard_of, constant_code, named_code, truth_code, compare_code, unary_code, binary_code, behind_int, behind_ref, operator_of, lvalue_code, field_code, unary_place_code, called_code, passed_code, spawn_code, expression_code, arguments_code, place_code}
+use Rattle.sharc_flat.specs.Places.{Target, variable, in_global, in_global_at, in_object, in_object_at, target, named_target, own_field, global_of, has_base, base_width, index_width, guard_width, copy_code, cell_value_code, cell_take_code, take_code, value_code, index_code, pointee_code, bounds_code, width_of}
+use Rattle.sharc_flat.specs.Flattened.{kind_of, is_ref, target_of, mode_of, what_names, lvalue_in, guard_of, constant_code, named_code, truth_code, compare_code, unary_code, binary_code, behind_int, behind_ref, operator_of, lvalue_code, field_code, unary_place_code, called_code, passed_code, spawn_code, cast_code, layout_of, expression_code, arguments_code, place_code}
 use Rattle.sharc_flat.specs.Suits.{Either, is_cell}
 use Rattle.sharc_invariant.specs.Types.{StaticType, cells_of}
 use Rattle.sharc_invariant.specs.Labels.{Entry, Empty, Refers, Element, Number, Anything, Nth, Exactly, Within, Indexes, OfElement, OfGlobal, Closed, Label, Narrower, LessNumber, LessEntry, LessGate, HasBase, fill, set_number}
@@ -49,7 +51,7 @@ use Rattle.sharc_invariant.proofs.Scoped.{less_refl, less_entry_refl, less_numbe
 use Rattle.sharc_labels_laws.specs.Stretches.{Mark, Setting, Way, AreOpen}
 use Rattle.sharc_labels_laws.specs.Places.{Stands, IsNamed, IsPlain, AreLow, no_type, mark}
 use Rattle.sharc_labels_laws.specs.Premises.{Typing, HoldsVariables, Ground, number_in_global, IntegerTyped, ReferenceTyped}
-use Rattle.sharc_labels_laws.specs.Typable.{type_by, IsCopyIn, IsCopyNamed, IsCopyOf, GoesTo, Widens, IsTypeIn, IsVoid, IsNumber, IsPointer, ground_of, CellTyped, ValueTyped, VariableTyped, NameTyped, ConstantTyped, UnaryTyped, result_of, IntegersTyped, ComparedTyped, BinaryTyped, HasType, AreFields, ElementTyped, IndexTypable, FieldTypable, ArgumentAt, ArgumentsAt, ResultTyped, CallTyped, HasNoWidth, Goes, Handed, SpawnTyped, CallTypable, IsTypable, AreTypable, IsPlaceTypable}
+use Rattle.sharc_labels_laws.specs.Typable.{type_by, IsCopyIn, IsCopyNamed, IsCopyOf, GoesTo, Widens, IsTypeIn, IsVoid, IsNumber, IsPointer, ground_of, CellTyped, ValueTyped, VariableTyped, NameTyped, ConstantTyped, UnaryTyped, result_of, IntegersTyped, ComparedTyped, BinaryTyped, HasType, AreFields, ElementTyped, IndexTypable, FieldTypable, ArgumentAt, ArgumentsAt, ResultTyped, CallTyped, HasNoWidth, Goes, Handed, SpawnTyped, TakeTyped, CastTyped, FreeTyped, CallTypable, IsTypable, AreTypable, IsPlaceTypable}
 use Rattle.sharc_labels_laws.proofs.Fitting.{fits_same, fits_by}
 use Rattle.sharc_labels_laws.proofs.Standing.{less_by}
 use Rattle.sharc_labels_laws.proofs.Telling.{told, other_than}
@@ -57,7 +59,8 @@ use Rattle.sharc_labels_laws.proofs.Rules.{on_nothing}
 use Rattle.sharc_labels_laws.proofs.Parts.{P, At, at_number, at_fill, number_above, none_some, does, then_do, before, pre, post, none, enter, constant_at, null_kept_at, width_at, from_free, from_written, false_at, compute_at, negate_at, complement_at, number_dropped, truth_at, pop_at, compare_at, logical_at, either_at, check_at, pointee_at, print_at, join_at, with_number}
 use Rattle.sharc_labels_laws.proofs.Variables.{local_at, move_at}
 use Rattle.sharc_labels_laws.proofs.Indexes.{FindsElement, element_of, fresh_name}
-use Rattle.sharc_labels_laws.proofs.Accessed.{Frame, placed, based, ints_of, indexed, int_value, reference_value, holds_over, wider_names}
+use Rattle.sharc_labels_laws.proofs.Accessed.{Frame, placed, based, ints_of, indexed, int_value, reference_value, taken_value, holds_over, wider_names}
+use Rattle.sharc_labels_laws.proofs.Casting.{freed_at, given_at}
 use Rattle.sharc_labels_laws.proofs.Calling.{call_reference, call_number, call_nothing}
 use Rattle.sharc_labels_laws.proofs.Spawning.{spawn_number, spawn_reference}
 use Rattle.sharc_labels_laws.proofs.Locking.{locked_at, unlocked_at}
@@ -715,6 +718,52 @@ module _ (around : Setting) (f : ℕ) (ways : List Way) (y : Typing) (c : Contex
           (joins from start k (with_number around f D N top low from l i (Within Char)) (op.ChkWidth w i (at_site site) ∷ []) (spawn_code false i r g spot) check
           (spawn_number around f D y c low from i r l fr g spot h.is h.starts h.shared w from i z.2 z.3))))
 
+  -- ---- what is taken away
+  take_is : (i r : ℕ) (site : Site) (lvalue : Lvalue) (mode : Sharing) (form : Option ℕ → Use) (t : Target) → is_cell t ≡ true → cell_take_code c i r site lvalue mode form t ≡ take_code c i r site lvalue mode form t
+  take_is i r site lvalue mode form (variable x) h = absurd (false≢true h)
+  take_is i r site lvalue mode form (in_global g n) h = refl
+  take_is i r site lvalue mode form (in_global_at g n) h = refl
+  take_is i r site lvalue mode form (in_object n) h = refl
+  take_is i r site lvalue mode form (in_object_at n) h = refl
+
+  taken_at : (from i r : ℕ) (l : Label) → F from i r l → (a : Expression) (form : Option ℕ → Use) (s : StaticType) (xs : List Op) → TakeTyped around f ways y c a (form None) s → PlaceValue from i r l xs (target_of c a) (guard_of c a) (ground_of around f ways y c a)
+      → Q from (mark l from i) (xs ++ take_code c i r (span_of a).first (lvalue_in c a) (mode_of c a) form (target_of c a)) (mark (fill l r (Refers s) r false) from i)
+  taken_at from i r l fr a form s xs h p =
+      let start = placed around f D y c low from (target_of c a) (guard_of c a) (ground_of around f ways y c a) p.element i r p.copy l in
+      let end = mark (fill l r (Refers s) r false) from i in
+      joins from (mark l from i) start end xs (take_code c i r (span_of a).first (lvalue_in c a) (mode_of c a) form (target_of c a)) p.piece
+      (subst (λ os. Q from start os end) (take_is i r (span_of a).first (lvalue_in c a) (mode_of c a) form (target_of c a) h.cell)
+      (taken_value around f D y c low from i r l fr (guard_of c a) (ground_of around f ways y c a) p.element p.copy p.fits p.small (span_of a).first (lvalue_in c a) (mode_of c a) form (target_of c a) h.cell s (in_frame from i r l fr s h.type) h.reaches))
+
+  cast_value : (from i r : ℕ) (l : Label) → F from i r l → (s : Span) (t : WrittenType) (a : Expression) (xs : List Op) → CastTyped around f ways y c (cast s t a) a → PlaceValue from i r l xs (target_of c a) (guard_of c a) (ground_of around f ways y c a) → ValueOf from i r l (cast_code c i r s a xs) (cast s t a)
+  cast_value from i r l fr s t a xs h p =
+      let b = h.before in
+      let fits = in_frame from i r l fr b h.take.type in
+      let X = fill l r (Refers b) r true in
+      let holds = (frame_fill from i r l fr b r true fits (omega arith)).holds in
+      let tail = op.SkipIfNull r 1 ∷ op.Give r (element_cells c.program.typed (element_kind (kind_of c a))) _ ∷ [] in
+      ref_by from i r l (cast_code c i r s a xs) (cast s t a) h.reference (λ g goes in_it.
+      let same : h.given ≡ g = goes_is (y.entry c (cast s t a)) h.given g h.entry goes in
+      let end = mark (fill l r (Refers g) r false) from i in
+      let gives : Q from (mark (fill l r (Refers b) r false) from i) tail end = subst (λ g. Q from (mark (fill l r (Refers b) r false) from i) tail (mark (fill l r (Refers g) r false) from i)) same
+      (given_at around f D y c low from i r l fr b fits h.given (in_frame from i r l fr h.given h.type) (element_cells c.program.typed (element_kind (kind_of c a))) _ h.size (h.recasts r X holds (put_same l.env r (Refers b)))) in
+      record {
+        copy = r;
+        copies = tt;
+        small = inl refl;
+        piece = subst (λ os. Q from (mark l from i) os end) (append_assoc xs (take_code c i r (span_of a).first (lvalue_in c a) (mode_of c a) uses.Cast (target_of c a)) tail)
+            (joins from (mark l from i) (mark (fill l r (Refers b) r false) from i) end (xs ++ take_code c i r (span_of a).first (lvalue_in c a) (mode_of c a) uses.Cast (target_of c a)) tail (taken_at from i r l fr a uses.Cast b xs h.take p) gives);
+      })
+
+  free_piece : (from i r : ℕ) (l : Label) → F from i r l → (a : Expression) (xs : List Op) (spot : Spot) → FreeTyped around f ways y c a → PlaceValue from i r l xs (target_of c a) (guard_of c a) (ground_of around f ways y c a)
+      → Q from (mark l from i) (xs ++ (take_code c i r (span_of a).first (lvalue_in c a) (mode_of c a) uses.Free (target_of c a) ++ (op.SkipIfNull r 1 ∷ op.Free r (layout_of (structs_in c.program.typed.program.items) (element_kind (kind_of c a))) spot ∷ []))) (mark l from i)
+  free_piece from i r l fr a xs spot h p =
+      let b = h.before in
+      let tail = op.SkipIfNull r 1 ∷ op.Free r (layout_of (structs_in c.program.typed.program.items) (element_kind (kind_of c a))) spot ∷ [] in
+      subst (λ os. Q from (mark l from i) os (mark l from i)) (append_assoc xs (take_code c i r (span_of a).first (lvalue_in c a) (mode_of c a) uses.Free (target_of c a)) tail)
+      (joins from (mark l from i) (mark (fill l r (Refers b) r false) from i) (mark l from i) (xs ++ take_code c i r (span_of a).first (lvalue_in c a) (mode_of c a) uses.Free (target_of c a)) tail (taken_at from i r l fr a uses.Free b xs h.take p)
+      (freed_at around f D y c low from i r l fr b (in_frame from i r l fr b h.take.type) (layout_of (structs_in c.program.typed.program.items) (element_kind (kind_of c a))) spot h.laid))
+
   -- ---- the whole
   mutual
     pub expressions : (from i r : ℕ) (l : Label) → F from i r l → (e : Expression) → Typed e → ValueOf from i r l (expression_code c i r e) e
@@ -743,8 +792,8 @@ module _ (around : Setting) (f : ℕ) (ways : List Way) (y : Typing) (c : Contex
         let p = places from i r l fr (span_of a).first None None a h.0 in
         entered_piece from i r l fr _ (mark l from i) (joins from (mark l from i) (placed around f D y c low from (target_of c a) None (ground_of around f ways y c a) p.element i r p.copy l) (mark l from i) (place_code c i r (span_of a).first None None a) _ p.piece
         (unlocked_at around f D y c low from i r l fr (ground_of around f ways y c a) p.element p.copy p.fits p.small _ _ (at_site s.first) (target_of c a) h.1 h.2))
-    expressions from i r l fr (on_place s Free a) h = absurd h
-    expressions from i r l fr (cast s t a) h = absurd h
+    expressions from i r l fr (on_place s Free a) h = entered_piece from i r l fr _ (mark l from i) (free_piece from i r l fr a (place_code c i r (span_of a).first None (guard_of c a) a) _ h.1 (places from i r l fr (span_of a).first None (guard_of c a) a h.0))
+    expressions from i r l fr (cast s t a) h = entered from i r l fr _ (cast s t a) (cast_value from i r l fr s t a (place_code c i r (span_of a).first None (guard_of c a) a) h.1 (places from i r l fr (span_of a).first None (guard_of c a) a h.0))
     expressions from i r l fr (index s a n) h =
         let e = index s a n in
         entered from i r l fr _ e (read from i r l fr e s.first (target_of c e) (index_code c i r s.first None (guard_of c e) a (place_code c i r s.first None None a) (expression_code c i r a) (λ d. expression_code c i d n))

@@ -18,6 +18,7 @@ use Rattle.sharc_names.specs.declared.fault.Named.{Named}
 use Rattle.sharc_names.specs.declared.fault.Named.TheVariants as named
 use Rattle.sharc_names.specs.Kinds.{Kind, is_array, is_integer, element_kind, promoted, declared_kinds}
 use Rattle.sharc_code.specs.declared.code.Parameter.TheVariants as parameters
+use Rattle.sharc_code.specs.declared.code.Use.{Use}
 use Rattle.sharc_code.specs.declared.code.Use.TheVariants as uses
 use Rattle.sharc_code.specs.declared.instr.Register.{Register}
 use Rattle.sharc_code.specs.declared.instr.Register.TheVariants.{Int, Reference}
@@ -25,19 +26,19 @@ use Rattle.sharc_code.specs.declared.instr.Width.{Width}
 use Rattle.sharc_code.specs.declared.instr.Width.TheVariants.{Char}
 use Rattle.sharc_code.specs.Machine.{function_of}
 use Rattle.sharc_ctype.specs.Expressions.{class_of, binary_result}
-use Rattle.sharc_ctype.specs.Resolved.{global_at, kind_at}
+use Rattle.sharc_ctype.specs.Resolved.{global_at, kind_at, structs_in}
 use Rattle.sharc_ctype.specs.Transfers.{parameters_named}
 use Rattle.sharc_meaning.specs.Cells.{element_cells, field_place_named, global_elements}
 use Rattle.sharc_meaning.specs.Expressions.{number_named}
 use Rattle.sharc_meaning.specs.Reference.{constant_value}
 use Rattle.sharc_flat.specs.Scope.{Context, int_count, ref_count, register_of, at_site}
 use Rattle.sharc_flat.specs.Places.{Target, in_global, global_of, target, own_field, width_of}
-use Rattle.sharc_flat.specs.Flattened.{kind_of, is_ref, target_of, mode_of, lvalue_in, what_names, guard_of, taken_guard, behind_int, behind_ref, called_code, spawn_code, place_call_code, cast_code, operator_of}
+use Rattle.sharc_flat.specs.Flattened.{kind_of, is_ref, target_of, mode_of, lvalue_in, what_names, guard_of, taken_guard, behind_int, behind_ref, called_code, spawn_code, place_call_code, cast_code, operator_of, layout_of}
 use Rattle.sharc_flat.specs.Suits.{Either, is_cell}
 use Rattle.sharc_flat_form.specs.Framed.{IsWide}
 use Rattle.sharc_invariant.specs.Types.{StaticType, cells_of}
 use Rattle.sharc_invariant.specs.Labels.{Entry, Empty, Refers, Unknown, Element, Exactly, Within, Label, LessNumber, EntryMentions, fill, set_number}
-use Rattle.sharc_invariant.specs.Typed.{is_shift, Passes, IsShared}
+use Rattle.sharc_invariant.specs.Typed.{is_shift, Passes, IsShared, Recasts, IsLayout}
 use Rattle.sharc_labels_laws.specs.Stretches.{Mark, Setting, Way, LeadsAmong}
 use Rattle.sharc_labels_laws.specs.Places.{Stands, IsNamed, IsPlain, no_type, mark}
 use Rattle.sharc_labels_laws.specs.Premises.{Typing, HoldsVariables, Ground, IntegerTyped, ReferenceTyped, MutexTyped}
@@ -176,11 +177,35 @@ module _ (z : Setting) (f : ℕ) (ways : List Way) (y : Typing) where
   FieldTypable c Dot a of_base of_pointer = of_base
   FieldTypable c Arrow a of_base of_pointer = of_pointer × IsPointer c a
 
-  -- `lock(a)` and `unlock(a)`, by what is asked of `a` as an lvalue
-  abbrev pub PlaceCallTypable : Context → PlaceCall → Expression → Type 0 → Type 0
-  PlaceCallTypable c Lock a of_place = of_place × (is_cell (target_of c a) ≡ true) × MutexTyped z y c f (target_of c a) None (ground_of c a)
-  PlaceCallTypable c Unlock a of_place = of_place × (is_cell (target_of c a) ≡ true) × MutexTyped z y c f (target_of c a) None (ground_of c a)
-  PlaceCallTypable c Free a of_place = ⊥
+  -- ---- what is taken away
+  -- the reference of a cell, of this type
+  pub record TakeTyped (c : Context) (a : Expression) (use_made : Use) (s : StaticType) : Type 0 where
+    pub type : IsTypeIn c s
+    pub cell : is_cell (target_of c a) ≡ true
+    pub reaches : ReferenceTyped z y c f (target_of c a) (guard_of c a) (ground_of c a) (span_of a).first (lvalue_in c a) (mode_of c a) true use_made s
+
+  -- it is given another type
+  pub record CastTyped (c : Context) (e a : Expression) : Type 0 where
+    pub before : StaticType
+    pub given : StaticType
+    pub take : TakeTyped c a (uses.Cast None) before
+    pub reference : is_ref c e ≡ true
+    pub entry : y.entry c e ≡ Refers given
+    pub type : IsTypeIn c given
+    pub size : element_cells c.program.typed (element_kind (kind_of c a)) ≡ cells_of z.targets before.target
+    pub recasts : (r : ℕ) (l : Label) → HoldsVariables y c l → l.env r ≡ Refers before → Recasts z.targets l r before given
+
+  -- or freed
+  pub record FreeTyped (c : Context) (a : Expression) : Type 0 where
+    pub before : StaticType
+    pub take : TakeTyped c a (uses.Free None) before
+    pub laid : IsLayout z.targets z.code (layout_of (structs_in c.program.typed.program.items) (element_kind (kind_of c a))) before.target
+
+  -- `lock(a)`, `unlock(a)` and `free(a)`, by what is asked of `a` as an lvalue with this guard
+  abbrev pub PlaceCallTypable : Context → PlaceCall → Expression → (Option ℕ → Type 0) → Type 0
+  PlaceCallTypable c Lock a of_place = of_place None × (is_cell (target_of c a) ≡ true) × MutexTyped z y c f (target_of c a) None (ground_of c a)
+  PlaceCallTypable c Unlock a of_place = of_place None × (is_cell (target_of c a) ≡ true) × MutexTyped z y c f (target_of c a) None (ground_of c a)
+  PlaceCallTypable c Free a of_place = of_place (guard_of c a) × FreeTyped c a
 
   -- ---- calls
   -- What is passed is in its registers: references of these types, and integers that parameters of these types hold.
@@ -243,8 +268,8 @@ module _ (z : Setting) (f : ℕ) (ways : List Way) (y : Typing) where
     IsTypable c (call s x all) = CallTypable c (call s x all) (what_names c x.site.token) all (λ kinds wants. AreTypable c kinds wants all)
     IsTypable c (spawn s x a) = IsTypable c a × IsNumber c (spawn s x a) × SpawnTyped c a (number_named (what_names c x.site.token)) (declared_kinds (parameters_named c.program.typed (what_names c x.site.token)))
     IsTypable c (on_value s w a) = IsTypable c a × IsNumber c a
-    IsTypable c (on_place s w a) = PlaceCallTypable c w a (IsPlaceTypable c None None a)
-    IsTypable c (cast s t a) = ⊥
+    IsTypable c (on_place s w a) = PlaceCallTypable c w a (λ guard. IsPlaceTypable c None guard a)
+    IsTypable c (cast s t a) = IsPlaceTypable c None (guard_of c a) a × CastTyped c (cast s t a) a
     IsTypable c (index s a n) = IndexTypable c None (guard_of c (index s a n)) a n (IsPlaceTypable c None None a) (IsTypable c a) (IsTypable c n) × ValueTyped c (index s a n) s.first
     IsTypable c (field s a w n) = FieldTypable c w a (IsPlaceTypable c (Some (field_place_named c.program.typed (what_names c n.site.token))) (guard_of c (field s a w n)) a) (IsTypable c a) × ValueTyped c (field s a w n) s.first
     IsTypable c (unary s Dereference a) = IsTypable c a × IsPointer c a × ValueTyped c (unary s Dereference a) s.first
