@@ -25,7 +25,7 @@ parts_typed z f ways named top from i r l low le stands owned =
 
 -- ---- expressions
 pub expressions_typed : ExpressionsAreTyped
-expressions_typed z f ways y c low from i r l in_it e h = by (is_ref c e) (is_integer (kind_of c e)) (expressions z f ways y c low from i r l frame e h)
+expressions_typed z f ways y c low from i r l in_it bare alone e h = by (is_ref c e) (is_integer (kind_of c e)) (expressions z f ways y c low bare from i r l frame alone e h)
   where
     frame : Frame z f (AreOpen z ways) y c low from i r l
     frame = record { at = record { stands = in_it.stands; owned = in_it.owned }; holds = in_it.holds; high = in_it.high; wide = in_it.wide; early = in_it.early }
