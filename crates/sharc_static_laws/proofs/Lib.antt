@@ -1,3 +1,5 @@
+pub mod Alone
+pub mod Arrays
 pub mod FileNames
 pub mod Given
 pub mod Holds
@@ -14,6 +16,7 @@ pub mod Registers
 pub mod Same
 pub mod Scoping
 pub mod Starts
+pub mod Tokens
 pub mod Transferred
 pub mod Walk
 pub mod Written
