@@ -113,7 +113,7 @@ among_few n (x ∷ rest) = by (is_pointer_kind (declared_kind x.written)) (among
     by true low = omega (arith, low)
     by false low = omega (arith, low)
 
-past_end : (fields : List Field) (k : ℕ) → length fields ≤ k → slice_index_or fields k no_field ≡ no_field
+pub past_end : (fields : List Field) (k : ℕ) → length fields ≤ k → slice_index_or fields k no_field ≡ no_field
 past_end [] k low = refl
 past_end (f ∷ rest) zero low = absurd (omega (arith, low))
 past_end (f ∷ rest) (suc k) low = past_end rest k (omega (arith, low))
@@ -240,14 +240,14 @@ module _ (m : Assignment) (few : 1 + length (all_pointers (structs_in m.typed.pr
       subst (λ n. IsLaid (slice_index_or layouts (layout_of structs (object b n)) no_layout) pointers (shape_fields m b (f ∷ g ∷ below))) (sym e) (pointer_laid _ refl)
 
 pub layouts_are : WithinLimits → LayoutsAre
-layouts_are limits m typed code layouts_is pointers_is s has =
+layouts_are limits m typed code tables s has =
     let within = limits m.typed.program typed in
     let structs_few = within.structs in
     let total = pointers_few (structs_in m.typed.program.items) within.fields in
     let laid = shape_laid m (omega (arith, structs_few, total)) s.base s.forms (has_forms m s has) in
     let row = numbers_found m s has in
     let fields_is : (row_of (targets_of m) (number m s)).fields ≡ shape_fields m s.base s.forms = ap (λ (t : Target). t.fields) row.row in
-    moved m code (layout_of (structs_in m.typed.program.items) (kind_of s)) (number m s) (shape_fields m s.base s.forms) layouts_is pointers_is fields_is laid
+    moved m code (layout_of (structs_in m.typed.program.items) (kind_of s)) (number m s) (shape_fields m s.base s.forms) tables.layouts tables.pointers fields_is laid
   where
     moved : (m : Assignment) (code : Code) (l t : ℕ) (fields : List Field) → code.layouts.items ≡ layouts_of m.typed → code.pointers.items ≡ pointers_of m.typed → (row_of (targets_of m) t).fields ≡ fields
         → IsLaid (slice_index_or (layouts_of m.typed) l no_layout) (pointers_of m.typed) fields → IsLayout (targets_of m) code l t

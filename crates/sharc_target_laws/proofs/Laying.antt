@@ -34,7 +34,7 @@ named_fields m q (x ∷ rest) name s is = by (bytes_eq x.name.text name) is (nam
     by true is more = ap (λ (z : StructDefinition). members m q 0 z.fields) (same_some x s is)
     by false is more = more is
 
-named_there : (list : List StructDefinition) (name : List ℕ) (s : StructDefinition) → struct_named list name ≡ Some s → Contains list s
+pub named_there : (list : List StructDefinition) (name : List ℕ) (s : StructDefinition) → struct_named list name ≡ Some s → Contains list s
 named_there [] name s is = absurd (none_some s is)
 named_there (x ∷ rest) name s is = by (bytes_eq x.name.text name) is (named_there rest name s)
   where

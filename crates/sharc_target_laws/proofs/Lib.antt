@@ -1,5 +1,6 @@
 pub mod Alike
 pub mod Beginning
+pub mod Beside
 pub mod Cells
 pub mod Expressing
 pub mod Fits
@@ -10,12 +11,17 @@ pub mod Globals
 pub mod Good
 pub mod Laying
 pub mod Lists
+pub mod Lvalues
 pub mod Members
+pub mod Moding
 pub mod Numbers
 pub mod Owners
+pub mod Pointees
+pub mod Ready
 pub mod Rows
 pub mod Settling
 pub mod Siblings
 pub mod Table
+pub mod Tables
 pub mod Walk
 pub mod Whole

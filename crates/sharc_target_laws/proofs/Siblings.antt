@@ -148,3 +148,18 @@ module _ (once : EachNameOnce) (only : OnlyNames) (r : Resolution) (resolved : I
       → named_at r (lock_of path).first ≡ named.Field f → IsSibling s.fields f
   sibling_named s d path f is_struct is_member is_level is =
       by_path s.fields path f (λ note at. in_program note (in_items r.program.items s note is_struct (in_fields s.fields [] s.fields d note is_member (in_type s.fields d.written path note is_level at)))) is
+
+  -- ---- a field may stand in a struct
+  pub field_allowed : (s : StructDefinition) (d : Declaration) → Contains (structs_in r.program.items) s → Contains s.fields d → allowed_there role.Field d.written ≡ true
+  field_allowed s d is_struct is_member = by (allowed_there role.Field d.written) refl
+    where
+      noted : allowed_there role.Field d.written ≡ false → Contains (type_notes file s.fields role.Field d.written) (fault d.written.span.first.token TypeNotAllowed)
+      noted is =
+          left_there (base_notes file.structs d.written.base.token d.written.ctype.base ++ fault_unless (allowed_there role.Field d.written) d.written.span.first.token TypeNotAllowed) (modes_notes file s.fields d.written.ctype.levels) (fault d.written.span.first.token TypeNotAllowed)
+          (right_there (base_notes file.structs d.written.base.token d.written.ctype.base) (fault_unless (allowed_there role.Field d.written) d.written.span.first.token TypeNotAllowed) (fault d.written.span.first.token TypeNotAllowed)
+          (subst (λ b. Contains (fault_unless b d.written.span.first.token TypeNotAllowed) (fault d.written.span.first.token TypeNotAllowed)) (sym is) (head_there (fault d.written.span.first.token TypeNotAllowed) [])))
+
+      by : (b : Bool) → allowed_there role.Field d.written ≡ b → allowed_there role.Field d.written ≡ true
+      by true is = is
+      by false is =
+          absurd (no_faults (notes_about r.program) d.written.span.first.token TypeNotAllowed (in_program _ (in_items r.program.items s _ is_struct (in_fields s.fields [] s.fields d _ is_member (noted is)))) resolved.typed)

@@ -15,7 +15,7 @@ use Rattle.sharc_target_laws.proofs.Owners.{place_is}
 use Rattle.sharc_target_laws.proofs.Rows.{IsKnown}
 use Rattle.sharc_target_laws.proofs.Siblings.{sibling_named}
 
-known : EachNameOnce → OnlyNames → EachTypeFound → EachNamesItself → RulesAreMet
+pub known : EachNameOnce → OnlyNames → EachTypeFound → EachNamesItself → RulesAreMet
     → (m : Assignment) → IsResolved m.typed → IsPlaced m.typed.program → IsLow m.typed.program → IsLeastAssignment m → WellModed m → IsKnown m
 known once only found itself met m resolved placed low least well = record {
   least = least;

@@ -1,5 +1,5 @@
 -- What the table of targets is to those who type code by it.
-use Rattle.std.specs.Prelude.{◌≡◌, ℕ, pos, ◌+◌, ◌-◌, ◌*◌, ◌<◌, ◌≤◌, List, ◌∷◌, length, Some, slice_index, slice_index_or, slice_get, unsigned_abs, Contains}
+use Rattle.std.specs.Prelude.{◌≡◌, ℕ, pos, ◌+◌, ◌-◌, ◌*◌, ◌^◌, ◌<◌, ◌≤◌, List, ◌∷◌, length, Some, slice_index, slice_index_or, slice_get, unsigned_abs, Contains}
 use Rattle.std.specs.List.{AllByRecursion}
 use Rattle.sharc_tree.specs.declared.ctype.Base.{Base}
 use Rattle.sharc_tree.specs.declared.ctype.Base.TheVariants as base
@@ -15,6 +15,7 @@ use Rattle.sharc_tree.specs.Placed.{IsPlaced}
 use Rattle.sharc_tree.specs.Tree.{Expression, Function}
 use Rattle.sharc_names.specs.Kinds.{Kind, declared_kind}
 use Rattle.sharc_code.specs.declared.code.Code.{Code}
+use Rattle.sharc_code.specs.Ranges.{GlobalsFit}
 use Rattle.sharc_ctype.specs.Globals.{elements_of}
 use Rattle.sharc_ctype.specs.Items.{IsTyped}
 use Rattle.sharc_ctype.specs.Resolved.{IsResolved, declaration_at, kind_at, structs_in, globals_in, functions_in}
@@ -30,7 +31,7 @@ use Rattle.sharc_flat_form.specs.Machine.{first_cell}
 use Rattle.sharc_flat.specs.Tables.{globals_of, all_granules, all_first_words, layouts_of, pointers_of}
 use Rattle.sharc_flat.specs.Flattened.{layout_of}
 use Rattle.sharc_invariant.specs.Types.{FieldMode, no_field, row_of, cells_of, global_field, AreTargets}
-use Rattle.sharc_invariant.specs.Typed.{Initial, IsLayout}
+use Rattle.sharc_invariant.specs.Typed.{Initial, IsLayout, AreGlobals}
 use Rattle.sharc_target_laws.specs.Shapes.{Form, Shape, row_shape, kind_of, stars_in, shapes, number}
 use Rattle.sharc_target_laws.specs.Targets.{member, base_fields, shape_row, global_element, targets_of}
 
@@ -114,8 +115,22 @@ abbrev pub GlobalsBegin : Type 0
 GlobalsBegin = (m : Assignment) → IsTyped m.typed.program → AllByRecursion (λ g. CountedForm g.form) (globals_in m.typed.program.items)
     → (j : ℕ) → Initial (global_field (targets_of m) j).holds (slice_index (all_first_words m.typed (globals_in m.typed.program.items)) j)
 
+-- ---- the globals of code
+-- code with the tables of a program, as flattening lays them out
+pub record HasTables (m : Assignment) (code : Code) : Type 0 where
+  pub globals : code.globals.items ≡ globals_of m.typed
+  pub granules : code.granules ≡ all_granules m.typed (globals_in m.typed.program.items)
+  pub initial : code.initial.items ≡ all_first_words m.typed (globals_in m.typed.program.items)
+  pub layouts : code.layouts.items ≡ layouts_of m.typed
+  pub pointers : code.pointers.items ≡ pointers_of m.typed
+
+-- Of tables in their ranges, which the laws of sharc_compile_laws and the contract of flattening give, the globals have fields of the table, and first values.
+abbrev pub GlobalsHold : Type 0
+GlobalsHold = (m : Assignment) → IsTyped m.typed.program → AllByRecursion (λ g. CountedForm g.form) (globals_in m.typed.program.items) → (code : Code) → HasTables m code
+    → code.granules ≤ 65536 → GlobalsFit code.globals.items code.granules → ((j : ℕ) → slice_index code.initial.items j < 2 ^ 64) → AreGlobals (targets_of m) code
+
 -- ---- what Free clears
 -- the layout of a type of the source is that of its shape's elements
 abbrev pub LayoutsAre : Type 0
-LayoutsAre = (m : Assignment) → IsTyped m.typed.program → (code : Code) → code.layouts.items ≡ layouts_of m.typed → code.pointers.items ≡ pointers_of m.typed
-    → (s : Shape) → Contains (shapes m) s → IsLayout (targets_of m) code (layout_of (structs_in m.typed.program.items) (kind_of s)) (number m s)
+LayoutsAre = (m : Assignment) → IsTyped m.typed.program → (code : Code) → HasTables m code → (s : Shape) → Contains (shapes m) s
+    → IsLayout (targets_of m) code (layout_of (structs_in m.typed.program.items) (kind_of s)) (number m s)

@@ -1,3 +1,6 @@
+pub mod Beside
 pub mod Laws
+pub mod Lvalues
+pub mod Pointees
 pub mod Shapes
 pub mod Targets

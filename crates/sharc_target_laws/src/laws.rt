@@ -1,6 +1,9 @@
 // The laws of the table of targets, each the contract of a function that does nothing.
 
-ghost use Rattle.sharc_target_laws.specs.Laws.{NumbersFound, ShapesClosed, CellsAre, TargetsAre, ExpressionsFound, VariablesFound, ResultsFound, MembersAre, GlobalsAre, GlobalsEnd, GlobalsBegin, LayoutsAre};
+ghost use Rattle.sharc_target_laws.specs.Beside.{LocksStandBeside};
+ghost use Rattle.sharc_target_laws.specs.Laws.{NumbersFound, ShapesClosed, CellsAre, TargetsAre, ExpressionsFound, VariablesFound, ResultsFound, MembersAre, GlobalsAre, GlobalsEnd, GlobalsBegin, GlobalsHold, LayoutsAre};
+ghost use Rattle.sharc_target_laws.specs.Lvalues.{LvaluesFit};
+ghost use Rattle.sharc_target_laws.specs.Pointees.{PointeesFit, RecastsFit, SameForms};
 
 use sharc_ctype_laws::laws::{
     each_name_once, each_names_itself, each_type_found, meets_constraints, meets_globals, one_type,
@@ -84,4 +87,50 @@ pub fn layouts_are()
     ensures { LayoutsAre }
 {
     within_limits();
+}
+
+/// Each lvalue of a function that is no struct names a variable, or a cell that the table has with what it holds and with its mode.
+pub fn lvalues_fit()
+    ensures { LvaluesFit }
+{
+    each_name_once();
+    only_names();
+    each_type_found();
+    each_names_itself();
+    meets_constraints();
+    one_type();
+    rules_are_met();
+}
+
+/// Code with the tables of a program has globals with fields of the table and with their first values.
+pub fn globals_hold()
+    ensures { GlobalsHold }
+{
+    meets_globals();
+}
+
+/// What a pointer refers to has the cells, the layout and the fields of the source.
+pub fn pointees_fit()
+    ensures { PointeesFit }
+{}
+
+/// A cast to other modes at depth 1 leaves what the cells of an element are and refer to.
+pub fn recasts_fit()
+    ensures { RecastsFit }
+{}
+
+/// Modes that are the same are of one kind.
+pub fn same_modes()
+    ensures { SameForms }
+{}
+
+/// What locks a field from within its element is there: a mutex, or a readonly pointer to one.
+pub fn locks_stand_beside()
+    ensures { LocksStandBeside }
+{
+    each_name_once();
+    only_names();
+    each_type_found();
+    each_names_itself();
+    rules_are_met();
 }

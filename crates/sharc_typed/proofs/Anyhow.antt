@@ -21,7 +21,7 @@ use Rattle.sharc_invariant.specs.Labels.{Pass, IsIn, Label, Labels, Less, IsScop
 use Rattle.sharc_invariant.specs.Typed.{HasField, Covers, ints_in, refs_in, entry_label}
 use Rattle.sharc_typed.specs.Inside.{FlatLabels}
 use Rattle.sharc_typed.specs.Lines.{TypedLine, IsTypedFlat, To}
-use Rattle.sharc_typed.specs.Passes.{is_write, pass_at, passes_next, passes_after, passes_before, passes_in, with_passes, with_all, with_checks, remembered, IsPassed, RepeatsCheck, IsTypedAnyhow}
+use Rattle.sharc_typed.specs.Passes.{is_write, pass_at, passes_next, passes_after, passes_before, passes_in, with_passes, with_all, with_checks, remembered, IsPassed, RepeatsCheck, Knows, IsTypedAnyhow}
 use Rattle.sharc_typed.proofs.Checking.{pass_is}
 use Rattle.sharc_typed.proofs.Passing.{was_passed, covers, pass_eq, goes_on}
 
@@ -137,7 +137,7 @@ module _ (x : Targets) (code : Code) (fl : FlatLabels) (flat : Flat) (t : IsType
         to_line h =
             let a : IsIn p (passes_next o k (passes_before flat n)) = subst (λ o. IsIn p (passes_after o k (passes_before flat n))) at h in
             let b : IsIn p (passes_next o k (passes n)) = subst (λ ps. IsIn p (passes_next o k ps)) (sym (inside n within)) a in
-            goes_on x code l k (t.knows n within) (passes n) o (dropped flat n) (sym drops_is) (fields (passes n)) low p b
+            goes_on x code l k (passes n) o (dropped flat n) (sym drops_is) (fields (passes n)) (λ a e. t.knows n o a at e) low p b
 
         by : (b c : Bool) → IsIn p (if b then (if c then [] else passes_after (slice_get flat.lines n) k (passes_before flat n)) else []) → IsIn p (remembered x (dropped flat n) l o (passes n))
         by false c h = absurd h
@@ -145,8 +145,8 @@ module _ (x : Targets) (code : Code) (fl : FlatLabels) (flat : Flat) (t : IsType
         by true false h = to_line h
 
     -- a check that was passed is of this cell
-    passed_at : (kind : Kind) (c : Cell) (f : Field) → HasField x code l c f → ((g place : ℕ) → place_of k c ≡ Some (in_global g place) → 2 ≤ place) → has_passed k kind (place_of k c) ≡ true → IsPassed x l (passes n) (is_write kind) c
-    passed_at kind c f has low h = by (place_of k c) refl h
+    passed_at : (kind : Kind) (c : Cell) (f : Field) → HasField x code l c f → Knows x k l c → ((g place : ℕ) → place_of k c ≡ Some (in_global g place) → 2 ≤ place) → has_passed k kind (place_of k c) ≡ true → IsPassed x l (passes n) (is_write kind) c
+    passed_at kind c f has knows low h = by (place_of k c) refl h
       where
         covered : (by : Kind) (place : Place) → Covers (is_write by) (is_write kind) → Covers (pass_at by place).write (is_write kind)
         covered by (in_variable v m) h = h
@@ -156,7 +156,7 @@ module _ (x : Targets) (code : Code) (fl : FlatLabels) (flat : Flat) (t : IsType
         by None e h = absurd (cc)
         by (Some place) e h =
             let w = was_passed flat n kind place h in
-            let q = pass_eq x code l k (t.knows n within) c f has w.by place e (λ g m z. low g m (e ∙ ap Some z)) in
+            let q = pass_eq x code l k c f has knows w.by place e (λ g m z. low g m (e ∙ ap Some z)) in
             record {
               pass = pass_at w.by place;
               among = subst (IsIn (pass_at w.by place)) (sym (inside n within)) w.among;
@@ -171,11 +171,11 @@ module _ (x : Targets) (code : Code) (fl : FlatLabels) (flat : Flat) (t : IsType
   repeats n (op.Load i c spot) at d =
       let a : Access = record { kind = Read; cell = c; spot = spot } in
       let f = whole_field n (op.Load i c spot) at a refl in
-      passed_at n (op.Load i c spot) at Read c f.0 f.1 (λ g p e. low n (op.Load i c spot) at a g p refl e) (and_right (tells spot) (has_passed (known flat n) Read (place_of (known flat n) c)) d)
+      passed_at n (op.Load i c spot) at Read c f.0 f.1 (t.knows n (op.Load i c spot) a at refl) (λ g p e. low n (op.Load i c spot) at a g p refl e) (and_right (tells spot) (has_passed (known flat n) Read (place_of (known flat n) c)) d)
   repeats n (op.Store i c spot) at d =
       let a : Access = record { kind = Write; cell = c; spot = spot } in
       let f = whole_field n (op.Store i c spot) at a refl in
-      passed_at n (op.Store i c spot) at Write c f.0 f.1 (λ g p e. low n (op.Store i c spot) at a g p refl e) (and_right (tells spot) (has_passed (known flat n) Write (place_of (known flat n) c)) d)
+      passed_at n (op.Store i c spot) at Write c f.0 f.1 (t.knows n (op.Store i c spot) a at refl) (λ g p e. low n (op.Store i c spot) at a g p refl e) (and_right (tells spot) (has_passed (known flat n) Write (place_of (known flat n) c)) d)
   repeats n o at d = absurd (cc)
 
   line : (n : ℕ) (o : Op) → slice_get flat.lines n ≡ Some o → TypedLine x code (with_all fl.lines passes) lines (dropped flat n) (fl.replaced n) n (with_passes (label n) (passes n)) (with_passes (label (n + 1)) (passes (n + 1))) o

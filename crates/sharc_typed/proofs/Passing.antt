@@ -160,7 +160,7 @@ was_passed flat (suc n) kind place =
 low_pass : (w : Bool) (n : ℕ) → 2 ≤ n → global_pass w n ≡ Some (record { write = w; base = None; cell = n - 2 })
 low_pass w n le = let e : nat_lt n 2 ≡ false = grind (arith, nat_tests, le) in ap (λ b. if b then None else Some (record { write = w; base = None; cell = n - 2 })) e
 
-module _ (x : Targets) (code : Code) (l : Label) (k : Know) (knows : Knows x k l) where
+module _ (x : Targets) (code : Code) (l : Label) (k : Know) where
   abbrev IsPassOf : Cell → Kind → Place → Type 0
   IsPassOf c kind place = pass_of x l (is_write kind) c ≡ Some (pass_at kind place)
 
@@ -177,32 +177,32 @@ module _ (x : Targets) (code : Code) (l : Label) (k : Know) (knows : Knows x k l
       ∙ ap (λ b. Some (record { write = is_write kind; base = Some b; cell = e * cells_of x eq.0.target + field })) copy ∙ ap (λ c. Some (record { write = is_write kind; base = Some v; cell = c })) (sym eq.2)
   in_elements r i field (Named m) v n kind is eq copy = absurd eq
 
-  pub pass_eq : (c : Cell) (f : Field) → HasField x code l c f → (kind : Kind) (place : Place) → place_of k c ≡ Some place → IsLow place → IsPassOf c kind place
-  pass_eq (cells.Global g q) f has kind place e low =
+  pub pass_eq : (c : Cell) (f : Field) → HasField x code l c f → Knows x k l c → (kind : Kind) (place : Place) → place_of k c ≡ Some place → IsLow place → IsPassOf c kind place
+  pass_eq (cells.Global g q) f has knows kind place e low =
       let same : in_global g q ≡ place = same_Some (in_global g q) place e in
       subst (IsPassOf (cells.Global g q) kind) same (low_pass (is_write kind) q (low g q (sym same)))
-  pass_eq (cells.GlobalAt g i) f has kind place e low = by (k.number i) refl e
+  pass_eq (cells.GlobalAt g i) f has knows kind place e low = by (k.number i) refl e
     where
       by : (n : Option ℕ) → k.number i ≡ n → global_place g n ≡ Some place → IsPassOf (cells.GlobalAt g i) kind place
       by None is e = absurd (none-some place e)
       by (Some v) is e =
           let same : in_global g v ≡ place = same_Some (in_global g v) place e in
-          subst (IsPassOf (cells.GlobalAt g i) kind) same (in_globals g i has.0 has.1 has.2 has.3 v kind has.4 (subst (IsNumberOf x l v) has.4 (knows.numbers i v is)) (low g v (sym same)))
-  pass_eq (cells.Object r i) f has kind place e low = by (k.copy r) refl e
+          subst (IsPassOf (cells.GlobalAt g i) kind) same (in_globals g i has.0 has.1 has.2 has.3 v kind has.4 (subst (IsNumberOf x l v) has.4 (knows v is)) (low g v (sym same)))
+  pass_eq (cells.Object r i) f has knows kind place e low = by (k.copy r) refl e
     where
       by : (v : Option ℕ) → k.copy r ≡ v → variable_place v (Some i) ≡ Some place → IsPassOf (cells.Object r i) kind place
       by None is e = absurd (none-some place e)
       by (Some v) is e =
           let same : in_variable v i ≡ place = same_Some (in_variable v i) place e in
-          subst (IsPassOf (cells.Object r i) kind) same (ap (λ b. Some (record { write = is_write kind; base = Some b; cell = i })) (knows.copies r v is))
-  pass_eq (cells.ObjectAt r i) f has kind place e low = by (k.copy r) (k.number i) refl refl e
+          subst (IsPassOf (cells.Object r i) kind) same (ap (λ b. Some (record { write = is_write kind; base = Some b; cell = i })) (knows v is))
+  pass_eq (cells.ObjectAt r i) f has knows kind place e low = by (k.copy r) (k.number i) refl refl e
     where
       by : (v n : Option ℕ) → k.copy r ≡ v → k.number i ≡ n → variable_place v n ≡ Some place → IsPassOf (cells.ObjectAt r i) kind place
       by None n is at e = absurd (none-some place e)
       by (Some v) None is at e = absurd (none-some place e)
       by (Some v) (Some n) is at e =
           let same : in_variable v n ≡ place = same_Some (in_variable v n) place e in
-          subst (IsPassOf (cells.ObjectAt r i) kind) same (in_elements r i has.1.1 has.1.2 v n kind has.1.4 (subst (IsNumberOf x l n) has.1.4 (knows.numbers i n at)) (knows.copies r v is))
+          subst (IsPassOf (cells.ObjectAt r i) kind) same (in_elements r i has.1.1 has.1.2 v n kind has.1.4 (subst (IsNumberOf x l n) has.1.4 (knows.1 n at)) (knows.0 v is))
 
 -- ---- what goes on to the next line
 ps_in : (x : Targets) (d : Bool) (l : Label) (write : Bool) (c : Cell) (mode : PlaceMode) (p : Pass) → IsIn p l.passed → IsIn p (passed_behind x d l write c mode)
@@ -246,7 +246,7 @@ settle_from : (to from : ℕ) (b : Option ℕ) → stays (op.Settle to from) b �
 settle_from to from None e = refl
 settle_from to from (Some y) e = not_right _ _ e
 
-module _ (x : Targets) (code : Code) (l : Label) (k : Know) (knows : Knows x k l) (passes : List Pass) where
+module _ (x : Targets) (code : Code) (l : Label) (k : Know) (passes : List Pass) where
   number_too : (z : Number) (n : ℕ) → IsNumberOf x l n z → IsNumberOf x (with_passes l passes) n z
   number_too (Exactly z) n h = h
   number_too (OfElement r field (Nth e)) n h = h
@@ -257,13 +257,16 @@ module _ (x : Targets) (code : Code) (l : Label) (k : Know) (knows : Knows x k l
   number_too (Within w) n h = h
   number_too (Indexes m) n h = h
 
-  known_too : Knows x k (with_passes l passes)
-  known_too = record { copies = knows.copies; numbers = λ i n e. number_too (l.ints i) n (knows.numbers i n e) }
+  known_too : (c : Cell) → Knows x k l c → Knows x k (with_passes l passes) c
+  known_too (cells.Global g q) h = h
+  known_too (cells.GlobalAt g i) h = λ n e. number_too (l.ints i) n (h n e)
+  known_too (cells.Object r n) h = h
+  known_too (cells.ObjectAt r i) h = (h.0, λ n e. number_too (l.ints i) n (h.1 n e))
 
   -- the check of an access itself
-  access_in : (d : Bool) (kind : Kind) (c : Cell) (spot : Spot) (f : Field) → HasField x code (with_passes l passes) c f → ((g place : ℕ) → place_of k c ≡ Some (in_global g place) → 2 ≤ place)
+  access_in : (d : Bool) (kind : Kind) (c : Cell) (spot : Spot) (f : Field) → HasField x code (with_passes l passes) c f → Knows x k l c → ((g place : ℕ) → place_of k c ≡ Some (in_global g place) → 2 ≤ place)
       → (p : Pass) → IsIn p ((if d then [] else (if tells spot then pass_of_place kind (place_of k c) else [])) ++ passes) → IsIn p (passed_behind x d (with_passes l passes) (is_write kind) c spot.mode)
-  access_in d kind c spot f has low p h =
+  access_in d kind c spot f has knows low p h =
       ⊎_elim (λ m. fresh d (tells spot) refl (place_of k c) refl m) (λ m. ps_in x d (with_passes l passes) (is_write kind) c spot.mode p m) (of_both (if d then [] else (if tells spot then pass_of_place kind (place_of k c) else [])) passes p h)
     where
       fresh : (d : Bool) (t : Bool) → tells spot ≡ t → (at : Option Place) → place_of k c ≡ at → IsIn p (if d then [] else (if t then pass_of_place kind at else [])) → IsIn p (passed_behind x d (with_passes l passes) (is_write kind) c spot.mode)
@@ -271,48 +274,51 @@ module _ (x : Targets) (code : Code) (l : Label) (k : Know) (knows : Knows x k l
       fresh false false e at is h = absurd h
       fresh false true e None is h = absurd h
       fresh false true e (Some place) is h =
-          let eq = pass_eq x code (with_passes l passes) k known_too c f has kind place is (λ g n z. low g n (is ∙ ap Some z)) in
+          let eq = pass_eq x code (with_passes l passes) k c f has (known_too c knows) kind place is (λ g n z. low g n (is ∙ ap Some z)) in
           let same : pass_at kind place ≡ p = ⊎_elim (λ (i : pass_at kind place ≡ p). i) (λ k. absurd k) h in
           new_in x false (with_passes l passes) (is_write kind) c spot.mode p refl (and_left (is_dynamic spot.mode) spot.is_simple e) (eq ∙ ap Some same)
 
   abbrev Fields : Op → Type 0
   Fields o = (a : Access) → access o ≡ Some a → (f : Field) × HasField x code (with_passes l passes) a.cell f
 
+  abbrev Known : Op → Type 0
+  Known o = (a : Access) → access o ≡ Some a → Knows x k l a.cell
+
   abbrev Low : Op → Type 0
   Low o = (a : Access) (g place : ℕ) → access o ≡ Some a → place_of k a.cell ≡ Some (in_global g place) → 2 ≤ place
 
-  pub goes_on : (o : Op) (d : Bool) → drops k o ≡ d → Fields o → Low o → (p : Pass) → IsIn p (passes_next o k passes) → IsIn p (remembered x d l o passes)
-  goes_on (op.Load i c spot) d e fields low p h =
+  pub goes_on : (o : Op) (d : Bool) → drops k o ≡ d → Fields o → Known o → Low o → (p : Pass) → IsIn p (passes_next o k passes) → IsIn p (remembered x d l o passes)
+  goes_on (op.Load i c spot) d e fields knows low p h =
       let a : Access = record { kind = Read; cell = c; spot = spot } in
       let f = fields a refl in
-      access_in d Read c spot f.0 f.1 (λ g n z. low a g n refl z) p
+      access_in d Read c spot f.0 f.1 (knows a refl) (λ g n z. low a g n refl z) p
       (subst (λ b. IsIn p ((if b then [] else (if tells spot then pass_of_place Read (place_of k c) else [])) ++ passes)) e (of_filter (λ p. stays (op.Load i c spot) p.base) ((if drops k (op.Load i c spot) then [] else pass_by k (access (op.Load i c spot))) ++ passes) p h).0)
-  goes_on (op.Store i c spot) d e fields low p h =
+  goes_on (op.Store i c spot) d e fields knows low p h =
       let a : Access = record { kind = Write; cell = c; spot = spot } in
       let f = fields a refl in
-      access_in d Write c spot f.0 f.1 (λ g n z. low a g n refl z) p
+      access_in d Write c spot f.0 f.1 (knows a refl) (λ g n z. low a g n refl z) p
       (subst (λ b. IsIn p ((if b then [] else (if tells spot then pass_of_place Write (place_of k c) else [])) ++ passes)) e (of_filter (λ p. stays (op.Store i c spot) p.base) ((if drops k (op.Store i c spot) then [] else pass_by k (access (op.Store i c spot))) ++ passes) p h).0)
-  goes_on (op.LoadRef r c spot) d e fields low p h =
+  goes_on (op.LoadRef r c spot) d e fields knows low p h =
       let a : Access = record { kind = Read; cell = c; spot = spot } in
       let f = fields a refl in
-      access_in false Read c spot f.0 f.1 (λ g n z. low a g n refl z) p (of_filter (λ p. stays (op.LoadRef r c spot) p.base) (pass_by k (access (op.LoadRef r c spot)) ++ passes) p h).0
-  goes_on (op.StoreRef r c spot) d e fields low p h =
+      access_in false Read c spot f.0 f.1 (knows a refl) (λ g n z. low a g n refl z) p (of_filter (λ p. stays (op.LoadRef r c spot) p.base) (pass_by k (access (op.LoadRef r c spot)) ++ passes) p h).0
+  goes_on (op.StoreRef r c spot) d e fields knows low p h =
       let o = op.StoreRef r c spot in
       let a : Access = record { kind = Write; cell = c; spot = spot } in
       let f = fields a refl in
       let w = of_filter (λ p. stays o p.base) (pass_by k (access o) ++ passes) p h in
-      let inside = access_in false Write c spot f.0 f.1 (λ g n z. low a g n refl z) p w.0 in
+      let inside = access_in false Write c spot f.0 f.1 (knows a refl) (λ g n z. low a g n refl z) p w.0 in
       let whole = passed_behind x false (with_passes l passes) true c spot.mode in
       without o r (without_base r whole) p (store_stays r c spot) w.1 (without o r whole p (store_stays r c spot) w.1 inside)
-  goes_on (op.Pop r) d e fields low p h =
+  goes_on (op.Pop r) d e fields knows low p h =
       let w = of_filter (λ p. stays (op.Pop r) p.base) passes p h in
       without (op.Pop r) r passes p (pop_stays r) w.1 w.0
-  goes_on (op.MoveReference r from) d e fields low p h =
+  goes_on (op.MoveReference r from) d e fields knows low p h =
       let o = op.MoveReference r from in
       let w = of_filter (λ p. stays o p.base) passes p h in
       without o from passes p (move_stays r from) w.1 w.0
-  goes_on (op.Settle to from) d e fields low p h =
+  goes_on (op.Settle to from) d e fields knows low p h =
       let o = op.Settle to from in
       let w = of_filter (λ p. stays o p.base) passes p h in
       without o from (without_base to passes) p (settle_from to from) w.1 (without o to passes p (settle_to to from) w.1 w.0)
-  goes_on o d e fields low p h = plain (is_straight o) (λ p. stays o p.base) passes p h
+  goes_on o d e fields knows low p h = plain (is_straight o) (λ p. stays o p.base) passes p h

@@ -146,22 +146,17 @@ module _ (code : Code) (is : IsSampleCode code) where
   line (suc (suc (suc (suc (suc (suc n)))))) o e = absurd (none-some o e)
 
   -- ---- what is known
-  one_number : (l : Label) (b : Bool) (n : ℕ) → (if b then few 1 else None) ≡ Some n → IsNumberOf the_targets l n (if b then Exactly (pos 1) else Anything)
-  one_number l true n e = ap pos (same_Some 1 n e)
-  one_number l false n e = absurd (none-some n e)
+  knows_write : (n : ℕ) (a : Access) → access the_write ≡ Some a → Knows the_targets (known the_flat n) (the_labels.lines.at n) a.cell
+  knows_write n a e = subst (λ (a : Access). Knows the_targets (known the_flat n) (the_labels.lines.at n) a.cell) (same_Some _ a e) tt
 
-  no_number : (l : Label) (b : Bool) (n : ℕ) → (if b then few 0 else (if b then few 1 else None)) ≡ Some n → IsNumberOf the_targets l n (if b then Exactly (pos 0) else (if b then Exactly (pos 1) else Anything))
-  no_number l true n e = ap pos (same_Some 0 n e)
-  no_number l false n e = absurd (none-some n e)
-
-  knows : (n : ℕ) → n < 6 → Knows the_targets (known the_flat n) (the_labels.lines.at n)
-  knows zero lt = record { copies = λ r v e. absurd (none-some v e); numbers = λ i n e. absurd (none-some n e) }
-  knows (suc zero) lt = record { copies = λ r v e. absurd (none-some v e); numbers = λ i n e. absurd (none-some n e) }
-  knows (suc (suc zero)) lt = record { copies = λ r v e. absurd (none-some v e); numbers = λ i n e. one_number the_second (nat_eq i 0) n e }
-  knows (suc (suc (suc zero))) lt = record { copies = λ r v e. absurd (none-some v e); numbers = λ i n e. one_number the_second (nat_eq i 0) n e }
-  knows (suc (suc (suc (suc zero)))) lt = record { copies = λ r v e. absurd (none-some v e); numbers = λ i n e. one_number the_second (nat_eq i 0) n e }
-  knows (suc (suc (suc (suc (suc zero))))) lt = record { copies = λ r v e. absurd (none-some v e); numbers = λ i n e. no_number the_third (nat_eq i 0) n e }
-  knows (suc (suc (suc (suc (suc (suc n)))))) lt = absurd (omega arith)
+  knows : (n : ℕ) (o : Op) (a : Access) → slice_get the_flat.lines n ≡ Some o → access o ≡ Some a → Knows the_targets (known the_flat n) (the_labels.lines.at n) a.cell
+  knows zero o a at e = absurd (none-some a (ap access (same_Some op.Enter o at) ∙ e))
+  knows (suc zero) o a at e = absurd (none-some a (ap access (same_Some (op.Constant 0 (pos 1)) o at) ∙ e))
+  knows (suc (suc zero)) o a at e = knows_write 2 a (ap access (same_Some the_write o at) ∙ e)
+  knows (suc (suc (suc zero))) o a at e = knows_write 3 a (ap access (same_Some the_write o at) ∙ e)
+  knows (suc (suc (suc (suc zero)))) o a at e = absurd (none-some a (ap access (same_Some (op.Constant 0 (pos 0)) o at) ∙ e))
+  knows (suc (suc (suc (suc (suc zero))))) o a at e = absurd (none-some a (ap access (same_Some (op.Return the_spot) o at) ∙ e))
+  knows (suc (suc (suc (suc (suc (suc n)))))) o a at e = absurd (none-some o at)
 
   abbrev Bases : List Pass → Type 0
   Bases ps = (p : Pass) → IsIn p ps → p.base ≡ None

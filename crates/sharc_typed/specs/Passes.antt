@@ -4,6 +4,7 @@ use Rattle.sharc_shadow.specs.declared.shadow_word.Kind.{Kind}
 use Rattle.sharc_shadow.specs.declared.shadow_word.Kind.TheVariants.{Read, Write}
 use Rattle.sharc_code.specs.declared.code.Code.{Code}
 use Rattle.sharc_code.specs.declared.instr.Cell.{Cell}
+use Rattle.sharc_code.specs.declared.instr.Cell.TheVariants as cells
 use Rattle.sharc_flat_form.specs.declared.op.Op.{Op}
 use Rattle.sharc_flat_form.specs.declared.op.Op.TheVariants as op
 use Rattle.sharc_flat_form.specs.Machine.{Flat, function_of as flat_function}
@@ -98,17 +99,25 @@ IsNumberOf x l n (OfElement r field (Nth e)) = (s : StaticType) × (l.env r ≡ 
 IsNumberOf x l n (OfGlobal first count elements (Nth e)) = n ≡ first + e * count
 IsNumberOf x l n number = ⊥
 
--- the label says what is known
-pub record Knows (x : Targets) (k : Know) (l : Label) : Type 0 where
-  pub copies : (r v : ℕ) → k.copy r ≡ Some v → l.same r ≡ v
-  pub numbers : (i n : ℕ) → k.number i ≡ Some n → IsNumberOf x l n (l.ints i)
+-- the label says what is known of the base and of the index of a cell
+abbrev pub KnowsCopy : Know → Label → ℕ → Type 0
+KnowsCopy k l r = (v : ℕ) → k.copy r ≡ Some v → l.same r ≡ v
 
--- flat code that is typed whatever is remembered, with labels that say what is known
+abbrev pub KnowsNumber : Targets → Know → Label → ℕ → Type 0
+KnowsNumber x k l i = (n : ℕ) → k.number i ≡ Some n → IsNumberOf x l n (l.ints i)
+
+abbrev pub Knows : Targets → Know → Label → Cell → Type 0
+Knows x k l (cells.Global g place) = Unit {0}
+Knows x k l (cells.GlobalAt g i) = KnowsNumber x k l i
+Knows x k l (cells.Object r n) = KnowsCopy k l r
+Knows x k l (cells.ObjectAt r i) = KnowsCopy k l r × KnowsNumber x k l i
+
+-- flat code that is typed whatever is remembered, with labels that say what is known of the cells that are accessed
 pub record IsTypedAnyhow (x : Targets) (code : Code) (fl : FlatLabels) (flat : Flat) : Type 0 where
   pub targets : AreTargets x
   pub globals : AreGlobals x code
   pub lines : (n : ℕ) (o : Op) → slice_get flat.lines n ≡ Some o → TypedAnyhow x code fl (length flat.lines) n o
-  pub knows : (n : ℕ) → n < length flat.lines → Knows x (known flat n) (fl.lines.at n)
+  pub knows : (n : ℕ) (o : Op) (a : Access) → slice_get flat.lines n ≡ Some o → access o ≡ Some a → Knows x (known flat n) (fl.lines.at n) a.cell
   -- a check is remembered of a variable that stands
   pub variables : (n : ℕ) (p : Pass) (v : ℕ) → IsIn p (passes_in flat n) → p.base ≡ Some v → (fl.lines.at n).env v ≢ Empty
   -- the cells of globals that are accessed are none of granule 0

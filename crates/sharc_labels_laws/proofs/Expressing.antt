@@ -1,0 +1,602 @@
+-- The code of an expression is typed, by what the types of the source say of it.
+use Rattle.std.proofs.Common.{◌≡◌, ◌≢◌, ℕ, ◌+◌, ◌<◌, ◌≤◌, ◌⊎◌, Bool, true, false, cond, List, [], ◌∷◌, ◌++◌, length, Option, Some, None, refl, sym, ap, ◌∙◌, subst, inl, inr, ⊎_elim, arith, append_assoc}
+use Rattle.std.proofs.lemmas.Bool.{false≢true, cases_eq, cases_lt}
+use Rattle.sharc_tree.specs.declared.token.Site.{Site}
+use Rattle.sharc_tree.specs.declared.token.Span.{Span}
+use Rattle.sharc_tree.specs.declared.tree.declaration.Identifier.{Identifier}
+use Rattle.sharc_tree.specs.declared.tree.expression.Access.{Access}
+use Rattle.sharc_tree.specs.declared.tree.expression.Access.TheVariants.{Dot, Arrow}
+use Rattle.sharc_tree.specs.declared.tree.expression.BinaryOperator.{BinaryOperator}
+use Rattle.sharc_tree.specs.declared.tree.expression.BinaryOperator.TheVariants.{LogicalOr, LogicalAnd, BitOr, BitXor, BitAnd, Equal, NotEqual, Less, Greater, LessOrEqual, GreaterOrEqual, ShiftLeft, ShiftRight, Add, Subtract, Multiply, Divide, Remainder}
+use Rattle.sharc_tree.specs.declared.tree.expression.Constant.{Constant}
+use Rattle.sharc_tree.specs.declared.tree.expression.UnaryOperator.{UnaryOperator}
+use Rattle.sharc_tree.specs.declared.tree.expression.UnaryOperator.TheVariants.{Negate, Not, Complement, Dereference}
+use Rattle.sharc_tree.specs.declared.tree.expression.ValueCall.TheVariants.{Join, Print}
+use Rattle.sharc_tree.specs.Spans.{span_of}
+use Rattle.sharc_tree.specs.Tree.{Expression, identifier, constant, parentheses, call, spawn, on_value, on_place, cast, index, field, unary, binary}
+use Rattle.sharc_names.specs.declared.fault.Named.{Named}
+use Rattle.sharc_names.specs.declared.fault.Named.TheVariants as named
+use Rattle.sharc_names.specs.Kinds.{Kind, is_array, is_integer, element_kind, promoted}
+use Rattle.sharc_code.specs.declared.code.Use.TheVariants as uses
+use Rattle.sharc_code.specs.declared.instr.Register.{Register}
+use Rattle.sharc_code.specs.declared.instr.Register.TheVariants as registers
+use Rattle.sharc_code.specs.declared.instr.Width.{Width}
+use Rattle.sharc_code.specs.declared.instr.Width.TheVariants.{Char, Int, Long}
+use Rattle.sharc_code.specs.Runs.{put}
+use Rattle.sharc_code.proofs.Places.{put_same, put_other}
+use Rattle.sharc_ctype.specs.Resolved.{global_at}
+use Rattle.sharc_mode.specs.Sharings.{Sharing}
+use Rattle.sharc_meaning.specs.Cells.{element_cells, field_place_named, global_elements}
+use Rattle.sharc_meaning.specs.Reference.{constant_value}
+use Rattle.sharc_meaning.specs.State.{is_reference}
+use Rattle.sharc_flat_form.specs.declared.op.Op.{Op}
+use Rattle.sharc_flat_form.specs.declared.op.Op.TheVariants as op
+use Rattle.sharc_flat_form.specs.Machine.{first_cell}
+use Rattle.sharc_flat.specs.declared.slot.Lvalue.{Lvalue}
+use Rattle.sharc_flat.specs.Scope.{Context, int_count, ref_count, register_of, at_site}
+use Rattle.sharc_flat.specs.Places.{Target, variable, in_global, in_global_at, in_object, in_object_at, target, named_target, own_field, global_of, has_base, base_width, index_width, guard_width, copy_code, cell_value_code, value_code, index_code, pointee_code, bounds_code, width_of}
+use Rattle.sharc_flat.specs.Flattened.{kind_of, is_ref, target_of, mode_of, what_names, lvalue_in, guard_of, constant_code, named_code, truth_code, compare_code, unary_code, binary_code, behind_int, behind_ref, operator_of, lvalue_code, field_code, unary_place_code, expression_code, place_code}
+use Rattle.sharc_flat.specs.Suits.{Either, is_cell}
+use Rattle.sharc_invariant.specs.Types.{StaticType, cells_of}
+use Rattle.sharc_invariant.specs.Labels.{Entry, Empty, Refers, Element, Number, Anything, Nth, Exactly, Within, Indexes, OfElement, OfGlobal, Closed, Label, Narrower, LessNumber, LessEntry, LessGate, HasBase, fill, set_number}
+use Rattle.sharc_invariant.specs.Typed.{ints_in, refs_in}
+use Rattle.sharc_invariant.proofs.Frames.{wider}
+use Rattle.sharc_invariant.proofs.Scoped.{less_entry_refl, less_number_refl, scoped_fill}
+use Rattle.sharc_labels_laws.specs.Stretches.{Mark, Setting, Way, AreOpen}
+use Rattle.sharc_labels_laws.specs.Places.{Stands, IsNamed, IsPlain, AreLow, no_type, mark}
+use Rattle.sharc_labels_laws.specs.Premises.{Typing, HoldsVariables, Ground, number_in_global, IntegerTyped, ReferenceTyped}
+use Rattle.sharc_labels_laws.specs.Typable.{type_by, GoesTo, Widens, IsTypeIn, IsVoid, IsNumber, IsPointer, ground_of, CellTyped, ValueTyped, VariableTyped, NameTyped, ConstantTyped, UnaryTyped, result_of, IntegersTyped, ComparedTyped, BinaryTyped, HasType, AreFields, ElementTyped, IndexTypable, FieldTypable, IsTypable, IsPlaceTypable}
+use Rattle.sharc_labels_laws.proofs.Fitting.{fits_same, fits_by}
+use Rattle.sharc_labels_laws.proofs.Standing.{less_by}
+use Rattle.sharc_labels_laws.proofs.Telling.{told, other_than}
+use Rattle.sharc_labels_laws.proofs.Rules.{on_nothing}
+use Rattle.sharc_labels_laws.proofs.Parts.{P, At, at_number, at_fill, number_above, none_some, does, then_do, before, pre, post, none, enter, constant_at, null_kept_at, from_free, from_written, false_at, compute_at, negate_at, complement_at, number_dropped, truth_at, pop_at, compare_at, logical_at, either_at, check_at, pointee_at, print_at, join_at, with_number}
+use Rattle.sharc_labels_laws.proofs.Variables.{local_at, move_at}
+use Rattle.sharc_labels_laws.proofs.Indexes.{FindsElement, element_of, fresh_name}
+use Rattle.sharc_labels_laws.proofs.Accessed.{Frame, placed, based, ints_of, indexed, int_value, reference_value, holds_over, wider_names}
+use Rattle.sharc_labels_laws.proofs.Placing.{AreFew, which, bounds_at, finds_object, finds_global}
+
+plain_base : (n : Number) (r q : ℕ) → IsPlain n → HasBase n q → q < r
+plain_base Anything r q plain h = absurd h
+plain_base (Exactly z) r q plain h = absurd h
+plain_base (Within w) r q plain h = absurd h
+plain_base (Indexes m) r q plain h = absurd plain
+plain_base (OfElement base place e) r q plain h = absurd plain
+plain_base (OfGlobal first count elements e) r q plain h = absurd plain
+
+-- a number of one width is one of another
+abbrev IsWithin : Number → Type 0
+IsWithin (Within w) = Unit {0}
+IsWithin _ = ⊥
+
+narrower_through : (u v w : Width) → Narrower u v → Narrower v w → Narrower u w
+narrower_through Char v w g h = tt
+narrower_through Int Int w g h = h
+narrower_through Int Long Long g h = tt
+narrower_through Int Char w g h = absurd g
+narrower_through Int Long Char g h = absurd h
+narrower_through Int Long Int g h = absurd h
+narrower_through Long Long w g h = h
+narrower_through Long Char w g h = absurd g
+narrower_through Long Int w g h = absurd g
+
+other_number : (n : Number) (v : Width) → n ≡ Within v → IsWithin n
+other_number n v e = subst IsWithin (sym e) tt
+
+widened : (n : Number) (v w : Width) → LessNumber n (Within v) → Widens v w → LessNumber n (Within w)
+widened (Within u) v w a b = narrower_through u v w a b
+widened (Exactly z) v w a b = wider v w z b a
+widened Anything v w a b = absurd (other_number Anything v a)
+widened (Indexes m) v w a b = absurd (other_number (Indexes m) v a)
+widened (OfElement base place e) v w a b = absurd (other_number (OfElement base place e) v a)
+widened (OfGlobal first count elements e) v w a b = absurd (other_number (OfGlobal first count elements e) v a)
+
+module _ (around : Setting) (f : ℕ) (ways : List Way) (y : Typing) (c : Context) (low : AreLow (y.named c) (ref_count c.scope)) where
+  abbrev D : (ℕ → Mark) → Type 0
+  D = AreOpen around ways
+
+  abbrev N : ℕ → Bool
+  N = y.named c
+
+  abbrev top : ℕ
+  top = ref_count c.scope
+
+  abbrev Q : ℕ → Mark → List Op → Mark → Type 0
+  Q from = P around f D N top low from
+
+  abbrev F : ℕ → ℕ → ℕ → Label → Type 0
+  F from = Frame around f D y c low from
+
+  abbrev Typed : Expression → Type 0
+  Typed = IsTypable around f ways y c
+
+  abbrev PlaceTyped : Option ℕ → Option ℕ → Expression → Type 0
+  PlaceTyped = IsPlaceTypable around f ways y c
+
+  abbrev TypeIn : StaticType → Type 0
+  TypeIn = IsTypeIn around f ways y c
+
+  -- ---- values
+  -- a reference, which may be a copy of a variable
+  pub record RefValue (from i r : ℕ) (l : Label) (os : List Op) (s : StaticType) : Type 0 where
+    pub copy : ℕ
+    pub small : (copy ≡ r) ⊎ (copy < top)
+    pub piece : Q from (mark l from i) os (mark (fill l r (Refers s) copy false) from i)
+
+  -- an integer, whose number may be known
+  pub record IntValue (from i r : ℕ) (l : Label) (os : List Op) (w : Width) : Type 0 where
+    pub number : Number
+    pub plain : IsPlain number
+    pub fits : LessNumber number (Within w)
+    pub piece : Q from (mark l from i) os (with_number around f D N top low from l i number)
+
+  abbrev pub Value : ℕ → ℕ → ℕ → Label → List Op → Expression → Bool → Bool → Type 0
+  Value from i r l os e true integer = (s : StaticType) → GoesTo (y.entry c e) s → TypeIn s → RefValue from i r l os s
+  Value from i r l os e false true = IntValue from i r l os (width_of (kind_of c e))
+  Value from i r l os e false false = Q from (mark l from i) os (mark l from i)
+
+  abbrev ValueOf : ℕ → ℕ → ℕ → Label → List Op → Expression → Type 0
+  ValueOf from i r l os e = Value from i r l os e (is_ref c e) (is_integer (kind_of c e))
+
+  -- a type that names constants of the variables
+  in_frame : (from i r : ℕ) (l : Label) → F from i r l → (s : StaticType) → TypeIn s → IsNamed N r s
+  in_frame from i r l fr s h = let high = fr.high in wider_names around f D y c low from top r s high h
+
+  int_by : (from i r : ℕ) (l : Label) (os : List Op) (e : Expression) → IsNumber around f ways y c e → IntValue from i r l os (width_of (kind_of c e)) → ValueOf from i r l os e
+  int_by from i r l os e is v = subst (λ b. Value from i r l os e b (is_integer (kind_of c e))) (sym is.0) (subst (λ b. Value from i r l os e false b) (sym is.1) v)
+
+  int_of : (from i r : ℕ) (l : Label) (os : List Op) (e : Expression) → IsNumber around f ways y c e → ValueOf from i r l os e → IntValue from i r l os (width_of (kind_of c e))
+  int_of from i r l os e is v = subst (λ b. Value from i r l os e false b) is.1 (subst (λ b. Value from i r l os e b (is_integer (kind_of c e))) is.0 v)
+
+  ref_by : (from i r : ℕ) (l : Label) (os : List Op) (e : Expression) → is_ref c e ≡ true → ((s : StaticType) → GoesTo (y.entry c e) s → TypeIn s → RefValue from i r l os s) → ValueOf from i r l os e
+  ref_by from i r l os e is v = subst (λ b. Value from i r l os e b (is_integer (kind_of c e))) (sym is) v
+
+  ref_of : (from i r : ℕ) (l : Label) (os : List Op) (e : Expression) → is_ref c e ≡ true → ValueOf from i r l os e → (s : StaticType) → GoesTo (y.entry c e) s → TypeIn s → RefValue from i r l os s
+  ref_of from i r l os e is v = subst (λ b. Value from i r l os e b (is_integer (kind_of c e))) is v
+
+  -- a pointer, with the type that it has
+  base_of : (from i r : ℕ) (l : Label) (os : List Op) (e : Expression) → IsPointer around f ways y c e → ValueOf from i r l os e → RefValue from i r l os (type_by (y.entry c e))
+  base_of from i r l os e is v = ref_of from i r l os e is.0 v (type_by (y.entry c e)) (inr is.1) is.2
+
+  small_copy : (from i r : ℕ) (l : Label) → F from i r l → (copy : ℕ) → (copy ≡ r) ⊎ (copy < top) → copy ≤ r
+  small_copy from i r l fr copy small = let high = fr.high in ⊎_elim (λ (e : copy ≡ r). omega (arith, e)) (λ (lt : copy < top). omega (arith, lt, high)) small
+
+  joins : (from : ℕ) (s m e : Mark) (xs ys : List Op) → Q from s xs m → Q from m ys e → Q from s (xs ++ ys) e
+  joins from = then_do around f D N top low from
+
+  -- ---- frames with one value more
+  frame_fill : (from i r : ℕ) (l : Label) → F from i r l → (s : StaticType) (v : ℕ) (b : Bool) → IsNamed N r s → v ≤ r → F from i (r + 1) (fill l r (Refers s) v b)
+  frame_fill from i r l fr s v b fits small = let high = fr.high in record {
+    at = at_fill around f D N top low from i r l fr.at s v b fits small;
+    holds = holds_over around f D y c low from l (fill l r (Refers s) v b) (λ q lt. put_other l.env r q (Refers s) (λ e. omega (arith, e, lt, high))) (λ q lt. put_other l.same r q v (λ e. omega (arith, e, lt, high))) (λ j lt. refl) fr.holds;
+    high = omega (arith, high);
+    wide = fr.wide;
+    early = fr.early;
+  }
+
+  frame_number : (from i r : ℕ) (l : Label) → F from i r l → (n : Number) → ((q : ℕ) → HasBase n q → q < r) → F from (i + 1) r (set_number l i n)
+  frame_number from i r l fr n base = let wide = fr.wide in let early = fr.early in record {
+    at = at_number around f D N top low from i r l fr.at n base;
+    holds = holds_over around f D y c low from l (set_number l i n) (λ q lt. refl) (λ q lt. refl) (λ j lt. put_other l.ints i j n (λ e. omega (arith, e, lt, wide))) fr.holds;
+    high = fr.high;
+    wide = omega (arith, wide);
+    early = omega (arith, early);
+  }
+
+  -- ---- NULL and constants
+  null_at : (from i r : ℕ) (l : Label) → F from i r l → (s : StaticType) → IsNamed N r s → Q from (mark l from i) (op.Null r ∷ []) (mark (fill l r (Refers s) r false) from i)
+  null_at from i r l fr s fits =
+      let k = fill l r (Refers s) r false in
+      let at = fr.at in
+      does around f D N top low from (mark l from i) (op.Null r) (mark k from i)
+      (λ in_it h. scoped_fill (ints_in around.code (Some f)) (refs_in around.code (Some f)) l r s r false in_it (λ q m. at.stands.full q (fits q m).0) (inl refl) h)
+      (λ table pc in_it h next. on_nothing around f table pc (mark l from i) (mark k from i) next r (record { owned = at.owned; scoped = h; closed = at.stands.closed }) (record { is = subst (λ o. r < refs_in around.code o) (sym at.owned) in_it; empty = at.stands.free r (omega arith) })
+      (less_by l k refl (λ q. entry q) (λ q. same q) (λ q e. known q e) (λ j. less_number_refl (l.ints j)) (subst (λ g. LessGate g Closed) (sym at.stands.closed) tt) at.stands.nothing_passed (λ e. e))
+      (λ _ know h2. told around.targets (op.Null r) know (mark l from i) (mark k from i) h2 (λ q v _ e. absurd (none_some v e)) (λ q a _. put_other l.same r q r (other_than q r a)) (λ j n _ _ a. absurd (false≢true a))
+      (λ j n a b _ e. number_above around f D N top low from i r l at r (omega arith) (Refers s) r false j n (h2.numbers j n a b e))))
+    where
+      entry : (q : ℕ) → LessEntry l q (l.env q) (put l.env r (Refers s) q)
+      entry q = ⊎_elim (λ (e : q ≡ r). subst (λ z. LessEntry l q z (put l.env r (Refers s) q)) (sym (ap l.env e ∙ fr.at.stands.free r (omega arith))) (subst (LessEntry l q Empty) (sym (ap (put l.env r (Refers s)) e ∙ put_same l.env r (Refers s))) tt))
+          (λ (ne : q ≡ r → ⊥). subst (LessEntry l q (l.env q)) (sym (put_other l.env r q (Refers s) ne)) (less_entry_refl l q (l.env q))) (cases_eq q r)
+
+      same : (q : ℕ) → put l.same r r q ≡ l.same q
+      same q = ⊎_elim (λ (e : q ≡ r). ap (put l.same r r) e ∙ put_same l.same r r ∙ sym (ap l.same e ∙ fr.at.stands.alone r (omega arith))) (λ (ne : q ≡ r → ⊥). put_other l.same r q r ne) (cases_eq q r)
+
+      known : (q : ℕ) → put l.known r false q ≡ true → l.known q ≡ true
+      known q e = ⊎_elim (λ (z : q ≡ r). absurd (false≢true (sym (ap (put l.known r false) z ∙ put_same l.known r false) ∙ e))) (λ (ne : q ≡ r → ⊥). sym (put_other l.known r q false ne) ∙ e) (cases_eq q r)
+
+  constant_value_of : (from i r : ℕ) (l : Label) → F from i r l → (e : Expression) (k : Constant) (b : Bool) → is_ref c e ≡ b → ConstantTyped around f ways y c e k b → ValueOf from i r l (constant_code b i r k) e
+  constant_value_of from i r l fr e k true is h = ref_by from i r l (op.Null r ∷ []) e is (λ s goes fits. record { copy = r; small = inl refl; piece = null_at from i r l fr s (in_frame from i r l fr s fits) })
+  constant_value_of from i r l fr e k false is h = int_by from i r l (op.Constant i (constant_value k) ∷ []) e (is, h.0) (record { number = Exactly (constant_value k); plain = tt; fits = h.1; piece = constant_at around f D N top low from i r l fr.at (constant_value k) })
+
+  -- ---- variables
+  same_type : (s t : StaticType) → Refers s ≡ Refers t → s ≡ t
+  same_type s t e = cc
+
+  not_null : (s : StaticType) (e : Entry) → e ≡ Refers s → e ≡ Empty → ⊥
+  not_null s e a b = let z : Refers s ≡ Empty = sym a ∙ b in cc
+
+  goes_is : (e : Entry) (s t : StaticType) → e ≡ Refers s → GoesTo e t → s ≡ t
+  goes_is e s t is goes = ⊎_elim (λ (z : e ≡ Empty). absurd (not_null s e is z)) (λ (z : e ≡ Refers t). same_type s t (sym is ∙ z)) goes
+
+  copied : (from i r : ℕ) (l : Label) → F from i r l → (e : Expression) (x : Register) → VariableTyped around f ways y c e x → ValueOf from i r l (copy_code i r x) e
+  copied from i r l fr e (registers.Int j) h = int_by from i r l (op.Move i j ∷ []) e h.0 (record { number = Within (y.width c j); plain = tt; fits = subst (λ w. LessNumber (Within (y.width c j)) (Within w)) h.2 (less_number_refl (Within (y.width c j))); piece = move_at around f D N top low from i r l fr.at j (y.width c j) (fr.holds.integers j h.1) })
+  copied from i r l fr e (registers.Reference q) h = let high = fr.high in let lt = h.1 in ref_by from i r l (op.Local r q ∷ []) e h.0 (λ s goes fits.
+      let is : y.pointer c q ≡ s = goes_is (y.entry c e) (y.pointer c q) s h.2 goes in
+      record { copy = q; small = inr h.1; piece = local_at around f D N top low from i r l fr.at s q i (in_frame from i r l fr s fits) (omega (arith, high, lt)) (fr.holds.references q h.1 ∙ ap Refers is) (fr.holds.copies q h.1) })
+
+  -- ---- cells
+  value_is : (i r : ℕ) (site : Site) (lvalue : Lvalue) (mode : Sharing) (b : Bool) (t : Target) → is_cell t ≡ true → cell_value_code c i r site lvalue mode b t ≡ value_code c i r site lvalue mode b t
+  value_is i r site lvalue mode b (variable x) h = absurd (false≢true h)
+  value_is i r site lvalue mode b (in_global g n) h = refl
+  value_is i r site lvalue mode b (in_global_at g n) h = refl
+  value_is i r site lvalue mode b (in_object n) h = refl
+  value_is i r site lvalue mode b (in_object_at n) h = refl
+
+  -- what is named has its registers
+  pub record PlaceValue (from i r : ℕ) (l : Label) (os : List Op) (t : Target) (guard : Option ℕ) (ground : Ground) : Type 0 where
+    pub element : Element
+    pub copy : ℕ
+    pub small : copy ≤ r
+    pub fits : IsNamed N r ground.base
+    pub piece : Q from (mark l from i) os (placed around f D y c low from t guard ground element i r copy l)
+
+  read : (from i r : ℕ) (l : Label) → F from i r l → (e : Expression) (site : Site) (t : Target) (xs : List Op) → PlaceValue from i r l xs t (guard_of c e) (ground_of around f ways y c e) → is_cell t ≡ true → CellTyped around f ways y c e site t (is_ref c e)
+      → ValueOf from i r l (xs ++ value_code c i r site (lvalue_in c e) (mode_of c e) (is_ref c e) t) e
+  read from i r l fr e site t xs p cell h = by (is_ref c e) refl h
+    where
+      by : (b : Bool) → is_ref c e ≡ b → CellTyped around f ways y c e site t b → Value from i r l (xs ++ value_code c i r site (lvalue_in c e) (mode_of c e) b t) e b (is_integer (kind_of c e))
+      by true is h = λ s goes fits.
+          let same : h.0 ≡ s = goes_is (y.entry c e) h.0 s h.1 goes in
+          record {
+            copy = r;
+            small = inl refl;
+            piece = joins from (mark l from i) (placed around f D y c low from t (guard_of c e) (ground_of around f ways y c e) p.element i r p.copy l) (mark (fill l r (Refers s) r false) from i) xs (value_code c i r site (lvalue_in c e) (mode_of c e) true t) p.piece
+                (subst (λ os. Q from (placed around f D y c low from t (guard_of c e) (ground_of around f ways y c e) p.element i r p.copy l) os (mark (fill l r (Refers s) r false) from i)) (value_is i r site (lvalue_in c e) (mode_of c e) true t cell)
+                (reference_value around f D y c low from i r l fr (guard_of c e) (ground_of around f ways y c e) p.element p.copy p.fits p.small site (lvalue_in c e) (mode_of c e) t cell s (in_frame from i r l fr s fits)
+                (subst (λ s. ReferenceTyped around y c f t (guard_of c e) (ground_of around f ways y c e) site (lvalue_in c e) (mode_of c e) false uses.Read s) same h.3)));
+          }
+      by false is h = subst (λ b. Value from i r l (xs ++ value_code c i r site (lvalue_in c e) (mode_of c e) false t) e false b) (sym h.0) (record {
+        number = Within (width_of (kind_of c e));
+        plain = tt;
+        fits = less_number_refl (Within (width_of (kind_of c e)));
+        piece = joins from (mark l from i) (placed around f D y c low from t (guard_of c e) (ground_of around f ways y c e) p.element i r p.copy l) (with_number around f D N top low from l i (Within (width_of (kind_of c e)))) xs (value_code c i r site (lvalue_in c e) (mode_of c e) false t) p.piece
+            (subst (λ os. Q from (placed around f D y c low from t (guard_of c e) (ground_of around f ways y c e) p.element i r p.copy l) os (with_number around f D N top low from l i (Within (width_of (kind_of c e))))) (value_is i r site (lvalue_in c e) (mode_of c e) false t cell)
+            (int_value around f D y c low from i r l fr (guard_of c e) (ground_of around f ways y c e) p.element p.copy p.fits p.small site (lvalue_in c e) (mode_of c e) t cell (width_of (kind_of c e)) h.1));
+      })
+
+  -- with no register
+  opened : (from i r : ℕ) (l : Label) → F from i r l → Q from (mark l from i) [] (mark (record l { gate = Closed }) from (i + 0))
+  opened from i r l fr =
+      let same : l ≡ record l { gate = Closed } = ap (λ g. record l { gate = g }) fr.at.stands.closed in
+      let z : i ≡ i + 0 = omega arith in
+      subst (λ k. Q from (mark l from i) [] (mark k from (i + 0))) same (subst (λ n. Q from (mark l from i) [] (mark l from n)) z (none around f D N top low from (mark l from i) (mark l from i) (fits_same around.targets (mark l from i)) (λ h. h)))
+
+  no_names : (r : ℕ) → IsNamed N r no_type
+  no_names r p m = absurd m
+
+  -- the base of an object
+  object_place : (from i r : ℕ) (l : Label) → F from i r l → (e : Expression) (site : Site) (os : List Op) (n : ℕ) (guard : Option ℕ) (ground : Ground) → type_by (y.entry c e) ≡ ground.base → IsPointer around f ways y c e → ValueOf from i r l os e → PlaceValue from i r l (pointee_code r site os) (in_object n) guard ground
+  object_place from i r l fr e site os n guard ground same is v =
+      let b = base_of from i r l os e is v in
+      let s = type_by (y.entry c e) in
+      let fits = in_frame from i r l fr s is.2 in
+      let z : i ≡ i + 0 = omega arith in
+      record {
+        element = Nth 0;
+        copy = b.copy;
+        small = small_copy from i r l fr b.copy b.small;
+        fits = subst (IsNamed N r) same fits;
+        piece = subst (λ t. Q from (mark l from i) (pointee_code r site os) (mark (fill l r (Refers t) b.copy true) from (i + 0))) same (subst (λ n. Q from (mark l from i) (pointee_code r site os) (mark (fill l r (Refers s) b.copy true) from n)) z
+            (pointee_at around f D N top low from i r l fr.at s b.copy false fits (small_copy from i r l fr b.copy b.small) (mark l from i) i site os b.piece));
+      }
+
+  -- ---- elements
+  -- a register that holds something is one of the frame
+  taken_register : (from : ℕ) (s e : Mark) (os : List Op) (r : ℕ) (t : StaticType) → s.label.env r ≡ Refers t → (r < refs_in around.code (Some f) → Q from s os e) → Q from s os e
+  taken_register from s e os r t is rest = λ w h. rest (⊎_elim (λ (lt : r < refs_in around.code (Some f)). lt) (λ ge. absurd (not_null t (s.label.env r) is (h.few r ge))) (cases_lt r (refs_in around.code (Some f)))) w h
+
+  few_at : (from count n : ℕ) (guard : Option ℕ) → AreFields around f ways y count n guard → AreFew around f D y c low from count n guard
+  few_at from count n None h = h
+  few_at from count n (Some mutex) h = h
+
+  -- of an array
+  array_place : (from i r : ℕ) (l : Label) → F from i r l → (g elements count n : ℕ) (guard : Option ℕ) (ground : Ground) → ground.base ≡ no_type → ground.count ≡ count → ground.elements ≡ elements → AreFields around f ways y count n guard → (xs ys : List Op) (w : Width) (site : Site)
+      → Q from (mark l from i) xs (mark l from i) → IntValue from i r l ys w
+      → PlaceValue from i r l (xs ++ (ys ++ bounds_code (λ i n. op.GlobalBounds i elements count (first_cell c.globals g + n) (at_site site)) i n guard)) (in_global_at g n) guard ground
+  array_place from i r l fr g elements count n guard ground none_based same_count same_elements few xs ys w site p v =
+      let first = first_cell c.globals g in
+      let finds = finds_global around f D y c low from elements count first (at_site site) l fr.at.owned in
+      let elem = which around f D y c low from i r l fr.at (λ i n. op.GlobalBounds i elements count (first + n) (at_site site)) (λ n e. OfGlobal (first + n) count elements e) count finds fr.early v.number v.plain in
+      let os = bounds_code (λ i n. op.GlobalBounds i elements count (first + n) (at_site site)) i n guard in
+      let end : Q from (with_number around f D N top low from l i v.number) os (mark (record l { ints = indexed around f D y c low from l.ints i guard (λ n. OfGlobal (first + n) count elements elem) n; gate = Closed }) from (i + guard_width guard)) =
+      bounds_at around f D y c low from i r l fr.at (λ i n. op.GlobalBounds i elements count (first + n) (at_site site)) (λ n e. OfGlobal (first + n) count elements e) count finds fr.early v.number v.plain n guard (few_at from count n guard few) in
+      record {
+        element = elem;
+        copy = r;
+        small = omega arith;
+        fits = subst (IsNamed N r) (sym none_based) (no_names r);
+        piece = joins from (mark l from i) (mark l from i) (placed around f D y c low from (in_global_at g n) guard ground elem i r r l) xs (ys ++ os) p
+            (joins from (mark l from i) (with_number around f D N top low from l i v.number) (placed around f D y c low from (in_global_at g n) guard ground elem i r r l) ys os v.piece
+            (subst (λ k. Q from (with_number around f D N top low from l i v.number) os (mark (record l { ints = indexed around f D y c low from l.ints i guard (λ n. OfGlobal (first + n) k ground.elements elem) n; gate = Closed }) from (i + guard_width guard))) (sym same_count)
+            (subst (λ k. Q from (with_number around f D N top low from l i v.number) os (mark (record l { ints = indexed around f D y c low from l.ints i guard (λ n. OfGlobal (first + n) count k elem) n; gate = Closed }) from (i + guard_width guard))) (sym same_elements) end)));
+      }
+
+  -- of what a pointer refers to
+  element_place : (from i r : ℕ) (l : Label) → F from i r l → (e : Expression) (count n : ℕ) (guard : Option ℕ) (ground : Ground) → type_by (y.entry c e) ≡ ground.base → count ≡ cells_of around.targets (type_by (y.entry c e)).target → AreFields around f ways y count n guard → (xs : List Op) (ys : ℕ → List Op) (w : Width) (site : Site)
+      → IsPointer around f ways y c e → ValueOf from i r l xs e → ((l : Label) → F from i (r + 1) l → IntValue from i (r + 1) l (ys (r + 1)) w)
+      → PlaceValue from i r l (xs ++ (op.ChkNull r (at_site site) ∷ (ys (r + 1) ++ bounds_code (λ i n. op.Bounds i r count n (at_site site)) i n guard))) (in_object_at n) guard ground
+  element_place from i r l fr e count n guard ground same size few xs ys w site is v number =
+      let b = base_of from i r l xs e is v in
+      let s = type_by (y.entry c e) in
+      let fits = in_frame from i r l fr s is.2 in
+      let small = small_copy from i r l fr b.copy b.small in
+      let X = fill l r (Refers s) b.copy true in
+      let fx = frame_fill from i r l fr s b.copy true fits small in
+      let m = number X fx in
+      let o : ℕ → ℕ → Op = λ i n. op.Bounds i r count n (at_site site) in
+      let elem = element_of m.number (fresh_name (set_number X i m.number) (i + 1)) in
+      let os = bounds_code o i n guard in
+      let start = with_number around f D N top low from X i m.number in
+      let after = mark (record X { ints = indexed around f D y c low from X.ints i guard (λ n. OfElement r n elem) n; gate = Closed }) from (i + guard_width guard) in
+      let end : Q from start os after = taken_register from start after os r s (put_same l.env r (Refers s)) (λ ref.
+      bounds_at around f D y c low from i (r + 1) X fx.at o (λ n e. OfElement r n e) count (finds_object around f D y c low from r s count (at_site site) X fr.at.owned ref (put_same l.env r (Refers s)) (put_same l.known r true) size) fr.early m.number m.plain n guard (few_at from count n guard few)) in
+      record {
+        element = elem;
+        copy = b.copy;
+        small = small;
+        fits = subst (IsNamed N r) same fits;
+        piece = subst (λ t. Q from (mark l from i) (xs ++ (op.ChkNull r (at_site site) ∷ (ys (r + 1) ++ os))) (mark (record (fill l r (Refers t) b.copy true) { ints = indexed around f D y c low from l.ints i guard (λ n. OfElement r n elem) n; gate = Closed }) from (i + guard_width guard))) same
+            (joins from (mark l from i) (mark (fill l r (Refers s) b.copy false) from i) after xs (op.ChkNull r (at_site site) ∷ (ys (r + 1) ++ os)) b.piece
+            (joins from (mark (fill l r (Refers s) b.copy false) from i) (mark X from i) after (op.ChkNull r (at_site site) ∷ []) (ys (r + 1) ++ os) (check_at around f D N top low from i r l fr.at s b.copy false fits small i (at_site site))
+            (joins from (mark X from i) start after (ys (r + 1)) os m.piece end)));
+      }
+
+  -- ---- tests and operators
+  -- a value that decides
+  truth_of : (from i r : ℕ) (l : Label) → F from i r l → (e : Expression) (os : List Op) → HasType around f ways y c e → ValueOf from i r l os e → Q from (mark l from i) (os ++ truth_code (is_ref c e) i r) (mark l from i)
+  truth_of from i r l fr e os h v = by (is_ref c e) refl
+    where
+      by : (b : Bool) → is_ref c e ≡ b → Q from (mark l from i) (os ++ truth_code b i r) (mark l from i)
+      by true is =
+          let t = h.0 is in
+          let b = ref_of from i r l os e is v t.0 t.1 t.2 in
+          let fits = in_frame from i r l fr t.0 t.2 in
+          joins from (mark l from i) (mark (fill l r (Refers t.0) b.copy false) from i) (mark l from i) os (truth_code true i r) b.piece
+          (number_dropped around f D N top low from i r l fr.at (Within Char) (truth_code true i r) (mark (fill l r (Refers t.0) b.copy false) from i)
+          (truth_at around f D N top low from i r l fr.at fr.high t.0 b.copy false fits (small_copy from i r l fr b.copy b.small)))
+      by false is =
+          let n = int_of from i r l os e (is, h.1 is) v in
+          joins from (mark l from i) (mark l from i) (mark l from i) os [] (number_dropped around f D N top low from i r l fr.at n.number os (mark l from i) n.piece) (none around f D N top low from (mark l from i) (mark l from i) (fits_same around.targets (mark l from i)) (λ z. z))
+
+  -- 0 or 1
+  truth_value : (from i r : ℕ) (l : Label) (os : List Op) (e : Expression) → IsNumber around f ways y c e → Q from (mark l from i) os (with_number around f D N top low from l i (Within Char)) → ValueOf from i r l os e
+  truth_value from i r l os e is p = int_by from i r l os e is (record { number = Within Char; plain = tt; fits = tt; piece = p })
+
+  not_value : (from i r : ℕ) (l : Label) → F from i r l → (e a : Expression) (os : List Op) → IsNumber around f ways y c e → HasType around f ways y c a → ValueOf from i r l os a → ValueOf from i r l (os ++ (truth_code (is_ref c a) i r ++ op.IsFalse i i ∷ [])) e
+  not_value from i r l fr e a os is h v = truth_value from i r l (os ++ (truth_code (is_ref c a) i r ++ op.IsFalse i i ∷ [])) e is
+      (subst (λ xs. Q from (mark l from i) xs (with_number around f D N top low from l i (Within Char))) (append_assoc os (truth_code (is_ref c a) i r) (op.IsFalse i i ∷ []))
+      (joins from (mark l from i) (mark l from i) (with_number around f D N top low from l i (Within Char)) (os ++ truth_code (is_ref c a) i r) (op.IsFalse i i ∷ []) (truth_of from i r l fr a os h v)
+      (from_free around f D N top low from i r l fr.at (op.IsFalse i i) (Within Char) (false_at around f D N top low from i r l fr.at i))))
+
+  negated : (from i r : ℕ) (l : Label) → F from i r l → (e a : Expression) (os : List Op) (site : Site) → UnaryTyped around f ways y c e Negate a → ValueOf from i r l os a → ValueOf from i r l (os ++ op.Negate (width_of (promoted (kind_of c a))) i i (at_site site) ∷ []) e
+  negated from i r l fr e a os site h v =
+      let n = int_of from i r l os a h.0 v in
+      let w = width_of (promoted (kind_of c a)) in
+      int_by from i r l (os ++ op.Negate w i i (at_site site) ∷ []) e h.1 (record {
+        number = Within w;
+        plain = tt;
+        fits = h.3;
+        piece = joins from (mark l from i) (with_number around f D N top low from l i n.number) (with_number around f D N top low from l i (Within w)) os (op.Negate w i i (at_site site) ∷ []) n.piece (negate_at around f D N top low from i r l fr.at w n.number (at_site site) h.2);
+      })
+
+  complemented : (from i r : ℕ) (l : Label) → F from i r l → (e a : Expression) (os : List Op) → UnaryTyped around f ways y c e Complement a → ValueOf from i r l os a → ValueOf from i r l (os ++ op.Complement i i ∷ []) e
+  complemented from i r l fr e a os h v =
+      let n = int_of from i r l os a h.0 v in
+      let w = width_of (kind_of c a) in
+      int_by from i r l (os ++ op.Complement i i ∷ []) e h.1 (record {
+        number = Within w;
+        plain = tt;
+        fits = h.2;
+        piece = joins from (mark l from i) (with_number around f D N top low from l i n.number) (with_number around f D N top low from l i (Within w)) os (op.Complement i i ∷ []) n.piece (complement_at around f D N top low from i r l fr.at w n.number n.fits);
+      })
+
+  -- an operator on two values, of which the second one stands after the first one
+  computed : (from i r : ℕ) (l : Label) → F from i r l → (e : Expression) (site : Site) (o : BinaryOperator) (a b : Expression) (xs : List Op) (ys : ℕ → ℕ → List Op) → IsNumber around f ways y c e → ComparedTyped around f ways y c e o a b (is_ref c a) → HasType around f ways y c a → HasType around f ways y c b → ValueOf from i r l xs a
+      → ((i2 r2 : ℕ) (l2 : Label) → F from i2 r2 l2 → ValueOf from i2 r2 l2 (ys i2 r2) b)
+      → ValueOf from i r l (xs ++ (ys (behind_int (is_ref c a) i) (behind_ref (is_ref c a) r) ++ (cond (is_ref c a) (compare_code o i r) (op.Compute (result_of around f ways y c o a b) (operator_of o) i i (i + 1) (at_site site) ∷ [])))) e
+  computed from i r l fr e site o a b xs ys is typed ta tb va vb = by (is_ref c a) refl typed
+    where
+      w : Width
+      w = result_of around f ways y c o a b
+
+      by : (z : Bool) → is_ref c a ≡ z → ComparedTyped around f ways y c e o a b z → ValueOf from i r l (xs ++ (ys (behind_int z i) (behind_ref z r) ++ (cond z (compare_code o i r) (op.Compute w (operator_of o) i i (i + 1) (at_site site) ∷ [])))) e
+      by true is_a is_b =
+          let t = ta.0 is_a in
+          let s = tb.0 is_b in
+          let fits = in_frame from i r l fr t.0 t.2 in
+          let fits2 = in_frame from i r l fr s.0 s.2 in
+          let pa = ref_of from i r l xs a is_a va t.0 t.1 t.2 in
+          let small = small_copy from i r l fr pa.copy pa.small in
+          let X = fill l r (Refers t.0) pa.copy false in
+          let fx = frame_fill from i r l fr t.0 pa.copy false fits small in
+          let pb = ref_of from i (r + 1) X (ys i (r + 1)) b is_b (vb i (r + 1) X fx) s.0 s.1 s.2 in
+          let high = fr.high in
+          let other : (pb.copy ≡ r + 1) ⊎ (pb.copy < r) = ⊎_elim (λ (z : pb.copy ≡ r + 1). inl z) (λ (z : pb.copy < top). inr (omega (arith, z, high))) pb.small in
+          truth_value from i r l (xs ++ (ys i (r + 1) ++ compare_code o i r)) e is
+          (joins from (mark l from i) (mark X from i) (with_number around f D N top low from l i (Within Char)) xs (ys i (r + 1) ++ compare_code o i r) pa.piece
+          (joins from (mark X from i) (mark (fill X (r + 1) (Refers s.0) pb.copy false) from i) (with_number around f D N top low from l i (Within Char)) (ys i (r + 1)) (compare_code o i r) pb.piece
+          (compare_at around f D N top low from i r l fr.at fr.high t.0 s.0 pa.copy pb.copy false false fits fits2 small other o)))
+      by false is_a h =
+          let na = int_of from i r l xs a h.left va in
+          let X = set_number l i na.number in
+          let fx = frame_number from i r l fr na.number (λ q z. plain_base na.number r q na.plain z) in
+          let nb = int_of from (i + 1) r X (ys (i + 1) r) b h.right (vb (i + 1) r X fx) in
+          let end = with_number around f D N top low from l i (Within w) in
+          int_by from i r l (xs ++ (ys (i + 1) r ++ op.Compute w (operator_of o) i i (i + 1) (at_site site) ∷ [])) e is (record {
+            number = Within w;
+            plain = tt;
+            fits = h.result;
+            piece = joins from (mark l from i) (with_number around f D N top low from l i na.number) end xs (ys (i + 1) r ++ op.Compute w (operator_of o) i i (i + 1) (at_site site) ∷ []) na.piece
+                (joins from (mark X from (i + 1)) (with_number around f D N top low from X (i + 1) nb.number) end (ys (i + 1) r) (op.Compute w (operator_of o) i i (i + 1) (at_site site) ∷ []) nb.piece
+                (compute_at around f D N top low from i r l fr.at w (operator_of o) na.number nb.number (at_site site) h.wide (widened na.number (width_of (kind_of c a)) w na.fits h.first) (λ z. widened nb.number (width_of (kind_of c b)) w nb.fits (h.second z))));
+          })
+
+  -- ---- one statement or expression more is entered
+  entered_piece : (from i r : ℕ) (l : Label) → F from i r l → (os : List Op) (e : Mark) → Q from (mark l from i) os e → Q from (mark l from i) (op.Enter ∷ os) e
+  entered_piece from i r l fr os e p = enter around f D N top low from i r l fr.at i os e p
+
+  entered : (from i r : ℕ) (l : Label) → F from i r l → (os : List Op) (e : Expression) → ValueOf from i r l os e → ValueOf from i r l (op.Enter ∷ os) e
+  entered from i r l fr os e v = by (is_ref c e) (is_integer (kind_of c e)) v
+    where
+      by : (a b : Bool) → Value from i r l os e a b → Value from i r l (op.Enter ∷ os) e a b
+      by true b v = λ s goes fits. let w = v s goes fits in record { copy = w.copy; small = w.small; piece = entered_piece from i r l fr os (mark (fill l r (Refers s) w.copy false) from i) w.piece }
+      by false true v = record { number = v.number; plain = v.plain; fits = v.fits; piece = entered_piece from i r l fr os (with_number around f D N top low from l i v.number) v.piece }
+      by false false v = entered_piece from i r l fr os (mark l from i) v
+
+  entered_place : (from i r : ℕ) (l : Label) → F from i r l → (os : List Op) (t : Target) (guard : Option ℕ) (ground : Ground) → PlaceValue from i r l os t guard ground → PlaceValue from i r l (op.Enter ∷ os) t guard ground
+  entered_place from i r l fr os t guard ground p = record { element = p.element; copy = p.copy; small = p.small; fits = p.fits; piece = entered_piece from i r l fr os (placed around f D y c low from t guard ground p.element i r p.copy l) p.piece }
+
+  -- in parentheses
+  same_value : (from i r : ℕ) (l : Label) (os : List Op) (e a : Expression) → kind_of c e ≡ kind_of c a → y.entry c e ≡ y.entry c a → ValueOf from i r l os a → ValueOf from i r l os e
+  same_value from i r l os e a kinds entries v = subst (λ k. Value from i r l os e (is_reference k) (is_integer k)) (sym kinds) (by (is_ref c a) (is_integer (kind_of c a)) v)
+    where
+      by : (p q : Bool) → Value from i r l os a p q → Value from i r l os e p q
+      by true q v = λ s goes fits. v s (subst (λ z. GoesTo z s) entries goes) fits
+      by false true v = subst (λ k. IntValue from i r l os (width_of k)) (sym kinds) v
+      by false false v = v
+
+  -- ---- names
+  no_place : (from i r : ℕ) (l : Label) → F from i r l → (g n : ℕ) (guard : Option ℕ) (ground : Ground) → ground.base ≡ no_type → PlaceValue from i r l [] (in_global g n) guard ground
+  no_place from i r l fr g n guard ground none_based = record { element = Nth 0; copy = r; small = omega arith; fits = subst (IsNamed N r) (sym none_based) (no_names r); piece = opened from i r l fr }
+
+  variable_place : (from i r : ℕ) (l : Label) → F from i r l → (x : ℕ) (guard : Option ℕ) (ground : Ground) → ground.base ≡ no_type → PlaceValue from i r l [] (variable x) guard ground
+  variable_place from i r l fr x guard ground none_based = record { element = Nth 0; copy = r; small = omega arith; fits = subst (IsNamed N r) (sym none_based) (no_names r); piece = opened from i r l fr }
+
+  void_by : (from i r : ℕ) (l : Label) (os : List Op) (e : Expression) → IsVoid around f ways y c e → Q from (mark l from i) os (mark l from i) → ValueOf from i r l os e
+  void_by from i r l os e is p = subst (λ b. Value from i r l os e b (is_integer (kind_of c e))) (sym is.0) (subst (λ b. Value from i r l os e false b) (sym is.1) p)
+
+  stays : (from i : ℕ) (l : Label) → Q from (mark l from i) [] (mark l from i)
+  stays from i l = none around f D N top low from (mark l from i) (mark l from i) (fits_same around.targets (mark l from i)) (λ z. z)
+
+  named_value : (from i r : ℕ) (l : Label) → F from i r l → (s : Span) (x : Identifier) (n : Named) → NameTyped around f ways y c (identifier s x) x.site n
+      → ValueOf from i r l (named_code c i r x.site (lvalue_in c (identifier s x)) (mode_of c (identifier s x)) (is_ref c (identifier s x)) n) (identifier s x)
+  named_value from i r l fr s x (named.Variable v) h = copied from i r l fr (identifier s x) (register_of c.scope v) h
+  named_value from i r l fr s x (named.Global g) h = read from i r l fr (identifier s x) x.site (in_global g 0) [] (no_place from i r l fr g 0 (guard_of c (identifier s x)) (ground_of around f ways y c (identifier s x)) refl) refl h
+  named_value from i r l fr s x (named.Field v) h = void_by from i r l [] (identifier s x) h (stays from i l)
+  named_value from i r l fr s x (named.Struct v) h = void_by from i r l [] (identifier s x) h (stays from i l)
+  named_value from i r l fr s x (named.Function v) h = void_by from i r l [] (identifier s x) h (stays from i l)
+  named_value from i r l fr s x named.Known h = void_by from i r l [] (identifier s x) h (stays from i l)
+
+  named_place : (from i r : ℕ) (l : Label) → F from i r l → (n : Named) (place : ℕ) (guard : Option ℕ) (ground : Ground) → ground.base ≡ no_type → PlaceValue from i r l [] (named_target n place) guard ground
+  named_place from i r l fr (named.Variable v) place guard ground h = variable_place from i r l fr v guard ground h
+  named_place from i r l fr (named.Global g) place guard ground h = no_place from i r l fr g place guard ground h
+  named_place from i r l fr (named.Field v) place guard ground h = variable_place from i r l fr 0 guard ground h
+  named_place from i r l fr (named.Struct v) place guard ground h = variable_place from i r l fr 0 guard ground h
+  named_place from i r l fr (named.Function v) place guard ground h = variable_place from i r l fr 0 guard ground h
+  named_place from i r l fr named.Known place guard ground h = variable_place from i r l fr 0 guard ground h
+
+  -- ---- indexes
+  array_base : (from i r : ℕ) (l : Label) → F from i r l → (xs : List Op) (t : Target) (g : ℕ) (ground : Ground) → t ≡ in_global g 0 → PlaceValue from i r l xs t None ground → Q from (mark l from i) xs (mark l from i)
+  array_base from i r l fr xs t g ground is p =
+      let q = subst (λ t. PlaceValue from i r l xs t None ground) is p in
+      let same : record l { gate = Closed } ≡ l = ap (λ g. record l { gate = g }) (sym fr.at.stands.closed) in
+      let z : i + 0 ≡ i = omega arith in
+      subst (λ n. Q from (mark l from i) xs (mark l from n)) z (subst (λ k. Q from (mark l from i) xs (mark k from (i + 0))) same q.piece)
+
+  index_place : (from i r : ℕ) (l : Label) → F from i r l → (site : Site) (own guard : Option ℕ) (s : Span) (a n : Expression) (xs zs : List Op) (ys : ℕ → List Op) (X Y Z : Type 0) → (X → PlaceValue from i r l xs (target c.program.typed None a) None (ground_of around f ways y c a)) → (Y → ValueOf from i r l zs a)
+      → (Z → (r2 : ℕ) (l2 : Label) → F from i r2 l2 → ValueOf from i r2 l2 (ys r2) n) → IndexTypable around f ways y c own guard a n X Y Z
+      → PlaceValue from i r l (index_code c i r site own guard a xs zs ys) (target c.program.typed own (index s a n)) guard (ground_of around f ways y c (index s a n))
+  index_place from i r l fr site own guard s a n xs zs ys X Y Z px py pn h = by (is_array (kind_of c a)) h.0
+    where
+      count : ℕ
+      count = element_cells c.program.typed (element_kind (kind_of c a))
+
+      g : ℕ
+      g = global_of (target c.program.typed None a)
+
+      elements : ℕ
+      elements = global_elements (global_at c.program.typed g)
+
+      by : (b : Bool) → Either b (X × (target c.program.typed None a ≡ in_global g 0)) (Y × IsPointer around f ways y c a × (count ≡ cells_of around.targets (type_by (y.entry c a)).target))
+          → PlaceValue from i r l
+          (cond b (xs ++ (ys r ++ bounds_code (λ i n. op.GlobalBounds i elements count (first_cell c.globals g + n) (at_site site)) i (own_field own 0) guard))
+          (zs ++ (op.ChkNull r (at_site site) ∷ (ys (r + 1) ++ bounds_code (λ i n. op.Bounds i r count n (at_site site)) i (own_field own 0) guard))))
+          (cond b (in_global_at g (own_field own 0)) (in_object_at (own_field own 0))) guard (record { base = cond b no_type (type_by (y.entry c a)); count = count; elements = elements })
+      by true z = array_place from i r l fr g elements count (own_field own 0) guard (record { base = no_type; count = count; elements = elements }) refl refl refl h.3 xs (ys r) (width_of (kind_of c n)) site (array_base from i r l fr xs (target c.program.typed None a) g (ground_of around f ways y c a) z.1 (px z.0))
+          (int_of from i r l (ys r) n h.2 (pn h.1 r l fr))
+      by false z = element_place from i r l fr a count (own_field own 0) guard (record { base = type_by (y.entry c a); count = count; elements = elements }) refl z.2 h.3 zs ys (width_of (kind_of c n)) site z.1 (py z.0) (λ l2 f2. int_of from i (r + 1) l2 (ys (r + 1)) n h.2 (pn h.1 (r + 1) l2 f2))
+
+  -- ---- the whole
+  mutual
+    pub expressions : (from i r : ℕ) (l : Label) → F from i r l → (e : Expression) → Typed e → ValueOf from i r l (expression_code c i r e) e
+    expressions from i r l fr (identifier s x) h = entered from i r l fr _ (identifier s x) (named_value from i r l fr s x (what_names c x.site.token) h)
+    expressions from i r l fr (constant s k) h = entered from i r l fr _ (constant s k) (constant_value_of from i r l fr (constant s k) k (is_ref c (constant s k)) refl h)
+    expressions from i r l fr (parentheses s a) h = entered from i r l fr (expression_code c i r a) (parentheses s a) (same_value from i r l (expression_code c i r a) (parentheses s a) a refl h.1 (expressions from i r l fr a h.0))
+    expressions from i r l fr (call s x all) h = absurd h
+    expressions from i r l fr (spawn s x a) h = absurd h
+    expressions from i r l fr (on_value s Join a) h =
+        let n = int_of from i r l (expression_code c i r a) a h.1 (expressions from i r l fr a h.0) in
+        let at2 = at_number around f D N top low from i r l fr.at n.number (λ q z. plain_base n.number r q n.plain z) in
+        entered_piece from i r l fr _ (mark l from i) (number_dropped around f D N top low from i r l fr.at n.number _ (mark l from i)
+        (joins from (mark l from i) (with_number around f D N top low from l i n.number) (with_number around f D N top low from l i n.number) (expression_code c i r a) (op.Join i (at_site s.first) ∷ []) n.piece (join_at around f D N top low from (i + 1) r (set_number l i n.number) at2 (i + 1) i (at_site s.first))))
+    expressions from i r l fr (on_value s Print a) h =
+        let n = int_of from i r l (expression_code c i r a) a h.1 (expressions from i r l fr a h.0) in
+        let at2 = at_number around f D N top low from i r l fr.at n.number (λ q z. plain_base n.number r q n.plain z) in
+        entered_piece from i r l fr _ (mark l from i) (number_dropped around f D N top low from i r l fr.at n.number _ (mark l from i)
+        (joins from (mark l from i) (with_number around f D N top low from l i n.number) (with_number around f D N top low from l i n.number) (expression_code c i r a) (op.Print i (at_site s.first) ∷ []) n.piece (print_at around f D N top low from (i + 1) r (set_number l i n.number) at2 (i + 1) i (at_site s.first))))
+    expressions from i r l fr (on_place s w a) h = absurd h
+    expressions from i r l fr (cast s t a) h = absurd h
+    expressions from i r l fr (index s a n) h =
+        let e = index s a n in
+        entered from i r l fr _ e (read from i r l fr e s.first (target_of c e) (index_code c i r s.first None (guard_of c e) a (place_code c i r s.first None None a) (expression_code c i r a) (λ d. expression_code c i d n))
+        (index_place from i r l fr s.first None (guard_of c e) s a n (place_code c i r s.first None None a) (expression_code c i r a) (λ d. expression_code c i d n) (PlaceTyped None None a) (Typed a) (Typed n)
+        (λ (k : PlaceTyped None None a). places from i r l fr s.first None None a k) (λ (k : Typed a). expressions from i r l fr a k) (λ (k : Typed n). λ r2 l2 f2. expressions from i r2 l2 f2 n k) h.0) h.1.0 h.1.1)
+    expressions from i r l fr (field s a Dot n) h =
+        let e = field s a Dot n in
+        let own = Some (field_place_named c.program.typed (what_names c n.site.token)) in
+        entered from i r l fr _ e (read from i r l fr e s.first (target_of c e) (place_code c i r s.first own (guard_of c e) a) (places from i r l fr s.first own (guard_of c e) a h.0) h.1.0 h.1.1)
+    expressions from i r l fr (field s a Arrow n) h =
+        let e = field s a Arrow n in
+        entered from i r l fr _ e (read from i r l fr e s.first (target_of c e) (pointee_code r s.first (expression_code c i r a)) (object_place from i r l fr a s.first (expression_code c i r a) (field_place_named c.program.typed (what_names c n.site.token)) (guard_of c e) (ground_of around f ways y c e) refl h.0.1
+        (expressions from i r l fr a h.0.0)) h.1.0 h.1.1)
+    expressions from i r l fr (unary s Dereference a) h =
+        let e = unary s Dereference a in
+        entered from i r l fr _ e (read from i r l fr e s.first (target_of c e) (pointee_code r s.first (expression_code c i r a)) (object_place from i r l fr a s.first (expression_code c i r a) 0 (guard_of c e) (ground_of around f ways y c e) refl h.1 (expressions from i r l fr a h.0)) h.2.0 h.2.1)
+    expressions from i r l fr (unary s Negate a) h = entered from i r l fr _ (unary s Negate a) (negated from i r l fr (unary s Negate a) a (expression_code c i r a) s.first h.2 (expressions from i r l fr a h.0))
+    expressions from i r l fr (unary s Not a) h = entered from i r l fr _ (unary s Not a) (not_value from i r l fr (unary s Not a) a (expression_code c i r a) h.2 h.1 (expressions from i r l fr a h.0))
+    expressions from i r l fr (unary s Complement a) h = entered from i r l fr _ (unary s Complement a) (complemented from i r l fr (unary s Complement a) a (expression_code c i r a) h.2 (expressions from i r l fr a h.0))
+    expressions from i r l fr (binary s LogicalAnd at a b) h = entered from i r l fr _ (binary s LogicalAnd at a b) (truth_value from i r l _ (binary s LogicalAnd at a b) h.4
+        (logical_at around f D N top low from i r l fr.at (expression_code c i r a ++ truth_code (is_ref c a) i r) (expression_code c i r b ++ truth_code (is_ref c b) i r) (truth_of from i r l fr a (expression_code c i r a) h.1 (expressions from i r l fr a h.0)) (truth_of from i r l fr b (expression_code c i r b) h.3 (expressions from i r l fr b h.2))))
+    expressions from i r l fr (binary s LogicalOr at a b) h = entered from i r l fr _ (binary s LogicalOr at a b) (truth_value from i r l _ (binary s LogicalOr at a b) h.4
+        (either_at around f D N top low from i r l fr.at (expression_code c i r a ++ truth_code (is_ref c a) i r) (expression_code c i r b ++ truth_code (is_ref c b) i r) (truth_of from i r l fr a (expression_code c i r a) h.1 (expressions from i r l fr a h.0)) (truth_of from i r l fr b (expression_code c i r b) h.3 (expressions from i r l fr b h.2))))
+    expressions from i r l fr (binary s BitOr at a b) h = entered from i r l fr _ (binary s BitOr at a b) (computed from i r l fr (binary s BitOr at a b) at BitOr a b (expression_code c i r a) (λ i2 r2. expression_code c i2 r2 b) h.4.0 h.4.1 h.1 h.3 (expressions from i r l fr a h.0) (λ i2 r2 l2 f2. expressions from i2 r2 l2 f2 b h.2))
+    expressions from i r l fr (binary s BitXor at a b) h = entered from i r l fr _ (binary s BitXor at a b) (computed from i r l fr (binary s BitXor at a b) at BitXor a b (expression_code c i r a) (λ i2 r2. expression_code c i2 r2 b) h.4.0 h.4.1 h.1 h.3 (expressions from i r l fr a h.0) (λ i2 r2 l2 f2. expressions from i2 r2 l2 f2 b h.2))
+    expressions from i r l fr (binary s BitAnd at a b) h = entered from i r l fr _ (binary s BitAnd at a b) (computed from i r l fr (binary s BitAnd at a b) at BitAnd a b (expression_code c i r a) (λ i2 r2. expression_code c i2 r2 b) h.4.0 h.4.1 h.1 h.3 (expressions from i r l fr a h.0) (λ i2 r2 l2 f2. expressions from i2 r2 l2 f2 b h.2))
+    expressions from i r l fr (binary s Equal at a b) h = entered from i r l fr _ (binary s Equal at a b) (computed from i r l fr (binary s Equal at a b) at Equal a b (expression_code c i r a) (λ i2 r2. expression_code c i2 r2 b) h.4.0 h.4.1 h.1 h.3 (expressions from i r l fr a h.0) (λ i2 r2 l2 f2. expressions from i2 r2 l2 f2 b h.2))
+    expressions from i r l fr (binary s NotEqual at a b) h = entered from i r l fr _ (binary s NotEqual at a b) (computed from i r l fr (binary s NotEqual at a b) at NotEqual a b (expression_code c i r a) (λ i2 r2. expression_code c i2 r2 b) h.4.0 h.4.1 h.1 h.3 (expressions from i r l fr a h.0) (λ i2 r2 l2 f2. expressions from i2 r2 l2 f2 b h.2))
+    expressions from i r l fr (binary s Less at a b) h = entered from i r l fr _ (binary s Less at a b) (computed from i r l fr (binary s Less at a b) at Less a b (expression_code c i r a) (λ i2 r2. expression_code c i2 r2 b) h.4.0 h.4.1 h.1 h.3 (expressions from i r l fr a h.0) (λ i2 r2 l2 f2. expressions from i2 r2 l2 f2 b h.2))
+    expressions from i r l fr (binary s Greater at a b) h = entered from i r l fr _ (binary s Greater at a b) (computed from i r l fr (binary s Greater at a b) at Greater a b (expression_code c i r a) (λ i2 r2. expression_code c i2 r2 b) h.4.0 h.4.1 h.1 h.3 (expressions from i r l fr a h.0) (λ i2 r2 l2 f2. expressions from i2 r2 l2 f2 b h.2))
+    expressions from i r l fr (binary s LessOrEqual at a b) h = entered from i r l fr _ (binary s LessOrEqual at a b) (computed from i r l fr (binary s LessOrEqual at a b) at LessOrEqual a b (expression_code c i r a) (λ i2 r2. expression_code c i2 r2 b) h.4.0 h.4.1 h.1 h.3 (expressions from i r l fr a h.0) (λ i2 r2 l2 f2. expressions from i2 r2 l2 f2 b h.2))
+    expressions from i r l fr (binary s GreaterOrEqual at a b) h = entered from i r l fr _ (binary s GreaterOrEqual at a b) (computed from i r l fr (binary s GreaterOrEqual at a b) at GreaterOrEqual a b (expression_code c i r a) (λ i2 r2. expression_code c i2 r2 b) h.4.0 h.4.1 h.1 h.3 (expressions from i r l fr a h.0) (λ i2 r2 l2 f2. expressions from i2 r2 l2 f2 b h.2))
+    expressions from i r l fr (binary s ShiftLeft at a b) h = entered from i r l fr _ (binary s ShiftLeft at a b) (computed from i r l fr (binary s ShiftLeft at a b) at ShiftLeft a b (expression_code c i r a) (λ i2 r2. expression_code c i2 r2 b) h.4.0 h.4.1 h.1 h.3 (expressions from i r l fr a h.0) (λ i2 r2 l2 f2. expressions from i2 r2 l2 f2 b h.2))
+    expressions from i r l fr (binary s ShiftRight at a b) h = entered from i r l fr _ (binary s ShiftRight at a b) (computed from i r l fr (binary s ShiftRight at a b) at ShiftRight a b (expression_code c i r a) (λ i2 r2. expression_code c i2 r2 b) h.4.0 h.4.1 h.1 h.3 (expressions from i r l fr a h.0) (λ i2 r2 l2 f2. expressions from i2 r2 l2 f2 b h.2))
+    expressions from i r l fr (binary s Add at a b) h = entered from i r l fr _ (binary s Add at a b) (computed from i r l fr (binary s Add at a b) at Add a b (expression_code c i r a) (λ i2 r2. expression_code c i2 r2 b) h.4.0 h.4.1 h.1 h.3 (expressions from i r l fr a h.0) (λ i2 r2 l2 f2. expressions from i2 r2 l2 f2 b h.2))
+    expressions from i r l fr (binary s Subtract at a b) h = entered from i r l fr _ (binary s Subtract at a b) (computed from i r l fr (binary s Subtract at a b) at Subtract a b (expression_code c i r a) (λ i2 r2. expression_code c i2 r2 b) h.4.0 h.4.1 h.1 h.3 (expressions from i r l fr a h.0) (λ i2 r2 l2 f2. expressions from i2 r2 l2 f2 b h.2))
+    expressions from i r l fr (binary s Multiply at a b) h = entered from i r l fr _ (binary s Multiply at a b) (computed from i r l fr (binary s Multiply at a b) at Multiply a b (expression_code c i r a) (λ i2 r2. expression_code c i2 r2 b) h.4.0 h.4.1 h.1 h.3 (expressions from i r l fr a h.0) (λ i2 r2 l2 f2. expressions from i2 r2 l2 f2 b h.2))
+    expressions from i r l fr (binary s Divide at a b) h = entered from i r l fr _ (binary s Divide at a b) (computed from i r l fr (binary s Divide at a b) at Divide a b (expression_code c i r a) (λ i2 r2. expression_code c i2 r2 b) h.4.0 h.4.1 h.1 h.3 (expressions from i r l fr a h.0) (λ i2 r2 l2 f2. expressions from i2 r2 l2 f2 b h.2))
+    expressions from i r l fr (binary s Remainder at a b) h = entered from i r l fr _ (binary s Remainder at a b) (computed from i r l fr (binary s Remainder at a b) at Remainder a b (expression_code c i r a) (λ i2 r2. expression_code c i2 r2 b) h.4.0 h.4.1 h.1 h.3 (expressions from i r l fr a h.0) (λ i2 r2 l2 f2. expressions from i2 r2 l2 f2 b h.2))
+
+    pub places : (from i r : ℕ) (l : Label) → F from i r l → (site : Site) (own guard : Option ℕ) (e : Expression) → PlaceTyped own guard e → PlaceValue from i r l (place_code c i r site own guard e) (target c.program.typed own e) guard (ground_of around f ways y c e)
+    places from i r l fr site own guard (identifier s x) h = entered_place from i r l fr [] _ guard _ (named_place from i r l fr (what_names c x.site.token) (own_field own 0) guard _ refl)
+    places from i r l fr site own guard (parentheses s a) h = entered_place from i r l fr _ _ guard _ (places from i r l fr site own guard a h)
+    places from i r l fr site own guard (index s a n) h = entered_place from i r l fr _ _ guard _
+        (index_place from i r l fr site own guard s a n (place_code c i r site None None a) (expression_code c i r a) (λ d. expression_code c i d n) (PlaceTyped None None a) (Typed a) (Typed n)
+        (λ (k : PlaceTyped None None a). places from i r l fr site None None a k) (λ (k : Typed a). expressions from i r l fr a k) (λ (k : Typed n). λ r2 l2 f2. expressions from i r2 l2 f2 n k) h)
+    places from i r l fr site own guard (field s a Dot n) h = entered_place from i r l fr _ _ guard _ (places from i r l fr site (Some (own_field own (field_place_named c.program.typed (what_names c n.site.token)))) guard a h)
+    places from i r l fr site own guard (field s a Arrow n) h = entered_place from i r l fr _ _ guard _ (object_place from i r l fr a site (expression_code c i r a) (own_field own (field_place_named c.program.typed (what_names c n.site.token))) guard _ refl h.1 (expressions from i r l fr a h.0))
+    places from i r l fr site own guard (unary s Dereference a) h = entered_place from i r l fr _ _ guard _ (object_place from i r l fr a site (expression_code c i r a) (own_field own 0) guard _ refl h.1 (expressions from i r l fr a h.0))
+    places from i r l fr site own guard (unary s Negate a) h = entered_place from i r l fr [] (variable 0) guard _ (variable_place from i r l fr 0 guard _ refl)
+    places from i r l fr site own guard (unary s Not a) h = entered_place from i r l fr [] (variable 0) guard _ (variable_place from i r l fr 0 guard _ refl)
+    places from i r l fr site own guard (unary s Complement a) h = entered_place from i r l fr [] (variable 0) guard _ (variable_place from i r l fr 0 guard _ refl)
+    places from i r l fr site own guard _ h = entered_place from i r l fr [] (variable 0) guard _ (variable_place from i r l fr 0 guard _ refl)

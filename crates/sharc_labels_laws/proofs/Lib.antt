@@ -1,0 +1,17 @@
+pub mod Fitting
+pub mod Standing
+pub mod Telling
+pub mod Rules
+pub mod Flow
+pub mod Parts
+pub mod Accesses
+pub mod Moves
+pub mod Handing
+pub mod Values
+pub mod Variables
+pub mod Indexes
+pub mod Lines
+pub mod Law
+pub mod Accessed
+pub mod Placing
+pub mod Expressing

@@ -1,0 +1,5 @@
+pub mod Stretches
+pub mod Places
+pub mod Premises
+pub mod Typable
+pub mod Laws

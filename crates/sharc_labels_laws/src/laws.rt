@@ -1,0 +1,33 @@
+//! Laws of flattened code.
+
+ghost use Rattle.sharc_labels_laws.specs.Laws.{ExpressionsAreTyped, LinesAreTyped, LinesKnow, LinesTell, PartsAreTyped, StretchesJoin};
+
+/// Lines that stand in a table of marks are typed whatever checks are remembered.
+pub fn lines_law()
+    ensures { LinesAreTyped }
+{}
+
+/// Before each of them is said what is remembered there of copies and of the numbers at hand.
+pub fn tells_law()
+    ensures { LinesTell }
+{}
+
+/// So at each access it is said of the base and of the index of its cell.
+pub fn knows_law()
+    ensures { LinesKnow }
+{}
+
+/// Typed stretches of code one after the other are one.
+pub fn stretches_law()
+    ensures { StretchesJoin }
+{}
+
+/// The parts of expressions that speak of no type of the source are typed.
+pub fn parts_law()
+    ensures { PartsAreTyped }
+{}
+
+/// The code of an expression of which the types of the source say what is asked is typed.
+pub fn expressions_law()
+    ensures { ExpressionsAreTyped }
+{}

@@ -1,0 +1,9 @@
+//! Laws of flattened code: what is known before each of its lines, so that it is typed whatever checks are remembered.
+//!
+//! The layer above may call the laws of src/laws.rt, each the contract of a function that does nothing. specs/Stretches.antt says what is said
+//! before a line and which stretches of code are typed, specs/Laws.antt what then holds.
+#![tactic(auto)]
+
+mod laws;
+
+pub use laws::{expressions_law, knows_law, lines_law, parts_law, stretches_law, tells_law};
