@@ -15,7 +15,9 @@ pub mod Recasting
 pub mod Registers
 pub mod Same
 pub mod Scoping
+pub mod Siblings
 pub mod Starts
+pub mod Structs
 pub mod Tokens
 pub mod Transferred
 pub mod Walk

@@ -28,7 +28,7 @@ use Rattle.sharc_ctype.specs.Entities.{declared, entities_in, numbered, is_told_
 use Rattle.sharc_ctype.specs.Resolved.{Resolution, named_at, declaration_at, variable_kind, global_at, globals_in, functions_in, structs_in, kind_at}
 use Rattle.sharc_ctype_laws.specs.Constraints.{HasType, IsMemberOf, a_field, a_field_behind}
 use Rattle.sharc_ctype_laws.specs.Found.{IsFound, EachTypeFound}
-use Rattle.sharc_ctype_laws.specs.Laws.{EachPathFound, MeetsConstraints, OneType}
+use Rattle.sharc_ctype_laws.specs.Laws.{EachNameOnce, OnlyNames, EachPathFound, MeetsConstraints, OneType}
 use Rattle.sharc_flat_form.specs.Machine.{first_cell}
 use Rattle.sharc_meaning.specs.Cells.{field_place, field_place_named, field_place_behind}
 use Rattle.sharc_mode.specs.declared.place.Place.{Place}
@@ -54,14 +54,17 @@ use Rattle.sharc_invariant.specs.Types.Lock.{Global, Through, Self}
 use Rattle.sharc_invariant.specs.Labels.{Refers, Label, SameReference, Itself, SameLock, AllSame}
 use Rattle.sharc_invariant.specs.Typed.{no_lock, IsFieldLock, IsGlobalLock, IsAnyLock, IsAnyGlobalLock, AreFieldLocks}
 use Rattle.sharc_static_laws.specs.Laws.{IsAccepted}
-use Rattle.sharc_static_laws.specs.Pointing.{element_locks, pointee_locks, declared_locks, content_locks, BaseIs, IsBased, SiblingsAre, PlacesPoint}
+use Rattle.sharc_static_laws.specs.Pointing.{element_locks, pointee_locks, declared_locks, content_locks, BaseIs, IsBased, PlacesPoint}
 use Rattle.sharc_static_laws.specs.Static.{register, lock_named, lock_at, locks_at, static_of}
 use Rattle.sharc_static_laws.proofs.Arrays.{IsNameOf, array_name}
 use Rattle.sharc_static_laws.proofs.Lists.{front, of_each, to_each, each, same_some, none_some, place_of_element}
 use Rattle.sharc_static_laws.proofs.Origins.{reading_kept, same_raw}
 use Rattle.sharc_static_laws.proofs.Passed.{use_named}
 use Rattle.sharc_static_laws.proofs.Places.{InFile, FileKnown, FieldInFile, file_known, struct_fields, field_found, at_number, IfSome}
+use Rattle.sharc_static_laws.proofs.Noted.{all_say}
+use Rattle.sharc_static_laws.proofs.Siblings.{SiblingsAre, siblings_are}
 use Rattle.sharc_static_laws.proofs.Written.{raw, row_good, found_there}
+use Rattle.sharc_target_laws.specs.Fields.{FieldsPlaced}
 use Rattle.sharc_target_laws.specs.Laws.{ExpressionsFound}
 use Rattle.sharc_target_laws.specs.Shapes.{Form, private_form, readonly_form, locked_form, racy_form, dynamic_form, form_of}
 use Rattle.sharc_target_laws.specs.Targets.{lock_named as table_lock, field_lock, field_locks, type_locks, lock_count}
@@ -619,5 +622,7 @@ module _ (rows : RowLaws) (expressions_found : ExpressionsFound) (one_type : One
   points (tree.cast s t e) modes h is cell b = absurd (no_cell cell)
   points (tree.binary s o at e z) modes h is cell b = absurd (no_cell cell)
 
-pub places_point : RowLaws → ExpressionsFound → OneType → RulesAreMet → EachTypeFound → EachPathFound → MeetsConstraints → PlacesPoint
-places_point rows expressions_found one_type rules found paths constraints c a globals siblings l i reg e modes h is cell b = points rows expressions_found one_type rules found paths constraints c a globals siblings l i reg e modes h is cell b
+pub places_point : RowLaws → ExpressionsFound → OneType → RulesAreMet → EachTypeFound → EachPathFound → MeetsConstraints → EachNameOnce → OnlyNames → FieldsPlaced → PlacesPoint
+places_point rows expressions_found one_type rules found paths constraints once only fields_placed c a globals l i reg e modes h is cell b =
+    points rows expressions_found one_type rules found paths constraints c a globals
+    (siblings_are c.program.typed fields_placed a.placed (all_say once only c.program.typed a.resolved a.placed a.low)) l i reg e modes h is cell b

@@ -18,7 +18,7 @@ use sharc_ctype_laws::laws::{
 use sharc_mode::laws::link_laws;
 use sharc_mode::shown::row_laws;
 use sharc_mode_laws::laws::{reached_are_told, rules_are_met};
-use sharc_target_laws::laws::{expressions_found, numbers_found, variables_found};
+use sharc_target_laws::laws::{expressions_found, fields_placed, numbers_found, variables_found};
 
 /// What is assigned, begun with and returned has the type of what it is given to.
 pub fn given_laws()
@@ -84,6 +84,9 @@ pub fn places_point()
     each_type_found();
     each_path_found();
     meets_constraints();
+    each_name_once();
+    only_names();
+    fields_placed();
 }
 
 /// What the cells of an object are and refer to does not change by a cast.
