@@ -1,3 +1,5 @@
+pub mod Alone
+pub mod Arrays
 pub mod FileNames
 pub mod Given
 pub mod Holds
@@ -13,7 +15,10 @@ pub mod Recasting
 pub mod Registers
 pub mod Same
 pub mod Scoping
+pub mod Siblings
 pub mod Starts
+pub mod Structs
+pub mod Tokens
 pub mod Transferred
 pub mod Walk
 pub mod Written

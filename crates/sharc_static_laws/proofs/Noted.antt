@@ -166,7 +166,7 @@ module _ (r : Resolution) where
   functions_say file (global g ∷ rest) h = functions_say file rest (back P (item_notes file (global g)) (items_notes file rest) h)
   functions_say file (function f ∷ rest) h = (front P (function_notes file f) (items_notes file rest) h, functions_say file rest (back P (function_notes file f) (items_notes file rest) h))
 
-  items_say : AllSay r (notes_about r.program) → AllSay r (items_notes (file_scope r.program.items) r.program.items)
+  pub items_say : AllSay r (notes_about r.program) → AllSay r (items_notes (file_scope r.program.items) r.program.items)
   items_say h =
       let file = file_scope r.program.items in
       let heads = heads_notes no_heads r.program.items in
@@ -182,7 +182,7 @@ module _ (r : Resolution) where
 
   -- ---- structs
   -- a struct's name in a type names what it is in the file
-  abbrev BaseSays : StructTable → Declaration → Type 0
+  abbrev pub BaseSays : StructTable → Declaration → Type 0
   BaseSays structs d = AllSay r (base_notes structs d.written.base.token d.written.ctype.base)
 
   type_base : (scope : Scope) (siblings : List Declaration) (where_ : Role) (w : WrittenType) → AllSay r (type_notes scope siblings where_ w) → AllSay r (base_notes scope.structs w.base.token w.ctype.base)
@@ -250,7 +250,7 @@ module _ (r : Resolution) where
       (parameters_base (length file.names) 0 file f.parameters (back P (type_notes file [] role.Result f.result) (parameters_notes (length file.names) 0 file f.parameters) two))
       (statements_base (record { result = declared_kind f.result; in_loop = false; block = length file.names }) (in_body file f) f.statements (back P _ _ three))
 
-  declarations_base : (file : Scope) (items : List Item) → AllSay r (items_notes file items) → AllByRecursion (BaseSays file.structs) (declarations_in items)
+  pub declarations_base : (file : Scope) (items : List Item) → AllSay r (items_notes file items) → AllByRecursion (BaseSays file.structs) (declarations_in items)
   declarations_base file [] h = tt
   declarations_base file (structure s ∷ rest) h =
       both (BaseSays file.structs) s.fields (declarations_in rest) (fields_base file s.fields [] s.fields (front P (item_notes file (structure s)) (items_notes file rest) h)) (declarations_base file rest (back P (item_notes file (structure s)) (items_notes file rest) h))
@@ -258,7 +258,7 @@ module _ (r : Resolution) where
   declarations_base file (function f ∷ rest) h =
       both (BaseSays file.structs) (f.parameters ++ locals_in_all f.statements) (declarations_in rest) (function_base file f (front P (item_notes file (function f)) (items_notes file rest) h)) (declarations_base file rest (back P (item_notes file (function f)) (items_notes file rest) h))
 
-  declared_has : (Q : Declaration → Type 0) (list : List Declaration) (token : ℕ) (d : Declaration) → AllByRecursion Q list → declared_at list token ≡ Some d → Q d
+  pub declared_has : (Q : Declaration → Type 0) (list : List Declaration) (token : ℕ) (d : Declaration) → AllByRecursion Q list → declared_at list token ≡ Some d → Q d
   declared_has Q [] token d all is = absurd (none_some d is)
   declared_has Q (x ∷ rest) token d all is = by (x.name.site.token == token) is (declared_has Q rest token d all.1)
     where
@@ -271,10 +271,10 @@ module _ (r : Resolution) where
   struct_is structs token None h = absurd h.0
   struct_is structs token (Some m) h = (m, refl, h.0)
 
-  named_by : (structs : StructTable) (d : Declaration) (name : List ℕ) → d.written.ctype.base ≡ base.Struct name → BaseSays structs d → (m : StructMeaning) × (struct_of structs name ≡ Some m) × (named_at r d.written.base.token ≡ named_struct m)
+  pub named_by : (structs : StructTable) (d : Declaration) (name : List ℕ) → d.written.ctype.base ≡ base.Struct name → BaseSays structs d → (m : StructMeaning) × (struct_of structs name ≡ Some m) × (named_at r d.written.base.token ≡ named_struct m)
   named_by structs d name is h = struct_is structs d.written.base.token (struct_of structs name) (subst (λ b. AllSay r (base_notes structs d.written.base.token b)) is h)
 
-  base_of_kind : (d : Declaration) (name : List ℕ) (n : ℕ) → declared_kind d.written ≡ object (base.Struct name) n → d.written.ctype.base ≡ base.Struct name
+  pub base_of_kind : (d : Declaration) (name : List ℕ) (n : ℕ) → declared_kind d.written ≡ object (base.Struct name) n → d.written.ctype.base ≡ base.Struct name
   base_of_kind d name n h = cc
 
   no_kind : (name : List ℕ) (n : ℕ) → variable_kind None ≡ object (base.Struct name) n → ⊥

@@ -1,6 +1,7 @@
 // The laws of the table of targets, each the contract of a function that does nothing.
 
 ghost use Rattle.sharc_target_laws.specs.Beside.{LocksStandBeside};
+ghost use Rattle.sharc_target_laws.specs.Fields.{FieldsPlaced};
 ghost use Rattle.sharc_target_laws.specs.Laws.{NumbersFound, ShapesClosed, CellsAre, TargetsAre, ExpressionsFound, VariablesFound, ResultsFound, MembersAre, GlobalsAre, GlobalsEnd, GlobalsBegin, GlobalsHold, LayoutsAre};
 ghost use Rattle.sharc_target_laws.specs.Lvalues.{LvaluesFit};
 ghost use Rattle.sharc_target_laws.specs.Pointees.{PointeesFit, RecastsFit, SameForms};
@@ -134,3 +135,8 @@ pub fn locks_stand_beside()
     each_names_itself();
     rules_are_met();
 }
+
+/// A field's place in an element is that at which it stands in its struct.
+pub fn fields_placed()
+    ensures { FieldsPlaced }
+{}
