@@ -1,3 +1,4 @@
 pub mod Cells
+pub mod Joining
 pub mod Modes
 pub mod Standing

@@ -1,8 +1,10 @@
 // The laws, each the contract of a function that does nothing.
 
 ghost use Rattle.sharc_access_laws.specs.Accesses.{CellsStand, AccessesFit, GuardsFit};
+ghost use Rattle.sharc_access_laws.specs.Joined.{IntegersFit, MutexesFit};
 
 use sharc_ctype_laws::laws::meets_globals;
+use sharc_static_laws::laws::scope_laws;
 use sharc_target_laws::laws::{expressions_found, globals_are, locks_stand_beside, lvalues_fit};
 
 /// Where the registers have what an lvalue names, its cell is there, with what the lvalue's type says in it, under its mode.
@@ -36,4 +38,24 @@ pub fn guards_fit()
     expressions_found();
     locks_stand_beside();
     lvalues_fit();
+}
+
+/// An integer in the cell of an lvalue may be read or written, in the form in which sharc_labels_laws asks for it.
+pub fn integers_fit()
+    ensures { IntegersFit }
+{
+    cells_stand();
+    accesses_fit();
+    guards_fit();
+    scope_laws();
+}
+
+/// A mutex that an lvalue names is there.
+pub fn mutexes_fit()
+    ensures { MutexesFit }
+{
+    cells_stand();
+    accesses_fit();
+    guards_fit();
+    scope_laws();
 }
