@@ -1,5 +1,5 @@
 -- The accesses of an accepted program, by the laws of lvalues' cells.
-use Rattle.std.proofs.Common.{◌≡◌, ℕ, zero, suc, ◌+◌, ◌≤◌, ◌==◌, ◌&&◌, Bool, true, false, List, refl, ap, sym, ◌∙◌, subst, arith, eqb-true, Option, Some, None}
+use Rattle.std.proofs.Common.{◌≡◌, ◌⊎◌, inl, inr, ℕ, zero, suc, ◌+◌, ◌≤◌, ◌==◌, ◌&&◌, Bool, true, false, List, refl, ap, sym, ◌∙◌, subst, arith, eqb-true, Option, Some, None}
 use Rattle.std.proofs.lemmas.Bool.{false≢true}
 use Rattle.sharc_tree.specs.declared.ctype.Base.{Base}
 use Rattle.sharc_tree.specs.declared.ctype.Base.TheVariants as base
@@ -100,6 +100,10 @@ regated c code q g (in_global_at k n) beside s element i r h = h
 regated c code q g (in_object n) beside s element i r h = record { is_ref = h.is_ref; refers = h.refers; known = h.known }
 regated c code q g (in_object_at n) beside s element i r h = let b = h.0 in (record { is_ref = b.is_ref; refers = b.refers; known = b.known }, h.1)
 
+-- the label where the lvalue is placed, or that behind the load of the pointer to its mutex
+abbrev pub IsLike : Label → Label → Type 0
+IsLike q k = (k ≡ q) ⊎ ((g : Gate) × (k ≡ gated q g))
+
 -- ---- what the mode asks for
 module _ (scopes : ScopeLaws) (c : Context) (code : Code) (signature : ℕ → Signature) (starts : ℕ → Bool) (lines : ℕ) (y : Typing) (typing : IsTypingOf y c) (f : ℕ) (e : Expression) where
   stands : (l : Lock) → LockLeads c l → (q : Label) → HoldsVariables y c q → ref_count c.scope ≤ refs_in code q.function → LockStands c code q l
@@ -154,14 +158,14 @@ module _ (cells_stand : CellsStand) (accesses_fit : AccessesFit) (guards_fit : G
     abbrev guard : ℕ → Cell
     guard k = guard_cell c.globals k i r t
 
-    through : (Holds : Label → Type 0) → ((k : Label) → Fits k → Holds k) → (o : Option ℕ) → guard_field c.program.typed (cell_at c.program e) ≡ o → ThroughGuard (setting c code signature starts lines) c t i r o Holds q
+    pub through : (Holds : Label → Type 0) → ((k : Label) → IsLike q k → Fits k → Holds k) → (o : Option ℕ) → guard_field c.program.typed (cell_at c.program e) ≡ o → ThroughGuard (setting c code signature starts lines) c t i r o Holds q
     through Holds each None none =
-        each q (accesses_fit c code is q e lvalue element i r registers plain (subst (IsGated q guard) (sym none) placed.closed) (labels_by (setting c code signature starts lines) (λ n. mark q 0 0)) write
+        each q (inl refl) (accesses_fit c code is q e lvalue element i r registers plain (subst (IsGated q guard) (sym none) placed.closed) (labels_by (setting c code signature starts lines) (λ n. mark q 0 0)) write
         (fair scopes c code signature starts lines y typing f e write use_fair lvalue q placed.owned leads i r) (spot_of c i r site words use_made (cell_at c.program e) t) refl refl)
     through Holds each (Some k) some =
         let w = guards_fit c code is q e lvalue element i r registers plain (λ l below modes mode. leads l (use_fair.path l below modes mode)) k some in (
           record { field = w.field; to = w.points.to; has = w.there; mode = w.points.mode; holds = w.points.holds },
-          each (gated q (Loaded (guard_cell c.globals k i r t)))
+          each (gated q (Loaded (guard_cell c.globals k i r t))) (inr (Loaded (guard_cell c.globals k i r t), refl))
               (accesses_fit c code is (gated q (Loaded (guard_cell c.globals k i r t))) e lvalue element i r (regated c code q (Loaded (guard_cell c.globals k i r t)) t (beside_field c.program.typed (cell_at c.program e)) (base_type c e) element i r registers) plain
               (subst (IsGated (gated q (Loaded (guard_cell c.globals k i r t))) guard) (sym some) refl) (labels_by (setting c code signature starts lines) (λ n. mark (gated q (Loaded (guard_cell c.globals k i r t))) 0 0)) write
               (fair scopes c code signature starts lines y typing f e write use_fair lvalue (gated q (Loaded (guard_cell c.globals k i r t))) placed.owned (λ l h. leads_on (Loaded (guard_cell c.globals k i r t)) l (leads l h)) i r)
@@ -172,7 +176,7 @@ pub integers_fit : CellsStand → AccessesFit → GuardsFit → ScopeLaws → In
 integers_fit cells_stand accesses_fit guards_fit scopes c code is signature starts lines y typing f e lvalue ground suits integer write use_fair site words use_made element i r q placed well =
     through cells_stand accesses_fit guards_fit scopes c code is signature starts lines y f e lvalue ground suits typing (integer_plain (kind_at c.program.typed e) integer) write use_fair site words use_made element i r q placed well
     (λ k. ReachesInteger (setting c code signature starts lines) k write (cell_of c.globals i r (target c.program.typed None e)) (spot_of c i r site words use_made (cell_at c.program e) (target c.program.typed None e)) (width_of (kind_at c.program.typed e)))
-    (λ k w. let way = w.reaches in record {
+    (λ k like w. let way = w.reaches in record {
       field = w.field;
       may = record { cell = way.cell_there; mode = way.mode; may = way.may };
       holds = integer_content c.program e (field_of (target c.program.typed None e)) (modes_behind c.program e) (kind_at c.program.typed e) w.field.holds integer w.fits.content;

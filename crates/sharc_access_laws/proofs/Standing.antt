@@ -106,7 +106,7 @@ indexed : (r : Resolution) (s : Span) (a i : Expression) (z : Bool) (t n g k : �
 indexed r s a i true t n g k is h = ap (λ z. cond z None (Some a)) is
 indexed r s a i false t n g k is h = absurd (no_global_of_place n g k h)
 
-no_pointer : (r : Resolution) (f : Option ℕ) (e : Expression) (g k : ℕ) → IsOfGlobal (target r f e) g k → pointer_of r e ≡ None
+pub no_pointer : (r : Resolution) (f : Option ℕ) (e : Expression) (g k : ℕ) → IsOfGlobal (target r f e) g k → pointer_of r e ≡ None
 no_pointer r f (identifier s i) g k h = refl
 no_pointer r f (constant s v) g k h = refl
 no_pointer r f (parentheses s a) g k h = no_pointer r f a g k h
@@ -262,7 +262,7 @@ module _ (globals_are : GlobalsAre) (meets : MeetsGlobals) (found : ExpressionsF
         (λ same. subst StandsAs (sym same) (array_stands g n w (none_behind g n (inr (here ∙ same))) beside i element (registers_as t (in_global_at g n) same have))) at
 
 -- ---- the laws
-lvalue_cells : LvaluesFit → (c : Context) (code : Code) → IsCodeOf c code → (e : Expression) → IsCellLvalue c.program e → NamesCell c.program e (target c.program.typed None e)
+pub lvalue_cells : LvaluesFit → (c : Context) (code : Code) → IsCodeOf c code → (e : Expression) → IsCellLvalue c.program e → NamesCell c.program e (target c.program.typed None e)
 lvalue_cells fit c code is e lvalue = fit c.program is.accepted.resolved is.accepted.placed is.accepted.low is.accepted.least is.accepted.well e lvalue.stands lvalue.no_struct lvalue.no_array
 
 pub cells_stand : GlobalsAre → MeetsGlobals → ExpressionsFound → LocksStandBeside → LvaluesFit → CellsStand

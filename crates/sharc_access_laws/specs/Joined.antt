@@ -1,6 +1,8 @@
 -- The accesses of an accepted program, in the form in which sharc_labels_laws asks for them of each expression.
 use Rattle.std.specs.Prelude.{◌≡◌, ℕ, ◌<◌, ◌≤◌, Bool, true, false, List, ◌∷◌, Some, None}
+use Rattle.std.specs.List.{AllByRecursion}
 use Rattle.sharc_tree.specs.declared.token.Site.{Site}
+use Rattle.sharc_tree.specs.Measures.{expressions}
 use Rattle.sharc_tree.specs.Tree.{Expression}
 use Rattle.sharc_names.specs.declared.fault.Named.TheVariants as named
 use Rattle.sharc_names.specs.Kinds.{mutex, is_integer, is_pointer}
@@ -11,6 +13,7 @@ use Rattle.sharc_meaning.specs.Cells.{global_elements, field_place_behind}
 use Rattle.sharc_mode.specs.Cells.{cell_at}
 use Rattle.sharc_mode.specs.Rows.{constant_use, modes_at}
 use Rattle.sharc_mode.specs.Sharings.{Lock, Sharing, private, readonly, locked}
+use Rattle.sharc_mode_laws.specs.Constructs.{IsExpression}
 use Rattle.sharc_flat.specs.declared.slot.Lvalue.{Lvalue}
 use Rattle.sharc_flat.specs.Scope.{Context, slot_kind, ref_count}
 use Rattle.sharc_flat.specs.Places.{in_global_at, has_base, target, cell_of, beside_field, guard_field, spot_of, width_of}
@@ -80,7 +83,7 @@ IntegersFit = (c : Context) (code : Code) → IsCodeOf c code → (signature : �
 abbrev pub ReferencesFit : Type 0
 ReferencesFit = (c : Context) (code : Code) → IsCodeOf c code → (signature : ℕ → Signature) (starts : ℕ → Bool) (lines : ℕ) (y : Typing) → IsTypingOf y c → (f : ℕ) (e : Expression) → IsCellLvalue c.program e
     → (ground : Ground) → IsGroundOf c e ground → is_pointer (kind_at c.program.typed e) ≡ true → (modes : List Sharing) → modes_at c.program e ≡ Some modes → (write : Bool) → IsFairUse c (signature f).alone write e
-    → (site : Site) (lvalue : Lvalue) (use_made : Use) (element : Element) (i r : ℕ) (q : Label)
+    → AllByRecursion (IsExpression c.program) (expressions e) → (site : Site) (lvalue : Lvalue) (use_made : Use) (element : Element) (i r : ℕ) (q : Label)
     → IsPlaced y c f (target c.program.typed None e) (beside_field c.program.typed (cell_at c.program e)) ground element i r q → IsWellPlaced c code e r q
     → ThroughGuard (setting c code signature starts lines) c (target c.program.typed None e) i r (guard_field c.program.typed (cell_at c.program e))
     (λ k. ReachesReference (setting c code signature starts lines) k write (cell_of c.globals i r (target c.program.typed None e))

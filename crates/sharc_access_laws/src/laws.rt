@@ -1,10 +1,10 @@
 // The laws, each the contract of a function that does nothing.
 
 ghost use Rattle.sharc_access_laws.specs.Accesses.{CellsStand, AccessesFit, GuardsFit};
-ghost use Rattle.sharc_access_laws.specs.Joined.{IntegersFit, MutexesFit};
+ghost use Rattle.sharc_access_laws.specs.Joined.{IntegersFit, ReferencesFit, MutexesFit};
 
 use sharc_ctype_laws::laws::meets_globals;
-use sharc_static_laws::laws::scope_laws;
+use sharc_static_laws::laws::{places_point, scope_laws};
 use sharc_target_laws::laws::{expressions_found, globals_are, locks_stand_beside, lvalues_fit};
 
 /// Where the registers have what an lvalue names, its cell is there, with what the lvalue's type says in it, under its mode.
@@ -48,6 +48,18 @@ pub fn integers_fit()
     accesses_fit();
     guards_fit();
     scope_laws();
+}
+
+/// So may a reference, which has the type of the source.
+pub fn references_fit()
+    ensures { ReferencesFit }
+{
+    cells_stand();
+    accesses_fit();
+    guards_fit();
+    scope_laws();
+    lvalues_fit();
+    places_point();
 }
 
 /// A mutex that an lvalue names is there.
