@@ -183,20 +183,20 @@ module _ (around : Setting) (f : ℕ) (D : (ℕ → Mark) → Type 0) (y : Typin
   wider_names r k s le fits p m = let z = fits p m in let lt = z.0 in (omega (arith, lt, le), z.1)
 
   module _ (i r : ℕ) (l : Label) (fr : Frame i r l) (guard : Option ℕ) (ground : Ground) (e : Element) (v : ℕ) (base_fits : IsNamed named r ground.base) (copy : v ≤ r) where
-    abbrev B : Label
+    abbrev pub B : Label
     B = fill l r (Refers ground.base) v true
 
-    at_base : Here i (r + 1) B
+    pub at_base : Here i (r + 1) B
     at_base = at_fill around f D named top low from i r l fr.at ground.base v true base_fits copy
 
-    at_zero : Here i (r + 0) l
+    pub at_zero : Here i (r + 0) l
     at_zero = let z : r ≡ r + 0 = omega arith in subst (λ k. Here i k l) z fr.at
 
     holds_base : HoldsVariables y c B
     holds_base = let high = fr.high in holds_over l B (λ q lt. put_other l.env r q (Refers ground.base) (λ z. omega (arith, z, lt, high))) (λ q lt. put_other l.same r q v (λ z. omega (arith, z, lt, high))) (λ j lt. refl) fr.holds
 
     -- with anything in the integer registers after the index, and in the registers of references after the base
-    placed_by : (t : Target) (x : Label) → ((q : ℕ) → q < top → x.env q ≡ l.env q) → ((q : ℕ) → q < top → x.same q ≡ l.same q) → x.function ≡ Some f → HasBaseAt t ground r x → (g : ℕ → Number) → ((j : ℕ) → j < i + index_width t guard → g j ≡ ints_of t guard ground e i r l.ints j)
+    pub placed_by : (t : Target) (x : Label) → ((q : ℕ) → q < top → x.env q ≡ l.env q) → ((q : ℕ) → q < top → x.same q ≡ l.same q) → x.function ≡ Some f → HasBaseAt t ground r x → (g : ℕ → Number) → ((j : ℕ) → j < i + index_width t guard → g j ≡ ints_of t guard ground e i r l.ints j)
         → IsPlaced y c f t guard ground e i r (over x g Closed)
     placed_by t x env same owned based_x g ints = record {
       variables = let wide = fr.wide in holds_over l (over x g Closed) env same (λ j lt. ints j (omega (arith, lt, wide)) ∙ ints_below t guard ground e i r l.ints j (omega (arith, lt, wide))) fr.holds;
@@ -213,13 +213,13 @@ module _ (around : Setting) (f : ℕ) (D : (ℕ → Mark) → Type 0) (y : Typin
         over_base (in_object n) h = h
         over_base (in_object_at n) h = h
 
-    env_base : (q : ℕ) → q < top → B.env q ≡ l.env q
+    pub env_base : (q : ℕ) → q < top → B.env q ≡ l.env q
     env_base q lt = let high = fr.high in put_other l.env r q (Refers ground.base) (λ z. omega (arith, z, lt, high))
 
-    same_base : (q : ℕ) → q < top → B.same q ≡ l.same q
+    pub same_base : (q : ℕ) → q < top → B.same q ≡ l.same q
     same_base q lt = let high = fr.high in put_other l.same r q v (λ z. omega (arith, z, lt, high))
 
-    is_base : (B.env r ≡ Refers ground.base) × (B.known r ≡ true)
+    pub is_base : (B.env r ≡ Refers ground.base) × (B.known r ≡ true)
     is_base = (put_same l.env r (Refers ground.base), put_same l.known r true)
 
     module _ (site : Site) (lvalue : Lvalue) (mode : Sharing) where

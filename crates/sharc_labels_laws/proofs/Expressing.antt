@@ -1,59 +1,69 @@
 -- The code of an expression is typed, by what the types of the source say of it.
-use Rattle.std.proofs.Common.{◌≡◌, ◌≢◌, ℕ, ◌+◌, ◌<◌, ◌≤◌, ◌⊎◌, Bool, true, false, cond, List, [], ◌∷◌, ◌++◌, length, Option, Some, None, refl, sym, ap, ◌∙◌, subst, inl, inr, ⊎_elim, arith, append_assoc}
+use Rattle.std.proofs.Common.{◌≡◌, ◌≢◌, ℕ, ◌+◌, ◌<◌, ◌≤◌, ◌⊎◌, Bool, true, false, cond, List, [], ◌∷◌, ◌++◌, length, Option, Some, None, refl, sym, ap, ◌∙◌, subst, inl, inr, ⊎_elim, arith, append_assoc, drop}
 use Rattle.std.proofs.lemmas.Bool.{false≢true, cases_eq, cases_lt}
 use Rattle.sharc_tree.specs.declared.token.Site.{Site}
 use Rattle.sharc_tree.specs.declared.token.Span.{Span}
 use Rattle.sharc_tree.specs.declared.tree.declaration.Identifier.{Identifier}
+use Rattle.sharc_tree.specs.declared.tree.declaration.WrittenType.{WrittenType}
 use Rattle.sharc_tree.specs.declared.tree.expression.Access.{Access}
 use Rattle.sharc_tree.specs.declared.tree.expression.Access.TheVariants.{Dot, Arrow}
 use Rattle.sharc_tree.specs.declared.tree.expression.BinaryOperator.{BinaryOperator}
 use Rattle.sharc_tree.specs.declared.tree.expression.BinaryOperator.TheVariants.{LogicalOr, LogicalAnd, BitOr, BitXor, BitAnd, Equal, NotEqual, Less, Greater, LessOrEqual, GreaterOrEqual, ShiftLeft, ShiftRight, Add, Subtract, Multiply, Divide, Remainder}
 use Rattle.sharc_tree.specs.declared.tree.expression.Constant.{Constant}
+use Rattle.sharc_tree.specs.declared.tree.expression.PlaceCall.TheVariants.{Lock, Unlock, Free}
 use Rattle.sharc_tree.specs.declared.tree.expression.UnaryOperator.{UnaryOperator}
 use Rattle.sharc_tree.specs.declared.tree.expression.UnaryOperator.TheVariants.{Negate, Not, Complement, Dereference}
 use Rattle.sharc_tree.specs.declared.tree.expression.ValueCall.TheVariants.{Join, Print}
 use Rattle.sharc_tree.specs.Spans.{span_of}
-use Rattle.sharc_tree.specs.Tree.{Expression, identifier, constant, parentheses, call, spawn, on_value, on_place, cast, index, field, unary, binary}
+use Rattle.sharc_tree.specs.Tree.{Expression, identifier, constant, parentheses, call, spawn, on_value, on_place, cast, index, field, unary, binary, Arguments, no_arguments, argument}
 use Rattle.sharc_names.specs.declared.fault.Named.{Named}
 use Rattle.sharc_names.specs.declared.fault.Named.TheVariants as named
-use Rattle.sharc_names.specs.Kinds.{Kind, is_array, is_integer, element_kind, promoted}
+use Rattle.sharc_names.specs.Kinds.{Kind, is_array, is_integer, element_kind, promoted, declared_kinds}
+use Rattle.sharc_code.specs.declared.code.Use.{Use}
 use Rattle.sharc_code.specs.declared.code.Use.TheVariants as uses
 use Rattle.sharc_code.specs.declared.instr.Register.{Register}
 use Rattle.sharc_code.specs.declared.instr.Register.TheVariants as registers
 use Rattle.sharc_code.specs.declared.instr.Width.{Width}
 use Rattle.sharc_code.specs.declared.instr.Width.TheVariants.{Char, Int, Long}
 use Rattle.sharc_code.specs.Runs.{put}
-use Rattle.sharc_code.proofs.Places.{put_same, put_other}
-use Rattle.sharc_ctype.specs.Resolved.{global_at}
+use Rattle.sharc_code.proofs.Places.{put_same, put_other, put_all}
+use Rattle.sharc_ctype.specs.Resolved.{global_at, structs_in}
+use Rattle.sharc_ctype.specs.Transfers.{parameters_named}
 use Rattle.sharc_mode.specs.Sharings.{Sharing}
 use Rattle.sharc_meaning.specs.Cells.{element_cells, field_place_named, global_elements}
+use Rattle.sharc_meaning.specs.Expressions.{number_named}
 use Rattle.sharc_meaning.specs.Reference.{constant_value}
 use Rattle.sharc_meaning.specs.State.{is_reference}
 use Rattle.sharc_flat_form.specs.declared.op.Op.{Op}
 use Rattle.sharc_flat_form.specs.declared.op.Op.TheVariants as op
+use Rattle.sharc_flat_form.specs.declared.op.Spot.{Spot}
 use Rattle.sharc_flat_form.specs.Machine.{first_cell}
 use Rattle.sharc_flat.specs.declared.slot.Lvalue.{Lvalue}
-use Rattle.sharc_flat.specs.Scope.{Context, int_count, ref_count, register_of, at_site}
-use Rattle.sharc_flat.specs.Places.{Target, variable, in_global, in_global_at, in_object, in_object_at, target, named_target, own_field, global_of, has_base, base_width, index_width, guard_width, copy_code, cell_value_code, value_code, index_code, pointee_code, bounds_code, width_of}
-use Rattle.sharc_flat.specs.Flattened.{kind_of, is_ref, target_of, mode_of, what_names, lvalue_in, guard_of, constant_code, named_code, truth_code, compare_code, unary_code, binary_code, behind_int, behind_ref, operator_of, lvalue_code, field_code, unary_place_code, expression_code, place_code}
+use Rattle.sharc_flat.specs.Scope.{Context, int_count, ref_count, register_of, number_in, at_site}
+use Rattle.sharc_flat.specs.Places.{Target, variable, in_global, in_global_at, in_object, in_object_at, target, named_target, own_field, global_of, has_base, base_width, index_width, guard_width, copy_code, cell_value_code, cell_take_code, take_code, value_code, index_code, pointee_code, bounds_code, width_of}
+use Rattle.sharc_flat.specs.Flattened.{kind_of, is_ref, target_of, mode_of, what_names, lvalue_in, guard_of, constant_code, named_code, truth_code, compare_code, unary_code, binary_code, behind_int, behind_ref, operator_of, lvalue_code, field_code, unary_place_code, called_code, passed_code, spawn_code, cast_code, layout_of, expression_code, arguments_code, place_code}
 use Rattle.sharc_flat.specs.Suits.{Either, is_cell}
 use Rattle.sharc_invariant.specs.Types.{StaticType, cells_of}
 use Rattle.sharc_invariant.specs.Labels.{Entry, Empty, Refers, Element, Number, Anything, Nth, Exactly, Within, Indexes, OfElement, OfGlobal, Closed, Label, Narrower, LessNumber, LessEntry, LessGate, HasBase, fill, set_number}
-use Rattle.sharc_invariant.specs.Typed.{ints_in, refs_in}
+use Rattle.sharc_invariant.specs.Typed.{Passes, ints_in, refs_in}
 use Rattle.sharc_invariant.proofs.Frames.{wider}
-use Rattle.sharc_invariant.proofs.Scoped.{less_entry_refl, less_number_refl, scoped_fill}
+use Rattle.sharc_invariant.proofs.Scoped.{less_refl, less_entry_refl, less_number_refl, scoped_fill}
 use Rattle.sharc_labels_laws.specs.Stretches.{Mark, Setting, Way, AreOpen}
 use Rattle.sharc_labels_laws.specs.Places.{Stands, IsNamed, IsPlain, AreLow, no_type, mark}
 use Rattle.sharc_labels_laws.specs.Premises.{Typing, HoldsVariables, Ground, number_in_global, IntegerTyped, ReferenceTyped}
-use Rattle.sharc_labels_laws.specs.Typable.{type_by, GoesTo, Widens, IsTypeIn, IsVoid, IsNumber, IsPointer, ground_of, CellTyped, ValueTyped, VariableTyped, NameTyped, ConstantTyped, UnaryTyped, result_of, IntegersTyped, ComparedTyped, BinaryTyped, HasType, AreFields, ElementTyped, IndexTypable, FieldTypable, IsTypable, IsPlaceTypable}
+use Rattle.sharc_labels_laws.specs.Typable.{IsBare, after_value, type_by, IsCopyIn, IsCopyNamed, IsCopyOf, GoesTo, Widens, IsTypeIn, IsVoid, IsNumber, IsPointer, ground_of, CellTyped, ValueTyped, VariableTyped, NameTyped, ConstantTyped, UnaryTyped, result_of, IntegersTyped, ComparedTyped, BinaryTyped, HasType, AreFields, ElementTyped, IndexTypable, FieldTypable, ArgumentAt, ArgumentsAt, ResultTyped, CallTyped, HasNoWidth, Goes, Handed, SpawnTyped, VariableTakes, Takes, TakeTyped, CastTyped, FreeTyped, CallTypable, IsTypable, AreTypable, IsPlaceTypable}
 use Rattle.sharc_labels_laws.proofs.Fitting.{fits_same, fits_by}
 use Rattle.sharc_labels_laws.proofs.Standing.{less_by}
 use Rattle.sharc_labels_laws.proofs.Telling.{told, other_than}
 use Rattle.sharc_labels_laws.proofs.Rules.{on_nothing}
-use Rattle.sharc_labels_laws.proofs.Parts.{P, At, at_number, at_fill, number_above, none_some, does, then_do, before, pre, post, none, enter, constant_at, null_kept_at, from_free, from_written, false_at, compute_at, negate_at, complement_at, number_dropped, truth_at, pop_at, compare_at, logical_at, either_at, check_at, pointee_at, print_at, join_at, with_number}
+use Rattle.sharc_labels_laws.proofs.Parts.{P, At, at_number, at_fill, number_above, none_some, does, then_do, before, pre, post, none, enter, constant_at, null_kept_at, width_at, from_free, from_written, false_at, compute_at, negate_at, complement_at, number_dropped, truth_at, pop_at, compare_at, logical_at, either_at, check_at, pointee_at, print_at, join_at, with_number}
 use Rattle.sharc_labels_laws.proofs.Variables.{local_at, move_at}
 use Rattle.sharc_labels_laws.proofs.Indexes.{FindsElement, element_of, fresh_name}
-use Rattle.sharc_labels_laws.proofs.Accessed.{Frame, placed, based, ints_of, indexed, int_value, reference_value, holds_over, wider_names}
+use Rattle.sharc_labels_laws.proofs.Accessed.{Frame, placed, based, ints_of, indexed, int_value, reference_value, taken_value, holds_over, wider_names}
+use Rattle.sharc_labels_laws.proofs.Casting.{take_variable_at, freed_at, given_at}
+use Rattle.sharc_labels_laws.proofs.Calling.{call_reference, call_number, call_nothing}
+use Rattle.sharc_labels_laws.proofs.Spawning.{spawn_number, spawn_reference}
+use Rattle.sharc_labels_laws.proofs.Locking.{locked_at, unlocked_at}
 use Rattle.sharc_labels_laws.proofs.Placing.{AreFew, which, bounds_at, finds_object, finds_global}
 
 plain_base : (n : Number) (r q : ℕ) → IsPlain n → HasBase n q → q < r
@@ -107,19 +117,20 @@ module _ (around : Setting) (f : ℕ) (ways : List Way) (y : Typing) (c : Contex
   abbrev F : ℕ → ℕ → ℕ → Label → Type 0
   F from = Frame around f D y c low from
 
-  abbrev Typed : Expression → Type 0
-  Typed = IsTypable around f ways y c
+  abbrev Typed : Bool → Expression → Type 0
+  Typed bare = IsTypable around f ways y bare c
 
-  abbrev PlaceTyped : Option ℕ → Option ℕ → Expression → Type 0
-  PlaceTyped = IsPlaceTypable around f ways y c
+  abbrev PlaceTyped : Bool → Option ℕ → Option ℕ → Expression → Type 0
+  PlaceTyped bare = IsPlaceTypable around f ways y bare c
 
   abbrev TypeIn : StaticType → Type 0
   TypeIn = IsTypeIn around f ways y c
 
   -- ---- values
   -- a reference, which may be a copy of a variable
-  pub record RefValue (from i r : ℕ) (l : Label) (os : List Op) (s : StaticType) : Type 0 where
+  pub record RefValue (from i r : ℕ) (l : Label) (os : List Op) (e : Expression) (s : StaticType) : Type 0 where
     pub copy : ℕ
+    pub copies : IsCopyOf c e copy
     pub small : (copy ≡ r) ⊎ (copy < top)
     pub piece : Q from (mark l from i) os (mark (fill l r (Refers s) copy false) from i)
 
@@ -131,7 +142,7 @@ module _ (around : Setting) (f : ℕ) (ways : List Way) (y : Typing) (c : Contex
     pub piece : Q from (mark l from i) os (with_number around f D N top low from l i number)
 
   abbrev pub Value : ℕ → ℕ → ℕ → Label → List Op → Expression → Bool → Bool → Type 0
-  Value from i r l os e true integer = (s : StaticType) → GoesTo (y.entry c e) s → TypeIn s → RefValue from i r l os s
+  Value from i r l os e true integer = (s : StaticType) → GoesTo (y.entry c e) s → TypeIn s → RefValue from i r l os e s
   Value from i r l os e false true = IntValue from i r l os (width_of (kind_of c e))
   Value from i r l os e false false = Q from (mark l from i) os (mark l from i)
 
@@ -148,14 +159,14 @@ module _ (around : Setting) (f : ℕ) (ways : List Way) (y : Typing) (c : Contex
   int_of : (from i r : ℕ) (l : Label) (os : List Op) (e : Expression) → IsNumber around f ways y c e → ValueOf from i r l os e → IntValue from i r l os (width_of (kind_of c e))
   int_of from i r l os e is v = subst (λ b. Value from i r l os e false b) is.1 (subst (λ b. Value from i r l os e b (is_integer (kind_of c e))) is.0 v)
 
-  ref_by : (from i r : ℕ) (l : Label) (os : List Op) (e : Expression) → is_ref c e ≡ true → ((s : StaticType) → GoesTo (y.entry c e) s → TypeIn s → RefValue from i r l os s) → ValueOf from i r l os e
+  ref_by : (from i r : ℕ) (l : Label) (os : List Op) (e : Expression) → is_ref c e ≡ true → ((s : StaticType) → GoesTo (y.entry c e) s → TypeIn s → RefValue from i r l os e s) → ValueOf from i r l os e
   ref_by from i r l os e is v = subst (λ b. Value from i r l os e b (is_integer (kind_of c e))) (sym is) v
 
-  ref_of : (from i r : ℕ) (l : Label) (os : List Op) (e : Expression) → is_ref c e ≡ true → ValueOf from i r l os e → (s : StaticType) → GoesTo (y.entry c e) s → TypeIn s → RefValue from i r l os s
+  ref_of : (from i r : ℕ) (l : Label) (os : List Op) (e : Expression) → is_ref c e ≡ true → ValueOf from i r l os e → (s : StaticType) → GoesTo (y.entry c e) s → TypeIn s → RefValue from i r l os e s
   ref_of from i r l os e is v = subst (λ b. Value from i r l os e b (is_integer (kind_of c e))) is v
 
   -- a pointer, with the type that it has
-  base_of : (from i r : ℕ) (l : Label) (os : List Op) (e : Expression) → IsPointer around f ways y c e → ValueOf from i r l os e → RefValue from i r l os (type_by (y.entry c e))
+  base_of : (from i r : ℕ) (l : Label) (os : List Op) (e : Expression) → IsPointer around f ways y c e → ValueOf from i r l os e → RefValue from i r l os e (type_by (y.entry c e))
   base_of from i r l os e is v = ref_of from i r l os e is.0 v (type_by (y.entry c e)) (inr is.1) is.2
 
   small_copy : (from i r : ℕ) (l : Label) → F from i r l → (copy : ℕ) → (copy ≡ r) ⊎ (copy < top) → copy ≤ r
@@ -183,6 +194,28 @@ module _ (around : Setting) (f : ℕ) (ways : List Way) (y : Typing) (c : Contex
     early = omega (arith, early);
   }
 
+  -- an integer more is at hand
+  bare_number : (bare : Bool) (l : Label) (i : ℕ) (n : Number) → IsPlain n → IsBare bare l → IsBare bare (set_number l i n)
+  bare_number bare l i n plain h = λ z. let w = h z in (w.0, w.1, λ j q b. put_all (λ j x. HasBase x q → ⊥) l.ints i n (λ b. none n q plain b) (λ j _ b. w.2 j q b) j b)
+    where
+      none : (n : Number) (q : ℕ) → IsPlain n → HasBase n q → ⊥
+      none Anything q plain b = b
+      none (Exactly z) q plain b = b
+      none (Within w) q plain b = b
+      none (Indexes m) q plain b = plain
+      none (OfElement base place e) q plain b = plain
+      none (OfGlobal first count elements e) q plain b = plain
+
+  less_bare : (e : Expression) (bare : Bool) (l : Label) → IsBare bare l → IsBare (after_value c e bare) l
+  less_bare e bare l h = by (is_ref c e)
+    where
+      by : (b : Bool) → IsBare (cond b false bare) l
+      by true = λ z. absurd (false≢true z)
+      by false = h
+
+  no_bare : (l : Label) → IsBare false l
+  no_bare l z = absurd (false≢true z)
+
   -- ---- NULL and constants
   null_at : (from i r : ℕ) (l : Label) → F from i r l → (s : StaticType) → IsNamed N r s → Q from (mark l from i) (op.Null r ∷ []) (mark (fill l r (Refers s) r false) from i)
   null_at from i r l fr s fits =
@@ -205,9 +238,9 @@ module _ (around : Setting) (f : ℕ) (ways : List Way) (y : Typing) (c : Contex
       known : (q : ℕ) → put l.known r false q ≡ true → l.known q ≡ true
       known q e = ⊎_elim (λ (z : q ≡ r). absurd (false≢true (sym (ap (put l.known r false) z ∙ put_same l.known r false) ∙ e))) (λ (ne : q ≡ r → ⊥). sym (put_other l.known r q false ne) ∙ e) (cases_eq q r)
 
-  constant_value_of : (from i r : ℕ) (l : Label) → F from i r l → (e : Expression) (k : Constant) (b : Bool) → is_ref c e ≡ b → ConstantTyped around f ways y c e k b → ValueOf from i r l (constant_code b i r k) e
-  constant_value_of from i r l fr e k true is h = ref_by from i r l (op.Null r ∷ []) e is (λ s goes fits. record { copy = r; small = inl refl; piece = null_at from i r l fr s (in_frame from i r l fr s fits) })
-  constant_value_of from i r l fr e k false is h = int_by from i r l (op.Constant i (constant_value k) ∷ []) e (is, h.0) (record { number = Exactly (constant_value k); plain = tt; fits = h.1; piece = constant_at around f D N top low from i r l fr.at (constant_value k) })
+  constant_value_of : (from i r : ℕ) (l : Label) → F from i r l → (e : Expression) (k : Constant) (b : Bool) → ((copy : ℕ) → IsCopyOf c e copy) → is_ref c e ≡ b → ConstantTyped around f ways y c e k b → ValueOf from i r l (constant_code b i r k) e
+  constant_value_of from i r l fr e k true any_copy is h = ref_by from i r l (op.Null r ∷ []) e is (λ s goes fits. record { copy = r; copies = any_copy r; small = inl refl; piece = null_at from i r l fr s (in_frame from i r l fr s fits) })
+  constant_value_of from i r l fr e k false any_copy is h = int_by from i r l (op.Constant i (constant_value k) ∷ []) e (is, h.0) (record { number = Exactly (constant_value k); plain = tt; fits = h.1; piece = constant_at around f D N top low from i r l fr.at (constant_value k) })
 
   -- ---- variables
   same_type : (s t : StaticType) → Refers s ≡ Refers t → s ≡ t
@@ -219,11 +252,11 @@ module _ (around : Setting) (f : ℕ) (ways : List Way) (y : Typing) (c : Contex
   goes_is : (e : Entry) (s t : StaticType) → e ≡ Refers s → GoesTo e t → s ≡ t
   goes_is e s t is goes = ⊎_elim (λ (z : e ≡ Empty). absurd (not_null s e is z)) (λ (z : e ≡ Refers t). same_type s t (sym is ∙ z)) goes
 
-  copied : (from i r : ℕ) (l : Label) → F from i r l → (e : Expression) (x : Register) → VariableTyped around f ways y c e x → ValueOf from i r l (copy_code i r x) e
-  copied from i r l fr e (registers.Int j) h = int_by from i r l (op.Move i j ∷ []) e h.0 (record { number = Within (y.width c j); plain = tt; fits = subst (λ w. LessNumber (Within (y.width c j)) (Within w)) h.2 (less_number_refl (Within (y.width c j))); piece = move_at around f D N top low from i r l fr.at j (y.width c j) (fr.holds.integers j h.1) })
-  copied from i r l fr e (registers.Reference q) h = let high = fr.high in let lt = h.1 in ref_by from i r l (op.Local r q ∷ []) e h.0 (λ s goes fits.
+  copied : (from i r : ℕ) (l : Label) → F from i r l → (e : Expression) (x : Register) → ((copy : ℕ) → IsCopyIn x copy → IsCopyOf c e copy) → VariableTyped around f ways y c e x → ValueOf from i r l (copy_code i r x) e
+  copied from i r l fr e (registers.Int j) if_copy h = int_by from i r l (op.Move i j ∷ []) e h.0 (record { number = Within (y.width c j); plain = tt; fits = subst (λ w. LessNumber (Within (y.width c j)) (Within w)) h.2 (less_number_refl (Within (y.width c j))); piece = move_at around f D N top low from i r l fr.at j (y.width c j) (fr.holds.integers j h.1) })
+  copied from i r l fr e (registers.Reference q) if_copy h = let high = fr.high in let lt = h.1 in ref_by from i r l (op.Local r q ∷ []) e h.0 (λ s goes fits.
       let is : y.pointer c q ≡ s = goes_is (y.entry c e) (y.pointer c q) s h.2 goes in
-      record { copy = q; small = inr h.1; piece = local_at around f D N top low from i r l fr.at s q i (in_frame from i r l fr s fits) (omega (arith, high, lt)) (fr.holds.references q h.1 ∙ ap Refers is) (fr.holds.copies q h.1) })
+      record { copy = q; copies = if_copy q refl; small = inr h.1; piece = local_at around f D N top low from i r l fr.at s q i (in_frame from i r l fr s fits) (omega (arith, high, lt)) (fr.holds.references q h.1 ∙ ap Refers is) (fr.holds.copies q h.1) })
 
   -- ---- cells
   value_is : (i r : ℕ) (site : Site) (lvalue : Lvalue) (mode : Sharing) (b : Bool) (t : Target) → is_cell t ≡ true → cell_value_code c i r site lvalue mode b t ≡ value_code c i r site lvalue mode b t
@@ -241,15 +274,16 @@ module _ (around : Setting) (f : ℕ) (ways : List Way) (y : Typing) (c : Contex
     pub fits : IsNamed N r ground.base
     pub piece : Q from (mark l from i) os (placed around f D y c low from t guard ground element i r copy l)
 
-  read : (from i r : ℕ) (l : Label) → F from i r l → (e : Expression) (site : Site) (t : Target) (xs : List Op) → PlaceValue from i r l xs t (guard_of c e) (ground_of around f ways y c e) → is_cell t ≡ true → CellTyped around f ways y c e site t (is_ref c e)
+  read : (from i r : ℕ) (l : Label) → F from i r l → (e : Expression) (site : Site) (t : Target) (xs : List Op) → PlaceValue from i r l xs t (guard_of c e) (ground_of around f ways y c e) → is_cell t ≡ true → ((copy : ℕ) → IsCopyOf c e copy) → CellTyped around f ways y c e site t (is_ref c e)
       → ValueOf from i r l (xs ++ value_code c i r site (lvalue_in c e) (mode_of c e) (is_ref c e) t) e
-  read from i r l fr e site t xs p cell h = by (is_ref c e) refl h
+  read from i r l fr e site t xs p cell any_copy h = by (is_ref c e) refl h
     where
       by : (b : Bool) → is_ref c e ≡ b → CellTyped around f ways y c e site t b → Value from i r l (xs ++ value_code c i r site (lvalue_in c e) (mode_of c e) b t) e b (is_integer (kind_of c e))
       by true is h = λ s goes fits.
           let same : h.0 ≡ s = goes_is (y.entry c e) h.0 s h.1 goes in
           record {
             copy = r;
+            copies = any_copy r;
             small = inl refl;
             piece = joins from (mark l from i) (placed around f D y c low from t (guard_of c e) (ground_of around f ways y c e) p.element i r p.copy l) (mark (fill l r (Refers s) r false) from i) xs (value_code c i r site (lvalue_in c e) (mode_of c e) true t) p.piece
                 (subst (λ os. Q from (placed around f D y c low from t (guard_of c e) (ground_of around f ways y c e) p.element i r p.copy l) os (mark (fill l r (Refers s) r false) from i)) (value_is i r site (lvalue_in c e) (mode_of c e) true t cell)
@@ -403,15 +437,15 @@ module _ (around : Setting) (f : ℕ) (ways : List Way) (y : Typing) (c : Contex
 
   -- an operator on two values, of which the second one stands after the first one
   computed : (from i r : ℕ) (l : Label) → F from i r l → (e : Expression) (site : Site) (o : BinaryOperator) (a b : Expression) (xs : List Op) (ys : ℕ → ℕ → List Op) → IsNumber around f ways y c e → ComparedTyped around f ways y c e o a b (is_ref c a) → HasType around f ways y c a → HasType around f ways y c b → ValueOf from i r l xs a
-      → ((i2 r2 : ℕ) (l2 : Label) → F from i2 r2 l2 → ValueOf from i2 r2 l2 (ys i2 r2) b)
+      → (bare : Bool) → IsBare bare l → ((i2 r2 : ℕ) (l2 : Label) → F from i2 r2 l2 → IsBare (after_value c a bare) l2 → ValueOf from i2 r2 l2 (ys i2 r2) b)
       → ValueOf from i r l (xs ++ (ys (behind_int (is_ref c a) i) (behind_ref (is_ref c a) r) ++ (cond (is_ref c a) (compare_code o i r) (op.Compute (result_of around f ways y c o a b) (operator_of o) i i (i + 1) (at_site site) ∷ [])))) e
-  computed from i r l fr e site o a b xs ys is typed ta tb va vb = by (is_ref c a) refl typed
+  computed from i r l fr e site o a b xs ys is typed ta tb va bare alone vb = by (is_ref c a) refl typed vb
     where
       w : Width
       w = result_of around f ways y c o a b
 
-      by : (z : Bool) → is_ref c a ≡ z → ComparedTyped around f ways y c e o a b z → ValueOf from i r l (xs ++ (ys (behind_int z i) (behind_ref z r) ++ (cond z (compare_code o i r) (op.Compute w (operator_of o) i i (i + 1) (at_site site) ∷ [])))) e
-      by true is_a is_b =
+      by : (z : Bool) → is_ref c a ≡ z → ComparedTyped around f ways y c e o a b z → ((i2 r2 : ℕ) (l2 : Label) → F from i2 r2 l2 → IsBare (cond z false bare) l2 → ValueOf from i2 r2 l2 (ys i2 r2) b) → ValueOf from i r l (xs ++ (ys (behind_int z i) (behind_ref z r) ++ (cond z (compare_code o i r) (op.Compute w (operator_of o) i i (i + 1) (at_site site) ∷ [])))) e
+      by true is_a is_b vb =
           let t = ta.0 is_a in
           let s = tb.0 is_b in
           let fits = in_frame from i r l fr t.0 t.2 in
@@ -420,18 +454,18 @@ module _ (around : Setting) (f : ℕ) (ways : List Way) (y : Typing) (c : Contex
           let small = small_copy from i r l fr pa.copy pa.small in
           let X = fill l r (Refers t.0) pa.copy false in
           let fx = frame_fill from i r l fr t.0 pa.copy false fits small in
-          let pb = ref_of from i (r + 1) X (ys i (r + 1)) b is_b (vb i (r + 1) X fx) s.0 s.1 s.2 in
+          let pb = ref_of from i (r + 1) X (ys i (r + 1)) b is_b (vb i (r + 1) X fx (λ q. absurd (false≢true q))) s.0 s.1 s.2 in
           let high = fr.high in
           let other : (pb.copy ≡ r + 1) ⊎ (pb.copy < r) = ⊎_elim (λ (z : pb.copy ≡ r + 1). inl z) (λ (z : pb.copy < top). inr (omega (arith, z, high))) pb.small in
           truth_value from i r l (xs ++ (ys i (r + 1) ++ compare_code o i r)) e is
           (joins from (mark l from i) (mark X from i) (with_number around f D N top low from l i (Within Char)) xs (ys i (r + 1) ++ compare_code o i r) pa.piece
           (joins from (mark X from i) (mark (fill X (r + 1) (Refers s.0) pb.copy false) from i) (with_number around f D N top low from l i (Within Char)) (ys i (r + 1)) (compare_code o i r) pb.piece
           (compare_at around f D N top low from i r l fr.at fr.high t.0 s.0 pa.copy pb.copy false false fits fits2 small other o)))
-      by false is_a h =
+      by false is_a h vb =
           let na = int_of from i r l xs a h.left va in
           let X = set_number l i na.number in
           let fx = frame_number from i r l fr na.number (λ q z. plain_base na.number r q na.plain z) in
-          let nb = int_of from (i + 1) r X (ys (i + 1) r) b h.right (vb (i + 1) r X fx) in
+          let nb = int_of from (i + 1) r X (ys (i + 1) r) b h.right (vb (i + 1) r X fx (bare_number bare l i na.number na.plain alone)) in
           let end = with_number around f D N top low from l i (Within w) in
           int_by from i r l (xs ++ (ys (i + 1) r ++ op.Compute w (operator_of o) i i (i + 1) (at_site site) ∷ [])) e is (record {
             number = Within w;
@@ -450,7 +484,7 @@ module _ (around : Setting) (f : ℕ) (ways : List Way) (y : Typing) (c : Contex
   entered from i r l fr os e v = by (is_ref c e) (is_integer (kind_of c e)) v
     where
       by : (a b : Bool) → Value from i r l os e a b → Value from i r l (op.Enter ∷ os) e a b
-      by true b v = λ s goes fits. let w = v s goes fits in record { copy = w.copy; small = w.small; piece = entered_piece from i r l fr os (mark (fill l r (Refers s) w.copy false) from i) w.piece }
+      by true b v = λ s goes fits. let w = v s goes fits in record { copy = w.copy; copies = w.copies; small = w.small; piece = entered_piece from i r l fr os (mark (fill l r (Refers s) w.copy false) from i) w.piece }
       by false true v = record { number = v.number; plain = v.plain; fits = v.fits; piece = entered_piece from i r l fr os (with_number around f D N top low from l i v.number) v.piece }
       by false false v = entered_piece from i r l fr os (mark l from i) v
 
@@ -458,11 +492,11 @@ module _ (around : Setting) (f : ℕ) (ways : List Way) (y : Typing) (c : Contex
   entered_place from i r l fr os t guard ground p = record { element = p.element; copy = p.copy; small = p.small; fits = p.fits; piece = entered_piece from i r l fr os (placed around f D y c low from t guard ground p.element i r p.copy l) p.piece }
 
   -- in parentheses
-  same_value : (from i r : ℕ) (l : Label) (os : List Op) (e a : Expression) → kind_of c e ≡ kind_of c a → y.entry c e ≡ y.entry c a → ValueOf from i r l os a → ValueOf from i r l os e
-  same_value from i r l os e a kinds entries v = subst (λ k. Value from i r l os e (is_reference k) (is_integer k)) (sym kinds) (by (is_ref c a) (is_integer (kind_of c a)) v)
+  same_value : (from i r : ℕ) (l : Label) (os : List Op) (e a : Expression) → ((copy : ℕ) → IsCopyOf c e copy) → kind_of c e ≡ kind_of c a → y.entry c e ≡ y.entry c a → ValueOf from i r l os a → ValueOf from i r l os e
+  same_value from i r l os e a any_copy kinds entries v = subst (λ k. Value from i r l os e (is_reference k) (is_integer k)) (sym kinds) (by (is_ref c a) (is_integer (kind_of c a)) v)
     where
       by : (p q : Bool) → Value from i r l os a p q → Value from i r l os e p q
-      by true q v = λ s goes fits. v s (subst (λ z. GoesTo z s) entries goes) fits
+      by true q v = λ s goes fits. let w = v s (subst (λ z. GoesTo z s) entries goes) fits in record { copy = w.copy; copies = any_copy w.copy; small = w.small; piece = w.piece }
       by false true v = subst (λ k. IntValue from i r l os (width_of k)) (sym kinds) v
       by false false v = v
 
@@ -479,14 +513,14 @@ module _ (around : Setting) (f : ℕ) (ways : List Way) (y : Typing) (c : Contex
   stays : (from i : ℕ) (l : Label) → Q from (mark l from i) [] (mark l from i)
   stays from i l = none around f D N top low from (mark l from i) (mark l from i) (fits_same around.targets (mark l from i)) (λ z. z)
 
-  named_value : (from i r : ℕ) (l : Label) → F from i r l → (s : Span) (x : Identifier) (n : Named) → NameTyped around f ways y c (identifier s x) x.site n
+  named_value : (from i r : ℕ) (l : Label) → F from i r l → (s : Span) (x : Identifier) (n : Named) → ((copy : ℕ) → IsCopyNamed c n copy → IsCopyOf c (identifier s x) copy) → NameTyped around f ways y c (identifier s x) x.site n
       → ValueOf from i r l (named_code c i r x.site (lvalue_in c (identifier s x)) (mode_of c (identifier s x)) (is_ref c (identifier s x)) n) (identifier s x)
-  named_value from i r l fr s x (named.Variable v) h = copied from i r l fr (identifier s x) (register_of c.scope v) h
-  named_value from i r l fr s x (named.Global g) h = read from i r l fr (identifier s x) x.site (in_global g 0) [] (no_place from i r l fr g 0 (guard_of c (identifier s x)) (ground_of around f ways y c (identifier s x)) refl) refl h
-  named_value from i r l fr s x (named.Field v) h = void_by from i r l [] (identifier s x) h (stays from i l)
-  named_value from i r l fr s x (named.Struct v) h = void_by from i r l [] (identifier s x) h (stays from i l)
-  named_value from i r l fr s x (named.Function v) h = void_by from i r l [] (identifier s x) h (stays from i l)
-  named_value from i r l fr s x named.Known h = void_by from i r l [] (identifier s x) h (stays from i l)
+  named_value from i r l fr s x (named.Variable v) if_copy h = copied from i r l fr (identifier s x) (register_of c.scope v) (λ copy z. if_copy copy z) h
+  named_value from i r l fr s x (named.Global g) if_copy h = read from i r l fr (identifier s x) x.site (in_global g 0) [] (no_place from i r l fr g 0 (guard_of c (identifier s x)) (ground_of around f ways y c (identifier s x)) refl) refl (λ copy. if_copy copy tt) h
+  named_value from i r l fr s x (named.Field v) if_copy h = void_by from i r l [] (identifier s x) h (stays from i l)
+  named_value from i r l fr s x (named.Struct v) if_copy h = void_by from i r l [] (identifier s x) h (stays from i l)
+  named_value from i r l fr s x (named.Function v) if_copy h = void_by from i r l [] (identifier s x) h (stays from i l)
+  named_value from i r l fr s x named.Known if_copy h = void_by from i r l [] (identifier s x) h (stays from i l)
 
   named_place : (from i r : ℕ) (l : Label) → F from i r l → (n : Named) (place : ℕ) (guard : Option ℕ) (ground : Ground) → ground.base ≡ no_type → PlaceValue from i r l [] (named_target n place) guard ground
   named_place from i r l fr (named.Variable v) place guard ground h = variable_place from i r l fr v guard ground h
@@ -527,76 +561,332 @@ module _ (around : Setting) (f : ℕ) (ways : List Way) (y : Typing) (c : Contex
           (int_of from i r l (ys r) n h.2 (pn h.1 r l fr))
       by false z = element_place from i r l fr a count (own_field own 0) guard (record { base = type_by (y.entry c a); count = count; elements = elements }) refl z.2 h.3 zs ys (width_of (kind_of c n)) site z.1 (py z.0) (λ l2 f2. int_of from i (r + 1) l2 (ys (r + 1)) n h.2 (pn h.1 (r + 1) l2 f2))
 
+  -- ---- what is passed
+  reframe : (from i r : ℕ) (l : Label) → F from i r l → (from2 : ℕ) → from2 ≤ i → F from2 i r l
+  reframe from i r l fr from2 le = record { at = record { stands = fr.at.stands; owned = fr.at.owned }; holds = fr.holds; high = fr.high; wide = fr.wide; early = le }
+
+  -- no number of an integer register is told
+  untold : (a b from until : ℕ) (l : Label) → until ≤ from → Q 0 (mark l a b) [] (mark l from until)
+  untold a b from until l le = none around f D N top low 0 (mark l a b) (mark l from until) (record { less = less_refl l; tells = λ k h. record { copies = h.copies; numbers = λ j n p q _. absurd (omega (arith, p, q, le)) } }) (λ h. h)
+
+  -- the registers of arguments after those that were taken
+  pub record Passed (i r : ℕ) (l : Label) (kinds : List Kind) (wants : ℕ → StaticType) (all : Arguments) (os : List Op) : Type 0 where
+    pub label : Label
+    pub ints : ℕ
+    pub refs : ℕ
+    pub frame : F ints ints refs label
+    pub more_ints : i ≤ ints
+    pub more_refs : r ≤ refs
+    pub env : (q : ℕ) → q < r → label.env q ≡ l.env q
+    pub same : (q : ℕ) → q < r → label.same q ≡ l.same q
+    pub known : (q : ℕ) → q < r → label.known q ≡ l.known q
+    pub numbers : (j : ℕ) → j < i → label.ints j ≡ l.ints j
+    pub here : ArgumentsAt around f ways y c kinds wants all i r label
+    pub piece : Q 0 (mark l i i) os (mark label ints ints)
+
+  joins_at : (s m e : Mark) (xs ys : List Op) → Q 0 s xs m → Q 0 m ys e → Q 0 s (xs ++ ys) e
+  joins_at = then_do around f D N top low 0
+
+  no_width : (i : ℕ) (kinds : List Kind) (site : Site) → HasNoWidth around f ways y kinds → passed_code i kinds site ≡ []
+  no_width i [] site h = refl
+  no_width i (kind ∷ kinds) site h = ap (λ b. cond b (op.ChkWidth (width_of kind) i (at_site site) ∷ []) []) h
+
+  passed_reference : (i r : ℕ) (l : Label) → F i i r l → (kinds : List Kind) (wants : ℕ → StaticType) (a : Expression) (rest : Arguments) (xs ys : List Op) (site : Site) → is_ref c a ≡ true → Goes around f ways y c kinds a true (wants 0) → ValueOf i i r l xs a
+      → ((l2 : Label) → F i i (r + 1) l2 → Passed i (r + 1) l2 (drop 1 kinds) (λ n. wants (n + 1)) rest ys)
+      → Passed i r l kinds wants (argument a rest) (xs ++ (passed_code i kinds site ++ ys))
+  passed_reference i r l fr kinds wants a rest xs ys site is goes v next =
+      let s = wants 0 in
+      let w = ref_of i i r l xs a is v s goes.0 goes.1 in
+      let small = small_copy i i r l fr w.copy w.small in
+      let X = fill l r (Refers s) w.copy false in
+      let fx = frame_fill i i r l fr s w.copy false (in_frame i i r l fr s goes.1) small in
+      let p = next X fx in
+      let e_env : p.label.env r ≡ Refers s = p.env r (omega arith) ∙ put_same l.env r (Refers s) in
+      let e_same : p.label.same r ≡ w.copy = p.same r (omega arith) ∙ put_same l.same r w.copy in
+      let more = p.more_refs in
+      record {
+        label = p.label;
+        ints = p.ints;
+        refs = p.refs;
+        frame = p.frame;
+        more_ints = p.more_ints;
+        more_refs = omega (arith, more);
+        env = λ q lt. p.env q (omega (arith, lt)) ∙ put_other l.env r q (Refers s) (λ e. omega (arith, e, lt));
+        same = λ q lt. p.same q (omega (arith, lt)) ∙ put_other l.same r q w.copy (λ e. omega (arith, e, lt));
+        known = λ q lt. p.known q (omega (arith, lt)) ∙ put_other l.known r q false (λ e. omega (arith, e, lt));
+        numbers = λ j lt. p.numbers j lt;
+        here = subst (λ b. ArgumentAt around f ways y c kinds a b s i r p.label × ArgumentsAt around f ways y c (drop 1 kinds) (λ n. wants (n + 1)) rest (behind_int b i) (behind_ref b r) p.label) (sym is) ((e_env, subst (IsCopyOf c a) (sym e_same) w.copies), p.here);
+        piece = joins_at (mark l i i) (mark X i i) (mark p.label p.ints p.ints) xs (passed_code i kinds site ++ ys) w.piece
+            (subst (λ os. Q 0 (mark X i i) (os ++ ys) (mark p.label p.ints p.ints)) (sym (no_width i kinds site goes.2)) p.piece);
+      }
+
+  -- an integer register that holds a number of some width is one of the frame
+  not_anything : (n : Number) (w : Width) → LessNumber n (Within w) → n ≡ Anything → ⊥
+  not_anything n w h e = absurd (other_number Anything w (subst (λ z. LessNumber z (Within w)) e h))
+
+  taken_number : (s e : Mark) (os : List Op) (i : ℕ) (n : Number) (w : Width) → s.label.ints i ≡ n → LessNumber n (Within w) → (i < ints_in around.code (Some f) → Q 0 s os e) → Q 0 s os e
+  taken_number s e os i n w is fits rest = λ in_it h. rest (⊎_elim (λ (lt : i < ints_in around.code (Some f)). lt) (λ ge. absurd (not_anything n w fits (sym is ∙ h.numbers i ge))) (cases_lt i (ints_in around.code (Some f)))) in_it h
+
+  passed_number : (i r : ℕ) (l : Label) → F i i r l → (kind : Kind) (kinds : List Kind) (wants : ℕ → StaticType) (a : Expression) (rest : Arguments) (xs ys : List Op) (site : Site) → is_ref c a ≡ false → is_integer (kind_of c a) ≡ true → is_integer kind ≡ true → ValueOf i i r l xs a
+      → (bare : Bool) → IsBare bare l → ((l2 : Label) → F (i + 1) (i + 1) r l2 → IsBare bare l2 → Passed (i + 1) r l2 kinds (λ n. wants (n + 1)) rest ys)
+      → Passed i r l (kind ∷ kinds) wants (argument a rest) (xs ++ (passed_code i (kind ∷ kinds) site ++ ys))
+  passed_number i r l fr kind kinds wants a rest xs ys site is number goes v bare alone next =
+      let w = width_of kind in
+      let n = int_of i i r l xs a (is, number) v in
+      let X = set_number l i (Within w) in
+      let fx = reframe i (i + 1) r X (frame_number i i r l fr (Within w) (λ q b. absurd b)) (i + 1) (omega arith) in
+      let p = next X fx (bare_number bare l i (Within w) tt alone) in
+      let e_int : p.label.ints i ≡ Within w = p.numbers i (omega arith) ∙ put_same l.ints i (Within w) in
+      let more = p.more_ints in
+      let start = with_number around f D N top low i l i n.number in
+      let check : Q 0 start (op.ChkWidth w i (at_site site) ∷ []) (mark X i i) = taken_number start (mark X i i) (op.ChkWidth w i (at_site site) ∷ []) i n.number (width_of (kind_of c a)) (put_same l.ints i n.number) n.fits (λ lt. width_at around f D N top low i i r l fr.at w n.number (at_site site) lt) in
+      record {
+        label = p.label;
+        ints = p.ints;
+        refs = p.refs;
+        frame = p.frame;
+        more_ints = omega (arith, more);
+        more_refs = p.more_refs;
+        env = λ q lt. p.env q lt;
+        same = λ q lt. p.same q lt;
+        known = λ q lt. p.known q lt;
+        numbers = λ j lt. p.numbers j (omega (arith, lt)) ∙ put_other l.ints i j (Within w) (λ e. omega (arith, e, lt));
+        here = subst (λ b. ArgumentAt around f ways y c (kind ∷ kinds) a b (wants 0) i r p.label × ArgumentsAt around f ways y c kinds (λ n. wants (n + 1)) rest (behind_int b i) (behind_ref b r) p.label) (sym is) (e_int, p.here);
+        piece = joins_at (mark l i i) start (mark p.label p.ints p.ints) xs (passed_code i (kind ∷ kinds) site ++ ys) n.piece
+            (subst (λ b. Q 0 start (cond b (op.ChkWidth w i (at_site site) ∷ []) [] ++ ys) (mark p.label p.ints p.ints)) (sym goes)
+            (joins_at start (mark X i i) (mark p.label p.ints p.ints) (op.ChkWidth w i (at_site site) ∷ []) ys check
+            (joins_at (mark X i i) (mark X (i + 1) (i + 1)) (mark p.label p.ints p.ints) [] ys (untold i i (i + 1) (i + 1) X (omega arith)) p.piece)));
+      }
+
+  one_passed : (i r : ℕ) (l : Label) → F i i r l → (kinds : List Kind) (wants : ℕ → StaticType) (a : Expression) (rest : Arguments) (xs : List Op) (ys : ℕ → ℕ → List Op) (site : Site) → Goes around f ways y c kinds a (is_ref c a) (wants 0) → ValueOf i i r l xs a
+      → (bare : Bool) → IsBare bare l → ((i2 r2 : ℕ) (l2 : Label) → F i2 i2 r2 l2 → IsBare (after_value c a bare) l2 → Passed i2 r2 l2 (drop 1 kinds) (λ n. wants (n + 1)) rest (ys i2 r2))
+      → Passed i r l kinds wants (argument a rest) (xs ++ (passed_code i kinds site ++ ys (behind_int (is_ref c a) i) (behind_ref (is_ref c a) r)))
+  one_passed i r l fr kinds wants a rest xs ys site goes v bare alone next = by (is_ref c a) refl kinds goes (λ i2 r2 l2 f2 q. next i2 r2 l2 f2 q)
+    where
+      by : (b : Bool) → is_ref c a ≡ b → (kinds : List Kind) → Goes around f ways y c kinds a b (wants 0) → ((i2 r2 : ℕ) (l2 : Label) → F i2 i2 r2 l2 → IsBare (cond b false bare) l2 → Passed i2 r2 l2 (drop 1 kinds) (λ n. wants (n + 1)) rest (ys i2 r2))
+          → Passed i r l kinds wants (argument a rest) (xs ++ (passed_code i kinds site ++ ys (behind_int b i) (behind_ref b r)))
+      by true is kinds goes next = passed_reference i r l fr kinds wants a rest xs (ys i (r + 1)) site is goes v (λ l2 f2. next i (r + 1) l2 f2 (no_bare l2))
+      by false is [] goes next = absurd goes
+      by false is (kind ∷ kinds) goes next = passed_number i r l fr kind kinds wants a rest xs (ys (i + 1) r) site is goes.0 goes.1 v bare alone (λ l2 f2 q. next (i + 1) r l2 f2 q)
+
+  -- ---- a call
+  call_value : (from i r : ℕ) (l : Label) → F from i r l → (e : Expression) (g : ℕ) (kinds : List Kind) (wants : ℕ → StaticType) (all : Arguments) (os : List Op) (spot : Spot) → ((copy : ℕ) → IsCopyOf c e copy) → CallTyped around f ways y c e g kinds wants all → Passed i r l kinds wants all os → ValueOf from i r l (os ++ op.Call g i r spot ∷ []) e
+  call_value from i r l fr e g kinds wants all os spot any_copy h p = by (is_ref c e) (is_integer (kind_of c e)) h.result
+    where
+      start : Q 0 (mark l from i) [] (mark l i i)
+      start = untold from i i i l (omega arith)
+
+      passed : Q 0 (mark l from i) os (mark p.label p.ints p.ints)
+      passed = joins_at (mark l from i) (mark l i i) (mark p.label p.ints p.ints) [] os start p.piece
+
+      passes : (q : ℕ) → Passes p.label r (r + q) (p.label.env (r + q)) ((around.signature g).takes q)
+      passes = h.passes i r p.label p.frame.holds p.here
+
+      numbers : (j : ℕ) → LessNumber (p.label.ints (i + j)) ((around.signature g).takes_ints j)
+      numbers = h.numbers i r p.label p.frame.holds p.here
+
+      by : (a b : Bool) → ResultTyped around f ways y c e g a b → Value from i r l (os ++ op.Call g i r spot ∷ []) e a b
+      by true b z = λ s goes fits.
+          let same : z.0 ≡ s = goes_is (y.entry c e) z.0 s z.1 goes in
+          record {
+            copy = r;
+            copies = any_copy r;
+            small = inl refl;
+            piece = joins_at (mark l from i) (mark p.label p.ints p.ints) (mark (fill l r (Refers s) r false) from i) os (op.Call g i r spot ∷ []) passed
+                (call_reference around f D y c low from i r l fr p.label p.frame.at.owned p.frame.at.stands.closed p.env p.same p.known p.numbers p.ints p.ints g spot h.is h.alone passes numbers s (in_frame from i r l fr s fits) (z.3 ∙ ap Refers same));
+          }
+      by false true z = record {
+        number = (around.signature g).result_int;
+        plain = z.1;
+        fits = z.2;
+        piece = joins_at (mark l from i) (mark p.label p.ints p.ints) (with_number around f D N top low from l i (around.signature g).result_int) os (op.Call g i r spot ∷ []) passed
+            (call_number around f D y c low from i r l fr p.label p.frame.at.owned p.frame.at.stands.closed p.env p.same p.known p.numbers p.ints p.ints g spot h.is h.alone passes numbers (around.signature g).result_int z.1 z.0 refl);
+      }
+      by false false z = joins_at (mark l from i) (mark p.label p.ints p.ints) (mark l from i) os (op.Call g i r spot ∷ []) passed
+          (call_nothing around f D y c low from i r l fr p.label p.frame.at.owned p.frame.at.stands.closed p.env p.same p.known p.numbers p.ints p.ints g spot h.is h.alone passes numbers z)
+
+  called_value : (from i r : ℕ) (l : Label) → F from i r l → (e : Expression) (n : Named) (name : List ℕ) (all : Arguments) (spot : Spot) → ((copy : ℕ) → IsCopyOf c e copy)
+      → (bare : Bool) → ((kinds : List Kind) (wants : ℕ → StaticType) → AreTypable around f ways y bare c kinds wants all → Passed i r l kinds wants all (arguments_code c i r kinds all)) → CallTypable around f ways y c e n all (λ kinds wants. AreTypable around f ways y bare c kinds wants all)
+      → ValueOf from i r l (arguments_code c i r (declared_kinds (parameters_named c.program.typed n)) all ++ called_code i r spot n name all) e
+  called_value from i r l fr e (named.Function g) name all spot any_copy bare args h = call_value from i r l fr e g (declared_kinds (parameters_named c.program.typed (named.Function g))) h.0 all (arguments_code c i r (declared_kinds (parameters_named c.program.typed (named.Function g))) all) spot any_copy h.2
+      (args (declared_kinds (parameters_named c.program.typed (named.Function g))) h.0 h.1)
+  called_value from i r l fr e (named.Variable x) name all spot any_copy bare args h = absurd h
+  called_value from i r l fr e (named.Global x) name all spot any_copy bare args h = absurd h
+  called_value from i r l fr e (named.Field x) name all spot any_copy bare args h = absurd h
+  called_value from i r l fr e (named.Struct x) name all spot any_copy bare args h = absurd h
+  called_value from i r l fr e named.Known name all spot any_copy bare args h = absurd h
+
+  -- ---- a new thread
+  spawn_value : (from i r : ℕ) (l : Label) → F from i r l → (e a : Expression) (g : ℕ) (kinds : List Kind) (os : List Op) (site : Site) (spot : Spot) → IsNumber around f ways y c e → SpawnTyped around f ways y c a g kinds → ValueOf from i r l os a → ValueOf from i r l (os ++ (passed_code i kinds site ++ spawn_code (is_ref c a) i r g spot)) e
+  spawn_value from i r l fr e a g kinds os site spot is h v = by (is_ref c a) refl kinds h.handed
+    where
+      by : (b : Bool) → is_ref c a ≡ b → (kinds : List Kind) → Handed around f ways y c kinds a g b → ValueOf from i r l (os ++ (passed_code i kinds site ++ spawn_code b i r g spot)) e
+      by true is_a kinds z =
+          let s = z.0 in
+          let w = ref_of from i r l os a is_a v s z.1 z.2 in
+          let k = mark (fill l r (Refers s) w.copy false) from i in
+          truth_value from i r l (os ++ (passed_code i kinds site ++ spawn_code true i r g spot)) e is (joins from (mark l from i) k (with_number around f D N top low from l i (Within Char)) os (passed_code i kinds site ++ spawn_code true i r g spot) w.piece
+          (subst (λ xs. Q from k (xs ++ spawn_code true i r g spot) (with_number around f D N top low from l i (Within Char))) (sym (no_width i kinds site z.3))
+          (spawn_reference around f D y c low from i r l fr g spot h.is h.starts h.shared s w.copy from i (in_frame from i r l fr s z.2) z.4 z.5 (λ k. z.6 r k) z.7)))
+      by false is_a [] z = absurd z
+      by false is_a (kind ∷ kinds) z =
+          let w = width_of kind in
+          let n = int_of from i r l os a (is_a, z.0) v in
+          let start = with_number around f D N top low from l i n.number in
+          let k = mark (set_number l i (Within w)) from i in
+          let check : Q from start (op.ChkWidth w i (at_site site) ∷ []) k = taken_number start k (op.ChkWidth w i (at_site site) ∷ []) i n.number (width_of (kind_of c a)) (put_same l.ints i n.number) n.fits (λ lt. width_at around f D N top low from i r l fr.at w n.number (at_site site) lt) in
+          truth_value from i r l (os ++ (passed_code i (kind ∷ kinds) site ++ spawn_code false i r g spot)) e is (joins from (mark l from i) start (with_number around f D N top low from l i (Within Char)) os (passed_code i (kind ∷ kinds) site ++ spawn_code false i r g spot) n.piece
+          (subst (λ b. Q from start (cond b (op.ChkWidth w i (at_site site) ∷ []) [] ++ spawn_code false i r g spot) (with_number around f D N top low from l i (Within Char))) (sym z.1)
+          (joins from start k (with_number around f D N top low from l i (Within Char)) (op.ChkWidth w i (at_site site) ∷ []) (spawn_code false i r g spot) check
+          (spawn_number around f D y c low from i r l fr g spot h.is h.starts h.shared w from i z.2 z.3))))
+
+  -- ---- what is taken away
+  take_is : (i r : ℕ) (site : Site) (lvalue : Lvalue) (mode : Sharing) (form : Option ℕ → Use) (t : Target) → is_cell t ≡ true → cell_take_code c i r site lvalue mode form t ≡ take_code c i r site lvalue mode form t
+  take_is i r site lvalue mode form (variable x) h = absurd (false≢true h)
+  take_is i r site lvalue mode form (in_global g n) h = refl
+  take_is i r site lvalue mode form (in_global_at g n) h = refl
+  take_is i r site lvalue mode form (in_object n) h = refl
+  take_is i r site lvalue mode form (in_object_at n) h = refl
+
+  taken_at : (bare : Bool) (from i r : ℕ) (l : Label) → F from i r l → IsBare bare l → (a : Expression) (form : Option ℕ → Use) (s : StaticType) (xs : List Op) → TakeTyped around f ways y bare c a (form None) s → PlaceValue from i r l xs (target_of c a) (guard_of c a) (ground_of around f ways y c a)
+      → Q from (mark l from i) (xs ++ take_code c i r (span_of a).first (lvalue_in c a) (mode_of c a) form (target_of c a)) (mark (fill l r (Refers s) r false) from i)
+  taken_at bare from i r l fr alone a form s xs h p = by (target_of c a) p h.takes
+    where
+      cells : (t : Target) → is_cell t ≡ true → PlaceValue from i r l xs t (guard_of c a) (ground_of around f ways y c a) → ReferenceTyped around y c f t (guard_of c a) (ground_of around f ways y c a) (span_of a).first (lvalue_in c a) (mode_of c a) true (form None) s
+          → Q from (mark l from i) (xs ++ take_code c i r (span_of a).first (lvalue_in c a) (mode_of c a) form t) (mark (fill l r (Refers s) r false) from i)
+      cells t is p reaches =
+          let start = placed around f D y c low from t (guard_of c a) (ground_of around f ways y c a) p.element i r p.copy l in
+          joins from (mark l from i) start (mark (fill l r (Refers s) r false) from i) xs (take_code c i r (span_of a).first (lvalue_in c a) (mode_of c a) form t) p.piece
+          (subst (λ os. Q from start os (mark (fill l r (Refers s) r false) from i)) (take_is i r (span_of a).first (lvalue_in c a) (mode_of c a) form t is)
+          (taken_value around f D y c low from i r l fr (guard_of c a) (ground_of around f ways y c a) p.element p.copy p.fits p.small (span_of a).first (lvalue_in c a) (mode_of c a) form t is s (in_frame from i r l fr s h.type) reaches))
+
+      variables : (x : Register) (spot : Spot) → VariableTakes around f ways y bare c s x → Q from (mark (record l { gate = Closed }) from (i + 0)) (op.TakeLocal r (number_in x) spot ∷ []) (mark (fill l r (Refers s) r false) from i)
+      variables (registers.Int j) spot takes = absurd takes
+      variables (registers.Reference q) spot takes =
+          let w = alone takes.0 in
+          take_variable_at around f D y c low from i r l fr s (in_frame from i r l fr s h.type) q (i + 0) spot takes.1 (fr.holds.references q takes.1 ∙ ap Refers takes.2) takes.3 w.0 w.1 w.2
+
+      by : (t : Target) → PlaceValue from i r l xs t (guard_of c a) (ground_of around f ways y c a) → Takes around f ways y bare c a (form None) s t → Q from (mark l from i) (xs ++ take_code c i r (span_of a).first (lvalue_in c a) (mode_of c a) form t) (mark (fill l r (Refers s) r false) from i)
+      by (variable x) p takes = joins from (mark l from i) (mark (record l { gate = Closed }) from (i + 0)) (mark (fill l r (Refers s) r false) from i) xs _ p.piece (variables (register_of c.scope x) _ takes)
+      by (in_global g n) p takes = cells (in_global g n) refl p takes
+      by (in_global_at g n) p takes = cells (in_global_at g n) refl p takes
+      by (in_object n) p takes = cells (in_object n) refl p takes
+      by (in_object_at n) p takes = cells (in_object_at n) refl p takes
+
+  cast_value : (bare : Bool) (from i r : ℕ) (l : Label) → F from i r l → IsBare bare l → (s : Span) (t : WrittenType) (a : Expression) (xs : List Op) → CastTyped around f ways y bare c (cast s t a) a → PlaceValue from i r l xs (target_of c a) (guard_of c a) (ground_of around f ways y c a) → ValueOf from i r l (cast_code c i r s a xs) (cast s t a)
+  cast_value bare from i r l fr alone s t a xs h p =
+      let b = h.before in
+      let fits = in_frame from i r l fr b h.take.type in
+      let X = fill l r (Refers b) r true in
+      let holds = (frame_fill from i r l fr b r true fits (omega arith)).holds in
+      let tail = op.SkipIfNull r 1 ∷ op.Give r (element_cells c.program.typed (element_kind (kind_of c a))) _ ∷ [] in
+      ref_by from i r l (cast_code c i r s a xs) (cast s t a) h.reference (λ g goes in_it.
+      let same : h.given ≡ g = goes_is (y.entry c (cast s t a)) h.given g h.entry goes in
+      let end = mark (fill l r (Refers g) r false) from i in
+      let gives : Q from (mark (fill l r (Refers b) r false) from i) tail end = subst (λ g. Q from (mark (fill l r (Refers b) r false) from i) tail (mark (fill l r (Refers g) r false) from i)) same
+      (given_at around f D y c low from i r l fr b fits h.given (in_frame from i r l fr h.given h.type) (element_cells c.program.typed (element_kind (kind_of c a))) _ h.size (h.recasts r X holds (put_same l.env r (Refers b)))) in
+      record {
+        copy = r;
+        copies = tt;
+        small = inl refl;
+        piece = subst (λ os. Q from (mark l from i) os end) (append_assoc xs (take_code c i r (span_of a).first (lvalue_in c a) (mode_of c a) uses.Cast (target_of c a)) tail)
+            (joins from (mark l from i) (mark (fill l r (Refers b) r false) from i) end (xs ++ take_code c i r (span_of a).first (lvalue_in c a) (mode_of c a) uses.Cast (target_of c a)) tail (taken_at bare from i r l fr alone a uses.Cast b xs h.take p) gives);
+      })
+
+  free_piece : (bare : Bool) (from i r : ℕ) (l : Label) → F from i r l → IsBare bare l → (a : Expression) (xs : List Op) (spot : Spot) → FreeTyped around f ways y bare c a → PlaceValue from i r l xs (target_of c a) (guard_of c a) (ground_of around f ways y c a)
+      → Q from (mark l from i) (xs ++ (take_code c i r (span_of a).first (lvalue_in c a) (mode_of c a) uses.Free (target_of c a) ++ (op.SkipIfNull r 1 ∷ op.Free r (layout_of (structs_in c.program.typed.program.items) (element_kind (kind_of c a))) spot ∷ []))) (mark l from i)
+  free_piece bare from i r l fr alone a xs spot h p =
+      let b = h.before in
+      let tail = op.SkipIfNull r 1 ∷ op.Free r (layout_of (structs_in c.program.typed.program.items) (element_kind (kind_of c a))) spot ∷ [] in
+      subst (λ os. Q from (mark l from i) os (mark l from i)) (append_assoc xs (take_code c i r (span_of a).first (lvalue_in c a) (mode_of c a) uses.Free (target_of c a)) tail)
+      (joins from (mark l from i) (mark (fill l r (Refers b) r false) from i) (mark l from i) (xs ++ take_code c i r (span_of a).first (lvalue_in c a) (mode_of c a) uses.Free (target_of c a)) tail (taken_at bare from i r l fr alone a uses.Free b xs h.take p)
+      (freed_at around f D y c low from i r l fr b (in_frame from i r l fr b h.take.type) (layout_of (structs_in c.program.typed.program.items) (element_kind (kind_of c a))) spot h.laid))
+
   -- ---- the whole
   mutual
-    pub expressions : (from i r : ℕ) (l : Label) → F from i r l → (e : Expression) → Typed e → ValueOf from i r l (expression_code c i r e) e
-    expressions from i r l fr (identifier s x) h = entered from i r l fr _ (identifier s x) (named_value from i r l fr s x (what_names c x.site.token) h)
-    expressions from i r l fr (constant s k) h = entered from i r l fr _ (constant s k) (constant_value_of from i r l fr (constant s k) k (is_ref c (constant s k)) refl h)
-    expressions from i r l fr (parentheses s a) h = entered from i r l fr (expression_code c i r a) (parentheses s a) (same_value from i r l (expression_code c i r a) (parentheses s a) a refl h.1 (expressions from i r l fr a h.0))
-    expressions from i r l fr (call s x all) h = absurd h
-    expressions from i r l fr (spawn s x a) h = absurd h
-    expressions from i r l fr (on_value s Join a) h =
-        let n = int_of from i r l (expression_code c i r a) a h.1 (expressions from i r l fr a h.0) in
+    pub expressions : (bare : Bool) (from i r : ℕ) (l : Label) → F from i r l → IsBare bare l → (e : Expression) → Typed bare e → ValueOf from i r l (expression_code c i r e) e
+    expressions bare from i r l fr alone (identifier s x) h = entered from i r l fr _ (identifier s x) (named_value from i r l fr s x (what_names c x.site.token) (λ copy z. z) h)
+    expressions bare from i r l fr alone (constant s k) h = entered from i r l fr _ (constant s k) (constant_value_of from i r l fr (constant s k) k (is_ref c (constant s k)) (λ copy. tt) refl h)
+    expressions bare from i r l fr alone (parentheses s a) h = entered from i r l fr (expression_code c i r a) (parentheses s a) (same_value from i r l (expression_code c i r a) (parentheses s a) a (λ copy. tt) refl h.1 (expressions bare from i r l fr alone a h.0))
+    expressions bare from i r l fr alone (call s x all) h = entered from i r l fr _ (call s x all)
+        (called_value from i r l fr (call s x all) (what_names c x.site.token) x.text all (at_site s.first) (λ copy. tt) bare (λ kinds wants k. arguments bare i r l (reframe from i r l fr i (omega arith)) alone kinds wants all k) h)
+    expressions bare from i r l fr alone (spawn s x a) h = entered from i r l fr _ (spawn s x a)
+        (spawn_value from i r l fr (spawn s x a) a (number_named (what_names c x.site.token)) (declared_kinds (parameters_named c.program.typed (what_names c x.site.token))) (expression_code c i r a) (span_of a).first (at_site s.first) h.1 h.2 (expressions bare from i r l fr alone a h.0))
+    expressions bare from i r l fr alone (on_value s Join a) h =
+        let n = int_of from i r l (expression_code c i r a) a h.1 (expressions bare from i r l fr alone a h.0) in
         let at2 = at_number around f D N top low from i r l fr.at n.number (λ q z. plain_base n.number r q n.plain z) in
         entered_piece from i r l fr _ (mark l from i) (number_dropped around f D N top low from i r l fr.at n.number _ (mark l from i)
         (joins from (mark l from i) (with_number around f D N top low from l i n.number) (with_number around f D N top low from l i n.number) (expression_code c i r a) (op.Join i (at_site s.first) ∷ []) n.piece (join_at around f D N top low from (i + 1) r (set_number l i n.number) at2 (i + 1) i (at_site s.first))))
-    expressions from i r l fr (on_value s Print a) h =
-        let n = int_of from i r l (expression_code c i r a) a h.1 (expressions from i r l fr a h.0) in
+    expressions bare from i r l fr alone (on_value s Print a) h =
+        let n = int_of from i r l (expression_code c i r a) a h.1 (expressions bare from i r l fr alone a h.0) in
         let at2 = at_number around f D N top low from i r l fr.at n.number (λ q z. plain_base n.number r q n.plain z) in
         entered_piece from i r l fr _ (mark l from i) (number_dropped around f D N top low from i r l fr.at n.number _ (mark l from i)
         (joins from (mark l from i) (with_number around f D N top low from l i n.number) (with_number around f D N top low from l i n.number) (expression_code c i r a) (op.Print i (at_site s.first) ∷ []) n.piece (print_at around f D N top low from (i + 1) r (set_number l i n.number) at2 (i + 1) i (at_site s.first))))
-    expressions from i r l fr (on_place s w a) h = absurd h
-    expressions from i r l fr (cast s t a) h = absurd h
-    expressions from i r l fr (index s a n) h =
+    expressions bare from i r l fr alone (on_place s Lock a) h =
+        let p = places bare from i r l fr alone (span_of a).first None None a h.0 in
+        entered_piece from i r l fr _ (mark l from i) (joins from (mark l from i) (placed around f D y c low from (target_of c a) None (ground_of around f ways y c a) p.element i r p.copy l) (mark l from i) (place_code c i r (span_of a).first None None a) _ p.piece
+        (locked_at around f D y c low from i r l fr (ground_of around f ways y c a) p.element p.copy p.fits p.small _ _ _ (target_of c a) h.1 h.2))
+    expressions bare from i r l fr alone (on_place s Unlock a) h =
+        let p = places bare from i r l fr alone (span_of a).first None None a h.0 in
+        entered_piece from i r l fr _ (mark l from i) (joins from (mark l from i) (placed around f D y c low from (target_of c a) None (ground_of around f ways y c a) p.element i r p.copy l) (mark l from i) (place_code c i r (span_of a).first None None a) _ p.piece
+        (unlocked_at around f D y c low from i r l fr (ground_of around f ways y c a) p.element p.copy p.fits p.small _ _ (at_site s.first) (target_of c a) h.1 h.2))
+    expressions bare from i r l fr alone (on_place s Free a) h = entered_piece from i r l fr _ (mark l from i) (free_piece bare from i r l fr alone a (place_code c i r (span_of a).first None (guard_of c a) a) _ h.1 (places bare from i r l fr alone (span_of a).first None (guard_of c a) a h.0))
+    expressions bare from i r l fr alone (cast s t a) h = entered from i r l fr _ (cast s t a) (cast_value bare from i r l fr alone s t a (place_code c i r (span_of a).first None (guard_of c a) a) h.1 (places bare from i r l fr alone (span_of a).first None (guard_of c a) a h.0))
+    expressions bare from i r l fr alone (index s a n) h =
         let e = index s a n in
         entered from i r l fr _ e (read from i r l fr e s.first (target_of c e) (index_code c i r s.first None (guard_of c e) a (place_code c i r s.first None None a) (expression_code c i r a) (λ d. expression_code c i d n))
-        (index_place from i r l fr s.first None (guard_of c e) s a n (place_code c i r s.first None None a) (expression_code c i r a) (λ d. expression_code c i d n) (PlaceTyped None None a) (Typed a) (Typed n)
-        (λ (k : PlaceTyped None None a). places from i r l fr s.first None None a k) (λ (k : Typed a). expressions from i r l fr a k) (λ (k : Typed n). λ r2 l2 f2. expressions from i r2 l2 f2 n k) h.0) h.1.0 h.1.1)
-    expressions from i r l fr (field s a Dot n) h =
+        (index_place from i r l fr s.first None (guard_of c e) s a n (place_code c i r s.first None None a) (expression_code c i r a) (λ d. expression_code c i d n) (PlaceTyped bare None None a) (Typed bare a) (Typed false n)
+        (λ (k : PlaceTyped bare None None a). places bare from i r l fr alone s.first None None a k) (λ (k : Typed bare a). expressions bare from i r l fr alone a k) (λ (k : Typed false n). λ r2 l2 f2. expressions false from i r2 l2 f2 (no_bare l2) n k) h.0) h.1.0 (λ copy. tt) h.1.1)
+    expressions bare from i r l fr alone (field s a Dot n) h =
         let e = field s a Dot n in
         let own = Some (field_place_named c.program.typed (what_names c n.site.token)) in
-        entered from i r l fr _ e (read from i r l fr e s.first (target_of c e) (place_code c i r s.first own (guard_of c e) a) (places from i r l fr s.first own (guard_of c e) a h.0) h.1.0 h.1.1)
-    expressions from i r l fr (field s a Arrow n) h =
+        entered from i r l fr _ e (read from i r l fr e s.first (target_of c e) (place_code c i r s.first own (guard_of c e) a) (places bare from i r l fr alone s.first own (guard_of c e) a h.0) h.1.0 (λ copy. tt) h.1.1)
+    expressions bare from i r l fr alone (field s a Arrow n) h =
         let e = field s a Arrow n in
         entered from i r l fr _ e (read from i r l fr e s.first (target_of c e) (pointee_code r s.first (expression_code c i r a)) (object_place from i r l fr a s.first (expression_code c i r a) (field_place_named c.program.typed (what_names c n.site.token)) (guard_of c e) (ground_of around f ways y c e) refl h.0.1
-        (expressions from i r l fr a h.0.0)) h.1.0 h.1.1)
-    expressions from i r l fr (unary s Dereference a) h =
+        (expressions bare from i r l fr alone a h.0.0)) h.1.0 (λ copy. tt) h.1.1)
+    expressions bare from i r l fr alone (unary s Dereference a) h =
         let e = unary s Dereference a in
-        entered from i r l fr _ e (read from i r l fr e s.first (target_of c e) (pointee_code r s.first (expression_code c i r a)) (object_place from i r l fr a s.first (expression_code c i r a) 0 (guard_of c e) (ground_of around f ways y c e) refl h.1 (expressions from i r l fr a h.0)) h.2.0 h.2.1)
-    expressions from i r l fr (unary s Negate a) h = entered from i r l fr _ (unary s Negate a) (negated from i r l fr (unary s Negate a) a (expression_code c i r a) s.first h.2 (expressions from i r l fr a h.0))
-    expressions from i r l fr (unary s Not a) h = entered from i r l fr _ (unary s Not a) (not_value from i r l fr (unary s Not a) a (expression_code c i r a) h.2 h.1 (expressions from i r l fr a h.0))
-    expressions from i r l fr (unary s Complement a) h = entered from i r l fr _ (unary s Complement a) (complemented from i r l fr (unary s Complement a) a (expression_code c i r a) h.2 (expressions from i r l fr a h.0))
-    expressions from i r l fr (binary s LogicalAnd at a b) h = entered from i r l fr _ (binary s LogicalAnd at a b) (truth_value from i r l _ (binary s LogicalAnd at a b) h.4
-        (logical_at around f D N top low from i r l fr.at (expression_code c i r a ++ truth_code (is_ref c a) i r) (expression_code c i r b ++ truth_code (is_ref c b) i r) (truth_of from i r l fr a (expression_code c i r a) h.1 (expressions from i r l fr a h.0)) (truth_of from i r l fr b (expression_code c i r b) h.3 (expressions from i r l fr b h.2))))
-    expressions from i r l fr (binary s LogicalOr at a b) h = entered from i r l fr _ (binary s LogicalOr at a b) (truth_value from i r l _ (binary s LogicalOr at a b) h.4
-        (either_at around f D N top low from i r l fr.at (expression_code c i r a ++ truth_code (is_ref c a) i r) (expression_code c i r b ++ truth_code (is_ref c b) i r) (truth_of from i r l fr a (expression_code c i r a) h.1 (expressions from i r l fr a h.0)) (truth_of from i r l fr b (expression_code c i r b) h.3 (expressions from i r l fr b h.2))))
-    expressions from i r l fr (binary s BitOr at a b) h = entered from i r l fr _ (binary s BitOr at a b) (computed from i r l fr (binary s BitOr at a b) at BitOr a b (expression_code c i r a) (λ i2 r2. expression_code c i2 r2 b) h.4.0 h.4.1 h.1 h.3 (expressions from i r l fr a h.0) (λ i2 r2 l2 f2. expressions from i2 r2 l2 f2 b h.2))
-    expressions from i r l fr (binary s BitXor at a b) h = entered from i r l fr _ (binary s BitXor at a b) (computed from i r l fr (binary s BitXor at a b) at BitXor a b (expression_code c i r a) (λ i2 r2. expression_code c i2 r2 b) h.4.0 h.4.1 h.1 h.3 (expressions from i r l fr a h.0) (λ i2 r2 l2 f2. expressions from i2 r2 l2 f2 b h.2))
-    expressions from i r l fr (binary s BitAnd at a b) h = entered from i r l fr _ (binary s BitAnd at a b) (computed from i r l fr (binary s BitAnd at a b) at BitAnd a b (expression_code c i r a) (λ i2 r2. expression_code c i2 r2 b) h.4.0 h.4.1 h.1 h.3 (expressions from i r l fr a h.0) (λ i2 r2 l2 f2. expressions from i2 r2 l2 f2 b h.2))
-    expressions from i r l fr (binary s Equal at a b) h = entered from i r l fr _ (binary s Equal at a b) (computed from i r l fr (binary s Equal at a b) at Equal a b (expression_code c i r a) (λ i2 r2. expression_code c i2 r2 b) h.4.0 h.4.1 h.1 h.3 (expressions from i r l fr a h.0) (λ i2 r2 l2 f2. expressions from i2 r2 l2 f2 b h.2))
-    expressions from i r l fr (binary s NotEqual at a b) h = entered from i r l fr _ (binary s NotEqual at a b) (computed from i r l fr (binary s NotEqual at a b) at NotEqual a b (expression_code c i r a) (λ i2 r2. expression_code c i2 r2 b) h.4.0 h.4.1 h.1 h.3 (expressions from i r l fr a h.0) (λ i2 r2 l2 f2. expressions from i2 r2 l2 f2 b h.2))
-    expressions from i r l fr (binary s Less at a b) h = entered from i r l fr _ (binary s Less at a b) (computed from i r l fr (binary s Less at a b) at Less a b (expression_code c i r a) (λ i2 r2. expression_code c i2 r2 b) h.4.0 h.4.1 h.1 h.3 (expressions from i r l fr a h.0) (λ i2 r2 l2 f2. expressions from i2 r2 l2 f2 b h.2))
-    expressions from i r l fr (binary s Greater at a b) h = entered from i r l fr _ (binary s Greater at a b) (computed from i r l fr (binary s Greater at a b) at Greater a b (expression_code c i r a) (λ i2 r2. expression_code c i2 r2 b) h.4.0 h.4.1 h.1 h.3 (expressions from i r l fr a h.0) (λ i2 r2 l2 f2. expressions from i2 r2 l2 f2 b h.2))
-    expressions from i r l fr (binary s LessOrEqual at a b) h = entered from i r l fr _ (binary s LessOrEqual at a b) (computed from i r l fr (binary s LessOrEqual at a b) at LessOrEqual a b (expression_code c i r a) (λ i2 r2. expression_code c i2 r2 b) h.4.0 h.4.1 h.1 h.3 (expressions from i r l fr a h.0) (λ i2 r2 l2 f2. expressions from i2 r2 l2 f2 b h.2))
-    expressions from i r l fr (binary s GreaterOrEqual at a b) h = entered from i r l fr _ (binary s GreaterOrEqual at a b) (computed from i r l fr (binary s GreaterOrEqual at a b) at GreaterOrEqual a b (expression_code c i r a) (λ i2 r2. expression_code c i2 r2 b) h.4.0 h.4.1 h.1 h.3 (expressions from i r l fr a h.0) (λ i2 r2 l2 f2. expressions from i2 r2 l2 f2 b h.2))
-    expressions from i r l fr (binary s ShiftLeft at a b) h = entered from i r l fr _ (binary s ShiftLeft at a b) (computed from i r l fr (binary s ShiftLeft at a b) at ShiftLeft a b (expression_code c i r a) (λ i2 r2. expression_code c i2 r2 b) h.4.0 h.4.1 h.1 h.3 (expressions from i r l fr a h.0) (λ i2 r2 l2 f2. expressions from i2 r2 l2 f2 b h.2))
-    expressions from i r l fr (binary s ShiftRight at a b) h = entered from i r l fr _ (binary s ShiftRight at a b) (computed from i r l fr (binary s ShiftRight at a b) at ShiftRight a b (expression_code c i r a) (λ i2 r2. expression_code c i2 r2 b) h.4.0 h.4.1 h.1 h.3 (expressions from i r l fr a h.0) (λ i2 r2 l2 f2. expressions from i2 r2 l2 f2 b h.2))
-    expressions from i r l fr (binary s Add at a b) h = entered from i r l fr _ (binary s Add at a b) (computed from i r l fr (binary s Add at a b) at Add a b (expression_code c i r a) (λ i2 r2. expression_code c i2 r2 b) h.4.0 h.4.1 h.1 h.3 (expressions from i r l fr a h.0) (λ i2 r2 l2 f2. expressions from i2 r2 l2 f2 b h.2))
-    expressions from i r l fr (binary s Subtract at a b) h = entered from i r l fr _ (binary s Subtract at a b) (computed from i r l fr (binary s Subtract at a b) at Subtract a b (expression_code c i r a) (λ i2 r2. expression_code c i2 r2 b) h.4.0 h.4.1 h.1 h.3 (expressions from i r l fr a h.0) (λ i2 r2 l2 f2. expressions from i2 r2 l2 f2 b h.2))
-    expressions from i r l fr (binary s Multiply at a b) h = entered from i r l fr _ (binary s Multiply at a b) (computed from i r l fr (binary s Multiply at a b) at Multiply a b (expression_code c i r a) (λ i2 r2. expression_code c i2 r2 b) h.4.0 h.4.1 h.1 h.3 (expressions from i r l fr a h.0) (λ i2 r2 l2 f2. expressions from i2 r2 l2 f2 b h.2))
-    expressions from i r l fr (binary s Divide at a b) h = entered from i r l fr _ (binary s Divide at a b) (computed from i r l fr (binary s Divide at a b) at Divide a b (expression_code c i r a) (λ i2 r2. expression_code c i2 r2 b) h.4.0 h.4.1 h.1 h.3 (expressions from i r l fr a h.0) (λ i2 r2 l2 f2. expressions from i2 r2 l2 f2 b h.2))
-    expressions from i r l fr (binary s Remainder at a b) h = entered from i r l fr _ (binary s Remainder at a b) (computed from i r l fr (binary s Remainder at a b) at Remainder a b (expression_code c i r a) (λ i2 r2. expression_code c i2 r2 b) h.4.0 h.4.1 h.1 h.3 (expressions from i r l fr a h.0) (λ i2 r2 l2 f2. expressions from i2 r2 l2 f2 b h.2))
+        entered from i r l fr _ e (read from i r l fr e s.first (target_of c e) (pointee_code r s.first (expression_code c i r a)) (object_place from i r l fr a s.first (expression_code c i r a) 0 (guard_of c e) (ground_of around f ways y c e) refl h.1 (expressions bare from i r l fr alone a h.0)) h.2.0 (λ copy. tt) h.2.1)
+    expressions bare from i r l fr alone (unary s Negate a) h = entered from i r l fr _ (unary s Negate a) (negated from i r l fr (unary s Negate a) a (expression_code c i r a) s.first h.2 (expressions bare from i r l fr alone a h.0))
+    expressions bare from i r l fr alone (unary s Not a) h = entered from i r l fr _ (unary s Not a) (not_value from i r l fr (unary s Not a) a (expression_code c i r a) h.2 h.1 (expressions bare from i r l fr alone a h.0))
+    expressions bare from i r l fr alone (unary s Complement a) h = entered from i r l fr _ (unary s Complement a) (complemented from i r l fr (unary s Complement a) a (expression_code c i r a) h.2 (expressions bare from i r l fr alone a h.0))
+    expressions bare from i r l fr alone (binary s LogicalAnd at a b) h = entered from i r l fr _ (binary s LogicalAnd at a b) (truth_value from i r l _ (binary s LogicalAnd at a b) h.4
+        (logical_at around f D N top low from i r l fr.at (expression_code c i r a ++ truth_code (is_ref c a) i r) (expression_code c i r b ++ truth_code (is_ref c b) i r) (truth_of from i r l fr a (expression_code c i r a) h.1 (expressions bare from i r l fr alone a h.0)) (truth_of from i r l fr b (expression_code c i r b) h.3 (expressions (after_value c a bare) from i r l fr (less_bare a bare l alone) b h.2))))
+    expressions bare from i r l fr alone (binary s LogicalOr at a b) h = entered from i r l fr _ (binary s LogicalOr at a b) (truth_value from i r l _ (binary s LogicalOr at a b) h.4
+        (either_at around f D N top low from i r l fr.at (expression_code c i r a ++ truth_code (is_ref c a) i r) (expression_code c i r b ++ truth_code (is_ref c b) i r) (truth_of from i r l fr a (expression_code c i r a) h.1 (expressions bare from i r l fr alone a h.0)) (truth_of from i r l fr b (expression_code c i r b) h.3 (expressions (after_value c a bare) from i r l fr (less_bare a bare l alone) b h.2))))
+    expressions bare from i r l fr alone (binary s BitOr at a b) h = entered from i r l fr _ (binary s BitOr at a b) (computed from i r l fr (binary s BitOr at a b) at BitOr a b (expression_code c i r a) (λ i2 r2. expression_code c i2 r2 b) h.4.0 h.4.1 h.1 h.3 (expressions bare from i r l fr alone a h.0) bare alone (λ i2 r2 l2 f2 q. expressions (after_value c a bare) from i2 r2 l2 f2 q b h.2))
+    expressions bare from i r l fr alone (binary s BitXor at a b) h = entered from i r l fr _ (binary s BitXor at a b) (computed from i r l fr (binary s BitXor at a b) at BitXor a b (expression_code c i r a) (λ i2 r2. expression_code c i2 r2 b) h.4.0 h.4.1 h.1 h.3 (expressions bare from i r l fr alone a h.0) bare alone (λ i2 r2 l2 f2 q. expressions (after_value c a bare) from i2 r2 l2 f2 q b h.2))
+    expressions bare from i r l fr alone (binary s BitAnd at a b) h = entered from i r l fr _ (binary s BitAnd at a b) (computed from i r l fr (binary s BitAnd at a b) at BitAnd a b (expression_code c i r a) (λ i2 r2. expression_code c i2 r2 b) h.4.0 h.4.1 h.1 h.3 (expressions bare from i r l fr alone a h.0) bare alone (λ i2 r2 l2 f2 q. expressions (after_value c a bare) from i2 r2 l2 f2 q b h.2))
+    expressions bare from i r l fr alone (binary s Equal at a b) h = entered from i r l fr _ (binary s Equal at a b) (computed from i r l fr (binary s Equal at a b) at Equal a b (expression_code c i r a) (λ i2 r2. expression_code c i2 r2 b) h.4.0 h.4.1 h.1 h.3 (expressions bare from i r l fr alone a h.0) bare alone (λ i2 r2 l2 f2 q. expressions (after_value c a bare) from i2 r2 l2 f2 q b h.2))
+    expressions bare from i r l fr alone (binary s NotEqual at a b) h = entered from i r l fr _ (binary s NotEqual at a b) (computed from i r l fr (binary s NotEqual at a b) at NotEqual a b (expression_code c i r a) (λ i2 r2. expression_code c i2 r2 b) h.4.0 h.4.1 h.1 h.3 (expressions bare from i r l fr alone a h.0) bare alone (λ i2 r2 l2 f2 q. expressions (after_value c a bare) from i2 r2 l2 f2 q b h.2))
+    expressions bare from i r l fr alone (binary s Less at a b) h = entered from i r l fr _ (binary s Less at a b) (computed from i r l fr (binary s Less at a b) at Less a b (expression_code c i r a) (λ i2 r2. expression_code c i2 r2 b) h.4.0 h.4.1 h.1 h.3 (expressions bare from i r l fr alone a h.0) bare alone (λ i2 r2 l2 f2 q. expressions (after_value c a bare) from i2 r2 l2 f2 q b h.2))
+    expressions bare from i r l fr alone (binary s Greater at a b) h = entered from i r l fr _ (binary s Greater at a b) (computed from i r l fr (binary s Greater at a b) at Greater a b (expression_code c i r a) (λ i2 r2. expression_code c i2 r2 b) h.4.0 h.4.1 h.1 h.3 (expressions bare from i r l fr alone a h.0) bare alone (λ i2 r2 l2 f2 q. expressions (after_value c a bare) from i2 r2 l2 f2 q b h.2))
+    expressions bare from i r l fr alone (binary s LessOrEqual at a b) h = entered from i r l fr _ (binary s LessOrEqual at a b) (computed from i r l fr (binary s LessOrEqual at a b) at LessOrEqual a b (expression_code c i r a) (λ i2 r2. expression_code c i2 r2 b) h.4.0 h.4.1 h.1 h.3 (expressions bare from i r l fr alone a h.0) bare alone (λ i2 r2 l2 f2 q. expressions (after_value c a bare) from i2 r2 l2 f2 q b h.2))
+    expressions bare from i r l fr alone (binary s GreaterOrEqual at a b) h = entered from i r l fr _ (binary s GreaterOrEqual at a b) (computed from i r l fr (binary s GreaterOrEqual at a b) at GreaterOrEqual a b (expression_code c i r a) (λ i2 r2. expression_code c i2 r2 b) h.4.0 h.4.1 h.1 h.3 (expressions bare from i r l fr alone a h.0) bare alone (λ i2 r2 l2 f2 q. expressions (after_value c a bare) from i2 r2 l2 f2 q b h.2))
+    expressions bare from i r l fr alone (binary s ShiftLeft at a b) h = entered from i r l fr _ (binary s ShiftLeft at a b) (computed from i r l fr (binary s ShiftLeft at a b) at ShiftLeft a b (expression_code c i r a) (λ i2 r2. expression_code c i2 r2 b) h.4.0 h.4.1 h.1 h.3 (expressions bare from i r l fr alone a h.0) bare alone (λ i2 r2 l2 f2 q. expressions (after_value c a bare) from i2 r2 l2 f2 q b h.2))
+    expressions bare from i r l fr alone (binary s ShiftRight at a b) h = entered from i r l fr _ (binary s ShiftRight at a b) (computed from i r l fr (binary s ShiftRight at a b) at ShiftRight a b (expression_code c i r a) (λ i2 r2. expression_code c i2 r2 b) h.4.0 h.4.1 h.1 h.3 (expressions bare from i r l fr alone a h.0) bare alone (λ i2 r2 l2 f2 q. expressions (after_value c a bare) from i2 r2 l2 f2 q b h.2))
+    expressions bare from i r l fr alone (binary s Add at a b) h = entered from i r l fr _ (binary s Add at a b) (computed from i r l fr (binary s Add at a b) at Add a b (expression_code c i r a) (λ i2 r2. expression_code c i2 r2 b) h.4.0 h.4.1 h.1 h.3 (expressions bare from i r l fr alone a h.0) bare alone (λ i2 r2 l2 f2 q. expressions (after_value c a bare) from i2 r2 l2 f2 q b h.2))
+    expressions bare from i r l fr alone (binary s Subtract at a b) h = entered from i r l fr _ (binary s Subtract at a b) (computed from i r l fr (binary s Subtract at a b) at Subtract a b (expression_code c i r a) (λ i2 r2. expression_code c i2 r2 b) h.4.0 h.4.1 h.1 h.3 (expressions bare from i r l fr alone a h.0) bare alone (λ i2 r2 l2 f2 q. expressions (after_value c a bare) from i2 r2 l2 f2 q b h.2))
+    expressions bare from i r l fr alone (binary s Multiply at a b) h = entered from i r l fr _ (binary s Multiply at a b) (computed from i r l fr (binary s Multiply at a b) at Multiply a b (expression_code c i r a) (λ i2 r2. expression_code c i2 r2 b) h.4.0 h.4.1 h.1 h.3 (expressions bare from i r l fr alone a h.0) bare alone (λ i2 r2 l2 f2 q. expressions (after_value c a bare) from i2 r2 l2 f2 q b h.2))
+    expressions bare from i r l fr alone (binary s Divide at a b) h = entered from i r l fr _ (binary s Divide at a b) (computed from i r l fr (binary s Divide at a b) at Divide a b (expression_code c i r a) (λ i2 r2. expression_code c i2 r2 b) h.4.0 h.4.1 h.1 h.3 (expressions bare from i r l fr alone a h.0) bare alone (λ i2 r2 l2 f2 q. expressions (after_value c a bare) from i2 r2 l2 f2 q b h.2))
+    expressions bare from i r l fr alone (binary s Remainder at a b) h = entered from i r l fr _ (binary s Remainder at a b) (computed from i r l fr (binary s Remainder at a b) at Remainder a b (expression_code c i r a) (λ i2 r2. expression_code c i2 r2 b) h.4.0 h.4.1 h.1 h.3 (expressions bare from i r l fr alone a h.0) bare alone (λ i2 r2 l2 f2 q. expressions (after_value c a bare) from i2 r2 l2 f2 q b h.2))
 
-    pub places : (from i r : ℕ) (l : Label) → F from i r l → (site : Site) (own guard : Option ℕ) (e : Expression) → PlaceTyped own guard e → PlaceValue from i r l (place_code c i r site own guard e) (target c.program.typed own e) guard (ground_of around f ways y c e)
-    places from i r l fr site own guard (identifier s x) h = entered_place from i r l fr [] _ guard _ (named_place from i r l fr (what_names c x.site.token) (own_field own 0) guard _ refl)
-    places from i r l fr site own guard (parentheses s a) h = entered_place from i r l fr _ _ guard _ (places from i r l fr site own guard a h)
-    places from i r l fr site own guard (index s a n) h = entered_place from i r l fr _ _ guard _
-        (index_place from i r l fr site own guard s a n (place_code c i r site None None a) (expression_code c i r a) (λ d. expression_code c i d n) (PlaceTyped None None a) (Typed a) (Typed n)
-        (λ (k : PlaceTyped None None a). places from i r l fr site None None a k) (λ (k : Typed a). expressions from i r l fr a k) (λ (k : Typed n). λ r2 l2 f2. expressions from i r2 l2 f2 n k) h)
-    places from i r l fr site own guard (field s a Dot n) h = entered_place from i r l fr _ _ guard _ (places from i r l fr site (Some (own_field own (field_place_named c.program.typed (what_names c n.site.token)))) guard a h)
-    places from i r l fr site own guard (field s a Arrow n) h = entered_place from i r l fr _ _ guard _ (object_place from i r l fr a site (expression_code c i r a) (own_field own (field_place_named c.program.typed (what_names c n.site.token))) guard _ refl h.1 (expressions from i r l fr a h.0))
-    places from i r l fr site own guard (unary s Dereference a) h = entered_place from i r l fr _ _ guard _ (object_place from i r l fr a site (expression_code c i r a) (own_field own 0) guard _ refl h.1 (expressions from i r l fr a h.0))
-    places from i r l fr site own guard (unary s Negate a) h = entered_place from i r l fr [] (variable 0) guard _ (variable_place from i r l fr 0 guard _ refl)
-    places from i r l fr site own guard (unary s Not a) h = entered_place from i r l fr [] (variable 0) guard _ (variable_place from i r l fr 0 guard _ refl)
-    places from i r l fr site own guard (unary s Complement a) h = entered_place from i r l fr [] (variable 0) guard _ (variable_place from i r l fr 0 guard _ refl)
-    places from i r l fr site own guard _ h = entered_place from i r l fr [] (variable 0) guard _ (variable_place from i r l fr 0 guard _ refl)
+    pub places : (bare : Bool) (from i r : ℕ) (l : Label) → F from i r l → IsBare bare l → (site : Site) (own guard : Option ℕ) (e : Expression) → PlaceTyped bare own guard e → PlaceValue from i r l (place_code c i r site own guard e) (target c.program.typed own e) guard (ground_of around f ways y c e)
+    places bare from i r l fr alone site own guard (identifier s x) h = entered_place from i r l fr [] _ guard _ (named_place from i r l fr (what_names c x.site.token) (own_field own 0) guard _ refl)
+    places bare from i r l fr alone site own guard (parentheses s a) h = entered_place from i r l fr _ _ guard _ (places bare from i r l fr alone site own guard a h)
+    places bare from i r l fr alone site own guard (index s a n) h = entered_place from i r l fr _ _ guard _
+        (index_place from i r l fr site own guard s a n (place_code c i r site None None a) (expression_code c i r a) (λ d. expression_code c i d n) (PlaceTyped bare None None a) (Typed bare a) (Typed false n)
+        (λ (k : PlaceTyped bare None None a). places bare from i r l fr alone site None None a k) (λ (k : Typed bare a). expressions bare from i r l fr alone a k) (λ (k : Typed false n). λ r2 l2 f2. expressions false from i r2 l2 f2 (no_bare l2) n k) h)
+    places bare from i r l fr alone site own guard (field s a Dot n) h = entered_place from i r l fr _ _ guard _ (places bare from i r l fr alone site (Some (own_field own (field_place_named c.program.typed (what_names c n.site.token)))) guard a h)
+    places bare from i r l fr alone site own guard (field s a Arrow n) h = entered_place from i r l fr _ _ guard _ (object_place from i r l fr a site (expression_code c i r a) (own_field own (field_place_named c.program.typed (what_names c n.site.token))) guard _ refl h.1 (expressions bare from i r l fr alone a h.0))
+    places bare from i r l fr alone site own guard (unary s Dereference a) h = entered_place from i r l fr _ _ guard _ (object_place from i r l fr a site (expression_code c i r a) (own_field own 0) guard _ refl h.1 (expressions bare from i r l fr alone a h.0))
+    places bare from i r l fr alone site own guard (unary s Negate a) h = entered_place from i r l fr [] (variable 0) guard _ (variable_place from i r l fr 0 guard _ refl)
+    places bare from i r l fr alone site own guard (unary s Not a) h = entered_place from i r l fr [] (variable 0) guard _ (variable_place from i r l fr 0 guard _ refl)
+    places bare from i r l fr alone site own guard (unary s Complement a) h = entered_place from i r l fr [] (variable 0) guard _ (variable_place from i r l fr 0 guard _ refl)
+    places bare from i r l fr alone site own guard _ h = entered_place from i r l fr [] (variable 0) guard _ (variable_place from i r l fr 0 guard _ refl)
+
+    pub arguments : (bare : Bool) (i r : ℕ) (l : Label) → F i i r l → IsBare bare l → (kinds : List Kind) (wants : ℕ → StaticType) (all : Arguments) → AreTypable around f ways y bare c kinds wants all → Passed i r l kinds wants all (arguments_code c i r kinds all)
+    arguments bare i r l fr alone kinds wants no_arguments h = record { label = l; ints = i; refs = r; frame = fr; more_ints = omega arith; more_refs = omega arith; env = λ q lt. refl; same = λ q lt. refl; known = λ q lt. refl; numbers = λ j lt. refl; here = tt; piece = untold i i i i l (omega arith) }
+    arguments bare i r l fr alone kinds wants (argument a rest) h = one_passed i r l fr kinds wants a rest (expression_code c i r a) (λ i2 r2. arguments_code c i2 r2 (drop 1 kinds) rest) (span_of a).first h.1 (expressions bare i i r l fr alone a h.0) bare alone
+        (λ i2 r2 l2 f2 q. arguments (after_value c a bare) i2 r2 l2 f2 q (drop 1 kinds) (λ n. wants (n + 1)) rest h.2)

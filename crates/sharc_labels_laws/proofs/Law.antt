@@ -25,12 +25,12 @@ parts_typed z f ways named top from i r l low le stands owned =
 
 -- ---- expressions
 pub expressions_typed : ExpressionsAreTyped
-expressions_typed z f ways y c low from i r l in_it e h = by (is_ref c e) (is_integer (kind_of c e)) (expressions z f ways y c low from i r l frame e h)
+expressions_typed z f ways y c low from i r l in_it bare alone e h = by (is_ref c e) (is_integer (kind_of c e)) (expressions z f ways y c low bare from i r l frame alone e h)
   where
     frame : Frame z f (AreOpen z ways) y c low from i r l
     frame = record { at = record { stands = in_it.stands; owned = in_it.owned }; holds = in_it.holds; high = in_it.high; wide = in_it.wide; early = in_it.early }
 
     by : (a b : Bool) → Value z f ways y c low from i r l (expression_code c i r e) e a b → ValueComes z f ways y c from i r l (expression_code c i r e) e a b
-    by true b v = λ s goes fits. let w = v s goes fits in record { copy = w.copy; is = w.small; leads = w.piece }
+    by true b v = λ s goes fits. let w = v s goes fits in record { copy = w.copy; of_variable = w.copies; is = w.small; leads = w.piece }
     by false true v = record { number = v.number; plain = v.plain; fits = v.fits; leads = v.piece }
     by false false v = v

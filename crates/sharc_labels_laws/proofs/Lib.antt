@@ -14,4 +14,8 @@ pub mod Lines
 pub mod Law
 pub mod Accessed
 pub mod Placing
+pub mod Calling
+pub mod Spawning
+pub mod Casting
 pub mod Expressing
+pub mod Locking

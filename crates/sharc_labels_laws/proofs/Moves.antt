@@ -22,6 +22,7 @@ use Rattle.sharc_typed.specs.Passes.{with_passes}
 use Rattle.sharc_typed.proofs.Alike.{has_cell, recasts}
 use Rattle.sharc_typed.proofs.Preorder.{less_through}
 use Rattle.sharc_labels_laws.specs.Stretches.{Mark, Setting, labels_by, Tells, Fits, IsTypedAt, IsAtHand, IsLine}
+use Rattle.sharc_labels_laws.specs.Premises.{HasMutex, HasWaiters}
 use Rattle.sharc_labels_laws.proofs.Rules.{with_less, free_too}
 use Rattle.sharc_labels_laws.proofs.Accesses.{InFrame, never}
 
@@ -32,17 +33,6 @@ without_less r (q ∷ ps) p h = by (not (is_base r q.base)) (λ k. without_less 
     by : (b : Bool) → (IsIn p (without_base r ps) → IsIn p ps) → IsIn p (cond b (q ∷ without_base r ps) (without_base r ps)) → IsIn p (q ∷ ps)
     by true next h = ⊎_elim (λ (e : q ≡ p). inl e) (λ k. inr (next k)) h
     by false next h = inr (next h)
-
--- a mutex or the waiters in a cell that is there
-pub record HasMutex (around : Setting) (l : Label) (c : Cell) : Type 0 where
-  pub field : Field
-  pub cell : HasCell around.targets around.code l c field
-  pub mutex : IsMutex field
-
-pub record HasWaiters (around : Setting) (l : Label) (c : Cell) : Type 0 where
-  pub field : Field
-  pub cell : HasCell around.targets around.code l c field
-  pub waiters : field.holds ≡ Waiters
 
 module _ (around : Setting) (f : ℕ) (table : ℕ → Mark) (pc : ℕ) (s e : Mark) (next : Fits around.targets e (table (pc + 1))) (here : InFrame around f s) where
   abbrev t : Label
@@ -142,10 +132,10 @@ module _ (around : Setting) (f : ℕ) (table : ℕ → Mark) (pc : ℕ) (s e : M
 
   -- ---- locks
   pub on_held : (c : Cell) (spot : Spot) → l.gate ≡ Closed → HasMutex around l c → Less (gated l (Holds c)) e.label → Told (op.ChkHeld c spot) → IsLine around f table pc s (op.ChkHeld c spot)
-  on_held c spot closed h less told = goes_on (op.ChkHeld c spot) (λ a z. absurd (none-some a z)) told (λ dropped passes repeats jumps on. (closed, (h.field, cell_too c h.field (passes pc) h.cell, h.mutex), lesser (gated l (Holds c)) (passes pc) (passes (pc + 1)) less on))
+  on_held c spot closed h less told = goes_on (op.ChkHeld c spot) (λ a z. absurd (none-some a z)) told (λ dropped passes repeats jumps on. (closed, (h.field, cell_too c h.field (passes pc) h.has, h.mutex), lesser (gated l (Holds c)) (passes pc) (passes (pc + 1)) less on))
 
   pub on_not_held : (c : Cell) (spot : Spot) → l.gate ≡ Closed → HasMutex around l c → Less l e.label → Told (op.ChkNotHeld c spot) → IsLine around f table pc s (op.ChkNotHeld c spot)
-  on_not_held c spot closed h less told = goes_on (op.ChkNotHeld c spot) (λ a z. absurd (none-some a z)) told (λ dropped passes repeats jumps on. (closed, (h.field, cell_too c h.field (passes pc) h.cell, h.mutex), lesser l (passes pc) (passes (pc + 1)) less on))
+  on_not_held c spot closed h less told = goes_on (op.ChkNotHeld c spot) (λ a z. absurd (none-some a z)) told (λ dropped passes repeats jumps on. (closed, (h.field, cell_too c h.field (passes pc) h.has, h.mutex), lesser l (passes pc) (passes (pc + 1)) less on))
 
   pub on_room : (spot : Spot) → l.gate ≡ Closed → Less (record l { room = true }) e.label → Told (op.ChkRoom spot) → IsLine around f table pc s (op.ChkRoom spot)
   on_room spot closed less told = goes_on (op.ChkRoom spot) (λ a z. absurd (none-some a z)) told (λ dropped passes repeats jumps on. (closed, lesser (record l { room = true }) (passes pc) (passes (pc + 1)) less on))
@@ -158,7 +148,7 @@ module _ (around : Setting) (f : ℕ) (table : ℕ → Mark) (pc : ℕ) (s e : M
 
   pub on_lock : (c : Cell) (spot : Spot) → l.gate ≡ Closed → l.room ≡ true → HasMutex around l c → IsBaseFree l c → Less (record (without_base_of l c) { room = false }) e.label → IsLine around f table pc s (op.Lock c spot)
   on_lock c spot closed room h free less = goes_on (op.Lock c spot) (λ a z. absurd (none-some a z)) (λ z. never z) (λ dropped passes repeats jumps on.
-      (closed, room, (h.field, cell_too c h.field (passes pc) h.cell, h.mutex), base_free_too c (passes pc) free, locked c (passes pc) (passes (pc + 1)) less (λ p k. on p k)))
+      (closed, room, (h.field, cell_too c h.field (passes pc) h.has, h.mutex), base_free_too c (passes pc) free, locked c (passes pc) (passes (pc + 1)) less (λ p k. on p k)))
     where
       locked : (c : Cell) (ps qs : List Pass) → Less (record (without_base_of l c) { room = false }) e.label → ((p : Pass) → IsIn p qs → ⊥) → Less (record (without_base_of (with_passes l ps) c) { room = false }) (with_passes t qs)
       locked (cells.Global g p) ps qs less sub = last (record l { gate = Closed; room = false }) ps qs less sub
@@ -168,7 +158,7 @@ module _ (around : Setting) (f : ℕ) (table : ℕ → Mark) (pc : ℕ) (s e : M
 
   pub on_unlock : (r : ℕ) (c : Cell) (spot : Spot) → l.gate ≡ Holds c → IsVacant around.code l r → HasMutex around l c → Less (unlocked_label l r c) e.label → IsLine around f table pc s (op.Unlock r c spot)
   on_unlock r c spot gate vacant h less = goes_on (op.Unlock r c spot) (λ a z. absurd (none-some a z)) (λ z. never z) (λ dropped passes repeats jumps on.
-      (gate, vacant_too r (passes pc) vacant, (h.field, cell_too c h.field (passes pc) h.cell, h.mutex), unlocked c (passes pc) (passes (pc + 1)) less (λ p k. on p k)))
+      (gate, vacant_too r (passes pc) vacant, (h.field, cell_too c h.field (passes pc) h.has, h.mutex), unlocked c (passes pc) (passes (pc + 1)) less (λ p k. on p k)))
     where
       unlocked : (c : Cell) (ps qs : List Pass) → Less (unlocked_label l r c) e.label → ((p : Pass) → IsIn p qs → ⊥) → Less (unlocked_label (with_passes l ps) r c) (with_passes t qs)
       unlocked (cells.Global g p) ps qs less sub = last (record l { gate = Closed; room = true }) ps qs less sub
@@ -178,13 +168,13 @@ module _ (around : Setting) (f : ℕ) (table : ℕ → Mark) (pc : ℕ) (s e : M
 
   -- ---- condition variables
   pub on_cond_enter : (c : Cell) (spot : Spot) → (l.gate ≡ Closed) ⊎ ((m : Cell) × (l.gate ≡ Holds m)) → HasWaiters around l c → Less l e.label → IsLine around f table pc s (op.CondEnter c spot)
-  on_cond_enter c spot gate h less = goes_on (op.CondEnter c spot) (λ a z. absurd (none-some a z)) (λ z. never z) (λ dropped passes repeats jumps on. (gate, (h.field, cell_too c h.field (passes pc) h.cell, h.waiters), last l (passes pc) (passes (pc + 1)) less (λ p k. on p k)))
+  on_cond_enter c spot gate h less = goes_on (op.CondEnter c spot) (λ a z. absurd (none-some a z)) (λ z. never z) (λ dropped passes repeats jumps on. (gate, (h.field, cell_too c h.field (passes pc) h.has, h.waiters), last l (passes pc) (passes (pc + 1)) less (λ p k. on p k)))
 
   pub on_cond_wait : (c : Cell) (spot : Spot) → l.gate ≡ Closed → HasWaiters around l c → Less l e.label → IsLine around f table pc s (op.CondWait c spot)
-  on_cond_wait c spot gate h less = goes_on (op.CondWait c spot) (λ a z. absurd (none-some a z)) (λ z. never z) (λ dropped passes repeats jumps on. (gate, (h.field, cell_too c h.field (passes pc) h.cell, h.waiters), last l (passes pc) (passes (pc + 1)) less (λ p k. on p k)))
+  on_cond_wait c spot gate h less = goes_on (op.CondWait c spot) (λ a z. absurd (none-some a z)) (λ z. never z) (λ dropped passes repeats jumps on. (gate, (h.field, cell_too c h.field (passes pc) h.has, h.waiters), last l (passes pc) (passes (pc + 1)) less (λ p k. on p k)))
 
   pub on_cond_signal : (c : Cell) (spot : Spot) → l.gate ≡ Closed → HasWaiters around l c → Less l e.label → Told (op.CondSignal c spot) → IsLine around f table pc s (op.CondSignal c spot)
-  on_cond_signal c spot gate h less told = goes_on (op.CondSignal c spot) (λ a z. absurd (none-some a z)) told (λ dropped passes repeats jumps on. (gate, (h.field, cell_too c h.field (passes pc) h.cell, h.waiters), lesser l (passes pc) (passes (pc + 1)) less on))
+  on_cond_signal c spot gate h less told = goes_on (op.CondSignal c spot) (λ a z. absurd (none-some a z)) told (λ dropped passes repeats jumps on. (gate, (h.field, cell_too c h.field (passes pc) h.has, h.waiters), lesser l (passes pc) (passes (pc + 1)) less on))
 
   pub on_cond_broadcast : (c : Cell) (spot : Spot) → l.gate ≡ Closed → HasWaiters around l c → Less l e.label → Told (op.CondBroadcast c spot) → IsLine around f table pc s (op.CondBroadcast c spot)
-  on_cond_broadcast c spot gate h less told = goes_on (op.CondBroadcast c spot) (λ a z. absurd (none-some a z)) told (λ dropped passes repeats jumps on. (gate, (h.field, cell_too c h.field (passes pc) h.cell, h.waiters), lesser l (passes pc) (passes (pc + 1)) less on))
+  on_cond_broadcast c spot gate h less told = goes_on (op.CondBroadcast c spot) (λ a z. absurd (none-some a z)) told (λ dropped passes repeats jumps on. (gate, (h.field, cell_too c h.field (passes pc) h.has, h.waiters), lesser l (passes pc) (passes (pc + 1)) less on))

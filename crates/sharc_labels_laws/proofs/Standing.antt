@@ -76,6 +76,19 @@ less_emptied l r h entry c b =
     (λ j. number_is (without_index r (l.ints j)) (l.ints j) (without_same r (l.ints j) (h.unbased j)))
     (gate_is Closed l.gate (sym h.closed)) h.nothing_passed (λ e. e)
 
+-- with anything in the integer registers that are of no use
+pub less_emptied_over : (l : Label) (r : ℕ) → Unnamed l r → (entry : Entry) (c : ℕ) (b : Bool) (g : ℕ → Number) (gate : Gate) (room : Bool) → ((j : ℕ) → LessNumber (without_index r (g j)) (l.ints j)) → (l.room ≡ true → ⊥)
+    → Less (record (empty (record (fill l r entry c b) { ints = g; gate = gate; room = room }) r) { room = false }) l
+less_emptied_over l r h entry c b g gate room ints none =
+    let k : Label = record (fill l r entry c b) { ints = g; gate = gate; room = room } in
+    let m : Label = record (empty k r) { room = false } in
+    less_by m l refl
+    (λ q. entry_is m q (m.env q) (l.env q) (⊎_elim (λ (e : q ≡ r). ap (put k.env r Empty) e ∙ put_same k.env r Empty ∙ sym h.empty ∙ ap l.env (sym e)) (λ ne. put_other k.env r q Empty ne ∙ put_other l.env r q entry ne) (cases_eq q r)))
+    (λ q. sym (⊎_elim (λ (e : q ≡ r). ap (put (without_copies k.same r) r r) e ∙ put_same (without_copies k.same r) r r ∙ sym h.alone ∙ ap l.same (sym e))
+    (λ ne. let there : k.same q ≡ l.same q = put_other l.same r q c ne in put_other (without_copies k.same r) r q r ne ∙ uncopied k.same r q (λ z. h.apart q ne (sym there ∙ z)) ∙ there) (cases_eq q r)))
+    (λ q e. put_all (λ q y. l.known q ≡ true → y ≡ true) k.known r false (λ z. absurd (h.unknown z)) (λ q ne z. put_other l.known r q b ne ∙ z) q e)
+    ints (gate_is Closed l.gate (sym h.closed)) h.nothing_passed (λ e. absurd (none e))
+
 -- the lower of two is given up
 pub less_lower : (l : Label) (r : ℕ) → Unnamed l r → (a b : Entry) (v w : ℕ) (x y : Bool) → (w ≡ r → ⊥) → Less (empty (fill (fill l r a v x) (r + 1) b w y) r) (fill l (r + 1) b w y)
 less_lower l r h a b v w x y other =
@@ -143,6 +156,7 @@ module _ (named : ℕ → Bool) (i r : ℕ) (l : Label) (h : Stands named i r l)
     numbers = λ j le. put_other l.ints i j n (λ e. omega (arith, e, le)) ∙ h.numbers j (omega (arith, le));
     bases = put_all (λ j y. (q : ℕ) → HasBase y q → q < r) l.ints i n base (λ j _. h.bases j);
     nothing_passed = h.nothing_passed;
+    no_room = h.no_room;
   }
 
   -- what is written after those that are taken is forgotten
@@ -168,6 +182,7 @@ module _ (named : ℕ → Bool) (i r : ℕ) (l : Label) (h : Stands named i r l)
       numbers = h.numbers;
       bases = λ j q m. let z = h.bases j q m in omega (arith, z);
       nothing_passed = h.nothing_passed;
+      no_room = h.no_room;
     }
 
     -- nothing names it

@@ -9,7 +9,6 @@ use Rattle.sharc_code.proofs.Places.{eq_refl, put_same, put_other, put_all}
 use Rattle.sharc_flat_form.specs.declared.op.Op.{Op}
 use Rattle.sharc_flat_form.specs.declared.op.Op.TheVariants as op
 use Rattle.sharc_flat_form.specs.declared.op.Spot.{Spot}
-use Rattle.sharc_flat_form.specs.Framed.{OpWrites}
 use Rattle.sharc_guard.specs.Known.{Know, know_next, writes_ref, writes_int}
 use Rattle.sharc_invariant.specs.Types.{StaticType, Field, FieldType, Mentions}
 use Rattle.sharc_invariant.specs.Types.FieldMode.{Readonly}
@@ -18,7 +17,7 @@ use Rattle.sharc_invariant.specs.Labels.{Entry, Empty, Refers, Number, Anything,
 use Rattle.sharc_invariant.specs.Typed.{IsVacant, PointsTo, HasCell, Fits as FitsWidth, ints_in, refs_in}
 use Rattle.sharc_invariant.proofs.Scoped.{less_refl, less_entry_refl, less_number_refl, scoped_fill}
 use Rattle.sharc_typed.specs.Passes.{IsNumberOf}
-use Rattle.sharc_labels_laws.specs.Stretches.{Mark, Setting, Tells, Fits, IsAtHand, IsLine, LeadsWithin}
+use Rattle.sharc_labels_laws.specs.Stretches.{WritesWithin, Mark, Setting, Tells, Fits, IsAtHand, IsLine, LeadsWithin}
 use Rattle.sharc_labels_laws.specs.Places.{Stands, IsNamed, MayReach, mark}
 use Rattle.sharc_labels_laws.proofs.Fitting.{fits_same, fits_through, fits_by}
 use Rattle.sharc_labels_laws.proofs.Standing.{less_by, without_same, uncopied, scoped_frame, unnamed, stands_number, stands_fill, Unnamed}
@@ -46,7 +45,7 @@ module _ (around : Setting) (f : ℕ) (D : (ℕ → Mark) → Type 0) (named : �
   abbrev Scoped : Mark → Type 0
   Scoped s = IsScoped fi fr s.label
 
-  one : (s : Mark) (o : Op) (e : Mark) → (OpWrites fi fr o → Scoped s → Scoped e) → ((table : ℕ → Mark) (pc : ℕ) → OpWrites fi fr o → Scoped s → Fits around.targets e (table (pc + 1)) → IsLine around f table pc s o) → Q s (o ∷ []) e
+  one : (s : Mark) (o : Op) (e : Mark) → (WritesWithin fi fr o → Scoped s → Scoped e) → ((table : ℕ → Mark) (pc : ℕ) → WritesWithin fi fr o → Scoped s → Fits around.targets e (table (pc + 1)) → IsLine around f table pc s o) → Q s (o ∷ []) e
   one = does around f D named top low from
 
   -- A label of which so many registers are taken, with anything in the integer registers that are free, and any gate.

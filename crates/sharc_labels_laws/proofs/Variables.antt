@@ -8,7 +8,6 @@ use Rattle.sharc_code.specs.Runs.{put}
 use Rattle.sharc_code.proofs.Places.{eq_refl, ne_eq, put_same, put_other, put_all}
 use Rattle.sharc_flat_form.specs.declared.op.Op.{Op}
 use Rattle.sharc_flat_form.specs.declared.op.Op.TheVariants as op
-use Rattle.sharc_flat_form.specs.Framed.{OpWrites}
 use Rattle.sharc_guard.specs.Known.{Know, know_next, writes_ref, writes_int, copy_given}
 use Rattle.sharc_invariant.specs.Types.{StaticType, Mentions}
 use Rattle.sharc_invariant.specs.Labels.{Entry, Empty, Refers, Number, Anything, Exactly, Within, Closed, IsIn, Label, Less, SameReference, Itself, IsCopy, LessNumber, LessEntry, LessGate, HasBase, EntryMentions, IsScoped, IsFree, set_number, fill, empty, without_copies, without_index}
@@ -16,7 +15,7 @@ use Rattle.sharc_invariant.specs.Typed.{IsVacant, ints_in, refs_in, moved_copy}
 use Rattle.sharc_invariant.proofs.Scoped.{less_refl, less_entry_refl, less_number_refl, scoped_fill}
 use Rattle.sharc_typed.specs.Lines.{moved}
 use Rattle.sharc_typed.specs.Passes.{IsNumberOf}
-use Rattle.sharc_labels_laws.specs.Stretches.{Mark, Setting, Tells, Fits, IsLine}
+use Rattle.sharc_labels_laws.specs.Stretches.{WritesWithin, Mark, Setting, Tells, Fits, IsLine}
 use Rattle.sharc_labels_laws.specs.Places.{Stands, IsNamed, mark}
 use Rattle.sharc_labels_laws.proofs.Standing.{less_by, without_same, uncopied, scoped_frame, unnamed, stands_fill, Unnamed}
 use Rattle.sharc_labels_laws.proofs.Telling.{told, other_than, same_as}
@@ -51,7 +50,7 @@ module _ (around : Setting) (f : ℕ) (D : (ℕ → Mark) → Type 0) (named : �
   abbrev Scoped : Mark → Type 0
   Scoped s = IsScoped fi fr s.label
 
-  one : (s : Mark) (o : Op) (e : Mark) → (OpWrites fi fr o → Scoped s → Scoped e) → ((table : ℕ → Mark) (pc : ℕ) → OpWrites fi fr o → Scoped s → Fits around.targets e (table (pc + 1)) → IsLine around f table pc s o) → Q s (o ∷ []) e
+  one : (s : Mark) (o : Op) (e : Mark) → (WritesWithin fi fr o → Scoped s → Scoped e) → ((table : ℕ → Mark) (pc : ℕ) → WritesWithin fi fr o → Scoped s → Fits around.targets e (table (pc + 1)) → IsLine around f table pc s o) → Q s (o ∷ []) e
   one = does around f D named top low from
 
   module _ (i r : ℕ) (l : Label) (at : Here i r l) where

@@ -17,7 +17,7 @@ use Rattle.sharc_typed.specs.Passes.{TypedAnyhow, Knows}
 use Rattle.sharc_labels_laws.specs.Stretches.{Mark, Setting, Tells, IsLine, flat_labels, Way, LeadsAmong}
 use Rattle.sharc_labels_laws.specs.Places.{Stands, IsNamed, IsPlain, AreLow, mark}
 use Rattle.sharc_labels_laws.specs.Premises.{Typing}
-use Rattle.sharc_labels_laws.specs.Typable.{GoesTo, StandsIn, IsTypable}
+use Rattle.sharc_labels_laws.specs.Typable.{IsBare, IsCopyOf, GoesTo, StandsIn, IsTypable}
 
 -- ---- lines
 -- each line of flat code is one of a function
@@ -88,6 +88,7 @@ module _ (z : Setting) (f : ℕ) (ways : List Way) (y : Typing) (c : Context) (f
   -- A reference of the type to which it goes comes to the first free register, and may be a copy of a variable's.
   pub record ReferenceComes (s : StaticType) : Type 0 where
     pub copy : ℕ
+    pub of_variable : IsCopyOf c e copy
     pub is : (copy ≡ r) ⊎ (copy < ref_count c.scope)
     pub leads : LeadsAmong z f ways (mark l from i) os (mark (fill l r (Refers s) copy false) from i)
 
@@ -106,5 +107,5 @@ module _ (z : Setting) (f : ℕ) (ways : List Way) (y : Typing) (c : Context) (f
 
 -- The code of an expression of which the types say what is asked is typed, wherever it is.
 abbrev pub ExpressionsAreTyped : Type 0
-ExpressionsAreTyped = (z : Setting) (f : ℕ) (ways : List Way) (y : Typing) (c : Context) → AreLow (y.named c) (ref_count c.scope) → (from i r : ℕ) (l : Label) → StandsIn y c f from i r l → (e : Expression) → IsTypable z f ways y c e
+ExpressionsAreTyped = (z : Setting) (f : ℕ) (ways : List Way) (y : Typing) (c : Context) → AreLow (y.named c) (ref_count c.scope) → (from i r : ℕ) (l : Label) → StandsIn y c f from i r l → (bare : Bool) → IsBare bare l → (e : Expression) → IsTypable z f ways y bare c e
     → ValueComes z f ways y c from i r l (expression_code c i r e) e (is_ref c e) (is_integer (kind_of c e))

@@ -22,6 +22,7 @@ pub record Stands (named : ℕ → Bool) (ints refs : ℕ) (l : Label) : Type 0 
   pub numbers : (i : ℕ) → ints ≤ i → l.ints i ≡ Anything
   pub bases : (i q : ℕ) → HasBase (l.ints i) q → q < refs
   pub nothing_passed : l.passed ≡ []
+  pub no_room : l.room ≡ false
 
 -- types that name constants alone
 abbrev pub IsNamed : (ℕ → Bool) → ℕ → StaticType → Type 0

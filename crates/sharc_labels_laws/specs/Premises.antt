@@ -15,9 +15,9 @@ use Rattle.sharc_flat.specs.Scope.{Context, int_count, ref_count}
 use Rattle.sharc_flat.specs.Places.{Target, variable, in_global, in_global_at, in_object, in_object_at, cell_of, guard_cell, guard_field, spot_of}
 use Rattle.sharc_invariant.specs.Types.{StaticType, Field, FieldType, FieldMode}
 use Rattle.sharc_invariant.specs.Types.FieldMode.{Readonly}
-use Rattle.sharc_invariant.specs.Types.Content.{Integer, Pointer}
+use Rattle.sharc_invariant.specs.Types.Content.{Integer, Waiters, Pointer}
 use Rattle.sharc_invariant.specs.Labels.{Entry, Refers, Element, Number, Within, OfElement, OfGlobal, Closed, Loaded, Label, fill, set_number, gated}
-use Rattle.sharc_invariant.specs.Typed.{HasCell, PointsTo}
+use Rattle.sharc_invariant.specs.Typed.{HasCell, IsMutex, PointsTo}
 use Rattle.sharc_labels_laws.specs.Stretches.{Setting}
 use Rattle.sharc_labels_laws.specs.Places.{MayReach}
 
@@ -88,10 +88,25 @@ pub record ReachesReference (z : Setting) (q : Label) (write : Bool) (cell : Cel
   pub may : MayReach z q write cell spot field
   pub points : PointsTo q cell field s
 
+-- a mutex, and the waiters of a condition variable, are in the cell
+pub record HasMutex (z : Setting) (q : Label) (cell : Cell) : Type 0 where
+  pub field : Field
+  pub has : HasCell z.targets z.code q cell field
+  pub mutex : IsMutex field
+
+pub record HasWaiters (z : Setting) (q : Label) (cell : Cell) : Type 0 where
+  pub field : Field
+  pub has : HasCell z.targets z.code q cell field
+  pub waiters : field.holds ≡ Waiters
+
 -- after the pointer to the mutex was read, where there is one
 abbrev pub ThroughGuard : Setting → Context → Target → ℕ → ℕ → Option ℕ → (Label → Type 0) → Label → Type 0
 ThroughGuard z c t i r None Holds q = Holds q
 ThroughGuard z c t i r (Some mutex) Holds q = ReadsGuard z q (guard_cell c.globals mutex i r t) × Holds (gated q (Loaded (guard_cell c.globals mutex i r t)))
+
+-- what is named is a mutex
+abbrev pub MutexTyped : Setting → Typing → Context → ℕ → Target → Option ℕ → Ground → Type 0
+MutexTyped z y c f t guard ground = (e : Element) (i r : ℕ) (q : Label) → IsPlaced y c f t guard ground e i r q → HasMutex z q (cell_of c.globals i r t)
 
 module _ (z : Setting) (y : Typing) (c : Context) (f : ℕ) (t : Target) (guard : Option ℕ) (ground : Ground) (site : Site) (lvalue : Lvalue) (mode : Sharing) (write : Bool) (use_made : Use) where
   abbrev pub IntegerTyped : Width → Type 0

@@ -1,5 +1,5 @@
 -- What the types of a source have to say of an expression, so that its code is typed: one clause for each form.
-use Rattle.std.specs.Prelude.{ℕ, ◌+◌, ◌≡◌, ◌<◌, ◌≤◌, ◌⊎◌, Bool, true, false, List, [], ◌∷◌, drop, Option, Some, None, if◌then◌else◌}
+use Rattle.std.specs.Prelude.{ℕ, ◌+◌, ◌≡◌, ◌<◌, ◌≤◌, ◌⊎◌, Bool, true, false, List, [], ◌∷◌, length, drop, Option, Some, None, if◌then◌else◌}
 use Rattle.sharc_tree.specs.declared.token.Site.{Site}
 use Rattle.sharc_tree.specs.declared.token.Span.{Span}
 use Rattle.sharc_tree.specs.declared.tree.declaration.Identifier.{Identifier}
@@ -9,6 +9,7 @@ use Rattle.sharc_tree.specs.declared.tree.expression.BinaryOperator.{BinaryOpera
 use Rattle.sharc_tree.specs.declared.tree.expression.BinaryOperator.TheVariants.{LogicalOr, LogicalAnd, Equal, NotEqual, ShiftLeft, ShiftRight}
 use Rattle.sharc_tree.specs.declared.tree.expression.Constant.{Constant}
 use Rattle.sharc_tree.specs.declared.tree.expression.PlaceCall.{PlaceCall}
+use Rattle.sharc_tree.specs.declared.tree.expression.PlaceCall.TheVariants.{Lock, Unlock, Free}
 use Rattle.sharc_tree.specs.declared.tree.expression.UnaryOperator.{UnaryOperator}
 use Rattle.sharc_tree.specs.declared.tree.expression.UnaryOperator.TheVariants.{Negate, Not, Complement, Dereference}
 use Rattle.sharc_tree.specs.Spans.{span_of}
@@ -16,28 +17,31 @@ use Rattle.sharc_tree.specs.Tree.{Expression, identifier, constant, parentheses,
 use Rattle.sharc_names.specs.declared.fault.Named.{Named}
 use Rattle.sharc_names.specs.declared.fault.Named.TheVariants as named
 use Rattle.sharc_names.specs.Kinds.{Kind, is_array, is_integer, element_kind, promoted, declared_kinds}
+use Rattle.sharc_code.specs.declared.code.Parameter.TheVariants as parameters
+use Rattle.sharc_code.specs.declared.code.Use.{Use}
 use Rattle.sharc_code.specs.declared.code.Use.TheVariants as uses
 use Rattle.sharc_code.specs.declared.instr.Register.{Register}
 use Rattle.sharc_code.specs.declared.instr.Register.TheVariants.{Int, Reference}
 use Rattle.sharc_code.specs.declared.instr.Width.{Width}
 use Rattle.sharc_code.specs.declared.instr.Width.TheVariants.{Char}
+use Rattle.sharc_code.specs.Machine.{function_of}
 use Rattle.sharc_ctype.specs.Expressions.{class_of, binary_result}
-use Rattle.sharc_ctype.specs.Resolved.{global_at, kind_at}
+use Rattle.sharc_ctype.specs.Resolved.{global_at, kind_at, structs_in}
 use Rattle.sharc_ctype.specs.Transfers.{parameters_named}
 use Rattle.sharc_meaning.specs.Cells.{element_cells, field_place_named, global_elements}
 use Rattle.sharc_meaning.specs.Expressions.{number_named}
 use Rattle.sharc_meaning.specs.Reference.{constant_value}
 use Rattle.sharc_flat.specs.Scope.{Context, int_count, ref_count, register_of, at_site}
-use Rattle.sharc_flat.specs.Places.{Target, in_global, global_of, target, own_field, width_of}
-use Rattle.sharc_flat.specs.Flattened.{kind_of, is_ref, target_of, mode_of, lvalue_in, what_names, guard_of, taken_guard, behind_int, behind_ref, called_code, spawn_code, place_call_code, cast_code, operator_of}
+use Rattle.sharc_flat.specs.Places.{Target, variable, in_global, global_of, target, own_field, width_of}
+use Rattle.sharc_flat.specs.Flattened.{kind_of, is_ref, target_of, mode_of, lvalue_in, what_names, guard_of, taken_guard, behind_int, behind_ref, called_code, spawn_code, place_call_code, cast_code, operator_of, layout_of}
 use Rattle.sharc_flat.specs.Suits.{Either, is_cell}
 use Rattle.sharc_flat_form.specs.Framed.{IsWide}
 use Rattle.sharc_invariant.specs.Types.{StaticType, cells_of}
-use Rattle.sharc_invariant.specs.Labels.{Entry, Empty, Refers, Unknown, Element, Exactly, Within, Label, LessNumber, fill, set_number}
-use Rattle.sharc_invariant.specs.Typed.{is_shift}
+use Rattle.sharc_invariant.specs.Labels.{Entry, Empty, Refers, Unknown, Element, Exactly, Within, Label, LessNumber, EntryMentions, HasBase, fill, set_number}
+use Rattle.sharc_invariant.specs.Typed.{is_shift, Passes, IsShared, Recasts, IsLayout}
 use Rattle.sharc_labels_laws.specs.Stretches.{Mark, Setting, Way, LeadsAmong}
-use Rattle.sharc_labels_laws.specs.Places.{Stands, IsNamed, no_type, mark}
-use Rattle.sharc_labels_laws.specs.Premises.{Typing, HoldsVariables, Ground, IntegerTyped, ReferenceTyped}
+use Rattle.sharc_labels_laws.specs.Places.{Stands, IsNamed, IsPlain, no_type, mark}
+use Rattle.sharc_labels_laws.specs.Premises.{Typing, HoldsVariables, Ground, IntegerTyped, ReferenceTyped, MutexTyped}
 
 -- ---- types
 abbrev pub type_by : Entry → StaticType
@@ -57,6 +61,27 @@ pub record StandsIn (y : Typing) (c : Context) (f from i r : ℕ) (l : Label) : 
   pub high : ref_count c.scope ≤ r
   pub wide : int_count c.scope ≤ i
   pub early : from ≤ i
+
+-- the value of a variable that is named is a copy of it
+abbrev pub IsCopyIn : Register → ℕ → Type 0
+IsCopyIn (Int j) copy = Unit {0}
+IsCopyIn (Reference q) copy = copy ≡ q
+
+abbrev pub IsCopyNamed : Context → Named → ℕ → Type 0
+IsCopyNamed c (named.Variable x) copy = IsCopyIn (register_of c.scope x) copy
+IsCopyNamed c _ copy = Unit {0}
+
+abbrev pub IsCopyOf : Context → Expression → ℕ → Type 0
+IsCopyOf c (identifier s x) copy = IsCopyNamed c (what_names c x.site.token) copy
+IsCopyOf c _ copy = Unit {0}
+
+-- if it is said so, no reference is at hand but those of variables
+abbrev pub IsBare : Bool → Label → Type 0
+IsBare bare l = bare ≡ true → ((q : ℕ) → l.same q ≡ q) × ((q : ℕ) → l.known q ≡ true → ⊥) × ((j q : ℕ) → HasBase (l.ints j) q → ⊥)
+
+-- after this value
+abbrev pub after_value : Context → Expression → Bool → Bool
+after_value c e bare = if is_ref c e then false else bare
 
 -- an integer of one width is one of another
 abbrev pub Widens : Width → Width → Type 0
@@ -150,12 +175,6 @@ module _ (z : Setting) (f : ℕ) (ways : List Way) (y : Typing) where
   abbrev pub ElementTyped : Context → Expression → ℕ → Option ℕ → Type 0
   ElementTyped c a n guard = AreFields (element_cells c.program.typed (element_kind (kind_of c a))) n guard
 
-  -- ---- calls: after what they are handed
-  -- with a value in the first free register of its bank
-  abbrev pub value_mark : Bool → Label → ℕ → ℕ → ℕ → StaticType → ℕ → Width → Mark
-  value_mark true l from i r s v w = mark (fill l r (Refers s) v false) from i
-  value_mark false l from i r s v w = mark (set_number l i (Within w)) from (i + 1)
-
   -- `a[n]`, by what is asked of `a` as an array and as a pointer, and of `n`
   abbrev pub IndexTypable : Context → Option ℕ → Option ℕ → Expression → Expression → Type 0 → Type 0 → Type 0 → Type 0
   IndexTypable c own guard a n of_array of_pointer of_number = Either (is_array (kind_of c a)) (of_array × (target c.program.typed None a ≡ in_global (global_of (target c.program.typed None a)) 0))
@@ -166,27 +185,122 @@ module _ (z : Setting) (f : ℕ) (ways : List Way) (y : Typing) where
   FieldTypable c Dot a of_base of_pointer = of_base
   FieldTypable c Arrow a of_base of_pointer = of_pointer × IsPointer c a
 
+  -- ---- what is taken away
+  -- the reference of a cell, or of a variable that is no constant and of which no copy is at hand
+  abbrev pub VariableTakes : Bool → Context → StaticType → Register → Type 0
+  VariableTakes bare c s (Int j) = ⊥
+  VariableTakes bare c s (Reference q) = (bare ≡ true) × (q < ref_count c.scope) × (y.pointer c q ≡ s) × (y.named c q ≡ false)
+
+  abbrev pub Takes : Bool → Context → Expression → Use → StaticType → Target → Type 0
+  Takes bare c a use_made s (variable x) = VariableTakes bare c s (register_of c.scope x)
+  Takes bare c a use_made s t = ReferenceTyped z y c f t (guard_of c a) (ground_of c a) (span_of a).first (lvalue_in c a) (mode_of c a) true use_made s
+
+  -- it has this type
+  pub record TakeTyped (bare : Bool) (c : Context) (a : Expression) (use_made : Use) (s : StaticType) : Type 0 where
+    pub type : IsTypeIn c s
+    pub takes : Takes bare c a use_made s (target_of c a)
+
+  -- it is given another type
+  pub record CastTyped (bare : Bool) (c : Context) (e a : Expression) : Type 0 where
+    pub before : StaticType
+    pub given : StaticType
+    pub take : TakeTyped bare c a (uses.Cast None) before
+    pub reference : is_ref c e ≡ true
+    pub entry : y.entry c e ≡ Refers given
+    pub type : IsTypeIn c given
+    pub size : element_cells c.program.typed (element_kind (kind_of c a)) ≡ cells_of z.targets before.target
+    pub recasts : (r : ℕ) (l : Label) → HoldsVariables y c l → l.env r ≡ Refers before → Recasts z.targets l r before given
+
+  -- or freed
+  pub record FreeTyped (bare : Bool) (c : Context) (a : Expression) : Type 0 where
+    pub before : StaticType
+    pub take : TakeTyped bare c a (uses.Free None) before
+    pub laid : IsLayout z.targets z.code (layout_of (structs_in c.program.typed.program.items) (element_kind (kind_of c a))) before.target
+
+  -- `lock(a)`, `unlock(a)` and `free(a)`, by what is asked of `a` as an lvalue with this guard
+  abbrev pub PlaceCallTypable : Bool → Context → PlaceCall → Expression → (Option ℕ → Type 0) → Type 0
+  PlaceCallTypable bare c Lock a of_place = of_place None × (is_cell (target_of c a) ≡ true) × MutexTyped z y c f (target_of c a) None (ground_of c a)
+  PlaceCallTypable bare c Unlock a of_place = of_place None × (is_cell (target_of c a) ≡ true) × MutexTyped z y c f (target_of c a) None (ground_of c a)
+  PlaceCallTypable bare c Free a of_place = of_place (guard_of c a) × FreeTyped bare c a
+
+  -- ---- calls
+  -- What is passed is in its registers: references of these types, and integers that parameters of these types hold.
+  abbrev pub ArgumentAt : Context → List Kind → Expression → Bool → StaticType → ℕ → ℕ → Label → Type 0
+  ArgumentAt c kinds a true s i r l = (l.env r ≡ Refers s) × IsCopyOf c a (l.same r)
+  ArgumentAt c [] a false s i r l = Unit {0}
+  ArgumentAt c (kind ∷ kinds) a false s i r l = l.ints i ≡ Within (width_of kind)
+
+  abbrev pub ArgumentsAt : Context → List Kind → (ℕ → StaticType) → Arguments → ℕ → ℕ → Label → Type 0
+  ArgumentsAt c kinds wants no_arguments i r l = Unit {0}
+  ArgumentsAt c kinds wants (argument a rest) i r l = ArgumentAt c kinds a (is_ref c a) (wants 0) i r l × ArgumentsAt c (drop 1 kinds) (λ n. wants (n + 1)) rest (behind_int (is_ref c a) i) (behind_ref (is_ref c a) r) l
+
+  -- what the function gives, where there is a value
+  abbrev pub ResultTyped : Context → Expression → ℕ → Bool → Bool → Type 0
+  ResultTyped c e g true integer = (s : StaticType) × (y.entry c e ≡ Refers s) × IsTypeIn c s × ((z.signature g).result ≡ Refers s)
+  ResultTyped c e g false true = ((z.signature g).result ≡ Empty) × IsPlain (z.signature g).result_int × LessNumber (z.signature g).result_int (Within (width_of (kind_of c e)))
+  ResultTyped c e g false false = (z.signature g).result ≡ Empty
+
+  pub record CallTyped (c : Context) (e : Expression) (g : ℕ) (kinds : List Kind) (wants : ℕ → StaticType) (all : Arguments) : Type 0 where
+    pub is : g < length z.code.functions.items
+    pub alone : (z.signature g).alone ≡ true → (z.signature f).alone ≡ true
+    pub passes : (i r : ℕ) (l : Label) → HoldsVariables y c l → ArgumentsAt c kinds wants all i r l → (p : ℕ) → Passes l r (r + p) (l.env (r + p)) ((z.signature g).takes p)
+    pub numbers : (i r : ℕ) (l : Label) → HoldsVariables y c l → ArgumentsAt c kinds wants all i r l → (j : ℕ) → LessNumber (l.ints (i + j)) ((z.signature g).takes_ints j)
+    pub result : ResultTyped c e g (is_ref c e) (is_integer (kind_of c e))
+
+  -- an argument goes to its parameter
+  abbrev pub HasNoWidth : List Kind → Type 0
+  HasNoWidth [] = Unit {0}
+  HasNoWidth (kind ∷ kinds) = is_integer kind ≡ false
+
+  abbrev pub Goes : Context → List Kind → Expression → Bool → StaticType → Type 0
+  Goes c kinds a true s = GoesTo (y.entry c a) s × IsTypeIn c s × HasNoWidth kinds
+  Goes c [] a false s = ⊥
+  Goes c (kind ∷ kinds) a false s = (is_integer (kind_of c a) ≡ true) × (is_integer kind ≡ true)
+
+  -- what a thread is handed: an integer, or a reference whose type names no register and that is not private
+  abbrev pub Handed : Context → List Kind → Expression → ℕ → Bool → Type 0
+  Handed c kinds a g true = (s : StaticType) × GoesTo (y.entry c a) s × IsTypeIn c s × HasNoWidth kinds × ((function_of z.code g).parameter ≡ parameters.Reference) × ((q : ℕ) → EntryMentions ((z.signature g).takes 0) q → ⊥)
+      × ((r : ℕ) (l : Label) → Passes l r r (Refers s) ((z.signature g).takes 0)) × IsShared z.targets ((z.signature g).takes 0)
+  Handed c [] a g false = ⊥
+  Handed c (kind ∷ kinds) a g false = (is_integer (kind_of c a) ≡ true) × (is_integer kind ≡ true) × ((function_of z.code g).parameter ≡ parameters.Int) × LessNumber (Within (width_of kind)) ((z.signature g).takes_ints 0)
+
+  pub record SpawnTyped (c : Context) (a : Expression) (g : ℕ) (kinds : List Kind) : Type 0 where
+    pub is : g < length z.code.functions.items
+    pub starts : z.starts g ≡ true
+    pub shared : (z.signature g).alone ≡ false
+    pub handed : Handed c kinds a g (is_ref c a)
+
+  -- by what is asked of the arguments; the calls of condition variables are not among them
+  abbrev pub CallTypable : Context → Expression → Named → Arguments → (List Kind → (ℕ → StaticType) → Type 0) → Type 0
+  CallTypable c e (named.Function g) all of_arguments = (wants : ℕ → StaticType) × of_arguments (declared_kinds (parameters_named c.program.typed (named.Function g))) wants
+      × CallTyped c e g (declared_kinds (parameters_named c.program.typed (named.Function g))) wants all
+  CallTypable c e _ all of_arguments = ⊥
+
   abbrev mutual
-    pub IsTypable : Context → Expression → Type 0
-    IsTypable c (identifier s x) = NameTyped c (identifier s x) x.site (what_names c x.site.token)
-    IsTypable c (constant s k) = ConstantTyped c (constant s k) k (is_ref c (constant s k))
-    IsTypable c (parentheses s a) = IsTypable c a × (y.entry c (parentheses s a) ≡ y.entry c a)
-    IsTypable c (call s x all) = ⊥
-    IsTypable c (spawn s x a) = ⊥
-    IsTypable c (on_value s w a) = IsTypable c a × IsNumber c a
-    IsTypable c (on_place s w a) = ⊥
-    IsTypable c (cast s t a) = ⊥
-    IsTypable c (index s a n) = IndexTypable c None (guard_of c (index s a n)) a n (IsPlaceTypable c None None a) (IsTypable c a) (IsTypable c n) × ValueTyped c (index s a n) s.first
-    IsTypable c (field s a w n) = FieldTypable c w a (IsPlaceTypable c (Some (field_place_named c.program.typed (what_names c n.site.token))) (guard_of c (field s a w n)) a) (IsTypable c a) × ValueTyped c (field s a w n) s.first
-    IsTypable c (unary s Dereference a) = IsTypable c a × IsPointer c a × ValueTyped c (unary s Dereference a) s.first
-    IsTypable c (unary s o a) = IsTypable c a × HasType c a × UnaryTyped c (unary s o a) o a
-    IsTypable c (binary s o at a b) = IsTypable c a × HasType c a × IsTypable c b × HasType c b × BinaryTyped c (binary s o at a b) o a b
+    pub IsTypable : Bool → Context → Expression → Type 0
+    IsTypable bare c (identifier s x) = NameTyped c (identifier s x) x.site (what_names c x.site.token)
+    IsTypable bare c (constant s k) = ConstantTyped c (constant s k) k (is_ref c (constant s k))
+    IsTypable bare c (parentheses s a) = IsTypable bare c a × (y.entry c (parentheses s a) ≡ y.entry c a)
+    IsTypable bare c (call s x all) = CallTypable c (call s x all) (what_names c x.site.token) all (λ kinds wants. AreTypable bare c kinds wants all)
+    IsTypable bare c (spawn s x a) = IsTypable bare c a × IsNumber c (spawn s x a) × SpawnTyped c a (number_named (what_names c x.site.token)) (declared_kinds (parameters_named c.program.typed (what_names c x.site.token)))
+    IsTypable bare c (on_value s w a) = IsTypable bare c a × IsNumber c a
+    IsTypable bare c (on_place s w a) = PlaceCallTypable bare c w a (λ guard. IsPlaceTypable bare c None guard a)
+    IsTypable bare c (cast s t a) = IsPlaceTypable bare c None (guard_of c a) a × CastTyped bare c (cast s t a) a
+    IsTypable bare c (index s a n) = IndexTypable c None (guard_of c (index s a n)) a n (IsPlaceTypable bare c None None a) (IsTypable bare c a) (IsTypable false c n) × ValueTyped c (index s a n) s.first
+    IsTypable bare c (field s a w n) = FieldTypable c w a (IsPlaceTypable bare c (Some (field_place_named c.program.typed (what_names c n.site.token))) (guard_of c (field s a w n)) a) (IsTypable bare c a) × ValueTyped c (field s a w n) s.first
+    IsTypable bare c (unary s Dereference a) = IsTypable bare c a × IsPointer c a × ValueTyped c (unary s Dereference a) s.first
+    IsTypable bare c (unary s o a) = IsTypable bare c a × HasType c a × UnaryTyped c (unary s o a) o a
+    IsTypable bare c (binary s o at a b) = IsTypable bare c a × HasType c a × IsTypable (after_value c a bare) c b × HasType c b × BinaryTyped c (binary s o at a b) o a b
 
     -- an lvalue of which this field is accessed, with a guard in that field of the same element
-    pub IsPlaceTypable : Context → Option ℕ → Option ℕ → Expression → Type 0
-    IsPlaceTypable c own guard (identifier s x) = Unit {0}
-    IsPlaceTypable c own guard (parentheses s a) = IsPlaceTypable c own guard a
-    IsPlaceTypable c own guard (index s a n) = IndexTypable c own guard a n (IsPlaceTypable c None None a) (IsTypable c a) (IsTypable c n)
-    IsPlaceTypable c own guard (field s a w n) = FieldTypable c w a (IsPlaceTypable c (Some (own_field own (field_place_named c.program.typed (what_names c n.site.token)))) guard a) (IsTypable c a)
-    IsPlaceTypable c own guard (unary s Dereference a) = IsTypable c a × IsPointer c a
-    IsPlaceTypable c own guard _ = Unit {0}
+    pub IsPlaceTypable : Bool → Context → Option ℕ → Option ℕ → Expression → Type 0
+    IsPlaceTypable bare c own guard (identifier s x) = Unit {0}
+    IsPlaceTypable bare c own guard (parentheses s a) = IsPlaceTypable bare c own guard a
+    IsPlaceTypable bare c own guard (index s a n) = IndexTypable c own guard a n (IsPlaceTypable bare c None None a) (IsTypable bare c a) (IsTypable false c n)
+    IsPlaceTypable bare c own guard (field s a w n) = FieldTypable c w a (IsPlaceTypable bare c (Some (own_field own (field_place_named c.program.typed (what_names c n.site.token)))) guard a) (IsTypable bare c a)
+    IsPlaceTypable bare c own guard (unary s Dereference a) = IsTypable bare c a × IsPointer c a
+    IsPlaceTypable bare c own guard _ = Unit {0}
+
+    pub AreTypable : Bool → Context → List Kind → (ℕ → StaticType) → Arguments → Type 0
+    AreTypable bare c kinds wants no_arguments = Unit {0}
+    AreTypable bare c kinds wants (argument a rest) = IsTypable bare c a × Goes c kinds a (is_ref c a) (wants 0) × AreTypable (after_value c a bare) c (drop 1 kinds) (λ n. wants (n + 1)) rest

@@ -127,10 +127,10 @@ module _ (r : Resolution) where
   start_is (named.Field k) m h = absurd (false≢true h)
   start_is named.Known m h = absurd (false≢true h)
 
-  abbrev reached : ℕ → Bool
+  abbrev pub reached : ℕ → Bool
   reached m = list_any (λ token. starts (named_at r token) m) (all_spawned (functions_in r.program.items))
 
-  reached_is : (m : ℕ) → reached m ≡ true → IsReached r m
+  pub reached_is : (m : ℕ) → reached m ≡ true → IsReached r m
   reached_is m h =
       let token = passes_there (λ token. starts (named_at r token) m) (all_spawned (functions_in r.program.items)) h in
       let start = start_is (named_at r token.0) m token.2 in
@@ -145,7 +145,7 @@ module _ (r : Resolution) where
         leads = path.1;
       }
 
-  is_reached : (m : ℕ) → IsReached r m → reached m ≡ true
+  pub is_reached : (m : ℕ) → IsReached r m → reached m ≡ true
   is_reached m h =
       let f = some_there (λ f. Names r (named.Function h.first) (of_all spawns (in_function f))) (function_at r h.spawner) h.spawned in
       passes_by (λ token. starts (named_at r token) m) (all_spawned (functions_in r.program.items)) f.2.0

@@ -1,6 +1,6 @@
 // The laws, each the contract of a function that does nothing.
 
-ghost use Rattle.sharc_mode_laws.specs.Laws.{RulesAreMet, SpawnedAreTold};
+ghost use Rattle.sharc_mode_laws.specs.Laws.{RulesAreMet, SpawnedAreTold, ReachedAreTold};
 
 /// A program is well-moded exactly where it meets the eleven rules.
 pub fn rules_are_met()
@@ -10,4 +10,9 @@ pub fn rules_are_met()
 /// A function passes the test of those that are spawned exactly where some function spawns it.
 pub fn spawned_are_told()
     ensures { SpawnedAreTold }
+{}
+
+/// Which functions threads may run can be told.
+pub fn reached_are_told()
+    ensures { ReachedAreTold }
 {}

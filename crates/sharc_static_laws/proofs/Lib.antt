@@ -1,9 +1,12 @@
+pub mod Alone
+pub mod Arrays
 pub mod FileNames
 pub mod Given
 pub mod Holds
 pub mod Lists
 pub mod Locals
 pub mod Names
+pub mod Noted
 pub mod Origins
 pub mod Passed
 pub mod Places
@@ -11,7 +14,11 @@ pub mod Points
 pub mod Recasting
 pub mod Registers
 pub mod Same
+pub mod Scoping
+pub mod Siblings
 pub mod Starts
+pub mod Structs
+pub mod Tokens
 pub mod Transferred
 pub mod Walk
 pub mod Written

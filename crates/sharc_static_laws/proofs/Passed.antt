@@ -1,5 +1,5 @@
 -- What is passed at a call has the type that the parameter has there: each path `x->m` of the parameter's type leads, by the argument for `x`, to the same mutex.
-use Rattle.std.proofs.Common.{◌≡◌, ⊎_elim, ℕ, ◌+◌, ◌==◌, Bool, true, false, cond, List, [], ◌∷◌, map, position, refl, ap, sym, ◌∙◌, subst, bytes_eq, Option, Some, None, is_some, eqb-true, Contains}
+use Rattle.std.proofs.Common.{◌≡◌, ⊎_elim, ℕ, ◌+◌, ◌==◌, Bool, true, false, cond, List, [], ◌∷◌, map, position, refl, ap, sym, ◌∙◌, subst, bytes_eq, Option, Some, None, is_some, eqb-true, lt-ltb, arith, Contains}
 use Rattle.std.specs.Prelude.{unwrap_or}
 use Rattle.std.proofs.lemmas.Bool.{false≢true}
 use Rattle.std.specs.List.{AllByRecursion}
@@ -18,7 +18,9 @@ use Rattle.sharc_names.specs.Kinds.{Kind, object, is_pointer, declared_kind}
 use Rattle.sharc_ctype.specs.declared.entity.Entity.{Entity}
 use Rattle.sharc_ctype.specs.declared.entity.Numbered.{Numbered}
 use Rattle.sharc_ctype.specs.Entities.{entities_in, numbered, numbered_from, positions_of, is_told_by, entity_at}
-use Rattle.sharc_ctype.specs.Resolved.{Resolution, named_at, function_at, functions_in, declaration_at, variable_kind, named_kind, kind_at}
+use Rattle.sharc_tree.specs.Low.{IsLow}
+use Rattle.sharc_tree.specs.Placed.{IsPlaced}
+use Rattle.sharc_ctype.specs.Resolved.{Resolution, IsResolved, named_at, function_at, functions_in, declaration_at, variable_kind, named_kind, kind_at}
 use Rattle.sharc_ctype.specs.Transfers.{Transfer, variable, passed, parameters_of, parameters_named, function_transfers, IsFair}
 use Rattle.sharc_ctype_laws.specs.Found.{IsFound, EachTypeFound}
 use Rattle.sharc_ctype_laws.specs.Laws.{EachNamesItself, AllFair}
@@ -39,7 +41,8 @@ use Rattle.sharc_invariant.specs.Typed.{PassesLock, Passes}
 use Rattle.sharc_target_laws.specs.Shapes.{form_of, shape_of, number}
 use Rattle.sharc_static_laws.specs.Static.{register, lock_named, lock_at, locks_at, static_of, variable_type, entry_by, entry_of}
 use Rattle.sharc_static_laws.specs.Laws.{IsAccepted}
-use Rattle.sharc_static_laws.specs.Calls.{at_entry, AreCopies, HasOneStruct, ArgumentsPass}
+use Rattle.sharc_static_laws.specs.Calls.{at_entry, AreCopies, ArgumentsPass}
+use Rattle.sharc_static_laws.proofs.Scoping.{HasOneStruct}
 use Rattle.sharc_static_laws.proofs.Lists.{each, of_each, head_there, tail_there, head_or_tail, none_there, same_some, none_some, place_there, to_each}
 use Rattle.sharc_static_laws.proofs.Same.{forms_of_same, locks_of_same}
 use Rattle.sharc_static_laws.proofs.Transferred.{own_passed, Passes as FairlyPasses, calls_pass}
@@ -142,9 +145,9 @@ first_kind r token text _ (a_global is at same) t n = absurd (no_global _ _ (sym
 first_kind r token text _ (a_function is at same other) t n = absurd (no_function _ _ (sym is ∙ n))
 first_kind r token text _ (a_known_call c is same) t n = absurd (no_known _ (sym is ∙ n))
 
--- the variable of a path is a pointer
+-- the variable of a path is a pointer to a struct
 abbrev pub PathPoints : Resolution → Lock → Type 0
-PathPoints r l = (x : ℕ) → path_variable r l ≡ Some x → is_pointer (variable_kind (declaration_at r x)) ≡ true
+PathPoints r l = (x : ℕ) → path_variable r l ≡ Some x → (struct : List ℕ) × (variable_kind (declaration_at r x) ≡ object (base.Struct struct) 1)
 
 variable_is : (n : Named) (x : ℕ) → variable_named n ≡ Some x → n ≡ named.Variable x
 variable_is (named.Variable y) x h = ap named.Variable (same_some y x h)
@@ -159,7 +162,7 @@ ModePoints r mode = (path : Path) → mode ≡ Locked path → PathPoints r (loc
 
 level_points : (r : Resolution) (path : Path) → IsNamedLevel r (Some (Locked path)) → PathPoints r (lock_of path)
 level_points r (One text token) h x is = absurd (none_some x is)
-level_points r (Through text token m) h x is = ap is_pointer (first_kind r token text (object (base.Struct h.0) 1) h.2 x (variable_is (named_at r token) x is))
+level_points r (Through text token m) h x is = (h.0, first_kind r token text (object (base.Struct h.0) 1) h.2 x (variable_is (named_at r token) x is))
 
 same_path : (p q : Path) → Locked p ≡ Locked q → p ≡ q
 same_path p q h = cc
@@ -256,21 +259,21 @@ module _ (found : EachTypeFound) (rules : RulesAreMet) (all_fair : AllFair) (the
 
   module _ (one_struct : HasOneStruct r) (l : Label) (k a : ℕ) (copies : AreCopies c ds all l k) where
     -- the argument for a parameter that is a pointer, where it is a constant variable, has the same fields
-    same_variable : (x at y : ℕ) → is_pointer (variable_kind (declaration_at r x)) ≡ true → argument_use r ds all x ≡ Some at → named_at r at ≡ named.Variable y → variable_kind (declaration_at r y) ≡ variable_kind (declaration_at r x)
-    same_variable x at y pointer used names =
+    same_variable : (x at y : ℕ) (struct : List ℕ) → variable_kind (declaration_at r x) ≡ object (base.Struct struct) 1 → argument_use r ds all x ≡ Some at → named_at r at ≡ named.Variable y → variable_kind (declaration_at r y) ≡ object (base.Struct struct) 1
+    same_variable x at y struct points_to used names =
         let f = used_for r ds all x at used in
         let u = use_named r f.of at f.used in
         let declared : variable_kind (declaration_at r x) ≡ declared_kind f.parameter.written =
         ap (λ z. variable_kind (declaration_at r z)) (sym f.token) ∙ ap variable_kind (declared_by call f.parameter f.among) in
         let kind : kind_at r f.of ≡ variable_kind (declaration_at r y) = u.kind ∙ ap (λ z. variable_kind (declaration_at r z)) (same_token u.variable y (sym u.names ∙ names)) in
-        sym kind ∙ by (declared_kind f.parameter.written) (kind_at r f.of) (fair (declared_kind f.parameter.written) (kind_at r f.of) (ap is_pointer (sym declared) ∙ pointer) (fair_argument f.parameter f.of f.passes)) kind ∙ sym declared
+        sym kind ∙ by (declared_kind f.parameter.written) (kind_at r f.of) (fair (declared_kind f.parameter.written) (kind_at r f.of) (ap is_pointer (sym declared ∙ points_to) ∙ lt-ltb 0 1 (omega arith)) (fair_argument f.parameter f.of f.passes)) kind ∙ sym declared ∙ points_to
       where
         by : (want kind : Kind) → Fair want kind → kind ≡ variable_kind (declaration_at r y) → kind ≡ want
         by want kind (is_nothing e) is = absurd (no_variable (declaration_at r y) (sym is ∙ e))
         by want kind (is_like one h) is = sym (same_kinds want kind h)
 
-    same_place : (x y : ℕ) (name : List ℕ) → variable_kind (declaration_at r y) ≡ variable_kind (declaration_at r x) → field_place_behind r y name ≡ field_place_behind r x name
-    same_place x y name e = ap (λ fields. unwrap_or (position (λ d. bytes_eq d.name.text name) fields) 0) (one_struct y x e)
+    same_place : (x y : ℕ) (struct name : List ℕ) → variable_kind (declaration_at r x) ≡ object (base.Struct struct) 1 → variable_kind (declaration_at r y) ≡ object (base.Struct struct) 1 → field_place_behind r y name ≡ field_place_behind r x name
+    same_place x y struct name e f = ap (λ fields. unwrap_or (position (λ d. bytes_eq d.name.text name) fields) 0) (one_struct y x struct f e)
 
     plain : (x y : TypeLock) (j : ℕ) → x ≡ Global j → y ≡ Global j → PassesLock l k a x y
     plain x y j e f = subst (λ z. PassesLock l k a z y) (sym e) (subst (PassesLock l k a (Global j)) (sym f) refl)
@@ -297,7 +300,7 @@ module _ (found : EachTypeFound) (rules : RulesAreMet) (all_fair : AllFair) (the
             ap (λ o. lock_at c (lock_for r ds all o lock)) path ∙ ap (λ o. lock_at c (with_base o lock)) used ∙ ap (λ w. lock_named c w lock.second) names ∙ ap (lock_named c (named.Variable y)) second in
             let f : lock_at inner lock ≡ InRegister (register inner x) (field_place_behind r x name) = ap (λ w. lock_named inner w lock.second) is ∙ ap (lock_named inner (named.Variable x)) second in
             subst (λ z. PassesLock l k a z (lock_at inner lock)) (sym e) (subst (PassesLock l k a (InRegister (register c y) (field_place_behind r y name))) (sym f)
-            (same_place x y name (same_variable x at y (pointer x path) used names), copies x at y used names))
+            (same_place x y (pointer x path).0 name (pointer x path).1 (same_variable x at y (pointer x path).0 (pointer x path).1 used names), copies x at y used names))
 
         by : (n : Named) → named_at r lock.first ≡ n → (o : Option (List ℕ)) → lock.second ≡ o → PassesLock l k a (lock_at c (lock_for r ds all (path_variable r lock) lock)) (lock_at inner lock)
         by (named.Variable x) is (Some name) second =
@@ -396,5 +399,5 @@ module _ (found : EachTypeFound) (rules : RulesAreMet) (all_fair : AllFair) (the
         by (is_nothing n) (Some found_modes) is = absurd (none_some found_modes (sym (null_modes m e n) ∙ is))
         by (is_like one h) (Some found_modes) is = subst (λ z. Passes l k a (entry_by c (kind_at r e) z) (Refers (static_of inner (declared_kind d.written) here))) (sym is) (some found_modes is one)
 
-pub arguments_pass : EachTypeFound → RulesAreMet → AllFair → EachNamesItself → ArgumentsPass
-arguments_pass found rules all_fair themselves c accepted one_struct ds all d e call has pointer l k a copies = passes found rules all_fair themselves c accepted ds all call one_struct l k a copies d e has pointer
+pub arguments_pass : EachTypeFound → RulesAreMet → AllFair → EachNamesItself → ((r : Resolution) → IsResolved r → IsPlaced r.program → IsLow r.program → HasOneStruct r) → ArgumentsPass
+arguments_pass found rules all_fair themselves one_struct c accepted ds all d e call has pointer l k a copies = passes found rules all_fair themselves c accepted ds all call (one_struct c.program.typed accepted.resolved accepted.placed accepted.low) l k a copies d e has pointer

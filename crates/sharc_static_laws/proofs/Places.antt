@@ -214,15 +214,15 @@ found_or_later : {A : Type 0} (P : A → Type 0) (x y : A) (later : Option A) (b
 found_or_later P x y later true h p q = subst P (same_some x y h) p
 found_or_later P x y later false h p q = q h
 
-pub struct_fields : (r : Resolution) (list : List StructDefinition) (name : List ℕ) (s : StructDefinition) → AllByRecursion (λ x. AllByRecursion (FieldInFile r) x.fields) list → struct_named list name ≡ Some s → AllByRecursion (FieldInFile r) s.fields
-struct_fields r [] name s all is = absurd (none_some s is)
-struct_fields r (x ∷ rest) name s all is = found_or_later (λ (z : StructDefinition). AllByRecursion (FieldInFile r) z.fields) x s (struct_named rest name) (bytes_eq x.name.text name) is all.0 (λ h. struct_fields r rest name s all.1 h)
+pub struct_fields : (P : Declaration → Type 0) (list : List StructDefinition) (name : List ℕ) (s : StructDefinition) → AllByRecursion (λ x. AllByRecursion P x.fields) list → struct_named list name ≡ Some s → AllByRecursion P s.fields
+struct_fields P [] name s all is = absurd (none_some s is)
+struct_fields P (x ∷ rest) name s all is = found_or_later (λ (z : StructDefinition). AllByRecursion P z.fields) x s (struct_named rest name) (bytes_eq x.name.text name) is all.0 (λ h. struct_fields P rest name s all.1 h)
 
-pub field_found : (r : Resolution) (list : List Declaration) (name : List ℕ) (d : Declaration) → AllByRecursion (FieldInFile r) list → field_of list name ≡ Some d → FieldInFile r d
-field_found r [] name d all is = absurd (none_some d is)
-field_found r (x ∷ rest) name d all is = found_or_later (FieldInFile r) x d (field_of rest name) (bytes_eq x.name.text name) is all.0 (λ h. field_found r rest name d all.1 h)
+pub field_found : (P : Declaration → Type 0) (list : List Declaration) (name : List ℕ) (d : Declaration) → AllByRecursion P list → field_of list name ≡ Some d → P d
+field_found P [] name d all is = absurd (none_some d is)
+field_found P (x ∷ rest) name d all is = found_or_later P x d (field_of rest name) (bytes_eq x.name.text name) is all.0 (λ h. field_found P rest name d all.1 h)
 
-entry_there : (names : List Entry) (name : List ℕ) (e : Entry) → look_up names name ≡ Some e → (x : ℕ) → meaning_token e.meaning ≡ Some x → IsVariableIn names x
+pub entry_there : (names : List Entry) (name : List ℕ) (e : Entry) → look_up names name ≡ Some e → (x : ℕ) → meaning_token e.meaning ≡ Some x → IsVariableIn names x
 entry_there [] name e is x h = absurd (none_some e is)
 entry_there (y ∷ rest) name e is x h = by (bytes_eq y.name name) is (entry_there rest name e)
   where
@@ -291,7 +291,7 @@ module _ (c : Context) (least : IsLeastAssignment c.program) (file : FileKnown c
     names : named_at r2 n.site.token ≡ named.Field of.name.site.token
 
   a_member : (x name : List ℕ) (d : Declaration) → IsMemberOf r2 x name d → FieldInFile r2 d
-  a_member x name d h = field_found r2 h.0.fields name d (struct_fields r2 (structs_in r2.program.items) x h.0 file.fields h.1) h.2
+  a_member x name d h = field_found (FieldInFile r2) h.0.fields name d (struct_fields (FieldInFile r2) (structs_in r2.program.items) x h.0 file.fields h.1) h.2
 
   member : (s : Span) (a : Expression) (v : Access) (n : Identifier) (k : Kind) → HasType r2 (tree.field s a v n) k → Member n
   member s a _ n _ (a_field {x = x} {d = d} t h is) = record { of = d; field = a_member x n.text d h; names = is }

@@ -8,14 +8,11 @@ use Rattle.sharc_tree.specs.declared.ctype.Mode.{Mode}
 use Rattle.sharc_tree.specs.declared.ctype.Mode.TheVariants.{Private, Readonly, Locked, Racy, Dynamic}
 use Rattle.sharc_tree.specs.declared.ctype.Path.{Path}
 use Rattle.sharc_tree.specs.declared.ctype.Path.TheVariants.{One, Through as PathThrough}
-use Rattle.sharc_tree.specs.declared.token.NumberType.{NumberType}
-use Rattle.sharc_tree.specs.declared.token.NumberType.TheVariants as width
 use Rattle.sharc_tree.specs.declared.token.Span.{Span}
 use Rattle.sharc_tree.specs.declared.tree.declaration.Declaration.{Declaration}
 use Rattle.sharc_tree.specs.declared.tree.declaration.Identifier.{Identifier}
 use Rattle.sharc_tree.specs.declared.tree.expression.Access.{Access}
 use Rattle.sharc_tree.specs.declared.tree.expression.Access.TheVariants.{Dot, Arrow}
-use Rattle.sharc_tree.specs.declared.tree.expression.Constant.TheVariants as constants
 use Rattle.sharc_tree.specs.declared.tree.expression.UnaryOperator.TheVariants.{Negate, Not, Complement, Dereference}
 use Rattle.sharc_tree.specs.declared.tree.item.GlobalDefinition.{GlobalDefinition}
 use Rattle.sharc_tree.specs.Measures.{expressions, in_function}
@@ -24,17 +21,14 @@ use Rattle.sharc_tree.specs.Tree as tree
 use Rattle.sharc_names.specs.declared.fault.Named.{Named}
 use Rattle.sharc_names.specs.declared.fault.Named.TheVariants as named
 use Rattle.sharc_names.specs.declared.types.Role.TheVariants as role
-use Rattle.sharc_names.specs.Kinds.{Kind, object, array, null, function, is_array, is_long, long, int, element_kind}
+use Rattle.sharc_names.specs.Kinds.{Kind, object, is_array}
 use Rattle.sharc_ctype.specs.declared.entity.Entity.{Entity}
 use Rattle.sharc_ctype.specs.declared.entity.Numbered.{Numbered}
 use Rattle.sharc_ctype.specs.Entities.{declared, entities_in, numbered, is_told_by}
-use Rattle.sharc_ctype.specs.declared.expr.OperatorClass.{OperatorClass}
-use Rattle.sharc_ctype.specs.declared.expr.OperatorClass.TheVariants.{Logical, Equality, Relation, Shift, Arithmetic}
-use Rattle.sharc_ctype.specs.Expressions.{number_kind, class_of, binary_result}
-use Rattle.sharc_ctype.specs.Resolved.{Resolution, named_at, declaration_at, variable_kind, result_kind_of, named_kind, called_kind, global_at, function_at, globals_in, functions_in, structs_in, kind_at}
+use Rattle.sharc_ctype.specs.Resolved.{Resolution, named_at, declaration_at, variable_kind, global_at, globals_in, functions_in, structs_in, kind_at}
 use Rattle.sharc_ctype_laws.specs.Constraints.{HasType, IsMemberOf, a_field, a_field_behind}
 use Rattle.sharc_ctype_laws.specs.Found.{IsFound, EachTypeFound}
-use Rattle.sharc_ctype_laws.specs.Laws.{EachPathFound, MeetsConstraints, OneType}
+use Rattle.sharc_ctype_laws.specs.Laws.{EachNameOnce, OnlyNames, EachPathFound, MeetsConstraints, OneType}
 use Rattle.sharc_flat_form.specs.Machine.{first_cell}
 use Rattle.sharc_meaning.specs.Cells.{field_place, field_place_named, field_place_behind}
 use Rattle.sharc_mode.specs.declared.place.Place.{Place}
@@ -60,13 +54,17 @@ use Rattle.sharc_invariant.specs.Types.Lock.{Global, Through, Self}
 use Rattle.sharc_invariant.specs.Labels.{Refers, Label, SameReference, Itself, SameLock, AllSame}
 use Rattle.sharc_invariant.specs.Typed.{no_lock, IsFieldLock, IsGlobalLock, IsAnyLock, IsAnyGlobalLock, AreFieldLocks}
 use Rattle.sharc_static_laws.specs.Laws.{IsAccepted}
-use Rattle.sharc_static_laws.specs.Pointing.{element_locks, pointee_locks, declared_locks, content_locks, BaseIs, IsBased, SiblingsAre, PlacesPoint}
+use Rattle.sharc_static_laws.specs.Pointing.{element_locks, pointee_locks, declared_locks, content_locks, BaseIs, IsBased, PlacesPoint}
 use Rattle.sharc_static_laws.specs.Static.{register, lock_named, lock_at, locks_at, static_of}
+use Rattle.sharc_static_laws.proofs.Arrays.{IsNameOf, array_name}
 use Rattle.sharc_static_laws.proofs.Lists.{front, of_each, to_each, each, same_some, none_some, place_of_element}
 use Rattle.sharc_static_laws.proofs.Origins.{reading_kept, same_raw}
 use Rattle.sharc_static_laws.proofs.Passed.{use_named}
 use Rattle.sharc_static_laws.proofs.Places.{InFile, FileKnown, FieldInFile, file_known, struct_fields, field_found, at_number, IfSome}
+use Rattle.sharc_static_laws.proofs.Noted.{all_say}
+use Rattle.sharc_static_laws.proofs.Siblings.{SiblingsAre, siblings_are}
 use Rattle.sharc_static_laws.proofs.Written.{raw, row_good, found_there}
+use Rattle.sharc_target_laws.specs.Fields.{FieldsPlaced}
 use Rattle.sharc_target_laws.specs.Laws.{ExpressionsFound}
 use Rattle.sharc_target_laws.specs.Shapes.{Form, private_form, readonly_form, locked_form, racy_form, dynamic_form, form_of}
 use Rattle.sharc_target_laws.specs.Targets.{lock_named as table_lock, field_lock, field_locks, type_locks, lock_count}
@@ -476,43 +474,6 @@ module _ (rows : RowLaws) (expressions_found : ExpressionsFound) (one_type : One
     row : row_at r4 e ≡ Some (global_row r4 written (global_at r4 number))
     content : content_locks m4 e ≡ declared_locks m4 0 (named.Global number)
 
-  no_variable : (o : Option Declaration) → is_array (variable_kind o) ≡ true → ⊥
-  no_variable None h = false≢true h
-  no_variable (Some d) h = false≢true h
-
-  no_element : (k : Kind) → is_array (element_kind k) ≡ true → ⊥
-  no_element (object b n) h = false≢true h
-  no_element (array b n) h = false≢true h
-  no_element null h = false≢true h
-  no_element function h = false≢true h
-
-  no_long : (b : Bool) → is_array (cond b long int) ≡ true → ⊥
-  no_long true h = false≢true h
-  no_long false h = false≢true h
-
-  no_result : (o : Option Function) → is_array (result_kind_of o) ≡ true → ⊥
-  no_result None h = false≢true h
-  no_result (Some f) h = false≢true h
-
-  no_called : (n : Named) → is_array (called_kind r4 n) ≡ true → ⊥
-  no_called (named.Struct n) h = false≢true h
-  no_called (named.Global n) h = false≢true h
-  no_called (named.Function n) h = no_result (function_at r4 n) h
-  no_called (named.Variable t) h = false≢true h
-  no_called (named.Field t) h = false≢true h
-  no_called named.Known h = false≢true h
-
-  no_binary : (o : OperatorClass) (j k : Kind) → is_array (binary_result o j k) ≡ true → ⊥
-  no_binary Logical j k h = false≢true h
-  no_binary Equality j k h = false≢true h
-  no_binary Relation j k h = false≢true h
-  no_binary Shift j k h = no_long (is_long j) h
-  no_binary Arithmetic j k h = no_long _ h
-
-  no_number : (t : NumberType) → is_array (number_kind t) ≡ true → ⊥
-  no_number width.Int h = false≢true h
-  no_number width.Long h = false≢true h
-
   -- a member of a struct
   record Member (n : Identifier) : Type 0 where
     of : Declaration
@@ -520,42 +481,30 @@ module _ (rows : RowLaws) (expressions_found : ExpressionsFound) (one_type : One
     names : named_at r4 n.site.token ≡ named.Field of.name.site.token
 
   a_member : (x name : List ℕ) (d : Declaration) → IsMemberOf r4 x name d → FieldInFile r4 d
-  a_member x name d h = field_found r4 h.0.fields name d (struct_fields r4 (structs_in r4.program.items) x h.0 file.fields h.1) h.2
+  a_member x name d h = field_found (FieldInFile r4) h.0.fields name d (struct_fields (FieldInFile r4) (structs_in r4.program.items) x h.0 file.fields h.1) h.2
 
   member : (s : Span) (e : Expression) (v : Access) (n : Identifier) (k : Kind) → HasType r4 (tree.field s e v n) k → Member n
   member s e _ n _ (a_field {x = x} {d = d} t h is) = record { of = d; field = a_member x n.text d h; names = is }
   member s e _ n _ (a_field_behind {x = x} {d = d} t h is) = record { of = d; field = a_member x n.text d h; names = is }
 
-  name_array : (n : Named) → is_array (named_kind r4 n) ≡ true → (g : ℕ) × (n ≡ named.Global g)
-  name_array (named.Struct n) h = absurd (false≢true h)
-  name_array (named.Global g) h = (g, refl)
-  name_array (named.Function n) h = absurd (false≢true h)
-  name_array (named.Variable t) h = absurd (no_variable (declaration_at r4 t) h)
-  name_array (named.Field t) h = absurd (no_variable (declaration_at r4 t) h)
-  name_array named.Known h = absurd (false≢true h)
+  array_named : (e : Expression) (g : ℕ) → IsNameOf r4 e g → ArrayIs e
+  array_named (tree.identifier s x) g is = record { number = g; row = ap (λ n. Some (named_row r4 written n)) is; content = ap (declared_locks m4 0) is }
+  array_named (tree.parentheses s e) g is = let x = array_named e g is in record { number = x.number; row = x.row; content = x.content }
+  array_named (tree.constant s k) g is = absurd is
+  array_named (tree.call s f all) g is = absurd is
+  array_named (tree.spawn s f e) g is = absurd is
+  array_named (tree.on_value s w e) g is = absurd is
+  array_named (tree.on_place s w e) g is = absurd is
+  array_named (tree.cast s t e) g is = absurd is
+  array_named (tree.index s e n) g is = absurd is
+  array_named (tree.field s e w n) g is = absurd is
+  array_named (tree.unary s o e) g is = absurd is
+  array_named (tree.binary s o at e z) g is = absurd is
 
   array_is : (e : Expression) → AllByRecursion (IsExpression m4) (expressions e) → is_array (kind_at r4 e) ≡ true → ArrayIs e
-  array_is (tree.identifier s x) h is =
-      let g = name_array (named_at r4 x.site.token) is in
-      record { number = g.0; row = ap (λ n. Some (named_row r4 written n)) g.1; content = ap (declared_locks m4 0) g.1 }
-  array_is (tree.parentheses s e) h is = let x = array_is e h.1 is in record { number = x.number; row = x.row; content = x.content }
-  array_is (tree.field s e v n) h is =
-      let x = member s e v n _ (typed_at (tree.field s e v n) h.0) in
-      absurd (no_variable (declaration_at r4 x.of.name.site.token) (ap (λ z. is_array (named_kind r4 z)) (sym x.names) ∙ is))
-  array_is (tree.constant s (constants.Number n)) h is = absurd (no_number n.number_type is)
-  array_is (tree.constant s (constants.Character b)) h is = absurd (false≢true is)
-  array_is (tree.constant s constants.Null) h is = absurd (false≢true is)
-  array_is (tree.call s f all) h is = absurd (no_called (named_at r4 f.site.token) is)
-  array_is (tree.spawn s f e) h is = absurd (false≢true is)
-  array_is (tree.on_value s w e) h is = absurd (false≢true is)
-  array_is (tree.on_place s w e) h is = absurd (false≢true is)
-  array_is (tree.cast s t e) h is = absurd (false≢true is)
-  array_is (tree.index s e n) h is = absurd (no_element (kind_at r4 e) is)
-  array_is (tree.unary s Negate e) h is = absurd (no_long (is_long (kind_at r4 e)) is)
-  array_is (tree.unary s Not e) h is = absurd (false≢true is)
-  array_is (tree.unary s Complement e) h is = absurd (no_long (is_long (kind_at r4 e)) is)
-  array_is (tree.unary s Dereference e) h is = absurd (no_element (kind_at r4 e) is)
-  array_is (tree.binary s o at e z) h is = absurd (no_binary (class_of o) (kind_at r4 e) (kind_at r4 z) is)
+  array_is e h is =
+      let x = array_name r4 e (each (IsExpression m4) (λ e. HasType r4 e (kind_at r4 e)) typed_at (expressions e) h) is in
+      array_named e x.0 x.1
 
   -- ---- by their forms
   global_all : (g : ℕ) → AllGlobal r4 (modes_of m4 (global_row r4 written (global_at r4 g)))
@@ -673,5 +622,7 @@ module _ (rows : RowLaws) (expressions_found : ExpressionsFound) (one_type : One
   points (tree.cast s t e) modes h is cell b = absurd (no_cell cell)
   points (tree.binary s o at e z) modes h is cell b = absurd (no_cell cell)
 
-pub places_point : RowLaws → ExpressionsFound → OneType → RulesAreMet → EachTypeFound → EachPathFound → MeetsConstraints → PlacesPoint
-places_point rows expressions_found one_type rules found paths constraints c a globals siblings l i reg e modes h is cell b = points rows expressions_found one_type rules found paths constraints c a globals siblings l i reg e modes h is cell b
+pub places_point : RowLaws → ExpressionsFound → OneType → RulesAreMet → EachTypeFound → EachPathFound → MeetsConstraints → EachNameOnce → OnlyNames → FieldsPlaced → PlacesPoint
+places_point rows expressions_found one_type rules found paths constraints once only fields_placed c a globals l i reg e modes h is cell b =
+    points rows expressions_found one_type rules found paths constraints c a globals
+    (siblings_are c.program.typed fields_placed a.placed (all_say once only c.program.typed a.resolved a.placed a.low)) l i reg e modes h is cell b

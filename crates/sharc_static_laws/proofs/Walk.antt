@@ -19,7 +19,7 @@ use Rattle.sharc_ctype.specs.Resolved.{Resolution, functions_in, declaration_at,
 use Rattle.sharc_ctype.specs.Statements.{Around, opened, looping, with_names, is_here, declared, behind_first, in_head, after, first_locals, locals_in, locals_in_all}
 use Rattle.sharc_ctype_laws.specs.Declared.{IsItself}
 use Rattle.sharc_ctype_laws.specs.Found.{IsFound, EachTypeFound}
-use Rattle.sharc_ctype_laws.specs.Laws.{EachNamesItself, EachNamesFound, EachPathFound, MeetsConstraints, NamesFound}
+use Rattle.sharc_ctype_laws.specs.Laws.{EachNameOnce, OnlyNames, EachNamesItself, EachNamesFound, EachPathFound, MeetsConstraints, NamesFound}
 use Rattle.sharc_ctype_laws.specs.Paths.{meaning_token, IsVariableIn, TypeStands, PathsAt, FirstStands as FirstRead, LocalsStand, AllLocalsStand, around_in, BodyStands}
 use Rattle.sharc_ctype_laws.specs.Places.{Placing, at, places_in_local, places_in_first, places_in, places_in_all, places_of, places_of_all}
 use Rattle.sharc_mode.specs.Flows.{IsLeastAssignment}
@@ -29,7 +29,9 @@ use Rattle.sharc_flat.specs.declared.slot.Slot.{Slot}
 use Rattle.sharc_flat.specs.Flattened.{with_variable, behind_first as flat_behind_first, behind_statement, parameters_scope}
 use Rattle.sharc_flat.specs.Scope.{Context, slot_of, slot_kind}
 use Rattle.sharc_static_laws.specs.Scopes.{DeclaredStands, IsClosedScope}
-use Rattle.sharc_static_laws.specs.Standing.{ExpressionStands, ExpressionsStand, LocalStands, FirstStands, StatementStands, StatementsStand, FunctionStands, ParametersStand, FunctionsStand}
+use Rattle.sharc_static_laws.specs.Standing.{ExpressionStands, ExpressionsStand, LocalStands, FirstStands, StatementStands, StatementsStand, FunctionStands, FunctionsStand}
+use Rattle.sharc_static_laws.proofs.Noted.{all_say, parameters_closed}
+use Rattle.sharc_static_laws.proofs.Scoping.{ParametersStand}
 use Rattle.sharc_static_laws.proofs.Lists.{both, front, back, of_each, head_there, tail_there, same_some, none_some}
 use Rattle.sharc_static_laws.proofs.FileNames.{in_file}
 use Rattle.sharc_static_laws.proofs.Places.{right_kind, Here, FileKnown, file_known, found_stands, reads_written, Seen, all_stand, casts_found, PlaceKnown, IsTyped, seen_by}
@@ -404,9 +406,10 @@ none_among [] all x h = h
 none_among (e ∷ rest) all x (inl h) = all.0 x h
 none_among (e ∷ rest) all x (inr h) = none_among rest all.1 x h
 
-pub functions_stand : EachNamesItself → EachNamesFound → EachPathFound → EachTypeFound → MeetsConstraints → FunctionsStand
-functions_stand itself names paths types constraints m accepted closed globals f stands =
+pub functions_stand : EachNameOnce → OnlyNames → EachNamesItself → EachNamesFound → EachPathFound → EachTypeFound → MeetsConstraints → FunctionsStand
+functions_stand once only itself names paths types constraints m accepted globals f stands =
     let r = m.typed in
+    let closed = parameters_closed r (all_say once only r accepted.resolved accepted.placed accepted.low) in
     let items = r.program.items in
     let file = file_scope items in
     let found = types r accepted.resolved accepted.placed accepted.low in

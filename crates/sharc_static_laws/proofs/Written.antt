@@ -1,5 +1,5 @@
 -- What holds of the modes that are written in a type, and of those that are never written, holds of the modes of all its positions.
-use Rattle.std.proofs.Common.{◌≡◌, ⊎_elim, ℕ, zero, suc, ◌+◌, ◌-◌, ◌<◌, ◌==◌, Bool, true, false, cond, List, [], ◌∷◌, ◌++◌, length, take, drop, refl, ap, sym, ◌∙◌, subst, arith, Option, Some, None, Contains}
+use Rattle.std.proofs.Common.{◌≡◌, ⊎_elim, ℕ, zero, suc, ◌+◌, ◌-◌, ◌<◌, ◌≤◌, ◌==◌, Bool, true, false, cond, List, [], ◌∷◌, ◌++◌, length, take, drop, refl, ap, sym, ◌∙◌, subst, arith, Option, Some, None, Contains}
 use Rattle.std.proofs.lemmas.Bool.{eqb-false}
 use Rattle.std.specs.Prelude.{slice_index_or}
 use Rattle.std.specs.List.{AllByRecursion, find}
@@ -11,7 +11,7 @@ use Rattle.sharc_names.specs.declared.types.Role.{Role}
 use Rattle.sharc_names.specs.declared.types.Role.TheVariants as role
 use Rattle.sharc_ctype.specs.declared.entity.Entity.{Entity}
 use Rattle.sharc_ctype.specs.declared.entity.Numbered.{Numbered}
-use Rattle.sharc_ctype.specs.Entities.{entities_in, numbered_from, positions_of, written_modes, first_depth}
+use Rattle.sharc_ctype.specs.Entities.{entities_in, numbered_from, positions_of, positions_in, written_modes, first_depth}
 use Rattle.sharc_graph.specs.declared.graph.Finding.{Finding}
 use Rattle.sharc_graph.specs.declared.graph.Finding.TheVariants.{Apart, Source, Behind}
 use Rattle.sharc_graph.specs.Findings.{finding_at}
@@ -37,12 +37,13 @@ in_right [] b j k e = let z : j ≡ k = omega (arith, e) in ap (λ i. slice_inde
 in_right (x ∷ a) b zero k e = absurd (omega (arith, e))
 in_right (x ∷ a) b (suc j) k e = in_right a b j k (omega (arith, e))
 
-record Position (list : List Entity) (s : ℕ) (n : Numbered) : Type 0 where
-  skip : ℕ
-  first : n.first ≡ s + skip
-  levels : (k : ℕ) → k < positions_of n.entity → slice_index_or (settled_in list) (skip + k) (Some Private) ≡ slice_index_or (settled_modes n.entity) k (Some Private)
+pub record Position (list : List Entity) (s : ℕ) (n : Numbered) : Type 0 where
+  pub skip : ℕ
+  pub first : n.first ≡ s + skip
+  pub inside : skip + positions_of n.entity ≤ positions_in list
+  pub levels : (k : ℕ) → k < positions_of n.entity → slice_index_or (settled_in list) (skip + k) (Some Private) ≡ slice_index_or (settled_modes n.entity) k (Some Private)
 
-position_there : (list : List Entity) (s : ℕ) (n : Numbered) → Contains (numbered_from s list) n → Position list s n
+pub position_there : (list : List Entity) (s : ℕ) (n : Numbered) → Contains (numbered_from s list) n → Position list s n
 position_there [] s n has = absurd (none_there n has)
 position_there (e ∷ rest) s n has = ⊎_elim (λ is. subst (Position (e ∷ rest) s) is here) (λ more. later (position_there rest (s + positions_of e) n more)) (head_or_tail _ n _ has)
   where
@@ -53,13 +54,15 @@ position_there (e ∷ rest) s n has = ⊎_elim (λ is. subst (Position (e ∷ re
     here = record {
       skip = 0;
       first = omega arith;
+      inside = omega arith;
       levels = λ k low. let z : 0 + k ≡ k = omega arith in ap (λ i. slice_index_or (settled_modes e ++ settled_in rest) i (Some Private)) z ∙ in_left (settled_modes e) (settled_in rest) k (omega (arith, low, size));
     }
 
     later : Position rest (s + positions_of e) n → Position (e ∷ rest) s n
-    later w = let first = w.first in record {
+    later w = let first = w.first in let inside = w.inside in record {
       skip = positions_of e + w.skip;
       first = omega (arith, first);
+      inside = omega (arith, inside);
       levels = λ k low. in_right (settled_modes e) (settled_in rest) (positions_of e + w.skip + k) (w.skip + k) (omega (arith, size)) ∙ w.levels k low;
     }
 

@@ -4,10 +4,9 @@ use Rattle.sharc_tree.specs.declared.tree.declaration.Declaration.{Declaration}
 use Rattle.sharc_tree.specs.Tree.{Expression, Arguments, value}
 use Rattle.sharc_names.specs.declared.fault.Named.TheVariants as named
 use Rattle.sharc_names.specs.Kinds.{is_pointer, declared_kind}
-use Rattle.sharc_ctype.specs.Resolved.{Resolution, named_at, declaration_at, variable_kind}
+use Rattle.sharc_ctype.specs.Resolved.{named_at}
 use Rattle.sharc_ctype.specs.Transfers.{variable, passed}
 use Rattle.sharc_mode.specs.Rows.{argument_use}
-use Rattle.sharc_mode.specs.WellFormed.{fields_behind}
 use Rattle.sharc_mode_laws.specs.Constructs.{IsCall}
 use Rattle.sharc_flat.specs.Flattened.{parameters_scope}
 use Rattle.sharc_flat.specs.Scope.{Context}
@@ -24,12 +23,8 @@ at_entry c ds = record c { scope = parameters_scope ds }
 abbrev pub AreCopies : Context → List Declaration → Arguments → Label → ℕ → Type 0
 AreCopies c ds all l k = (x at y : ℕ) → argument_use c.program.typed ds all x ≡ Some at → named_at c.program.typed at ≡ named.Variable y → SameReference l (register c y) (k + register (at_entry c ds) x)
 
--- variables of one C type lead to the fields of one struct
-abbrev pub HasOneStruct : Resolution → Type 0
-HasOneStruct r = (x y : ℕ) → variable_kind (declaration_at r x) ≡ variable_kind (declaration_at r y) → fields_behind r (declaration_at r x) ≡ fields_behind r (declaration_at r y)
-
 -- an argument in register a
 abbrev pub ArgumentsPass : Type 0
-ArgumentsPass = (c : Context) → IsAccepted c.program → HasOneStruct c.program.typed → (ds : List Declaration) (all : Arguments) (d : Declaration) (e : Expression) → IsCall c.program ds all
+ArgumentsPass = (c : Context) → IsAccepted c.program → (ds : List Declaration) (all : Arguments) (d : Declaration) (e : Expression) → IsCall c.program ds all
     → Contains (passed ds all) record { receiver = variable d; source = value e } → is_pointer (declared_kind d.written) ≡ true
     → (l : Label) (k a : ℕ) → AreCopies c ds all l k → Passes l k a (entry_of c e) (Refers (variable_type (at_entry c ds) d.name.site.token))

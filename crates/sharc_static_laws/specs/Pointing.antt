@@ -1,23 +1,18 @@
 -- The locks of what a cell refers to: those of the table of targets name the same mutexes as those of the type that the source gives to the cell's value.
-use Rattle.std.specs.Prelude.{◌≡◌, ℕ, true, List, [], ◌∷◌, map, Option, Some, None, Contains, if◌then◌else◌}
+use Rattle.std.specs.Prelude.{◌≡◌, ℕ, true, List, [], ◌∷◌, map, Option, Some, None, if◌then◌else◌}
 use Rattle.std.specs.List.{AllByRecursion}
-use Rattle.sharc_tree.specs.declared.ctype.Base.TheVariants as base
-use Rattle.sharc_tree.specs.declared.ctype.Mode.TheVariants.{Locked}
-use Rattle.sharc_tree.specs.declared.ctype.Path.TheVariants.{One}
-use Rattle.sharc_tree.specs.declared.tree.declaration.Declaration.{Declaration}
 use Rattle.sharc_tree.specs.declared.tree.expression.Access.TheVariants.{Dot, Arrow}
 use Rattle.sharc_tree.specs.declared.tree.expression.UnaryOperator.TheVariants.{Dereference}
 use Rattle.sharc_tree.specs.Measures.{expressions}
 use Rattle.sharc_tree.specs.Tree.{Expression, identifier, parentheses, index, field, unary}
 use Rattle.sharc_names.specs.declared.fault.Named.{Named}
 use Rattle.sharc_names.specs.declared.fault.Named.TheVariants as named
-use Rattle.sharc_names.specs.Kinds.{object, is_array}
-use Rattle.sharc_ctype.specs.Resolved.{Resolution, named_at, declaration_at, variable_kind, kind_at}
-use Rattle.sharc_ctype_laws.specs.Constraints.{IsMemberOf}
-use Rattle.sharc_meaning.specs.Cells.{field_place, field_place_named, field_place_behind}
+use Rattle.sharc_names.specs.Kinds.{is_array}
+use Rattle.sharc_ctype.specs.Resolved.{named_at, kind_at}
+use Rattle.sharc_meaning.specs.Cells.{field_place_named}
 use Rattle.sharc_mode.specs.Moded.{Assignment}
 use Rattle.sharc_mode.specs.Rows.{written, constant_use, named_row, modes_of, modes_at}
-use Rattle.sharc_mode.specs.Sharings.{Sharing, text_at}
+use Rattle.sharc_mode.specs.Sharings.{Sharing}
 use Rattle.sharc_mode_laws.specs.Constructs.{IsExpression}
 use Rattle.sharc_flat.specs.Places.{target, cell_of}
 use Rattle.sharc_flat.specs.Scope.{Context}
@@ -71,14 +66,8 @@ IsBased c l r (field s a Arrow n) = BaseIs c l r a
 IsBased c l r (unary s Dereference a) = BaseIs c l r a
 IsBased c l r _ = Unit {0}
 
--- ---- siblings
--- The lock path `m` of a field's type that names a sibling names the field `m` of its struct.
-abbrev pub SiblingsAre : Resolution → Type 0
-SiblingsAre r = (x : ℕ) (struct name : List ℕ) (d : Declaration) (text : List ℕ) (token t : ℕ) → variable_kind (declaration_at r x) ≡ object (base.Struct struct) 1 → IsMemberOf r struct name d
-    → Contains d.written.ctype.levels (Some (Locked (One text token))) → named_at r token ≡ named.Field t → field_place_behind r x (text_at r token) ≡ field_place r t
-
 -- What the cell of an lvalue refers to has, in the table, the locks that the source gives it.
 abbrev pub PlacesPoint : Type 0
-PlacesPoint = (c : Context) → IsAccepted c.program → c.globals ≡ globals_of c.program.typed → SiblingsAre c.program.typed → (l : Label) (i r : ℕ) (e : Expression) (modes : List Sharing)
+PlacesPoint = (c : Context) → IsAccepted c.program → c.globals ≡ globals_of c.program.typed → (l : Label) (i r : ℕ) (e : Expression) (modes : List Sharing)
     → AllByRecursion (IsExpression c.program) (expressions e) → modes_at c.program e ≡ Some modes → is_cell (target c.program.typed None e) ≡ true → IsBased c l r e
     → AreFieldLocks l (cell_of c.globals i r (target c.program.typed None e)) (locks_at c modes) (content_locks c.program e)

@@ -1,15 +1,9 @@
 -- The lock paths of types lead through pointers that stand: of the type of each expression and each local of a function, in the variables that stand there as flat
 -- code has them.
-use Rattle.std.specs.Prelude.{ℕ, List, [], ◌∷◌, length, Contains}
+use Rattle.std.specs.Prelude.{List}
 use Rattle.std.specs.List.{AllByRecursion}
-use Rattle.sharc_tree.specs.declared.tree.declaration.Declaration.{Declaration}
 use Rattle.sharc_tree.specs.Measures.{expressions, in_option, in_simple, in_local}
 use Rattle.sharc_tree.specs.Tree.{Expression, Local, First, nothing, declares, does, Statement, empty, block, declare, simple, jump, return, if_then, if_then_else, while, for, Statements, no_statements, statement, Function}
-use Rattle.sharc_names.specs.Names.{Entry}
-use Rattle.sharc_ctype.specs.Items.{file_scope}
-use Rattle.sharc_ctype.specs.Resolved.{Resolution, functions_in}
-use Rattle.sharc_ctype.specs.Statements.{declared}
-use Rattle.sharc_ctype_laws.specs.Paths.{TypeStands}
 use Rattle.sharc_code.specs.declared.code.GlobalCells.{GlobalCells}
 use Rattle.sharc_mode.specs.Moded.{Assignment}
 use Rattle.sharc_mode.specs.Rows.{modes_at}
@@ -58,14 +52,5 @@ pub record FunctionStands (m : Assignment) (globals : List GlobalCells) (f : Fun
   pub parameters : IsClosedScope m (parameters_scope f.parameters)
   pub statements : StatementsStand (in_function m globals f) f.statements
 
--- the lock paths of a parameter's type lead through parameters before it
-abbrev pub ParametersStand : Resolution → ℕ → List Entry → List Declaration → Type 0
-ParametersStand r start names [] = Unit {0}
-ParametersStand r start names (d ∷ rest) = TypeStands r names d.written × ParametersStand r start (declared start d names) rest
-
-abbrev pub AreParametersClosed : Resolution → Type 0
-AreParametersClosed r = (f : Function) → Contains (functions_in r.program.items) f
-    → ParametersStand r (length (file_scope r.program.items).names) (file_scope r.program.items).names f.parameters
-
 abbrev pub FunctionsStand : Type 0
-FunctionsStand = (m : Assignment) → IsAccepted m → AreParametersClosed m.typed → (globals : List GlobalCells) (f : Function) → IsFunction m f → FunctionStands m globals f
+FunctionsStand = (m : Assignment) → IsAccepted m → (globals : List GlobalCells) (f : Function) → IsFunction m f → FunctionStands m globals f

@@ -1,5 +1,6 @@
 // The laws, each the contract of a function that does nothing.
 
+ghost use Rattle.sharc_static_laws.specs.Alone.{SomeAreAlone};
 ghost use Rattle.sharc_static_laws.specs.Calls.{ArgumentsPass};
 ghost use Rattle.sharc_static_laws.specs.Casting.{CastsRecast};
 ghost use Rattle.sharc_static_laws.specs.Held.{HeldLaws};
@@ -11,12 +12,13 @@ ghost use Rattle.sharc_static_laws.specs.Starting.{SpawnedBegin};
 ghost use Rattle.sharc_static_laws.specs.Taken.{TakenLaws};
 
 use sharc_ctype_laws::laws::{
-    all_fair, each_names_found, each_names_itself, each_path_found, each_type_found,
-    meets_constraints, one_type, spawns_threads,
+    all_fair, each_name_once, each_names_found, each_names_itself, each_path_found,
+    each_type_found, meets_constraints, one_type, only_names, spawns_threads,
 };
+use sharc_mode::laws::link_laws;
 use sharc_mode::shown::row_laws;
-use sharc_mode_laws::laws::rules_are_met;
-use sharc_target_laws::laws::{expressions_found, numbers_found, variables_found};
+use sharc_mode_laws::laws::{reached_are_told, rules_are_met};
+use sharc_target_laws::laws::{expressions_found, fields_placed, numbers_found, variables_found};
 
 /// What is assigned, begun with and returned has the type of what it is given to.
 pub fn given_laws()
@@ -50,6 +52,8 @@ pub fn held_laws()
 pub fn arguments_pass()
     ensures { ArgumentsPass }
 {
+    each_name_once();
+    only_names();
     each_type_found();
     rules_are_met();
     all_fair();
@@ -60,6 +64,8 @@ pub fn arguments_pass()
 pub fn functions_stand()
     ensures { FunctionsStand }
 {
+    each_name_once();
+    only_names();
     each_names_itself();
     each_names_found();
     each_path_found();
@@ -78,6 +84,9 @@ pub fn places_point()
     each_type_found();
     each_path_found();
     meets_constraints();
+    each_name_once();
+    only_names();
+    fields_placed();
 }
 
 /// What the cells of an object are and refer to does not change by a cast.
@@ -103,4 +112,17 @@ pub fn spawned_begin()
     rules_are_met();
     all_fair();
     each_names_itself();
+}
+
+/// Functions that no thread reaches can be told, and they alone name private cells of globals.
+pub fn some_are_alone()
+    ensures { SomeAreAlone }
+{
+    reached_are_told();
+    link_laws();
+    rules_are_met();
+    each_type_found();
+    each_path_found();
+    each_names_itself();
+    meets_constraints();
 }

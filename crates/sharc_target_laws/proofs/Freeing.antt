@@ -113,7 +113,7 @@ among_few n (x ∷ rest) = by (is_pointer_kind (declared_kind x.written)) (among
     by true low = omega (arith, low)
     by false low = omega (arith, low)
 
-past_end : (fields : List Field) (k : ℕ) → length fields ≤ k → slice_index_or fields k no_field ≡ no_field
+pub past_end : (fields : List Field) (k : ℕ) → length fields ≤ k → slice_index_or fields k no_field ≡ no_field
 past_end [] k low = refl
 past_end (f ∷ rest) zero low = absurd (omega (arith, low))
 past_end (f ∷ rest) (suc k) low = past_end rest k (omega (arith, low))

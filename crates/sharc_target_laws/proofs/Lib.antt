@@ -1,5 +1,6 @@
 pub mod Alike
 pub mod Beginning
+pub mod Beside
 pub mod Cells
 pub mod Expressing
 pub mod Fits

@@ -25,13 +25,13 @@ use Rattle.sharc_names.specs.Kinds.{Kind, object, array, is_array, is_null, is_p
 use Rattle.sharc_names.specs.Kinds as kinds
 use Rattle.sharc_names.specs.Names.{global_kind, field_of}
 use Rattle.sharc_ctype.specs.Expressions.{constant_kind, number_kind}
-use Rattle.sharc_ctype.specs.Resolved.{Resolution, named_at, declaration_at, global_at, kind_at, structs_in}
+use Rattle.sharc_ctype.specs.Resolved.{Resolution, named_at, named_kind, declaration_at, global_at, kind_at, structs_in}
 use Rattle.sharc_ctype_laws.specs.Constraints.{HasType, Common, both_shorter, left_long, right_long, struct_named, IsMemberOf, Callee, of_program, of_conditions}
 use Rattle.sharc_ctype_laws.specs.Constraints as typing
 use Rattle.sharc_mode.specs.Cells.{is_mutex_kind, top_of, field_cell, first_of, pointed, named_cell, global_cell, declared_cell, field_named, cell_at}
 use Rattle.sharc_mode.specs.Moded.{Assignment}
 use Rattle.sharc_mode.specs.Notes.{base_of}
-use Rattle.sharc_mode.specs.Rows.{Reading, written, Row, constant_row, deeper, declared_row, global_row, named_row, reading_through, base_use, behind, row_at, read, modes_of}
+use Rattle.sharc_mode.specs.Rows.{Reading, written, Row, constant_row, deeper, declared_row, global_row, named_row, reading_through, base_use, behind, row_at, read, modes_of, modes_at}
 use Rattle.sharc_mode.specs.Sharings.{Lock, Sharing, locked, lock_of, sharing_of}
 use Rattle.sharc_mode.specs.Sharings as sharings
 use Rattle.sharc_mode_laws.specs.Constructs.{IsExpression}
@@ -39,7 +39,7 @@ use Rattle.sharc_meaning.specs.Cells.{field_place, field_place_named}
 use Rattle.sharc_flat.specs.Places.{Target, variable, in_object, in_object_at, in_global, in_global_at, named_target, own_field, target, global_of}
 use Rattle.sharc_invariant.specs.Types.{FieldMode, FieldLock, Field, Content, Pointer, Target as TableTarget, no_field, row_of}
 use Rattle.sharc_target_laws.specs.Laws.{IsRowOf, IsMemberAt}
-use Rattle.sharc_target_laws.specs.Lvalues.{pointer_of, IsOfObject, IsOfGlobal, LocksFit, are_written, of_type, ContentFits, ModeFits, FieldFits, IsBehindPointer, IsInFile, NamesCell, no_cell, of_object, of_global}
+use Rattle.sharc_target_laws.specs.Lvalues.{pointer_of, below_locks, locks_below, named_locks, cell_locks, IsOfObject, IsOfGlobal, LocksFit, are_written, of_type, ContentFits, ModeFits, FieldFits, IsBehindPointer, IsInFile, NamesCell, no_cell, of_object, of_global}
 use Rattle.sharc_target_laws.specs.Shapes.{Shape, form_of, shape_of, row_shape, expression_shape, shapes, number}
 use Rattle.sharc_target_laws.specs.Targets.{own_mode, lock_count, type_locks, field_locks, is_private_mode, base_content, pointer_content, declared_content, single, member, base_fields, shape_fields, top_mode, global_element, targets_of}
 use Rattle.sharc_target_laws.proofs.Forms.{row_length}
@@ -150,7 +150,7 @@ pub record AreReady (m : Assignment) : Type 0 where
   pub field_path : (s : StructDefinition) (d : Declaration) → Contains (structs_in m.typed.program.items) s → Contains s.fields d → (path : Path) → top_of d.written.ctype.levels ≡ Some (mode.Locked path) → PathNames m.typed (lock_of path)
   pub field_plain : (s : StructDefinition) (d : Declaration) → Contains (structs_in m.typed.program.items) s → Contains s.fields d → is_struct_behind 0 (declared_kind d.written) ≡ false
   pub field_forms : (how : Reading) (token : ℕ) → map form_of (modes_of m (declared_row m.typed how token)) ≡ map form_of (modes_of m (declared_row m.typed written token))
-  pub global_path : (g : ℕ) (d : GlobalDefinition) → global_at m.typed g ≡ Some d → (l : Lock) → global_cell m (Some d) ≡ locked l → (k : ℕ) × (named_at m.typed l.first ≡ named.Global k)
+  pub global_path : (g : ℕ) (d : GlobalDefinition) → global_at m.typed g ≡ Some d → (l : Lock) → global_cell m (Some d) ≡ locked l → (k : ℕ) × (named_at m.typed l.first ≡ named.Global k) × (named_kind m.typed (named.Global k) ≡ kinds.mutex)
 
 module _ (m : Assignment) (ready : AreReady m) where
   abbrev r : Resolution
@@ -251,15 +251,15 @@ module _ (m : Assignment) (ready : AreReady m) where
       }
 
   scalar : (e : Expression) (b : Base) (n : ℕ) (first : Sharing) (below : List Sharing) → kind_at r e ≡ object b n → (n ≡ 0 → is_struct_base b ≡ false) → length below ≡ n → (row : Row) → row_at r e ≡ Some row → modes_of m row ≡ below → cell_at m e ≡ first
-      → IsScalar e b first below
-  scalar e b n first [] kind plain many row at modes cell =
+      → cell_locks m e ≡ below_locks (form_of first ∷ map form_of below) → IsScalar e b first below
+  scalar e b n first [] kind plain many row at modes cell told =
       let none : n ≡ 0 = sym many in
       let same = single_fields m (own_mode (form_of first)) b (plain none) in
       record {
         inside = subst (λ l. 0 < length l) (sym same) (omega arith);
         fits = subst (λ l. FieldFits m e 0 (first ∷ []) (slice_index_or l 0 no_field)) (sym same) (one_cell e b n (first ∷ []) first (own_mode (form_of first)) kind none (plain none) cell (own_fits r 0 first []));
       }
-  scalar e b n first (y ∷ rest) kind plain many row at modes cell =
+  scalar e b n first (y ∷ rest) kind plain many row at modes cell told =
       let deep : kind_at r e ≡ object b (suc (length rest)) = kind ∙ ap (object b) (sym many) in
       let shape_same : expression_shape m e row ≡ record { base = b; forms = form_of y ∷ map form_of rest } = ap (λ k. row_shape m (base_of k) row) deep ∙ ap (λ l. shape_of b l) modes in
       record {
@@ -271,15 +271,18 @@ module _ (m : Assignment) (ready : AreReady m) where
                 is = at;
                 locks = type_locks (lock_count (form_of first)) (map form_of (y ∷ rest));
                 fit = of_type first (y ∷ rest) refl (ap (option_map (modes_of m)) at ∙ ap Some modes);
+                told = sym told;
                 pointer = ap (λ s. Pointer (record { target = number m s; locks = type_locks (lock_count (form_of first)) (map form_of (y ∷ rest)) })) (sym shape_same);
               });
           mode = λ other. subst (λ x. ModeFits r 0 (first ∷ y ∷ rest) x (own_mode (form_of first))) (sym cell) (own_fits r 0 first (y ∷ rest));
         };
       }
 
-  behind_scalar : (e p : Expression) (b : Base) (n : ℕ) → kind_at r e ≡ object b n → (n ≡ 0 → is_struct_base b ≡ false) → pointer_of r e ≡ Some p → IsExpression m p → (w : IsPointee p b n) → row_at r e ≡ Some (deeper w.row) → cell_at m e ≡ pointed m (Some w.row) → IsBehindPointer m e 0
-  behind_scalar e p b n kind plain leads stands w at cell =
-      let s = scalar e b n w.first w.below kind plain w.many (deeper w.row) at w.deep (cell ∙ w.points) in
+  behind_scalar : (e p : Expression) (b : Base) (n : ℕ) → kind_at r e ≡ object b n → (n ≡ 0 → is_struct_base b ≡ false) → pointer_of r e ≡ Some p → IsExpression m p → (w : IsPointee p b n) → row_at r e ≡ Some (deeper w.row) → cell_at m e ≡ pointed m (Some w.row)
+      → cell_locks m e ≡ locks_below (modes_at m p) → IsBehindPointer m e 0
+  behind_scalar e p b n kind plain leads stands w at cell told =
+      let s = scalar e b n w.first w.below kind plain w.many (deeper w.row) at w.deep (cell ∙ w.points)
+      (told ∙ ap (λ o. locks_below (option_map (modes_of m) o)) w.row_found ∙ ap (λ l. below_locks (map form_of l)) w.modes) in
       record {
         pointer = p;
         leads = leads;
@@ -293,8 +296,9 @@ module _ (m : Assignment) (ready : AreReady m) where
 
   -- ---- a global that is no struct
   file_scalar : (e : Expression) (g : ℕ) (d : GlobalDefinition) (b : Base) (n : ℕ) → kind_at r e ≡ object b n → (n ≡ 0 → is_struct_base b ≡ false) → declared_kind d.declaration.written ≡ object b n → global_at r g ≡ Some d
-      → row_at r e ≡ Some (declared_row r written d.declaration.name.site.token) → cell_at m e ≡ global_cell m (Some d) → IsInFile m e g 0
-  file_scalar e g d b n kind plain declared_is at row cell = by n (same_stars _ _ _ _ declared_is) kind plain
+      → row_at r e ≡ Some (declared_row r written d.declaration.name.site.token) → cell_at m e ≡ global_cell m (Some d)
+      → cell_locks m e ≡ field_locks r 0 (modes_of m (declared_row r written d.declaration.name.site.token)) → IsInFile m e g 0
+  file_scalar e g d b n kind plain declared_is at row cell told = by n (same_stars _ _ _ _ declared_is) kind plain
     where
       base_is : d.declaration.written.ctype.base ≡ b
       base_is = same_base _ _ _ _ declared_is
@@ -333,6 +337,7 @@ module _ (m : Assignment) (ready : AreReady m) where
                   is = row;
                   locks = field_locks r 0 (modes_of m (declared_row r written d.declaration.name.site.token));
                   fit = are_written d.declaration.name.site.token written row;
+                  told = sym told;
                   pointer = content_is ∙ ap (λ s. Pointer (record { target = number m s; locks = field_locks r 0 (modes_of m (declared_row r written d.declaration.name.site.token)) })) (sym shape_same);
                 });
             mode = λ other. subst (λ x. ModeFits r 0 [] x (top_mode m d)) (sym cell) own_mode_fits;
@@ -340,8 +345,9 @@ module _ (m : Assignment) (ready : AreReady m) where
 
   -- ---- a field
   member_fits : (e : Expression) (n : ℕ) (modes : List Sharing) (q : Sharing) (Q : FieldMode) (s : StructDefinition) (d : Declaration) (how : Reading) → Contains (structs_in r.program.items) s → Contains s.fields d
-      → kind_at r e ≡ declared_kind d.written → row_at r e ≡ Some (declared_row r how d.name.site.token) → cell_at m e ≡ field_cell r q d.written → ModeFits r n modes q Q → is_private_mode Q ≡ sharings.is_private q → FieldFits m e n modes (member m Q n d)
-  member_fits e n modes q Q s d how is_struct is_member kind row cell fit both = record {
+      → kind_at r e ≡ declared_kind d.written → row_at r e ≡ Some (declared_row r how d.name.site.token) → cell_at m e ≡ field_cell r q d.written → ModeFits r n modes q Q → is_private_mode Q ≡ sharings.is_private q
+      → cell_locks m e ≡ field_locks r n (modes_of m (declared_row r written d.name.site.token)) → FieldFits m e n modes (member m Q n d)
+  member_fits e n modes q Q s d how is_struct is_member kind row cell fit both told = record {
     content = subst (λ k. ContentFits m e n modes k (declared_content m n d)) (sym kind) (by (length d.written.ctype.levels - 1) refl);
     mode = λ other. subst (λ x. ModeFits r n modes x (member m Q n d).mode) (sym cell) (field_fits r n modes q Q fit both d.written (ready.field_path s d is_struct is_member));
   }
@@ -358,6 +364,7 @@ module _ (m : Assignment) (ready : AreReady m) where
             is = row;
             locks = field_locks r n (modes_of m (declared_row r written d.name.site.token));
             fit = are_written d.name.site.token how row;
+            told = sym told;
             pointer = ap (λ b. cond b (pointer_content m n d.written.ctype.base (modes_of m (declared_row r written d.name.site.token))) (base_content d.written.ctype.base)) deep
                 ∙ ap (λ x. Pointer (record { target = number m x; locks = field_locks r n (modes_of m (declared_row r written d.name.site.token)) })) (sym shape_same);
           }
@@ -368,13 +375,14 @@ module _ (m : Assignment) (ready : AreReady m) where
 
   -- behind a pointer
   behind_member : (e p : Expression) (x : List ℕ) (s : StructDefinition) (d : Declaration) (how : Reading) → pointer_of r e ≡ Some p → IsExpression m p → (w : IsPointee p (base.Struct x) 0) → struct_named (structs_in r.program.items) x ≡ Some s → Contains s.fields d
-      → kind_at r e ≡ declared_kind d.written → row_at r e ≡ Some (declared_row r how d.name.site.token) → cell_at m e ≡ field_cell r (pointed m (Some w.row)) d.written → IsBehindPointer m e (field_place r d.name.site.token)
-  behind_member e p x s d how leads stands w struct member_is kind row cell =
+      → kind_at r e ≡ declared_kind d.written → row_at r e ≡ Some (declared_row r how d.name.site.token) → cell_at m e ≡ field_cell r (pointed m (Some w.row)) d.written
+      → cell_locks m e ≡ field_locks r (field_place r d.name.site.token) (modes_of m (declared_row r written d.name.site.token)) → IsBehindPointer m e (field_place r d.name.site.token)
+  behind_member e p x s d how leads stands w struct member_is kind row cell told =
       let at = ready.members x s struct d member_is (own_mode (form_of w.first)) in
       let fields = w.fields ∙ no_targets (base.Struct x) w.first w.below w.many in
       let n = field_place r d.name.site.token in
       let fits : FieldFits m e n (w.first ∷ w.below) (member m (own_mode (form_of w.first)) n d) =
-      member_fits e n (w.first ∷ w.below) w.first (own_mode (form_of w.first)) s d how (ready.struct_found x s struct) member_is kind row (cell ∙ ap (λ q. field_cell r q d.written) w.points) (own_fits r n w.first w.below) (private_both w.first) in
+      member_fits e n (w.first ∷ w.below) w.first (own_mode (form_of w.first)) s d how (ready.struct_found x s struct) member_is kind row (cell ∙ ap (λ q. field_cell r q d.written) w.points) (own_fits r n w.first w.below) (private_both w.first) told in
       record {
         pointer = p;
         leads = leads;
@@ -390,15 +398,16 @@ module _ (m : Assignment) (ready : AreReady m) where
 
   -- of an element of a global
   file_member : (e : Expression) (g : ℕ) (f : GlobalDefinition) (x : List ℕ) (s : StructDefinition) (d : Declaration) (how : Reading) → global_at r g ≡ Some f → declared_kind f.declaration.written ≡ object (base.Struct x) 0 → struct_named (structs_in r.program.items) x ≡ Some s
-      → Contains s.fields d → kind_at r e ≡ declared_kind d.written → row_at r e ≡ Some (declared_row r how d.name.site.token) → cell_at m e ≡ field_cell r (global_cell m (Some f)) d.written → IsInFile m e g (field_place r d.name.site.token)
-  file_member e g f x s d how found declared_is struct member_is kind row cell =
+      → Contains s.fields d → kind_at r e ≡ declared_kind d.written → row_at r e ≡ Some (declared_row r how d.name.site.token) → cell_at m e ≡ field_cell r (global_cell m (Some f)) d.written
+      → cell_locks m e ≡ field_locks r (field_place r d.name.site.token) (modes_of m (declared_row r written d.name.site.token)) → IsInFile m e g (field_place r d.name.site.token)
+  file_member e g f x s d how found declared_is struct member_is kind row cell told =
       let at = ready.members x s struct d member_is (top_mode m f) in
       let n = field_place r d.name.site.token in
       let base_is : f.declaration.written.ctype.base ≡ base.Struct x = same_base _ _ _ _ declared_is in
       let fields : global_element m f ≡ base_fields m (top_mode m f) (base.Struct x) =
       ap (λ z. cond z (record { mode = top_mode m f; holds = declared_content m 0 f.declaration } ∷ []) (base_fields m (top_mode m f) f.declaration.written.ctype.base)) (ap is_pointer declared_is) ∙ ap (base_fields m (top_mode m f)) base_is in
       let fits : FieldFits m e n [] (member m (top_mode m f) n d) =
-      member_fits e n [] (global_cell m (Some f)) (top_mode m f) s d how (ready.struct_found x s struct) member_is kind row cell (global_fits r n (global_cell m (Some f)) (ready.global_path g f found)) (global_both r (global_cell m (Some f))) in
+      member_fits e n [] (global_cell m (Some f)) (top_mode m f) s d how (ready.struct_found x s struct) member_is kind row cell (global_fits r n (global_cell m (Some f)) (ready.global_path g f found)) (global_both r (global_cell m (Some f))) told in
       record {
         global = f;
         defined = found;
@@ -425,7 +434,7 @@ module _ (m : Assignment) (ready : AreReady m) where
 
   content_within : (s : _) (a : Expression) (n : ℕ) (modes : List Sharing) (k : Kind) (c : Content) → ContentFits m a n modes k c → ContentFits m (tree.parentheses s a) n modes k c
   content_within s a n modes (object b zero) c h = h
-  content_within s a n modes (object b (suc stars)) c h = record { row = h.row; is = h.is; locks = h.locks; fit = locks_within s a n modes h.locks h.fit; pointer = h.pointer }
+  content_within s a n modes (object b (suc stars)) c h = record { row = h.row; is = h.is; locks = h.locks; fit = locks_within s a n modes h.locks h.fit; told = h.told; pointer = h.pointer }
   content_within s a n modes (array b stars) c h = h
   content_within s a n modes kinds.null c h = h
   content_within s a n modes kinds.function c h = h
@@ -448,6 +457,7 @@ module _ (m : Assignment) (ready : AreReady m) where
     cell : cell_at m a ≡ global_cell m (Some global)
     row : row_at r a ≡ Some (declared_row r written global.declaration.name.site.token)
     declared_is : declared_kind global.declaration.written ≡ object b n
+    told : cell_locks m a ≡ field_locks r 0 (modes_of m (declared_row r written global.declaration.name.site.token))
 
   no_array : (c b : Base) (k n : ℕ) → object c k ≡ array b n → ⊥
   no_array c b k n h = cc
@@ -481,10 +491,13 @@ module _ (m : Assignment) (ready : AreReady m) where
   cell_of_global : (i n : ℕ) (g : GlobalDefinition) → named_at r i ≡ named.Global n → global_at r n ≡ Some g → named_cell m (named_at r i) ≡ global_cell m (Some g)
   cell_of_global i n g names at = ap (named_cell m) names ∙ ap (global_cell m) at
 
+  told_global : (i n : ℕ) (g : GlobalDefinition) → named_at r i ≡ named.Global n → global_at r n ≡ Some g → named_locks m 0 (named_at r i) ≡ field_locks r 0 (modes_of m (declared_row r written g.declaration.name.site.token))
+  told_global i n g names at = ap (named_locks m 0) names ∙ ap (λ o. field_locks r 0 (modes_of m (global_row r written o))) at
+
   array_base : (a : Expression) (k : Kind) → HasType r a k → (b : Base) (n : ℕ) → k ≡ array b n → IsArrayBase a b n
   array_base _ _ (typing.a_variable names at text) b n is = absurd (no_array _ b _ n is)
   array_base _ _ (typing.a_global {s} {i} {n} {g} names at text) b k is =
-      record { number = n; global = g; at = at; place = global_names i.site.token n None names; cell = cell_of_global i.site.token n g names at; row = row_of_global i.site.token n g names at; declared_is = by g.form is }
+      record { number = n; global = g; at = at; place = global_names i.site.token n None names; cell = cell_of_global i.site.token n g names at; row = row_of_global i.site.token n g names at; declared_is = by g.form is; told = told_global i.site.token n g names at }
     where
       by : (f : GlobalForm) → global_kind f (declared_kind g.declaration.written) ≡ array b k → declared_kind g.declaration.written ≡ object b k
       by form.Plain h = absurd (no_array _ b _ k h)
@@ -492,7 +505,7 @@ module _ (m : Assignment) (ready : AreReady m) where
       by (form.Initial span minus c) h = absurd (no_array _ b _ k h)
   array_base _ _ (typing.a_function callee) b n is = cc
   array_base _ _ (typing.a_constant {s} {c}) b n is = absurd (no_array_of (constant_kind c) b n (constant_plain c) is)
-  array_base _ _ (typing.in_parentheses {s} {a} {k} h) b n is = let w = array_base a k h b n is in record { number = w.number; global = w.global; at = w.at; place = w.place; cell = w.cell; row = w.row; declared_is = w.declared_is }
+  array_base _ _ (typing.in_parentheses {s} {a} {k} h) b n is = let w = array_base a k h b n is in record { number = w.number; global = w.global; at = w.at; place = w.place; cell = w.cell; row = w.row; declared_is = w.declared_is; told = w.told }
   array_base _ _ (typing.element_of_pointer ha hi integer) b n is = cc
   array_base _ _ (typing.element_of_array ha hi integer) b n is = cc
   array_base _ _ (typing.a_call callee types) b n is = absurd (callee_plain callee b n is)
@@ -591,7 +604,7 @@ module _ (m : Assignment) (ready : AreReady m) where
       with_kind : global_kind g.form (declared_kind g.declaration.written) ≡ declared_kind g.declaration.written → IsInFile m (tree.identifier s i) n 0
       with_kind same =
           file_scalar (tree.identifier s i) n g g.declaration.written.ctype.base (length g.declaration.written.ctype.levels - 1) (ready.one (tree.identifier s i) (global_kind g.form (declared_kind g.declaration.written)) (typing.a_global names at text) ∙ same)
-          (plain_kind g.declaration.written.ctype.base (length g.declaration.written.ctype.levels - 1) (sym (ap (is_struct_behind 0) same) ∙ plain)) refl at (row_of_global i.site.token n g names at) (cell_of_global i.site.token n g names at)
+          (plain_kind g.declaration.written.ctype.base (length g.declaration.written.ctype.levels - 1) (sym (ap (is_struct_behind 0) same) ∙ plain)) refl at (row_of_global i.site.token n g names at) (cell_of_global i.site.token n g names at) (told_global i.site.token n g names at)
 
       by : (f : GlobalForm) → g.form ≡ f → IsInFile m (tree.identifier s i) n 0
       by form.Plain e = with_kind (ap (λ z. global_kind z (declared_kind g.declaration.written)) e)
@@ -611,13 +624,15 @@ module _ (m : Assignment) (ready : AreReady m) where
       let w = pointee a b n ha inner in
       of_object (target r None (tree.index s a i)) 0 (inr (ap (λ z. cond z (in_global_at (global_of (target r None a)) 0) (in_object_at 0)) other))
       (behind_scalar (tree.index s a i) a b n (ready.one (tree.index s a i) (object b n) (typing.element_of_pointer ha hi integer)) (plain_kind b n plain) (ap (λ z. cond z None (Some a)) other) inner w
-      (ap (λ z. cond z (row_at r a) (behind (row_at r a))) other ∙ ap behind w.row_found) (ap (λ z. cond z (cell_at m a) (pointed m (row_at r a))) other ∙ ap (pointed m) w.row_found))
+      (ap (λ z. cond z (row_at r a) (behind (row_at r a))) other ∙ ap behind w.row_found) (ap (λ z. cond z (cell_at m a) (pointed m (row_at r a))) other ∙ ap (pointed m) w.row_found)
+      (ap (λ z. cond z (cell_locks m a) (locks_below (modes_at m a))) other))
   names_cell _ _ (typing.element_of_array {s} {a} {i} {b} {n} ha hi integer) stands plain single_one =
       let array_is = ap is_array (ready.one a (array b n) ha) in
       let w = array_base a (array b n) ha b n refl in
       of_global (target r None (tree.index s a i)) w.number 0 (inr (ap (λ z. cond z (in_global_at (global_of (target r None a)) 0) (in_object_at 0)) array_is ∙ ap (λ t. in_global_at (global_of t) 0) w.place))
       (file_scalar (tree.index s a i) w.number w.global b n (ready.one (tree.index s a i) (object b n) (typing.element_of_array ha hi integer)) (plain_kind b n plain) w.declared_is w.at
-      (ap (λ z. cond z (row_at r a) (behind (row_at r a))) array_is ∙ w.row) (ap (λ z. cond z (cell_at m a) (pointed m (row_at r a))) array_is ∙ w.cell))
+      (ap (λ z. cond z (row_at r a) (behind (row_at r a))) array_is ∙ w.row) (ap (λ z. cond z (cell_at m a) (pointed m (row_at r a))) array_is ∙ w.cell)
+      (ap (λ z. cond z (cell_locks m a) (locks_below (modes_at m a))) array_is ∙ w.told))
   names_cell _ _ (typing.a_call {s} {f} {all} callee types) stands plain single_one = nowhere_at (tree.call s f all) _ 0 refl
   names_cell _ _ (typing.a_field {s} {a} {x} {name} {d} h member names) stands plain single_one =
       by (struct_place a (object (base.Struct x) 0) h (part m (tree.field s a Dot name) a (tail_there (tree.field s a Dot name) a (expressions a) (self_there a)) stands) x refl)
@@ -640,13 +655,16 @@ module _ (m : Assignment) (ready : AreReady m) where
       place : field_place_named r (named_at r name.site.token) ≡ field_place r d.name.site.token
       place = ap (field_place_named r) names
 
+      told : cell_locks m (tree.field s a Dot name) ≡ field_locks r (field_place r d.name.site.token) (modes_of m (declared_row r written d.name.site.token))
+      told = ap (λ w. named_locks m (field_place_named r w) w) names
+
       by : StructPlace a x → NamesCell m (tree.field s a Dot name) (target r None (tree.field s a Dot name))
       by (is_behind p leads inner w at where_) =
           of_object _ (field_place r d.name.site.token) (subst (IsOfObject (target r None (tree.field s a Dot name))) place (where_ (field_place_named r (named_at r name.site.token))))
-          (behind_member (tree.field s a Dot name) p x member.0 d written leads inner w member.1 has kind row (cell ∙ ap (λ q. field_cell r q d.written) at))
+          (behind_member (tree.field s a Dot name) p x member.0 d written leads inner w member.1 has kind row (cell ∙ ap (λ q. field_cell r q d.written) at) told)
       by (is_in_file g f found declared_is at where_) =
           of_global _ g (field_place r d.name.site.token) (subst (IsOfGlobal (target r None (tree.field s a Dot name)) g) place (where_ (field_place_named r (named_at r name.site.token))))
-          (file_member (tree.field s a Dot name) g f x member.0 d written found declared_is member.1 has kind row (cell ∙ ap (λ q. field_cell r q d.written) at))
+          (file_member (tree.field s a Dot name) g f x member.0 d written found declared_is member.1 has kind row (cell ∙ ap (λ q. field_cell r q d.written) at) told)
       by (is_nowhere none) = let w = none (field_place_named r (named_at r name.site.token)) in nowhere_at (tree.field s a Dot name) _ w.0 w.1
   names_cell _ _ (typing.a_field_behind {s} {a} {x} {name} {d} h member names) stands plain single_one =
       let there = ready.struct_found x member.0 member.1 in
@@ -656,7 +674,8 @@ module _ (m : Assignment) (ready : AreReady m) where
       of_object (target r None (tree.field s a Arrow name)) (field_place r d.name.site.token) (inl (ap (λ z. in_object (field_place_named r z)) names))
       (behind_member (tree.field s a Arrow name) a x member.0 d (reading_through (base_use r Arrow a)) refl inner w member.1 has (ready.one (tree.field s a Arrow name) (declared_kind d.written) (typing.a_field_behind h member names))
       (ap (λ z. Some (named_row r (reading_through (base_use r Arrow a)) z)) names)
-      (ap (λ q. field_named r q (named_at r name.site.token)) (ap (pointed m) w.row_found) ∙ ap (field_named r (pointed m (Some w.row))) names ∙ ap (declared_cell r (pointed m (Some w.row))) (ready.field_itself member.0 d there has)))
+      (ap (λ q. field_named r q (named_at r name.site.token)) (ap (pointed m) w.row_found) ∙ ap (field_named r (pointed m (Some w.row))) names ∙ ap (declared_cell r (pointed m (Some w.row))) (ready.field_itself member.0 d there has))
+      (ap (λ w. named_locks m (field_place_named r w) w) names))
   names_cell _ _ (typing.negated {s} {a} h integer common) stands plain single_one = nowhere_at _ _ 0 refl
   names_cell _ _ (typing.complemented {s} {a} h integer common) stands plain single_one = nowhere_at _ _ 0 refl
   names_cell _ _ (typing.denied {s} {a} h scalar) stands plain single_one = nowhere_at _ _ 0 refl
@@ -664,7 +683,7 @@ module _ (m : Assignment) (ready : AreReady m) where
       let inner = part m (tree.unary s Dereference a) a (tail_there (tree.unary s Dereference a) a (expressions a) (self_there a)) stands in
       let w = pointee a b n h inner in
       of_object (target r None (tree.unary s Dereference a)) 0 (inl refl)
-      (behind_scalar (tree.unary s Dereference a) a b n (ready.one (tree.unary s Dereference a) (object b n) (typing.pointed_to h)) (plain_kind b n plain) refl inner w (ap behind w.row_found) (ap (pointed m) w.row_found))
+      (behind_scalar (tree.unary s Dereference a) a b n (ready.one (tree.unary s Dereference a) (object b n) (typing.pointed_to h)) (plain_kind b n plain) refl inner w (ap behind w.row_found) (ap (pointed m) w.row_found) refl)
   names_cell _ _ (typing.arithmetic class ha hb ia ib common) stands plain single_one = nowhere_at _ _ 0 refl
   names_cell _ _ (typing.shifted class ha hb ia ib common) stands plain single_one = nowhere_at _ _ 0 refl
   names_cell _ _ (typing.related class ha hb ia ib) stands plain single_one = nowhere_at _ _ 0 refl

@@ -175,7 +175,7 @@ field_behind r n q w a p never h = by (is_mutex_kind (declared_kind w)) h
     by false h = written_behind r n q (top_of w.ctype.levels) a p never h
 
 -- a pointer that is written readonly, in data that is not private
-field_readonly : (r : Resolution) (n : ℕ) (q : FieldMode) (w : WrittenType) → is_mutex_kind (declared_kind w) ≡ false → top_of w.ctype.levels ≡ Some mode.Readonly → is_private_mode q ≡ false → field_mode r n q w ≡ field.Readonly
+pub field_readonly : (r : Resolution) (n : ℕ) (q : FieldMode) (w : WrittenType) → is_mutex_kind (declared_kind w) ≡ false → top_of w.ctype.levels ≡ Some mode.Readonly → is_private_mode q ≡ false → field_mode r n q w ≡ field.Readonly
 field_readonly r n q w other top shared =
     ap (λ b. cond b field.Racy (written_mode r n q (top_of w.ctype.levels))) other ∙ ap (written_mode r n q) top ∙ ap (λ b. cond b field.Private field.Readonly) shared
 

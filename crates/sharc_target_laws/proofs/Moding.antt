@@ -8,7 +8,7 @@ use Rattle.sharc_tree.specs.declared.ctype.Path.TheVariants.{One}
 use Rattle.sharc_tree.specs.declared.tree.declaration.WrittenType.{WrittenType}
 use Rattle.sharc_names.specs.declared.fault.Named.{Named}
 use Rattle.sharc_names.specs.declared.fault.Named.TheVariants as named
-use Rattle.sharc_names.specs.Kinds.{is_pointer, declared_kind}
+use Rattle.sharc_names.specs.Kinds.{is_pointer, declared_kind, mutex}
 use Rattle.sharc_ctype.specs.declared.entity.Entity.{Entity}
 use Rattle.sharc_ctype.specs.Resolved.{Resolution, named_at, named_kind}
 use Rattle.sharc_mode.specs.Cells.{is_mutex_kind, is_behind_pointer, top_of, written_cell, field_cell}
@@ -29,14 +29,14 @@ use Rattle.sharc_target_laws.specs.Targets.{lock_named, field_lock, own_mode, gl
 -- ---- paths that are allowed
 -- what a path names that may stand in a field or a global
 pub data PathNames (r : Resolution) : Lock → Type 0 where
-  a_global : {l : Lock} {g : ℕ} → named_at r l.first ≡ named.Global g → is_behind_pointer r l ≡ false → PathNames r l
+  a_global : {l : Lock} {g : ℕ} → named_at r l.first ≡ named.Global g → named_kind r (named.Global g) ≡ mutex → is_behind_pointer r l ≡ false → PathNames r l
   a_sibling : {l : Lock} {f : ℕ} → named_at r l.first ≡ named.Field f → is_behind_pointer r l ≡ false → PathNames r l
   a_pointer : {l : Lock} {f : ℕ} → named_at r l.first ≡ named.Field f → is_behind_pointer r l ≡ true → PathNames r l
 
-not_field : (r : Resolution) (l : Lock) (w : Named) → named_at r l.first ≡ w → is_field w ≡ false → is_behind_pointer r l ≡ false
+pub not_field : (r : Resolution) (l : Lock) (w : Named) → named_at r l.first ≡ w → is_field w ≡ false → is_behind_pointer r l ≡ false
 not_field r l w is other = ap (λ b. (b && is_none l.second) && is_pointer (named_kind r (named_at r l.first))) (ap is_field is ∙ other)
 
-not_pointer : (r : Resolution) (l : Lock) (w : Named) → named_at r l.first ≡ w → is_pointer (named_kind r w) ≡ false → is_behind_pointer r l ≡ false
+pub not_pointer : (r : Resolution) (l : Lock) (w : Named) → named_at r l.first ≡ w → is_pointer (named_kind r w) ≡ false → is_behind_pointer r l ≡ false
 not_pointer r l w is plain = by (is_sibling_lock r l) ∙ refl
   where
     by : (b : Bool) → (b && is_pointer (named_kind r (named_at r l.first))) ≡ false
@@ -47,7 +47,7 @@ place_field_local : place.Field ≡ place.Local → ⊥
 place_field_local h = cc
 
 pub field_or_global : (r : Resolution) (e : Entity) (depth : ℕ) (path : Path) → (place_of e.role ≡ place.Local → ⊥) → IsAllowed r e depth path → PathNames r (lock_of path)
-field_or_global r e depth _ other (global_mutex {text} {token} {g} names kind) = a_global names (not_field r (lock_of (One text token)) (named.Global g) names refl)
+field_or_global r e depth _ other (global_mutex {text} {token} {g} names kind) = a_global names kind (not_field r (lock_of (One text token)) (named.Global g) names refl)
 field_or_global r e depth _ other (sibling_mutex {text} {token} {f} stands names kind) = a_sibling names (not_pointer r (lock_of (One text token)) (named.Field f) names (ap is_pointer kind))
 field_or_global r e depth _ other (sibling_pointer {text} {token} {f} stands top names lock targets) = by (is_behind_pointer r (lock_of (One text token))) refl
   where
@@ -72,10 +72,10 @@ own_fits r n racy below = is_racy
 own_fits r n dynamic below = is_dynamic
 
 -- that of an element of a global
-pub global_fits : (r : Resolution) (n : ℕ) (q : Sharing) → ((l : Lock) → q ≡ locked l → (g : ℕ) × (named_at r l.first ≡ named.Global g)) → ModeFits r n [] q (global_mode r q)
+pub global_fits : (r : Resolution) (n : ℕ) (q : Sharing) → ((l : Lock) → q ≡ locked l → (g : ℕ) × (named_at r l.first ≡ named.Global g) × (named_kind r (named.Global g) ≡ mutex)) → ModeFits r n [] q (global_mode r q)
 global_fits r n private path = is_private
 global_fits r n readonly path = is_readonly
-global_fits r n (locked l) path = let w = path l refl in subst (λ z. ModeFits r n [] (locked l) (Under z)) (sym (lock_global r 0 l w.0 w.1)) (locked_by_global w.1)
+global_fits r n (locked l) path = let w = path l refl in subst (λ z. ModeFits r n [] (locked l) (Under z)) (sym (lock_global r 0 l w.0 w.1)) (locked_by_global w.1 w.2)
 global_fits r n racy path = is_racy
 global_fits r n dynamic path = is_dynamic
 
@@ -105,9 +105,9 @@ module _ (r : Resolution) (n : ℕ) (modes : List Sharing) (q : Sharing) (Q : Fi
   behind_fits false l f names is = subst (λ p. ModeFits r n modes (locked l) (own.Behind n p)) (sym (ap (field_place_named r) names)) (locked_behind names is)
 
   path_fits : (l : Lock) → PathNames r l → ModeFits r n modes (cond (is_behind_pointer r l && sharings.is_private q) private (locked l)) (locked_mode r n Q l)
-  path_fits l (a_global {g} names is) =
+  path_fits l (a_global {g} names kind is) =
       subst (λ b. ModeFits r n modes (cond (b && sharings.is_private q) private (locked l)) (cond b (cond (is_private_mode Q) own.Private (own.Behind n (field_place_named r (named_at r l.first)))) (Under (field_lock r n l)))) (sym is)
-      (subst (λ z. ModeFits r n modes (locked l) (Under z)) (sym (lock_global r n l g names)) (locked_by_global names))
+      (subst (λ z. ModeFits r n modes (locked l) (Under z)) (sym (lock_global r n l g names)) (locked_by_global names kind))
   path_fits l (a_sibling {f} names is) =
       subst (λ b. ModeFits r n modes (cond (b && sharings.is_private q) private (locked l)) (cond b (cond (is_private_mode Q) own.Private (own.Behind n (field_place_named r (named_at r l.first)))) (Under (field_lock r n l)))) (sym is)
       (subst (λ z. ModeFits r n modes (locked l) (Under z)) (sym (lock_sibling r n l f names)) (locked_by_sibling names is))

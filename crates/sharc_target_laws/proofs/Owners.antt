@@ -10,6 +10,7 @@ use Rattle.sharc_tree.specs.Placed.{Follow, declaration_spans, item_spans, Place
 use Rattle.sharc_tree.specs.Tree.{Item, structure, global, function}
 use Rattle.sharc_ctype.specs.Resolved.{structs_in}
 use Rattle.sharc_meaning.specs.Cells.{place_in, field_place_in}
+use Rattle.sharc_target_laws.specs.Fields.{FieldsPlaced}
 use Rattle.sharc_target_laws.proofs.Lists.{none_there, head_or_tail, same_some, none_some}
 
 -- the name of a declaration stands in its span
@@ -119,3 +120,6 @@ place_is all from until (structure x ∷ rest) follow placed s k d has is =
     ∙ place_is all (x.span.last.token + 1) until rest follow.3 placed.1 s k d later is) (head_or_tail x s (structs_in rest) has)
 place_is all from until (global g ∷ rest) follow placed s k d has is = place_is all (g.span.last.token + 1) until rest follow.3 placed.1 s k d has is
 place_is all from until (function f ∷ rest) follow placed s k d has is = place_is all (f.span.last.token + 1) until rest follow.3 placed.1 s k d has is
+
+pub fields_placed : FieldsPlaced
+fields_placed r placed s k d has is = place_is r.program.tokens.list 0 (length r.program.tokens.list) r.program.items placed.follow placed.items s k d has is

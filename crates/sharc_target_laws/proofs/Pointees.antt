@@ -54,7 +54,7 @@ starts_same : (modes : List Sharing) → 0 < length modes → starts_private (ma
 starts_same [] some = absurd (omega (arith, some))
 starts_same (q ∷ below) some = private_same q
 
-many_modes : (m : Assignment) (k : Kind) (row : Row) → IsRowOf m k row → length (modes_of m row) ≡ stars_in k
+pub many_modes : (m : Assignment) (k : Kind) (row : Row) → IsRowOf m k row → length (modes_of m row) ≡ stars_in k
 many_modes m k row w = sym (map_length form_of (modes_of m row)) ∙ row_length m row w.ends ∙ w.count
 
 pub pointees_fit : PointeesFit

@@ -17,13 +17,13 @@ use Rattle.sharc_tree.specs.Measures.{in_function}
 use Rattle.sharc_names.specs.declared.fault.Named.TheVariants as named
 use Rattle.sharc_names.specs.declared.types.Role.{Role}
 use Rattle.sharc_names.specs.declared.types.Role.TheVariants as role
-use Rattle.sharc_names.specs.Kinds.{object, is_struct_base, is_struct_behind}
+use Rattle.sharc_names.specs.Kinds.{object, is_struct_base, is_struct_behind, mutex}
 use Rattle.sharc_names.specs.Names.{field_of}
 use Rattle.sharc_names.specs.Types.{is_allowed, allowed_there}
 use Rattle.sharc_ctype.specs.declared.entity.Entity.{Entity}
 use Rattle.sharc_ctype.specs.declared.entity.Numbered.{Numbered}
 use Rattle.sharc_ctype.specs.Entities.{declared, entities_in, entity_at, positions_of, written_modes, first_depth}
-use Rattle.sharc_ctype.specs.Resolved.{Resolution, named_at, kind_at, global_at, structs_in, globals_in, functions_in}
+use Rattle.sharc_ctype.specs.Resolved.{Resolution, named_at, kind_at, global_at, structs_in, globals_in, functions_in, named_kind}
 use Rattle.sharc_ctype_laws.specs.Constraints.{HasType}
 use Rattle.sharc_ctype_laws.specs.Declared.{IsItself}
 use Rattle.sharc_ctype_laws.specs.Found.{EachTypeFound}
@@ -155,8 +155,8 @@ field_no_local what is local = by (sym (ap place_of is) ∙ local)
     by h = cc
 
 -- in a global a path names a global mutex
-global_names : (r : Resolution) (e : Entity) (depth : ℕ) (path : Path) → place_of e.role ≡ place.Global → IsAllowed r e depth path → (k : ℕ) × (named_at r (lock_of path).first ≡ named.Global k)
-global_names r e depth _ is (global_mutex {text} {token} {g} names kind) = (g, names)
+global_names : (r : Resolution) (e : Entity) (depth : ℕ) (path : Path) → place_of e.role ≡ place.Global → IsAllowed r e depth path → (k : ℕ) × (named_at r (lock_of path).first ≡ named.Global k) × (named_kind r (named.Global k) ≡ mutex)
+global_names r e depth _ is (global_mutex {text} {token} {g} names kind) = (g, names, kind)
 global_names r e depth _ is (sibling_mutex {text} {token} {f} stands names kind) = absurd (apart (sym is ∙ stands))
   where
     apart : place.Global ≡ place.Field → ⊥
@@ -171,8 +171,8 @@ global_names r e depth _ is (through_constant {text} {m} {token} {x} stands name
     apart h = cc
 
 module _ (m : Assignment) (k : IsKnown m) (low : IsLow m.typed.program) where
-  global_lock : (g : ℕ) (d : GlobalDefinition) → global_at m.typed g ≡ Some d → (l : Lock) → global_cell m (Some d) ≡ locked l → (j : ℕ) × (named_at m.typed l.first ≡ named.Global j)
-  global_lock g d at l is = (named_global.0, subst (λ z. named_at m.typed z.first ≡ named.Global named_global.0) w.lock named_global.1)
+  pub global_lock : (g : ℕ) (d : GlobalDefinition) → global_at m.typed g ≡ Some d → (l : Lock) → global_cell m (Some d) ≡ locked l → (j : ℕ) × (named_at m.typed l.first ≡ named.Global j) × (named_kind m.typed (named.Global j) ≡ mutex)
+  global_lock g d at l is = (named_global.0, subst (λ z. named_at m.typed z.first ≡ named.Global named_global.0) w.lock named_global.1, named_global.2)
     where
       has : Contains (globals_in m.typed.program.items) d
       has = place_there (globals_in m.typed.program.items) g d at
@@ -210,7 +210,7 @@ module _ (m : Assignment) (k : IsKnown m) (low : IsLow m.typed.program) where
           let s = settled_by m k.least there.numbered (positioned (entities_in m.typed.program.items) 0 there.numbered there.is_entity) 0 (mode.Locked w.path) position mode_there in
           by (settled_from there.numbered.entity.written.ctype.base (otherwise_of there.numbered.entity.role there.numbered.entity.written.ctype.levels) (written_modes there.numbered.entity) 0 (mode.Locked w.path) position (found_locked _ s.finding w.path s.found))
 
-      named_global : (j : ℕ) × (named_at m.typed (lock_of w.path).first ≡ named.Global j)
+      named_global : (j : ℕ) × (named_at m.typed (lock_of w.path).first ≡ named.Global j) × (named_kind m.typed (named.Global j) ≡ mutex)
       named_global =
           global_names m.typed there.numbered.entity (first_depth there.numbered.entity.role + 0) w.path (ap place_of there.role)
           (k.rules.m4.forms there.numbered (first_depth there.numbered.entity.role + 0) w.path there.is_entity written_there)

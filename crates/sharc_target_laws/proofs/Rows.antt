@@ -59,7 +59,7 @@ pub starts_at : (fs : List Form) → starts_private fs ≡ true → slice_get fs
 starts_at [] h = absurd (false≢true h)
 starts_at (f ∷ below) h = ap Some (private_form_is f h)
 
-top_there : (levels : List (Option Mode)) (x : Mode) → top_of levels ≡ Some x → Contains levels (Some x)
+pub top_there : (levels : List (Option Mode)) (x : Mode) → top_of levels ≡ Some x → Contains levels (Some x)
 top_there [] x is = absurd (none_some x is)
 top_there (y ∷ below) x is = subst (λ z. Contains (y ∷ below) z) is (head_there y below)
 

@@ -1,3 +1,5 @@
+pub mod Beside
+pub mod Fields
 pub mod Laws
 pub mod Lvalues
 pub mod Pointees

@@ -5,24 +5,25 @@ use Rattle.sharc_tree.specs.declared.tree.expression.Access.TheVariants.{Dot, Ar
 use Rattle.sharc_tree.specs.declared.tree.expression.UnaryOperator.TheVariants.{Dereference}
 use Rattle.sharc_tree.specs.Low.{IsLow}
 use Rattle.sharc_tree.specs.Placed.{IsPlaced}
-use Rattle.sharc_tree.specs.Tree.{Expression, parentheses, index, field, unary}
+use Rattle.sharc_tree.specs.Tree.{Expression, identifier, parentheses, index, field, unary}
+use Rattle.sharc_names.specs.declared.fault.Named.{Named}
 use Rattle.sharc_names.specs.declared.fault.Named.TheVariants as named
-use Rattle.sharc_names.specs.Kinds.{Kind, object, is_array, is_struct_behind}
-use Rattle.sharc_ctype.specs.Resolved.{Resolution, IsResolved, named_at, global_at, kind_at}
+use Rattle.sharc_names.specs.Kinds.{Kind, object, mutex, is_array, is_struct_behind}
+use Rattle.sharc_ctype.specs.Resolved.{Resolution, IsResolved, named_at, named_kind, global_at, kind_at}
 use Rattle.sharc_mode.specs.Cells.{is_mutex_kind, is_behind_pointer, cell_at}
 use Rattle.sharc_mode.specs.Flows.{IsLeastAssignment}
 use Rattle.sharc_mode.specs.Moded.{Assignment}
-use Rattle.sharc_mode.specs.Rows.{Reading, Row, written, declared_row, row_at, modes_of, modes_at}
+use Rattle.sharc_mode.specs.Rows.{Reading, Row, written, declared_row, named_row, row_at, modes_of, modes_at}
 use Rattle.sharc_mode.specs.Sharings.{Lock, Sharing, private, readonly, locked, racy, dynamic}
 use Rattle.sharc_mode.specs.WellModed.{WellModed}
 use Rattle.sharc_mode_laws.specs.Constructs.{IsExpression}
-use Rattle.sharc_meaning.specs.Cells.{field_place}
+use Rattle.sharc_meaning.specs.Cells.{field_place, field_place_named}
 use Rattle.sharc_flat_form.specs.Machine.{first_cell}
 use Rattle.sharc_flat.specs.Places.{Target, in_object, in_object_at, in_global, in_global_at, target}
 use Rattle.sharc_flat.specs.Tables.{globals_of}
 use Rattle.sharc_invariant.specs.Types.{FieldLock, OfType, OfGlobals, OfElement, FieldMode, Under, Content, Pointer, Field, no_field, cells_of, field_at}
 use Rattle.sharc_invariant.specs.Types.{FieldMode as own}
-use Rattle.sharc_target_laws.specs.Shapes.{form_of, expression_shape, number}
+use Rattle.sharc_target_laws.specs.Shapes.{Form, form_of, expression_shape, number}
 use Rattle.sharc_target_laws.specs.Targets.{lock_count, type_locks, field_locks, base_content, global_element, targets_of}
 
 -- the pointer through which an lvalue leads
@@ -48,11 +49,32 @@ pub data LocksFit (m : Assignment) (e : Expression) (n : ℕ) (modes : List Shar
   are_written : (token : ℕ) (how : Reading) → row_at m.typed e ≡ Some (declared_row m.typed how token) → LocksFit m e n modes (field_locks m.typed n (modes_of m (declared_row m.typed written token)))
   of_type : (q : Sharing) (below : List Sharing) → modes ≡ q ∷ below → modes_at m e ≡ Some below → LocksFit m e n modes (type_locks (lock_count (form_of q)) (map form_of below))
 
+-- So, by the form of the lvalue: what is declared by a name has the locks that are written there, and what an element refers to those of its type.
+abbrev pub below_locks : List Form → List FieldLock
+below_locks [] = []
+below_locks (f ∷ below) = type_locks (lock_count f) below
+
+abbrev pub locks_below : Option (List Sharing) → List FieldLock
+locks_below None = []
+locks_below (Some modes) = below_locks (map form_of modes)
+
+abbrev pub named_locks : Assignment → ℕ → Named → List FieldLock
+named_locks m n what = field_locks m.typed n (modes_of m (named_row m.typed written what))
+
+abbrev pub cell_locks : Assignment → Expression → List FieldLock
+cell_locks m (identifier s i) = named_locks m 0 (named_at m.typed i.site.token)
+cell_locks m (parentheses s a) = cell_locks m a
+cell_locks m (index s a i) = if is_array (kind_at m.typed a) then cell_locks m a else locks_below (modes_at m a)
+cell_locks m (field s a w n) = named_locks m (field_place_named m.typed (named_at m.typed n.site.token)) (named_at m.typed n.site.token)
+cell_locks m (unary s Dereference a) = locks_below (modes_at m a)
+cell_locks m _ = []
+
 pub record PointerFits (m : Assignment) (e : Expression) (n : ℕ) (modes : List Sharing) (holds : Content) : Type 0 where
   pub row : Row
   pub is : row_at m.typed e ≡ Some row
   pub locks : List FieldLock
   pub fit : LocksFit m e n modes locks
+  pub told : locks ≡ cell_locks m e
   pub pointer : holds ≡ Pointer (record { target = number m (expression_shape m e row); locks = locks })
 
 abbrev pub ContentFits : Assignment → Expression → ℕ → List Sharing → Kind → Content → Type 0
@@ -69,7 +91,7 @@ pub data ModeFits (r : Resolution) (n : ℕ) (modes : List Sharing) : Sharing �
   is_racy : ModeFits r n modes racy own.Racy
   is_dynamic : ModeFits r n modes dynamic own.Dynamic
   locked_by_type : {l : Lock} {below : List Sharing} → modes ≡ locked l ∷ below → ModeFits r n modes (locked l) (Under (OfType 0))
-  locked_by_global : {l : Lock} {g : ℕ} → named_at r l.first ≡ named.Global g → ModeFits r n modes (locked l) (Under (OfGlobals (first_cell (globals_of r) g - 2)))
+  locked_by_global : {l : Lock} {g : ℕ} → named_at r l.first ≡ named.Global g → named_kind r (named.Global g) ≡ mutex → ModeFits r n modes (locked l) (Under (OfGlobals (first_cell (globals_of r) g - 2)))
   locked_by_sibling : {l : Lock} {f : ℕ} → named_at r l.first ≡ named.Field f → is_behind_pointer r l ≡ false → ModeFits r n modes (locked l) (Under (OfElement n (field_place r f)))
   locked_behind : {l : Lock} {f : ℕ} → named_at r l.first ≡ named.Field f → is_behind_pointer r l ≡ true → ModeFits r n modes (locked l) (own.Behind n (field_place r f))
 

@@ -1,5 +1,7 @@
 // The laws of the table of targets, each the contract of a function that does nothing.
 
+ghost use Rattle.sharc_target_laws.specs.Beside.{LocksStandBeside};
+ghost use Rattle.sharc_target_laws.specs.Fields.{FieldsPlaced};
 ghost use Rattle.sharc_target_laws.specs.Laws.{NumbersFound, ShapesClosed, CellsAre, TargetsAre, ExpressionsFound, VariablesFound, ResultsFound, MembersAre, GlobalsAre, GlobalsEnd, GlobalsBegin, GlobalsHold, LayoutsAre};
 ghost use Rattle.sharc_target_laws.specs.Lvalues.{LvaluesFit};
 ghost use Rattle.sharc_target_laws.specs.Pointees.{PointeesFit, RecastsFit, SameForms};
@@ -121,4 +123,20 @@ pub fn recasts_fit()
 /// Modes that are the same are of one kind.
 pub fn same_modes()
     ensures { SameForms }
+{}
+
+/// What locks a field from within its element is there: a mutex, or a readonly pointer to one.
+pub fn locks_stand_beside()
+    ensures { LocksStandBeside }
+{
+    each_name_once();
+    only_names();
+    each_type_found();
+    each_names_itself();
+    rules_are_met();
+}
+
+/// A field's place in an element is that at which it stands in its struct.
+pub fn fields_placed()
+    ensures { FieldsPlaced }
 {}

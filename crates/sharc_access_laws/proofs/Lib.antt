@@ -1,0 +1,5 @@
+pub mod Cells
+pub mod Joining
+pub mod Modes
+pub mod Pointing
+pub mod Standing

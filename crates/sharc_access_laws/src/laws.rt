@@ -1,0 +1,73 @@
+// The laws, each the contract of a function that does nothing.
+
+ghost use Rattle.sharc_access_laws.specs.Accesses.{CellsStand, AccessesFit, GuardsFit};
+ghost use Rattle.sharc_access_laws.specs.Joined.{IntegersFit, ReferencesFit, MutexesFit};
+
+use sharc_ctype_laws::laws::meets_globals;
+use sharc_static_laws::laws::{places_point, scope_laws};
+use sharc_target_laws::laws::{expressions_found, globals_are, locks_stand_beside, lvalues_fit};
+
+/// Where the registers have what an lvalue names, its cell is there, with what the lvalue's type says in it, under its mode.
+pub fn cells_stand()
+    ensures { CellsStand }
+{
+    globals_are();
+    meets_globals();
+    expressions_found();
+    locks_stand_beside();
+    lvalues_fit();
+}
+
+/// The cell may be accessed in the mode of the source, once it is checked.
+pub fn accesses_fit()
+    ensures { AccessesFit }
+{
+    globals_are();
+    meets_globals();
+    expressions_found();
+    locks_stand_beside();
+    lvalues_fit();
+}
+
+/// The readonly pointer to a mutex that stands beside the cell may be loaded first.
+pub fn guards_fit()
+    ensures { GuardsFit }
+{
+    globals_are();
+    meets_globals();
+    expressions_found();
+    locks_stand_beside();
+    lvalues_fit();
+}
+
+/// An integer in the cell of an lvalue may be read or written, in the form in which sharc_labels_laws asks for it.
+pub fn integers_fit()
+    ensures { IntegersFit }
+{
+    cells_stand();
+    accesses_fit();
+    guards_fit();
+    scope_laws();
+}
+
+/// So may a reference, which has the type of the source.
+pub fn references_fit()
+    ensures { ReferencesFit }
+{
+    cells_stand();
+    accesses_fit();
+    guards_fit();
+    scope_laws();
+    lvalues_fit();
+    places_point();
+}
+
+/// A mutex that an lvalue names is there.
+pub fn mutexes_fit()
+    ensures { MutexesFit }
+{
+    cells_stand();
+    accesses_fit();
+    guards_fit();
+    scope_laws();
+}

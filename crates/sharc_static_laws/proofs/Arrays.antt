@@ -1,0 +1,100 @@
+-- Arrays are globals that are named.
+use Rattle.std.proofs.Common.{◌≡◌, ℕ, Bool, true, false, cond, refl, ap, sym, ◌∙◌, Option, Some, None}
+use Rattle.std.proofs.lemmas.Bool.{false≢true}
+use Rattle.std.specs.List.{AllByRecursion}
+use Rattle.sharc_tree.specs.declared.token.NumberType.{NumberType}
+use Rattle.sharc_tree.specs.declared.token.NumberType.TheVariants as width
+use Rattle.sharc_tree.specs.declared.token.Span.{Span}
+use Rattle.sharc_tree.specs.declared.tree.declaration.Declaration.{Declaration}
+use Rattle.sharc_tree.specs.declared.tree.declaration.Identifier.{Identifier}
+use Rattle.sharc_tree.specs.declared.tree.expression.Access.{Access}
+use Rattle.sharc_tree.specs.declared.tree.expression.Constant.TheVariants as constants
+use Rattle.sharc_tree.specs.declared.tree.expression.UnaryOperator.TheVariants.{Negate, Not, Complement, Dereference}
+use Rattle.sharc_tree.specs.Measures.{expressions}
+use Rattle.sharc_tree.specs.Tree.{Expression, Function}
+use Rattle.sharc_tree.specs.Tree as tree
+use Rattle.sharc_names.specs.declared.fault.Named.{Named}
+use Rattle.sharc_names.specs.declared.fault.Named.TheVariants as named
+use Rattle.sharc_names.specs.Kinds.{Kind, object, array, null, function, is_array, is_long, long, int, element_kind}
+use Rattle.sharc_ctype.specs.declared.expr.OperatorClass.{OperatorClass}
+use Rattle.sharc_ctype.specs.declared.expr.OperatorClass.TheVariants.{Logical, Equality, Relation, Shift, Arithmetic}
+use Rattle.sharc_ctype.specs.Expressions.{number_kind, class_of, binary_result}
+use Rattle.sharc_ctype.specs.Resolved.{Resolution, named_at, declaration_at, variable_kind, result_kind_of, named_kind, called_kind, function_at, kind_at}
+use Rattle.sharc_ctype_laws.specs.Constraints.{HasType, a_field, a_field_behind}
+
+-- the name of a global, in parentheses or not
+abbrev pub IsNameOf : Resolution → Expression → ℕ → Type 0
+IsNameOf r (tree.identifier s i) g = named_at r i.site.token ≡ named.Global g
+IsNameOf r (tree.parentheses s a) g = IsNameOf r a g
+IsNameOf r _ g = ⊥
+
+module _ (r : Resolution) where
+  no_variable : (o : Option Declaration) → is_array (variable_kind o) ≡ true → ⊥
+  no_variable None h = false≢true h
+  no_variable (Some d) h = false≢true h
+
+  no_element : (k : Kind) → is_array (element_kind k) ≡ true → ⊥
+  no_element (object b n) h = false≢true h
+  no_element (array b n) h = false≢true h
+  no_element null h = false≢true h
+  no_element function h = false≢true h
+
+  no_long : (b : Bool) → is_array (cond b long int) ≡ true → ⊥
+  no_long true h = false≢true h
+  no_long false h = false≢true h
+
+  no_result : (o : Option Function) → is_array (result_kind_of o) ≡ true → ⊥
+  no_result None h = false≢true h
+  no_result (Some f) h = false≢true h
+
+  no_called : (n : Named) → is_array (called_kind r n) ≡ true → ⊥
+  no_called (named.Struct n) h = false≢true h
+  no_called (named.Global n) h = false≢true h
+  no_called (named.Function n) h = no_result (function_at r n) h
+  no_called (named.Variable t) h = false≢true h
+  no_called (named.Field t) h = false≢true h
+  no_called named.Known h = false≢true h
+
+  no_binary : (o : OperatorClass) (j k : Kind) → is_array (binary_result o j k) ≡ true → ⊥
+  no_binary Logical j k h = false≢true h
+  no_binary Equality j k h = false≢true h
+  no_binary Relation j k h = false≢true h
+  no_binary Shift j k h = no_long (is_long j) h
+  no_binary Arithmetic j k h = no_long _ h
+
+  no_number : (t : NumberType) → is_array (number_kind t) ≡ true → ⊥
+  no_number width.Int h = false≢true h
+  no_number width.Long h = false≢true h
+
+  name_array : (n : Named) → is_array (named_kind r n) ≡ true → (g : ℕ) × (n ≡ named.Global g)
+  name_array (named.Struct n) h = absurd (false≢true h)
+  name_array (named.Global g) h = (g, refl)
+  name_array (named.Function n) h = absurd (false≢true h)
+  name_array (named.Variable t) h = absurd (no_variable (declaration_at r t) h)
+  name_array (named.Field t) h = absurd (no_variable (declaration_at r t) h)
+  name_array named.Known h = absurd (false≢true h)
+
+  field_name : (s : Span) (e : Expression) (v : Access) (n : Identifier) (k : Kind) → HasType r (tree.field s e v n) k → (t : ℕ) × (named_at r n.site.token ≡ named.Field t)
+  field_name s e _ n _ (a_field {d = d} t h is) = (d.name.site.token, is)
+  field_name s e _ n _ (a_field_behind {d = d} t h is) = (d.name.site.token, is)
+
+  pub array_name : (e : Expression) → AllByRecursion (λ e. HasType r e (kind_at r e)) (expressions e) → is_array (kind_at r e) ≡ true → (g : ℕ) × IsNameOf r e g
+  array_name (tree.identifier s x) h is = name_array (named_at r x.site.token) is
+  array_name (tree.parentheses s e) h is = array_name e h.1 is
+  array_name (tree.field s e v n) h is =
+      let x = field_name s e v n _ h.0 in
+      absurd (no_variable (declaration_at r x.0) (ap (λ z. is_array (named_kind r z)) (sym x.1) ∙ is))
+  array_name (tree.constant s (constants.Number n)) h is = absurd (no_number n.number_type is)
+  array_name (tree.constant s (constants.Character b)) h is = absurd (false≢true is)
+  array_name (tree.constant s constants.Null) h is = absurd (false≢true is)
+  array_name (tree.call s f all) h is = absurd (no_called (named_at r f.site.token) is)
+  array_name (tree.spawn s f e) h is = absurd (false≢true is)
+  array_name (tree.on_value s w e) h is = absurd (false≢true is)
+  array_name (tree.on_place s w e) h is = absurd (false≢true is)
+  array_name (tree.cast s t e) h is = absurd (false≢true is)
+  array_name (tree.index s e n) h is = absurd (no_element (kind_at r e) is)
+  array_name (tree.unary s Negate e) h is = absurd (no_long (is_long (kind_at r e)) is)
+  array_name (tree.unary s Not e) h is = absurd (false≢true is)
+  array_name (tree.unary s Complement e) h is = absurd (no_long (is_long (kind_at r e)) is)
+  array_name (tree.unary s Dereference e) h is = absurd (no_element (kind_at r e) is)
+  array_name (tree.binary s o at e z) h is = absurd (no_binary (class_of o) (kind_at r e) (kind_at r z) is)
