@@ -38,7 +38,7 @@ use Rattle.sharc_flat.specs.Suits.{Either, is_cell}
 use Rattle.sharc_flat_form.specs.Framed.{IsWide}
 use Rattle.sharc_invariant.specs.Types.{StaticType, cells_of}
 use Rattle.sharc_invariant.specs.Labels.{Entry, Empty, Refers, Unknown, Element, Exactly, Within, Label, LessNumber, EntryMentions, HasBase, fill, set_number}
-use Rattle.sharc_invariant.specs.Typed.{is_shift, Passes, IsShared, Recasts, IsLayout}
+use Rattle.sharc_invariant.specs.Typed.{is_shift, is_comparison, Passes, IsShared, Recasts, IsLayout}
 use Rattle.sharc_labels_laws.specs.Stretches.{Mark, Setting, Way, LeadsAmong}
 use Rattle.sharc_labels_laws.specs.Places.{Stands, IsNamed, IsPlain, no_type, mark}
 use Rattle.sharc_labels_laws.specs.Premises.{Typing, HoldsVariables, Ground, IntegerTyped, ReferenceTyped, MutexTyped}
@@ -149,8 +149,8 @@ module _ (z : Setting) (f : ℕ) (ways : List Way) (y : Typing) where
     pub left : IsNumber c a
     pub right : IsNumber c b
     pub wide : IsWide (result_of c o a b)
-    pub first : Widens (width_of (kind_of c a)) (result_of c o a b)
-    pub second : is_shift (operator_of o) ≡ false → Widens (width_of (kind_of c b)) (result_of c o a b)
+    pub first : is_comparison (operator_of o) ≡ false → Widens (width_of (kind_of c a)) (result_of c o a b)
+    pub second : is_shift (operator_of o) ≡ false → is_comparison (operator_of o) ≡ false → Widens (width_of (kind_of c b)) (result_of c o a b)
     pub result : Widens (result_of c o a b) (width_of (kind_of c e))
 
   -- a comparison of two references, or of two integers
