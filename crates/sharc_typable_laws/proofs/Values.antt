@@ -56,7 +56,7 @@ use Rattle.sharc_typable_laws.specs.Typing.{width_named, typing}
 use Rattle.sharc_typable_laws.proofs.Registers.{reference_found, integer_found}
 
 -- ---- kinds
-or_left : (a b : Bool) → a ≡ true → (a || b) ≡ true
+pub or_left : (a b : Bool) → a ≡ true → (a || b) ≡ true
 or_left true b h = refl
 or_left false b h = absurd (false≢true h)
 
@@ -104,7 +104,7 @@ or_right true b h = refl
 or_right false b h = h
 
 -- a pointer is no NULL
-pointer_no_null : (k : Kind) → is_pointer k ≡ true → k ≡ null → ⊥
+pub pointer_no_null : (k : Kind) → is_pointer k ≡ true → k ≡ null → ⊥
 pointer_no_null k h e = false≢true (sym (ap is_pointer e) ∙ h)
 
 -- ---- rows
@@ -112,7 +112,7 @@ none_some : {A : Type 0} (x : A) → None ≡ Some x → ⊥
 none_some x h = cc
 
 module _ (r : Resolution) where
-  abbrev HasRow : Expression → Type 0
+  abbrev pub HasRow : Expression → Type 0
   HasRow e = (row : Row) × (row_at r e ≡ Some row)
 
   no_object : (b : Base) (n : ℕ) → object b n ≡ null → ⊥
@@ -126,7 +126,7 @@ module _ (r : Resolution) where
   element_row false o row is = (deeper row, ap behind is)
 
   -- what has another type than NULL has a row
-  has_row : (e : Expression) (k : Kind) → IsOfType r e k → (k ≡ null → ⊥) → HasRow e
+  pub has_row : (e : Expression) (k : Kind) → IsOfType r e k → (k ≡ null → ⊥) → HasRow e
   has_row (tree.identifier s i) k t none = (_, refl)
   has_row (tree.constant s (constants.Number n)) k t none = (_, refl)
   has_row (tree.constant s (constants.Character b)) k t none = (_, refl)
@@ -156,7 +156,7 @@ of_each P (y ∷ rest) x all (zero, low, is) = subst P is all.0
 of_each P (y ∷ rest) x all (suc k, low, is) = of_each P rest x all.1 (k, omega (arith, low), is)
 
 -- an expression is the first of those that it has
-first_of : (P : Expression → Type 0) (e : Expression) → AllByRecursion P (expressions e) → P e
+pub first_of : (P : Expression → Type 0) (e : Expression) → AllByRecursion P (expressions e) → P e
 first_of P (tree.identifier s i) h = h.0
 first_of P (tree.constant s c) h = h.0
 first_of P (tree.parentheses s a) h = h.0
@@ -171,7 +171,7 @@ first_of P (tree.unary s o a) h = h.0
 first_of P (tree.binary s o at a b) h = h.0
 
 module _ (constraints : MeetsConstraints) (held : HeldLaws) (scopes : ScopeLaws) where
-  typed_at : (m : Assignment) → IsAccepted m → (e : Expression) → IsExpression m e → IsOfType m.typed e (kind_at m.typed e)
+  pub typed_at : (m : Assignment) → IsAccepted m → (e : Expression) → IsExpression m e → IsOfType m.typed e (kind_at m.typed e)
   typed_at m a e x =
       of_each (λ e. IsOfType m.typed e (kind_at m.typed e)) (in_function x.owner) e
       (of_each (λ f. AllByRecursion (λ e. IsOfType m.typed e (kind_at m.typed e)) (in_function f)) (functions_in m.typed.program.items) x.owner (constraints m.typed a.resolved a.placed a.low) x.stands) x.inside
@@ -179,14 +179,14 @@ module _ (constraints : MeetsConstraints) (held : HeldLaws) (scopes : ScopeLaws)
   module _ (z : Setting) (f : ℕ) (ways : List Way) (c : Context) where
     -- the type of modes that stand
     module _ (a : IsAccepted c.program) (e : Expression) (at : IsAt c e) where
-      type_in : (modes : List Sharing) → modes_at c.program e ≡ Some modes → IsTypeIn z f ways typing c (static_of c (kind_of c e) modes)
+      pub type_in : (modes : List Sharing) → modes_at c.program e ≡ Some modes → IsTypeIn z f ways typing c (static_of c (kind_of c e) modes)
       type_in modes is p mentions = held.types c (kind_of c e) modes p (held.expressions c.program a e modes at.inside is) (subst (IfThere (AllStand c.program c.scope)) is at.stands) mentions
 
       value_is : (o : Option (List Sharing)) → modes_at c.program e ≡ o → (s : StaticType) × GoesTo (entry_of c e) s × IsTypeIn z f ways typing c s
       value_is None is = (no_type, inl (ap (entry_by c (kind_of c e)) is), λ p mentions. absurd mentions)
       value_is (Some modes) is = (static_of c (kind_of c e) modes, inr (ap (entry_by c (kind_of c e)) is), type_in modes is)
 
-      pointer_is : is_pointer (kind_of c e) ≡ true → IsPointer z f ways typing c e
+      pub pointer_is : is_pointer (kind_of c e) ≡ true → IsPointer z f ways typing c e
       pointer_is pointer =
           let row = has_row c.program.typed e (kind_of c e) (typed_at c.program a e (first_of (IsExpression c.program) e at.inside)) (pointer_no_null (kind_of c e) pointer) in
           let modes = modes_of c.program row.0 in
