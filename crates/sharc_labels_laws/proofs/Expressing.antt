@@ -68,7 +68,7 @@ use Rattle.sharc_labels_laws.proofs.Waiting.{signalled, broadcasted, waited}
 use Rattle.sharc_labels_laws.proofs.Locking.{locked_at, unlocked_at}
 use Rattle.sharc_labels_laws.proofs.Placing.{AreFew, which, bounds_at, finds_object, finds_global}
 
-plain_base : (n : Number) (r q : ℕ) → IsPlain n → HasBase n q → q < r
+pub plain_base : (n : Number) (r q : ℕ) → IsPlain n → HasBase n q → q < r
 plain_base Anything r q plain h = absurd h
 plain_base (Exactly z) r q plain h = absurd h
 plain_base (Within w) r q plain h = absurd h
@@ -152,33 +152,33 @@ module _ (around : Setting) (f : ℕ) (ways : List Way) (y : Typing) (c : Contex
   ValueOf from i r l os e = Value from i r l os e (is_ref c e) (is_integer (kind_of c e))
 
   -- a type that names constants of the variables
-  in_frame : (from i r : ℕ) (l : Label) → F from i r l → (s : StaticType) → TypeIn s → IsNamed N r s
+  pub in_frame : (from i r : ℕ) (l : Label) → F from i r l → (s : StaticType) → TypeIn s → IsNamed N r s
   in_frame from i r l fr s h = let high = fr.high in wider_names around f D y c low from top r s high h
 
   int_by : (from i r : ℕ) (l : Label) (os : List Op) (e : Expression) → IsNumber around f ways y c e → IntValue from i r l os (width_of (kind_of c e)) → ValueOf from i r l os e
   int_by from i r l os e is v = subst (λ b. Value from i r l os e b (is_integer (kind_of c e))) (sym is.0) (subst (λ b. Value from i r l os e false b) (sym is.1) v)
 
-  int_of : (from i r : ℕ) (l : Label) (os : List Op) (e : Expression) → IsNumber around f ways y c e → ValueOf from i r l os e → IntValue from i r l os (width_of (kind_of c e))
+  pub int_of : (from i r : ℕ) (l : Label) (os : List Op) (e : Expression) → IsNumber around f ways y c e → ValueOf from i r l os e → IntValue from i r l os (width_of (kind_of c e))
   int_of from i r l os e is v = subst (λ b. Value from i r l os e false b) is.1 (subst (λ b. Value from i r l os e b (is_integer (kind_of c e))) is.0 v)
 
   ref_by : (from i r : ℕ) (l : Label) (os : List Op) (e : Expression) → is_ref c e ≡ true → ((s : StaticType) → GoesTo (y.entry c e) s → TypeIn s → RefValue from i r l os e s) → ValueOf from i r l os e
   ref_by from i r l os e is v = subst (λ b. Value from i r l os e b (is_integer (kind_of c e))) (sym is) v
 
-  ref_of : (from i r : ℕ) (l : Label) (os : List Op) (e : Expression) → is_ref c e ≡ true → ValueOf from i r l os e → (s : StaticType) → GoesTo (y.entry c e) s → TypeIn s → RefValue from i r l os e s
+  pub ref_of : (from i r : ℕ) (l : Label) (os : List Op) (e : Expression) → is_ref c e ≡ true → ValueOf from i r l os e → (s : StaticType) → GoesTo (y.entry c e) s → TypeIn s → RefValue from i r l os e s
   ref_of from i r l os e is v = subst (λ b. Value from i r l os e b (is_integer (kind_of c e))) is v
 
   -- a pointer, with the type that it has
   base_of : (from i r : ℕ) (l : Label) (os : List Op) (e : Expression) → IsPointer around f ways y c e → ValueOf from i r l os e → RefValue from i r l os e (type_by (y.entry c e))
   base_of from i r l os e is v = ref_of from i r l os e is.0 v (type_by (y.entry c e)) (inr is.1) is.2
 
-  small_copy : (from i r : ℕ) (l : Label) → F from i r l → (copy : ℕ) → (copy ≡ r) ⊎ (copy < top) → copy ≤ r
+  pub small_copy : (from i r : ℕ) (l : Label) → F from i r l → (copy : ℕ) → (copy ≡ r) ⊎ (copy < top) → copy ≤ r
   small_copy from i r l fr copy small = let high = fr.high in ⊎_elim (λ (e : copy ≡ r). omega (arith, e)) (λ (lt : copy < top). omega (arith, lt, high)) small
 
   joins : (from : ℕ) (s m e : Mark) (xs ys : List Op) → Q from s xs m → Q from m ys e → Q from s (xs ++ ys) e
   joins from = then_do around f D N top low from
 
   -- ---- frames with one value more
-  frame_fill : (from i r : ℕ) (l : Label) → F from i r l → (s : StaticType) (v : ℕ) (b : Bool) → IsNamed N r s → v ≤ r → F from i (r + 1) (fill l r (Refers s) v b)
+  pub frame_fill : (from i r : ℕ) (l : Label) → F from i r l → (s : StaticType) (v : ℕ) (b : Bool) → IsNamed N r s → v ≤ r → F from i (r + 1) (fill l r (Refers s) v b)
   frame_fill from i r l fr s v b fits small = let high = fr.high in record {
     at = at_fill around f D N top low from i r l fr.at s v b fits small;
     holds = holds_over around f D y c low from l (fill l r (Refers s) v b) (λ q lt. put_other l.env r q (Refers s) (λ e. omega (arith, e, lt, high))) (λ q lt. put_other l.same r q v (λ e. omega (arith, e, lt, high))) (λ j lt. refl) fr.holds;
@@ -187,7 +187,7 @@ module _ (around : Setting) (f : ℕ) (ways : List Way) (y : Typing) (c : Contex
     early = fr.early;
   }
 
-  frame_number : (from i r : ℕ) (l : Label) → F from i r l → (n : Number) → ((q : ℕ) → HasBase n q → q < r) → F from (i + 1) r (set_number l i n)
+  pub frame_number : (from i r : ℕ) (l : Label) → F from i r l → (n : Number) → ((q : ℕ) → HasBase n q → q < r) → F from (i + 1) r (set_number l i n)
   frame_number from i r l fr n base = let wide = fr.wide in let early = fr.early in record {
     at = at_number around f D N top low from i r l fr.at n base;
     holds = holds_over around f D y c low from l (set_number l i n) (λ q lt. refl) (λ q lt. refl) (λ j lt. put_other l.ints i j n (λ e. omega (arith, e, lt, wide))) fr.holds;
@@ -215,7 +215,7 @@ module _ (around : Setting) (f : ℕ) (ways : List Way) (y : Typing) (c : Contex
       by true = λ z. absurd (false≢true z)
       by false = h
 
-  no_bare : (l : Label) → IsBare false l
+  pub no_bare : (l : Label) → IsBare false l
   no_bare l z = absurd (false≢true z)
 
   -- ---- NULL and constants
@@ -626,7 +626,7 @@ module _ (around : Setting) (f : ℕ) (ways : List Way) (y : Typing) (c : Contex
   not_anything : (n : Number) (w : Width) → LessNumber n (Within w) → n ≡ Anything → ⊥
   not_anything n w h e = absurd (other_number Anything w (subst (λ z. LessNumber z (Within w)) e h))
 
-  taken_number : (s e : Mark) (os : List Op) (i : ℕ) (n : Number) (w : Width) → s.label.ints i ≡ n → LessNumber n (Within w) → (i < ints_in around.code (Some f) → Q 0 s os e) → Q 0 s os e
+  pub taken_number : (s e : Mark) (os : List Op) (i : ℕ) (n : Number) (w : Width) → s.label.ints i ≡ n → LessNumber n (Within w) → (i < ints_in around.code (Some f) → Q 0 s os e) → Q 0 s os e
   taken_number s e os i n w is fits rest = λ in_it h. rest (⊎_elim (λ (lt : i < ints_in around.code (Some f)). lt) (λ ge. absurd (not_anything n w fits (sym is ∙ h.numbers i ge))) (cases_lt i (ints_in around.code (Some f)))) in_it h
 
   passed_number : (i r : ℕ) (l : Label) → F i i r l → (kind : Kind) (kinds : List Kind) (wants : ℕ → StaticType) (a : Expression) (rest : Arguments) (xs ys : List Op) (site : Site) → is_ref c a ≡ false → is_integer (kind_of c a) ≡ true → is_integer kind ≡ true → ValueOf i i r l xs a

@@ -20,3 +20,4 @@ pub mod Casting
 pub mod Waiting
 pub mod Expressing
 pub mod Locking
+pub mod Simple

@@ -2,4 +2,5 @@ pub mod Stretches
 pub mod Places
 pub mod Premises
 pub mod Typable
+pub mod Stated
 pub mod Laws
