@@ -11,6 +11,8 @@ use Rattle.sharc_code.specs.declared.instr.Register.{Register}
 use Rattle.sharc_code.specs.declared.instr.Register.TheVariants as registers
 use Rattle.sharc_code.specs.Runs.{put}
 use Rattle.sharc_code.proofs.Places.{put_same, put_other, put_all}
+use Rattle.sharc_mode.specs.Cells.{pointed}
+use Rattle.sharc_mode.specs.Rows.{row_at}
 use Rattle.sharc_mode.specs.Sharings.{Sharing}
 use Rattle.sharc_meaning.specs.Cells.{element_cells}
 use Rattle.sharc_meaning.specs.State.{is_reference}
@@ -41,7 +43,7 @@ use Rattle.sharc_labels_laws.proofs.Parts.{P, At, does, then_do, post, none, ent
 use Rattle.sharc_labels_laws.proofs.Variables.{assign_at, assign_number_at}
 use Rattle.sharc_labels_laws.proofs.Values.{over}
 use Rattle.sharc_labels_laws.proofs.Accessed.{Frame, placed, based, ints_of, indexed, int_store, reference_store, holds_over}
-use Rattle.sharc_labels_laws.proofs.Expressing.{RefValue, IntValue, PlaceValue, expressions, places, int_of, ref_of, in_frame, small_copy, taken_number, frame_fill, frame_number, plain_base, no_bare}
+use Rattle.sharc_labels_laws.proofs.Expressing.{Value, RefValue, IntValue, PlaceValue, expressions, places, int_of, ref_of, in_frame, small_copy, taken_number, frame_fill, frame_number, plain_base, no_bare}
 
 module _ (around : Setting) (f : ℕ) (ways : List Way) (y : Typing) (c : Context) (low : AreLow (y.named c) (ref_count c.scope)) where
   abbrev D : (ℕ → Mark) → Type 0
@@ -122,3 +124,125 @@ module _ (around : Setting) (f : ℕ) (ways : List Way) (y : Typing) (c : Contex
       subst (Comes from i r l kind s (right_code c i r kind mode (malloc span n w))) (sym h.0)
       (r, inl refl, enter around f D N top low from i r l fr.at i _ end (joins from (mark l from i) middle end (elements_code c i r n) (op.ChkPositive i (at_site span.first) ∷ op.New r i size _ ∷ []) k.2
       (joins from middle middle end (op.ChkPositive i (at_site span.first) ∷ []) (op.New r i size _ ∷ []) (positive_at around f D N top low from (i + 1) r (set_number l i k.0) at2 (i + 1) i (at_site span.first)) (new_at from i r l fr k.0 k.1 s h.1 size h.2 _))))
+
+  -- ---- with the registers of an lvalue at hand
+  shut : (from i r : ℕ) (l : Label) → F from i r l → l ≡ record l { gate = Closed }
+  shut from i r l fr = ap (λ g. record l { gate = g }) fr.at.stands.closed
+
+  frame_same : (from i r i2 r2 : ℕ) (l : Label) → F from i r l → i ≡ i2 → r ≡ r2 → F from i2 r2 l
+  frame_same from i r i2 r2 l fr a b = subst (λ k. F from i2 k l) b (subst (λ k. F from k r l) a fr)
+
+  placed_frame : (from i r : ℕ) (l : Label) (fr : F from i r l) (t : Target) (guard : Option ℕ) (ground : Ground) (e : Element) (v : ℕ) → IsNamed N r ground.base → v ≤ r → F from (i + index_width t guard) (r + base_width t) (placed around f D y c low from t guard ground e i r v l).label
+  placed_frame from i r l fr (variable x) guard ground e v fits small = frame_same from i r (i + 0) (r + 0) (record l { gate = Closed }) (subst (F from i r) (shut from i r l fr) fr) (omega arith) (omega arith)
+  placed_frame from i r l fr (in_global g n) guard ground e v fits small = frame_same from i r (i + 0) (r + 0) (record l { gate = Closed }) (subst (F from i r) (shut from i r l fr) fr) (omega arith) (omega arith)
+  placed_frame from i r l fr (in_global_at g n) None ground e v fits small = let a = number_in_global c.globals ground e g n in frame_same from (i + 1) r (i + 1) (r + 0) (set_number l i a) (frame_number around f ways y c low from i r l fr a (λ q b. absurd b)) refl (omega arith)
+  placed_frame from i r l fr (in_global_at g n) (Some m) ground e v fits small =
+      let a = number_in_global c.globals ground e g n in
+      let b = number_in_global c.globals ground e g m in
+      let one = frame_number around f ways y c low from i r l fr a (λ q b. absurd b) in
+      frame_same from (i + 1 + 1) r (i + 2) (r + 0) (set_number (set_number l i a) (i + 1) b) (frame_number around f ways y c low from (i + 1) r (set_number l i a) one b (λ q b. absurd b)) (omega arith) (omega arith)
+  placed_frame from i r l fr (in_object n) guard ground e v fits small = let k = fill l r (Refers ground.base) v true in frame_same from i (r + 1) (i + 0) (r + 1) k (frame_fill around f ways y c low from i r l fr ground.base v true fits small) (omega arith) refl
+  placed_frame from i r l fr (in_object_at n) None ground e v fits small =
+      let k = fill l r (Refers ground.base) v true in
+      frame_number around f ways y c low from i (r + 1) k (frame_fill around f ways y c low from i r l fr ground.base v true fits small) (OfElement r n e) (λ q b. omega (arith, b))
+  placed_frame from i r l fr (in_object_at n) (Some m) ground e v fits small =
+      let k = fill l r (Refers ground.base) v true in
+      let one = frame_number around f ways y c low from i (r + 1) k (frame_fill around f ways y c low from i r l fr ground.base v true fits small) (OfElement r n e) (λ q b. omega (arith, b)) in
+      frame_same from (i + 1 + 1) (r + 1) (i + 2) (r + 1) (set_number (set_number k i (OfElement r n e)) (i + 1) (OfElement r m e)) (frame_number around f ways y c low from (i + 1) (r + 1) (set_number k i (OfElement r n e)) one (OfElement r m e) (λ q b. omega (arith, b))) (omega arith) refl
+
+  store_is : (i r vi vr : ℕ) (site : Site) (lvalue : Lvalue) (mode : Sharing) (b : Bool) (t : Target) → is_cell t ≡ true → cell_store_code c i r vi vr site lvalue mode b t ≡ store_code c i r vi vr site lvalue mode b t
+  store_is i r vi vr site lvalue mode b (variable x) h = absurd (false≢true h)
+  store_is i r vi vr site lvalue mode b (in_global g n) h = refl
+  store_is i r vi vr site lvalue mode b (in_global_at g n) h = refl
+  store_is i r vi vr site lvalue mode b (in_object n) h = refl
+  store_is i r vi vr site lvalue mode b (in_object_at n) h = refl
+
+  -- ---- to a cell
+  cell_assigned : (from i r : ℕ) (l : Label) → F from i r l → (u : Expression) (s : StaticType) (mode : Sharing) (x : Right) (t : Target) → is_cell t ≡ true → (xs : List Op) → PlaceValue around f ways y c low from i r l xs t (guard_of c u) (ground_of around f ways y c u) → CellAssigned around f ways y c u s t (is_ref c u)
+      → IsTypeIn around f ways y c s → RightTypable around f ways y false c (kind_of c u) s x
+      → Q from (mark l from i) (xs ++ (right_code c (i + index_width t (guard_of c u)) (r + base_width t) (kind_of c u) mode x ++ store_code c i r (i + index_width t (guard_of c u)) (r + base_width t) (span_of u).first (lvalue_in c u) (mode_of c u) (is_ref c u) t)) (mark l from i)
+  cell_assigned from i r l fr u s mode x t cell xs p assigned type right =
+      let guard = guard_of c u in
+      let ground = ground_of around f ways y c u in
+      let start = placed around f D y c low from t guard ground p.element i r p.copy l in
+      let fp = placed_frame from i r l fr t guard ground p.element p.copy p.fits p.small in
+      let v = rights false from (i + index_width t guard) (r + base_width t) start.label fp (no_bare around f ways y c low start.label) (kind_of c u) mode s x right in
+      joins from (mark l from i) start (mark l from i) xs _ p.piece
+      (subst (λ os. Q from start (right_code c (i + index_width t guard) (r + base_width t) (kind_of c u) mode x ++ os) (mark l from i)) (store_is i r (i + index_width t guard) (r + base_width t) (span_of u).first (lvalue_in c u) (mode_of c u) (is_ref c u) t cell)
+      (stored (is_ref c u) v assigned))
+    where
+      stored : (b : Bool) → Comes from (i + index_width t (guard_of c u)) (r + base_width t) (placed around f D y c low from t (guard_of c u) (ground_of around f ways y c u) p.element i r p.copy l).label (kind_of c u) s (right_code c (i + index_width t (guard_of c u)) (r + base_width t) (kind_of c u) mode x) b
+          → CellAssigned around f ways y c u s t b
+          → Q from (placed around f D y c low from t (guard_of c u) (ground_of around f ways y c u) p.element i r p.copy l)
+          (right_code c (i + index_width t (guard_of c u)) (r + base_width t) (kind_of c u) mode x ++ cell_store_code c i r (i + index_width t (guard_of c u)) (r + base_width t) (span_of u).first (lvalue_in c u) (mode_of c u) b t) (mark l from i)
+      stored true v h =
+          let high = fr.high in
+          joins from (placed around f D y c low from t (guard_of c u) (ground_of around f ways y c u) p.element i r p.copy l)
+          (mark (fill (placed around f D y c low from t (guard_of c u) (ground_of around f ways y c u) p.element i r p.copy l).label (r + base_width t) (Refers s) v.0 false) from (i + index_width t (guard_of c u))) (mark l from i)
+          (right_code c (i + index_width t (guard_of c u)) (r + base_width t) (kind_of c u) mode x) _ v.2
+          (reference_store around f D y c low from i r l fr (guard_of c u) (ground_of around f ways y c u) p.element p.copy p.fits p.small (span_of u).first (lvalue_in c u) (mode_of c u) s (in_frame around f ways y c low from i r l fr s type) v.0 false t cell
+          (⊎_elim (λ (e : v.0 ≡ r + base_width t). omega (arith, e)) (λ (lt : v.0 < top). omega (arith, lt, high)) v.1) (i + index_width t (guard_of c u)) h)
+      stored false v h =
+          joins from (placed around f D y c low from t (guard_of c u) (ground_of around f ways y c u) p.element i r p.copy l)
+          (mark (set_number (placed around f D y c low from t (guard_of c u) (ground_of around f ways y c u) p.element i r p.copy l).label (i + index_width t (guard_of c u)) (Within (width_of (kind_of c u)))) from (i + index_width t (guard_of c u))) (mark l from i)
+          (right_code c (i + index_width t (guard_of c u)) (r + base_width t) (kind_of c u) mode x) _ v
+          (int_store around f D y c low from i r l fr (guard_of c u) (ground_of around f ways y c u) p.element p.copy p.fits p.small (span_of u).first (lvalue_in c u) (mode_of c u) t cell (width_of (kind_of c u)) (r + base_width t) h)
+
+  -- ---- to a variable
+  -- the value in these registers, of which nothing else is at hand
+  settled : (from i r : ℕ) (l : Label) → F from i r l → IsBare true l → int_count c.scope ≤ from → (kind : Kind) (s : StaticType) (x : Register) (xs : List Op) → IsTypeIn around f ways y c s → VariableAssigned around f ways y c kind s x → Comes from i r l kind s xs (is_reference kind)
+      → Q from (mark l from i) (xs ++ settle_code i r x) (mark l from i)
+  settled from i r l fr alone whole kind s (registers.Int j) xs type h v =
+      let w = width_of kind in
+      let wide = fr.wide in
+      let lt = h.1 in
+      let n = subst (Comes from i r l kind s xs) h.0 v in
+      joins from (mark l from i) (mark (set_number l i (Within w)) from i) (mark l from i) xs (op.Move j i ∷ []) n
+      (assign_number_at around f D N top low from i r l fr.at j w i (omega arith) (omega (arith, lt, wide)) (omega (arith, lt, whole)) (fr.holds.integers j h.1 ∙ ap Within h.2))
+  settled from i r l fr alone whole kind s (registers.Reference q) xs type h v =
+      let w = subst (Comes from i r l kind s xs) h.0 v in
+      let a = alone refl in
+      let high = fr.high in
+      let lt = h.1 in
+      joins from (mark l from i) (mark (fill l r (Refers s) w.0 false) from i) (mark l from i) xs (op.Settle q r ∷ []) w.2
+      (assign_at around f D N top low from i r l fr.at fr.high s w.0 false q i (in_frame around f ways y c low from i r l fr s type) (omega (arith, lt, high)) (fr.holds.references q h.1 ∙ ap Refers h.2) h.3 (a.0 q) (λ p e. sym (a.0 p) ∙ e) (a.1 q) (λ j b. a.2 j q b))
+
+  shut_bare : (bare : Bool) (l : Label) → IsBare bare l → IsBare bare (record l { gate = Closed })
+  shut_bare bare l h = h
+
+  variable_assigned : (from i r : ℕ) (l : Label) → F from i r l → IsBare true l → int_count c.scope ≤ from → (kind : Kind) (mode : Sharing) (s : StaticType) (v : ℕ) (x : Right) (xs : List Op) → IsTypeIn around f ways y c s → VariableAssigned around f ways y c kind s (register_of c.scope v) → RightTypable around f ways y true c kind s x
+      → Q from (mark l from i) xs (mark (record l { gate = Closed }) from (i + 0)) → Q from (mark l from i) (xs ++ (right_code c (i + 0) (r + 0) kind mode x ++ settle_code (i + 0) (r + 0) (register_of c.scope v))) (mark l from i)
+  variable_assigned from i r l fr alone whole kind mode s v x xs type assigned right p =
+      let k = record l { gate = Closed } in
+      let fk = frame_same from i r (i + 0) (r + 0) k (subst (F from i r) (shut from i r l fr) fr) (omega arith) (omega arith) in
+      let w = rights true from (i + 0) (r + 0) k fk (shut_bare true l alone) kind mode s x right in
+      let q = settled from (i + 0) (r + 0) k fk (shut_bare true l alone) whole kind s (register_of c.scope v) (right_code c (i + 0) (r + 0) kind mode x) type assigned w in
+      let z : i + 0 ≡ i = omega arith in
+      joins from (mark l from i) (mark k from (i + 0)) (mark l from i) xs _ p
+      (subst (λ n. Q from (mark k from (i + 0)) (right_code c (i + 0) (r + 0) kind mode x ++ settle_code (i + 0) (r + 0) (register_of c.scope v)) (mark l from n)) z
+      (subst (λ m. Q from (mark k from (i + 0)) (right_code c (i + 0) (r + 0) kind mode x ++ settle_code (i + 0) (r + 0) (register_of c.scope v)) (mark m from (i + 0))) (sym (shut from i r l fr)) q))
+
+  -- ---- a call whose value is dropped
+  dropped : (from i r : ℕ) (l : Label) → F from i r l → IsBare true l → (e : Expression) → IsTypable around f ways y true c e → Dropped around f ways y c e (is_ref c e) → Q from (mark l from i) (expression_code c i r e ++ drop_code (is_ref c e) r) (mark l from i)
+  dropped from i r l fr alone e h d = by (is_ref c e) (is_integer (kind_of c e)) (expressions around f ways y c low true from i r l fr alone e h) d
+    where
+      by : (a b : Bool) → Value around f ways y c low from i r l (expression_code c i r e) e a b → Dropped around f ways y c e a → Q from (mark l from i) (expression_code c i r e ++ drop_code a r) (mark l from i)
+      by true b v d =
+          let w = v d.0 d.1 d.2 in
+          joins from (mark l from i) (mark (fill l r (Refers d.0) w.copy false) from i) (mark l from i) (expression_code c i r e) (op.Pop r ∷ []) w.piece (pop_at around f D N top low from i r l fr.at fr.high d.0 w.copy false (in_frame around f ways y c low from i r l fr d.0 d.2) i)
+      by false true v d = joins from (mark l from i) (mark l from i) (mark l from i) (expression_code c i r e) [] (number_dropped around f D N top low from i r l fr.at v.number (expression_code c i r e) (mark l from i) v.piece) (none around f D N top low from (mark l from i) (mark l from i) (fits_same around.targets (mark l from i)) (λ z. z))
+      by false false v d = joins from (mark l from i) (mark l from i) (mark l from i) (expression_code c i r e) [] v (none around f D N top low from (mark l from i) (mark l from i) (fits_same around.targets (mark l from i)) (λ z. z))
+
+  -- ---- the whole
+  pub simples : (from i r : ℕ) (l : Label) → F from i r l → IsBare true l → int_count c.scope ≤ from → (x : Simple) → SimpleTypable around f ways y c x → Q from (mark l from i) (simple_code c i r x) (mark l from i)
+  simples from i r l fr alone whole (does_call e) h = dropped from i r l fr alone e h.0 h.1
+  simples from i r l fr alone whole (assign span u x) h = by (target_of c u) (places around f ways y c low true from i r l fr alone (span_of u).first None (guard_of c u) u h.0) h.1.2 h.1.3
+    where
+      by : (t : Target) → PlaceValue around f ways y c low from i r l (place_code c i r (span_of u).first None (guard_of c u) u) t (guard_of c u) (ground_of around f ways y c u) → Assigned around f ways y c u h.1.0 t → RightTypable around f ways y (is_bare around f ways y t) c (kind_of c u) h.1.0 x
+          → Q from (mark l from i) (place_code c i r (span_of u).first None (guard_of c u) u ++ (right_code c (i + index_width t (guard_of c u)) (r + base_width t) (kind_of c u) (pointed c.program (row_at c.program.typed u)) x
+          ++ store_code c i r (i + index_width t (guard_of c u)) (r + base_width t) (span_of u).first (lvalue_in c u) (mode_of c u) (is_ref c u) t)) (mark l from i)
+      by (variable v) p a right = variable_assigned from i r l fr alone whole (kind_of c u) (pointed c.program (row_at c.program.typed u)) h.1.0 v x (place_code c i r (span_of u).first None (guard_of c u) u) h.1.1 a right p.piece
+      by (in_global g n) p a right = cell_assigned from i r l fr u h.1.0 (pointed c.program (row_at c.program.typed u)) x (in_global g n) refl (place_code c i r (span_of u).first None (guard_of c u) u) p a h.1.1 right
+      by (in_global_at g n) p a right = cell_assigned from i r l fr u h.1.0 (pointed c.program (row_at c.program.typed u)) x (in_global_at g n) refl (place_code c i r (span_of u).first None (guard_of c u) u) p a h.1.1 right
+      by (in_object n) p a right = cell_assigned from i r l fr u h.1.0 (pointed c.program (row_at c.program.typed u)) x (in_object n) refl (place_code c i r (span_of u).first None (guard_of c u) u) p a h.1.1 right
+      by (in_object_at n) p a right = cell_assigned from i r l fr u h.1.0 (pointed c.program (row_at c.program.typed u)) x (in_object_at n) refl (place_code c i r (span_of u).first None (guard_of c u) u) p a h.1.1 right

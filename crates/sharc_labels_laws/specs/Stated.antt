@@ -61,5 +61,5 @@ module _ (z : Setting) (f : ℕ) (ways : List Way) (y : Typing) where
   Dropped c e false = Unit {0}
 
   abbrev pub SimpleTypable : Context → Simple → Type 0
-  SimpleTypable c (assign span u x) = IsPlaceTypable z f ways y true c None (guard_of c u) u × ((s : StaticType) × Assigned c u s (target_of c u) × RightTypable (is_bare (target_of c u)) c (kind_of c u) s x)
+  SimpleTypable c (assign span u x) = IsPlaceTypable z f ways y true c None (guard_of c u) u × ((s : StaticType) × IsTypeIn z f ways y c s × Assigned c u s (target_of c u) × RightTypable (is_bare (target_of c u)) c (kind_of c u) s x)
   SimpleTypable c (does_call e) = IsTypable z f ways y true c e × Dropped c e (is_ref c e)
