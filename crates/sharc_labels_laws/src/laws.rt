@@ -1,6 +1,6 @@
 //! Laws of flattened code.
 
-ghost use Rattle.sharc_labels_laws.specs.Laws.{ExpressionsAreTyped, LinesAreTyped, LinesKnow, LinesTell, PartsAreTyped, StretchesJoin};
+ghost use Rattle.sharc_labels_laws.specs.Laws.{ExpressionsAreTyped, LinesAreTyped, LinesKnow, LinesTell, PartsAreTyped, SimplesAreTyped, StretchesJoin};
 
 /// Lines that stand in a table of marks are typed whatever checks are remembered.
 pub fn lines_law()
@@ -30,4 +30,9 @@ pub fn parts_law()
 /// The code of an expression of which the types of the source say what is asked is typed.
 pub fn expressions_law()
     ensures { ExpressionsAreTyped }
+{}
+
+/// So is that of an assignment, or of a call whose value is dropped.
+pub fn simples_law()
+    ensures { SimplesAreTyped }
 {}
