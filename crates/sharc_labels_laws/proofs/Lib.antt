@@ -21,3 +21,4 @@ pub mod Waiting
 pub mod Expressing
 pub mod Locking
 pub mod Simple
+pub mod Decided

@@ -3,4 +3,5 @@ pub mod Places
 pub mod Premises
 pub mod Typable
 pub mod Stated
+pub mod Decided
 pub mod Laws

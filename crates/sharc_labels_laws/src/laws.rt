@@ -1,5 +1,6 @@
 //! Laws of flattened code.
 
+ghost use Rattle.sharc_labels_laws.specs.Decided.{DecisionsAreTyped};
 ghost use Rattle.sharc_labels_laws.specs.Laws.{ExpressionsAreTyped, LinesAreTyped, LinesKnow, LinesTell, PartsAreTyped, SimplesAreTyped, StretchesJoin};
 
 /// Lines that stand in a table of marks are typed whatever checks are remembered.
@@ -35,4 +36,9 @@ pub fn expressions_law()
 /// So is that of an assignment, or of a call whose value is dropped.
 pub fn simples_law()
     ensures { SimplesAreTyped }
+{}
+
+/// Choices and loops of typed code are typed.
+pub fn decisions_law()
+    ensures { DecisionsAreTyped }
 {}
