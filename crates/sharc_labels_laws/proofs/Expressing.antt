@@ -390,7 +390,7 @@ module _ (around : Setting) (f : ℕ) (ways : List Way) (y : Typing) (c : Contex
 
   -- ---- tests and operators
   -- a value that decides
-  truth_of : (from i r : ℕ) (l : Label) → F from i r l → (e : Expression) (os : List Op) → HasType around f ways y c e → ValueOf from i r l os e → Q from (mark l from i) (os ++ truth_code (is_ref c e) i r) (mark l from i)
+  pub truth_of : (from i r : ℕ) (l : Label) → F from i r l → (e : Expression) (os : List Op) → HasType around f ways y c e → ValueOf from i r l os e → Q from (mark l from i) (os ++ truth_code (is_ref c e) i r) (mark l from i)
   truth_of from i r l fr e os h v = by (is_ref c e) refl
     where
       by : (b : Bool) → is_ref c e ≡ b → Q from (mark l from i) (os ++ truth_code b i r) (mark l from i)

@@ -17,7 +17,7 @@ use Rattle.sharc_typed.specs.Passes.{TypedAnyhow, Knows}
 use Rattle.sharc_labels_laws.specs.Stretches.{Mark, Setting, Tells, IsLine, flat_labels, Way, LeadsAmong}
 use Rattle.sharc_labels_laws.specs.Places.{Stands, IsNamed, IsPlain, AreLow, mark}
 use Rattle.sharc_labels_laws.specs.Premises.{Typing}
-use Rattle.sharc_labels_laws.specs.Typable.{IsBare, IsCopyOf, GoesTo, StandsIn, IsTypable}
+use Rattle.sharc_labels_laws.specs.Typable.{IsBare, IsCopyOf, GoesTo, StandsIn, HasType, IsTypable}
 use Rattle.sharc_labels_laws.specs.Stated.{SimpleTypable}
 
 -- ---- lines
@@ -116,3 +116,8 @@ ExpressionsAreTyped = (z : Setting) (f : ℕ) (ways : List Way) (y : Typing) (c 
 abbrev pub SimplesAreTyped : Type 0
 SimplesAreTyped = (z : Setting) (f : ℕ) (ways : List Way) (y : Typing) (c : Context) → AreLow (y.named c) (ref_count c.scope) → (from i r : ℕ) (l : Label) → StandsIn y c f from i r l → IsBare true l → int_count c.scope ≤ from → (x : Simple) → SimpleTypable z f ways y c x
     → LeadsAmong z f ways (mark l from i) (simple_code c i r x) (mark l from i)
+
+-- A test, whose value comes to the first free register.
+abbrev pub TestsAreTyped : Type 0
+TestsAreTyped = (z : Setting) (f : ℕ) (ways : List Way) (y : Typing) (c : Context) → AreLow (y.named c) (ref_count c.scope) → (from i r : ℕ) (l : Label) → StandsIn y c f from i r l → (bare : Bool) → IsBare bare l → (e : Expression) → IsTypable z f ways y bare c e → HasType z f ways y c e
+    → LeadsAmong z f ways (mark l from i) (expression_code c i r e ++ truth_code (is_ref c e) i r) (mark l from i)

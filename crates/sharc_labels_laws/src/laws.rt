@@ -1,7 +1,7 @@
 //! Laws of flattened code.
 
 ghost use Rattle.sharc_labels_laws.specs.Decided.{DecisionsAreTyped};
-ghost use Rattle.sharc_labels_laws.specs.Laws.{ExpressionsAreTyped, LinesAreTyped, LinesKnow, LinesTell, PartsAreTyped, SimplesAreTyped, StretchesJoin};
+ghost use Rattle.sharc_labels_laws.specs.Laws.{ExpressionsAreTyped, LinesAreTyped, LinesKnow, LinesTell, PartsAreTyped, SimplesAreTyped, StretchesJoin, TestsAreTyped};
 
 /// Lines that stand in a table of marks are typed whatever checks are remembered.
 pub fn lines_law()
@@ -41,4 +41,9 @@ pub fn simples_law()
 /// Choices and loops of typed code are typed.
 pub fn decisions_law()
     ensures { DecisionsAreTyped }
+{}
+
+/// So is a test.
+pub fn tests_law()
+    ensures { TestsAreTyped }
 {}
