@@ -20,3 +20,5 @@ pub mod Casting
 pub mod Waiting
 pub mod Expressing
 pub mod Locking
+pub mod Simple
+pub mod Decided

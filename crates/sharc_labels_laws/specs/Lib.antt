@@ -2,4 +2,6 @@ pub mod Stretches
 pub mod Places
 pub mod Premises
 pub mod Typable
+pub mod Stated
+pub mod Decided
 pub mod Laws

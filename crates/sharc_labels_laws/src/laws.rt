@@ -1,6 +1,7 @@
 //! Laws of flattened code.
 
-ghost use Rattle.sharc_labels_laws.specs.Laws.{ExpressionsAreTyped, LinesAreTyped, LinesKnow, LinesTell, PartsAreTyped, StretchesJoin};
+ghost use Rattle.sharc_labels_laws.specs.Decided.{DecisionsAreTyped};
+ghost use Rattle.sharc_labels_laws.specs.Laws.{ExpressionsAreTyped, LinesAreTyped, LinesKnow, LinesTell, PartsAreTyped, SimplesAreTyped, StretchesJoin, TestsAreTyped};
 
 /// Lines that stand in a table of marks are typed whatever checks are remembered.
 pub fn lines_law()
@@ -30,4 +31,19 @@ pub fn parts_law()
 /// The code of an expression of which the types of the source say what is asked is typed.
 pub fn expressions_law()
     ensures { ExpressionsAreTyped }
+{}
+
+/// So is that of an assignment, or of a call whose value is dropped.
+pub fn simples_law()
+    ensures { SimplesAreTyped }
+{}
+
+/// Choices and loops of typed code are typed.
+pub fn decisions_law()
+    ensures { DecisionsAreTyped }
+{}
+
+/// So is a test.
+pub fn tests_law()
+    ensures { TestsAreTyped }
 {}
