@@ -39,6 +39,7 @@ pub mod Staying
 pub mod Tabled
 pub mod Tables
 pub mod Unwritten
+pub mod Walking
 pub mod Wholes
 pub mod Withdrawing
 pub mod Writes

@@ -136,3 +136,7 @@ module _ (laws : TheLaws) (x : Targets) (code : Code) (s : Shape) (ls : Labels) 
   pub whole : (run : List Turn) → RunOf code s run → Whole x code s ls run
   whole [] run = record { consists = at_first laws.begins x code s ls typed.wt typed.fits; remains = first_remains; cleared = first_cleared x code s ls typed.wt (place_after code s []) (λ u. refl); halting = halting [] run }
   whole (one ∷ earlier) run = next_whole one earlier run (whole earlier run.0)
+
+  pub whole_next : (one : Turn) (earlier : List Turn) (run : RunOf code s (one ∷ earlier)) → (whole (one ∷ earlier) run).consists ≡ next_consists one earlier run (whole earlier run.0)
+  unfolding whole next_whole
+  whole_next one earlier run = refl
