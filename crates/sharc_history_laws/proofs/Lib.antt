@@ -34,6 +34,7 @@ pub mod Shared
 pub mod Since
 pub mod Single
 pub mod Sole
+pub mod Spots
 pub mod Stands
 pub mod Staying
 pub mod Tabled
