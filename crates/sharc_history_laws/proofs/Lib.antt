@@ -2,6 +2,8 @@ pub mod Acts
 pub mod Arriving
 pub mod Calm
 pub mod Carried
+pub mod Caused
+pub mod Checks
 pub mod Cleared
 pub mod Conflicting
 pub mod Consists

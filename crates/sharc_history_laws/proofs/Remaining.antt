@@ -232,7 +232,8 @@ module _ (laws : ShadowLaws) (cell_laws : CellsAreThere) (x : Targets) (code : C
       by (Withdrew e a) = let b = a.epoch in omega (arith, b)
 
   -- ---- notes and stops
-  stop_is : (d : ConflictAt) → m'.own.stop ≡ Some (Conflict d) → (kind : Kind) × (q : ℕ) × (site : ℕ) × IsCheckAt s m i kind q site × (touch ≡ CheckOf kind q false) × (d ≡ record { kind = kind; site = site; granule = q; epoch = epoch_of (old_at q); old = old_at q })
+  pub stop_is : (d : ConflictAt) → m'.own.stop ≡ Some (Conflict d) → (kind : Kind) × (q : ℕ) × (site : ℕ) × IsCheckAt s m i kind q site × (touch ≡ CheckOf kind q false) × (d ≡ record { kind = kind; site = site; granule = q; epoch = epoch_of (old_at q); old = old_at q })
+      × (conflicts_in (old_at q) m.own.number kind (wrote m q (old_at q)) ≡ true)
   stop_is d e = by did
     where
       same : (c : ConflictAt) (y : Machine) → y.own.stop ≡ Some (Conflict c) → m' ≡ y → d ≡ c
@@ -242,12 +243,13 @@ module _ (laws : ShadowLaws) (cell_laws : CellsAreThere) (x : Targets) (code : C
       none y a b = let f : Some (Conflict d) ≡ None = sym e ∙ ap (λ (y : Machine). y.own.stop) b ∙ a in cc
 
       by : DoesIt → (kind : Kind) × (q : ℕ) × (site : ℕ) × IsCheckAt s m i kind q site × (touch ≡ CheckOf kind q false) × (d ≡ record { kind = kind; site = site; granule = q; epoch = epoch_of (old_at q); old = old_at q })
+          × (conflicts_in (old_at q) m.own.number kind (wrote m q (old_at q)) ≡ true)
       by (Plain a b c) = absurd (c d e)
       by (Passes kind q site at a b c) = absurd (none (with_own m (machines.with_note m.own q kind (epoch_of (old_at q)) site)) (note_stop q kind (epoch_of (old_at q)) site) c)
         where
           note_stop : (q : ℕ) (kind : Kind) (e site : ℕ) → (machines.with_note (g.threads tr.thread).own q kind e site).stop ≡ None
           note_stop q kind e site = elim (is_some (site_at (note_of m.own.table q kind) e)) as (λ b. (if b then m.own else record m.own { table = Rattle.sharc_shadow.specs.Functions.noted m.own.table q kind record { epoch = e; site = site } }).stop ≡ None) [ true ↦ fresh | false ↦ fresh ]
-      by (Refuses kind q site at a b c) = (kind, q, site, at, a, same (record { kind = kind; site = site; granule = q; epoch = epoch_of (old_at q); old = old_at q }) _ refl c)
+      by (Refuses kind q site at a b c) = (kind, q, site, at, a, same (record { kind = kind; site = site; granule = q; epoch = epoch_of (old_at q); old = old_at q }) _ refl c, b)
 
   -- a note of an epoch stays in it
   still : (p : ℕ) (kind : Kind) (z : ℕ) → site_now g tr.thread p kind ≡ Some z → site_at (note_of m'.own.table p kind) (epoch_of (old_at p)) ≡ Some z
@@ -338,7 +340,7 @@ module _ (laws : ShadowLaws) (cell_laws : CellsAreThere) (x : Targets) (code : C
   granule_low : (k p : ℕ) (d : ConflictAt) → StoppedAt g' k p d → p < granules s
   granule_low k p d e = subst (λ n. n < granules s) e.granule ((low_stop k d e.is).0)
 
-  check_bit : (kind : Kind) (p : ℕ) (ok : Bool) → p < granules s → touch ≡ CheckOf kind p ok → AddsAccess (old_at p) (new_at p) tr.thread kind
+  pub check_bit : (kind : Kind) (p : ℕ) (ok : Bool) → p < granules s → touch ≡ CheckOf kind p ok → AddsAccess (old_at p) (new_at p) tr.thread kind
   check_bit kind p ok lt q = by (word p lt)
     where
       parts : (k kind : Kind) (a p : ℕ) (b ok : Bool) → CheckOf k a b ≡ CheckOf kind p ok → k ≡ kind

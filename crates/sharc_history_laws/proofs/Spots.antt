@@ -93,12 +93,10 @@ module _ (x : Targets) (code : Code) (s : Shape) (ls : Labels) (wt : IsWellTyped
   here = ls.at (g.threads t).at.pc
 
   pub record IsChecked (c : Cell) (p : ℕ) : Type 0 where
-    pub object : ℕ
-    pub index : ℕ
-    pub live : (world.obj object).live ≡ true
-    pub inside : 2 * index < st.cells object
-    pub is : p ≡ object + 1 + index
-    pub spot : Spot code (cell_at code (g.threads t) c) object index p
+    pub live : (world.obj (object_of_cell (g.threads t) c)).live ≡ true
+    pub inside : 2 * (number_in (g.threads t) c / 2) < st.cells (object_of_cell (g.threads t) c)
+    pub is : p ≡ object_of_cell (g.threads t) c + 1 + number_in (g.threads t) c / 2
+    pub spot : Spot code (cell_at code (g.threads t) c) (object_of_cell (g.threads t) c) (number_in (g.threads t) c / 2) p
 
   half_of : (p o n : ℕ) → p ≡ 2 * (o + 1) + n → p / 2 ≡ o + 1 + n / 2
   half_of p o n e = omega arith
@@ -133,4 +131,4 @@ module _ (x : Targets) (code : Code) (s : Shape) (ls : Labels) (wt : IsWellTyped
       let within = st.apart.within o (n / 2) th.live inside in
       let half : place m c / 2 ≡ o + 1 + n / 2 = half_of (place m c) o n th.place_is in
       let is : p ≡ o + 1 + n / 2 = e ∙ ap (granule_at s) half ∙ at_low s (o + 1 + n / 2) within in
-      record { object = o; index = n / 2; live = th.live; inside = inside; is = is; spot = spot_of c f k p (half ∙ sym is) }
+      record { live = th.live; inside = inside; is = is; spot = spot_of c f k p (half ∙ sym is) }
