@@ -238,3 +238,161 @@ module _ (laws : TheLaws) (x : Targets) (code : Code) (s : Shape) (ls : Labels) 
           granule = ap granule_in named_is ∙ same.1 ∙ sym (ap granule_in refused_is);
           nothing = subst (λ object. NothingBetween code s between base object j) object way.no_events;
         }
+
+  -- ---- the checks that a report may name
+  module _ (followed : ChecksAreFollowed code) (report : Turn) (before : List Turn) (run : RunOf code s (report ∷ before)) (c : ConflictAt) (stop : ((place_after code s (report ∷ before)).threads report.thread).own.stop ≡ Some (Conflict c)) where
+    abbrev at_p : ℕ
+    at_p = c.granule
+
+    reports : Report report before run c stop
+    reports = the_report report before run c stop
+
+    abbrev CauseOf : List Turn → ℕ → Kind → ℕ → Type 0
+    CauseOf run j kind site = ShowsCause code s run report c j kind site
+
+    found : (between : List Turn) (check : Turn) (earlier : List Turn) → before ≡ between ++ check ∷ earlier → (j : ℕ) (kind : Kind) (site : ℕ) (passed : Bool) → IsCheck code s earlier check j kind c.granule site passed → j ≢ report.thread → (c.kind ≡ Write) ⊎ (kind ≡ Write)
+        → epoch_of (slice_index (place_after code s earlier).words (shadow_word s c.granule)) ≡ c.epoch → stands (word_at (place_after code s before) c.granule) j ≡ true → ShowsCause code s before report c j kind site
+    found between check earlier parts j kind site passed is_check ne write epoch bit =
+        let now : epoch_of (word_at (place_after code s earlier) at_p) ≡ c.epoch = ap (λ q. epoch_of (slice_index (place_after code s earlier).words (first_shadow + q))) (sym (at_low s at_p reports.low)) ∙ epoch in
+        subst Goal (sym parts) (λ run stop bit. cause_at followed report between check earlier run c stop j kind site passed is_check ne write now bit) run stop bit
+      where
+        Goal : List Turn → Type 0
+        Goal l = (run : RunOf code s (report ∷ l)) → ((place_after code s (report ∷ l)).threads report.thread).own.stop ≡ Some (Conflict c) → stands (word_at (place_after code s l) c.granule) j ≡ true → ShowsCause code s l report c j kind site
+
+    -- by a note
+    by_note : (j : ℕ) (kind : Kind) (site : ℕ) → noted_site (place_after code s before) c j kind ≡ Some site → Stood c report.thread j → (c.kind ≡ Write) ⊎ (kind ≡ Write) → ShowsCause code s before report c j kind site
+    by_note j kind site is stood write =
+        let n = some_note (note_of ((place_after code s before).threads j).own.table at_p kind) c.epoch site is in
+        let k = notes_told code s before run.0 j at_p kind n.0 n.1 in
+        found k.later k.check k.earlier k.parts j kind site true (subst (λ z. IsCheck code s k.earlier k.check j kind at_p z true) n.2 k.is_check) stood.0 write (k.epoch ∙ n.3) (ap (λ v. stands v j) (sym reports.word) ∙ stood.1)
+
+    -- by a stop
+    by_stop : (j : ℕ) (d : ConflictAt) → StoppedThere (place_after code s before) c j d → (kind : Kind) (site : ℕ) → d.kind ≡ kind → d.site ≡ site → j ≢ report.thread → (c.kind ≡ Write) ⊎ (kind ≡ Write) → stands (word_at (place_after code s before) c.granule) j ≡ true
+        → ShowsCause code s before report c j kind site
+    by_stop j d at kind site kind_is site_is ne write bit =
+        let k = accesses_show laws.conflicts laws.bits x code s ls typed.wt typed.fits typed.few (halting laws x code s ls typed) before run.0 j d at.is in
+        let check = subst (λ q. IsCheck code s k.earlier k.check j kind q site false) at.granule (subst (λ z. IsCheck code s k.earlier k.check j kind d.granule z false) site_is (subst (λ y. IsCheck code s k.earlier k.check j y d.granule d.site false) kind_is k.is_check)) in
+        found k.later k.check k.earlier k.parts j kind site false check ne write
+        (ap (λ q. epoch_of (slice_index (place_after code s k.earlier).words (shadow_word s q))) (sym at.granule) ∙ ap epoch_of k.word ∙ k.epoch ∙ at.epoch) bit
+
+    bit_of : (j : ℕ) → Stood c report.thread j → stands (word_at (place_after code s before) c.granule) j ≡ true
+    bit_of j stood = ap (λ v. stands v j) (sym reports.word) ∙ stood.1
+
+    stopped_at : (j : ℕ) (d : ConflictAt) → StoppedThere (place_after code s before) c j d → remaining.StoppedAt (place_after code s before) j c.granule d
+    stopped_at j d at = record { is = at.is; granule = at.granule; epoch = at.epoch ∙ reports.epoch }
+
+    -- the thread of the report has not stopped yet
+    not_mine : (j : ℕ) (d : ConflictAt) → ((place_after code s before).threads j).own.stop ≡ Some (Conflict d) → j ≢ report.thread
+    not_mine j d is mine = let f : None ≡ Some (Conflict d) = sym (fresh report before run c stop) ∙ ap (λ j. ((place_after code s before).threads j).own.stop) (sym mine) ∙ is in cc
+
+    pub cause : (j : ℕ) (kind : Kind) (site : ℕ) → IsNamed (place_after code s before) report.thread c j kind site → ShowsCause code s before report c j kind site
+    cause j kind site (OfWrite stood kind_is is) = by_note j kind site (ap (noted_site (place_after code s before) c j) kind_is ∙ is) stood (inr kind_is)
+    cause j kind site (OfRead mine stood none kind_is is) = by_note j kind site (ap (noted_site (place_after code s before) c j) kind_is ∙ is) stood (inl mine)
+    cause j kind site (OfStop mine stood none none' d at kind_is site_is) = by_stop j d at kind site kind_is site_is stood.0 (inl mine) (bit_of j stood)
+    cause j kind site (OfFirst mine none d at d_kind old kind_is site_is) =
+        by_stop j d at kind site (d_kind ∙ sym kind_is) site_is (not_mine j d at.is) (inr kind_is) ((whole laws x code s ls typed before run.0).remains.stop_bit j at_p d (stopped_at j d at))
+
+    -- ---- and there is one
+    named_at : (j : ℕ) (kind : Kind) (z : ℕ) → site_now (place_after code s before) j c.granule kind ≡ Some z → noted_site (place_after code s before) c j kind ≡ Some z
+    named_at j kind z e = ap (site_at (note_of ((place_after code s before).threads j).own.table at_p kind)) reports.epoch ∙ e
+
+    stopped_there : (j : ℕ) (d : ConflictAt) → remaining.StoppedAt (place_after code s before) j c.granule d → StoppedThere (place_after code s before) c j d
+    stopped_there j d at = record { is = at.is; granule = at.granule; epoch = at.epoch ∙ sym reports.epoch }
+
+    some_other : (kind : Kind) → Conflicts (word_at (place_after code s before) c.granule) report.thread kind (wrote ((place_after code s before).threads report.thread) c.granule (word_at (place_after code s before) c.granule)) → HasOther (word_at (place_after code s before) c.granule) report.thread
+    some_other Write h = h
+    some_other Read h = h.0
+
+    abbrev SomeNamed : ℕ → Type 0
+    SomeNamed j = (kind : Kind) × (site : ℕ) × IsNamed (place_after code s before) report.thread c j kind site
+
+    of_write : c.kind ≡ Write → (j : ℕ) → Stood c report.thread j → SomeNamed j
+    of_write mine j stood = ⊎_elim
+        (λ (w : (z : ℕ) × (noted_site g' c j Write ≡ Some z)). (Write, w.0, OfWrite stood refl w.1))
+        (λ (none : noted_site g' c j Write ≡ None). ⊎_elim
+        (λ (r : (z : ℕ) × (noted_site g' c j Read ≡ Some z)). (Read, r.0, OfRead mine stood none refl r.1))
+        (λ (none' : noted_site g' c j Read ≡ None). by none none' ((whole laws x code s ls typed before run.0).remains.reason j at_p reports.low (bit_of j stood)))
+        (some_or (noted_site g' c j Read)))
+        (some_or (noted_site g' c j Write))
+      where
+        g' : Global Machine
+        g' = place_after code s before
+
+        no_kind : (kind : Kind) (z : ℕ) → noted_site (place_after code s before) c j Write ≡ None → noted_site (place_after code s before) c j Read ≡ None → noted_site (place_after code s before) c j kind ≡ Some z → ⊥
+        no_kind Write z a b e = let f : None ≡ Some z = sym a ∙ e in cc
+        no_kind Read z a b e = let f : None ≡ Some z = sym b ∙ e in cc
+
+        by : noted_site (place_after code s before) c j Write ≡ None → noted_site (place_after code s before) c j Read ≡ None → Reason (place_after code s before) j c.granule → SomeNamed j
+        by a b (remaining.ByNote kind z e) = absurd (no_kind kind z a b (named_at j kind z e))
+        by a b (remaining.ByStop d at) = (d.kind, d.site, OfStop mine stood a b d (stopped_there j d at) refl refl)
+
+    -- a thread whose bit stood and that has written, below this number
+    abbrev Writer : Type 0
+    Writer = (u : ℕ) × (z : ℕ) × Stood c report.thread u × (noted_site (place_after code s before) c u Write ≡ Some z)
+
+    abbrev NoWriter : ℕ → Type 0
+    NoWriter n = (u : ℕ) → u < n → Stood c report.thread u → noted_site (place_after code s before) c u Write ≡ None
+
+    decide_stood : (u : ℕ) → Stood c report.thread u ⊎ (Stood c report.thread u → ⊥)
+    decide_stood u = ⊎_elim
+        (λ (same : u ≡ report.thread). inr (λ z. z.0 same))
+        (λ (ne : u ≡ report.thread → ⊥). bit (stands c.old u) refl ne)
+        (cases_eq u report.thread)
+      where
+        bit : (b : Bool) → stands c.old u ≡ b → (u ≡ report.thread → ⊥) → Stood c report.thread u ⊎ (Stood c report.thread u → ⊥)
+        bit true e ne = inl (ne, e)
+        bit false e ne = inr (λ z. yes (sym z.1 ∙ e))
+
+    search : (n : ℕ) → Writer ⊎ NoWriter n
+    search zero = inr (λ u lt. absurd (omega arith))
+    search (suc n) = ⊎_elim
+        (λ w. inl w)
+        (λ (none : NoWriter n). ⊎_elim
+        (λ (stood : Stood c report.thread n). ⊎_elim
+        (λ (w : (z : ℕ) × (noted_site (place_after code s before) c n Write ≡ Some z)). inl (n, w.0, stood, w.1))
+        (λ (no : noted_site (place_after code s before) c n Write ≡ None). inr (λ u lt st. ⊎_elim (λ (same : u ≡ n). ap (λ u. noted_site (place_after code s before) c u Write) same ∙ no) (λ (ne : u ≡ n → ⊥). none u (below u n lt ne) st) (cases_eq u n)))
+        (some_or (noted_site (place_after code s before) c n Write)))
+        (λ never. inr (λ u lt st. ⊎_elim (λ (same : u ≡ n). absurd (never (subst (Stood c report.thread) same st))) (λ (ne : u ≡ n → ⊥). none u (below u n lt ne) st) (cases_eq u n)))
+        (decide_stood n))
+        (search n)
+      where
+        below : (u n : ℕ) → u < suc n → (u ≡ n → ⊥) → u < n
+        below u n lt ne = grind (arith, nat_tests)
+
+    few_stand : (v u : ℕ) → stands v u ≡ true → u < THREADS
+    unfolding stands
+    few_stand v u e = less u (nat_lt u THREADS) refl e
+      where
+        less : (u : ℕ) (b : Bool) → nat_lt u THREADS ≡ b → (b && (Rattle.std.specs.Int.bit_at v (1 + u) == 1)) ≡ true → u < THREADS
+        less u true q e = grind (arith, nat_tests)
+        less u false q e = absurd (yes (sym e))
+
+    of_read : c.kind ≡ Read → (j : ℕ) × (site : ℕ) × IsNamed (place_after code s before) report.thread c j Write site
+    of_read mine = ⊎_elim
+        (λ (w : Writer). (w.0, w.1, OfWrite w.2 refl w.3))
+        (λ (none : NoWriter THREADS).
+        let all : (u : ℕ) → Stood c report.thread u → noted_site (place_after code s before) c u Write ≡ None = λ u st. none u (few_stand c.old u st.1) st in
+        let h = subst (λ k. Conflicts (word_at (place_after code s before) at_p) report.thread k (wrote ((place_after code s before).threads report.thread) at_p (word_at (place_after code s before) at_p))) mine reports.conflicts in
+        first all h.2 ((whole laws x code s ls typed before run.0).remains.written at_p reports.low h.1))
+        (search THREADS)
+      where
+        first : ((u : ℕ) → Stood c report.thread u → noted_site (place_after code s before) c u Write ≡ None) → is_of (wrote ((place_after code s before).threads report.thread) c.granule (word_at (place_after code s before) c.granule)) (epoch_of (word_at (place_after code s before) c.granule)) ≡ false
+            → Written (place_after code s before) c.granule → (j : ℕ) × (site : ℕ) × IsNamed (place_after code s before) report.thread c j Write site
+        first all own w = by w.why
+          where
+            note_mine : (z : ℕ) → w.thread ≡ report.thread → site_now (place_after code s before) w.thread c.granule Write ≡ Some z → ⊥
+            note_mine z same e = yes (sym (remaining.wrote_is ((place_after code s before).threads report.thread) at_p (word_at (place_after code s before) at_p) z (ap (λ u. site_now (place_after code s before) u at_p Write) (sym same) ∙ e)) ∙ own)
+
+            by : Writes (place_after code s before) w.thread c.granule → (j : ℕ) × (site : ℕ) × IsNamed (place_after code s before) report.thread c j Write site
+            by (remaining.NotedWrite z e) =
+                let ne : w.thread ≢ report.thread = λ same. note_mine z same e in
+                let f : None ≡ Some z = sym (all w.thread (ne, ap (λ v. stands v w.thread) reports.word ∙ w.bit)) ∙ named_at w.thread Write z e in
+                absurd cc
+            by (remaining.FirstRefused d at is) = (w.thread, d.site, OfFirst mine all d (stopped_there w.thread d at) is.kind is.old refl refl)
+
+    pub has_named : HasNamed (place_after code s before) report.thread c
+    has_named = record {
+      stood = let o = some_other c.kind reports.conflicts in (o.0, (o.1.another, ap (λ v. stands v o.0) reports.word ∙ o.1.stood));
+      of_write = of_write;
+      of_read = of_read;
+    }

@@ -147,7 +147,7 @@ number_some : (o : Option Note) (e : ℕ) → note_number o ≡ suc e → (n : N
 number_some None e h = absurd (omega (arith, h))
 number_some (Some n) e h = (n, refl, (let z : n.epoch ≡ e = omega (arith, h) in z))
 
-wrote_is : (m : Machine) (p v z : ℕ) → site_at (note_of m.own.table p Write) (epoch_of v) ≡ Some z → is_of (wrote m p v) (epoch_of v) ≡ true
+pub wrote_is : (m : Machine) (p v z : ℕ) → site_at (note_of m.own.table p Write) (epoch_of v) ≡ Some z → is_of (wrote m p v) (epoch_of v) ≡ true
 wrote_is m p v z e = ap (λ o. is_of (if is_some o then Some (epoch_of v) else None) (epoch_of v)) e ∙ same_is (epoch_of v)
 
 wrote_site : (m : Machine) (p v : ℕ) → is_of (wrote m p v) (epoch_of v) ≡ true → (z : ℕ) × (site_at (note_of m.own.table p Write) (epoch_of v) ≡ Some z)
