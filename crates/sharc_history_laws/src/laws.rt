@@ -1,5 +1,6 @@
 //! The laws, each the contract of a function that does nothing.
 
+ghost use Rattle.sharc_history_laws.specs.Causes.{NamesAreCauses, ReportsHaveNamed};
 ghost use Rattle.sharc_history_laws.specs.Conflicts.{AccessReportsShow, NamedAreChecked, NotesAreOfChecks};
 ghost use Rattle.sharc_history_laws.specs.Followed.{AccessesFollow, LockReportsBreakRules, LockReportsShowAccess};
 ghost use Rattle.sharc_history_laws.specs.History.{HistoriesObey};
@@ -8,6 +9,7 @@ ghost use Rattle.sharc_history_laws.specs.Reports.{CastReportsShow, LockReportsS
 
 use sharc_code::run_laws;
 use sharc_invariant::laws::{begins, cells_are_there, keeps, runs_bits, runs_report, state_stands};
+use sharc_shadow::shadow_laws;
 
 /// The path of each thread of each checked run of typed code has consistent results: its references are numbers, Bounds answers the elements of its object,
 /// a New makes no object to which the thread has a reference, and no other thread makes one anew.
@@ -62,4 +64,21 @@ pub fn followed_law()
     begins();
     keeps();
     cells_are_there();
+}
+
+/// Of each check of an access that is refused in a checked run of typed code, where each check of the code is directly before its access: whatever check of
+/// another thread its report may name, by the notes and stops that are there, was made earlier in the run, of an access to the same granule of the same object,
+/// and since then the object had no New, Give or Freed, and that thread did not end. And there is one to name.
+pub fn causes_law()
+    ensures causes { NamesAreCauses }
+    ensures named { ReportsHaveNamed }
+{
+    run_laws();
+    begins();
+    keeps();
+    state_stands();
+    cells_are_there();
+    runs_bits();
+    runs_report();
+    shadow_laws();
 }
