@@ -19,7 +19,7 @@ use Rattle.sharc_code.specs.declared.shape.Shape.{Shape}
 use Rattle.sharc_code.specs.declared.state.ConflictAt.{ConflictAt}
 use Rattle.sharc_code.specs.declared.state.Stop.TheVariants.{Conflict}
 use Rattle.sharc_code.specs.Layout.{granules, first_shadow, granule_at, granule_of, shadow_word}
-use Rattle.sharc_code.specs.Machine.{Machine, instr_at, wrote}
+use Rattle.sharc_code.specs.Machine.{Machine, instr_at, wrote, stopped}
 use Rattle.sharc_code.specs.Runs.{Turn, Global, IsRun}
 use Rattle.sharc_code.specs.Says.{cell_at}
 use Rattle.sharc_code.specs.Whole.{one_thread, place_after}
@@ -121,12 +121,13 @@ module _ (laws : TheLaws) (x : Targets) (code : Code) (s : Shape) (ls : Labels) 
       pub word : c.old ≡ word_at (place_after code s before) c.granule
       pub epoch : c.epoch ≡ epoch_of (word_at (place_after code s before) c.granule)
       pub is_check : IsCheck code s before report report.thread c.kind c.granule c.site false
+      pub stopped_is : (place_after code s (report ∷ before)).threads report.thread ≡ stopped ((place_after code s before).threads report.thread) (Conflict c)
       pub conflicts : Conflicts (word_at (place_after code s before) c.granule) report.thread c.kind (wrote ((place_after code s before).threads report.thread) c.granule (word_at (place_after code s before) c.granule))
 
     pub the_report : Report
     the_report =
         let a = stop_is laws.shadow laws.cells x code s ls typed.wt typed.fits g w.consists.world w.consists.state report run.1 fresh w.remains c stop in
-        of a.0 a.1 a.2 a.3 a.4 a.5 a.6
+        of a.0 a.1 a.2 a.3 a.4 a.5 a.6 a.7
       where
         site_now_is : (kind : Kind) (cell : Cell) (site : ℕ) → site_of_check (check_of kind cell site) ≡ Some site
         site_now_is Read cell site = refl
@@ -134,8 +135,10 @@ module _ (laws : TheLaws) (x : Targets) (code : Code) (s : Shape) (ls : Labels) 
 
         of : (kind : Kind) (q site : ℕ) → IsCheckAt s m (instr_at code ((place_after code s before).threads report.thread).at.pc) kind q site → touch_at code s (place_after code s before) report ≡ CheckOf kind q false
             → c ≡ record { kind = kind; site = site; granule = q; epoch = epoch_of (word_at (place_after code s before) q); old = word_at (place_after code s before) q }
-            → conflicts_in (word_at (place_after code s before) q) ((place_after code s before).threads report.thread).own.number kind (wrote ((place_after code s before).threads report.thread) q (word_at (place_after code s before) q)) ≡ true → Report
-        of kind q site at touch is conflicts =
+            → conflicts_in (word_at (place_after code s before) q) ((place_after code s before).threads report.thread).own.number kind (wrote ((place_after code s before).threads report.thread) q (word_at (place_after code s before) q)) ≡ true
+            → (place_after code s (report ∷ before)).threads report.thread ≡ stopped ((place_after code s before).threads report.thread) (Conflict record { kind = kind; site = site; granule = q; epoch = epoch_of (word_at (place_after code s before) q); old = word_at (place_after code s before) q })
+            → Report
+        of kind q site at touch is conflicts now =
             let qs : c.granule ≡ q = ap (λ (c : ConflictAt). c.granule) is in
             let ks : c.kind ≡ kind = ap (λ (c : ConflictAt). c.kind) is in
             let ss : c.site ≡ site = ap (λ (c : ConflictAt). c.site) is in
@@ -149,6 +152,7 @@ module _ (laws : TheLaws) (x : Targets) (code : Code) (s : Shape) (ls : Labels) 
                 touch = touch ∙ ap (λ q. CheckOf kind q false) (sym qs) ∙ ap (λ k. CheckOf k c.granule false) (sym ks);
                 site_is = ap site_of_check at.is ∙ site_now_is kind at.cell site ∙ ap (λ z. Some z) (sym ss);
               };
+              stopped_is = now ∙ ap (λ (c : ConflictAt). stopped m (Conflict c)) (sym is);
               conflicts = subst (λ q. Conflicts (word_at g q) report.thread c.kind (wrote m q (word_at g q))) (sym qs) (subst (λ k. Conflicts (word_at g q) report.thread k (wrote m q (word_at g q))) (sym ks) y);
             }
 

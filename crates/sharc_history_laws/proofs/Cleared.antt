@@ -161,10 +161,10 @@ module _ (laws : ShadowLaws) (state_law : StateStands) (cell_laws : CellsAreTher
     abbrev o : ℕ
     o = ref (g.threads u) r
 
-    some : o ≢ 0
+    pub some : o ≢ 0
     some = sole_ref x code s ls wt fits g world st u on_u alone.hold r alone.cleared alone.gate
 
-    live : (world.obj o).live ≡ true
+    pub live : (world.obj o).live ≡ true
     live = live_ref x code s ls wt fits g world st u on_u alone.hold r some
 
     win : world.win u ≡ IsSole ((g.threads u).at.refs + r)
@@ -174,7 +174,7 @@ module _ (laws : ShadowLaws) (state_law : StateStands) (cell_laws : CellsAreTher
     closing = (u, ((g.threads u).at.refs + r, (win, sym (reads_ref x code s ls wt fits g world st u on_u alone.hold r))))
 
     -- no other thread has it in a register
-    no_other : (v q : ℕ) → OnHold (g.threads v).own.stage → ref (g.threads v) q ≡ o → v ≡ u
+    pub no_other : (v q : ℕ) → OnHold (g.threads v).own.stage → ref (g.threads v) q ≡ o → v ≡ u
     no_other v q hold e = closing_own state_law x code s ls wt fits g world st o closing v ((g.threads v).at.refs + q) hold e
 
     within : (j : ℕ) → 2 * j < st.cells o → o + 1 + j < granules s
@@ -186,7 +186,7 @@ module _ (laws : ShadowLaws) (state_law : StateStands) (cell_laws : CellsAreTher
         ∙ ap (λ target. length_of s g o * cells_of x target) (target_ref x code s ls wt fits g world st u on_u alone.hold r a e some)
 
     -- a check of one of its granules is its thread's
-    object_one : (p q j k : ℕ) → (world.obj p).live ≡ true → (world.obj q).live ≡ true → 2 * j < st.cells p → 2 * k < st.cells q → p + 1 + j ≡ q + 1 + k → p ≡ q
+    pub object_one : (p q j k : ℕ) → (world.obj p).live ≡ true → (world.obj q).live ≡ true → 2 * j < st.cells p → 2 * k < st.cells q → p + 1 + j ≡ q + 1 + k → p ≡ q
     object_one p q j k lp lq a b e = ⊎_elim
         (λ (same : p ≡ q). same)
         (λ (ne : p ≡ q → ⊥). ⊎_elim
@@ -294,13 +294,13 @@ module _ (laws : ShadowLaws) (state_law : StateStands) (cell_laws : CellsAreTher
     granules_all n c j e lt = of_cells (n * c) j (subst (λ k. k ≤ largest) e few_cells) (subst (λ k. 2 * j < k) e lt)
 
   -- ---- a thread that does not make the turn
-  alone_clear : (u r count : ℕ) (y : Stage) → instr_at code (g.threads u).at.pc ≡ instrs.Clear r count → (g.threads u).own.stage ≡ y → OnHold y → IsAlone u r
+  pub alone_clear : (u r count : ℕ) (y : Stage) → instr_at code (g.threads u).at.pc ≡ instrs.Clear r count → (g.threads u).own.stage ≡ y → OnHold y → IsAlone u r
   alone_clear u r count y is at hold = record { hold = subst OnHold (sym at) hold; cleared = false; gate = (fine_at u (instrs.Clear r count) is).0 }
 
-  alone_free : (u r layout site : ℕ) (y : Stage) → instr_at code (g.threads u).at.pc ≡ instrs.Free r layout site → (g.threads u).own.stage ≡ y → OnHold y → IsAlone u r
+  pub alone_free : (u r layout site : ℕ) (y : Stage) → instr_at code (g.threads u).at.pc ≡ instrs.Free r layout site → (g.threads u).own.stage ≡ y → OnHold y → IsAlone u r
   alone_free u r layout site y is at hold = let f = fine_at u (instrs.Free r layout site) is in record { hold = subst OnHold (sym at) hold; cleared = f.0.0; gate = f.0.1 }
 
-  alone_give : (u r site : ℕ) → IsOn g u → instr_at code (g.threads u).at.pc ≡ instrs.Give r site → IsAlone u r
+  pub alone_give : (u r site : ℕ) → IsOn g u → instr_at code (g.threads u).at.pc ≡ instrs.Give r site → IsAlone u r
   alone_give u r site on_u is = record {
     hold = rests_hold code s st.elements world st.heap g.words u (g.threads u) (instrs.Give r site) (g.threads u).own.stage refl (stage_at u on_u (instrs.Give r site) is);
     cleared = true;
@@ -308,14 +308,14 @@ module _ (laws : ShadowLaws) (state_law : StateStands) (cell_laws : CellsAreTher
   }
 
   -- the granules of which a Clear has so many behind it are the object's
-  clear_inside : (u r count : ℕ) (on_u : IsOn g u) (alone : IsAlone u r) → instr_at code (g.threads u).at.pc ≡ instrs.Clear r count → (all : ℕ) → all ≡ data_granules (st.elements (ref (g.threads u) r)) count → (j : ℕ) → j < all → 2 * j < st.cells (ref (g.threads u) r)
+  pub clear_inside : (u r count : ℕ) (on_u : IsOn g u) (alone : IsAlone u r) → instr_at code (g.threads u).at.pc ≡ instrs.Clear r count → (all : ℕ) → all ≡ data_granules (st.elements (ref (g.threads u) r)) count → (j : ℕ) → j < all → 2 * j < st.cells (ref (g.threads u) r)
   clear_inside u r count on_u alone is all e j lt =
       let f = fine_at u (instrs.Clear r count) is in
       let n : st.elements (ref (g.threads u) r) ≡ length_of s g (ref (g.threads u) r) = st.sim.lengths (ref (g.threads u) r) (some u on_u r alone) (live u on_u r alone) in
       granules_inside u on_u r alone (length_of s g (ref (g.threads u) r)) count j (cells_are u on_u r alone f.2.0 f.2.1 ∙ ap (λ c. length_of s g (ref (g.threads u) r) * c) (sym f.2.2))
       (subst (λ n. j < data_granules n count) n (subst (λ k. j < k) e lt))
 
-  free_inside : (u r layout site : ℕ) (on_u : IsOn g u) (alone : IsAlone u r) → instr_at code (g.threads u).at.pc ≡ instrs.Free r layout site → (all : ℕ) → all ≡ st.elements (ref (g.threads u) r) → (j : ℕ) → j < granules_freed code layout all → 2 * j < st.cells (ref (g.threads u) r)
+  pub free_inside : (u r layout site : ℕ) (on_u : IsOn g u) (alone : IsAlone u r) → instr_at code (g.threads u).at.pc ≡ instrs.Free r layout site → (all : ℕ) → all ≡ st.elements (ref (g.threads u) r) → (j : ℕ) → j < granules_freed code layout all → 2 * j < st.cells (ref (g.threads u) r)
   free_inside u r layout site on_u alone is all e j lt =
       let f = fine_at u (instrs.Free r layout site) is in
       let c = (layout_at code layout).cells in

@@ -13,6 +13,7 @@ pub mod Followed
 pub mod Gates
 pub mod Going
 pub mod Holding
+pub mod Keeping
 pub mod Leaving
 pub mod Lists
 pub mod LockModes

@@ -136,7 +136,7 @@ ne_of : (a b : ℕ) → (a ≡ b → ⊥) → (a == b) ≡ false
 ne_of a b ne = grind (arith, nat_tests)
 
 -- ---- notes
-some_site : (o : Option Note) (e z : ℕ) → site_at o e ≡ Some z → (n : Note) × (o ≡ Some n) × (n.epoch ≡ e)
+pub some_site : (o : Option Note) (e z : ℕ) → site_at o e ≡ Some z → (n : Note) × (o ≡ Some n) × (n.epoch ≡ e)
 some_site None e z h = absurd (let f : None ≡ Some z = h in cc)
 some_site (Some n) e z h = elim (n.epoch == e) as (λ b. (n.epoch == e) ≡ b → (if b then Some n.site else None) ≡ Some z → (k : Note) × (Some n ≡ Some k) × (k.epoch ≡ e)) [
   | true ↦ λ q _. (n, refl, eq_of n.epoch e q)
@@ -233,7 +233,7 @@ module _ (laws : ShadowLaws) (cell_laws : CellsAreThere) (x : Targets) (code : C
 
   -- ---- notes and stops
   pub stop_is : (d : ConflictAt) → m'.own.stop ≡ Some (Conflict d) → (kind : Kind) × (q : ℕ) × (site : ℕ) × IsCheckAt s m i kind q site × (touch ≡ CheckOf kind q false) × (d ≡ record { kind = kind; site = site; granule = q; epoch = epoch_of (old_at q); old = old_at q })
-      × (conflicts_in (old_at q) m.own.number kind (wrote m q (old_at q)) ≡ true)
+      × (conflicts_in (old_at q) m.own.number kind (wrote m q (old_at q)) ≡ true) × (m' ≡ stopped m (Conflict record { kind = kind; site = site; granule = q; epoch = epoch_of (old_at q); old = old_at q }))
   stop_is d e = by did
     where
       same : (c : ConflictAt) (y : Machine) → y.own.stop ≡ Some (Conflict c) → m' ≡ y → d ≡ c
@@ -243,13 +243,13 @@ module _ (laws : ShadowLaws) (cell_laws : CellsAreThere) (x : Targets) (code : C
       none y a b = let f : Some (Conflict d) ≡ None = sym e ∙ ap (λ (y : Machine). y.own.stop) b ∙ a in cc
 
       by : DoesIt → (kind : Kind) × (q : ℕ) × (site : ℕ) × IsCheckAt s m i kind q site × (touch ≡ CheckOf kind q false) × (d ≡ record { kind = kind; site = site; granule = q; epoch = epoch_of (old_at q); old = old_at q })
-          × (conflicts_in (old_at q) m.own.number kind (wrote m q (old_at q)) ≡ true)
+          × (conflicts_in (old_at q) m.own.number kind (wrote m q (old_at q)) ≡ true) × (m' ≡ stopped m (Conflict record { kind = kind; site = site; granule = q; epoch = epoch_of (old_at q); old = old_at q }))
       by (Plain a b c) = absurd (c d e)
       by (Passes kind q site at a b c) = absurd (none (with_own m (machines.with_note m.own q kind (epoch_of (old_at q)) site)) (note_stop q kind (epoch_of (old_at q)) site) c)
         where
           note_stop : (q : ℕ) (kind : Kind) (e site : ℕ) → (machines.with_note (g.threads tr.thread).own q kind e site).stop ≡ None
           note_stop q kind e site = elim (is_some (site_at (note_of m.own.table q kind) e)) as (λ b. (if b then m.own else record m.own { table = Rattle.sharc_shadow.specs.Functions.noted m.own.table q kind record { epoch = e; site = site } }).stop ≡ None) [ true ↦ fresh | false ↦ fresh ]
-      by (Refuses kind q site at a b c) = (kind, q, site, at, a, same (record { kind = kind; site = site; granule = q; epoch = epoch_of (old_at q); old = old_at q }) _ refl c, b)
+      by (Refuses kind q site at a b c) = (kind, q, site, at, a, same (record { kind = kind; site = site; granule = q; epoch = epoch_of (old_at q); old = old_at q }) _ refl c, b, c)
 
   -- a note of an epoch stays in it
   still : (p : ℕ) (kind : Kind) (z : ℕ) → site_now g tr.thread p kind ≡ Some z → site_at (note_of m'.own.table p kind) (epoch_of (old_at p)) ≡ Some z
@@ -265,7 +265,7 @@ module _ (laws : ShadowLaws) (cell_laws : CellsAreThere) (x : Targets) (code : C
   still_now k p kind z same e = ap (site_at (note_of (g'.threads k).own.table p kind)) same ∙ each (λ k (y : Machine). site_now g k p kind ≡ Some z → site_at (note_of y.own.table p kind) (epoch_of (old_at p)) ≡ Some z)
       (still p kind z) (λ k _ e. e) k e
 
-  note_was : (p : ℕ) (kind : Kind) (n : Note) → note_of m'.own.table p kind ≡ Some n → (note_of m.own.table p kind ≡ Some n) ⊎ ((touch ≡ CheckOf kind p true) × (n.epoch ≡ epoch_of (old_at p)))
+  pub note_was : (p : ℕ) (kind : Kind) (n : Note) → note_of m'.own.table p kind ≡ Some n → (note_of m.own.table p kind ≡ Some n) ⊎ ((touch ≡ CheckOf kind p true) × (n.epoch ≡ epoch_of (old_at p)))
   note_was p kind n e = by did
     where
       by : DoesIt → (note_of m.own.table p kind ≡ Some n) ⊎ ((touch ≡ CheckOf kind p true) × (n.epoch ≡ epoch_of (old_at p)))
@@ -303,7 +303,7 @@ module _ (laws : ShadowLaws) (cell_laws : CellsAreThere) (x : Targets) (code : C
     pub site : ℕ
     pub at : IsCheckAt s m i kind p site
 
-  stop_was : (k p : ℕ) (d : ConflictAt) → StoppedAt g' k p d → ((k ≡ tr.thread → ⊥) × StoppedAt g k p d × (epoch_of (new_at p) ≡ epoch_of (old_at p))) ⊎ ((k ≡ tr.thread) × StopNow p d)
+  pub stop_was : (k p : ℕ) (d : ConflictAt) → StoppedAt g' k p d → ((k ≡ tr.thread → ⊥) × StoppedAt g k p d × (epoch_of (new_at p) ≡ epoch_of (old_at p))) ⊎ ((k ≡ tr.thread) × StopNow p d)
   stop_was k p d e = ⊎_elim
       (λ (mine : k ≡ t).
       let a = stop_is d (ap (λ k. (g'.threads k).own.stop) (sym mine) ∙ e.is) in

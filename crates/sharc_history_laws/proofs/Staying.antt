@@ -103,7 +103,7 @@ module _ (laws : TheLaws) (x : Targets) (code : Code) (s : Shape) (ls : Labels) 
       let both : Built t ≡ Live = sym built ∙ (st.heap_stands.live o nz).0 live in cc
 
   -- where it is neither made, given nor freed it stays
-  kept : o ≢ 0 → (given_at i ((place_after code s earlier).threads one.thread) ≡ Some o → ⊥) → (freed_at i ((place_after code s earlier).threads one.thread) ≡ Some o → ⊥) → StillThere
+  pub kept : o ≢ 0 → (given_at i ((place_after code s earlier).threads one.thread) ≡ Some o → ⊥) → (freed_at i ((place_after code s earlier).threads one.thread) ≡ Some o → ⊥) → StillThere
   kept nz ungiven unfreed =
       let objs = objects_then laws.run laws.keeps laws.cells laws.pointers x code s ls typed.wt typed.fits typed.few one earlier w.consists run.1 in
       let same : next.world.obj o ≡ world.obj o = ap (λ (f : ℕ → ObjectState). f o) objs ∙ same_behind ls t m m' world.obj o i (unmade nz) ungiven unfreed in
@@ -114,7 +114,7 @@ module _ (laws : TheLaws) (x : Targets) (code : Code) (s : Shape) (ls : Labels) 
       record { is_live = live'; is_inside = subst (λ n. 2 * k < n) (sym cells) inside }
 
   -- the globals are there always
-  kept_globals : o ≡ 0 → StillThere
+  pub kept_globals : o ≡ 0 → StillThere
   kept_globals z =
       let live0 : (next.world.obj 0).live ≡ true = ap (λ (y : ObjectState). y.live) next.state.globals in
       let cells : next.state.cells o ≡ st.cells o = ap next.state.cells z ∙ next.state.globals_cells ∙ sym st.globals_cells ∙ ap st.cells (sym z) in
