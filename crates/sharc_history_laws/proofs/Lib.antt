@@ -14,6 +14,7 @@ pub mod Gates
 pub mod Going
 pub mod Holding
 pub mod Keeping
+pub mod Lasting
 pub mod Leaving
 pub mod Lists
 pub mod LockModes
