@@ -30,7 +30,7 @@ use Rattle.sharc_invariant.specs.Reports.{touch_at}
 use Rattle.sharc_invariant.specs.State.{State, object_of_cell, number_in}
 use Rattle.sharc_invariant.specs.Types.{Targets}
 use Rattle.sharc_invariant.specs.World.{World}
-use Rattle.sharc_history_laws.specs.Causes.{noted_site, Stood, StoppedThere, IsNamed, OfWrite, OfRead, OfStop, OfFirst, NothingBetween, ShowsCause, HasNamed}
+use Rattle.sharc_history_laws.specs.Causes.{noted_site, Stood, StoppedThere, IsNamed, OfWrite, OfRead, OfStop, OfFirst, NothingBetween, IsCause, HasNamed}
 use Rattle.sharc_history_laws.specs.Conflicts.{site_of_check, IsCheck}
 use Rattle.sharc_history_laws.specs.Followed.{ChecksAreFollowed, IsOfAccess}
 use Rattle.sharc_history_laws.proofs.Checks.{CheckCell, check_cell, cell_of_access, checked_here, adds, live_then, inside_then}
@@ -197,7 +197,7 @@ module _ (laws : TheLaws) (x : Targets) (code : Code) (s : Shape) (ls : Labels) 
     is_p = (checked_here laws x code s ls typed check earlier kind c.granule other base_run).is
 
     pub cause_at : j ≢ report.thread → (c.kind ≡ Write) ⊎ (kind ≡ Write) → epoch_of (word_at (place_after code s earlier) c.granule) ≡ c.epoch → stands (word_at (place_after code s (between ++ check ∷ earlier)) c.granule) j ≡ true
-        → ShowsCause code s (between ++ check ∷ earlier) report c j kind site
+        → IsCause code s (between ++ check ∷ earlier) report c j kind site
     cause_at ne write epoch bit =
         let lt : o + 1 + k < granules s = subst (λ n. n < granules s) is_p the.low in
         let first = checked_here laws x code s ls typed check earlier kind p other base_run in
@@ -252,7 +252,7 @@ module _ (laws : TheLaws) (x : Targets) (code : Code) (s : Shape) (ls : Labels) 
     reports = the_report report before run c stop
 
     abbrev CauseOf : List Turn → ℕ → Kind → ℕ → Type 0
-    CauseOf run j kind site = ShowsCause code s run report c j kind site
+    CauseOf run j kind site = IsCause code s run report c j kind site
 
     bit_of : (j : ℕ) → Stood c report.thread j → stands (word_at (place_after code s before) c.granule) j ≡ true
     bit_of j stood = ap (λ v. stands v j) (sym reports.word) ∙ stood.1
@@ -266,16 +266,16 @@ module _ (laws : TheLaws) (x : Targets) (code : Code) (s : Shape) (ls : Labels) 
 
     module _ (followed : ChecksAreFollowed code) where
       found : (between : List Turn) (check : Turn) (earlier : List Turn) → before ≡ between ++ check ∷ earlier → (j : ℕ) (kind : Kind) (site : ℕ) (passed : Bool) → IsCheck code s earlier check j kind c.granule site passed → j ≢ report.thread → (c.kind ≡ Write) ⊎ (kind ≡ Write)
-          → epoch_of (slice_index (place_after code s earlier).words (shadow_word s c.granule)) ≡ c.epoch → stands (word_at (place_after code s before) c.granule) j ≡ true → ShowsCause code s before report c j kind site
+          → epoch_of (slice_index (place_after code s earlier).words (shadow_word s c.granule)) ≡ c.epoch → stands (word_at (place_after code s before) c.granule) j ≡ true → IsCause code s before report c j kind site
       found between check earlier parts j kind site passed is_check ne write epoch bit =
           let now : epoch_of (word_at (place_after code s earlier) at_p) ≡ c.epoch = ap (λ q. epoch_of (slice_index (place_after code s earlier).words (first_shadow + q))) (sym (at_low s at_p reports.low)) ∙ epoch in
           subst Goal (sym parts) (λ run stop bit. cause_at followed report between check earlier run c stop j kind site passed is_check ne write now bit) run stop bit
         where
           Goal : List Turn → Type 0
-          Goal l = (run : RunOf code s (report ∷ l)) → ((place_after code s (report ∷ l)).threads report.thread).own.stop ≡ Some (Conflict c) → stands (word_at (place_after code s l) c.granule) j ≡ true → ShowsCause code s l report c j kind site
+          Goal l = (run : RunOf code s (report ∷ l)) → ((place_after code s (report ∷ l)).threads report.thread).own.stop ≡ Some (Conflict c) → stands (word_at (place_after code s l) c.granule) j ≡ true → IsCause code s l report c j kind site
 
       -- by a note
-      by_note : (j : ℕ) (kind : Kind) (site : ℕ) → noted_site (place_after code s before) c j kind ≡ Some site → Stood c report.thread j → (c.kind ≡ Write) ⊎ (kind ≡ Write) → ShowsCause code s before report c j kind site
+      by_note : (j : ℕ) (kind : Kind) (site : ℕ) → noted_site (place_after code s before) c j kind ≡ Some site → Stood c report.thread j → (c.kind ≡ Write) ⊎ (kind ≡ Write) → IsCause code s before report c j kind site
       by_note j kind site is stood write =
           let n = some_note (note_of ((place_after code s before).threads j).own.table at_p kind) c.epoch site is in
           let k = notes_told code s before run.0 j at_p kind n.0 n.1 in
@@ -283,14 +283,14 @@ module _ (laws : TheLaws) (x : Targets) (code : Code) (s : Shape) (ls : Labels) 
 
       -- by a stop
       by_stop : (j : ℕ) (d : ConflictAt) → StoppedThere (place_after code s before) c j d → (kind : Kind) (site : ℕ) → d.kind ≡ kind → d.site ≡ site → j ≢ report.thread → (c.kind ≡ Write) ⊎ (kind ≡ Write) → stands (word_at (place_after code s before) c.granule) j ≡ true
-          → ShowsCause code s before report c j kind site
+          → IsCause code s before report c j kind site
       by_stop j d at kind site kind_is site_is ne write bit =
           let k = accesses_show laws.conflicts laws.bits x code s ls typed.wt typed.fits typed.few (halting laws x code s ls typed) before run.0 j d at.is in
           let check = subst (λ q. IsCheck code s k.earlier k.check j kind q site false) at.granule (subst (λ z. IsCheck code s k.earlier k.check j kind d.granule z false) site_is (subst (λ y. IsCheck code s k.earlier k.check j y d.granule d.site false) kind_is k.is_check)) in
           found k.later k.check k.earlier k.parts j kind site false check ne write
           (ap (λ q. epoch_of (slice_index (place_after code s k.earlier).words (shadow_word s q))) (sym at.granule) ∙ ap epoch_of k.word ∙ k.epoch ∙ at.epoch) bit
 
-      pub cause : (j : ℕ) (kind : Kind) (site : ℕ) → IsNamed (place_after code s before) report.thread c j kind site → ShowsCause code s before report c j kind site
+      pub cause : (j : ℕ) (kind : Kind) (site : ℕ) → IsNamed (place_after code s before) report.thread c j kind site → IsCause code s before report c j kind site
       cause j kind site (OfWrite stood kind_is is) = by_note j kind site (ap (noted_site (place_after code s before) c j) kind_is ∙ is) stood (inr kind_is)
       cause j kind site (OfRead mine stood none kind_is is) = by_note j kind site (ap (noted_site (place_after code s before) c j) kind_is ∙ is) stood (inl mine)
       cause j kind site (OfStop mine stood none none' d at kind_is site_is) = by_stop j d at kind site kind_is site_is stood.0 (inl mine) (bit_of j stood)

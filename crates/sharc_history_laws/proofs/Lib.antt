@@ -8,6 +8,7 @@ pub mod Cleared
 pub mod Conflicting
 pub mod Consists
 pub mod Doing
+pub mod Ends
 pub mod Finds
 pub mod Followed
 pub mod Gates

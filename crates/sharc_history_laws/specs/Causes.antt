@@ -59,7 +59,7 @@ NothingBetween code s between earlier o j = (after : List Turn) (turn : Turn) (b
 -- The report is of a check of thread t that was refused, of this access; earlier in the run thread j, which is another one, made at this site the check of an
 -- access to the same granule, which it then made, is next to make or was stopped at; one of the two is a write; and between the two checks the object had no
 -- New, Give or Freed, and thread j did not end.
-pub record ShowsCause (code : Code) (s : Shape) (before : List Turn) (report : Turn) (c : ConflictAt) (j : ℕ) (kind : Kind) (site : ℕ) : Type 0 where
+pub record IsCause (code : Code) (s : Shape) (before : List Turn) (report : Turn) (c : ConflictAt) (j : ℕ) (kind : Kind) (site : ℕ) : Type 0 where
   pub other : j ≢ report.thread
   pub write : (c.kind ≡ Write) ⊎ (kind ≡ Write)
   pub is_report : IsCheck code s before report report.thread c.kind c.granule c.site false
@@ -75,18 +75,22 @@ pub record ShowsCause (code : Code) (s : Shape) (before : List Turn) (report : T
   pub granule : granule_of named.access.cell ≡ granule_of refused.access.cell
   pub nothing : NothingBetween code s between (check ∷ earlier) refused.access.cell.object j
 
--- the turn after these is a check of an access that was refused, by which its thread was stopped with this
-pub record IsReport (code : Code) (s : Shape) (before : List Turn) (report : Turn) (c : ConflictAt) : Type 0 where
-  pub run : CheckedRun code s (report ∷ before)
-  pub stop : ((place_after code s (report ∷ before)).threads report.thread).own.stop ≡ Some (Conflict c)
+-- a refused check of the run, with which its thread was stopped, and the cause
+pub record ShowsCause (code : Code) (s : Shape) (run : List Turn) (t : ℕ) (c : ConflictAt) (j : ℕ) (kind : Kind) (site : ℕ) : Type 0 where
+  pub later : List Turn
+  pub report : Turn
+  pub before : List Turn
+  pub parts : run ≡ later ++ report ∷ before
+  pub thread : report.thread ≡ t
+  pub cause : IsCause code s before report c j kind site
 
--- whatever check the report may name, by what is there when the check is refused, is its cause
+-- Of each thread that was stopped at a check of an access: whatever check a report may name, by the notes and stops at the end of the run, is the cause.
 abbrev pub NamesAreCauses : Type 0
 NamesAreCauses = (x : Targets) (code : Code) (s : Shape) (ls : Labels) → IsWellTyped x code ls → Fits code s → IsSmall code s → ChecksAreFollowed code
-    → (report : Turn) (before : List Turn) (c : ConflictAt) → IsReport code s before report c
-    → (j : ℕ) (kind : Kind) (site : ℕ) → IsNamed (place_after code s before) report.thread c j kind site → ShowsCause code s before report c j kind site
+    → (run : List Turn) → CheckedRun code s run → (t : ℕ) (c : ConflictAt) → ((place_after code s run).threads t).own.stop ≡ Some (Conflict c)
+    → (j : ℕ) (kind : Kind) (site : ℕ) → IsNamed (place_after code s run) t c j kind site → ShowsCause code s run t c j kind site
 
--- and there is one: of a refused write of each thread whose bit stood, of which there is one; of a refused read of some thread
+-- And there is one: of a refused write of each thread whose bit stood, of which there is one; of a refused read of some thread.
 pub record HasNamed (g : Global Machine) (t : ℕ) (c : ConflictAt) : Type 0 where
   pub stood : (j : ℕ) × Stood c t j
   pub of_write : c.kind ≡ Write → (j : ℕ) → Stood c t j → (kind : Kind) × (site : ℕ) × IsNamed g t c j kind site
@@ -94,4 +98,5 @@ pub record HasNamed (g : Global Machine) (t : ℕ) (c : ConflictAt) : Type 0 whe
 
 abbrev pub ReportsHaveNamed : Type 0
 ReportsHaveNamed = (x : Targets) (code : Code) (s : Shape) (ls : Labels) → IsWellTyped x code ls → Fits code s → IsSmall code s
-    → (report : Turn) (before : List Turn) (c : ConflictAt) → IsReport code s before report c → HasNamed (place_after code s before) report.thread c
+    → (run : List Turn) → CheckedRun code s run → (t : ℕ) (c : ConflictAt) → ((place_after code s run).threads t).own.stop ≡ Some (Conflict c)
+    → HasNamed (place_after code s run) t c
