@@ -5,7 +5,7 @@ use Rattle.std.proofs.lemmas.Bool.Decides.{nat_tests}
 use Rattle.sharc_tree.specs.declared.event.CellAt.{CellAt}
 use Rattle.sharc_shadow.specs.declared.shadow_word.Kind.{Kind}
 use Rattle.sharc_shadow.specs.declared.shadow_word.Kind.TheVariants.{Read, Write}
-use Rattle.sharc_shadow.specs.ShadowWord.{AddsAccess}
+use Rattle.sharc_shadow.specs.ShadowWord.{AddsAccess, is_write}
 use Rattle.sharc_code.specs.declared.code.Code.{Code}
 use Rattle.sharc_code.specs.declared.instr.Cell.{Cell}
 use Rattle.sharc_code.specs.declared.instr.Instr.{Instr}
@@ -113,6 +113,19 @@ module _ (laws : TheLaws) (x : Targets) (code : Code) (s : Shape) (ls : Labels) 
           ap (λ (y : Access). y.cell) e
 
       by : (kind : Kind) → IsFollowed code (check_of kind k.cell k.site) (instr_at code (((place_after code s earlier).threads one.thread).at.pc + 1)) → a.cell ≡ cell_at code ((place_after code s earlier).threads one.thread) k.cell
+      by Read f = same false f.1
+      by Write f = same true f.1
+
+  pub write_of_access : ChecksAreFollowed code → (a : Access) → access_checked code ((place_after code s earlier).threads one.thread) ≡ Some a → a.is_write ≡ is_write kind
+  write_of_access followed a is = by kind (subst (λ j. IsFollowed code j (instr_at code (m.at.pc + 1))) k.at (followed m.at.pc))
+    where
+      same : (write : Bool) → Accesses write k.cell k.site (instr_at code (((place_after code s earlier).threads one.thread).at.pc + 1)) → a.is_write ≡ write
+      same write f =
+          let both : Some a ≡ Some (access_to code m k.cell k.site write) = sym is ∙ accessed_is code m k.cell k.site write (instr_at code (m.at.pc + 1)) f in
+          let e : a ≡ access_to code m k.cell k.site write = cc in
+          ap (λ (y : Access). y.is_write) e
+
+      by : (kind : Kind) → IsFollowed code (check_of kind k.cell k.site) (instr_at code (((place_after code s earlier).threads one.thread).at.pc + 1)) → a.is_write ≡ is_write kind
       by Read f = same false f.1
       by Write f = same true f.1
 

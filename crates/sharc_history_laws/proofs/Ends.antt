@@ -212,7 +212,7 @@ module _ (laws : TheLaws) (x : Targets) (code : Code) (s : Shape) (ls : Labels) 
       }
 
 -- ---- of each thread that has stopped
-base_run : (code : Code) (s : Shape) (later base : List Turn) → RunOf code s (later ++ base) → RunOf code s base
+pub base_run : (code : Code) (s : Shape) (later base : List Turn) → RunOf code s (later ++ base) → RunOf code s base
 base_run code s [] base run = run
 base_run code s (one ∷ later) base run = base_run code s later base run.0
 

@@ -12,8 +12,9 @@ use Rattle.sharc_code.specs.declared.state.ConflictAt.{ConflictAt}
 use Rattle.sharc_code.specs.declared.state.Stop.TheVariants.{Conflict}
 use Rattle.sharc_code.specs.Layout.{Fits}
 use Rattle.sharc_code.specs.Machine.{Machine, instr_at}
+use Rattle.sharc_code.specs.Path.{may_go}
 use Rattle.sharc_code.specs.Runs.{Turn, Global, told_by}
-use Rattle.sharc_code.specs.Whole.{CheckedRun, Erase, IsOn, one_thread, place_after}
+use Rattle.sharc_code.specs.Whole.{CheckedRun, Erase, one_thread, place_after}
 use Rattle.sharc_meaning.specs.Events.{Access, access_by, begins, frees, granule_of}
 use Rattle.sharc_meaning.specs.Obeys.{Obeys, until_gone}
 use Rattle.sharc_meaning.specs.Store.{is_gone}
@@ -100,3 +101,32 @@ abbrev pub ReportsHaveNamed : Type 0
 ReportsHaveNamed = (x : Targets) (code : Code) (s : Shape) (ls : Labels) → IsWellTyped x code ls → Fits code s → IsSmall code s
     → (run : List Turn) → CheckedRun code s run → (t : ℕ) (c : ConflictAt) → ((place_after code s run).threads t).own.stop ≡ Some (Conflict c)
     → HasNamed (place_after code s run) t c
+
+-- ---- the rules
+-- The histories that go on with the access of thread t that was refused, behind the other access where that is not made yet, keep no rules.
+pub data GoesOn (code : Code) (s : Shape) (before : List Turn) (t : ℕ) (a : Access) : Type 0 where
+  -- the other access was made
+  WasMade : ((e : SourceEvent) → e.thread ≡ t → access_by e.act ≡ Some a → Obeys (history_of code s before ++ e ∷ []) until_gone → ⊥) → GoesOn code s before t a
+  -- it is what thread j, which may go on, makes next
+  IsNextOf : (j : ℕ) → may_go ((place_after code s before).threads j).at.state ≡ true
+      → (b : Access) → access_of code ((place_after code s before).threads j) (instr_at code ((place_after code s before).threads j).at.pc) ≡ Some b
+      → ((d e : SourceEvent) → d.thread ≡ j → access_by d.act ≡ Some b → e.thread ≡ t → access_by e.act ≡ Some a → Obeys (history_of code s before ++ d ∷ e ∷ []) until_gone → ⊥)
+      → GoesOn code s before t a
+
+-- the first check of an access in the run that was refused, and the access
+pub record BreaksRules (code : Code) (s : Shape) (run : List Turn) : Type 0 where
+  pub later : List Turn
+  pub report : Turn
+  pub before : List Turn
+  pub parts : run ≡ later ++ report ∷ before
+  pub conflict : ConflictAt
+  pub is_check : IsCheck code s before report report.thread conflict.kind conflict.granule conflict.site false
+  pub first : (u : ℕ) (d : ConflictAt) → ((place_after code s before).threads u).own.stop ≡ Some (Conflict d) → ⊥
+  pub access : Access
+  pub is : access_checked code ((place_after code s before).threads report.thread) ≡ Some access
+  pub breaks : GoesOn code s before report.thread access
+
+-- so it is where a thread has stopped at the check of an access
+abbrev pub AccessReportsBreakRules : Type 0
+AccessReportsBreakRules = (x : Targets) (code : Code) (s : Shape) (ls : Labels) → IsWellTyped x code ls → Fits code s → IsSmall code s → ChecksAreFollowed code
+    → (run : List Turn) → CheckedRun code s run → (t : ℕ) (c : ConflictAt) → ((place_after code s run).threads t).own.stop ≡ Some (Conflict c) → BreaksRules code s run
