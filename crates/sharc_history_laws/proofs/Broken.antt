@@ -1,6 +1,6 @@
 -- With the access that was refused first no history goes on that keeps the rules.
 use Rattle.std.proofs.Common.{◌≡◌, ℕ, ◌+◌, ◌≢◌, ◌⊎◌, inl, inr, Bool, true, false, ◌||◌, List, [], ◌∷◌, ◌++◌, reverse, filter, Option, Some, None, is_some, if◌then◌else◌, refl, sym, ap, ◌∙◌, subst, ⊎_elim, eqb-true}
-use Rattle.std.specs.Prelude.{◌==◌, slice_index}
+use Rattle.std.specs.Prelude.{slice_index}
 use Rattle.std.specs.List.{list_any}
 use Rattle.std.proofs.lemmas.Bool.{cases_eq}
 use Rattle.std.proofs.lemmas.List.{reverse-append}
@@ -21,7 +21,7 @@ use Rattle.sharc_code.specs.declared.state.Stop.TheVariants.{Conflict, NoLock, N
 use Rattle.sharc_code.specs.Layout.{first_shadow}
 use Rattle.sharc_code.specs.Machine.{Machine, instr_at}
 use Rattle.sharc_code.specs.Path.{may_go}
-use Rattle.sharc_code.specs.Runs.{Turn, Global, state_now, told_by, turns_of}
+use Rattle.sharc_code.specs.Runs.{Turn, state_now, told_by}
 use Rattle.sharc_code.specs.Whole.{Erase, one_thread, place_after}
 use Rattle.sharc_meaning.specs.Events.{Access, access_by, made_by, given_by, is_number, begins, frees, is_of, events_of, granule_of}
 use Rattle.sharc_meaning.specs.Obeys.{History, AccessSet, ends, until_gone, Obeys}
@@ -34,13 +34,13 @@ use Rattle.sharc_history_laws.specs.Causes.{NothingBetween, IsCause, IsNamed, Go
 use Rattle.sharc_history_laws.specs.Conflicts.{IsCheck}
 use Rattle.sharc_history_laws.specs.Followed.{ChecksAreFollowed, Follows, IsNext, IsMade, TellsAccess, access_of, access_checked}
 use Rattle.sharc_history_laws.specs.History.{history_of}
-use Rattle.sharc_history_laws.proofs.Caused.{Report, the_report, cause, has_named}
+use Rattle.sharc_history_laws.proofs.Caused.{cause, has_named}
 use Rattle.sharc_history_laws.proofs.Checks.{check_cell, write_of_access}
 use Rattle.sharc_history_laws.proofs.Doing.{Does, Plain, Passes, Refuses, IsNoCheck, does}
 use Rattle.sharc_history_laws.proofs.Ends.{base_run}
 use Rattle.sharc_history_laws.proofs.Lasting.{halted}
 use Rattle.sharc_history_laws.proofs.Lists.{Newest, reverse_push}
-use Rattle.sharc_history_laws.proofs.Rules.{pushed, newest, newest_now, put_same, put_other}
+use Rattle.sharc_history_laws.proofs.Rules.{pushed, newest, newest_now, put_other}
 use Rattle.sharc_history_laws.proofs.Wholes.{TheLaws, Typed, RunOf, whole, fresh_of}
 
 yes : true ≡ false → ⊥

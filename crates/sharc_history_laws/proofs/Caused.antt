@@ -1,41 +1,37 @@
 -- The check that a report may name is its cause, and there is one.
-use Rattle.std.proofs.Common.{◌≡◌, ℕ, zero, suc, ◌+◌, ◌*◌, ◌/◌, ◌<◌, ◌≤◌, ◌≢◌, ◌⊎◌, inl, inr, Bool, true, false, ◌||◌, ◌&&◌, List, [], ◌∷◌, ◌++◌, Option, Some, None, is_some, if◌then◌else◌, refl, sym, ap, ◌∙◌, subst, ⊎_elim, arith}
+use Rattle.std.proofs.Common.{◌≡◌, ℕ, zero, suc, ◌+◌, ◌*◌, ◌/◌, ◌<◌, ◌≤◌, ◌≢◌, ◌⊎◌, inl, inr, Bool, true, false, ◌||◌, ◌&&◌, List, [], ◌∷◌, ◌++◌, Option, Some, None, if◌then◌else◌, refl, sym, ap, ◌∙◌, subst, ⊎_elim, arith}
 use Rattle.std.specs.Prelude.{slice_index, nat_lt, ◌==◌}
 use Rattle.std.proofs.lemmas.Bool.{cases_eq, cases_lt}
 use Rattle.std.proofs.lemmas.Bool.Decides.{nat_tests}
 use Rattle.sharc_tree.specs.declared.event.CellAt.{CellAt}
-use Rattle.sharc_tree.specs.declared.event.Object.{Object}
 use Rattle.sharc_word.specs.declared.step.TheConstants.{THREADS}
 use Rattle.sharc_shadow.specs.declared.shadow_word.Kind.{Kind}
 use Rattle.sharc_shadow.specs.declared.shadow_word.Kind.TheVariants.{Read, Write}
 use Rattle.sharc_shadow.specs.declared.access_table.Note.{Note}
 use Rattle.sharc_shadow.specs.Accesses.{note_of, site_at}
 use Rattle.sharc_shadow.specs.Functions.{conflicts_in}
-use Rattle.sharc_shadow.specs.ShadowWord.{epoch_of, is_of, is_written, stands, HasOther, Conflicts}
+use Rattle.sharc_shadow.specs.ShadowWord.{epoch_of, is_of, stands, HasOther, Conflicts}
 use Rattle.sharc_code.specs.declared.code.Code.{Code}
 use Rattle.sharc_code.specs.declared.instr.Cell.{Cell}
-use Rattle.sharc_code.specs.declared.instr.Instr.{Instr}
 use Rattle.sharc_code.specs.declared.shape.Shape.{Shape}
 use Rattle.sharc_code.specs.declared.state.ConflictAt.{ConflictAt}
 use Rattle.sharc_code.specs.declared.state.Stop.TheVariants.{Conflict}
-use Rattle.sharc_code.specs.Layout.{granules, first_shadow, granule_at, granule_of, shadow_word}
+use Rattle.sharc_code.specs.Layout.{granules, first_shadow, shadow_word}
 use Rattle.sharc_code.specs.Machine.{Machine, instr_at, wrote, stopped}
-use Rattle.sharc_code.specs.Runs.{Turn, Global, IsRun}
+use Rattle.sharc_code.specs.Runs.{Turn, Global}
 use Rattle.sharc_code.specs.Says.{cell_at}
-use Rattle.sharc_code.specs.Whole.{one_thread, place_after}
+use Rattle.sharc_code.specs.Whole.{place_after}
 use Rattle.sharc_meaning.specs.Events.{granule_of as granule_in}
 use Rattle.sharc_invariant.specs.Bits.{CheckOf}
 use Rattle.sharc_invariant.specs.Labels.{Labels}
 use Rattle.sharc_invariant.specs.Reports.{touch_at}
-use Rattle.sharc_invariant.specs.State.{State, object_of_cell, number_in}
+use Rattle.sharc_invariant.specs.State.{object_of_cell, number_in}
 use Rattle.sharc_invariant.specs.Types.{Targets}
-use Rattle.sharc_invariant.specs.World.{World}
 use Rattle.sharc_history_laws.specs.Causes.{noted_site, Stood, StoppedThere, IsNamed, OfWrite, OfRead, OfStop, OfFirst, NothingBetween, IsCause, HasNamed}
 use Rattle.sharc_history_laws.specs.Conflicts.{site_of_check, IsCheck}
 use Rattle.sharc_history_laws.specs.Followed.{ChecksAreFollowed, IsOfAccess}
 use Rattle.sharc_history_laws.proofs.Checks.{CheckCell, check_cell, cell_of_access, checked_here, adds, live_then, inside_then}
 use Rattle.sharc_history_laws.proofs.Conflicting.{accesses_show}
-use Rattle.sharc_history_laws.proofs.Consists.{Consists}
 use Rattle.sharc_history_laws.proofs.Doing.{check_of, IsCheckAt}
 use Rattle.sharc_history_laws.proofs.Followed.{of_check}
 use Rattle.sharc_history_laws.proofs.Noting.{notes_told}
@@ -43,8 +39,7 @@ use Rattle.sharc_history_laws.proofs.Remaining as remaining
 use Rattle.sharc_history_laws.proofs.Remaining.{word_at, site_now, Reason, Writes, Written, stop_is}
 use Rattle.sharc_history_laws.proofs.Shadows.{at_low}
 use Rattle.sharc_history_laws.proofs.Spots.{Spot, SameSpot, same_spot, object_is}
-use Rattle.sharc_history_laws.proofs.Staying.{IsObject}
-use Rattle.sharc_history_laws.proofs.Walking.{Along, along}
+use Rattle.sharc_history_laws.proofs.Walking.{along}
 use Rattle.sharc_history_laws.proofs.Wholes.{TheLaws, Typed, RunOf, Whole, whole, halting, fresh_of}
 
 yes : true ≡ false → ⊥

@@ -1,14 +1,13 @@
 -- No bit stands in the granules of an object that is given or freed.
-use Rattle.std.proofs.Common.{◌≡◌, ℕ, zero, suc, ◌+◌, ◌*◌, ◌/◌, ◌^◌, ◌<◌, ◌≤◌, ◌≢◌, ◌⊎◌, inl, inr, Bool, true, false, ◌||◌, ◌&&◌, not, min, List, [], ◌∷◌, Option, Some, None, if◌then◌else◌, refl, sym, ap, ◌∙◌, subst, ⊎_elim, arith, ltb-true}
+use Rattle.std.proofs.Common.{◌≡◌, ℕ, zero, suc, ◌+◌, ◌*◌, ◌/◌, ◌^◌, ◌<◌, ◌≤◌, ◌≢◌, Bool, true, false, ◌&&◌, not, min, None, if◌then◌else◌, refl, sym, ap, ◌∙◌, subst, ⊎_elim, arith}
 use Rattle.std.specs.Prelude.{slice_index, nat_lt, ◌==◌}
-use Rattle.std.proofs.lemmas.Bool.{cases_eq, cases_lt, cases_Bool}
+use Rattle.std.proofs.lemmas.Bool.{cases_eq, cases_lt}
 use Rattle.std.proofs.lemmas.Bool.Decides.{nat_tests}
 use Rattle.sharc_shadow.specs.declared.shadow_word.Kind.{Kind}
 use Rattle.sharc_shadow.specs.declared.shadow_word.Kind.TheVariants.{Read, Write}
 use Rattle.sharc_shadow.specs.Laws.{ShadowLaws}
-use Rattle.sharc_shadow.specs.ShadowWord.{epoch_of, stands, AddsAccess, Withdraws as WithdrawsWord}
+use Rattle.sharc_shadow.specs.ShadowWord.{stands}
 use Rattle.sharc_code.specs.declared.code.Code.{Code}
-use Rattle.sharc_code.specs.declared.code.Layout.{Layout}
 use Rattle.sharc_code.specs.declared.instr.Cell.{Cell}
 use Rattle.sharc_code.specs.declared.instr.Cell.TheVariants as cells
 use Rattle.sharc_code.specs.declared.instr.Instr.{Instr}
@@ -17,9 +16,9 @@ use Rattle.sharc_code.specs.declared.shape.Shape.{Shape}
 use Rattle.sharc_code.specs.declared.state.Stage.{Stage}
 use Rattle.sharc_code.specs.declared.state.Stage.TheVariants.{Rests, Looks, Clears, Empties, Lowers, FreeLooks, FreeClears, Uncounts, Links}
 use Rattle.sharc_code.specs.Layout.{Fits, granules, first_shadow, granule_at, granule_of, length_word}
-use Rattle.sharc_code.specs.Machine.{Machine, instr_at, act, ref, place, at_stage, looks, clear, rests, free, free_looks, free_head, freed, empties, emptied, fields, layout_at, data_granules, data_granule, largest, step_of, wrote}
+use Rattle.sharc_code.specs.Machine.{Machine, instr_at, act, ref, place, at_stage, looks, clear, rests, free, free_looks, freed, empties, emptied, fields, layout_at, data_granules, data_granule, largest, step_of, wrote}
 use Rattle.sharc_code.specs.Path.{begun, turn, after, may_go, asked_by}
-use Rattle.sharc_code.specs.Runs.{Turn, Global, MayTurn, after_turn, put, words_now, state_now, result_of}
+use Rattle.sharc_code.specs.Runs.{Turn, Global, MayTurn, after_turn, state_now, result_of}
 use Rattle.sharc_code.specs.Whole.{one_thread, bounds}
 use Rattle.sharc_word.specs.declared.step.WordOp.TheVariants as ops
 use Rattle.sharc_invariant.specs.Bits.{Touch, Untouched, CheckOf, ClearOf, WithdrawOf, cleared_by, freed_by, touch_of}
@@ -32,16 +31,16 @@ use Rattle.sharc_invariant.specs.State.{State, Runs, StageStands, GateStands, On
 use Rattle.sharc_invariant.specs.Typed.{IsWellTyped, Fine, HasCell}
 use Rattle.sharc_invariant.specs.Types.{Targets, StaticType, Field, cells_of}
 use Rattle.sharc_invariant.specs.Words.{length_at}
-use Rattle.sharc_invariant.specs.World.{RegisterOf, World, Sole as IsSole, in_ref}
+use Rattle.sharc_invariant.specs.World.{World, Sole as IsSole}
 use Rattle.sharc_history_laws.proofs.Arriving.{IsUncleared, less_uncleared, walks, is_clearing, Arrives, arriving}
 use Rattle.sharc_history_laws.proofs.Consists.{found_is}
 use Rattle.sharc_history_laws.proofs.Doing.{IsCheckAt, check_of, Does, Plain, Passes, Refuses, IsNoCheck, does}
-use Rattle.sharc_history_laws.proofs.Remaining.{word_at, Remains, checked_granule}
+use Rattle.sharc_history_laws.proofs.Remaining.{word_at, Remains}
 use Rattle.sharc_history_laws.proofs.Rules.{put_same, put_other}
 use Rattle.sharc_history_laws.proofs.Shadows.{IsNext, WordBy, word_by, at_low}
 use Rattle.sharc_history_laws.proofs.Shared.{closing_own}
-use Rattle.sharc_history_laws.proofs.Single.{single, rests_hold, single_rests}
-use Rattle.sharc_history_laws.proofs.Stands.{there, gate, granules_low, register_is, reads_ref, sole_ref, live_ref, target_ref}
+use Rattle.sharc_history_laws.proofs.Single.{single, rests_hold}
+use Rattle.sharc_history_laws.proofs.Stands.{there, gate, granules_low, reads_ref, sole_ref, live_ref, target_ref}
 use Rattle.sharc_history_laws.proofs.Tables.{length_kept}
 use Rattle.sharc_history_laws.proofs.Writes.{writes}
 

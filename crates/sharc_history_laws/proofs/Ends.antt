@@ -1,5 +1,5 @@
 -- What a report may name by the notes and stops at the end of a run is what it may name by those that were there when the check was refused.
-use Rattle.std.proofs.Common.{◌≡◌, ℕ, ◌<◌, ◌≢◌, ◌⊎◌, inl, inr, Bool, true, false, List, [], ◌∷◌, ◌++◌, Option, Some, None, refl, sym, ap, ◌∙◌, subst, ⊎_elim}
+use Rattle.std.proofs.Common.{◌≡◌, ℕ, ◌≢◌, ◌⊎◌, inl, inr, true, false, List, [], ◌∷◌, ◌++◌, Option, Some, None, refl, sym, ap, ◌∙◌, subst, ⊎_elim}
 use Rattle.std.proofs.lemmas.Bool.{cases_eq}
 use Rattle.sharc_shadow.specs.declared.shadow_word.Kind.{Kind}
 use Rattle.sharc_shadow.specs.declared.shadow_word.Kind.TheVariants.{Read, Write}
@@ -10,18 +10,18 @@ use Rattle.sharc_code.specs.declared.shape.Shape.{Shape}
 use Rattle.sharc_code.specs.declared.state.ConflictAt.{ConflictAt}
 use Rattle.sharc_code.specs.declared.state.Stop.TheVariants.{Conflict}
 use Rattle.sharc_code.specs.Machine.{Machine, wrote}
-use Rattle.sharc_code.specs.Runs.{Turn, Global, put, state_now}
+use Rattle.sharc_code.specs.Runs.{Turn, Global, state_now}
 use Rattle.sharc_code.specs.Whole.{one_thread, place_after}
 use Rattle.sharc_invariant.specs.Labels.{Labels}
 use Rattle.sharc_invariant.specs.Types.{Targets}
-use Rattle.sharc_history_laws.specs.Causes.{noted_site, Stood, StoppedThere, IsNamed, OfWrite, OfRead, OfStop, OfFirst, IsCause, ShowsCause, HasNamed}
+use Rattle.sharc_history_laws.specs.Causes.{noted_site, Stood, StoppedThere, IsNamed, OfWrite, OfRead, OfStop, OfFirst, ShowsCause, HasNamed}
 use Rattle.sharc_history_laws.specs.Followed.{ChecksAreFollowed}
 use Rattle.sharc_history_laws.proofs.Caused.{Report, the_report, cause, has_named}
 use Rattle.sharc_history_laws.proofs.Lasting.{epoch_is, note_later, write_before, FoundLater, stop_from, stop_later, stopped_later}
 use Rattle.sharc_history_laws.proofs.Remaining as remaining
 use Rattle.sharc_history_laws.proofs.Remaining.{word_at, site_now, StoppedAt, IsFirst, Reason, Writes, Written}
-use Rattle.sharc_history_laws.proofs.Rules.{put_same, put_other}
-use Rattle.sharc_history_laws.proofs.Wholes.{TheLaws, Typed, RunOf, Whole, whole}
+use Rattle.sharc_history_laws.proofs.Rules.{put_other}
+use Rattle.sharc_history_laws.proofs.Wholes.{TheLaws, Typed, RunOf, whole}
 
 yes : true ≡ false → ⊥
 yes e = cc

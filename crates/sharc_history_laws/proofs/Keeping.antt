@@ -1,5 +1,5 @@
 -- An object to which a stopped thread refers is neither cleared, given nor freed by another one.
-use Rattle.std.proofs.Common.{◌≡◌, ℕ, ◌+◌, ◌*◌, ◌<◌, ◌≢◌, ◌⊎◌, inl, inr, Bool, true, false, List, [], ◌∷◌, Option, Some, None, if◌then◌else◌, refl, sym, ap, ◌∙◌, subst, ⊎_elim, arith}
+use Rattle.std.proofs.Common.{◌≡◌, ℕ, ◌+◌, ◌*◌, ◌<◌, ◌≢◌, true, false, List, ◌∷◌, Some, None, if◌then◌else◌, refl, sym, ◌∙◌, subst, ⊎_elim}
 use Rattle.std.specs.Prelude.{◌==◌}
 use Rattle.std.proofs.lemmas.Bool.{cases_eq}
 use Rattle.sharc_code.specs.declared.code.Code.{Code}
@@ -12,7 +12,7 @@ use Rattle.sharc_code.specs.Layout.{granule_at}
 use Rattle.sharc_code.specs.Machine.{Machine, instr_at, ref, row_of, data_granule}
 use Rattle.sharc_code.specs.Runs.{Turn, Global, after_turn, result_of}
 use Rattle.sharc_code.specs.Whole.{one_thread, bounds, place_after}
-use Rattle.sharc_invariant.specs.Bits.{Touch, Untouched, ClearOf, WithdrawOf, cleared_by, freed_by, withdrawn_by, touch_of}
+use Rattle.sharc_invariant.specs.Bits.{Untouched, ClearOf, WithdrawOf, cleared_by, freed_by, withdrawn_by, touch_of}
 use Rattle.sharc_invariant.specs.Labels.{Labels}
 use Rattle.sharc_invariant.specs.MachineInvariant.{IsOn}
 use Rattle.sharc_invariant.specs.Reports.{touch_at}

@@ -1,5 +1,5 @@
 -- What remains of checks in shadow words, access tables and stops: why a bit and the written bit stand.
-use Rattle.std.proofs.Common.{◌≡◌, ℕ, zero, suc, ◌+◌, ◌*◌, ◌/◌, ◌<◌, ◌≤◌, ◌≢◌, ◌⊎◌, inl, inr, Bool, true, false, not, ◌||◌, ◌&&◌, List, Option, Some, None, is_some, if◌then◌else◌, refl, sym, ap, ◌∙◌, subst, ⊎_elim, arith}
+use Rattle.std.proofs.Common.{◌≡◌, ℕ, suc, ◌+◌, ◌*◌, ◌/◌, ◌<◌, ◌≤◌, ◌⊎◌, inl, inr, Bool, true, false, not, ◌||◌, ◌&&◌, Option, Some, None, is_some, if◌then◌else◌, refl, sym, ap, ◌∙◌, subst, ⊎_elim, arith}
 use Rattle.std.specs.Prelude.{slice_index, ◌==◌}
 use Rattle.std.proofs.lemmas.Bool.{cases_eq}
 use Rattle.std.proofs.lemmas.Bool.Decides.{nat_tests}
@@ -16,13 +16,11 @@ use Rattle.sharc_code.specs.declared.instr.Instr.{Instr}
 use Rattle.sharc_code.specs.declared.instr.Instr.TheVariants as instrs
 use Rattle.sharc_code.specs.declared.shape.Shape.{Shape}
 use Rattle.sharc_code.specs.declared.state.ConflictAt.{ConflictAt}
-use Rattle.sharc_code.specs.declared.state.Stop.{Stop}
 use Rattle.sharc_code.specs.declared.state.Stop.TheVariants.{Conflict}
 use Rattle.sharc_code.specs.Layout.{Fits, granules, first_shadow, granule_at, granule_of}
 use Rattle.sharc_code.specs.Machine.{Machine, instr_at, place, wrote, stopped, with_own}
 use Rattle.sharc_code.specs.Machine as machines
-use Rattle.sharc_code.specs.Path.{may_go}
-use Rattle.sharc_code.specs.Runs.{Turn, Global, MayTurn, after_turn, put, words_now, state_now}
+use Rattle.sharc_code.specs.Runs.{Turn, Global, MayTurn, after_turn, state_now}
 use Rattle.sharc_code.specs.Whole.{one_thread, bounds}
 use Rattle.sharc_invariant.specs.Bits.{Touch, Untouched, CheckOf, ClearOf, WithdrawOf}
 use Rattle.sharc_invariant.specs.Granules.{Passed}
@@ -36,7 +34,7 @@ use Rattle.sharc_invariant.specs.Types.{Targets, Field}
 use Rattle.sharc_invariant.specs.Words.{note_number, noted_by}
 use Rattle.sharc_invariant.specs.World.{World}
 use Rattle.sharc_history_laws.proofs.Doing.{Does, Plain, Passes, Refuses, IsCheckAt, check_of, IsNoCheck, site_still, site_new, note_from, does}
-use Rattle.sharc_history_laws.proofs.Rules.{put_same, put_other}
+use Rattle.sharc_history_laws.proofs.Rules.{put_other}
 use Rattle.sharc_history_laws.proofs.Shadows.{IsNext, WordBy, word_by, at_low}
 use Rattle.sharc_history_laws.proofs.Single.{rests_hold}
 use Rattle.sharc_history_laws.proofs.Stands.{there}
@@ -308,14 +306,17 @@ module _ (laws : ShadowLaws) (cell_laws : CellsAreThere) (x : Targets) (code : C
       (λ (mine : k ≡ t).
       let a = stop_is d (ap (λ k. (g'.threads k).own.stop) (sym mine) ∙ e.is) in
       let q : a.1 ≡ p = sym (ap (λ (d : ConflictAt). d.granule) a.5) ∙ e.granule in
-      inr (mine, record {
-        kind = a.0;
-        touched = a.4 ∙ ap (λ q. CheckOf a.0 q false) q;
-        kind_is = ap (λ (d : ConflictAt). d.kind) a.5;
-        old_is = ap (λ (d : ConflictAt). d.old) a.5 ∙ ap old_at q;
-        site = a.2;
-        at = subst (λ q. IsCheckAt s m i a.0 q a.2) q a.3;
-      }))
+      inr (
+        mine,
+        record {
+          kind = a.0;
+          touched = a.4 ∙ ap (λ q. CheckOf a.0 q false) q;
+          kind_is = ap (λ (d : ConflictAt). d.kind) a.5;
+          old_is = ap (λ (d : ConflictAt). d.old) a.5 ∙ ap old_at q;
+          site = a.2;
+          at = subst (λ q. IsCheckAt s m i a.0 q a.2) q a.3;
+        },
+      ))
       (λ (ne : k ≡ t → ⊥).
       let is : (g.threads k).own.stop ≡ Some (Conflict d) = ap (λ (y : Machine). y.own.stop) (sym (others k ne)) ∙ e.is in
       let low = h.low_stop k d is in
@@ -588,9 +589,10 @@ module _ (laws : ShadowLaws) (cell_laws : CellsAreThere) (x : Targets) (code : C
       let kind : now.1.kind ≡ Write = sym now.1.kind_is ∙ is.kind in
       let touched : touch ≡ CheckOf Write p false = now.1.touched ∙ ap (λ k. CheckOf k p false) kind in
       let a = check_bit Write p false lt touched in
-      let never : touch ≡ CheckOf Write p true → ⊥ = λ q. let f : CheckOf Write p false ≡ CheckOf Write p true = sym touched ∙ q in cc in
-      (a.written ∙ or_right (is_written (old_at p)) (is_write Write) refl,
-      λ u n. yes (sym (noted_writes p (checked_granule now.1.kind p now.1.site now.1.at) u (noted_was u p never a.epoch n)) ∙ ap is_written (sym now.1.old_is) ∙ is.old)))
+      let never : touch ≡ CheckOf Write p true → ⊥ = λ q. let f : CheckOf Write p false ≡ CheckOf Write p true = sym touched ∙ q in cc in (
+        a.written ∙ or_right (is_written (old_at p)) (is_write Write) refl,
+        λ u n. yes (sym (noted_writes p (checked_granule now.1.kind p now.1.site now.1.at) u (noted_was u p never a.epoch n)) ∙ ap is_written (sym now.1.old_is) ∙ is.old),
+      ))
       (stop_was k p d e)
 
   -- ---- who has withdrawn

@@ -1,6 +1,6 @@
 -- Between two places of a run with the same epoch of a granule, at both of which the bit of a thread stands: the bit stands all along, the object stays,
 -- and no event is about its beginning or its end, or that of the thread.
-use Rattle.std.proofs.Common.{◌≡◌, ℕ, ◌+◌, ◌*◌, ◌<◌, ◌≤◌, ◌≢◌, ◌⊎◌, inl, inr, Bool, true, false, List, [], ◌∷◌, ◌++◌, Option, Some, None, refl, sym, ap, ◌∙◌, subst, ⊎_elim, arith}
+use Rattle.std.proofs.Common.{◌≡◌, ℕ, ◌+◌, ◌*◌, ◌<◌, ◌≤◌, ◌≢◌, ◌⊎◌, inl, inr, true, false, List, [], ◌∷◌, ◌++◌, Some, None, sym, ◌∙◌, subst, ⊎_elim, arith}
 use Rattle.sharc_tree.specs.declared.event.Object.{Object}
 use Rattle.sharc_tree.specs.declared.event.SourceEvent.{SourceEvent}
 use Rattle.sharc_shadow.specs.ShadowWord.{epoch_of, stands}
@@ -17,7 +17,7 @@ use Rattle.sharc_invariant.specs.Types.{Targets}
 use Rattle.sharc_history_laws.specs.Causes.{NothingBetween}
 use Rattle.sharc_history_laws.proofs.Consists.{Consists}
 use Rattle.sharc_history_laws.proofs.Remaining.{word_at, epoch_grows, bit_or_left, left_still}
-use Rattle.sharc_history_laws.proofs.Staying.{IsObject, StillThere, stays, nothing, stays_on}
+use Rattle.sharc_history_laws.proofs.Staying.{IsObject, stays, nothing, stays_on}
 use Rattle.sharc_history_laws.proofs.Wholes.{TheLaws, Typed, RunOf, Whole, whole, whole_next, fresh_of}
 use Rattle.sharc_history_laws.proofs.Withdrawing.{has_left}
 
