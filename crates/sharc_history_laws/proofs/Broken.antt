@@ -321,7 +321,7 @@ module _ (laws : TheLaws) (x : Targets) (code : Code) (s : Shape) (ls : Labels) 
 
         by : (kind : Kind) → c.kind ≡ kind → (j : ℕ) × (kind : Kind) × (site : ℕ) × IsCause code s before report c j kind site
         by Write e = let j = named.stood in let k = named.of_write e j.0 j.1 in of j.0 k.0 k.1 k.2
-        by Read e = let k = named.of_read e in of k.0 Write k.1 k.2
+        by Read e = let k = named.of_read e in of k.0 Write k.2 k.3
 
     pub first_breaks : Broken report before c
     first_breaks = let k = the_cause in record { is_check = k.3.is_report; access = k.3.refused.access; is = k.3.refused.is; breaks = goes_on k.0 k.1 k.2 k.3 }

@@ -367,9 +367,9 @@ module _ (laws : TheLaws) (x : Targets) (code : Code) (s : Shape) (ls : Labels) 
         less u true q e = grind (arith, nat_tests)
         less u false q e = absurd (yes (sym e))
 
-    of_read : c.kind ≡ Read → (j : ℕ) × (site : ℕ) × IsNamed (place_after code s before) report.thread c j Write site
+    of_read : c.kind ≡ Read → (j : ℕ) × (j < THREADS) × (site : ℕ) × IsNamed (place_after code s before) report.thread c j Write site
     of_read mine = ⊎_elim
-        (λ (w : Writer). (w.0, w.1, OfWrite w.2 refl w.3))
+        (λ (w : Writer). (w.0, few_stand c.old w.0 w.2.1, w.1, OfWrite w.2 refl w.3))
         (λ (none : NoWriter THREADS).
         let all : (u : ℕ) → Stood c report.thread u → noted_site (place_after code s before) c u Write ≡ None = λ u st. none u (few_stand c.old u st.1) st in
         let h = subst (λ k. Conflicts (word_at (place_after code s before) at_p) report.thread k (wrote ((place_after code s before).threads report.thread) at_p (word_at (place_after code s before) at_p))) mine reports.conflicts in
@@ -377,18 +377,18 @@ module _ (laws : TheLaws) (x : Targets) (code : Code) (s : Shape) (ls : Labels) 
         (search THREADS)
       where
         first : ((u : ℕ) → Stood c report.thread u → noted_site (place_after code s before) c u Write ≡ None) → is_of (wrote ((place_after code s before).threads report.thread) c.granule (word_at (place_after code s before) c.granule)) (epoch_of (word_at (place_after code s before) c.granule)) ≡ false
-            → Written (place_after code s before) c.granule → (j : ℕ) × (site : ℕ) × IsNamed (place_after code s before) report.thread c j Write site
+            → Written (place_after code s before) c.granule → (j : ℕ) × (j < THREADS) × (site : ℕ) × IsNamed (place_after code s before) report.thread c j Write site
         first all own w = by w.why
           where
             note_mine : (z : ℕ) → w.thread ≡ report.thread → site_now (place_after code s before) w.thread c.granule Write ≡ Some z → ⊥
             note_mine z same e = yes (sym (remaining.wrote_is ((place_after code s before).threads report.thread) at_p (word_at (place_after code s before) at_p) z (ap (λ u. site_now (place_after code s before) u at_p Write) (sym same) ∙ e)) ∙ own)
 
-            by : Writes (place_after code s before) w.thread c.granule → (j : ℕ) × (site : ℕ) × IsNamed (place_after code s before) report.thread c j Write site
+            by : Writes (place_after code s before) w.thread c.granule → (j : ℕ) × (j < THREADS) × (site : ℕ) × IsNamed (place_after code s before) report.thread c j Write site
             by (remaining.NotedWrite z e) =
                 let ne : w.thread ≢ report.thread = λ same. note_mine z same e in
                 let f : None ≡ Some z = sym (all w.thread (ne, ap (λ v. stands v w.thread) reports.word ∙ w.bit)) ∙ named_at w.thread Write z e in
                 absurd cc
-            by (remaining.FirstRefused d at is) = (w.thread, d.site, OfFirst mine all d (stopped_there w.thread d at) is.kind is.old refl refl)
+            by (remaining.FirstRefused d at is) = (w.thread, few_stand (word_at (place_after code s before) c.granule) w.thread w.bit, d.site, OfFirst mine all d (stopped_there w.thread d at) is.kind is.old refl refl)
 
     pub has_named : HasNamed (place_after code s before) report.thread c
     has_named = record {

@@ -208,7 +208,7 @@ module _ (laws : TheLaws) (x : Targets) (code : Code) (s : Shape) (ls : Labels) 
       record {
         stood = h.stood;
         of_write = λ mine j stood. let k = h.of_write mine j stood in (k.0, k.1, to_end j k.0 k.1 k.2);
-        of_read = λ mine. let k = h.of_read mine in (k.0, k.1, to_end k.0 Write k.1 k.2);
+        of_read = λ mine. let k = h.of_read mine in (k.0, k.1, k.2, to_end k.0 Write k.2 k.3);
       }
 
 -- ---- of each thread that has stopped

@@ -1,7 +1,8 @@
 -- The cause of a refused check of an access: the check of another thread that its report names, and what came between the two.
-use Rattle.std.specs.Prelude.{◌≡◌, ◌≢◌, ℕ, ◌⊎◌, Bool, true, false, List, [], ◌∷◌, ◌++◌, Option, Some, None}
+use Rattle.std.specs.Prelude.{◌≡◌, ◌≢◌, ◌<◌, false, ℕ, ◌⊎◌, Bool, true, false, List, [], ◌∷◌, ◌++◌, Option, Some, None}
 use Rattle.sharc_tree.specs.declared.event.Object.{Object}
 use Rattle.sharc_tree.specs.declared.event.SourceEvent.{SourceEvent}
+use Rattle.sharc_word.specs.declared.step.TheConstants.{THREADS}
 use Rattle.sharc_shadow.specs.declared.shadow_word.Kind.{Kind}
 use Rattle.sharc_shadow.specs.declared.shadow_word.Kind.TheVariants.{Read, Write}
 use Rattle.sharc_shadow.specs.Accesses.{note_of, site_at}
@@ -12,7 +13,7 @@ use Rattle.sharc_code.specs.declared.state.ConflictAt.{ConflictAt}
 use Rattle.sharc_code.specs.declared.state.Stop.TheVariants.{Conflict}
 use Rattle.sharc_code.specs.Layout.{Fits}
 use Rattle.sharc_code.specs.Machine.{Machine, instr_at}
-use Rattle.sharc_code.specs.Path.{may_go}
+use Rattle.sharc_code.specs.Path.{begun, may_go}
 use Rattle.sharc_code.specs.Runs.{Turn, Global, told_by}
 use Rattle.sharc_code.specs.Whole.{CheckedRun, Erase, one_thread, place_after}
 use Rattle.sharc_meaning.specs.Events.{Access, access_by, begins, frees, granule_of}
@@ -95,12 +96,17 @@ NamesAreCauses = (x : Targets) (code : Code) (s : Shape) (ls : Labels) → IsWel
 pub record HasNamed (g : Global Machine) (t : ℕ) (c : ConflictAt) : Type 0 where
   pub stood : (j : ℕ) × Stood c t j
   pub of_write : c.kind ≡ Write → (j : ℕ) → Stood c t j → (kind : Kind) × (site : ℕ) × IsNamed g t c j kind site
-  pub of_read : c.kind ≡ Read → (j : ℕ) × (site : ℕ) × IsNamed g t c j Write site
+  pub of_read : c.kind ≡ Read → (j : ℕ) × (j < THREADS) × (site : ℕ) × IsNamed g t c j Write site
 
 abbrev pub ReportsHaveNamed : Type 0
 ReportsHaveNamed = (x : Targets) (code : Code) (s : Shape) (ls : Labels) → IsWellTyped x code ls → Fits code s → IsSmall code s
     → (run : List Turn) → CheckedRun code s run → (t : ℕ) (c : ConflictAt) → ((place_after code s run).threads t).own.stop ≡ Some (Conflict c)
     → HasNamed (place_after code s run) t c
+
+-- a thread that was not started is as it begins, so it has no note and no stop
+abbrev pub UnstartedAreBegun : Type 0
+UnstartedAreBegun = (x : Targets) (code : Code) (s : Shape) (ls : Labels) → IsWellTyped x code ls → Fits code s → IsSmall code s
+    → (run : List Turn) → CheckedRun code s run → (u : ℕ) → (place_after code s run).started u ≡ false → (place_after code s run).threads u ≡ begun code s u
 
 -- ---- the rules
 -- The histories that go on with the access of thread t that was refused, behind the other access where that is not made yet, keep no rules.

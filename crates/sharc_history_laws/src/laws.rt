@@ -1,6 +1,6 @@
 //! The laws, each the contract of a function that does nothing.
 
-ghost use Rattle.sharc_history_laws.specs.Causes.{AccessReportsBreakRules, NamesAreCauses, ReportsHaveNamed};
+ghost use Rattle.sharc_history_laws.specs.Causes.{AccessReportsBreakRules, NamesAreCauses, ReportsHaveNamed, UnstartedAreBegun};
 ghost use Rattle.sharc_history_laws.specs.Conflicts.{AccessReportsShow, NamedAreChecked, NotesAreOfChecks};
 ghost use Rattle.sharc_history_laws.specs.Followed.{AccessesFollow, LockReportsBreakRules, LockReportsShowAccess};
 ghost use Rattle.sharc_history_laws.specs.History.{HistoriesObey};
@@ -69,11 +69,13 @@ pub fn followed_law()
 /// Of each thread that has stopped at the check of an access in a checked run of typed code. Where each check of the code is directly before its access:
 /// whatever check of another thread a report may name, by the notes and stops at the end of the run, was made earlier than the one that was refused, of an access
 /// to the same granule of the same object; since then the object had no New, Give or Freed, and that thread did not end; and with the access that was refused
-/// first, behind the other one where that is next, no history that keeps the rules of the modes goes on. And there is a check to name.
+/// first, behind the other one where that is next, no history that keeps the rules of the modes goes on. And there is a check to name,
+/// of a thread that was started: the others are as they begin.
 pub fn causes_law()
     ensures causes { NamesAreCauses }
     ensures rules { AccessReportsBreakRules }
     ensures named { ReportsHaveNamed }
+    ensures unstarted { UnstartedAreBegun }
 {
     run_laws();
     begins();

@@ -1,4 +1,5 @@
 use Rattle.sharc_history_laws.proofs.Broken.{all_break}
+use Rattle.sharc_history_laws.proofs.Consists.{consists}
 use Rattle.sharc_history_laws.proofs.Ends.{all_causes, all_named}
 use Rattle.sharc_history_laws.proofs.Wholes.{TheLaws}
 use Rattle.sharc_history_laws.proofs.laws.causes_law.Goals as goal
@@ -53,3 +54,9 @@ returns-clause-named c = λ x code s ls wt fits few run checked t conflict stop.
       conflicts = c.runs_report.ensures.conflicts;
     } in
     all_named laws x code s ls (record { wt = wt; fits = fits; few = few }) run ((laws.run.checked code s run).0 checked) t conflict stop
+
+pub returns-clause-unstarted : goal.returns-clause-unstarted
+returns-clause-unstarted c = λ x code s ls wt fits few run checked u off.
+    let there = c.cells_are_there.ensures in
+    let laws = c.run_laws.ensures in
+    ((consists laws c.begins.ensures.opens c.keeps.ensures there.cells there.pointers x code s ls wt fits few run ((laws.checked code s run).0 checked)).state.threads u).waits off
