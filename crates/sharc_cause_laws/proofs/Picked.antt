@@ -1,5 +1,5 @@
 -- The search of a report finds a check that may be named.
-use Rattle.std.proofs.Common.{◌≡◌, ℕ, zero, suc, ◌+◌, ◌<◌, ◌≤◌, ◌≢◌, ◌⊎◌, inl, inr, Bool, true, false, not, ◌&&◌, cond, length, map, List, [], ◌∷◌, filter, find, replicate, Option, Some, None, is_some, if◌then◌else◌, refl, sym, ap, ◌∙◌, subst, ⊎_elim, arith, eqb-true}
+use Rattle.std.proofs.Common.{◌≡◌, ℕ, zero, suc, ◌+◌, ◌<◌, ◌≤◌, ◌≢◌, ◌⊎◌, inl, inr, Bool, true, false, not, ◌&&◌, cond, map, List, [], ◌∷◌, filter, find, replicate, Option, Some, None, is_some, if◌then◌else◌, refl, sym, ap, ◌∙◌, subst, ⊎_elim, arith, eqb-true}
 use Rattle.std.specs.Prelude.{◌==◌, slice_index_or}
 use Rattle.std.specs.List.{range_with_len, All}
 use Rattle.std.proofs.lemmas.Bool.{cases_eq}
@@ -7,7 +7,6 @@ use Rattle.std.proofs.lemmas.Bool.Decides.{nat_tests}
 use Rattle.sharc_word.specs.declared.step.TheConstants.{THREADS}
 use Rattle.sharc_shadow.specs.declared.shadow_word.Kind.{Kind}
 use Rattle.sharc_shadow.specs.declared.shadow_word.Kind.TheVariants.{Read, Write}
-use Rattle.sharc_shadow.specs.declared.access_table.Note.{Note}
 use Rattle.sharc_shadow.specs.Notes.{blank, of_kind}
 use Rattle.sharc_shadow.specs.Accesses.{note_of, site_at}
 use Rattle.sharc_shadow.specs.Functions.{lowest_from, lowest_other}
@@ -23,7 +22,7 @@ use Rattle.sharc_code.specs.Path.{begun}
 use Rattle.sharc_code.specs.Runs.{Global}
 use Rattle.sharc_cpu.specs.Thread.{ThreadView}
 use Rattle.sharc_threads.specs.Ends.{IsAt, AreStarted}
-use Rattle.sharc_history_laws.specs.Causes.{noted_site, Stood, StoppedThere, IsNamed, OfWrite, OfRead, OfStop, OfFirst, HasNamed}
+use Rattle.sharc_history_laws.specs.Causes.{noted_site, Stood, IsNamed, OfWrite, OfRead, OfStop, OfFirst, HasNamed}
 use Rattle.sharc_run_text.specs.declared.other.Access.{Access}
 use Rattle.sharc_run_text.specs.Others.{number_of, noted, is_same_place, refused_by, refused, check_by, or_refused, or_read, or_later, access_of, access_of_any, has_number, wrote_before, is_first_write, was_refused_first, refused_access, or_first_refused, against, other_access}
 
