@@ -1,8 +1,7 @@
 -- Only the last turn of a Clear leads to a place where it is known that an object was cleared.
-use Rattle.std.proofs.Common.{◌≡◌, ℕ, ℤ, pos, negsuc, zero, suc, ◌+◌, ◌-◌, ◌*◌, ◌<◌, ◌≤◌, ◌⊎◌, inl, inr, min, Bool, true, false, not, ◌&&◌, ◌||◌, ◌==◌, nat_lt, length, List, [], ◌∷◌, Some, None, Option, is_some, if◌then◌else◌, refl, sym, ap, ◌∙◌, subst, ⊎_elim, arith}
+use Rattle.std.proofs.Common.{◌≡◌, ℕ, ℤ, pos, negsuc, zero, suc, ◌+◌, ◌-◌, ◌<◌, ◌≤◌, ◌⊎◌, inl, inr, Bool, true, false, not, ◌&&◌, ◌||◌, ◌==◌, nat_lt, length, List, [], ◌∷◌, Some, is_some, if◌then◌else◌, refl, sym, ap, ◌∙◌, subst, ⊎_elim, arith}
 use Rattle.std.specs.Prelude.{Result, Ok, Err, slice_index_or}
 use Rattle.std.proofs.lemmas.Bool.{cases_lt}
-use Rattle.std.proofs.lemmas.Bool.Decides.{nat_tests}
 use Rattle.sharc_word.specs.declared.step.TheConstants.{THREADS}
 use Rattle.sharc_word.specs.declared.step.WordOp.TheVariants as ops
 use Rattle.sharc_cond.specs.Waiters.{waits_in}
@@ -15,7 +14,6 @@ use Rattle.sharc_granule.specs.State.{NewView, told, turn_of}
 use Rattle.sharc_granule.specs.declared.stage.NewTurn.{NewTurn}
 use Rattle.sharc_granule.specs.declared.stage.NewTurn.TheVariants.{Do, Made, HeapFull}
 use Rattle.sharc_code.specs.declared.code.Code.{Code}
-use Rattle.sharc_code.specs.declared.code.Layout.{Layout}
 use Rattle.sharc_code.specs.declared.code.Parameter.{Parameter}
 use Rattle.sharc_code.specs.declared.code.Parameter.TheVariants as parameters
 use Rattle.sharc_code.specs.declared.instr.Cell.{Cell}
@@ -26,7 +24,7 @@ use Rattle.sharc_code.specs.declared.instr.Instr.{Instr}
 use Rattle.sharc_code.specs.declared.instr.Instr.TheVariants.{Constant, Move, MoveReference, Null, ComputeInt, ComputeLong, NegateInt, NegateLong, Complement, Not, SameReference, ChkWidth, Jump, JumpIfZero, JumpIfNull, Call, Return, ChkNull, ChkHeld, ChkNotHeld, ChkPositive, ChkRoom, ChkLock, ChkLockLoaded, Bounds, GlobalBounds, ChkRead, ChkWrite, Load, Store, LoadRef, Exchange, Raise, RaiseLoaded, Lower, New, TakeCell, TakeLocal, TestSole, Clear, Give, Free, Lock, Unlock, Spawn, Join, Print, Start, Exit, CondEnter, CondWait, CondSignal, CondBroadcast}
 use Rattle.sharc_code.specs.declared.shape.Shape.{Shape}
 use Rattle.sharc_code.specs.declared.state.Stage.{Stage}
-use Rattle.sharc_code.specs.declared.state.Stage.TheVariants.{Rests, Looks, Clears, Makes, Empties, Lowers, FreeLooks, FreeClears, Uncounts, Links, Names, Hands, Begins, Enters, Wakes}
+use Rattle.sharc_code.specs.declared.state.Stage.TheVariants.{Rests, Looks, Clears, Makes, FreeLooks, FreeClears, Uncounts, Names, Hands, Begins, Enters, Wakes}
 use Rattle.sharc_code.specs.Arithmetic.{computed, negated, is_zero, holds}
 use Rattle.sharc_code.specs.Layout.{granule_at, granule_of, cell_of, cell_word, state_word}
 use Rattle.sharc_code.specs.Machine.{Machine, Own, act, int, ref, goes, goes_to, asserts, with_result, has_room, called, returned, holds_none, is_of_null, is_held, indexed, wrote, with_note, checked, lock_checked, raise, lower, test, tested, after_new, asks_new, new, new_state, elements_of, looks, clear, data_granules, free_looks, empties, emptied, free, layout_at, spawn, with_parameter, entered, start, function_of, wakes, signal, is_positive, fields, largest, at_stage, place, set_ref, accessed, move_ref, trapped, locked, joined, join, woken, word, Local, Asks, step_of}
@@ -35,8 +33,8 @@ use Rattle.sharc_code.specs.declared.instr.Cell.TheVariants as cells
 use Rattle.sharc_code.specs.declared.state.Stage.TheVariants.{Withdraws, WithdrawsFrom, Leaves}
 use Rattle.sharc_code.specs.Machine.{instr_at, rests, no_function, no_frame, back_to, exit, withdraws, withdrew}
 use Rattle.sharc_code.specs.Path.{may_go}
-use Rattle.sharc_invariant.specs.Labels.{Gate, Closed, Checked, Holds, Loaded, HoldsLoaded, Sole, Number, Label, Labels, Leads, LessGate, set_number, fill, empty, forgets, gated, knows}
-use Rattle.sharc_invariant.specs.State.{View, FramesStand, BelowStands, StartStands, CallerStands, frame_at}
+use Rattle.sharc_invariant.specs.Labels.{Gate, Closed, Checked, Holds, Loaded, HoldsLoaded, Sole, Number, Label, Labels, Leads, LessGate, set_number, empty, forgets, gated, knows}
+use Rattle.sharc_invariant.specs.State.{View, FramesStand, BelowStands, frame_at}
 use Rattle.sharc_invariant.specs.Typed.{IsWellTyped, Fine, Numbers, Passes_on, LeadsChecked, entry_label, called_label, without_base_of, unlocked_label}
 use Rattle.sharc_invariant.specs.Types.{Targets}
 

@@ -1,14 +1,13 @@
 -- No bit stands in the granules of an object that is given or freed.
-use Rattle.std.proofs.Common.{◌≡◌, ℕ, zero, suc, ◌+◌, ◌*◌, ◌/◌, ◌^◌, ◌<◌, ◌≤◌, ◌≢◌, ◌⊎◌, inl, inr, Bool, true, false, ◌||◌, ◌&&◌, not, min, List, [], ◌∷◌, Option, Some, None, if◌then◌else◌, refl, sym, ap, ◌∙◌, subst, ⊎_elim, arith, ltb-true}
+use Rattle.std.proofs.Common.{◌≡◌, ℕ, zero, suc, ◌+◌, ◌*◌, ◌/◌, ◌^◌, ◌<◌, ◌≤◌, ◌≢◌, Bool, true, false, ◌&&◌, not, min, None, if◌then◌else◌, refl, sym, ap, ◌∙◌, subst, ⊎_elim, arith}
 use Rattle.std.specs.Prelude.{slice_index, nat_lt, ◌==◌}
-use Rattle.std.proofs.lemmas.Bool.{cases_eq, cases_lt, cases_Bool}
+use Rattle.std.proofs.lemmas.Bool.{cases_eq, cases_lt}
 use Rattle.std.proofs.lemmas.Bool.Decides.{nat_tests}
 use Rattle.sharc_shadow.specs.declared.shadow_word.Kind.{Kind}
 use Rattle.sharc_shadow.specs.declared.shadow_word.Kind.TheVariants.{Read, Write}
 use Rattle.sharc_shadow.specs.Laws.{ShadowLaws}
-use Rattle.sharc_shadow.specs.ShadowWord.{epoch_of, stands, AddsAccess, Withdraws as WithdrawsWord}
+use Rattle.sharc_shadow.specs.ShadowWord.{stands}
 use Rattle.sharc_code.specs.declared.code.Code.{Code}
-use Rattle.sharc_code.specs.declared.code.Layout.{Layout}
 use Rattle.sharc_code.specs.declared.instr.Cell.{Cell}
 use Rattle.sharc_code.specs.declared.instr.Cell.TheVariants as cells
 use Rattle.sharc_code.specs.declared.instr.Instr.{Instr}
@@ -17,9 +16,9 @@ use Rattle.sharc_code.specs.declared.shape.Shape.{Shape}
 use Rattle.sharc_code.specs.declared.state.Stage.{Stage}
 use Rattle.sharc_code.specs.declared.state.Stage.TheVariants.{Rests, Looks, Clears, Empties, Lowers, FreeLooks, FreeClears, Uncounts, Links}
 use Rattle.sharc_code.specs.Layout.{Fits, granules, first_shadow, granule_at, granule_of, length_word}
-use Rattle.sharc_code.specs.Machine.{Machine, instr_at, act, ref, place, at_stage, looks, clear, rests, free, free_looks, free_head, freed, empties, emptied, fields, layout_at, data_granules, data_granule, largest, step_of, wrote}
+use Rattle.sharc_code.specs.Machine.{Machine, instr_at, act, ref, place, at_stage, looks, clear, rests, free, free_looks, freed, empties, emptied, fields, layout_at, data_granules, data_granule, largest, step_of, wrote}
 use Rattle.sharc_code.specs.Path.{begun, turn, after, may_go, asked_by}
-use Rattle.sharc_code.specs.Runs.{Turn, Global, MayTurn, after_turn, put, words_now, state_now, result_of}
+use Rattle.sharc_code.specs.Runs.{Turn, Global, MayTurn, after_turn, state_now, result_of}
 use Rattle.sharc_code.specs.Whole.{one_thread, bounds}
 use Rattle.sharc_word.specs.declared.step.WordOp.TheVariants as ops
 use Rattle.sharc_invariant.specs.Bits.{Touch, Untouched, CheckOf, ClearOf, WithdrawOf, cleared_by, freed_by, touch_of}
@@ -32,16 +31,16 @@ use Rattle.sharc_invariant.specs.State.{State, Runs, StageStands, GateStands, On
 use Rattle.sharc_invariant.specs.Typed.{IsWellTyped, Fine, HasCell}
 use Rattle.sharc_invariant.specs.Types.{Targets, StaticType, Field, cells_of}
 use Rattle.sharc_invariant.specs.Words.{length_at}
-use Rattle.sharc_invariant.specs.World.{RegisterOf, World, Sole as IsSole, in_ref}
+use Rattle.sharc_invariant.specs.World.{World, Sole as IsSole}
 use Rattle.sharc_history_laws.proofs.Arriving.{IsUncleared, less_uncleared, walks, is_clearing, Arrives, arriving}
 use Rattle.sharc_history_laws.proofs.Consists.{found_is}
 use Rattle.sharc_history_laws.proofs.Doing.{IsCheckAt, check_of, Does, Plain, Passes, Refuses, IsNoCheck, does}
-use Rattle.sharc_history_laws.proofs.Remaining.{word_at, Remains, checked_granule}
+use Rattle.sharc_history_laws.proofs.Remaining.{word_at, Remains}
 use Rattle.sharc_history_laws.proofs.Rules.{put_same, put_other}
 use Rattle.sharc_history_laws.proofs.Shadows.{IsNext, WordBy, word_by, at_low}
 use Rattle.sharc_history_laws.proofs.Shared.{closing_own}
-use Rattle.sharc_history_laws.proofs.Single.{single, rests_hold, single_rests}
-use Rattle.sharc_history_laws.proofs.Stands.{there, gate, granules_low, register_is, reads_ref, sole_ref, live_ref, target_ref}
+use Rattle.sharc_history_laws.proofs.Single.{single, rests_hold}
+use Rattle.sharc_history_laws.proofs.Stands.{there, gate, granules_low, reads_ref, sole_ref, live_ref, target_ref}
 use Rattle.sharc_history_laws.proofs.Tables.{length_kept}
 use Rattle.sharc_history_laws.proofs.Writes.{writes}
 
@@ -161,10 +160,10 @@ module _ (laws : ShadowLaws) (state_law : StateStands) (cell_laws : CellsAreTher
     abbrev o : ℕ
     o = ref (g.threads u) r
 
-    some : o ≢ 0
+    pub some : o ≢ 0
     some = sole_ref x code s ls wt fits g world st u on_u alone.hold r alone.cleared alone.gate
 
-    live : (world.obj o).live ≡ true
+    pub live : (world.obj o).live ≡ true
     live = live_ref x code s ls wt fits g world st u on_u alone.hold r some
 
     win : world.win u ≡ IsSole ((g.threads u).at.refs + r)
@@ -174,7 +173,7 @@ module _ (laws : ShadowLaws) (state_law : StateStands) (cell_laws : CellsAreTher
     closing = (u, ((g.threads u).at.refs + r, (win, sym (reads_ref x code s ls wt fits g world st u on_u alone.hold r))))
 
     -- no other thread has it in a register
-    no_other : (v q : ℕ) → OnHold (g.threads v).own.stage → ref (g.threads v) q ≡ o → v ≡ u
+    pub no_other : (v q : ℕ) → OnHold (g.threads v).own.stage → ref (g.threads v) q ≡ o → v ≡ u
     no_other v q hold e = closing_own state_law x code s ls wt fits g world st o closing v ((g.threads v).at.refs + q) hold e
 
     within : (j : ℕ) → 2 * j < st.cells o → o + 1 + j < granules s
@@ -186,7 +185,7 @@ module _ (laws : ShadowLaws) (state_law : StateStands) (cell_laws : CellsAreTher
         ∙ ap (λ target. length_of s g o * cells_of x target) (target_ref x code s ls wt fits g world st u on_u alone.hold r a e some)
 
     -- a check of one of its granules is its thread's
-    object_one : (p q j k : ℕ) → (world.obj p).live ≡ true → (world.obj q).live ≡ true → 2 * j < st.cells p → 2 * k < st.cells q → p + 1 + j ≡ q + 1 + k → p ≡ q
+    pub object_one : (p q j k : ℕ) → (world.obj p).live ≡ true → (world.obj q).live ≡ true → 2 * j < st.cells p → 2 * k < st.cells q → p + 1 + j ≡ q + 1 + k → p ≡ q
     object_one p q j k lp lq a b e = ⊎_elim
         (λ (same : p ≡ q). same)
         (λ (ne : p ≡ q → ⊥). ⊎_elim
@@ -294,13 +293,13 @@ module _ (laws : ShadowLaws) (state_law : StateStands) (cell_laws : CellsAreTher
     granules_all n c j e lt = of_cells (n * c) j (subst (λ k. k ≤ largest) e few_cells) (subst (λ k. 2 * j < k) e lt)
 
   -- ---- a thread that does not make the turn
-  alone_clear : (u r count : ℕ) (y : Stage) → instr_at code (g.threads u).at.pc ≡ instrs.Clear r count → (g.threads u).own.stage ≡ y → OnHold y → IsAlone u r
+  pub alone_clear : (u r count : ℕ) (y : Stage) → instr_at code (g.threads u).at.pc ≡ instrs.Clear r count → (g.threads u).own.stage ≡ y → OnHold y → IsAlone u r
   alone_clear u r count y is at hold = record { hold = subst OnHold (sym at) hold; cleared = false; gate = (fine_at u (instrs.Clear r count) is).0 }
 
-  alone_free : (u r layout site : ℕ) (y : Stage) → instr_at code (g.threads u).at.pc ≡ instrs.Free r layout site → (g.threads u).own.stage ≡ y → OnHold y → IsAlone u r
+  pub alone_free : (u r layout site : ℕ) (y : Stage) → instr_at code (g.threads u).at.pc ≡ instrs.Free r layout site → (g.threads u).own.stage ≡ y → OnHold y → IsAlone u r
   alone_free u r layout site y is at hold = let f = fine_at u (instrs.Free r layout site) is in record { hold = subst OnHold (sym at) hold; cleared = f.0.0; gate = f.0.1 }
 
-  alone_give : (u r site : ℕ) → IsOn g u → instr_at code (g.threads u).at.pc ≡ instrs.Give r site → IsAlone u r
+  pub alone_give : (u r site : ℕ) → IsOn g u → instr_at code (g.threads u).at.pc ≡ instrs.Give r site → IsAlone u r
   alone_give u r site on_u is = record {
     hold = rests_hold code s st.elements world st.heap g.words u (g.threads u) (instrs.Give r site) (g.threads u).own.stage refl (stage_at u on_u (instrs.Give r site) is);
     cleared = true;
@@ -308,14 +307,14 @@ module _ (laws : ShadowLaws) (state_law : StateStands) (cell_laws : CellsAreTher
   }
 
   -- the granules of which a Clear has so many behind it are the object's
-  clear_inside : (u r count : ℕ) (on_u : IsOn g u) (alone : IsAlone u r) → instr_at code (g.threads u).at.pc ≡ instrs.Clear r count → (all : ℕ) → all ≡ data_granules (st.elements (ref (g.threads u) r)) count → (j : ℕ) → j < all → 2 * j < st.cells (ref (g.threads u) r)
+  pub clear_inside : (u r count : ℕ) (on_u : IsOn g u) (alone : IsAlone u r) → instr_at code (g.threads u).at.pc ≡ instrs.Clear r count → (all : ℕ) → all ≡ data_granules (st.elements (ref (g.threads u) r)) count → (j : ℕ) → j < all → 2 * j < st.cells (ref (g.threads u) r)
   clear_inside u r count on_u alone is all e j lt =
       let f = fine_at u (instrs.Clear r count) is in
       let n : st.elements (ref (g.threads u) r) ≡ length_of s g (ref (g.threads u) r) = st.sim.lengths (ref (g.threads u) r) (some u on_u r alone) (live u on_u r alone) in
       granules_inside u on_u r alone (length_of s g (ref (g.threads u) r)) count j (cells_are u on_u r alone f.2.0 f.2.1 ∙ ap (λ c. length_of s g (ref (g.threads u) r) * c) (sym f.2.2))
       (subst (λ n. j < data_granules n count) n (subst (λ k. j < k) e lt))
 
-  free_inside : (u r layout site : ℕ) (on_u : IsOn g u) (alone : IsAlone u r) → instr_at code (g.threads u).at.pc ≡ instrs.Free r layout site → (all : ℕ) → all ≡ st.elements (ref (g.threads u) r) → (j : ℕ) → j < granules_freed code layout all → 2 * j < st.cells (ref (g.threads u) r)
+  pub free_inside : (u r layout site : ℕ) (on_u : IsOn g u) (alone : IsAlone u r) → instr_at code (g.threads u).at.pc ≡ instrs.Free r layout site → (all : ℕ) → all ≡ st.elements (ref (g.threads u) r) → (j : ℕ) → j < granules_freed code layout all → 2 * j < st.cells (ref (g.threads u) r)
   free_inside u r layout site on_u alone is all e j lt =
       let f = fine_at u (instrs.Free r layout site) is in
       let c = (layout_at code layout).cells in

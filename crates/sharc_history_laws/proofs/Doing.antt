@@ -1,5 +1,5 @@
 -- What a turn does to the access table of its thread and whether it stops the thread at the check of an access.
-use Rattle.std.proofs.Common.{◌≡◌, ℕ, zero, suc, ◌+◌, ◌<◌, ◌≤◌, ◌⊎◌, inl, inr, Bool, true, false, ◌&&◌, length, List, [], ◌∷◌, Option, Some, None, is_some, if◌then◌else◌, refl, sym, ap, ◌∙◌, subst, ⊎_elim, arith, eqb-true}
+use Rattle.std.proofs.Common.{◌≡◌, ℕ, zero, suc, ◌+◌, ◌<◌, ◌⊎◌, inl, inr, Bool, true, false, length, List, [], ◌∷◌, Option, Some, None, is_some, if◌then◌else◌, refl, sym, ap, ◌∙◌, ⊎_elim, arith}
 use Rattle.std.specs.Prelude.{slice_index, slice_index_or, slice_set, nat_lt, ◌==◌}
 use Rattle.std.proofs.lemmas.Bool.{cases_eq}
 use Rattle.std.proofs.lemmas.Bool.Decides.{nat_tests}
@@ -21,19 +21,18 @@ use Rattle.sharc_code.specs.declared.shape.Shape.{Shape}
 use Rattle.sharc_code.specs.declared.state.ConflictAt.{ConflictAt}
 use Rattle.sharc_code.specs.declared.state.Stage.{Stage}
 use Rattle.sharc_code.specs.declared.state.Stage.TheVariants.{Clears, FreeClears, WithdrawsFrom}
-use Rattle.sharc_code.specs.declared.state.Stop.{Stop}
 use Rattle.sharc_code.specs.declared.state.Stop.TheVariants.{Conflict}
 use Rattle.sharc_code.specs.Layout.{granules, first_shadow, granule_at, granule_of, shadow_word}
 use Rattle.sharc_code.specs.Machine.{Machine, Own, instr_at, act, place, ref, row_of, checked, stopped, with_own, wrote, step_of}
 use Rattle.sharc_code.specs.Machine as machines
 use Rattle.sharc_code.specs.Path.{turn, after, may_go, asked_by}
-use Rattle.sharc_code.specs.Runs.{Turn, Global, MayTurn, after_turn, put, state_now, result_of}
+use Rattle.sharc_code.specs.Runs.{Turn, Global, MayTurn, after_turn, state_now, result_of}
 use Rattle.sharc_code.specs.Whole.{one_thread, bounds}
-use Rattle.sharc_invariant.specs.Bits.{Touch, Untouched, CheckOf, ClearOf, WithdrawOf, cleared_by, freed_by, withdrawn_by, touch_of}
+use Rattle.sharc_invariant.specs.Bits.{Touch, Untouched, CheckOf, WithdrawOf, cleared_by, freed_by, withdrawn_by, touch_of}
 use Rattle.sharc_invariant.specs.Reports.{touch_at}
 use Rattle.sharc_history_laws.proofs.Conflicting.{Refused, OfRead, OfWrite, conflict_stop}
 use Rattle.sharc_history_laws.proofs.Consists.{found_is}
-use Rattle.sharc_history_laws.proofs.Rules.{put_same, put_other}
+use Rattle.sharc_history_laws.proofs.Rules.{put_same}
 use Rattle.sharc_history_laws.proofs.Tabled.{is_access_check, tabled}
 
 yes : true ≡ false → ⊥

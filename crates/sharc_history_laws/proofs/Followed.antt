@@ -1,12 +1,10 @@
 -- A check of an access is directly before it, so where it passed its thread makes the access next.
-use Rattle.std.proofs.Common.{◌≡◌, ℕ, ◌+◌, ◌⊎◌, inl, inr, Bool, true, false, List, [], ◌∷◌, ◌++◌, Option, Some, None, is_some, if◌then◌else◌, refl, sym, ap, ◌∙◌, subst, ⊎_elim, arith}
+use Rattle.std.proofs.Common.{◌≡◌, ℕ, ◌+◌, Bool, true, false, List, [], ◌∷◌, ◌++◌, Some, is_some, if◌then◌else◌, refl, sym, ap, ◌∙◌, subst, ⊎_elim, arith}
 use Rattle.std.specs.Prelude.{◌==◌, nat_eq}
 use Rattle.std.proofs.lemmas.Bool.{cases_eq}
 use Rattle.std.proofs.lemmas.Bool.Decides.{nat_tests}
 use Rattle.sharc_tree.specs.declared.event.SourceEvent.{SourceEvent}
 use Rattle.sharc_tree.specs.declared.event.CellAt.{CellAt}
-use Rattle.sharc_tree.specs.declared.event.CellMode.{CellMode}
-use Rattle.sharc_tree.specs.declared.event.CellMode.TheVariants as modes
 use Rattle.sharc_tree.specs.declared.event.Act.TheVariants as acts
 use Rattle.sharc_tree.specs.declared.event.Taken.TheVariants as takens
 use Rattle.sharc_shadow.specs.declared.shadow_word.Kind.{Kind}
@@ -30,14 +28,13 @@ use Rattle.sharc_code.specs.Arithmetic.{int_of}
 use Rattle.sharc_code.specs.Layout.{granule_at, granule_of}
 use Rattle.sharc_code.specs.Machine.{Machine, Own, instr_at, act, place, ref, int, row_of, stopped, with_own, with_note, wrote, checked}
 use Rattle.sharc_code.specs.Path.{turn, after, may_go}
-use Rattle.sharc_code.specs.Runs.{Turn, Global, after_turn, put, paired, state_now, result_of, turns_of}
+use Rattle.sharc_code.specs.Runs.{Turn, Global, after_turn, paired, state_now, result_of, turns_of}
 use Rattle.sharc_code.specs.Says.{cell_at, mode_of, place_at, said, reference, kind_of}
 use Rattle.sharc_code.specs.Whole.{one_thread, bounds, place_after, Erase}
 use Rattle.sharc_meaning.specs.Events.{Access, access_by}
 use Rattle.sharc_invariant.specs.Bits.{Touch, Untouched, CheckOf, WithdrawOf, cleared_by, freed_by, withdrawn_by, touch_of}
-use Rattle.sharc_invariant.specs.Reports.{touch_at}
 use Rattle.sharc_history_laws.specs.Conflicts.{site_of_check, IsCheck}
-use Rattle.sharc_history_laws.specs.Followed.{Accesses, IsFollowed, ChecksAreFollowed, access_to, access_of, access_checked, TellsAccess, Follows, IsNext, IsMade, IsOfAccess}
+use Rattle.sharc_history_laws.specs.Followed.{Accesses, IsFollowed, ChecksAreFollowed, access_to, access_of, TellsAccess, Follows, IsNext, IsMade, IsOfAccess}
 use Rattle.sharc_history_laws.proofs.Rules.{put_same, put_other}
 
 yes : true ≡ false → ⊥

@@ -1,5 +1,5 @@
 -- A thread says that it is gone by the last turn of its Exit alone.
-use Rattle.std.proofs.Common.{◌≡◌, ℕ, zero, suc, ◌+◌, Bool, true, false, Option, Some, None, if◌then◌else◌, refl, sym, ap, ◌∙◌}
+use Rattle.std.proofs.Common.{◌≡◌, ℕ, zero, suc, Bool, true, false, Option, Some, None, if◌then◌else◌, refl}
 use Rattle.std.specs.Prelude.{◌==◌, ◌||◌}
 use Rattle.sharc_tree.specs.declared.event.SourceEvent.{SourceEvent}
 use Rattle.sharc_granule.specs.State.{NewView}
@@ -14,7 +14,7 @@ use Rattle.sharc_code.specs.declared.instr.Instr.TheVariants as instrs
 use Rattle.sharc_code.specs.declared.state.Stage.{Stage}
 use Rattle.sharc_code.specs.declared.state.Stage.TheVariants.{Makes, Uncounts, Begins, Enters, Withdraws, WithdrawsFrom, Leaves as Leaving, Wakes}
 use Rattle.sharc_code.specs.Machine.{Machine, ref}
-use Rattle.sharc_code.specs.Says.{said, reference, take_local, nobody, in_signal, in_exit, in_spawn, in_start, in_free, in_new, new_event, cell_at, mode_of, place_at}
+use Rattle.sharc_code.specs.Says.{said, take_local, nobody, in_signal, in_exit, in_spawn, in_start, in_free, in_new, new_event}
 use Rattle.sharc_meaning.specs.Store.{is_gone}
 use Rattle.sharc_history_laws.proofs.Going.{is_exit}
 

@@ -1,14 +1,18 @@
 pub mod Acts
 pub mod Born
 pub mod Arriving
+pub mod Broken
 pub mod Calm
 pub mod Carried
+pub mod Caused
+pub mod Checks
 pub mod Cleared
 pub mod Conflicting
 pub mod Consists
 pub mod Contents
 pub mod Doing
 pub mod Emptying
+pub mod Ends
 pub mod Finds
 pub mod Followed
 pub mod Gates
@@ -16,6 +20,8 @@ pub mod Given
 pub mod Going
 pub mod Holding
 pub mod Legal
+pub mod Keeping
+pub mod Lasting
 pub mod Leaving
 pub mod Lists
 pub mod Living
@@ -43,6 +49,7 @@ pub mod Since
 pub mod Single
 pub mod Sole
 pub mod Sparing
+pub mod Spots
 pub mod Stands
 pub mod Started
 pub mod Stored
@@ -54,6 +61,7 @@ pub mod Threaded
 pub mod Unwritten
 pub mod Valued
 pub mod Values
+pub mod Walking
 pub mod Wholes
 pub mod Withdrawing
 pub mod Writes

@@ -1,8 +1,7 @@
 -- A lock check that is refused is of an access whose mode names the mutex that the check looks for.
-use Rattle.std.proofs.Common.{◌≡◌, ℕ, zero, suc, ◌+◌, ◌<◌, ◌⊎◌, inl, inr, Bool, true, false, List, [], ◌∷◌, ◌++◌, Option, Some, None, is_some, if◌then◌else◌, refl, sym, ap, ◌∙◌, subst, ⊎_elim, arith}
+use Rattle.std.proofs.Common.{◌≡◌, ℕ, zero, suc, ◌+◌, Bool, true, false, List, [], ◌∷◌, ◌++◌, Some, None, is_some, if◌then◌else◌, refl, sym, ap, ◌∙◌, subst, ⊎_elim}
 use Rattle.std.specs.Prelude.{◌==◌}
 use Rattle.std.proofs.lemmas.Bool.{cases_eq}
-use Rattle.std.proofs.lemmas.Bool.Decides.{nat_tests}
 use Rattle.sharc_tree.specs.declared.event.CellAt.{CellAt}
 use Rattle.sharc_tree.specs.declared.event.CellMode.TheVariants as modes
 use Rattle.sharc_tree.specs.declared.event.SourceEvent.{SourceEvent}
@@ -21,19 +20,18 @@ use Rattle.sharc_code.specs.declared.instr.Instr.TheVariants as instrs
 use Rattle.sharc_code.specs.declared.shape.Shape.{Shape}
 use Rattle.sharc_code.specs.declared.state.Stop.{Stop}
 use Rattle.sharc_code.specs.declared.state.Stop.TheVariants.{Conflict, NoLock, NotSole, Trap}
-use Rattle.sharc_code.specs.Laws.{RunLaws}
 use Rattle.sharc_code.specs.Layout.{Fits, cell_of, cell_word, granule_at, granule_of}
 use Rattle.sharc_code.specs.Machine.{Machine, Own, instr_at, act, place, word, is_held, is_of_null, goes, stopped, checked, lock_checked, tested, with_own, wrote, with_note}
 use Rattle.sharc_code.specs.Opening.{opening_words}
-use Rattle.sharc_code.specs.Path.{turn, after, may_go}
-use Rattle.sharc_code.specs.Runs.{Turn, Global, IsRun, MayTurn, after_turn, put, state_now, result_of, opening_of}
+use Rattle.sharc_code.specs.Path.{turn, after}
+use Rattle.sharc_code.specs.Runs.{Turn, Global, IsRun, MayTurn, put, state_now, result_of, opening_of}
 use Rattle.sharc_code.specs.Says.{cell_at, made_cell, mode_of, place_at, lock_through}
 use Rattle.sharc_code.specs.Whole.{one_thread, bounds, place_after}
 use Rattle.sharc_gen.specs.Consistent.{IsThere}
 use Rattle.sharc_meaning.specs.Events.{Access, access_by, events_of, holds_mutex}
 use Rattle.sharc_meaning.specs.Obeys.{History, Obeys, Until}
 use Rattle.sharc_invariant.specs.Types.{Targets, Field, FieldMode, Content}
-use Rattle.sharc_invariant.specs.Labels.{Gate, Closed, Checked, Holds, Loaded, HoldsLoaded, Sole, Label, Labels, Less, LessGate, LessNumber, SameReference, gated}
+use Rattle.sharc_invariant.specs.Labels.{Gate, Closed, Checked, Holds, Loaded, HoldsLoaded, Sole, Label, Labels, LessGate, LessNumber, SameReference, gated}
 use Rattle.sharc_invariant.specs.Typed.{IsWellTyped, Fine, Accesses as TypedAccess, MayAccess, IsMode, knows_base}
 use Rattle.sharc_invariant.specs.State.{State, IsSmall, OnHold}
 use Rattle.sharc_invariant.specs.MachineInvariant.{IsOn}
@@ -46,7 +44,7 @@ use Rattle.sharc_history_laws.proofs.Followed.{accessed_is}
 use Rattle.sharc_history_laws.proofs.LockModes.{same_copies, lock_mode_now}
 use Rattle.sharc_history_laws.proofs.Quits.{Quits, Still, Traps, is_trap, is_reporting, quits}
 use Rattle.sharc_history_laws.proofs.Rules.{put_same, put_other}
-use Rattle.sharc_history_laws.proofs.Single.{single, rests_hold}
+use Rattle.sharc_history_laws.proofs.Single.{rests_hold}
 use Rattle.sharc_history_laws.proofs.Sole.{Halting, stop_none}
 
 yes : true ≡ false → ⊥

@@ -1,5 +1,5 @@
 -- What remains of checks in shadow words, access tables and stops: why a bit and the written bit stand.
-use Rattle.std.proofs.Common.{◌≡◌, ℕ, zero, suc, ◌+◌, ◌*◌, ◌/◌, ◌<◌, ◌≤◌, ◌≢◌, ◌⊎◌, inl, inr, Bool, true, false, not, ◌||◌, ◌&&◌, List, Option, Some, None, is_some, if◌then◌else◌, refl, sym, ap, ◌∙◌, subst, ⊎_elim, arith}
+use Rattle.std.proofs.Common.{◌≡◌, ℕ, suc, ◌+◌, ◌*◌, ◌/◌, ◌<◌, ◌≤◌, ◌⊎◌, inl, inr, Bool, true, false, not, ◌||◌, ◌&&◌, Option, Some, None, is_some, if◌then◌else◌, refl, sym, ap, ◌∙◌, subst, ⊎_elim, arith}
 use Rattle.std.specs.Prelude.{slice_index, ◌==◌}
 use Rattle.std.proofs.lemmas.Bool.{cases_eq}
 use Rattle.std.proofs.lemmas.Bool.Decides.{nat_tests}
@@ -16,13 +16,11 @@ use Rattle.sharc_code.specs.declared.instr.Instr.{Instr}
 use Rattle.sharc_code.specs.declared.instr.Instr.TheVariants as instrs
 use Rattle.sharc_code.specs.declared.shape.Shape.{Shape}
 use Rattle.sharc_code.specs.declared.state.ConflictAt.{ConflictAt}
-use Rattle.sharc_code.specs.declared.state.Stop.{Stop}
 use Rattle.sharc_code.specs.declared.state.Stop.TheVariants.{Conflict}
 use Rattle.sharc_code.specs.Layout.{Fits, granules, first_shadow, granule_at, granule_of}
 use Rattle.sharc_code.specs.Machine.{Machine, instr_at, place, wrote, stopped, with_own}
 use Rattle.sharc_code.specs.Machine as machines
-use Rattle.sharc_code.specs.Path.{may_go}
-use Rattle.sharc_code.specs.Runs.{Turn, Global, MayTurn, after_turn, put, words_now, state_now}
+use Rattle.sharc_code.specs.Runs.{Turn, Global, MayTurn, after_turn, state_now}
 use Rattle.sharc_code.specs.Whole.{one_thread, bounds}
 use Rattle.sharc_invariant.specs.Bits.{Touch, Untouched, CheckOf, ClearOf, WithdrawOf}
 use Rattle.sharc_invariant.specs.Granules.{Passed}
@@ -36,7 +34,7 @@ use Rattle.sharc_invariant.specs.Types.{Targets, Field}
 use Rattle.sharc_invariant.specs.Words.{note_number, noted_by}
 use Rattle.sharc_invariant.specs.World.{World}
 use Rattle.sharc_history_laws.proofs.Doing.{Does, Plain, Passes, Refuses, IsCheckAt, check_of, IsNoCheck, site_still, site_new, note_from, does}
-use Rattle.sharc_history_laws.proofs.Rules.{put_same, put_other}
+use Rattle.sharc_history_laws.proofs.Rules.{put_other}
 use Rattle.sharc_history_laws.proofs.Shadows.{IsNext, WordBy, word_by, at_low}
 use Rattle.sharc_history_laws.proofs.Single.{rests_hold}
 use Rattle.sharc_history_laws.proofs.Stands.{there}
@@ -136,7 +134,7 @@ ne_of : (a b : ℕ) → (a ≡ b → ⊥) → (a == b) ≡ false
 ne_of a b ne = grind (arith, nat_tests)
 
 -- ---- notes
-some_site : (o : Option Note) (e z : ℕ) → site_at o e ≡ Some z → (n : Note) × (o ≡ Some n) × (n.epoch ≡ e)
+pub some_site : (o : Option Note) (e z : ℕ) → site_at o e ≡ Some z → (n : Note) × (o ≡ Some n) × (n.epoch ≡ e)
 some_site None e z h = absurd (let f : None ≡ Some z = h in cc)
 some_site (Some n) e z h = elim (n.epoch == e) as (λ b. (n.epoch == e) ≡ b → (if b then Some n.site else None) ≡ Some z → (k : Note) × (Some n ≡ Some k) × (k.epoch ≡ e)) [
   | true ↦ λ q _. (n, refl, eq_of n.epoch e q)
@@ -147,7 +145,7 @@ number_some : (o : Option Note) (e : ℕ) → note_number o ≡ suc e → (n : N
 number_some None e h = absurd (omega (arith, h))
 number_some (Some n) e h = (n, refl, (let z : n.epoch ≡ e = omega (arith, h) in z))
 
-wrote_is : (m : Machine) (p v z : ℕ) → site_at (note_of m.own.table p Write) (epoch_of v) ≡ Some z → is_of (wrote m p v) (epoch_of v) ≡ true
+pub wrote_is : (m : Machine) (p v z : ℕ) → site_at (note_of m.own.table p Write) (epoch_of v) ≡ Some z → is_of (wrote m p v) (epoch_of v) ≡ true
 wrote_is m p v z e = ap (λ o. is_of (if is_some o then Some (epoch_of v) else None) (epoch_of v)) e ∙ same_is (epoch_of v)
 
 wrote_site : (m : Machine) (p v : ℕ) → is_of (wrote m p v) (epoch_of v) ≡ true → (z : ℕ) × (site_at (note_of m.own.table p Write) (epoch_of v) ≡ Some z)
@@ -232,7 +230,8 @@ module _ (laws : ShadowLaws) (cell_laws : CellsAreThere) (x : Targets) (code : C
       by (Withdrew e a) = let b = a.epoch in omega (arith, b)
 
   -- ---- notes and stops
-  stop_is : (d : ConflictAt) → m'.own.stop ≡ Some (Conflict d) → (kind : Kind) × (q : ℕ) × (site : ℕ) × IsCheckAt s m i kind q site × (touch ≡ CheckOf kind q false) × (d ≡ record { kind = kind; site = site; granule = q; epoch = epoch_of (old_at q); old = old_at q })
+  pub stop_is : (d : ConflictAt) → m'.own.stop ≡ Some (Conflict d) → (kind : Kind) × (q : ℕ) × (site : ℕ) × IsCheckAt s m i kind q site × (touch ≡ CheckOf kind q false) × (d ≡ record { kind = kind; site = site; granule = q; epoch = epoch_of (old_at q); old = old_at q })
+      × (conflicts_in (old_at q) m.own.number kind (wrote m q (old_at q)) ≡ true) × (m' ≡ stopped m (Conflict record { kind = kind; site = site; granule = q; epoch = epoch_of (old_at q); old = old_at q }))
   stop_is d e = by did
     where
       same : (c : ConflictAt) (y : Machine) → y.own.stop ≡ Some (Conflict c) → m' ≡ y → d ≡ c
@@ -242,12 +241,13 @@ module _ (laws : ShadowLaws) (cell_laws : CellsAreThere) (x : Targets) (code : C
       none y a b = let f : Some (Conflict d) ≡ None = sym e ∙ ap (λ (y : Machine). y.own.stop) b ∙ a in cc
 
       by : DoesIt → (kind : Kind) × (q : ℕ) × (site : ℕ) × IsCheckAt s m i kind q site × (touch ≡ CheckOf kind q false) × (d ≡ record { kind = kind; site = site; granule = q; epoch = epoch_of (old_at q); old = old_at q })
+          × (conflicts_in (old_at q) m.own.number kind (wrote m q (old_at q)) ≡ true) × (m' ≡ stopped m (Conflict record { kind = kind; site = site; granule = q; epoch = epoch_of (old_at q); old = old_at q }))
       by (Plain a b c) = absurd (c d e)
       by (Passes kind q site at a b c) = absurd (none (with_own m (machines.with_note m.own q kind (epoch_of (old_at q)) site)) (note_stop q kind (epoch_of (old_at q)) site) c)
         where
           note_stop : (q : ℕ) (kind : Kind) (e site : ℕ) → (machines.with_note (g.threads tr.thread).own q kind e site).stop ≡ None
           note_stop q kind e site = elim (is_some (site_at (note_of m.own.table q kind) e)) as (λ b. (if b then m.own else record m.own { table = Rattle.sharc_shadow.specs.Functions.noted m.own.table q kind record { epoch = e; site = site } }).stop ≡ None) [ true ↦ fresh | false ↦ fresh ]
-      by (Refuses kind q site at a b c) = (kind, q, site, at, a, same (record { kind = kind; site = site; granule = q; epoch = epoch_of (old_at q); old = old_at q }) _ refl c)
+      by (Refuses kind q site at a b c) = (kind, q, site, at, a, same (record { kind = kind; site = site; granule = q; epoch = epoch_of (old_at q); old = old_at q }) _ refl c, b, c)
 
   -- a note of an epoch stays in it
   still : (p : ℕ) (kind : Kind) (z : ℕ) → site_now g tr.thread p kind ≡ Some z → site_at (note_of m'.own.table p kind) (epoch_of (old_at p)) ≡ Some z
@@ -263,7 +263,7 @@ module _ (laws : ShadowLaws) (cell_laws : CellsAreThere) (x : Targets) (code : C
   still_now k p kind z same e = ap (site_at (note_of (g'.threads k).own.table p kind)) same ∙ each (λ k (y : Machine). site_now g k p kind ≡ Some z → site_at (note_of y.own.table p kind) (epoch_of (old_at p)) ≡ Some z)
       (still p kind z) (λ k _ e. e) k e
 
-  note_was : (p : ℕ) (kind : Kind) (n : Note) → note_of m'.own.table p kind ≡ Some n → (note_of m.own.table p kind ≡ Some n) ⊎ ((touch ≡ CheckOf kind p true) × (n.epoch ≡ epoch_of (old_at p)))
+  pub note_was : (p : ℕ) (kind : Kind) (n : Note) → note_of m'.own.table p kind ≡ Some n → (note_of m.own.table p kind ≡ Some n) ⊎ ((touch ≡ CheckOf kind p true) × (n.epoch ≡ epoch_of (old_at p)))
   note_was p kind n e = by did
     where
       by : DoesIt → (note_of m.own.table p kind ≡ Some n) ⊎ ((touch ≡ CheckOf kind p true) × (n.epoch ≡ epoch_of (old_at p)))
@@ -301,7 +301,7 @@ module _ (laws : ShadowLaws) (cell_laws : CellsAreThere) (x : Targets) (code : C
     pub site : ℕ
     pub at : IsCheckAt s m i kind p site
 
-  stop_was : (k p : ℕ) (d : ConflictAt) → StoppedAt g' k p d → ((k ≡ tr.thread → ⊥) × StoppedAt g k p d × (epoch_of (new_at p) ≡ epoch_of (old_at p))) ⊎ ((k ≡ tr.thread) × StopNow p d)
+  pub stop_was : (k p : ℕ) (d : ConflictAt) → StoppedAt g' k p d → ((k ≡ tr.thread → ⊥) × StoppedAt g k p d × (epoch_of (new_at p) ≡ epoch_of (old_at p))) ⊎ ((k ≡ tr.thread) × StopNow p d)
   stop_was k p d e = ⊎_elim
       (λ (mine : k ≡ t).
       let a = stop_is d (ap (λ k. (g'.threads k).own.stop) (sym mine) ∙ e.is) in
@@ -341,7 +341,7 @@ module _ (laws : ShadowLaws) (cell_laws : CellsAreThere) (x : Targets) (code : C
   granule_low : (k p : ℕ) (d : ConflictAt) → StoppedAt g' k p d → p < granules s
   granule_low k p d e = subst (λ n. n < granules s) e.granule ((low_stop k d e.is).0)
 
-  check_bit : (kind : Kind) (p : ℕ) (ok : Bool) → p < granules s → touch ≡ CheckOf kind p ok → AddsAccess (old_at p) (new_at p) tr.thread kind
+  pub check_bit : (kind : Kind) (p : ℕ) (ok : Bool) → p < granules s → touch ≡ CheckOf kind p ok → AddsAccess (old_at p) (new_at p) tr.thread kind
   check_bit kind p ok lt q = by (word p lt)
     where
       parts : (k kind : Kind) (a p : ℕ) (b ok : Bool) → CheckOf k a b ≡ CheckOf kind p ok → k ≡ kind

@@ -1,5 +1,5 @@
 -- What a turn does to the shadow word of each granule.
-use Rattle.std.proofs.Common.{◌≡◌, ℕ, ℤ, pos, negsuc, zero, suc, ◌+◌, ◌*◌, ◌/◌, ◌%◌, ◌^◌, ◌<◌, ◌≤◌, ◌≢◌, ◌⊎◌, inl, inr, Bool, true, false, cond, length, List, [], ◌∷◌, Option, Some, None, is_some, if◌then◌else◌, min, refl, sym, ap, ◌∙◌, subst, ⊎_elim, arith, eqb-true}
+use Rattle.std.proofs.Common.{◌≡◌, ℕ, ℤ, pos, negsuc, zero, suc, ◌+◌, ◌*◌, ◌/◌, ◌%◌, ◌^◌, ◌<◌, ◌≤◌, ◌≢◌, Bool, true, false, length, List, [], ◌∷◌, Option, Some, None, if◌then◌else◌, min, refl, sym, ap, ◌∙◌, subst, ⊎_elim, arith, eqb-true}
 use Rattle.std.specs.Prelude.{slice_index, slice_index_or, slice_set, nat_lt, bit_or, ◌==◌, Contains}
 use Rattle.std.proofs.lemmas.Bool.{cases_eq, cases_lt}
 use Rattle.std.proofs.lemmas.Bool.Decides.{nat_tests}
@@ -24,7 +24,6 @@ use Rattle.sharc_granule.specs.declared.arguments.NewArguments.{NewArguments}
 use Rattle.sharc_granule.specs.declared.stage.Stage.{Stage as NewStage}
 use Rattle.sharc_granule.specs.declared.stage.Stage.TheVariants as news
 use Rattle.sharc_code.specs.declared.code.Code.{Code}
-use Rattle.sharc_code.specs.declared.instr.Cell.{Cell}
 use Rattle.sharc_code.specs.declared.instr.Instr.{Instr}
 use Rattle.sharc_code.specs.declared.instr.Instr.TheVariants as instrs
 use Rattle.sharc_code.specs.declared.instr.Register.{Register}
@@ -39,7 +38,7 @@ use Rattle.sharc_code.specs.Runs as runs
 use Rattle.sharc_code.specs.Whole.{one_thread, bounds}
 use Rattle.sharc_invariant.specs.Bits.{Touch, Untouched, CheckOf, ClearOf, WithdrawOf, cleared_by, freed_by, withdrawn_by, touch_of}
 use Rattle.sharc_invariant.specs.Granules.{sum_to}
-use Rattle.sharc_invariant.specs.Labels.{Label, Labels}
+use Rattle.sharc_invariant.specs.Labels.{Labels}
 use Rattle.sharc_invariant.specs.MachineInvariant.{IsOn}
 use Rattle.sharc_invariant.specs.Reports.{touch_at}
 use Rattle.sharc_invariant.specs.State.{State, StageStands, OnHold}

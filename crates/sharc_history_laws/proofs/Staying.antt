@@ -1,12 +1,12 @@
 -- An object in whose granules bits stand stays, and no event of a turn is about its beginning or its end.
-use Rattle.std.proofs.Common.{◌≡◌, ℕ, suc, ◌+◌, ◌*◌, ◌<◌, ◌≤◌, ◌≢◌, ◌⊎◌, inl, inr, Bool, true, false, ◌||◌, List, [], ◌∷◌, ◌++◌, Option, Some, None, refl, sym, ap, ◌∙◌, subst, ⊎_elim, arith}
-use Rattle.std.specs.Prelude.{slice_index, ◌==◌}
+use Rattle.std.proofs.Common.{◌≡◌, ℕ, ◌+◌, ◌*◌, ◌<◌, ◌≢◌, Bool, true, false, ◌||◌, List, ◌∷◌, Option, Some, None, refl, sym, ap, ◌∙◌, subst, ⊎_elim, arith}
+use Rattle.std.specs.Prelude.{◌==◌}
 use Rattle.std.proofs.lemmas.Bool.{cases_eq}
 use Rattle.std.proofs.lemmas.Bool.Decides.{nat_tests}
 use Rattle.sharc_tree.specs.declared.event.Object.{Object}
 use Rattle.sharc_tree.specs.declared.event.Object.TheVariants as objects
 use Rattle.sharc_tree.specs.declared.event.SourceEvent.{SourceEvent}
-use Rattle.sharc_shadow.specs.ShadowWord.{epoch_of, stands}
+use Rattle.sharc_shadow.specs.ShadowWord.{stands}
 use Rattle.sharc_code.specs.declared.code.Code.{Code}
 use Rattle.sharc_code.specs.declared.instr.Instr.{Instr}
 use Rattle.sharc_code.specs.declared.instr.Instr.TheVariants as instrs
@@ -16,7 +16,7 @@ use Rattle.sharc_code.specs.declared.state.Stage.TheVariants.{Uncounts, Leaves a
 use Rattle.sharc_code.specs.Layout.{granules}
 use Rattle.sharc_code.specs.Machine.{Machine, instr_at, ref}
 use Rattle.sharc_code.specs.Path.{turn}
-use Rattle.sharc_code.specs.Runs.{Turn, Global, MayTurn, result_of, paired, told_by, after_turn}
+use Rattle.sharc_code.specs.Runs.{Turn, Global, result_of, paired, told_by, after_turn}
 use Rattle.sharc_code.specs.Says.{said}
 use Rattle.sharc_code.specs.Whole.{Erase, one_thread, bounds, place_after}
 use Rattle.sharc_meaning.specs.Events.{begins, frees, is_number, made_by, given_by, freed_by}
@@ -24,13 +24,12 @@ use Rattle.sharc_meaning.specs.Store.{is_gone}
 use Rattle.sharc_invariant.specs.Blocks.{Built, Live}
 use Rattle.sharc_invariant.specs.Labels.{Labels}
 use Rattle.sharc_invariant.specs.MachineInvariant.{IsOn}
-use Rattle.sharc_invariant.specs.Objects.{objects_now}
 use Rattle.sharc_invariant.specs.State.{State}
 use Rattle.sharc_invariant.specs.Types.{Targets, cells_of}
-use Rattle.sharc_invariant.specs.Words.{has_withdrawn, is_ended, length_at}
+use Rattle.sharc_invariant.specs.Words.{has_withdrawn, is_ended}
 use Rattle.sharc_invariant.specs.World.{World, ObjectState}
-use Rattle.sharc_history_laws.proofs.Acts.{given_at, freed_in, freed_at, About, about, thread_said}
-use Rattle.sharc_history_laws.proofs.Cleared.{AllCleared, given_cleared, freed_cleared}
+use Rattle.sharc_history_laws.proofs.Acts.{given_at, freed_in, freed_at, About, about}
+use Rattle.sharc_history_laws.proofs.Cleared.{given_cleared, freed_cleared}
 use Rattle.sharc_history_laws.proofs.Consists.{Consists, objects_then, header_built}
 use Rattle.sharc_history_laws.proofs.Going.{is_exit}
 use Rattle.sharc_history_laws.proofs.Leaving.{gone_said, not_gone, leaves_at}
@@ -103,7 +102,7 @@ module _ (laws : TheLaws) (x : Targets) (code : Code) (s : Shape) (ls : Labels) 
       let both : Built t ≡ Live = sym built ∙ (st.heap_stands.live o nz).0 live in cc
 
   -- where it is neither made, given nor freed it stays
-  kept : o ≢ 0 → (given_at i ((place_after code s earlier).threads one.thread) ≡ Some o → ⊥) → (freed_at i ((place_after code s earlier).threads one.thread) ≡ Some o → ⊥) → StillThere
+  pub kept : o ≢ 0 → (given_at i ((place_after code s earlier).threads one.thread) ≡ Some o → ⊥) → (freed_at i ((place_after code s earlier).threads one.thread) ≡ Some o → ⊥) → StillThere
   kept nz ungiven unfreed =
       let objs = objects_then laws.run laws.keeps laws.cells laws.pointers x code s ls typed.wt typed.fits typed.few one earlier w.consists run.1 in
       let same : next.world.obj o ≡ world.obj o = ap (λ (f : ℕ → ObjectState). f o) objs ∙ same_behind ls t m m' world.obj o i (unmade nz) ungiven unfreed in
@@ -114,7 +113,7 @@ module _ (laws : TheLaws) (x : Targets) (code : Code) (s : Shape) (ls : Labels) 
       record { is_live = live'; is_inside = subst (λ n. 2 * k < n) (sym cells) inside }
 
   -- the globals are there always
-  kept_globals : o ≡ 0 → StillThere
+  pub kept_globals : o ≡ 0 → StillThere
   kept_globals z =
       let live0 : (next.world.obj 0).live ≡ true = ap (λ (y : ObjectState). y.live) next.state.globals in
       let cells : next.state.cells o ≡ st.cells o = ap next.state.cells z ∙ next.state.globals_cells ∙ sym st.globals_cells ∙ ap st.cells (sym z) in

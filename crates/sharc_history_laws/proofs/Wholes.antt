@@ -1,14 +1,13 @@
 -- What holds behind each run of typed code, by all that is known of it.
-use Rattle.std.proofs.Common.{◌≡◌, ℕ, zero, suc, ◌+◌, ◌<◌, ◌⊎◌, inl, inr, Bool, true, false, List, [], ◌∷◌, ◌++◌, Option, Some, None, is_some, replicate, refl, sym, ap, ◌∙◌, subst, ⊎_elim, arith}
+use Rattle.std.proofs.Common.{◌≡◌, ℕ, zero, suc, ◌+◌, ◌<◌, true, false, List, [], ◌∷◌, Some, None, replicate, refl, sym, ap, ◌∙◌, subst}
 use Rattle.std.specs.Prelude.{slice_index, slice_index_or}
 use Rattle.sharc_shadow.specs.declared.shadow_word.Kind.{Kind}
 use Rattle.sharc_shadow.specs.declared.shadow_word.Kind.TheVariants.{Read, Write}
 use Rattle.sharc_shadow.specs.declared.access_table.Note.{Note}
-use Rattle.sharc_shadow.specs.declared.access_table.GranuleNotes.{GranuleNotes}
 use Rattle.sharc_shadow.specs.Notes.{blank, of_kind}
 use Rattle.sharc_shadow.specs.Accesses.{note_of}
 use Rattle.sharc_shadow.specs.Laws.{ShadowLaws}
-use Rattle.sharc_shadow.specs.ShadowWord.{is_written, stands}
+use Rattle.sharc_shadow.specs.ShadowWord.{stands}
 use Rattle.sharc_code.specs.declared.code.Code.{Code}
 use Rattle.sharc_code.specs.declared.shape.Shape.{Shape}
 use Rattle.sharc_code.specs.declared.state.ConflictAt.{ConflictAt}
@@ -17,8 +16,7 @@ use Rattle.sharc_code.specs.Laws.{RunLaws}
 use Rattle.sharc_code.specs.Layout.{Fits, granules, first_shadow}
 use Rattle.sharc_code.specs.Machine.{Machine}
 use Rattle.sharc_code.specs.Opening.{opening_words}
-use Rattle.sharc_code.specs.Path.{may_go}
-use Rattle.sharc_code.specs.Runs.{Turn, Global, IsRun, MayTurn, opening_of}
+use Rattle.sharc_code.specs.Runs.{Turn, Global, IsRun, opening_of}
 use Rattle.sharc_code.specs.Whole.{one_thread, bounds, place_after}
 use Rattle.sharc_invariant.specs.Bits.{BitsStand}
 use Rattle.sharc_invariant.specs.Labels.{Labels}
@@ -32,7 +30,7 @@ use Rattle.sharc_invariant.specs.Types.{Targets}
 use Rattle.sharc_history_laws.proofs.Cleared.{AllCleared, cleared_then, first_cleared}
 use Rattle.sharc_history_laws.proofs.Consists.{Consists, consists_then, at_first}
 use Rattle.sharc_history_laws.proofs.Logged.{lacking}
-use Rattle.sharc_history_laws.proofs.Remaining.{word_at, Remains, Written, IsFirst, StoppedAt, Reason, remains_then}
+use Rattle.sharc_history_laws.proofs.Remaining.{word_at, Remains, remains_then}
 use Rattle.sharc_history_laws.proofs.Shadows.{at_low}
 use Rattle.sharc_history_laws.proofs.Sole.{Halting, stop_none}
 
@@ -136,3 +134,7 @@ module _ (laws : TheLaws) (x : Targets) (code : Code) (s : Shape) (ls : Labels) 
   pub whole : (run : List Turn) → RunOf code s run → Whole x code s ls run
   whole [] run = record { consists = at_first laws.begins x code s ls typed.wt typed.fits; remains = first_remains; cleared = first_cleared x code s ls typed.wt (place_after code s []) (λ u. refl); halting = halting [] run }
   whole (one ∷ earlier) run = next_whole one earlier run (whole earlier run.0)
+
+  pub whole_next : (one : Turn) (earlier : List Turn) (run : RunOf code s (one ∷ earlier)) → (whole (one ∷ earlier) run).consists ≡ next_consists one earlier run (whole earlier run.0)
+  unfolding whole next_whole
+  whole_next one earlier run = refl

@@ -1,28 +1,27 @@
 -- From which granules a thread has withdrawn, after each turn.
-use Rattle.std.proofs.Common.{◌≡◌, ℕ, zero, suc, ◌+◌, ◌<◌, ◌≤◌, ◌≢◌, ◌⊎◌, inl, inr, Bool, true, false, ◌||◌, length, List, [], ◌∷◌, Option, Some, None, is_some, if◌then◌else◌, refl, sym, ap, ◌∙◌, subst, ⊎_elim, arith, eqb-true}
-use Rattle.std.specs.Prelude.{slice_index, slice_index_or, take, nat_lt, ◌==◌, Contains}
+use Rattle.std.proofs.Common.{◌≡◌, ℕ, zero, suc, ◌+◌, ◌<◌, ◌≤◌, Bool, true, false, ◌||◌, length, List, [], ◌∷◌, Option, Some, None, is_some, if◌then◌else◌, refl, sym, ap, ◌∙◌, subst, ⊎_elim, arith, eqb-true}
+use Rattle.std.specs.Prelude.{slice_index, slice_index_or, take, nat_lt, ◌==◌}
 use Rattle.std.specs.List.{list_any}
-use Rattle.std.proofs.lemmas.Bool.{cases_eq, cases_Bool}
+use Rattle.std.proofs.lemmas.Bool.{cases_eq}
 use Rattle.std.proofs.lemmas.Bool.Decides.{nat_tests}
 use Rattle.sharc_shadow.specs.declared.shadow_word.Kind.{Kind}
 use Rattle.sharc_shadow.specs.declared.shadow_word.Kind.TheVariants.{Read, Write}
 use Rattle.sharc_shadow.specs.declared.access_table.Note.{Note}
 use Rattle.sharc_shadow.specs.declared.access_table.GranuleNotes.{GranuleNotes}
 use Rattle.sharc_shadow.specs.Notes.{blank, has_note, of_kind}
-use Rattle.sharc_shadow.specs.Accesses.{Accesses, ListsNoted, is_noted, note_of, site_at}
+use Rattle.sharc_shadow.specs.Accesses.{Accesses, ListsNoted, note_of, site_at}
 use Rattle.sharc_code.specs.declared.code.Code.{Code}
 use Rattle.sharc_code.specs.declared.instr.Instr.{Instr}
 use Rattle.sharc_code.specs.declared.instr.Instr.TheVariants as instrs
-use Rattle.sharc_code.specs.declared.instr.Register.{Register}
 use Rattle.sharc_code.specs.declared.shape.Shape.{Shape}
 use Rattle.sharc_code.specs.declared.state.Stage.{Stage}
-use Rattle.sharc_code.specs.declared.state.Stage.TheVariants.{Rests, Clears, FreeClears, Withdraws, WithdrawsFrom, Leaves}
+use Rattle.sharc_code.specs.declared.state.Stage.TheVariants.{Clears, FreeClears, Withdraws, WithdrawsFrom, Leaves}
 use Rattle.sharc_code.specs.declared.state.State.{State as PlaceState}
 use Rattle.sharc_code.specs.declared.state.State.TheVariants.{Runs, Tries, Stopped, Ended}
 use Rattle.sharc_code.specs.Layout.{granules, granule_at}
 use Rattle.sharc_code.specs.Machine.{Machine, instr_at, act, exit, withdraws, withdrew, at_stage, row_of, ref}
 use Rattle.sharc_code.specs.Path.{turn, after, may_go}
-use Rattle.sharc_code.specs.Runs.{Turn, Global, MayTurn, after_turn, put, state_now, result_of}
+use Rattle.sharc_code.specs.Runs.{Turn, Global, MayTurn, after_turn, state_now, result_of}
 use Rattle.sharc_code.specs.Whole.{one_thread, bounds}
 use Rattle.sharc_invariant.specs.Bits.{Touch, Untouched, CheckOf, WithdrawOf, cleared_by, freed_by, withdrawn_by, touch_of}
 use Rattle.sharc_invariant.specs.Blocks.{Heap}

@@ -1,5 +1,5 @@
 -- Code in which each check is directly before the access that it is of, and what then comes of checks and of reports.
-use Rattle.std.specs.Prelude.{◌≡◌, ℕ, ◌+◌, ◌⊎◌, Bool, true, false, List, [], ◌∷◌, ◌++◌, Option, Some, None}
+use Rattle.std.specs.Prelude.{◌≡◌, ℕ, ◌+◌, Bool, true, false, List, [], ◌∷◌, ◌++◌, Option, Some, None}
 use Rattle.sharc_tree.specs.declared.event.CellAt.{CellAt}
 use Rattle.sharc_tree.specs.declared.event.CellMode.TheVariants as modes
 use Rattle.sharc_tree.specs.declared.event.SourceEvent.{SourceEvent}
@@ -15,7 +15,7 @@ use Rattle.sharc_code.specs.declared.state.Stop.TheVariants.{NoLock}
 use Rattle.sharc_code.specs.Layout.{Fits}
 use Rattle.sharc_code.specs.Machine.{Machine, instr_at}
 use Rattle.sharc_code.specs.Path.{may_go}
-use Rattle.sharc_code.specs.Runs.{Turn, Global, told_by, turns_of}
+use Rattle.sharc_code.specs.Runs.{Turn, told_by, turns_of}
 use Rattle.sharc_code.specs.Says.{cell_at, mode_of, place_at}
 use Rattle.sharc_code.specs.Whole.{CheckedRun, Erase, one_thread, place_after}
 use Rattle.sharc_meaning.specs.Events.{Access, access_by, events_of, holds_mutex}

@@ -1,5 +1,6 @@
 //! The laws, each the contract of a function that does nothing.
 
+ghost use Rattle.sharc_history_laws.specs.Causes.{AccessReportsBreakRules, NamesAreCauses, ReportsHaveNamed, UnstartedAreBegun};
 ghost use Rattle.sharc_history_laws.specs.Conflicts.{AccessReportsShow, NamedAreChecked, NotesAreOfChecks};
 ghost use Rattle.sharc_history_laws.specs.Followed.{AccessesFollow, LockReportsBreakRules, LockReportsShowAccess};
 ghost use Rattle.sharc_history_laws.specs.History.{HistoriesObey};
@@ -13,6 +14,7 @@ use sharc_code::{run_laws, standing_laws};
 use sharc_code_laws::states_law;
 use sharc_cond::waiters_laws;
 use sharc_invariant::laws::{begins, cells_are_there, keeps, runs_bits, runs_report, state_stands};
+use sharc_shadow::shadow_laws;
 
 /// The path of each thread of each checked run of typed code has consistent results: its references are numbers, Bounds answers the elements of its object,
 /// a New makes no object to which the thread has a reference, and no other thread makes one anew.
@@ -108,4 +110,25 @@ pub fn followed_law()
     begins();
     keeps();
     cells_are_there();
+}
+
+/// Of each thread that has stopped at the check of an access in a checked run of typed code. Where each check of the code is directly before its access:
+/// whatever check of another thread a report may name, by the notes and stops at the end of the run, was made earlier than the one that was refused, of an access
+/// to the same granule of the same object; since then the object had no New, Give or Freed, and that thread did not end; and with the access that was refused
+/// first, behind the other one where that is next, no history that keeps the rules of the modes goes on. And there is a check to name,
+/// of a thread that was started: the others are as they begin.
+pub fn causes_law()
+    ensures causes { NamesAreCauses }
+    ensures rules { AccessReportsBreakRules }
+    ensures named { ReportsHaveNamed }
+    ensures unstarted { UnstartedAreBegun }
+{
+    run_laws();
+    begins();
+    keeps();
+    state_stands();
+    cells_are_there();
+    runs_bits();
+    runs_report();
+    shadow_laws();
 }

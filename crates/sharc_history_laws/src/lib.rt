@@ -7,5 +7,6 @@
 mod laws;
 
 pub use laws::{
-    followed_law, history_law, paths_law, reports_law, starts_law, stores_law, waiters_law,
+    causes_law, followed_law, history_law, paths_law, reports_law, starts_law, stores_law,
+    waiters_law,
 };

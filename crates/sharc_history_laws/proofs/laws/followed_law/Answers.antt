@@ -1,4 +1,4 @@
-use Rattle.std.proofs.Common.{◌≡◌, ℕ, List, [], ◌∷◌, ◌++◌, subst}
+use Rattle.std.proofs.Common.{List, [], ◌∷◌, ◌++◌, subst}
 use Rattle.sharc_code.specs.declared.code.Code.{Code}
 use Rattle.sharc_code.specs.declared.shape.Shape.{Shape}
 use Rattle.sharc_code.specs.Opening.{opening_words}

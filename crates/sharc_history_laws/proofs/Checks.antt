@@ -1,0 +1,174 @@
+-- A turn that is a check: its cell, the bit that it sets, and the access that it is of.
+use Rattle.std.proofs.Common.{◌≡◌, ℕ, ◌+◌, ◌*◌, ◌<◌, Bool, true, false, List, ◌∷◌, Some, None, if◌then◌else◌, refl, sym, ap, ◌∙◌, subst, arith}
+use Rattle.std.specs.Prelude.{nat_lt}
+use Rattle.std.proofs.lemmas.Bool.Decides.{nat_tests}
+use Rattle.sharc_shadow.specs.declared.shadow_word.Kind.{Kind}
+use Rattle.sharc_shadow.specs.declared.shadow_word.Kind.TheVariants.{Read, Write}
+use Rattle.sharc_shadow.specs.ShadowWord.{AddsAccess, is_write}
+use Rattle.sharc_code.specs.declared.code.Code.{Code}
+use Rattle.sharc_code.specs.declared.instr.Cell.{Cell}
+use Rattle.sharc_code.specs.declared.instr.Instr.{Instr}
+use Rattle.sharc_code.specs.declared.shape.Shape.{Shape}
+use Rattle.sharc_code.specs.Layout.{granules, granule_at, granule_of}
+use Rattle.sharc_code.specs.Machine.{Machine, instr_at, place}
+use Rattle.sharc_code.specs.Runs.{Turn, Global, result_of, after_turn}
+use Rattle.sharc_code.specs.Says.{cell_at}
+use Rattle.sharc_code.specs.Whole.{one_thread, bounds, place_after}
+use Rattle.sharc_meaning.specs.Events.{Access}
+use Rattle.sharc_invariant.specs.Bits.{CheckOf}
+use Rattle.sharc_invariant.specs.Labels.{Label, Labels}
+use Rattle.sharc_invariant.specs.MachineInvariant.{IsOn}
+use Rattle.sharc_invariant.specs.Reports.{touch_at}
+use Rattle.sharc_invariant.specs.State.{State, StageStands, OnHold}
+use Rattle.sharc_invariant.specs.Typed.{Fine, HasCell}
+use Rattle.sharc_invariant.specs.Types.{Targets, Field}
+use Rattle.sharc_invariant.specs.World.{World}
+use Rattle.sharc_history_laws.specs.Followed.{Accesses, IsFollowed, ChecksAreFollowed, access_to, access_checked}
+use Rattle.sharc_history_laws.proofs.Consists.{Consists}
+use Rattle.sharc_history_laws.proofs.Doing.{check_of}
+use Rattle.sharc_history_laws.proofs.Followed.{IsCheckBy, OfRead, OfWrite, check_by, accessed_is}
+use Rattle.sharc_history_laws.proofs.Remaining.{word_at, check_bit}
+use Rattle.sharc_history_laws.proofs.Single.{single, rests_hold}
+use Rattle.sharc_history_laws.proofs.Spots.{IsChecked, is_checked}
+use Rattle.sharc_history_laws.proofs.Staying.{StillThere, kept_calm}
+use Rattle.sharc_history_laws.proofs.Tables.{header_of}
+use Rattle.sharc_history_laws.proofs.Acts.{given_at, freed_at}
+use Rattle.sharc_history_laws.proofs.Wholes.{TheLaws, Typed, RunOf, Whole, whole, whole_next, fresh_of}
+
+granule_low : (s : Shape) (g : ℕ) → granule_at s g < granules s
+granule_low s g = elim (nat_lt g (granules s)) as (λ b. nat_lt g (granules s) ≡ b → (if b then g else 0) < granules s) [
+  | true ↦ λ e. grind (arith, nat_tests)
+  | false ↦ λ e. omega arith
+] refl
+
+-- the cell of a check
+pub record CheckCell (code : Code) (s : Shape) (g : Global Machine) (one : Turn) (kind : Kind) (p : ℕ) : Type 0 where
+  pub cell : Cell
+  pub site : ℕ
+  pub at : instr_at code (g.threads one.thread).at.pc ≡ check_of kind cell site
+  pub granule : p ≡ granule_at s (granule_of (place (g.threads one.thread) cell))
+  pub low : p < granules s
+
+pub check_cell : (code : Code) (s : Shape) (g : Global Machine) (one : Turn) (kind : Kind) (p : ℕ) (ok : Bool) → touch_at code s g one ≡ CheckOf kind p ok → CheckCell code s g one kind p
+check_cell code s g one kind p ok touch = by (check_by s i m (result_of one.event) m' kind p ok touch)
+  where
+    m : Machine
+    m = g.threads one.thread
+
+    i : Instr
+    i = instr_at code (g.threads one.thread).at.pc
+
+    m' : Machine
+    m' = (after_turn bounds (one_thread code s) g one).threads one.thread
+
+    low : (c : Cell) → p ≡ granule_at s (granule_of (place (g.threads one.thread) c)) → p < granules s
+    low c e = subst (λ n. n < granules s) (sym e) (granule_low s (granule_of (place (g.threads one.thread) c)))
+
+    by : IsCheckBy s (g.threads one.thread) ((after_turn bounds (one_thread code s) g one).threads one.thread) kind p ok (instr_at code (g.threads one.thread).at.pc) → CheckCell code s g one kind p
+    by (OfRead c site is kind_is granule goes) = record { cell = c; site = site; at = is ∙ ap (λ k. check_of k c site) (sym kind_is); granule = granule; low = low c granule }
+    by (OfWrite c site is kind_is granule goes) = record { cell = c; site = site; at = is ∙ ap (λ k. check_of k c site) (sym kind_is); granule = granule; low = low c granule }
+
+calm_header : (kind : Kind) (c : Cell) (site : ℕ) (m : Machine) → header_of (check_of kind c site) m.own.stage ≡ None
+calm_header Read c site m = refl
+calm_header Write c site m = refl
+
+calm_given : (kind : Kind) (c : Cell) (site : ℕ) (m : Machine) → given_at (check_of kind c site) m ≡ None
+calm_given Read c site m = refl
+calm_given Write c site m = refl
+
+calm_freed : (kind : Kind) (c : Cell) (site : ℕ) (m : Machine) → freed_at (check_of kind c site) m ≡ None
+calm_freed Read c site m = refl
+calm_freed Write c site m = refl
+
+is_single : (kind : Kind) (c : Cell) (site : ℕ) → single (check_of kind c site) ≡ true
+is_single Read c site = refl
+is_single Write c site = refl
+
+module _ (laws : TheLaws) (x : Targets) (code : Code) (s : Shape) (ls : Labels) (typed : Typed x code s ls) (one : Turn) (earlier : List Turn) (kind : Kind) (p : ℕ) (k : CheckCell code s (place_after code s earlier) one kind p) where
+  abbrev g : Global Machine
+  g = place_after code s earlier
+
+  abbrev t : ℕ
+  t = one.thread
+
+  abbrev m : Machine
+  m = (place_after code s earlier).threads one.thread
+
+  abbrev i : Instr
+  i = instr_at code ((place_after code s earlier).threads one.thread).at.pc
+
+  abbrev here : Label
+  here = ls.at ((place_after code s earlier).threads one.thread).at.pc
+
+  -- the access that it is of
+  pub cell_of_access : ChecksAreFollowed code → (a : Access) → access_checked code ((place_after code s earlier).threads one.thread) ≡ Some a → a.cell ≡ cell_at code ((place_after code s earlier).threads one.thread) k.cell
+  cell_of_access followed a is = by kind (subst (λ j. IsFollowed code j (instr_at code (m.at.pc + 1))) k.at (followed m.at.pc))
+    where
+      same : (write : Bool) → Accesses write k.cell k.site (instr_at code (((place_after code s earlier).threads one.thread).at.pc + 1)) → a.cell ≡ cell_at code ((place_after code s earlier).threads one.thread) k.cell
+      same write f =
+          let both : Some a ≡ Some (access_to code m k.cell k.site write) = sym is ∙ accessed_is code m k.cell k.site write (instr_at code (m.at.pc + 1)) f in
+          let e : a ≡ access_to code m k.cell k.site write = cc in
+          ap (λ (y : Access). y.cell) e
+
+      by : (kind : Kind) → IsFollowed code (check_of kind k.cell k.site) (instr_at code (((place_after code s earlier).threads one.thread).at.pc + 1)) → a.cell ≡ cell_at code ((place_after code s earlier).threads one.thread) k.cell
+      by Read f = same false f.1
+      by Write f = same true f.1
+
+  pub write_of_access : ChecksAreFollowed code → (a : Access) → access_checked code ((place_after code s earlier).threads one.thread) ≡ Some a → a.is_write ≡ is_write kind
+  write_of_access followed a is = by kind (subst (λ j. IsFollowed code j (instr_at code (m.at.pc + 1))) k.at (followed m.at.pc))
+    where
+      same : (write : Bool) → Accesses write k.cell k.site (instr_at code (((place_after code s earlier).threads one.thread).at.pc + 1)) → a.is_write ≡ write
+      same write f =
+          let both : Some a ≡ Some (access_to code m k.cell k.site write) = sym is ∙ accessed_is code m k.cell k.site write (instr_at code (m.at.pc + 1)) f in
+          let e : a ≡ access_to code m k.cell k.site write = cc in
+          ap (λ (y : Access). y.is_write) e
+
+      by : (kind : Kind) → IsFollowed code (check_of kind k.cell k.site) (instr_at code (((place_after code s earlier).threads one.thread).at.pc + 1)) → a.is_write ≡ is_write kind
+      by Read f = same false f.1
+      by Write f = same true f.1
+
+  -- in a run
+  module _ (run : RunOf code s (one ∷ earlier)) where
+    abbrev w : Whole x code s ls earlier
+    w = whole laws x code s ls typed earlier run.0
+
+    abbrev world : World
+    world = (whole laws x code s ls typed earlier run.0).consists.world
+
+    abbrev st : State x code s ls (place_after code s earlier) (whole laws x code s ls typed earlier run.0).consists.world
+    st = (whole laws x code s ls typed earlier run.0).consists.state
+
+    pub on : IsOn (place_after code s earlier) one.thread
+    on = (run.1.started, run.1.next.runs)
+
+    fresh : ((place_after code s earlier).threads one.thread).own.stop ≡ None
+    fresh = fresh_of laws x code s ls typed one earlier run w.halting
+
+    has_cell : (f : Field) × HasCell x code here k.cell f
+    has_cell = by kind (subst (Fine x code ls m.at.pc (ls.at m.at.pc)) k.at (typed.wt.fine m.at.pc))
+      where
+        by : (kind : Kind) → Fine x code ls ((place_after code s earlier).threads one.thread).at.pc here (check_of kind k.cell k.site) → (f : Field) × HasCell x code here k.cell f
+        by Read f = (f.1.0, f.1.1)
+        by Write f = (f.1.0, f.1.1)
+
+    pub hold : OnHold ((place_after code s earlier).threads one.thread).own.stage
+    hold = rests_hold code s st.elements world st.heap g.words t m (check_of kind k.cell k.site) m.own.stage (is_single kind k.cell k.site)
+        (subst (λ i. StageStands code s st.elements world st.heap g.words t m i m.own.stage) k.at ((st.threads t).runs on.0 on.1).stage)
+
+    pub checked_here : IsChecked x code s ls typed.wt typed.fits (place_after code s earlier) (whole laws x code s ls typed earlier run.0).consists.world (whole laws x code s ls typed earlier run.0).consists.state one.thread on hold laws.cells k.cell p
+    checked_here = is_checked x code s ls typed.wt typed.fits g world st t on hold laws.cells k.cell has_cell.0 has_cell.1 p k.granule
+
+    -- the bit that it sets
+    pub adds : (ok : Bool) → touch_at code s (place_after code s earlier) one ≡ CheckOf kind p ok → AddsAccess (word_at (place_after code s earlier) p) (word_at (place_after code s (one ∷ earlier)) p) one.thread kind
+    adds ok touch = check_bit laws.shadow laws.cells x code s ls typed.wt typed.fits g world st one run.1 fresh w.remains kind p ok k.low touch
+
+    -- its object is there behind it
+    pub there_then : (o j : ℕ) (live : (world.obj o).live ≡ true) (inside : 2 * j < st.cells o) → StillThere laws x code s ls typed one earlier run w o j live inside
+    there_then o j live inside = kept_calm laws x code s ls typed one earlier run w o j live inside
+        (ap (λ j. header_of j m.own.stage) k.at ∙ calm_header kind k.cell k.site m) (ap (λ j. given_at j m) k.at ∙ calm_given kind k.cell k.site m) (ap (λ j. freed_at j m) k.at ∙ calm_freed kind k.cell k.site m)
+
+    pub live_then : (o j : ℕ) → (world.obj o).live ≡ true → 2 * j < st.cells o → ((whole laws x code s ls typed (one ∷ earlier) run).consists.world.obj o).live ≡ true
+    live_then o j live inside = subst (λ (h : Consists x code s ls (one ∷ earlier)). (h.world.obj o).live ≡ true) (sym (whole_next laws x code s ls typed one earlier run)) (there_then o j live inside).is_live
+
+    pub inside_then : (o j : ℕ) → (world.obj o).live ≡ true → 2 * j < st.cells o → 2 * j < (whole laws x code s ls typed (one ∷ earlier) run).consists.state.cells o
+    inside_then o j live inside = subst (λ (h : Consists x code s ls (one ∷ earlier)). 2 * j < h.state.cells o) (sym (whole_next laws x code s ls typed one earlier run)) (there_then o j live inside).is_inside
