@@ -297,6 +297,21 @@ int locked(y->m) * k = p;
 input:3: M1 mode mismatch: expected int locked(y->m) *, found int private *
 input:3: suggest SCAST(int locked(y->m) *, p)
 input:4: M1 mode mismatch: expected int locked(y->m) *, found int private *
+==
+struct w { mutex wait; };
+void r(struct w dynamic * y, int private * p) {
+int locked(y->wait) * k = p; }
+--
+input:4: M1 mode mismatch: expected int locked(y->wait) *, found int private *
+input:4: suggest SCAST(int locked(y->wait) *, p)
+==
+void r(struct s dynamic * y, int locked(wait) * private * q) {
+int locked(wait) * locked(y->m) * k = q; }
+--
+input:2: M4 lock path wait is not constant
+input:3: M4 lock path wait is not constant
+input:3: M1 mode mismatch: expected int locked(wait) * locked(y->m) *, found int locked(wait) * private *
+input:3: suggest SCAST(int locked(wait) * locked(y->m) *, q)
 ";
 
 #[test]

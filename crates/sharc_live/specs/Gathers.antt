@@ -1,4 +1,4 @@
--- Warnings, function by function.
+-- Warnings, function by function. It retraces the code.
 use Rattle.std.specs.Prelude.{ℕ, List, Contains, ◌⊎◌}
 use Rattle.sharc_tree.specs.Tree.{Function}
 use Rattle.sharc_ctype.specs.Resolved.{Resolution}

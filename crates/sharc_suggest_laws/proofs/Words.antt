@@ -1,12 +1,12 @@
 -- Which tokens begin a path with a known call: the word `locked` stands two before one, and no name does.
-use Rattle.std.proofs.Common.{◌≡◌, ◌⊎◌, inl, inr, ⊎_elim, ℕ, zero, suc, ◌+◌, ◌-◌, ◌≤◌, ◌&&◌, Bool, true, false, List, [], ◌∷◌, ◌++◌, length, get_or, Contains, Option, Some, None, slice_get, bytes_eq, refl, ap, sym, subst, ◌∙◌, arith}
+use Rattle.std.proofs.Common.{◌≡◌, ◌⊎◌, inl, inr, ⊎_elim, ℕ, zero, suc, ◌+◌, ◌-◌, ◌≤◌, ◌&&◌, Bool, true, false, List, [], ◌∷◌, ◌++◌, Contains, Option, Some, None, slice_get, refl, ap, sym, subst, ◌∙◌, arith}
 use Rattle.std.proofs.lemmas.Bool.{false≢true, and_parts}
 use Rattle.sharc_tree.specs.declared.token.Keyword.{Keyword}
 use Rattle.sharc_tree.specs.declared.token.Keyword.TheVariants.{Scast}
 use Rattle.sharc_tree.specs.declared.token.Token.{Token}
 use Rattle.sharc_tree.specs.declared.token.TokenKind.{TokenKind}
 use Rattle.sharc_tree.specs.declared.token.TokenKind.TheVariants as kind
-use Rattle.sharc_tree.specs.Marks.{Mark, a_name, a_cast, keyword_marks, kind_marks, marks_from, items_marks}
+use Rattle.sharc_tree.specs.Marks.{Mark, keyword_marks, kind_marks, marks_from, items_marks}
 use Rattle.sharc_ctype.specs.Reaches.{name_tokens}
 use Rattle.sharc_ctype.specs.Resolved.{Resolution}
 use Rattle.sharc_mode.specs.Sharings.{text_of, text_at}
