@@ -1,4 +1,5 @@
 mod Behind
+mod Held
 mod Lines
 mod Percents
 mod Unsigned

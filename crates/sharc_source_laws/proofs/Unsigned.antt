@@ -1,11 +1,15 @@
--- No number in a token has a sign, and so none at which a global begins.
-use Rattle.std.proofs.Common.{◌≡◌, ℕ, zero, suc, ◌+◌, ◌-◌, ◌==◌, Bool, true, false, List, [], ◌∷◌, ◌++◌, take, drop, Option, Some, None, Result, Ok, Err, ok_or, refl, sym, subst, if◌then◌else◌}
+-- No number in a token has a sign, and its type holds it, as that of a character does.
+use Rattle.std.proofs.Common.{◌≡◌, ℕ, pos, zero, suc, ◌+◌, ◌-◌, ◌==◌, Bool, true, false, List, [], ◌∷◌, ◌++◌, take, drop, Option, Some, None, Result, Ok, Err, ok_or, refl, sym, subst, arith, if◌then◌else◌}
 use Rattle.std.specs.Prelude.{option_map, slice_get, nat_le, nat_lt, ◌^◌, unwrap_or, length, nat_eq}
+use Rattle.std.specs.Prelude.{◌||◌, ◌&&◌, not, ◌<◌}
+use Rattle.std.proofs.lemmas.Bool.Decides.{nat_tests}
 use Rattle.std.specs.Str.{bytes_eq}
 use Rattle.std.specs.List.{starts_with, prefix_len}
-use Rattle.sharc_ctype.specs.Resolved.{globals_in}
+use Rattle.sharc_ctype.specs.Resolved.{globals_in, functions_in}
 use Rattle.sharc_tree.specs.declared.token.FaultAt.{FaultAt}
+use Rattle.sharc_tree.specs.declared.token.NumberType.TheVariants.{Int, Long}
 use Rattle.sharc_tree.specs.declared.token.Token.{Token}
+use Rattle.sharc_tree.specs.declared.tree.expression.Constant.TheVariants as constants
 use Rattle.sharc_tree.specs.declared.token.Tokens.{Tokens}
 use Rattle.sharc_tree.specs.declared.token.TokenKind.{TokenKind}
 use Rattle.sharc_tree.specs.declared.token.TokenKind.TheVariants as kind
@@ -14,16 +18,18 @@ use Rattle.sharc_lex.specs.declared.fault.Fault.TheVariants as fault
 use Rattle.sharc_lex.specs.declared.fault.LineFault.{LineFault}
 use Rattle.sharc_lex.specs.declared.fault.Place.{Place}
 use Rattle.sharc_lex.specs.declared.token_at.Lexeme.{Lexeme}
-use Rattle.sharc_lex.specs.Bytes.{is_blank, is_letter, is_digit, is_white_space, is_word_byte}
-use Rattle.sharc_lex.specs.Characters.{character, constant, behind_backslash, plain}
+use Rattle.sharc_lex.specs.Bytes.{is_blank, is_printable, is_letter, is_digit, is_white_space, is_word_byte}
+use Rattle.sharc_lex.specs.Characters.{character, constant, escaped, behind_backslash, plain}
 use Rattle.sharc_lex.specs.Grammar.{◌>>=◌, at_offset, lines_of, token, tokens_of, behind_tokens, Read, opening, marked, with_tokens, marker_line, text_line, line_read, with_place, lines_read, tokens_read, reading}
 use Rattle.sharc_lex.specs.Markers.{is_marker_line, marker}
-use Rattle.sharc_lex.specs.Numbers.{value, without_suffix, typed, small_value}
+use Rattle.sharc_lex.specs.Numbers.{value, without_suffix, has_suffix, typed, small_value}
 use Rattle.sharc_lex.specs.Punctuators.{first_begun, punctuators, punctuator}
 use Rattle.sharc_lex.specs.TokenAt.{of_len, word_at, number_at, token_at}
 use Rattle.sharc_lex.specs.Words.{entry_at, keywords, word}
 use Rattle.sharc_grammar.specs.Places.{kind_word, words_of, site_in}
+use Rattle.sharc_source_laws.specs.Constants.{IsHeld, ConstantsAreHeld}
 use Rattle.sharc_source_laws.specs.Laws.{NumbersHaveNoSign}
+use Rattle.sharc_source_laws.proofs.Held.{functions_held}
 use Rattle.sharc_source_laws.proofs.Behind.{IsPlainWord, Plainly, globals_begin, begins_unsigned}
 
 -- ---- one token
@@ -61,6 +67,7 @@ begun_plain (x ∷ xs) bytes e h = either (starts_with nat_eq bytes x.0) (begun_
 -- a kind that is no number has none
 abbrev is_other : TokenKind → Bool
 is_other (kind.Number n) = false
+is_other (kind.Character b) = false
 is_other _ = true
 
 abbrev are_other : List (List ℕ × TokenKind) → Bool
@@ -71,7 +78,7 @@ other_plain : (k : TokenKind) → is_other k ≡ true → IsPlainKind k
 other_plain (kind.Number n) h = absurd (let e : false ≡ true = h in cc)
 other_plain (kind.Keyword k) h = λ text. tt
 other_plain kind.Identifier h = λ text. tt
-other_plain (kind.Character c) h = λ text. tt
+other_plain (kind.Character c) h = absurd (let e : false ≡ true = h in cc)
 other_plain (kind.Punctuator p) h = λ text. tt
 other_plain kind.LeftOut h = λ text. tt
 
@@ -98,25 +105,82 @@ word_plain len text = either (nat_le (length text) 64)
     either true = chosen (entry_at keywords text) (entry_plain keywords text keywords_plain)
     either false = tt
 
+-- a number that the lexer types
+typed_held : (text : List ℕ) (v : ℕ) → nat_lt v (2 ^ 63) ≡ true → IsHeld (constants.Number (typed text v))
+typed_held text v small = by (has_suffix text || nat_lt 2147483647 v) refl
+  where
+    below : (s : Bool) → (s || nat_lt 2147483647 v) ≡ false → nat_lt v (2 ^ 31) ≡ true
+    below true e = absurd (let z : true ≡ false = e in cc)
+    below false e = grind (arith, nat_tests)
+
+    by : (b : Bool) → (has_suffix text || nat_lt 2147483647 v) ≡ b → IsHeld (constants.Number (record { value = pos v; number_type = if b then Long else Int }))
+    by true e = λ integer. small
+    by false e = λ integer. below (has_suffix text) e
+
 number_plain : (len : ℕ) (text : List ℕ) (e : Fault) (o : Option ℕ) → WhereFound (of_len len (ok_or (option_map kind.Number (option_map (typed text) (small_value o))) e))
 number_plain len text e None = tt
-number_plain len text e (Some v) = either (nat_lt v (2 ^ 63))
+number_plain len text e (Some v) = either (nat_lt v (2 ^ 63)) refl
   where
-    either : (b : Bool) → WhereFound (of_len len (ok_or (option_map kind.Number (option_map (typed text) (if b then Some v else None))) e))
-    either true = λ any. (v, refl)
-    either false = tt
+    either : (b : Bool) → nat_lt v (2 ^ 63) ≡ b → WhereFound (of_len len (ok_or (option_map kind.Number (option_map (typed text) (if b then Some v else None))) e))
+    either true small = λ any. ((v, refl), typed_held text v small)
+    either false small = tt
+
+-- a character
+low_held : (b : ℕ) → b < 128 → IsHeld (constants.Character b)
+low_held b lt = λ integer. below b lt
+  where
+    below : (b : ℕ) → b < 128 → nat_lt b (2 ^ 31) ≡ true
+    below b lt = grind (arith, nat_tests)
+
+abbrev IsLow : Option ℕ → Type 0
+IsLow None = Unit {0}
+IsLow (Some b) = b < 128
+
+made_plain : (n : ℕ) (e : Fault) (o : Option ℕ) → IsLow o → WhereFound (ok_or (option_map (constant n) o) e)
+made_plain n e None h = tt
+made_plain n e (Some b) h = λ text. low_held b h
+
+choose_low : (b : Bool) (x y : Option ℕ) → IsLow x → IsLow y → IsLow (if b then x else y)
+choose_low true x y h k = h
+choose_low false x y h k = k
+
+escaped_low : (b : ℕ) → IsLow (escaped b)
+escaped_low b =
+    choose_low (b == 110) _ _ (omega arith) (choose_low (b == 116) _ _ (omega arith) (choose_low (b == 114) _ _ (omega arith) (choose_low (b == 48) _ _ (omega arith)
+    (choose_low (b == 92) _ _ (omega arith) (choose_low (b == 39) _ _ (omega arith) (choose_low (b == 34) _ _ (omega arith) tt))))))
+
+behind_backslash_low : (bytes : List ℕ) → IsLow (behind_backslash bytes)
+behind_backslash_low [] = tt
+behind_backslash_low (e ∷ []) = tt
+behind_backslash_low (e ∷ (quote ∷ bytes)) = choose_low (quote == 39) _ _ (escaped_low e) tt
+
+plain_low : (bytes : List ℕ) → IsLow (plain bytes)
+plain_low [] = tt
+plain_low (b ∷ []) = tt
+plain_low (b ∷ (quote ∷ bytes)) = by (is_printable b && not (b == 39) && (quote == 39)) refl
+  where
+    printable : (p q r : Bool) → (p && q && r) ≡ true → p ≡ true
+    printable true q r e = refl
+    printable false q r e = absurd (let z : false ≡ true = e in cc)
+
+    low : is_printable b ≡ true → b < 128
+    low e = above (nat_le 32 b) e
+      where
+        above : (p : Bool) → (p && nat_le b 126) ≡ true → b < 128
+        above true e = grind (arith, nat_tests)
+        above false e = absurd (let z : false ≡ true = e in cc)
+
+    by : (p : Bool) → (is_printable b && not (b == 39) && (quote == 39)) ≡ p → IsLow (if p then Some b else None)
+    by true e = low (printable (is_printable b) (not (b == 39)) (quote == 39) e)
+    by false e = tt
 
 character_plain : (bytes : List ℕ) (e : Fault) → WhereFound (ok_or (character bytes) e)
 character_plain [] e = tt
 character_plain (b ∷ bytes) e = either (b == 92)
   where
-    made : (n : ℕ) (o : Option ℕ) → WhereFound (ok_or (option_map (constant n) o) e)
-    made n None = tt
-    made n (Some c) = λ text. tt
-
     either : (q : Bool) → WhereFound (ok_or (if q then option_map (constant 4) (behind_backslash bytes) else option_map (constant 3) (plain (b ∷ bytes))) e)
-    either true = made 4 (behind_backslash bytes)
-    either false = made 3 (plain (b ∷ bytes))
+    either true = made_plain 4 e (behind_backslash bytes) (behind_backslash_low bytes)
+    either false = made_plain 3 e (plain (b ∷ bytes)) (plain_low (b ∷ bytes))
 
 token_plain : (b : ℕ) (bytes : List ℕ) → WhereFound (token_at b bytes)
 token_plain b bytes = letter (is_letter b)
@@ -201,8 +265,15 @@ read_plain : (source : List ℕ) → Plainly (words_of (list_of (reading source)
 unfolding reading
 read_plain source = listed_plain (lines_read opening 0 (lines_of source)) (lines_plain (lines_of source) opening tt 0)
 
+-- so it is of all words of a program
+plain_words : (source : List ℕ) (tokens : Tokens) → reading source ≡ Ok tokens → Plainly (words_of tokens.list)
+plain_words source tokens read = subst (λ r. Plainly (words_of (list_of r))) read (read_plain source)
+
 pub no_signs : NumbersHaveNoSign
 no_signs source tokens p read reads g d is span minus k form =
-    let plainly : Plainly (words_of tokens.list) = subst (λ r. Plainly (words_of (list_of r))) read (read_plain source) in
-    let all = globals_begin (site_in tokens.list) reads.phrases 0 (subst Plainly (sym reads.spelled) plainly) in
+    let all = globals_begin (site_in tokens.list) reads.phrases 0 (subst Plainly (sym reads.spelled) (plain_words source tokens read)) in
     begins_unsigned d.form (all g d (subst (λ items. slice_get (globals_in items) g ≡ Some d) reads.placed is)) span minus k form
+
+pub constants_held : ConstantsAreHeld
+constants_held source tokens p read reads n f is =
+    functions_held (site_in tokens.list) reads.phrases 0 (subst Plainly (sym reads.spelled) (plain_words source tokens read)) n f (subst (λ items. slice_get (functions_in items) n ≡ Some f) reads.placed is)
