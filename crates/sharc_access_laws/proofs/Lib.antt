@@ -1,4 +1,5 @@
 pub mod Cells
+pub mod Grounds
 pub mod Joining
 pub mod Modes
 pub mod Pointing

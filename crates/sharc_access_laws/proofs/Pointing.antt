@@ -138,6 +138,17 @@ module _ (c : Context) (code : Code) (y : Typing) (f : ℕ) (e : Expression) (lv
       })
   known_base t here (of_global _ g n at w) p leads = absurd (none_some p (sym (no_pointer c.program.typed None e g n (subst (λ z. IsOfGlobal z g n) (sym here) at)) ∙ leads))
 
+-- it has modes
+pub has_pointer_modes : (c : Context) (code : Code) (e : Expression) → IsCellLvalue c.program e → NamesCell c.program e (target c.program.typed None e) → (p : Expression) → pointer_of c.program.typed e ≡ Some p → (modes : List Sharing) × (modes_at c.program p ≡ Some modes)
+has_pointer_modes c code e lvalue cell p leads = by (target c.program.typed None e) refl cell
+  where
+    by : (t : Target) → target c.program.typed None e ≡ t → NamesCell c.program e t → (modes : List Sharing) × (modes_at c.program p ≡ Some modes)
+    by t here (no_cell _ no_object no_global) = absurd (nothing_else t (λ x is. lvalue.no_variable x (here ∙ is)) no_object no_global)
+    by t here (of_object _ n at w) =
+        let same : w.pointer ≡ p = same_some w.pointer p (sym w.leads ∙ leads) in
+        (modes_of c.program w.row, ap (modes_at c.program) (sym same) ∙ ap (option_map (modes_of c.program)) w.row_is)
+    by t here (of_global _ g n at w) = absurd (none_some p (sym (no_pointer c.program.typed None e g n (subst (λ z. IsOfGlobal z g n) (sym here) at)) ∙ leads))
+
 reference_gated : (q : Label) (g : Gate) (a b : ℕ) → SameReference q a b → SameReference (gated q g) a b
 reference_gated q g a b (Itself h) = Itself h
 reference_gated q g a b (IsCopy h) = IsCopy h

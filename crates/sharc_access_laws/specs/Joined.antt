@@ -20,10 +20,11 @@ use Rattle.sharc_flat.specs.Places.{in_global_at, has_base, target, cell_of, bes
 use Rattle.sharc_invariant.specs.Types.{MutexWord, cells_of, field_at}
 use Rattle.sharc_invariant.specs.Labels.{Element, Label, Signature, SameReference}
 use Rattle.sharc_invariant.specs.Typed.{IsRef, refs_in}
-use Rattle.sharc_labels_laws.specs.Stretches.{Setting}
+use Rattle.sharc_labels_laws.specs.Stretches.{Way, Setting}
 use Rattle.sharc_labels_laws.specs.Premises.{Typing, Ground, IsPlaced, ThroughGuard, ReachesInteger, ReachesReference, HasMutex}
+use Rattle.sharc_labels_laws.specs.Typable.{ground_of}
 use Rattle.sharc_static_laws.specs.Alone.{IsInside}
-use Rattle.sharc_static_laws.specs.Static.{register, variable_type, static_of}
+use Rattle.sharc_static_laws.specs.Static.{register, variable_type, static_of, entry_of}
 use Rattle.sharc_target_laws.specs.Lvalues.{pointer_of}
 use Rattle.sharc_target_laws.specs.Targets.{targets_of}
 use Rattle.sharc_access_laws.specs.Accesses.{modes_behind, base_type, cells_in_each, IsCellLvalue, IsCodeOf}
@@ -95,3 +96,8 @@ MutexesFit = (c : Context) (code : Code) → IsCodeOf c code → (signature : �
     → (ground : Ground) → IsGroundOf c e ground → kind_at c.program.typed e ≡ mutex → (element : Element) (i r : ℕ) (q : Label)
     → IsPlaced y c f (target c.program.typed None e) None ground element i r q → IsWellPlaced c code e r q
     → HasMutex (setting c code signature starts lines) q (cell_of c.globals i r (target c.program.typed None e))
+
+-- What sharc_labels_laws reads off an lvalue is so, where the entries are those of the source.
+abbrev pub GroundsFit : Type 0
+GroundsFit = (c : Context) (code : Code) → IsCodeOf c code → (z : Setting) (f : ℕ) (ways : List Way) (y : Typing) → ((p : Expression) → y.entry c p ≡ entry_of c p) → (e : Expression) → IsCellLvalue c.program e
+    → AllByRecursion (IsExpression c.program) (expressions e) → IsGroundOf c e (ground_of z f ways y c e)

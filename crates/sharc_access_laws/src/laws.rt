@@ -1,11 +1,13 @@
 // The laws, each the contract of a function that does nothing.
 
 ghost use Rattle.sharc_access_laws.specs.Accesses.{CellsStand, AccessesFit, GuardsFit};
-ghost use Rattle.sharc_access_laws.specs.Joined.{IntegersFit, ReferencesFit, MutexesFit};
+ghost use Rattle.sharc_access_laws.specs.Joined.{IntegersFit, ReferencesFit, MutexesFit, GroundsFit};
 
 use sharc_ctype_laws::laws::meets_globals;
 use sharc_static_laws::laws::{places_point, scope_laws};
-use sharc_target_laws::laws::{expressions_found, globals_are, locks_stand_beside, lvalues_fit};
+use sharc_target_laws::laws::{
+    arrays_fit, expressions_found, globals_are, locks_stand_beside, lvalues_fit,
+};
 
 /// Where the registers have what an lvalue names, its cell is there, with what the lvalue's type says in it, under its mode.
 pub fn cells_stand()
@@ -70,4 +72,12 @@ pub fn mutexes_fit()
     accesses_fit();
     guards_fit();
     scope_laws();
+}
+
+/// The base, the cells and the elements that sharc_labels_laws reads off an lvalue are those of the source.
+pub fn grounds_fit()
+    ensures { GroundsFit }
+{
+    lvalues_fit();
+    arrays_fit();
 }

@@ -449,15 +449,15 @@ module _ (m : Assignment) (ready : AreReady m) where
   within_parentheses s a _ (of_global t g n is w) = of_global t g n is (record { global = w.global; defined = w.defined; inside = w.inside; fits = field_within s a n [] _ w.fits })
 
   -- ---- global arrays
-  record IsArrayBase (a : Expression) (b : Base) (n : ℕ) : Type 0 where
-    number : ℕ
-    global : GlobalDefinition
-    at : global_at r number ≡ Some global
-    place : target r None a ≡ in_global number 0
-    cell : cell_at m a ≡ global_cell m (Some global)
-    row : row_at r a ≡ Some (declared_row r written global.declaration.name.site.token)
-    declared_is : declared_kind global.declaration.written ≡ object b n
-    told : cell_locks m a ≡ field_locks r 0 (modes_of m (declared_row r written global.declaration.name.site.token))
+  pub record IsArrayBase (a : Expression) (b : Base) (n : ℕ) : Type 0 where
+    pub number : ℕ
+    pub global : GlobalDefinition
+    pub at : global_at r number ≡ Some global
+    pub place : target r None a ≡ in_global number 0
+    pub cell : cell_at m a ≡ global_cell m (Some global)
+    pub row : row_at r a ≡ Some (declared_row r written global.declaration.name.site.token)
+    pub declared_is : declared_kind global.declaration.written ≡ object b n
+    pub told : cell_locks m a ≡ field_locks r 0 (modes_of m (declared_row r written global.declaration.name.site.token))
 
   no_array : (c b : Base) (k n : ℕ) → object c k ≡ array b n → ⊥
   no_array c b k n h = cc
@@ -494,7 +494,7 @@ module _ (m : Assignment) (ready : AreReady m) where
   told_global : (i n : ℕ) (g : GlobalDefinition) → named_at r i ≡ named.Global n → global_at r n ≡ Some g → named_locks m 0 (named_at r i) ≡ field_locks r 0 (modes_of m (declared_row r written g.declaration.name.site.token))
   told_global i n g names at = ap (named_locks m 0) names ∙ ap (λ o. field_locks r 0 (modes_of m (global_row r written o))) at
 
-  array_base : (a : Expression) (k : Kind) → HasType r a k → (b : Base) (n : ℕ) → k ≡ array b n → IsArrayBase a b n
+  pub array_base : (a : Expression) (k : Kind) → HasType r a k → (b : Base) (n : ℕ) → k ≡ array b n → IsArrayBase a b n
   array_base _ _ (typing.a_variable names at text) b n is = absurd (no_array _ b _ n is)
   array_base _ _ (typing.a_global {s} {i} {n} {g} names at text) b k is =
       record { number = n; global = g; at = at; place = global_names i.site.token n None names; cell = cell_of_global i.site.token n g names at; row = row_of_global i.site.token n g names at; declared_is = by g.form is; told = told_global i.site.token n g names at }

@@ -13,24 +13,27 @@ use Rattle.sharc_tree.specs.declared.tree.declaration.WrittenType.{WrittenType}
 use Rattle.sharc_tree.specs.declared.tree.item.GlobalDefinition.{GlobalDefinition}
 use Rattle.sharc_tree.specs.declared.tree.item.StructDefinition.{StructDefinition}
 use Rattle.sharc_tree.specs.Low.{IsLow}
+use Rattle.sharc_tree.specs.Placed.{IsPlaced}
 use Rattle.sharc_tree.specs.Measures.{in_function}
 use Rattle.sharc_names.specs.declared.fault.Named.TheVariants as named
 use Rattle.sharc_names.specs.declared.types.Role.{Role}
 use Rattle.sharc_names.specs.declared.types.Role.TheVariants as role
-use Rattle.sharc_names.specs.Kinds.{object, is_struct_base, is_struct_behind, mutex}
+use Rattle.sharc_names.specs.Kinds.{Kind, object, array, is_array, element_kind, is_struct_base, is_struct_behind, mutex}
+use Rattle.sharc_names.specs.Kinds as kinds
 use Rattle.sharc_names.specs.Names.{field_of}
 use Rattle.sharc_names.specs.Types.{is_allowed, allowed_there}
 use Rattle.sharc_ctype.specs.declared.entity.Entity.{Entity}
 use Rattle.sharc_ctype.specs.declared.entity.Numbered.{Numbered}
 use Rattle.sharc_ctype.specs.Entities.{declared, entities_in, entity_at, positions_of, written_modes, first_depth}
-use Rattle.sharc_ctype.specs.Resolved.{Resolution, named_at, kind_at, global_at, structs_in, globals_in, functions_in, named_kind}
+use Rattle.sharc_ctype.specs.Resolved.{Resolution, IsResolved, named_at, kind_at, global_at, structs_in, globals_in, functions_in, named_kind}
 use Rattle.sharc_ctype_laws.specs.Constraints.{HasType}
 use Rattle.sharc_ctype_laws.specs.Declared.{IsItself}
 use Rattle.sharc_ctype_laws.specs.Found.{EachTypeFound}
 use Rattle.sharc_ctype_laws.specs.Laws.{EachNameOnce, OnlyNames, EachNamesItself, MeetsConstraints, OneType}
 use Rattle.sharc_graph.specs.declared.graph.Finding.TheVariants.{Apart, Source, Behind}
 use Rattle.sharc_mode.specs.Cells.{top_of, first_mode, global_cell}
-use Rattle.sharc_mode.specs.Flows.{mode_found}
+use Rattle.sharc_mode.specs.Flows.{IsLeastAssignment, mode_found}
+use Rattle.sharc_mode.specs.WellModed.{WellModed}
 use Rattle.sharc_mode.specs.Moded.{Assignment}
 use Rattle.sharc_mode.specs.Rows.{Reading, written, targets_from, entity_row, modes_of}
 use Rattle.sharc_mode.specs.Settled.{otherwise_of}
@@ -40,14 +43,14 @@ use Rattle.sharc_mode.specs.declared.place.Place.TheVariants as place
 use Rattle.sharc_mode_laws.specs.Constructs.{IsExpression, IsWritten}
 use Rattle.sharc_mode_laws.specs.Laws.{RulesAreMet}
 use Rattle.sharc_mode_laws.specs.Paths.{IsAllowed, global_mutex, sibling_mutex, sibling_pointer, through_constant}
-use Rattle.sharc_target_laws.specs.Lvalues.{LvaluesFit}
+use Rattle.sharc_target_laws.specs.Lvalues.{LvaluesFit, IsArrayOf, ArraysFit}
 use Rattle.sharc_target_laws.specs.Shapes.{form_of}
 use Rattle.sharc_target_laws.proofs.Expressing.{expressions_found}
 use Rattle.sharc_target_laws.proofs.Forms.{same_forms}
 use Rattle.sharc_target_laws.proofs.Found.{IsThere, field_found, global_found, global_low}
 use Rattle.sharc_target_laws.proofs.Laying.{named_there, members_are}
 use Rattle.sharc_target_laws.proofs.Lists.{head_there, tail_there, of_each, place_there, same_some, none_some}
-use Rattle.sharc_target_laws.proofs.Lvalues.{AreReady, names_cell}
+use Rattle.sharc_target_laws.proofs.Lvalues.{AreReady, names_cell, array_base}
 use Rattle.sharc_target_laws.proofs.Members.{top_written}
 use Rattle.sharc_target_laws.proofs.Moding.{PathNames, field_or_global}
 use Rattle.sharc_target_laws.proofs.Rows.{IsKnown}
@@ -221,9 +224,8 @@ module _ (m : Assignment) (k : IsKnown m) (low : IsLow m.typed.program) where
       field_or_global m.typed there.numbered.entity 0 path (field_no_local there.numbered.entity.role there.role)
       (k.rules.m4.forms there.numbered 0 path there.is_entity (subst (λ (w : WrittenType). slice_get w.ctype.levels 0 ≡ Some (Some (mode.Locked path))) (sym there.written) (top_written d.written.ctype.levels (mode.Locked path) top)))
 
-pub lvalues_fit : EachNameOnce → OnlyNames → EachTypeFound → EachNamesItself → MeetsConstraints → OneType → RulesAreMet → LvaluesFit
-lvalues_fit once only found itself meets one met m resolved placed low least well e at plain single =
-    names_cell m ready e (kind_at m.typed e) (types e at) at plain single
+ready_of : EachNameOnce → OnlyNames → EachTypeFound → EachNamesItself → MeetsConstraints → OneType → RulesAreMet → (m : Assignment) → IsResolved m.typed → IsPlaced m.typed.program → IsLow m.typed.program → IsLeastAssignment m → WellModed m → AreReady m
+ready_of once only found itself meets one met m resolved placed low least well = ready
   where
     k : IsKnown m
     k = known once only found itself met m resolved placed low least well
@@ -247,3 +249,21 @@ lvalues_fit once only found itself meets one met m resolved placed low least wel
       field_forms = λ how token. entity_forms m how (entity_at m.typed token token);
       global_path = global_lock m k low;
     }
+
+pub lvalues_fit : EachNameOnce → OnlyNames → EachTypeFound → EachNamesItself → MeetsConstraints → OneType → RulesAreMet → LvaluesFit
+lvalues_fit once only found itself meets one met m resolved placed low least well e at plain single =
+    let ready = ready_of once only found itself meets one met m resolved placed low least well in
+    names_cell m ready e (kind_at m.typed e) (ready.types e at) at plain single
+
+pub arrays_fit : EachNameOnce → OnlyNames → EachTypeFound → EachNamesItself → MeetsConstraints → OneType → RulesAreMet → ArraysFit
+arrays_fit once only found itself meets one met m resolved placed low least well a at is_one =
+    let ready = ready_of once only found itself meets one met m resolved placed low least well in
+    by ready (kind_at m.typed a) refl is_one (ready.types a at)
+  where
+    by : AreReady m → (k : Kind) → kind_at m.typed a ≡ k → is_array k ≡ true → HasType m.typed a (kind_at m.typed a) → IsArrayOf m a
+    by ready (array b n) same is typed =
+        let w = array_base m ready a (kind_at m.typed a) typed b n same in
+        record { number = w.number; global = w.global; defined = w.at; place = w.place; element = ap element_kind same ∙ sym w.declared_is }
+    by ready (object b n) same is typed = absurd (false≢true is)
+    by ready kinds.null same is typed = absurd (false≢true is)
+    by ready kinds.function same is typed = absurd (false≢true is)

@@ -8,7 +8,7 @@ use Rattle.sharc_tree.specs.Placed.{IsPlaced}
 use Rattle.sharc_tree.specs.Tree.{Expression, identifier, parentheses, index, field, unary}
 use Rattle.sharc_names.specs.declared.fault.Named.{Named}
 use Rattle.sharc_names.specs.declared.fault.Named.TheVariants as named
-use Rattle.sharc_names.specs.Kinds.{Kind, object, mutex, is_array, is_struct_behind}
+use Rattle.sharc_names.specs.Kinds.{Kind, object, mutex, is_array, is_struct_behind, element_kind, declared_kind}
 use Rattle.sharc_ctype.specs.Resolved.{Resolution, IsResolved, named_at, named_kind, global_at, kind_at}
 use Rattle.sharc_mode.specs.Cells.{is_mutex_kind, is_behind_pointer, cell_at}
 use Rattle.sharc_mode.specs.Flows.{IsLeastAssignment}
@@ -129,3 +129,16 @@ pub data NamesCell (m : Assignment) (e : Expression) : Target → Type 0 where
 abbrev pub LvaluesFit : Type 0
 LvaluesFit = (m : Assignment) → IsResolved m.typed → IsPlaced m.typed.program → IsLow m.typed.program → IsLeastAssignment m → WellModed m
     → (e : Expression) → IsExpression m e → is_struct_behind 0 (kind_at m.typed e) ≡ false → is_array (kind_at m.typed e) ≡ false → NamesCell m e (target m.typed None e)
+
+-- ---- arrays
+-- An array is a global that is named.
+pub record IsArrayOf (m : Assignment) (a : Expression) : Type 0 where
+  pub number : ℕ
+  pub global : GlobalDefinition
+  pub defined : global_at m.typed number ≡ Some global
+  pub place : target m.typed None a ≡ in_global number 0
+  pub element : element_kind (kind_at m.typed a) ≡ declared_kind global.declaration.written
+
+abbrev pub ArraysFit : Type 0
+ArraysFit = (m : Assignment) → IsResolved m.typed → IsPlaced m.typed.program → IsLow m.typed.program → IsLeastAssignment m → WellModed m
+    → (a : Expression) → IsExpression m a → is_array (kind_at m.typed a) ≡ true → IsArrayOf m a

@@ -3,7 +3,7 @@
 ghost use Rattle.sharc_target_laws.specs.Beside.{LocksStandBeside};
 ghost use Rattle.sharc_target_laws.specs.Fields.{FieldsPlaced};
 ghost use Rattle.sharc_target_laws.specs.Laws.{NumbersFound, ShapesClosed, CellsAre, TargetsAre, ExpressionsFound, VariablesFound, ResultsFound, MembersAre, GlobalsAre, GlobalsEnd, GlobalsBegin, GlobalsHold, LayoutsAre};
-ghost use Rattle.sharc_target_laws.specs.Lvalues.{LvaluesFit};
+ghost use Rattle.sharc_target_laws.specs.Lvalues.{LvaluesFit, ArraysFit};
 ghost use Rattle.sharc_target_laws.specs.Pointees.{PointeesFit, RecastsFit, SameForms};
 
 use sharc_ctype_laws::laws::{
@@ -93,6 +93,19 @@ pub fn layouts_are()
 /// Each lvalue of a function that is no struct names a variable, or a cell that the table has with what it holds and with its mode.
 pub fn lvalues_fit()
     ensures { LvaluesFit }
+{
+    each_name_once();
+    only_names();
+    each_type_found();
+    each_names_itself();
+    meets_constraints();
+    one_type();
+    rules_are_met();
+}
+
+/// An array is a global that is named, with elements of its type.
+pub fn arrays_fit()
+    ensures { ArraysFit }
 {
     each_name_once();
     only_names();
