@@ -4,4 +4,5 @@ pub mod Premises
 pub mod Typable
 pub mod Stated
 pub mod Decided
+pub mod Declared
 pub mod Laws

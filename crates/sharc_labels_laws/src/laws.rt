@@ -1,6 +1,7 @@
 //! Laws of flattened code.
 
 ghost use Rattle.sharc_labels_laws.specs.Decided.{DecisionsAreTyped};
+ghost use Rattle.sharc_labels_laws.specs.Declared.{LocalsAreTyped};
 ghost use Rattle.sharc_labels_laws.specs.Laws.{ExpressionsAreTyped, LinesAreTyped, LinesKnow, LinesTell, PartsAreTyped, SimplesAreTyped, StretchesJoin, TestsAreTyped};
 
 /// Lines that stand in a table of marks are typed whatever checks are remembered.
@@ -46,4 +47,9 @@ pub fn decisions_law()
 /// So is a test.
 pub fn tests_law()
     ensures { TestsAreTyped }
+{}
+
+/// A variable of a block is declared, and what is known with it is known behind it.
+pub fn locals_law()
+    ensures { LocalsAreTyped }
 {}
