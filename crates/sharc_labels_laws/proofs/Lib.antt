@@ -23,3 +23,4 @@ pub mod Locking
 pub mod Simple
 pub mod Decided
 pub mod Declaring
+pub mod Ending

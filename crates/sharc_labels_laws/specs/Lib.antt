@@ -5,4 +5,5 @@ pub mod Typable
 pub mod Stated
 pub mod Decided
 pub mod Declared
+pub mod Ended
 pub mod Laws

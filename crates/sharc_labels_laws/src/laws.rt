@@ -2,6 +2,7 @@
 
 ghost use Rattle.sharc_labels_laws.specs.Decided.{DecisionsAreTyped};
 ghost use Rattle.sharc_labels_laws.specs.Declared.{LocalsAreTyped};
+ghost use Rattle.sharc_labels_laws.specs.Ended.{EndsAreTyped};
 ghost use Rattle.sharc_labels_laws.specs.Laws.{ExpressionsAreTyped, LinesAreTyped, LinesKnow, LinesTell, PartsAreTyped, SimplesAreTyped, StretchesJoin, TestsAreTyped};
 
 /// Lines that stand in a table of marks are typed whatever checks are remembered.
@@ -52,4 +53,9 @@ pub fn tests_law()
 /// A variable of a block is declared, and what is known with it is known behind it.
 pub fn locals_law()
     ensures { LocalsAreTyped }
+{}
+
+/// At the end of a block its variables are given up, and what was known before it is known again.
+pub fn ends_law()
+    ensures { EndsAreTyped }
 {}
