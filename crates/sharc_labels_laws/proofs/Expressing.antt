@@ -197,7 +197,7 @@ module _ (around : Setting) (f : ℕ) (ways : List Way) (y : Typing) (c : Contex
   }
 
   -- an integer more is at hand
-  bare_number : (bare : Bool) (l : Label) (i : ℕ) (n : Number) → IsPlain n → IsBare bare l → IsBare bare (set_number l i n)
+  pub bare_number : (bare : Bool) (l : Label) (i : ℕ) (n : Number) → IsPlain n → IsBare bare l → IsBare bare (set_number l i n)
   bare_number bare l i n plain h = λ z. let w = h z in (w.0, w.1, λ j q b. put_all (λ j x. HasBase x q → ⊥) l.ints i n (λ b. none n q plain b) (λ j _ b. w.2 j q b) j b)
     where
       none : (n : Number) (q : ℕ) → IsPlain n → HasBase n q → ⊥
@@ -219,7 +219,7 @@ module _ (around : Setting) (f : ℕ) (ways : List Way) (y : Typing) (c : Contex
   no_bare l z = absurd (false≢true z)
 
   -- ---- NULL and constants
-  null_at : (from i r : ℕ) (l : Label) → F from i r l → (s : StaticType) → IsNamed N r s → Q from (mark l from i) (op.Null r ∷ []) (mark (fill l r (Refers s) r false) from i)
+  pub null_at : (from i r : ℕ) (l : Label) → F from i r l → (s : StaticType) → IsNamed N r s → Q from (mark l from i) (op.Null r ∷ []) (mark (fill l r (Refers s) r false) from i)
   null_at from i r l fr s fits =
       let k = fill l r (Refers s) r false in
       let at = fr.at in

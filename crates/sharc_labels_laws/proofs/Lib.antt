@@ -22,3 +22,5 @@ pub mod Expressing
 pub mod Locking
 pub mod Simple
 pub mod Decided
+pub mod Declaring
+pub mod Ending

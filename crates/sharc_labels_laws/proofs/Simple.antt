@@ -98,7 +98,7 @@ module _ (around : Setting) (f : ℕ) (ways : List Way) (y : Typing) (c : Contex
   counted from i r l fr None h = (Exactly (pos 1), tt, constant_at around f D N top low from i r l fr.at (pos 1))
   counted from i r l fr (Some n) h = let v = int_of around f ways y c low from i r l (expression_code c i r n) n h.1 (expressions around f ways y c low false from i r l fr (no_bare around f ways y c low l) n h.0) in (v.number, v.plain, v.piece)
 
-  rights : (bare : Bool) (from i r : ℕ) (l : Label) → F from i r l → IsBare bare l → (kind : Kind) (mode : Sharing) (s : StaticType) (x : Right) → RightTypable around f ways y bare c kind s x → Comes from i r l kind s (right_code c i r kind mode x) (is_reference kind)
+  pub rights : (bare : Bool) (from i r : ℕ) (l : Label) → F from i r l → IsBare bare l → (kind : Kind) (mode : Sharing) (s : StaticType) (x : Right) → RightTypable around f ways y bare c kind s x → Comes from i r l kind s (right_code c i r kind mode x) (is_reference kind)
   rights bare from i r l fr alone kind mode s (value e) h = by (is_reference kind) h
     where
       by : (b : Bool) → ValueGoes around f ways y bare c kind s e b → Comes from i r l kind s (expression_code c i r e ++ width_code i kind (span_of e).first) b
@@ -190,7 +190,7 @@ module _ (around : Setting) (f : ℕ) (ways : List Way) (y : Typing) (c : Contex
 
   -- ---- to a variable
   -- the value in these registers, of which nothing else is at hand
-  settled : (from i r : ℕ) (l : Label) → F from i r l → IsBare true l → int_count c.scope ≤ from → (kind : Kind) (s : StaticType) (x : Register) (xs : List Op) → IsTypeIn around f ways y c s → VariableAssigned around f ways y c kind s x → Comes from i r l kind s xs (is_reference kind)
+  pub settled : (from i r : ℕ) (l : Label) → F from i r l → IsBare true l → int_count c.scope ≤ from → (kind : Kind) (s : StaticType) (x : Register) (xs : List Op) → IsTypeIn around f ways y c s → VariableAssigned around f ways y c kind s x → Comes from i r l kind s xs (is_reference kind)
       → Q from (mark l from i) (xs ++ settle_code i r x) (mark l from i)
   settled from i r l fr alone whole kind s (registers.Int j) xs type h v =
       let w = width_of kind in

@@ -4,4 +4,6 @@ pub mod Premises
 pub mod Typable
 pub mod Stated
 pub mod Decided
+pub mod Declared
+pub mod Ended
 pub mod Laws

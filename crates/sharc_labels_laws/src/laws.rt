@@ -1,6 +1,8 @@
 //! Laws of flattened code.
 
 ghost use Rattle.sharc_labels_laws.specs.Decided.{DecisionsAreTyped};
+ghost use Rattle.sharc_labels_laws.specs.Declared.{LocalsAreTyped};
+ghost use Rattle.sharc_labels_laws.specs.Ended.{EndsAreTyped};
 ghost use Rattle.sharc_labels_laws.specs.Laws.{ExpressionsAreTyped, LinesAreTyped, LinesKnow, LinesTell, PartsAreTyped, SimplesAreTyped, StretchesJoin, TestsAreTyped};
 
 /// Lines that stand in a table of marks are typed whatever checks are remembered.
@@ -46,4 +48,14 @@ pub fn decisions_law()
 /// So is a test.
 pub fn tests_law()
     ensures { TestsAreTyped }
+{}
+
+/// A variable of a block is declared, and what is known with it is known behind it.
+pub fn locals_law()
+    ensures { LocalsAreTyped }
+{}
+
+/// At the end of a block its variables are given up, and what was known before it is known again.
+pub fn ends_law()
+    ensures { EndsAreTyped }
 {}
