@@ -1,5 +1,6 @@
 pub mod Acts
 pub mod Arriving
+pub mod Awaited
 pub mod Broken
 pub mod Calm
 pub mod Carried

@@ -1,5 +1,6 @@
 //! The laws, each the contract of a function that does nothing.
 
+ghost use Rattle.sharc_history_laws.specs.Awaits.{AwaitedIsHeld};
 ghost use Rattle.sharc_history_laws.specs.Causes.{AccessReportsBreakRules, NamesAreCauses, ReportsHaveNamed, UnstartedAreBegun};
 ghost use Rattle.sharc_history_laws.specs.Conflicts.{AccessReportsShow, NamedAreChecked, NotesAreOfChecks};
 ghost use Rattle.sharc_history_laws.specs.Followed.{AccessesFollow, LockReportsBreakRules, LockReportsShowAccess};
@@ -85,4 +86,14 @@ pub fn causes_law()
     runs_bits();
     runs_report();
     shadow_laws();
+}
+
+/// A mutex for which a thread waits in a checked run of typed code is held by a thread, by its events.
+pub fn awaits_law()
+    ensures { AwaitedIsHeld }
+{
+    run_laws();
+    begins();
+    keeps();
+    cells_are_there();
 }

@@ -5,4 +5,4 @@
 
 mod laws;
 
-pub use laws::{causes_law, followed_law, history_law, paths_law};
+pub use laws::{awaits_law, causes_law, followed_law, history_law, paths_law};
