@@ -10,6 +10,7 @@ pub mod Cleared
 pub mod Conflicting
 pub mod Consists
 pub mod Doing
+pub mod Ended
 pub mod Ends
 pub mod Finds
 pub mod Followed

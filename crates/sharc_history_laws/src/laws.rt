@@ -1,6 +1,6 @@
 //! The laws, each the contract of a function that does nothing.
 
-ghost use Rattle.sharc_history_laws.specs.Awaits.{AwaitedIsHeld};
+ghost use Rattle.sharc_history_laws.specs.Awaits.{AwaitedIsHeld, AwaitedIsNotGone};
 ghost use Rattle.sharc_history_laws.specs.Causes.{AccessReportsBreakRules, NamesAreCauses, ReportsHaveNamed, UnstartedAreBegun};
 ghost use Rattle.sharc_history_laws.specs.Conflicts.{AccessReportsShow, NamedAreChecked, NotesAreOfChecks};
 ghost use Rattle.sharc_history_laws.specs.Followed.{AccessesFollow, LockReportsBreakRules, LockReportsShowAccess};
@@ -9,6 +9,7 @@ ghost use Rattle.sharc_history_laws.specs.Paths.{PathsAreConsistent};
 ghost use Rattle.sharc_history_laws.specs.Reports.{CastReportsShow, LockReportsShow};
 
 use sharc_code::run_laws;
+use sharc_code_laws::states_law;
 use sharc_invariant::laws::{begins, cells_are_there, keeps, runs_bits, runs_report, state_stands};
 use sharc_shadow::shadow_laws;
 
@@ -88,11 +89,13 @@ pub fn causes_law()
     shadow_laws();
 }
 
-/// A mutex for which a thread waits in a checked run of typed code is held by a thread, by its events.
+/// What a thread waits for in a checked run of typed code: a mutex is held by a thread, by its events, and a thread that is joined is not gone by the events.
 pub fn awaits_law()
-    ensures { AwaitedIsHeld }
+    ensures held { AwaitedIsHeld }
+    ensures gone { AwaitedIsNotGone }
 {
     run_laws();
+    states_law();
     begins();
     keeps();
     cells_are_there();
