@@ -1,9 +1,8 @@
 -- The thread that holds a mutex for which another one waits.
-use Rattle.std.proofs.Common.{◌≡◌, ℕ, zero, suc, ◌+◌, ◌*◌, ◌<◌, ◌≢◌, Bool, true, false, List, is_some, refl, sym, ap, ◌∙◌, subst}
+use Rattle.std.proofs.Common.{◌≡◌, ℕ, zero, suc, ◌≢◌, true, List, is_some, refl, sym, ap, ◌∙◌, subst}
 use Rattle.std.specs.Prelude.{slice_index}
 use Rattle.sharc_code.specs.declared.code.Code.{Code}
 use Rattle.sharc_code.specs.declared.instr.Cell.{Cell}
-use Rattle.sharc_code.specs.declared.instr.Instr.{Instr}
 use Rattle.sharc_code.specs.declared.instr.Instr.TheVariants as instrs
 use Rattle.sharc_code.specs.declared.shape.Shape.{Shape}
 use Rattle.sharc_code.specs.Laws.{RunLaws}
@@ -19,13 +18,12 @@ use Rattle.sharc_meaning.specs.Events.{events_of, holds_mutex}
 use Rattle.sharc_invariant.specs.Labels.{Labels}
 use Rattle.sharc_invariant.specs.Laws.{Keeps, Begins as CodeBegins, CellsAreThere, PointersAreThere, AccessesAreAllowed}
 use Rattle.sharc_invariant.specs.MachineInvariant.{IsOn}
-use Rattle.sharc_invariant.specs.State.{State, IsSmall, StageStands, OnHold, object_of_cell, number_in}
-use Rattle.sharc_invariant.specs.Typed.{IsWellTyped, Fine, HasCell}
+use Rattle.sharc_invariant.specs.State.{IsSmall, StageStands, object_of_cell, number_in}
+use Rattle.sharc_invariant.specs.Typed.{IsWellTyped, Fine}
 use Rattle.sharc_invariant.specs.Types.{Targets, Field, Content, is_mutex}
-use Rattle.sharc_invariant.specs.World.{World}
 use Rattle.sharc_history_laws.specs.History.{history_of}
 use Rattle.sharc_history_laws.proofs.Finds.{is_apart, is_there, object_is}
-use Rattle.sharc_history_laws.proofs.Locked.{LogTold, held_told, Names, names_cell}
+use Rattle.sharc_history_laws.proofs.Locked.{held_told, names_cell}
 use Rattle.sharc_history_laws.proofs.Locking.{Locks, lock_runs}
 use Rattle.sharc_history_laws.proofs.Rules.{newest}
 use Rattle.sharc_history_laws.proofs.Single.{rests_hold}

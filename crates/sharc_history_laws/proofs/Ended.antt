@@ -1,21 +1,19 @@
 -- A thread that is gone by the events has ended.
-use Rattle.std.proofs.Common.{◌≡◌, ℕ, pos, suc, ◌+◌, ◌<◌, ◌⊎◌, inl, inr, ◌↔◌, Bool, true, false, ◌&&◌, List, [], ◌∷◌, reverse, Option, Some, None, refl, sym, ap, ◌∙◌, subst, ⊎_elim, arith, eqb-true}
-use Rattle.std.specs.Prelude.{◌==◌, slice_index}
+use Rattle.std.proofs.Common.{◌≡◌, ℕ, pos, ◌⊎◌, ◌↔◌, Bool, true, false, ◌&&◌, List, [], ◌∷◌, Option, Some, None, refl, sym, ap, ◌∙◌, subst, ⊎_elim, arith, eqb-true}
+use Rattle.std.specs.Prelude.{slice_index}
 use Rattle.std.proofs.lemmas.Bool.{cases_eq}
 use Rattle.sharc_tree.specs.declared.event.SourceEvent.{SourceEvent}
 use Rattle.sharc_code.specs.declared.code.Code.{Code}
 use Rattle.sharc_code.specs.declared.instr.Instr.{Instr}
 use Rattle.sharc_code.specs.declared.instr.Instr.TheVariants as instrs
 use Rattle.sharc_code.specs.declared.shape.Shape.{Shape}
-use Rattle.sharc_code.specs.declared.state.Stage.{Stage}
-use Rattle.sharc_code.specs.declared.state.Stage.TheVariants.{Leaves as Leaving}
 use Rattle.sharc_code.specs.declared.state.State.TheVariants.{Ended}
 use Rattle.sharc_code.specs.Laws.{RunLaws}
 use Rattle.sharc_code.specs.Layout.{Fits, state_word}
 use Rattle.sharc_code.specs.Machine.{Machine, instr_at, act, exit}
 use Rattle.sharc_code.specs.Opening.{opening_words}
 use Rattle.sharc_code.specs.Path.{turn, after, may_go}
-use Rattle.sharc_code.specs.Runs.{Turn, Global, IsRun, opening_of, result_of, state_now, put}
+use Rattle.sharc_code.specs.Runs.{Turn, Global, IsRun, opening_of, result_of, state_now}
 use Rattle.sharc_code.specs.Says.{said}
 use Rattle.sharc_code.specs.Whole.{one_thread, bounds, place_after}
 use Rattle.sharc_gen.specs.Consistent.{said_now}
