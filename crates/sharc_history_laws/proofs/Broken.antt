@@ -47,7 +47,7 @@ yes : true ≡ false → ⊥
 yes e = cc
 
 -- ---- lists
-abbrev AllOf : (SourceEvent → Type 0) → History → Type 0
+abbrev pub AllOf : (SourceEvent → Type 0) → History → Type 0
 AllOf P [] = Unit {0}
 AllOf P (e ∷ R) = P e × AllOf P R
 
@@ -55,7 +55,7 @@ all_snoc : (P : SourceEvent → Type 0) (R : History) (e : SourceEvent) → AllO
 all_snoc P [] e h k = (k, tt)
 all_snoc P (d ∷ R) e h k = (h.0, all_snoc P R e h.1 k)
 
-all_reverse : (P : SourceEvent → Type 0) (L : Newest) → AllOf P L → AllOf P (reverse L)
+pub all_reverse : (P : SourceEvent → Type 0) (L : Newest) → AllOf P L → AllOf P (reverse L)
 all_reverse P [] h = tt
 all_reverse P (e ∷ L) h = subst (AllOf P) (sym (reverse_push e L)) (all_snoc P (reverse L) e (all_reverse P L h.1) h.0)
 
@@ -67,7 +67,7 @@ unset : (b : Bool) → (b ≡ true → ⊥) → b ≡ false
 unset true h = absurd (h refl)
 unset false h = refl
 
-none_any : (f : SourceEvent → Bool) (R : History) → AllOf (λ e. f e ≡ false) R → list_any f R ≡ false
+pub none_any : (f : SourceEvent → Bool) (R : History) → AllOf (λ e. f e ≡ false) R → list_any f R ≡ false
 none_any f [] h = refl
 none_any f (e ∷ R) h = or_no (f e) (list_any f R) h.0 (none_any f R h.1)
 

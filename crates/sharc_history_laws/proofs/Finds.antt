@@ -63,7 +63,7 @@ module _ (there_laws : CellsAreThere) (x : Targets) (code : Code) (s : Shape) (l
       smaller p o le ne = ⊎_elim (λ (l : p < o). l) (λ (ge : o ≤ p). absurd (ne (omega arith))) (cases_lt p o)
 
   -- a mutex shares its word with none of another object that a thread holds
-  is_apart : (t o j : ℕ) → (world.obj o).live ≡ true → j < st.cells o → IsApart s (g.threads t).own.held o (2 * (o + 1) + j)
+  pub is_apart : (t o j : ℕ) → (world.obj o).live ≡ true → j < st.cells o → IsApart s (g.threads t).own.held o (2 * (o + 1) + j)
   is_apart t o j live lt =
       let held = (g.threads t).own.held in
       record {
@@ -118,7 +118,7 @@ module _ (there_laws : CellsAreThere) (x : Targets) (code : Code) (s : Shape) (l
     is_there hold (cells.Object r i) f k some = positive (ref m r) some
     is_there hold (cells.ObjectAt r i) f k some = positive (ref m r) some
 
-    object_is : (c : Cell) → object (g.threads t) c ≡ object_of_cell (g.threads t) c
+    pub object_is : (c : Cell) → object (g.threads t) c ≡ object_of_cell (g.threads t) c
     object_is (cells.Global h p) = refl
     object_is (cells.GlobalAt h i) = refl
     object_is (cells.Object r i) = refl

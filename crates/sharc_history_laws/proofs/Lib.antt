@@ -1,6 +1,7 @@
 pub mod Acts
 pub mod Born
 pub mod Arriving
+pub mod Awaited
 pub mod Broken
 pub mod Calm
 pub mod Carried
@@ -12,6 +13,7 @@ pub mod Consists
 pub mod Contents
 pub mod Doing
 pub mod Emptying
+pub mod Ended
 pub mod Ends
 pub mod Finds
 pub mod Followed

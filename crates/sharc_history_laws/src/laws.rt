@@ -1,5 +1,6 @@
 //! The laws, each the contract of a function that does nothing.
 
+ghost use Rattle.sharc_history_laws.specs.Awaits.{AwaitedIsHeld, AwaitedIsNotGone};
 ghost use Rattle.sharc_history_laws.specs.Causes.{AccessReportsBreakRules, NamesAreCauses, ReportsHaveNamed, UnstartedAreBegun};
 ghost use Rattle.sharc_history_laws.specs.Conflicts.{AccessReportsShow, NamedAreChecked, NotesAreOfChecks};
 ghost use Rattle.sharc_history_laws.specs.Followed.{AccessesFollow, LockReportsBreakRules, LockReportsShowAccess};
@@ -131,4 +132,16 @@ pub fn causes_law()
     runs_bits();
     runs_report();
     shadow_laws();
+}
+
+/// What a thread waits for in a checked run of typed code: a mutex is held by a thread, by its events, and a thread that is joined is not gone by the events.
+pub fn awaits_law()
+    ensures held { AwaitedIsHeld }
+    ensures gone { AwaitedIsNotGone }
+{
+    run_laws();
+    states_law();
+    begins();
+    keeps();
+    cells_are_there();
 }
