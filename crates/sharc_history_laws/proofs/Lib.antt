@@ -71,3 +71,5 @@ pub mod Queued
 pub mod Waiting
 pub mod Unemptied
 pub mod Woken
+pub mod Placed
+pub mod Stuck

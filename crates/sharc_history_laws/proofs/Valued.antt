@@ -49,6 +49,7 @@ use Rattle.sharc_history_laws.proofs.Locked.{Names, names_cell}
 use Rattle.sharc_history_laws.proofs.Locking.{cell_refl}
 use Rattle.sharc_history_laws.proofs.ModesKept.{word_spared}
 use Rattle.sharc_history_laws.proofs.OneMode.{place_of, numbers_now}
+use Rattle.sharc_history_laws.proofs.Placed as Placed
 use Rattle.sharc_history_laws.proofs.Rules.{pushed, about_now, decide, number_yes, number_not, freed_gone}
 use Rattle.sharc_history_laws.proofs.Shared.{number_of}
 use Rattle.sharc_history_laws.proofs.Single.{single, rests_hold}
@@ -152,19 +153,7 @@ module _ (cell_laws : CellsAreThere) (pointers : PointersAreThere) (rights : Acc
   pub cell_named : (k : Cell) (f : Field) → (hold : OnHold ((place_after code s earlier).threads one.thread).own.stage) → HasCell x code (ls.at ((place_after code s earlier).threads one.thread).at.pc) k f
       → Names code (cell_at code ((place_after code s earlier).threads one.thread) k) (number_of (cell_at code ((place_after code s earlier).threads one.thread) k).object)
       (2 * (number_of (cell_at code ((place_after code s earlier).threads one.thread) k).object + 1) + place_of code (cell_at code ((place_after code s earlier).threads one.thread) k).object (cell_at code ((place_after code s earlier).threads one.thread) k).cell)
-  cell_named k f hold has =
-      let th = there x code s ls wt fits g h.world h.state t on hold cell_laws k f has in
-      let n = numbers_now cell_laws x code s ls wt fits g h.world h.state t on hold k f has in
-      let d = cell_at code m k in
-      let names : Names code d (object m k) (place m k) = names_cell code m k (is_there cell_laws x code s ls wt fits g h.world h.state t on hold k f has.field (some_base x code s ls wt fits g h.world h.state t on hold k has.base)) in
-      let a : Names code d (object_of_cell m k) (2 * (object_of_cell m k + 1) + number_in m k) = subst (Names code d (object_of_cell m k)) th.place_is (subst (λ o. Names code d o (place m k)) (object_is k) names) in
-      subst (λ o. Names code d o (2 * (o + 1) + place_of code d.object d.cell)) (sym n.0) (subst (λ j. Names code d (object_of_cell m k) (2 * (object_of_cell m k + 1) + j)) (sym n.1) a)
-    where
-      object_is : (c : Cell) → object ((place_after code s earlier).threads one.thread) c ≡ object_of_cell ((place_after code s earlier).threads one.thread) c
-      object_is (cells.Global h p) = refl
-      object_is (cells.GlobalAt h i) = refl
-      object_is (cells.Object r i) = refl
-      object_is (cells.ObjectAt r i) = refl
+  cell_named k f hold has = Placed.named cell_laws x code s ls wt fits g h.world h.state t on hold k f has
 
   -- a number of elements that a reference has stays
   pub same_elements : (n : ℕ) → n ≢ 0 → (h.world.obj n).live ≡ true → T' n ≡ T n

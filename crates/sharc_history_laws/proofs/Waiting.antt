@@ -55,6 +55,7 @@ use Rattle.sharc_history_laws.proofs.Lists.{Newest}
 use Rattle.sharc_history_laws.proofs.Locking.{cell_refl}
 use Rattle.sharc_history_laws.proofs.ModesKept.{word_spared}
 use Rattle.sharc_history_laws.proofs.OneMode.{place_of, numbers_now}
+use Rattle.sharc_history_laws.proofs.Placed as Placed
 use Rattle.sharc_history_laws.proofs.Queued.{waits_by, waits_behind, waiter_behind, other_event, is_condition, no_condition, condition_elsewhere, no_enter, woken_leaves, is_enter, enterless}
 use Rattle.sharc_history_laws.proofs.Rules.{pushed, about_now, number_is, decide, freed_gone, put_same, put_other}
 use Rattle.sharc_history_laws.proofs.Shared.{number_of}
@@ -234,29 +235,18 @@ module _ (bits : WaitersLaws) (cell_laws : CellsAreThere) (pointers : PointersAr
       by _ is w = absurd (cc)
 
   module _ (k : Cell) (at : Here k) where
-    abbrev d : CellAt
-    d = cell_at code ((place_after code s earlier).threads one.thread) k
-
     numbers : (number_of (cell_at code ((place_after code s earlier).threads one.thread) k).object ≡ object_of_cell ((place_after code s earlier).threads one.thread) k)
         × (place_of code (cell_at code ((place_after code s earlier).threads one.thread) k).object (cell_at code ((place_after code s earlier).threads one.thread) k).cell ≡ number_in ((place_after code s earlier).threads one.thread) k)
-    numbers = numbers_now cell_laws x code s ls wt fits g h.world h.state t on at.hold k at.field at.has
-
-    th : Rattle.sharc_invariant.specs.Cells.IsThere x s h.state.cells h.world one.thread ((place_after code s earlier).threads one.thread) k at.field
-    th = there x code s ls wt fits g h.world h.state t on at.hold cell_laws k at.field at.has
+    numbers = Placed.numbers cell_laws x code s ls wt fits g h.world h.state t on at.hold k at.field at.has
 
     pub content_here : content_of x code h.world (cell_at code ((place_after code s earlier).threads one.thread) k) ≡ Waiters
-    content_here =
-        ap (λ o. (field_in x (h.world.obj o).ty (place_of code d.object d.cell)).holds) numbers.0 ∙ ap (λ j. (field_in x (h.world.obj (object_of_cell m k)).ty j).holds) numbers.1 ∙ ap (λ (f : Field). f.holds) th.field ∙ at.holds
+    content_here = Placed.content cell_laws x code s ls wt fits g h.world h.state t on at.hold k at.field at.has ∙ at.holds
 
     pub cell_here : IsCellOf code h.world h.state.cells (cell_at code ((place_after code s earlier).threads one.thread) k)
-    cell_here = record {
-      live = ap (λ o. (h.world.obj o).live) numbers.0 ∙ th.live;
-      inside = subst (λ o. place_of code d.object d.cell < h.state.cells o) (sym numbers.0) (subst (λ j. j < h.state.cells (object_of_cell m k)) (sym numbers.1) th.number);
-      named = cell_named cell_laws pointers rights laws keeps x code s ls wt fits few one earlier h may k at.field at.hold at.has;
-    }
+    cell_here = Placed.cell cell_laws x code s ls wt fits g h.world h.state t on at.hold k at.field at.has
 
     pub word_here : word_of_cell code s (cell_at code ((place_after code s earlier).threads one.thread) k) ≡ word s ((place_after code s earlier).threads one.thread) k
-    word_here = ap (λ o. Words.cell_at s o (place_of code d.object d.cell)) numbers.0 ∙ ap (Words.cell_at s (object_of_cell m k)) numbers.1 ∙ sym th.word_is
+    word_here = Placed.word_is cell_laws x code s ls wt fits g h.world h.state t on at.hold k at.field at.has
 
   -- what it finds is the word of the condition
   found_at : (k : Cell) (op : WordOp) → asked_by (turn code s ((place_after code s earlier).threads one.thread)) ≡ Some (step_of (word s ((place_after code s earlier).threads one.thread) k) op)

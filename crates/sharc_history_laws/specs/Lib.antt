@@ -8,3 +8,4 @@ pub mod Reports
 pub mod Starts
 pub mod Stores
 pub mod Waiters
+pub mod Stuck

@@ -9,6 +9,7 @@ ghost use Rattle.sharc_history_laws.specs.Paths.{PathsAreConsistent};
 ghost use Rattle.sharc_history_laws.specs.Reports.{CastReportsShow, LockReportsShow};
 ghost use Rattle.sharc_history_laws.specs.Starts.{StartsAreSpawned};
 ghost use Rattle.sharc_history_laws.specs.Stores.{StoresAreLegal};
+ghost use Rattle.sharc_history_laws.specs.Stuck.{AwaitedMayNotCome};
 ghost use Rattle.sharc_history_laws.specs.Waiters.{EventsMayCome};
 
 use sharc_code::{run_laws, standing_laws};
@@ -144,4 +145,19 @@ pub fn awaits_law()
     begins();
     keeps();
     cells_are_there();
+}
+
+/// A thread that waits at the end of such a run, at a Lock, a Join or a CondWait, waits for an event that may not come after those of the run: its mutex is
+/// locked, its thread has not gone, it is still a waiter of its condition.
+pub fn stuck_law()
+    ensures { AwaitedMayNotCome }
+{
+    run_laws();
+    states_law();
+    waiters_laws();
+    begins();
+    keeps();
+    state_stands();
+    cells_are_there();
+    awaits_law();
 }

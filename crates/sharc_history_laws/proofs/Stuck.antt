@@ -1,0 +1,131 @@
+-- The event for which a thread waits may not come.
+use Rattle.std.proofs.Common.{◌≡◌, ℕ, ℤ, pos, negsuc, zero, suc, ◌<◌, ◌≢◌, ◌⊎◌, inl, inr, Bool, true, false, not, ◌||◌, List, reverse, nat_lt, ltb-true, Option, Some, None, if◌then◌else◌, refl, sym, ap, ◌∙◌, subst, ⊎_elim, arith, eqb-true}
+use Rattle.std.specs.Prelude.{slice_index, ◌==◌}
+use Rattle.std.proofs.lemmas.Bool.Decides.{nat_tests}
+use Rattle.sharc_word.specs.declared.step.TheConstants.{THREADS}
+use Rattle.sharc_tree.specs.declared.event.Act.{Act}
+use Rattle.sharc_tree.specs.declared.event.Act.TheVariants as acts
+use Rattle.sharc_tree.specs.declared.event.SourceEvent.{SourceEvent}
+use Rattle.sharc_ctype.specs.Resolved.{Resolution}
+use Rattle.sharc_cond.specs.Waiters.{waits_in}
+use Rattle.sharc_code.specs.declared.code.Code.{Code}
+use Rattle.sharc_code.specs.declared.instr.Cell.{Cell}
+use Rattle.sharc_code.specs.declared.instr.Instr.{Instr}
+use Rattle.sharc_code.specs.declared.instr.Instr.TheVariants as instrs
+use Rattle.sharc_code.specs.declared.shape.Shape.{Shape}
+use Rattle.sharc_code.specs.declared.state.Wait.TheVariants as waits
+use Rattle.sharc_code.specs.Layout.{Fits, state_word}
+use Rattle.sharc_code.specs.Machine.{Machine, instr_at, int, word}
+use Rattle.sharc_code.specs.Runs.{Turn, Global}
+use Rattle.sharc_code.specs.Says.{cell_at}
+use Rattle.sharc_code.specs.Waits.{asks_for, joins, held_up, wait_of}
+use Rattle.sharc_code.specs.Whole.{CheckedRun, place_after, Waits}
+use Rattle.sharc_meaning.specs.Obeys.{History}
+use Rattle.sharc_meaning.specs.Store.{MayCome, is_locked, is_waiter, went}
+use Rattle.sharc_invariant.specs.Types.{Targets, Waiters}
+use Rattle.sharc_invariant.specs.Labels.{Gate, Closed, Labels}
+use Rattle.sharc_invariant.specs.Typed.{IsWellTyped, Fine, IsNotSole}
+use Rattle.sharc_invariant.specs.State.{IsSmall, StageStands, OnHold}
+use Rattle.sharc_invariant.specs.MachineInvariant.{IsOn}
+use Rattle.sharc_invariant.specs.Laws.{CellsAreThere, StateStands}
+use Rattle.sharc_history_laws.specs.Awaits.{AwaitedIsHeld, AwaitedIsNotGone}
+use Rattle.sharc_history_laws.specs.History.{history_of}
+use Rattle.sharc_history_laws.specs.Stuck.{act_awaited}
+use Rattle.sharc_history_laws.proofs.Contents.{word_of_cell}
+use Rattle.sharc_history_laws.proofs.Emptying.{IsEmptied}
+use Rattle.sharc_history_laws.proofs.Lists.{Newest}
+use Rattle.sharc_history_laws.proofs.Mutual.{Mutual, locked_is}
+use Rattle.sharc_history_laws.proofs.Placed as Placed
+use Rattle.sharc_history_laws.proofs.Queued.{waits_by, waiter_is}
+use Rattle.sharc_history_laws.proofs.Rules.{newest}
+use Rattle.sharc_history_laws.proofs.Shared.{number_of}
+use Rattle.sharc_history_laws.proofs.Single.{rests_hold}
+use Rattle.sharc_history_laws.proofs.Sparing.{holds_waiters}
+use Rattle.sharc_history_laws.proofs.Stored.{Stored}
+use Rattle.sharc_history_laws.proofs.Unemptied.{not_emptied}
+use Rattle.sharc_history_laws.proofs.Woken.{Awaited}
+
+yes : true ≡ false → ⊥
+yes e = cc
+
+not_zero : (n : ℕ) → not (n == 0) ≡ true → n ≢ 0
+not_zero zero e z = yes (sym e)
+not_zero (suc n) e z = omega arith
+
+module _ (held_law : AwaitedIsHeld) (gone_law : AwaitedIsNotGone) (state_law : StateStands) (cell_laws : CellsAreThere) (x : Targets) (code : Code) (s : Shape) (ls : Labels) (wt : IsWellTyped x code ls) (fits : Fits code s) (few : IsSmall code s) (r : Resolution)
+    (run : List Turn) (checked : CheckedRun code s run) (stored : Stored r x code s ls run) (waiters : Awaited r x code s ls run) (t : ℕ) (on : IsOn (place_after code s run) t) where
+  abbrev g : Global Machine
+  g = place_after code s run
+
+  abbrev m : Machine
+  m = (place_after code s run).threads t
+
+  abbrev i : Instr
+  i = instr_at code ((place_after code s run).threads t).at.pc
+
+  -- a mutex
+  lock_may_not : (k : Cell) (site : ℕ) → i ≡ instrs.Lock k site → slice_index (place_after code s run).words (word s ((place_after code s run).threads t) k) ≢ 0 → is_locked (history_of code s run) (cell_at code ((place_after code s run).threads t) k) ≡ true
+  lock_may_not k site is nz =
+      let u = held_law x code s ls wt fits few run checked t on k site is nz in
+      locked_is (newest code s run) (cell_at code m k) ∙ (stored.told.mutexes.last u.0 (cell_at code m k) u.1).0
+
+  -- a condition
+  wait_may_not : (k : Cell) (site : ℕ) → i ≡ instrs.CondWait k site → (u : ℕ) → is_waiter (history_of code s run) (cell_at code ((place_after code s run).threads t) k) u ≡ waits_in (slice_index (place_after code s run).words (word s ((place_after code s run).threads t) k)) u
+  wait_may_not k site is u =
+      let h = waiters.consists in
+      let f = subst (Fine x code ls m.at.pc (ls.at m.at.pc)) is (wt.fine m.at.pc) in
+      let hold = rests_hold code s h.state.elements h.world h.state.heap g.words t m (instrs.CondWait k site) m.own.stage refl (subst (λ j. StageStands code s h.state.elements h.world h.state.heap g.words t m j m.own.stage) is ((h.state.threads t).runs on.0 on.1).stage) in
+      let apart : IsNotSole (ls.at m.at.pc).gate = subst IsNotSole (sym f.0) tt in
+      let numbers = Placed.numbers cell_laws x code s ls wt fits g h.world h.state t on hold k f.1.0 f.1.1 in
+      let content = Placed.content cell_laws x code s ls wt fits g h.world h.state t on hold k f.1.0 f.1.1 in
+      let cell = Placed.cell cell_laws x code s ls wt fits g h.world h.state t on hold k f.1.0 f.1.1 in
+      let word_is = Placed.word_is cell_laws x code s ls wt fits g h.world h.state t on hold k f.1.0 f.1.1 in
+      waiter_is (newest code s run) (cell_at code m k) u
+      ∙ ⊎_elim
+      (λ (v : (u : ℕ) → waits_by (newest code s run) (cell_at code m k) u ≡ waits_in (slice_index g.words (word_of_cell code s (cell_at code m k))) u). v u ∙ ap (λ n. waits_in (slice_index g.words n) u) word_is)
+      (λ (z : IsEmptied code g (number_of (cell_at code m k).object)). absurd (not_emptied state_law x code s ls wt fits g h.world h.state t on hold k apart (subst (IsEmptied code g) numbers.0 z)))
+      (waiters.words (cell_at code m k) cell (ap holds_waiters (content ∙ f.1.2)))
+
+  -- a thread
+  join_may_not : (z : ℤ) (site : ℕ) → held_up (place_after code s run).words ((place_after code s run).threads t).own.number (joins z site) ≡ true → went (history_of code s run) z ≡ false
+  join_may_not (pos n) site up = by (nat_lt n THREADS) refl up
+    where
+      either : (a b : Bool) → (a || b) ≡ true → (a ≡ true) ⊎ (b ≡ true)
+      either true b e = inl refl
+      either false b e = inr e
+
+      by : (b : Bool) → nat_lt n THREADS ≡ b → held_up (place_after code s run).words ((place_after code s run).threads t).own.number (if b then Some (waits.Join n site) else None) ≡ true → went (history_of code s run) (pos n) ≡ false
+      by true lt e =
+          let v = slice_index g.words (state_word n) in
+          gone_law x code s ls wt fits few run checked n (ltb-true n THREADS lt) (⊎_elim
+          (λ (a : (v == 1) ≡ true). inl (eqb-true v 1 a))
+          (λ (b : (v == 2) ≡ true). inr (eqb-true v 2 b))
+          (either (v == 1) (v == 2) e))
+      by false lt e = absurd (yes (sym e))
+  join_may_not (negsuc n) site up = absurd (yes (sym up))
+
+  number : ((place_after code s run).threads t).own.number ≡ t
+  number = (waiters.consists.state.threads t).has.number
+
+  -- what it waits for
+  asks : Waits code s (place_after code s run) t → held_up (place_after code s run).words ((place_after code s run).threads t).own.number (asks_for s i ((place_after code s run).threads t)) ≡ true
+  asks up = sym (ap (λ b. held_up g.words m.own.number (if b then asks_for s i m else None)) on.1) ∙ up
+
+  pub may_not_come : Waits code s (place_after code s run) t → (e : SourceEvent) → e.thread ≡ t → act_awaited code ((place_after code s run).threads t) i ≡ Some e.act → MayCome r (history_of code s run) e e.act → ⊥
+  may_not_come up e own act may = by i refl act
+    where
+      act_eq : (a b : Act) → Some a ≡ Some b → a ≡ b
+      act_eq a b e = cc
+
+      of_act : (a : Act) → a ≡ e.act → MayCome r (history_of code s run) e a
+      of_act a q = subst (MayCome r (history_of code s run) e) (sym q) may
+
+      up_at : (j : Instr) → i ≡ j → held_up (place_after code s run).words ((place_after code s run).threads t).own.number (asks_for s j ((place_after code s run).threads t)) ≡ true
+      up_at j is = ap (λ j. held_up g.words m.own.number (asks_for s j m)) (sym is) ∙ asks up
+
+      by : (j : Instr) → i ≡ j → act_awaited code ((place_after code s run).threads t) j ≡ Some e.act → ⊥
+      by (instrs.Lock k site) is q = yes (sym (lock_may_not k site is (not_zero _ (up_at (instrs.Lock k site) is))) ∙ of_act _ (act_eq _ _ q))
+      by (instrs.Join n site) is q = yes (sym (of_act _ (act_eq _ _ q)) ∙ join_may_not (int m n) site (up_at (instrs.Join n site) is))
+      by (instrs.CondWait k site) is q =
+          yes (sym (up_at (instrs.CondWait k site) is) ∙ ap (waits_in (slice_index g.words (word s m k))) number ∙ sym (wait_may_not k site is t) ∙ ap (is_waiter (history_of code s run) (cell_at code m k)) (sym own) ∙ of_act _ (act_eq _ _ q))
+      by _ is q = cc
