@@ -16,7 +16,7 @@ use Rattle.sharc_code.specs.Runs.{Turn, Global, MayTurn}
 use Rattle.sharc_code.specs.Whole.{one_thread, bounds}
 use Rattle.sharc_invariant.specs.Types.{Targets}
 use Rattle.sharc_invariant.specs.Labels.{Labels, Within}
-use Rattle.sharc_invariant.specs.Typed.{IsWellTyped, is_shift, Fits as FitsWidth}
+use Rattle.sharc_invariant.specs.Typed.{IsWellTyped, is_shift, is_comparison, Fits as FitsWidth}
 use Rattle.sharc_invariant.specs.World.{World}
 use Rattle.sharc_invariant.specs.State.{State, view_of, refs_at, types_at}
 use Rattle.sharc_invariant.specs.Laws.{Turned}
@@ -64,18 +64,18 @@ right_gives : (w : Width) (a b : ℤ) → holds w a ≡ true → Gives w (comput
 right_gives w a (pos n) h = elim (nat_lt n (value_bits w + 1)) as (λ c. Gives w (cond c (Ok (int_shr a n)) (Err 4))) [ true ↦ shr_holds w a n h | false ↦ tt ]
 right_gives w a (negsuc n) h = tt
 
--- of values of the width an operator gives one of it, or a stop
-pub operator_gives : (w : Width) (operator : Operator) (a b : ℤ) → holds w a ≡ true → (is_shift operator ≡ false → holds w b ≡ true) → Gives w (computed w operator a b)
+-- of values of the width an operator gives one of it, or a stop; a comparison does so of any values
+pub operator_gives : (w : Width) (operator : Operator) (a b : ℤ) → (is_comparison operator ≡ false → holds w a ≡ true) → (is_shift operator ≡ false → is_comparison operator ≡ false → holds w b ≡ true) → Gives w (computed w operator a b)
 operator_gives w Add a b ha hb = range_gives w (a +ℤ b)
 operator_gives w Subtract a b ha hb = range_gives w (a -ℤ b)
 operator_gives w Multiply a b ha hb = range_gives w (a *ℤ b)
 operator_gives w Divide a b ha hb = divide_gives w a b
-operator_gives w Remainder a b ha hb = rem_gives w a b ha
+operator_gives w Remainder a b ha hb = rem_gives w a b (ha refl)
 operator_gives w ShiftLeft a b ha hb = shift_gives w a b
-operator_gives w ShiftRight a b ha hb = right_gives w a b ha
-operator_gives w And a b ha hb = and_holds w a b ha (hb refl)
-operator_gives w Or a b ha hb = or_holds w a b ha (hb refl)
-operator_gives w Xor a b ha hb = xor_holds w a b ha (hb refl)
+operator_gives w ShiftRight a b ha hb = right_gives w a b (ha refl)
+operator_gives w And a b ha hb = and_holds w a b (ha refl) (hb refl refl)
+operator_gives w Or a b ha hb = or_holds w a b (ha refl) (hb refl refl)
+operator_gives w Xor a b ha hb = xor_holds w a b (ha refl) (hb refl refl)
 operator_gives w Equal a b ha hb = truth_gives w (int_le a b && int_le b a)
 operator_gives w NotEqual a b ha hb = truth_gives w (not (int_le a b && int_le b a))
 operator_gives w Less a b ha hb = truth_gives w (int_lt a b)
@@ -101,14 +101,14 @@ module _ (x : Targets) (code : Code) (s : Shape) (ls : Labels) (wt : IsWellTyped
       let z = computed Int operator (int mm a) (int mm b) in
       let f = fine x code s ls wt g world st tr.thread may.started may.next.runs i is refl in
       results x code s ls wt g world st tr may i is refl r site z (Within Int) (of_turn x code s ls wt g world st tr may i is refl _ refl) f.1
-      (λ v e. gives_value Int z v (operator_gives Int operator (int mm a) (int mm b) (fits_now i is refl a Int f.0.left) (λ q. fits_now i is refl b Int (f.0.right q))) e)
+      (λ v e. gives_value Int z v (operator_gives Int operator (int mm a) (int mm b) (λ c. fits_now i is refl a Int (f.0.left c)) (λ q c. fits_now i is refl b Int (f.0.right q c))) e)
 
   pub Compute_long_keeps : (operator : Operator) (r a b site : ℕ) → instr_at code (g.threads tr.thread).at.pc ≡ instrs.ComputeLong operator r a b site → Turned x code s ls g world tr
   Compute_long_keeps operator r a b site is = let i = instrs.ComputeLong operator r a b site in
       let z = computed Long operator (int mm a) (int mm b) in
       let f = fine x code s ls wt g world st tr.thread may.started may.next.runs i is refl in
       results x code s ls wt g world st tr may i is refl r site z (Within Long) (of_turn x code s ls wt g world st tr may i is refl _ refl) f.1
-      (λ v e. gives_value Long z v (operator_gives Long operator (int mm a) (int mm b) (fits_now i is refl a Long f.0.left) (λ q. fits_now i is refl b Long (f.0.right q))) e)
+      (λ v e. gives_value Long z v (operator_gives Long operator (int mm a) (int mm b) (λ c. fits_now i is refl a Long (f.0.left c)) (λ q c. fits_now i is refl b Long (f.0.right q c))) e)
 
   pub Complement_keeps : (r a : ℕ) → instr_at code (g.threads tr.thread).at.pc ≡ instrs.Complement r a → Turned x code s ls g world tr
   Complement_keeps r a is = let i = instrs.Complement r a in

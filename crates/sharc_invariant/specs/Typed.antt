@@ -9,7 +9,7 @@ use Rattle.sharc_code.specs.declared.instr.Cell.TheVariants as cells
 use Rattle.sharc_code.specs.declared.instr.Width.{Width}
 use Rattle.sharc_code.specs.declared.instr.Width.TheVariants.{Char, Int, Long}
 use Rattle.sharc_code.specs.declared.instr.Operator.{Operator}
-use Rattle.sharc_code.specs.declared.instr.Operator.TheVariants.{ShiftLeft, ShiftRight}
+use Rattle.sharc_code.specs.declared.instr.Operator.TheVariants.{ShiftLeft, ShiftRight, Equal, NotEqual, Less, Greater, AtMost, AtLeast}
 use Rattle.sharc_code.specs.declared.instr.Register.{Register}
 use Rattle.sharc_code.specs.declared.instr.Register.TheVariants as registers
 use Rattle.sharc_code.specs.declared.instr.Instr.{Instr}
@@ -231,9 +231,19 @@ is_shift ShiftLeft = true
 is_shift ShiftRight = true
 is_shift _ = false
 
+abbrev pub is_comparison : Operator → Bool
+is_comparison Equal = true
+is_comparison NotEqual = true
+is_comparison Less = true
+is_comparison Greater = true
+is_comparison AtMost = true
+is_comparison AtLeast = true
+is_comparison _ = false
+
+-- a comparison takes integers of any width
 pub record Operands (l : Label) (w : Width) (operator : Operator) (a b : ℕ) : Type 0 where
-  pub left : Fits (l.ints a) w
-  pub right : is_shift operator ≡ false → Fits (l.ints b) w
+  pub left : is_comparison operator ≡ false → Fits (l.ints a) w
+  pub right : is_shift operator ≡ false → is_comparison operator ≡ false → Fits (l.ints b) w
 
 -- the element that an index is of: of a known number, or of the name that the index has, or of a new name
 abbrev pub IsElement : Label → Number → Element → Type 0

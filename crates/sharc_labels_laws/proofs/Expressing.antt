@@ -473,7 +473,7 @@ module _ (around : Setting) (f : ℕ) (ways : List Way) (y : Typing) (c : Contex
             fits = h.result;
             piece = joins from (mark l from i) (with_number around f D N top low from l i na.number) end xs (ys (i + 1) r ++ op.Compute w (operator_of o) i i (i + 1) (at_site site) ∷ []) na.piece
                 (joins from (mark X from (i + 1)) (with_number around f D N top low from X (i + 1) nb.number) end (ys (i + 1) r) (op.Compute w (operator_of o) i i (i + 1) (at_site site) ∷ []) nb.piece
-                (compute_at around f D N top low from i r l fr.at w (operator_of o) na.number nb.number (at_site site) h.wide (widened na.number (width_of (kind_of c a)) w na.fits h.first) (λ z. widened nb.number (width_of (kind_of c b)) w nb.fits (h.second z))));
+                (compute_at around f D N top low from i r l fr.at w (operator_of o) na.number nb.number (at_site site) h.wide (λ k. widened na.number (width_of (kind_of c a)) w na.fits (h.first k)) (λ z k. widened nb.number (width_of (kind_of c b)) w nb.fits (h.second z k))));
           })
 
   -- ---- one statement or expression more is entered

@@ -17,5 +17,6 @@ pub mod Placing
 pub mod Calling
 pub mod Spawning
 pub mod Casting
+pub mod Waiting
 pub mod Expressing
 pub mod Locking

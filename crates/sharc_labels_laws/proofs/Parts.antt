@@ -20,7 +20,7 @@ use Rattle.sharc_flat.specs.Flattened.{differ_code, compare_code, logical_code, 
 use Rattle.sharc_guard.specs.Known.{Know, know_next, writes_ref, writes_int, copy_given, number_given}
 use Rattle.sharc_invariant.specs.Types.{StaticType, Mentions}
 use Rattle.sharc_invariant.specs.Labels.{Entry, Empty, Refers, Number, Anything, Exactly, Within, Indexes, OfElement, OfGlobal, Named, Nth, Gate, Closed, Label, Less, LessNumber, HasBase, EntryMentions, IsScoped, IsFree, set_number, fill, empty, knows}
-use Rattle.sharc_invariant.specs.Typed.{IsVacant, is_shift, ints_in, refs_in}
+use Rattle.sharc_invariant.specs.Typed.{IsVacant, is_shift, is_comparison, ints_in, refs_in}
 use Rattle.sharc_invariant.proofs.Scoped.{less_refl, less_entry_refl, less_number_refl, scoped_fill}
 use Rattle.sharc_typed.specs.Passes.{IsNumberOf}
 use Rattle.sharc_labels_laws.specs.Stretches.{WritesWithin, Mark, Setting, Tells, Fits, IsLine, Stretch, AreWithin, Leads, LeadsWithin}
@@ -236,7 +236,7 @@ module _ (around : Setting) (f : ℕ) (D : (ℕ → Mark) → Type 0) (named : �
       (λ k h m e. constant_number around.targets (set_number l i (Exactly v)) v m e) (λ w. w)
       (λ table pc w plain next less tells. on_constant around f table pc (mark l from i) (with_number l i (Exactly v)) next i v plain (in_frame i r l at i w) less (λ _. tells))
 
-  pub compute_at : (i r : ℕ) (l : Label) → At i r l → (w : Width) (o : Operator) (m k : Number) (spot : Spot) → IsWide w → LessNumber m (Within w) → (is_shift o ≡ false → LessNumber k (Within w))
+  pub compute_at : (i r : ℕ) (l : Label) → At i r l → (w : Width) (o : Operator) (m k : Number) (spot : Spot) → IsWide w → (is_comparison o ≡ false → LessNumber m (Within w)) → (is_shift o ≡ false → is_comparison o ≡ false → LessNumber k (Within w))
       → P (mark (set_number (set_number l i m) (i + 1) k) from (i + 1 + 1)) (op.Compute w o i i (i + 1) spot ∷ []) (with_number l i (Within w))
   compute_at i r l at w o m k spot wide left right =
       let g : ℕ → Number = put (put l.ints i m) (i + 1) k in
@@ -245,7 +245,7 @@ module _ (around : Setting) (f : ℕ) (D : (ℕ → Mark) → Type 0) (named : �
       number_op i r l at g Closed (i + 1 + 1) refl (λ j lt. put_other (put l.ints i m) (i + 1) j k (λ e. omega (arith, e, lt)) ∙ put_other l.ints i j m (λ e. omega (arith, e, lt))) (omega arith) (Within w) (no_base w r)
       (op.Compute w o i i (i + 1) spot) (λ q. refl) (λ j. refl) (λ k h m e. absurd (none_some m e)) (λ w. w)
       (λ table pc writes plain next less tells. on_compute around f table pc (mark (record l { ints = g; gate = Closed }) from (i + 1 + 1)) (with_number l i (Within w)) next w o i i (i + 1) spot plain (in_frame i r l at i writes) wide
-      (record { left = subst (λ y. LessNumber y (Within w)) (sym one) left; right = λ e. subst (λ y. LessNumber y (Within w)) (sym two) (right e) }) less (λ _. tells))
+      (record { left = λ c. subst (λ y. LessNumber y (Within w)) (sym one) (left c); right = λ e c. subst (λ y. LessNumber y (Within w)) (sym two) (right e c) }) less (λ _. tells))
 
   pub negate_at : (i r : ℕ) (l : Label) → At i r l → (w : Width) (m : Number) (spot : Spot) → IsWide w → P (with_number l i m) (op.Negate w i i spot ∷ []) (with_number l i (Within w))
   negate_at i r l at w m spot wide = from_written i r l at (op.Negate w i i spot) m (Within w) (λ g c until closed below le. number_op i r l at g c until closed below le (Within w) (no_base w r) (op.Negate w i i spot) (λ q. refl) (λ j. refl) (λ k h m e. absurd (none_some m e)) (λ w. w)

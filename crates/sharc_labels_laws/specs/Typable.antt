@@ -36,9 +36,9 @@ use Rattle.sharc_flat.specs.Places.{Target, variable, in_global, global_of, targ
 use Rattle.sharc_flat.specs.Flattened.{kind_of, is_ref, target_of, mode_of, lvalue_in, what_names, guard_of, taken_guard, behind_int, behind_ref, called_code, spawn_code, place_call_code, cast_code, operator_of, layout_of}
 use Rattle.sharc_flat.specs.Suits.{Either, is_cell}
 use Rattle.sharc_flat_form.specs.Framed.{IsWide}
-use Rattle.sharc_invariant.specs.Types.{StaticType, cells_of}
+use Rattle.sharc_invariant.specs.Types.{StaticType, Content, field_at, cells_of}
 use Rattle.sharc_invariant.specs.Labels.{Entry, Empty, Refers, Unknown, Element, Exactly, Within, Label, LessNumber, EntryMentions, HasBase, fill, set_number}
-use Rattle.sharc_invariant.specs.Typed.{is_shift, Passes, IsShared, Recasts, IsLayout}
+use Rattle.sharc_invariant.specs.Typed.{is_shift, is_comparison, Passes, IsShared, Recasts, IsLayout}
 use Rattle.sharc_labels_laws.specs.Stretches.{Mark, Setting, Way, LeadsAmong}
 use Rattle.sharc_labels_laws.specs.Places.{Stands, IsNamed, IsPlain, no_type, mark}
 use Rattle.sharc_labels_laws.specs.Premises.{Typing, HoldsVariables, Ground, IntegerTyped, ReferenceTyped, MutexTyped}
@@ -82,6 +82,11 @@ IsBare bare l = bare ≡ true → ((q : ℕ) → l.same q ≡ q) × ((q : ℕ) �
 -- after this value
 abbrev pub after_value : Context → Expression → Bool → Bool
 after_value c e bare = if is_ref c e then false else bare
+
+-- the first cell of what has this type
+pub record FirstCell (z : Setting) (s : StaticType) (content : Content) : Type 0 where
+  pub some : 0 < cells_of z.targets s.target
+  pub holds : (field_at z.targets s.target 0).holds ≡ content
 
 -- an integer of one width is one of another
 abbrev pub Widens : Width → Width → Type 0
@@ -149,8 +154,8 @@ module _ (z : Setting) (f : ℕ) (ways : List Way) (y : Typing) where
     pub left : IsNumber c a
     pub right : IsNumber c b
     pub wide : IsWide (result_of c o a b)
-    pub first : Widens (width_of (kind_of c a)) (result_of c o a b)
-    pub second : is_shift (operator_of o) ≡ false → Widens (width_of (kind_of c b)) (result_of c o a b)
+    pub first : is_comparison (operator_of o) ≡ false → Widens (width_of (kind_of c a)) (result_of c o a b)
+    pub second : is_shift (operator_of o) ≡ false → is_comparison (operator_of o) ≡ false → Widens (width_of (kind_of c b)) (result_of c o a b)
     pub result : Widens (result_of c o a b) (width_of (kind_of c e))
 
   -- a comparison of two references, or of two integers

@@ -179,7 +179,7 @@ null_modes m e h = ap (option_map (modes_of m)) (null_row m.typed e h)
 
 -- ---- what goes where
 -- of a pointer that is wanted with these modes
-goes : (c : Context) (want : Kind) (to : List Sharing) (e : Expression) → is_pointer want ≡ true → agrees want (kind_at c.program.typed e) ≡ true
+pub goes : (c : Context) (want : Kind) (to : List Sharing) (e : Expression) → is_pointer want ≡ true → agrees want (kind_at c.program.typed e) ≡ true
     → ((found : List Sharing) → modes_at c.program e ≡ Some found → same_all c.program.typed to found ≡ true) → GoesTo (entry_of c e) (static_of c want to)
 goes c want to e pointer agree agrees_by = by (fair want (kind_at c.program.typed e) pointer agree) (modes_at c.program e) refl
   where

@@ -47,7 +47,7 @@ variable_is (named.Function n) x h = absurd (none_some x h)
 variable_is (named.Field n) x h = absurd (none_some x h)
 variable_is named.Known x h = absurd (none_some x h)
 
-path_named : (r : Resolution) (l : Lock) (x : ℕ) → path_variable r l ≡ Some x → named_at r l.first ≡ named.Variable x
+pub path_named : (r : Resolution) (l : Lock) (x : ℕ) → path_variable r l ≡ Some x → named_at r l.first ≡ named.Variable x
 path_named r l x h = by (is_some l.second) h
   where
     by : (b : Bool) → cond b (variable_named (named_at r l.first)) None ≡ Some x → named_at r l.first ≡ named.Variable x
@@ -103,7 +103,7 @@ module _ (rules : RulesAreMet) (m : Assignment) (a : IsAccepted m) where
       let i = taken_identifier m.typed (without_parentheses w.of) x w.is in
       ((rules m).0 a.well).m10 w.of i.0 i.1 x w.does i.2 i.3 h
 
-  held_by : (x : ℕ) → is_constant m.typed x ≡ true → IsNamedByPath m x → is_held m.typed x ≡ true
+  pub held_by : (x : ℕ) → is_constant m.typed x ≡ true → IsNamedByPath m x → is_held m.typed x ≡ true
   held_by x constant h = and_from (is_constant m.typed x) (not (is_taken m.typed x)) constant (by (is_taken m.typed x) refl)
     where
       by : (b : Bool) → is_taken m.typed x ≡ b → not b ≡ true
@@ -113,7 +113,7 @@ module _ (rules : RulesAreMet) (m : Assignment) (a : IsAccepted m) where
   abbrev HeldBy : Lock → Type 0
   HeldBy l = (x : ℕ) → path_variable m.typed l ≡ Some x → is_held m.typed x ≡ true
 
-  object : (l : Lock) (x : ℕ) → path_variable m.typed l ≡ Some x → object_of m.typed l ≡ Some x
+  pub object : (l : Lock) (x : ℕ) → path_variable m.typed l ≡ Some x → object_of m.typed l ≡ Some x
   object l x h = ap (object_named m.typed) (path_named m.typed l x h)
 
   -- M4: the variable of a path that is written is constant
@@ -162,7 +162,7 @@ module _ (c : Context) (p : ℕ) where
   path_held : (l : Lock) → IsHeldPath c.program (locked l) → (x : ℕ) → named_at c.program.typed l.first ≡ named.Variable x → is_some l.second ≡ true → is_held c.program.typed x ≡ true
   path_held l held x is some = held l x refl (ap (λ b. cond b (variable_named (named_at c.program.typed l.first)) None) some ∙ ap variable_named is)
 
-  all_named : (modes : List Sharing) → AllHeld c.program modes → AllStand c.program c.scope modes → SomeNames p (locks_at c modes) → (p < ref_count c.scope) × (held_at c p ≡ true)
+  pub all_named : (modes : List Sharing) → AllHeld c.program modes → AllStand c.program c.scope modes → SomeNames p (locks_at c modes) → (p < ref_count c.scope) × (held_at c p ≡ true)
   all_named [] h t k = absurd k
   all_named (private ∷ rest) h t k = all_named rest h.1 t.1 k
   all_named (readonly ∷ rest) h t k = all_named rest h.1 t.1 k

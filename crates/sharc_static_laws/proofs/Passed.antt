@@ -32,8 +32,10 @@ use Rattle.sharc_mode.specs.Rows.{Reading, written, at_call, Row, is_constant_na
 use Rattle.sharc_mode.specs.Sharings.{Lock, Sharing, private, readonly, locked, racy, dynamic, lock_of, sharing_of, variable_named, variable_of, same_all}
 use Rattle.sharc_mode_laws.specs.Constructs.{IsEntity, IsExpression, IsCall, called, spawned, an_argument}
 use Rattle.sharc_mode_laws.specs.Laws.{RulesAreMet}
-use Rattle.sharc_mode_laws.specs.Paths.{at_target}
-use Rattle.sharc_flat.specs.Scope.{Context}
+use Rattle.sharc_mode_laws.specs.Paths.{at_target, is_substituted}
+use Rattle.sharc_ctype.specs.Constants.{is_constant}
+use Rattle.sharc_flat.specs.Scope.{Context, slot_kind}
+use Rattle.sharc_flat.specs.Suits.{PathNamed, PathStands}
 use Rattle.sharc_invariant.specs.Types.{Lock as TypeLock}
 use Rattle.sharc_invariant.specs.Types.Lock.{Global, Through as InRegister}
 use Rattle.sharc_invariant.specs.Labels.{Refers, Label, AllSame}
@@ -41,12 +43,15 @@ use Rattle.sharc_invariant.specs.Typed.{PassesLock, Passes}
 use Rattle.sharc_target_laws.specs.Shapes.{form_of, shape_of, number}
 use Rattle.sharc_static_laws.specs.Static.{register, lock_named, lock_at, locks_at, static_of, variable_type, entry_by, entry_of}
 use Rattle.sharc_static_laws.specs.Laws.{IsAccepted}
-use Rattle.sharc_static_laws.specs.Calls.{at_entry, AreCopies, ArgumentsPass}
+use Rattle.sharc_static_laws.specs.Calls.{at_entry, AreCopies, ArgumentsPass, argument_type, AreStanding, ArgumentFits, ArgumentsFit}
+use Rattle.sharc_static_laws.specs.Held.{IsHeldPath, AllHeld}
+use Rattle.sharc_static_laws.specs.Scopes.{AllStand}
+use Rattle.sharc_static_laws.proofs.Holds.{path_named, held_by, object as object_there, all_named}
 use Rattle.sharc_static_laws.proofs.Scoping.{HasOneStruct}
 use Rattle.sharc_static_laws.proofs.Lists.{each, of_each, head_there, tail_there, head_or_tail, none_there, same_some, none_some, place_there, to_each}
 use Rattle.sharc_static_laws.proofs.Same.{forms_of_same, locks_of_same}
 use Rattle.sharc_static_laws.proofs.Transferred.{own_passed, Passes as FairlyPasses, calls_pass}
-use Rattle.sharc_static_laws.proofs.Given.{Fair, is_nothing, is_like, fair, null_modes, meets, no_variable, parameter_declared, same_kinds}
+use Rattle.sharc_static_laws.proofs.Given.{Fair, is_nothing, is_like, fair, null_modes, meets, no_variable, parameter_declared, same_kinds, goes}
 use Rattle.sharc_static_laws.proofs.Written.{raw, row_good, found_there}
 use Rattle.sharc_static_laws.proofs.Origins.{reading_kept, same_raw, mapped_there, both_hold}
 
@@ -104,13 +109,14 @@ parameter_among (x ∷ ds) (argument a all) d e has =
 pub record Use (r : Resolution) (e : Expression) (at : ℕ) : Type 0 where
   pub variable : ℕ
   pub names : named_at r at ≡ named.Variable variable
+  pub constant : is_constant r variable ≡ true
   pub kind : kind_at r e ≡ variable_kind (declaration_at r variable)
 
 pub use_named : (r : Resolution) (e : Expression) (at : ℕ) → constant_use r e ≡ Some at → Use r e at
 use_named r (tree.identifier s i) at h = by (is_constant_named r (named_at r i.site.token)) refl h
   where
     one : (n : Named) → named_at r i.site.token ≡ n → is_constant_named r n ≡ true → i.site.token ≡ at → Use r (tree.identifier s i) at
-    one (named.Variable y) is k same = record { variable = y; names = ap (named_at r) (sym same) ∙ is; kind = ap (named_kind r) is }
+    one (named.Variable y) is k same = record { variable = y; names = ap (named_at r) (sym same) ∙ is; constant = k; kind = ap (named_kind r) is }
     one (named.Struct n) is k same = absurd (false≢true k)
     one (named.Global n) is k same = absurd (false≢true k)
     one (named.Function n) is k same = absurd (false≢true k)
@@ -257,6 +263,9 @@ module _ (found : EachTypeFound) (rules : RulesAreMet) (all_fair : AllFair) (the
   fair_argument : (d : Declaration) (e : Expression) → Contains (passed ds all) (given d e) → IsFair r (given d e)
   fair_argument d e has = of_each (IsFair r) (passed ds all) (given d e) (fair_by call) has
 
+  struct_pointer : (x : ℕ) → (struct : List ℕ) × (variable_kind (declaration_at r x) ≡ object (base.Struct struct) 1) → is_pointer (variable_kind (declaration_at r x)) ≡ true
+  struct_pointer x h = ap is_pointer h.1 ∙ lt-ltb 0 1 (omega arith)
+
   module _ (one_struct : HasOneStruct r) (l : Label) (k a : ℕ) (copies : AreCopies c ds all l k) where
     -- the argument for a parameter that is a pointer, where it is a constant variable, has the same fields
     same_variable : (x at y : ℕ) (struct : List ℕ) → variable_kind (declaration_at r x) ≡ object (base.Struct struct) 1 → argument_use r ds all x ≡ Some at → named_at r at ≡ named.Variable y → variable_kind (declaration_at r y) ≡ object (base.Struct struct) 1
@@ -300,7 +309,7 @@ module _ (found : EachTypeFound) (rules : RulesAreMet) (all_fair : AllFair) (the
             ap (λ o. lock_at c (lock_for r ds all o lock)) path ∙ ap (λ o. lock_at c (with_base o lock)) used ∙ ap (λ w. lock_named c w lock.second) names ∙ ap (lock_named c (named.Variable y)) second in
             let f : lock_at inner lock ≡ InRegister (register inner x) (field_place_behind r x name) = ap (λ w. lock_named inner w lock.second) is ∙ ap (lock_named inner (named.Variable x)) second in
             subst (λ z. PassesLock l k a z (lock_at inner lock)) (sym e) (subst (PassesLock l k a (InRegister (register c y) (field_place_behind r y name))) (sym f)
-            (same_place x y (pointer x path).0 name (pointer x path).1 (same_variable x at y (pointer x path).0 (pointer x path).1 used names), copies x at y used names))
+            (same_place x y (pointer x path).0 name (pointer x path).1 (same_variable x at y (pointer x path).0 (pointer x path).1 used names), copies x at y (struct_pointer x (pointer x path)) used names))
 
         by : (n : Named) → named_at r lock.first ≡ n → (o : Option (List ℕ)) → lock.second ≡ o → PassesLock l k a (lock_at c (lock_for r ds all (path_variable r lock) lock)) (lock_at inner lock)
         by (named.Variable x) is (Some name) second =
@@ -398,6 +407,129 @@ module _ (found : EachTypeFound) (rules : RulesAreMet) (all_fair : AllFair) (the
         by f None is = subst (λ z. Passes l k a (entry_by c (kind_at r e) z) (Refers (static_of inner (declared_kind d.written) here))) (sym is) tt
         by (is_nothing n) (Some found_modes) is = absurd (none_some found_modes (sym (null_modes m e n) ∙ is))
         by (is_like one h) (Some found_modes) is = subst (λ z. Passes l k a (entry_by c (kind_at r e) z) (Refers (static_of inner (declared_kind d.written) here))) (sym is) (some found_modes is one)
+
+    -- and so does the type of the argument
+    type_passes : (d : Declaration) → Contains ds d → Passes l k a (Refers (argument_type c ds all d)) (Refers (variable_type inner d.name.site.token))
+    type_passes d among =
+        let token = d.name.site.token in
+        let kind = declared_kind d.written in
+        subst (λ (o : Option Declaration). Passes l k a (Refers (argument_type c ds all d)) (Refers (static_of inner (variable_kind o) (modes_of m (declared_row r written token))))) (sym (declared_by call d among))
+        (ap (λ fs. number m (record { base = base_of kind; forms = fs })) (row_forms (entity_at r token token)), row_passes d among (entity_at r token token) refl)
+
+  -- ---- the paths at the call
+  abbrev at_caller : Lock → Lock
+  at_caller lock = lock_for r ds all (path_variable r lock) lock
+
+  none_named : (n : Named) (second : Option (List ℕ)) → cond (is_some second) (variable_named n) None ≡ None → PathNamed c.scope n second
+  none_named (named.Variable x) (Some name) h = absurd (none_some x (sym h))
+  none_named (named.Variable x) None h = tt
+  none_named (named.Struct n) second h = tt
+  none_named (named.Global n) second h = tt
+  none_named (named.Function n) second h = tt
+  none_named (named.Field n) second h = tt
+  none_named named.Known second h = tt
+
+  one_named : (n : Named) (y : ℕ) (second : Option (List ℕ)) → n ≡ named.Variable y → slot_kind c.scope y ≡ Some true → PathNamed c.scope n second
+  one_named n y second is stands = subst (λ w. PathNamed c.scope w second) (sym is) (by second)
+    where
+      by : (o : Option (List ℕ)) → PathNamed c.scope (named.Variable y) o
+      by (Some name) = stands
+      by None = tt
+
+  same_lock : (a b : Lock) → locked a ≡ locked b → a ≡ b
+  same_lock a b h = cc
+
+  -- one is held, and leads through a variable that stands
+  abbrev Fits : Lock → Type 0
+  Fits lock = IsHeldPath m (locked lock) × (AreStanding c ds all → PathStands r c.scope (locked lock))
+
+  lock_fits : (d : Declaration) → Contains ds d → (lock : Lock) → PathPoints r lock → Contains (modes_of m (declared_row r written d.name.site.token)) (locked lock)
+      → Contains (modes_of m (declared_row r (at_call ds all) d.name.site.token)) (locked (at_caller lock)) → Fits (at_caller lock)
+  lock_fits d among lock pointer here there = by (path_variable r lock) refl
+    where
+      without : path_variable r lock ≡ None → Fits lock
+      without none = (
+        λ l x e h. absurd (none_some x (sym none ∙ ap (path_variable r) (same_lock lock l e) ∙ h)),
+        λ stands. none_named (named_at r lock.first) lock.second none,
+      )
+
+      with_one : (x at : ℕ) → is_pointer (variable_kind (declaration_at r x)) ≡ true → argument_use r ds all x ≡ Some at → Contains (modes_of m (declared_row r (at_call ds all) d.name.site.token)) (locked (with_base (Some at) lock)) → Fits (with_base (Some at) lock)
+      with_one x at leads used there =
+          let f = used_for r ds all x at used in
+          let u = use_named r f.of at f.used in (
+            λ l y e h.
+                let same : with_base (Some at) lock ≡ l = same_lock (with_base (Some at) lock) l e in
+                let path : path_variable r (with_base (Some at) lock) ≡ Some y = ap (path_variable r) same ∙ h in
+                let is : u.variable ≡ y = same_token u.variable y (sym u.names ∙ path_named r (with_base (Some at) lock) y path) in
+                held_by rules m accepted y (ap (is_constant r) (sym is) ∙ u.constant) (is_substituted call among (at_target there) (object_there rules m accepted (with_base (Some at) lock) y path)),
+            λ stands. one_named (named_at r at) u.variable lock.second u.names (stands x at u.variable leads used u.names),
+          )
+
+      by : (o : Option ℕ) → path_variable r lock ≡ o → Fits (at_caller lock)
+      by None is = subst Fits (sym (ap (λ o. lock_for r ds all o lock) is)) (without is)
+      by (Some x) is =
+          let used = (meets rules all_fair themselves m accepted).m4.arguments ds all d lock x call among (at_target here) is in
+          let to : at_caller lock ≡ with_base (Some used.0) lock = ap (λ o. lock_for r ds all o lock) is ∙ ap (λ o. with_base o lock) used.1 in
+          subst Fits (sym to) (with_one x used.0 (struct_pointer x (pointer x is)) used.1 (subst (λ z. Contains (modes_of m (declared_row r (at_call ds all) d.name.site.token)) (locked z)) to there))
+
+  abbrev ModeFits : Mode → Type 0
+  ModeFits mode = (path : Path) → mode ≡ Locked path → Fits (at_caller (lock_of path))
+
+  list_held : (list : List Mode) → AllByRecursion ModeFits list → AllHeld m (map (λ mode. read r (at_call ds all) (sharing_of mode)) list)
+  list_held [] h = tt
+  list_held (Private ∷ rest) h = (λ l x e k. absurd (let z : private ≡ locked l = e in cc), list_held rest h.1)
+  list_held (Readonly ∷ rest) h = (λ l x e k. absurd (let z : readonly ≡ locked l = e in cc), list_held rest h.1)
+  list_held (Locked path ∷ rest) h = ((h.0 path refl).0, list_held rest h.1)
+  list_held (Racy ∷ rest) h = (λ l x e k. absurd (let z : racy ≡ locked l = e in cc), list_held rest h.1)
+  list_held (Dynamic ∷ rest) h = (λ l x e k. absurd (let z : dynamic ≡ locked l = e in cc), list_held rest h.1)
+
+  list_stands : AreStanding c ds all → (list : List Mode) → AllByRecursion ModeFits list → AllStand m c.scope (map (λ mode. read r (at_call ds all) (sharing_of mode)) list)
+  list_stands s [] h = tt
+  list_stands s (Private ∷ rest) h = (tt, list_stands s rest h.1)
+  list_stands s (Readonly ∷ rest) h = (tt, list_stands s rest h.1)
+  list_stands s (Locked path ∷ rest) h = ((h.0 path refl).1 s, list_stands s rest h.1)
+  list_stands s (Racy ∷ rest) h = (tt, list_stands s rest h.1)
+  list_stands s (Dynamic ∷ rest) h = (tt, list_stands s rest h.1)
+
+  -- those of a parameter
+  row_fits : (d : Declaration) → Contains ds d → (o : Option Numbered) → entity_at r d.name.site.token d.name.site.token ≡ o
+      → AllHeld m (modes_of m (entity_row (at_call ds all) o)) × (AreStanding c ds all → AllStand m c.scope (modes_of m (entity_row (at_call ds all) o)))
+  row_fits d among None is = (tt, λ s. tt)
+  row_fits d among (Some n) is =
+      let row = entity_row written (Some n) in
+      let other = entity_row (at_call ds all) (Some n) in
+      let same : raw m row ≡ raw m other = same_raw m written (at_call ds all) n.entity.role n.first (positions_of n.entity) in
+      let entity : IsEntity m n = found_there (is_told_by d.name.site.token d.name.site.token) (numbered (entities_in r.program.items)) n is in
+      let kept : other.reading ≡ at_call ds all = reading_kept n.entity.role _ in
+      let kept_here : row.reading ≡ written = reading_kept n.entity.role _ in
+      let fits : AllByRecursion ModeFits (raw m other) = each (λ mode. ModePoints r mode × Contains (raw m other) mode) ModeFits
+      (λ mode h path e.
+      let has = h.1 in
+      let at : Contains (raw m other) (Locked path) = subst (Contains (raw m other)) e has in
+      lock_fits d among (lock_of path) (h.0 path e)
+      (subst (λ o. Contains (modes_of m (entity_row written o)) (locked (lock_of path))) (sym is)
+      (subst (λ z. Contains (map (λ mode. read r z (sharing_of mode)) (raw m row)) (locked (lock_of path))) (sym kept_here) (mapped_there (λ mode. read r written (sharing_of mode)) (raw m row) (Locked path) (subst (λ list. Contains list (Locked path)) (sym same) at))))
+      (subst (λ o. Contains (modes_of m (entity_row (at_call ds all) o)) (locked (at_caller (lock_of path)))) (sym is)
+      (subst (λ z. Contains (map (λ mode. read r z (sharing_of mode)) (raw m other)) (locked (at_caller (lock_of path)))) (sym kept) (mapped_there (λ mode. read r (at_call ds all) (sharing_of mode)) (raw m other) (Locked path) at))))
+      (raw m other) (both_hold (ModePoints r) (Contains (raw m other)) (raw m other) (row_points found m accepted (at_call ds all) n entity) (to_each (Contains (raw m other)) (raw m other) (λ mode has. has))) in (
+        subst (λ z. AllHeld m (map (λ mode. read r z (sharing_of mode)) (raw m other))) (sym kept) (list_held (raw m other) fits),
+        λ s. subst (λ z. AllStand m c.scope (map (λ mode. read r z (sharing_of mode)) (raw m other))) (sym kept) (list_stands s (raw m other) fits),
+      )
+
+  argument_fits : HasOneStruct r → (d : Declaration) (e : Expression) → Contains (passed ds all) (given d e) → is_pointer (declared_kind d.written) ≡ true → ArgumentFits c ds all d e
+  argument_fits one_struct d e has pointer =
+      let among = parameter_among ds all d e has in
+      let token = d.name.site.token in
+      let to = modes_of m (declared_row r (at_call ds all) token) in
+      let fits = row_fits d among (entity_at r token token) refl in
+      record {
+        goes = goes c (declared_kind d.written) to e pointer (fair_argument d e has) (λ modes is. (meets rules all_fair themselves m accepted).m1 to modes e (an_argument call has) is);
+        names = λ stands p mentions. all_named c p to fits.0 (fits.1 stands) mentions;
+        passes = λ l k a copies. type_passes one_struct l k a copies d among;
+      }
+
+pub arguments_fit : EachTypeFound → RulesAreMet → AllFair → EachNamesItself → ((r : Resolution) → IsResolved r → IsPlaced r.program → IsLow r.program → HasOneStruct r) → ArgumentsFit
+arguments_fit found rules all_fair themselves one_struct c accepted ds all d e call has pointer = argument_fits found rules all_fair themselves c accepted ds all call (one_struct c.program.typed accepted.resolved accepted.placed accepted.low) d e has pointer
 
 pub arguments_pass : EachTypeFound → RulesAreMet → AllFair → EachNamesItself → ((r : Resolution) → IsResolved r → IsPlaced r.program → IsLow r.program → HasOneStruct r) → ArgumentsPass
 arguments_pass found rules all_fair themselves one_struct c accepted ds all d e call has pointer l k a copies = passes found rules all_fair themselves c accepted ds all call (one_struct c.program.typed accepted.resolved accepted.placed accepted.low) l k a copies d e has pointer

@@ -1,7 +1,7 @@
 // The laws, each the contract of a function that does nothing.
 
 ghost use Rattle.sharc_static_laws.specs.Alone.{SomeAreAlone};
-ghost use Rattle.sharc_static_laws.specs.Calls.{ArgumentsPass};
+ghost use Rattle.sharc_static_laws.specs.Calls.{ArgumentsFit, ArgumentsPass};
 ghost use Rattle.sharc_static_laws.specs.Casting.{CastsRecast};
 ghost use Rattle.sharc_static_laws.specs.Held.{HeldLaws};
 ghost use Rattle.sharc_static_laws.specs.Laws.{GivenLaws};
@@ -51,6 +51,18 @@ pub fn held_laws()
 /// What is passed at a call has the type that the parameter has there.
 pub fn arguments_pass()
     ensures { ArgumentsPass }
+{
+    each_name_once();
+    only_names();
+    each_type_found();
+    rules_are_met();
+    all_fair();
+    each_names_itself();
+}
+
+/// An argument has the type that the parameter has at the call, which passes, be it NULL.
+pub fn arguments_fit()
+    ensures { ArgumentsFit }
 {
     each_name_once();
     only_names();
