@@ -6,4 +6,5 @@ pub mod Stated
 pub mod Decided
 pub mod Declared
 pub mod Ended
+pub mod Left
 pub mod Laws

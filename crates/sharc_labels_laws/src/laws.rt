@@ -3,6 +3,7 @@
 ghost use Rattle.sharc_labels_laws.specs.Decided.{DecisionsAreTyped};
 ghost use Rattle.sharc_labels_laws.specs.Declared.{LocalsAreTyped};
 ghost use Rattle.sharc_labels_laws.specs.Ended.{EndsAreTyped};
+ghost use Rattle.sharc_labels_laws.specs.Left.{JumpsAreTyped, ReturnsAreTyped};
 ghost use Rattle.sharc_labels_laws.specs.Laws.{ExpressionsAreTyped, LinesAreTyped, LinesKnow, LinesTell, PartsAreTyped, SimplesAreTyped, StretchesJoin, TestsAreTyped};
 
 /// Lines that stand in a table of marks are typed whatever checks are remembered.
@@ -58,4 +59,14 @@ pub fn locals_law()
 /// At the end of a block its variables are given up, and what was known before it is known again.
 pub fn ends_law()
     ensures { EndsAreTyped }
+{}
+
+/// A jump to a line to which code may lead is typed.
+pub fn jumps_law()
+    ensures { JumpsAreTyped }
+{}
+
+/// So is a return that gives nothing.
+pub fn returns_law()
+    ensures { ReturnsAreTyped }
 {}
