@@ -25,3 +25,4 @@ pub mod Decided
 pub mod Declaring
 pub mod Ending
 pub mod Leaving
+pub mod Blocks

@@ -7,4 +7,5 @@ pub mod Decided
 pub mod Declared
 pub mod Ended
 pub mod Left
+pub mod Blocks
 pub mod Laws

@@ -1,5 +1,6 @@
 //! Laws of flattened code.
 
+ghost use Rattle.sharc_labels_laws.specs.Blocks.{BlocksAreTyped};
 ghost use Rattle.sharc_labels_laws.specs.Decided.{DecisionsAreTyped};
 ghost use Rattle.sharc_labels_laws.specs.Declared.{LocalsAreTyped};
 ghost use Rattle.sharc_labels_laws.specs.Ended.{EndsAreTyped};
@@ -69,4 +70,9 @@ pub fn jumps_law()
 /// So is a return that gives nothing.
 pub fn returns_law()
     ensures { ReturnsAreTyped }
+{}
+
+/// Statements and blocks at a line are typed.
+pub fn blocks_law()
+    ensures { BlocksAreTyped }
 {}
