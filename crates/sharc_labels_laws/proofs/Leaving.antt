@@ -1,12 +1,12 @@
 -- How blocks are left.
-use Rattle.std.proofs.Common.{◌≡◌, ◌≢◌, ℕ, ◌+◌, ◌<◌, ◌≤◌, ◌⊎◌, Bool, true, false, List, [], ◌∷◌, ◌++◌, length, Some, refl, sym, ap, ◌∙◌, subst, inl, inr, ⊎_elim, arith, append_assoc, pos}
+use Rattle.std.proofs.Common.{◌≡◌, ◌≢◌, ℕ, ◌+◌, ◌<◌, ◌≤◌, ◌⊎◌, Bool, true, false, List, [], ◌∷◌, ◌++◌, length, drop, Some, refl, sym, ap, ◌∙◌, subst, inl, inr, ⊎_elim, arith, append_assoc, pos}
 use Rattle.std.proofs.lemmas.Bool.{cases_eq}
 use Rattle.sharc_code.specs.Runs.{put}
 use Rattle.sharc_code.proofs.Places.{put_same, put_other}
 use Rattle.sharc_flat_form.specs.declared.op.Op.{Op}
 use Rattle.sharc_flat_form.specs.declared.op.Op.TheVariants as op
 use Rattle.sharc_flat_form.specs.declared.op.Spot.{Spot}
-use Rattle.sharc_flat.specs.Scope.{Context, int_count, ref_count}
+use Rattle.sharc_flat.specs.Scope.{Context, int_count, ref_count, ends_from, leaves}
 use Rattle.sharc_flat.specs.Flattened.{zero_code}
 use Rattle.sharc_invariant.specs.Types.{StaticType}
 use Rattle.sharc_invariant.specs.Labels.{Entry, Empty, Refers, Number, Anything, Exactly, Label, LessEntry, LessNumber, IsScoped, fill, set_number}
@@ -16,11 +16,13 @@ use Rattle.sharc_labels_laws.specs.Stretches.{Mark, Setting, Way, Fits, IsLine, 
 use Rattle.sharc_labels_laws.specs.Places.{AreLow, mark}
 use Rattle.sharc_labels_laws.specs.Premises.{Typing}
 use Rattle.sharc_labels_laws.specs.Declared.{StandsBefore, before}
-use Rattle.sharc_labels_laws.specs.Left.{IsOpen, GivesNothing, JumpsAreTyped, ReturnsAreTyped}
+use Rattle.sharc_labels_laws.specs.Left.{back, AreNested, LeavesAreTyped, IsOpen, GivesNothing, JumpsAreTyped, ReturnsAreTyped}
+use Rattle.sharc_labels_laws.proofs.Fitting.{fits_same}
+use Rattle.sharc_labels_laws.proofs.Ending.{ends_typed}
 use Rattle.sharc_labels_laws.proofs.Flow as flow
 use Rattle.sharc_labels_laws.proofs.Rules.{on_jump}
 use Rattle.sharc_labels_laws.proofs.Handing.{on_return}
-use Rattle.sharc_labels_laws.proofs.Parts.{At, then_do, constant_at, within_left}
+use Rattle.sharc_labels_laws.proofs.Parts.{At, then_do, none, constant_at, within_left}
 use Rattle.sharc_labels_laws.proofs.Accessed.{Frame}
 use Rattle.sharc_labels_laws.proofs.Expressing.{null_at}
 
@@ -45,6 +47,19 @@ module _ (z : Setting) (f : ℕ) (ways : List Way) where
   way_at (way ∷ rest) table q m opens h = ⊎_elim
       (λ (w : (way.line ≡ q) × (way.mark ≡ m)). subst (λ n. (n ≤ z.lines) × Fits z.targets m (table n)) w.0 (subst (λ k. (way.line ≤ z.lines) × Fits z.targets k (table way.line)) w.1 opens.0))
       (λ (w : IsOpen rest q m). way_at rest table q m opens.1 w) h
+
+  -- ---- blocks that end one after the other
+  leave : (y : Typing) (d : Context) (k : Label) (inside : List ℕ) (c : Context) (l : Label) → AreLow (y.named c) (ref_count c.scope) → StandsBefore y c f l → AreNested y f c l inside d k → Q (before c l) (leaves c.scope inside) (before d k)
+  leave y d k [] c l low here h =
+      subst (λ e. Q (before c l) [] (before e k)) h.0 (subst (λ b. Q (before c l) [] (before c b)) h.1 (none z f (AreOpen z ways) (y.named c) (ref_count c.scope) low (int_count c.scope) (before c l) (before c l) (fits_same z.targets (before c l)) (λ h. h)))
+  leave y d k (n ∷ outer) c l low here h =
+      let b = back c n in
+      then_do z f (AreOpen z ways) (y.named c) (ref_count c.scope) low (int_count c.scope) (before c l) (before b h.0) (before d k) (ends_from c.scope n) (leaves b.scope outer)
+      (ends_typed z f ways y b c (drop n c.scope) h.3 h.2 h.0 l h.1 here)
+      (leave y d k outer b h.0 h.3 h.1 h.4)
+
+pub leaves_typed : LeavesAreTyped
+leaves_typed z f ways y c d l k low here inside h = leave z f ways y d k inside c l low here h
 
 pub jumps_typed : JumpsAreTyped
 jumps_typed z f ways y c l here q opens s os p = last z f ways s (before c l) os (op.Jump q) p

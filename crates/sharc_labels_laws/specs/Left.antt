@@ -1,9 +1,9 @@
 -- How blocks are left: by jumps, and by returns that give nothing.
-use Rattle.std.specs.Prelude.{ℕ, ◌+◌, ◌≡◌, ◌⊎◌, Bool, true, false, List, [], ◌∷◌, ◌++◌, pos}
+use Rattle.std.specs.Prelude.{ℕ, ◌+◌, ◌≡◌, ◌⊎◌, Bool, true, false, List, [], ◌∷◌, ◌++◌, take, drop, pos}
 use Rattle.sharc_flat_form.specs.declared.op.Op.{Op}
 use Rattle.sharc_flat_form.specs.declared.op.Op.TheVariants as op
 use Rattle.sharc_flat_form.specs.declared.op.Spot.{Spot}
-use Rattle.sharc_flat.specs.Scope.{Context, int_count, ref_count}
+use Rattle.sharc_flat.specs.Scope.{Context, int_count, ref_count, leaves}
 use Rattle.sharc_flat.specs.Flattened.{zero_code}
 use Rattle.sharc_invariant.specs.Types.{StaticType}
 use Rattle.sharc_invariant.specs.Labels.{Empty, Refers, Anything, Exactly, Label, LessNumber}
@@ -12,6 +12,21 @@ use Rattle.sharc_labels_laws.specs.Places.{AreLow}
 use Rattle.sharc_labels_laws.specs.Premises.{Typing}
 use Rattle.sharc_labels_laws.specs.Typable.{IsTypeIn}
 use Rattle.sharc_labels_laws.specs.Declared.{StandsBefore, before}
+use Rattle.sharc_labels_laws.specs.Ended.{Grows}
+
+-- what stands where a block began, of which so many variables stood before it
+abbrev pub back : Context → ℕ → Context
+back c n = record c { scope = take n c.scope }
+
+-- Blocks are open one in the other, the innermost first: before each of them this is known, up to what is known before the outermost.
+abbrev pub AreNested : Typing → ℕ → Context → Label → List ℕ → Context → Label → Type 0
+AreNested y f c l [] d k = (c ≡ d) × (l ≡ k)
+AreNested y f c l (n ∷ outer) d k = (m : Label) × StandsBefore y (back c n) f m × Grows y (back c n) c (drop n c.scope) × AreLow (y.named (back c n)) (ref_count (back c n).scope) × AreNested y f (back c n) m outer d k
+
+-- They end one after the other.
+abbrev pub LeavesAreTyped : Type 0
+LeavesAreTyped = (z : Setting) (f : ℕ) (ways : List Way) (y : Typing) (c d : Context) (l k : Label) → AreLow (y.named c) (ref_count c.scope) → StandsBefore y c f l → (inside : List ℕ) → AreNested y f c l inside d k
+    → LeadsAmong z f ways (before c l) (leaves c.scope inside) (before d k)
 
 -- code may lead to this line, where no more than this is said
 abbrev pub IsOpen : List Way → ℕ → Mark → Type 0

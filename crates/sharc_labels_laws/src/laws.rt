@@ -4,7 +4,7 @@ ghost use Rattle.sharc_labels_laws.specs.Blocks.{BlocksAreTyped};
 ghost use Rattle.sharc_labels_laws.specs.Decided.{DecisionsAreTyped};
 ghost use Rattle.sharc_labels_laws.specs.Declared.{LocalsAreTyped};
 ghost use Rattle.sharc_labels_laws.specs.Ended.{EndsAreTyped};
-ghost use Rattle.sharc_labels_laws.specs.Left.{JumpsAreTyped, ReturnsAreTyped};
+ghost use Rattle.sharc_labels_laws.specs.Left.{JumpsAreTyped, LeavesAreTyped, ReturnsAreTyped};
 ghost use Rattle.sharc_labels_laws.specs.Laws.{ExpressionsAreTyped, LinesAreTyped, LinesKnow, LinesTell, PartsAreTyped, SimplesAreTyped, StretchesJoin, TestsAreTyped};
 
 /// Lines that stand in a table of marks are typed whatever checks are remembered.
@@ -75,4 +75,9 @@ pub fn returns_law()
 /// Statements and blocks at a line are typed.
 pub fn blocks_law()
     ensures { BlocksAreTyped }
+{}
+
+/// Blocks that are open one in the other end one after the other.
+pub fn leaves_law()
+    ensures { LeavesAreTyped }
 {}
