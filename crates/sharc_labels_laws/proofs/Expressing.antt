@@ -1,5 +1,5 @@
 -- The code of an expression is typed, by what the types of the source say of it.
-use Rattle.std.proofs.Common.{◌≡◌, ◌≢◌, ℕ, ◌+◌, ◌<◌, ◌≤◌, ◌⊎◌, Bool, true, false, cond, List, [], ◌∷◌, ◌++◌, length, Option, Some, None, refl, sym, ap, ◌∙◌, subst, inl, inr, ⊎_elim, arith, append_assoc, drop}
+use Rattle.std.proofs.Common.{◌≡◌, ◌≢◌, ℕ, ◌+◌, ◌<◌, ◌≤◌, ◌⊎◌, Bool, true, false, cond, List, [], ◌∷◌, ◌++◌, length, Option, Some, None, refl, sym, ap, ◌∙◌, subst, inl, inr, ⊎_elim, arith, append_assoc, drop, codes, bytes_eq}
 use Rattle.std.proofs.lemmas.Bool.{false≢true, cases_eq, cases_lt}
 use Rattle.sharc_tree.specs.declared.token.Site.{Site}
 use Rattle.sharc_tree.specs.declared.token.Span.{Span}
@@ -41,9 +41,10 @@ use Rattle.sharc_flat_form.specs.Machine.{first_cell}
 use Rattle.sharc_flat.specs.declared.slot.Lvalue.{Lvalue}
 use Rattle.sharc_flat.specs.Scope.{Context, int_count, ref_count, register_of, number_in, at_site}
 use Rattle.sharc_flat.specs.Places.{Target, variable, in_global, in_global_at, in_object, in_object_at, target, named_target, own_field, global_of, has_base, base_width, index_width, guard_width, copy_code, cell_value_code, cell_take_code, take_code, value_code, index_code, pointee_code, bounds_code, width_of}
-use Rattle.sharc_flat.specs.Flattened.{kind_of, is_ref, target_of, mode_of, what_names, lvalue_in, guard_of, constant_code, named_code, truth_code, compare_code, unary_code, binary_code, behind_int, behind_ref, operator_of, lvalue_code, field_code, unary_place_code, called_code, passed_code, spawn_code, cast_code, layout_of, expression_code, arguments_code, place_code}
+use Rattle.sharc_flat.specs.Flattened.{kind_of, is_ref, target_of, mode_of, what_names, lvalue_in, guard_of, constant_code, named_code, truth_code, compare_code, unary_code, binary_code, behind_int, behind_ref, operator_of, lvalue_code, field_code, unary_place_code, first_cell_of, wait_code, with_words, argument_words, condition_code, called_code, passed_code, spawn_code, cast_code, layout_of, expression_code, arguments_code, place_code}
 use Rattle.sharc_flat.specs.Suits.{Either, is_cell}
 use Rattle.sharc_invariant.specs.Types.{StaticType, cells_of}
+use Rattle.sharc_invariant.specs.Types.Content.{MutexWord, Waiters}
 use Rattle.sharc_invariant.specs.Labels.{Entry, Empty, Refers, Element, Number, Anything, Nth, Exactly, Within, Indexes, OfElement, OfGlobal, Closed, Label, Narrower, LessNumber, LessEntry, LessGate, HasBase, fill, set_number}
 use Rattle.sharc_invariant.specs.Typed.{Passes, ints_in, refs_in}
 use Rattle.sharc_invariant.proofs.Frames.{wider}
@@ -51,7 +52,7 @@ use Rattle.sharc_invariant.proofs.Scoped.{less_refl, less_entry_refl, less_numbe
 use Rattle.sharc_labels_laws.specs.Stretches.{Mark, Setting, Way, AreOpen}
 use Rattle.sharc_labels_laws.specs.Places.{Stands, IsNamed, IsPlain, AreLow, no_type, mark}
 use Rattle.sharc_labels_laws.specs.Premises.{Typing, HoldsVariables, Ground, number_in_global, IntegerTyped, ReferenceTyped}
-use Rattle.sharc_labels_laws.specs.Typable.{IsBare, after_value, type_by, IsCopyIn, IsCopyNamed, IsCopyOf, GoesTo, Widens, IsTypeIn, IsVoid, IsNumber, IsPointer, ground_of, CellTyped, ValueTyped, VariableTyped, NameTyped, ConstantTyped, UnaryTyped, result_of, IntegersTyped, ComparedTyped, BinaryTyped, HasType, AreFields, ElementTyped, IndexTypable, FieldTypable, ArgumentAt, ArgumentsAt, ResultTyped, CallTyped, HasNoWidth, Goes, Handed, SpawnTyped, VariableTakes, Takes, TakeTyped, CastTyped, FreeTyped, CallTypable, IsTypable, AreTypable, IsPlaceTypable}
+use Rattle.sharc_labels_laws.specs.Typable.{IsBare, after_value, type_by, IsCopyIn, IsCopyNamed, IsCopyOf, GoesTo, Widens, IsTypeIn, IsVoid, IsNumber, IsPointer, ground_of, CellTyped, ValueTyped, VariableTyped, NameTyped, ConstantTyped, UnaryTyped, result_of, IntegersTyped, ComparedTyped, BinaryTyped, HasType, AreFields, ElementTyped, IndexTypable, FieldTypable, ArgumentAt, ArgumentsAt, ResultTyped, CallTyped, HasNoWidth, Goes, Handed, SpawnTyped, FirstCell, IsOne, AreTwo, ConditionTyped, VariableTakes, Takes, TakeTyped, CastTyped, FreeTyped, CallTypable, IsTypable, AreTypable, IsPlaceTypable}
 use Rattle.sharc_labels_laws.proofs.Fitting.{fits_same, fits_by}
 use Rattle.sharc_labels_laws.proofs.Standing.{less_by}
 use Rattle.sharc_labels_laws.proofs.Telling.{told, other_than}
@@ -63,10 +64,11 @@ use Rattle.sharc_labels_laws.proofs.Accessed.{Frame, placed, based, ints_of, ind
 use Rattle.sharc_labels_laws.proofs.Casting.{take_variable_at, freed_at, given_at}
 use Rattle.sharc_labels_laws.proofs.Calling.{call_reference, call_number, call_nothing}
 use Rattle.sharc_labels_laws.proofs.Spawning.{spawn_number, spawn_reference}
+use Rattle.sharc_labels_laws.proofs.Waiting.{signalled, broadcasted, waited}
 use Rattle.sharc_labels_laws.proofs.Locking.{locked_at, unlocked_at}
 use Rattle.sharc_labels_laws.proofs.Placing.{AreFew, which, bounds_at, finds_object, finds_global}
 
-plain_base : (n : Number) (r q : ℕ) → IsPlain n → HasBase n q → q < r
+pub plain_base : (n : Number) (r q : ℕ) → IsPlain n → HasBase n q → q < r
 plain_base Anything r q plain h = absurd h
 plain_base (Exactly z) r q plain h = absurd h
 plain_base (Within w) r q plain h = absurd h
@@ -150,33 +152,33 @@ module _ (around : Setting) (f : ℕ) (ways : List Way) (y : Typing) (c : Contex
   ValueOf from i r l os e = Value from i r l os e (is_ref c e) (is_integer (kind_of c e))
 
   -- a type that names constants of the variables
-  in_frame : (from i r : ℕ) (l : Label) → F from i r l → (s : StaticType) → TypeIn s → IsNamed N r s
+  pub in_frame : (from i r : ℕ) (l : Label) → F from i r l → (s : StaticType) → TypeIn s → IsNamed N r s
   in_frame from i r l fr s h = let high = fr.high in wider_names around f D y c low from top r s high h
 
   int_by : (from i r : ℕ) (l : Label) (os : List Op) (e : Expression) → IsNumber around f ways y c e → IntValue from i r l os (width_of (kind_of c e)) → ValueOf from i r l os e
   int_by from i r l os e is v = subst (λ b. Value from i r l os e b (is_integer (kind_of c e))) (sym is.0) (subst (λ b. Value from i r l os e false b) (sym is.1) v)
 
-  int_of : (from i r : ℕ) (l : Label) (os : List Op) (e : Expression) → IsNumber around f ways y c e → ValueOf from i r l os e → IntValue from i r l os (width_of (kind_of c e))
+  pub int_of : (from i r : ℕ) (l : Label) (os : List Op) (e : Expression) → IsNumber around f ways y c e → ValueOf from i r l os e → IntValue from i r l os (width_of (kind_of c e))
   int_of from i r l os e is v = subst (λ b. Value from i r l os e false b) is.1 (subst (λ b. Value from i r l os e b (is_integer (kind_of c e))) is.0 v)
 
   ref_by : (from i r : ℕ) (l : Label) (os : List Op) (e : Expression) → is_ref c e ≡ true → ((s : StaticType) → GoesTo (y.entry c e) s → TypeIn s → RefValue from i r l os e s) → ValueOf from i r l os e
   ref_by from i r l os e is v = subst (λ b. Value from i r l os e b (is_integer (kind_of c e))) (sym is) v
 
-  ref_of : (from i r : ℕ) (l : Label) (os : List Op) (e : Expression) → is_ref c e ≡ true → ValueOf from i r l os e → (s : StaticType) → GoesTo (y.entry c e) s → TypeIn s → RefValue from i r l os e s
+  pub ref_of : (from i r : ℕ) (l : Label) (os : List Op) (e : Expression) → is_ref c e ≡ true → ValueOf from i r l os e → (s : StaticType) → GoesTo (y.entry c e) s → TypeIn s → RefValue from i r l os e s
   ref_of from i r l os e is v = subst (λ b. Value from i r l os e b (is_integer (kind_of c e))) is v
 
   -- a pointer, with the type that it has
   base_of : (from i r : ℕ) (l : Label) (os : List Op) (e : Expression) → IsPointer around f ways y c e → ValueOf from i r l os e → RefValue from i r l os e (type_by (y.entry c e))
   base_of from i r l os e is v = ref_of from i r l os e is.0 v (type_by (y.entry c e)) (inr is.1) is.2
 
-  small_copy : (from i r : ℕ) (l : Label) → F from i r l → (copy : ℕ) → (copy ≡ r) ⊎ (copy < top) → copy ≤ r
+  pub small_copy : (from i r : ℕ) (l : Label) → F from i r l → (copy : ℕ) → (copy ≡ r) ⊎ (copy < top) → copy ≤ r
   small_copy from i r l fr copy small = let high = fr.high in ⊎_elim (λ (e : copy ≡ r). omega (arith, e)) (λ (lt : copy < top). omega (arith, lt, high)) small
 
   joins : (from : ℕ) (s m e : Mark) (xs ys : List Op) → Q from s xs m → Q from m ys e → Q from s (xs ++ ys) e
   joins from = then_do around f D N top low from
 
   -- ---- frames with one value more
-  frame_fill : (from i r : ℕ) (l : Label) → F from i r l → (s : StaticType) (v : ℕ) (b : Bool) → IsNamed N r s → v ≤ r → F from i (r + 1) (fill l r (Refers s) v b)
+  pub frame_fill : (from i r : ℕ) (l : Label) → F from i r l → (s : StaticType) (v : ℕ) (b : Bool) → IsNamed N r s → v ≤ r → F from i (r + 1) (fill l r (Refers s) v b)
   frame_fill from i r l fr s v b fits small = let high = fr.high in record {
     at = at_fill around f D N top low from i r l fr.at s v b fits small;
     holds = holds_over around f D y c low from l (fill l r (Refers s) v b) (λ q lt. put_other l.env r q (Refers s) (λ e. omega (arith, e, lt, high))) (λ q lt. put_other l.same r q v (λ e. omega (arith, e, lt, high))) (λ j lt. refl) fr.holds;
@@ -185,7 +187,7 @@ module _ (around : Setting) (f : ℕ) (ways : List Way) (y : Typing) (c : Contex
     early = fr.early;
   }
 
-  frame_number : (from i r : ℕ) (l : Label) → F from i r l → (n : Number) → ((q : ℕ) → HasBase n q → q < r) → F from (i + 1) r (set_number l i n)
+  pub frame_number : (from i r : ℕ) (l : Label) → F from i r l → (n : Number) → ((q : ℕ) → HasBase n q → q < r) → F from (i + 1) r (set_number l i n)
   frame_number from i r l fr n base = let wide = fr.wide in let early = fr.early in record {
     at = at_number around f D N top low from i r l fr.at n base;
     holds = holds_over around f D y c low from l (set_number l i n) (λ q lt. refl) (λ q lt. refl) (λ j lt. put_other l.ints i j n (λ e. omega (arith, e, lt, wide))) fr.holds;
@@ -195,7 +197,7 @@ module _ (around : Setting) (f : ℕ) (ways : List Way) (y : Typing) (c : Contex
   }
 
   -- an integer more is at hand
-  bare_number : (bare : Bool) (l : Label) (i : ℕ) (n : Number) → IsPlain n → IsBare bare l → IsBare bare (set_number l i n)
+  pub bare_number : (bare : Bool) (l : Label) (i : ℕ) (n : Number) → IsPlain n → IsBare bare l → IsBare bare (set_number l i n)
   bare_number bare l i n plain h = λ z. let w = h z in (w.0, w.1, λ j q b. put_all (λ j x. HasBase x q → ⊥) l.ints i n (λ b. none n q plain b) (λ j _ b. w.2 j q b) j b)
     where
       none : (n : Number) (q : ℕ) → IsPlain n → HasBase n q → ⊥
@@ -213,11 +215,11 @@ module _ (around : Setting) (f : ℕ) (ways : List Way) (y : Typing) (c : Contex
       by true = λ z. absurd (false≢true z)
       by false = h
 
-  no_bare : (l : Label) → IsBare false l
+  pub no_bare : (l : Label) → IsBare false l
   no_bare l z = absurd (false≢true z)
 
   -- ---- NULL and constants
-  null_at : (from i r : ℕ) (l : Label) → F from i r l → (s : StaticType) → IsNamed N r s → Q from (mark l from i) (op.Null r ∷ []) (mark (fill l r (Refers s) r false) from i)
+  pub null_at : (from i r : ℕ) (l : Label) → F from i r l → (s : StaticType) → IsNamed N r s → Q from (mark l from i) (op.Null r ∷ []) (mark (fill l r (Refers s) r false) from i)
   null_at from i r l fr s fits =
       let k = fill l r (Refers s) r false in
       let at = fr.at in
@@ -388,7 +390,7 @@ module _ (around : Setting) (f : ℕ) (ways : List Way) (y : Typing) (c : Contex
 
   -- ---- tests and operators
   -- a value that decides
-  truth_of : (from i r : ℕ) (l : Label) → F from i r l → (e : Expression) (os : List Op) → HasType around f ways y c e → ValueOf from i r l os e → Q from (mark l from i) (os ++ truth_code (is_ref c e) i r) (mark l from i)
+  pub truth_of : (from i r : ℕ) (l : Label) → F from i r l → (e : Expression) (os : List Op) → HasType around f ways y c e → ValueOf from i r l os e → Q from (mark l from i) (os ++ truth_code (is_ref c e) i r) (mark l from i)
   truth_of from i r l fr e os h v = by (is_ref c e) refl
     where
       by : (b : Bool) → is_ref c e ≡ b → Q from (mark l from i) (os ++ truth_code b i r) (mark l from i)
@@ -624,7 +626,7 @@ module _ (around : Setting) (f : ℕ) (ways : List Way) (y : Typing) (c : Contex
   not_anything : (n : Number) (w : Width) → LessNumber n (Within w) → n ≡ Anything → ⊥
   not_anything n w h e = absurd (other_number Anything w (subst (λ z. LessNumber z (Within w)) e h))
 
-  taken_number : (s e : Mark) (os : List Op) (i : ℕ) (n : Number) (w : Width) → s.label.ints i ≡ n → LessNumber n (Within w) → (i < ints_in around.code (Some f) → Q 0 s os e) → Q 0 s os e
+  pub taken_number : (s e : Mark) (os : List Op) (i : ℕ) (n : Number) (w : Width) → s.label.ints i ≡ n → LessNumber n (Within w) → (i < ints_in around.code (Some f) → Q 0 s os e) → Q 0 s os e
   taken_number s e os i n w is fits rest = λ in_it h. rest (⊎_elim (λ (lt : i < ints_in around.code (Some f)). lt) (λ ge. absurd (not_anything n w fits (sym is ∙ h.numbers i ge))) (cases_lt i (ints_in around.code (Some f)))) in_it h
 
   passed_number : (i r : ℕ) (l : Label) → F i i r l → (kind : Kind) (kinds : List Kind) (wants : ℕ → StaticType) (a : Expression) (rest : Arguments) (xs ys : List Op) (site : Site) → is_ref c a ≡ false → is_integer (kind_of c a) ≡ true → is_integer kind ≡ true → ValueOf i i r l xs a
@@ -705,16 +707,101 @@ module _ (around : Setting) (f : ℕ) (ways : List Way) (y : Typing) (c : Contex
       by false false z = joins_at (mark l from i) (mark p.label p.ints p.ints) (mark l from i) os (op.Call g i r spot ∷ []) passed
           (call_nothing around f D y c low from i r l fr p.label p.frame.at.owned p.frame.at.stands.closed p.env p.same p.known p.numbers p.ints p.ints g spot h.is h.alone passes numbers z)
 
+  -- ---- what is handed to a condition variable
+  pub record OneHeld (from i r : ℕ) (l : Label) (wants : ℕ → StaticType) (os : List Op) : Type 0 where
+    pub copy : ℕ
+    pub small : copy ≤ r
+    pub fits : IsNamed N r (wants 0)
+    pub piece : Q from (mark l from i) os (mark (fill l r (Refers (wants 0)) copy false) from i)
+
+  pub record TwoHeld (from i r : ℕ) (l : Label) (wants : ℕ → StaticType) (os : List Op) : Type 0 where
+    pub copy : ℕ
+    pub copy2 : ℕ
+    pub small : copy ≤ r
+    pub other : (copy2 ≡ r + 1) ⊎ (copy2 < r)
+    pub fits : IsNamed N r (wants 0)
+    pub fits2 : IsNamed N r (wants 1)
+    pub piece : Q from (mark l from i) os (mark (fill (fill l r (Refers (wants 0)) copy false) (r + 1) (Refers (wants 1)) copy2 false) from i)
+
+  goes_to : (kinds : List Kind) (a : Expression) (s : StaticType) → is_ref c a ≡ true → Goes around f ways y c kinds a (is_ref c a) s → GoesTo (y.entry c a) s × TypeIn s × HasNoWidth around f ways y kinds
+  goes_to kinds a s is h = subst (λ b. Goes around f ways y c kinds a b s) is h
+
+  one_by : (from i r : ℕ) (l : Label) → F from i r l → (kinds : List Kind) (wants : ℕ → StaticType) (a : Expression) (xs : List Op) (site : Site) → is_ref c a ≡ true → Goes around f ways y c kinds a (is_ref c a) (wants 0) → ValueOf from i r l xs a → OneHeld from i r l wants (xs ++ (passed_code i kinds site ++ []))
+  one_by from i r l fr kinds wants a xs site is goes v =
+      let g = goes_to kinds a (wants 0) is goes in
+      let w = ref_of from i r l xs a is v (wants 0) g.0 g.1 in
+      let end = mark (fill l r (Refers (wants 0)) w.copy false) from i in
+      record {
+        copy = w.copy;
+        small = small_copy from i r l fr w.copy w.small;
+        fits = in_frame from i r l fr (wants 0) g.1;
+        piece = joins from (mark l from i) end end xs (passed_code i kinds site ++ []) w.piece (subst (λ os. Q from end (os ++ []) end) (sym (no_width i kinds site g.2)) (none around f D N top low from end end (fits_same around.targets end) (λ z. z)));
+      }
+
+  two_by : (from i r : ℕ) (l : Label) → F from i r l → (kinds : List Kind) (wants : ℕ → StaticType) (a b : Expression) (xs : List Op) (ys : ℕ → ℕ → List Op) (site : Site) → is_ref c a ≡ true → is_ref c b ≡ true → Goes around f ways y c kinds a (is_ref c a) (wants 0) → Goes around f ways y c (drop 1 kinds) b (is_ref c b) (wants 1) → ValueOf from i r l xs a
+      → (bare : Bool) → ((l2 : Label) → F from i (r + 1) l2 → IsBare (after_value c a bare) l2 → ValueOf from i (r + 1) l2 (ys i (r + 1)) b) → (site2 : Site)
+      → TwoHeld from i r l wants (xs ++ (passed_code i kinds site ++ (ys (behind_int (is_ref c a) i) (behind_ref (is_ref c a) r) ++ (passed_code (behind_int (is_ref c a) i) (drop 1 kinds) site2 ++ []))))
+  two_by from i r l fr kinds wants a b xs ys site is is2 goes goes2 v bare next site2 =
+      let g = goes_to kinds a (wants 0) is goes in
+      let g2 = goes_to (drop 1 kinds) b (wants 1) is2 goes2 in
+      let w = ref_of from i r l xs a is v (wants 0) g.0 g.1 in
+      let fits = in_frame from i r l fr (wants 0) g.1 in
+      let X = fill l r (Refers (wants 0)) w.copy false in
+      let fx = frame_fill from i r l fr (wants 0) w.copy false fits (small_copy from i r l fr w.copy w.small) in
+      let vb = next X fx (subst (λ z. IsBare (cond z false bare) X) (sym is) (no_bare X)) in
+      let w2 = ref_of from i (r + 1) X (ys i (r + 1)) b is2 vb (wants 1) g2.0 g2.1 in
+      let high = fr.high in
+      let middle = mark X from i in
+      let end = mark (fill X (r + 1) (Refers (wants 1)) w2.copy false) from i in
+      let tail : Q from middle (ys i (r + 1) ++ (passed_code i (drop 1 kinds) site2 ++ [])) end = joins from middle end end (ys i (r + 1)) (passed_code i (drop 1 kinds) site2 ++ []) w2.piece
+      (subst (λ os. Q from end (os ++ []) end) (sym (no_width i (drop 1 kinds) site2 g2.2)) (none around f D N top low from end end (fits_same around.targets end) (λ z. z))) in
+      record {
+        copy = w.copy;
+        copy2 = w2.copy;
+        small = small_copy from i r l fr w.copy w.small;
+        other = ⊎_elim (λ (z : w2.copy ≡ r + 1). inl z) (λ (z : w2.copy < top). inr (omega (arith, z, high))) w2.small;
+        fits = fits;
+        fits2 = in_frame from i r l fr (wants 1) g2.1;
+        piece = joins from (mark l from i) middle end xs (passed_code i kinds site ++ (ys (behind_int (is_ref c a) i) (behind_ref (is_ref c a) r) ++ (passed_code (behind_int (is_ref c a) i) (drop 1 kinds) site2 ++ []))) w.piece
+            (subst (λ os. Q from middle (os ++ (ys (behind_int (is_ref c a) i) (behind_ref (is_ref c a) r) ++ (passed_code (behind_int (is_ref c a) i) (drop 1 kinds) site2 ++ []))) end) (sym (no_width i kinds site g.2))
+            (subst (λ z. Q from middle (ys (behind_int z i) (behind_ref z r) ++ (passed_code (behind_int z i) (drop 1 kinds) site2 ++ [])) end) (sym is) tail));
+      }
+
+  -- by which one is called
+  condition_value : (from i r : ℕ) (l : Label) → F from i r l → (e : Expression) (name : List ℕ) (wants : ℕ → StaticType) (all : Arguments) (os : List Op) (spot : Spot) → IsVoid around f ways y c e → ConditionTyped around f ways y c name wants all → (IsOne around f ways y c all → OneHeld from i r l wants os) → (AreTwo around f ways y c all → TwoHeld from i r l wants os)
+      → ValueOf from i r l (os ++ condition_code r spot name all) e
+  condition_value from i r l fr e name wants all os spot is h one two = void_by from i r l (os ++ condition_code r spot name all) e is (by (bytes_eq name (codes "wait")) (bytes_eq name (codes "signal")) h)
+    where
+      by : (w g : Bool) → Either w (AreTwo around f ways y c all × FirstCell around (wants 0) Waiters × FirstCell around (wants 1) MutexWord) (IsOne around f ways y c all × FirstCell around (wants 0) Waiters)
+          → Q from (mark l from i)
+          (os ++ cond w (wait_code r spot (with_words spot (argument_words 0 all)) (with_words spot (argument_words 1 all)))
+          (cond g (op.ChkNull r spot ∷ op.CondSignal (first_cell_of r) spot ∷ op.Pop r ∷ []) (op.ChkNull r spot ∷ op.CondBroadcast (first_cell_of r) spot ∷ op.Pop r ∷ []))) (mark l from i)
+      by true g z =
+          let p = two z.0 in
+          joins from (mark l from i) (mark (fill (fill l r (Refers (wants 0)) p.copy false) (r + 1) (Refers (wants 1)) p.copy2 false) from i) (mark l from i) os _ p.piece
+          (waited around f D y c low from i r l fr (wants 0) (wants 1) p.copy p.copy2 p.fits p.fits2 p.small p.other z.1 z.2 spot (with_words spot (argument_words 0 all)) (with_words spot (argument_words 1 all)))
+      by false true z =
+          let p = one z.0 in
+          joins from (mark l from i) (mark (fill l r (Refers (wants 0)) p.copy false) from i) (mark l from i) os _ p.piece (signalled around f D y c low from i r l fr (wants 0) p.copy p.fits p.small z.1 spot)
+      by false false z =
+          let p = one z.0 in
+          joins from (mark l from i) (mark (fill l r (Refers (wants 0)) p.copy false) from i) (mark l from i) os _ p.piece (broadcasted around f D y c low from i r l fr (wants 0) p.copy p.fits p.small z.1 spot)
+
   called_value : (from i r : ℕ) (l : Label) → F from i r l → (e : Expression) (n : Named) (name : List ℕ) (all : Arguments) (spot : Spot) → ((copy : ℕ) → IsCopyOf c e copy)
-      → (bare : Bool) → ((kinds : List Kind) (wants : ℕ → StaticType) → AreTypable around f ways y bare c kinds wants all → Passed i r l kinds wants all (arguments_code c i r kinds all)) → CallTypable around f ways y c e n all (λ kinds wants. AreTypable around f ways y bare c kinds wants all)
+      → (bare : Bool) → ((kinds : List Kind) (wants : ℕ → StaticType) → AreTypable around f ways y bare c kinds wants all → Passed i r l kinds wants all (arguments_code c i r kinds all))
+      → ((kinds : List Kind) (wants : ℕ → StaticType) → AreTypable around f ways y bare c kinds wants all → IsOne around f ways y c all → OneHeld from i r l wants (arguments_code c i r kinds all))
+      → ((kinds : List Kind) (wants : ℕ → StaticType) → AreTypable around f ways y bare c kinds wants all → AreTwo around f ways y c all → TwoHeld from i r l wants (arguments_code c i r kinds all))
+      → CallTypable around f ways y c e n name all (λ kinds wants. AreTypable around f ways y bare c kinds wants all)
       → ValueOf from i r l (arguments_code c i r (declared_kinds (parameters_named c.program.typed n)) all ++ called_code i r spot n name all) e
-  called_value from i r l fr e (named.Function g) name all spot any_copy bare args h = call_value from i r l fr e g (declared_kinds (parameters_named c.program.typed (named.Function g))) h.0 all (arguments_code c i r (declared_kinds (parameters_named c.program.typed (named.Function g))) all) spot any_copy h.2
+  called_value from i r l fr e (named.Function g) name all spot any_copy bare args one two h = call_value from i r l fr e g (declared_kinds (parameters_named c.program.typed (named.Function g))) h.0 all (arguments_code c i r (declared_kinds (parameters_named c.program.typed (named.Function g))) all) spot any_copy h.2
       (args (declared_kinds (parameters_named c.program.typed (named.Function g))) h.0 h.1)
-  called_value from i r l fr e (named.Variable x) name all spot any_copy bare args h = absurd h
-  called_value from i r l fr e (named.Global x) name all spot any_copy bare args h = absurd h
-  called_value from i r l fr e (named.Field x) name all spot any_copy bare args h = absurd h
-  called_value from i r l fr e (named.Struct x) name all spot any_copy bare args h = absurd h
-  called_value from i r l fr e named.Known name all spot any_copy bare args h = absurd h
+  called_value from i r l fr e named.Known name all spot any_copy bare args one two h =
+      let kinds = declared_kinds (parameters_named c.program.typed named.Known) in
+      condition_value from i r l fr e name h.0 all (arguments_code c i r kinds all) spot h.2 h.3 (λ k. one kinds h.0 h.1 k) (λ k. two kinds h.0 h.1 k)
+  called_value from i r l fr e (named.Variable x) name all spot any_copy bare args one two h = absurd h
+  called_value from i r l fr e (named.Global x) name all spot any_copy bare args one two h = absurd h
+  called_value from i r l fr e (named.Field x) name all spot any_copy bare args one two h = absurd h
+  called_value from i r l fr e (named.Struct x) name all spot any_copy bare args one two h = absurd h
 
   -- ---- a new thread
   spawn_value : (from i r : ℕ) (l : Label) → F from i r l → (e a : Expression) (g : ℕ) (kinds : List Kind) (os : List Op) (site : Site) (spot : Spot) → IsNumber around f ways y c e → SpawnTyped around f ways y c a g kinds → ValueOf from i r l os a → ValueOf from i r l (os ++ (passed_code i kinds site ++ spawn_code (is_ref c a) i r g spot)) e
@@ -809,7 +896,8 @@ module _ (around : Setting) (f : ℕ) (ways : List Way) (y : Typing) (c : Contex
     expressions bare from i r l fr alone (constant s k) h = entered from i r l fr _ (constant s k) (constant_value_of from i r l fr (constant s k) k (is_ref c (constant s k)) (λ copy. tt) refl h)
     expressions bare from i r l fr alone (parentheses s a) h = entered from i r l fr (expression_code c i r a) (parentheses s a) (same_value from i r l (expression_code c i r a) (parentheses s a) a (λ copy. tt) refl h.1 (expressions bare from i r l fr alone a h.0))
     expressions bare from i r l fr alone (call s x all) h = entered from i r l fr _ (call s x all)
-        (called_value from i r l fr (call s x all) (what_names c x.site.token) x.text all (at_site s.first) (λ copy. tt) bare (λ kinds wants k. arguments bare i r l (reframe from i r l fr i (omega arith)) alone kinds wants all k) h)
+        (called_value from i r l fr (call s x all) (what_names c x.site.token) x.text all (at_site s.first) (λ copy. tt) bare (λ kinds wants k. arguments bare i r l (reframe from i r l fr i (omega arith)) alone kinds wants all k)
+        (λ kinds wants k is. one_held bare from i r l fr alone kinds wants all k is) (λ kinds wants k are. two_held bare from i r l fr alone kinds wants all k are) h)
     expressions bare from i r l fr alone (spawn s x a) h = entered from i r l fr _ (spawn s x a)
         (spawn_value from i r l fr (spawn s x a) a (number_named (what_names c x.site.token)) (declared_kinds (parameters_named c.program.typed (what_names c x.site.token))) (expression_code c i r a) (span_of a).first (at_site s.first) h.1 h.2 (expressions bare from i r l fr alone a h.0))
     expressions bare from i r l fr alone (on_value s Join a) h =
@@ -890,3 +978,15 @@ module _ (around : Setting) (f : ℕ) (ways : List Way) (y : Typing) (c : Contex
     arguments bare i r l fr alone kinds wants no_arguments h = record { label = l; ints = i; refs = r; frame = fr; more_ints = omega arith; more_refs = omega arith; env = λ q lt. refl; same = λ q lt. refl; known = λ q lt. refl; numbers = λ j lt. refl; here = tt; piece = untold i i i i l (omega arith) }
     arguments bare i r l fr alone kinds wants (argument a rest) h = one_passed i r l fr kinds wants a rest (expression_code c i r a) (λ i2 r2. arguments_code c i2 r2 (drop 1 kinds) rest) (span_of a).first h.1 (expressions bare i i r l fr alone a h.0) bare alone
         (λ i2 r2 l2 f2 q. arguments (after_value c a bare) i2 r2 l2 f2 q (drop 1 kinds) (λ n. wants (n + 1)) rest h.2)
+
+    pub one_held : (bare : Bool) (from i r : ℕ) (l : Label) → F from i r l → IsBare bare l → (kinds : List Kind) (wants : ℕ → StaticType) (all : Arguments) → AreTypable around f ways y bare c kinds wants all → IsOne around f ways y c all → OneHeld from i r l wants (arguments_code c i r kinds all)
+    one_held bare from i r l fr alone kinds wants no_arguments h is = absurd is
+    one_held bare from i r l fr alone kinds wants (argument a no_arguments) h is = one_by from i r l fr kinds wants a (expression_code c i r a) (span_of a).first is h.1 (expressions bare from i r l fr alone a h.0)
+    one_held bare from i r l fr alone kinds wants (argument a (argument b rest)) h is = absurd is
+
+    pub two_held : (bare : Bool) (from i r : ℕ) (l : Label) → F from i r l → IsBare bare l → (kinds : List Kind) (wants : ℕ → StaticType) (all : Arguments) → AreTypable around f ways y bare c kinds wants all → AreTwo around f ways y c all → TwoHeld from i r l wants (arguments_code c i r kinds all)
+    two_held bare from i r l fr alone kinds wants no_arguments h are = absurd are
+    two_held bare from i r l fr alone kinds wants (argument a no_arguments) h are = absurd are
+    two_held bare from i r l fr alone kinds wants (argument a (argument b no_arguments)) h are = two_by from i r l fr kinds wants a b (expression_code c i r a) (λ i2 r2. expression_code c i2 r2 b) (span_of a).first are.0 are.1 h.1 h.2.1 (expressions bare from i r l fr alone a h.0) bare
+        (λ l2 f2 q. expressions (after_value c a bare) from i (r + 1) l2 f2 q b h.2.0) (span_of b).first
+    two_held bare from i r l fr alone kinds wants (argument a (argument b (argument d rest))) h are = absurd are

@@ -1,11 +1,12 @@
--- The laws of parts of expressions.
+-- The laws of parts of expressions, of expressions and of simple statements.
 use Rattle.std.proofs.Common.{Bool, true, false}
 use Rattle.sharc_names.specs.Kinds.{is_integer}
 use Rattle.sharc_flat.specs.Flattened.{kind_of, is_ref, expression_code}
 use Rattle.sharc_labels_laws.specs.Stretches.{AreOpen}
-use Rattle.sharc_labels_laws.specs.Laws.{StretchesJoin, PartsAreTyped, ValueComes, ExpressionsAreTyped}
+use Rattle.sharc_labels_laws.specs.Laws.{StretchesJoin, PartsAreTyped, ValueComes, ExpressionsAreTyped, SimplesAreTyped, TestsAreTyped}
 use Rattle.sharc_labels_laws.proofs.Accessed.{Frame}
-use Rattle.sharc_labels_laws.proofs.Expressing.{Value, expressions}
+use Rattle.sharc_labels_laws.proofs.Expressing.{Value, expressions, truth_of}
+use Rattle.sharc_labels_laws.proofs.Simple.{simples}
 use Rattle.sharc_labels_laws.proofs.Parts.{At, then_do, truth_at, pop_at, compare_at, logical_at, either_at, pointee_at}
 
 pub stretches_join : StretchesJoin
@@ -34,3 +35,12 @@ expressions_typed z f ways y c low from i r l in_it bare alone e h = by (is_ref 
     by true b v = λ s goes fits. let w = v s goes fits in record { copy = w.copy; of_variable = w.copies; is = w.small; leads = w.piece }
     by false true v = record { number = v.number; plain = v.plain; fits = v.fits; leads = v.piece }
     by false false v = v
+
+-- ---- simple statements
+pub simples_typed : SimplesAreTyped
+simples_typed z f ways y c low from i r l in_it alone whole x h = simples z f ways y c low from i r l (record { at = record { stands = in_it.stands; owned = in_it.owned }; holds = in_it.holds; high = in_it.high; wide = in_it.wide; early = in_it.early }) alone whole x h
+
+pub tests_typed : TestsAreTyped
+tests_typed z f ways y c low from i r l in_it bare alone e h type =
+    let frame : Frame z f (AreOpen z ways) y c low from i r l = record { at = record { stands = in_it.stands; owned = in_it.owned }; holds = in_it.holds; high = in_it.high; wide = in_it.wide; early = in_it.early } in
+    truth_of z f ways y c low from i r l frame e (expression_code c i r e) type (expressions z f ways y c low bare from i r l frame alone e h)

@@ -20,3 +20,9 @@ pub mod Casting
 pub mod Waiting
 pub mod Expressing
 pub mod Locking
+pub mod Simple
+pub mod Decided
+pub mod Declaring
+pub mod Ending
+pub mod Leaving
+pub mod Blocks

@@ -2,14 +2,14 @@
 use Rattle.std.specs.Prelude.{ℕ, ◌+◌, ◌≡◌, ◌<◌, ◌≤◌, ◌⊎◌, Bool, true, false, List, [], ◌∷◌, ◌++◌, length, slice_get, Some}
 use Rattle.sharc_tree.specs.declared.token.Site.{Site}
 use Rattle.sharc_tree.specs.declared.tree.expression.BinaryOperator.{BinaryOperator}
-use Rattle.sharc_tree.specs.Tree.{Expression}
+use Rattle.sharc_tree.specs.Tree.{Expression, Simple}
 use Rattle.sharc_names.specs.Kinds.{is_integer}
 use Rattle.sharc_code.specs.declared.instr.Width.TheVariants.{Char}
 use Rattle.sharc_flat_form.specs.declared.op.Op.{Op}
 use Rattle.sharc_flat_form.specs.Machine.{Flat}
 use Rattle.sharc_flat.specs.Places.{pointee_code, width_of}
-use Rattle.sharc_flat.specs.Flattened.{kind_of, is_ref, expression_code, drop_code, truth_code, compare_code, logical_code, either_code}
-use Rattle.sharc_flat.specs.Scope.{Context, ref_count}
+use Rattle.sharc_flat.specs.Flattened.{kind_of, is_ref, expression_code, simple_code, drop_code, truth_code, compare_code, logical_code, either_code}
+use Rattle.sharc_flat.specs.Scope.{Context, int_count, ref_count}
 use Rattle.sharc_guard.specs.Known.{Access, access, known}
 use Rattle.sharc_invariant.specs.Types.{StaticType}
 use Rattle.sharc_invariant.specs.Labels.{Refers, Number, Within, Label, LessNumber, set_number, fill}
@@ -17,7 +17,8 @@ use Rattle.sharc_typed.specs.Passes.{TypedAnyhow, Knows}
 use Rattle.sharc_labels_laws.specs.Stretches.{Mark, Setting, Tells, IsLine, flat_labels, Way, LeadsAmong}
 use Rattle.sharc_labels_laws.specs.Places.{Stands, IsNamed, IsPlain, AreLow, mark}
 use Rattle.sharc_labels_laws.specs.Premises.{Typing}
-use Rattle.sharc_labels_laws.specs.Typable.{IsBare, IsCopyOf, GoesTo, StandsIn, IsTypable}
+use Rattle.sharc_labels_laws.specs.Typable.{IsBare, IsCopyOf, GoesTo, StandsIn, HasType, IsTypable}
+use Rattle.sharc_labels_laws.specs.Stated.{SimpleTypable}
 
 -- ---- lines
 -- each line of flat code is one of a function
@@ -109,3 +110,14 @@ module _ (z : Setting) (f : ℕ) (ways : List Way) (y : Typing) (c : Context) (f
 abbrev pub ExpressionsAreTyped : Type 0
 ExpressionsAreTyped = (z : Setting) (f : ℕ) (ways : List Way) (y : Typing) (c : Context) → AreLow (y.named c) (ref_count c.scope) → (from i r : ℕ) (l : Label) → StandsIn y c f from i r l → (bare : Bool) → IsBare bare l → (e : Expression) → IsTypable z f ways y bare c e
     → ValueComes z f ways y c from i r l (expression_code c i r e) e (is_ref c e) (is_integer (kind_of c e))
+
+-- ---- simple statements
+-- An assignment or a call of which the types say what is asked, where nothing is at hand.
+abbrev pub SimplesAreTyped : Type 0
+SimplesAreTyped = (z : Setting) (f : ℕ) (ways : List Way) (y : Typing) (c : Context) → AreLow (y.named c) (ref_count c.scope) → (from i r : ℕ) (l : Label) → StandsIn y c f from i r l → IsBare true l → int_count c.scope ≤ from → (x : Simple) → SimpleTypable z f ways y c x
+    → LeadsAmong z f ways (mark l from i) (simple_code c i r x) (mark l from i)
+
+-- A test, whose value comes to the first free register.
+abbrev pub TestsAreTyped : Type 0
+TestsAreTyped = (z : Setting) (f : ℕ) (ways : List Way) (y : Typing) (c : Context) → AreLow (y.named c) (ref_count c.scope) → (from i r : ℕ) (l : Label) → StandsIn y c f from i r l → (bare : Bool) → IsBare bare l → (e : Expression) → IsTypable z f ways y bare c e → HasType z f ways y c e
+    → LeadsAmong z f ways (mark l from i) (expression_code c i r e ++ truth_code (is_ref c e) i r) (mark l from i)

@@ -2,4 +2,10 @@ pub mod Stretches
 pub mod Places
 pub mod Premises
 pub mod Typable
+pub mod Stated
+pub mod Decided
+pub mod Declared
+pub mod Ended
+pub mod Left
+pub mod Blocks
 pub mod Laws

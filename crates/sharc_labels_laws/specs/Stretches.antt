@@ -120,3 +120,11 @@ AreOpen z (way ∷ ways) table = ((way.line ≤ z.lines) × Fits z.targets way.m
 -- in code that may lead to these lines
 abbrev pub LeadsAmong : Setting → ℕ → List Way → Mark → List Op → Mark → Type 0
 LeadsAmong z f ways s os e = LeadsWithin z f (AreOpen z ways) s os e
+
+-- at this line
+pub record LeadsAt (z : Setting) (f : ℕ) (ways : List Way) (pc : ℕ) (s : Mark) (os : List Op) (e : Mark) : Type 0 where
+  pub stretch : Stretch z f (AreOpen z ways) s pc os e
+  pub scoped : IsScoped (ints_in z.code (Some f)) (refs_in z.code (Some f)) e.label
+
+abbrev pub LeadsFrom : Setting → ℕ → List Way → ℕ → Mark → List Op → Mark → Type 0
+LeadsFrom z f ways pc s os e = AreWithin (ints_in z.code (Some f)) (refs_in z.code (Some f)) os → IsScoped (ints_in z.code (Some f)) (refs_in z.code (Some f)) s.label → LeadsAt z f ways pc s os e

@@ -1,5 +1,6 @@
 -- What the types of a source have to say of an expression, so that its code is typed: one clause for each form.
-use Rattle.std.specs.Prelude.{ℕ, ◌+◌, ◌≡◌, ◌<◌, ◌≤◌, ◌⊎◌, Bool, true, false, List, [], ◌∷◌, length, drop, Option, Some, None, if◌then◌else◌}
+use Rattle.std.specs.Prelude.{ℕ, ◌+◌, ◌≡◌, ◌<◌, ◌≤◌, ◌⊎◌, Bool, true, false, List, [], ◌∷◌, length, drop, Option, Some, None, codes, if◌then◌else◌}
+use Rattle.std.specs.Str.{bytes_eq}
 use Rattle.sharc_tree.specs.declared.token.Site.{Site}
 use Rattle.sharc_tree.specs.declared.token.Span.{Span}
 use Rattle.sharc_tree.specs.declared.tree.declaration.Identifier.{Identifier}
@@ -37,6 +38,7 @@ use Rattle.sharc_flat.specs.Flattened.{kind_of, is_ref, target_of, mode_of, lval
 use Rattle.sharc_flat.specs.Suits.{Either, is_cell}
 use Rattle.sharc_flat_form.specs.Framed.{IsWide}
 use Rattle.sharc_invariant.specs.Types.{StaticType, Content, field_at, cells_of}
+use Rattle.sharc_invariant.specs.Types.Content.{MutexWord, Waiters}
 use Rattle.sharc_invariant.specs.Labels.{Entry, Empty, Refers, Unknown, Element, Exactly, Within, Label, LessNumber, EntryMentions, HasBase, fill, set_number}
 use Rattle.sharc_invariant.specs.Typed.{is_shift, is_comparison, Passes, IsShared, Recasts, IsLayout}
 use Rattle.sharc_labels_laws.specs.Stretches.{Mark, Setting, Way, LeadsAmong}
@@ -275,18 +277,32 @@ module _ (z : Setting) (f : ℕ) (ways : List Way) (y : Typing) where
     pub shared : (z.signature g).alone ≡ false
     pub handed : Handed c kinds a g (is_ref c a)
 
-  -- by what is asked of the arguments; the calls of condition variables are not among them
-  abbrev pub CallTypable : Context → Expression → Named → Arguments → (List Kind → (ℕ → StaticType) → Type 0) → Type 0
-  CallTypable c e (named.Function g) all of_arguments = (wants : ℕ → StaticType) × of_arguments (declared_kinds (parameters_named c.program.typed (named.Function g))) wants
+  -- one reference is passed, or two
+  abbrev pub IsOne : Context → Arguments → Type 0
+  IsOne c (argument a no_arguments) = is_ref c a ≡ true
+  IsOne c _ = ⊥
+
+  abbrev pub AreTwo : Context → Arguments → Type 0
+  AreTwo c (argument a (argument b no_arguments)) = (is_ref c a ≡ true) × (is_ref c b ≡ true)
+  AreTwo c _ = ⊥
+
+  -- a condition variable, and a mutex where a thread waits
+  abbrev pub ConditionTyped : Context → List ℕ → (ℕ → StaticType) → Arguments → Type 0
+  ConditionTyped c name wants all = Either (bytes_eq name (codes "wait")) (AreTwo c all × FirstCell z (wants 0) Waiters × FirstCell z (wants 1) MutexWord) (IsOne c all × FirstCell z (wants 0) Waiters)
+
+  -- by what is asked of the arguments
+  abbrev pub CallTypable : Context → Expression → Named → List ℕ → Arguments → (List Kind → (ℕ → StaticType) → Type 0) → Type 0
+  CallTypable c e (named.Function g) name all of_arguments = (wants : ℕ → StaticType) × of_arguments (declared_kinds (parameters_named c.program.typed (named.Function g))) wants
       × CallTyped c e g (declared_kinds (parameters_named c.program.typed (named.Function g))) wants all
-  CallTypable c e _ all of_arguments = ⊥
+  CallTypable c e named.Known name all of_arguments = (wants : ℕ → StaticType) × of_arguments (declared_kinds (parameters_named c.program.typed named.Known)) wants × IsVoid c e × ConditionTyped c name wants all
+  CallTypable c e _ name all of_arguments = ⊥
 
   abbrev mutual
     pub IsTypable : Bool → Context → Expression → Type 0
     IsTypable bare c (identifier s x) = NameTyped c (identifier s x) x.site (what_names c x.site.token)
     IsTypable bare c (constant s k) = ConstantTyped c (constant s k) k (is_ref c (constant s k))
     IsTypable bare c (parentheses s a) = IsTypable bare c a × (y.entry c (parentheses s a) ≡ y.entry c a)
-    IsTypable bare c (call s x all) = CallTypable c (call s x all) (what_names c x.site.token) all (λ kinds wants. AreTypable bare c kinds wants all)
+    IsTypable bare c (call s x all) = CallTypable c (call s x all) (what_names c x.site.token) x.text all (λ kinds wants. AreTypable bare c kinds wants all)
     IsTypable bare c (spawn s x a) = IsTypable bare c a × IsNumber c (spawn s x a) × SpawnTyped c a (number_named (what_names c x.site.token)) (declared_kinds (parameters_named c.program.typed (what_names c x.site.token)))
     IsTypable bare c (on_value s w a) = IsTypable bare c a × IsNumber c a
     IsTypable bare c (on_place s w a) = PlaceCallTypable bare c w a (λ guard. IsPlaceTypable bare c None guard a)

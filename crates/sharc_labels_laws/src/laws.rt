@@ -1,6 +1,11 @@
 //! Laws of flattened code.
 
-ghost use Rattle.sharc_labels_laws.specs.Laws.{ExpressionsAreTyped, LinesAreTyped, LinesKnow, LinesTell, PartsAreTyped, StretchesJoin};
+ghost use Rattle.sharc_labels_laws.specs.Blocks.{BlocksAreTyped};
+ghost use Rattle.sharc_labels_laws.specs.Decided.{DecisionsAreTyped};
+ghost use Rattle.sharc_labels_laws.specs.Declared.{LocalsAreTyped};
+ghost use Rattle.sharc_labels_laws.specs.Ended.{EndsAreTyped};
+ghost use Rattle.sharc_labels_laws.specs.Left.{JumpsAreTyped, LeavesAreTyped, ReturnsAreTyped};
+ghost use Rattle.sharc_labels_laws.specs.Laws.{ExpressionsAreTyped, LinesAreTyped, LinesKnow, LinesTell, PartsAreTyped, SimplesAreTyped, StretchesJoin, TestsAreTyped};
 
 /// Lines that stand in a table of marks are typed whatever checks are remembered.
 pub fn lines_law()
@@ -30,4 +35,49 @@ pub fn parts_law()
 /// The code of an expression of which the types of the source say what is asked is typed.
 pub fn expressions_law()
     ensures { ExpressionsAreTyped }
+{}
+
+/// So is that of an assignment, or of a call whose value is dropped.
+pub fn simples_law()
+    ensures { SimplesAreTyped }
+{}
+
+/// Choices and loops of typed code are typed.
+pub fn decisions_law()
+    ensures { DecisionsAreTyped }
+{}
+
+/// So is a test.
+pub fn tests_law()
+    ensures { TestsAreTyped }
+{}
+
+/// A variable of a block is declared, and what is known with it is known behind it.
+pub fn locals_law()
+    ensures { LocalsAreTyped }
+{}
+
+/// At the end of a block its variables are given up, and what was known before it is known again.
+pub fn ends_law()
+    ensures { EndsAreTyped }
+{}
+
+/// A jump to a line to which code may lead is typed.
+pub fn jumps_law()
+    ensures { JumpsAreTyped }
+{}
+
+/// So is a return that gives nothing.
+pub fn returns_law()
+    ensures { ReturnsAreTyped }
+{}
+
+/// Statements and blocks at a line are typed.
+pub fn blocks_law()
+    ensures { BlocksAreTyped }
+{}
+
+/// Blocks that are open one in the other end one after the other.
+pub fn leaves_law()
+    ensures { LeavesAreTyped }
 {}
