@@ -2,5 +2,6 @@ pub mod Cells
 pub mod Grounds
 pub mod Joining
 pub mod Modes
+pub mod Paths
 pub mod Pointing
 pub mod Standing

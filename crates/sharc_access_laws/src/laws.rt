@@ -2,11 +2,13 @@
 
 ghost use Rattle.sharc_access_laws.specs.Accesses.{CellsStand, AccessesFit, GuardsFit};
 ghost use Rattle.sharc_access_laws.specs.Joined.{IntegersFit, ReferencesFit, MutexesFit, GroundsFit};
+ghost use Rattle.sharc_access_laws.specs.Paths.{MutexesBehind};
 
 use sharc_ctype_laws::laws::meets_globals;
 use sharc_static_laws::laws::{places_point, scope_laws};
 use sharc_target_laws::laws::{
-    arrays_fit, expressions_found, globals_are, locks_stand_beside, lvalues_fit,
+    arrays_fit, expressions_found, fields_placed, globals_are, locks_stand_beside, lvalues_fit,
+    members_are, pointees_fit, variables_found,
 };
 
 /// Where the registers have what an lvalue names, its cell is there, with what the lvalue's type says in it, under its mode.
@@ -80,4 +82,14 @@ pub fn grounds_fit()
 {
     lvalues_fit();
     arrays_fit();
+}
+
+/// Where a lock path `x->m` leads to a mutex of the struct to which `x` points, the table has one there.
+pub fn mutexes_behind()
+    ensures { MutexesBehind }
+{
+    variables_found();
+    members_are();
+    pointees_fit();
+    fields_placed();
 }

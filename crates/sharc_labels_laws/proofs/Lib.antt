@@ -24,3 +24,5 @@ pub mod Simple
 pub mod Decided
 pub mod Declaring
 pub mod Ending
+pub mod Leaving
+pub mod Blocks

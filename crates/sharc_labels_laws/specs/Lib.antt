@@ -6,4 +6,6 @@ pub mod Stated
 pub mod Decided
 pub mod Declared
 pub mod Ended
+pub mod Left
+pub mod Blocks
 pub mod Laws

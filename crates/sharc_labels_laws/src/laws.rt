@@ -1,8 +1,10 @@
 //! Laws of flattened code.
 
+ghost use Rattle.sharc_labels_laws.specs.Blocks.{BlocksAreTyped};
 ghost use Rattle.sharc_labels_laws.specs.Decided.{DecisionsAreTyped};
 ghost use Rattle.sharc_labels_laws.specs.Declared.{LocalsAreTyped};
 ghost use Rattle.sharc_labels_laws.specs.Ended.{EndsAreTyped};
+ghost use Rattle.sharc_labels_laws.specs.Left.{JumpsAreTyped, LeavesAreTyped, ReturnsAreTyped};
 ghost use Rattle.sharc_labels_laws.specs.Laws.{ExpressionsAreTyped, LinesAreTyped, LinesKnow, LinesTell, PartsAreTyped, SimplesAreTyped, StretchesJoin, TestsAreTyped};
 
 /// Lines that stand in a table of marks are typed whatever checks are remembered.
@@ -58,4 +60,24 @@ pub fn locals_law()
 /// At the end of a block its variables are given up, and what was known before it is known again.
 pub fn ends_law()
     ensures { EndsAreTyped }
+{}
+
+/// A jump to a line to which code may lead is typed.
+pub fn jumps_law()
+    ensures { JumpsAreTyped }
+{}
+
+/// So is a return that gives nothing.
+pub fn returns_law()
+    ensures { ReturnsAreTyped }
+{}
+
+/// Statements and blocks at a line are typed.
+pub fn blocks_law()
+    ensures { BlocksAreTyped }
+{}
+
+/// Blocks that are open one in the other end one after the other.
+pub fn leaves_law()
+    ensures { LeavesAreTyped }
 {}

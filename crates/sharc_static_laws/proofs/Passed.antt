@@ -263,6 +263,9 @@ module _ (found : EachTypeFound) (rules : RulesAreMet) (all_fair : AllFair) (the
   fair_argument : (d : Declaration) (e : Expression) → Contains (passed ds all) (given d e) → IsFair r (given d e)
   fair_argument d e has = of_each (IsFair r) (passed ds all) (given d e) (fair_by call) has
 
+  struct_pointer : (x : ℕ) → (struct : List ℕ) × (variable_kind (declaration_at r x) ≡ object (base.Struct struct) 1) → is_pointer (variable_kind (declaration_at r x)) ≡ true
+  struct_pointer x h = ap is_pointer h.1 ∙ lt-ltb 0 1 (omega arith)
+
   module _ (one_struct : HasOneStruct r) (l : Label) (k a : ℕ) (copies : AreCopies c ds all l k) where
     -- the argument for a parameter that is a pointer, where it is a constant variable, has the same fields
     same_variable : (x at y : ℕ) (struct : List ℕ) → variable_kind (declaration_at r x) ≡ object (base.Struct struct) 1 → argument_use r ds all x ≡ Some at → named_at r at ≡ named.Variable y → variable_kind (declaration_at r y) ≡ object (base.Struct struct) 1
@@ -306,7 +309,7 @@ module _ (found : EachTypeFound) (rules : RulesAreMet) (all_fair : AllFair) (the
             ap (λ o. lock_at c (lock_for r ds all o lock)) path ∙ ap (λ o. lock_at c (with_base o lock)) used ∙ ap (λ w. lock_named c w lock.second) names ∙ ap (lock_named c (named.Variable y)) second in
             let f : lock_at inner lock ≡ InRegister (register inner x) (field_place_behind r x name) = ap (λ w. lock_named inner w lock.second) is ∙ ap (lock_named inner (named.Variable x)) second in
             subst (λ z. PassesLock l k a z (lock_at inner lock)) (sym e) (subst (PassesLock l k a (InRegister (register c y) (field_place_behind r y name))) (sym f)
-            (same_place x y (pointer x path).0 name (pointer x path).1 (same_variable x at y (pointer x path).0 (pointer x path).1 used names), copies x at y used names))
+            (same_place x y (pointer x path).0 name (pointer x path).1 (same_variable x at y (pointer x path).0 (pointer x path).1 used names), copies x at y (struct_pointer x (pointer x path)) used names))
 
         by : (n : Named) → named_at r lock.first ≡ n → (o : Option (List ℕ)) → lock.second ≡ o → PassesLock l k a (lock_at c (lock_for r ds all (path_variable r lock) lock)) (lock_at inner lock)
         by (named.Variable x) is (Some name) second =
@@ -440,9 +443,9 @@ module _ (found : EachTypeFound) (rules : RulesAreMet) (all_fair : AllFair) (the
   abbrev Fits : Lock → Type 0
   Fits lock = IsHeldPath m (locked lock) × (AreStanding c ds all → PathStands r c.scope (locked lock))
 
-  lock_fits : (d : Declaration) → Contains ds d → (lock : Lock) → Contains (modes_of m (declared_row r written d.name.site.token)) (locked lock)
+  lock_fits : (d : Declaration) → Contains ds d → (lock : Lock) → PathPoints r lock → Contains (modes_of m (declared_row r written d.name.site.token)) (locked lock)
       → Contains (modes_of m (declared_row r (at_call ds all) d.name.site.token)) (locked (at_caller lock)) → Fits (at_caller lock)
-  lock_fits d among lock here there = by (path_variable r lock) refl
+  lock_fits d among lock pointer here there = by (path_variable r lock) refl
     where
       without : path_variable r lock ≡ None → Fits lock
       without none = (
@@ -450,8 +453,8 @@ module _ (found : EachTypeFound) (rules : RulesAreMet) (all_fair : AllFair) (the
         λ stands. none_named (named_at r lock.first) lock.second none,
       )
 
-      with_one : (x at : ℕ) → argument_use r ds all x ≡ Some at → Contains (modes_of m (declared_row r (at_call ds all) d.name.site.token)) (locked (with_base (Some at) lock)) → Fits (with_base (Some at) lock)
-      with_one x at used there =
+      with_one : (x at : ℕ) → is_pointer (variable_kind (declaration_at r x)) ≡ true → argument_use r ds all x ≡ Some at → Contains (modes_of m (declared_row r (at_call ds all) d.name.site.token)) (locked (with_base (Some at) lock)) → Fits (with_base (Some at) lock)
+      with_one x at leads used there =
           let f = used_for r ds all x at used in
           let u = use_named r f.of at f.used in (
             λ l y e h.
@@ -459,7 +462,7 @@ module _ (found : EachTypeFound) (rules : RulesAreMet) (all_fair : AllFair) (the
                 let path : path_variable r (with_base (Some at) lock) ≡ Some y = ap (path_variable r) same ∙ h in
                 let is : u.variable ≡ y = same_token u.variable y (sym u.names ∙ path_named r (with_base (Some at) lock) y path) in
                 held_by rules m accepted y (ap (is_constant r) (sym is) ∙ u.constant) (is_substituted call among (at_target there) (object_there rules m accepted (with_base (Some at) lock) y path)),
-            λ stands. one_named (named_at r at) u.variable lock.second u.names (stands x at u.variable used u.names),
+            λ stands. one_named (named_at r at) u.variable lock.second u.names (stands x at u.variable leads used u.names),
           )
 
       by : (o : Option ℕ) → path_variable r lock ≡ o → Fits (at_caller lock)
@@ -467,7 +470,7 @@ module _ (found : EachTypeFound) (rules : RulesAreMet) (all_fair : AllFair) (the
       by (Some x) is =
           let used = (meets rules all_fair themselves m accepted).m4.arguments ds all d lock x call among (at_target here) is in
           let to : at_caller lock ≡ with_base (Some used.0) lock = ap (λ o. lock_for r ds all o lock) is ∙ ap (λ o. with_base o lock) used.1 in
-          subst Fits (sym to) (with_one x used.0 used.1 (subst (λ z. Contains (modes_of m (declared_row r (at_call ds all) d.name.site.token)) (locked z)) to there))
+          subst Fits (sym to) (with_one x used.0 (struct_pointer x (pointer x is)) used.1 (subst (λ z. Contains (modes_of m (declared_row r (at_call ds all) d.name.site.token)) (locked z)) to there))
 
   abbrev ModeFits : Mode → Type 0
   ModeFits mode = (path : Path) → mode ≡ Locked path → Fits (at_caller (lock_of path))
@@ -496,16 +499,19 @@ module _ (found : EachTypeFound) (rules : RulesAreMet) (all_fair : AllFair) (the
       let row = entity_row written (Some n) in
       let other = entity_row (at_call ds all) (Some n) in
       let same : raw m row ≡ raw m other = same_raw m written (at_call ds all) n.entity.role n.first (positions_of n.entity) in
+      let entity : IsEntity m n = found_there (is_told_by d.name.site.token d.name.site.token) (numbered (entities_in r.program.items)) n is in
       let kept : other.reading ≡ at_call ds all = reading_kept n.entity.role _ in
       let kept_here : row.reading ≡ written = reading_kept n.entity.role _ in
-      let fits : AllByRecursion ModeFits (raw m other) = to_each ModeFits (raw m other)
-      (λ mode has path e.
+      let fits : AllByRecursion ModeFits (raw m other) = each (λ mode. ModePoints r mode × Contains (raw m other) mode) ModeFits
+      (λ mode h path e.
+      let has = h.1 in
       let at : Contains (raw m other) (Locked path) = subst (Contains (raw m other)) e has in
-      lock_fits d among (lock_of path)
+      lock_fits d among (lock_of path) (h.0 path e)
       (subst (λ o. Contains (modes_of m (entity_row written o)) (locked (lock_of path))) (sym is)
       (subst (λ z. Contains (map (λ mode. read r z (sharing_of mode)) (raw m row)) (locked (lock_of path))) (sym kept_here) (mapped_there (λ mode. read r written (sharing_of mode)) (raw m row) (Locked path) (subst (λ list. Contains list (Locked path)) (sym same) at))))
       (subst (λ o. Contains (modes_of m (entity_row (at_call ds all) o)) (locked (at_caller (lock_of path)))) (sym is)
-      (subst (λ z. Contains (map (λ mode. read r z (sharing_of mode)) (raw m other)) (locked (at_caller (lock_of path)))) (sym kept) (mapped_there (λ mode. read r (at_call ds all) (sharing_of mode)) (raw m other) (Locked path) at)))) in (
+      (subst (λ z. Contains (map (λ mode. read r z (sharing_of mode)) (raw m other)) (locked (at_caller (lock_of path)))) (sym kept) (mapped_there (λ mode. read r (at_call ds all) (sharing_of mode)) (raw m other) (Locked path) at))))
+      (raw m other) (both_hold (ModePoints r) (Contains (raw m other)) (raw m other) (row_points found m accepted (at_call ds all) n entity) (to_each (Contains (raw m other)) (raw m other) (λ mode has. has))) in (
         subst (λ z. AllHeld m (map (λ mode. read r z (sharing_of mode)) (raw m other))) (sym kept) (list_held (raw m other) fits),
         λ s. subst (λ z. AllStand m c.scope (map (λ mode. read r z (sharing_of mode)) (raw m other))) (sym kept) (list_stands s (raw m other) fits),
       )

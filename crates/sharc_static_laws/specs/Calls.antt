@@ -4,7 +4,7 @@ use Rattle.sharc_tree.specs.declared.tree.declaration.Declaration.{Declaration}
 use Rattle.sharc_tree.specs.Tree.{Expression, Arguments, value}
 use Rattle.sharc_names.specs.declared.fault.Named.TheVariants as named
 use Rattle.sharc_names.specs.Kinds.{is_pointer, declared_kind}
-use Rattle.sharc_ctype.specs.Resolved.{named_at}
+use Rattle.sharc_ctype.specs.Resolved.{named_at, declaration_at, variable_kind}
 use Rattle.sharc_ctype.specs.Transfers.{variable, passed}
 use Rattle.sharc_mode.specs.Rows.{at_call, declared_row, modes_of, argument_use}
 use Rattle.sharc_mode_laws.specs.Constructs.{IsCall}
@@ -21,9 +21,9 @@ use Rattle.sharc_static_laws.specs.Static.{register, static_of, variable_type, e
 abbrev pub at_entry : Context → List Declaration → Context
 at_entry c ds = record c { scope = parameters_scope ds }
 
--- The frame of the callee begins at register k. Where the argument for a parameter is a constant variable, its register holds a copy of that.
+-- The frame of the callee begins at register k. Where the argument for a parameter that is a pointer is a constant variable, its register holds a copy of that.
 abbrev pub AreCopies : Context → List Declaration → Arguments → Label → ℕ → Type 0
-AreCopies c ds all l k = (x at y : ℕ) → argument_use c.program.typed ds all x ≡ Some at → named_at c.program.typed at ≡ named.Variable y → SameReference l (register c y) (k + register (at_entry c ds) x)
+AreCopies c ds all l k = (x at y : ℕ) → is_pointer (variable_kind (declaration_at c.program.typed x)) ≡ true → argument_use c.program.typed ds all x ≡ Some at → named_at c.program.typed at ≡ named.Variable y → SameReference l (register c y) (k + register (at_entry c ds) x)
 
 -- an argument in register a
 abbrev pub ArgumentsPass : Type 0
@@ -36,9 +36,9 @@ ArgumentsPass = (c : Context) → IsAccepted c.program → (ds : List Declaratio
 abbrev pub argument_type : Context → List Declaration → Arguments → Declaration → StaticType
 argument_type c ds all d = static_of c (declared_kind d.written) (modes_of c.program (declared_row c.program.typed (at_call ds all) d.name.site.token))
 
--- the arguments that are constant variables stand
+-- the arguments for pointers that are constant variables stand
 abbrev pub AreStanding : Context → List Declaration → Arguments → Type 0
-AreStanding c ds all = (x at y : ℕ) → argument_use c.program.typed ds all x ≡ Some at → named_at c.program.typed at ≡ named.Variable y → slot_kind c.scope y ≡ Some true
+AreStanding c ds all = (x at y : ℕ) → is_pointer (variable_kind (declaration_at c.program.typed x)) ≡ true → argument_use c.program.typed ds all x ≡ Some at → named_at c.program.typed at ≡ named.Variable y → slot_kind c.scope y ≡ Some true
 
 -- The argument is NULL or has that type. It names variables that stand and keep their references, and is as that of the parameter in the callee's frame, be it of NULL.
 pub record ArgumentFits (c : Context) (ds : List Declaration) (all : Arguments) (d : Declaration) (e : Expression) : Type 0 where

@@ -1,3 +1,4 @@
+pub mod Calling
 pub mod Registers
 pub mod Taking
 pub mod Values

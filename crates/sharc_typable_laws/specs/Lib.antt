@@ -1,3 +1,4 @@
+pub mod Calling
 pub mod Laws
 pub mod Taking
 pub mod Typing

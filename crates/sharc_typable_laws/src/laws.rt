@@ -1,10 +1,11 @@
 // The laws, each the contract of a function with calls of other laws alone.
 
+ghost use Rattle.sharc_typable_laws.specs.Calling.{CallsPass};
 ghost use Rattle.sharc_typable_laws.specs.Laws.{ValueLaws};
 ghost use Rattle.sharc_typable_laws.specs.Taking.{TakingLaws};
 
-use sharc_ctype_laws::laws::{meets_constraints, one_type};
-use sharc_static_laws::laws::{casts_recast, held_laws, scope_laws};
+use sharc_ctype_laws::laws::{each_names_itself, meets_constraints, one_type};
+use sharc_static_laws::laws::{arguments_fit, casts_recast, held_laws, scope_laws};
 use sharc_target_laws::laws::{expressions_found, layouts_are, pointees_fit};
 
 /// Values, pointers, variables, constants and operators of an accepted program are as typable expressions ask.
@@ -28,4 +29,12 @@ pub fn taking_laws()
     pointees_fit();
     layouts_are();
     casts_recast();
+}
+
+/// References that are passed are as the callee's first registers have them.
+pub fn calls_pass()
+    ensures { CallsPass }
+{
+    each_names_itself();
+    arguments_fit();
 }
