@@ -13,6 +13,7 @@ pub mod Places
 pub mod Points
 pub mod Recasting
 pub mod Registers
+pub mod Results
 pub mod Same
 pub mod Scoping
 pub mod Siblings

@@ -4,6 +4,7 @@ pub mod Casting
 pub mod Held
 pub mod Laws
 pub mod Pointing
+pub mod Results
 pub mod Scopes
 pub mod Standing
 pub mod Starting

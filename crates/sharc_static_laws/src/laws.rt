@@ -6,6 +6,7 @@ ghost use Rattle.sharc_static_laws.specs.Casting.{CastsRecast};
 ghost use Rattle.sharc_static_laws.specs.Held.{HeldLaws};
 ghost use Rattle.sharc_static_laws.specs.Laws.{GivenLaws};
 ghost use Rattle.sharc_static_laws.specs.Pointing.{PlacesPoint};
+ghost use Rattle.sharc_static_laws.specs.Results.{ResultLaws};
 ghost use Rattle.sharc_static_laws.specs.Scopes.{ScopeLaws};
 ghost use Rattle.sharc_static_laws.specs.Standing.{FunctionsStand};
 ghost use Rattle.sharc_static_laws.specs.Starting.{SpawnedBegin};
@@ -137,4 +138,13 @@ pub fn some_are_alone()
     each_path_found();
     each_names_itself();
     meets_constraints();
+}
+
+/// The type of a result is the same in each frame, and that of a call.
+pub fn result_laws()
+    ensures { ResultLaws }
+{
+    scope_laws();
+    each_type_found();
+    each_path_found();
 }
