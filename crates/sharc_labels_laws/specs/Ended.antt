@@ -1,5 +1,5 @@
--- The ends of blocks: their variables are given up, and what is known behind them is what was known before them.
-use Rattle.std.specs.Prelude.{ℕ, ◌+◌, ◌≡◌, ◌≤◌, List}
+-- The ends of blocks: their variables are given up, of what names those no type is known any more, and what is known behind them is what was known before them.
+use Rattle.std.specs.Prelude.{ℕ, ◌+◌, ◌≡◌, ◌<◌, ◌≤◌, List}
 use Rattle.sharc_flat.specs.declared.slot.Slot.{Slot}
 use Rattle.sharc_flat_form.specs.declared.op.Op.{Op}
 use Rattle.sharc_flat.specs.Scope.{Context, int_count, ref_count, pops}
@@ -7,11 +7,12 @@ use Rattle.sharc_invariant.specs.Labels.{Label}
 use Rattle.sharc_labels_laws.specs.Stretches.{Setting, Way, LeadsAmong}
 use Rattle.sharc_labels_laws.specs.Places.{AreLow}
 use Rattle.sharc_labels_laws.specs.Premises.{Typing}
-use Rattle.sharc_labels_laws.specs.Declared.{Keeps, StandsBefore, before}
+use Rattle.sharc_labels_laws.specs.Declared.{StandsBefore, before}
 
 -- These variables more stand in the second scope.
 pub record Grows (y : Typing) (c d : Context) (slots : List Slot) : Type 0 where
-  pub keeps : Keeps y c d
+  pub pointers : (q : ℕ) → q < ref_count c.scope → y.pointer d q ≡ y.pointer c q
+  pub widths : (j : ℕ) → j < int_count c.scope → y.width d j ≡ y.width c j
   pub ints : int_count c.scope ≤ int_count d.scope
   pub refs : ref_count c.scope + ref_count slots ≡ ref_count d.scope
 
