@@ -1,3 +1,4 @@
 pub mod Begins
 pub mod Built
+pub mod Next
 pub mod Sound

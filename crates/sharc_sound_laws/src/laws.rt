@@ -2,6 +2,7 @@
 
 ghost use Rattle.sharc_sound_laws.specs.Begins.{MadeCodeBegins};
 ghost use Rattle.sharc_sound_laws.specs.Built.{BuiltIsSoundIfTyped};
+ghost use Rattle.sharc_sound_laws.specs.Next.{OneIsNext};
 ghost use Rattle.sharc_sound_laws.specs.Sound.{SoundIfTyped};
 
 use sharc_build::fronts_are_typed;
@@ -12,6 +13,7 @@ use sharc_compile_laws::{
 use sharc_ctype_laws::laws::{each_names_itself, meets_globals};
 use sharc_follow_laws::waits_law;
 use sharc_history_laws::{history_law, paths_law, starts_law, waiters_law};
+use sharc_meaning::laws::ask_laws;
 use sharc_source_laws::laws::numbers_have_no_sign;
 
 /// The globals of the code of a typed program hold at first what their definitions say, if the numbers at which they begin have no sign of their own.
@@ -49,4 +51,11 @@ pub fn built_is_sound_if_typed()
     numbers_have_no_sign();
     range_laws();
     sound_if_typed();
+}
+
+/// What a thread of a program asks for next, behind as many events as it has answers, is one act at one place: neither the answer nor the fuel changes it.
+pub fn one_is_next()
+    ensures { OneIsNext }
+{
+    ask_laws();
 }

@@ -6,4 +6,4 @@
 
 mod laws;
 
-pub use laws::{built_is_sound_if_typed, made_code_begins, sound_if_typed};
+pub use laws::{built_is_sound_if_typed, made_code_begins, one_is_next, sound_if_typed};
