@@ -5,3 +5,4 @@ pub mod Modes
 pub mod Paths
 pub mod Pointing
 pub mod Standing
+pub mod Uses

@@ -1,3 +1,4 @@
 pub mod Accesses
 pub mod Joined
 pub mod Paths
+pub mod Uses

@@ -3,8 +3,10 @@
 ghost use Rattle.sharc_access_laws.specs.Accesses.{CellsStand, AccessesFit, GuardsFit};
 ghost use Rattle.sharc_access_laws.specs.Joined.{IntegersFit, ReferencesFit, MutexesFit, GroundsFit};
 ghost use Rattle.sharc_access_laws.specs.Paths.{MutexesBehind};
+ghost use Rattle.sharc_access_laws.specs.Uses.{UsesAreFair};
 
 use sharc_ctype_laws::laws::meets_globals;
+use sharc_mode_laws::laws::rules_are_met;
 use sharc_static_laws::laws::{places_point, scope_laws};
 use sharc_target_laws::laws::{
     arrays_fit, expressions_found, fields_placed, globals_are, locks_stand_beside, lvalues_fit,
@@ -92,4 +94,11 @@ pub fn mutexes_behind()
     members_are();
     pointees_fit();
     fields_placed();
+}
+
+/// What a function reads, assigns and takes, it may by the rules of the modes.
+pub fn uses_are_fair()
+    ensures { UsesAreFair }
+{
+    rules_are_met();
 }
