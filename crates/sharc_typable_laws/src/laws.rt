@@ -1,6 +1,6 @@
 // The laws, each the contract of a function with calls of other laws alone.
 
-ghost use Rattle.sharc_typable_laws.specs.Calling.{CallsPass};
+ghost use Rattle.sharc_typable_laws.specs.Calling.{CallingLaws};
 ghost use Rattle.sharc_typable_laws.specs.Laws.{ValueLaws};
 ghost use Rattle.sharc_typable_laws.specs.Taking.{TakingLaws};
 
@@ -32,8 +32,8 @@ pub fn taking_laws()
 }
 
 /// References that are passed are as the callee's first registers have them.
-pub fn calls_pass()
-    ensures { CallsPass }
+pub fn calling_laws()
+    ensures { CallingLaws }
 {
     each_names_itself();
     arguments_fit();
