@@ -23,7 +23,7 @@ use Rattle.sharc_ctype.specs.Variables.{variable as variables, variable_of}
 use Rattle.sharc_mode.specs.Moded.{Assignment}
 use Rattle.sharc_mode.specs.Notes.{taken_variable}
 use Rattle.sharc_mode.specs.Rows.{written, base_use, path_variable, declared_row, modes_of, modes_at}
-use Rattle.sharc_mode.specs.Sharings.{Lock, Sharing, private, readonly, locked, racy, dynamic, lock_of, variable_named, object_named, object_of}
+use Rattle.sharc_mode.specs.Sharings.{Lock, Sharing, private, readonly, locked, racy, dynamic, lock_of, variable_named, object_named, object_of, text_at}
 use Rattle.sharc_mode_laws.specs.Constructs.{IsExpression, IsEntity, IsTaken, cast_away, freed, IsAssigned}
 use Rattle.sharc_mode_laws.specs.Laws.{RulesAreMet}
 use Rattle.sharc_mode_laws.specs.Paths.{IsAllowed, global_mutex, sibling_mutex, sibling_pointer, through_constant, IsThroughConstant, through, IsSiblingUse, IsNamedByPath, is_written, is_made}
@@ -131,9 +131,9 @@ module _ (rules : RulesAreMet) (m : Assignment) (a : IsAccepted m) where
   use_constant : (w : Access) (e : Expression) (x : ℕ) → IsThroughConstant m.typed w e x → is_constant m.typed x ≡ true
   use_constant _ _ x (through names constant) = constant
 
-  makes : (e : Expression) (w : Access) (at : ℕ) (text : List ℕ) → IsSiblingUse m e w → base_use m.typed w e ≡ Some at → HeldBy (record { first = at; second = Some text })
-  makes e w at text used is x h =
-      let t = is_use m.typed w e at x is (object (record { first = at; second = Some text }) x h) in
+  makes : (e : Expression) (w : Access) (at : ℕ) (used : IsSiblingUse m e w) → base_use m.typed w e ≡ Some at → HeldBy (record { first = at; second = Some (text_at m.typed used.lock.first) })
+  makes e w at used is x h =
+      let t = is_use m.typed w e at x is (object (record { first = at; second = Some (text_at m.typed used.lock.first) }) x h) in
       held_by x (use_constant w e x t) (is_made used t)
 
   turned : (modes : List Sharing) → AllByRecursion (Of m HeldBy writes makes) modes → AllHeld m modes

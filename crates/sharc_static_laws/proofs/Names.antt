@@ -15,7 +15,7 @@ use Rattle.sharc_ctype.specs.declared.entity.Numbered.{Numbered}
 use Rattle.sharc_ctype.specs.Resolved.{named_at}
 use Rattle.sharc_mode.specs.Moded.{Assignment}
 use Rattle.sharc_mode.specs.Rows.{written, base_use, modes_of, declared_row}
-use Rattle.sharc_mode.specs.Sharings.{Lock, Sharing, private, readonly, locked, racy, dynamic, lock_of, object_named, object_of}
+use Rattle.sharc_mode.specs.Sharings.{Lock, Sharing, private, readonly, locked, racy, dynamic, lock_of, object_named, object_of, text_at}
 use Rattle.sharc_mode_laws.specs.Constructs.{IsEntity, IsTaken}
 use Rattle.sharc_mode_laws.specs.Laws.{RulesAreMet}
 use Rattle.sharc_mode_laws.specs.Paths.{IsNamedByPath, is_written, is_made, IsSiblingUse}
@@ -39,8 +39,8 @@ module _ (m : Assignment) where
   writes : (n : Numbered) → IsEntity m n → (path : Path) → Contains n.entity.written.ctype.levels (Some (Locked path)) → NamedBy (lock_of path)
   writes n is path has x o = is_written is has o
 
-  makes : (a : Expression) (w : Access) (at : ℕ) (text : List ℕ) → IsSiblingUse m a w → base_use m.typed w a ≡ Some at → NamedBy (record { first = at; second = Some text })
-  makes a w at text used is x o = is_made used (is_use m.typed w a at x is o)
+  makes : (a : Expression) (w : Access) (at : ℕ) (used : IsSiblingUse m a w) → base_use m.typed w a ≡ Some at → NamedBy (record { first = at; second = Some (text_at m.typed used.lock.first) })
+  makes a w at used is x o = is_made used (is_use m.typed w a at x is o)
 
   turned : (modes : List Sharing) → AllByRecursion (Of m NamedBy writes makes) modes → AllNamed m modes
   turned modes h = each (Of m NamedBy writes makes) (IsNamed m) (λ s k l x e o. k l e x o) modes h

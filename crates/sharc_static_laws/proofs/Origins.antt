@@ -158,7 +158,7 @@ is_use r Arrow _ at x h o = absurd (none_some at h)
 
 -- What holds of the paths that are written in types, and of those that the uses of fields make, holds of those of the types of expressions and declarations.
 module _ (m : Assignment) (Q : Lock → Type 0) (writes : (n : Numbered) → IsEntity m n → (path : Path) → Contains n.entity.written.ctype.levels (Some (Locked path)) → Q (lock_of path))
-    (makes : (a : Expression) (w : Access) (at : ℕ) (text : List ℕ) → IsSiblingUse m a w → base_use m.typed w a ≡ Some at → Q record { first = at; second = Some text }) where
+    (makes : (a : Expression) (w : Access) (at : ℕ) (used : IsSiblingUse m a w) → base_use m.typed w a ≡ Some at → Q record { first = at; second = Some (text_at m.typed used.lock.first) }) where
   abbrev pub Of : Sharing → Type 0
   Of s = (l : Lock) → s ≡ locked l → Q l
 
@@ -199,7 +199,7 @@ module _ (m : Assignment) (Q : Lock → Type 0) (writes : (n : Numbered) → IsE
   -- ---- through a constant variable
   -- a sibling's name is read through it
   abbrev Uses : ℕ → Row → Type 0
-  Uses at row = (k : Lock) → Contains (modes_of m row) (locked k) → is_sibling_lock r k ≡ true → (text : List ℕ) → Q record { first = at; second = Some text }
+  Uses at row = (k : Lock) → Contains (modes_of m row) (locked k) → is_sibling_lock r k ≡ true → Q record { first = at; second = Some (text_at r k.first) }
 
   one_through : (at : ℕ) (n : Numbered) → IsEntity m n → Uses at (entity_row written (Some n)) → (mode : Mode) → WrittenIn n mode × Contains (raw m (entity_row written (Some n))) mode → Of (shown (through at) mode)
   one_through at n is used Private w l e = absurd (no_private l e)
@@ -214,7 +214,7 @@ module _ (m : Assignment) (Q : Lock → Type 0) (writes : (n : Numbered) → IsE
           (mapped_there (shown written) (raw m (entity_row written (Some n))) (Locked path) w.1)
 
       by : (b : Bool) → is_sibling_lock r (lock_of path) ≡ b → locked (cond b (record { first = at; second = Some (text_at r (lock_of path).first) }) (lock_of path)) ≡ locked l → Q l
-      by true sibling same = subst Q (same_lock _ l same) (used (lock_of path) there sibling (text_at r (lock_of path).first))
+      by true sibling same = subst Q (same_lock _ l same) (used (lock_of path) there sibling)
       by false sibling same = subst Q (same_lock (lock_of path) l same) (writes n is path (w.0 path refl))
 
   entity_through : IsLeastAssignment m → (at : ℕ) (o : Option Numbered) → ((n : Numbered) → o ≡ Some n → IsEntity m n) → Uses at (entity_row written o) → AllOf (modes_of m (entity_row (through at) o))
@@ -277,7 +277,7 @@ module _ (m : Assignment) (Q : Lock → Type 0) (writes : (n : Numbered) → IsE
     field_named s a w name stands None is = name_named (named_at r name.site.token)
     field_named s a w name stands (Some at) is =
         name_through at (named_at r name.site.token)
-        (λ k has sibling text. makes a w at text (record { span = s; name = name; stands = stands; lock = k; target = has; sibling = sibling }) is)
+        (λ k has sibling. makes a w at (record { span = s; name = name; stands = stands; lock = k; target = has; sibling = sibling }) is)
 
     deep : (o : Option Row) → RowNamed o → RowNamed (behind o)
     deep None h = tt

@@ -16,16 +16,19 @@ use Rattle.sharc_ctype_laws.specs.Laws.{EachNamesItself}
 use Rattle.sharc_mode.specs.Rows.{is_constant_named, constant_use, argument_use}
 use Rattle.sharc_flat.specs.declared.slot.Slot.{Slot}
 use Rattle.sharc_flat.specs.Flattened.{is_ref, parameters_scope, behind_int, behind_ref}
-use Rattle.sharc_flat.specs.Scope.{Context, slot_of, ref_count, register_from, register_of, number_in}
-use Rattle.sharc_flat.specs.Suits.{ArgumentsSuit}
+use Rattle.sharc_static_laws.specs.Laws.{IsAccepted}
+use Rattle.sharc_flat.specs.Scope.{slot_kind, Context, slot_of, ref_count, register_from, register_of, number_in}
+use Rattle.sharc_mode_laws.specs.Constructs.{IsFunction}
+use Rattle.sharc_mode.specs.Cells.{cell_at}
+use Rattle.sharc_flat.specs.Suits.{kind_in, NameSuits, Suits, ArgumentsSuit}
 use Rattle.sharc_invariant.specs.Types.{StaticType}
 use Rattle.sharc_invariant.specs.Labels.{Refers, Label, HasCopy}
 use Rattle.sharc_invariant.specs.Typed.{Passes}
 use Rattle.sharc_labels_laws.specs.Stretches.{Setting, Way}
 use Rattle.sharc_labels_laws.specs.Typable.{IsCopyIn, IsCopyNamed, IsCopyOf, ArgumentAt, ArgumentsAt}
-use Rattle.sharc_static_laws.specs.Calls.{at_entry, argument_type, AreCopies, ArgumentsFit}
+use Rattle.sharc_static_laws.specs.Calls.{AreStanding, at_entry, argument_type, AreCopies, ArgumentsFit}
 use Rattle.sharc_static_laws.specs.Static.{variable_type, pointers, entry_named}
-use Rattle.sharc_typable_laws.specs.Calling.{type_for, wants_of, CallsPass}
+use Rattle.sharc_typable_laws.specs.Calling.{type_for, wants_of, CallsPass, ArgumentsStand, CallingLaws}
 use Rattle.sharc_typable_laws.specs.Typing.{typing}
 use Rattle.sharc_typable_laws.proofs.Registers.{reference_found}
 
@@ -145,8 +148,43 @@ module _ (z : Setting) (f : ℕ) (ways : List Way) (c : Context) (l : Label) whe
       by t same used true is false ref h more = absurd (false≢true (ref ∙ is))
       by false same used false is true ref h more = absurd (false≢true (sym (ref ∙ is)))
 
-pub calls_pass : EachNamesItself → ArgumentsFit → CallsPass
-calls_pass themselves arguments_fit z f ways c a g there all call suits standing i k l given p low =
+-- ---- constant variables stand
+module _ (c : Context) where
+  use_stands : (a : Expression) (at y : ℕ) → Suits c a → constant_use c.program.typed a ≡ Some at → named_at c.program.typed at ≡ named.Variable y → is_ref c a ≡ true → slot_kind c.scope y ≡ Some true
+  use_stands (tree.identifier s i) at y suits used names ref = by (is_constant_named c.program.typed (named_at c.program.typed i.site.token)) used
+    where
+      by : (b : Bool) → cond b (Some i.site.token) None ≡ Some at → slot_kind c.scope y ≡ Some true
+      by true is =
+          let what : named_at c.program.typed i.site.token ≡ named.Variable y = ap (named_at c.program.typed) (same_some i.site.token at is) ∙ names in
+          subst (λ w. NameSuits c (kind_in c (tree.identifier s i)) (cell_at c.program (tree.identifier s i)) w) what suits ∙ ap Some ref
+      by false is = absurd (none_some at is)
+  use_stands _ at y suits used names ref = absurd (none_some at used)
+
+  stands_by : (ds : List Declaration) (all : Arguments) → ArgumentsSuit c (declared_kinds ds) all → AllByRecursion (λ d. declaration_at c.program.typed d.name.site.token ≡ Some d) ds → AreStanding c ds all
+  stands_by [] all suits declared x at y pointer used names = absurd (none_some at used)
+  stands_by (d ∷ ds) no_arguments suits declared x at y pointer used names = absurd suits
+  stands_by (d ∷ ds) (argument a rest) suits declared x at y pointer used names = by (d.name.site.token == x) refl used (λ used. stands_by ds rest suits.2 declared.1 x at y pointer used names)
+    where
+      by : (t : Bool) → (d.name.site.token == x) ≡ t → cond t (constant_use c.program.typed a) (argument_use c.program.typed ds rest x) ≡ Some at
+          → (argument_use c.program.typed ds rest x ≡ Some at → slot_kind c.scope y ≡ Some true) → slot_kind c.scope y ≡ Some true
+      by true same used later =
+          let token : d.name.site.token ≡ x = eqb-true d.name.site.token x same in
+          let leads : is_pointer (declared_kind d.written) ≡ true = ap (λ o. is_pointer (variable_kind o)) (sym declared.0 ∙ ap (declaration_at c.program.typed) token) ∙ pointer in
+          use_stands a at y suits.0 used names (suits.1.0 ∙ leads)
+      by false same used later = later used
+
+parameters_declared : EachNamesItself → (c : Context) → IsAccepted c.program → (g : Function) → IsFunction c.program g → AllByRecursion (λ d. declaration_at c.program.typed d.name.site.token ≡ Some d) g.parameters
+parameters_declared themselves c a g there =
+    let r = c.program.typed in
+    each (IsItself r named.Variable) (λ d. declaration_at r d.name.site.token ≡ Some d) (λ d h. h.1) g.parameters
+    (front (IsItself r named.Variable) g.parameters (locals_in_all g.statements)
+    (of_each (λ f. AllByRecursion (IsItself r named.Variable) (f.parameters ++ locals_in_all f.statements)) (functions_in r.program.items) g (themselves r a.resolved a.placed a.low).variables there))
+
+arguments_stand : EachNamesItself → ArgumentsStand
+arguments_stand themselves c a g there all suits = stands_by c g.parameters all suits (parameters_declared themselves c a g there)
+
+calls_pass : EachNamesItself → ArgumentsFit → CallsPass
+calls_pass themselves arguments_fit z f ways c a g there all call suits i k l given p low =
     subst (λ o. Passes l k (k + p) (l.env (k + p)) (entry_named (at_entry c g.parameters) o)) (sym x.1)
     (subst (λ e. Passes l k (k + p) e (Refers (variable_type (at_entry c g.parameters) x.0))) (sym (w.entry ∙ ap (λ o. Refers (type_for c g.parameters all o)) w.at))
     (subst (λ t. Passes l k (k + p) (Refers (argument_type c g.parameters all w.parameter)) (Refers (variable_type (at_entry c g.parameters) t))) w.token
@@ -159,11 +197,10 @@ calls_pass themselves arguments_fit z f ways c a g there all call suits standing
     w = passed_in z f ways c l g.parameters (wants_of c g.parameters all) all i k suits given p x.0 x.1
 
     declared : AllByRecursion (λ d. declaration_at c.program.typed d.name.site.token ≡ Some d) g.parameters
-    declared =
-        let r = c.program.typed in
-        each (IsItself r named.Variable) (λ d. declaration_at r d.name.site.token ≡ Some d) (λ d h. h.1) g.parameters
-        (front (IsItself r named.Variable) g.parameters (locals_in_all g.statements)
-        (of_each (λ f. AllByRecursion (IsItself r named.Variable) (f.parameters ++ locals_in_all f.statements)) (functions_in r.program.items) g (themselves r a.resolved a.placed a.low).variables there))
+    declared = parameters_declared themselves c a g there
+
+    standing : AreStanding c g.parameters all
+    standing = arguments_stand themselves c a g there all suits
 
     copies : AreCopies c g.parameters all l k
     copies x at y pointer used names =
@@ -171,3 +208,6 @@ calls_pass themselves arguments_fit z f ways c a g there all call suits standing
         let first : k ≡ k + 0 = omega arith in
         HasCopy (copy_at z f ways c l g.parameters (wants_of c g.parameters all) all i k 0 0 suits
         (subst (λ n. ArgumentsAt z f ways typing c (declared_kinds g.parameters) (wants_of c g.parameters all) all i n l) first given) declared x at y q.0 pointer used names q.1 ∙ sym (ap number_in q.1))
+
+pub calling_laws : EachNamesItself → ArgumentsFit → CallingLaws
+calling_laws themselves arguments_fit = record { stand = arguments_stand themselves; passes = calls_pass themselves arguments_fit }

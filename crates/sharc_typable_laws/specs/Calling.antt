@@ -29,6 +29,14 @@ wants_of c ds all n = type_for c ds all (slice_get ds n)
 -- each reference that is passed is as the callee's first registers have it
 abbrev pub CallsPass : Type 0
 CallsPass = (z : Setting) (f : ℕ) (ways : List Way) (c : Context) → IsAccepted c.program → (g : Function) → IsFunction c.program g → (all : Arguments) → IsCall c.program g.parameters all
-    → ArgumentsSuit c (declared_kinds g.parameters) all → AreStanding c g.parameters all → (i r : ℕ) (l : Label)
+    → ArgumentsSuit c (declared_kinds g.parameters) all → (i r : ℕ) (l : Label)
     → ArgumentsAt z f ways typing c (declared_kinds g.parameters) (wants_of c g.parameters all) all i r l
     → (p : ℕ) → p < ref_count (parameters_scope g.parameters) → Passes l r (r + p) (l.env (r + p)) (variable_entry (at_entry c g.parameters) p)
+
+-- the arguments that are constant variables stand
+abbrev pub ArgumentsStand : Type 0
+ArgumentsStand = (c : Context) → IsAccepted c.program → (g : Function) → IsFunction c.program g → (all : Arguments) → ArgumentsSuit c (declared_kinds g.parameters) all → AreStanding c g.parameters all
+
+pub record CallingLaws : Type 0 where
+  pub stand : ArgumentsStand
+  pub passes : CallsPass

@@ -1,4 +1,5 @@
 pub mod Calling
 pub mod Laws
 pub mod Taking
+pub mod Threads
 pub mod Typing

@@ -1,11 +1,12 @@
 // The laws, each the contract of a function with calls of other laws alone.
 
-ghost use Rattle.sharc_typable_laws.specs.Calling.{CallsPass};
+ghost use Rattle.sharc_typable_laws.specs.Calling.{CallingLaws};
 ghost use Rattle.sharc_typable_laws.specs.Laws.{ValueLaws};
 ghost use Rattle.sharc_typable_laws.specs.Taking.{TakingLaws};
+ghost use Rattle.sharc_typable_laws.specs.Threads.{ThreadsPass};
 
 use sharc_ctype_laws::laws::{each_names_itself, meets_constraints, one_type};
-use sharc_static_laws::laws::{arguments_fit, casts_recast, held_laws, scope_laws};
+use sharc_static_laws::laws::{arguments_fit, casts_recast, held_laws, scope_laws, spawned_begin};
 use sharc_target_laws::laws::{expressions_found, layouts_are, pointees_fit};
 
 /// Values, pointers, variables, constants and operators of an accepted program are as typable expressions ask.
@@ -32,9 +33,17 @@ pub fn taking_laws()
 }
 
 /// References that are passed are as the callee's first registers have them.
-pub fn calls_pass()
-    ensures { CallsPass }
+pub fn calling_laws()
+    ensures { CallingLaws }
 {
     each_names_itself();
     arguments_fit();
+}
+
+/// What a new thread is handed passes wherever it stands.
+pub fn threads_pass()
+    ensures { ThreadsPass }
+{
+    arguments_fit();
+    spawned_begin();
 }
