@@ -1,12 +1,10 @@
 -- Assignments, and calls whose value is dropped.
-use Rattle.std.proofs.Common.{◌≡◌, ◌≢◌, ℕ, ◌+◌, ◌<◌, ◌≤◌, ◌⊎◌, Bool, true, false, cond, List, [], ◌∷◌, ◌++◌, length, Option, Some, None, refl, sym, ap, ◌∙◌, subst, inl, inr, ⊎_elim, arith, append_assoc, pos}
-use Rattle.std.proofs.lemmas.Bool.{false≢true, cases_eq, cases_lt}
+use Rattle.std.proofs.Common.{◌≡◌, ℕ, ◌+◌, ◌<◌, ◌≤◌, ◌⊎◌, Bool, true, false, cond, List, [], ◌∷◌, ◌++◌, Option, Some, None, refl, sym, ap, ◌∙◌, subst, inl, ⊎_elim, arith, pos}
+use Rattle.std.proofs.lemmas.Bool.{false≢true, cases_eq}
 use Rattle.sharc_tree.specs.declared.token.Site.{Site}
-use Rattle.sharc_tree.specs.declared.token.Span.{Span}
 use Rattle.sharc_tree.specs.Spans.{span_of}
 use Rattle.sharc_tree.specs.Tree.{Expression, Right, value, malloc, Simple, assign, does_call}
 use Rattle.sharc_names.specs.Kinds.{Kind, is_integer, declared_kind}
-use Rattle.sharc_code.specs.declared.code.Use.TheVariants as uses
 use Rattle.sharc_code.specs.declared.instr.Register.{Register}
 use Rattle.sharc_code.specs.declared.instr.Register.TheVariants as registers
 use Rattle.sharc_code.specs.Runs.{put}
@@ -21,29 +19,27 @@ use Rattle.sharc_flat_form.specs.declared.op.Op.TheVariants as op
 use Rattle.sharc_flat_form.specs.declared.op.Spot.{Spot}
 use Rattle.sharc_flat.specs.declared.slot.Lvalue.{Lvalue}
 use Rattle.sharc_flat.specs.Scope.{Context, int_count, ref_count, register_of, at_site}
-use Rattle.sharc_flat.specs.Places.{Target, variable, in_global, in_global_at, in_object, in_object_at, base_width, index_width, guard_width, width_of, width_code, store_code, cell_store_code, settle_code}
+use Rattle.sharc_flat.specs.Places.{Target, variable, in_global, in_global_at, in_object, in_object_at, base_width, index_width, width_of, width_code, store_code, cell_store_code, settle_code}
 use Rattle.sharc_flat.specs.Flattened.{kind_of, is_ref, target_of, mode_of, lvalue_in, guard_of, expression_code, place_code, elements_code, right_code, simple_code, drop_code}
 use Rattle.sharc_flat.specs.Suits.{is_cell}
-use Rattle.sharc_invariant.specs.Types.{StaticType, Mentions, cells_of}
-use Rattle.sharc_invariant.specs.Labels.{Entry, Empty, Refers, Element, Number, Exactly, Within, OfElement, OfGlobal, Closed, Label, LessNumber, HasBase, fill, set_number}
+use Rattle.sharc_invariant.specs.Types.{StaticType}
+use Rattle.sharc_invariant.specs.Labels.{Refers, Element, Number, Exactly, Within, OfElement, Closed, Label, LessNumber, fill, set_number}
 use Rattle.sharc_invariant.specs.Typed.{ints_in, refs_in}
-use Rattle.sharc_invariant.proofs.Scoped.{less_refl, less_entry_refl, less_number_refl, scoped_fill}
+use Rattle.sharc_invariant.proofs.Scoped.{less_entry_refl, less_number_refl, scoped_fill}
 use Rattle.sharc_typed.specs.Passes.{IsNumberOf}
-use Rattle.sharc_labels_laws.specs.Stretches.{Mark, Setting, Way, AreOpen, Fits}
-use Rattle.sharc_labels_laws.specs.Places.{Stands, IsNamed, IsPlain, AreLow, mark}
-use Rattle.sharc_labels_laws.specs.Premises.{Typing, HoldsVariables, Ground, IntegerTyped, ReferenceTyped, number_in_global}
-use Rattle.sharc_labels_laws.specs.Typable.{GoesTo, IsBare, IsTypeIn, IsNumber, ground_of, IsTypable, IsPlaceTypable}
+use Rattle.sharc_labels_laws.specs.Stretches.{Mark, Setting, Way, AreOpen}
+use Rattle.sharc_labels_laws.specs.Places.{IsNamed, IsPlain, AreLow, mark}
+use Rattle.sharc_labels_laws.specs.Premises.{Typing, Ground, number_in_global}
+use Rattle.sharc_labels_laws.specs.Typable.{IsBare, IsTypeIn, ground_of, IsTypable}
 use Rattle.sharc_labels_laws.specs.Stated.{IsMade, CountTypable, ValueGoes, RightTypable, VariableAssigned, CellAssigned, Assigned, is_bare, Dropped, SimpleTypable}
-use Rattle.sharc_labels_laws.proofs.Fitting.{fits_same, fits_by}
+use Rattle.sharc_labels_laws.proofs.Fitting.{fits_same}
 use Rattle.sharc_labels_laws.proofs.Standing.{less_by, scoped_frame}
 use Rattle.sharc_labels_laws.proofs.Telling.{told, other_than}
-use Rattle.sharc_labels_laws.proofs.Accesses.{InFrame}
 use Rattle.sharc_labels_laws.proofs.Moves.{on_new}
-use Rattle.sharc_labels_laws.proofs.Parts.{P, At, does, then_do, post, none, enter, constant_at, positive_at, pop_at, same_number, none_some, number_dropped, width_at, with_number, with_reference}
+use Rattle.sharc_labels_laws.proofs.Parts.{P, does, then_do, none, enter, constant_at, positive_at, pop_at, same_number, none_some, number_dropped, width_at, with_number}
 use Rattle.sharc_labels_laws.proofs.Variables.{assign_at, assign_number_at}
-use Rattle.sharc_labels_laws.proofs.Values.{over}
-use Rattle.sharc_labels_laws.proofs.Accessed.{Frame, placed, based, ints_of, indexed, int_store, reference_store, holds_over}
-use Rattle.sharc_labels_laws.proofs.Expressing.{Value, RefValue, IntValue, PlaceValue, expressions, places, int_of, ref_of, in_frame, small_copy, taken_number, frame_fill, frame_number, plain_base, no_bare}
+use Rattle.sharc_labels_laws.proofs.Accessed.{Frame, placed, int_store, reference_store}
+use Rattle.sharc_labels_laws.proofs.Expressing.{Value, PlaceValue, expressions, places, int_of, ref_of, in_frame, taken_number, frame_fill, frame_number, plain_base, no_bare}
 
 module _ (around : Setting) (f : ℕ) (ways : List Way) (y : Typing) (c : Context) (low : AreLow (y.named c) (ref_count c.scope)) where
   abbrev D : (ℕ → Mark) → Type 0
