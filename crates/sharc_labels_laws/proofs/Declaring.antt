@@ -182,16 +182,20 @@ locals_typed z f ways y c low l here local s h = let v = by (is_reference (decla
     by true begins code is =
         let k = declared_label c l s w true in
         let more = begins.refs in
-        let stands = after_reference z f ways y c low l here d s h.keeps begins h.type in
-        (stands, subst (λ os. LeadsAmong z f ways (before c l) os (before d k)) (sym is)
-            (joins z f ways y c low l here (before c l) (before d k) (before d k) (op.Null (ref_count c.scope) ∷ []) (initial_code d local.declaration local.initial)
-            (subst (λ n. LeadsAmong z f ways (before c l) (op.Null (ref_count c.scope) ∷ []) (mark k n n)) (sym begins.ints) (null_at z f ways y c low (int_count c.scope) (int_count c.scope) (ref_count c.scope) l (frame z f ways y c low l here) s h.type))
-            (rest (omega (arith, more)) k stands)))
+        let stands = after_reference z f ways y c low l here d s h.keeps begins h.type in (
+          stands,
+          subst (λ os. LeadsAmong z f ways (before c l) os (before d k)) (sym is)
+              (joins z f ways y c low l here (before c l) (before d k) (before d k) (op.Null (ref_count c.scope) ∷ []) (initial_code d local.declaration local.initial)
+              (subst (λ n. LeadsAmong z f ways (before c l) (op.Null (ref_count c.scope) ∷ []) (mark k n n)) (sym begins.ints) (null_at z f ways y c low (int_count c.scope) (int_count c.scope) (ref_count c.scope) l (frame z f ways y c low l here) s h.type))
+              (rest (omega (arith, more)) k stands)),
+        )
     by false begins code is =
         let k = declared_label c l s w false in
         let many = begins.refs in
-        let stands = after_integer z f ways y c low l here d w h.keeps begins in
-        (stands, subst (λ os. LeadsAmong z f ways (before c l) os (before d k)) (sym is)
-            (joins z f ways y c low l here (before c l) (before d k) (before d k) (op.Constant (int_count c.scope) (pos 0) ∷ []) (initial_code d local.declaration local.initial)
-            (subst (λ n. LeadsAmong z f ways (before c l) (op.Constant (int_count c.scope) (pos 0) ∷ []) (mark k n n)) (sym begins.ints) (zeroed z f ways y c low l here w))
-            (rest (omega (arith, many)) k stands)))
+        let stands = after_integer z f ways y c low l here d w h.keeps begins in (
+          stands,
+          subst (λ os. LeadsAmong z f ways (before c l) os (before d k)) (sym is)
+              (joins z f ways y c low l here (before c l) (before d k) (before d k) (op.Constant (int_count c.scope) (pos 0) ∷ []) (initial_code d local.declaration local.initial)
+              (subst (λ n. LeadsAmong z f ways (before c l) (op.Constant (int_count c.scope) (pos 0) ∷ []) (mark k n n)) (sym begins.ints) (zeroed z f ways y c low l here w))
+              (rest (omega (arith, many)) k stands)),
+        )

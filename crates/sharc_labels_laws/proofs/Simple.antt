@@ -100,9 +100,12 @@ module _ (around : Setting) (f : ℕ) (ways : List Way) (y : Typing) (c : Contex
       by : (b : Bool) → ValueGoes around f ways y bare c kind s e b → Comes from i r l kind s (expression_code c i r e ++ width_code i kind (span_of e).first) b
       by true h =
           let w = ref_of around f ways y c low from i r l (expression_code c i r e) e h.1 (expressions around f ways y c low bare from i r l fr alone e h.0) s h.3 h.4 in
-          let end = mark (fill l r (Refers s) w.copy false) from i in
-          (w.copy, w.small, joins from (mark l from i) end end (expression_code c i r e) (width_code i kind (span_of e).first) w.piece
-          (subst (λ b. Q from end (cond b (op.ChkWidth (width_of kind) i (at_site (span_of e).first) ∷ []) []) end) (sym h.2) (none around f D N top low from end end (fits_same around.targets end) (λ z. z))))
+          let end = mark (fill l r (Refers s) w.copy false) from i in (
+            w.copy,
+            w.small,
+            joins from (mark l from i) end end (expression_code c i r e) (width_code i kind (span_of e).first) w.piece
+                (subst (λ b. Q from end (cond b (op.ChkWidth (width_of kind) i (at_site (span_of e).first) ∷ []) []) end) (sym h.2) (none around f D N top low from end end (fits_same around.targets end) (λ z. z))),
+          )
       by false h =
           let n = int_of around f ways y c low from i r l (expression_code c i r e) e h.1 (expressions around f ways y c low bare from i r l fr alone e h.0) in
           let start = with_number around f D N top low from l i n.number in
@@ -117,9 +120,12 @@ module _ (around : Setting) (f : ℕ) (ways : List Way) (y : Typing) (c : Contex
       let end = mark (fill l r (Refers s) r false) from i in
       let size = element_cells c.program.typed (declared_kind w) in
       let at2 = (frame_number around f ways y c low from i r l fr k.0 (λ q z. plain_base k.0 r q k.1 z)).at in
-      subst (Comes from i r l kind s (right_code c i r kind mode (malloc span n w))) (sym h.0)
-      (r, inl refl, enter around f D N top low from i r l fr.at i _ end (joins from (mark l from i) middle end (elements_code c i r n) (op.ChkPositive i (at_site span.first) ∷ op.New r i size _ ∷ []) k.2
-      (joins from middle middle end (op.ChkPositive i (at_site span.first) ∷ []) (op.New r i size _ ∷ []) (positive_at around f D N top low from (i + 1) r (set_number l i k.0) at2 (i + 1) i (at_site span.first)) (new_at from i r l fr k.0 k.1 s h.1 size h.2 _))))
+      subst (Comes from i r l kind s (right_code c i r kind mode (malloc span n w))) (sym h.0) (
+        r,
+        inl refl,
+        enter around f D N top low from i r l fr.at i _ end (joins from (mark l from i) middle end (elements_code c i r n) (op.ChkPositive i (at_site span.first) ∷ op.New r i size _ ∷ []) k.2
+            (joins from middle middle end (op.ChkPositive i (at_site span.first) ∷ []) (op.New r i size _ ∷ []) (positive_at around f D N top low from (i + 1) r (set_number l i k.0) at2 (i + 1) i (at_site span.first)) (new_at from i r l fr k.0 k.1 s h.1 size h.2 _))),
+      )
 
   -- ---- with the registers of an lvalue at hand
   shut : (from i r : ℕ) (l : Label) → F from i r l → l ≡ record l { gate = Closed }
