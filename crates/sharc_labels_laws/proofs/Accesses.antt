@@ -1,5 +1,5 @@
 -- Operations that access cells, each by itself: their checks are typed whether they are dropped or not.
-use Rattle.std.proofs.Common.{◌≡◌, ◌≢◌, ℕ, ◌+◌, ◌<◌, ◌≤◌, ◌⊎◌, Bool, true, false, cond, List, [], ◌∷◌, Option, Some, None, refl, sym, ap, ◌∙◌, subst, inl, inr, ⊎_elim, arith}
+use Rattle.std.proofs.Common.{◌≡◌, ◌≢◌, ℕ, ◌+◌, ◌<◌, Bool, true, false, List, Some, refl, sym, ap, ◌∙◌, subst, ⊎_elim}
 use Rattle.std.proofs.lemmas.Bool.{false≢true, cases_eq}
 use Rattle.std.proofs.lemmas.Option.{same_Some, none-some}
 use Rattle.sharc_shadow.specs.declared.shadow_word.Kind.TheVariants.{Read, Write}
@@ -14,10 +14,10 @@ use Rattle.sharc_flat_form.specs.declared.op.Op.{Op}
 use Rattle.sharc_flat_form.specs.declared.op.Op.TheVariants as op
 use Rattle.sharc_flat_form.specs.declared.op.Spot.{Spot}
 use Rattle.sharc_guard.specs.Known.{Access, access, Know, know_next, is_straight}
-use Rattle.sharc_invariant.specs.Types.{Targets, StaticType, Field, FieldType, FieldMode, Content, is_pointer, Mentions}
+use Rattle.sharc_invariant.specs.Types.{StaticType, Field, FieldType, FieldMode, Content, is_pointer, Mentions}
 use Rattle.sharc_invariant.specs.Types.FieldMode.{Private, Readonly, Racy, Dynamic, Under, Behind}
-use Rattle.sharc_invariant.specs.Types.Content.{Integer, MutexWord, Waiters, Pointer}
-use Rattle.sharc_invariant.specs.Labels.{Entry, Empty, Refers, Within, Gate, Closed, Loaded, Pass, IsIn, Label, Less, LessEntry, IsScoped, IsFree, set_number, fill, empty, gated, knows, without_base}
+use Rattle.sharc_invariant.specs.Types.Content.{Integer, Pointer}
+use Rattle.sharc_invariant.specs.Labels.{Empty, Refers, Within, Closed, Loaded, Pass, IsIn, Label, Less, LessEntry, IsScoped, IsFree, set_number, fill, empty, gated, without_base}
 use Rattle.sharc_invariant.specs.Typed.{IsVacant, IsOwn, Fits as FitsWidth, PointsTo, HasCell, ints_in, refs_in, knows_base}
 use Rattle.sharc_typed.specs.Inside.{known_behind, lock_of, passed_behind}
 use Rattle.sharc_typed.specs.Lines.{MayPass, PassesCheck}

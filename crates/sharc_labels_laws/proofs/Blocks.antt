@@ -1,8 +1,7 @@
 -- Statements and blocks at a line.
-use Rattle.std.proofs.Common.{◌≡◌, ℕ, ◌+◌, List, [], ◌∷◌, ◌++◌, length, Some, refl, arith, length-append}
+use Rattle.std.proofs.Common.{◌≡◌, ℕ, ◌+◌, List, [], ◌∷◌, ◌++◌, length, Some, refl}
 use Rattle.sharc_flat_form.specs.declared.op.Op.{Op}
 use Rattle.sharc_flat_form.specs.declared.op.Op.TheVariants as op
-use Rattle.sharc_flat.specs.declared.slot.Slot.{Slot}
 use Rattle.sharc_flat.specs.Scope.{Context, int_count, ref_count, pops}
 use Rattle.sharc_invariant.specs.Labels.{Label}
 use Rattle.sharc_invariant.specs.Typed.{ints_in, refs_in}
@@ -11,7 +10,6 @@ use Rattle.sharc_labels_laws.specs.Stretches.{Mark, Setting, Way, AreOpen, Leads
 use Rattle.sharc_labels_laws.specs.Places.{AreLow}
 use Rattle.sharc_labels_laws.specs.Premises.{Typing}
 use Rattle.sharc_labels_laws.specs.Declared.{StandsBefore, before}
-use Rattle.sharc_labels_laws.specs.Ended.{Grows}
 use Rattle.sharc_labels_laws.specs.Blocks.{BlocksAreTyped, AnywhereLeads, EnterLeads, BlockLeads}
 use Rattle.sharc_labels_laws.proofs.Flow as flow
 use Rattle.sharc_labels_laws.proofs.Rules.{on_block_end}

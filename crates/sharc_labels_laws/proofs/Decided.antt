@@ -1,11 +1,11 @@
 -- Choices and loops at a line.
-use Rattle.std.proofs.Common.{◌≡◌, ℕ, ◌+◌, ◌≤◌, Bool, true, false, List, [], ◌∷◌, ◌++◌, length, Option, Some, refl, sym, ap, ◌∙◌, subst, arith, length-append}
+use Rattle.std.proofs.Common.{◌≡◌, ℕ, ◌+◌, Bool, List, [], ◌∷◌, ◌++◌, length, Some, subst, arith, length-append}
 use Rattle.sharc_flat_form.specs.declared.op.Op.{Op}
 use Rattle.sharc_flat_form.specs.declared.op.Op.TheVariants as op
-use Rattle.sharc_flat.specs.Flattened.{if_code, choice_code, loop_code, body_at}
+use Rattle.sharc_flat.specs.Flattened.{body_at}
 use Rattle.sharc_invariant.specs.Labels.{Label, IsScoped}
 use Rattle.sharc_invariant.specs.Typed.{ints_in, refs_in}
-use Rattle.sharc_labels_laws.specs.Stretches.{Mark, Setting, Way, Stretch, AreOpen, AreWithin, LeadsAt, LeadsFrom}
+use Rattle.sharc_labels_laws.specs.Stretches.{Mark, Setting, Way, Stretch, AreOpen, LeadsFrom}
 use Rattle.sharc_labels_laws.specs.Places.{Stands, mark}
 use Rattle.sharc_labels_laws.specs.Decided.{turn_by, loop_ways, DecisionsAreTyped, IfLeads, ChoiceLeads, JoinLeads, LoopLeads, EverLeads}
 use Rattle.sharc_labels_laws.proofs.Flow as flow

@@ -1,15 +1,14 @@
 -- A variable that is declared in a block.
-use Rattle.std.proofs.Common.{◌≡◌, ℕ, ◌+◌, ◌<◌, ◌≤◌, ◌⊎◌, Bool, true, false, cond, List, [], ◌∷◌, ◌++◌, length, Option, Some, None, refl, sym, ap, ◌∙◌, subst, inl, inr, ⊎_elim, arith, pos}
-use Rattle.std.proofs.lemmas.Bool.{false≢true, cases_eq, cases_lt}
+use Rattle.std.proofs.Common.{◌≡◌, ℕ, ◌+◌, ◌<◌, ◌≤◌, Bool, true, false, List, [], ◌∷◌, ◌++◌, Option, Some, None, refl, sym, ap, ◌∙◌, subst, ⊎_elim, arith, pos}
+use Rattle.std.proofs.lemmas.Bool.{false≢true, cases_eq}
 use Rattle.sharc_tree.specs.declared.tree.declaration.Declaration.{Declaration}
-use Rattle.sharc_tree.specs.Tree.{Right, Local}
-use Rattle.sharc_names.specs.Kinds.{Kind, declared_kind}
+use Rattle.sharc_tree.specs.Tree.{Right}
+use Rattle.sharc_names.specs.Kinds.{declared_kind}
 use Rattle.sharc_code.specs.Arithmetic.{holds}
 use Rattle.sharc_code.specs.declared.instr.Width.{Width}
 use Rattle.sharc_code.specs.declared.instr.Width.TheVariants.{Char, Int, Long}
 use Rattle.sharc_code.specs.Runs.{put}
 use Rattle.sharc_code.proofs.Places.{put_same, put_other, put_all}
-use Rattle.sharc_mode.specs.Cells.{pointed}
 use Rattle.sharc_mode.specs.Sharings.{Sharing}
 use Rattle.sharc_meaning.specs.State.{is_reference}
 use Rattle.sharc_flat_form.specs.declared.op.Op.{Op}
@@ -18,20 +17,19 @@ use Rattle.sharc_flat.specs.Scope.{Context, int_count, ref_count, register_of}
 use Rattle.sharc_flat.specs.Places.{width_of, settle_code}
 use Rattle.sharc_flat.specs.Flattened.{with_variable, right_code, zero_code, initial_code, local_code}
 use Rattle.sharc_invariant.specs.Types.{StaticType}
-use Rattle.sharc_invariant.specs.Labels.{Refers, Number, Anything, Exactly, Within, Label, Less, LessNumber, HasBase, IsScoped, fill, set_number}
+use Rattle.sharc_invariant.specs.Labels.{Refers, Number, Anything, Exactly, Within, Label, LessNumber, fill, set_number}
 use Rattle.sharc_invariant.specs.Typed.{ints_in, refs_in}
 use Rattle.sharc_invariant.proofs.Scoped.{less_entry_refl, less_number_refl}
-use Rattle.sharc_labels_laws.specs.Stretches.{Mark, Setting, Way, AreOpen, Fits, LeadsAmong}
-use Rattle.sharc_labels_laws.specs.Places.{Stands, IsNamed, AreLow, mark}
-use Rattle.sharc_labels_laws.specs.Premises.{Typing, HoldsVariables}
-use Rattle.sharc_labels_laws.specs.Typable.{IsBare, IsTypeIn, StandsIn}
-use Rattle.sharc_labels_laws.specs.Stated.{RightTypable, VariableAssigned}
-use Rattle.sharc_labels_laws.specs.Declared.{Keeps, BeginsReference, BeginsInteger, Begins, declared_label, InitialTypable, LocalTypable, StandsBefore, before, LocalLeads, LocalsAreTyped}
+use Rattle.sharc_labels_laws.specs.Stretches.{Mark, Setting, Way, AreOpen, LeadsAmong}
+use Rattle.sharc_labels_laws.specs.Places.{Stands, AreLow, mark}
+use Rattle.sharc_labels_laws.specs.Premises.{Typing}
+use Rattle.sharc_labels_laws.specs.Typable.{IsTypeIn}
+use Rattle.sharc_labels_laws.specs.Declared.{Keeps, BeginsReference, BeginsInteger, Begins, declared_label, InitialTypable, StandsBefore, before, LocalsAreTyped}
 use Rattle.sharc_labels_laws.proofs.Fitting.{fits_same, fits_by}
 use Rattle.sharc_labels_laws.proofs.Standing.{less_by, scoped_frame, stands_number, stands_fill}
-use Rattle.sharc_labels_laws.proofs.Parts.{P, At, then_do, post, none, constant_at}
+use Rattle.sharc_labels_laws.proofs.Parts.{At, then_do, post, none, constant_at}
 use Rattle.sharc_labels_laws.proofs.Accessed.{Frame}
-use Rattle.sharc_labels_laws.proofs.Expressing.{null_at, frame_fill, bare_number}
+use Rattle.sharc_labels_laws.proofs.Expressing.{null_at, bare_number}
 use Rattle.sharc_labels_laws.proofs.Simple.{rights, settled}
 
 zero_fits : (w : Width) → holds w (pos 0) ≡ true
@@ -184,16 +182,20 @@ locals_typed z f ways y c low l here local s h = let v = by (is_reference (decla
     by true begins code is =
         let k = declared_label c l s w true in
         let more = begins.refs in
-        let stands = after_reference z f ways y c low l here d s h.keeps begins h.type in
-        (stands, subst (λ os. LeadsAmong z f ways (before c l) os (before d k)) (sym is)
-            (joins z f ways y c low l here (before c l) (before d k) (before d k) (op.Null (ref_count c.scope) ∷ []) (initial_code d local.declaration local.initial)
-            (subst (λ n. LeadsAmong z f ways (before c l) (op.Null (ref_count c.scope) ∷ []) (mark k n n)) (sym begins.ints) (null_at z f ways y c low (int_count c.scope) (int_count c.scope) (ref_count c.scope) l (frame z f ways y c low l here) s h.type))
-            (rest (omega (arith, more)) k stands)))
+        let stands = after_reference z f ways y c low l here d s h.keeps begins h.type in (
+          stands,
+          subst (λ os. LeadsAmong z f ways (before c l) os (before d k)) (sym is)
+              (joins z f ways y c low l here (before c l) (before d k) (before d k) (op.Null (ref_count c.scope) ∷ []) (initial_code d local.declaration local.initial)
+              (subst (λ n. LeadsAmong z f ways (before c l) (op.Null (ref_count c.scope) ∷ []) (mark k n n)) (sym begins.ints) (null_at z f ways y c low (int_count c.scope) (int_count c.scope) (ref_count c.scope) l (frame z f ways y c low l here) s h.type))
+              (rest (omega (arith, more)) k stands)),
+        )
     by false begins code is =
         let k = declared_label c l s w false in
         let many = begins.refs in
-        let stands = after_integer z f ways y c low l here d w h.keeps begins in
-        (stands, subst (λ os. LeadsAmong z f ways (before c l) os (before d k)) (sym is)
-            (joins z f ways y c low l here (before c l) (before d k) (before d k) (op.Constant (int_count c.scope) (pos 0) ∷ []) (initial_code d local.declaration local.initial)
-            (subst (λ n. LeadsAmong z f ways (before c l) (op.Constant (int_count c.scope) (pos 0) ∷ []) (mark k n n)) (sym begins.ints) (zeroed z f ways y c low l here w))
-            (rest (omega (arith, many)) k stands)))
+        let stands = after_integer z f ways y c low l here d w h.keeps begins in (
+          stands,
+          subst (λ os. LeadsAmong z f ways (before c l) os (before d k)) (sym is)
+              (joins z f ways y c low l here (before c l) (before d k) (before d k) (op.Constant (int_count c.scope) (pos 0) ∷ []) (initial_code d local.declaration local.initial)
+              (subst (λ n. LeadsAmong z f ways (before c l) (op.Constant (int_count c.scope) (pos 0) ∷ []) (mark k n n)) (sym begins.ints) (zeroed z f ways y c low l here w))
+              (rest (omega (arith, many)) k stands)),
+        )

@@ -1,12 +1,11 @@
 -- What is said before a line fits itself, and what fits what fits a third fits that.
-use Rattle.std.proofs.Common.{◌≡◌, ℕ, ◌<◌, ◌≤◌, ◌∙◌, Some, arith}
-use Rattle.sharc_guard.specs.Known.{Know}
+use Rattle.std.proofs.Common.{◌≡◌, ℕ, ◌<◌, ◌≤◌, ◌∙◌, arith}
 use Rattle.sharc_invariant.specs.Types.{Targets}
 use Rattle.sharc_invariant.specs.Labels.{Less}
 use Rattle.sharc_invariant.proofs.Scoped.{less_refl}
 use Rattle.sharc_typed.specs.Passes.{IsNumberOf}
 use Rattle.sharc_typed.proofs.Preorder.{less_through}
-use Rattle.sharc_labels_laws.specs.Stretches.{Mark, Tells, Fits}
+use Rattle.sharc_labels_laws.specs.Stretches.{Mark, Fits}
 
 pub fits_same : (x : Targets) (s : Mark) → Fits x s s
 fits_same x s = record { less = less_refl s.label; tells = λ k h. h }

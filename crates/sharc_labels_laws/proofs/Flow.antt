@@ -3,8 +3,6 @@ use Rattle.std.specs.Prelude.{slice_get, slice_index_or}
 use Rattle.std.proofs.Common.{◌≡◌, ℕ, zero, suc, ◌+◌, ◌≤◌, List, [], ◌∷◌, ◌++◌, length, refl, ap, sym, ◌∙◌, subst, arith, length-append, append_assoc, Some, None}
 use Rattle.sharc_flat_form.specs.declared.op.Op.{Op}
 use Rattle.sharc_flat_form.specs.declared.op.Op.TheVariants as op
-use Rattle.sharc_invariant.specs.Labels.{Closed, IsScoped, IsFree, empty, knows}
-use Rattle.sharc_invariant.specs.Typed.{ints_in, refs_in}
 use Rattle.sharc_labels_laws.specs.Stretches.{Mark, Setting, Fits, IsLine, Agrees, AreLines, first, Stretch}
 use Rattle.sharc_labels_laws.proofs.Fitting.{fits_same, fits_through}
 use Rattle.sharc_labels_laws.proofs.Rules.{Plain, PlainNull, cleared, noted, on_skip, on_zero, on_null}

@@ -1,23 +1,21 @@
 -- Calls, returns and new threads, each by itself.
-use Rattle.std.proofs.Common.{◌≡◌, ◌≢◌, ℕ, ◌+◌, ◌<◌, ◌≤◌, ◌⊎◌, Bool, true, false, List, [], ◌∷◌, length, refl, Some, sym, ap, ◌∙◌, subst, inl, inr, arith}
+use Rattle.std.proofs.Common.{◌≡◌, ◌≢◌, ℕ, ◌+◌, ◌<◌, ◌≤◌, true, false, List, length, refl, Some}
 use Rattle.std.specs.Prelude.{filter}
 use Rattle.std.proofs.lemmas.Option.{none-some}
 use Rattle.sharc_code.specs.declared.instr.Register.{Register}
 use Rattle.sharc_code.specs.declared.instr.Register.TheVariants as registers
 use Rattle.sharc_code.specs.declared.instr.Width.TheVariants.{Char}
-use Rattle.sharc_flat_form.specs.declared.op.Op.{Op}
 use Rattle.sharc_flat_form.specs.declared.op.Op.TheVariants as op
 use Rattle.sharc_flat_form.specs.declared.op.Spot.{Spot}
-use Rattle.sharc_guard.specs.Known.{Know, know_next, is_straight}
-use Rattle.sharc_invariant.specs.Types.{Lock, StaticType}
+use Rattle.sharc_invariant.specs.Types.{Lock}
 use Rattle.sharc_invariant.specs.Types.Lock.{Global, Through, Self}
-use Rattle.sharc_invariant.specs.Labels.{Entry, Empty, Refers, Unknown, Within, Closed, Pass, IsIn, Label, Labels, Less, SameReference, LessNumber, LessEntry, EntryMentions, IsFree, set_number, empty, without_base}
-use Rattle.sharc_invariant.specs.Typed.{Passes, PassesLock, Hands, Calls, Returns, ints_in, refs_in, handed_label, called_label, below_pass}
-use Rattle.sharc_typed.specs.Passes.{with_passes, with_all}
+use Rattle.sharc_invariant.specs.Labels.{Entry, Empty, Refers, Unknown, Within, Closed, Pass, IsIn, Label, Less, SameReference, LessNumber, LessEntry, EntryMentions, set_number, empty, without_base}
+use Rattle.sharc_invariant.specs.Typed.{Passes, PassesLock, Hands, ints_in, refs_in, handed_label, called_label, below_pass}
+use Rattle.sharc_typed.specs.Passes.{with_passes}
 use Rattle.sharc_typed.proofs.Alike.{all_same, same_reference, less_entry}
 use Rattle.sharc_typed.proofs.Preorder.{less_through}
-use Rattle.sharc_labels_laws.specs.Stretches.{Mark, Setting, labels_by, Tells, Fits, IsTypedAt, IsLine}
-use Rattle.sharc_labels_laws.proofs.Rules.{with_less, free_too}
+use Rattle.sharc_labels_laws.specs.Stretches.{Mark, Setting, labels_by, Fits, IsLine}
+use Rattle.sharc_labels_laws.proofs.Rules.{with_less}
 use Rattle.sharc_labels_laws.proofs.Accesses.{InFrame, never}
 
 -- ---- what is passed, with checks that are remembered

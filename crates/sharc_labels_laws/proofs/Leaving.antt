@@ -1,6 +1,5 @@
 -- How blocks are left.
-use Rattle.std.proofs.Common.{◌≡◌, ◌≢◌, ℕ, ◌+◌, ◌<◌, ◌≤◌, ◌⊎◌, Bool, true, false, List, [], ◌∷◌, ◌++◌, length, drop, Some, refl, sym, ap, ◌∙◌, subst, inl, inr, ⊎_elim, arith, append_assoc, pos}
-use Rattle.std.proofs.lemmas.Bool.{cases_eq}
+use Rattle.std.proofs.Common.{◌≡◌, ℕ, ◌+◌, ◌≤◌, Bool, true, false, List, [], ◌∷◌, ◌++◌, length, drop, Some, refl, sym, ◌∙◌, subst, ⊎_elim, arith, append_assoc, pos}
 use Rattle.sharc_code.specs.Runs.{put}
 use Rattle.sharc_code.proofs.Places.{put_same, put_other}
 use Rattle.sharc_flat_form.specs.declared.op.Op.{Op}
@@ -8,8 +7,7 @@ use Rattle.sharc_flat_form.specs.declared.op.Op.TheVariants as op
 use Rattle.sharc_flat_form.specs.declared.op.Spot.{Spot}
 use Rattle.sharc_flat.specs.Scope.{Context, int_count, ref_count, ends_from, leaves}
 use Rattle.sharc_flat.specs.Flattened.{zero_code}
-use Rattle.sharc_invariant.specs.Types.{StaticType}
-use Rattle.sharc_invariant.specs.Labels.{Entry, Empty, Refers, Number, Anything, Exactly, Label, LessEntry, LessNumber, IsScoped, fill, set_number}
+use Rattle.sharc_invariant.specs.Labels.{Empty, Refers, Exactly, Label, LessEntry, LessNumber, IsScoped, fill, set_number}
 use Rattle.sharc_invariant.specs.Typed.{ints_in, refs_in}
 use Rattle.sharc_invariant.proofs.Scoped.{less_entry_refl}
 use Rattle.sharc_labels_laws.specs.Stretches.{Mark, Setting, Way, Fits, IsLine, AreOpen, LeadsAmong}

@@ -26,3 +26,4 @@ pub mod Declaring
 pub mod Ending
 pub mod Leaving
 pub mod Blocks
+pub mod Beginning

@@ -1,27 +1,21 @@
 -- Operations that move references, and those of objects, locks, threads and calls, each by itself.
-use Rattle.std.proofs.Common.{◌≡◌, ◌≢◌, ℕ, ◌+◌, ◌<◌, ◌≤◌, ◌⊎◌, Bool, true, false, List, [], ◌∷◌, length, refl, sym, ap, ◌∙◌, subst, inl, inr, ⊎_elim, cond, arith}
+use Rattle.std.proofs.Common.{◌≡◌, ◌≢◌, ℕ, ◌+◌, ◌<◌, ◌≤◌, ◌⊎◌, Bool, true, false, List, [], ◌∷◌, length, refl, inl, inr, ⊎_elim, cond}
 use Rattle.std.specs.Prelude.{not, Some}
 use Rattle.std.proofs.lemmas.Option.{none-some}
 use Rattle.sharc_code.specs.declared.instr.Cell.{Cell}
 use Rattle.sharc_code.specs.declared.instr.Cell.TheVariants as cells
-use Rattle.sharc_code.specs.declared.instr.Register.{Register}
-use Rattle.sharc_code.specs.declared.instr.Register.TheVariants as registers
-use Rattle.sharc_code.specs.declared.instr.Width.TheVariants.{Char}
-use Rattle.sharc_code.specs.declared.code.Function.{Function}
-use Rattle.sharc_code.specs.Machine.{function_of}
 use Rattle.sharc_flat_form.specs.declared.op.Op.{Op}
 use Rattle.sharc_flat_form.specs.declared.op.Op.TheVariants as op
 use Rattle.sharc_flat_form.specs.declared.op.Spot.{Spot}
 use Rattle.sharc_guard.specs.Known.{Access, access, Know, know_next, is_straight}
-use Rattle.sharc_invariant.specs.Types.{StaticType, Field, Content, Mentions, cells_of}
-use Rattle.sharc_invariant.specs.Types.Content.{Waiters}
-use Rattle.sharc_invariant.specs.Labels.{Entry, Empty, Refers, Within, Gate, Closed, Holds, Pass, IsIn, Label, Labels, Less, LessNumber, LessEntry, EntryMentions, IsScoped, IsFree, set_number, fill, empty, forgets, gated, is_base, without_base}
-use Rattle.sharc_invariant.specs.Typed.{IsRef, IsInt, IsVacant, HasCell, IsMutex, IsBaseFree, IsLayout, Recasts, Passes, IsShared, Hands, Calls, Returns, ints_in, refs_in, moved_copy, without_base_of, unlocked_label, handed_label, called_label, below_pass}
+use Rattle.sharc_invariant.specs.Types.{StaticType, Field, Mentions, cells_of}
+use Rattle.sharc_invariant.specs.Labels.{Refers, Closed, Holds, Pass, IsIn, Label, Less, EntryMentions, IsFree, fill, empty, forgets, gated, is_base, without_base}
+use Rattle.sharc_invariant.specs.Typed.{IsVacant, HasCell, IsBaseFree, IsLayout, Recasts, ints_in, refs_in, moved_copy, without_base_of, unlocked_label}
 use Rattle.sharc_typed.specs.Lines.{moved}
 use Rattle.sharc_typed.specs.Passes.{with_passes}
 use Rattle.sharc_typed.proofs.Alike.{has_cell, recasts}
 use Rattle.sharc_typed.proofs.Preorder.{less_through}
-use Rattle.sharc_labels_laws.specs.Stretches.{Mark, Setting, labels_by, Tells, Fits, IsTypedAt, IsAtHand, IsLine}
+use Rattle.sharc_labels_laws.specs.Stretches.{Mark, Setting, Tells, Fits, IsTypedAt, IsAtHand, IsLine}
 use Rattle.sharc_labels_laws.specs.Premises.{HasMutex, HasWaiters}
 use Rattle.sharc_labels_laws.proofs.Rules.{with_less, free_too}
 use Rattle.sharc_labels_laws.proofs.Accesses.{InFrame, never}

@@ -1,5 +1,5 @@
 -- The parts of the code of an expression that speak of no type of the source: tests, operators, what is given up, and the checks of places.
-use Rattle.std.proofs.Common.{◌≡◌, ◌≢◌, ℕ, ◌+◌, ◌<◌, ◌≤◌, ◌⊎◌, Bool, true, false, cond, List, [], ◌∷◌, ◌++◌, length, Option, Some, None, refl, sym, ap, ◌∙◌, subst, inl, inr, ⊎_elim, arith, length-append, append_assoc, ℤ}
+use Rattle.std.proofs.Common.{◌≡◌, ◌≢◌, ℕ, ◌+◌, ◌<◌, ◌≤◌, ◌⊎◌, Bool, true, false, List, [], ◌∷◌, ◌++◌, length, Some, None, refl, sym, ap, ◌∙◌, subst, inl, inr, ⊎_elim, arith, length-append, append_assoc, ℤ}
 use Rattle.std.specs.Prelude.{nat_eq}
 use Rattle.std.proofs.lemmas.Bool.{false≢true, cases_eq, cases_lt}
 use Rattle.sharc_tree.specs.declared.token.Site.{Site}
@@ -7,9 +7,9 @@ use Rattle.sharc_tree.specs.declared.tree.expression.BinaryOperator.{BinaryOpera
 use Rattle.sharc_tree.specs.declared.tree.expression.BinaryOperator.TheVariants.{NotEqual}
 use Rattle.sharc_code.specs.declared.instr.Operator.{Operator}
 use Rattle.sharc_code.specs.declared.instr.Width.{Width}
-use Rattle.sharc_code.specs.declared.instr.Width.TheVariants.{Char, Int, Long}
+use Rattle.sharc_code.specs.declared.instr.Width.TheVariants.{Char}
 use Rattle.sharc_code.specs.Runs.{put}
-use Rattle.sharc_code.proofs.Places.{eq_refl, put_same, put_other, put_all}
+use Rattle.sharc_code.proofs.Places.{put_same, put_other, put_all}
 use Rattle.sharc_flat_form.specs.declared.op.Op.{Op}
 use Rattle.sharc_flat_form.specs.declared.op.Op.TheVariants as op
 use Rattle.sharc_flat_form.specs.declared.op.Spot.{Spot}
@@ -17,19 +17,19 @@ use Rattle.sharc_flat_form.specs.Framed.{IsWide}
 use Rattle.sharc_flat.specs.Scope.{at_site}
 use Rattle.sharc_flat.specs.Places.{pointee_code}
 use Rattle.sharc_flat.specs.Flattened.{differ_code, compare_code, logical_code, either_code}
-use Rattle.sharc_guard.specs.Known.{Know, know_next, writes_ref, writes_int, copy_given, number_given}
+use Rattle.sharc_guard.specs.Known.{Know, know_next, writes_ref, writes_int, number_given}
 use Rattle.sharc_invariant.specs.Types.{StaticType, Mentions}
-use Rattle.sharc_invariant.specs.Labels.{Entry, Empty, Refers, Number, Anything, Exactly, Within, Indexes, OfElement, OfGlobal, Named, Nth, Gate, Closed, Label, Less, LessNumber, HasBase, EntryMentions, IsScoped, IsFree, set_number, fill, empty, knows}
-use Rattle.sharc_invariant.specs.Typed.{IsVacant, is_shift, is_comparison, ints_in, refs_in}
+use Rattle.sharc_invariant.specs.Labels.{Entry, Empty, Refers, Number, Anything, Exactly, Within, Indexes, OfElement, OfGlobal, Named, Nth, Gate, Closed, Label, Less, LessNumber, HasBase, EntryMentions, IsScoped, IsFree, set_number, fill, knows}
+use Rattle.sharc_invariant.specs.Typed.{is_shift, is_comparison, ints_in, refs_in}
 use Rattle.sharc_invariant.proofs.Scoped.{less_refl, less_entry_refl, less_number_refl, scoped_fill}
 use Rattle.sharc_typed.specs.Passes.{IsNumberOf}
-use Rattle.sharc_labels_laws.specs.Stretches.{WritesWithin, Mark, Setting, Tells, Fits, IsLine, Stretch, AreWithin, Leads, LeadsWithin}
+use Rattle.sharc_labels_laws.specs.Stretches.{WritesWithin, Mark, Setting, Tells, Fits, IsLine, AreWithin, LeadsWithin}
 use Rattle.sharc_labels_laws.specs.Places.{Stands, IsNamed, mark}
-use Rattle.sharc_labels_laws.proofs.Fitting.{fits_same, fits_through, fits_by}
+use Rattle.sharc_labels_laws.proofs.Fitting.{fits_same, fits_by}
 use Rattle.sharc_labels_laws.proofs.Flow as flow
-use Rattle.sharc_labels_laws.proofs.Standing.{less_by, scoped_frame, inside_frame, unnamed, stands_number, less_number, stands_fill, free_fill, less_emptied, less_lower, Unnamed}
+use Rattle.sharc_labels_laws.proofs.Standing.{less_by, scoped_frame, unnamed, stands_number, less_number, stands_fill, less_emptied, less_lower}
 use Rattle.sharc_labels_laws.proofs.Telling.{told, other_than, same_as, constant_number}
-use Rattle.sharc_labels_laws.proofs.Rules.{Plain, PlainNull, cleared, noted, on_enter, on_constant, on_compute, on_negate, on_complement, on_false, on_same, on_width, on_positive, on_print, on_join, on_nothing, on_pop, on_check}
+use Rattle.sharc_labels_laws.proofs.Rules.{Plain, on_enter, on_constant, on_compute, on_negate, on_complement, on_false, on_same, on_width, on_positive, on_print, on_join, on_nothing, on_pop, on_check}
 
 -- ---- operations within a frame
 pub within_left : (ints refs : ℕ) (xs ys : List Op) → AreWithin ints refs (xs ++ ys) → AreWithin ints refs xs

@@ -1,24 +1,19 @@
 -- The code of lvalues: the base of what is named, and the index of its cell, come to their registers.
-use Rattle.std.proofs.Common.{◌≡◌, ◌≢◌, ℕ, ◌+◌, ◌*◌, ◌<◌, ◌≤◌, ◌⊎◌, Bool, true, false, cond, List, [], ◌∷◌, ◌++◌, length, Option, Some, None, refl, sym, ap, ◌∙◌, subst, inl, inr, ⊎_elim, arith}
-use Rattle.std.specs.Prelude.{nat_eq}
-use Rattle.std.proofs.lemmas.Bool.{false≢true, cases_eq, cases_lt}
-use Rattle.sharc_tree.specs.declared.token.Site.{Site}
-use Rattle.sharc_code.specs.Runs.{put}
-use Rattle.sharc_code.proofs.Places.{put_same, put_other}
+use Rattle.std.proofs.Common.{◌≡◌, ℕ, ◌+◌, ◌*◌, ◌<◌, ◌≤◌, Bool, true, List, Option, Some, None, refl, sym, ap, ◌∙◌, subst, arith}
+use Rattle.sharc_code.proofs.Places.{put_other}
 use Rattle.sharc_flat_form.specs.declared.op.Op.{Op}
 use Rattle.sharc_flat_form.specs.declared.op.Op.TheVariants as op
 use Rattle.sharc_flat_form.specs.declared.op.Spot.{Spot}
 use Rattle.sharc_flat.specs.Scope.{Context, ref_count}
 use Rattle.sharc_flat.specs.Places.{guard_width, bounds_code}
 use Rattle.sharc_invariant.specs.Types.{StaticType, cells_of}
-use Rattle.sharc_invariant.specs.Labels.{Empty, Refers, Element, Nth, Number, Anything, OfElement, OfGlobal, Closed, Label, HasBase, Fresh, set_number, fill}
+use Rattle.sharc_invariant.specs.Labels.{Empty, Refers, Element, Number, OfElement, OfGlobal, Closed, Label, Fresh, set_number}
 use Rattle.sharc_invariant.specs.Typed.{ints_in, refs_in}
 use Rattle.sharc_labels_laws.specs.Stretches.{WritesWithin, Mark, Setting}
-use Rattle.sharc_labels_laws.specs.Places.{IsNamed, IsPlain, mark}
+use Rattle.sharc_labels_laws.specs.Places.{IsPlain, mark}
 use Rattle.sharc_labels_laws.specs.Premises.{Typing}
-use Rattle.sharc_labels_laws.proofs.Standing.{Unnamed}
-use Rattle.sharc_labels_laws.proofs.Rules.{Plain, on_bounds, on_global_bounds}
-use Rattle.sharc_labels_laws.proofs.Parts.{P, At, at_number, with_number}
+use Rattle.sharc_labels_laws.proofs.Rules.{on_bounds, on_global_bounds}
+use Rattle.sharc_labels_laws.proofs.Parts.{P, At, with_number}
 use Rattle.sharc_labels_laws.proofs.Indexes.{FindsElement, element_of, fresh_name, is_fresh, bound_at, beside_at}
 use Rattle.sharc_labels_laws.proofs.Accessed.{indexed}
 

@@ -1,30 +1,25 @@
 -- Each operation by itself: what is asked of what is said before its line, and what may be said before the next one.
-use Rattle.std.proofs.Common.{◌≡◌, ℕ, ◌+◌, ◌<◌, ◌≤◌, Bool, true, false, List, [], ◌∷◌, Option, Some, None, refl, sym, ap, ◌∙◌, subst, inl, inr, ⊎_elim, arith, ◌⊎◌, ℤ}
-use Rattle.std.specs.Prelude.{nat_eq}
-use Rattle.std.proofs.lemmas.Bool.{false≢true, cases_eq}
-use Rattle.std.proofs.lemmas.Option.{same_Some, none-some}
-use Rattle.sharc_code.specs.declared.code.Code.{Code}
-use Rattle.sharc_code.specs.declared.instr.Cell.{Cell}
-use Rattle.sharc_code.specs.declared.instr.Cell.TheVariants as cells
+use Rattle.std.proofs.Common.{◌≡◌, ℕ, ◌+◌, ◌<◌, ◌≤◌, true, List, [], Some, subst, inl, inr, ℤ}
+use Rattle.std.proofs.lemmas.Bool.{false≢true}
+use Rattle.std.proofs.lemmas.Option.{none-some}
 use Rattle.sharc_code.specs.declared.instr.Operator.{Operator}
 use Rattle.sharc_code.specs.declared.instr.Width.{Width}
 use Rattle.sharc_code.specs.declared.instr.Width.TheVariants.{Char, Int, Long}
 use Rattle.sharc_code.specs.Runs.{put}
-use Rattle.sharc_code.proofs.Places.{eq_refl, put_same, put_other, put_all}
+use Rattle.sharc_code.proofs.Places.{eq_refl}
 use Rattle.sharc_flat_form.specs.declared.op.Op.{Op}
 use Rattle.sharc_flat_form.specs.declared.op.Op.TheVariants as op
 use Rattle.sharc_flat_form.specs.declared.op.Spot.{Spot}
 use Rattle.sharc_flat_form.specs.Framed.{IsWide}
-use Rattle.sharc_guard.specs.Known.{Access, access, Know, know_next, is_straight, leads_to, writes_ref, writes_int, copy_given, number_given}
-use Rattle.sharc_invariant.specs.Types.{Targets, StaticType, Mentions, cells_of}
-use Rattle.sharc_invariant.specs.Labels.{Entry, Empty, Refers, Number, Anything, Exactly, Within, Indexes, OfElement, OfGlobal, Element, Named, Nth, Gate, Closed, Pass, IsIn, Label, Less, LessNumber, EntryMentions, Fresh, IsScoped, IsFree, set_number, fill, empty, gated, knows, without_base, without_index}
-use Rattle.sharc_invariant.specs.Typed.{IsRef, IsInt, IsVacant, Fits as FitsWidth, Operands, IsElement, ints_in, refs_in, moved_copy}
-use Rattle.sharc_typed.specs.Lines.{To}
-use Rattle.sharc_typed.specs.Passes.{with_passes, IsNumberOf}
+use Rattle.sharc_guard.specs.Known.{Access, access, Know, know_next, is_straight}
+use Rattle.sharc_invariant.specs.Types.{StaticType, cells_of}
+use Rattle.sharc_invariant.specs.Labels.{Refers, Exactly, Within, Indexes, OfElement, OfGlobal, Element, Closed, Pass, IsIn, Label, Less, Fresh, IsScoped, IsFree, set_number, fill, empty, knows, without_base}
+use Rattle.sharc_invariant.specs.Typed.{IsVacant, Fits as FitsWidth, Operands, IsElement, ints_in, refs_in}
+use Rattle.sharc_typed.specs.Passes.{with_passes}
 use Rattle.sharc_typed.proofs.Alike.{same_reference, less_entry}
 use Rattle.sharc_typed.proofs.Preorder.{less_through}
 use Rattle.sharc_labels_laws.specs.Stretches.{WritesWithin, Mark, Setting, Tells, Fits, IsTypedAt, IsAtHand, IsLine}
-use Rattle.sharc_labels_laws.proofs.Telling.{told, other_than, same_as, constant_number}
+use Rattle.sharc_labels_laws.proofs.Telling.{told}
 
 -- ---- less, with checks that are remembered
 pub with_less : (a b : Label) (ps qs : List Pass) → Less a b → ((p : Pass) → IsIn p qs → IsIn p ps) → Less (with_passes a ps) (with_passes b qs)

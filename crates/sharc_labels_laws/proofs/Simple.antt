@@ -1,12 +1,10 @@
 -- Assignments, and calls whose value is dropped.
-use Rattle.std.proofs.Common.{◌≡◌, ◌≢◌, ℕ, ◌+◌, ◌<◌, ◌≤◌, ◌⊎◌, Bool, true, false, cond, List, [], ◌∷◌, ◌++◌, length, Option, Some, None, refl, sym, ap, ◌∙◌, subst, inl, inr, ⊎_elim, arith, append_assoc, pos}
-use Rattle.std.proofs.lemmas.Bool.{false≢true, cases_eq, cases_lt}
+use Rattle.std.proofs.Common.{◌≡◌, ℕ, ◌+◌, ◌<◌, ◌≤◌, ◌⊎◌, Bool, true, false, cond, List, [], ◌∷◌, ◌++◌, Option, Some, None, refl, sym, ap, ◌∙◌, subst, inl, ⊎_elim, arith, pos}
+use Rattle.std.proofs.lemmas.Bool.{false≢true, cases_eq}
 use Rattle.sharc_tree.specs.declared.token.Site.{Site}
-use Rattle.sharc_tree.specs.declared.token.Span.{Span}
 use Rattle.sharc_tree.specs.Spans.{span_of}
 use Rattle.sharc_tree.specs.Tree.{Expression, Right, value, malloc, Simple, assign, does_call}
 use Rattle.sharc_names.specs.Kinds.{Kind, is_integer, declared_kind}
-use Rattle.sharc_code.specs.declared.code.Use.TheVariants as uses
 use Rattle.sharc_code.specs.declared.instr.Register.{Register}
 use Rattle.sharc_code.specs.declared.instr.Register.TheVariants as registers
 use Rattle.sharc_code.specs.Runs.{put}
@@ -21,29 +19,27 @@ use Rattle.sharc_flat_form.specs.declared.op.Op.TheVariants as op
 use Rattle.sharc_flat_form.specs.declared.op.Spot.{Spot}
 use Rattle.sharc_flat.specs.declared.slot.Lvalue.{Lvalue}
 use Rattle.sharc_flat.specs.Scope.{Context, int_count, ref_count, register_of, at_site}
-use Rattle.sharc_flat.specs.Places.{Target, variable, in_global, in_global_at, in_object, in_object_at, base_width, index_width, guard_width, width_of, width_code, store_code, cell_store_code, settle_code}
+use Rattle.sharc_flat.specs.Places.{Target, variable, in_global, in_global_at, in_object, in_object_at, base_width, index_width, width_of, width_code, store_code, cell_store_code, settle_code}
 use Rattle.sharc_flat.specs.Flattened.{kind_of, is_ref, target_of, mode_of, lvalue_in, guard_of, expression_code, place_code, elements_code, right_code, simple_code, drop_code}
 use Rattle.sharc_flat.specs.Suits.{is_cell}
-use Rattle.sharc_invariant.specs.Types.{StaticType, Mentions, cells_of}
-use Rattle.sharc_invariant.specs.Labels.{Entry, Empty, Refers, Element, Number, Exactly, Within, OfElement, OfGlobal, Closed, Label, LessNumber, HasBase, fill, set_number}
+use Rattle.sharc_invariant.specs.Types.{StaticType}
+use Rattle.sharc_invariant.specs.Labels.{Refers, Element, Number, Exactly, Within, OfElement, Closed, Label, LessNumber, fill, set_number}
 use Rattle.sharc_invariant.specs.Typed.{ints_in, refs_in}
-use Rattle.sharc_invariant.proofs.Scoped.{less_refl, less_entry_refl, less_number_refl, scoped_fill}
+use Rattle.sharc_invariant.proofs.Scoped.{less_entry_refl, less_number_refl, scoped_fill}
 use Rattle.sharc_typed.specs.Passes.{IsNumberOf}
-use Rattle.sharc_labels_laws.specs.Stretches.{Mark, Setting, Way, AreOpen, Fits}
-use Rattle.sharc_labels_laws.specs.Places.{Stands, IsNamed, IsPlain, AreLow, mark}
-use Rattle.sharc_labels_laws.specs.Premises.{Typing, HoldsVariables, Ground, IntegerTyped, ReferenceTyped, number_in_global}
-use Rattle.sharc_labels_laws.specs.Typable.{GoesTo, IsBare, IsTypeIn, IsNumber, ground_of, IsTypable, IsPlaceTypable}
+use Rattle.sharc_labels_laws.specs.Stretches.{Mark, Setting, Way, AreOpen}
+use Rattle.sharc_labels_laws.specs.Places.{IsNamed, IsPlain, AreLow, mark}
+use Rattle.sharc_labels_laws.specs.Premises.{Typing, Ground, number_in_global}
+use Rattle.sharc_labels_laws.specs.Typable.{IsBare, IsTypeIn, ground_of, IsTypable}
 use Rattle.sharc_labels_laws.specs.Stated.{IsMade, CountTypable, ValueGoes, RightTypable, VariableAssigned, CellAssigned, Assigned, is_bare, Dropped, SimpleTypable}
-use Rattle.sharc_labels_laws.proofs.Fitting.{fits_same, fits_by}
+use Rattle.sharc_labels_laws.proofs.Fitting.{fits_same}
 use Rattle.sharc_labels_laws.proofs.Standing.{less_by, scoped_frame}
 use Rattle.sharc_labels_laws.proofs.Telling.{told, other_than}
-use Rattle.sharc_labels_laws.proofs.Accesses.{InFrame}
 use Rattle.sharc_labels_laws.proofs.Moves.{on_new}
-use Rattle.sharc_labels_laws.proofs.Parts.{P, At, does, then_do, post, none, enter, constant_at, positive_at, pop_at, same_number, none_some, number_dropped, width_at, with_number, with_reference}
+use Rattle.sharc_labels_laws.proofs.Parts.{P, does, then_do, none, enter, constant_at, positive_at, pop_at, same_number, none_some, number_dropped, width_at, with_number}
 use Rattle.sharc_labels_laws.proofs.Variables.{assign_at, assign_number_at}
-use Rattle.sharc_labels_laws.proofs.Values.{over}
-use Rattle.sharc_labels_laws.proofs.Accessed.{Frame, placed, based, ints_of, indexed, int_store, reference_store, holds_over}
-use Rattle.sharc_labels_laws.proofs.Expressing.{Value, RefValue, IntValue, PlaceValue, expressions, places, int_of, ref_of, in_frame, small_copy, taken_number, frame_fill, frame_number, plain_base, no_bare}
+use Rattle.sharc_labels_laws.proofs.Accessed.{Frame, placed, int_store, reference_store}
+use Rattle.sharc_labels_laws.proofs.Expressing.{Value, PlaceValue, expressions, places, int_of, ref_of, in_frame, taken_number, frame_fill, frame_number, plain_base, no_bare}
 
 module _ (around : Setting) (f : ℕ) (ways : List Way) (y : Typing) (c : Context) (low : AreLow (y.named c) (ref_count c.scope)) where
   abbrev D : (ℕ → Mark) → Type 0
@@ -104,9 +100,12 @@ module _ (around : Setting) (f : ℕ) (ways : List Way) (y : Typing) (c : Contex
       by : (b : Bool) → ValueGoes around f ways y bare c kind s e b → Comes from i r l kind s (expression_code c i r e ++ width_code i kind (span_of e).first) b
       by true h =
           let w = ref_of around f ways y c low from i r l (expression_code c i r e) e h.1 (expressions around f ways y c low bare from i r l fr alone e h.0) s h.3 h.4 in
-          let end = mark (fill l r (Refers s) w.copy false) from i in
-          (w.copy, w.small, joins from (mark l from i) end end (expression_code c i r e) (width_code i kind (span_of e).first) w.piece
-          (subst (λ b. Q from end (cond b (op.ChkWidth (width_of kind) i (at_site (span_of e).first) ∷ []) []) end) (sym h.2) (none around f D N top low from end end (fits_same around.targets end) (λ z. z))))
+          let end = mark (fill l r (Refers s) w.copy false) from i in (
+            w.copy,
+            w.small,
+            joins from (mark l from i) end end (expression_code c i r e) (width_code i kind (span_of e).first) w.piece
+                (subst (λ b. Q from end (cond b (op.ChkWidth (width_of kind) i (at_site (span_of e).first) ∷ []) []) end) (sym h.2) (none around f D N top low from end end (fits_same around.targets end) (λ z. z))),
+          )
       by false h =
           let n = int_of around f ways y c low from i r l (expression_code c i r e) e h.1 (expressions around f ways y c low bare from i r l fr alone e h.0) in
           let start = with_number around f D N top low from l i n.number in
@@ -121,9 +120,12 @@ module _ (around : Setting) (f : ℕ) (ways : List Way) (y : Typing) (c : Contex
       let end = mark (fill l r (Refers s) r false) from i in
       let size = element_cells c.program.typed (declared_kind w) in
       let at2 = (frame_number around f ways y c low from i r l fr k.0 (λ q z. plain_base k.0 r q k.1 z)).at in
-      subst (Comes from i r l kind s (right_code c i r kind mode (malloc span n w))) (sym h.0)
-      (r, inl refl, enter around f D N top low from i r l fr.at i _ end (joins from (mark l from i) middle end (elements_code c i r n) (op.ChkPositive i (at_site span.first) ∷ op.New r i size _ ∷ []) k.2
-      (joins from middle middle end (op.ChkPositive i (at_site span.first) ∷ []) (op.New r i size _ ∷ []) (positive_at around f D N top low from (i + 1) r (set_number l i k.0) at2 (i + 1) i (at_site span.first)) (new_at from i r l fr k.0 k.1 s h.1 size h.2 _))))
+      subst (Comes from i r l kind s (right_code c i r kind mode (malloc span n w))) (sym h.0) (
+        r,
+        inl refl,
+        enter around f D N top low from i r l fr.at i _ end (joins from (mark l from i) middle end (elements_code c i r n) (op.ChkPositive i (at_site span.first) ∷ op.New r i size _ ∷ []) k.2
+            (joins from middle middle end (op.ChkPositive i (at_site span.first) ∷ []) (op.New r i size _ ∷ []) (positive_at around f D N top low from (i + 1) r (set_number l i k.0) at2 (i + 1) i (at_site span.first)) (new_at from i r l fr k.0 k.1 s h.1 size h.2 _))),
+      )
 
   -- ---- with the registers of an lvalue at hand
   shut : (from i r : ℕ) (l : Label) → F from i r l → l ≡ record l { gate = Closed }

@@ -1,6 +1,6 @@
 -- A thread is started, after what it is handed.
-use Rattle.std.proofs.Common.{◌≡◌, ◌≢◌, ℕ, ◌+◌, ◌<◌, ◌≤◌, ◌⊎◌, Bool, true, false, cond, List, [], ◌∷◌, ◌++◌, length, Option, Some, None, refl, sym, ap, ◌∙◌, subst, inl, inr, ⊎_elim, arith}
-use Rattle.std.proofs.lemmas.Bool.{false≢true, cases_eq, cases_lt}
+use Rattle.std.proofs.Common.{◌≡◌, ℕ, ◌+◌, ◌<◌, ◌≤◌, Bool, true, false, List, [], ◌∷◌, length, Some, refl, sym, ap, ◌∙◌, subst, ⊎_elim, arith}
+use Rattle.std.proofs.lemmas.Bool.{cases_eq}
 use Rattle.sharc_code.specs.declared.code.Parameter.TheVariants as parameters
 use Rattle.sharc_code.specs.declared.instr.Register.TheVariants as registers
 use Rattle.sharc_code.specs.declared.instr.Width.{Width}
@@ -13,15 +13,14 @@ use Rattle.sharc_flat_form.specs.declared.op.Op.TheVariants as op
 use Rattle.sharc_flat_form.specs.declared.op.Spot.{Spot}
 use Rattle.sharc_flat.specs.Scope.{Context, ref_count}
 use Rattle.sharc_invariant.specs.Types.{StaticType}
-use Rattle.sharc_invariant.specs.Labels.{Empty, Refers, Number, Anything, Within, Closed, Label, Less, LessNumber, LessEntry, EntryMentions, HasBase, IsFree, fill, empty, set_number, without_copies, without_index}
+use Rattle.sharc_invariant.specs.Labels.{Empty, Refers, Number, Anything, Within, Label, LessNumber, LessEntry, EntryMentions, HasBase, fill, empty, set_number, without_copies, without_index}
 use Rattle.sharc_invariant.specs.Typed.{Passes, IsShared, ints_in, refs_in}
 use Rattle.sharc_invariant.proofs.Scoped.{less_entry_refl, less_number_refl}
 use Rattle.sharc_typed.specs.Passes.{with_passes}
-use Rattle.sharc_labels_laws.specs.Stretches.{WritesWithin, Mark, Setting}
+use Rattle.sharc_labels_laws.specs.Stretches.{Mark, Setting}
 use Rattle.sharc_labels_laws.specs.Places.{IsNamed, mark}
 use Rattle.sharc_labels_laws.specs.Premises.{Typing}
 use Rattle.sharc_labels_laws.proofs.Standing.{less_by, without_same, uncopied, scoped_frame, unnamed, stands_number}
-use Rattle.sharc_labels_laws.proofs.Accesses.{InFrame}
 use Rattle.sharc_labels_laws.proofs.Handing.{on_spawn}
 use Rattle.sharc_labels_laws.proofs.Parts.{P, does, with_number}
 use Rattle.sharc_labels_laws.proofs.Accessed.{Frame}

@@ -1,15 +1,13 @@
 -- What is remembered of copies and of numbers after an operation, by what was remembered before it.
-use Rattle.std.proofs.Common.{◌≡◌, ℕ, ◌+◌, ◌^◌, ◌<◌, ◌≤◌, Bool, true, false, Option, Some, None, refl, sym, ap, ◌∙◌, subst, arith, cond, pos, negsuc, ℤ}
+use Rattle.std.proofs.Common.{◌≡◌, ℕ, ◌^◌, ◌<◌, ◌≤◌, Bool, true, false, Option, Some, None, refl, ap, ◌∙◌, arith, cond, pos, negsuc, ℤ}
 use Rattle.std.specs.Prelude.{nat_eq, nat_lt}
-use Rattle.std.proofs.lemmas.Bool.{eqb-false, false≢true}
+use Rattle.std.proofs.lemmas.Bool.{eqb-false}
 use Rattle.std.proofs.lemmas.Bool.Decides.{nat_tests}
 use Rattle.std.proofs.lemmas.Option.{same_Some, none-some}
-use Rattle.sharc_code.specs.Runs.{put}
-use Rattle.sharc_code.proofs.Places.{eq_refl, put_same, put_other}
 use Rattle.sharc_flat_form.specs.declared.op.Op.{Op}
-use Rattle.sharc_guard.specs.Known.{Know, know_next, writes_ref, writes_int, copy_given, number_given, unless_written, of_constant, few}
+use Rattle.sharc_guard.specs.Known.{Know, know_next, writes_ref, writes_int, copy_given, number_given, unless_written, of_constant}
 use Rattle.sharc_invariant.specs.Types.{Targets}
-use Rattle.sharc_invariant.specs.Labels.{Number, Exactly, Label}
+use Rattle.sharc_invariant.specs.Labels.{Exactly, Label}
 use Rattle.sharc_typed.specs.Passes.{IsNumberOf}
 use Rattle.sharc_labels_laws.specs.Stretches.{Mark, Tells}
 

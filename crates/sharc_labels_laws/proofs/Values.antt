@@ -1,29 +1,26 @@
 -- What is accessed, with the base and the index of its cell at hand: loads, stores and takes.
-use Rattle.std.proofs.Common.{◌≡◌, ◌≢◌, ℕ, ◌+◌, ◌<◌, ◌≤◌, ◌⊎◌, Bool, true, false, cond, List, [], ◌∷◌, ◌++◌, length, Option, Some, None, refl, sym, ap, ◌∙◌, subst, inl, inr, ⊎_elim, arith}
-use Rattle.std.specs.Prelude.{nat_eq}
+use Rattle.std.proofs.Common.{◌≡◌, ℕ, ◌+◌, ◌<◌, ◌≤◌, Bool, true, false, List, [], ◌∷◌, Some, refl, sym, ap, ◌∙◌, subst, inl, ⊎_elim, arith}
 use Rattle.std.proofs.lemmas.Bool.{false≢true, cases_eq, cases_lt}
 use Rattle.sharc_code.specs.declared.instr.Cell.{Cell}
 use Rattle.sharc_code.specs.declared.instr.Width.{Width}
 use Rattle.sharc_code.specs.Runs.{put}
-use Rattle.sharc_code.proofs.Places.{eq_refl, put_same, put_other, put_all}
+use Rattle.sharc_code.proofs.Places.{put_same, put_other, put_all}
 use Rattle.sharc_flat_form.specs.declared.op.Op.{Op}
 use Rattle.sharc_flat_form.specs.declared.op.Op.TheVariants as op
 use Rattle.sharc_flat_form.specs.declared.op.Spot.{Spot}
-use Rattle.sharc_guard.specs.Known.{Know, know_next, writes_ref, writes_int}
 use Rattle.sharc_invariant.specs.Types.{StaticType, Field, FieldType, Mentions}
 use Rattle.sharc_invariant.specs.Types.FieldMode.{Readonly}
 use Rattle.sharc_invariant.specs.Types.Content.{Integer, Pointer}
-use Rattle.sharc_invariant.specs.Labels.{Entry, Empty, Refers, Number, Anything, Exactly, Within, Gate, Closed, Loaded, Label, Less, LessNumber, LessEntry, LessGate, HasBase, EntryMentions, IsScoped, IsFree, set_number, fill, empty, gated, knows, without_copies, without_index}
+use Rattle.sharc_invariant.specs.Labels.{Empty, Refers, Number, Anything, Within, Gate, Closed, Loaded, Label, Less, LessNumber, LessEntry, LessGate, EntryMentions, IsScoped, set_number, fill, empty, without_copies, without_index}
 use Rattle.sharc_invariant.specs.Typed.{IsVacant, PointsTo, HasCell, Fits as FitsWidth, ints_in, refs_in}
 use Rattle.sharc_invariant.proofs.Scoped.{less_refl, less_entry_refl, less_number_refl, scoped_fill}
 use Rattle.sharc_typed.specs.Passes.{IsNumberOf}
-use Rattle.sharc_labels_laws.specs.Stretches.{WritesWithin, Mark, Setting, Tells, Fits, IsAtHand, IsLine, LeadsWithin}
-use Rattle.sharc_labels_laws.specs.Places.{Stands, IsNamed, MayReach, mark}
-use Rattle.sharc_labels_laws.proofs.Fitting.{fits_same, fits_through, fits_by}
-use Rattle.sharc_labels_laws.proofs.Standing.{less_by, without_same, uncopied, scoped_frame, unnamed, stands_number, stands_fill, Unnamed}
-use Rattle.sharc_labels_laws.proofs.Telling.{told, other_than, same_as}
+use Rattle.sharc_labels_laws.specs.Stretches.{WritesWithin, Mark, Setting, Fits, IsAtHand, IsLine}
+use Rattle.sharc_labels_laws.specs.Places.{IsNamed, MayReach, mark}
+use Rattle.sharc_labels_laws.proofs.Standing.{less_by, without_same, uncopied, scoped_frame, unnamed, stands_number}
+use Rattle.sharc_labels_laws.proofs.Telling.{told, other_than}
 use Rattle.sharc_labels_laws.proofs.Accesses.{InFrame, on_load, on_store, on_load_reference, on_take_cell, on_store_reference, on_load_guard}
-use Rattle.sharc_labels_laws.proofs.Parts.{P, does, At, same_number, told_same, told_number, none_some, with_reference, with_number, scoped_below, number_below, number_above}
+use Rattle.sharc_labels_laws.proofs.Parts.{P, does, At, same_number, told_same, told_number, none_some, with_number}
 
 -- the integer registers hold this, and this stands directly before
 abbrev pub over : Label → (ℕ → Number) → Gate → Label

@@ -1,28 +1,25 @@
 -- Variables: copies of them, and what is assigned to them; and a reference that takes the place of the base through which it was found.
-use Rattle.std.proofs.Common.{◌≡◌, ◌≢◌, ℕ, ◌+◌, ◌<◌, ◌≤◌, ◌⊎◌, Bool, true, false, cond, ◌||◌, List, [], ◌∷◌, Option, Some, None, refl, sym, ap, ◌∙◌, subst, inl, inr, ⊎_elim, arith}
+use Rattle.std.proofs.Common.{◌≡◌, ℕ, ◌+◌, ◌<◌, ◌≤◌, Bool, true, false, cond, ◌||◌, List, [], ◌∷◌, Some, None, refl, sym, ap, ◌∙◌, subst, inl, inr, ⊎_elim, arith}
 use Rattle.std.specs.Prelude.{nat_eq}
-use Rattle.std.proofs.lemmas.Bool.{false≢true, cases_eq, cases_lt}
+use Rattle.std.proofs.lemmas.Bool.{false≢true, cases_eq}
 use Rattle.std.proofs.lemmas.Option.{same_Some}
 use Rattle.sharc_code.specs.declared.instr.Width.{Width}
 use Rattle.sharc_code.specs.Runs.{put}
-use Rattle.sharc_code.proofs.Places.{eq_refl, ne_eq, put_same, put_other, put_all}
+use Rattle.sharc_code.proofs.Places.{eq_refl, put_same, put_other, put_all}
 use Rattle.sharc_flat_form.specs.declared.op.Op.{Op}
 use Rattle.sharc_flat_form.specs.declared.op.Op.TheVariants as op
-use Rattle.sharc_guard.specs.Known.{Know, know_next, writes_ref, writes_int, copy_given}
-use Rattle.sharc_invariant.specs.Types.{StaticType, Mentions}
-use Rattle.sharc_invariant.specs.Labels.{Entry, Empty, Refers, Number, Anything, Exactly, Within, Closed, IsIn, Label, Less, SameReference, Itself, IsCopy, LessNumber, LessEntry, LessGate, HasBase, EntryMentions, IsScoped, IsFree, set_number, fill, empty, without_copies, without_index}
-use Rattle.sharc_invariant.specs.Typed.{IsVacant, ints_in, refs_in, moved_copy}
-use Rattle.sharc_invariant.proofs.Scoped.{less_refl, less_entry_refl, less_number_refl, scoped_fill}
-use Rattle.sharc_typed.specs.Lines.{moved}
+use Rattle.sharc_invariant.specs.Types.{StaticType}
+use Rattle.sharc_invariant.specs.Labels.{Entry, Empty, Refers, Number, Within, Closed, IsIn, Label, Less, Itself, IsCopy, LessNumber, LessEntry, LessGate, HasBase, EntryMentions, IsScoped, IsFree, set_number, fill, empty, without_copies, without_index}
+use Rattle.sharc_invariant.specs.Typed.{ints_in, refs_in, moved_copy}
+use Rattle.sharc_invariant.proofs.Scoped.{less_entry_refl, less_number_refl, scoped_fill}
 use Rattle.sharc_typed.specs.Passes.{IsNumberOf}
-use Rattle.sharc_labels_laws.specs.Stretches.{WritesWithin, Mark, Setting, Tells, Fits, IsLine}
-use Rattle.sharc_labels_laws.specs.Places.{Stands, IsNamed, mark}
-use Rattle.sharc_labels_laws.proofs.Standing.{less_by, without_same, uncopied, scoped_frame, unnamed, stands_fill, Unnamed}
+use Rattle.sharc_labels_laws.specs.Stretches.{WritesWithin, Mark, Setting, Fits, IsLine}
+use Rattle.sharc_labels_laws.specs.Places.{IsNamed, mark}
+use Rattle.sharc_labels_laws.proofs.Standing.{less_by, without_same, uncopied, scoped_frame, unnamed}
 use Rattle.sharc_labels_laws.proofs.Telling.{told, other_than, same_as}
 use Rattle.sharc_labels_laws.proofs.Rules.{on_move, on_local}
-use Rattle.sharc_labels_laws.proofs.Accesses.{InFrame}
 use Rattle.sharc_labels_laws.proofs.Moves.{on_settle}
-use Rattle.sharc_labels_laws.proofs.Parts.{P, does, At, at_number, same_number, number_op, told_same, none_some, with_reference, with_number, scoped_below, number_below, number_above}
+use Rattle.sharc_labels_laws.proofs.Parts.{P, does, At, same_number, number_op, none_some, with_reference, with_number, scoped_below, number_below, number_above}
 
 either_false : (a b : Bool) → (a || b) ≡ false → (a ≡ false) × (b ≡ false)
 either_false true b e = absurd (false≢true (sym e))

@@ -2,7 +2,7 @@
 use Rattle.std.specs.Prelude.{ℕ, ◌+◌, ◌≡◌, ◌<◌, Bool, true, false, List, Option, Some, None}
 use Rattle.sharc_tree.specs.declared.tree.declaration.Declaration.{Declaration}
 use Rattle.sharc_tree.specs.Tree.{Right, Local}
-use Rattle.sharc_names.specs.Kinds.{Kind, declared_kind}
+use Rattle.sharc_names.specs.Kinds.{declared_kind}
 use Rattle.sharc_code.specs.declared.instr.Width.{Width}
 use Rattle.sharc_meaning.specs.State.{is_reference}
 use Rattle.sharc_flat.specs.Scope.{Context, int_count, ref_count, register_of}

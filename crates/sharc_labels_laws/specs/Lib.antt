@@ -8,4 +8,5 @@ pub mod Declared
 pub mod Ended
 pub mod Left
 pub mod Blocks
+pub mod Begun
 pub mod Laws

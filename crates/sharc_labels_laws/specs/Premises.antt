@@ -1,6 +1,6 @@
 -- What the types of a source have to say of its accesses, so that they are typed: of each label where the variables hold what their types say, and the registers of
 -- an lvalue its base and its index.
-use Rattle.std.specs.Prelude.{ℕ, ◌+◌, ◌≡◌, ◌<◌, Bool, true, false, List, Option, Some, None}
+use Rattle.std.specs.Prelude.{ℕ, ◌+◌, ◌≡◌, ◌<◌, Bool, true, List, Option, Some, None}
 use Rattle.sharc_tree.specs.declared.token.Site.{Site}
 use Rattle.sharc_tree.specs.Tree.{Expression}
 use Rattle.sharc_code.specs.declared.code.GlobalCells.{GlobalCells}
@@ -12,11 +12,11 @@ use Rattle.sharc_flat_form.specs.declared.op.Spot.{Spot}
 use Rattle.sharc_flat_form.specs.Machine.{first_cell}
 use Rattle.sharc_flat.specs.declared.slot.Lvalue.{Lvalue}
 use Rattle.sharc_flat.specs.Scope.{Context, int_count, ref_count}
-use Rattle.sharc_flat.specs.Places.{Target, variable, in_global, in_global_at, in_object, in_object_at, cell_of, guard_cell, guard_field, spot_of}
-use Rattle.sharc_invariant.specs.Types.{StaticType, Field, FieldType, FieldMode}
+use Rattle.sharc_flat.specs.Places.{Target, in_global_at, in_object, in_object_at, cell_of, guard_cell, guard_field, spot_of}
+use Rattle.sharc_invariant.specs.Types.{StaticType, Field, FieldType}
 use Rattle.sharc_invariant.specs.Types.FieldMode.{Readonly}
 use Rattle.sharc_invariant.specs.Types.Content.{Integer, Waiters, Pointer}
-use Rattle.sharc_invariant.specs.Labels.{Entry, Refers, Element, Number, Within, OfElement, OfGlobal, Closed, Loaded, Label, fill, set_number, gated}
+use Rattle.sharc_invariant.specs.Labels.{Entry, Refers, Element, Number, Within, OfElement, OfGlobal, Closed, Loaded, Label, gated}
 use Rattle.sharc_invariant.specs.Typed.{HasCell, IsMutex, PointsTo}
 use Rattle.sharc_labels_laws.specs.Stretches.{Setting}
 use Rattle.sharc_labels_laws.specs.Places.{MayReach}

@@ -2,12 +2,10 @@
 use Rattle.std.specs.Prelude.{ℕ, ◌+◌, ◌≡◌, ◌<◌, ◌≤◌, ◌⊎◌, Bool, true, false, List, [], ◌∷◌, length, drop, Option, Some, None, codes, if◌then◌else◌}
 use Rattle.std.specs.Str.{bytes_eq}
 use Rattle.sharc_tree.specs.declared.token.Site.{Site}
-use Rattle.sharc_tree.specs.declared.token.Span.{Span}
-use Rattle.sharc_tree.specs.declared.tree.declaration.Identifier.{Identifier}
 use Rattle.sharc_tree.specs.declared.tree.expression.Access.{Access}
 use Rattle.sharc_tree.specs.declared.tree.expression.Access.TheVariants.{Dot, Arrow}
 use Rattle.sharc_tree.specs.declared.tree.expression.BinaryOperator.{BinaryOperator}
-use Rattle.sharc_tree.specs.declared.tree.expression.BinaryOperator.TheVariants.{LogicalOr, LogicalAnd, Equal, NotEqual, ShiftLeft, ShiftRight}
+use Rattle.sharc_tree.specs.declared.tree.expression.BinaryOperator.TheVariants.{LogicalOr, LogicalAnd}
 use Rattle.sharc_tree.specs.declared.tree.expression.Constant.{Constant}
 use Rattle.sharc_tree.specs.declared.tree.expression.PlaceCall.{PlaceCall}
 use Rattle.sharc_tree.specs.declared.tree.expression.PlaceCall.TheVariants.{Lock, Unlock, Free}
@@ -24,25 +22,24 @@ use Rattle.sharc_code.specs.declared.code.Use.TheVariants as uses
 use Rattle.sharc_code.specs.declared.instr.Register.{Register}
 use Rattle.sharc_code.specs.declared.instr.Register.TheVariants.{Int, Reference}
 use Rattle.sharc_code.specs.declared.instr.Width.{Width}
-use Rattle.sharc_code.specs.declared.instr.Width.TheVariants.{Char}
 use Rattle.sharc_code.specs.Machine.{function_of}
 use Rattle.sharc_ctype.specs.Expressions.{class_of, binary_result}
-use Rattle.sharc_ctype.specs.Resolved.{global_at, kind_at, structs_in}
+use Rattle.sharc_ctype.specs.Resolved.{global_at, structs_in}
 use Rattle.sharc_ctype.specs.Transfers.{parameters_named}
 use Rattle.sharc_meaning.specs.Cells.{element_cells, field_place_named, global_elements}
 use Rattle.sharc_meaning.specs.Expressions.{number_named}
 use Rattle.sharc_meaning.specs.Reference.{constant_value}
-use Rattle.sharc_flat.specs.Scope.{Context, int_count, ref_count, register_of, at_site}
+use Rattle.sharc_flat.specs.Scope.{Context, int_count, ref_count, register_of}
 use Rattle.sharc_flat.specs.Places.{Target, variable, in_global, global_of, target, own_field, width_of}
-use Rattle.sharc_flat.specs.Flattened.{kind_of, is_ref, target_of, mode_of, lvalue_in, what_names, guard_of, taken_guard, behind_int, behind_ref, called_code, spawn_code, place_call_code, cast_code, operator_of, layout_of}
+use Rattle.sharc_flat.specs.Flattened.{kind_of, is_ref, target_of, mode_of, lvalue_in, what_names, guard_of, behind_int, behind_ref, operator_of, layout_of}
 use Rattle.sharc_flat.specs.Suits.{Either, is_cell}
 use Rattle.sharc_flat_form.specs.Framed.{IsWide}
 use Rattle.sharc_invariant.specs.Types.{StaticType, Content, field_at, cells_of}
 use Rattle.sharc_invariant.specs.Types.Content.{MutexWord, Waiters}
-use Rattle.sharc_invariant.specs.Labels.{Entry, Empty, Refers, Unknown, Element, Exactly, Within, Label, LessNumber, EntryMentions, HasBase, fill, set_number}
+use Rattle.sharc_invariant.specs.Labels.{Entry, Empty, Refers, Unknown, Exactly, Within, Label, LessNumber, EntryMentions, HasBase}
 use Rattle.sharc_invariant.specs.Typed.{is_shift, is_comparison, Passes, IsShared, Recasts, IsLayout}
-use Rattle.sharc_labels_laws.specs.Stretches.{Mark, Setting, Way, LeadsAmong}
-use Rattle.sharc_labels_laws.specs.Places.{Stands, IsNamed, IsPlain, no_type, mark}
+use Rattle.sharc_labels_laws.specs.Stretches.{Setting, Way}
+use Rattle.sharc_labels_laws.specs.Places.{Stands, IsNamed, IsPlain, no_type}
 use Rattle.sharc_labels_laws.specs.Premises.{Typing, HoldsVariables, Ground, IntegerTyped, ReferenceTyped, MutexTyped}
 
 -- ---- types

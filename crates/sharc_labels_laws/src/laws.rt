@@ -1,5 +1,6 @@
 //! Laws of flattened code.
 
+ghost use Rattle.sharc_labels_laws.specs.Begun.{LabelsStand};
 ghost use Rattle.sharc_labels_laws.specs.Blocks.{BlocksAreTyped};
 ghost use Rattle.sharc_labels_laws.specs.Decided.{DecisionsAreTyped};
 ghost use Rattle.sharc_labels_laws.specs.Declared.{LocalsAreTyped};
@@ -80,4 +81,9 @@ pub fn blocks_law()
 /// Blocks that are open one in the other end one after the other.
 pub fn leaves_law()
     ensures { LeavesAreTyped }
+{}
+
+/// What the types of the variables say may be said where a function begins, and before each of its statements.
+pub fn labels_law()
+    ensures { LabelsStand }
 {}
