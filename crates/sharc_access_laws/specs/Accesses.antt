@@ -30,13 +30,13 @@ use Rattle.sharc_target_laws.specs.Lvalues.{FieldFits, pointer_of}
 use Rattle.sharc_target_laws.specs.Targets.{targets_of}
 
 -- ---- what an access asks for
--- the cell is there, of this field, the site tells its mode, and it may be accessed once it is checked
+-- the cell exists and has this field, the site tells its mode, and it may be accessed once it is checked
 pub record Reaches (c : Context) (code : Code) (ls : Labels) (q : Label) (write : Bool) (cell : Cell) (spot : Spot) (f : Field) : Type 0 where
   pub cell_there : HasCell (targets_of c.program) code q cell f
   pub mode : IsMode code q cell f.mode spot.mode
   pub may : MayPass (targets_of c.program) code ls false q write cell (lock_of spot spot.mode) f.holds f.mode
 
--- the readonly pointer to the mutex beside it
+-- the readonly pointer to the mutex, in the same element
 pub record Guards (c : Context) (code : Code) (q : Label) (cell : Cell) : Type 0 where
   pub field : Field
   pub there : HasCell (targets_of c.program) code q cell field
@@ -49,7 +49,7 @@ pub record HasBaseIn (code : Code) (q : Label) (r : ℕ) (s : StaticType) : Type
   pub refers : q.env r ≡ Refers s
   pub known : q.known r ≡ true
 
--- an index register, and the next one where the mutex of the same element, or the pointer to it, is named too
+-- an index register, and the next one where the mutex of the same element, or the pointer to it, is accessed too
 abbrev pub HasIndexOf : ℕ → Option ℕ → (ℕ → ℕ → Type 0) → ℕ → Type 0
 HasIndexOf i None Is n = Is i n
 HasIndexOf i (Some beside) Is n = Is i n × Is (i + 1) beside
@@ -84,7 +84,7 @@ kind_of_pointer r (Some p) = kind_at r p
 abbrev pub base_type : Context → Expression → StaticType
 base_type c e = static_of c (kind_of_pointer c.program.typed (pointer_of c.program.typed e)) (modes_behind c.program e)
 
--- The registers have what an lvalue names: its base, and the number of its cell and of the one beside it.
+-- The registers have what an lvalue names: its base, and the numbers of its cell and of the one that its mode names in the same element.
 abbrev pub HaveTarget : Context → Code → Label → Target → Option ℕ → StaticType → Element → (i r : ℕ) → Type 0
 HaveTarget c code q (variable x) beside base e i r = Unit {0}
 HaveTarget c code q (in_global g n) beside base e i r = Unit {0}
@@ -103,14 +103,14 @@ pub data LockStands (c : Context) (code : Code) (q : Label) (l : Lock) : Type 0 
       → field_place_behind c.program.typed x name < cells_of (targets_of c.program) s.target → (field_at (targets_of c.program) s.target (field_place_behind c.program.typed x name)).holds ≡ MutexWord → LockStands c code q l
 
 -- ---- modes
--- What the mode of an element's cell asks for beside its registers: who owns what is private, that nothing readonly is written, and, where the first of the modes of the
+-- What the mode of an element's cell asks for apart from its registers: who owns what is private, that nothing readonly is written, and, where the first of the modes of the
 -- element's type is a lock, that its path leads to a mutex.
 pub record IsFairAccess (c : Context) (code : Code) (ls : Labels) (q : Label) (write : Bool) (cell : Cell) (modes : List Sharing) (mode : Sharing) : Type 0 where
   pub own : mode ≡ private → IsOwn ls q cell
   pub reads : mode ≡ readonly → write ≡ false
   pub path : (l : Lock) (below : List Sharing) → modes ≡ locked l ∷ below → mode ≡ locked l → LockStands c code q l
 
--- the pointer to the mutex was loaded, if the mode has one, and else nothing stands between
+-- the pointer to the mutex was loaded just before, if the mode has one
 abbrev pub IsGated : Label → (ℕ → Cell) → Option ℕ → Type 0
 IsGated q guard None = q.gate ≡ Closed
 IsGated q guard (Some mutex) = q.gate ≡ Loaded (guard mutex)
@@ -129,7 +129,7 @@ pub record IsCodeOf (c : Context) (code : Code) : Type 0 where
   pub globals : c.globals ≡ globals_of c.program.typed
   pub tables : HasTables c.program code
 
--- the cell is there, with what the lvalue's type says in it
+-- the cell exists, and holds what the type of the lvalue says
 pub record StandsThere (c : Context) (code : Code) (q : Label) (e : Expression) (cell : Cell) : Type 0 where
   pub field : Field
   pub there : HasCell (targets_of c.program) code q cell field
@@ -154,7 +154,7 @@ AccessesFit = (c : Context) (code : Code) → IsCodeOf c code → (q : Label) (e
     → (spot : Spot) → spot.mode ≡ place_mode c (field_of (target c.program.typed None e)) (cell_at c.program e) → spot.lock ≡ lock_cell c i r (target c.program.typed None e) (cell_at c.program e)
     → AccessFits c code ls q write e (cell_of c.globals i r (target c.program.typed None e)) spot
 
--- the pointer to the mutex, where the mode has one, is loaded from beside the cell
+-- the pointer to the mutex, where the mode has one, is loaded from the same element
 abbrev pub GuardsFit : Type 0
 GuardsFit = (c : Context) (code : Code) → IsCodeOf c code → (q : Label) (e : Expression) → IsCellLvalue c.program e → (element : Element) (i r : ℕ) → HaveLvalue c code q e element i r
     → is_mutex_kind (kind_at c.program.typed e) ≡ false

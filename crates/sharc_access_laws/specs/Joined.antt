@@ -30,7 +30,7 @@ use Rattle.sharc_target_laws.specs.Targets.{targets_of}
 use Rattle.sharc_access_laws.specs.Accesses.{modes_behind, base_type, cells_in_each, IsCellLvalue, IsCodeOf}
 
 -- ---- of the source
--- A path in the type of an element leads to a mutex, by a global or by a variable that stands.
+-- A path in the type of an element leads to a mutex, by a global or by a variable in scope.
 pub data LockLeads (c : Context) (l : Lock) : Type 0 where
   to_global : (g : ℕ) → named_at c.program.typed l.first ≡ named.Global g → named_kind c.program.typed (named.Global g) ≡ mutex → LockLeads c l
   to_variable : (x : ℕ) (name : List ℕ) → named_at c.program.typed l.first ≡ named.Variable x → l.second ≡ Some name → slot_kind c.scope x ≡ Some true
@@ -62,7 +62,7 @@ pub record IsGroundOf (c : Context) (e : Expression) (ground : Ground) : Type 0 
   pub count : (g n : ℕ) → target c.program.typed None e ≡ in_global_at g n → ground.count ≡ cells_in_each c.program.typed (global_at c.program.typed g)
   pub elements : (g n : ℕ) → target c.program.typed None e ≡ in_global_at g n → ground.elements ≡ global_elements (global_at c.program.typed g)
 
--- Beside what IsPlaced of sharc_labels_laws says: the base is a register of the frame, as those of variables are, and of a constant variable through which the lvalue leads it
+-- What IsPlaced of sharc_labels_laws does not say: the base is a register of the frame, as those of variables are, and of a constant variable through which the lvalue leads it
 -- has a copy.
 pub record IsWellPlaced (c : Context) (code : Code) (e : Expression) (r : ℕ) (q : Label) : Type 0 where
   pub variables : ref_count c.scope ≤ refs_in code q.function
@@ -90,7 +90,7 @@ ReferencesFit = (c : Context) (code : Code) → IsCodeOf c code → (signature :
     (λ k. ReachesReference (setting c code signature starts lines) k write (cell_of c.globals i r (target c.program.typed None e))
     (spot_of c i r site lvalue use_made (cell_at c.program e) (target c.program.typed None e)) (static_of c (kind_at c.program.typed e) modes)) q
 
--- a mutex is there
+-- a mutex exists in its cell
 abbrev pub MutexesFit : Type 0
 MutexesFit = (c : Context) (code : Code) → IsCodeOf c code → (signature : ℕ → Signature) (starts : ℕ → Bool) (lines : ℕ) (y : Typing) → (f : ℕ) (e : Expression) → IsCellLvalue c.program e
     → (ground : Ground) → IsGroundOf c e ground → kind_at c.program.typed e ≡ mutex → (element : Element) (i r : ℕ) (q : Label)
