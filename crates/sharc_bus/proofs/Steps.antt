@@ -23,10 +23,10 @@ pub events_push_other : (thread : ℕ) (history : List WordEvent) (e : WordEvent
 events_push_other thread history e not = rw (filter-append, ne_eqb e.thread thread not) (append-nil (events_of thread history))
 
 -- what the rule says of one part of a seat
-abbrev Kept : List WordEvent → (ℕ → ℕ) → ℕ → ℕ → Part → Type 0
-Kept history owner ports seat part = (part.events ≡ events_of part.number history) × (owner part.number ≡ seat) × (part.number < ports)
+abbrev Kept : List ℕ → List WordEvent → (ℕ → ℕ) → ℕ → ℕ → Part → Type 0
+Kept base history owner numbers seat part = (part.events ≡ events_of part.number history) × (owner part.number ≡ seat) × (part.number < numbers) × (part.words ≡ base)
 
-module _ (laws : HistoryLaws) (opening : List ℕ) (ports : ℕ) (s : State (Unit {0}) (List Part)) (kept : BusRule opening ports s) (id : ℕ) (p : Part) (at : get_elem? s.views id ≡ some (p ∷ [])) (step : WordStep) (inside : step.word < length opening) where
+module _ (laws : HistoryLaws) (opening : List ℕ) (numbers : ℕ) (s : State (Unit {0}) (List Part)) (kept : BusRule opening numbers s) (id : ℕ) (p : Part) (at : get_elem? s.views id ≡ some (p ∷ [])) (step : WordStep) (inside : step.word < length opening) where
   abbrev found : ℕ
   found = slice_index s.words step.word
 
@@ -34,56 +34,58 @@ module _ (laws : HistoryLaws) (opening : List ℕ) (ports : ℕ) (s : State (Uni
   made = event_of p.number step found
 
   abbrev stepped_part : Part
-  stepped_part = record { number = p.number; events = p.events ++ made ∷ [] }
+  stepped_part = record { number = p.number; words = p.words; events = p.events ++ made ∷ [] }
 
   abbrev after : State (Unit {0}) (List Part)
   after = record { words = words_after_step s.words step; homes = s.homes; views = slice_set s.views id (stepped_part ∷ []) }
 
-  may : MayFollow (words_after opening kept.history) made
-  may = record { on_a_word = omega (arith, laws.count opening kept.history); result_is = ap (λ (ws : List ℕ). slice_index ws step.word) kept.words_are }
+  may : MayFollow (words_after kept.base kept.history) made
+  may = record { on_a_word = omega (arith, laws.count kept.base kept.history, kept.as_many); result_is = ap (λ (ws : List ℕ). slice_index ws step.word) kept.words_are }
 
-  here : Kept kept.history kept.owner ports id p
+  here : Kept kept.base kept.history kept.owner numbers id p
   here = kept.parts_are id (p ∷ []) p at (inl refl)
 
-  here_after : Kept (kept.history ++ made ∷ []) kept.owner ports id stepped_part
-  here_after = (ap (λ es. es ++ made ∷ []) here.0 ∙ sym (events_push_same p.number kept.history made refl), here.1, here.2)
+  here_after : Kept kept.base (kept.history ++ made ∷ []) kept.owner numbers id stepped_part
+  here_after = (ap (λ es. es ++ made ∷ []) here.0 ∙ sym (events_push_same p.number kept.history made refl), here.1, here.2, here.3)
 
-  parts_after : (seat : ℕ) (parts : List Part) (part : Part) → get_elem? after.views seat ≡ some parts → IsAmong part parts → Kept (kept.history ++ made ∷ []) kept.owner ports seat part
+  parts_after : (seat : ℕ) (parts : List Part) (part : Part) → get_elem? after.views seat ≡ some parts → IsAmong part parts → Kept kept.base (kept.history ++ made ∷ []) kept.owner numbers seat part
   parts_after seat parts part there among =
       ⊎_elim
       (λ same.
       let is : part ≡ stepped_part = among_one part stepped_part (subst (λ ps. IsAmong part ps) (sym same.1) among) in
-      let there' : Kept (kept.history ++ made ∷ []) kept.owner ports seat stepped_part = subst (λ n. Kept (kept.history ++ made ∷ []) kept.owner ports n stepped_part) (sym same.0) here_after in
-      subst (λ q. Kept (kept.history ++ made ∷ []) kept.owner ports seat q) (sym is) there')
+      let there' : Kept kept.base (kept.history ++ made ∷ []) kept.owner numbers seat stepped_part = subst (λ n. Kept kept.base (kept.history ++ made ∷ []) kept.owner numbers n stepped_part) (sym same.0) here_after in
+      subst (λ q. Kept kept.base (kept.history ++ made ∷ []) kept.owner numbers seat q) (sym is) there')
       (λ other.
-      let old : Kept kept.history kept.owner ports seat part = kept.parts_are seat parts part other.1 among in
+      let old : Kept kept.base kept.history kept.owner numbers seat part = kept.parts_are seat parts part other.1 among in
       let apart : p.number ≢ part.number = (λ e. other.0 (sym old.1 ∙ (ap kept.owner (sym e) ∙ here.1))) in
-      (old.0 ∙ sym (events_push_other part.number kept.history made apart), old.1, old.2))
+      (old.0 ∙ sym (events_push_other part.number kept.history made apart), old.1, old.2, old.3))
       (at_set s.views id seat (stepped_part ∷ []) parts there)
 
-  no_others_after : (number : ℕ) → ports ≤ number → events_of number (kept.history ++ made ∷ []) ≡ []
+  no_others_after : (number : ℕ) → numbers ≤ number → events_of number (kept.history ++ made ∷ []) ≡ []
   no_others_after number beyond =
-      let small : p.number < ports = here.2 in
+      let small : p.number < numbers = here.2 in
       let apart : p.number ≢ number = (λ e. omega arith) in
       events_push_other number kept.history made apart ∙ kept.no_others number beyond
 
-  pub step_keeps : BusRule opening ports after
+  pub step_keeps : BusRule opening numbers after
   step_keeps = record {
+    base = kept.base;
+    as_many = kept.as_many;
     history = kept.history ++ made ∷ [];
-    legal = (laws.goes_on opening kept.history made).1 (kept.legal, may);
-    words_are = ap (λ (ws : List ℕ). words_after_step ws step) kept.words_are ∙ sym (laws.parts opening kept.history (made ∷ []));
+    legal = (laws.goes_on kept.base kept.history made).1 (kept.legal, may);
+    words_are = ap (λ (ws : List ℕ). words_after_step ws step) kept.words_are ∙ sym (laws.parts kept.base kept.history (made ∷ []));
     owner = kept.owner;
     parts_are = parts_after;
     no_others = no_others_after;
   }
 
 -- the table allows a step that does what the operation says, by a seat with one part
-pub step_allowed : (laws : HistoryLaws) (opening : List ℕ) (ports slots id : ℕ) (me : Me (Unit {0}) (List Part)) (step : WordStep) (f : ℕ → ℕ)
+pub step_allowed : (laws : HistoryLaws) (opening : List ℕ) (numbers slots id : ℕ) (me : Me (Unit {0}) (List Part)) (step : WordStep) (f : ℕ → ℕ)
     → (part : Part) × (me.0 ≡ part ∷ []) → ((n : ℕ) → f n ≡ word_after step.op n) → step.word < length opening
-    → Allows (BusRule opening ports) slots id me step.word f (λ n after. after ≡ (with_step me.0 step n, me.1))
-step_allowed laws opening ports slots id me step f one same inside s kept _ at _ =
+    → Allows (BusRule opening numbers) slots id me step.word f (λ n after. after ≡ (with_step me.0 step n, me.1))
+step_allowed laws opening numbers slots id me step f one same inside s kept _ at _ =
     let n : ℕ = slice_index s.words step.word in
     let at' : get_elem? s.views id ≡ some (one.0 ∷ []) = subst (λ v. get_elem? s.views id ≡ some v) one.1 at in
-    let R : ℕ → List Part → Type 0 = λ m v. BusRule opening ports record { words = slice_set s.words step.word m; homes = s.homes; views = slice_set s.views id (with_step v step n) } in
-    let k : R (word_after step.op n) (one.0 ∷ []) = step_keeps laws opening ports s kept id one.0 at' step inside in
+    let R : ℕ → List Part → Type 0 = λ m v. BusRule opening numbers record { words = slice_set s.words step.word m; homes = s.homes; views = slice_set s.views id (with_step v step n) } in
+    let k : R (word_after step.op n) (one.0 ∷ []) = step_keeps laws opening numbers s kept id one.0 at' step inside in
     (with_step me.0 step n, keeps, tt, subst (λ v. R (f n) v) (sym one.1) (subst (λ m. R m (one.0 ∷ [])) (sym (same n)) k), refl)

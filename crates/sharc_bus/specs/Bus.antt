@@ -1,4 +1,4 @@
--- What a caller reads: buses, seats and ports as contracts see them, and what a bus promises.
+-- What a caller reads: buses, rests, seats and ports as contracts see them, and what a bus promises.
 use Rattle.std.specs.Prelude.{ℕ, ◌≡◌, ◌<◌, List, [], ◌∷◌, length, map, All, slice_index_or}
 use Rattle.atomic_table.specs.Seated.{TableId}
 use Rattle.sharc_word.specs.declared.step.WordEvent.{WordEvent}
@@ -11,7 +11,7 @@ pub record BusView : Type 0 where
   pub opening : List ℕ
   pub ports : ℕ
 
--- the bus of a seat, the number of its port, and the events that this port has made
+-- the bus of a seat, the number of its port, and the events that this port has made in this round
 pub record SeatView : Type 0 where
   pub bus : TableId
   pub number : ℕ
@@ -21,6 +21,17 @@ pub record SeatView : Type 0 where
 pub record PortView : Type 0 where
   pub bus : BusView
   pub seat : SeatView
+
+-- the bus of a rest or of a round, the words that stand there or with which it began, and the number of ports
+pub record RestView : Type 0 where
+  pub bus : TableId
+  pub words : List ℕ
+  pub ports : ℕ
+
+-- it is of this bus
+pub record IsOf (bus : BusView) (rest : RestView) : Type 0 where
+  pub bus_is : rest.bus ≡ bus.id
+  pub ports_are : rest.ports ≡ bus.ports
 
 -- all seats of the bus, each once, in the order of their numbers
 pub record AreSeatsOf (bus : BusView) (seats : List SeatView) : Type 0 where
@@ -32,7 +43,7 @@ pub record AreSeatsOf (bus : BusView) (seats : List SeatView) : Type 0 where
 abbrev pub lists_of : List SeatView → List (List WordEvent)
 lists_of seats = map (λ s. s.events) seats
 
--- There is one legal history from the opening words, which leaves these words. Its part for each thread is the list at that
+-- There is one legal history from these words, which leaves these words. Its part for each thread is the list at that
 -- number, and it has no event of another thread
 pub record OneHistory (opening : List ℕ) (lists : List (List WordEvent)) (words : List ℕ) : Type 0 where
   pub history : List WordEvent

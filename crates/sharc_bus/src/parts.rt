@@ -1,8 +1,9 @@
-//! The seats of a bus, cut off the first seat of its table and put together again, and the words of a table that is closed.
+//! The seats of a bus, cut off the seat of all parts and put together again, and the words of a table that is closed.
 
-ghost use Rattle.std.specs.Prelude.{slice_index, ◌≡◌, ◌<◌, [], length, vec_len, All, IfOk};
+ghost use Rattle.std.specs.Prelude.{slice_index, suc, ◌≡◌, ◌<◌, ◌+◌, ◌++◌, List, [], length, All, IfOk};
 ghost use Rattle.std.specs.Mem.Slots.{slots_items, slots_len, IsFull};
-ghost use Rattle.sharc_bus.specs.Rule.{unbegun};
+ghost use Rattle.sharc_bus.specs.declared.rule.Part.{Part};
+ghost use Rattle.sharc_bus.specs.Rule.{unbegun, words_known};
 ghost use Rattle.sharc_bus.specs.Table.{HasAll, seats_with};
 
 use crate::bus::Words;
@@ -11,42 +12,46 @@ use crate::seat::BusSeat;
 use atomic_table::{Closed, Seat};
 use std::alloc::{AllocError, Allocator};
 
-// Cuts the seats of all ports off the seat that has all parts.
+// Cuts the seats of all ports off the seat that has all parts, and gives what is left of it.
 pub(crate) fn give_seats<A: Allocator>(
     table: &Words<A>,
     first: Seat<(), Parts>,
     ports: u32,
     seats: &mut Vec<BusSeat, A>,
-) -> Result<(), AllocError>
+) -> Result<Seat<(), Parts>, AllocError>
     requires own { first.table_id ≡ table.now.shared.table_id }
-    requires parts { first.me ≡ (unbegun 0 ports, []) }
+    requires parts { first.me ≡ (unbegun (words_known first.me.0) 0 (suc ports), []) }
     requires words { 0 < table.now.shared.table_id.words }
-    requires some { 0 < ports }
     requires none { seats.old.items ≡ [] }
-    ensures { IfOk result (λ _. seats.new.items ≡ seats_with table.now.shared.table_id (unbegun 0 ports)) }
+    ensures seats { IfOk result (λ _. seats.new.items ≡ seats_with table.now.shared.table_id (unbegun (words_known first.me.0) 0 ports)) }
+    ensures own { IfOk result (λ rest. rest.table_id ≡ table.now.shared.table_id) }
+    ensures rest { IfOk result (λ rest. rest.me ≡ (unbegun (words_known first.me.0) ports 1, [])) }
 {
     let mut rest = first;
-    for _ in 0..ports - 1 {
+    for _ in 0..ports {
         let others = table.shared.split_seat::<FirstPart>(&mut rest);
         seats.push(BusSeat::new(rest))?;
         rest = others;
     }
-    seats.push(BusSeat::new(rest))?;
-    Ok(())
+    Ok(rest)
 }
 
-// Puts the parts of all seats together, in one seat.
-pub(crate) fn take_seats<A: Allocator>(
+// Puts the parts of all seats behind those of the first.
+pub(crate) fn take_seats<A: Allocator, B: Allocator>(
     table: &Words<A>,
-    mut seats: Vec<BusSeat, A>,
+    first: Seat<(), Parts>,
+    mut seats: Vec<BusSeat, B>,
 ) -> Seat<(), Parts>
+    requires first { first.table_id ≡ table.now.shared.table_id }
     requires own { All (λ s. s.bus ≡ table.now.shared.table_id) seats.items }
     requires words { 0 < table.now.shared.table_id.words }
-    requires some { 0 < vec_len seats }
     ensures own { result.table_id ≡ table.now.shared.table_id }
     ensures all { HasAll seats.items result.me.0 }
+    ensures count { length result.me.0 ≡ length first.me.0 + length seats.items }
+    ensures first { (more : List Part) × (result.me.0 ≡ first.me.0 ++ more) }
+    ensures none { result.me.1 ≡ first.me.1 }
 {
-    let mut all = seats.pop().unwrap().into_inner();
+    let mut all = first;
     while let Some(seat) = seats.pop() {
         table
             .shared

@@ -5,9 +5,11 @@ use sharc_word::WordEvent;
 use std::alloc::Allocator;
 use std::collections::LinkedList;
 
-/// The events of one port, oldest first. No value of it is made: it stands in proofs alone.
+/// The events that one port has made in this round, oldest first, and the words at its beginning. No value of it is made: it stands in
+/// proofs alone.
 pub struct Part {
     pub number: u64,
+    pub words: LinkedList<u64>,
     pub events: LinkedList<WordEvent>,
 }
 
@@ -21,15 +23,16 @@ pub struct Opening<A: Allocator> {
     pub ports: u32,
 }
 
-/// The rule of a bus: there is one legal history of its steps.
+/// The rule of a bus: there is one legal history of the steps of this round.
 pub struct BusLaw;
 
 impl<A: Allocator> TableRule<(), Parts, Opening<A>> for BusLaw {
+    ghost use Rattle.std.specs.Prelude.{suc};
     ghost use Rattle.sharc_bus.specs.Rule.{BusRule, unbegun};
 
-    ghost holds = { λ opening. BusRule opening.words.items opening.ports };
+    ghost holds = { λ opening. BusRule opening.words.items (suc opening.ports) };
 
-    ghost first = { λ opening. unbegun 0 opening.ports };
+    ghost first = { λ opening. unbegun opening.words.items 0 (suc opening.ports) };
 }
 
 /// A seat keeps its first part, and a new seat has the others.
@@ -115,4 +118,22 @@ impl Play<(), Parts> for Exchanges {
     ghost use Rattle.sharc_bus.specs.Rule.{Appends};
 
     ghost then = { Appends (λ expected new. Cas expected new) };
+}
+
+/// All parts begin a round, with the words as they are.
+pub(crate) struct Settles;
+
+impl Play<(), Parts> for Settles {
+    ghost use Rattle.sharc_bus.specs.Rule.{SettlesTo};
+
+    ghost then = { SettlesTo };
+}
+
+/// A look at a word, where no part has begun.
+pub(crate) struct Looks;
+
+impl Play<(), Parts> for Looks {
+    ghost use Rattle.sharc_bus.specs.Rule.{Finds};
+
+    ghost then = { Finds };
 }

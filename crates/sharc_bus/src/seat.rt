@@ -10,7 +10,7 @@ use sharc_word::WordStep;
 use std::alloc::Allocator;
 use std::marker::Model;
 
-/// The right to make the steps of one port of a bus, with the events that this port has made, which take no memory.
+/// The right to make the steps of one port of a bus in a round, with the events that this port has made in it, which take no memory.
 ///
 /// Contracts see it as a `SeatView`.
 #[derive(Drop)]
@@ -34,7 +34,7 @@ impl Model for BusSeat {
 impl BusSeat {
     ghost use Rattle.sharc_word.specs.Place.{event_of};
     ghost use Rattle.sharc_bus.specs.declared.rule.Part.{Part};
-    ghost use Rattle.sharc_bus.specs.Table.{part_of, seat_view};
+    ghost use Rattle.sharc_bus.specs.Table.{HasPart, seat_view};
 
     // The seat of one port.
     pub(crate) fn new(seat: Seat<(), Parts>) -> BusSeat
@@ -46,7 +46,10 @@ impl BusSeat {
 
     // The seat at the table.
     pub(crate) fn into_inner(self) -> Seat<(), Parts>
-        ensures { (result.table_id ≡ self.bus) × (result.me ≡ (part_of self ∷ [], [])) }
+        ensures bus { result.table_id ≡ self.bus }
+        ensures part { HasPart self.number self.events result.me.0 }
+        ensures one { length result.me.0 ≡ 1 }
+        ensures none { result.me.1 ≡ [] }
     {
         let BusSeat { seat } = self;
         seat

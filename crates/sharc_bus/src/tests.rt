@@ -167,9 +167,13 @@ fn words_after<R: Threads + Sync>(
     requires words { 9 ≤ vec_len words }
     requires ports { 0 < ports }
 {
-    let (bus, seats) = Bus::open(alloc, words, ports)?;
+    let mut opening = Opening { words, ports };
+    let (bus, rest) = Bus::open(alloc, &opening)?;
+    let (seats, round) = bus.begin(alloc, rest)?;
     let seats = work_in_threads(rt, &bus, seats, job)?;
-    bus.close(alloc, seats)
+    let rest = bus.end(round, seats);
+    bus.close(rest, opening.words.as_mut_slice());
+    Ok(opening.words)
 }
 
 #[test]

@@ -4,18 +4,21 @@ use Rattle.sharc_word.specs.declared.step.WordEvent.{WordEvent}
 use Rattle.sharc_word.specs.declared.step.TheConstants.{THREADS}
 use Rattle.sharc_code.specs.declared.code.Code.{Code}
 use Rattle.sharc_code.specs.declared.shape.Shape.{Shape}
-use Rattle.sharc_code.specs.Layout.{words_of}
+use Rattle.sharc_code.specs.declared.state.Wait.{Wait}
+use Rattle.sharc_code.specs.declared.state.Wait.TheVariants as waits
+use Rattle.sharc_code.specs.Layout.{words_of, state_word}
 use Rattle.sharc_code.specs.Path.{IsPath, machine_after, events_of_path, made_in, may_go}
 use Rattle.sharc_code.specs.Runs.{Turn, IsRun, opening_of}
 use Rattle.sharc_code.specs.Opening.{opening_words}
 use Rattle.sharc_code.specs.Whole.{one_thread, bounds, place_after}
 use Rattle.sharc_cpu.specs.Thread.{ThreadView, IsThread}
-use Rattle.sharc_bus.specs.Bus.{BusView, OneHistory}
+use Rattle.sharc_bus.specs.Bus.{BusView, IsOf, OneHistory}
 use Rattle.sharc_threads.specs.Seats.{AreSeats}
 use Rattle.sharc_rounds.specs.declared.hand.TheConstants.{QUANTUM}
 use Rattle.sharc_rounds.specs.declared.hand.Hand.{Hand}
 use Rattle.sharc_rounds.specs.declared.worker.Worker.{Worker}
 use Rattle.sharc_rounds.specs.declared.round.Rounds.{Rounds}
+use Rattle.sharc_rounds.specs.declared.words.Words.{Words}
 
 -- a place of the table of threads: a thread that was started, or none
 abbrev pub Seat : Type 0
@@ -125,11 +128,37 @@ HasRoomAt (Some old) None = ⊥
 HasRoomAt None (Some new) = ⊥
 
 -- ---- between two rounds
+-- they are on the bus of the threads, and none is looked at that is not there
+pub record AreWords (words : Words) : Type 0 where
+  pub of : IsOf words.bus words.rest
+  pub ports : words.bus.ports ≡ THREADS
+  pub opening : length words.bus.opening ≡ length words.seen.items
+  pub count : length words.rest.words ≡ length words.seen.items
+
+-- a look changes none
+pub record SameWords (old new : Words) : Type 0 where
+  pub bus : new.bus ≡ old.bus
+  pub rest : new.rest ≡ old.rest
+  pub count : length new.seen.items ≡ length old.seen.items
+
+-- they are on the same bus
+pub record KeptBus (old new : Words) : Type 0 where
+  pub bus : new.bus ≡ old.bus
+  pub of : IsOf new.bus new.rest
+  pub count : length new.seen.items ≡ length old.seen.items
+
+-- the word that says whether a thread has to wait
+abbrev pub wait_word : Wait → ℕ
+wait_word (waits.Mutex word site) = word
+wait_word (waits.Join number site) = state_word number
+wait_word (waits.Cond word site) = word
+
 -- a run stands there in which no thread made more events than it may
 pub record AreRounds (code : Code) (s : Shape) (limit : ℕ) (rounds : Rounds) : Type 0 where
   pub turns : List Turn
-  pub count : length rounds.port ≡ words_of s
+  pub kept : AreWords rounds.words
+  pub count : length rounds.words.rest.words ≡ words_of s
   pub run : IsRun bounds (one_thread code s) (opening_of bounds (one_thread code s) (opening_words code s)) turns
   pub few : (t : ℕ) → (place_after code s turns).made t ≤ limit
-  pub words : rounds.port ≡ (place_after code s turns).words
+  pub words : rounds.words.rest.words ≡ (place_after code s turns).words
   pub seats : AreSeats code s (place_after code s turns).threads (place_after code s turns).made (place_after code s turns).started rounds.threads.seats.items

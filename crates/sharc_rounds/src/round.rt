@@ -3,16 +3,16 @@
 ghost use Rattle.std.specs.Prelude.{◌≡◌, ◌<◌, ℕ, None, length, IfOk, OnOk, slice_index_or};
 ghost use Rattle.sharc_word.specs.declared.step.TheConstants.{THREADS as threads};
 ghost use Rattle.sharc_code.specs.Layout.{Fits, words_of};
-ghost use Rattle.sharc_rounds.specs.Round.{MayBegin, HasRoom, HasRoomAt, MadeRound};
+ghost use Rattle.sharc_rounds.specs.Round.{MayBegin, HasRoom, HasRoomAt, MadeRound, AreWords, KeptBus};
 
 use crate::gate::Gate;
 use crate::hand::QUANTUM;
+use crate::words::Words;
 use crate::worker::{deal, gather, run_all};
-use sharc_bus::Bus;
 use sharc_code::{Code, Shape};
 use sharc_cpu::Thread;
 use sharc_threads::{ThreadTable, is_on};
-use sharc_word::{MemPort, THREADS};
+use sharc_word::THREADS;
 use std::alloc::{AllocError, Global};
 use std::thread::Threads;
 
@@ -20,7 +20,7 @@ use std::thread::Threads;
 #[derive(Drop)]
 pub(crate) struct Rounds {
     pub(crate) threads: ThreadTable,
-    pub(crate) port: MemPort,
+    pub(crate) words: Words,
 }
 
 // Makes room for the prints of a quantum, if the thread goes on.
@@ -54,7 +54,7 @@ fn reserve(seats: &mut Vec<Option<Thread>>) -> Result<(), AllocError>
 }
 
 impl Rounds {
-    /// Each worker gives each of its threads a quantum over one bus.
+    /// Each worker gives each of its threads a quantum over the bus.
     ///
     /// An `Err` says that memory was not found.
     pub(crate) fn make<R: Threads + Sync, G: Gate + Sync>(
@@ -69,21 +69,24 @@ impl Rounds {
     ) -> Result<Rounds, AllocError>
         requires fits { Fits code.now shape.now }
         requires workers { 0 < workers }
-        requires words { length self.port ≡ words_of shape.now }
+        requires words { AreWords self.words }
+        requires count { length self.words.rest.words ≡ words_of shape.now }
         requires seats { MayBegin code.now shape.now limit self.threads.seats.items }
-        ensures { IfOk result (λ r. MadeRound code.now shape.now limit self.port r.port self.threads.seats.items r.threads.seats.items) }
+        ensures kept { IfOk result (λ r. KeptBus self.words r.words) }
+        ensures made { IfOk result (λ r. MadeRound code.now shape.now limit self.words.rest.words r.words.rest.words self.threads.seats.items r.threads.seats.items) }
     {
-        let Rounds { threads, port } = self;
+        let Rounds { threads, words } = self;
+        let Words { bus, rest, seen } = words;
         let ThreadTable { mut seats } = threads;
         reserve(&mut seats)?;
-        let (bus, ports) = Bus::open(alloc, port.into_words(), THREADS)?;
+        let (ports, round) = bus.begin(alloc, rest)?;
         let mut workers = deal(alloc, workers.min(THREADS), seats, ports)?;
         run_all(rt, code, shape, &bus, gate, limit, &mut workers);
         let (seats, ports) = gather(alloc, workers)?;
-        let words = bus.close(alloc, ports)?;
+        let rest = bus.end(round, ports);
         Ok(Rounds {
             threads: ThreadTable { seats },
-            port: MemPort::new(words),
+            words: Words { bus, rest, seen },
         })
     }
 }

@@ -9,10 +9,10 @@ ghost use Rattle.sharc_rounds.specs.Run.{IsRoundsRun};
 use crate::gate::Gate;
 use crate::laws::round_laws;
 use crate::round::Rounds;
+use crate::words::Words;
 use sharc_code::{Code, Shape, fits_law, opening, run_laws};
 use sharc_cpu::Thread;
 use sharc_threads::{End, ThreadTable, table_laws};
-use sharc_word::MemPort;
 use std::alloc::{AllocError, Global};
 use std::thread::Threads;
 
@@ -30,10 +30,9 @@ impl Rounds {
         requires { Fits code.now shape.now }
         ensures { IfOk result (AreRounds code.now shape.now limit) }
     {
-        let port = MemPort::new(opening(alloc, code, shape)?);
-        let words = port.words();
-        let threads = ThreadTable::open(alloc, code, shape, words)?;
-        Ok(Rounds { threads, port })
+        let words = Words::open(alloc, opening(alloc, code, shape)?)?;
+        let threads = ThreadTable::open(alloc, code, shape, words.seen.as_slice())?;
+        Ok(Rounds { threads, words })
     }
 
     // After one more round.
@@ -51,16 +50,19 @@ impl Rounds {
         requires workers { 0 < workers }
         requires limit { limit ≤ 100000000 }
         requires rounds { AreRounds code.now shape.now limit self }
-        requires one { (t : ℕ) × (may_turn_at self.port limit (slice_index_or self.threads.seats.items t None) ≡ true) }
+        requires one { (t : ℕ) × (may_turn_at self.words.rest.words limit (slice_index_or self.threads.seats.items t None) ≡ true) }
         ensures rounds { IfOk result (AreRounds code.now shape.now limit) }
         ensures less { IfOk result (λ r. left limit r.threads.seats.items < left limit self.threads.seats.items) }
     {
         fits_law(code, shape);
         round_laws();
-        let Rounds { mut threads, port } = self.make(rt, alloc, code, shape, workers, limit, gate)?;
-        let words = port.words();
-        threads.begin(alloc, code, shape, words)?;
-        Ok(Rounds { threads, port })
+        let Rounds {
+            mut threads,
+            mut words,
+        } = self.make(rt, alloc, code, shape, workers, limit, gate)?;
+        words.look_at_states();
+        threads.begin(alloc, code, shape, words.seen.as_slice())?;
+        Ok(Rounds { threads, words })
     }
 
     // The run that ended there.
@@ -73,16 +75,17 @@ impl Rounds {
     ) -> Result<RoundsRun, AllocError>
         requires fits { Fits code.now shape.now }
         requires rounds { AreRounds code.now shape.now limit self }
-        requires none { (t : ℕ) → may_turn_at self.port limit (slice_index_or self.threads.seats.items t None) ≡ false }
+        requires none { (t : ℕ) → may_turn_at self.words.rest.words limit (slice_index_or self.threads.seats.items t None) ≡ false }
         ensures { IfOk result (IsRoundsRun code.now shape.now limit) }
     {
         fits_law(code, shape);
         run_laws();
         table_laws();
-        let Rounds { threads, port } = self;
-        let end = threads.end(port.words());
+        let Rounds { threads, words } = self;
+        let words = words.close();
+        let end = threads.end(words.as_slice());
         Ok(RoundsRun {
-            words: port.into_words(),
+            words,
             threads: threads.into_started(alloc)?,
             end,
         })
@@ -111,7 +114,7 @@ pub fn run_rounds<R: Threads + Sync, G: Gate + Sync>(
     table_laws();
     let mut rounds = Rounds::new(alloc, code, shape, limit)?;
     'rounds: loop {
-        if !rounds.threads.any_may_turn(rounds.port.words(), limit) {
+        if !rounds.words.any_may_turn(&rounds.threads, limit) {
             return rounds.finish(alloc, code, shape, limit);
         }
         rounds = rounds.next(rt, alloc, code, shape, workers, limit, gate)?;

@@ -1,12 +1,12 @@
 use Rattle.std.proofs.Common.{◌≡◌, suc, ◌-◌, [], ◌++◌}
-use Rattle.sharc_bus.specs.Rule.{unbegun}
+use Rattle.sharc_bus.specs.Rule.{unbegun, words_known}
 use Rattle.sharc_bus.specs.Table.{seats_with}
 use Rattle.sharc_bus.proofs.parts.give_seats.Given as goal
 
--- the rest has the parts of the ports from the counter on, and the others' seats stand in the list
+-- the rest has the parts of the ports from the counter on, and one more, and the others' seats stand in the list
 abbrev pub invariant-loop : goal.invariant-loop
 invariant-loop g l = record {
   own : l.rest.table_id ≡ l.table.shared.table_id;
-  parts : l.rest.me ≡ (unbegun l.counter (suc (l.end - l.counter)), []);
-  given : l.seats.items ++ seats_with l.table.shared.table_id (unbegun l.counter (suc (l.end - l.counter))) ≡ seats_with l.table.shared.table_id (unbegun 0 l.ports);
+  parts : l.rest.me ≡ (unbegun (words_known l.fn.first.me.0) l.counter (suc (l.ports - l.counter)), []);
+  given : l.seats.items ++ seats_with l.table.shared.table_id (unbegun (words_known l.fn.first.me.0) l.counter (l.ports - l.counter)) ≡ seats_with l.table.shared.table_id (unbegun (words_known l.fn.first.me.0) 0 l.ports);
 }

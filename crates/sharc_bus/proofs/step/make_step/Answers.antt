@@ -1,5 +1,5 @@
 -- Each operation of the table does what the operation of the step says.
-use Rattle.std.proofs.Common.{◌≡◌, ℕ, ◌<◌, ◌==◌, Bool, true, false, length, arith, refl, if◌then◌else◌}
+use Rattle.std.proofs.Common.{◌≡◌, ℕ, suc, ◌<◌, ◌==◌, Bool, true, false, length, arith, refl, if◌then◌else◌}
 use prog.Atomic.{either}
 use Rattle.sharc_word.specs.declared.step.WordOp.{WordOp}
 use Rattle.sharc_word.specs.declared.step.WordOp.TheVariants.{Load, Swap, Add, Sub, Or, And, Cas}
@@ -13,7 +13,7 @@ load-requires g c =
     let seat = c.args.seat.now in
     let inside : c.args.step.word < length w.key.words.items = omega (arith, c.requires.opening, c.requires.word) in
     let op : WordOp = Load in
-    (c.requires.own, c.requires.word, step_allowed c.history_laws.ensures w.key.words.items w.key.ports w.table_id.slots seat.id seat.me record { word = c.args.step.word; op = op } (word_after op) c.requires.part (λ n. refl) inside)
+    (c.requires.own, c.requires.word, step_allowed c.history_laws.ensures w.key.words.items (suc w.key.ports) w.table_id.slots seat.id seat.me record { word = c.args.step.word; op = op } (word_after op) c.requires.part (λ n. refl) inside)
 
 pub swap-requires : goal.swap-requires
 swap-requires g c =
@@ -21,7 +21,7 @@ swap-requires g c =
     let seat = c.args.seat.now in
     let inside : c.args.step.word < length w.key.words.items = omega (arith, c.requires.opening, c.requires.word) in
     let op : WordOp = Swap c.in-Swap.new in
-    (c.requires.own, c.requires.word, step_allowed c.history_laws.ensures w.key.words.items w.key.ports w.table_id.slots seat.id seat.me record { word = c.args.step.word; op = op } (word_after op) c.requires.part (λ n. refl) inside)
+    (c.requires.own, c.requires.word, step_allowed c.history_laws.ensures w.key.words.items (suc w.key.ports) w.table_id.slots seat.id seat.me record { word = c.args.step.word; op = op } (word_after op) c.requires.part (λ n. refl) inside)
 
 pub fetch_add-requires : goal.fetch_add-requires
 fetch_add-requires g c =
@@ -29,7 +29,7 @@ fetch_add-requires g c =
     let seat = c.args.seat.now in
     let inside : c.args.step.word < length w.key.words.items = omega (arith, c.requires.opening, c.requires.word) in
     let op : WordOp = Add c.in-Add.number in
-    (c.requires.own, c.requires.word, step_allowed c.history_laws.ensures w.key.words.items w.key.ports w.table_id.slots seat.id seat.me record { word = c.args.step.word; op = op } (word_after op) c.requires.part (λ n. refl) inside)
+    (c.requires.own, c.requires.word, step_allowed c.history_laws.ensures w.key.words.items (suc w.key.ports) w.table_id.slots seat.id seat.me record { word = c.args.step.word; op = op } (word_after op) c.requires.part (λ n. refl) inside)
 
 pub fetch_sub-requires : goal.fetch_sub-requires
 fetch_sub-requires g c =
@@ -37,7 +37,7 @@ fetch_sub-requires g c =
     let seat = c.args.seat.now in
     let inside : c.args.step.word < length w.key.words.items = omega (arith, c.requires.opening, c.requires.word) in
     let op : WordOp = Sub c.in-Sub.number in
-    (c.requires.own, c.requires.word, step_allowed c.history_laws.ensures w.key.words.items w.key.ports w.table_id.slots seat.id seat.me record { word = c.args.step.word; op = op } (word_after op) c.requires.part (λ n. refl) inside)
+    (c.requires.own, c.requires.word, step_allowed c.history_laws.ensures w.key.words.items (suc w.key.ports) w.table_id.slots seat.id seat.me record { word = c.args.step.word; op = op } (word_after op) c.requires.part (λ n. refl) inside)
 
 pub fetch_or-requires : goal.fetch_or-requires
 fetch_or-requires g c =
@@ -45,7 +45,7 @@ fetch_or-requires g c =
     let seat = c.args.seat.now in
     let inside : c.args.step.word < length w.key.words.items = omega (arith, c.requires.opening, c.requires.word) in
     let op : WordOp = Or c.in-Or.bits in
-    (c.requires.own, c.requires.word, step_allowed c.history_laws.ensures w.key.words.items w.key.ports w.table_id.slots seat.id seat.me record { word = c.args.step.word; op = op } (word_after op) c.requires.part (λ n. refl) inside)
+    (c.requires.own, c.requires.word, step_allowed c.history_laws.ensures w.key.words.items (suc w.key.ports) w.table_id.slots seat.id seat.me record { word = c.args.step.word; op = op } (word_after op) c.requires.part (λ n. refl) inside)
 
 pub fetch_and-requires : goal.fetch_and-requires
 fetch_and-requires g c =
@@ -53,7 +53,7 @@ fetch_and-requires g c =
     let seat = c.args.seat.now in
     let inside : c.args.step.word < length w.key.words.items = omega (arith, c.requires.opening, c.requires.word) in
     let op : WordOp = And c.in-And.bits in
-    (c.requires.own, c.requires.word, step_allowed c.history_laws.ensures w.key.words.items w.key.ports w.table_id.slots seat.id seat.me record { word = c.args.step.word; op = op } (word_after op) c.requires.part (λ n. refl) inside)
+    (c.requires.own, c.requires.word, step_allowed c.history_laws.ensures w.key.words.items (suc w.key.ports) w.table_id.slots seat.id seat.me record { word = c.args.step.word; op = op } (word_after op) c.requires.part (λ n. refl) inside)
 
 either_is : (b : Bool) (m n : ℕ) → either b m n ≡ (if b then m else n)
 either_is true m n = refl
@@ -67,4 +67,4 @@ compare_exchange-requires g c =
     let old : ℕ = c.in-Cas.expected in
     let new : ℕ = c.in-Cas.new in
     let f : ℕ → ℕ = λ n. either (n == old) new n in
-    (c.requires.own, c.requires.word, step_allowed c.history_laws.ensures w.key.words.items w.key.ports w.table_id.slots seat.id seat.me record { word = c.args.step.word; op = Cas old new } f c.requires.part (λ n. either_is (n == old) new n) inside)
+    (c.requires.own, c.requires.word, step_allowed c.history_laws.ensures w.key.words.items (suc w.key.ports) w.table_id.slots seat.id seat.me record { word = c.args.step.word; op = Cas old new } f c.requires.part (λ n. either_is (n == old) new n) inside)

@@ -1,23 +1,34 @@
--- The table opens under the rule, and its seats are those of all ports.
-use Rattle.std.proofs.Common.{◌≡◌, [], sym, ap, ◌∙◌, subst}
-use Rattle.atomic_table.specs.Table.{opening}
+-- The table opens under the rule, with the parts of all ports.
+use Rattle.std.proofs.Common.{◌≡◌, suc, List, [], sym, ap, ◌∙◌, subst}
+use Rattle.atomic_table.specs.Table.{Me, opening}
+use Rattle.sharc_bus.specs.declared.rule.Part.{Part}
 use Rattle.sharc_bus.specs.Rule.{BusRule, unbegun}
-use Rattle.sharc_bus.specs.Bus.{BusView}
-use Rattle.sharc_bus.specs.Table.{seats_with}
+use Rattle.sharc_bus.specs.Bus.{RestView}
 use Rattle.sharc_bus.proofs.Seats.{opening_keeps}
-use Rattle.sharc_bus.proofs.Giving.{seats_are, seats_unbegun}
+use Rattle.sharc_bus.proofs.Closing.{rest_of}
 use Rattle.sharc_bus.proofs.bus.Bus.open.Goals as goal
+
+abbrev M : Type 0
+M = Me (Unit {0}) (List Part)
 
 pub of_words-requires : goal.of_words-requires
 of_words-requires g c =
-    subst (λ ws. BusRule c.args.words.items c.args.seats (opening ws [] (unbegun 0 c.args.seats))) (sym c.as_slice.ensures.value) (opening_keeps c.history_laws.ensures c.args.words.items c.args.seats)
+    let o = c.args.opening.now in
+    subst (λ ws. BusRule o.words.items (suc o.ports) (opening ws [] (unbegun o.words.items 0 (suc o.ports)))) (sym c.as_slice.ensures.value) (opening_keeps c.history_laws.ensures o.words.items (suc o.ports))
 
-pub returns-clause-seats : goal.returns-clause-seats
-returns-clause-seats g c =
-    let shared = c.in_ok-table.table.shared in
-    let bus : BusView = record { id = shared.table_id; opening = shared.key.words.items; ports = shared.key.ports } in
-    let ports : c.args.seats ≡ shared.key.ports = sym (ap (λ k. k.ports) c.in_ok-table.ensures.5) in
-    seats_are bus c.give_seats.new.seats.items (c.in_ok-give_seats.ensures ∙ ap (λ n. seats_with shared.table_id (unbegun 0 n)) ports)
+pub new-requires : goal.new-requires
+new-requires g c =
+    let o = c.args.opening.now in
+    let first : c.in_ok-table.seat.me ≡ (unbegun o.words.items 0 (suc o.ports), []) = c.in_ok-table.ensures.4 in
+    let r = rest_of c.in_ok-table.seat.me.0 o.words.items o.ports (ap (λ (m : M). m.0) first) in
+    record { parts = r.is; none = ap (λ (m : M). m.1) first }
 
-pub returns-clause-unbegun : goal.returns-clause-unbegun
-returns-clause-unbegun g c = seats_unbegun c.in_ok-table.table.shared.table_id c.args.seats c.give_seats.new.seats.items c.in_ok-give_seats.ensures
+pub returns-clause-rest : goal.returns-clause-rest
+returns-clause-rest g c =
+    let o = c.args.opening.now in
+    let first : c.in_ok-table.seat.me ≡ (unbegun o.words.items 0 (suc o.ports), []) = c.in_ok-table.ensures.4 in
+    let r = rest_of c.in_ok-table.seat.me.0 o.words.items o.ports (ap (λ (m : M). m.0) first) in
+    record {
+      bus_is = ap (λ (v : RestView). v.bus) c.new.ensures ∙ c.in_ok-table.ensures.2;
+      ports_are = ap (λ (v : RestView). v.ports) c.new.ensures ∙ r.ports_are ∙ sym (ap (λ k. k.ports) c.in_ok-table.ensures.5);
+    }

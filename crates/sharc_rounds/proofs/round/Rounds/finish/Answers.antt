@@ -17,13 +17,13 @@ returns c =
     let s = c.args.shape.now in
     let r = c.requires.rounds in
     let place : Standing = place_after code s r.turns in
-    let of : AreOf code s place c.args.self.port c.args.self.threads.seats.items = record { words_are = r.words; are = r.seats } in
+    let of : AreOf code s place c.args.self.words.rest.words c.args.self.threads.seats.items = record { words_are = r.words; are = r.seats } in
     record {
       turns = r.turns;
       checked = (c.run_laws.ensures.checked code s r.turns).1 r.run;
       few = r.few;
-      over = λ t. sym (c.table_laws.ensures.enabled code s c.args.limit place c.args.self.port c.args.self.threads.seats.items of t) ∙ c.requires.none t;
-      words = c.into_words.ensures ∙ r.words;
-      threads = subst (λ (threads : List ThreadView). AreStarted code s place threads) (sym c.in_ok-into_started.ensures) (c.table_laws.ensures.present code s place c.args.self.port c.args.self.threads.seats.items c.requires.fits.threads of);
-      end_is = c.end-end.ensures code s place record { words_are = c.words.ensures ∙ r.words; are = r.seats };
+      over = λ t. sym (c.table_laws.ensures.enabled code s c.args.limit place c.args.self.words.rest.words c.args.self.threads.seats.items of t) ∙ c.requires.none t;
+      words = c.close-words.ensures ∙ r.words;
+      threads = subst (λ (threads : List ThreadView). AreStarted code s place threads) (sym c.in_ok-into_started.ensures) (c.table_laws.ensures.present code s place c.args.self.words.rest.words c.args.self.threads.seats.items c.requires.fits.threads of);
+      end_is = c.end-end.ensures code s place record { words_are = c.as_slice.ensures.value ∙ c.close-words.ensures ∙ r.words; are = r.seats };
     }

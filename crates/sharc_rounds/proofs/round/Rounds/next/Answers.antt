@@ -1,12 +1,24 @@
-use Rattle.std.proofs.Common.{◌++◌, ℕ, ◌<◌, List, None, get_or, ◌∙◌, subst}
+use Rattle.std.proofs.Common.{◌++◌, ℕ, ◌<◌, List, None, length, get_or, ap, ◌∙◌, subst}
 use Rattle.sharc_word.specs.declared.step.TheConstants.{THREADS}
 use Rattle.sharc_threads.specs.Seats.{HasBegun}
+use Rattle.sharc_bus.specs.Bus.{RestView}
 use Rattle.sharc_rounds.specs.declared.round.Rounds.{Rounds}
+use Rattle.sharc_rounds.specs.declared.words.Words.{Words}
+use Rattle.sharc_rounds.specs.Round.{AreWords}
 use Rattle.sharc_rounds.specs.Laws.{GoneOn}
+use Rattle.sharc_rounds.proofs.Looking.{begun_same, are_kept, are_same}
 use Rattle.sharc_rounds.proofs.round.Rounds.next.Goals as goal
 
+pub look_at_states-requires : goal.look_at_states-requires
+look_at_states-requires g c =
+    let old : Rounds = c.args.self in
+    let mid : Rounds = c.in_ok-threads.field-0 in
+    let told = c.in_ok-threads.ensures in
+    let count = c.round_laws.ensures.length_stays c.args.code.now c.args.shape.now c.args.limit old.words.rest.words mid.words.rest.words old.threads.seats.items mid.threads.seats.items told.made in
+    are_kept old.words mid.words c.requires.rounds.kept told.kept count
+
 pub begin-requires-clause-count : goal.begin-requires-clause-count
-begin-requires-clause-count g c = c.in_ok-threads.ensures.count ∙ c.requires.rounds.seats.count
+begin-requires-clause-count g c = c.in_ok-threads.ensures.made.count ∙ c.requires.rounds.seats.count
 
 pub returns-clause-rounds : goal.returns-clause-rounds
 returns-clause-rounds g c =
@@ -15,17 +27,25 @@ returns-clause-rounds g c =
     let old : Rounds = c.args.self in
     let r = c.requires.rounds in
     let mid : Rounds = c.in_ok-threads.field-0 in
-    let made = c.in_ok-threads.ensures in
-    let each = subst (λ (ws : List ℕ). (t : ℕ) → t < THREADS → HasBegun code s ws t (get_or mid.threads.seats.items t None) (get_or c.begin.new.self.seats.items t None)) c.words-words.ensures c.in_ok-begin.ensures.each in
-    let gone : GoneOn code s c.args.limit r.turns old.port mid.port old.threads.seats.items c.begin.new.self.seats.items made.history.history =
-    c.round_laws.ensures.goes_on code s c.args.limit r.turns old.port mid.port old.threads.seats.items mid.threads.seats.items c.begin.new.self.seats.items c.requires.limit
+    let made = c.in_ok-threads.ensures.made in
+    let looked : Words = c.look_at_states.new.self in
+    let same = c.look_at_states.ensures.same in
+    let now : List ℕ = mid.words.rest.words in
+    let each : (t : ℕ) → t < THREADS → HasBegun code s now t (get_or mid.threads.seats.items t None) (get_or c.begin.new.self.seats.items t None) = λ t low.
+    begun_same code s looked.seen.items now t (get_or mid.threads.seats.items t None) (get_or c.begin.new.self.seats.items t None) (c.look_at_states.ensures.states t low)
+    (subst (λ (ws : List ℕ). HasBegun code s ws t (get_or mid.threads.seats.items t None) (get_or c.begin.new.self.seats.items t None)) c.as_slice.ensures.value (c.in_ok-begin.ensures.each t low)) in
+    let gone : GoneOn code s c.args.limit r.turns old.words.rest.words now old.threads.seats.items c.begin.new.self.seats.items made.history.history =
+    c.round_laws.ensures.goes_on code s c.args.limit r.turns old.words.rest.words now old.threads.seats.items mid.threads.seats.items c.begin.new.self.seats.items c.requires.limit
     record { run = r.run; few = r.few; words_are = r.words; seats_are = r.seats } made c.begin.ensures.count each in
+    let count = c.round_laws.ensures.length_stays code s c.args.limit old.words.rest.words now old.threads.seats.items mid.threads.seats.items made in
+    let kept : AreWords mid.words = are_kept old.words mid.words r.kept c.in_ok-threads.ensures.kept count in
     record {
       turns = gone.more ++ r.turns;
-      count = c.round_laws.ensures.length_stays code s c.args.limit old.port mid.port old.threads.seats.items mid.threads.seats.items made ∙ r.count;
+      kept = are_same mid.words looked kept same;
+      count = ap (λ (v : RestView). length v.words) same.rest ∙ count ∙ r.count;
       run = gone.stands.run;
       few = gone.stands.few;
-      words = gone.stands.words_are;
+      words = ap (λ (v : RestView). v.words) same.rest ∙ gone.stands.words_are;
       seats = gone.stands.seats_are;
     }
 
@@ -36,9 +56,13 @@ returns-clause-less g c =
     let old : Rounds = c.args.self in
     let r = c.requires.rounds in
     let mid : Rounds = c.in_ok-threads.field-0 in
-    let made = c.in_ok-threads.ensures in
-    let each = subst (λ (ws : List ℕ). (t : ℕ) → t < THREADS → HasBegun code s ws t (get_or mid.threads.seats.items t None) (get_or c.begin.new.self.seats.items t None)) c.words-words.ensures c.in_ok-begin.ensures.each in
-    let gone : GoneOn code s c.args.limit r.turns old.port mid.port old.threads.seats.items c.begin.new.self.seats.items made.history.history =
-    c.round_laws.ensures.goes_on code s c.args.limit r.turns old.port mid.port old.threads.seats.items mid.threads.seats.items c.begin.new.self.seats.items c.requires.limit
+    let made = c.in_ok-threads.ensures.made in
+    let looked : Words = c.look_at_states.new.self in
+    let now : List ℕ = mid.words.rest.words in
+    let each : (t : ℕ) → t < THREADS → HasBegun code s now t (get_or mid.threads.seats.items t None) (get_or c.begin.new.self.seats.items t None) = λ t low.
+    begun_same code s looked.seen.items now t (get_or mid.threads.seats.items t None) (get_or c.begin.new.self.seats.items t None) (c.look_at_states.ensures.states t low)
+    (subst (λ (ws : List ℕ). HasBegun code s ws t (get_or mid.threads.seats.items t None) (get_or c.begin.new.self.seats.items t None)) c.as_slice.ensures.value (c.in_ok-begin.ensures.each t low)) in
+    let gone : GoneOn code s c.args.limit r.turns old.words.rest.words now old.threads.seats.items c.begin.new.self.seats.items made.history.history =
+    c.round_laws.ensures.goes_on code s c.args.limit r.turns old.words.rest.words now old.threads.seats.items mid.threads.seats.items c.begin.new.self.seats.items c.requires.limit
     record { run = r.run; few = r.few; words_are = r.words; seats_are = r.seats } made c.begin.ensures.count each in
     gone.fewer c.requires.one
