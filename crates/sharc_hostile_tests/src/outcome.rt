@@ -5,11 +5,12 @@ use sharc_run::OpenGate;
 use sharc_top::sharc_top;
 use std::alloc::{AllocError, Global};
 use std::process::Abort;
+use std::sync::Wait;
 use std::test::Fail;
 use std::thread::Threads;
 
 /// The status of the call with the words of this line, which are parted by single spaces.
-pub(crate) fn called<R: Threads + Sync, S: Source, O: Sink>(
+pub(crate) fn called<R: Threads + Wait + Sync, S: Source, O: Sink>(
     rt: &R,
     alloc: Global,
     line: &str,
@@ -34,7 +35,7 @@ pub(crate) fn told(alloc: Global, status: u8, text: &[u8]) -> Result<Vec<u8>, Al
 
 /// The status, a blank and the text for the words of this line, over an input that does not fail and a sink with so
 /// much room.
-pub(crate) fn reply<R: Threads + Sync>(
+pub(crate) fn reply<R: Threads + Wait + Sync>(
     rt: &R,
     alloc: Global,
     line: &str,
@@ -49,7 +50,7 @@ pub(crate) fn reply<R: Threads + Sync>(
 
 /// Asserts the status and the text for the words of this line.
 pub(crate) fn assert_reply(
-    rt: &(impl Abort + AllocGlobal + Threads + Sync),
+    rt: &(impl Abort + AllocGlobal + Threads + Wait + Sync),
     line: &str,
     input: &[u8],
     wanted: &str,
@@ -69,7 +70,7 @@ pub(crate) fn assert_told(rt: &impl Abort, found: Vec<u8>, label: &str, wanted: 
 
 /// Asserts a case of three lines: words, a source, and the status and the one line of the reply.
 pub(crate) fn assert_case(
-    rt: &(impl Abort + AllocGlobal + Threads + Sync),
+    rt: &(impl Abort + AllocGlobal + Threads + Wait + Sync),
     case: &str,
 ) -> Result<(), Fail> {
     let mut lines = case.split('\n');

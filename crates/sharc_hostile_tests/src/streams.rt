@@ -4,6 +4,7 @@ use crate::outcome::{assert_told, called, told};
 use crate::texts::add_times;
 use sharc_io::{Failed, MemSink, MemSource, Sink, Source, SureSink, SureSource};
 use std::alloc::{AllocError, Global};
+use std::sync::Wait;
 use std::test::Fail;
 use std::thread::Threads;
 
@@ -76,7 +77,7 @@ impl Sink for Trickling {
 }
 
 /// What is told over a sink that takes one byte at each call, and nothing at this one.
-fn trickled<R: Threads + Sync>(
+fn trickled<R: Threads + Wait + Sync>(
     rt: &R,
     alloc: Global,
     line: &str,
@@ -94,7 +95,7 @@ fn trickled<R: Threads + Sync>(
 }
 
 /// What is told over a sink whose call of this number fails, counted from 0.
-fn cut_short<R: Threads + Sync>(
+fn cut_short<R: Threads + Wait + Sync>(
     rt: &R,
     alloc: Global,
     line: &str,
@@ -108,7 +109,7 @@ fn cut_short<R: Threads + Sync>(
 }
 
 /// What is told over a source whose call of this number fails, counted from 0.
-fn unread<R: Threads + Sync>(
+fn unread<R: Threads + Wait + Sync>(
     rt: &R,
     alloc: Global,
     line: &str,
@@ -123,7 +124,7 @@ fn unread<R: Threads + Sync>(
 }
 
 /// What is told over a source that gives one byte at each call.
-fn dripped<R: Threads + Sync>(
+fn dripped<R: Threads + Wait + Sync>(
     rt: &R,
     alloc: Global,
     line: &str,
