@@ -37,7 +37,7 @@ pub record IsInGlobal (globals : List GlobalCells) (g place : ℕ) : Type 0 wher
   pub low : 2 * (slice_index_or globals g no_global).granule ≤ place
   pub high : place < 2 * (slice_index_or globals g no_global).granule + (slice_index_or globals g no_global).cells
 
--- what an operation writes is in a frame of so many registers of each bank
+-- what an operation writes is in a frame of so many registers of each bank; so is what a call gives back, of either kind
 abbrev pub OpWrites : ℕ → ℕ → Op → Type 0
 OpWrites ints refs (op.Constant i v) = i < ints
 OpWrites ints refs (op.Move i from) = i < ints
@@ -46,7 +46,7 @@ OpWrites ints refs (op.Negate width i a spot) = i < ints
 OpWrites ints refs (op.Complement i a) = i < ints
 OpWrites ints refs (op.IsFalse i a) = i < ints
 OpWrites ints refs (op.SameReference i a b) = i < ints
-OpWrites ints refs (op.Call f i r spot) = (i ≤ ints) × (r ≤ refs)
+OpWrites ints refs (op.Call f i r spot) = (i < ints) × (r < refs)
 OpWrites ints refs (op.Null r) = r < refs
 OpWrites ints refs (op.Local r x) = r < refs
 OpWrites ints refs (op.MoveReference r from) = (r < refs) × (from < refs)

@@ -8,7 +8,8 @@ use sharc_code::{Cell, Register};
 use sharc_flat_form::Op;
 use std::alloc::AllocError;
 
-/// The integer registers that an operation needs: those up to the one that it writes.
+/// The integer registers that an operation needs: those up to the one that it writes, or to which the result of a call
+/// comes if it is an integer.
 fn int_need(op: &Op) -> Result<u32, AllocError>
     ensures { IfOk result (λ n. n ≡ int_need op.now) }
 {
@@ -23,8 +24,8 @@ fn int_need(op: &Op) -> Result<u32, AllocError>
         | Op::Bounds(int, _, _, _, _)
         | Op::GlobalBounds(int, _, _, _, _)
         | Op::Load(int, _, _)
+        | Op::Call(_, int, _, _)
         | Op::Spawn(int, _, _, _) => plus(int, 1),
-        Op::Call(_, ints, _, _) => Ok(ints),
         _ => Ok(0),
     }
 }
@@ -49,7 +50,8 @@ fn handed_need(from: Register) -> Result<u32, AllocError>
     }
 }
 
-/// The reference registers that an operation needs: those up to the last one that it writes or gives away.
+/// The reference registers that an operation needs: those up to the last one that it writes or gives away, or to which
+/// the result of a call comes if it is a reference.
 fn ref_need(op: &Op) -> Result<u32, AllocError>
     ensures { IfOk result (λ n. n ≡ ref_need op.now) }
 {
@@ -62,11 +64,11 @@ fn ref_need(op: &Op) -> Result<u32, AllocError>
         | Op::New(reference, _, _, _)
         | Op::TakeCell(reference, _, _)
         | Op::Free(reference, _, _)
+        | Op::Call(_, _, reference, _)
         | Op::Unlock(reference, _, _) => plus(reference, 1),
         Op::MoveReference(reference, other)
         | Op::Settle(reference, other)
         | Op::TakeLocal(reference, other, _) => plus(reference.max(other), 1),
-        Op::Call(_, _, references, _) => Ok(references),
         Op::Lock(cell, _) => base_need(cell),
         Op::Spawn(_, _, from, _) => handed_need(from),
         _ => Ok(0),
