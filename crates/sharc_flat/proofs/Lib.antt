@@ -34,6 +34,5 @@ pub mod Knowing
 pub mod Flattening
 pub mod Framed
 pub mod Laying
-pub mod LineLemmas
 pub mod Apart
 pub mod MadeFramed
