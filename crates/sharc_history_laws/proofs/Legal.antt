@@ -35,17 +35,17 @@ use Rattle.sharc_gen.specs.OfRuns.{table_of}
 use Rattle.sharc_meaning.specs.Events.{is_cell, locked_by, unlocked_by}
 use Rattle.sharc_meaning.specs.Obeys.{History}
 use Rattle.sharc_meaning.specs.Store.{MayCome, IsFresh, was_spawned, went, was_locked_by, value_after}
-use Rattle.sharc_invariant.specs.Types.{Targets, Field, field_in}
+use Rattle.sharc_invariant.specs.Types.{Targets, Field}
 use Rattle.sharc_invariant.specs.Labels.{Labels}
 use Rattle.sharc_invariant.specs.Typed.{IsWellTyped, Fine, Accesses}
 use Rattle.sharc_invariant.specs.Words.{is_ended}
 use Rattle.sharc_invariant.specs.Words as Words
-use Rattle.sharc_invariant.specs.State.{IsSmall, StageStands, OnHold, object_of_cell}
+use Rattle.sharc_invariant.specs.State.{IsSmall, StageStands, OnHold}
 use Rattle.sharc_invariant.specs.MachineInvariant.{IsOn}
 use Rattle.sharc_invariant.specs.Laws.{Keeps, CellsAreThere, PointersAreThere, AccessesAreAllowed, StateStands}
 use Rattle.sharc_history_laws.specs.Stores.{is_about_waiters}
 use Rattle.sharc_history_laws.proofs.Consists.{Consists, found_is, quiet_is, own_turn, header_built, built_low, live_not_built}
-use Rattle.sharc_history_laws.proofs.Contents.{value_is, newest_value, value_held, IsCellOf, content_of, word_of_cell, Contents}
+use Rattle.sharc_history_laws.proofs.Contents.{value_is, newest_value, value_held, content_of, word_of_cell, Contents}
 use Rattle.sharc_history_laws.proofs.Emptying.{IsEmptied}
 use Rattle.sharc_history_laws.proofs.Holding.{cell_eq, holds_in}
 use Rattle.sharc_history_laws.proofs.Lists.{Newest, live_in, is_live_in}
@@ -53,19 +53,17 @@ use Rattle.sharc_history_laws.proofs.Living.{LivesTold}
 use Rattle.sharc_history_laws.proofs.Locked.{IsIn, LogTold, names_cell, one_place, held_told}
 use Rattle.sharc_history_laws.proofs.Locking.{word_is}
 use Rattle.sharc_history_laws.proofs.Logged.{LogHas, is_logged}
+use Rattle.sharc_history_laws.proofs.Placed as Placed
 use Rattle.sharc_history_laws.proofs.Mutual.{Mutual, MayMutex, no_lock, locked_in, locked_by_in, locked_is, locked_by_is}
 use Rattle.sharc_history_laws.proofs.Mutexless.{mutex_said, no_mutex, not_locked}
 use Rattle.sharc_history_laws.proofs.Logs.{is_locking}
-use Rattle.sharc_history_laws.proofs.OneMode.{place_of, numbers_now}
 use Rattle.sharc_history_laws.proofs.Rules.{number_is}
 use Rattle.sharc_history_laws.proofs.Shared.{number_of}
 use Rattle.sharc_history_laws.proofs.Single.{single, rests_hold}
 use Rattle.sharc_history_laws.proofs.Sparing.{is_value}
-use Rattle.sharc_history_laws.proofs.Stands.{there}
 use Rattle.sharc_history_laws.proofs.Tables.{header_of}
 use Rattle.sharc_history_laws.proofs.Threaded.{ThreadsTold}
 use Rattle.sharc_history_laws.proofs.Unemptied.{not_emptied}
-use Rattle.sharc_history_laws.proofs.Valued.{cell_named}
 
 yes : true ≡ false → ⊥
 yes e = cc
@@ -142,17 +140,11 @@ module _ (state_law : StateStands) (cell_laws : CellsAreThere) (pointers : Point
         → is_value f.holds ≡ true → found ≡ slice_index (place_after code s earlier).words (word s ((place_after code s earlier).threads one.thread) k)
         → value_held f.holds T found ≡ value_after r (reverse L) (cell_at code ((place_after code s earlier).threads one.thread) k)
     reads hold k site f write acc value found_here =
-        let th = there x code s ls wt fits g h.world h.state t on hold cell_laws k f acc.cell in
-        let n = numbers_now cell_laws x code s ls wt fits g h.world h.state t on hold k f acc.cell in
+        let n = Placed.numbers cell_laws x code s ls wt fits g h.world h.state t on hold k f acc.cell in
         let d = cell_at code m k in
-        let content : content_of x code h.world d ≡ f.holds =
-        ap (λ o. (field_in x (h.world.obj o).ty (place_of code d.object d.cell)).holds) n.0 ∙ ap (λ j. (field_in x (h.world.obj (object_of_cell m k)).ty j).holds) n.1 ∙ ap (λ (f : Field). f.holds) th.field in
-        let cell : IsCellOf code h.world h.state.cells d = record {
-          live = ap (λ o. (h.world.obj o).live) n.0 ∙ th.live;
-          inside = subst (λ o. place_of code d.object d.cell < h.state.cells o) (sym n.0) (subst (λ j. j < h.state.cells (object_of_cell m k)) (sym n.1) th.number);
-          named = cell_named cell_laws pointers rights laws keeps x code s ls wt fits few one earlier h may k f hold acc.cell;
-        } in
-        let word_at : word_of_cell code s d ≡ word s m k = ap (λ o. Words.cell_at s o (place_of code d.object d.cell)) n.0 ∙ ap (Words.cell_at s (object_of_cell m k)) n.1 ∙ sym th.word_is in
+        let content = Placed.content cell_laws x code s ls wt fits g h.world h.state t on hold k f acc.cell in
+        let cell = Placed.cell cell_laws x code s ls wt fits g h.world h.state t on hold k f acc.cell in
+        let word_at = Placed.word_is cell_laws x code s ls wt fits g h.world h.state t on hold k f acc.cell in
         let found_there : slice_index g.words (word_of_cell code s d) ≡ found = ap (slice_index g.words) word_at ∙ sym found_here in
         ⊎_elim
         (λ (v : newest_value r L d ≡ value_held (content_of x code h.world d) T (slice_index g.words (word_of_cell code s d))).

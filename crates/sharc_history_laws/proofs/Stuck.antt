@@ -1,10 +1,8 @@
 -- The event for which a thread waits may not come.
-use Rattle.std.proofs.Common.{◌≡◌, ℕ, ℤ, pos, negsuc, zero, suc, ◌<◌, ◌≢◌, ◌⊎◌, inl, inr, Bool, true, false, not, ◌||◌, List, reverse, nat_lt, ltb-true, Option, Some, None, if◌then◌else◌, refl, sym, ap, ◌∙◌, subst, ⊎_elim, arith, eqb-true}
+use Rattle.std.proofs.Common.{◌≡◌, ℕ, ℤ, pos, negsuc, zero, suc, ◌≢◌, ◌⊎◌, inl, inr, Bool, true, false, not, ◌||◌, List, nat_lt, ltb-true, Some, None, if◌then◌else◌, refl, sym, ap, ◌∙◌, subst, ⊎_elim, arith, eqb-true}
 use Rattle.std.specs.Prelude.{slice_index, ◌==◌}
-use Rattle.std.proofs.lemmas.Bool.Decides.{nat_tests}
 use Rattle.sharc_word.specs.declared.step.TheConstants.{THREADS}
 use Rattle.sharc_tree.specs.declared.event.Act.{Act}
-use Rattle.sharc_tree.specs.declared.event.Act.TheVariants as acts
 use Rattle.sharc_tree.specs.declared.event.SourceEvent.{SourceEvent}
 use Rattle.sharc_ctype.specs.Resolved.{Resolution}
 use Rattle.sharc_cond.specs.Waiters.{waits_in}
@@ -18,14 +16,13 @@ use Rattle.sharc_code.specs.Layout.{Fits, state_word}
 use Rattle.sharc_code.specs.Machine.{Machine, instr_at, int, word}
 use Rattle.sharc_code.specs.Runs.{Turn, Global}
 use Rattle.sharc_code.specs.Says.{cell_at}
-use Rattle.sharc_code.specs.Waits.{asks_for, joins, held_up, wait_of}
+use Rattle.sharc_code.specs.Waits.{asks_for, joins, held_up}
 use Rattle.sharc_code.specs.Whole.{CheckedRun, place_after, Waits}
-use Rattle.sharc_meaning.specs.Obeys.{History}
 use Rattle.sharc_meaning.specs.Store.{MayCome, is_locked, is_waiter, went}
-use Rattle.sharc_invariant.specs.Types.{Targets, Waiters}
-use Rattle.sharc_invariant.specs.Labels.{Gate, Closed, Labels}
+use Rattle.sharc_invariant.specs.Types.{Targets}
+use Rattle.sharc_invariant.specs.Labels.{Labels}
 use Rattle.sharc_invariant.specs.Typed.{IsWellTyped, Fine, IsNotSole}
-use Rattle.sharc_invariant.specs.State.{IsSmall, StageStands, OnHold}
+use Rattle.sharc_invariant.specs.State.{IsSmall, StageStands}
 use Rattle.sharc_invariant.specs.MachineInvariant.{IsOn}
 use Rattle.sharc_invariant.specs.Laws.{CellsAreThere, StateStands}
 use Rattle.sharc_history_laws.specs.Awaits.{AwaitedIsHeld, AwaitedIsNotGone}
@@ -33,8 +30,7 @@ use Rattle.sharc_history_laws.specs.History.{history_of}
 use Rattle.sharc_history_laws.specs.Stuck.{act_awaited}
 use Rattle.sharc_history_laws.proofs.Contents.{word_of_cell}
 use Rattle.sharc_history_laws.proofs.Emptying.{IsEmptied}
-use Rattle.sharc_history_laws.proofs.Lists.{Newest}
-use Rattle.sharc_history_laws.proofs.Mutual.{Mutual, locked_is}
+use Rattle.sharc_history_laws.proofs.Mutual.{locked_is}
 use Rattle.sharc_history_laws.proofs.Placed as Placed
 use Rattle.sharc_history_laws.proofs.Queued.{waits_by, waiter_is}
 use Rattle.sharc_history_laws.proofs.Rules.{newest}

@@ -11,7 +11,6 @@ use Rattle.sharc_tree.specs.declared.event.SourceEvent.{SourceEvent}
 use Rattle.sharc_ctype.specs.Resolved.{Resolution}
 use Rattle.sharc_code.specs.declared.code.Code.{Code}
 use Rattle.sharc_code.specs.declared.instr.Cell.{Cell}
-use Rattle.sharc_code.specs.declared.instr.Cell.TheVariants as cells
 use Rattle.sharc_code.specs.declared.instr.Instr.{Instr}
 use Rattle.sharc_code.specs.declared.instr.Instr.TheVariants as instrs
 use Rattle.sharc_code.specs.declared.shape.Shape.{Shape}
@@ -42,10 +41,9 @@ use Rattle.sharc_history_laws.proofs.Born.{born}
 use Rattle.sharc_history_laws.proofs.Consists.{Consists, consists_then, objects_then, after_set, same_table, headed, live_not_built, header_built}
 use Rattle.sharc_history_laws.proofs.Contents.{newest_value, value_changed, value_kept, value_held, IsCellOf, content_of, word_of_cell, Contents, one_cell, back_again, fits_in}
 use Rattle.sharc_history_laws.proofs.Emptying.{IsFreeing, IsEmptied, freeing_then, own_emptied, emptied_then}
-use Rattle.sharc_history_laws.proofs.Finds.{is_there}
 use Rattle.sharc_history_laws.proofs.Holding.{cell_eq}
 use Rattle.sharc_history_laws.proofs.Lists.{Newest}
-use Rattle.sharc_history_laws.proofs.Locked.{Names, names_cell}
+use Rattle.sharc_history_laws.proofs.Locked.{Names}
 use Rattle.sharc_history_laws.proofs.Locking.{cell_refl}
 use Rattle.sharc_history_laws.proofs.ModesKept.{word_spared}
 use Rattle.sharc_history_laws.proofs.OneMode.{place_of, numbers_now}
@@ -54,7 +52,7 @@ use Rattle.sharc_history_laws.proofs.Rules.{pushed, about_now, decide, number_ye
 use Rattle.sharc_history_laws.proofs.Shared.{number_of}
 use Rattle.sharc_history_laws.proofs.Single.{single, rests_hold}
 use Rattle.sharc_history_laws.proofs.Sparing.{is_value, written_cell, spares}
-use Rattle.sharc_history_laws.proofs.Stands.{live_slot, some_base, there, top, rn}
+use Rattle.sharc_history_laws.proofs.Stands.{live_slot, there, top, rn}
 use Rattle.sharc_history_laws.proofs.Tables.{header_of}
 use Rattle.sharc_history_laws.proofs.Telling.{changed_said, unchanged_said}
 use Rattle.sharc_history_laws.proofs.Unwritten.{writes_single}

@@ -39,7 +39,6 @@ use Rattle.sharc_invariant.specs.Types.{Targets, Field, Content, Integer, MutexW
 use Rattle.sharc_invariant.specs.Labels.{Gate, Closed, Labels}
 use Rattle.sharc_invariant.specs.Typed.{IsWellTyped, Fine, Accesses, HasCell, IsNotSole}
 use Rattle.sharc_invariant.specs.World.{In, RegisterOf, ObjectState, World}
-use Rattle.sharc_invariant.specs.Words as Words
 use Rattle.sharc_invariant.specs.State.{IsSmall, StageStands, EntryStands, OnHold, object_of_cell, number_in, view_of, refs_at, types_at}
 use Rattle.sharc_invariant.specs.MachineInvariant.{IsOn}
 use Rattle.sharc_invariant.specs.Laws.{Keeps, CellsAreThere, PointersAreThere, AccessesAreAllowed, StateStands}
