@@ -17,7 +17,7 @@ use Rattle.sharc_mode_laws.specs.Constructs.{IsExpression}
 use Rattle.sharc_flat.specs.Scope.{Context}
 use Rattle.sharc_flat.specs.Places.{variable, in_global_at, in_object, in_object_at, global_of, has_base, named_target, own_field, target}
 use Rattle.sharc_invariant.specs.Types.{StaticType}
-use Rattle.sharc_labels_laws.specs.Stretches.{Way, Setting}
+use Rattle.sharc_labels_laws.specs.Stretches.{Setting}
 use Rattle.sharc_labels_laws.specs.Places.{no_type}
 use Rattle.sharc_labels_laws.specs.Premises.{Typing, Ground}
 use Rattle.sharc_labels_laws.specs.Typable.{type_by, ground_of}
@@ -74,7 +74,7 @@ no_object_at n g j h = cc
 same_global : (i n g j : ℕ) → in_global_at i n ≡ in_global_at g j → i ≡ g
 same_global i n g j h = cc
 
-module _ (z : Setting) (f : ℕ) (ways : List Way) (y : Typing) (c : Context) (entries : (p : Expression) → y.entry c p ≡ entry_of c p) where
+module _ (z : Setting) (f : ℕ) (y : Typing) (c : Context) (entries : (p : Expression) → y.entry c p ≡ entry_of c p) where
   abbrev r : Resolution
   r = c.program.typed
 
@@ -87,7 +87,7 @@ module _ (z : Setting) (f : ℕ) (ways : List Way) (y : Typing) (c : Context) (e
   pointed : (p : Expression) → (modes : List Sharing) × (modes_at c.program p ≡ Some modes) → type_by (y.entry c p) ≡ base_by (Some p)
   pointed p w = ap type_by (entries p) ∙ ap (λ o. type_by (entry_by c (kind_at r p) o)) w.1 ∙ sym (ap (λ o. static_of c (kind_at r p) (list_or o)) w.1)
 
-  base_is : (own : Option ℕ) (e : Expression) → Modes (pointer_of r e) → has_base (target r own e) ≡ true → (ground_of z f ways y c e).base ≡ base_by (pointer_of r e)
+  base_is : (own : Option ℕ) (e : Expression) → Modes (pointer_of r e) → has_base (target r own e) ≡ true → (ground_of z f y c e).base ≡ base_by (pointer_of r e)
   base_is own (identifier s i) h has = absurd (false≢true (sym (name_base (named_at r i.site.token) (own_field own 0)) ∙ has))
   base_is own (constant s v) h has = absurd (false≢true has)
   base_is own (parentheses s a) h has = base_is own a h has
@@ -116,7 +116,7 @@ module _ (z : Setting) (f : ℕ) (ways : List Way) (y : Typing) (c : Context) (e
     elements : ground.elements ≡ global_elements (global_at r g)
 
   module _ (arrays : (a : Expression) → is_array (kind_at r a) ≡ true → IsExpression c.program a → IsArrayOf c.program a) where
-    element_of : (own : Option ℕ) (e : Expression) → AllByRecursion (IsExpression c.program) (expressions e) → (g j : ℕ) → target r own e ≡ in_global_at g j → IsElementOf (ground_of z f ways y c e) g
+    element_of : (own : Option ℕ) (e : Expression) → AllByRecursion (IsExpression c.program) (expressions e) → (g j : ℕ) → target r own e ≡ in_global_at g j → IsElementOf (ground_of z f y c e) g
     element_of own (identifier s i) all g j is = absurd (name_array (named_at r i.site.token) (own_field own 0) g j is)
     element_of own (constant s v) all g j is = absurd (no_target g j is)
     element_of own (parentheses s a) all g j is = let w = element_of own a all.1 g j is in record { count = w.count; elements = w.elements }
@@ -127,7 +127,7 @@ module _ (z : Setting) (f : ℕ) (ways : List Way) (y : Typing) (c : Context) (e
     element_of own (cast s w a) all g j is = absurd (no_target g j is)
     element_of own (index s a i) all g j is = by (is_array (kind_at r a)) refl is
       where
-        by : (b : Bool) → is_array (kind_at r a) ≡ b → cond b (in_global_at (global_of (target r None a)) (own_field own 0)) (in_object_at (own_field own 0)) ≡ in_global_at g j → IsElementOf (ground_of z f ways y c (index s a i)) g
+        by : (b : Bool) → is_array (kind_at r a) ≡ b → cond b (in_global_at (global_of (target r None a)) (own_field own 0)) (in_object_at (own_field own 0)) ≡ in_global_at g j → IsElementOf (ground_of z f y c (index s a i)) g
         by true array same =
             let w = arrays a array (self (IsExpression c.program) a (front (IsExpression c.program) (expressions a) (expressions i) all.1)) in
             let number : w.number ≡ g = ap global_of (sym w.place) ∙ same_global (global_of (target r None a)) (own_field own 0) g j same in
@@ -145,10 +145,10 @@ module _ (z : Setting) (f : ℕ) (ways : List Way) (y : Typing) (c : Context) (e
     element_of own (binary s o at a b) all g j is = absurd (no_target g j is)
 
 pub grounds_fit : LvaluesFit → ArraysFit → GroundsFit
-grounds_fit fit arrays c code is z f ways y entries e lvalue all =
+grounds_fit fit arrays c code is z f y entries e lvalue all =
     let known : (a : Expression) → is_array (kind_at c.program.typed a) ≡ true → IsExpression c.program a → IsArrayOf c.program a = λ a array at. arrays c.program is.accepted.resolved is.accepted.placed is.accepted.low is.accepted.least is.accepted.well a at array in
     record {
-      base = λ has. base_is z f ways y c entries None e (λ p leads. has_pointer_modes c code e lvalue (lvalue_cells fit c code is e lvalue) p leads) has;
-      count = λ g n at. (element_of z f ways y c entries known None e all g n at).count;
-      elements = λ g n at. (element_of z f ways y c entries known None e all g n at).elements;
+      base = λ has. base_is z f y c entries None e (λ p leads. has_pointer_modes c code e lvalue (lvalue_cells fit c code is e lvalue) p leads) has;
+      count = λ g n at. (element_of z f y c entries known None e all g n at).count;
+      elements = λ g n at. (element_of z f y c entries known None e all g n at).elements;
     }

@@ -20,7 +20,7 @@ use Rattle.sharc_flat.specs.Places.{in_global_at, has_base, target, cell_of, bes
 use Rattle.sharc_invariant.specs.Types.{MutexWord, cells_of, field_at}
 use Rattle.sharc_invariant.specs.Labels.{Element, Label, Signature, SameReference}
 use Rattle.sharc_invariant.specs.Typed.{IsRef, refs_in}
-use Rattle.sharc_labels_laws.specs.Stretches.{Way, Setting}
+use Rattle.sharc_labels_laws.specs.Stretches.{Setting}
 use Rattle.sharc_labels_laws.specs.Premises.{Typing, Ground, IsPlaced, ThroughGuard, ReachesInteger, ReachesReference, HasMutex}
 use Rattle.sharc_labels_laws.specs.Typable.{ground_of}
 use Rattle.sharc_static_laws.specs.Alone.{IsInside}
@@ -99,5 +99,5 @@ MutexesFit = (c : Context) (code : Code) → IsCodeOf c code → (signature : �
 
 -- What sharc_labels_laws reads off an lvalue is so, where the entries are those of the source.
 abbrev pub GroundsFit : Type 0
-GroundsFit = (c : Context) (code : Code) → IsCodeOf c code → (z : Setting) (f : ℕ) (ways : List Way) (y : Typing) → ((p : Expression) → y.entry c p ≡ entry_of c p) → (e : Expression) → IsCellLvalue c.program e
-    → AllByRecursion (IsExpression c.program) (expressions e) → IsGroundOf c e (ground_of z f ways y c e)
+GroundsFit = (c : Context) (code : Code) → IsCodeOf c code → (z : Setting) (f : ℕ) (y : Typing) → ((p : Expression) → y.entry c p ≡ entry_of c p) → (e : Expression) → IsCellLvalue c.program e
+    → AllByRecursion (IsExpression c.program) (expressions e) → IsGroundOf c e (ground_of z f y c e)

@@ -76,7 +76,7 @@ module _ (z : Setting) (f : ℕ) (ways : List Way) (y : Typing) (c : Context) (l
   }
 
   -- ---- a reference that is NULL
-  after_reference : (d : Context) (s : StaticType) → Keeps y c d → BeginsReference y c d s → IsTypeIn z f ways y c s → StandsBefore y d f (fill l r (Refers s) r false)
+  after_reference : (d : Context) (s : StaticType) → Keeps y c d → BeginsReference y c d s → IsTypeIn z f y c s → StandsBefore y d f (fill l r (Refers s) r false)
   after_reference d s keeps begins type =
       let k = fill l r (Refers s) r false in
       let more = begins.refs in
@@ -146,7 +146,7 @@ module _ (z : Setting) (f : ℕ) (ways : List Way) (y : Typing) (c : Context) (l
       missing h j ge = ⊎_elim (λ (e : j ≡ i). absurd (no_number (put l.ints i (Exactly (pos 0)) j) (ap (put l.ints i (Exactly (pos 0))) e ∙ put_same l.ints i (Exactly (pos 0))) (h j ge))) (λ (ne : j ≡ i → ⊥). put_other l.ints i j (Within w) ne ∙ sym (put_other l.ints i j (Exactly (pos 0)) ne) ∙ h j ge) (cases_eq j i)
 
 -- ---- what it begins with
-initials : (z : Setting) (f : ℕ) (ways : List Way) (y : Typing) (d : Context) (low : AreLow (y.named d) (ref_count d.scope)) (k : Label) → StandsBefore y d f k → (declared : Declaration) (s : StaticType) → IsTypeIn z f ways y d s → (x : Option Right) → InitialTypable z f ways y d declared s x
+initials : (z : Setting) (f : ℕ) (ways : List Way) (y : Typing) (d : Context) (low : AreLow (y.named d) (ref_count d.scope)) (k : Label) → StandsBefore y d f k → (declared : Declaration) (s : StaticType) → IsTypeIn z f y d s → (x : Option Right) → InitialTypable z f y d declared s x
     → LeadsAmong z f ways (before d k) (initial_code d declared x) (before d k)
 initials z f ways y d low k here declared s type None h = none z f (AreOpen z ways) (y.named d) (ref_count d.scope) low (int_count d.scope) (before d k) (before d k) (fits_same z.targets (before d k)) (λ h. h)
 initials z f ways y d low k here declared s type (Some x) h =

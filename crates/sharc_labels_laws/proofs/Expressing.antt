@@ -118,13 +118,13 @@ module _ (around : Setting) (f : ℕ) (ways : List Way) (y : Typing) (c : Contex
   F from = Frame around f D y c low from
 
   abbrev Typed : Bool → Expression → Type 0
-  Typed bare = IsTypable around f ways y bare c
+  Typed bare = IsTypable around f y bare c
 
   abbrev PlaceTyped : Bool → Option ℕ → Option ℕ → Expression → Type 0
-  PlaceTyped bare = IsPlaceTypable around f ways y bare c
+  PlaceTyped bare = IsPlaceTypable around f y bare c
 
   abbrev TypeIn : StaticType → Type 0
-  TypeIn = IsTypeIn around f ways y c
+  TypeIn = IsTypeIn around f y c
 
   -- ---- values
   -- a reference, which may be a copy of a variable
@@ -153,10 +153,10 @@ module _ (around : Setting) (f : ℕ) (ways : List Way) (y : Typing) (c : Contex
   pub in_frame : (from i r : ℕ) (l : Label) → F from i r l → (s : StaticType) → TypeIn s → IsNamed N r s
   in_frame from i r l fr s h = let high = fr.high in wider_names around f D y c low from top r s high h
 
-  int_by : (from i r : ℕ) (l : Label) (os : List Op) (e : Expression) → IsNumber around f ways y c e → IntValue from i r l os (width_of (kind_of c e)) → ValueOf from i r l os e
+  int_by : (from i r : ℕ) (l : Label) (os : List Op) (e : Expression) → IsNumber around f y c e → IntValue from i r l os (width_of (kind_of c e)) → ValueOf from i r l os e
   int_by from i r l os e is v = subst (λ b. Value from i r l os e b (is_integer (kind_of c e))) (sym is.0) (subst (λ b. Value from i r l os e false b) (sym is.1) v)
 
-  pub int_of : (from i r : ℕ) (l : Label) (os : List Op) (e : Expression) → IsNumber around f ways y c e → ValueOf from i r l os e → IntValue from i r l os (width_of (kind_of c e))
+  pub int_of : (from i r : ℕ) (l : Label) (os : List Op) (e : Expression) → IsNumber around f y c e → ValueOf from i r l os e → IntValue from i r l os (width_of (kind_of c e))
   int_of from i r l os e is v = subst (λ b. Value from i r l os e false b) is.1 (subst (λ b. Value from i r l os e b (is_integer (kind_of c e))) is.0 v)
 
   ref_by : (from i r : ℕ) (l : Label) (os : List Op) (e : Expression) → is_ref c e ≡ true → ((s : StaticType) → GoesTo (y.entry c e) s → TypeIn s → RefValue from i r l os e s) → ValueOf from i r l os e
@@ -166,7 +166,7 @@ module _ (around : Setting) (f : ℕ) (ways : List Way) (y : Typing) (c : Contex
   ref_of from i r l os e is v = subst (λ b. Value from i r l os e b (is_integer (kind_of c e))) is v
 
   -- a pointer, with the type that it has
-  base_of : (from i r : ℕ) (l : Label) (os : List Op) (e : Expression) → IsPointer around f ways y c e → ValueOf from i r l os e → RefValue from i r l os e (type_by (y.entry c e))
+  base_of : (from i r : ℕ) (l : Label) (os : List Op) (e : Expression) → IsPointer around f y c e → ValueOf from i r l os e → RefValue from i r l os e (type_by (y.entry c e))
   base_of from i r l os e is v = ref_of from i r l os e is.0 v (type_by (y.entry c e)) (inr is.1) is.2
 
   pub small_copy : (from i r : ℕ) (l : Label) → F from i r l → (copy : ℕ) → (copy ≡ r) ⊎ (copy < top) → copy ≤ r
@@ -238,7 +238,7 @@ module _ (around : Setting) (f : ℕ) (ways : List Way) (y : Typing) (c : Contex
       known : (q : ℕ) → put l.known r false q ≡ true → l.known q ≡ true
       known q e = ⊎_elim (λ (z : q ≡ r). absurd (false≢true (sym (ap (put l.known r false) z ∙ put_same l.known r false) ∙ e))) (λ (ne : q ≡ r → ⊥). sym (put_other l.known r q false ne) ∙ e) (cases_eq q r)
 
-  constant_value_of : (from i r : ℕ) (l : Label) → F from i r l → (e : Expression) (k : Constant) (b : Bool) → ((copy : ℕ) → IsCopyOf c e copy) → is_ref c e ≡ b → ConstantTyped around f ways y c e k b → ValueOf from i r l (constant_code b i r k) e
+  constant_value_of : (from i r : ℕ) (l : Label) → F from i r l → (e : Expression) (k : Constant) (b : Bool) → ((copy : ℕ) → IsCopyOf c e copy) → is_ref c e ≡ b → ConstantTyped around f y c e k b → ValueOf from i r l (constant_code b i r k) e
   constant_value_of from i r l fr e k true any_copy is h = ref_by from i r l (op.Null r ∷ []) e is (λ s goes fits. record { copy = r; copies = any_copy r; small = inl refl; piece = null_at from i r l fr s (in_frame from i r l fr s fits) })
   constant_value_of from i r l fr e k false any_copy is h = int_by from i r l (op.Constant i (constant_value k) ∷ []) e (is, h.0) (record { number = Exactly (constant_value k); plain = tt; fits = h.1; piece = constant_at around f D N top low from i r l fr.at (constant_value k) })
 
@@ -252,7 +252,7 @@ module _ (around : Setting) (f : ℕ) (ways : List Way) (y : Typing) (c : Contex
   goes_is : (e : Entry) (s t : StaticType) → e ≡ Refers s → GoesTo e t → s ≡ t
   goes_is e s t is goes = ⊎_elim (λ (z : e ≡ Empty). absurd (not_null s e is z)) (λ (z : e ≡ Refers t). same_type s t (sym is ∙ z)) goes
 
-  copied : (from i r : ℕ) (l : Label) → F from i r l → (e : Expression) (x : Register) → ((copy : ℕ) → IsCopyIn x copy → IsCopyOf c e copy) → VariableTyped around f ways y c e x → ValueOf from i r l (copy_code i r x) e
+  copied : (from i r : ℕ) (l : Label) → F from i r l → (e : Expression) (x : Register) → ((copy : ℕ) → IsCopyIn x copy → IsCopyOf c e copy) → VariableTyped around f y c e x → ValueOf from i r l (copy_code i r x) e
   copied from i r l fr e (registers.Int j) if_copy h = int_by from i r l (op.Move i j ∷ []) e h.0 (record { number = Within (y.width c j); plain = tt; fits = subst (λ w. LessNumber (Within (y.width c j)) (Within w)) h.2 (less_number_refl (Within (y.width c j))); piece = move_at around f D N top low from i r l fr.at j (y.width c j) (fr.holds.integers j h.1) })
   copied from i r l fr e (registers.Reference q) if_copy h = let high = fr.high in let lt = h.1 in ref_by from i r l (op.Local r q ∷ []) e h.0 (λ s goes fits.
       let is : y.pointer c q ≡ s = goes_is (y.entry c e) (y.pointer c q) s h.2 goes in
@@ -274,29 +274,29 @@ module _ (around : Setting) (f : ℕ) (ways : List Way) (y : Typing) (c : Contex
     pub fits : IsNamed N r ground.base
     pub piece : Q from (mark l from i) os (placed around f D y c low from t guard ground element i r copy l)
 
-  read : (from i r : ℕ) (l : Label) → F from i r l → (e : Expression) (site : Site) (t : Target) (xs : List Op) → PlaceValue from i r l xs t (guard_of c e) (ground_of around f ways y c e) → is_cell t ≡ true → ((copy : ℕ) → IsCopyOf c e copy) → CellTyped around f ways y c e site t (is_ref c e)
+  read : (from i r : ℕ) (l : Label) → F from i r l → (e : Expression) (site : Site) (t : Target) (xs : List Op) → PlaceValue from i r l xs t (guard_of c e) (ground_of around f y c e) → is_cell t ≡ true → ((copy : ℕ) → IsCopyOf c e copy) → CellTyped around f y c e site t (is_ref c e)
       → ValueOf from i r l (xs ++ value_code c i r site (lvalue_in c e) (mode_of c e) (is_ref c e) t) e
   read from i r l fr e site t xs p cell any_copy h = by (is_ref c e) refl h
     where
-      by : (b : Bool) → is_ref c e ≡ b → CellTyped around f ways y c e site t b → Value from i r l (xs ++ value_code c i r site (lvalue_in c e) (mode_of c e) b t) e b (is_integer (kind_of c e))
+      by : (b : Bool) → is_ref c e ≡ b → CellTyped around f y c e site t b → Value from i r l (xs ++ value_code c i r site (lvalue_in c e) (mode_of c e) b t) e b (is_integer (kind_of c e))
       by true is h = λ s goes fits.
           let same : h.0 ≡ s = goes_is (y.entry c e) h.0 s h.1 goes in
           record {
             copy = r;
             copies = any_copy r;
             small = inl refl;
-            piece = joins from (mark l from i) (placed around f D y c low from t (guard_of c e) (ground_of around f ways y c e) p.element i r p.copy l) (mark (fill l r (Refers s) r false) from i) xs (value_code c i r site (lvalue_in c e) (mode_of c e) true t) p.piece
-                (subst (λ os. Q from (placed around f D y c low from t (guard_of c e) (ground_of around f ways y c e) p.element i r p.copy l) os (mark (fill l r (Refers s) r false) from i)) (value_is i r site (lvalue_in c e) (mode_of c e) true t cell)
-                (reference_value around f D y c low from i r l fr (guard_of c e) (ground_of around f ways y c e) p.element p.copy p.fits p.small site (lvalue_in c e) (mode_of c e) t cell s (in_frame from i r l fr s fits)
-                (subst (λ s. ReferenceTyped around y c f t (guard_of c e) (ground_of around f ways y c e) site (lvalue_in c e) (mode_of c e) false uses.Read s) same h.3)));
+            piece = joins from (mark l from i) (placed around f D y c low from t (guard_of c e) (ground_of around f y c e) p.element i r p.copy l) (mark (fill l r (Refers s) r false) from i) xs (value_code c i r site (lvalue_in c e) (mode_of c e) true t) p.piece
+                (subst (λ os. Q from (placed around f D y c low from t (guard_of c e) (ground_of around f y c e) p.element i r p.copy l) os (mark (fill l r (Refers s) r false) from i)) (value_is i r site (lvalue_in c e) (mode_of c e) true t cell)
+                (reference_value around f D y c low from i r l fr (guard_of c e) (ground_of around f y c e) p.element p.copy p.fits p.small site (lvalue_in c e) (mode_of c e) t cell s (in_frame from i r l fr s fits)
+                (subst (λ s. ReferenceTyped around y c f t (guard_of c e) (ground_of around f y c e) site (lvalue_in c e) (mode_of c e) false uses.Read s) same h.3)));
           }
       by false is h = subst (λ b. Value from i r l (xs ++ value_code c i r site (lvalue_in c e) (mode_of c e) false t) e false b) (sym h.0) (record {
         number = Within (width_of (kind_of c e));
         plain = tt;
         fits = less_number_refl (Within (width_of (kind_of c e)));
-        piece = joins from (mark l from i) (placed around f D y c low from t (guard_of c e) (ground_of around f ways y c e) p.element i r p.copy l) (with_number around f D N top low from l i (Within (width_of (kind_of c e)))) xs (value_code c i r site (lvalue_in c e) (mode_of c e) false t) p.piece
-            (subst (λ os. Q from (placed around f D y c low from t (guard_of c e) (ground_of around f ways y c e) p.element i r p.copy l) os (with_number around f D N top low from l i (Within (width_of (kind_of c e))))) (value_is i r site (lvalue_in c e) (mode_of c e) false t cell)
-            (int_value around f D y c low from i r l fr (guard_of c e) (ground_of around f ways y c e) p.element p.copy p.fits p.small site (lvalue_in c e) (mode_of c e) t cell (width_of (kind_of c e)) h.1));
+        piece = joins from (mark l from i) (placed around f D y c low from t (guard_of c e) (ground_of around f y c e) p.element i r p.copy l) (with_number around f D N top low from l i (Within (width_of (kind_of c e)))) xs (value_code c i r site (lvalue_in c e) (mode_of c e) false t) p.piece
+            (subst (λ os. Q from (placed around f D y c low from t (guard_of c e) (ground_of around f y c e) p.element i r p.copy l) os (with_number around f D N top low from l i (Within (width_of (kind_of c e))))) (value_is i r site (lvalue_in c e) (mode_of c e) false t cell)
+            (int_value around f D y c low from i r l fr (guard_of c e) (ground_of around f y c e) p.element p.copy p.fits p.small site (lvalue_in c e) (mode_of c e) t cell (width_of (kind_of c e)) h.1));
       })
 
   -- with no register
@@ -310,7 +310,7 @@ module _ (around : Setting) (f : ℕ) (ways : List Way) (y : Typing) (c : Contex
   no_names r p m = absurd m
 
   -- the base of an object
-  object_place : (from i r : ℕ) (l : Label) → F from i r l → (e : Expression) (site : Site) (os : List Op) (n : ℕ) (guard : Option ℕ) (ground : Ground) → type_by (y.entry c e) ≡ ground.base → IsPointer around f ways y c e → ValueOf from i r l os e → PlaceValue from i r l (pointee_code r site os) (in_object n) guard ground
+  object_place : (from i r : ℕ) (l : Label) → F from i r l → (e : Expression) (site : Site) (os : List Op) (n : ℕ) (guard : Option ℕ) (ground : Ground) → type_by (y.entry c e) ≡ ground.base → IsPointer around f y c e → ValueOf from i r l os e → PlaceValue from i r l (pointee_code r site os) (in_object n) guard ground
   object_place from i r l fr e site os n guard ground same is v =
       let b = base_of from i r l os e is v in
       let s = type_by (y.entry c e) in
@@ -330,12 +330,12 @@ module _ (around : Setting) (f : ℕ) (ways : List Way) (y : Typing) (c : Contex
   taken_register : (from : ℕ) (s e : Mark) (os : List Op) (r : ℕ) (t : StaticType) → s.label.env r ≡ Refers t → (r < refs_in around.code (Some f) → Q from s os e) → Q from s os e
   taken_register from s e os r t is rest = λ w h. rest (⊎_elim (λ (lt : r < refs_in around.code (Some f)). lt) (λ ge. absurd (not_null t (s.label.env r) is (h.few r ge))) (cases_lt r (refs_in around.code (Some f)))) w h
 
-  few_at : (from count n : ℕ) (guard : Option ℕ) → AreFields around f ways y count n guard → AreFew around f D y c low from count n guard
+  few_at : (from count n : ℕ) (guard : Option ℕ) → AreFields around f y count n guard → AreFew around f D y c low from count n guard
   few_at from count n None h = h
   few_at from count n (Some mutex) h = h
 
   -- of an array
-  array_place : (from i r : ℕ) (l : Label) → F from i r l → (g elements count n : ℕ) (guard : Option ℕ) (ground : Ground) → ground.base ≡ no_type → ground.count ≡ count → ground.elements ≡ elements → AreFields around f ways y count n guard → (xs ys : List Op) (w : Width) (site : Site)
+  array_place : (from i r : ℕ) (l : Label) → F from i r l → (g elements count n : ℕ) (guard : Option ℕ) (ground : Ground) → ground.base ≡ no_type → ground.count ≡ count → ground.elements ≡ elements → AreFields around f y count n guard → (xs ys : List Op) (w : Width) (site : Site)
       → Q from (mark l from i) xs (mark l from i) → IntValue from i r l ys w
       → PlaceValue from i r l (xs ++ (ys ++ bounds_code (λ i n. op.GlobalBounds i elements count (first_cell c.globals g + n) (at_site site)) i n guard)) (in_global_at g n) guard ground
   array_place from i r l fr g elements count n guard ground none_based same_count same_elements few xs ys w site p v =
@@ -357,8 +357,8 @@ module _ (around : Setting) (f : ℕ) (ways : List Way) (y : Typing) (c : Contex
       }
 
   -- of what a pointer refers to
-  element_place : (from i r : ℕ) (l : Label) → F from i r l → (e : Expression) (count n : ℕ) (guard : Option ℕ) (ground : Ground) → type_by (y.entry c e) ≡ ground.base → count ≡ cells_of around.targets (type_by (y.entry c e)).target → AreFields around f ways y count n guard → (xs : List Op) (ys : ℕ → List Op) (w : Width) (site : Site)
-      → IsPointer around f ways y c e → ValueOf from i r l xs e → ((l : Label) → F from i (r + 1) l → IntValue from i (r + 1) l (ys (r + 1)) w)
+  element_place : (from i r : ℕ) (l : Label) → F from i r l → (e : Expression) (count n : ℕ) (guard : Option ℕ) (ground : Ground) → type_by (y.entry c e) ≡ ground.base → count ≡ cells_of around.targets (type_by (y.entry c e)).target → AreFields around f y count n guard → (xs : List Op) (ys : ℕ → List Op) (w : Width) (site : Site)
+      → IsPointer around f y c e → ValueOf from i r l xs e → ((l : Label) → F from i (r + 1) l → IntValue from i (r + 1) l (ys (r + 1)) w)
       → PlaceValue from i r l (xs ++ (op.ChkNull r (at_site site) ∷ (ys (r + 1) ++ bounds_code (λ i n. op.Bounds i r count n (at_site site)) i n guard))) (in_object_at n) guard ground
   element_place from i r l fr e count n guard ground same size few xs ys w site is v number =
       let b = base_of from i r l xs e is v in
@@ -388,7 +388,7 @@ module _ (around : Setting) (f : ℕ) (ways : List Way) (y : Typing) (c : Contex
 
   -- ---- tests and operators
   -- a value that decides
-  pub truth_of : (from i r : ℕ) (l : Label) → F from i r l → (e : Expression) (os : List Op) → HasType around f ways y c e → ValueOf from i r l os e → Q from (mark l from i) (os ++ truth_code (is_ref c e) i r) (mark l from i)
+  pub truth_of : (from i r : ℕ) (l : Label) → F from i r l → (e : Expression) (os : List Op) → HasType around f y c e → ValueOf from i r l os e → Q from (mark l from i) (os ++ truth_code (is_ref c e) i r) (mark l from i)
   truth_of from i r l fr e os h v = by (is_ref c e) refl
     where
       by : (b : Bool) → is_ref c e ≡ b → Q from (mark l from i) (os ++ truth_code b i r) (mark l from i)
@@ -404,16 +404,16 @@ module _ (around : Setting) (f : ℕ) (ways : List Way) (y : Typing) (c : Contex
           joins from (mark l from i) (mark l from i) (mark l from i) os [] (number_dropped around f D N top low from i r l fr.at n.number os (mark l from i) n.piece) (none around f D N top low from (mark l from i) (mark l from i) (fits_same around.targets (mark l from i)) (λ z. z))
 
   -- 0 or 1
-  truth_value : (from i r : ℕ) (l : Label) (os : List Op) (e : Expression) → IsNumber around f ways y c e → Q from (mark l from i) os (with_number around f D N top low from l i (Within Char)) → ValueOf from i r l os e
+  truth_value : (from i r : ℕ) (l : Label) (os : List Op) (e : Expression) → IsNumber around f y c e → Q from (mark l from i) os (with_number around f D N top low from l i (Within Char)) → ValueOf from i r l os e
   truth_value from i r l os e is p = int_by from i r l os e is (record { number = Within Char; plain = tt; fits = tt; piece = p })
 
-  not_value : (from i r : ℕ) (l : Label) → F from i r l → (e a : Expression) (os : List Op) → IsNumber around f ways y c e → HasType around f ways y c a → ValueOf from i r l os a → ValueOf from i r l (os ++ (truth_code (is_ref c a) i r ++ op.IsFalse i i ∷ [])) e
+  not_value : (from i r : ℕ) (l : Label) → F from i r l → (e a : Expression) (os : List Op) → IsNumber around f y c e → HasType around f y c a → ValueOf from i r l os a → ValueOf from i r l (os ++ (truth_code (is_ref c a) i r ++ op.IsFalse i i ∷ [])) e
   not_value from i r l fr e a os is h v = truth_value from i r l (os ++ (truth_code (is_ref c a) i r ++ op.IsFalse i i ∷ [])) e is
       (subst (λ xs. Q from (mark l from i) xs (with_number around f D N top low from l i (Within Char))) (append_assoc os (truth_code (is_ref c a) i r) (op.IsFalse i i ∷ []))
       (joins from (mark l from i) (mark l from i) (with_number around f D N top low from l i (Within Char)) (os ++ truth_code (is_ref c a) i r) (op.IsFalse i i ∷ []) (truth_of from i r l fr a os h v)
       (from_free around f D N top low from i r l fr.at (op.IsFalse i i) (Within Char) (false_at around f D N top low from i r l fr.at i))))
 
-  negated : (from i r : ℕ) (l : Label) → F from i r l → (e a : Expression) (os : List Op) (site : Site) → UnaryTyped around f ways y c e Negate a → ValueOf from i r l os a → ValueOf from i r l (os ++ op.Negate (width_of (promoted (kind_of c a))) i i (at_site site) ∷ []) e
+  negated : (from i r : ℕ) (l : Label) → F from i r l → (e a : Expression) (os : List Op) (site : Site) → UnaryTyped around f y c e Negate a → ValueOf from i r l os a → ValueOf from i r l (os ++ op.Negate (width_of (promoted (kind_of c a))) i i (at_site site) ∷ []) e
   negated from i r l fr e a os site h v =
       let n = int_of from i r l os a h.0 v in
       let w = width_of (promoted (kind_of c a)) in
@@ -424,7 +424,7 @@ module _ (around : Setting) (f : ℕ) (ways : List Way) (y : Typing) (c : Contex
         piece = joins from (mark l from i) (with_number around f D N top low from l i n.number) (with_number around f D N top low from l i (Within w)) os (op.Negate w i i (at_site site) ∷ []) n.piece (negate_at around f D N top low from i r l fr.at w n.number (at_site site) h.2);
       })
 
-  complemented : (from i r : ℕ) (l : Label) → F from i r l → (e a : Expression) (os : List Op) → UnaryTyped around f ways y c e Complement a → ValueOf from i r l os a → ValueOf from i r l (os ++ op.Complement i i ∷ []) e
+  complemented : (from i r : ℕ) (l : Label) → F from i r l → (e a : Expression) (os : List Op) → UnaryTyped around f y c e Complement a → ValueOf from i r l os a → ValueOf from i r l (os ++ op.Complement i i ∷ []) e
   complemented from i r l fr e a os h v =
       let n = int_of from i r l os a h.0 v in
       let w = width_of (kind_of c a) in
@@ -436,15 +436,15 @@ module _ (around : Setting) (f : ℕ) (ways : List Way) (y : Typing) (c : Contex
       })
 
   -- an operator on two values, of which the second one stands after the first one
-  computed : (from i r : ℕ) (l : Label) → F from i r l → (e : Expression) (site : Site) (o : BinaryOperator) (a b : Expression) (xs : List Op) (ys : ℕ → ℕ → List Op) → IsNumber around f ways y c e → ComparedTyped around f ways y c e o a b (is_ref c a) → HasType around f ways y c a → HasType around f ways y c b → ValueOf from i r l xs a
+  computed : (from i r : ℕ) (l : Label) → F from i r l → (e : Expression) (site : Site) (o : BinaryOperator) (a b : Expression) (xs : List Op) (ys : ℕ → ℕ → List Op) → IsNumber around f y c e → ComparedTyped around f y c e o a b (is_ref c a) → HasType around f y c a → HasType around f y c b → ValueOf from i r l xs a
       → (bare : Bool) → IsBare bare l → ((i2 r2 : ℕ) (l2 : Label) → F from i2 r2 l2 → IsBare (after_value c a bare) l2 → ValueOf from i2 r2 l2 (ys i2 r2) b)
-      → ValueOf from i r l (xs ++ (ys (behind_int (is_ref c a) i) (behind_ref (is_ref c a) r) ++ (cond (is_ref c a) (compare_code o i r) (op.Compute (result_of around f ways y c o a b) (operator_of o) i i (i + 1) (at_site site) ∷ [])))) e
+      → ValueOf from i r l (xs ++ (ys (behind_int (is_ref c a) i) (behind_ref (is_ref c a) r) ++ (cond (is_ref c a) (compare_code o i r) (op.Compute (result_of around f y c o a b) (operator_of o) i i (i + 1) (at_site site) ∷ [])))) e
   computed from i r l fr e site o a b xs ys is typed ta tb va bare alone vb = by (is_ref c a) refl typed vb
     where
       w : Width
-      w = result_of around f ways y c o a b
+      w = result_of around f y c o a b
 
-      by : (z : Bool) → is_ref c a ≡ z → ComparedTyped around f ways y c e o a b z → ((i2 r2 : ℕ) (l2 : Label) → F from i2 r2 l2 → IsBare (cond z false bare) l2 → ValueOf from i2 r2 l2 (ys i2 r2) b) → ValueOf from i r l (xs ++ (ys (behind_int z i) (behind_ref z r) ++ (cond z (compare_code o i r) (op.Compute w (operator_of o) i i (i + 1) (at_site site) ∷ [])))) e
+      by : (z : Bool) → is_ref c a ≡ z → ComparedTyped around f y c e o a b z → ((i2 r2 : ℕ) (l2 : Label) → F from i2 r2 l2 → IsBare (cond z false bare) l2 → ValueOf from i2 r2 l2 (ys i2 r2) b) → ValueOf from i r l (xs ++ (ys (behind_int z i) (behind_ref z r) ++ (cond z (compare_code o i r) (op.Compute w (operator_of o) i i (i + 1) (at_site site) ∷ [])))) e
       by true is_a is_b vb =
           let t = ta.0 is_a in
           let s = tb.0 is_b in
@@ -507,16 +507,16 @@ module _ (around : Setting) (f : ℕ) (ways : List Way) (y : Typing) (c : Contex
   variable_place : (from i r : ℕ) (l : Label) → F from i r l → (x : ℕ) (guard : Option ℕ) (ground : Ground) → ground.base ≡ no_type → PlaceValue from i r l [] (variable x) guard ground
   variable_place from i r l fr x guard ground none_based = record { element = Nth 0; copy = r; small = omega arith; fits = subst (IsNamed N r) (sym none_based) (no_names r); piece = opened from i r l fr }
 
-  void_by : (from i r : ℕ) (l : Label) (os : List Op) (e : Expression) → IsVoid around f ways y c e → Q from (mark l from i) os (mark l from i) → ValueOf from i r l os e
+  void_by : (from i r : ℕ) (l : Label) (os : List Op) (e : Expression) → IsVoid around f y c e → Q from (mark l from i) os (mark l from i) → ValueOf from i r l os e
   void_by from i r l os e is p = subst (λ b. Value from i r l os e b (is_integer (kind_of c e))) (sym is.0) (subst (λ b. Value from i r l os e false b) (sym is.1) p)
 
   stays : (from i : ℕ) (l : Label) → Q from (mark l from i) [] (mark l from i)
   stays from i l = none around f D N top low from (mark l from i) (mark l from i) (fits_same around.targets (mark l from i)) (λ z. z)
 
-  named_value : (from i r : ℕ) (l : Label) → F from i r l → (s : Span) (x : Identifier) (n : Named) → ((copy : ℕ) → IsCopyNamed c n copy → IsCopyOf c (identifier s x) copy) → NameTyped around f ways y c (identifier s x) x.site n
+  named_value : (from i r : ℕ) (l : Label) → F from i r l → (s : Span) (x : Identifier) (n : Named) → ((copy : ℕ) → IsCopyNamed c n copy → IsCopyOf c (identifier s x) copy) → NameTyped around f y c (identifier s x) x.site n
       → ValueOf from i r l (named_code c i r x.site (lvalue_in c (identifier s x)) (mode_of c (identifier s x)) (is_ref c (identifier s x)) n) (identifier s x)
   named_value from i r l fr s x (named.Variable v) if_copy h = copied from i r l fr (identifier s x) (register_of c.scope v) (λ copy z. if_copy copy z) h
-  named_value from i r l fr s x (named.Global g) if_copy h = read from i r l fr (identifier s x) x.site (in_global g 0) [] (no_place from i r l fr g 0 (guard_of c (identifier s x)) (ground_of around f ways y c (identifier s x)) refl) refl (λ copy. if_copy copy tt) h
+  named_value from i r l fr s x (named.Global g) if_copy h = read from i r l fr (identifier s x) x.site (in_global g 0) [] (no_place from i r l fr g 0 (guard_of c (identifier s x)) (ground_of around f y c (identifier s x)) refl) refl (λ copy. if_copy copy tt) h
   named_value from i r l fr s x (named.Field v) if_copy h = void_by from i r l [] (identifier s x) h (stays from i l)
   named_value from i r l fr s x (named.Struct v) if_copy h = void_by from i r l [] (identifier s x) h (stays from i l)
   named_value from i r l fr s x (named.Function v) if_copy h = void_by from i r l [] (identifier s x) h (stays from i l)
@@ -538,9 +538,9 @@ module _ (around : Setting) (f : ℕ) (ways : List Way) (y : Typing) (c : Contex
       let z : i + 0 ≡ i = omega arith in
       subst (λ n. Q from (mark l from i) xs (mark l from n)) z (subst (λ k. Q from (mark l from i) xs (mark k from (i + 0))) same q.piece)
 
-  index_place : (from i r : ℕ) (l : Label) → F from i r l → (site : Site) (own guard : Option ℕ) (s : Span) (a n : Expression) (xs zs : List Op) (ys : ℕ → List Op) (X Y Z : Type 0) → (X → PlaceValue from i r l xs (target c.program.typed None a) None (ground_of around f ways y c a)) → (Y → ValueOf from i r l zs a)
-      → (Z → (r2 : ℕ) (l2 : Label) → F from i r2 l2 → ValueOf from i r2 l2 (ys r2) n) → IndexTypable around f ways y c own guard a n X Y Z
-      → PlaceValue from i r l (index_code c i r site own guard a xs zs ys) (target c.program.typed own (index s a n)) guard (ground_of around f ways y c (index s a n))
+  index_place : (from i r : ℕ) (l : Label) → F from i r l → (site : Site) (own guard : Option ℕ) (s : Span) (a n : Expression) (xs zs : List Op) (ys : ℕ → List Op) (X Y Z : Type 0) → (X → PlaceValue from i r l xs (target c.program.typed None a) None (ground_of around f y c a)) → (Y → ValueOf from i r l zs a)
+      → (Z → (r2 : ℕ) (l2 : Label) → F from i r2 l2 → ValueOf from i r2 l2 (ys r2) n) → IndexTypable around f y c own guard a n X Y Z
+      → PlaceValue from i r l (index_code c i r site own guard a xs zs ys) (target c.program.typed own (index s a n)) guard (ground_of around f y c (index s a n))
   index_place from i r l fr site own guard s a n xs zs ys X Y Z px py pn h = by (is_array (kind_of c a)) h.0
     where
       count : ℕ
@@ -552,12 +552,12 @@ module _ (around : Setting) (f : ℕ) (ways : List Way) (y : Typing) (c : Contex
       elements : ℕ
       elements = global_elements (global_at c.program.typed g)
 
-      by : (b : Bool) → Either b (X × (target c.program.typed None a ≡ in_global g 0)) (Y × IsPointer around f ways y c a × (count ≡ cells_of around.targets (type_by (y.entry c a)).target))
+      by : (b : Bool) → Either b (X × (target c.program.typed None a ≡ in_global g 0)) (Y × IsPointer around f y c a × (count ≡ cells_of around.targets (type_by (y.entry c a)).target))
           → PlaceValue from i r l
           (cond b (xs ++ (ys r ++ bounds_code (λ i n. op.GlobalBounds i elements count (first_cell c.globals g + n) (at_site site)) i (own_field own 0) guard))
           (zs ++ (op.ChkNull r (at_site site) ∷ (ys (r + 1) ++ bounds_code (λ i n. op.Bounds i r count n (at_site site)) i (own_field own 0) guard))))
           (cond b (in_global_at g (own_field own 0)) (in_object_at (own_field own 0))) guard (record { base = cond b no_type (type_by (y.entry c a)); count = count; elements = elements })
-      by true z = array_place from i r l fr g elements count (own_field own 0) guard (record { base = no_type; count = count; elements = elements }) refl refl refl h.3 xs (ys r) (width_of (kind_of c n)) site (array_base from i r l fr xs (target c.program.typed None a) g (ground_of around f ways y c a) z.1 (px z.0))
+      by true z = array_place from i r l fr g elements count (own_field own 0) guard (record { base = no_type; count = count; elements = elements }) refl refl refl h.3 xs (ys r) (width_of (kind_of c n)) site (array_base from i r l fr xs (target c.program.typed None a) g (ground_of around f y c a) z.1 (px z.0))
           (int_of from i r l (ys r) n h.2 (pn h.1 r l fr))
       by false z = element_place from i r l fr a count (own_field own 0) guard (record { base = type_by (y.entry c a); count = count; elements = elements }) refl z.2 h.3 zs ys (width_of (kind_of c n)) site z.1 (py z.0) (λ l2 f2. int_of from i (r + 1) l2 (ys (r + 1)) n h.2 (pn h.1 (r + 1) l2 f2))
 
@@ -581,17 +581,17 @@ module _ (around : Setting) (f : ℕ) (ways : List Way) (y : Typing) (c : Contex
     pub same : (q : ℕ) → q < r → label.same q ≡ l.same q
     pub known : (q : ℕ) → q < r → label.known q ≡ l.known q
     pub numbers : (j : ℕ) → j < i → label.ints j ≡ l.ints j
-    pub here : ArgumentsAt around f ways y c kinds wants all i r label
+    pub here : ArgumentsAt around f y c kinds wants all i r label
     pub piece : Q 0 (mark l i i) os (mark label ints ints)
 
   joins_at : (s m e : Mark) (xs ys : List Op) → Q 0 s xs m → Q 0 m ys e → Q 0 s (xs ++ ys) e
   joins_at = then_do around f D N top low 0
 
-  no_width : (i : ℕ) (kinds : List Kind) (site : Site) → HasNoWidth around f ways y kinds → passed_code i kinds site ≡ []
+  no_width : (i : ℕ) (kinds : List Kind) (site : Site) → HasNoWidth around f y kinds → passed_code i kinds site ≡ []
   no_width i [] site h = refl
   no_width i (kind ∷ kinds) site h = ap (λ b. cond b (op.ChkWidth (width_of kind) i (at_site site) ∷ []) []) h
 
-  passed_reference : (i r : ℕ) (l : Label) → F i i r l → (kinds : List Kind) (wants : ℕ → StaticType) (a : Expression) (rest : Arguments) (xs ys : List Op) (site : Site) → is_ref c a ≡ true → Goes around f ways y c kinds a true (wants 0) → ValueOf i i r l xs a
+  passed_reference : (i r : ℕ) (l : Label) → F i i r l → (kinds : List Kind) (wants : ℕ → StaticType) (a : Expression) (rest : Arguments) (xs ys : List Op) (site : Site) → is_ref c a ≡ true → Goes around f y c kinds a true (wants 0) → ValueOf i i r l xs a
       → ((l2 : Label) → F i i (r + 1) l2 → Passed i (r + 1) l2 (drop 1 kinds) (λ n. wants (n + 1)) rest ys)
       → Passed i r l kinds wants (argument a rest) (xs ++ (passed_code i kinds site ++ ys))
   passed_reference i r l fr kinds wants a rest xs ys site is goes v next =
@@ -615,7 +615,7 @@ module _ (around : Setting) (f : ℕ) (ways : List Way) (y : Typing) (c : Contex
         same = λ q lt. p.same q (omega (arith, lt)) ∙ put_other l.same r q w.copy (λ e. omega (arith, e, lt));
         known = λ q lt. p.known q (omega (arith, lt)) ∙ put_other l.known r q false (λ e. omega (arith, e, lt));
         numbers = λ j lt. p.numbers j lt;
-        here = subst (λ b. ArgumentAt around f ways y c kinds a b s i r p.label × ArgumentsAt around f ways y c (drop 1 kinds) (λ n. wants (n + 1)) rest (behind_int b i) (behind_ref b r) p.label) (sym is) ((e_env, subst (IsCopyOf c a) (sym e_same) w.copies), p.here);
+        here = subst (λ b. ArgumentAt around f y c kinds a b s i r p.label × ArgumentsAt around f y c (drop 1 kinds) (λ n. wants (n + 1)) rest (behind_int b i) (behind_ref b r) p.label) (sym is) ((e_env, subst (IsCopyOf c a) (sym e_same) w.copies), p.here);
         piece = joins_at (mark l i i) (mark X i i) (mark p.label p.ints p.ints) xs (passed_code i kinds site ++ ys) w.piece
             (subst (λ os. Q 0 (mark X i i) (os ++ ys) (mark p.label p.ints p.ints)) (sym (no_width i kinds site goes.2)) p.piece);
       }
@@ -651,26 +651,26 @@ module _ (around : Setting) (f : ℕ) (ways : List Way) (y : Typing) (c : Contex
         same = λ q lt. p.same q lt;
         known = λ q lt. p.known q lt;
         numbers = λ j lt. p.numbers j (omega (arith, lt)) ∙ put_other l.ints i j (Within w) (λ e. omega (arith, e, lt));
-        here = subst (λ b. ArgumentAt around f ways y c (kind ∷ kinds) a b (wants 0) i r p.label × ArgumentsAt around f ways y c kinds (λ n. wants (n + 1)) rest (behind_int b i) (behind_ref b r) p.label) (sym is) (e_int, p.here);
+        here = subst (λ b. ArgumentAt around f y c (kind ∷ kinds) a b (wants 0) i r p.label × ArgumentsAt around f y c kinds (λ n. wants (n + 1)) rest (behind_int b i) (behind_ref b r) p.label) (sym is) (e_int, p.here);
         piece = joins_at (mark l i i) start (mark p.label p.ints p.ints) xs (passed_code i (kind ∷ kinds) site ++ ys) n.piece
             (subst (λ b. Q 0 start (cond b (op.ChkWidth w i (at_site site) ∷ []) [] ++ ys) (mark p.label p.ints p.ints)) (sym goes)
             (joins_at start (mark X i i) (mark p.label p.ints p.ints) (op.ChkWidth w i (at_site site) ∷ []) ys check
             (joins_at (mark X i i) (mark X (i + 1) (i + 1)) (mark p.label p.ints p.ints) [] ys (untold i i (i + 1) (i + 1) X (omega arith)) p.piece)));
       }
 
-  one_passed : (i r : ℕ) (l : Label) → F i i r l → (kinds : List Kind) (wants : ℕ → StaticType) (a : Expression) (rest : Arguments) (xs : List Op) (ys : ℕ → ℕ → List Op) (site : Site) → Goes around f ways y c kinds a (is_ref c a) (wants 0) → ValueOf i i r l xs a
+  one_passed : (i r : ℕ) (l : Label) → F i i r l → (kinds : List Kind) (wants : ℕ → StaticType) (a : Expression) (rest : Arguments) (xs : List Op) (ys : ℕ → ℕ → List Op) (site : Site) → Goes around f y c kinds a (is_ref c a) (wants 0) → ValueOf i i r l xs a
       → (bare : Bool) → IsBare bare l → ((i2 r2 : ℕ) (l2 : Label) → F i2 i2 r2 l2 → IsBare (after_value c a bare) l2 → Passed i2 r2 l2 (drop 1 kinds) (λ n. wants (n + 1)) rest (ys i2 r2))
       → Passed i r l kinds wants (argument a rest) (xs ++ (passed_code i kinds site ++ ys (behind_int (is_ref c a) i) (behind_ref (is_ref c a) r)))
   one_passed i r l fr kinds wants a rest xs ys site goes v bare alone next = by (is_ref c a) refl kinds goes (λ i2 r2 l2 f2 q. next i2 r2 l2 f2 q)
     where
-      by : (b : Bool) → is_ref c a ≡ b → (kinds : List Kind) → Goes around f ways y c kinds a b (wants 0) → ((i2 r2 : ℕ) (l2 : Label) → F i2 i2 r2 l2 → IsBare (cond b false bare) l2 → Passed i2 r2 l2 (drop 1 kinds) (λ n. wants (n + 1)) rest (ys i2 r2))
+      by : (b : Bool) → is_ref c a ≡ b → (kinds : List Kind) → Goes around f y c kinds a b (wants 0) → ((i2 r2 : ℕ) (l2 : Label) → F i2 i2 r2 l2 → IsBare (cond b false bare) l2 → Passed i2 r2 l2 (drop 1 kinds) (λ n. wants (n + 1)) rest (ys i2 r2))
           → Passed i r l kinds wants (argument a rest) (xs ++ (passed_code i kinds site ++ ys (behind_int b i) (behind_ref b r)))
       by true is kinds goes next = passed_reference i r l fr kinds wants a rest xs (ys i (r + 1)) site is goes v (λ l2 f2. next i (r + 1) l2 f2 (no_bare l2))
       by false is [] goes next = absurd goes
       by false is (kind ∷ kinds) goes next = passed_number i r l fr kind kinds wants a rest xs (ys (i + 1) r) site is goes.0 goes.1 v bare alone (λ l2 f2 q. next (i + 1) r l2 f2 q)
 
   -- ---- a call
-  call_value : (from i r : ℕ) (l : Label) → F from i r l → (e : Expression) (g : ℕ) (kinds : List Kind) (wants : ℕ → StaticType) (all : Arguments) (os : List Op) (spot : Spot) → ((copy : ℕ) → IsCopyOf c e copy) → CallTyped around f ways y c e g kinds wants all → Passed i r l kinds wants all os → ValueOf from i r l (os ++ op.Call g i r spot ∷ []) e
+  call_value : (from i r : ℕ) (l : Label) → F from i r l → (e : Expression) (g : ℕ) (kinds : List Kind) (wants : ℕ → StaticType) (all : Arguments) (os : List Op) (spot : Spot) → ((copy : ℕ) → IsCopyOf c e copy) → CallTyped around f y c e g kinds wants all → Passed i r l kinds wants all os → ValueOf from i r l (os ++ op.Call g i r spot ∷ []) e
   call_value from i r l fr e g kinds wants all os spot any_copy h p = by (is_ref c e) (is_integer (kind_of c e)) h.result
     where
       start : Q 0 (mark l from i) [] (mark l i i)
@@ -685,7 +685,7 @@ module _ (around : Setting) (f : ℕ) (ways : List Way) (y : Typing) (c : Contex
       numbers : (j : ℕ) → LessNumber (p.label.ints (i + j)) ((around.signature g).takes_ints j)
       numbers = h.numbers i r p.label p.frame.holds p.here
 
-      by : (a b : Bool) → ResultTyped around f ways y c e g a b → Value from i r l (os ++ op.Call g i r spot ∷ []) e a b
+      by : (a b : Bool) → ResultTyped around f y c e g a b → Value from i r l (os ++ op.Call g i r spot ∷ []) e a b
       by true b z = λ s goes fits.
           let same : z.0 ≡ s = goes_is (y.entry c e) z.0 s z.1 goes in
           record {
@@ -721,10 +721,10 @@ module _ (around : Setting) (f : ℕ) (ways : List Way) (y : Typing) (c : Contex
     pub fits2 : IsNamed N r (wants 1)
     pub piece : Q from (mark l from i) os (mark (fill (fill l r (Refers (wants 0)) copy false) (r + 1) (Refers (wants 1)) copy2 false) from i)
 
-  goes_to : (kinds : List Kind) (a : Expression) (s : StaticType) → is_ref c a ≡ true → Goes around f ways y c kinds a (is_ref c a) s → GoesTo (y.entry c a) s × TypeIn s × HasNoWidth around f ways y kinds
-  goes_to kinds a s is h = subst (λ b. Goes around f ways y c kinds a b s) is h
+  goes_to : (kinds : List Kind) (a : Expression) (s : StaticType) → is_ref c a ≡ true → Goes around f y c kinds a (is_ref c a) s → GoesTo (y.entry c a) s × TypeIn s × HasNoWidth around f y kinds
+  goes_to kinds a s is h = subst (λ b. Goes around f y c kinds a b s) is h
 
-  one_by : (from i r : ℕ) (l : Label) → F from i r l → (kinds : List Kind) (wants : ℕ → StaticType) (a : Expression) (xs : List Op) (site : Site) → is_ref c a ≡ true → Goes around f ways y c kinds a (is_ref c a) (wants 0) → ValueOf from i r l xs a → OneHeld from i r l wants (xs ++ (passed_code i kinds site ++ []))
+  one_by : (from i r : ℕ) (l : Label) → F from i r l → (kinds : List Kind) (wants : ℕ → StaticType) (a : Expression) (xs : List Op) (site : Site) → is_ref c a ≡ true → Goes around f y c kinds a (is_ref c a) (wants 0) → ValueOf from i r l xs a → OneHeld from i r l wants (xs ++ (passed_code i kinds site ++ []))
   one_by from i r l fr kinds wants a xs site is goes v =
       let g = goes_to kinds a (wants 0) is goes in
       let w = ref_of from i r l xs a is v (wants 0) g.0 g.1 in
@@ -736,7 +736,7 @@ module _ (around : Setting) (f : ℕ) (ways : List Way) (y : Typing) (c : Contex
         piece = joins from (mark l from i) end end xs (passed_code i kinds site ++ []) w.piece (subst (λ os. Q from end (os ++ []) end) (sym (no_width i kinds site g.2)) (none around f D N top low from end end (fits_same around.targets end) (λ z. z)));
       }
 
-  two_by : (from i r : ℕ) (l : Label) → F from i r l → (kinds : List Kind) (wants : ℕ → StaticType) (a b : Expression) (xs : List Op) (ys : ℕ → ℕ → List Op) (site : Site) → is_ref c a ≡ true → is_ref c b ≡ true → Goes around f ways y c kinds a (is_ref c a) (wants 0) → Goes around f ways y c (drop 1 kinds) b (is_ref c b) (wants 1) → ValueOf from i r l xs a
+  two_by : (from i r : ℕ) (l : Label) → F from i r l → (kinds : List Kind) (wants : ℕ → StaticType) (a b : Expression) (xs : List Op) (ys : ℕ → ℕ → List Op) (site : Site) → is_ref c a ≡ true → is_ref c b ≡ true → Goes around f y c kinds a (is_ref c a) (wants 0) → Goes around f y c (drop 1 kinds) b (is_ref c b) (wants 1) → ValueOf from i r l xs a
       → (bare : Bool) → ((l2 : Label) → F from i (r + 1) l2 → IsBare (after_value c a bare) l2 → ValueOf from i (r + 1) l2 (ys i (r + 1)) b) → (site2 : Site)
       → TwoHeld from i r l wants (xs ++ (passed_code i kinds site ++ (ys (behind_int (is_ref c a) i) (behind_ref (is_ref c a) r) ++ (passed_code (behind_int (is_ref c a) i) (drop 1 kinds) site2 ++ []))))
   two_by from i r l fr kinds wants a b xs ys site is is2 goes goes2 v bare next site2 =
@@ -766,11 +766,11 @@ module _ (around : Setting) (f : ℕ) (ways : List Way) (y : Typing) (c : Contex
       }
 
   -- by which one is called
-  condition_value : (from i r : ℕ) (l : Label) → F from i r l → (e : Expression) (name : List ℕ) (wants : ℕ → StaticType) (all : Arguments) (os : List Op) (spot : Spot) → IsVoid around f ways y c e → ConditionTyped around f ways y c name wants all → (IsOne around f ways y c all → OneHeld from i r l wants os) → (AreTwo around f ways y c all → TwoHeld from i r l wants os)
+  condition_value : (from i r : ℕ) (l : Label) → F from i r l → (e : Expression) (name : List ℕ) (wants : ℕ → StaticType) (all : Arguments) (os : List Op) (spot : Spot) → IsVoid around f y c e → ConditionTyped around f y c name wants all → (IsOne around f y c all → OneHeld from i r l wants os) → (AreTwo around f y c all → TwoHeld from i r l wants os)
       → ValueOf from i r l (os ++ condition_code r spot name all) e
   condition_value from i r l fr e name wants all os spot is h one two = void_by from i r l (os ++ condition_code r spot name all) e is (by (bytes_eq name (codes "wait")) (bytes_eq name (codes "signal")) h)
     where
-      by : (w g : Bool) → Either w (AreTwo around f ways y c all × FirstCell around (wants 0) Waiters × FirstCell around (wants 1) MutexWord) (IsOne around f ways y c all × FirstCell around (wants 0) Waiters)
+      by : (w g : Bool) → Either w (AreTwo around f y c all × FirstCell around (wants 0) Waiters × FirstCell around (wants 1) MutexWord) (IsOne around f y c all × FirstCell around (wants 0) Waiters)
           → Q from (mark l from i)
           (os ++ cond w (wait_code r spot (with_words spot (argument_words 0 all)) (with_words spot (argument_words 1 all)))
           (cond g (op.ChkNull r spot ∷ op.CondSignal (first_cell_of r) spot ∷ op.Pop r ∷ []) (op.ChkNull r spot ∷ op.CondBroadcast (first_cell_of r) spot ∷ op.Pop r ∷ []))) (mark l from i)
@@ -786,10 +786,10 @@ module _ (around : Setting) (f : ℕ) (ways : List Way) (y : Typing) (c : Contex
           joins from (mark l from i) (mark (fill l r (Refers (wants 0)) p.copy false) from i) (mark l from i) os _ p.piece (broadcasted around f D y c low from i r l fr (wants 0) p.copy p.fits p.small z.1 spot)
 
   called_value : (from i r : ℕ) (l : Label) → F from i r l → (e : Expression) (n : Named) (name : List ℕ) (all : Arguments) (spot : Spot) → ((copy : ℕ) → IsCopyOf c e copy)
-      → (bare : Bool) → ((kinds : List Kind) (wants : ℕ → StaticType) → AreTypable around f ways y bare c kinds wants all → Passed i r l kinds wants all (arguments_code c i r kinds all))
-      → ((kinds : List Kind) (wants : ℕ → StaticType) → AreTypable around f ways y bare c kinds wants all → IsOne around f ways y c all → OneHeld from i r l wants (arguments_code c i r kinds all))
-      → ((kinds : List Kind) (wants : ℕ → StaticType) → AreTypable around f ways y bare c kinds wants all → AreTwo around f ways y c all → TwoHeld from i r l wants (arguments_code c i r kinds all))
-      → CallTypable around f ways y c e n name all (λ kinds wants. AreTypable around f ways y bare c kinds wants all)
+      → (bare : Bool) → ((kinds : List Kind) (wants : ℕ → StaticType) → AreTypable around f y bare c kinds wants all → Passed i r l kinds wants all (arguments_code c i r kinds all))
+      → ((kinds : List Kind) (wants : ℕ → StaticType) → AreTypable around f y bare c kinds wants all → IsOne around f y c all → OneHeld from i r l wants (arguments_code c i r kinds all))
+      → ((kinds : List Kind) (wants : ℕ → StaticType) → AreTypable around f y bare c kinds wants all → AreTwo around f y c all → TwoHeld from i r l wants (arguments_code c i r kinds all))
+      → CallTypable around f y c e n name all (λ kinds wants. AreTypable around f y bare c kinds wants all)
       → ValueOf from i r l (arguments_code c i r (declared_kinds (parameters_named c.program.typed n)) all ++ called_code i r spot n name all) e
   called_value from i r l fr e (named.Function g) name all spot any_copy bare args one two h = call_value from i r l fr e g (declared_kinds (parameters_named c.program.typed (named.Function g))) h.0 all (arguments_code c i r (declared_kinds (parameters_named c.program.typed (named.Function g))) all) spot any_copy h.2
       (args (declared_kinds (parameters_named c.program.typed (named.Function g))) h.0 h.1)
@@ -802,10 +802,10 @@ module _ (around : Setting) (f : ℕ) (ways : List Way) (y : Typing) (c : Contex
   called_value from i r l fr e (named.Struct x) name all spot any_copy bare args one two h = absurd h
 
   -- ---- a new thread
-  spawn_value : (from i r : ℕ) (l : Label) → F from i r l → (e a : Expression) (g : ℕ) (kinds : List Kind) (os : List Op) (site : Site) (spot : Spot) → IsNumber around f ways y c e → SpawnTyped around f ways y c a g kinds → ValueOf from i r l os a → ValueOf from i r l (os ++ (passed_code i kinds site ++ spawn_code (is_ref c a) i r g spot)) e
+  spawn_value : (from i r : ℕ) (l : Label) → F from i r l → (e a : Expression) (g : ℕ) (kinds : List Kind) (os : List Op) (site : Site) (spot : Spot) → IsNumber around f y c e → SpawnTyped around f y c a g kinds → ValueOf from i r l os a → ValueOf from i r l (os ++ (passed_code i kinds site ++ spawn_code (is_ref c a) i r g spot)) e
   spawn_value from i r l fr e a g kinds os site spot is h v = by (is_ref c a) refl kinds h.handed
     where
-      by : (b : Bool) → is_ref c a ≡ b → (kinds : List Kind) → Handed around f ways y c kinds a g b → ValueOf from i r l (os ++ (passed_code i kinds site ++ spawn_code b i r g spot)) e
+      by : (b : Bool) → is_ref c a ≡ b → (kinds : List Kind) → Handed around f y c kinds a g b → ValueOf from i r l (os ++ (passed_code i kinds site ++ spawn_code b i r g spot)) e
       by true is_a kinds z =
           let s = z.0 in
           let w = ref_of from i r l os a is_a v s z.1 z.2 in
@@ -833,32 +833,32 @@ module _ (around : Setting) (f : ℕ) (ways : List Way) (y : Typing) (c : Contex
   take_is i r site lvalue mode form (in_object n) h = refl
   take_is i r site lvalue mode form (in_object_at n) h = refl
 
-  taken_at : (bare : Bool) (from i r : ℕ) (l : Label) → F from i r l → IsBare bare l → (a : Expression) (form : Option ℕ → Use) (s : StaticType) (xs : List Op) → TakeTyped around f ways y bare c a (form None) s → PlaceValue from i r l xs (target_of c a) (guard_of c a) (ground_of around f ways y c a)
+  taken_at : (bare : Bool) (from i r : ℕ) (l : Label) → F from i r l → IsBare bare l → (a : Expression) (form : Option ℕ → Use) (s : StaticType) (xs : List Op) → TakeTyped around f y bare c a (form None) s → PlaceValue from i r l xs (target_of c a) (guard_of c a) (ground_of around f y c a)
       → Q from (mark l from i) (xs ++ take_code c i r (span_of a).first (lvalue_in c a) (mode_of c a) form (target_of c a)) (mark (fill l r (Refers s) r false) from i)
   taken_at bare from i r l fr alone a form s xs h p = by (target_of c a) p h.takes
     where
-      cells : (t : Target) → is_cell t ≡ true → PlaceValue from i r l xs t (guard_of c a) (ground_of around f ways y c a) → ReferenceTyped around y c f t (guard_of c a) (ground_of around f ways y c a) (span_of a).first (lvalue_in c a) (mode_of c a) true (form None) s
+      cells : (t : Target) → is_cell t ≡ true → PlaceValue from i r l xs t (guard_of c a) (ground_of around f y c a) → ReferenceTyped around y c f t (guard_of c a) (ground_of around f y c a) (span_of a).first (lvalue_in c a) (mode_of c a) true (form None) s
           → Q from (mark l from i) (xs ++ take_code c i r (span_of a).first (lvalue_in c a) (mode_of c a) form t) (mark (fill l r (Refers s) r false) from i)
       cells t is p reaches =
-          let start = placed around f D y c low from t (guard_of c a) (ground_of around f ways y c a) p.element i r p.copy l in
+          let start = placed around f D y c low from t (guard_of c a) (ground_of around f y c a) p.element i r p.copy l in
           joins from (mark l from i) start (mark (fill l r (Refers s) r false) from i) xs (take_code c i r (span_of a).first (lvalue_in c a) (mode_of c a) form t) p.piece
           (subst (λ os. Q from start os (mark (fill l r (Refers s) r false) from i)) (take_is i r (span_of a).first (lvalue_in c a) (mode_of c a) form t is)
-          (taken_value around f D y c low from i r l fr (guard_of c a) (ground_of around f ways y c a) p.element p.copy p.fits p.small (span_of a).first (lvalue_in c a) (mode_of c a) form t is s (in_frame from i r l fr s h.type) reaches))
+          (taken_value around f D y c low from i r l fr (guard_of c a) (ground_of around f y c a) p.element p.copy p.fits p.small (span_of a).first (lvalue_in c a) (mode_of c a) form t is s (in_frame from i r l fr s h.type) reaches))
 
-      variables : (x : Register) (spot : Spot) → VariableTakes around f ways y bare c s x → Q from (mark (record l { gate = Closed }) from (i + 0)) (op.TakeLocal r (number_in x) spot ∷ []) (mark (fill l r (Refers s) r false) from i)
+      variables : (x : Register) (spot : Spot) → VariableTakes around f y bare c s x → Q from (mark (record l { gate = Closed }) from (i + 0)) (op.TakeLocal r (number_in x) spot ∷ []) (mark (fill l r (Refers s) r false) from i)
       variables (registers.Int j) spot takes = absurd takes
       variables (registers.Reference q) spot takes =
           let w = alone takes.0 in
           take_variable_at around f D y c low from i r l fr s (in_frame from i r l fr s h.type) q (i + 0) spot takes.1 (fr.holds.references q takes.1 ∙ ap Refers takes.2) takes.3 w.0 w.1 w.2
 
-      by : (t : Target) → PlaceValue from i r l xs t (guard_of c a) (ground_of around f ways y c a) → Takes around f ways y bare c a (form None) s t → Q from (mark l from i) (xs ++ take_code c i r (span_of a).first (lvalue_in c a) (mode_of c a) form t) (mark (fill l r (Refers s) r false) from i)
+      by : (t : Target) → PlaceValue from i r l xs t (guard_of c a) (ground_of around f y c a) → Takes around f y bare c a (form None) s t → Q from (mark l from i) (xs ++ take_code c i r (span_of a).first (lvalue_in c a) (mode_of c a) form t) (mark (fill l r (Refers s) r false) from i)
       by (variable x) p takes = joins from (mark l from i) (mark (record l { gate = Closed }) from (i + 0)) (mark (fill l r (Refers s) r false) from i) xs _ p.piece (variables (register_of c.scope x) _ takes)
       by (in_global g n) p takes = cells (in_global g n) refl p takes
       by (in_global_at g n) p takes = cells (in_global_at g n) refl p takes
       by (in_object n) p takes = cells (in_object n) refl p takes
       by (in_object_at n) p takes = cells (in_object_at n) refl p takes
 
-  cast_value : (bare : Bool) (from i r : ℕ) (l : Label) → F from i r l → IsBare bare l → (s : Span) (t : WrittenType) (a : Expression) (xs : List Op) → CastTyped around f ways y bare c (cast s t a) a → PlaceValue from i r l xs (target_of c a) (guard_of c a) (ground_of around f ways y c a) → ValueOf from i r l (cast_code c i r s a xs) (cast s t a)
+  cast_value : (bare : Bool) (from i r : ℕ) (l : Label) → F from i r l → IsBare bare l → (s : Span) (t : WrittenType) (a : Expression) (xs : List Op) → CastTyped around f y bare c (cast s t a) a → PlaceValue from i r l xs (target_of c a) (guard_of c a) (ground_of around f y c a) → ValueOf from i r l (cast_code c i r s a xs) (cast s t a)
   cast_value bare from i r l fr alone s t a xs h p =
       let b = h.before in
       let fits = in_frame from i r l fr b h.take.type in
@@ -878,7 +878,7 @@ module _ (around : Setting) (f : ℕ) (ways : List Way) (y : Typing) (c : Contex
             (joins from (mark l from i) (mark (fill l r (Refers b) r false) from i) end (xs ++ take_code c i r (span_of a).first (lvalue_in c a) (mode_of c a) uses.Cast (target_of c a)) tail (taken_at bare from i r l fr alone a uses.Cast b xs h.take p) gives);
       })
 
-  free_piece : (bare : Bool) (from i r : ℕ) (l : Label) → F from i r l → IsBare bare l → (a : Expression) (xs : List Op) (spot : Spot) → FreeTyped around f ways y bare c a → PlaceValue from i r l xs (target_of c a) (guard_of c a) (ground_of around f ways y c a)
+  free_piece : (bare : Bool) (from i r : ℕ) (l : Label) → F from i r l → IsBare bare l → (a : Expression) (xs : List Op) (spot : Spot) → FreeTyped around f y bare c a → PlaceValue from i r l xs (target_of c a) (guard_of c a) (ground_of around f y c a)
       → Q from (mark l from i) (xs ++ (take_code c i r (span_of a).first (lvalue_in c a) (mode_of c a) uses.Free (target_of c a) ++ (op.SkipIfNull r 1 ∷ op.Free r (layout_of (structs_in c.program.typed.program.items) (element_kind (kind_of c a))) spot ∷ []))) (mark l from i)
   free_piece bare from i r l fr alone a xs spot h p =
       let b = h.before in
@@ -910,12 +910,12 @@ module _ (around : Setting) (f : ℕ) (ways : List Way) (y : Typing) (c : Contex
         (joins from (mark l from i) (with_number around f D N top low from l i n.number) (with_number around f D N top low from l i n.number) (expression_code c i r a) (op.Print i (at_site s.first) ∷ []) n.piece (print_at around f D N top low from (i + 1) r (set_number l i n.number) at2 (i + 1) i (at_site s.first))))
     expressions bare from i r l fr alone (on_place s Lock a) h =
         let p = places bare from i r l fr alone (span_of a).first None None a h.0 in
-        entered_piece from i r l fr _ (mark l from i) (joins from (mark l from i) (placed around f D y c low from (target_of c a) None (ground_of around f ways y c a) p.element i r p.copy l) (mark l from i) (place_code c i r (span_of a).first None None a) _ p.piece
-        (locked_at around f D y c low from i r l fr (ground_of around f ways y c a) p.element p.copy p.fits p.small _ _ _ (target_of c a) h.1 h.2))
+        entered_piece from i r l fr _ (mark l from i) (joins from (mark l from i) (placed around f D y c low from (target_of c a) None (ground_of around f y c a) p.element i r p.copy l) (mark l from i) (place_code c i r (span_of a).first None None a) _ p.piece
+        (locked_at around f D y c low from i r l fr (ground_of around f y c a) p.element p.copy p.fits p.small _ _ _ (target_of c a) h.1 h.2))
     expressions bare from i r l fr alone (on_place s Unlock a) h =
         let p = places bare from i r l fr alone (span_of a).first None None a h.0 in
-        entered_piece from i r l fr _ (mark l from i) (joins from (mark l from i) (placed around f D y c low from (target_of c a) None (ground_of around f ways y c a) p.element i r p.copy l) (mark l from i) (place_code c i r (span_of a).first None None a) _ p.piece
-        (unlocked_at around f D y c low from i r l fr (ground_of around f ways y c a) p.element p.copy p.fits p.small _ _ (at_site s.first) (target_of c a) h.1 h.2))
+        entered_piece from i r l fr _ (mark l from i) (joins from (mark l from i) (placed around f D y c low from (target_of c a) None (ground_of around f y c a) p.element i r p.copy l) (mark l from i) (place_code c i r (span_of a).first None None a) _ p.piece
+        (unlocked_at around f D y c low from i r l fr (ground_of around f y c a) p.element p.copy p.fits p.small _ _ (at_site s.first) (target_of c a) h.1 h.2))
     expressions bare from i r l fr alone (on_place s Free a) h = entered_piece from i r l fr _ (mark l from i) (free_piece bare from i r l fr alone a (place_code c i r (span_of a).first None (guard_of c a) a) _ h.1 (places bare from i r l fr alone (span_of a).first None (guard_of c a) a h.0))
     expressions bare from i r l fr alone (cast s t a) h = entered from i r l fr _ (cast s t a) (cast_value bare from i r l fr alone s t a (place_code c i r (span_of a).first None (guard_of c a) a) h.1 (places bare from i r l fr alone (span_of a).first None (guard_of c a) a h.0))
     expressions bare from i r l fr alone (index s a n) h =
@@ -929,11 +929,11 @@ module _ (around : Setting) (f : ℕ) (ways : List Way) (y : Typing) (c : Contex
         entered from i r l fr _ e (read from i r l fr e s.first (target_of c e) (place_code c i r s.first own (guard_of c e) a) (places bare from i r l fr alone s.first own (guard_of c e) a h.0) h.1.0 (λ copy. tt) h.1.1)
     expressions bare from i r l fr alone (field s a Arrow n) h =
         let e = field s a Arrow n in
-        entered from i r l fr _ e (read from i r l fr e s.first (target_of c e) (pointee_code r s.first (expression_code c i r a)) (object_place from i r l fr a s.first (expression_code c i r a) (field_place_named c.program.typed (what_names c n.site.token)) (guard_of c e) (ground_of around f ways y c e) refl h.0.1
+        entered from i r l fr _ e (read from i r l fr e s.first (target_of c e) (pointee_code r s.first (expression_code c i r a)) (object_place from i r l fr a s.first (expression_code c i r a) (field_place_named c.program.typed (what_names c n.site.token)) (guard_of c e) (ground_of around f y c e) refl h.0.1
         (expressions bare from i r l fr alone a h.0.0)) h.1.0 (λ copy. tt) h.1.1)
     expressions bare from i r l fr alone (unary s Dereference a) h =
         let e = unary s Dereference a in
-        entered from i r l fr _ e (read from i r l fr e s.first (target_of c e) (pointee_code r s.first (expression_code c i r a)) (object_place from i r l fr a s.first (expression_code c i r a) 0 (guard_of c e) (ground_of around f ways y c e) refl h.1 (expressions bare from i r l fr alone a h.0)) h.2.0 (λ copy. tt) h.2.1)
+        entered from i r l fr _ e (read from i r l fr e s.first (target_of c e) (pointee_code r s.first (expression_code c i r a)) (object_place from i r l fr a s.first (expression_code c i r a) 0 (guard_of c e) (ground_of around f y c e) refl h.1 (expressions bare from i r l fr alone a h.0)) h.2.0 (λ copy. tt) h.2.1)
     expressions bare from i r l fr alone (unary s Negate a) h = entered from i r l fr _ (unary s Negate a) (negated from i r l fr (unary s Negate a) a (expression_code c i r a) s.first h.2 (expressions bare from i r l fr alone a h.0))
     expressions bare from i r l fr alone (unary s Not a) h = entered from i r l fr _ (unary s Not a) (not_value from i r l fr (unary s Not a) a (expression_code c i r a) h.2 h.1 (expressions bare from i r l fr alone a h.0))
     expressions bare from i r l fr alone (unary s Complement a) h = entered from i r l fr _ (unary s Complement a) (complemented from i r l fr (unary s Complement a) a (expression_code c i r a) h.2 (expressions bare from i r l fr alone a h.0))
@@ -958,7 +958,7 @@ module _ (around : Setting) (f : ℕ) (ways : List Way) (y : Typing) (c : Contex
     expressions bare from i r l fr alone (binary s Divide at a b) h = entered from i r l fr _ (binary s Divide at a b) (computed from i r l fr (binary s Divide at a b) at Divide a b (expression_code c i r a) (λ i2 r2. expression_code c i2 r2 b) h.4.0 h.4.1 h.1 h.3 (expressions bare from i r l fr alone a h.0) bare alone (λ i2 r2 l2 f2 q. expressions (after_value c a bare) from i2 r2 l2 f2 q b h.2))
     expressions bare from i r l fr alone (binary s Remainder at a b) h = entered from i r l fr _ (binary s Remainder at a b) (computed from i r l fr (binary s Remainder at a b) at Remainder a b (expression_code c i r a) (λ i2 r2. expression_code c i2 r2 b) h.4.0 h.4.1 h.1 h.3 (expressions bare from i r l fr alone a h.0) bare alone (λ i2 r2 l2 f2 q. expressions (after_value c a bare) from i2 r2 l2 f2 q b h.2))
 
-    pub places : (bare : Bool) (from i r : ℕ) (l : Label) → F from i r l → IsBare bare l → (site : Site) (own guard : Option ℕ) (e : Expression) → PlaceTyped bare own guard e → PlaceValue from i r l (place_code c i r site own guard e) (target c.program.typed own e) guard (ground_of around f ways y c e)
+    pub places : (bare : Bool) (from i r : ℕ) (l : Label) → F from i r l → IsBare bare l → (site : Site) (own guard : Option ℕ) (e : Expression) → PlaceTyped bare own guard e → PlaceValue from i r l (place_code c i r site own guard e) (target c.program.typed own e) guard (ground_of around f y c e)
     places bare from i r l fr alone site own guard (identifier s x) h = entered_place from i r l fr [] _ guard _ (named_place from i r l fr (what_names c x.site.token) (own_field own 0) guard _ refl)
     places bare from i r l fr alone site own guard (parentheses s a) h = entered_place from i r l fr _ _ guard _ (places bare from i r l fr alone site own guard a h)
     places bare from i r l fr alone site own guard (index s a n) h = entered_place from i r l fr _ _ guard _
@@ -972,17 +972,17 @@ module _ (around : Setting) (f : ℕ) (ways : List Way) (y : Typing) (c : Contex
     places bare from i r l fr alone site own guard (unary s Complement a) h = entered_place from i r l fr [] (variable 0) guard _ (variable_place from i r l fr 0 guard _ refl)
     places bare from i r l fr alone site own guard _ h = entered_place from i r l fr [] (variable 0) guard _ (variable_place from i r l fr 0 guard _ refl)
 
-    pub arguments : (bare : Bool) (i r : ℕ) (l : Label) → F i i r l → IsBare bare l → (kinds : List Kind) (wants : ℕ → StaticType) (all : Arguments) → AreTypable around f ways y bare c kinds wants all → Passed i r l kinds wants all (arguments_code c i r kinds all)
+    pub arguments : (bare : Bool) (i r : ℕ) (l : Label) → F i i r l → IsBare bare l → (kinds : List Kind) (wants : ℕ → StaticType) (all : Arguments) → AreTypable around f y bare c kinds wants all → Passed i r l kinds wants all (arguments_code c i r kinds all)
     arguments bare i r l fr alone kinds wants no_arguments h = record { label = l; ints = i; refs = r; frame = fr; more_ints = omega arith; more_refs = omega arith; env = λ q lt. refl; same = λ q lt. refl; known = λ q lt. refl; numbers = λ j lt. refl; here = tt; piece = untold i i i i l (omega arith) }
     arguments bare i r l fr alone kinds wants (argument a rest) h = one_passed i r l fr kinds wants a rest (expression_code c i r a) (λ i2 r2. arguments_code c i2 r2 (drop 1 kinds) rest) (span_of a).first h.1 (expressions bare i i r l fr alone a h.0) bare alone
         (λ i2 r2 l2 f2 q. arguments (after_value c a bare) i2 r2 l2 f2 q (drop 1 kinds) (λ n. wants (n + 1)) rest h.2)
 
-    pub one_held : (bare : Bool) (from i r : ℕ) (l : Label) → F from i r l → IsBare bare l → (kinds : List Kind) (wants : ℕ → StaticType) (all : Arguments) → AreTypable around f ways y bare c kinds wants all → IsOne around f ways y c all → OneHeld from i r l wants (arguments_code c i r kinds all)
+    pub one_held : (bare : Bool) (from i r : ℕ) (l : Label) → F from i r l → IsBare bare l → (kinds : List Kind) (wants : ℕ → StaticType) (all : Arguments) → AreTypable around f y bare c kinds wants all → IsOne around f y c all → OneHeld from i r l wants (arguments_code c i r kinds all)
     one_held bare from i r l fr alone kinds wants no_arguments h is = absurd is
     one_held bare from i r l fr alone kinds wants (argument a no_arguments) h is = one_by from i r l fr kinds wants a (expression_code c i r a) (span_of a).first is h.1 (expressions bare from i r l fr alone a h.0)
     one_held bare from i r l fr alone kinds wants (argument a (argument b rest)) h is = absurd is
 
-    pub two_held : (bare : Bool) (from i r : ℕ) (l : Label) → F from i r l → IsBare bare l → (kinds : List Kind) (wants : ℕ → StaticType) (all : Arguments) → AreTypable around f ways y bare c kinds wants all → AreTwo around f ways y c all → TwoHeld from i r l wants (arguments_code c i r kinds all)
+    pub two_held : (bare : Bool) (from i r : ℕ) (l : Label) → F from i r l → IsBare bare l → (kinds : List Kind) (wants : ℕ → StaticType) (all : Arguments) → AreTypable around f y bare c kinds wants all → AreTwo around f y c all → TwoHeld from i r l wants (arguments_code c i r kinds all)
     two_held bare from i r l fr alone kinds wants no_arguments h are = absurd are
     two_held bare from i r l fr alone kinds wants (argument a no_arguments) h are = absurd are
     two_held bare from i r l fr alone kinds wants (argument a (argument b no_arguments)) h are = two_by from i r l fr kinds wants a b (expression_code c i r a) (λ i2 r2. expression_code c i2 r2 b) (span_of a).first are.0 are.1 h.1 h.2.1 (expressions bare from i r l fr alone a h.0) bare

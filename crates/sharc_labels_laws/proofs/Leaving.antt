@@ -83,7 +83,7 @@ module _ (z : Setting) (f : ℕ) (ways : List Way) (y : Typing) (c : Context) (l
   returned : (m : Mark) (xs : List Op) → LeadsAmong z f ways s xs m → ((table : ℕ → Mark) (pc : ℕ) → IsScoped (ints_in z.code (Some f)) (refs_in z.code (Some f)) m.label → IsLine z f table pc m (op.Return spot)) → LeadsAmong z f ways s (xs ++ op.Return spot ∷ []) s
   returned m xs q line = last z f ways s m xs (op.Return spot) q (λ table pc h _. line table pc h)
 
-  returns : (b : Bool) → GivesNothing z f ways y c b → LeadsAmong z f ways s (os ++ (zero_code b 0 0 ++ op.Return spot ∷ [])) s
+  returns : (b : Bool) → GivesNothing z f y c b → LeadsAmong z f ways s (os ++ (zero_code b 0 0 ++ op.Return spot ∷ [])) s
   returns true h =
       let k = fill l r (Refers h.0) r false in
       let m = mark k i i in

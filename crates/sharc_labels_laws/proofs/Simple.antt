@@ -61,7 +61,7 @@ module _ (around : Setting) (f : ℕ) (ways : List Way) (y : Typing) (c : Contex
   joins from = then_do around f D N top low from
 
   -- ---- a new object
-  new_at : (from i r : ℕ) (l : Label) (fr : F from i r l) (n : Number) → IsPlain n → (s : StaticType) → IsTypeIn around f ways y c s → (size : ℕ) → IsMade around f ways y s size → (spot : Spot)
+  new_at : (from i r : ℕ) (l : Label) (fr : F from i r l) (n : Number) → IsPlain n → (s : StaticType) → IsTypeIn around f y c s → (size : ℕ) → IsMade around f y s size → (spot : Spot)
       → Q from (with_number around f D N top low from l i n) (op.New r i size spot ∷ []) (mark (fill l r (Refers s) r false) from i)
   new_at from i r l fr n plain s type size made spot =
       let fits = in_frame around f ways y c low from i r l fr s type in
@@ -90,14 +90,14 @@ module _ (around : Setting) (f : ℕ) (ways : List Way) (y : Typing) (c : Contex
   Comes from i r l kind s os true = (copy : ℕ) × ((copy ≡ r) ⊎ (copy < top)) × Q from (mark l from i) os (mark (fill l r (Refers s) copy false) from i)
   Comes from i r l kind s os false = Q from (mark l from i) os (mark (set_number l i (Within (width_of kind))) from i)
 
-  counted : (from i r : ℕ) (l : Label) → F from i r l → (n : Option Expression) → CountTypable around f ways y c n → (number : Number) × IsPlain number × Q from (mark l from i) (elements_code c i r n) (with_number around f D N top low from l i number)
+  counted : (from i r : ℕ) (l : Label) → F from i r l → (n : Option Expression) → CountTypable around f y c n → (number : Number) × IsPlain number × Q from (mark l from i) (elements_code c i r n) (with_number around f D N top low from l i number)
   counted from i r l fr None h = (Exactly (pos 1), tt, constant_at around f D N top low from i r l fr.at (pos 1))
   counted from i r l fr (Some n) h = let v = int_of around f ways y c low from i r l (expression_code c i r n) n h.1 (expressions around f ways y c low false from i r l fr (no_bare around f ways y c low l) n h.0) in (v.number, v.plain, v.piece)
 
-  pub rights : (bare : Bool) (from i r : ℕ) (l : Label) → F from i r l → IsBare bare l → (kind : Kind) (mode : Sharing) (s : StaticType) (x : Right) → RightTypable around f ways y bare c kind s x → Comes from i r l kind s (right_code c i r kind mode x) (is_reference kind)
+  pub rights : (bare : Bool) (from i r : ℕ) (l : Label) → F from i r l → IsBare bare l → (kind : Kind) (mode : Sharing) (s : StaticType) (x : Right) → RightTypable around f y bare c kind s x → Comes from i r l kind s (right_code c i r kind mode x) (is_reference kind)
   rights bare from i r l fr alone kind mode s (value e) h = by (is_reference kind) h
     where
-      by : (b : Bool) → ValueGoes around f ways y bare c kind s e b → Comes from i r l kind s (expression_code c i r e ++ width_code i kind (span_of e).first) b
+      by : (b : Bool) → ValueGoes around f y bare c kind s e b → Comes from i r l kind s (expression_code c i r e ++ width_code i kind (span_of e).first) b
       by true h =
           let w = ref_of around f ways y c low from i r l (expression_code c i r e) e h.1 (expressions around f ways y c low bare from i r l fr alone e h.0) s h.3 h.4 in
           let end = mark (fill l r (Refers s) w.copy false) from i in (
@@ -160,12 +160,12 @@ module _ (around : Setting) (f : ℕ) (ways : List Way) (y : Typing) (c : Contex
   store_is i r vi vr site lvalue mode b (in_object_at n) h = refl
 
   -- ---- to a cell
-  cell_assigned : (from i r : ℕ) (l : Label) → F from i r l → (u : Expression) (s : StaticType) (mode : Sharing) (x : Right) (t : Target) → is_cell t ≡ true → (xs : List Op) → PlaceValue around f ways y c low from i r l xs t (guard_of c u) (ground_of around f ways y c u) → CellAssigned around f ways y c u s t (is_ref c u)
-      → IsTypeIn around f ways y c s → RightTypable around f ways y false c (kind_of c u) s x
+  cell_assigned : (from i r : ℕ) (l : Label) → F from i r l → (u : Expression) (s : StaticType) (mode : Sharing) (x : Right) (t : Target) → is_cell t ≡ true → (xs : List Op) → PlaceValue around f ways y c low from i r l xs t (guard_of c u) (ground_of around f y c u) → CellAssigned around f y c u s t (is_ref c u)
+      → IsTypeIn around f y c s → RightTypable around f y false c (kind_of c u) s x
       → Q from (mark l from i) (xs ++ (right_code c (i + index_width t (guard_of c u)) (r + base_width t) (kind_of c u) mode x ++ store_code c i r (i + index_width t (guard_of c u)) (r + base_width t) (span_of u).first (lvalue_in c u) (mode_of c u) (is_ref c u) t)) (mark l from i)
   cell_assigned from i r l fr u s mode x t cell xs p assigned type right =
       let guard = guard_of c u in
-      let ground = ground_of around f ways y c u in
+      let ground = ground_of around f y c u in
       let start = placed around f D y c low from t guard ground p.element i r p.copy l in
       let fp = placed_frame from i r l fr t guard ground p.element p.copy p.fits p.small in
       let v = rights false from (i + index_width t guard) (r + base_width t) start.label fp (no_bare around f ways y c low start.label) (kind_of c u) mode s x right in
@@ -173,26 +173,26 @@ module _ (around : Setting) (f : ℕ) (ways : List Way) (y : Typing) (c : Contex
       (subst (λ os. Q from start (right_code c (i + index_width t guard) (r + base_width t) (kind_of c u) mode x ++ os) (mark l from i)) (store_is i r (i + index_width t guard) (r + base_width t) (span_of u).first (lvalue_in c u) (mode_of c u) (is_ref c u) t cell)
       (stored (is_ref c u) v assigned))
     where
-      stored : (b : Bool) → Comes from (i + index_width t (guard_of c u)) (r + base_width t) (placed around f D y c low from t (guard_of c u) (ground_of around f ways y c u) p.element i r p.copy l).label (kind_of c u) s (right_code c (i + index_width t (guard_of c u)) (r + base_width t) (kind_of c u) mode x) b
-          → CellAssigned around f ways y c u s t b
-          → Q from (placed around f D y c low from t (guard_of c u) (ground_of around f ways y c u) p.element i r p.copy l)
+      stored : (b : Bool) → Comes from (i + index_width t (guard_of c u)) (r + base_width t) (placed around f D y c low from t (guard_of c u) (ground_of around f y c u) p.element i r p.copy l).label (kind_of c u) s (right_code c (i + index_width t (guard_of c u)) (r + base_width t) (kind_of c u) mode x) b
+          → CellAssigned around f y c u s t b
+          → Q from (placed around f D y c low from t (guard_of c u) (ground_of around f y c u) p.element i r p.copy l)
           (right_code c (i + index_width t (guard_of c u)) (r + base_width t) (kind_of c u) mode x ++ cell_store_code c i r (i + index_width t (guard_of c u)) (r + base_width t) (span_of u).first (lvalue_in c u) (mode_of c u) b t) (mark l from i)
       stored true v h =
           let high = fr.high in
-          joins from (placed around f D y c low from t (guard_of c u) (ground_of around f ways y c u) p.element i r p.copy l)
-          (mark (fill (placed around f D y c low from t (guard_of c u) (ground_of around f ways y c u) p.element i r p.copy l).label (r + base_width t) (Refers s) v.0 false) from (i + index_width t (guard_of c u))) (mark l from i)
+          joins from (placed around f D y c low from t (guard_of c u) (ground_of around f y c u) p.element i r p.copy l)
+          (mark (fill (placed around f D y c low from t (guard_of c u) (ground_of around f y c u) p.element i r p.copy l).label (r + base_width t) (Refers s) v.0 false) from (i + index_width t (guard_of c u))) (mark l from i)
           (right_code c (i + index_width t (guard_of c u)) (r + base_width t) (kind_of c u) mode x) _ v.2
-          (reference_store around f D y c low from i r l fr (guard_of c u) (ground_of around f ways y c u) p.element p.copy p.fits p.small (span_of u).first (lvalue_in c u) (mode_of c u) s (in_frame around f ways y c low from i r l fr s type) v.0 false t cell
+          (reference_store around f D y c low from i r l fr (guard_of c u) (ground_of around f y c u) p.element p.copy p.fits p.small (span_of u).first (lvalue_in c u) (mode_of c u) s (in_frame around f ways y c low from i r l fr s type) v.0 false t cell
           (⊎_elim (λ (e : v.0 ≡ r + base_width t). omega (arith, e)) (λ (lt : v.0 < top). omega (arith, lt, high)) v.1) (i + index_width t (guard_of c u)) h)
       stored false v h =
-          joins from (placed around f D y c low from t (guard_of c u) (ground_of around f ways y c u) p.element i r p.copy l)
-          (mark (set_number (placed around f D y c low from t (guard_of c u) (ground_of around f ways y c u) p.element i r p.copy l).label (i + index_width t (guard_of c u)) (Within (width_of (kind_of c u)))) from (i + index_width t (guard_of c u))) (mark l from i)
+          joins from (placed around f D y c low from t (guard_of c u) (ground_of around f y c u) p.element i r p.copy l)
+          (mark (set_number (placed around f D y c low from t (guard_of c u) (ground_of around f y c u) p.element i r p.copy l).label (i + index_width t (guard_of c u)) (Within (width_of (kind_of c u)))) from (i + index_width t (guard_of c u))) (mark l from i)
           (right_code c (i + index_width t (guard_of c u)) (r + base_width t) (kind_of c u) mode x) _ v
-          (int_store around f D y c low from i r l fr (guard_of c u) (ground_of around f ways y c u) p.element p.copy p.fits p.small (span_of u).first (lvalue_in c u) (mode_of c u) t cell (width_of (kind_of c u)) (r + base_width t) h)
+          (int_store around f D y c low from i r l fr (guard_of c u) (ground_of around f y c u) p.element p.copy p.fits p.small (span_of u).first (lvalue_in c u) (mode_of c u) t cell (width_of (kind_of c u)) (r + base_width t) h)
 
   -- ---- to a variable
   -- the value in these registers, of which nothing else is at hand
-  pub settled : (from i r : ℕ) (l : Label) → F from i r l → IsBare true l → int_count c.scope ≤ from → (kind : Kind) (s : StaticType) (x : Register) (xs : List Op) → IsTypeIn around f ways y c s → VariableAssigned around f ways y c kind s x → Comes from i r l kind s xs (is_reference kind)
+  pub settled : (from i r : ℕ) (l : Label) → F from i r l → IsBare true l → int_count c.scope ≤ from → (kind : Kind) (s : StaticType) (x : Register) (xs : List Op) → IsTypeIn around f y c s → VariableAssigned around f y c kind s x → Comes from i r l kind s xs (is_reference kind)
       → Q from (mark l from i) (xs ++ settle_code i r x) (mark l from i)
   settled from i r l fr alone whole kind s (registers.Int j) xs type h v =
       let w = width_of kind in
@@ -212,7 +212,7 @@ module _ (around : Setting) (f : ℕ) (ways : List Way) (y : Typing) (c : Contex
   shut_bare : (bare : Bool) (l : Label) → IsBare bare l → IsBare bare (record l { gate = Closed })
   shut_bare bare l h = h
 
-  variable_assigned : (from i r : ℕ) (l : Label) → F from i r l → IsBare true l → int_count c.scope ≤ from → (kind : Kind) (mode : Sharing) (s : StaticType) (v : ℕ) (x : Right) (xs : List Op) → IsTypeIn around f ways y c s → VariableAssigned around f ways y c kind s (register_of c.scope v) → RightTypable around f ways y true c kind s x
+  variable_assigned : (from i r : ℕ) (l : Label) → F from i r l → IsBare true l → int_count c.scope ≤ from → (kind : Kind) (mode : Sharing) (s : StaticType) (v : ℕ) (x : Right) (xs : List Op) → IsTypeIn around f y c s → VariableAssigned around f y c kind s (register_of c.scope v) → RightTypable around f y true c kind s x
       → Q from (mark l from i) xs (mark (record l { gate = Closed }) from (i + 0)) → Q from (mark l from i) (xs ++ (right_code c (i + 0) (r + 0) kind mode x ++ settle_code (i + 0) (r + 0) (register_of c.scope v))) (mark l from i)
   variable_assigned from i r l fr alone whole kind mode s v x xs type assigned right p =
       let k = record l { gate = Closed } in
@@ -225,10 +225,10 @@ module _ (around : Setting) (f : ℕ) (ways : List Way) (y : Typing) (c : Contex
       (subst (λ m. Q from (mark k from (i + 0)) (right_code c (i + 0) (r + 0) kind mode x ++ settle_code (i + 0) (r + 0) (register_of c.scope v)) (mark m from (i + 0))) (sym (shut from i r l fr)) q))
 
   -- ---- a call whose value is dropped
-  dropped : (from i r : ℕ) (l : Label) → F from i r l → IsBare true l → (e : Expression) → IsTypable around f ways y true c e → Dropped around f ways y c e (is_ref c e) → Q from (mark l from i) (expression_code c i r e ++ drop_code (is_ref c e) r) (mark l from i)
+  dropped : (from i r : ℕ) (l : Label) → F from i r l → IsBare true l → (e : Expression) → IsTypable around f y true c e → Dropped around f y c e (is_ref c e) → Q from (mark l from i) (expression_code c i r e ++ drop_code (is_ref c e) r) (mark l from i)
   dropped from i r l fr alone e h d = by (is_ref c e) (is_integer (kind_of c e)) (expressions around f ways y c low true from i r l fr alone e h) d
     where
-      by : (a b : Bool) → Value around f ways y c low from i r l (expression_code c i r e) e a b → Dropped around f ways y c e a → Q from (mark l from i) (expression_code c i r e ++ drop_code a r) (mark l from i)
+      by : (a b : Bool) → Value around f ways y c low from i r l (expression_code c i r e) e a b → Dropped around f y c e a → Q from (mark l from i) (expression_code c i r e ++ drop_code a r) (mark l from i)
       by true b v d =
           let w = v d.0 d.1 d.2 in
           joins from (mark l from i) (mark (fill l r (Refers d.0) w.copy false) from i) (mark l from i) (expression_code c i r e) (op.Pop r ∷ []) w.piece (pop_at around f D N top low from i r l fr.at fr.high d.0 w.copy false (in_frame around f ways y c low from i r l fr d.0 d.2) i)
@@ -236,11 +236,11 @@ module _ (around : Setting) (f : ℕ) (ways : List Way) (y : Typing) (c : Contex
       by false false v d = joins from (mark l from i) (mark l from i) (mark l from i) (expression_code c i r e) [] v (none around f D N top low from (mark l from i) (mark l from i) (fits_same around.targets (mark l from i)) (λ z. z))
 
   -- ---- the whole
-  pub simples : (from i r : ℕ) (l : Label) → F from i r l → IsBare true l → int_count c.scope ≤ from → (x : Simple) → SimpleTypable around f ways y c x → Q from (mark l from i) (simple_code c i r x) (mark l from i)
+  pub simples : (from i r : ℕ) (l : Label) → F from i r l → IsBare true l → int_count c.scope ≤ from → (x : Simple) → SimpleTypable around f y c x → Q from (mark l from i) (simple_code c i r x) (mark l from i)
   simples from i r l fr alone whole (does_call e) h = dropped from i r l fr alone e h.0 h.1
   simples from i r l fr alone whole (assign span u x) h = by (target_of c u) (places around f ways y c low true from i r l fr alone (span_of u).first None (guard_of c u) u h.0) h.1.2 h.1.3
     where
-      by : (t : Target) → PlaceValue around f ways y c low from i r l (place_code c i r (span_of u).first None (guard_of c u) u) t (guard_of c u) (ground_of around f ways y c u) → Assigned around f ways y c u h.1.0 t → RightTypable around f ways y (is_bare around f ways y t) c (kind_of c u) h.1.0 x
+      by : (t : Target) → PlaceValue around f ways y c low from i r l (place_code c i r (span_of u).first None (guard_of c u) u) t (guard_of c u) (ground_of around f y c u) → Assigned around f y c u h.1.0 t → RightTypable around f y (is_bare around f y t) c (kind_of c u) h.1.0 x
           → Q from (mark l from i) (place_code c i r (span_of u).first None (guard_of c u) u ++ (right_code c (i + index_width t (guard_of c u)) (r + base_width t) (kind_of c u) (pointed c.program (row_at c.program.typed u)) x
           ++ store_code c i r (i + index_width t (guard_of c u)) (r + base_width t) (span_of u).first (lvalue_in c u) (mode_of c u) (is_ref c u) t)) (mark l from i)
       by (variable v) p a right = variable_assigned from i r l fr alone whole (kind_of c u) (pointed c.program (row_at c.program.typed u)) h.1.0 v x (place_code c i r (span_of u).first None (guard_of c u) u) h.1.1 a right p.piece

@@ -42,16 +42,16 @@ abbrev pub declared_label : Context → Label → StaticType → Width → Bool 
 declared_label c l s w true = fill l (ref_count c.scope) (Refers s) (ref_count c.scope) false
 declared_label c l s w false = set_number l (int_count c.scope) (Within w)
 
-module _ (z : Setting) (f : ℕ) (ways : List Way) (y : Typing) where
+module _ (z : Setting) (f : ℕ) (y : Typing) where
   abbrev pub InitialTypable : Context → Declaration → StaticType → Option Right → Type 0
   InitialTypable d declared s None = Unit {0}
-  InitialTypable d declared s (Some x) = VariableAssigned z f ways y d (declared_kind declared.written) s (register_of d.scope declared.name.site.token) × RightTypable z f ways y true d (declared_kind declared.written) s x
+  InitialTypable d declared s (Some x) = VariableAssigned z f y d (declared_kind declared.written) s (register_of d.scope declared.name.site.token) × RightTypable z f y true d (declared_kind declared.written) s x
 
   pub record LocalTypable (c : Context) (l : Local) (s : StaticType) : Type 0 where
     pub keeps : Keeps y c (with_variable c l.declaration)
     pub begins : Begins y c (with_variable c l.declaration) s (width_of (declared_kind l.declaration.written)) (is_reference (declared_kind l.declaration.written))
-    pub type : IsTypeIn z f ways y c s
-    pub again : IsTypeIn z f ways y (with_variable c l.declaration) s
+    pub type : IsTypeIn z f y c s
+    pub again : IsTypeIn z f y (with_variable c l.declaration) s
     pub initial : InitialTypable (with_variable c l.declaration) l.declaration s l.initial
 
 -- Before a statement the registers of the variables are taken, and no other; so it is behind a declaration, with one more.
@@ -68,5 +68,5 @@ module _ (z : Setting) (f : ℕ) (ways : List Way) (y : Typing) (c : Context) (l
     pub leads : LeadsAmong z f ways (before c l) (local_code c local) (before (with_variable c local.declaration) k)
 
 abbrev pub LocalsAreTyped : Type 0
-LocalsAreTyped = (z : Setting) (f : ℕ) (ways : List Way) (y : Typing) (c : Context) → AreLow (y.named c) (ref_count c.scope) → (l : Label) → StandsBefore y c f l → (local : Local) (s : StaticType) → LocalTypable z f ways y c local s
+LocalsAreTyped = (z : Setting) (f : ℕ) (ways : List Way) (y : Typing) (c : Context) → AreLow (y.named c) (ref_count c.scope) → (l : Label) → StandsBefore y c f l → (local : Local) (s : StaticType) → LocalTypable z f y c local s
     → LocalLeads z f ways y c l local (declared_label c l s (width_of (declared_kind local.declaration.written)) (is_reference (declared_kind local.declaration.written)))

@@ -37,13 +37,13 @@ IsOpen (way ∷ ways) q m = ((way.line ≡ q) × (way.mark ≡ m)) ⊎ IsOpen wa
 abbrev pub JumpsAreTyped : Type 0
 JumpsAreTyped = (z : Setting) (f : ℕ) (ways : List Way) (y : Typing) (c : Context) (l : Label) → StandsBefore y c f l → (q : ℕ) → IsOpen ways q (before c l) → (s : Mark) (os : List Op) → LeadsAmong z f ways s os (before c l) → LeadsAmong z f ways s (os ++ op.Jump q ∷ []) s
 
-module _ (z : Setting) (f : ℕ) (ways : List Way) (y : Typing) (c : Context) where
+module _ (z : Setting) (f : ℕ) (y : Typing) (c : Context) where
   -- NULL or 0 is what the function gives back
   abbrev pub GivesNothing : Bool → Type 0
-  GivesNothing true = (s : StaticType) × IsTypeIn z f ways y c s × ((z.signature f).result ≡ Refers s) × ((z.signature f).result_int ≡ Anything)
+  GivesNothing true = (s : StaticType) × IsTypeIn z f y c s × ((z.signature f).result ≡ Refers s) × ((z.signature f).result_int ≡ Anything)
   GivesNothing false = ((z.signature f).result ≡ Empty) × LessNumber (Exactly (pos 0)) (z.signature f).result_int
 
 -- no variable stands any more
 abbrev pub ReturnsAreTyped : Type 0
-ReturnsAreTyped = (z : Setting) (f : ℕ) (ways : List Way) (y : Typing) (c : Context) → AreLow (y.named c) (ref_count c.scope) → int_count c.scope ≡ 0 → ref_count c.scope ≡ 0 → (l : Label) → StandsBefore y c f l → (result : Bool) → GivesNothing z f ways y c result → (spot : Spot)
+ReturnsAreTyped = (z : Setting) (f : ℕ) (ways : List Way) (y : Typing) (c : Context) → AreLow (y.named c) (ref_count c.scope) → int_count c.scope ≡ 0 → ref_count c.scope ≡ 0 → (l : Label) → StandsBefore y c f l → (result : Bool) → GivesNothing z f y c result → (spot : Spot)
     → (s : Mark) (os : List Op) → LeadsAmong z f ways s os (before c l) → LeadsAmong z f ways s (os ++ (zero_code result 0 0 ++ op.Return spot ∷ [])) s

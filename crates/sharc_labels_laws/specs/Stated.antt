@@ -12,11 +12,11 @@ use Rattle.sharc_flat.specs.Scope.{Context, int_count, ref_count, register_of}
 use Rattle.sharc_flat.specs.Places.{Target, variable, width_of}
 use Rattle.sharc_flat.specs.Flattened.{kind_of, is_ref, target_of, mode_of, lvalue_in, guard_of}
 use Rattle.sharc_invariant.specs.Types.{StaticType, cells_of}
-use Rattle.sharc_labels_laws.specs.Stretches.{Setting, Way}
+use Rattle.sharc_labels_laws.specs.Stretches.{Setting}
 use Rattle.sharc_labels_laws.specs.Premises.{Typing, IntegerTyped, ReferenceTyped}
 use Rattle.sharc_labels_laws.specs.Typable.{GoesTo, IsTypeIn, IsNumber, ground_of, IsTypable, IsPlaceTypable}
 
-module _ (z : Setting) (f : ℕ) (ways : List Way) (y : Typing) where
+module _ (z : Setting) (f : ℕ) (y : Typing) where
   -- a new object has a row, and cells
   pub record IsMade (s : StaticType) (size : ℕ) : Type 0 where
     pub some : s.target ≢ 0
@@ -26,16 +26,16 @@ module _ (z : Setting) (f : ℕ) (ways : List Way) (y : Typing) where
 
   abbrev pub CountTypable : Context → Option Expression → Type 0
   CountTypable c None = Unit {0}
-  CountTypable c (Some n) = IsTypable z f ways y false c n × IsNumber z f ways y c n
+  CountTypable c (Some n) = IsTypable z f y false c n × IsNumber z f y c n
 
   -- a value goes to something of this kind, and, if that is a pointer, of this type
   abbrev pub ValueGoes : Bool → Context → Kind → StaticType → Expression → Bool → Type 0
-  ValueGoes bare c kind s e true = IsTypable z f ways y bare c e × (is_ref c e ≡ true) × (is_integer kind ≡ false) × GoesTo (y.entry c e) s × IsTypeIn z f ways y c s
-  ValueGoes bare c kind s e false = IsTypable z f ways y bare c e × IsNumber z f ways y c e × (is_integer kind ≡ true)
+  ValueGoes bare c kind s e true = IsTypable z f y bare c e × (is_ref c e ≡ true) × (is_integer kind ≡ false) × GoesTo (y.entry c e) s × IsTypeIn z f y c s
+  ValueGoes bare c kind s e false = IsTypable z f y bare c e × IsNumber z f y c e × (is_integer kind ≡ true)
 
   abbrev pub RightTypable : Bool → Context → Kind → StaticType → Right → Type 0
   RightTypable bare c kind s (value e) = ValueGoes bare c kind s e (is_reference kind)
-  RightTypable bare c kind s (malloc span n w) = (is_reference kind ≡ true) × IsTypeIn z f ways y c s × IsMade s (element_cells c.program.typed (declared_kind w)) × CountTypable c n
+  RightTypable bare c kind s (malloc span n w) = (is_reference kind ≡ true) × IsTypeIn z f y c s × IsMade s (element_cells c.program.typed (declared_kind w)) × CountTypable c n
 
   -- what is assigned to, of this kind and of this type
   abbrev pub VariableAssigned : Context → Kind → StaticType → Register → Type 0
@@ -43,8 +43,8 @@ module _ (z : Setting) (f : ℕ) (ways : List Way) (y : Typing) where
   VariableAssigned c kind s (Reference q) = (is_reference kind ≡ true) × (q < ref_count c.scope) × (y.pointer c q ≡ s) × (y.named c q ≡ false)
 
   abbrev pub CellAssigned : Context → Expression → StaticType → Target → Bool → Type 0
-  CellAssigned c u s t true = ReferenceTyped z y c f t (guard_of c u) (ground_of z f ways y c u) (span_of u).first (lvalue_in c u) (mode_of c u) true uses.Write s
-  CellAssigned c u s t false = IntegerTyped z y c f t (guard_of c u) (ground_of z f ways y c u) (span_of u).first (lvalue_in c u) (mode_of c u) true uses.Write (width_of (kind_of c u))
+  CellAssigned c u s t true = ReferenceTyped z y c f t (guard_of c u) (ground_of z f y c u) (span_of u).first (lvalue_in c u) (mode_of c u) true uses.Write s
+  CellAssigned c u s t false = IntegerTyped z y c f t (guard_of c u) (ground_of z f y c u) (span_of u).first (lvalue_in c u) (mode_of c u) true uses.Write (width_of (kind_of c u))
 
   abbrev pub Assigned : Context → Expression → StaticType → Target → Type 0
   Assigned c u s (variable x) = VariableAssigned c (kind_of c u) s (register_of c.scope x)
@@ -57,9 +57,9 @@ module _ (z : Setting) (f : ℕ) (ways : List Way) (y : Typing) where
 
   -- a value that is dropped
   abbrev pub Dropped : Context → Expression → Bool → Type 0
-  Dropped c e true = (s : StaticType) × GoesTo (y.entry c e) s × IsTypeIn z f ways y c s
+  Dropped c e true = (s : StaticType) × GoesTo (y.entry c e) s × IsTypeIn z f y c s
   Dropped c e false = Unit {0}
 
   abbrev pub SimpleTypable : Context → Simple → Type 0
-  SimpleTypable c (assign span u x) = IsPlaceTypable z f ways y true c None (guard_of c u) u × ((s : StaticType) × IsTypeIn z f ways y c s × Assigned c u s (target_of c u) × RightTypable (is_bare (target_of c u)) c (kind_of c u) s x)
-  SimpleTypable c (does_call e) = IsTypable z f ways y true c e × Dropped c e (is_ref c e)
+  SimpleTypable c (assign span u x) = IsPlaceTypable z f y true c None (guard_of c u) u × ((s : StaticType) × IsTypeIn z f y c s × Assigned c u s (target_of c u) × RightTypable (is_bare (target_of c u)) c (kind_of c u) s x)
+  SimpleTypable c (does_call e) = IsTypable z f y true c e × Dropped c e (is_ref c e)

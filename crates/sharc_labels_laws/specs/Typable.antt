@@ -38,7 +38,7 @@ use Rattle.sharc_invariant.specs.Types.{StaticType, Content, field_at, cells_of}
 use Rattle.sharc_invariant.specs.Types.Content.{MutexWord, Waiters}
 use Rattle.sharc_invariant.specs.Labels.{Entry, Empty, Refers, Unknown, Exactly, Within, Label, LessNumber, EntryMentions, HasBase}
 use Rattle.sharc_invariant.specs.Typed.{is_shift, is_comparison, Passes, IsShared, Recasts, IsLayout}
-use Rattle.sharc_labels_laws.specs.Stretches.{Setting, Way}
+use Rattle.sharc_labels_laws.specs.Stretches.{Setting}
 use Rattle.sharc_labels_laws.specs.Places.{Stands, IsNamed, IsPlain, no_type}
 use Rattle.sharc_labels_laws.specs.Premises.{Typing, HoldsVariables, Ground, IntegerTyped, ReferenceTyped, MutexTyped}
 
@@ -91,7 +91,7 @@ pub record FirstCell (z : Setting) (s : StaticType) (content : Content) : Type 0
 abbrev pub Widens : Width → Width → Type 0
 Widens v w = LessNumber (Within v) (Within w)
 
-module _ (z : Setting) (f : ℕ) (ways : List Way) (y : Typing) where
+module _ (z : Setting) (f : ℕ) (y : Typing) where
   -- a type of an expression names constants that stand
   abbrev pub IsTypeIn : Context → StaticType → Type 0
   IsTypeIn c s = IsNamed (y.named c) (ref_count c.scope) s

@@ -24,7 +24,7 @@ use Rattle.sharc_flat.specs.Suits.{kind_in, NameSuits, Suits, ArgumentsSuit}
 use Rattle.sharc_invariant.specs.Types.{StaticType}
 use Rattle.sharc_invariant.specs.Labels.{Refers, Label, HasCopy}
 use Rattle.sharc_invariant.specs.Typed.{Passes}
-use Rattle.sharc_labels_laws.specs.Stretches.{Setting, Way}
+use Rattle.sharc_labels_laws.specs.Stretches.{Setting}
 use Rattle.sharc_labels_laws.specs.Typable.{IsCopyIn, IsCopyNamed, IsCopyOf, ArgumentAt, ArgumentsAt}
 use Rattle.sharc_static_laws.specs.Calls.{AreStanding, at_entry, argument_type, AreCopies, ArgumentsFit}
 use Rattle.sharc_static_laws.specs.Static.{variable_type, pointers, entry_named}
@@ -70,12 +70,12 @@ pointer_low (z ∷ rest) p low = by z.is_pointer p low (pointer_low rest)
     by true (suc p) low later = later p (omega (arith, low))
     by false p low later = later p low
 
-module _ (z : Setting) (f : ℕ) (ways : List Way) (c : Context) (l : Label) where
+module _ (z : Setting) (f : ℕ) (c : Context) (l : Label) where
   abbrev r : Resolution
   r = c.program.typed
 
   abbrev Given : List Declaration → (ℕ → StaticType) → Arguments → ℕ → ℕ → Type 0
-  Given ds wants all i k = ArgumentsAt z f ways typing c (declared_kinds ds) wants all i k l
+  Given ds wants all i k = ArgumentsAt z f typing c (declared_kinds ds) wants all i k l
 
   -- ---- the argument in a register
   record IsPassedIn (ds : List Declaration) (wants : ℕ → StaticType) (all : Arguments) (k x : ℕ) : Type 0 where
@@ -100,7 +100,7 @@ module _ (z : Setting) (f : ℕ) (ways : List Way) (c : Context) (l : Label) whe
           record { parameter = w.parameter; of = w.of; place = suc w.place; at = w.at; token = w.token; pointer = w.pointer; passes = tail_there _ _ (passed ds rest) w.passes; entry = w.entry ∙ ap (λ n. Refers (wants n)) next }
 
       by : (b : Bool) → is_pointer (declared_kind d.written) ≡ b → (e : Bool) → e ≡ is_pointer (declared_kind d.written) → (q : ℕ)
-          → ArgumentAt z f ways typing c (declared_kinds (d ∷ ds)) a e (wants 0) i k l × Given ds (λ n. wants (n + 1)) rest (behind_int e i) (behind_ref e k)
+          → ArgumentAt z f typing c (declared_kinds (d ∷ ds)) a e (wants 0) i k l × Given ds (λ n. wants (n + 1)) rest (behind_int e i) (behind_ref e k)
           → slice_get (cond b (d.name.site.token ∷ pointers (map slot_of ds)) (pointers (map slot_of ds))) q ≡ Some x
           → ((i k q : ℕ) → Given ds (λ n. wants (n + 1)) rest i k → slice_get (pointers (map slot_of ds)) q ≡ Some x → IsPassedIn ds (λ n. wants (n + 1)) rest (k + q) x) → IsPassedIn (d ∷ ds) wants (argument a rest) (k + q) x
       by true pointer true same zero h is more =
@@ -134,7 +134,7 @@ module _ (z : Setting) (f : ℕ) (ways : List Way) (c : Context) (l : Label) whe
       (λ i j n g used. copy_at ds (λ n. wants (n + 1)) rest i k j n suits.2 g declared.1 x at y q pointer used names there_is)
     where
       by : (t : Bool) → (d.name.site.token == x) ≡ t → cond t (constant_use r a) (argument_use r ds rest x) ≡ Some at → (b : Bool) → is_pointer (declared_kind d.written) ≡ b → (e : Bool) → e ≡ is_pointer (declared_kind d.written)
-          → ArgumentAt z f ways typing c (declared_kinds (d ∷ ds)) a e (wants 0) i (k + n) l × Given ds (λ n. wants (n + 1)) rest (behind_int e i) (behind_ref e (k + n))
+          → ArgumentAt z f typing c (declared_kinds (d ∷ ds)) a e (wants 0) i (k + n) l × Given ds (λ n. wants (n + 1)) rest (behind_int e i) (behind_ref e (k + n))
           → ((i j n : ℕ) → Given ds (λ n. wants (n + 1)) rest i (k + n) → argument_use r ds rest x ≡ Some at → l.same (k + number_in (register_from j n (map slot_of ds) x)) ≡ q)
           → l.same (k + number_in (cond t (cond b (Reference n) (Int j)) (cond b (register_from j (n + 1) (map slot_of ds) x) (register_from (j + 1) n (map slot_of ds) x)))) ≡ q
       by true same used true is true ref h more = copy_named a at y (l.same (k + n)) q used names there_is h.0.1
@@ -184,7 +184,7 @@ arguments_stand : EachNamesItself → ArgumentsStand
 arguments_stand themselves c a g there all suits = stands_by c g.parameters all suits (parameters_declared themselves c a g there)
 
 calls_pass : EachNamesItself → ArgumentsFit → CallsPass
-calls_pass themselves arguments_fit z f ways c a g there all call suits i k l given p low =
+calls_pass themselves arguments_fit z f c a g there all call suits i k l given p low =
     subst (λ o. Passes l k (k + p) (l.env (k + p)) (entry_named (at_entry c g.parameters) o)) (sym x.1)
     (subst (λ e. Passes l k (k + p) e (Refers (variable_type (at_entry c g.parameters) x.0))) (sym (w.entry ∙ ap (λ o. Refers (type_for c g.parameters all o)) w.at))
     (subst (λ t. Passes l k (k + p) (Refers (argument_type c g.parameters all w.parameter)) (Refers (variable_type (at_entry c g.parameters) t))) w.token
@@ -193,8 +193,8 @@ calls_pass themselves arguments_fit z f ways c a g there all call suits i k l gi
     x : (x : ℕ) × (slice_get (pointers (parameters_scope g.parameters)) p ≡ Some x)
     x = pointer_low (parameters_scope g.parameters) p low
 
-    w : IsPassedIn z f ways c l g.parameters (wants_of c g.parameters all) all (k + p) x.0
-    w = passed_in z f ways c l g.parameters (wants_of c g.parameters all) all i k suits given p x.0 x.1
+    w : IsPassedIn z f c l g.parameters (wants_of c g.parameters all) all (k + p) x.0
+    w = passed_in z f c l g.parameters (wants_of c g.parameters all) all i k suits given p x.0 x.1
 
     declared : AllByRecursion (λ d. declaration_at c.program.typed d.name.site.token ≡ Some d) g.parameters
     declared = parameters_declared themselves c a g there
@@ -206,8 +206,8 @@ calls_pass themselves arguments_fit z f ways c a g there all call suits i k l gi
     copies x at y pointer used names =
         let q = reference_found 0 0 c.scope y (standing x at y pointer used names) in
         let first : k ≡ k + 0 = omega arith in
-        HasCopy (copy_at z f ways c l g.parameters (wants_of c g.parameters all) all i k 0 0 suits
-        (subst (λ n. ArgumentsAt z f ways typing c (declared_kinds g.parameters) (wants_of c g.parameters all) all i n l) first given) declared x at y q.0 pointer used names q.1 ∙ sym (ap number_in q.1))
+        HasCopy (copy_at z f c l g.parameters (wants_of c g.parameters all) all i k 0 0 suits
+        (subst (λ n. ArgumentsAt z f typing c (declared_kinds g.parameters) (wants_of c g.parameters all) all i n l) first given) declared x at y q.0 pointer used names q.1 ∙ sym (ap number_in q.1))
 
 pub calling_laws : EachNamesItself → ArgumentsFit → CallingLaws
 calling_laws themselves arguments_fit = record { stand = arguments_stand themselves; passes = calls_pass themselves arguments_fit }

@@ -45,7 +45,7 @@ use Rattle.sharc_flat_form.specs.Framed.{IsWide}
 use Rattle.sharc_invariant.specs.Types.{StaticType}
 use Rattle.sharc_invariant.specs.Labels.{Refers, Narrower}
 use Rattle.sharc_labels_laws.specs.Places.{no_type}
-use Rattle.sharc_labels_laws.specs.Stretches.{Setting, Way}
+use Rattle.sharc_labels_laws.specs.Stretches.{Setting}
 use Rattle.sharc_labels_laws.specs.Typable.{type_by, GoesTo, IsTypeIn, IsNumber, IsPointer, VariableTyped, ConstantTyped, UnaryTyped, IntegersTyped, ComparedTyped, BinaryTyped}
 use Rattle.sharc_static_laws.specs.Held.{HeldLaws}
 use Rattle.sharc_static_laws.specs.Laws.{IsAccepted}
@@ -176,30 +176,30 @@ module _ (constraints : MeetsConstraints) (held : HeldLaws) (scopes : ScopeLaws)
       of_each (λ e. IsOfType m.typed e (kind_at m.typed e)) (in_function x.owner) e
       (of_each (λ f. AllByRecursion (λ e. IsOfType m.typed e (kind_at m.typed e)) (in_function f)) (functions_in m.typed.program.items) x.owner (constraints m.typed a.resolved a.placed a.low) x.stands) x.inside
 
-  module _ (z : Setting) (f : ℕ) (ways : List Way) (c : Context) where
+  module _ (z : Setting) (f : ℕ) (c : Context) where
     -- the type of modes that stand
     module _ (a : IsAccepted c.program) (e : Expression) (at : IsAt c e) where
-      pub type_in : (modes : List Sharing) → modes_at c.program e ≡ Some modes → IsTypeIn z f ways typing c (static_of c (kind_of c e) modes)
+      pub type_in : (modes : List Sharing) → modes_at c.program e ≡ Some modes → IsTypeIn z f typing c (static_of c (kind_of c e) modes)
       type_in modes is p mentions = held.types c (kind_of c e) modes p (held.expressions c.program a e modes at.inside is) (subst (IfThere (AllStand c.program c.scope)) is at.stands) mentions
 
-      value_is : (o : Option (List Sharing)) → modes_at c.program e ≡ o → (s : StaticType) × GoesTo (entry_of c e) s × IsTypeIn z f ways typing c s
+      value_is : (o : Option (List Sharing)) → modes_at c.program e ≡ o → (s : StaticType) × GoesTo (entry_of c e) s × IsTypeIn z f typing c s
       value_is None is = (no_type, inl (ap (entry_by c (kind_of c e)) is), λ p mentions. absurd mentions)
       value_is (Some modes) is = (static_of c (kind_of c e) modes, inr (ap (entry_by c (kind_of c e)) is), type_in modes is)
 
-      pub pointer_is : is_pointer (kind_of c e) ≡ true → IsPointer z f ways typing c e
+      pub pointer_is : is_pointer (kind_of c e) ≡ true → IsPointer z f typing c e
       pointer_is pointer =
           let row = has_row c.program.typed e (kind_of c e) (typed_at c.program a e (first_of (IsExpression c.program) e at.inside)) (pointer_no_null (kind_of c e) pointer) in
           let modes = modes_of c.program row.0 in
           let is : modes_at c.program e ≡ Some modes = ap (option_map (modes_of c.program)) row.1 in
           let entry : entry_of c e ≡ Refers (static_of c (kind_of c e) modes) = ap (entry_by c (kind_of c e)) is in
-          (or_left (is_pointer (kind_of c e)) (is_null (kind_of c e)) pointer, entry ∙ sym (ap (λ y. Refers (type_by y)) entry), subst (λ y. IsTypeIn z f ways typing c (type_by y)) (sym entry) (type_in modes is))
+          (or_left (is_pointer (kind_of c e)) (is_null (kind_of c e)) pointer, entry ∙ sym (ap (λ y. Refers (type_by y)) entry), subst (λ y. IsTypeIn z f typing c (type_by y)) (sym entry) (type_in modes is))
 
-    number_is : (e : Expression) → is_integer (kind_of c e) ≡ true → IsNumber z f ways typing c e
+    number_is : (e : Expression) → is_integer (kind_of c e) ≡ true → IsNumber z f typing c e
     number_is e h = (integer_is (kind_of c e) h, h)
 
     -- ---- variables
     variable_is : IsAccepted c.program → (s : Span) (i : Identifier) (x : ℕ) → IsAt c (tree.identifier s i) → named_at c.program.typed i.site.token ≡ named.Variable x
-        → slot_kind c.scope x ≡ Some (is_ref c (tree.identifier s i)) → IsScalar (kind_of c (tree.identifier s i)) → VariableTyped z f ways typing c (tree.identifier s i) (register_of c.scope x)
+        → slot_kind c.scope x ≡ Some (is_ref c (tree.identifier s i)) → IsScalar (kind_of c (tree.identifier s i)) → VariableTyped z f typing c (tree.identifier s i) (register_of c.scope x)
     variable_is a s i x at names slot scalar = by (is_ref c e) refl slot
       where
         e : Expression
@@ -214,28 +214,28 @@ module _ (constraints : MeetsConstraints) (held : HeldLaws) (scopes : ScopeLaws)
         entry_is : entry_of c (tree.identifier s i) ≡ Refers (variable_type c x)
         entry_is = ap (entry_by c (kind_of c (tree.identifier s i))) modes_are ∙ ap (λ k. Refers (static_of c k (modes_of c.program (declared_row c.program.typed written x)))) kind_is
 
-        by : (b : Bool) → is_ref c (tree.identifier s i) ≡ b → slot_kind c.scope x ≡ Some b → VariableTyped z f ways typing c (tree.identifier s i) (register_of c.scope x)
+        by : (b : Bool) → is_ref c (tree.identifier s i) ≡ b → slot_kind c.scope x ≡ Some b → VariableTyped z f typing c (tree.identifier s i) (register_of c.scope x)
         by true ref slot =
             let q = reference_found 0 0 c.scope x slot in
             let h = scopes.has c x slot in
             let same : register c x ≡ q.0 = ap number_in q.1 in
             let pointer : variable_entry c q.0 ≡ Refers (variable_type c x) = subst (λ n. variable_entry c n ≡ Refers (variable_type c x)) same h.2 in
             let type : type_by (variable_entry c q.0) ≡ variable_type c x = ap type_by pointer in
-            let fits : IsTypeIn z f ways typing c (variable_type c x) =
-            subst (λ k. IsTypeIn z f ways typing c (static_of c k (modes_of c.program (declared_row c.program.typed written x)))) kind_is (type_in a (tree.identifier s i) at (modes_of c.program (declared_row c.program.typed written x)) modes_are) in
-            subst (VariableTyped z f ways typing c (tree.identifier s i)) (sym q.1)
-            (ref, subst (λ n. n < ref_count c.scope) same h.0, entry_is ∙ ap Refers (sym type), subst (IsTypeIn z f ways typing c) (sym type) fits)
+            let fits : IsTypeIn z f typing c (variable_type c x) =
+            subst (λ k. IsTypeIn z f typing c (static_of c k (modes_of c.program (declared_row c.program.typed written x)))) kind_is (type_in a (tree.identifier s i) at (modes_of c.program (declared_row c.program.typed written x)) modes_are) in
+            subst (VariableTyped z f typing c (tree.identifier s i)) (sym q.1)
+            (ref, subst (λ n. n < ref_count c.scope) same h.0, entry_is ∙ ap Refers (sym type), subst (IsTypeIn z f typing c) (sym type) fits)
         by false ref slot =
             let n = integer_found 0 0 c.scope x slot in
             let zero_more : 0 + n.at ≡ n.at = omega arith in
-            subst (VariableTyped z f ways typing c (tree.identifier s i)) (sym (n.is ∙ ap Int zero_more))
+            subst (VariableTyped z f typing c (tree.identifier s i)) (sym (n.is ∙ ap Int zero_more))
             ((ref, scalar ref), n.low, ap (width_named c) n.token ∙ ap width_of (sym kind_is))
 
     -- ---- operators
-    promoted_number : (e : Expression) (k : Kind) → kind_of c e ≡ promoted k → IsNumber z f ways typing c e
+    promoted_number : (e : Expression) (k : Kind) → kind_of c e ≡ promoted k → IsNumber z f typing c e
     promoted_number e k is = let n = number_of_long (is_long k) in (ap is_reference is ∙ n.0, ap is_integer is ∙ n.1)
 
-    unary_is : IsAccepted c.program → (s : Span) (o : UnaryOperator) (x : Expression) → IsAt c x → OperandSuits o (kind_of c x) → UnaryTyped z f ways typing c (tree.unary s o x) o x
+    unary_is : IsAccepted c.program → (s : Span) (o : UnaryOperator) (x : Expression) → IsAt c x → OperandSuits o (kind_of c x) → UnaryTyped z f typing c (tree.unary s o x) o x
     unary_is a s Negate x at h = (number_is x h, promoted_number (tree.unary s Negate x) (kind_of c x) refl, wide_of_long (is_long (kind_of c x)), narrower_same (width_of (promoted (kind_of c x))))
     unary_is a s Not x at h = (refl, refl)
     unary_is a s Complement x at h = (number_is x h, promoted_number (tree.unary s Complement x) (kind_of c x) refl, kind_widens (kind_of c x) (is_long (kind_of c x)) h (λ long. long))
@@ -249,7 +249,7 @@ module _ (constraints : MeetsConstraints) (held : HeldLaws) (scopes : ScopeLaws)
       ky = kind_of c y
 
       abbrev Both : BinaryOperator → Type 0
-      Both o = IntegersTyped z f ways typing c (tree.binary s o site x y) o x y
+      Both o = IntegersTyped z f typing c (tree.binary s o site x y) o x y
 
       -- with a value of type int
       compares : (o : BinaryOperator) → binary_result (class_of o) kx ky ≡ int → is_comparison (operator_of o) ≡ true → is_integer kx ≡ true → is_integer ky ≡ true → Both o
@@ -285,7 +285,7 @@ module _ (constraints : MeetsConstraints) (held : HeldLaws) (scopes : ScopeLaws)
       }
 
       abbrev Compared : BinaryOperator → Bool → Type 0
-      Compared o b = ComparedTyped z f ways typing c (tree.binary s o site x y) o x y b
+      Compared o b = ComparedTyped z f typing c (tree.binary s o site x y) o x y b
 
       of_integers : (o : BinaryOperator) → is_integer kx ≡ true → Both o → Compared o (is_ref c x)
       of_integers o hx typed = subst (Compared o) (sym (integer_is kx hx)) typed
@@ -298,7 +298,7 @@ module _ (constraints : MeetsConstraints) (held : HeldLaws) (scopes : ScopeLaws)
           by false h = compares o is so h.0 h.1
 
       abbrev Typed : BinaryOperator → Type 0
-      Typed o = BinaryTyped z f ways typing c (tree.binary s o site x y) o x y
+      Typed o = BinaryTyped z f typing c (tree.binary s o site x y) o x y
 
       binary_is : (o : BinaryOperator) → OperandsSuit o kx ky → Typed o
       binary_is LogicalOr h = (refl, refl)
@@ -325,19 +325,19 @@ module _ (constraints : MeetsConstraints) (held : HeldLaws) (scopes : ScopeLaws)
     number_type_is number_types.Int = (refl, refl)
     number_type_is number_types.Long = (refl, refl)
 
-    constant_is : (s : Span) (k : Constant) → (is_reference (constant_kind k) ≡ false → holds (width_of (constant_kind k)) (constant_value k) ≡ true) → ConstantTyped z f ways typing c (tree.constant s k) k (is_ref c (tree.constant s k))
+    constant_is : (s : Span) (k : Constant) → (is_reference (constant_kind k) ≡ false → holds (width_of (constant_kind k)) (constant_value k) ≡ true) → ConstantTyped z f typing c (tree.constant s k) k (is_ref c (tree.constant s k))
     constant_is s (constants.Number n) fits =
         let t = number_type_is n.number_type in
-        subst (ConstantTyped z f ways typing c (tree.constant s (constants.Number n)) (constants.Number n)) (sym t.0) (t.1, fits t.0)
+        subst (ConstantTyped z f typing c (tree.constant s (constants.Number n)) (constants.Number n)) (sym t.0) (t.1, fits t.0)
     constant_is s (constants.Character byte) fits = (refl, fits refl)
     constant_is s constants.Null fits = refl
 
 pub value_laws : MeetsConstraints → HeldLaws → ScopeLaws → ValueLaws
 value_laws constraints held scopes = record {
-  values = λ z f ways c a e at scalar. (λ ref. value_is constraints held scopes z f ways c a e at (modes_at c.program e) refl, scalar);
-  pointers = λ z f ways c a e at pointer. pointer_is constraints held scopes z f ways c a e at pointer;
-  variables = λ z f ways c a s i x at names slot scalar. variable_is constraints held scopes z f ways c a s i x at names slot scalar;
-  constants = λ z f ways c s k fits. constant_is constraints held scopes z f ways c s k fits;
-  unaries = λ z f ways c a s o x at h. unary_is constraints held scopes z f ways c a s o x at h;
-  binaries = λ z f ways c s o at x y h. binary_is constraints held scopes z f ways c s at x y o h;
+  values = λ z f c a e at scalar. (λ ref. value_is constraints held scopes z f c a e at (modes_at c.program e) refl, scalar);
+  pointers = λ z f c a e at pointer. pointer_is constraints held scopes z f c a e at pointer;
+  variables = λ z f c a s i x at names slot scalar. variable_is constraints held scopes z f c a s i x at names slot scalar;
+  constants = λ z f c s k fits. constant_is constraints held scopes z f c s k fits;
+  unaries = λ z f c a s o x at h. unary_is constraints held scopes z f c a s o x at h;
+  binaries = λ z f c s o at x y h. binary_is constraints held scopes z f c s at x y o h;
 }

@@ -14,7 +14,7 @@ use Rattle.sharc_static_laws.specs.Calls.{at_entry, argument_type, AreStanding}
 use Rattle.sharc_static_laws.specs.Laws.{IsAccepted}
 use Rattle.sharc_static_laws.specs.Static.{variable_entry}
 use Rattle.sharc_labels_laws.specs.Places.{no_type}
-use Rattle.sharc_labels_laws.specs.Stretches.{Setting, Way}
+use Rattle.sharc_labels_laws.specs.Stretches.{Setting}
 use Rattle.sharc_labels_laws.specs.Typable.{ArgumentsAt}
 use Rattle.sharc_typable_laws.specs.Typing.{typing}
 
@@ -28,9 +28,9 @@ wants_of c ds all n = type_for c ds all (slice_get ds n)
 
 -- each reference that is passed is as the callee's first registers have it
 abbrev pub CallsPass : Type 0
-CallsPass = (z : Setting) (f : ℕ) (ways : List Way) (c : Context) → IsAccepted c.program → (g : Function) → IsFunction c.program g → (all : Arguments) → IsCall c.program g.parameters all
+CallsPass = (z : Setting) (f : ℕ) (c : Context) → IsAccepted c.program → (g : Function) → IsFunction c.program g → (all : Arguments) → IsCall c.program g.parameters all
     → ArgumentsSuit c (declared_kinds g.parameters) all → (i r : ℕ) (l : Label)
-    → ArgumentsAt z f ways typing c (declared_kinds g.parameters) (wants_of c g.parameters all) all i r l
+    → ArgumentsAt z f typing c (declared_kinds g.parameters) (wants_of c g.parameters all) all i r l
     → (p : ℕ) → p < ref_count (parameters_scope g.parameters) → Passes l r (r + p) (l.env (r + p)) (variable_entry (at_entry c g.parameters) p)
 
 -- the arguments that are constant variables stand
