@@ -8,12 +8,13 @@ use Rattle.sharc_code.specs.Runs.{put}
 use Rattle.sharc_code.proofs.Places.{eq_refl, put_same, put_other, put_all}
 use Rattle.sharc_flat_form.specs.declared.op.Op.{Op}
 use Rattle.sharc_flat_form.specs.declared.op.Op.TheVariants as op
+use Rattle.sharc_flat_form.specs.Framed.{OpWrites}
 use Rattle.sharc_invariant.specs.Types.{StaticType}
 use Rattle.sharc_invariant.specs.Labels.{Entry, Empty, Refers, Number, Within, Closed, IsIn, Label, Less, Itself, IsCopy, LessNumber, LessEntry, LessGate, HasBase, EntryMentions, IsScoped, IsFree, set_number, fill, empty, without_copies, without_index}
 use Rattle.sharc_invariant.specs.Typed.{ints_in, refs_in, moved_copy}
 use Rattle.sharc_invariant.proofs.Scoped.{less_entry_refl, less_number_refl, scoped_fill}
 use Rattle.sharc_typed.specs.Passes.{IsNumberOf}
-use Rattle.sharc_labels_laws.specs.Stretches.{WritesWithin, Mark, Setting, Fits, IsLine}
+use Rattle.sharc_labels_laws.specs.Stretches.{Mark, Setting, Fits, IsLine}
 use Rattle.sharc_labels_laws.specs.Places.{IsNamed, mark}
 use Rattle.sharc_labels_laws.proofs.Standing.{less_by, without_same, uncopied, scoped_frame, unnamed}
 use Rattle.sharc_labels_laws.proofs.Telling.{told, other_than, same_as}
@@ -47,7 +48,7 @@ module _ (around : Setting) (f : ℕ) (D : (ℕ → Mark) → Type 0) (named : �
   abbrev Scoped : Mark → Type 0
   Scoped s = IsScoped fi fr s.label
 
-  one : (s : Mark) (o : Op) (e : Mark) → (WritesWithin fi fr o → Scoped s → Scoped e) → ((table : ℕ → Mark) (pc : ℕ) → WritesWithin fi fr o → Scoped s → Fits around.targets e (table (pc + 1)) → IsLine around f table pc s o) → Q s (o ∷ []) e
+  one : (s : Mark) (o : Op) (e : Mark) → (OpWrites fi fr o → Scoped s → Scoped e) → ((table : ℕ → Mark) (pc : ℕ) → OpWrites fi fr o → Scoped s → Fits around.targets e (table (pc + 1)) → IsLine around f table pc s o) → Q s (o ∷ []) e
   one = does around f D named top low from
 
   module _ (i r : ℕ) (l : Label) (at : Here i r l) where
