@@ -39,7 +39,7 @@ pub record HoldsVariables (y : Typing) (c : Context) (l : Label) : Type 0 where
   pub integers : (j : ℕ) → j < int_count c.scope → l.ints j ≡ Within (y.width c j)
 
 -- ---- copies of constants
--- The value of a variable that is named is a copy of it, where types name it.
+-- what is a copy of the variable in this register, if types name that variable: what an expression has that names it
 abbrev pub IsCopyIn : Typing → Context → ℕ → ℕ → Type 0
 IsCopyIn y c q copy = y.named c q ≡ true → copy ≡ q
 
