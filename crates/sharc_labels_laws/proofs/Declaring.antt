@@ -57,7 +57,7 @@ module _ (z : Setting) (f : ℕ) (ways : List Way) (y : Typing) (c : Context) (l
   at = record { stands = here.stands.stands; owned = here.stands.owned }
 
   frame : Frame z f (AreOpen z ways) y c low i i r l
-  frame = record { at = at; holds = here.stands.holds; high = here.stands.high; wide = here.stands.wide; early = here.stands.early }
+  frame = record { at = at; holds = here.stands.holds; high = here.stands.high; wide = here.stands.wide; early = here.stands.early; seen = λ q e. absurd ((here.bare refl).1 q e); elements = λ j q b. absurd ((here.bare refl).2 j q b) }
 
   -- the same registers, under the names of a scope with one more
   renamed : (d : Context) → ((q : ℕ) → y.named d q ≡ y.named c q) → (ints refs : ℕ) (k : Label) → Stands (y.named c) ints refs k → Stands (y.named d) ints refs k
@@ -153,8 +153,8 @@ initials z f ways y d low k here declared s type (Some x) h =
     let kind = declared_kind declared.written in
     let i = int_count d.scope in
     let r = ref_count d.scope in
-    let frame : Frame z f (AreOpen z ways) y d low i i r k = record { at = record { stands = here.stands.stands; owned = here.stands.owned }; holds = here.stands.holds; high = here.stands.high; wide = here.stands.wide; early = here.stands.early } in
-    let v = λ (mode : Sharing). rights z f ways y d low true i i r k frame here.bare kind mode s x h.1 in
+    let frame : Frame z f (AreOpen z ways) y d low i i r k = record { at = record { stands = here.stands.stands; owned = here.stands.owned }; holds = here.stands.holds; high = here.stands.high; wide = here.stands.wide; early = here.stands.early; seen = λ q e. absurd ((here.bare refl).1 q e); elements = λ j q b. absurd ((here.bare refl).2 j q b) } in
+    let v = λ (mode : Sharing). rights z f ways y d low true i i r k frame kind mode s x h.1 in
     by frame (λ mode. settled z f ways y d low i i r k frame here.bare (omega arith) kind s (register_of d.scope declared.name.site.token) (right_code d i r kind mode x) type h.0 (v mode))
   where
     by : Frame z f (AreOpen z ways) y d low (int_count d.scope) (int_count d.scope) (ref_count d.scope) k

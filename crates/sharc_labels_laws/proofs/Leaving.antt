@@ -74,7 +74,7 @@ module _ (z : Setting) (f : ℕ) (ways : List Way) (y : Typing) (c : Context) (l
   at = record { stands = here.stands.stands; owned = here.stands.owned }
 
   frame : Frame z f (AreOpen z ways) y c low i i r l
-  frame = record { at = at; holds = here.stands.holds; high = here.stands.high; wide = here.stands.wide; early = here.stands.early }
+  frame = record { at = at; holds = here.stands.holds; high = here.stands.high; wide = here.stands.wide; early = here.stands.early; seen = λ q e. absurd ((here.bare refl).1 q e); elements = λ j q b. absurd ((here.bare refl).2 j q b) }
 
   -- all registers are free
   nothing : (q : ℕ) → l.env q ≡ Empty
