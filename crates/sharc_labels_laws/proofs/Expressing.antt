@@ -49,8 +49,8 @@ use Rattle.sharc_invariant.proofs.Frames.{wider}
 use Rattle.sharc_invariant.proofs.Scoped.{less_refl, less_entry_refl, less_number_refl, scoped_fill}
 use Rattle.sharc_labels_laws.specs.Stretches.{Mark, Setting, Way, AreOpen}
 use Rattle.sharc_labels_laws.specs.Places.{IsNamed, IsPlain, AreLow, no_type, mark}
-use Rattle.sharc_labels_laws.specs.Premises.{Typing, Ground, ReferenceTyped}
-use Rattle.sharc_labels_laws.specs.Typable.{IsBare, after_value, type_by, IsCopyIn, IsCopyNamed, IsCopyOf, GoesTo, Widens, IsTypeIn, IsVoid, IsNumber, IsPointer, ground_of, CellTyped, VariableTyped, NameTyped, ConstantTyped, UnaryTyped, result_of, ComparedTyped, HasType, AreFields, IndexTypable, ArgumentAt, ArgumentsAt, ResultTyped, CallTyped, HasNoWidth, Goes, Handed, SpawnTyped, FirstCell, IsOne, AreTwo, ConditionTyped, VariableTakes, Takes, TakeTyped, CastTyped, FreeTyped, CallTypable, IsTypable, AreTypable, IsPlaceTypable}
+use Rattle.sharc_labels_laws.specs.Premises.{Typing, IsCopyIn, IsCopyNamed, IsCopyOf, IsPointerCopy, Ground, ReferenceTyped}
+use Rattle.sharc_labels_laws.specs.Typable.{IsBare, after_value, type_by, GoesTo, Widens, ints_behind, refs_behind, AreFree, IsTypeIn, IsVoid, IsNumber, IsPointer, ground_of, CellTyped, VariableTyped, NameTyped, ConstantTyped, UnaryTyped, result_of, ComparedTyped, HasType, AreFields, IndexTypable, ArgumentAt, ArgumentsAt, ResultTyped, CallTyped, HasNoWidth, Goes, Handed, SpawnTyped, FirstCell, IsOne, AreTwo, ConditionTyped, VariableTakes, Takes, TakeTyped, CastTyped, FreeTyped, CallTypable, IsTypable, AreTypable, IsPlaceTypable}
 use Rattle.sharc_labels_laws.proofs.Fitting.{fits_same}
 use Rattle.sharc_labels_laws.proofs.Standing.{less_by}
 use Rattle.sharc_labels_laws.proofs.Telling.{told, other_than}
@@ -130,7 +130,7 @@ module _ (around : Setting) (f : ℕ) (ways : List Way) (y : Typing) (c : Contex
   -- a reference, which may be a copy of a variable
   pub record RefValue (from i r : ℕ) (l : Label) (os : List Op) (e : Expression) (s : StaticType) : Type 0 where
     pub copy : ℕ
-    pub copies : IsCopyOf c e copy
+    pub copies : IsCopyOf y c e copy
     pub small : (copy ≡ r) ⊎ (copy < top)
     pub piece : Q from (mark l from i) os (mark (fill l r (Refers s) copy false) from i)
 
@@ -238,7 +238,7 @@ module _ (around : Setting) (f : ℕ) (ways : List Way) (y : Typing) (c : Contex
       known : (q : ℕ) → put l.known r false q ≡ true → l.known q ≡ true
       known q e = ⊎_elim (λ (z : q ≡ r). absurd (false≢true (sym (ap (put l.known r false) z ∙ put_same l.known r false) ∙ e))) (λ (ne : q ≡ r → ⊥). sym (put_other l.known r q false ne) ∙ e) (cases_eq q r)
 
-  constant_value_of : (from i r : ℕ) (l : Label) → F from i r l → (e : Expression) (k : Constant) (b : Bool) → ((copy : ℕ) → IsCopyOf c e copy) → is_ref c e ≡ b → ConstantTyped around f y c e k b → ValueOf from i r l (constant_code b i r k) e
+  constant_value_of : (from i r : ℕ) (l : Label) → F from i r l → (e : Expression) (k : Constant) (b : Bool) → ((copy : ℕ) → IsCopyOf y c e copy) → is_ref c e ≡ b → ConstantTyped around f y c e k b → ValueOf from i r l (constant_code b i r k) e
   constant_value_of from i r l fr e k true any_copy is h = ref_by from i r l (op.Null r ∷ []) e is (λ s goes fits. record { copy = r; copies = any_copy r; small = inl refl; piece = null_at from i r l fr s (in_frame from i r l fr s fits) })
   constant_value_of from i r l fr e k false any_copy is h = int_by from i r l (op.Constant i (constant_value k) ∷ []) e (is, h.0) (record { number = Exactly (constant_value k); plain = tt; fits = h.1; piece = constant_at around f D N top low from i r l fr.at (constant_value k) })
 
@@ -252,11 +252,11 @@ module _ (around : Setting) (f : ℕ) (ways : List Way) (y : Typing) (c : Contex
   goes_is : (e : Entry) (s t : StaticType) → e ≡ Refers s → GoesTo e t → s ≡ t
   goes_is e s t is goes = ⊎_elim (λ (z : e ≡ Empty). absurd (not_null s e is z)) (λ (z : e ≡ Refers t). same_type s t (sym is ∙ z)) goes
 
-  copied : (from i r : ℕ) (l : Label) → F from i r l → (e : Expression) (x : Register) → ((copy : ℕ) → IsCopyIn x copy → IsCopyOf c e copy) → VariableTyped around f y c e x → ValueOf from i r l (copy_code i r x) e
+  copied : (from i r : ℕ) (l : Label) → F from i r l → (e : Expression) (x : Register) → ((copy : ℕ) → IsCopyIn y c (number_in x) copy → IsCopyOf y c e copy) → VariableTyped around f y c e x → ValueOf from i r l (copy_code i r x) e
   copied from i r l fr e (registers.Int j) if_copy h = int_by from i r l (op.Move i j ∷ []) e h.0 (record { number = Within (y.width c j); plain = tt; fits = subst (λ w. LessNumber (Within (y.width c j)) (Within w)) h.2 (less_number_refl (Within (y.width c j))); piece = move_at around f D N top low from i r l fr.at j (y.width c j) (fr.holds.integers j h.1) })
   copied from i r l fr e (registers.Reference q) if_copy h = let high = fr.high in let lt = h.1 in ref_by from i r l (op.Local r q ∷ []) e h.0 (λ s goes fits.
       let is : y.pointer c q ≡ s = goes_is (y.entry c e) (y.pointer c q) s h.2 goes in
-      record { copy = q; copies = if_copy q refl; small = inr h.1; piece = local_at around f D N top low from i r l fr.at s q i (in_frame from i r l fr s fits) (omega (arith, high, lt)) (fr.holds.references q h.1 ∙ ap Refers is) (fr.holds.copies q h.1) })
+      record { copy = q; copies = if_copy q (λ _. refl); small = inr h.1; piece = local_at around f D N top low from i r l fr.at s q i (in_frame from i r l fr s fits) (omega (arith, high, lt)) (fr.holds.references q h.1 ∙ ap Refers is) (fr.holds.copies q h.1) })
 
   -- ---- cells
   value_is : (i r : ℕ) (site : Site) (lvalue : Lvalue) (mode : Sharing) (b : Bool) (t : Target) → is_cell t ≡ true → cell_value_code c i r site lvalue mode b t ≡ value_code c i r site lvalue mode b t
@@ -271,10 +271,11 @@ module _ (around : Setting) (f : ℕ) (ways : List Way) (y : Typing) (c : Contex
     pub element : Element
     pub copy : ℕ
     pub small : copy ≤ r
+    pub copies : IsPointerCopy y c ground.pointer copy
     pub fits : IsNamed N r ground.base
     pub piece : Q from (mark l from i) os (placed around f D y c low from t guard ground element i r copy l)
 
-  read : (from i r : ℕ) (l : Label) → F from i r l → (e : Expression) (site : Site) (t : Target) (xs : List Op) → PlaceValue from i r l xs t (guard_of c e) (ground_of around f y c e) → is_cell t ≡ true → ((copy : ℕ) → IsCopyOf c e copy) → CellTyped around f y c e site t (is_ref c e)
+  read : (from i r : ℕ) (l : Label) → F from i r l → (e : Expression) (site : Site) (t : Target) (xs : List Op) → PlaceValue from i r l xs t (guard_of c e) (ground_of around f y c e) → is_cell t ≡ true → ((copy : ℕ) → IsCopyOf y c e copy) → CellTyped around f y c e site t (is_ref c e)
       → ValueOf from i r l (xs ++ value_code c i r site (lvalue_in c e) (mode_of c e) (is_ref c e) t) e
   read from i r l fr e site t xs p cell any_copy h = by (is_ref c e) refl h
     where
@@ -287,7 +288,7 @@ module _ (around : Setting) (f : ℕ) (ways : List Way) (y : Typing) (c : Contex
             small = inl refl;
             piece = joins from (mark l from i) (placed around f D y c low from t (guard_of c e) (ground_of around f y c e) p.element i r p.copy l) (mark (fill l r (Refers s) r false) from i) xs (value_code c i r site (lvalue_in c e) (mode_of c e) true t) p.piece
                 (subst (λ os. Q from (placed around f D y c low from t (guard_of c e) (ground_of around f y c e) p.element i r p.copy l) os (mark (fill l r (Refers s) r false) from i)) (value_is i r site (lvalue_in c e) (mode_of c e) true t cell)
-                (reference_value around f D y c low from i r l fr (guard_of c e) (ground_of around f y c e) p.element p.copy p.fits p.small site (lvalue_in c e) (mode_of c e) t cell s (in_frame from i r l fr s fits)
+                (reference_value around f D y c low from i r l fr (guard_of c e) (ground_of around f y c e) p.element p.copy p.fits p.small p.copies site (lvalue_in c e) (mode_of c e) t cell s (in_frame from i r l fr s fits)
                 (subst (λ s. ReferenceTyped around y c f t (guard_of c e) (ground_of around f y c e) site (lvalue_in c e) (mode_of c e) false uses.Read s) same h.3)));
           }
       by false is h = subst (λ b. Value from i r l (xs ++ value_code c i r site (lvalue_in c e) (mode_of c e) false t) e false b) (sym h.0) (record {
@@ -296,7 +297,7 @@ module _ (around : Setting) (f : ℕ) (ways : List Way) (y : Typing) (c : Contex
         fits = less_number_refl (Within (width_of (kind_of c e)));
         piece = joins from (mark l from i) (placed around f D y c low from t (guard_of c e) (ground_of around f y c e) p.element i r p.copy l) (with_number around f D N top low from l i (Within (width_of (kind_of c e)))) xs (value_code c i r site (lvalue_in c e) (mode_of c e) false t) p.piece
             (subst (λ os. Q from (placed around f D y c low from t (guard_of c e) (ground_of around f y c e) p.element i r p.copy l) os (with_number around f D N top low from l i (Within (width_of (kind_of c e))))) (value_is i r site (lvalue_in c e) (mode_of c e) false t cell)
-            (int_value around f D y c low from i r l fr (guard_of c e) (ground_of around f y c e) p.element p.copy p.fits p.small site (lvalue_in c e) (mode_of c e) t cell (width_of (kind_of c e)) h.1));
+            (int_value around f D y c low from i r l fr (guard_of c e) (ground_of around f y c e) p.element p.copy p.fits p.small p.copies site (lvalue_in c e) (mode_of c e) t cell (width_of (kind_of c e)) h.1));
       })
 
   -- with no register
@@ -309,9 +310,12 @@ module _ (around : Setting) (f : ℕ) (ways : List Way) (y : Typing) (c : Contex
   no_names : (r : ℕ) → IsNamed N r no_type
   no_names r p m = absurd m
 
+  no_pointer : (p : Option Expression) (copy : ℕ) → p ≡ None → IsPointerCopy y c p copy
+  no_pointer p copy none = subst (λ p. IsPointerCopy y c p copy) (sym none) tt
+
   -- the base of an object
-  object_place : (from i r : ℕ) (l : Label) → F from i r l → (e : Expression) (site : Site) (os : List Op) (n : ℕ) (guard : Option ℕ) (ground : Ground) → type_by (y.entry c e) ≡ ground.base → IsPointer around f y c e → ValueOf from i r l os e → PlaceValue from i r l (pointee_code r site os) (in_object n) guard ground
-  object_place from i r l fr e site os n guard ground same is v =
+  object_place : (from i r : ℕ) (l : Label) → F from i r l → (e : Expression) (site : Site) (os : List Op) (n : ℕ) (guard : Option ℕ) (ground : Ground) → type_by (y.entry c e) ≡ ground.base → Some e ≡ ground.pointer → IsPointer around f y c e → ValueOf from i r l os e → PlaceValue from i r l (pointee_code r site os) (in_object n) guard ground
+  object_place from i r l fr e site os n guard ground same leads is v =
       let b = base_of from i r l os e is v in
       let s = type_by (y.entry c e) in
       let fits = in_frame from i r l fr s is.2 in
@@ -320,6 +324,7 @@ module _ (around : Setting) (f : ℕ) (ways : List Way) (y : Typing) (c : Contex
         element = Nth 0;
         copy = b.copy;
         small = small_copy from i r l fr b.copy b.small;
+        copies = subst (λ p. IsPointerCopy y c p b.copy) leads b.copies;
         fits = subst (IsNamed N r) same fits;
         piece = subst (λ t. Q from (mark l from i) (pointee_code r site os) (mark (fill l r (Refers t) b.copy true) from (i + 0))) same (subst (λ n. Q from (mark l from i) (pointee_code r site os) (mark (fill l r (Refers s) b.copy true) from n)) z
             (pointee_at around f D N top low from i r l fr.at s b.copy false fits (small_copy from i r l fr b.copy b.small) (mark l from i) i site os b.piece));
@@ -335,10 +340,10 @@ module _ (around : Setting) (f : ℕ) (ways : List Way) (y : Typing) (c : Contex
   few_at from count n (Some mutex) h = h
 
   -- of an array
-  array_place : (from i r : ℕ) (l : Label) → F from i r l → (g elements count n : ℕ) (guard : Option ℕ) (ground : Ground) → ground.base ≡ no_type → ground.count ≡ count → ground.elements ≡ elements → AreFields around f y count n guard → (xs ys : List Op) (w : Width) (site : Site)
+  array_place : (from i r : ℕ) (l : Label) → F from i r l → (g elements count n : ℕ) (guard : Option ℕ) (ground : Ground) → ground.base ≡ no_type → ground.pointer ≡ None → ground.count ≡ count → ground.elements ≡ elements → AreFields around f y count n guard → (xs ys : List Op) (w : Width) (site : Site)
       → Q from (mark l from i) xs (mark l from i) → IntValue from i r l ys w
       → PlaceValue from i r l (xs ++ (ys ++ bounds_code (λ i n. op.GlobalBounds i elements count (first_cell c.globals g + n) (at_site site)) i n guard)) (in_global_at g n) guard ground
-  array_place from i r l fr g elements count n guard ground none_based same_count same_elements few xs ys w site p v =
+  array_place from i r l fr g elements count n guard ground none_based none_led same_count same_elements few xs ys w site p v =
       let first = first_cell c.globals g in
       let finds = finds_global around f D y c low from elements count first (at_site site) l fr.at.owned in
       let elem = which around f D y c low from i r l fr.at (λ i n. op.GlobalBounds i elements count (first + n) (at_site site)) (λ n e. OfGlobal (first + n) count elements e) count finds fr.early v.number v.plain in
@@ -349,6 +354,7 @@ module _ (around : Setting) (f : ℕ) (ways : List Way) (y : Typing) (c : Contex
         element = elem;
         copy = r;
         small = omega arith;
+        copies = no_pointer ground.pointer r none_led;
         fits = subst (IsNamed N r) (sym none_based) (no_names r);
         piece = joins from (mark l from i) (mark l from i) (placed around f D y c low from (in_global_at g n) guard ground elem i r r l) xs (ys ++ os) p
             (joins from (mark l from i) (with_number around f D N top low from l i v.number) (placed around f D y c low from (in_global_at g n) guard ground elem i r r l) ys os v.piece
@@ -357,10 +363,10 @@ module _ (around : Setting) (f : ℕ) (ways : List Way) (y : Typing) (c : Contex
       }
 
   -- of what a pointer refers to
-  element_place : (from i r : ℕ) (l : Label) → F from i r l → (e : Expression) (count n : ℕ) (guard : Option ℕ) (ground : Ground) → type_by (y.entry c e) ≡ ground.base → count ≡ cells_of around.targets (type_by (y.entry c e)).target → AreFields around f y count n guard → (xs : List Op) (ys : ℕ → List Op) (w : Width) (site : Site)
+  element_place : (from i r : ℕ) (l : Label) → F from i r l → (e : Expression) (count n : ℕ) (guard : Option ℕ) (ground : Ground) → type_by (y.entry c e) ≡ ground.base → Some e ≡ ground.pointer → count ≡ cells_of around.targets (type_by (y.entry c e)).target → AreFields around f y count n guard → (xs : List Op) (ys : ℕ → List Op) (w : Width) (site : Site)
       → IsPointer around f y c e → ValueOf from i r l xs e → ((l : Label) → F from i (r + 1) l → IntValue from i (r + 1) l (ys (r + 1)) w)
       → PlaceValue from i r l (xs ++ (op.ChkNull r (at_site site) ∷ (ys (r + 1) ++ bounds_code (λ i n. op.Bounds i r count n (at_site site)) i n guard))) (in_object_at n) guard ground
-  element_place from i r l fr e count n guard ground same size few xs ys w site is v number =
+  element_place from i r l fr e count n guard ground same leads size few xs ys w site is v number =
       let b = base_of from i r l xs e is v in
       let s = type_by (y.entry c e) in
       let fits = in_frame from i r l fr s is.2 in
@@ -379,6 +385,7 @@ module _ (around : Setting) (f : ℕ) (ways : List Way) (y : Typing) (c : Contex
         element = elem;
         copy = b.copy;
         small = small;
+        copies = subst (λ p. IsPointerCopy y c p b.copy) leads b.copies;
         fits = subst (IsNamed N r) same fits;
         piece = subst (λ t. Q from (mark l from i) (xs ++ (op.ChkNull r (at_site site) ∷ (ys (r + 1) ++ os))) (mark (record (fill l r (Refers t) b.copy true) { ints = indexed around f D y c low from l.ints i guard (λ n. OfElement r n elem) n; gate = Closed }) from (i + guard_width guard))) same
             (joins from (mark l from i) (mark (fill l r (Refers s) b.copy false) from i) after xs (op.ChkNull r (at_site site) ∷ (ys (r + 1) ++ os)) b.piece
@@ -489,10 +496,10 @@ module _ (around : Setting) (f : ℕ) (ways : List Way) (y : Typing) (c : Contex
       by false false v = entered_piece from i r l fr os (mark l from i) v
 
   entered_place : (from i r : ℕ) (l : Label) → F from i r l → (os : List Op) (t : Target) (guard : Option ℕ) (ground : Ground) → PlaceValue from i r l os t guard ground → PlaceValue from i r l (op.Enter ∷ os) t guard ground
-  entered_place from i r l fr os t guard ground p = record { element = p.element; copy = p.copy; small = p.small; fits = p.fits; piece = entered_piece from i r l fr os (placed around f D y c low from t guard ground p.element i r p.copy l) p.piece }
+  entered_place from i r l fr os t guard ground p = record { element = p.element; copy = p.copy; small = p.small; copies = p.copies; fits = p.fits; piece = entered_piece from i r l fr os (placed around f D y c low from t guard ground p.element i r p.copy l) p.piece }
 
   -- in parentheses
-  same_value : (from i r : ℕ) (l : Label) (os : List Op) (e a : Expression) → ((copy : ℕ) → IsCopyOf c e copy) → kind_of c e ≡ kind_of c a → y.entry c e ≡ y.entry c a → ValueOf from i r l os a → ValueOf from i r l os e
+  same_value : (from i r : ℕ) (l : Label) (os : List Op) (e a : Expression) → ((copy : ℕ) → IsCopyOf y c e copy) → kind_of c e ≡ kind_of c a → y.entry c e ≡ y.entry c a → ValueOf from i r l os a → ValueOf from i r l os e
   same_value from i r l os e a any_copy kinds entries v = subst (λ k. Value from i r l os e (is_reference k) (is_integer k)) (sym kinds) (by (is_ref c a) (is_integer (kind_of c a)) v)
     where
       by : (p q : Bool) → Value from i r l os a p q → Value from i r l os e p q
@@ -501,11 +508,11 @@ module _ (around : Setting) (f : ℕ) (ways : List Way) (y : Typing) (c : Contex
       by false false v = v
 
   -- ---- names
-  no_place : (from i r : ℕ) (l : Label) → F from i r l → (g n : ℕ) (guard : Option ℕ) (ground : Ground) → ground.base ≡ no_type → PlaceValue from i r l [] (in_global g n) guard ground
-  no_place from i r l fr g n guard ground none_based = record { element = Nth 0; copy = r; small = omega arith; fits = subst (IsNamed N r) (sym none_based) (no_names r); piece = opened from i r l fr }
+  no_place : (from i r : ℕ) (l : Label) → F from i r l → (g n : ℕ) (guard : Option ℕ) (ground : Ground) → ground.base ≡ no_type → ground.pointer ≡ None → PlaceValue from i r l [] (in_global g n) guard ground
+  no_place from i r l fr g n guard ground none_based none_led = record { element = Nth 0; copy = r; small = omega arith; copies = no_pointer ground.pointer r none_led; fits = subst (IsNamed N r) (sym none_based) (no_names r); piece = opened from i r l fr }
 
-  variable_place : (from i r : ℕ) (l : Label) → F from i r l → (x : ℕ) (guard : Option ℕ) (ground : Ground) → ground.base ≡ no_type → PlaceValue from i r l [] (variable x) guard ground
-  variable_place from i r l fr x guard ground none_based = record { element = Nth 0; copy = r; small = omega arith; fits = subst (IsNamed N r) (sym none_based) (no_names r); piece = opened from i r l fr }
+  variable_place : (from i r : ℕ) (l : Label) → F from i r l → (x : ℕ) (guard : Option ℕ) (ground : Ground) → ground.base ≡ no_type → ground.pointer ≡ None → PlaceValue from i r l [] (variable x) guard ground
+  variable_place from i r l fr x guard ground none_based none_led = record { element = Nth 0; copy = r; small = omega arith; copies = no_pointer ground.pointer r none_led; fits = subst (IsNamed N r) (sym none_based) (no_names r); piece = opened from i r l fr }
 
   void_by : (from i r : ℕ) (l : Label) (os : List Op) (e : Expression) → IsVoid around f y c e → Q from (mark l from i) os (mark l from i) → ValueOf from i r l os e
   void_by from i r l os e is p = subst (λ b. Value from i r l os e b (is_integer (kind_of c e))) (sym is.0) (subst (λ b. Value from i r l os e false b) (sym is.1) p)
@@ -513,22 +520,22 @@ module _ (around : Setting) (f : ℕ) (ways : List Way) (y : Typing) (c : Contex
   stays : (from i : ℕ) (l : Label) → Q from (mark l from i) [] (mark l from i)
   stays from i l = none around f D N top low from (mark l from i) (mark l from i) (fits_same around.targets (mark l from i)) (λ z. z)
 
-  named_value : (from i r : ℕ) (l : Label) → F from i r l → (s : Span) (x : Identifier) (n : Named) → ((copy : ℕ) → IsCopyNamed c n copy → IsCopyOf c (identifier s x) copy) → NameTyped around f y c (identifier s x) x.site n
+  named_value : (from i r : ℕ) (l : Label) → F from i r l → (s : Span) (x : Identifier) (n : Named) → ((copy : ℕ) → IsCopyNamed y c n copy → IsCopyOf y c (identifier s x) copy) → NameTyped around f y c (identifier s x) x.site n
       → ValueOf from i r l (named_code c i r x.site (lvalue_in c (identifier s x)) (mode_of c (identifier s x)) (is_ref c (identifier s x)) n) (identifier s x)
   named_value from i r l fr s x (named.Variable v) if_copy h = copied from i r l fr (identifier s x) (register_of c.scope v) (λ copy z. if_copy copy z) h
-  named_value from i r l fr s x (named.Global g) if_copy h = read from i r l fr (identifier s x) x.site (in_global g 0) [] (no_place from i r l fr g 0 (guard_of c (identifier s x)) (ground_of around f y c (identifier s x)) refl) refl (λ copy. if_copy copy tt) h
+  named_value from i r l fr s x (named.Global g) if_copy h = read from i r l fr (identifier s x) x.site (in_global g 0) [] (no_place from i r l fr g 0 (guard_of c (identifier s x)) (ground_of around f y c (identifier s x)) refl refl) refl (λ copy. if_copy copy tt) h
   named_value from i r l fr s x (named.Field v) if_copy h = void_by from i r l [] (identifier s x) h (stays from i l)
   named_value from i r l fr s x (named.Struct v) if_copy h = void_by from i r l [] (identifier s x) h (stays from i l)
   named_value from i r l fr s x (named.Function v) if_copy h = void_by from i r l [] (identifier s x) h (stays from i l)
   named_value from i r l fr s x named.Known if_copy h = void_by from i r l [] (identifier s x) h (stays from i l)
 
-  named_place : (from i r : ℕ) (l : Label) → F from i r l → (n : Named) (place : ℕ) (guard : Option ℕ) (ground : Ground) → ground.base ≡ no_type → PlaceValue from i r l [] (named_target n place) guard ground
-  named_place from i r l fr (named.Variable v) place guard ground h = variable_place from i r l fr v guard ground h
-  named_place from i r l fr (named.Global g) place guard ground h = no_place from i r l fr g place guard ground h
-  named_place from i r l fr (named.Field v) place guard ground h = variable_place from i r l fr 0 guard ground h
-  named_place from i r l fr (named.Struct v) place guard ground h = variable_place from i r l fr 0 guard ground h
-  named_place from i r l fr (named.Function v) place guard ground h = variable_place from i r l fr 0 guard ground h
-  named_place from i r l fr named.Known place guard ground h = variable_place from i r l fr 0 guard ground h
+  named_place : (from i r : ℕ) (l : Label) → F from i r l → (n : Named) (place : ℕ) (guard : Option ℕ) (ground : Ground) → ground.base ≡ no_type → ground.pointer ≡ None → PlaceValue from i r l [] (named_target n place) guard ground
+  named_place from i r l fr (named.Variable v) place guard ground h led = variable_place from i r l fr v guard ground h led
+  named_place from i r l fr (named.Global g) place guard ground h led = no_place from i r l fr g place guard ground h led
+  named_place from i r l fr (named.Field v) place guard ground h led = variable_place from i r l fr 0 guard ground h led
+  named_place from i r l fr (named.Struct v) place guard ground h led = variable_place from i r l fr 0 guard ground h led
+  named_place from i r l fr (named.Function v) place guard ground h led = variable_place from i r l fr 0 guard ground h led
+  named_place from i r l fr named.Known place guard ground h led = variable_place from i r l fr 0 guard ground h led
 
   -- ---- indexes
   array_base : (from i r : ℕ) (l : Label) → F from i r l → (xs : List Op) (t : Target) (g : ℕ) (ground : Ground) → t ≡ in_global g 0 → PlaceValue from i r l xs t None ground → Q from (mark l from i) xs (mark l from i)
@@ -556,10 +563,10 @@ module _ (around : Setting) (f : ℕ) (ways : List Way) (y : Typing) (c : Contex
           → PlaceValue from i r l
           (cond b (xs ++ (ys r ++ bounds_code (λ i n. op.GlobalBounds i elements count (first_cell c.globals g + n) (at_site site)) i (own_field own 0) guard))
           (zs ++ (op.ChkNull r (at_site site) ∷ (ys (r + 1) ++ bounds_code (λ i n. op.Bounds i r count n (at_site site)) i (own_field own 0) guard))))
-          (cond b (in_global_at g (own_field own 0)) (in_object_at (own_field own 0))) guard (record { base = cond b no_type (type_by (y.entry c a)); count = count; elements = elements })
-      by true z = array_place from i r l fr g elements count (own_field own 0) guard (record { base = no_type; count = count; elements = elements }) refl refl refl h.3 xs (ys r) (width_of (kind_of c n)) site (array_base from i r l fr xs (target c.program.typed None a) g (ground_of around f y c a) z.1 (px z.0))
+          (cond b (in_global_at g (own_field own 0)) (in_object_at (own_field own 0))) guard (record { base = cond b no_type (type_by (y.entry c a)); pointer = cond b None (Some a); count = count; elements = elements })
+      by true z = array_place from i r l fr g elements count (own_field own 0) guard (record { base = no_type; pointer = None; count = count; elements = elements }) refl refl refl refl h.3 xs (ys r) (width_of (kind_of c n)) site (array_base from i r l fr xs (target c.program.typed None a) g (ground_of around f y c a) z.1 (px z.0))
           (int_of from i r l (ys r) n h.2 (pn h.1 r l fr))
-      by false z = element_place from i r l fr a count (own_field own 0) guard (record { base = type_by (y.entry c a); count = count; elements = elements }) refl z.2 h.3 zs ys (width_of (kind_of c n)) site z.1 (py z.0) (λ l2 f2. int_of from i (r + 1) l2 (ys (r + 1)) n h.2 (pn h.1 (r + 1) l2 f2))
+      by false z = element_place from i r l fr a count (own_field own 0) guard (record { base = type_by (y.entry c a); pointer = Some a; count = count; elements = elements }) refl refl z.2 h.3 zs ys (width_of (kind_of c n)) site z.1 (py z.0) (λ l2 f2. int_of from i (r + 1) l2 (ys (r + 1)) n h.2 (pn h.1 (r + 1) l2 f2))
 
   -- ---- what is passed
   reframe : (from i r : ℕ) (l : Label) → F from i r l → (from2 : ℕ) → from2 ≤ i → F from2 i r l
@@ -577,6 +584,8 @@ module _ (around : Setting) (f : ℕ) (ways : List Way) (y : Typing) (c : Contex
     pub frame : F ints ints refs label
     pub more_ints : i ≤ ints
     pub more_refs : r ≤ refs
+    pub ints_are : ints ≡ ints_behind c all i
+    pub refs_are : refs ≡ refs_behind c all r
     pub env : (q : ℕ) → q < r → label.env q ≡ l.env q
     pub same : (q : ℕ) → q < r → label.same q ≡ l.same q
     pub known : (q : ℕ) → q < r → label.known q ≡ l.known q
@@ -611,11 +620,13 @@ module _ (around : Setting) (f : ℕ) (ways : List Way) (y : Typing) (c : Contex
         frame = p.frame;
         more_ints = p.more_ints;
         more_refs = omega (arith, more);
+        ints_are = p.ints_are ∙ ap (λ b. ints_behind c rest (behind_int b i)) (sym is);
+        refs_are = p.refs_are ∙ ap (λ b. refs_behind c rest (behind_ref b r)) (sym is);
         env = λ q lt. p.env q (omega (arith, lt)) ∙ put_other l.env r q (Refers s) (λ e. omega (arith, e, lt));
         same = λ q lt. p.same q (omega (arith, lt)) ∙ put_other l.same r q w.copy (λ e. omega (arith, e, lt));
         known = λ q lt. p.known q (omega (arith, lt)) ∙ put_other l.known r q false (λ e. omega (arith, e, lt));
         numbers = λ j lt. p.numbers j lt;
-        here = subst (λ b. ArgumentAt around f y c kinds a b s i r p.label × ArgumentsAt around f y c (drop 1 kinds) (λ n. wants (n + 1)) rest (behind_int b i) (behind_ref b r) p.label) (sym is) ((e_env, subst (IsCopyOf c a) (sym e_same) w.copies), p.here);
+        here = subst (λ b. ArgumentAt around f y c kinds a b s i r p.label × ArgumentsAt around f y c (drop 1 kinds) (λ n. wants (n + 1)) rest (behind_int b i) (behind_ref b r) p.label) (sym is) ((e_env, subst (IsCopyOf y c a) (sym e_same) w.copies), p.here);
         piece = joins_at (mark l i i) (mark X i i) (mark p.label p.ints p.ints) xs (passed_code i kinds site ++ ys) w.piece
             (subst (λ os. Q 0 (mark X i i) (os ++ ys) (mark p.label p.ints p.ints)) (sym (no_width i kinds site goes.2)) p.piece);
       }
@@ -647,6 +658,8 @@ module _ (around : Setting) (f : ℕ) (ways : List Way) (y : Typing) (c : Contex
         frame = p.frame;
         more_ints = omega (arith, more);
         more_refs = p.more_refs;
+        ints_are = p.ints_are ∙ ap (λ b. ints_behind c rest (behind_int b i)) (sym is);
+        refs_are = p.refs_are ∙ ap (λ b. refs_behind c rest (behind_ref b r)) (sym is);
         env = λ q lt. p.env q lt;
         same = λ q lt. p.same q lt;
         known = λ q lt. p.known q lt;
@@ -670,7 +683,7 @@ module _ (around : Setting) (f : ℕ) (ways : List Way) (y : Typing) (c : Contex
       by false is (kind ∷ kinds) goes next = passed_number i r l fr kind kinds wants a rest xs (ys (i + 1) r) site is goes.0 goes.1 v bare alone (λ l2 f2 q. next (i + 1) r l2 f2 q)
 
   -- ---- a call
-  call_value : (from i r : ℕ) (l : Label) → F from i r l → (e : Expression) (g : ℕ) (kinds : List Kind) (wants : ℕ → StaticType) (all : Arguments) (os : List Op) (spot : Spot) → ((copy : ℕ) → IsCopyOf c e copy) → CallTyped around f y c e g kinds wants all → Passed i r l kinds wants all os → ValueOf from i r l (os ++ op.Call g i r spot ∷ []) e
+  call_value : (from i r : ℕ) (l : Label) → F from i r l → (e : Expression) (g : ℕ) (kinds : List Kind) (wants : ℕ → StaticType) (all : Arguments) (os : List Op) (spot : Spot) → ((copy : ℕ) → IsCopyOf y c e copy) → CallTyped around f y c e g kinds wants all → Passed i r l kinds wants all os → ValueOf from i r l (os ++ op.Call g i r spot ∷ []) e
   call_value from i r l fr e g kinds wants all os spot any_copy h p = by (is_ref c e) (is_integer (kind_of c e)) h.result
     where
       start : Q 0 (mark l from i) [] (mark l i i)
@@ -679,11 +692,17 @@ module _ (around : Setting) (f : ℕ) (ways : List Way) (y : Typing) (c : Contex
       passed : Q 0 (mark l from i) os (mark p.label p.ints p.ints)
       passed = joins_at (mark l from i) (mark l i i) (mark p.label p.ints p.ints) [] os start p.piece
 
+      free : AreFree c all i r p.label
+      free = record {
+        references = λ q le. p.frame.at.stands.free q (subst (λ k. k ≤ q) (sym p.refs_are) le);
+        integers = λ j le. p.frame.at.stands.numbers j (subst (λ k. k ≤ j) (sym p.ints_are) le);
+      }
+
       passes : (q : ℕ) → Passes p.label r (r + q) (p.label.env (r + q)) ((around.signature g).takes q)
-      passes = h.passes i r p.label p.frame.holds p.here
+      passes = h.passes i r p.label p.frame.holds p.here free
 
       numbers : (j : ℕ) → LessNumber (p.label.ints (i + j)) ((around.signature g).takes_ints j)
-      numbers = h.numbers i r p.label p.frame.holds p.here
+      numbers = h.numbers i r p.label p.frame.holds p.here free
 
       by : (a b : Bool) → ResultTyped around f y c e g a b → Value from i r l (os ++ op.Call g i r spot ∷ []) e a b
       by true b z = λ s goes fits.
@@ -785,7 +804,7 @@ module _ (around : Setting) (f : ℕ) (ways : List Way) (y : Typing) (c : Contex
           let p = one z.0 in
           joins from (mark l from i) (mark (fill l r (Refers (wants 0)) p.copy false) from i) (mark l from i) os _ p.piece (broadcasted around f D y c low from i r l fr (wants 0) p.copy p.fits p.small z.1 spot)
 
-  called_value : (from i r : ℕ) (l : Label) → F from i r l → (e : Expression) (n : Named) (name : List ℕ) (all : Arguments) (spot : Spot) → ((copy : ℕ) → IsCopyOf c e copy)
+  called_value : (from i r : ℕ) (l : Label) → F from i r l → (e : Expression) (n : Named) (name : List ℕ) (all : Arguments) (spot : Spot) → ((copy : ℕ) → IsCopyOf y c e copy)
       → (bare : Bool) → ((kinds : List Kind) (wants : ℕ → StaticType) → AreTypable around f y bare c kinds wants all → Passed i r l kinds wants all (arguments_code c i r kinds all))
       → ((kinds : List Kind) (wants : ℕ → StaticType) → AreTypable around f y bare c kinds wants all → IsOne around f y c all → OneHeld from i r l wants (arguments_code c i r kinds all))
       → ((kinds : List Kind) (wants : ℕ → StaticType) → AreTypable around f y bare c kinds wants all → AreTwo around f y c all → TwoHeld from i r l wants (arguments_code c i r kinds all))
@@ -843,7 +862,7 @@ module _ (around : Setting) (f : ℕ) (ways : List Way) (y : Typing) (c : Contex
           let start = placed around f D y c low from t (guard_of c a) (ground_of around f y c a) p.element i r p.copy l in
           joins from (mark l from i) start (mark (fill l r (Refers s) r false) from i) xs (take_code c i r (span_of a).first (lvalue_in c a) (mode_of c a) form t) p.piece
           (subst (λ os. Q from start os (mark (fill l r (Refers s) r false) from i)) (take_is i r (span_of a).first (lvalue_in c a) (mode_of c a) form t is)
-          (taken_value around f D y c low from i r l fr (guard_of c a) (ground_of around f y c a) p.element p.copy p.fits p.small (span_of a).first (lvalue_in c a) (mode_of c a) form t is s (in_frame from i r l fr s h.type) reaches))
+          (taken_value around f D y c low from i r l fr (guard_of c a) (ground_of around f y c a) p.element p.copy p.fits p.small p.copies (span_of a).first (lvalue_in c a) (mode_of c a) form t is s (in_frame from i r l fr s h.type) reaches))
 
       variables : (x : Register) (spot : Spot) → VariableTakes around f y bare c s x → Q from (mark (record l { gate = Closed }) from (i + 0)) (op.TakeLocal r (number_in x) spot ∷ []) (mark (fill l r (Refers s) r false) from i)
       variables (registers.Int j) spot takes = absurd takes
@@ -911,11 +930,11 @@ module _ (around : Setting) (f : ℕ) (ways : List Way) (y : Typing) (c : Contex
     expressions bare from i r l fr alone (on_place s Lock a) h =
         let p = places bare from i r l fr alone (span_of a).first None None a h.0 in
         entered_piece from i r l fr _ (mark l from i) (joins from (mark l from i) (placed around f D y c low from (target_of c a) None (ground_of around f y c a) p.element i r p.copy l) (mark l from i) (place_code c i r (span_of a).first None None a) _ p.piece
-        (locked_at around f D y c low from i r l fr (ground_of around f y c a) p.element p.copy p.fits p.small _ _ _ (target_of c a) h.1 h.2))
+        (locked_at around f D y c low from i r l fr (ground_of around f y c a) p.element p.copy p.fits p.small p.copies _ _ _ (target_of c a) h.1 h.2))
     expressions bare from i r l fr alone (on_place s Unlock a) h =
         let p = places bare from i r l fr alone (span_of a).first None None a h.0 in
         entered_piece from i r l fr _ (mark l from i) (joins from (mark l from i) (placed around f D y c low from (target_of c a) None (ground_of around f y c a) p.element i r p.copy l) (mark l from i) (place_code c i r (span_of a).first None None a) _ p.piece
-        (unlocked_at around f D y c low from i r l fr (ground_of around f y c a) p.element p.copy p.fits p.small _ _ (at_site s.first) (target_of c a) h.1 h.2))
+        (unlocked_at around f D y c low from i r l fr (ground_of around f y c a) p.element p.copy p.fits p.small p.copies _ _ (at_site s.first) (target_of c a) h.1 h.2))
     expressions bare from i r l fr alone (on_place s Free a) h = entered_piece from i r l fr _ (mark l from i) (free_piece bare from i r l fr alone a (place_code c i r (span_of a).first None (guard_of c a) a) _ h.1 (places bare from i r l fr alone (span_of a).first None (guard_of c a) a h.0))
     expressions bare from i r l fr alone (cast s t a) h = entered from i r l fr _ (cast s t a) (cast_value bare from i r l fr alone s t a (place_code c i r (span_of a).first None (guard_of c a) a) h.1 (places bare from i r l fr alone (span_of a).first None (guard_of c a) a h.0))
     expressions bare from i r l fr alone (index s a n) h =
@@ -929,11 +948,11 @@ module _ (around : Setting) (f : ℕ) (ways : List Way) (y : Typing) (c : Contex
         entered from i r l fr _ e (read from i r l fr e s.first (target_of c e) (place_code c i r s.first own (guard_of c e) a) (places bare from i r l fr alone s.first own (guard_of c e) a h.0) h.1.0 (λ copy. tt) h.1.1)
     expressions bare from i r l fr alone (field s a Arrow n) h =
         let e = field s a Arrow n in
-        entered from i r l fr _ e (read from i r l fr e s.first (target_of c e) (pointee_code r s.first (expression_code c i r a)) (object_place from i r l fr a s.first (expression_code c i r a) (field_place_named c.program.typed (what_names c n.site.token)) (guard_of c e) (ground_of around f y c e) refl h.0.1
+        entered from i r l fr _ e (read from i r l fr e s.first (target_of c e) (pointee_code r s.first (expression_code c i r a)) (object_place from i r l fr a s.first (expression_code c i r a) (field_place_named c.program.typed (what_names c n.site.token)) (guard_of c e) (ground_of around f y c e) refl refl h.0.1
         (expressions bare from i r l fr alone a h.0.0)) h.1.0 (λ copy. tt) h.1.1)
     expressions bare from i r l fr alone (unary s Dereference a) h =
         let e = unary s Dereference a in
-        entered from i r l fr _ e (read from i r l fr e s.first (target_of c e) (pointee_code r s.first (expression_code c i r a)) (object_place from i r l fr a s.first (expression_code c i r a) 0 (guard_of c e) (ground_of around f y c e) refl h.1 (expressions bare from i r l fr alone a h.0)) h.2.0 (λ copy. tt) h.2.1)
+        entered from i r l fr _ e (read from i r l fr e s.first (target_of c e) (pointee_code r s.first (expression_code c i r a)) (object_place from i r l fr a s.first (expression_code c i r a) 0 (guard_of c e) (ground_of around f y c e) refl refl h.1 (expressions bare from i r l fr alone a h.0)) h.2.0 (λ copy. tt) h.2.1)
     expressions bare from i r l fr alone (unary s Negate a) h = entered from i r l fr _ (unary s Negate a) (negated from i r l fr (unary s Negate a) a (expression_code c i r a) s.first h.2 (expressions bare from i r l fr alone a h.0))
     expressions bare from i r l fr alone (unary s Not a) h = entered from i r l fr _ (unary s Not a) (not_value from i r l fr (unary s Not a) a (expression_code c i r a) h.2 h.1 (expressions bare from i r l fr alone a h.0))
     expressions bare from i r l fr alone (unary s Complement a) h = entered from i r l fr _ (unary s Complement a) (complemented from i r l fr (unary s Complement a) a (expression_code c i r a) h.2 (expressions bare from i r l fr alone a h.0))
@@ -959,21 +978,21 @@ module _ (around : Setting) (f : ℕ) (ways : List Way) (y : Typing) (c : Contex
     expressions bare from i r l fr alone (binary s Remainder at a b) h = entered from i r l fr _ (binary s Remainder at a b) (computed from i r l fr (binary s Remainder at a b) at Remainder a b (expression_code c i r a) (λ i2 r2. expression_code c i2 r2 b) h.4.0 h.4.1 h.1 h.3 (expressions bare from i r l fr alone a h.0) bare alone (λ i2 r2 l2 f2 q. expressions (after_value c a bare) from i2 r2 l2 f2 q b h.2))
 
     pub places : (bare : Bool) (from i r : ℕ) (l : Label) → F from i r l → IsBare bare l → (site : Site) (own guard : Option ℕ) (e : Expression) → PlaceTyped bare own guard e → PlaceValue from i r l (place_code c i r site own guard e) (target c.program.typed own e) guard (ground_of around f y c e)
-    places bare from i r l fr alone site own guard (identifier s x) h = entered_place from i r l fr [] _ guard _ (named_place from i r l fr (what_names c x.site.token) (own_field own 0) guard _ refl)
+    places bare from i r l fr alone site own guard (identifier s x) h = entered_place from i r l fr [] _ guard _ (named_place from i r l fr (what_names c x.site.token) (own_field own 0) guard _ refl refl)
     places bare from i r l fr alone site own guard (parentheses s a) h = entered_place from i r l fr _ _ guard _ (places bare from i r l fr alone site own guard a h)
     places bare from i r l fr alone site own guard (index s a n) h = entered_place from i r l fr _ _ guard _
         (index_place from i r l fr site own guard s a n (place_code c i r site None None a) (expression_code c i r a) (λ d. expression_code c i d n) (PlaceTyped bare None None a) (Typed bare a) (Typed false n)
         (λ (k : PlaceTyped bare None None a). places bare from i r l fr alone site None None a k) (λ (k : Typed bare a). expressions bare from i r l fr alone a k) (λ (k : Typed false n). λ r2 l2 f2. expressions false from i r2 l2 f2 (no_bare l2) n k) h)
     places bare from i r l fr alone site own guard (field s a Dot n) h = entered_place from i r l fr _ _ guard _ (places bare from i r l fr alone site (Some (own_field own (field_place_named c.program.typed (what_names c n.site.token)))) guard a h)
-    places bare from i r l fr alone site own guard (field s a Arrow n) h = entered_place from i r l fr _ _ guard _ (object_place from i r l fr a site (expression_code c i r a) (own_field own (field_place_named c.program.typed (what_names c n.site.token))) guard _ refl h.1 (expressions bare from i r l fr alone a h.0))
-    places bare from i r l fr alone site own guard (unary s Dereference a) h = entered_place from i r l fr _ _ guard _ (object_place from i r l fr a site (expression_code c i r a) (own_field own 0) guard _ refl h.1 (expressions bare from i r l fr alone a h.0))
-    places bare from i r l fr alone site own guard (unary s Negate a) h = entered_place from i r l fr [] (variable 0) guard _ (variable_place from i r l fr 0 guard _ refl)
-    places bare from i r l fr alone site own guard (unary s Not a) h = entered_place from i r l fr [] (variable 0) guard _ (variable_place from i r l fr 0 guard _ refl)
-    places bare from i r l fr alone site own guard (unary s Complement a) h = entered_place from i r l fr [] (variable 0) guard _ (variable_place from i r l fr 0 guard _ refl)
-    places bare from i r l fr alone site own guard _ h = entered_place from i r l fr [] (variable 0) guard _ (variable_place from i r l fr 0 guard _ refl)
+    places bare from i r l fr alone site own guard (field s a Arrow n) h = entered_place from i r l fr _ _ guard _ (object_place from i r l fr a site (expression_code c i r a) (own_field own (field_place_named c.program.typed (what_names c n.site.token))) guard _ refl refl h.1 (expressions bare from i r l fr alone a h.0))
+    places bare from i r l fr alone site own guard (unary s Dereference a) h = entered_place from i r l fr _ _ guard _ (object_place from i r l fr a site (expression_code c i r a) (own_field own 0) guard _ refl refl h.1 (expressions bare from i r l fr alone a h.0))
+    places bare from i r l fr alone site own guard (unary s Negate a) h = entered_place from i r l fr [] (variable 0) guard _ (variable_place from i r l fr 0 guard _ refl refl)
+    places bare from i r l fr alone site own guard (unary s Not a) h = entered_place from i r l fr [] (variable 0) guard _ (variable_place from i r l fr 0 guard _ refl refl)
+    places bare from i r l fr alone site own guard (unary s Complement a) h = entered_place from i r l fr [] (variable 0) guard _ (variable_place from i r l fr 0 guard _ refl refl)
+    places bare from i r l fr alone site own guard _ h = entered_place from i r l fr [] (variable 0) guard _ (variable_place from i r l fr 0 guard _ refl refl)
 
     pub arguments : (bare : Bool) (i r : ℕ) (l : Label) → F i i r l → IsBare bare l → (kinds : List Kind) (wants : ℕ → StaticType) (all : Arguments) → AreTypable around f y bare c kinds wants all → Passed i r l kinds wants all (arguments_code c i r kinds all)
-    arguments bare i r l fr alone kinds wants no_arguments h = record { label = l; ints = i; refs = r; frame = fr; more_ints = omega arith; more_refs = omega arith; env = λ q lt. refl; same = λ q lt. refl; known = λ q lt. refl; numbers = λ j lt. refl; here = tt; piece = untold i i i i l (omega arith) }
+    arguments bare i r l fr alone kinds wants no_arguments h = record { label = l; ints = i; refs = r; frame = fr; more_ints = omega arith; more_refs = omega arith; ints_are = refl; refs_are = refl; env = λ q lt. refl; same = λ q lt. refl; known = λ q lt. refl; numbers = λ j lt. refl; here = tt; piece = untold i i i i l (omega arith) }
     arguments bare i r l fr alone kinds wants (argument a rest) h = one_passed i r l fr kinds wants a rest (expression_code c i r a) (λ i2 r2. arguments_code c i2 r2 (drop 1 kinds) rest) (span_of a).first h.1 (expressions bare i i r l fr alone a h.0) bare alone
         (λ i2 r2 l2 f2 q. arguments (after_value c a bare) i2 r2 l2 f2 q (drop 1 kinds) (λ n. wants (n + 1)) rest h.2)
 

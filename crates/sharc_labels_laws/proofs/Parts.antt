@@ -13,7 +13,7 @@ use Rattle.sharc_code.proofs.Places.{put_same, put_other, put_all}
 use Rattle.sharc_flat_form.specs.declared.op.Op.{Op}
 use Rattle.sharc_flat_form.specs.declared.op.Op.TheVariants as op
 use Rattle.sharc_flat_form.specs.declared.op.Spot.{Spot}
-use Rattle.sharc_flat_form.specs.Framed.{IsWide}
+use Rattle.sharc_flat_form.specs.Framed.{IsWide, OpWrites}
 use Rattle.sharc_flat.specs.Scope.{at_site}
 use Rattle.sharc_flat.specs.Places.{pointee_code}
 use Rattle.sharc_flat.specs.Flattened.{differ_code, compare_code, logical_code, either_code}
@@ -23,7 +23,7 @@ use Rattle.sharc_invariant.specs.Labels.{Entry, Empty, Refers, Number, Anything,
 use Rattle.sharc_invariant.specs.Typed.{is_shift, is_comparison, ints_in, refs_in}
 use Rattle.sharc_invariant.proofs.Scoped.{less_refl, less_entry_refl, less_number_refl, scoped_fill}
 use Rattle.sharc_typed.specs.Passes.{IsNumberOf}
-use Rattle.sharc_labels_laws.specs.Stretches.{WritesWithin, Mark, Setting, Tells, Fits, IsLine, AreWithin, LeadsWithin}
+use Rattle.sharc_labels_laws.specs.Stretches.{Mark, Setting, Tells, Fits, IsLine, AreWithin, LeadsWithin}
 use Rattle.sharc_labels_laws.specs.Places.{Stands, IsNamed, mark}
 use Rattle.sharc_labels_laws.proofs.Fitting.{fits_same, fits_by}
 use Rattle.sharc_labels_laws.proofs.Flow as flow
@@ -92,7 +92,7 @@ module _ (around : Setting) (f : ℕ) (D : (ℕ → Mark) → Type 0) (named : �
   none s e fits sc = λ w h. record { stretch = λ pc. flow.nothing around f D s pc e fits; scoped = sc h }
 
   -- one operation
-  pub does : (s : Mark) (o : Op) (e : Mark) → (WritesWithin fi fr o → Scoped s → Scoped e) → ((table : ℕ → Mark) (pc : ℕ) → WritesWithin fi fr o → Scoped s → Fits around.targets e (table (pc + 1)) → IsLine around f table pc s o) → P s (o ∷ []) e
+  pub does : (s : Mark) (o : Op) (e : Mark) → (OpWrites fi fr o → Scoped s → Scoped e) → ((table : ℕ → Mark) (pc : ℕ) → OpWrites fi fr o → Scoped s → Fits around.targets e (table (pc + 1)) → IsLine around f table pc s o) → P s (o ∷ []) e
   does s o e sc l = λ w h. record { stretch = λ pc. flow.line around f D s pc o e (λ table d le next. l table pc w.0 h next); scoped = sc w.0 h }
 
   pub before : (s m : Mark) (o : Op) (os : List Op) (e : Mark) → P s (o ∷ []) m → P m os e → P s (o ∷ os) e
@@ -107,7 +107,7 @@ module _ (around : Setting) (f : ℕ) (D : (ℕ → Mark) → Type 0) (named : �
   plain_at i r l until at h = record { owned = at.owned; scoped = h; closed = at.stands.closed }
 
   -- an operation that leaves all registers as they are
-  pub keeps : (i r : ℕ) (l : Label) → At i r l → (until : ℕ) (o : Op) → ((table : ℕ → Mark) (pc : ℕ) → WritesWithin fi fr o → Plain around f (mark l from until) → Fits around.targets (mark l from until) (table (pc + 1)) → IsLine around f table pc (mark l from until) o)
+  pub keeps : (i r : ℕ) (l : Label) → At i r l → (until : ℕ) (o : Op) → ((table : ℕ → Mark) (pc : ℕ) → OpWrites fi fr o → Plain around f (mark l from until) → Fits around.targets (mark l from until) (table (pc + 1)) → IsLine around f table pc (mark l from until) o)
       → P (mark l from until) (o ∷ []) (mark l from until)
   keeps i r l at until o rule = does (mark l from until) o (mark l from until) (λ w h. h) (λ table pc w h next. rule table pc w (plain_at i r l until at h) next)
 
@@ -160,8 +160,8 @@ module _ (around : Setting) (f : ℕ) (D : (ℕ → Mark) → Type 0) (named : �
 
   -- an operation that writes the first free integer register, after which no other one of those that were free is of use
   pub number_op : (i r : ℕ) (l : Label) → At i r l → (g : ℕ → Number) (c : Gate) (until : ℕ) → c ≡ Closed → ((j : ℕ) → j < i → g j ≡ l.ints j) → i ≤ until → (n : Number) → ((q : ℕ) → HasBase n q → q < r)
-      → (o : Op) → ((q : ℕ) → writes_ref o q ≡ false) → ((j : ℕ) → writes_int o j ≡ nat_eq j i) → IsGiven o i l (mark (record l { ints = g; gate = c }) from until) n → (WritesWithin fi fr o → i < fi)
-      → ((table : ℕ → Mark) (pc : ℕ) → WritesWithin fi fr o → Plain around f (mark (record l { ints = g; gate = c }) from until) → (next : Fits around.targets (with_number l i n) (table (pc + 1)))
+      → (o : Op) → ((q : ℕ) → writes_ref o q ≡ false) → ((j : ℕ) → writes_int o j ≡ nat_eq j i) → IsGiven o i l (mark (record l { ints = g; gate = c }) from until) n → (OpWrites fi fr o → i < fi)
+      → ((table : ℕ → Mark) (pc : ℕ) → OpWrites fi fr o → Plain around f (mark (record l { ints = g; gate = c }) from until) → (next : Fits around.targets (with_number l i n) (table (pc + 1)))
       → Less (set_number (record l { ints = g; gate = c }) i n) (set_number l i n)
       → ((k : Know) → Tells around.targets k (mark (record l { ints = g; gate = c }) from until) → Tells around.targets (know_next o k) (with_number l i n))
       → IsLine around f table pc (mark (record l { ints = g; gate = c }) from until) o)

@@ -182,13 +182,13 @@ module _ (around : Setting) (f : ℕ) (ways : List Way) (y : Typing) (c : Contex
           joins from (placed around f D y c low from t (guard_of c u) (ground_of around f y c u) p.element i r p.copy l)
           (mark (fill (placed around f D y c low from t (guard_of c u) (ground_of around f y c u) p.element i r p.copy l).label (r + base_width t) (Refers s) v.0 false) from (i + index_width t (guard_of c u))) (mark l from i)
           (right_code c (i + index_width t (guard_of c u)) (r + base_width t) (kind_of c u) mode x) _ v.2
-          (reference_store around f D y c low from i r l fr (guard_of c u) (ground_of around f y c u) p.element p.copy p.fits p.small (span_of u).first (lvalue_in c u) (mode_of c u) s (in_frame around f ways y c low from i r l fr s type) v.0 false t cell
+          (reference_store around f D y c low from i r l fr (guard_of c u) (ground_of around f y c u) p.element p.copy p.fits p.small p.copies (span_of u).first (lvalue_in c u) (mode_of c u) s (in_frame around f ways y c low from i r l fr s type) v.0 false t cell
           (⊎_elim (λ (e : v.0 ≡ r + base_width t). omega (arith, e)) (λ (lt : v.0 < top). omega (arith, lt, high)) v.1) (i + index_width t (guard_of c u)) h)
       stored false v h =
           joins from (placed around f D y c low from t (guard_of c u) (ground_of around f y c u) p.element i r p.copy l)
           (mark (set_number (placed around f D y c low from t (guard_of c u) (ground_of around f y c u) p.element i r p.copy l).label (i + index_width t (guard_of c u)) (Within (width_of (kind_of c u)))) from (i + index_width t (guard_of c u))) (mark l from i)
           (right_code c (i + index_width t (guard_of c u)) (r + base_width t) (kind_of c u) mode x) _ v
-          (int_store around f D y c low from i r l fr (guard_of c u) (ground_of around f y c u) p.element p.copy p.fits p.small (span_of u).first (lvalue_in c u) (mode_of c u) t cell (width_of (kind_of c u)) (r + base_width t) h)
+          (int_store around f D y c low from i r l fr (guard_of c u) (ground_of around f y c u) p.element p.copy p.fits p.small p.copies (span_of u).first (lvalue_in c u) (mode_of c u) t cell (width_of (kind_of c u)) (r + base_width t) h)
 
   -- ---- to a variable
   -- the value in these registers, of which nothing else is at hand

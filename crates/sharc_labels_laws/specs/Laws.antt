@@ -16,8 +16,8 @@ use Rattle.sharc_invariant.specs.Labels.{Refers, Number, Within, Label, LessNumb
 use Rattle.sharc_typed.specs.Passes.{TypedAnyhow, Knows}
 use Rattle.sharc_labels_laws.specs.Stretches.{Mark, Setting, Tells, IsLine, flat_labels, Way, LeadsAmong}
 use Rattle.sharc_labels_laws.specs.Places.{Stands, IsNamed, IsPlain, AreLow, mark}
-use Rattle.sharc_labels_laws.specs.Premises.{Typing}
-use Rattle.sharc_labels_laws.specs.Typable.{IsBare, IsCopyOf, GoesTo, StandsIn, HasType, IsTypable}
+use Rattle.sharc_labels_laws.specs.Premises.{Typing, IsCopyOf}
+use Rattle.sharc_labels_laws.specs.Typable.{IsBare, GoesTo, StandsIn, HasType, IsTypable}
 use Rattle.sharc_labels_laws.specs.Stated.{SimpleTypable}
 
 -- ---- lines
@@ -89,7 +89,7 @@ module _ (z : Setting) (f : ℕ) (ways : List Way) (y : Typing) (c : Context) (f
   -- A reference of the type to which it goes comes to the first free register, and may be a copy of a variable's.
   pub record ReferenceComes (s : StaticType) : Type 0 where
     pub copy : ℕ
-    pub of_variable : IsCopyOf c e copy
+    pub of_variable : IsCopyOf y c e copy
     pub is : (copy ≡ r) ⊎ (copy < ref_count c.scope)
     pub leads : LeadsAmong z f ways (mark l from i) os (mark (fill l r (Refers s) copy false) from i)
 
