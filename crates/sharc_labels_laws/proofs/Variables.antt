@@ -22,7 +22,7 @@ use Rattle.sharc_labels_laws.proofs.Rules.{on_move, on_local}
 use Rattle.sharc_labels_laws.proofs.Moves.{on_settle}
 use Rattle.sharc_labels_laws.proofs.Parts.{P, does, At, same_number, number_op, none_some, with_reference, with_number, scoped_below, number_below, number_above}
 
-either_false : (a b : Bool) → (a || b) ≡ false → (a ≡ false) × (b ≡ false)
+pub either_false : (a b : Bool) → (a || b) ≡ false → (a ≡ false) × (b ≡ false)
 either_false true b e = absurd (false≢true (sym e))
 either_false false b e = (refl, e)
 

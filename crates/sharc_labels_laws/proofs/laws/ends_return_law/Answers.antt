@@ -1,0 +1,5 @@
+use Rattle.sharc_labels_laws.proofs.Leaving.{ends_return}
+use Rattle.sharc_labels_laws.proofs.laws.ends_return_law.Goals as goal
+
+pub returns : goal.returns
+returns c = ends_return
