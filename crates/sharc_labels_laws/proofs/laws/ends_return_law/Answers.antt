@@ -1,4 +1,4 @@
-use Rattle.sharc_labels_laws.proofs.Leaving.{ends_return}
+use Rattle.sharc_labels_laws.proofs.Returning.{ends_return}
 use Rattle.sharc_labels_laws.proofs.laws.ends_return_law.Goals as goal
 
 pub returns : goal.returns

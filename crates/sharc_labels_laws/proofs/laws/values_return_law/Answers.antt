@@ -1,5 +1,5 @@
-use Rattle.sharc_labels_laws.proofs.Leaving.{values_return}
+use Rattle.sharc_labels_laws.proofs.Returning.{values_return}
 use Rattle.sharc_labels_laws.proofs.laws.values_return_law.Goals as goal
 
 pub returns : goal.returns
-returns c = ends_return
+returns c = values_return
