@@ -32,7 +32,7 @@ use Rattle.sharc_labels_laws.specs.Typable.{GoesTo}
 use Rattle.sharc_labels_laws.specs.Stated.{ValueGoes, RightTypable}
 use Rattle.sharc_labels_laws.specs.Declared.{StandsBefore, before}
 use Rattle.sharc_labels_laws.specs.Left.{back, AreNested}
-use Rattle.sharc_labels_laws.specs.Returned.{GivesBackBy, GivesBack, ReturnedBy, ReturnTypable, Returns, EndsReturn, ValuesReturn}
+use Rattle.sharc_labels_laws.specs.Returned.{GivesBackBy, GivesBack, ReturnedBy, ReturnTypable, Returns, NothingReturns, ValuesReturn}
 use Rattle.sharc_labels_laws.proofs.Fitting.{fits_same}
 use Rattle.sharc_labels_laws.proofs.Standing.{without_same, uncopied}
 use Rattle.sharc_labels_laws.proofs.Telling.{told, other_than}
@@ -449,10 +449,16 @@ module _ (z : Setting) (f : ℕ) (ways : List Way) where
               (λ q _. all_free q);
         }
 
-pub ends_return : EndsReturn
-ends_return z f ways y c d l k low here inside nested low2 there no_ints no_refs kind gives spot =
+-- what is known before the outermost block
+outermost : (f : ℕ) (y : Typing) (d : Context) (k : Label) (inside : List ℕ) (c : Context) (l : Label) → AreLow (y.named c) (ref_count c.scope) → StandsBefore y c f l → AreNested y f c l inside d k → AreLow (y.named d) (ref_count d.scope) × StandsBefore y d f k
+outermost f y d k [] c l low here h = (subst (λ e. AreLow (y.named e) (ref_count e.scope)) h.0 low, subst (λ e. StandsBefore y e f k) h.0 (subst (StandsBefore y c f) h.1 here))
+outermost f y d k (n ∷ outer) c l low here h = outermost f y d k outer (back c n) h.0 h.3 h.1 h.4
+
+pub nothing_returns : NothingReturns
+nothing_returns z f ways y c d l k low here inside nested no_ints no_refs kind gives spot =
+    let w = outermost f y d k inside c l low here nested in
     after z f ways (before c l) (before d k) (leaves c.scope inside) (zero_code (is_reference kind) 0 0) spot (leaves_typed z f ways y c d l k low here inside nested)
-    (zeroes z f ways y d k low2 there no_ints no_refs kind spot (is_reference kind) gives)
+    (zeroes z f ways y d k w.0 w.1 no_ints no_refs kind spot (is_reference kind) gives)
 
 pub values_return : ValuesReturn
 values_return z f ways y c d l k low here inside nested no_ints no_refs kind gives e h spot = values z f ways y c d l k low here inside nested no_refs kind spot gives e h

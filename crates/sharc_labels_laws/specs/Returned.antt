@@ -44,13 +44,12 @@ pub record Returns (z : Setting) (f : ℕ) (ways : List Way) (s : Mark) (os : Li
   pub leads : LeadsAmong z f ways s os mark
   pub returns : IsScoped (ints_in z.code (Some f)) (refs_in z.code (Some f)) mark.label → (table : ℕ → Mark) (pc : ℕ) → IsLine z f table pc mark (op.Return spot)
 
--- 0 or NULL is given back where nothing is
-abbrev pub EndsReturn : Type 0
-EndsReturn = (z : Setting) (f : ℕ) (ways : List Way) (y : Typing) (c d : Context) (l k : Label) → AreLow (y.named c) (ref_count c.scope) → StandsBefore y c f l → (inside : List ℕ) → AreNested y f c l inside d k
-    → AreLow (y.named d) (ref_count d.scope) → StandsBefore y d f k → int_count d.scope ≡ 0 → ref_count d.scope ≡ 0 → (kind : Kind) → GivesBack z f y kind → (spot : Spot)
-    → Returns z f ways (before c l) (leaves c.scope inside ++ zero_code (is_reference kind) 0 0) spot
+-- Where blocks are open up to a context without variables, NULL or 0 is given back,
+abbrev pub NothingReturns : Type 0
+NothingReturns = (z : Setting) (f : ℕ) (ways : List Way) (y : Typing) (c d : Context) (l k : Label) → AreLow (y.named c) (ref_count c.scope) → StandsBefore y c f l → (inside : List ℕ) → AreNested y f c l inside d k
+    → int_count d.scope ≡ 0 → ref_count d.scope ≡ 0 → (kind : Kind) → GivesBack z f y kind → (spot : Spot) → Returns z f ways (before c l) (leaves c.scope inside ++ zero_code (is_reference kind) 0 0) spot
 
--- a value, while the variables are given up
+-- or a value, below which the variables are given up.
 abbrev pub ValuesReturn : Type 0
 ValuesReturn = (z : Setting) (f : ℕ) (ways : List Way) (y : Typing) (c d : Context) (l k : Label) → AreLow (y.named c) (ref_count c.scope) → StandsBefore y c f l → (inside : List ℕ) → AreNested y f c l inside d k
     → int_count d.scope ≡ 0 → ref_count d.scope ≡ 0 → (kind : Kind) → GivesBack z f y kind → (e : Expression) → ReturnTypable z f y c kind (Some e) → (spot : Spot)

@@ -6,7 +6,7 @@ ghost use Rattle.sharc_labels_laws.specs.Decided.{DecisionsAreTyped};
 ghost use Rattle.sharc_labels_laws.specs.Declared.{LocalsAreTyped};
 ghost use Rattle.sharc_labels_laws.specs.Ended.{EndsAreTyped};
 ghost use Rattle.sharc_labels_laws.specs.Left.{JumpsAreTyped, LeavesAreTyped};
-ghost use Rattle.sharc_labels_laws.specs.Returned.{EndsReturn, ValuesReturn};
+ghost use Rattle.sharc_labels_laws.specs.Returned.{NothingReturns, ValuesReturn};
 ghost use Rattle.sharc_labels_laws.specs.Laws.{ExpressionsAreTyped, LinesAreTyped, LinesKnow, LinesTell, PartsAreTyped, SimplesAreTyped, StretchesJoin, TestsAreTyped};
 
 /// Lines that stand in a table of marks are typed whatever checks are remembered.
@@ -70,8 +70,8 @@ pub fn jumps_law()
 {}
 
 /// A function may be left where its variables are given up and nothing is given back.
-pub fn ends_return_law()
-    ensures { EndsReturn }
+pub fn returns_nothing_law()
+    ensures { NothingReturns }
 {}
 
 /// So it may with a value, which goes to its first register after the variables are given up.
