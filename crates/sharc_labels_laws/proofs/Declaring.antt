@@ -37,7 +37,7 @@ use Rattle.sharc_labels_laws.proofs.Variables.{assign_free_at}
 use Rattle.sharc_labels_laws.proofs.Expressing.{in_frame, null_at, bare_number}
 use Rattle.sharc_labels_laws.proofs.Simple.{Comes, rights, settled}
 
-zero_fits : (w : Width) → holds w (pos 0) ≡ true
+pub zero_fits : (w : Width) → holds w (pos 0) ≡ true
 zero_fits Char = refl
 zero_fits Int = refl
 zero_fits Long = refl

@@ -6,9 +6,7 @@ use Rattle.sharc_tree.specs.Spans.{span_of}
 use Rattle.sharc_tree.specs.Tree.{Expression, value}
 use Rattle.sharc_names.specs.Kinds.{Kind, object, array, is_integer, is_integral}
 use Rattle.sharc_names.specs.Kinds as kinds
-use Rattle.sharc_code.specs.Arithmetic.{holds}
 use Rattle.sharc_code.specs.declared.instr.Width.{Width}
-use Rattle.sharc_code.specs.declared.instr.Width.TheVariants.{Char, Int, Long}
 use Rattle.sharc_code.specs.Runs.{put}
 use Rattle.sharc_code.proofs.Places.{put_same, put_other, put_all}
 use Rattle.sharc_mode.specs.Sharings.{private}
@@ -45,23 +43,19 @@ use Rattle.sharc_labels_laws.proofs.Accessed.{Frame}
 use Rattle.sharc_labels_laws.proofs.Expressing.{null_at}
 use Rattle.sharc_labels_laws.proofs.Simple.{Comes, rights}
 use Rattle.sharc_labels_laws.proofs.Ending.{forgotten_same, forgotten_mentions, forgotten_none, forgotten_full}
+use Rattle.sharc_labels_laws.proofs.Declaring.{zero_fits}
 use Rattle.sharc_labels_laws.proofs.Leaving.{leaves_typed}
-
-zero_fits : (w : Width) → holds w (pos 0) ≡ true
-zero_fits Char = refl
-zero_fits Int = refl
-zero_fits Long = refl
 
 -- what is a reference is no integer
 no_integer : (k : Kind) → is_reference k ≡ true → is_integer k ≡ false
 no_integer (object b n) h = by (nat_lt 0 n) refl h
   where
-    zero : (z : Bool) → (n == 0) ≡ z → 0 < n → (z && is_integral b) ≡ false
-    zero true same lt = let none = eqb-true n 0 same in absurd (omega (arith, none, lt))
-    zero false same lt = refl
+    apart : (z : Bool) → (n == 0) ≡ z → 0 < n → (z && is_integral b) ≡ false
+    apart true same lt = let none = eqb-true n 0 same in absurd (omega (arith, none, lt))
+    apart false same lt = refl
 
     by : (z : Bool) → nat_lt 0 n ≡ z → (z || false) ≡ true → is_integer (object b n) ≡ false
-    by true low h = zero (n == 0) refl (ltb-true 0 n low)
+    by true low h = apart (n == 0) refl (ltb-true 0 n low)
     by false low h = absurd (false≢true h)
 no_integer (array b n) h = refl
 no_integer kinds.null h = refl
@@ -392,16 +386,16 @@ module _ (z : Setting) (f : ℕ) (ways : List Way) where
         by : (b : Bool) → is_reference kind ≡ b → GivesBackBy z f y kind b → ReturnedBy z f y c kind e b
             → ((s : StaticType) → RightTypable z f y true c kind s (value e) → Comes z f ways y c low i1 i1 r1 l kind s code (is_reference kind))
             → Returns z f ways (before c l) (expression_code c i1 r1 e ++ (width_code i1 kind (span_of e).first ++ rest_code b)) spot
-        by true is gives back comes =
-            let s = back.1.0 in
-            let same : gives.0 ≡ s = same_type gives.0 s (sym gives.2 ∙ back.1.2) in
+        by true is gives goes comes =
+            let s = goes.1.0 in
+            let same : gives.0 ≡ s = same_type gives.0 s (sym gives.2 ∙ goes.1.2) in
             let unnamed : (p : ℕ) → Mentions s p → ⊥ = subst (λ s. (p : ℕ) → Mentions s p → ⊥) same gives.1 in
-            let right : RightTypable z f y true c kind s (value e) = subst (ValueGoes z f y true c kind s e) (sym is) (h.0, back.0, no_integer kind is, back.1.1, λ p w. absurd (unnamed p w)) in
+            let right : RightTypable z f y true c kind s (value e) = subst (ValueGoes z f y true c kind s e) (sym is) (h.0, goes.0, no_integer kind is, goes.1.1, λ p w. absurd (unnamed p w)) in
             let v = subst (Comes z f ways y c low i1 i1 r1 l kind s code) is (comes s right) in
-            apart true (after (before c l) (mark (fill l r1 (Refers s) v.0 false) i1 i1) code (rest_code true) spot v.2 (gives_reference s unnamed back.1.2 gives.3 v.0))
-        by false is gives back comes =
+            apart true (after (before c l) (mark (fill l r1 (Refers s) v.0 false) i1 i1) code (rest_code true) spot v.2 (gives_reference s unnamed goes.1.2 gives.3 v.0))
+        by false is gives goes comes =
             let s : StaticType = record { target = 0; locks = [] } in
-            let right : RightTypable z f y true c kind s (value e) = subst (ValueGoes z f y true c kind s e) (sym is) (h.0, back.0, back.1) in
+            let right : RightTypable z f y true c kind s (value e) = subst (ValueGoes z f y true c kind s e) (sym is) (h.0, goes.0, goes.1) in
             let v = subst (Comes z f ways y c low i1 i1 r1 l kind s code) is (comes s right) in
             apart false (after (before c l) (mark (set_number l i1 (Within (width_of kind))) i1 i1) code (rest_code false) spot v (gives_number (width_of kind) gives.0 gives.1))
 
