@@ -11,7 +11,7 @@ use Rattle.sharc_code.specs.declared.code.Use.{Use}
 use Rattle.sharc_ctype.specs.Resolved.{named_at, named_kind, global_at, kind_at}
 use Rattle.sharc_meaning.specs.Cells.{global_elements, field_place_behind}
 use Rattle.sharc_mode.specs.Cells.{cell_at}
-use Rattle.sharc_mode.specs.Rows.{modes_at}
+use Rattle.sharc_mode.specs.Rows.{constant_use, modes_at}
 use Rattle.sharc_mode.specs.Sharings.{Lock, Sharing, private, readonly, locked}
 use Rattle.sharc_mode_laws.specs.Constructs.{IsExpression}
 use Rattle.sharc_flat.specs.declared.slot.Lvalue.{Lvalue}
@@ -39,6 +39,10 @@ pub data LockLeads (c : Context) (l : Lock) : Type 0 where
 
 abbrev pub PathLeads : Context → Expression → Type 0
 PathLeads c e = (l : Lock) (below : List Sharing) → modes_behind c.program e ≡ locked l ∷ below → cell_at c.program e ≡ locked l → LockLeads c l
+
+-- A constant variable through which an lvalue leads is in scope.
+abbrev pub BaseStands : Context → Expression → Type 0
+BaseStands c e = (p : Expression) (token x : ℕ) → pointer_of c.program.typed e ≡ Some p → constant_use c.program.typed p ≡ Some token → named_at c.program.typed token ≡ named.Variable x → slot_kind c.scope x ≡ Some true
 
 -- What the mode of an lvalue asks for of the function that accesses it: that thread 0 alone runs it, if it is a private cell of a global; that it writes nothing readonly; and a
 -- mutex.
@@ -76,7 +80,7 @@ IntegersFit = (c : Context) (code : Code) → IsCodeOf c code → (signature : �
 abbrev pub ReferencesFit : Type 0
 ReferencesFit = (c : Context) (code : Code) → IsCodeOf c code → (signature : ℕ → Signature) (starts : ℕ → Bool) (lines : ℕ) (y : Typing) → IsTypingOf y c → (f : ℕ) (e : Expression) → IsCellLvalue c.program e
     → (ground : Ground) → IsGroundOf c e ground → is_pointer (kind_at c.program.typed e) ≡ true → (modes : List Sharing) → modes_at c.program e ≡ Some modes → (write : Bool) → IsFairUse c (signature f).alone write e
-    → AllByRecursion (IsExpression c.program) (expressions e) → (site : Site) (lvalue : Lvalue) (use_made : Use)
+    → AllByRecursion (IsExpression c.program) (expressions e) → BaseStands c e → (site : Site) (lvalue : Lvalue) (use_made : Use)
     → ReferenceTyped (setting c code signature starts lines) y c f (target c.program.typed None e) (beside_field c.program.typed (cell_at c.program e)) ground site lvalue (cell_at c.program e) write use_made
     (static_of c (kind_at c.program.typed e) modes)
 
