@@ -121,7 +121,7 @@ module _ (z : Setting) (f : ℕ) (ways : List Way) where
         }
       where
         narrow : (q : ℕ) → (q ≡ n → ⊥) → ((lo ≤ q) × (q < n + 1)) ⊎ (hi ≤ q) → ((lo ≤ q) × (q < n)) ⊎ (hi ≤ q)
-        narrow q no at = ⊎_elim (λ (w : (lo ≤ q) × (q < n + 1)). let lt = w.1 in inl (w.0, omega (arith, lt, no))) (λ (w : hi ≤ q). inr w) at
+        narrow q ne at = ⊎_elim (λ (w : (lo ≤ q) × (q < n + 1)). let lt = w.1 in inl (w.0, omega (arith, lt, ne))) (λ (w : hi ≤ q). inr w) at
 
     scoped_popped : (m : Label) (lo n hi : ℕ) → (n ≡ r → ⊥) → Gone m lo n hi → IsScoped fi fr m → IsScoped fi fr (popped m n)
     scoped_popped m lo n hi other h s =
@@ -192,7 +192,7 @@ module _ (z : Setting) (f : ℕ) (ways : List Way) where
           closed = h.closed;
           passed = h.passed;
           given = λ q ne at. ⊎_elim (λ (w : (lo ≤ q) × (q < lo)). absurd (nowhere lo q w.0 w.1)) (λ (w : hi ≤ q). h.given q ne (inr w)) at;
-          value = h.kept;
+          kept = h.kept;
           ints = h.ints;
           same = h.same;
           known = h.known;
@@ -204,7 +204,7 @@ module _ (z : Setting) (f : ℕ) (ways : List Way) where
           closed = h.closed;
           passed = h.passed;
           given = λ q ne at. ⊎_elim (λ (w : (lo ≤ q) × (q < lo)). absurd (nowhere lo q w.0 w.1)) (λ (w : lo ≤ q). ⊎_elim (λ (lt : q < hi). h.given q ne (inl (w, lt))) (λ (ge : hi ≤ q). h.given q ne (inr ge)) (cases_lt q hi)) at;
-          value = h.kept;
+          kept = h.kept;
           ints = h.ints;
           same = h.same;
           known = h.known;
