@@ -50,7 +50,7 @@ use Rattle.sharc_invariant.proofs.Scoped.{less_refl, less_entry_refl, less_numbe
 use Rattle.sharc_labels_laws.specs.Stretches.{Mark, Setting, Way, AreOpen}
 use Rattle.sharc_labels_laws.specs.Places.{IsNamed, IsPlain, AreLow, no_type, mark}
 use Rattle.sharc_labels_laws.specs.Premises.{Typing, IsCopyIn, IsCopyNamed, IsCopyOf, IsPointerCopy, Ground, ReferenceTyped}
-use Rattle.sharc_labels_laws.specs.Typable.{IsBare, after_value, type_by, GoesTo, Widens, ints_behind, refs_behind, AreFree, IsTypeIn, IsVoid, IsNumber, IsPointer, ground_of, CellTyped, VariableTyped, NameTyped, ConstantTyped, UnaryTyped, result_of, ComparedTyped, HasType, AreFields, IndexTypable, ArgumentAt, ArgumentsAt, ResultTyped, CallTyped, HasNoWidth, Goes, Handed, SpawnTyped, FirstCell, IsOne, AreTwo, ConditionTyped, VariableTakes, Takes, TakeTyped, CastTyped, FreeTyped, CallTypable, IsTypable, AreTypable, IsPlaceTypable}
+use Rattle.sharc_labels_laws.specs.Typable.{IsBare, StandsIn, after_value, type_by, GoesTo, Widens, ints_behind, refs_behind, AreFree, IsTypeIn, IsVoid, IsNumber, IsPointer, ground_of, CellTyped, VariableTyped, NameTyped, ConstantTyped, UnaryTyped, result_of, ComparedTyped, HasType, AreFields, IndexTypable, ArgumentAt, ArgumentsAt, ResultTyped, CallTyped, HasNoWidth, Goes, Handed, SpawnTyped, FirstCell, IsOne, AreTwo, ConditionTyped, VariableTakes, Takes, TakeTyped, CastTyped, FreeTyped, CallTypable, IsTypable, AreTypable, IsPlaceTypable}
 use Rattle.sharc_labels_laws.proofs.Fitting.{fits_same}
 use Rattle.sharc_labels_laws.proofs.Losing.{with_copies, Loses, loses_none, loses_both, loses_taken, stands_lost, less_lost, holds_lost, below, loses_below, loses_there, small_there, lost_fill, copy_kept}
 use Rattle.sharc_labels_laws.proofs.Standing.{less_by}
@@ -140,6 +140,18 @@ module _ (around : Setting) (f : ℕ) (ways : List Way) (y : Typing) (c : Contex
     early = fr.early;
     seen = fr.seen;
     elements = fr.elements;
+  }
+
+  -- nothing is at hand but variables
+  pub bare_frame : (from i r : ℕ) (l : Label) → StandsIn y c f from i r l → IsBare true l → F from i r l
+  bare_frame from i r l in_it alone = record {
+    at = record { stands = in_it.stands; owned = in_it.owned };
+    holds = in_it.holds;
+    high = in_it.high;
+    wide = in_it.wide;
+    early = in_it.early;
+    seen = λ q e. absurd ((alone refl).1 q e);
+    elements = λ j q b. absurd ((alone refl).2 j q b);
   }
 
   -- ---- values

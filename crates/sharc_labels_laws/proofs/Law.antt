@@ -10,10 +10,9 @@ use Rattle.sharc_invariant.proofs.Scoped.{less_refl}
 use Rattle.sharc_labels_laws.specs.Stretches.{Setting, Way, AreOpen, LeadsAmong}
 use Rattle.sharc_labels_laws.specs.Places.{AreLow, mark}
 use Rattle.sharc_labels_laws.specs.Premises.{Typing}
-use Rattle.sharc_labels_laws.specs.Typable.{IsBare, StandsIn}
+use Rattle.sharc_labels_laws.specs.Typable.{IsBare}
 use Rattle.sharc_labels_laws.specs.Laws.{StretchesJoin, PartsAreTyped, ValueComes, ExpressionsAreTyped, SimplesAreTyped, TestsAreTyped}
-use Rattle.sharc_labels_laws.proofs.Accessed.{Frame}
-use Rattle.sharc_labels_laws.proofs.Expressing.{Value, expressions, truth_of}
+use Rattle.sharc_labels_laws.proofs.Expressing.{bare_frame, Value, expressions, truth_of}
 use Rattle.sharc_labels_laws.proofs.Losing.{kept}
 use Rattle.sharc_labels_laws.proofs.Simple.{simples, all_kept}
 use Rattle.sharc_labels_laws.proofs.Parts.{At, then_do, truth_at, pop_at, compare_at, logical_at, either_at, pointee_at}
@@ -35,18 +34,7 @@ parts_typed z f ways named top from i r l low le stands owned =
 
 -- ---- expressions
 -- nothing is at hand but variables
-module _ (z : Setting) (f : ℕ) (ways : List Way) (y : Typing) (c : Context) (low : AreLow (y.named c) (ref_count c.scope)) (from i r : ℕ) (l : Label) (in_it : StandsIn y c f from i r l) (alone : IsBare true l) where
-  frame : Frame z f (AreOpen z ways) y c low from i r l
-  frame = record {
-    at = record { stands = in_it.stands; owned = in_it.owned };
-    holds = in_it.holds;
-    high = in_it.high;
-    wide = in_it.wide;
-    early = in_it.early;
-    seen = λ q e. absurd ((alone refl).1 q e);
-    elements = λ j q b. absurd ((alone refl).2 j q b);
-  }
-
+module _ (z : Setting) (f : ℕ) (ways : List Way) (y : Typing) (c : Context) (low : AreLow (y.named c) (ref_count c.scope)) (from i r : ℕ) (l : Label) (alone : IsBare true l) where
   comes : (e : Expression) (os : List Op) (a b : Bool) → Value z f ways y c low from i r l os e a b → ValueComes z f ways y c from i r l os e a b
   comes e os true b v = λ s goes fits.
       let w = v s goes fits in
@@ -61,13 +49,13 @@ module _ (z : Setting) (f : ℕ) (ways : List Way) (y : Typing) (c : Context) (l
 
 pub expressions_typed : ExpressionsAreTyped
 expressions_typed z f ways y c low from i r l in_it bare alone e h =
-    comes z f ways y c low from i r l in_it alone e (expression_code c i r e) (is_ref c e) (is_integer (kind_of c e)) (expressions z f ways y c low bare from i r l (frame z f ways y c low from i r l in_it alone) e h)
+    comes z f ways y c low from i r l alone e (expression_code c i r e) (is_ref c e) (is_integer (kind_of c e)) (expressions z f ways y c low bare from i r l (bare_frame z f ways y c low from i r l in_it alone) e h)
 
 -- ---- simple statements
 pub simples_typed : SimplesAreTyped
-simples_typed z f ways y c low from i r l in_it alone whole x h = simples z f ways y c low from i r l (frame z f ways y c low from i r l in_it alone) alone whole x h
+simples_typed z f ways y c low from i r l in_it alone whole x h = simples z f ways y c low from i r l (bare_frame z f ways y c low from i r l in_it alone) alone whole x h
 
 pub tests_typed : TestsAreTyped
 tests_typed z f ways y c low from i r l in_it bare alone e h type =
-    let fr = frame z f ways y c low from i r l in_it alone in
+    let fr = bare_frame z f ways y c low from i r l in_it alone in
     all_kept z f ways y c low from i l alone (expression_code c i r e ++ truth_code (is_ref c e) i r) (truth_of z f ways y c low from i r l fr e (expression_code c i r e) type (expressions z f ways y c low bare from i r l fr e h))

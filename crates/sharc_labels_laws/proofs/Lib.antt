@@ -26,5 +26,6 @@ pub mod Decided
 pub mod Declaring
 pub mod Ending
 pub mod Leaving
+pub mod Returning
 pub mod Blocks
 pub mod Beginning

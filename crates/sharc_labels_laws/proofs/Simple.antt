@@ -105,6 +105,13 @@ module _ (around : Setting) (f : ℕ) (ways : List Way) (y : Typing) (c : Contex
   Comes from i r l kind s os true = ReferenceAt from i r l s os
   Comes from i r l kind s os false = NumberAt from i l (width_of kind) os
 
+  -- nothing is lost where nothing but variables is at hand
+  pub reference_kept : (from i r : ℕ) (l : Label) → IsBare true l → (s : StaticType) (os : List Op) → (v : ReferenceAt from i r l s os) → Q from (mark l from i) os (mark (fill l r (Refers s) v.copy false) from i)
+  reference_kept from i r l alone s os v = subst (λ k. Q from (mark l from i) os (mark (fill k r (Refers s) v.copy false) from i)) (kept N l v.lost v.loses alone) v.piece
+
+  pub number_kept : (from i : ℕ) (l : Label) → IsBare true l → (w : Width) (os : List Op) → NumberAt from i l w os → Q from (mark l from i) os (mark (set_number l i (Within w)) from i)
+  number_kept from i l alone w os v = subst (λ k. Q from (mark l from i) os (mark (set_number k i (Within w)) from i)) (kept N l v.lost v.loses alone) v.piece
+
   -- the number of elements
   record Counted (from i : ℕ) (l : Label) (os : List Op) : Type 0 where
     lost : ℕ → ℕ
@@ -312,14 +319,14 @@ module _ (around : Setting) (f : ℕ) (ways : List Way) (y : Typing) (c : Contex
       let wide = fr.wide in
       let lt = h.1 in
       let n = subst (Comes from i r l kind s xs) h.0 v in
-      joins from (mark l from i) (mark (set_number l i (Within w)) from i) (mark l from i) xs (op.Move j i ∷ []) (subst (λ k. Q from (mark l from i) xs (mark (set_number k i (Within w)) from i)) (kept N l n.lost n.loses alone) n.piece)
+      joins from (mark l from i) (mark (set_number l i (Within w)) from i) (mark l from i) xs (op.Move j i ∷ []) (number_kept from i l alone w xs n)
       (assign_number_at around f D N top low from i r l fr.at j w i (omega arith) (omega (arith, lt, wide)) (omega (arith, lt, whole)) (fr.holds.integers j h.1 ∙ ap Within h.2))
   settled from i r l fr alone whole kind s (registers.Reference q) xs type h v =
       let w = subst (Comes from i r l kind s xs) h.0 v in
       let a = alone refl in
       let high = fr.high in
       let lt = h.1 in
-      joins from (mark l from i) (mark (fill l r (Refers s) w.copy false) from i) (mark l from i) xs (op.Settle q r ∷ []) (subst (λ k. Q from (mark l from i) xs (mark (fill k r (Refers s) w.copy false) from i)) (kept N l w.lost w.loses alone) w.piece)
+      joins from (mark l from i) (mark (fill l r (Refers s) w.copy false) from i) (mark l from i) xs (op.Settle q r ∷ []) (reference_kept from i r l alone s xs w)
       (assign_at around f D N top low from i r l fr.at fr.high s w.copy false q i (in_frame around f ways y c low from i r l fr s type) (omega (arith, lt, high)) (fr.holds.references q h.1 ∙ ap Refers h.2) h.3 (a.0 q) (λ p e. sym (a.0 p) ∙ e) (a.1 q) (λ j b. a.2 j q b))
 
   shut_bare : (bare : Bool) (l : Label) → IsBare bare l → IsBare bare (record l { gate = Closed })
@@ -367,7 +374,6 @@ module _ (around : Setting) (f : ℕ) (ways : List Way) (y : Typing) (c : Contex
             piece = joins from (mark l from i) (mark k from i) (mark k from i) (expression_code c i r e) [] v.piece (none around f D N top low from (mark k from i) (mark k from i) (fits_same around.targets (mark k from i)) (λ z. z));
           }
 
-  -- nothing is lost where nothing but variables is at hand
   pub all_kept : (from i : ℕ) (l : Label) → IsBare true l → (os : List Op) → Done around f ways y c low from i l os → Q from (mark l from i) os (mark l from i)
   all_kept from i l alone os d = subst (λ k. Q from (mark l from i) os (mark k from i)) (kept N l d.lost d.loses alone) d.piece
 
