@@ -142,6 +142,10 @@ module _ (around : Setting) (f : ℕ) (ways : List Way) (y : Typing) (c : Contex
     elements = fr.elements;
   }
 
+  -- with a register more, of which something may be lost too
+  over_fill : (from : ℕ) (s : Mark) (os : List Op) (l : Label) (r : ℕ) (t : StaticType) (v : ℕ) (b : Bool) (lost : ℕ → ℕ) (end : Label → Mark) → Q from s os (end (with_copies (fill l r (Refers t) v b) lost)) → Q from s os (end (fill (with_copies l (below l.same r lost)) r (Refers t) (lost r) b))
+  over_fill from s os l r t v b lost end p = subst (λ k. Q from s os (end k)) (lost_fill l r (Refers t) v b lost) p
+
   -- nothing is at hand but variables
   pub bare_frame : (from i r : ℕ) (l : Label) → StandsIn y c f from i r l → IsBare true l → F from i r l
   bare_frame from i r l in_it alone = record {
@@ -209,6 +213,10 @@ module _ (around : Setting) (f : ℕ) (ways : List Way) (y : Typing) (c : Contex
 
   pub small_copy : (from i r : ℕ) (l : Label) → F from i r l → (copy : ℕ) → (copy ≡ r) ⊎ (copy < top) → copy ≤ r
   small_copy from i r l fr copy small = let high = fr.high in ⊎_elim (λ (e : copy ≡ r). omega (arith, e)) (λ (lt : copy < top). omega (arith, lt, high)) small
+
+  -- of what the second one of two is a copy
+  upper_copy : (r copy : ℕ) → top ≤ r → (copy ≡ r + 1) ⊎ (copy < top) → (copy ≡ r + 1) ⊎ (copy < r)
+  upper_copy r copy high small = ⊎_elim (λ (z : copy ≡ r + 1). inl z) (λ (z : copy < top). inr (omega (arith, z, high))) small
 
   joins : (from : ℕ) (s m e : Mark) (xs ys : List Op) → Q from s xs m → Q from m ys e → Q from s (xs ++ ys) e
   joins from = then_do around f D N top low from
@@ -442,7 +450,7 @@ module _ (around : Setting) (f : ℕ) (ways : List Way) (y : Typing) (c : Contex
       let elem = element_of m.number (fresh_name (set_number Y i m.number) (i + 1)) in
       let os = bounds_code o i n guard in
       let start = with_number around f D N top low from Y i m.number in
-      let middle : Q from (mark X from i) (ys (r + 1)) start = subst (λ z. Q from (mark X from i) (ys (r + 1)) (with_number around f D N top low from z i m.number)) (lost_fill first r (Refers s) b.copy true m.lost) m.piece in
+      let middle : Q from (mark X from i) (ys (r + 1)) start = over_fill from (mark X from i) (ys (r + 1)) first r s b.copy true m.lost (λ z. with_number around f D N top low from z i m.number) m.piece in
       let after = mark (record Y { ints = indexed around f D y c low from Y.ints i guard (λ n. OfElement r n elem) n; gate = Closed }) from (i + guard_width guard) in
       let end : Q from start os after = taken_register from start after os r s (put_same l.env r (Refers s)) (λ ref.
       bounds_at around f D y c low from i (r + 1) Y fy.at o (λ n e. OfElement r n e) count (finds_object around f D y c low from r s count (at_site site) Y fr.at.owned ref (put_same l.env r (Refers s)) (put_same l.known r true) size) fr.early m.number m.plain n guard (few_at from count n guard few)) in
@@ -579,9 +587,9 @@ module _ (around : Setting) (f : ℕ) (ways : List Way) (y : Typing) (c : Contex
           let k = with_copies l lost in
           let fk = lost_frame from i r l fr lost loses in
           let high = fr.high in
-          let other : (pb.copy ≡ r + 1) ⊎ (pb.copy < r) = ⊎_elim (λ (z : pb.copy ≡ r + 1). inl z) (λ (z : pb.copy < top). inr (omega (arith, z, high))) pb.small in
+          let other = upper_copy r pb.copy high pb.small in
           let middle = mark (fill (fill k r (Refers t.0) (pb.lost r) false) (r + 1) (Refers s.0) pb.copy false) from i in
-          let second : Q from (mark X from i) (ys i (r + 1)) middle = subst (λ m. Q from (mark X from i) (ys i (r + 1)) (mark (fill m (r + 1) (Refers s.0) pb.copy false) from i)) (lost_fill first r (Refers t.0) pa.copy false pb.lost) pb.piece in
+          let second : Q from (mark X from i) (ys i (r + 1)) middle = over_fill from (mark X from i) (ys i (r + 1)) first r t.0 pa.copy false pb.lost (λ z. mark (fill z (r + 1) (Refers s.0) pb.copy false) from i) pb.piece in
           truth_value from i r l (xs ++ (ys i (r + 1) ++ compare_code o i r)) e is lost loses
           (joins from (mark l from i) (mark X from i) (with_number around f D N top low from k i (Within Char)) xs (ys i (r + 1) ++ compare_code o i r) pa.piece
           (joins from (mark X from i) middle (with_number around f D N top low from k i (Within Char)) (ys i (r + 1)) (compare_code o i r) second
@@ -936,10 +944,9 @@ module _ (around : Setting) (f : ℕ) (ways : List Way) (y : Typing) (c : Contex
       let w2 = ref_of from i (r + 1) X (ys i (r + 1)) b is2 (next X fx) (wants 1) g2.0 g2.1 in
       let lost = below w.lost r w2.lost in
       let k = with_copies l lost in
-      let high = fr.high in
       let middle = mark X from i in
       let end = mark (fill (fill k r (Refers (wants 0)) (w2.lost r) false) (r + 1) (Refers (wants 1)) w2.copy false) from i in
-      let second : Q from middle (ys i (r + 1)) end = subst (λ m. Q from middle (ys i (r + 1)) (mark (fill m (r + 1) (Refers (wants 1)) w2.copy false) from i)) (lost_fill first r (Refers (wants 0)) w.copy false w2.lost) w2.piece in
+      let second : Q from middle (ys i (r + 1)) end = over_fill from middle (ys i (r + 1)) first r (wants 0) w.copy false w2.lost (λ z. mark (fill z (r + 1) (Refers (wants 1)) w2.copy false) from i) w2.piece in
       let tail : Q from middle (ys i (r + 1) ++ (passed_code i (drop 1 kinds) site2 ++ [])) end = joins from middle end end (ys i (r + 1)) (passed_code i (drop 1 kinds) site2 ++ []) second
       (subst (λ os. Q from end (os ++ []) end) (sym (no_width i (drop 1 kinds) site2 g2.2)) (none around f D N top low from end end (fits_same around.targets end) (λ z. z))) in
       record {
@@ -948,7 +955,7 @@ module _ (around : Setting) (f : ℕ) (ways : List Way) (y : Typing) (c : Contex
         copy = w2.lost r;
         copy2 = w2.copy;
         small = small_there N w.lost r w.copy w2.lost w2.loses small;
-        other = ⊎_elim (λ (z : w2.copy ≡ r + 1). inl z) (λ (z : w2.copy < top). inr (omega (arith, z, high))) w2.small;
+        other = upper_copy r w2.copy fr.high w2.small;
         fits = fits;
         fits2 = in_frame from i r l fr (wants 1) g2.1;
         piece = joins from (mark l from i) middle end xs (passed_code i kinds site ++ (ys (behind_int (is_ref c a) i) (behind_ref (is_ref c a) r) ++ (passed_code (behind_int (is_ref c a) i) (drop 1 kinds) site2 ++ []))) w.piece

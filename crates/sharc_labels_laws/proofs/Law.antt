@@ -1,5 +1,5 @@
 -- The laws of parts of expressions, of expressions and of simple statements.
-use Rattle.std.proofs.Common.{◌≡◌, ℕ, ◌+◌, Bool, true, false, List, ◌++◌, refl, subst}
+use Rattle.std.proofs.Common.{ℕ, ◌+◌, Bool, true, false, List, ◌++◌, subst}
 use Rattle.sharc_tree.specs.Tree.{Expression}
 use Rattle.sharc_names.specs.Kinds.{is_integer}
 use Rattle.sharc_flat_form.specs.declared.op.Op.{Op}

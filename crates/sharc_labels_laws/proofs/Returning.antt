@@ -17,16 +17,15 @@ use Rattle.sharc_flat_form.specs.declared.op.Spot.{Spot}
 use Rattle.sharc_flat.specs.declared.slot.Slot.{Slot}
 use Rattle.sharc_flat.specs.Scope.{Context, int_count, ref_count, pops, ends_from, leaves}
 use Rattle.sharc_flat.specs.Places.{width_of, width_code}
-use Rattle.sharc_flat.specs.Flattened.{expression_code, right_code, zero_code, result_code}
+use Rattle.sharc_flat.specs.Flattened.{expression_code, zero_code, result_code}
 use Rattle.sharc_guard.specs.Known.{Know, know_next}
 use Rattle.sharc_invariant.specs.Types.{StaticType, Mentions}
 use Rattle.sharc_invariant.specs.Labels.{Entry, Empty, Refers, Number, Anything, Exactly, Within, Closed, IsIn, Label, Less, Itself, LessEntry, LessNumber, LessGate, EntryMentions, HasBase, IsScoped, IsFree, set_number, fill, empty, forgets, forgotten, without_copies, without_index, without_base}
 use Rattle.sharc_invariant.specs.Typed.{ints_in, refs_in, moved_copy}
 use Rattle.sharc_invariant.proofs.Scoped.{less_refl, less_entry_refl, less_number_refl, scoped_number}
 use Rattle.sharc_labels_laws.specs.Stretches.{Mark, Setting, Way, Tells, Fits, IsLine, AreOpen, LeadsAmong}
-use Rattle.sharc_labels_laws.specs.Places.{AreLow, IsNamed, mark}
+use Rattle.sharc_labels_laws.specs.Places.{AreLow, mark}
 use Rattle.sharc_labels_laws.specs.Premises.{Typing}
-use Rattle.sharc_labels_laws.specs.Typable.{GoesTo}
 use Rattle.sharc_labels_laws.specs.Stated.{ValueGoes, RightTypable}
 use Rattle.sharc_labels_laws.specs.Declared.{StandsBefore, before}
 use Rattle.sharc_labels_laws.specs.Left.{back, AreNested}

@@ -1,5 +1,5 @@
 -- What the types of a source have to say of an assignment, so that its code is typed.
-use Rattle.std.specs.Prelude.{ℕ, ◌≡◌, ◌≢◌, ◌<◌, ◌≤◌, Bool, true, false, List, length, Option, Some, None}
+use Rattle.std.specs.Prelude.{ℕ, ◌≡◌, ◌≢◌, ◌<◌, ◌≤◌, Bool, true, false, length, Option, Some, None}
 use Rattle.sharc_tree.specs.Spans.{span_of}
 use Rattle.sharc_tree.specs.Tree.{Expression, Right, value, malloc, Simple, assign, does_call}
 use Rattle.sharc_names.specs.Kinds.{Kind, is_integer, declared_kind}
