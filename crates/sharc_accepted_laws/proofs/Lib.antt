@@ -1,0 +1,12 @@
+pub mod Assigned
+pub mod Begun
+pub mod Fresh
+pub mod Functions
+pub mod Locals
+pub mod Members
+pub mod Registers
+pub mod Slots
+pub mod Sorts
+pub mod Starts
+pub mod Stated
+pub mod Wholes
