@@ -188,17 +188,17 @@ module _ (laws : Laws) (z : Setting) (alone : ℕ → Bool) (n : ℕ) (g : Funct
 
   -- ---- what is given
   -- to something of this kind and this type
-  record Gives (kind : Kind) (s : StaticType) (x : Right) : Type 0 where
-    inside : AllByRecursion (Contains (in_function g)) (in_right x)
-    stands : ExpressionsStand c (in_right x)
-    agrees : Agrees c.program.typed kind x
-    type : IsTypeIn z n typing c s
-    goes : (e : Expression) → x ≡ value e → is_reference kind ≡ true → GoesTo (entry_of c e) s
-    makes : (w : WrittenType) → same_kind kind (made w) ≡ true → IsMade z n typing s (element_cells c.program.typed (declared_kind w))
+  pub record Gives (kind : Kind) (s : StaticType) (x : Right) : Type 0 where
+    pub inside : AllByRecursion (Contains (in_function g)) (in_right x)
+    pub stands : ExpressionsStand c (in_right x)
+    pub agrees : Agrees c.program.typed kind x
+    pub type : IsTypeIn z n typing c s
+    pub goes : (e : Expression) → x ≡ value e → is_reference kind ≡ true → GoesTo (entry_of c e) s
+    pub makes : (w : WrittenType) → same_kind kind (made w) ≡ true → IsMade z n typing s (element_cells c.program.typed (declared_kind w))
 
   count_is : (e : Option Expression) → AllByRecursion (Contains (in_function g)) (in_option expressions e) → ExpressionsStand c (in_option expressions e) → CountSuits c e → CountTypable z n typing c e
   count_is None i s h = tt
-  count_is (Some e) i s h = (typable.value false c here e (record { inside = i; stands = s }) h.0 (λ l no. h.1), integer_is (kind_of c e) h.1, h.1)
+  count_is (Some e) i s h = (typable.value false c here e (record { inside = i; stands = s }) h.0 (λ l no. h.1), (integer_is (kind_of c e) h.1, h.1))
 
   pub right_is : (bare : Bool) (kind : Kind) (s : StaticType) (mode : Sharing) (x : Right) → Gives kind s x → RightSuits c kind mode x → RightTypable z n typing bare c kind s x
   right_is bare kind s mode (value e) given suits = by (is_reference kind) refl
@@ -282,7 +282,7 @@ module _ (laws : Laws) (z : Setting) (alone : ℕ → Bool) (n : ℕ) (g : Funct
           type_by (entry_of c u),
           type,
           assigned_is facts u x there does.0 meets.0 meets.1 (target_of c u) refl suits.1,
-          right_is (is_bare (target_of c u)) (kind_of c u) (type_by (entry_of c u)) (pointed c.program (row_at c.program.typed u)) x
+          right_is (is_bare z n typing (target_of c u)) (kind_of c u) (type_by (entry_of c u)) (pointed c.program (row_at c.program.typed u)) x
           (record {
             inside = back (Contains (in_function g)) (expressions u) (in_right x) given.inside;
             stands = back (ExpressionStands c) (expressions u) (in_right x) given.stands;

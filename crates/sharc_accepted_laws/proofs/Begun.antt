@@ -69,14 +69,14 @@ module _ (laws : Laws) (variables : VariablesFound) (z : Setting) (alone : ℕ �
 
   -- its type is the same with it and without it
   stays : variable_type (with_variable c l.declaration) l.declaration.name.site.token ≡ variable_type c l.declaration.name.site.token
-  stays = laws.scopes.types c (slot_of l.declaration ∷ []) _ _ stands.0
+  stays = laws.scopes.types c (slot_of l.declaration ∷ []) (variable_kind (declaration_at c.program.typed l.declaration.name.site.token)) (modes_of c.program (declared_row c.program.typed written l.declaration.name.site.token)) stands.0
 
   type_before : IsTypeIn z n typing c (variable_type (with_variable c l.declaration) l.declaration.name.site.token)
-  type_before = subst (IsTypeIn z n typing c) (sym stays) (λ p mentions. laws.held.types c _ _ p (laws.held.declared c.program here.set.accepted l.declaration.name.site.token) stands.0 mentions)
+  type_before = subst (IsTypeIn z n typing c) (sym stays) (λ p mentions. laws.held.types c (variable_kind (declaration_at c.program.typed l.declaration.name.site.token)) (modes_of c.program (declared_row c.program.typed written l.declaration.name.site.token)) p (laws.held.declared c.program here.set.accepted l.declaration.name.site.token) stands.0 mentions)
 
   type_with : IsTypeIn z n typing (with_variable c l.declaration) (variable_type (with_variable c l.declaration) l.declaration.name.site.token)
-  type_with p mentions = laws.held.types (with_variable c l.declaration) _ _ p (laws.held.declared c.program here.set.accepted l.declaration.name.site.token)
-      (laws.scopes.still c.program c.scope (slot_of l.declaration ∷ []) _ stands.0) mentions
+  type_with p mentions = laws.held.types (with_variable c l.declaration) (variable_kind (declaration_at c.program.typed l.declaration.name.site.token)) (modes_of c.program (declared_row c.program.typed written l.declaration.name.site.token)) p (laws.held.declared c.program here.set.accepted l.declaration.name.site.token)
+      (laws.scopes.still c.program c.scope (slot_of l.declaration ∷ []) (modes_of c.program (declared_row c.program.typed written l.declaration.name.site.token)) stands.0) mentions
 
   -- the others are as they were
   keeps_is : Keeps typing c (with_variable c l.declaration)

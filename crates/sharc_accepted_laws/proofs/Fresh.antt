@@ -100,6 +100,21 @@ module _ (all : List Token) where
       let first = b.low in
       fresh_below k l.declaration.name.site.token (omega (arith, first, low)) c.scope below
 
+  -- the head of a loop and its body
+  fresh_loop : (k from until : ℕ) (c : Context) (x : First) (tests steps : List Span) (a : Statement) → Below k c.scope → k ≤ from → Follow all from until (((first_spans x ++ tests) ++ steps) ++ span_of_statement a ∷ [])
+      → PlacedFirst all x → ((n : ℕ) (d : Context) → Below n d.scope → n ≤ (span_of_statement a).first.token → StatementFresh d a) → FirstFresh c x × StatementFresh (behind_first c x) a
+  fresh_loop k from until c nothing tests steps a below low f q body = let first = last_follows all from until (tests ++ steps) (span_of_statement a) f in (tt, body k c below (omega (arith, first, low)))
+  fresh_loop k from until c (declares l) tests steps a below low f q body =
+      let first = f.1 in
+      let order = f.0.order in
+      let b = local_between l q in
+      let high = b.high in
+      let later = last_follows all (l.span.last.token + 1) until (tests ++ steps) (span_of_statement a) f.3 in
+      (fresh_local k c l below (omega (arith, first, low)) q, body (l.span.last.token + 1) (with_variable c l.declaration) (with_local k (l.span.last.token + 1) c l (omega (arith, first, low, order)) below high) later)
+  fresh_loop k from until c (does x) tests steps a below low f q body =
+      let first = last_follows all from until (span_of_simple x ∷ (tests ++ steps)) (span_of_statement a) f in
+      (tt, body k c below (omega (arith, first, low)))
+
   mutual
     fresh_statement : (k : ℕ) (c : Context) (a : Statement) → Below k c.scope → k ≤ (span_of_statement a).first.token → PlacedStatement all a → StatementFresh c a
     fresh_statement k c (tree.empty s) below low p = tt
@@ -117,23 +132,7 @@ module _ (all : List Token) where
         let first = last_follows all s.first.token (s.last.token + 1) (span_of e ∷ span_of_statement a ∷ []) (span_of_statement b) p.0.1 in
         (fresh_statement k c a below (omega (arith, order, front, body, low)) p.2, fresh_statement k c b below (omega (arith, first, low)) p.3)
     fresh_statement k c (tree.while s e a) below low p = let first = last_follows all s.first.token (s.last.token + 1) (span_of e ∷ []) (span_of_statement a) p.0.1 in fresh_statement k c a below (omega (arith, first, low)) p.2
-    fresh_statement k c (tree.for s h a) below low p = fresh_loop k s.first.token (s.last.token + 1) c h.first (option_spans span_of h.test) (option_spans span_of_simple h.step) a below low p.0.1 p.1.0 p.2
-
-    -- the head of a loop and its body
-    fresh_loop : (k from until : ℕ) (c : Context) (x : First) (tests steps : List Span) (a : Statement) → Below k c.scope → k ≤ from → Follow all from until (((first_spans x ++ tests) ++ steps) ++ span_of_statement a ∷ [])
-        → PlacedFirst all x → PlacedStatement all a → FirstFresh c x × StatementFresh (behind_first c x) a
-    fresh_loop k from until c nothing tests steps a below low f q p = let first = last_follows all from until (tests ++ steps) (span_of_statement a) f in (tt, fresh_statement k c a below (omega (arith, first, low)) p)
-    fresh_loop k from until c (declares l) tests steps a below low f q p =
-        let first = f.1 in
-        let order = f.0.order in
-        let b = local_between l q in
-        let high = b.high in
-        let later = last_follows all (l.span.last.token + 1) until (tests ++ steps) (span_of_statement a) f.3 in
-        (fresh_local k c l below (omega (arith, first, low)) q,
-        fresh_statement (l.span.last.token + 1) (with_variable c l.declaration) a (with_local k (l.span.last.token + 1) c l (omega (arith, first, low, order)) below high) later p)
-    fresh_loop k from until c (does x) tests steps a below low f q p =
-        let first = last_follows all from until (span_of_simple x ∷ (tests ++ steps)) (span_of_statement a) f in
-        (tt, fresh_statement k c a below (omega (arith, first, low)) p)
+    fresh_statement k c (tree.for s h a) below low p = fresh_loop k s.first.token (s.last.token + 1) c h.first (option_spans span_of h.test) (option_spans span_of_simple h.step) a below low p.0.1 p.1.0 (λ n d b2 low2. fresh_statement n d a b2 low2 p.2)
 
     fresh_statements : (k until : ℕ) (c : Context) (a : Statements) → Below k c.scope → Follow all k until (statement_spans a) → PlacedStatements all a → StatementsFresh c a
     fresh_statements k until c no_statements below f p = tt

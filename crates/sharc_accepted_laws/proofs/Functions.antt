@@ -8,7 +8,7 @@ use Rattle.sharc_tree.specs.Tree.{Function, Item, structure, global, function}
 use Rattle.sharc_names.specs.declared.fault.Named.TheVariants as named
 use Rattle.sharc_names.specs.Kinds.{Kind, declared_kind}
 use Rattle.sharc_code.specs.declared.code.GlobalCells.{GlobalCells}
-use Rattle.sharc_ctype.specs.Resolved.{Resolution, functions_in, function_at}
+use Rattle.sharc_ctype.specs.Resolved.{Resolution, functions_in, function_at, declaration_at, variable_kind}
 use Rattle.sharc_ctype.specs.Statements as ctype
 use Rattle.sharc_ctype.specs.Transfers.{Transfer, IsFair, function_transfers}
 use Rattle.sharc_ctype_laws.specs.Declared.{IsItself}
@@ -30,7 +30,7 @@ use Rattle.sharc_labels_laws.specs.Stretches.{Setting}
 use Rattle.sharc_labels_laws.specs.Places.{IsNamed}
 use Rattle.sharc_labels_laws.specs.Typable.{type_by}
 use Rattle.sharc_labels_laws.specs.Begun.{label_of}
-use Rattle.sharc_statement_laws.specs.Statements.{GivesBackBy}
+use Rattle.sharc_labels_laws.specs.Returned.{GivesBackBy}
 use Rattle.sharc_statement_laws.specs.Functions.{FunctionTypable}
 use Rattle.sharc_static_laws.specs.Held.{held_at}
 use Rattle.sharc_static_laws.specs.Results.{ResultLaws}
@@ -125,7 +125,7 @@ module _ (laws : Laws) (types : TypeLaws) (results : ResultLaws) (variables : Va
           let modes = modes_of m (declared_row m.typed written x) in
           let before : AllStand m s.before modes = subst (DeclaredStands m s.before) s.token (stands.parameters s.before s.after s.slot s.whole) in
           let all : AllStand m (parameters_scope g.parameters) modes = subst (λ l. AllStand m l modes) (sym s.whole) (laws.scopes.still m s.before (s.slot ∷ s.after) modes before) in
-          laws.held.types (flat.in_function m globals g) _ modes p (laws.held.declared m set.accepted x) all mentions
+          laws.held.types (flat.in_function m globals g) (variable_kind (declaration_at m.typed x)) modes p (laws.held.declared m set.accepted x) all mentions
 
   takes_is : (q : ℕ) → variable_entry (flat.in_function m globals g) q ≡ (label_of typing (flat.in_function m globals g) n).env q
   takes_is q = by (nat_lt q (ref_count (parameters_scope g.parameters))) refl

@@ -9,4 +9,5 @@ pub mod Slots
 pub mod Sorts
 pub mod Starts
 pub mod Stated
+pub mod Tables
 pub mod Wholes

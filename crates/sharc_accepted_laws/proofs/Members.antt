@@ -1,5 +1,5 @@
 -- What holds of each element of a list, and what is an element.
-use Rattle.std.proofs.Common.{◌≡◌, ◌⊎◌, inl, inr, ⊎_elim, ℕ, zero, suc, ◌<◌, List, [], ◌∷◌, ◌++◌, length, map, slice_index_or, slice_get, refl, subst, arith, Some, None, Contains}
+use Rattle.std.proofs.Common.{◌≡◌, ◌⊎◌, inl, inr, ⊎_elim, ℕ, zero, suc, ◌<◌, List, [], ◌∷◌, ◌++◌, length, map, slice_index_or, slice_get, refl, ap, subst, arith, Some, None, Contains}
 use Rattle.std.specs.List.{AllByRecursion}
 
 pub both : {A : Type 0} (P : A → Type 0) (a b : List A) → AllByRecursion P a → AllByRecursion P b → AllByRecursion P (a ++ b)
@@ -61,3 +61,10 @@ pub got_low : {A : Type 0} (list : List A) (k : ℕ) (x : A) → slice_get list 
 got_low [] k x h = absurd (none_some x h)
 got_low (y ∷ rest) zero x h = omega arith
 got_low (y ∷ rest) (suc k) x h = let low = got_low rest k x h in omega (arith, low)
+
+next_place : {A : Type 0} (y x : A) (rest : List A) → (k : ℕ) × (slice_get rest k ≡ Some x) → (k : ℕ) × (slice_get (y ∷ rest) k ≡ Some x)
+next_place y x rest found = (suc found.0, found.1)
+
+pub place_of_element : {A : Type 0} (list : List A) (x : A) → Contains list x → (k : ℕ) × (slice_get list k ≡ Some x)
+place_of_element [] x has = absurd (none_there x has)
+place_of_element (y ∷ rest) x has = ⊎_elim (λ is. (zero, ap Some is)) (λ later. next_place y x rest (place_of_element rest x later)) (head_or_tail y x rest has)

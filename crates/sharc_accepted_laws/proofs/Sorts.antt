@@ -91,11 +91,11 @@ made_element want w h = let e : stars_of w + 1 - 1 ≡ stars_of w = omega arith 
 -- ---- cells
 struct_some : (items : List Item) → LowItems items → (name : List ℕ) → 1 ≤ struct_cells (structs_in items) name
 struct_some [] low name = omega arith
-struct_some (structure s ∷ rest) low name = by (bytes_eq s.name.text name)
+struct_some (structure s ∷ rest) low name = by (bytes_eq s.name.text name) (struct_some rest low.1 name)
   where
-    by : (b : Bool) → 1 ≤ cond b (length s.fields) (struct_cells (structs_in rest) name)
-    by true = let few = low.0.0 in omega (arith, few)
-    by false = struct_some rest low.1 name
+    by : (b : Bool) → 1 ≤ struct_cells (structs_in rest) name → 1 ≤ cond b (length s.fields) (struct_cells (structs_in rest) name)
+    by true more = let few = low.0.0 in omega (arith, few)
+    by false more = more
 struct_some (global g ∷ rest) low name = struct_some rest low.1 name
 struct_some (tree.function f ∷ rest) low name = struct_some rest low.1 name
 

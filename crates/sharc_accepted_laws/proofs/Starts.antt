@@ -73,7 +73,7 @@ module _ (starts : ThreadLaws) (stand : FunctionsStand) (m : Assignment) (global
   none_at_all : (list : List Declaration) → list ≡ [] → length list ≤ 1
   none_at_all list is = subst (λ (l : List Declaration). length l ≤ 1) (sym is) (omega arith)
 
-  takes_of : (n : ℕ) (g : Function) → function_at m.typed n ≡ Some g → (p : ℕ) → (setting_of m globals code alone lines).signature n .takes p ≡ variable_entry (flat.in_function m globals g) p
+  takes_of : (n : ℕ) (g : Function) → function_at m.typed n ≡ Some g → (p : ℕ) → ((setting_of m globals code alone lines).signature n).takes p ≡ variable_entry (flat.in_function m globals g) p
   takes_of n g at p = ap (λ o. (signature_by m globals (alone n) o).takes p) at
 
   spawned_start : (n : ℕ) → is_spawned m.typed n ≡ true → StartTypable (setting_of m globals code alone lines) m n
@@ -100,7 +100,7 @@ module _ (starts : ThreadLaws) (stand : FunctionsStand) (m : Assignment) (global
       let same : n ≡ k.0 = starts.one m.typed set.accepted.resolved n k.0 g k.1 at k.2.at (name ∙ sym k.2.name) in
       record { function = k.1; at = ap (function_at m.typed) same ∙ k.2.at; result = k.2.result; parameters = k.2.parameters }
 
-  no_register : (n : ℕ) → IsMainAt n → (q : ℕ) → EntryMentions ((setting_of m globals code alone lines).signature n .takes 0) q → ⊥
+  no_register : (n : ℕ) → IsMainAt n → (q : ℕ) → EntryMentions (((setting_of m globals code alone lines).signature n).takes 0) q → ⊥
   no_register n x q mentions = absurd (subst (λ ds. EntryMentions (variable_entry (record { program = m; globals = globals; scope = parameters_scope ds }) 0) q) x.parameters (subst (λ e. EntryMentions e q) (takes_of n x.function x.at 0) mentions))
 
   main_start : (n : ℕ) → is_main (function_at m.typed n) ≡ true → StartTypable (setting_of m globals code alone lines) m n

@@ -22,7 +22,8 @@ use Rattle.sharc_flat.specs.Suits.{Suits, Goes, SimpleSuits, InitialSuits, First
 use Rattle.sharc_invariant.specs.Labels.{Empty, Refers, Signature}
 use Rattle.sharc_labels_laws.specs.Stretches.{Setting}
 use Rattle.sharc_labels_laws.specs.Stated.{SimpleTypable}
-use Rattle.sharc_statement_laws.specs.Statements.{TestTypable, StepTypable, DeclaredTypable, FirstTypable, ReturnedBy, ReturnTypable, StatementTypable, StatementsTypable}
+use Rattle.sharc_labels_laws.specs.Returned.{ReturnedBy, ReturnTypable}
+use Rattle.sharc_statement_laws.specs.Statements.{TestTypable, StepTypable, DeclaredTypable, FirstTypable, StatementTypable, StatementsTypable}
 use Rattle.sharc_static_laws.specs.Results.{ResultLaws}
 use Rattle.sharc_static_laws.specs.Standing.{ExpressionStands, ExpressionsStand, LocalStands, FirstStands, StatementStands, StatementsStand}
 use Rattle.sharc_static_laws.specs.Static.{result_type}
@@ -110,7 +111,7 @@ module _ (laws : Laws) (results : ResultLaws) (variables : VariablesFound) (z : 
 
   -- ---- simple statements
   simple_given : (c : Context) (x : Simple) → Inside g c.program (in_simple x) → ExpressionsStand c (in_simple x) → AllByRecursion (Does g c.program) (simple_transfers c.program.typed x) → (h : Here c) → SimpleGiven laws z alone n g typable c h x
-  simple_given c (assign s u y) inside stands does h = record {
+  simple_given c (assign s u y) inside stands acts h = record {
     inside = inside;
     stands = stands;
     does = λ u2 y2 s2 is. by u2 y2 s2 is;
@@ -122,11 +123,11 @@ module _ (laws : Laws) (results : ResultLaws) (variables : VariablesFound) (z : 
           let same_y : y ≡ y2 = cc in
           subst (λ v. IsAssigned c.program v y2 × Agrees c.program.typed (kind_of c v) y2) same_u
           (subst (λ v. IsAssigned c.program u v × Agrees c.program.typed (kind_of c u) v) same_y
-          (record { owner = g; stands = is_function laws z alone n g typable c h; does = does.0.among }, does.0.fair))
-  simple_given c (does_call e) inside stands does h = record { inside = inside; stands = stands; does = λ u2 y2 s2 is. absurd (let k : does_call e ≡ assign s2 u2 y2 = is in cc) }
+          (record { owner = g; stands = is_function laws z alone n g typable c h; does = acts.0.among }, acts.0.fair))
+  simple_given c (does_call e) inside stands acts h = record { inside = inside; stands = stands; does = λ u2 y2 s2 is. absurd (let k : does_call e ≡ assign s2 u2 y2 = is in cc) }
 
   simple_typable : (c : Context) → Here c → (x : Simple) → Inside g c.program (in_simple x) → ExpressionsStand c (in_simple x) → AllByRecursion (Does g c.program) (simple_transfers c.program.typed x) → MeetsSimple c.program.typed x → LowSimple x → SimpleSuits c x → SimpleTypable z n typing c x
-  simple_typable c h x inside stands does meets low suits = simple_is laws z alone n g typable c h (facts c h) x (simple_given c x inside stands does h) meets low suits
+  simple_typable c h x inside stands acts meets low suits = simple_is laws z alone n g typable c h (facts c h) x (simple_given c x inside stands acts h) meets low suits
 
   -- ---- tests
   test_typable : (c : Context) → Here c → (e : Expression) → Inside g c.program (expressions e) → ExpressionsStand c (expressions e) → TestSuits c e → TestTypable z n typing c (Some e)
@@ -140,8 +141,8 @@ module _ (laws : Laws) (results : ResultLaws) (variables : VariablesFound) (z : 
 
   step_option : (c : Context) → Here c → (x : Option Simple) → Inside g c.program (in_option in_simple x) → ExpressionsStand c (in_option in_simple x) → AllByRecursion (Does g c.program) (option_transfers (simple_transfers c.program.typed) x)
       → IfSome x (MeetsSimple c.program.typed) → IfSome x LowSimple → IfThere (SimpleSuits c) x → StepTypable z n typing c x
-  step_option c h None inside stands does meets low suits = tt
-  step_option c h (Some x) inside stands does meets low suits = simple_typable c h x inside stands does meets low suits
+  step_option c h None inside stands acts meets low suits = tt
+  step_option c h (Some x) inside stands acts meets low suits = simple_typable c h x inside stands acts meets low suits
 
   -- ---- returns
   pub signature_is : (c : Context) → Here c → z.signature n ≡ function_signature (at_entry c.program c.globals g) (alone n) g
@@ -154,18 +155,18 @@ module _ (laws : Laws) (results : ResultLaws) (variables : VariablesFound) (z : 
 
   return_typable : (c : Context) → Here c → (e : Option Expression) → Inside g c.program (in_option expressions e) → ExpressionsStand c (in_option expressions e)
       → AllByRecursion (Does g c.program) (option_transfers (λ x. gives (result g.result) (value x) ++ transfers c.program.typed x) e) → IfThere (λ x. Suits c x × Goes kind (kind_of c x)) e → ReturnTypable z n typing c kind e
-  return_typable c h None inside stands does suits = tt
-  return_typable c h (Some e) inside stands does suits =
+  return_typable c h None inside stands acts suits = tt
+  return_typable c h (Some e) inside stands acts suits =
       (typable.value true c h e (record { inside = inside; stands = stands }) suits.0 (λ l no. suits.1.1 (sym suits.1.0 ∙ no)), by (is_reference kind) refl)
     where
       by : (b : Bool) → is_reference kind ≡ b → ReturnedBy z n typing c kind e b
-      by true is = (suits.1.0 ∙ is, (result_type c g, laws.given.returned c h.set.accepted g e (is_function laws z alone n g typable c h) does.0.among (sym (declared_pointer g.result) ∙ is), result_is c h is))
-      by false is = let number : is_integer (kind_of c e) ≡ true = suits.1.1 is in ((integer_is (kind_of c e) number, number), integer_want kind (kind_of c e) does.0.fair number)
+      by true is = (suits.1.0 ∙ is, (result_type c g, laws.given.returned c h.set.accepted g e (is_function laws z alone n g typable c h) acts.0.among (sym (declared_pointer g.result) ∙ is), result_is c h is))
+      by false is = let number : is_integer (kind_of c e) ≡ true = suits.1.1 is in ((integer_is (kind_of c e) number, number), integer_want kind (kind_of c e) acts.0.fair number)
 
   -- ---- locals
   declared_typable : (c : Context) → Here c → (l : Local) → Inside g c.program (in_local l) → LocalStands c l → AllByRecursion (Does g c.program) (local_transfers c.program.typed l) → Own g c.program l → LocalFresh c l → InitialSuits c l.declaration l.initial
       → DeclaredTypable z n typing c l
-  declared_typable c h l inside stands does own fresh suits = local_is laws variables z alone n g typable c h l stands own.itself fresh own.among inside (agrees_of l.initial does) suits
+  declared_typable c h l inside stands acts own fresh suits = local_is laws variables z alone n g typable c h l stands own.itself fresh own.among inside (agrees_of l.initial acts) suits
     where
       agrees_of : (x : Option Right) → AllByRecursion (Does g c.program) (option_transfers (λ y. gives (variable l.declaration) y ++ right_transfers c.program.typed y) x) → IfSome x (Agrees c.program.typed (declared_kind l.declaration.written))
       agrees_of None all = tt
@@ -173,8 +174,8 @@ module _ (laws : Laws) (results : ResultLaws) (variables : VariablesFound) (z : 
 
   first_typable : (c : Context) → Here c → (x : First) → Inside g c.program (in_first x) → FirstStands c x → AllByRecursion (Does g c.program) (first_transfers c.program.typed x) → AllByRecursion (Own g c.program) (locals_in_first x)
       → MeetsFirst c.program.typed x → LowFirst x → FirstFresh c x → FirstSuits c x → FirstTypable z n typing c x
-  first_typable c h nothing inside stands does own meets low fresh suits = tt
-  first_typable c h (declares l) inside stands does own meets low fresh suits = declared_typable c h l inside stands does own.0 fresh suits
+  first_typable c h nothing inside stands acts own meets low fresh suits = tt
+  first_typable c h (declares l) inside stands acts own meets low fresh suits = declared_typable c h l inside stands acts own.0 fresh suits
   first_typable c h (does x) inside stands given own meets low fresh suits = simple_typable c h x inside stands given meets low suits
 
   here_first : (c : Context) → Here c → (x : First) → FirstStands c x → Here (behind_first c x)
