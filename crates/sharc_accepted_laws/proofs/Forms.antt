@@ -20,7 +20,7 @@ use Rattle.sharc_names.specs.Names.{global_kind}
 use Rattle.sharc_ctype.specs.Resolved.{Resolution, named_at, function_at, kind_at}
 use Rattle.sharc_ctype_laws.specs.Constraints.{HasType, HaveTypes, none_left, one_more, Callee, of_program, of_conditions, IsInteger, IsPointer, Assignable, integer, pointer, null_pointer, Common, both_shorter, left_long, right_long, a_variable, a_global, a_function, a_constant, in_parentheses, element_of_pointer, element_of_array, a_call, a_field, a_field_behind, negated, complemented, denied, pointed_to, arithmetic, shifted, related, equated, joined, spawned, printed_or_joined, locked, unlocked, freed, a_cast}
 use Rattle.sharc_meaning.specs.State.{is_reference}
-use Rattle.sharc_flat.specs.Suits.{IsScalar}
+use Rattle.sharc_flat.specs.Suits.{IsScalar, Passes}
 
 -- ---- kinds
 pub left_or : (a b : Bool) → b ≡ false → (a || b) ≡ true → a ≡ true
@@ -75,6 +75,21 @@ pub to_integer : (want k : Kind) → Assignable want k → is_reference k ≡ fa
 to_integer _ _ (integer {a = a} (b, t, is) j) no = ap is_integer is ∙ t
 to_integer _ _ (pointer {a = a} (b, n, is)) no = absurd (false≢true (sym no ∙ pointer_reference a (ap is_pointer is ∙ some_star n)))
 to_integer _ _ (null_pointer p) no = absurd (false≢true (sym no))
+
+integer_kind : (k : Kind) → IsInteger k → is_integer k ≡ true
+integer_kind k (b, t, is) = ap is_integer is ∙ t
+
+integer_no_pointer : (k : Kind) → IsInteger k → is_pointer k ≡ false
+integer_no_pointer k (b, t, is) = ap is_pointer is
+
+starred : (k : Kind) → IsPointer k → is_pointer k ≡ true
+starred k (b, n, is) = ap is_pointer is ∙ some_star n
+
+-- what goes to something is passed to it
+pub passes_of : (want k : Kind) → Assignable want k → Passes want k
+passes_of _ _ (integer {a = a} {b = b} i j) = (integer_no_reference b (integer_kind b j) ∙ sym (integer_no_pointer a i), λ no. integer_kind b j, λ yes. integer_kind b j)
+passes_of _ _ (pointer {a = a} p) = (pointer_reference a (starred a p) ∙ sym (starred a p), λ no. absurd (false≢true (sym no ∙ starred a p)), λ h. h)
+passes_of _ _ (null_pointer {a = a} p) = (sym (starred a p), λ no. absurd (false≢true (sym no ∙ starred a p)), λ yes. absurd (false≢true (sym (pointer_no_integer a (starred a p)) ∙ yes)))
 
 global_null : (f : GlobalForm) (b : Base) (n : ℕ) → is_null (global_kind f (object b n)) ≡ false
 global_null forms.Plain b n = refl
