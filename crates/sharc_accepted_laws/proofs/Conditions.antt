@@ -34,7 +34,7 @@ use Rattle.sharc_labels_laws.specs.Typable.{type_by, GoesTo, FirstCell, IsTypeIn
 use Rattle.sharc_access_laws.specs.Typed.{IsOf}
 use Rattle.sharc_static_laws.specs.Static.{entry_by, entry_of}
 use Rattle.sharc_typable_laws.specs.Typing.{typing}
-use Rattle.sharc_accepted_laws.specs.Expressions.{HasFirst, CellsTyped}
+use Rattle.sharc_accepted_laws.specs.Expressions.{HasFirst, ConditionsTyped}
 use Rattle.sharc_accepted_laws.specs.Setting.{setting_of, IsSet}
 use Rattle.sharc_accepted_laws.proofs.Arguments.{Parts, part_of, first_part, second_part, AllSuit, AllGo}
 use Rattle.sharc_accepted_laws.proofs.Facts.{Laws, has_type, pointer_of}
@@ -100,7 +100,7 @@ abbrev pub two_types : StaticType → StaticType → ℕ → StaticType
 two_types s t zero = s
 two_types s t (suc n) = t
 
-module _ (laws : Laws) (c : Context) (code : Code) (alone : ℕ → Bool) (lines : ℕ) (set : IsSet c.program c.globals code alone) (n : ℕ) (g : Function) (cells : CellsTyped (setting_of c.program c.globals code alone lines) c n g) where
+module _ (laws : Laws) (c : Context) (code : Code) (alone : ℕ → Bool) (lines : ℕ) (set : IsSet c.program c.globals code alone) (n : ℕ) (g : Function) (cells : ConditionsTyped (setting_of c.program c.globals code alone lines) c n g) where
   abbrev m : Assignment
   m = c.program
 

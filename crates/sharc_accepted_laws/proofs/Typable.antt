@@ -186,7 +186,7 @@ module _ (laws : Laws) (c : Context) (code : Code) (alone : ℕ → Bool) (lines
           (wants_of c f.parameters all,
           args (declared_kinds f.parameters) (wants_of c f.parameters all) (suit_all c n g (declared_kinds f.parameters) all suit) (call_goes laws c code alone lines set n g s i all at k f names there kind_is suit) bare,
           call_is_typed laws c code alone lines set n g s i all at k f names there kind_is suit)
-      by named.Known names h = known_call laws c code alone lines set n g cells s i all at names h.0 args (h.1, h.2) bare
+      by named.Known names h = known_call laws c code alone lines set n g (cells.known s i all at names) s i all at names h.0 args (h.1, h.2) bare
       by (named.Struct j) names h = absurd h
       by (named.Global j) names h = absurd h
       by (named.Variable j) names h = absurd h

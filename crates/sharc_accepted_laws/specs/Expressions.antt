@@ -3,7 +3,7 @@ use Rattle.std.specs.Prelude.{ℕ, ◌≡◌, Bool, true, false, List, [], Some,
 use Rattle.sharc_tree.specs.declared.token.Span.{Span}
 use Rattle.sharc_tree.specs.declared.tree.declaration.Identifier.{Identifier}
 use Rattle.sharc_tree.specs.Forms.{is_lvalue, without_parentheses}
-use Rattle.sharc_tree.specs.Tree.{Expression, identifier, Function}
+use Rattle.sharc_tree.specs.Tree.{Expression, identifier, call, Arguments, Function}
 use Rattle.sharc_names.specs.declared.fault.Named.TheVariants as named
 use Rattle.sharc_names.specs.Kinds.{is_array, is_struct_behind, condition_pointer, mutex_pointer}
 use Rattle.sharc_code.specs.declared.code.Code.{Code}
@@ -28,15 +28,19 @@ use Rattle.sharc_accepted_laws.specs.Setting.{setting_of, IsSet}
 abbrev pub HasFirst : Setting → Content → Type 0
 HasFirst z content = (s : StaticType) × (s.locks ≡ []) × FirstCell z s content
 
--- What is asked where these variables stand, in function n with definition g: cells are accessed as their types say, lock paths lead to mutexes, pointers to condition variables
--- and to mutexes refer to such, and there are types of them, as which NULL is passed.
-pub record CellsTyped (z : Setting) (c : Context) (n : ℕ) (g : Function) : Type 0 where
-  pub lvalues : (e : Expression) → IsOf c n g e → is_cell (target_of c e) ≡ true → LvalueTyped z typing c n e
-  pub paths : (e : Expression) → IsOf c n g e → PathLeads c e
+-- pointers to condition variables and to mutexes refer to such, and there are types of them, as which NULL is passed
+pub record ConditionsTyped (z : Setting) (c : Context) (n : ℕ) (g : Function) : Type 0 where
   pub conditions : (e : Expression) → IsOf c n g e → kind_of c e ≡ condition_pointer → FirstCell z (type_by (entry_of c e)) Waiters
   pub mutexes : (e : Expression) → IsOf c n g e → kind_of c e ≡ mutex_pointer → FirstCell z (type_by (entry_of c e)) MutexWord
   pub no_condition : HasFirst z Waiters
   pub no_mutex : HasFirst z MutexWord
+
+-- What is asked where these variables stand, in function n with definition g: cells are accessed as their types say, lock paths lead to mutexes, and what `wait`, `signal` and
+-- `broadcast` are passed is of their types.
+pub record CellsTyped (z : Setting) (c : Context) (n : ℕ) (g : Function) : Type 0 where
+  pub lvalues : (e : Expression) → IsOf c n g e → is_cell (target_of c e) ≡ true → LvalueTyped z typing c n e
+  pub paths : (e : Expression) → IsOf c n g e → PathLeads c e
+  pub known : (s : Span) (i : Identifier) (all : Arguments) → IsOf c n g (call s i all) → named_at c.program.typed i.site.token ≡ named.Known → ConditionsTyped z c n g
 
 -- a variable whose reference is taken
 abbrev pub VariablesTaken : Setting → Context → ℕ → Type 0
