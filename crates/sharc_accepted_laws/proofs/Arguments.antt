@@ -6,6 +6,7 @@ use Rattle.sharc_tree.specs.declared.tree.declaration.Declaration.{Declaration}
 use Rattle.sharc_tree.specs.Forms.{is_lvalue}
 use Rattle.sharc_tree.specs.Measures.{expressions, in_arguments, in_function}
 use Rattle.sharc_tree.specs.Tree.{Expression, Arguments, no_arguments, argument, value, Function}
+use Rattle.sharc_names.specs.declared.fault.Named.TheVariants as named
 use Rattle.sharc_names.specs.Kinds.{Kind, is_pointer, declared_kind, declared_kinds}
 use Rattle.sharc_ctype.specs.Resolved.{Resolution, functions_in, function_at, declaration_at, variable_kind, kind_at}
 use Rattle.sharc_ctype.specs.Statements.{locals_in_all}
@@ -56,7 +57,7 @@ module _ (c : Context) (n : ℕ) (g : Function) where
 
 -- ---- kinds
 pub passes_scalar : (want k : Kind) → Passes want k → IsScalar k
-passes_scalar want k p no = p.1 (sym p.0 ∙ no)
+passes_scalar want k p other = p.1 (sym p.0 ∙ other)
 
 pub suit_all : (c : Context) (n : ℕ) (g : Function) (kinds : List Kind) (all : Arguments) → ArgumentsSuit c kinds all → AllSuit c n g all
 suit_all c n g [] no_arguments s = tt
@@ -92,7 +93,7 @@ module _ (z : Setting) (n : ℕ) (c : Context) where
             let pointer : is_pointer (declared_kind d.written) ≡ true = sym passes.0 ∙ ref in
             let f = fit c accepted whole given d a call there pointer in
             (f.goes, f.names standing, pointer_no_integer (declared_kind d.written) pointer)
-        by false no = (passes.1 (sym passes.0 ∙ no), to_integer (declared_kind d.written) (kind_of c a) fits no)
+        by false other = (passes.1 (sym passes.0 ∙ other), to_integer (declared_kind d.written) (kind_of c a) fits other)
 
     pub all_go : (ds : List Declaration) (all : Arguments) (wants : ℕ → StaticType) → ArgumentsSuit c (declared_kinds ds) all → HaveTypes r all (declared_kinds ds) → ((p : ℕ) → wants p ≡ type_for c whole given (slice_get ds p))
         → ((t : Transfer) → Contains (passed ds all) t → Contains (passed whole given) t) → AllGo (declared_kinds ds) wants all

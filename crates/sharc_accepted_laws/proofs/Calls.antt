@@ -43,7 +43,7 @@ use Rattle.sharc_accepted_laws.proofs.Facts.{Laws, expression_of, is_at, has_typ
 use Rattle.sharc_accepted_laws.proofs.Forms.{reference_pointer, call_typed, function_parameters}
 use Rattle.sharc_accepted_laws.proofs.Lists.{none_there, head_there, tail_there, found_there}
 
-narrower_same : (w : Width) → Narrower w w
+pub narrower_same : (w : Width) → Narrower w w
 narrower_same widths.Char = tt
 narrower_same widths.Int = tt
 narrower_same widths.Long = tt
@@ -159,13 +159,13 @@ module _ (laws : Laws) (c : Context) (code : Code) (alone : ℕ → Bool) (lines
         let stays = laws.results.stay c a f function_there (parameters_scope f.parameters) c.scope in
         let gives : (z.signature k).result ≡ Refers (result_type c f) = ap (λ (x : Signature). x.result) signature_is ∙ ap (λ b. cond b (Refers (result_type (frame f) f)) Empty) (sym (ap is_reference kind_is) ∙ ref) ∙ ap Refers stays in
         (result_type c f, given, subst (λ y. IsTypeIn z n typing c (type_by y)) given p.2, gives)
-    result_by false true no number =
-        let none = sym (ap is_reference kind_is) ∙ no in
+    result_by false true other number =
+        let none = sym (ap is_reference kind_is) ∙ other in
         let gives : (z.signature k).result ≡ Empty = ap (λ (x : Signature). x.result) signature_is ∙ ap (λ b. cond b (Refers (result_type (frame f) f)) Empty) none in
         let int : (z.signature k).result_int ≡ Within (width_of (kind_of c e)) = ap (λ (x : Signature). x.result_int) signature_is ∙ ap (λ b. cond b Anything (Within (width_of (declared_kind f.result)))) none ∙ ap (λ y. Within (width_of y)) (sym kind_is) in
         (gives, subst (λ y. IsPlain y) (sym int) tt, subst (λ y. LessNumber y (Within (width_of (kind_of c e)))) (sym int) (narrower_same (width_of (kind_of c e))))
-    result_by false false no number =
-        ap (λ (x : Signature). x.result) signature_is ∙ ap (λ b. cond b (Refers (result_type (frame f) f)) Empty) (sym (ap is_reference kind_is) ∙ no)
+    result_by false false other number =
+        ap (λ (x : Signature). x.result) signature_is ∙ ap (λ b. cond b (Refers (result_type (frame f) f)) Empty) (sym (ap is_reference kind_is) ∙ other)
 
     pub call_is_typed : CallTyped z n typing c e k (declared_kinds f.parameters) wants all
     call_is_typed = record {

@@ -128,8 +128,8 @@ module _ (laws : Laws) (c : Context) (code : Code) (alone : ℕ → Bool) (lines
     first : FirstCell z type content
 
   begins_pointer : (content : Content) (e : Expression) → At e → is_pointer (kind_of c e) ≡ true → FirstCell z (type_by (entry_of c e)) content → Begins content e
-  begins_pointer content e at pointer first =
-      let p = pointer_of laws c code alone lines set n g e at pointer in
+  begins_pointer content e at leads first =
+      let p = pointer_of laws c code alone lines set n g e at leads in
       record { type = type_by (entry_of c e); ref = p.0; goes = inr p.1; inside = p.2; first = first }
 
   none_mentioned : (s : StaticType) → s.locks ≡ [] → IsTypeIn z n typing c s
@@ -139,7 +139,7 @@ module _ (laws : Laws) (c : Context) (code : Code) (alone : ℕ → Bool) (lines
   begins_null content e at is w = record { type = w.0; ref = ap is_reference is; goes = inl (null_entry e at is); inside = none_mentioned w.0 w.1; first = w.2 }
 
   no_integer : (b : Base) (k : Kind) → is_pointer k ≡ true → k ≡ object b 0 → ⊥
-  no_integer b k pointer is = false≢true (sym (ap is_pointer is) ∙ pointer)
+  no_integer b k leads is = false≢true (sym (ap is_pointer is) ∙ leads)
 
   condition : (e : Expression) (k want : Kind) → At e → HasType r e k → Assignable want k → want ≡ condition_pointer → Begins Waiters e
   condition e _ _ at t (integer (b, h, is) j) same = absurd (no_integer b _ (ap is_pointer same) is)
@@ -160,17 +160,22 @@ module _ (laws : Laws) (c : Context) (code : Code) (alone : ℕ → Bool) (lines
     typed : ConditionTyped z n typing c name wants all
 
   two : (name : List ℕ) → name ≡ codes "wait" → (all : Arguments) → Parts c n g (in_arguments all) → function_at r n ≡ Some g → HaveTypes r all (condition_pointer ∷ mutex_pointer ∷ []) → ReferencesSuit c 2 all → KnownCall name all
+  two name is no_arguments parts here typed suits = absurd suits
+  two name is (argument a no_arguments) parts here typed suits = absurd suits.2
+  two name is (argument a (argument b (argument d rest))) parts here typed suits = absurd suits.2.2
   two name is (argument a (argument b no_arguments)) parts here (one_more {k = j} ta fa (one_more {k = k} tb fb none_left)) suits =
       let x = condition a j condition_pointer (part_of c n g here a (first_part c n g (expressions a) (expressions b ++ []) parts)) ta fa refl in
       let y = mutex b k mutex_pointer (part_of c n g here b (first_part c n g (expressions b) [] (second_part c n g (expressions a) (expressions b ++ []) parts))) tb fb refl in
       record {
         wants = two_types x.type y.type;
-        suit = ((suits.0, λ l. reference_scalar (kind_of c a) x.ref), (suits.2.0, λ l. reference_scalar (kind_of c b) y.ref), tt);
-        go = (subst (λ q. Goes z n typing c [] a q x.type) (sym x.ref) (x.goes, x.inside, tt), subst (λ q. Goes z n typing c [] b q y.type) (sym y.ref) (y.goes, y.inside, tt), tt);
+        suit = ((suits.0, λ l. reference_scalar (kind_of c a) x.ref), ((suits.2.0, λ l. reference_scalar (kind_of c b) y.ref), tt));
+        go = (subst (λ q. Goes z n typing c [] a q x.type) (sym x.ref) (x.goes, x.inside, tt), (subst (λ q. Goes z n typing c [] b q y.type) (sym y.ref) (y.goes, y.inside, tt), tt));
         typed = subst (λ t. ConditionTyped z n typing c t (two_types x.type y.type) (argument a (argument b no_arguments))) (sym is) ((x.ref, y.ref), x.first, y.first);
       }
 
   single : (name : List ℕ) → bytes_eq name (codes "wait") ≡ false → (all : Arguments) → Parts c n g (in_arguments all) → function_at r n ≡ Some g → HaveTypes r all (condition_pointer ∷ []) → ReferencesSuit c 1 all → KnownCall name all
+  single name other no_arguments parts here typed suits = absurd suits
+  single name other (argument a (argument b rest)) parts here typed suits = absurd suits.2
   single name other (argument a no_arguments) parts here (one_more {k = j} ta fa none_left) suits =
       let x = condition a j condition_pointer (part_of c n g here a (first_part c n g (expressions a) [] parts)) ta fa refl in
       record {

@@ -162,7 +162,7 @@ module _ (laws : Laws) (c : Context) (code : Code) (alone : ℕ → Bool) (lines
               (type_by (entry_of c e), (pointer_of pointer).1, (pointer_of pointer).2,
               subst (λ s. ReferenceTyped z typing c n (target_of c e) (guard_of c e) (ground_of z n typing c e) site (lvalue_in c e) (mode_of c e) false uses.Read s) type
               ((cells.lvalues e at cell).read.reference pointer modes.0 modes.1 site uses.Read))
-          by false no = (scalar no, (cells.lvalues e at cell).read.integer (scalar no) site uses.Read)
+          by false other = (scalar other, (cells.lvalues e at cell).read.integer (scalar other) site uses.Read)
 
       pub value_typed : is_lvalue e ≡ true → is_cell (target_of c e) ≡ true → IsScalar (kind_of c e) → (site : Site) → ValueTyped z n typing c e site
       value_typed lvalue cell scalar site = (cell, cell_typed lvalue cell scalar site)

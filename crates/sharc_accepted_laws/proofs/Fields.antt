@@ -38,7 +38,7 @@ use Rattle.sharc_accepted_laws.proofs.Lists.{none_some, same_some, at_place, fou
 -- ---- of what an lvalue names
 module _ (z : Setting) (n : ℕ) (c : Context) where
   abbrev pub Inside : ℕ → ℕ → Option ℕ → Type 0
-  Inside count k guard = AreFields z n typing c count k guard
+  Inside count k guard = AreFields z n typing count k guard
 
   -- with the pointer through which it leads
   abbrev pub TopFits : Target → Option Expression → Option ℕ → Type 0

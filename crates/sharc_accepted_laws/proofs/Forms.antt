@@ -65,16 +65,16 @@ integer_no_reference null h = absurd (false≢true h)
 integer_no_reference function h = absurd (false≢true h)
 
 pub integer_scalar : (k : Kind) → is_integer k ≡ true → IsScalar k
-integer_scalar k h no = h
+integer_scalar k h other = h
 
 pub reference_scalar : (k : Kind) → is_reference k ≡ true → IsScalar k
-reference_scalar k h no = absurd (false≢true (sym no ∙ h))
+reference_scalar k h other = absurd (false≢true (sym other ∙ h))
 
 -- what goes to something that is no reference goes to an integer
 pub to_integer : (want k : Kind) → Assignable want k → is_reference k ≡ false → is_integer want ≡ true
-to_integer _ _ (integer {a = a} (b, t, is) j) no = ap is_integer is ∙ t
-to_integer _ _ (pointer {a = a} (b, n, is)) no = absurd (false≢true (sym no ∙ pointer_reference a (ap is_pointer is ∙ some_star n)))
-to_integer _ _ (null_pointer p) no = absurd (false≢true (sym no))
+to_integer _ _ (integer {a = a} (b, t, is) j) other = ap is_integer is ∙ t
+to_integer _ _ (pointer {a = a} (b, n, is)) other = absurd (false≢true (sym other ∙ pointer_reference a (ap is_pointer is ∙ some_star n)))
+to_integer _ _ (null_pointer p) other = absurd (false≢true (sym other))
 
 integer_kind : (k : Kind) → IsInteger k → is_integer k ≡ true
 integer_kind k (b, t, is) = ap is_integer is ∙ t
@@ -128,8 +128,8 @@ module _ (r : Resolution) where
   module _ (one : (e : Expression) (k : Kind) → HasType r e k → kind_at r e ≡ k) where
     -- what is indexed and is no array, and what is led through by `->` and `*`, is a pointer
     pub index_pointer : (s : Span) (a i : Expression) (k : Kind) → HasType r (index s a i) k → is_array (kind_at r a) ≡ false → is_pointer (kind_at r a) ≡ true
-    index_pointer s a i _ (element_of_pointer {b = b} {n = n} t u v) no = ap is_pointer (one a (object b (n + 1)) t) ∙ some_star n
-    index_pointer s a i _ (element_of_array {b = b} {n = n} t u v) no = absurd (false≢true (sym no ∙ ap is_array (one a (array b n) t)))
+    index_pointer s a i _ (element_of_pointer {b = b} {n = n} t u v) other = ap is_pointer (one a (object b (n + 1)) t) ∙ some_star n
+    index_pointer s a i _ (element_of_array {b = b} {n = n} t u v) other = absurd (false≢true (sym other ∙ ap is_array (one a (array b n) t)))
 
     pub arrow_pointer : (s : Span) (a : Expression) (n : Identifier) (k : Kind) → HasType r (field s a Arrow n) k → is_pointer (kind_at r a) ≡ true
     arrow_pointer s a n _ (a_field_behind {x = x} t m is) = ap is_pointer (one a (object (base.Struct x) 1) t)

@@ -43,7 +43,7 @@ declared_plain r own themselves plain token has =
 
 names_plain : (r : Resolution) (own : List Declaration) → AllByRecursion (IsItself r named.Variable) own → AllByRecursion (λ d. is_aggregate (declared_kind d.written) ≡ false) own
     → (e : Expression) → NamesOwn r own e → NamesPlain r e
-names_plain r own themselves plain (identifier s i) h token is = declared_plain r own themselves plain token (h token is)
+names_plain r own themselves plain (identifier s i) h = λ token is. declared_plain r own themselves plain token (h token is)
 names_plain r own themselves plain _ h = tt
 
 -- in a function of an accepted program
@@ -107,7 +107,7 @@ module _ (r : Resolution) (results : (n : ℕ) (f : Function) → function_at r 
 
   -- what is a struct names a cell
   struct_cell : (e : Expression) (k : Kind) → HasType r e k → is_struct k ≡ true → (f : Option ℕ) → Plain (expressions e) → is_cell (target r f e) ≡ true
-  struct_cell _ _ (a_variable {token = token} is at spelled) h f all = no _ _ (ap (λ o. is_struct (variable_kind o)) (sym at) ∙ plain_struct _ (all.0 token is)) h
+  struct_cell _ _ (a_variable {token = token} is at spelled) h f all = no _ _ (ap (λ o. is_struct (variable_kind o)) (sym at) ∙ plain_struct (variable_kind (declaration_at r token)) (all.0 token is)) h
   struct_cell _ _ (a_global is at spelled) h f all = ap (λ n. is_cell (named_target n (own_field f 0))) is
   struct_cell _ _ (a_function q) h f all = absurd (false≢true h)
   struct_cell _ _ (a_constant {c = k}) h f all = no _ _ (constant_plain k) h

@@ -30,7 +30,7 @@ use Rattle.sharc_flat.specs.declared.slot.Slot.{Slot}
 use Rattle.sharc_flat.specs.Flattened.{kind_of, is_ref, parameters_scope, in_function as context_in, parameter_of, parameter_in}
 use Rattle.sharc_flat.specs.Places.{width_of}
 use Rattle.sharc_flat.specs.Scope.{Context, slot_of, int_count}
-use Rattle.sharc_flat.specs.Suits.{Passes, Suits, ArgumentsSuit}
+use Rattle.sharc_flat.specs.Suits.{IsScalar, Passes, Suits, ArgumentsSuit}
 use Rattle.sharc_invariant.specs.Types.{StaticType}
 use Rattle.sharc_invariant.specs.Labels.{Refers, Anything, Within, Signature, LessNumber, EntryMentions}
 use Rattle.sharc_invariant.specs.Typed.{IsShared}
@@ -44,7 +44,7 @@ use Rattle.sharc_static_laws.specs.Starting.{BeginsAlone}
 use Rattle.sharc_static_laws.specs.Static.{variable_entry}
 use Rattle.sharc_typable_laws.specs.Typing.{width_named, integers, typing}
 use Rattle.sharc_accepted_laws.specs.Setting.{function_signature, signature_by, is_numbered, is_spawned, is_main, is_start, setting_of, IsSet}
-use Rattle.sharc_accepted_laws.proofs.Arguments.{parameters_declared}
+use Rattle.sharc_accepted_laws.proofs.Arguments.{parameters_declared, passes_scalar}
 use Rattle.sharc_accepted_laws.proofs.Calls.{of_all_there, alone_is, narrower_same}
 use Rattle.sharc_accepted_laws.proofs.Facts.{Laws, expression_of, has_type}
 use Rattle.sharc_accepted_laws.proofs.Forms.{or_left, pointer_no_integer, pointer_reference, integer_no_reference, to_integer, passes_of, spawn_typed, function_parameters}
@@ -118,8 +118,12 @@ module _ (laws : Laws) (c : Context) (code : Code) (alone : ℕ → Bool) (lines
         let t = spawn_typed r s i x (kind_of c e) (has_type laws c code alone lines set n g e at) in
         from_list x (declared_kind d.written) (subst (HaveTypes r all) (function_parameters r i (t.0 ∷ []) void k f t.1 named_function.1 there ∙ ap declared_kinds only) t.2)
 
-    pub handed_passes : Passes (declared_kind d.written) (kind_of c x)
+    handed_passes : Passes (declared_kind d.written) (kind_of c x)
     handed_passes = passes_of (declared_kind d.written) (kind_of c x) assigned
+
+    -- it is a value
+    pub handed_scalar : IsScalar (kind_of c x)
+    handed_scalar = passes_scalar (declared_kind d.written) (kind_of c x) handed_passes
 
     passed_there : Contains (passed f.parameters all) record { receiver = variable d; source = value x }
     passed_there = subst (λ ds. Contains (passed ds all) record { receiver = variable d; source = value x }) (sym only) (head_there record { receiver = variable d; source = value x } [])
@@ -142,9 +146,9 @@ module _ (laws : Laws) (c : Context) (code : Code) (alone : ℕ → Bool) (lines
         λ q l. subst (λ (y : Signature). typed.Passes l q q (Refers (argument_type c f.parameters all d)) (y.takes 0)) (sym signature_is)
         (laws.threads c a n k f spawns_it there (laws.functions_stand m a c.globals f function_there).parameters d only x is_call pointer l q q),
         subst (λ (y : Signature). IsShared z.targets (y.takes 0)) (sym signature_is) begins.shared)
-    handed_by suits false no =
-        let number = to_integer (declared_kind d.written) (kind_of c x) assigned no in
-        let none : is_pointer (declared_kind d.written) ≡ false = sym handed_passes.0 ∙ no in
+    handed_by suits false other =
+        let number = to_integer (declared_kind d.written) (kind_of c x) assigned other in
+        let none : is_pointer (declared_kind d.written) ≡ false = sym handed_passes.0 ∙ other in
         let parameter : (function_of code k).parameter ≡ parameters.Int =
         (set.rows k f there).parameter ∙ ap parameter_of only ∙ ap (λ b. cond b parameters.Reference parameters.Int) (integer_no_reference (declared_kind d.written) number) in
         (handed_passes.1 none, number, parameter, subst (λ (y : Signature). LessNumber (Within (width_of (declared_kind d.written))) (y.takes_ints 0)) (sym signature_is) (number_by (nat_lt 0 (int_count (parameters_scope f.parameters)))))
@@ -152,13 +156,10 @@ module _ (laws : Laws) (c : Context) (code : Code) (alone : ℕ → Bool) (lines
         declared : declaration_at r d.name.site.token ≡ Some d
         declared = (subst (AllByRecursion (λ d. declaration_at r d.name.site.token ≡ Some d)) only (parameters_declared laws.themselves m a f function_there)).0
 
-        abbrev first_width : List Slot → Width
-        first_width scope = width_named (context_in m c.globals f) (slice_get (integers scope) 0)
-
-        width : first_width (parameters_scope f.parameters) ≡ width_of (declared_kind d.written)
+        width : width_named (context_in m c.globals f) (slice_get (integers (parameters_scope f.parameters)) 0) ≡ width_of (declared_kind d.written)
         width =
-            ap (λ ds. first_width (map slot_of ds)) only
-            ∙ ap (λ b. width_named (context_in m c.globals f) (slice_get (cond b [] (d.name.site.token ∷ [])) 0)) (sym handed_passes.0 ∙ no)
+            ap (λ ds. width_named (context_in m c.globals f) (slice_get (integers (map slot_of ds)) 0)) only
+            ∙ ap (λ b. width_named (context_in m c.globals f) (slice_get (cond b [] (d.name.site.token ∷ [])) 0)) (sym handed_passes.0 ∙ other)
             ∙ ap (λ o. width_of (variable_kind o)) declared
 
         number_by : (b : Bool) → LessNumber (Within (width_of (declared_kind d.written))) (cond b (Within (typing.width (context_in m c.globals f) 0)) Anything)

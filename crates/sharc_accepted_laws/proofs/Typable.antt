@@ -51,7 +51,7 @@ use Rattle.sharc_typable_laws.specs.Laws.{OperandSuits}
 use Rattle.sharc_typable_laws.specs.Typing.{typing}
 use Rattle.sharc_accepted_laws.specs.Expressions.{CellsTyped, VariablesTaken, ExpressionsAreTypable}
 use Rattle.sharc_accepted_laws.specs.Setting.{setting_of, IsSet}
-use Rattle.sharc_accepted_laws.proofs.Arguments.{IsValued, AllSuit, AllGo, Parts, part_of, first_part, second_part, suit_all, passes_scalar}
+use Rattle.sharc_accepted_laws.proofs.Arguments.{IsValued, AllSuit, AllGo, Parts, part_of, first_part, second_part, suit_all}
 use Rattle.sharc_accepted_laws.proofs.Calls.{call_goes, call_is_typed}
 use Rattle.sharc_accepted_laws.proofs.Conditions.{known_call}
 use Rattle.sharc_accepted_laws.proofs.Facts as facts
@@ -59,7 +59,7 @@ use Rattle.sharc_accepted_laws.proofs.Facts.{Laws}
 use Rattle.sharc_accepted_laws.proofs.Fields.{Inside, TopFits, IsGuard, no_guard, own_guard, top_fits}
 use Rattle.sharc_accepted_laws.proofs.Forms.{integer_no_reference, integer_scalar, pointer_reference, reference_scalar, index_pointer, arrow_pointer, star_pointer, cast_operand, free_operand, lock_operand, unlock_operand}
 use Rattle.sharc_accepted_laws.proofs.Lists.{first_of}
-use Rattle.sharc_accepted_laws.proofs.Spawns.{handed_passes, spawn_is_typed}
+use Rattle.sharc_accepted_laws.proofs.Spawns.{handed_scalar, spawn_is_typed}
 
 -- ---- operands
 same_sort_scalars : (j k : Kind) → suits.SameSort j k → IsScalar j × IsScalar k
@@ -67,7 +67,7 @@ same_sort_scalars j k = by (is_reference j) refl
   where
     by : (b : Bool) → is_reference j ≡ b → Either b (is_reference k ≡ true) ((is_integer j ≡ true) × (is_integer k ≡ true)) → IsScalar j × IsScalar k
     by true ref h = (reference_scalar j ref, reference_scalar k h)
-    by false no h = (integer_scalar j h.0, integer_scalar k h.1)
+    by false other h = (integer_scalar j h.0, integer_scalar k h.1)
 
 both_integers : (j k : Kind) → (is_integer j ≡ true) × (is_integer k ≡ true) → IsScalar j × IsScalar k
 both_integers j k h = (integer_scalar j h.0, integer_scalar k h.1)
@@ -205,14 +205,14 @@ module _ (laws : Laws) (c : Context) (code : Code) (alone : ℕ → Bool) (lines
           → Either b (IsPlaceTypable z n typing bare c None None x × (target r None x ≡ in_global (global_of (target r None x)) 0))
           (IsTypable z n typing bare c x × IsPointer z n typing c x × (element_cells r (element_kind (kind_of c x)) ≡ cells_of z.targets (type_by (entry_of c x)).target))
           × ElementTyped z n typing c x (own_field own 0) guard
-      by true array h f =
+      by true indexed h f =
           let a = set.accepted in
-          let w = laws.arrays m a.resolved a.placed a.low a.least a.well x (facts.expression_of laws c code alone lines set n g x at_x) array in
+          let w = laws.arrays m a.resolved a.placed a.low a.least a.well x (facts.expression_of laws c code alone lines set n g x at_x) indexed in
           let count : cells_in_each r (global_at r (global_of (target r None x))) ≡ element_cells r (element_kind (kind_of c x)) =
           ap (λ t. cells_in_each r (global_at r (global_of t))) w.place ∙ ap (cells_in_each r) w.defined ∙ ap (element_cells r) (sym w.element) in
           ((place h.0 (subst (λ t. TopFits z n c t (pointer_of r x) None) (sym w.place) tt), h.1), subst (λ count. Inside z n c count (own_field own 0) guard) count f)
-      by false no h f =
-          let pointer = index_pointer r one s x i (kind_of c (index s x i)) (has_type (index s x i) at) no in
+      by false other h f =
+          let pointer = index_pointer r one s x i (kind_of c (index s x i)) (has_type (index s x i) at) other in
           let count = facts.cells_are laws c code alone lines set n g x at_x pointer in
           ((value h.0 (λ l. reference_scalar (kind_of c x) h.1), pointer_typed x at_x pointer, count), subst (λ count. Inside z n c count (own_field own 0) guard) (sym count) f)
 
@@ -246,7 +246,7 @@ module _ (laws : Laws) (c : Context) (code : Code) (alone : ℕ → Bool) (lines
     typable (parentheses s x) at suits value bare = (typable x (record { function = at.function; parts = at.parts.1; stand = at.stand.1 }) suits value bare, refl)
     typable (call s i all) at suits value bare = call_typable s i all at suits (λ kinds wants suit go bare. arguments all (at.parts.1, at.stand.1) at.function kinds wants suit go bare) bare
     typable (spawn s i x) at suits value bare =
-        (typable x (record { function = at.function; parts = at.parts.1; stand = at.stand.1 }) suits.0 (λ l. passes_scalar _ (kind_of c x) (handed_passes laws c code alone lines set n g s i x at)) bare,
+        (typable x (record { function = at.function; parts = at.parts.1; stand = at.stand.1 }) suits.0 (λ l. handed_scalar laws c code alone lines set n g s i x at) bare,
         (refl, refl), spawn_is_typed laws c code alone lines set n g s i x at suits.0)
     typable (on_value s w x) at suits value bare =
         (typable x (record { function = at.function; parts = at.parts.1; stand = at.stand.1 }) suits.0 (λ l. integer_scalar (kind_of c x) suits.1) bare, (integer_no_reference (kind_of c x) suits.1, suits.1))

@@ -1,5 +1,5 @@
 -- The code of an accepted program, as its types have it: the targets of its references, the signatures of its functions, and with which of them a thread begins.
-use Rattle.std.specs.Prelude.{ℕ, ◌≡◌, ◌<◌, ◌==◌, Bool, false, ◌||◌, nat_lt, List, length, Option, Some, None, codes, if◌then◌else◌}
+use Rattle.std.specs.Prelude.{ℕ, ◌≡◌, ◌<◌, ◌==◌, Bool, true, false, ◌||◌, nat_lt, List, length, Option, Some, None, codes, if◌then◌else◌}
 use Rattle.std.specs.List.{list_any}
 use Rattle.std.specs.Str.{bytes_eq}
 use Rattle.sharc_tree.specs.Measures.{in_function as expressions_of}
