@@ -11,3 +11,13 @@ pub mod Starts
 pub mod Stated
 pub mod Tables
 pub mod Wholes
+pub mod Arguments
+pub mod Calls
+pub mod Conditions
+pub mod Facts
+pub mod Fields
+pub mod Forms
+pub mod Lists
+pub mod Plain
+pub mod Spawns
+pub mod Typable

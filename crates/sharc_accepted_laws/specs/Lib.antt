@@ -1,3 +1,4 @@
 pub mod Programs
+pub mod Expressions
 pub mod Setting
 pub mod Statements

@@ -1,18 +1,22 @@
 -- The code of an accepted program, as its types have it: the targets of its references, the signatures of its functions, and with which of them a thread begins.
-use Rattle.std.specs.Prelude.{ℕ, ◌≡◌, ◌<◌, Bool, true, false, ◌||◌, nat_lt, List, length, Option, Some, None, codes, if◌then◌else◌}
+use Rattle.std.specs.Prelude.{ℕ, ◌≡◌, ◌<◌, ◌==◌, Bool, true, false, ◌||◌, nat_lt, List, length, Option, Some, None, codes, if◌then◌else◌}
+use Rattle.std.specs.List.{list_any}
 use Rattle.std.specs.Str.{bytes_eq}
+use Rattle.sharc_tree.specs.Measures.{in_function as expressions_of}
 use Rattle.sharc_tree.specs.Tree.{Expression, constant, Function}
 use Rattle.sharc_tree.specs.declared.token.Span.{Span}
 use Rattle.sharc_tree.specs.declared.tree.expression.Constant.{Constant}
+use Rattle.sharc_names.specs.declared.fault.Named.{Named}
+use Rattle.sharc_names.specs.declared.fault.Named.TheVariants as named
 use Rattle.sharc_names.specs.Kinds.{declared_kind}
 use Rattle.sharc_code.specs.Arithmetic.{holds}
 use Rattle.sharc_code.specs.declared.code.Code.{Code}
 use Rattle.sharc_code.specs.declared.code.GlobalCells.{GlobalCells}
 use Rattle.sharc_code.specs.Machine.{function_of}
 use Rattle.sharc_ctype.specs.Expressions.{constant_kind}
-use Rattle.sharc_ctype.specs.Resolved.{Resolution, function_at}
+use Rattle.sharc_ctype.specs.Reaches.{spawns, of_all}
+use Rattle.sharc_ctype.specs.Resolved.{Resolution, named_at, functions_in, function_at}
 use Rattle.sharc_mode.specs.Moded.{Assignment}
-use Rattle.sharc_mode.specs.WellModed.{is_spawned}
 use Rattle.sharc_mode_laws.specs.Constructs.{IsExpression}
 use Rattle.sharc_meaning.specs.Reference.{constant_value}
 use Rattle.sharc_meaning.specs.State.{is_reference}
@@ -49,7 +53,14 @@ signature_by m globals alone None = no_signature alone
 signature_by m globals alone (Some g) = function_signature (in_function m globals g) alone g
 
 -- ---- the beginnings of threads
--- with main, or with a function that is spawned
+abbrev pub is_numbered : ℕ → Named → Bool
+is_numbered n (named.Function k) = k == n
+is_numbered n _ = false
+
+-- some function spawns it
+abbrev pub is_spawned : Resolution → ℕ → Bool
+is_spawned r n = list_any (λ f. list_any (λ token. is_numbered n (named_at r token)) (of_all spawns (expressions_of f))) (functions_in r.program.items)
+
 abbrev pub is_main : Option Function → Bool
 is_main None = false
 is_main (Some g) = bytes_eq g.name.text (codes "main")

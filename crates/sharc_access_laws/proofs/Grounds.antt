@@ -110,6 +110,25 @@ module _ (z : Setting) (f : ℕ) (y : Typing) (c : Context) (entries : (p : Expr
   base_is own (unary s Dereference a) h has = pointed a (h a refl)
   base_is own (binary s o at a b) h has = absurd (false≢true has)
 
+  -- and the pointer that leads there
+  leads_is : (e : Expression) → (ground_of z f y c e).pointer ≡ pointer_of r e
+  leads_is (parentheses s a) = leads_is a
+  leads_is (field s a Dot n) = leads_is a
+  leads_is (identifier s i) = refl
+  leads_is (constant s v) = refl
+  leads_is (call s i rest) = refl
+  leads_is (spawn s i a) = refl
+  leads_is (on_value s w a) = refl
+  leads_is (on_place s w a) = refl
+  leads_is (cast s w a) = refl
+  leads_is (index s a i) = refl
+  leads_is (field s a Arrow n) = refl
+  leads_is (unary s Negate a) = refl
+  leads_is (unary s Not a) = refl
+  leads_is (unary s Complement a) = refl
+  leads_is (unary s Dereference a) = refl
+  leads_is (binary s o at a b) = refl
+
   -- the array of which it is an element
   record IsElementOf (ground : Ground) (g : ℕ) : Type 0 where
     count : ground.count ≡ cells_in_each r (global_at r g)
@@ -149,6 +168,7 @@ grounds_fit fit arrays c code is z f y entries e lvalue all =
     let known : (a : Expression) → is_array (kind_at c.program.typed a) ≡ true → IsExpression c.program a → IsArrayOf c.program a = λ a array at. arrays c.program is.accepted.resolved is.accepted.placed is.accepted.low is.accepted.least is.accepted.well a at array in
     record {
       base = λ has. base_is z f y c entries None e (λ p leads. has_pointer_modes c code e lvalue (lvalue_cells fit c code is e lvalue) p leads) has;
+      pointer = λ _. leads_is z f y c entries e;
       count = λ g n at. (element_of z f y c entries known None e all g n at).count;
       elements = λ g n at. (element_of z f y c entries known None e all g n at).elements;
     }

@@ -37,7 +37,7 @@ some_are n (lock ∷ rest) e = by (names n lock) refl e (some_are n rest)
     by true is e others = inl (names_are n lock is)
     by false is e others = inr (others e)
 
-forgotten_same : (n : ℕ) (e : Entry) → (EntryMentions e n → ⊥) → forgotten n e ≡ e
+pub forgotten_same : (n : ℕ) (e : Entry) → (EntryMentions e n → ⊥) → forgotten n e ≡ e
 forgotten_same n Empty none = refl
 forgotten_same n Unknown none = refl
 forgotten_same n (Refers s) none = by (some_names n s.locks) refl
@@ -47,7 +47,7 @@ forgotten_same n (Refers s) none = by (some_names n s.locks) refl
     by false is = refl
 
 -- what is not forgotten does not name it
-forgotten_mentions : (n : ℕ) (e : Entry) (p : ℕ) → EntryMentions (forgotten n e) p → EntryMentions e p
+pub forgotten_mentions : (n : ℕ) (e : Entry) (p : ℕ) → EntryMentions (forgotten n e) p → EntryMentions e p
 forgotten_mentions n Empty p h = h
 forgotten_mentions n Unknown p h = h
 forgotten_mentions n (Refers s) p h = by (some_names n s.locks) h
@@ -56,7 +56,7 @@ forgotten_mentions n (Refers s) p h = by (some_names n s.locks) h
     by true h = absurd h
     by false h = h
 
-forgotten_full : (n : ℕ) (e : Entry) → e ≢ Empty → forgotten n e ≢ Empty
+pub forgotten_full : (n : ℕ) (e : Entry) → e ≢ Empty → forgotten n e ≢ Empty
 forgotten_full n Empty full e = full e
 forgotten_full n Unknown full e = full e
 forgotten_full n (Refers s) full e = by (some_names n s.locks) e
@@ -78,7 +78,7 @@ some_named n (lock ∷ rest) h = ⊎_elim (λ (k : Names n lock). ap (λ b. b ||
     either true e = refl
     either false e = e
 
-forgotten_none : (n : ℕ) (e : Entry) → EntryMentions (forgotten n e) n → ⊥
+pub forgotten_none : (n : ℕ) (e : Entry) → EntryMentions (forgotten n e) n → ⊥
 forgotten_none n Empty h = h
 forgotten_none n Unknown h = h
 forgotten_none n (Refers s) h = by (some_names n s.locks) refl h

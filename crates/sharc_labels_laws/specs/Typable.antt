@@ -36,11 +36,11 @@ use Rattle.sharc_flat.specs.Suits.{Either, is_cell}
 use Rattle.sharc_flat_form.specs.Framed.{IsWide}
 use Rattle.sharc_invariant.specs.Types.{StaticType, Content, field_at, cells_of}
 use Rattle.sharc_invariant.specs.Types.Content.{MutexWord, Waiters}
-use Rattle.sharc_invariant.specs.Labels.{Entry, Empty, Refers, Unknown, Exactly, Within, Label, LessNumber, EntryMentions, HasBase}
+use Rattle.sharc_invariant.specs.Labels.{Entry, Empty, Refers, Unknown, Anything, Exactly, Within, Label, LessNumber, EntryMentions, HasBase}
 use Rattle.sharc_invariant.specs.Typed.{is_shift, is_comparison, Passes, IsShared, Recasts, IsLayout}
 use Rattle.sharc_labels_laws.specs.Stretches.{Setting}
 use Rattle.sharc_labels_laws.specs.Places.{Stands, IsNamed, IsPlain, no_type}
-use Rattle.sharc_labels_laws.specs.Premises.{Typing, HoldsVariables, Ground, IntegerTyped, ReferenceTyped, MutexTyped}
+use Rattle.sharc_labels_laws.specs.Premises.{Typing, HoldsVariables, IsCopyOf, Ground, IntegerTyped, ReferenceTyped, MutexTyped}
 
 -- ---- types
 abbrev pub type_by : Entry → StaticType
@@ -61,19 +61,6 @@ pub record StandsIn (y : Typing) (c : Context) (f from i r : ℕ) (l : Label) : 
   pub wide : int_count c.scope ≤ i
   pub early : from ≤ i
 
--- the value of a variable that is named is a copy of it
-abbrev pub IsCopyIn : Register → ℕ → Type 0
-IsCopyIn (Int j) copy = Unit {0}
-IsCopyIn (Reference q) copy = copy ≡ q
-
-abbrev pub IsCopyNamed : Context → Named → ℕ → Type 0
-IsCopyNamed c (named.Variable x) copy = IsCopyIn (register_of c.scope x) copy
-IsCopyNamed c _ copy = Unit {0}
-
-abbrev pub IsCopyOf : Context → Expression → ℕ → Type 0
-IsCopyOf c (identifier s x) copy = IsCopyNamed c (what_names c x.site.token) copy
-IsCopyOf c _ copy = Unit {0}
-
 -- if it is said so, no reference is at hand but those of variables
 abbrev pub IsBare : Bool → Label → Type 0
 IsBare bare l = bare ≡ true → ((q : ℕ) → l.same q ≡ q) × ((q : ℕ) → l.known q ≡ true → ⊥) × ((j q : ℕ) → HasBase (l.ints j) q → ⊥)
@@ -90,6 +77,19 @@ pub record FirstCell (z : Setting) (s : StaticType) (content : Content) : Type 0
 -- an integer of one width is one of another
 abbrev pub Widens : Width → Width → Type 0
 Widens v w = LessNumber (Within v) (Within w)
+
+-- the first registers behind those of arguments, which are free
+abbrev pub ints_behind : Context → Arguments → ℕ → ℕ
+ints_behind c no_arguments i = i
+ints_behind c (argument a rest) i = ints_behind c rest (behind_int (is_ref c a) i)
+
+abbrev pub refs_behind : Context → Arguments → ℕ → ℕ
+refs_behind c no_arguments r = r
+refs_behind c (argument a rest) r = refs_behind c rest (behind_ref (is_ref c a) r)
+
+pub record AreFree (c : Context) (all : Arguments) (i r : ℕ) (l : Label) : Type 0 where
+  pub references : (q : ℕ) → refs_behind c all r ≤ q → l.env q ≡ Empty
+  pub integers : (j : ℕ) → ints_behind c all i ≤ j → l.ints j ≡ Anything
 
 module _ (z : Setting) (f : ℕ) (y : Typing) where
   -- a type of an expression names constants that stand
@@ -110,11 +110,16 @@ module _ (z : Setting) (f : ℕ) (y : Typing) where
   -- ---- what lvalues name
   abbrev pub ground_of : Context → Expression → Ground
   ground_of c (parentheses s a) = ground_of c a
-  ground_of c (index s a n) = record { base = if is_array (kind_of c a) then no_type else type_by (y.entry c a); count = element_cells c.program.typed (element_kind (kind_of c a)); elements = global_elements (global_at c.program.typed (global_of (target c.program.typed None a))) }
+  ground_of c (index s a n) = record {
+    base = if is_array (kind_of c a) then no_type else type_by (y.entry c a);
+    pointer = if is_array (kind_of c a) then None else Some a;
+    count = element_cells c.program.typed (element_kind (kind_of c a));
+    elements = global_elements (global_at c.program.typed (global_of (target c.program.typed None a)));
+  }
   ground_of c (field s a Dot n) = ground_of c a
-  ground_of c (field s a Arrow n) = record { base = type_by (y.entry c a); count = 0; elements = 0 }
-  ground_of c (unary s Dereference a) = record { base = type_by (y.entry c a); count = 0; elements = 0 }
-  ground_of c e = record { base = no_type; count = 0; elements = 0 }
+  ground_of c (field s a Arrow n) = record { base = type_by (y.entry c a); pointer = Some a; count = 0; elements = 0 }
+  ground_of c (unary s Dereference a) = record { base = type_by (y.entry c a); pointer = Some a; count = 0; elements = 0 }
+  ground_of c e = record { base = no_type; pointer = None; count = 0; elements = 0 }
 
   -- the value of a cell, which is read at this site
   abbrev pub CellTyped : Context → Expression → Site → Target → Bool → Type 0
@@ -190,10 +195,10 @@ module _ (z : Setting) (f : ℕ) (y : Typing) where
   FieldTypable c Arrow a of_base of_pointer = of_pointer × IsPointer c a
 
   -- ---- what is taken away
-  -- the reference of a cell, or of a variable that is no constant and of which no copy is at hand
+  -- the reference of a cell, or of a variable that types do not name
   abbrev pub VariableTakes : Bool → Context → StaticType → Register → Type 0
   VariableTakes bare c s (Int j) = ⊥
-  VariableTakes bare c s (Reference q) = (bare ≡ true) × (q < ref_count c.scope) × (y.pointer c q ≡ s) × (y.named c q ≡ false)
+  VariableTakes bare c s (Reference q) = (q < ref_count c.scope) × (y.pointer c q ≡ s) × (y.named c q ≡ false)
 
   abbrev pub Takes : Bool → Context → Expression → Use → StaticType → Target → Type 0
   Takes bare c a use_made s (variable x) = VariableTakes bare c s (register_of c.scope x)
@@ -230,7 +235,7 @@ module _ (z : Setting) (f : ℕ) (y : Typing) where
   -- ---- calls
   -- What is passed is in its registers: references of these types, and integers that parameters of these types hold.
   abbrev pub ArgumentAt : Context → List Kind → Expression → Bool → StaticType → ℕ → ℕ → Label → Type 0
-  ArgumentAt c kinds a true s i r l = (l.env r ≡ Refers s) × IsCopyOf c a (l.same r)
+  ArgumentAt c kinds a true s i r l = (l.env r ≡ Refers s) × IsCopyOf y c a (l.same r)
   ArgumentAt c [] a false s i r l = Unit {0}
   ArgumentAt c (kind ∷ kinds) a false s i r l = l.ints i ≡ Within (width_of kind)
 
@@ -247,8 +252,8 @@ module _ (z : Setting) (f : ℕ) (y : Typing) where
   pub record CallTyped (c : Context) (e : Expression) (g : ℕ) (kinds : List Kind) (wants : ℕ → StaticType) (all : Arguments) : Type 0 where
     pub is : g < length z.code.functions.items
     pub alone : (z.signature g).alone ≡ true → (z.signature f).alone ≡ true
-    pub passes : (i r : ℕ) (l : Label) → HoldsVariables y c l → ArgumentsAt c kinds wants all i r l → (p : ℕ) → Passes l r (r + p) (l.env (r + p)) ((z.signature g).takes p)
-    pub numbers : (i r : ℕ) (l : Label) → HoldsVariables y c l → ArgumentsAt c kinds wants all i r l → (j : ℕ) → LessNumber (l.ints (i + j)) ((z.signature g).takes_ints j)
+    pub passes : (i r : ℕ) (l : Label) → HoldsVariables y c l → ArgumentsAt c kinds wants all i r l → AreFree c all i r l → (p : ℕ) → Passes l r (r + p) (l.env (r + p)) ((z.signature g).takes p)
+    pub numbers : (i r : ℕ) (l : Label) → HoldsVariables y c l → ArgumentsAt c kinds wants all i r l → AreFree c all i r l → (j : ℕ) → LessNumber (l.ints (i + j)) ((z.signature g).takes_ints j)
     pub result : ResultTyped c e g (is_ref c e) (is_integer (kind_of c e))
 
   -- an argument goes to its parameter

@@ -3,6 +3,7 @@ pub mod Arrays
 pub mod FileNames
 pub mod Given
 pub mod Holds
+pub mod Leading
 pub mod Lists
 pub mod Locals
 pub mod Names

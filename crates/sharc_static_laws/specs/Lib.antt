@@ -3,6 +3,7 @@ pub mod Calls
 pub mod Casting
 pub mod Held
 pub mod Laws
+pub mod Leading
 pub mod Pointing
 pub mod Results
 pub mod Scopes
