@@ -1,0 +1,5 @@
+pub mod Growing
+pub mod Alike
+pub mod Closing
+pub mod Stating
+pub mod Bodies

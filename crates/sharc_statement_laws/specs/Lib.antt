@@ -1,2 +1,2 @@
-pub mod Functions
 pub mod Statements
+pub mod Functions
