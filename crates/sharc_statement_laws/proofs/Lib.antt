@@ -1,0 +1,9 @@
+pub mod After
+pub mod Arrays
+pub mod Assembled
+pub mod Framing
+pub mod Past
+pub mod Program
+pub mod Remembered
+pub mod Starting
+pub mod Texts
