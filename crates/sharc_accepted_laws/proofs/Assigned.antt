@@ -81,7 +81,7 @@ call_is (tree.field s a w n) h = absurd (false≢true h)
 call_is (tree.unary s o a) h = absurd (false≢true h)
 call_is (tree.binary s o at a b) h = absurd (false≢true h)
 
-no_entry : (s : StaticType) → Empty ≡ Refers s → ⊥
+pub no_entry : (s : StaticType) → Empty ≡ Refers s → ⊥
 no_entry s h = cc
 
 -- ---- in parentheses
@@ -107,6 +107,17 @@ module _ (c : Context) where
   named_entry : (s : Span) (i : Identifier) (x : ℕ) → named_at c.program.typed i.site.token ≡ named.Variable x → entry_of c (tree.identifier s i) ≡ Refers (variable_type c x)
   named_entry s i x names = ap (λ n. Refers (static_of c (named_kind c.program.typed n) (modes_of c.program (named_row c.program.typed written n)))) names
 
+-- ---- parts of a function
+module _ (z : Setting) (alone : ℕ → Bool) (n : ℕ) (g : Function) (c : Context) (here : IsPlaceIn z alone n g c) where
+  pub function_there : Contains (functions_in c.program.typed.program.items) g
+  function_there = place_there (functions_in c.program.typed.program.items) n g here.function
+
+  pub inside_there : (x : Expression) → Contains (in_function g) x → IsExpression c.program x
+  inside_there x has = record { owner = g; stands = function_there; inside = has }
+
+  pub at_there : (e : Expression) → IsThere g c e → IsAt c e
+  at_there e t = record { inside = each (Contains (in_function g)) (IsExpression c.program) inside_there (expressions e) t.inside; stands = first_of (ExpressionStands c) e t.stands }
+
 -- the laws that are used
 pub record Laws : Type 0 where
   pub values : ValueLaws
@@ -127,17 +138,8 @@ module _ (laws : Laws) (z : Setting) (alone : ℕ → Bool) (n : ℕ) (g : Funct
   targets_are : z.targets ≡ targets_of c.program
   targets_are = ap (λ (x : Setting). x.targets) here.setting
 
-  pub is_function : Contains (functions_in c.program.typed.program.items) g
-  is_function = place_there (functions_in c.program.typed.program.items) n g here.function
-
-  inside_is : (x : Expression) → Contains (in_function g) x → IsExpression c.program x
-  inside_is x has = record { owner = g; stands = is_function; inside = has }
-
-  pub at_of : (e : Expression) → IsThere g c e → IsAt c e
-  at_of e t = record { inside = each (Contains (in_function g)) (IsExpression c.program) inside_is (expressions e) t.inside; stands = first_of (ExpressionStands c) e t.stands }
-
-  expression_of : (e : Expression) → IsThere g c e → IsExpression c.program e
-  expression_of e t = inside_is e (first_of (Contains (in_function g)) e t.inside)
+  at_of : (e : Expression) → IsThere g c e → IsAt c e
+  at_of e t = at_there z alone n g c here e t
 
   -- ---- new objects
   -- of the first target of a pointer with this row
@@ -263,7 +265,7 @@ module _ (laws : Laws) (z : Setting) (alone : ℕ → Bool) (n : ℕ) (g : Funct
     makes_is : (w : WrittenType) → same_kind (kind_of c u) (made w) ≡ true → IsMade z n typing (type_by (entry_of c u)) (element_cells c.program.typed (declared_kind w))
     makes_is w same =
         let p = pointed_of u there (made_pointer (kind_of c u) w same) in
-        let found = laws.found c.program here.set.accepted.resolved here.set.accepted.placed here.set.accepted.low here.set.accepted.least.modes u (expression_of u there) p.row p.is in
+        let found = laws.found c.program here.set.accepted.resolved here.set.accepted.placed here.set.accepted.low here.set.accepted.least.modes u (inside_there z alone n g c here u (first_of (Contains (in_function g)) u there.inside)) p.row p.is in
         subst (λ t. IsMade z n typing t (element_cells c.program.typed (declared_kind w))) (sym (ap type_by p.entry)) (made_is (kind_of c u) p.row found w same)
 
   -- ---- simple statements

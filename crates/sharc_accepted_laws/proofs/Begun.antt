@@ -37,7 +37,7 @@ use Rattle.sharc_static_laws.specs.Static.{register, static_of, variable_type, e
 use Rattle.sharc_target_laws.specs.Laws.{VariablesFound}
 use Rattle.sharc_typable_laws.specs.Typing.{typing, width_named}
 use Rattle.sharc_accepted_laws.specs.Statements.{IsPlaceIn, AreExpressionsTypable}
-use Rattle.sharc_accepted_laws.proofs.Assigned.{Laws, is_function, made_is, right_is, Gives}
+use Rattle.sharc_accepted_laws.proofs.Assigned.{Laws, function_there, made_is, right_is, Gives}
 use Rattle.sharc_accepted_laws.proofs.Fresh.{LocalFresh}
 use Rattle.sharc_accepted_laws.proofs.Slots.{pointer_kept, pointer_last, ref_more, integer_kept, integer_last, int_more}
 use Rattle.sharc_accepted_laws.proofs.Sorts.{declared_pointer}
@@ -124,7 +124,7 @@ module _ (laws : Laws) (variables : VariablesFound) (z : Setting) (alone : ℕ �
     stands = subst (λ o. AllByRecursion (ExpressionStands (with_variable c l.declaration)) (in_option in_right o)) given.is stands.1;
     agrees = given.agrees;
     type = type_with;
-    goes = λ e is ref. laws.given.begun (with_variable c l.declaration) here.set.accepted g l e (is_function laws z alone n g typable c here) given.there (given.is ∙ ap Some is) (sym (declared_pointer l.declaration.written) ∙ ref);
+    goes = λ e is ref. laws.given.begun (with_variable c l.declaration) here.set.accepted g l e (function_there z alone n g c here) given.there (given.is ∙ ap Some is) (sym (declared_pointer l.declaration.written) ∙ ref);
     makes = λ w same. subst (λ t. IsMade z n typing t (element_cells c.program.typed (declared_kind w))) (sym type_is)
         (made_is laws z alone n g typable (with_variable c l.declaration) (here_with laws z alone n g c here l stands) (declared_kind l.declaration.written) (declared_row c.program.typed written l.declaration.name.site.token)
         (variables c.program here.set.accepted.resolved here.set.accepted.placed here.set.accepted.low here.set.accepted.least.modes l.declaration.name.site.token l.declaration itself.1 written) w same);

@@ -1,6 +1,7 @@
 -- What holds of each element of a list, and what is an element.
-use Rattle.std.proofs.Common.{◌≡◌, ◌⊎◌, inl, inr, ⊎_elim, ℕ, zero, suc, ◌<◌, List, [], ◌∷◌, ◌++◌, length, map, slice_index_or, slice_get, refl, ap, subst, arith, Some, None, Contains}
-use Rattle.std.specs.List.{AllByRecursion}
+use Rattle.std.proofs.Common.{◌≡◌, ◌⊎◌, inl, inr, ⊎_elim, ℕ, zero, suc, ◌<◌, Bool, true, List, [], ◌∷◌, ◌++◌, length, map, slice_index_or, slice_get, refl, ap, subst, arith, Some, None, Contains}
+use Rattle.std.proofs.lemmas.Bool.{false≢true, or_cases}
+use Rattle.std.specs.List.{AllByRecursion, list_any}
 
 pub both : {A : Type 0} (P : A → Type 0) (a b : List A) → AllByRecursion P a → AllByRecursion P b → AllByRecursion P (a ++ b)
 both P [] b ha hb = hb
@@ -68,3 +69,11 @@ next_place y x rest found = (suc found.0, found.1)
 pub place_of_element : {A : Type 0} (list : List A) (x : A) → Contains list x → (k : ℕ) × (slice_get list k ≡ Some x)
 place_of_element [] x has = absurd (none_there x has)
 place_of_element (y ∷ rest) x has = ⊎_elim (λ is. (zero, ap Some is)) (λ later. next_place y x rest (place_of_element rest x later)) (head_or_tail y x rest has)
+
+-- ---- tests
+next_passes : {A : Type 0} (p : A → Bool) (y : A) (rest : List A) → (x : A) × Contains rest x × (p x ≡ true) → (x : A) × Contains (y ∷ rest) x × (p x ≡ true)
+next_passes p y rest found = (found.0, tail_there y found.0 rest found.1, found.2)
+
+pub passes_there : {A : Type 0} (p : A → Bool) (list : List A) → list_any p list ≡ true → (x : A) × Contains list x × (p x ≡ true)
+passes_there p [] h = absurd (false≢true h)
+passes_there p (y ∷ rest) h = ⊎_elim (λ is. (y, head_there y rest, is)) (λ later. next_passes p y rest (passes_there p rest later)) (or_cases (p y) (list_any p rest) h)

@@ -1,20 +1,23 @@
 -- Functions with which a thread begins, main among them; and a whole program.
-use Rattle.std.proofs.Common.{◌≡◌, ◌⊎◌, ⊎_elim, ℕ, suc, ◌+◌, ◌^◌, ◌<◌, ◌≤◌, Bool, true, false, cond, List, [], ◌∷◌, length, nat_lt, slice_get, refl, ap, sym, ◌∙◌, subst, arith, ltb-false, Option, Some, None, codes, ◌||◌}
+use Rattle.std.proofs.Common.{◌≡◌, ◌⊎◌, ⊎_elim, ℕ, suc, ◌+◌, ◌^◌, ◌<◌, ◌≤◌, Bool, true, false, cond, List, [], ◌∷◌, length, nat_lt, slice_get, refl, ap, sym, ◌∙◌, subst, arith, eqb-true, Option, Some, None, codes, ◌||◌}
+use Rattle.std.specs.Prelude.{IsSomeAnd}
+use Rattle.std.specs.List.{list_any}
 use Rattle.std.proofs.lemmas.Bool.{false≢true, or_cases}
 use Rattle.std.proofs.lemmas.Slice.Eq.{bytes_eq-Decides}
 use Rattle.sharc_tree.specs.declared.tree.declaration.Declaration.{Declaration}
+use Rattle.sharc_tree.specs.Measures.{in_function}
 use Rattle.sharc_tree.specs.Tree.{Function}
+use Rattle.sharc_names.specs.declared.fault.Named.{Named}
+use Rattle.sharc_names.specs.declared.fault.Named.TheVariants as named
 use Rattle.sharc_names.specs.Kinds.{Kind, int, void, declared_kind}
 use Rattle.sharc_code.specs.declared.code.GlobalCells.{GlobalCells}
 use Rattle.sharc_code.specs.declared.code.Code.{Code}
-use Rattle.sharc_ctype.specs.Reaches.{Spawns}
-use Rattle.sharc_ctype.specs.Resolved.{functions_in, function_at}
+use Rattle.sharc_ctype.specs.Reaches.{spawns, of_all, Names, Spawns}
+use Rattle.sharc_ctype.specs.Resolved.{Resolution, functions_in, function_at, named_at}
 use Rattle.sharc_ctype_laws.specs.Laws.{SpawnsThreads, HasMain, OneFunctionOfName, WithinLimits}
 use Rattle.sharc_ctype_laws.specs.Limits.{IsMain}
 use Rattle.sharc_meaning.specs.State.{is_reference}
 use Rattle.sharc_mode.specs.Moded.{Assignment}
-use Rattle.sharc_mode.specs.WellModed.{is_spawned}
-use Rattle.sharc_mode_laws.specs.Laws.{SpawnedAreTold}
 use Rattle.sharc_flat.specs.Correct.{MayStart}
 use Rattle.sharc_flat.specs.Flattens.{IsMainOf}
 use Rattle.sharc_flat.specs.Flattened.{parameters_scope}
@@ -35,11 +38,13 @@ use Rattle.sharc_static_laws.specs.Static.{pointers, variable_entry}
 use Rattle.sharc_target_laws.specs.Laws.{VariablesFound}
 use Rattle.sharc_flat_laws.specs.Stands.{TypedSuits}
 use Rattle.sharc_typable_laws.specs.Typing.{typing}
-use Rattle.sharc_accepted_laws.specs.Setting.{signature_by, function_signature, is_main, is_start, setting_of, IsSet}
-use Rattle.sharc_accepted_laws.specs.Statements.{AreExpressionsTypable}
+use Rattle.sharc_accepted_laws.specs.Setting.{signature_by, function_signature, is_numbered, is_spawned, is_main, is_start, setting_of, IsSet}
+use Rattle.sharc_accepted_laws.specs.Expressions.{ExpressionsAreTypable}
+use Rattle.sharc_accepted_laws.specs.Programs.{ProgramsAreTypable}
 use Rattle.sharc_accepted_laws.proofs.Assigned.{Laws}
 use Rattle.sharc_accepted_laws.proofs.Functions.{TypeLaws, function_typable}
-use Rattle.sharc_accepted_laws.proofs.Members.{got_low, place_there, same_some, none_some}
+use Rattle.sharc_accepted_laws.proofs.Linked.{linked}
+use Rattle.sharc_accepted_laws.proofs.Members.{got_low, place_there, place_of_element, passes_there, same_some}
 use Rattle.sharc_accepted_laws.proofs.Slots.{pointer_count}
 
 or_right : (a b : Bool) → b ≡ true → (a || b) ≡ true
@@ -54,10 +59,25 @@ low_typing c p held = by (slice_get (pointers c.scope) p) refl held
     by None is h = absurd (false≢true h)
     by (Some x) is h = let low = got_low (pointers c.scope) p x is in let n = pointer_count c.scope in omega (arith, low, n)
 
+-- ---- what is spawned
+names_it : (n : ℕ) (w : Named) → is_numbered n w ≡ true → w ≡ named.Function n
+names_it n (named.Struct k) h = absurd (false≢true h)
+names_it n (named.Global k) h = absurd (false≢true h)
+names_it n (named.Function k) h = ap named.Function (eqb-true k n h)
+names_it n (named.Variable k) h = absurd (false≢true h)
+names_it n (named.Field k) h = absurd (false≢true h)
+names_it n named.Known h = absurd (false≢true h)
+
+spawned_by : (r : Resolution) (n : ℕ) → is_spawned r n ≡ true → (k : ℕ) × Spawns r k n
+spawned_by r n h =
+    let f = passes_there (λ f. list_any (λ token. is_numbered n (named_at r token)) (of_all spawns (in_function f))) (functions_in r.program.items) h in
+    let t = passes_there (λ token. is_numbered n (named_at r token)) (of_all spawns (in_function f.0)) f.2 in
+    let k = place_of_element (functions_in r.program.items) f.0 f.1 in
+    (k.0, subst (λ o. IsSomeAnd o (λ g. Names r (named.Function n) (of_all spawns (in_function g)))) (sym k.1) (t.0, t.1, names_it n (named_at r t.0) t.2))
+
 -- the laws of threads that are used
 pub record ThreadLaws : Type 0 where
   pub threads : SpawnsThreads
-  pub told : SpawnedAreTold
   pub begin : SpawnedBegin
   pub main : HasMain
   pub one : OneFunctionOfName
@@ -78,7 +98,7 @@ module _ (starts : ThreadLaws) (stand : FunctionsStand) (m : Assignment) (global
 
   spawned_start : (n : ℕ) → is_spawned m.typed n ≡ true → StartTypable (setting_of m globals code alone lines) m n
   spawned_start n h =
-      let s = (starts.told m.typed n).0 h in
+      let s = spawned_by m.typed n h in
       let t = starts.threads m.typed set.accepted.resolved set.accepted.placed set.accepted.low s.0 n s.1 in
       let at = t.1.callable.at in
       let begins = starts.begin m set.accepted globals s.0 n t.0 s.1 at (stand m set.accepted globals t.0 (place_there (functions_in m.typed.program.items) n t.0 at)).parameters in
@@ -135,13 +155,13 @@ module _ (starts : ThreadLaws) (stand : FunctionsStand) (m : Assignment) (global
       (record { bases = λ i b h. absurd h; names = λ i name h. absurd h; result = λ q h. absurd h; result_base = λ b h. absurd h; result_name = λ name h. absurd h })
 
 -- ---- a whole program
-module _ (laws : Laws) (types : TypeLaws) (results : ResultLaws) (variables : VariablesFound) (suits : TypedSuits) (stand : FunctionsStand) (starts : ThreadLaws) (m : Assignment) (code : Code) (alone : ℕ → Bool) (lines : ℕ)
-    (set : IsSet m (globals_of m.typed) code alone) (typable : (n : ℕ) (g : Function) → function_at m.typed n ≡ Some g → AreExpressionsTypable (setting_of m (globals_of m.typed) code alone lines) alone n g) where
-  pub program_typable : TypableProgram (setting_of m (globals_of m.typed) code alone lines) typing m
-  program_typable = record {
-    low = low_typing;
-    functions = λ n g at. function_typable laws types results variables suits stand m (globals_of m.typed) (setting_of m (globals_of m.typed) code alone lines) alone set refl n g at (typable n g at);
-    others = no_function starts stand m (globals_of m.typed) code alone lines set;
-    starts = start_is starts stand m (globals_of m.typed) code alone lines set;
-    main = main_is starts stand m (globals_of m.typed) code alone lines set;
-  }
+pub programs_typable : ExpressionsAreTypable → Laws → TypeLaws → ResultLaws → VariablesFound → TypedSuits → FunctionsStand → ThreadLaws → ProgramsAreTypable
+programs_typable expressions laws types results variables suits stand starts m code alone lines set cells =
+    let z : Setting = setting_of m (globals_of m.typed) code alone lines in
+    record {
+      low = low_typing;
+      functions = λ n g at. function_typable laws types results variables suits stand m (globals_of m.typed) z alone set refl n g at (linked expressions z alone n g (cells n g) laws);
+      others = no_function starts stand m (globals_of m.typed) code alone lines set;
+      starts = start_is starts stand m (globals_of m.typed) code alone lines set;
+      main = main_is starts stand m (globals_of m.typed) code alone lines set;
+    }

@@ -31,7 +31,7 @@ use Rattle.sharc_target_laws.specs.Laws.{VariablesFound}
 use Rattle.sharc_typable_laws.specs.Typing.{typing}
 use Rattle.sharc_accepted_laws.specs.Setting.{function_signature, signature_by}
 use Rattle.sharc_accepted_laws.specs.Statements.{IsPlaceIn, IsThere, AreExpressionsTypable}
-use Rattle.sharc_accepted_laws.proofs.Assigned.{Laws, is_function, at_of, SimpleGiven, simple_is}
+use Rattle.sharc_accepted_laws.proofs.Assigned.{Laws, function_there, at_there, SimpleGiven, simple_is}
 use Rattle.sharc_accepted_laws.proofs.Begun.{here_with, local_is}
 use Rattle.sharc_accepted_laws.proofs.Fresh.{LocalFresh, FirstFresh, StatementFresh, StatementsFresh}
 use Rattle.sharc_accepted_laws.proofs.Members.{front, back}
@@ -123,7 +123,7 @@ module _ (laws : Laws) (results : ResultLaws) (variables : VariablesFound) (z : 
           let same_y : y ≡ y2 = cc in
           subst (λ v. IsAssigned c.program v y2 × Agrees c.program.typed (kind_of c v) y2) same_u
           (subst (λ v. IsAssigned c.program u v × Agrees c.program.typed (kind_of c u) v) same_y
-          (record { owner = g; stands = is_function laws z alone n g typable c h; does = acts.0.among }, acts.0.fair))
+          (record { owner = g; stands = function_there z alone n g c h; does = acts.0.among }, acts.0.fair))
   simple_given c (does_call e) inside stands acts h = record { inside = inside; stands = stands; does = λ u2 y2 s2 is. absurd (let k : does_call e ≡ assign s2 u2 y2 = is in cc) }
 
   simple_typable : (c : Context) → Here c → (x : Simple) → Inside g c.program (in_simple x) → ExpressionsStand c (in_simple x) → AllByRecursion (Does g c.program) (simple_transfers c.program.typed x) → MeetsSimple c.program.typed x → LowSimple x → SimpleSuits c x → SimpleTypable z n typing c x
@@ -133,7 +133,7 @@ module _ (laws : Laws) (results : ResultLaws) (variables : VariablesFound) (z : 
   test_typable : (c : Context) → Here c → (e : Expression) → Inside g c.program (expressions e) → ExpressionsStand c (expressions e) → TestSuits c e → TestTypable z n typing c (Some e)
   test_typable c h e inside stands suits =
       let there : IsThere g c e = record { inside = inside; stands = stands } in
-      (typable.value true c h e there suits.0 (λ l. suits.1), laws.values.values z n c h.set.accepted e (at_of laws z alone n g typable c h e there) suits.1)
+      (typable.value true c h e there suits.0 (λ l. suits.1), laws.values.values z n c h.set.accepted e (at_there z alone n g c h e there) suits.1)
 
   test_option : (c : Context) → Here c → (e : Option Expression) → Inside g c.program (in_option expressions e) → ExpressionsStand c (in_option expressions e) → IfThere (TestSuits c) e → TestTypable z n typing c e
   test_option c h None inside stands suits = tt
@@ -151,7 +151,7 @@ module _ (laws : Laws) (results : ResultLaws) (variables : VariablesFound) (z : 
   pub result_is : (c : Context) → Here c → is_reference kind ≡ true → (z.signature n).result ≡ Refers (result_type c g)
   result_is c h ref =
       ap (λ (x : Signature). x.result) (signature_is c h) ∙ ap (λ b. cond b (Refers (result_type (at_entry c.program c.globals g) g)) Empty) ref
-      ∙ ap Refers (results.stay c h.set.accepted g (is_function laws z alone n g typable c h) (parameters_scope g.parameters) c.scope)
+      ∙ ap Refers (results.stay c h.set.accepted g (function_there z alone n g c h) (parameters_scope g.parameters) c.scope)
 
   return_typable : (c : Context) → Here c → (e : Option Expression) → Inside g c.program (in_option expressions e) → ExpressionsStand c (in_option expressions e)
       → AllByRecursion (Does g c.program) (option_transfers (λ x. gives (result g.result) (value x) ++ transfers c.program.typed x) e) → IfThere (λ x. Suits c x × Goes kind (kind_of c x)) e → ReturnTypable z n typing c kind e
@@ -160,7 +160,7 @@ module _ (laws : Laws) (results : ResultLaws) (variables : VariablesFound) (z : 
       (typable.value true c h e (record { inside = inside; stands = stands }) suits.0 (λ l no. suits.1.1 (sym suits.1.0 ∙ no)), by (is_reference kind) refl)
     where
       by : (b : Bool) → is_reference kind ≡ b → ReturnedBy z n typing c kind e b
-      by true is = (suits.1.0 ∙ is, (result_type c g, laws.given.returned c h.set.accepted g e (is_function laws z alone n g typable c h) acts.0.among (sym (declared_pointer g.result) ∙ is), result_is c h is))
+      by true is = (suits.1.0 ∙ is, (result_type c g, laws.given.returned c h.set.accepted g e (function_there z alone n g c h) acts.0.among (sym (declared_pointer g.result) ∙ is), result_is c h is))
       by false is = let number : is_integer (kind_of c e) ≡ true = suits.1.1 is in ((integer_is (kind_of c e) number, number), integer_want kind (kind_of c e) acts.0.fair number)
 
   -- ---- locals

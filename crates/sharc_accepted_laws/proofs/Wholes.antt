@@ -76,7 +76,7 @@ common_plain _ _ _ (both_shorter a b) = refl
 common_plain _ _ _ left_long = refl
 common_plain _ _ _ right_long = refl
 
-some_star : (n : ℕ) → (n + 1 == 0) ≡ false
+pub some_star : (n : ℕ) → (n + 1 == 0) ≡ false
 some_star n = by (n + 1 == 0) refl
   where
     by : (z : Bool) → (n + 1 == 0) ≡ z → z ≡ false

@@ -1,4 +1,5 @@
-pub mod Programs
+pub mod Accepted
 pub mod Expressions
+pub mod Programs
 pub mod Setting
 pub mod Statements

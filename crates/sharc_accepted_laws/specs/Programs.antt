@@ -7,7 +7,8 @@ use Rattle.sharc_tree.specs.declared.tree.item.GlobalDefinition.{GlobalDefinitio
 use Rattle.sharc_tree.specs.declared.tree.item.GlobalForm.TheVariants.{Initial}
 use Rattle.sharc_tree.specs.Tree.{Function}
 use Rattle.sharc_code.specs.declared.code.Code.{Code}
-use Rattle.sharc_ctype.specs.Resolved.{Resolution, global_at, function_at}
+use Rattle.sharc_ctype.specs.Resolved.{Resolution, global_at}
+use Rattle.sharc_flat.specs.Scope.{Context}
 use Rattle.sharc_mode.specs.Moded.{Assignment}
 use Rattle.sharc_flat_form.specs.declared.flat.Flat.{Flat as FlatCode}
 use Rattle.sharc_flat_form.specs.Made.{flat_of}
@@ -18,16 +19,17 @@ use Rattle.sharc_statement_laws.specs.Programs.{IsSettingOf, TypableProgram}
 use Rattle.sharc_static_laws.specs.Laws.{IsAccepted}
 use Rattle.sharc_typable_laws.specs.Typing.{typing}
 use Rattle.sharc_accepted_laws.specs.Setting.{ConstantsHold, IsSet, setting_of}
-use Rattle.sharc_accepted_laws.specs.Statements.{AreExpressionsTypable}
+use Rattle.sharc_accepted_laws.specs.Statements.{IsPlaceIn}
+use Rattle.sharc_accepted_laws.specs.Expressions.{CellsTyped}
 
 -- ---- functions
--- in this setting the expressions of each function are typable
-abbrev pub AllExpressionsTypable : Assignment → Code → (ℕ → Bool) → ℕ → Type 0
-AllExpressionsTypable m code alone lines = (n : ℕ) (g : Function) → function_at m.typed n ≡ Some g → AreExpressionsTypable (setting_of m (globals_of m.typed) code alone lines) alone n g
+-- in this setting the cells of each function are accessed as their types say, wherever its variables stand
+abbrev pub AllCellsTyped : Assignment → Code → (ℕ → Bool) → ℕ → Type 0
+AllCellsTyped m code alone lines = (n : ℕ) (g : Function) (c : Context) → IsPlaceIn (setting_of m (globals_of m.typed) code alone lines) alone n g c → CellsTyped (setting_of m (globals_of m.typed) code alone lines) c n g
 
 -- so its functions are typable, a thread may begin with those that are spawned and with main, and types name variables that stand
 abbrev pub ProgramsAreTypable : Type 0
-ProgramsAreTypable = (m : Assignment) (code : Code) (alone : ℕ → Bool) (lines : ℕ) → IsSet m (globals_of m.typed) code alone → AllExpressionsTypable m code alone lines
+ProgramsAreTypable = (m : Assignment) (code : Code) (alone : ℕ → Bool) (lines : ℕ) → IsSet m (globals_of m.typed) code alone → AllCellsTyped m code alone lines
     → TypableProgram (setting_of m (globals_of m.typed) code alone lines) typing m
 
 -- ---- code
