@@ -214,7 +214,7 @@ module _ (laws : Laws) (z : Setting) (alone : ℕ → Bool) (n : ℕ) (g : Funct
   right_is bare kind s mode (malloc span count w) given suits = (suits.0, given.type, given.makes w given.agrees, count_is count given.inside given.stands suits.2)
 
   -- ---- what is assigned to
-  module _ (facts : Facts c.program.typed g) (u : Expression) (x : Right) (there : IsThere g c u) (does : IsAssigned c.program u x) (lvalue : is_lvalue u ≡ true) (holds : IsHeld (kind_of c u)) where
+  module _ (facts : Facts c.program.typed g) (u : Expression) (x : Right) (there : IsThere g c u) (placed : PlaceSuits c u) (does : IsAssigned c.program u x) (lvalue : is_lvalue u ≡ true) (holds : IsHeld (kind_of c u)) where
     abbrev s : StaticType
     s = type_by (entry_of c u)
 
@@ -245,7 +245,7 @@ module _ (laws : Laws) (z : Setting) (alone : ℕ → Bool) (n : ℕ) (g : Funct
             (is, f.low, ap (width_named c) f.token ∙ ap width_of (sym kind))
 
     cell_is : (t : Target) → target_of c u ≡ t → is_cell t ≡ true → CellAssigned z n typing c u (type_by (entry_of c u)) t (is_ref c u)
-    cell_is t to cell = subst (λ t. CellAssigned z n typing c u (type_by (entry_of c u)) t (is_ref c u)) to (typable.written c here u x there does holds (ap is_cell to ∙ cell))
+    cell_is t to cell = subst (λ t. CellAssigned z n typing c u (type_by (entry_of c u)) t (is_ref c u)) to (typable.written c here u x there placed does holds (ap is_cell to ∙ cell))
 
     pub assigned_is : (t : Target) → target_of c u ≡ t → LeftSuits c (kind_of c u) (cell_at c.program u) t → Assigned z n typing c u (type_by (entry_of c u)) t
     assigned_is (variable y) to left = variable_is y to left
@@ -283,15 +283,15 @@ module _ (laws : Laws) (z : Setting) (alone : ℕ → Bool) (n : ℕ) (g : Funct
         (
           type_by (entry_of c u),
           type,
-          assigned_is facts u x there does.0 meets.0 meets.1 (target_of c u) refl suits.1,
+          assigned_is facts u x there suits.0 does.0 meets.0 meets.1 (target_of c u) refl suits.1,
           right_is (is_bare z n typing (target_of c u)) (kind_of c u) (type_by (entry_of c u)) (pointed c.program (row_at c.program.typed u)) x
           (record {
             inside = back (Contains (in_function g)) (expressions u) (in_right x) given.inside;
             stands = back (ExpressionStands c) (expressions u) (in_right x) given.stands;
             agrees = does.1;
             type = type;
-            goes = goes_is facts u x there does.0 meets.0 meets.1;
-            makes = makes_is facts u x there does.0 meets.0 meets.1;
+            goes = goes_is facts u x there suits.0 does.0 meets.0 meets.1;
+            makes = makes_is facts u x there suits.0 does.0 meets.0 meets.1;
           })
           suits.2,
         ),

@@ -8,10 +8,12 @@ pub mod Fields
 pub mod Forms
 pub mod Fresh
 pub mod Functions
+pub mod Joined
 pub mod Linked
 pub mod Lists
 pub mod Locals
 pub mod Members
+pub mod Named
 pub mod Plain
 pub mod Registers
 pub mod Slots

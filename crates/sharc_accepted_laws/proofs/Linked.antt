@@ -16,7 +16,7 @@ use Rattle.sharc_mode.specs.Sharings.{Sharing}
 use Rattle.sharc_mode_laws.specs.Constructs.{IsAssigned}
 use Rattle.sharc_flat.specs.Flattened.{kind_of, is_ref, target_of, guard_of}
 use Rattle.sharc_flat.specs.Scope.{Context}
-use Rattle.sharc_flat.specs.Suits.{is_cell}
+use Rattle.sharc_flat.specs.Suits.{PlaceSuits, is_cell}
 use Rattle.sharc_labels_laws.specs.Stretches.{Setting}
 use Rattle.sharc_labels_laws.specs.Stated.{CellAssigned}
 use Rattle.sharc_labels_laws.specs.Typable.{type_by, IsTypable, IsPlaceTypable}
@@ -72,9 +72,9 @@ module _ (expressions : ExpressionsAreTypable) (z : Setting) (alone : ℕ → Bo
       no_entry (type_by (entry_of c u)) (sym (ap (entry_by c (kind_of c u)) is) ∙ p.1)
 
   -- a cell that is assigned
-  written_is : (laws : Laws) (c : Context) (h : IsPlaceIn z alone n g c) (u : Expression) (x : Right) → IsThere g c u → IsAssigned c.program u x → IsHeld (kind_of c u) → is_cell (target_of c u) ≡ true
+  written_is : (laws : Laws) (c : Context) (h : IsPlaceIn z alone n g c) (u : Expression) (x : Right) → IsThere g c u → PlaceSuits c u → IsAssigned c.program u x → IsHeld (kind_of c u) → is_cell (target_of c u) ≡ true
       → CellAssigned z n typing c u (type_by (entry_of c u)) (target_of c u) (is_ref c u)
-  written_is laws c h u x t assigned holds cell = by (is_ref c u) refl
+  written_is laws c h u x t suits assigned holds cell = by (is_ref c u) refl
     where
       typed : CellTyped z typing c n u true
       typed = ((cells c h).lvalues u (is_of c h u t) cell).assigned x assigned
@@ -92,5 +92,5 @@ module _ (expressions : ExpressionsAreTypable) (z : Setting) (alone : ℕ → Bo
     value = λ bare c h e t suits is_value. subst (λ x. IsTypable x n typing bare c e) (sym h.setting) ((at c h).values e (is_of c h e t) suits is_value bare);
     place = λ bare c h u t suits lvalue holds. subst (λ x. IsPlaceTypable x n typing bare c None (guard_of c u) u) (sym h.setting)
         (((at c h).places u (is_of c h u t) suits (held_plain (kind_of c u) holds).0 (held_no_array (kind_of c u) holds) bare).place (held_plain (kind_of c u) holds).1);
-    written = λ c h u x t assigned holds cell. written_is laws c h u x t assigned holds cell;
+    written = λ c h u x t suits assigned holds cell. written_is laws c h u x t suits assigned holds cell;
   }
