@@ -1,4 +1,5 @@
 pub mod Arguments
+pub mod Bases
 pub mod Calls
 pub mod Conditions
 pub mod Facts
