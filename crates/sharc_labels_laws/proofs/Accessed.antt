@@ -18,7 +18,7 @@ use Rattle.sharc_flat.specs.Scope.{Context, int_count, ref_count}
 use Rattle.sharc_flat.specs.Places.{Target, variable, in_global, in_global_at, in_object, in_object_at, has_base, base_width, guard_width, index_width, cell_of, guard_cell, guard_field, guard_code, cell_value_code, cell_store_code, cell_take_code}
 use Rattle.sharc_flat.specs.Suits.{is_cell}
 use Rattle.sharc_invariant.specs.Types.{StaticType}
-use Rattle.sharc_invariant.specs.Labels.{Entry, Empty, Refers, Element, Number, Within, OfElement, Gate, Closed, Loaded, Label, LessNumber, IsScoped, set_number, fill}
+use Rattle.sharc_invariant.specs.Labels.{Entry, Empty, Refers, Element, Number, Within, OfElement, Gate, Closed, Loaded, Label, LessNumber, HasBase, IsScoped, set_number, fill}
 use Rattle.sharc_invariant.specs.Typed.{ints_in, refs_in}
 use Rattle.sharc_invariant.proofs.Scoped.{less_refl, less_number_refl}
 use Rattle.sharc_labels_laws.specs.Stretches.{Mark, Setting, IsAtHand}
@@ -161,6 +161,9 @@ module _ (around : Setting) (f : ℕ) (D : (ℕ → Mark) → Type 0) (y : Typin
     pub high : top ≤ r
     pub wide : int_count c.scope ≤ i
     pub early : from ≤ i
+    -- what is known to be no NULL, and what is indexed, is no variable
+    pub seen : (q : ℕ) → l.known q ≡ true → top ≤ q
+    pub elements : (j q : ℕ) → HasBase (l.ints j) q → top ≤ q
 
   pub holds_over : (l k : Label) → ((q : ℕ) → q < top → k.env q ≡ l.env q) → ((q : ℕ) → q < top → k.same q ≡ l.same q) → ((j : ℕ) → j < int_count c.scope → k.ints j ≡ l.ints j) → HoldsVariables y c l → HoldsVariables y c k
   holds_over l k env same ints h = record { references = λ q lt. env q lt ∙ h.references q lt; copies = λ q lt. same q lt ∙ h.copies q lt; integers = λ j lt. ints j lt ∙ h.integers j lt }

@@ -34,8 +34,8 @@ use Rattle.sharc_labels_laws.proofs.Standing.{less_by, scoped_frame, stands_numb
 use Rattle.sharc_labels_laws.proofs.Parts.{At, then_do, post, none, constant_at}
 use Rattle.sharc_labels_laws.proofs.Accessed.{Frame}
 use Rattle.sharc_labels_laws.proofs.Variables.{assign_free_at}
-use Rattle.sharc_labels_laws.proofs.Expressing.{in_frame, null_at, bare_number}
-use Rattle.sharc_labels_laws.proofs.Simple.{Comes, rights, settled}
+use Rattle.sharc_labels_laws.proofs.Expressing.{bare_frame, in_frame, null_at, bare_number}
+use Rattle.sharc_labels_laws.proofs.Simple.{reference_kept, Comes, rights, settled}
 
 pub zero_fits : (w : Width) → holds w (pos 0) ≡ true
 zero_fits Char = refl
@@ -62,7 +62,7 @@ module _ (z : Setting) (f : ℕ) (ways : List Way) (y : Typing) (c : Context) (l
   at = record { stands = here.stands.stands; owned = here.stands.owned }
 
   frame : Frame z f (AreOpen z ways) y c low i i r l
-  frame = record { at = at; holds = here.stands.holds; high = here.stands.high; wide = here.stands.wide; early = here.stands.early }
+  frame = bare_frame z f ways y c low i i r l here.stands here.bare
 
   -- the same registers, under the names of a scope with one more
   renamed : (d : Context) → ((q : ℕ) → q < ref_count c.scope → y.named d q ≡ y.named c q) → (ints refs : ℕ) (k : Label) → Stands (y.named c) ints refs k → Stands (y.named d) ints refs k
@@ -200,7 +200,7 @@ begun : (z : Setting) (f : ℕ) (ways : List Way) (y : Typing) (c d : Context) (
     → IsUnnamed c k (is_reference kind) → (x : Register) → IsNext c (is_reference kind) x → (xs : List Op) → Comes z f ways y d low (int_count d.scope) (int_count d.scope) (ref_count d.scope) k kind s xs (is_reference kind)
     → LeadsAmong z f ways (before d k) (xs ++ settle_code (int_count d.scope) (ref_count d.scope) x) (before d k)
 begun z f ways y c d low k here kind s w width begins type again unnamed (registers.Int j) next xs v =
-    let frame : Frame z f (AreOpen z ways) y d low (int_count d.scope) (int_count d.scope) (ref_count d.scope) k = record { at = record { stands = here.stands.stands; owned = here.stands.owned }; holds = here.stands.holds; high = here.stands.high; wide = here.stands.wide; early = here.stands.early } in
+    let frame : Frame z f (AreOpen z ways) y d low (int_count d.scope) (int_count d.scope) (ref_count d.scope) k = bare_frame z f ways y d low (int_count d.scope) (int_count d.scope) (ref_count d.scope) k here.stands here.bare in
     let b : BeginsInteger y c d w = subst (Begins y c d s w) next.0 begins in
     let many = b.ints in
     let at = next.1 in
@@ -208,15 +208,15 @@ begun z f ways y c d low k here kind s w width begins type again unnamed (regist
 begun z f ways y c d low k here kind s w width begins type again unnamed (registers.Reference q) next xs v =
     let i = int_count d.scope in
     let r = ref_count d.scope in
-    let frame : Frame z f (AreOpen z ways) y d low i i r k = record { at = record { stands = here.stands.stands; owned = here.stands.owned }; holds = here.stands.holds; high = here.stands.high; wide = here.stands.wide; early = here.stands.early } in
+    let frame : Frame z f (AreOpen z ways) y d low i i r k = bare_frame z f ways y d low (int_count d.scope) (int_count d.scope) (ref_count d.scope) k here.stands here.bare in
     let b : BeginsReference y c d s = subst (Begins y c d s w) next.0 begins in
     let u = subst (Comes z f ways y d low i i r k kind s xs) next.0 v in
     let a = here.bare refl in
     let many = b.refs in
     let at = next.1 in
     let lt : q < r = omega (arith, many, at) in
-    then_do z f (AreOpen z ways) (y.named d) r low i (before d k) (mark (fill k r (Refers s) u.0 false) i i) (before d k) xs (op.Settle q r ∷ []) u.2
-    (assign_free_at z f (AreOpen z ways) (y.named d) r low i i r k frame.at frame.high s u.0 false q i (in_frame z f ways y d low i i r k frame s again) lt (frame.holds.references q lt ∙ ap Refers (ap (y.pointer d) at ∙ b.pointer))
+    then_do z f (AreOpen z ways) (y.named d) r low i (before d k) (mark (fill k r (Refers s) u.copy false) i i) (before d k) xs (op.Settle q r ∷ []) (reference_kept z f ways y d low i i r k here.bare s xs u)
+    (assign_free_at z f (AreOpen z ways) (y.named d) r low i i r k frame.at frame.high s u.copy false q i (in_frame z f ways y d low i i r k frame s again) lt (frame.holds.references q lt ∙ ap Refers (ap (y.pointer d) at ∙ b.pointer))
     (λ m. let old = (type q m).0 in omega (arith, old, at)) (λ p m. unnamed next.0 p (subst (EntryMentions (k.env p)) at m)) (a.0 q) (λ p e. sym (a.0 p) ∙ e) (a.1 q) (λ j b. a.2 j q b))
 
 initials : (z : Setting) (f : ℕ) (ways : List Way) (y : Typing) (c : Context) (declared : Declaration) → slot_kind c.scope declared.name.site.token ≡ None → (low : AreLow (y.named (with_variable c declared)) (ref_count (with_variable c declared).scope)) (k : Label)
@@ -231,9 +231,9 @@ initials z f ways y c declared fresh low k here s begins type again unnamed (Som
     let kind = declared_kind declared.written in
     let i = int_count d.scope in
     let r = ref_count d.scope in
-    let frame : Frame z f (AreOpen z ways) y d low i i r k = record { at = record { stands = here.stands.stands; owned = here.stands.owned }; holds = here.stands.holds; high = here.stands.high; wide = here.stands.wide; early = here.stands.early } in
+    let frame : Frame z f (AreOpen z ways) y d low i i r k = bare_frame z f ways y d low (int_count d.scope) (int_count d.scope) (ref_count d.scope) k here.stands here.bare in
     by (λ mode. begun z f ways y c d low k here kind s (width_of kind) refl begins type again unnamed (register_of d.scope declared.name.site.token) (is_next c declared fresh) (right_code d i r kind mode x)
-    (rights z f ways y d low true i i r k frame here.bare kind mode s x h))
+    (rights z f ways y d low true i i r k frame kind mode s x h))
   where
     by : ((mode : Sharing) → LeadsAmong z f ways (before (with_variable c declared) k) (right_code (with_variable c declared) (int_count (with_variable c declared).scope) (ref_count (with_variable c declared).scope) (declared_kind declared.written) mode x
         ++ settle_code (int_count (with_variable c declared).scope) (ref_count (with_variable c declared).scope) (register_of (with_variable c declared).scope declared.name.site.token)) (before (with_variable c declared) k))

@@ -1,5 +1,6 @@
 pub mod Fitting
 pub mod Standing
+pub mod Losing
 pub mod Telling
 pub mod Rules
 pub mod Flow

@@ -398,30 +398,34 @@ module _ (around : Setting) (f : ℕ) (D : (ℕ → Mark) → Type 0) (named : �
   twice_at i r l at = then_do (mark l from i) (with_number l i (Within Char)) (with_number l i (Within Char)) (op.IsFalse i i ∷ []) (op.IsFalse i i ∷ [])
       (from_free i r l at (op.IsFalse i i) (Within Char) (false_at i r l at i)) (from_written i r l at (op.IsFalse i i) (Within Char) (Within Char) (false_at i r l at i))
 
-  -- over a piece, or into it
-  skips : (i r : ℕ) (l : Label) → At i r l → (e : Mark) (xs ys : List Op) → P (mark l from i) xs (mark l from i) → P (mark l from i) ys e → P (mark l from i) (op.SkipIfZero i (length xs) ∷ (xs ++ ys)) e
-  skips i r l at e xs ys p q = λ w h.
+  -- over a piece, or into it, after which less may be known
+  skips : (i r : ℕ) (l k : Label) → At i r l → Less l k → (e : Mark) (xs ys : List Op) → P (mark l from i) xs (mark k from i) → P (mark k from i) ys e → P (mark l from i) (op.SkipIfZero i (length xs) ∷ (xs ++ ys)) e
+  skips i r l k at less e xs ys p q = λ w h.
       let s = mark l from i in
       let a = p (within_left fi fr xs ys w.1) h in
-      let b = q (within_right fi fr xs ys w.1) h in
-      record { stretch = λ pc. flow.over around f D s s e pc i xs ys (plain_at i r l i at h) (fits_same around.targets s) (a.stretch (pc + 1)) (b.stretch (pc + 1 + length xs)); scoped = b.scoped }
+      let b = q (within_right fi fr xs ys w.1) a.scoped in
+      record { stretch = λ pc. flow.over around f D s (mark k from i) e pc i xs ys (plain_at i r l i at h) less (a.stretch (pc + 1)) (b.stretch (pc + 1 + length xs)); scoped = b.scoped }
 
-  pub logical_at : (i r : ℕ) (l : Label) → At i r l → (xs ys : List Op) → P (mark l from i) xs (mark l from i) → P (mark l from i) ys (mark l from i) → P (mark l from i) (logical_code i xs ys) (with_number l i (Within Char))
-  logical_at i r l at xs ys p q = then_do (mark l from i) (mark l from i) (with_number l i (Within Char)) xs _ p (skips i r l at (with_number l i (Within Char)) ys (op.IsFalse i i ∷ op.IsFalse i i ∷ []) q (twice_at i r l at))
+  -- the second operand, after the first one
+  module _ (i r : ℕ) (k m : Label) (at : At i r k) (at2 : At i r m) (less : Less k m) (s : Mark) (xs ys : List Op) (p : P s xs (mark k from i)) (q : P (mark k from i) ys (mark m from i)) where
+    pub logical_at : P s (logical_code i xs ys) (with_number m i (Within Char))
+    logical_at = then_do s (mark k from i) (with_number m i (Within Char)) xs _ p (skips i r k m at less (with_number m i (Within Char)) ys (op.IsFalse i i ∷ op.IsFalse i i ∷ []) q (twice_at i r m at2))
 
-  pub either_at : (i r : ℕ) (l : Label) → At i r l → (xs ys : List Op) → P (mark l from i) xs (mark l from i) → P (mark l from i) ys (mark l from i) → P (mark l from i) (either_code i xs ys) (with_number l i (Within Char))
-  either_at i r l at xs ys p q =
-      let s = mark l from i in
-      let e = with_number l i (Within Char) in
-      let F = op.IsFalse i i in
-      let one : P s (F ∷ []) s = number_dropped i r l at (Within Char) (F ∷ []) s (from_free i r l at F (Within Char) (false_at i r l at i)) in
-      let last : P s (F ∷ []) e = from_free i r l at F (Within Char) (false_at i r l at i) in
-      let count : length (ys ++ F ∷ []) ≡ length ys + 1 = length-append ys (F ∷ []) in
-      let same : op.SkipIfZero i (length (ys ++ F ∷ [])) ∷ ((ys ++ F ∷ []) ++ F ∷ []) ≡ op.SkipIfZero i (length ys + 1) ∷ (ys ++ (F ∷ F ∷ [])) =
-      ap (λ n. op.SkipIfZero i n ∷ ((ys ++ F ∷ []) ++ F ∷ [])) count ∙ ap (λ l. op.SkipIfZero i (length ys + 1) ∷ l) (append_assoc ys (F ∷ []) (F ∷ [])) in
-      then_do s s e xs _ p
-      (before s s F (op.SkipIfZero i (length ys + 1) ∷ (ys ++ (F ∷ F ∷ []))) e one
-      (subst (λ os. P s os e) same (skips i r l at e (ys ++ F ∷ []) (F ∷ []) (then_do s s s ys (F ∷ []) q one) last)))
+    pub either_at : P s (either_code i xs ys) (with_number m i (Within Char))
+    either_at =
+        let one = mark k from i in
+        let two = mark m from i in
+        let e = with_number m i (Within Char) in
+        let F = op.IsFalse i i in
+        let first : P one (F ∷ []) one = number_dropped i r k at (Within Char) (F ∷ []) one (from_free i r k at F (Within Char) (false_at i r k at i)) in
+        let second : P two (F ∷ []) two = number_dropped i r m at2 (Within Char) (F ∷ []) two (from_free i r m at2 F (Within Char) (false_at i r m at2 i)) in
+        let last : P two (F ∷ []) e = from_free i r m at2 F (Within Char) (false_at i r m at2 i) in
+        let count : length (ys ++ F ∷ []) ≡ length ys + 1 = length-append ys (F ∷ []) in
+        let same : op.SkipIfZero i (length (ys ++ F ∷ [])) ∷ ((ys ++ F ∷ []) ++ F ∷ []) ≡ op.SkipIfZero i (length ys + 1) ∷ (ys ++ (F ∷ F ∷ [])) =
+        ap (λ n. op.SkipIfZero i n ∷ ((ys ++ F ∷ []) ++ F ∷ [])) count ∙ ap (λ l. op.SkipIfZero i (length ys + 1) ∷ l) (append_assoc ys (F ∷ []) (F ∷ [])) in
+        then_do s one e xs _ p
+        (before one one F (op.SkipIfZero i (length ys + 1) ∷ (ys ++ (F ∷ F ∷ []))) e first
+        (subst (λ os. P one os e) same (skips i r k m at less e (ys ++ F ∷ []) (F ∷ []) (then_do one two two ys (F ∷ []) q second) last)))
 
   -- a pointer that is not NULL
   pub check_at : (i r : ℕ) (l : Label) → At i r l → (t : StaticType) (v : ℕ) (b : Bool) → IsNamed named r t → v ≤ r → (until : ℕ) (spot : Spot) → P (with_reference l r until t v b) (op.ChkNull r spot ∷ []) (with_reference l r until t v true)

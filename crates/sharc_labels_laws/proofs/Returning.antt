@@ -40,8 +40,8 @@ use Rattle.sharc_labels_laws.proofs.Handing.{on_return}
 use Rattle.sharc_labels_laws.proofs.Parts.{At, does, then_do, none, none_some, constant_at}
 use Rattle.sharc_labels_laws.proofs.Variables.{either_false}
 use Rattle.sharc_labels_laws.proofs.Accessed.{Frame}
-use Rattle.sharc_labels_laws.proofs.Expressing.{null_at}
-use Rattle.sharc_labels_laws.proofs.Simple.{Comes, rights}
+use Rattle.sharc_labels_laws.proofs.Expressing.{bare_frame, null_at}
+use Rattle.sharc_labels_laws.proofs.Simple.{Comes, reference_kept, number_kept, rights}
 use Rattle.sharc_labels_laws.proofs.Ending.{forgotten_same, forgotten_mentions, forgotten_none, forgotten_full}
 use Rattle.sharc_labels_laws.proofs.Declaring.{zero_fits}
 use Rattle.sharc_labels_laws.proofs.Leaving.{leaves_typed}
@@ -326,7 +326,7 @@ module _ (z : Setting) (f : ℕ) (ways : List Way) where
     r1 = ref_count c.scope
 
     frame : Frame z f (AreOpen z ways) y c low i1 i1 r1 l
-    frame = record { at = record { stands = here.stands.stands; owned = here.stands.owned }; holds = here.stands.holds; high = here.stands.high; wide = here.stands.wide; early = here.stands.early }
+    frame = bare_frame z f ways y c low i1 i1 r1 l here.stands here.bare
 
     abbrev rest_code : Bool → List Op
     rest_code b = leaves c.scope inside ++ result_code b i1 r1
@@ -375,7 +375,7 @@ module _ (z : Setting) (f : ℕ) (ways : List Way) where
 
     values : GivesBack z f y kind → (e : Expression) → ReturnTypable z f y c kind (Some e)
         → Returns z f ways (before c l) (expression_code c i1 r1 e ++ (width_code i1 kind (span_of e).first ++ rest_code (is_reference kind))) spot
-    values gives e h = by (is_reference kind) refl gives h.1 (λ s t. rights z f ways y c low true i1 i1 r1 l frame here.bare kind private s (value e) t)
+    values gives e h = by (is_reference kind) refl gives h.1 (λ s t. rights z f ways y c low true i1 i1 r1 l frame kind private s (value e) t)
       where
         code : List Op
         code = expression_code c i1 r1 e ++ width_code i1 kind (span_of e).first
@@ -392,12 +392,12 @@ module _ (z : Setting) (f : ℕ) (ways : List Way) where
             let unnamed : (p : ℕ) → Mentions s p → ⊥ = subst (λ s. (p : ℕ) → Mentions s p → ⊥) same gives.1 in
             let right : RightTypable z f y true c kind s (value e) = subst (ValueGoes z f y true c kind s e) (sym is) (h.0, goes.0, no_integer kind is, goes.1.1, λ p w. absurd (unnamed p w)) in
             let v = subst (Comes z f ways y c low i1 i1 r1 l kind s code) is (comes s right) in
-            apart true (after (before c l) (mark (fill l r1 (Refers s) v.0 false) i1 i1) code (rest_code true) spot v.2 (gives_reference s unnamed goes.1.2 gives.3 v.0))
+            apart true (after (before c l) (mark (fill l r1 (Refers s) v.copy false) i1 i1) code (rest_code true) spot (reference_kept z f ways y c low i1 i1 r1 l here.bare s code v) (gives_reference s unnamed goes.1.2 gives.3 v.copy))
         by false is gives goes comes =
             let s : StaticType = record { target = 0; locks = [] } in
             let right : RightTypable z f y true c kind s (value e) = subst (ValueGoes z f y true c kind s e) (sym is) (h.0, goes.0, goes.1) in
             let v = subst (Comes z f ways y c low i1 i1 r1 l kind s code) is (comes s right) in
-            apart false (after (before c l) (mark (set_number l i1 (Within (width_of kind))) i1 i1) code (rest_code false) spot v (gives_number (width_of kind) gives.0 gives.1))
+            apart false (after (before c l) (mark (set_number l i1 (Within (width_of kind))) i1 i1) code (rest_code false) spot (number_kept z f ways y c low i1 i1 l here.bare (width_of kind) code v) (gives_number (width_of kind) gives.0 gives.1))
 
   -- ---- nothing
   module _ (y : Typing) (d : Context) (k : Label) (low : AreLow (y.named d) (ref_count d.scope)) (here : StandsBefore y d f k) (no_ints : int_count d.scope ≡ 0) (no_refs : ref_count d.scope ≡ 0) (kind : Kind) (spot : Spot) where
@@ -411,7 +411,7 @@ module _ (z : Setting) (f : ℕ) (ways : List Way) where
     at = record { stands = here.stands.stands; owned = here.stands.owned }
 
     frame_there : Frame z f (AreOpen z ways) y d low i i r k
-    frame_there = record { at = at; holds = here.stands.holds; high = here.stands.high; wide = here.stands.wide; early = here.stands.early }
+    frame_there = bare_frame z f ways y d low i i r k here.stands here.bare
 
     -- all registers are free
     all_free : (q : ℕ) → k.env q ≡ Empty

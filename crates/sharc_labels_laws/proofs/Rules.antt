@@ -82,13 +82,14 @@ module _ (around : Setting) (f : ℕ) (table : ℕ → Mark) (pc : ℕ) (s : Mar
     tells = λ e. absurd (false≢true e);
   }
 
-  pub on_zero : (i n : ℕ) → Plain around f s → Reached s (pc + 1 + n) → Reached s (pc + 1) → IsLine around f table pc s (op.SkipIfZero i n)
+  -- where it leads over lines nothing is remembered
+  pub on_zero : (i n : ℕ) → Plain around f s → (pc + 1 + n ≤ around.lines) × Less s.label (table (pc + 1 + n)).label → Reached s (pc + 1) → IsLine around f table pc s (op.SkipIfZero i n)
   on_zero i n plain to next = record {
     owned = plain.owned;
     scoped = plain.scoped;
     typed = λ dropped passes repeats jumps on. (
       plain.closed,
-      (to.0, to_line s (pc + 1 + n) passes (passes pc) (jumps (pc + 1 + n) (eq_refl (pc + 1 + n))) to),
+      (to.0, with_less s.label (table (pc + 1 + n)).label (passes pc) (passes (pc + 1 + n)) to.1 (none_in (passes (pc + 1 + n)) (jumps (pc + 1 + n) (eq_refl (pc + 1 + n))) (passes pc))),
       with_less s.label (table (pc + 1)).label (passes pc) (passes (pc + 1)) next.1.less (λ p h. absurd (on p h)),
     );
     cells = λ a z. absurd (none-some a z);

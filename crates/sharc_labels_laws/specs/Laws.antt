@@ -86,7 +86,7 @@ PartsAreTyped = (z : Setting) (f : ℕ) (ways : List Way) (named : ℕ → Bool)
 
 -- ---- expressions
 module _ (z : Setting) (f : ℕ) (ways : List Way) (y : Typing) (c : Context) (from i r : ℕ) (l : Label) (os : List Op) (e : Expression) where
-  -- A reference of the type to which it goes comes to the first free register, and may be a copy of a variable's.
+  -- A reference of the type to which it goes comes to the first free register, and may be a copy of a variable's: that of a variable that types name is.
   pub record ReferenceComes (s : StaticType) : Type 0 where
     pub copy : ℕ
     pub of_variable : IsCopyOf y c e copy
@@ -106,9 +106,9 @@ module _ (z : Setting) (f : ℕ) (ways : List Way) (y : Typing) (c : Context) (f
   ValueComes false true = NumberComes
   ValueComes false false = LeadsAmong z f ways (mark l from i) os (mark l from i)
 
--- The code of an expression of which the types say what is asked is typed, wherever it is.
+-- The code of an expression of which the types say what is asked is typed, wherever it is, if nothing is at hand but variables.
 abbrev pub ExpressionsAreTyped : Type 0
-ExpressionsAreTyped = (z : Setting) (f : ℕ) (ways : List Way) (y : Typing) (c : Context) → AreLow (y.named c) (ref_count c.scope) → (from i r : ℕ) (l : Label) → StandsIn y c f from i r l → (bare : Bool) → IsBare bare l → (e : Expression) → IsTypable z f y bare c e
+ExpressionsAreTyped = (z : Setting) (f : ℕ) (ways : List Way) (y : Typing) (c : Context) → AreLow (y.named c) (ref_count c.scope) → (from i r : ℕ) (l : Label) → StandsIn y c f from i r l → (bare : Bool) → IsBare true l → (e : Expression) → IsTypable z f y bare c e
     → ValueComes z f ways y c from i r l (expression_code c i r e) e (is_ref c e) (is_integer (kind_of c e))
 
 -- ---- simple statements
@@ -119,5 +119,5 @@ SimplesAreTyped = (z : Setting) (f : ℕ) (ways : List Way) (y : Typing) (c : Co
 
 -- A test, whose value comes to the first free register.
 abbrev pub TestsAreTyped : Type 0
-TestsAreTyped = (z : Setting) (f : ℕ) (ways : List Way) (y : Typing) (c : Context) → AreLow (y.named c) (ref_count c.scope) → (from i r : ℕ) (l : Label) → StandsIn y c f from i r l → (bare : Bool) → IsBare bare l → (e : Expression) → IsTypable z f y bare c e → HasType z f y c e
+TestsAreTyped = (z : Setting) (f : ℕ) (ways : List Way) (y : Typing) (c : Context) → AreLow (y.named c) (ref_count c.scope) → (from i r : ℕ) (l : Label) → StandsIn y c f from i r l → (bare : Bool) → IsBare true l → (e : Expression) → IsTypable z f y bare c e → HasType z f y c e
     → LeadsAmong z f ways (mark l from i) (expression_code c i r e ++ truth_code (is_ref c e) i r) (mark l from i)

@@ -195,10 +195,10 @@ module _ (z : Setting) (f : ℕ) (y : Typing) where
   FieldTypable c Arrow a of_base of_pointer = of_pointer × IsPointer c a
 
   -- ---- what is taken away
-  -- the reference of a cell, or of a variable that is no constant and of which no copy is at hand
+  -- the reference of a cell, or of a variable that types do not name
   abbrev pub VariableTakes : Bool → Context → StaticType → Register → Type 0
   VariableTakes bare c s (Int j) = ⊥
-  VariableTakes bare c s (Reference q) = (bare ≡ true) × (q < ref_count c.scope) × (y.pointer c q ≡ s) × (y.named c q ≡ false)
+  VariableTakes bare c s (Reference q) = (q < ref_count c.scope) × (y.pointer c q ≡ s) × (y.named c q ≡ false)
 
   abbrev pub Takes : Bool → Context → Expression → Use → StaticType → Target → Type 0
   Takes bare c a use_made s (variable x) = VariableTakes bare c s (register_of c.scope x)

@@ -68,16 +68,16 @@ module _ (c : Context) where
       ap (λ n. Refers (static_of c (named_kind c.program.typed n) (modes_of c.program (named_row c.program.typed written n)))) names
 
 variables_are_taken : HeldLaws → ScopeLaws → VariablesAreTaken
-variables_are_taken held scopes z f c a s i x taken bare names slot use_made =
+variables_are_taken held scopes z f bare c a s i x taken bare_is names slot use_made =
     let q = reference_found 0 0 c.scope x slot in
     let h = scopes.has c x slot in
     let same : register c x ≡ q.0 = ap number_in q.1 in
-    let entry : entry_of c a ≡ Refers (variable_type c x) = (bare_of c a).entry ∙ ap (entry_of c) bare ∙ variable_entry_is c s i x names in
-    let to : target_of c a ≡ variable x = (bare_of c a).target ∙ ap (target_of c) bare ∙ ap (λ n. named_target n 0) names in
+    let entry : entry_of c a ≡ Refers (variable_type c x) = (bare_of c a).entry ∙ ap (entry_of c) bare_is ∙ variable_entry_is c s i x names in
+    let to : target_of c a ≡ variable x = (bare_of c a).target ∙ ap (target_of c) bare_is ∙ ap (λ n. named_target n 0) names in
     let pointer : type_by (variable_entry c q.0) ≡ type_by (entry_of c a) = ap type_by (subst (λ n. variable_entry c n ≡ Refers (variable_type c x)) same h.2) ∙ sym (ap type_by entry) in
-    subst (Takes z f typing true c a use_made (type_by (entry_of c a))) (sym to)
-    (subst (VariableTakes z f typing true c (type_by (entry_of c a))) (sym q.1)
-    (refl, subst (λ n. n < ref_count c.scope) same h.0, pointer, subst (λ n. held_at c n ≡ false) same (held.taken c a s i x taken bare names slot)))
+    subst (Takes z f typing bare c a use_made (type_by (entry_of c a))) (sym to)
+    (subst (VariableTakes z f typing bare c (type_by (entry_of c a))) (sym q.1)
+    (subst (λ n. n < ref_count c.scope) same h.0, pointer, subst (λ n. held_at c n ≡ false) same (held.taken c a s i x taken bare_is names slot)))
 
 -- ---- casts and frees
 module _ (constraints : MeetsConstraints) (one_type : OneType) (held : HeldLaws) (scopes : ScopeLaws) (expressions_found : ExpressionsFound) (pointees_fit : PointeesFit) (layouts_are : LayoutsAre) (casts_recast : CastsRecast)

@@ -25,8 +25,8 @@ use Rattle.sharc_typable_laws.specs.Typing.{typing}
 
 -- a variable that is taken is no constant, and has the type of the expression
 abbrev pub VariablesAreTaken : Type 0
-VariablesAreTaken = (z : Setting) (f : ℕ) (c : Context) (a : Expression) (s : Span) (i : Identifier) (x : ℕ) → IsTaken c.program a → without_parentheses a ≡ identifier s i → named_at c.program.typed i.site.token ≡ named.Variable x
-    → slot_kind c.scope x ≡ Some true → (use_made : Use) → Takes z f typing true c a use_made (type_by (entry_of c a)) (target_of c a)
+VariablesAreTaken = (z : Setting) (f : ℕ) (bare : Bool) (c : Context) (a : Expression) (s : Span) (i : Identifier) (x : ℕ) → IsTaken c.program a → without_parentheses a ≡ identifier s i → named_at c.program.typed i.site.token ≡ named.Variable x
+    → slot_kind c.scope x ≡ Some true → (use_made : Use) → Takes z f typing bare c a use_made (type_by (entry_of c a)) (target_of c a)
 
 -- what is taken is given the type of the cast
 abbrev pub CastsAreTyped : Type 0
