@@ -31,6 +31,7 @@ use Rattle.sharc_invariant.specs.Labels.{Entry, Empty, Refers}
 use Rattle.sharc_labels_laws.specs.Stretches.{Setting}
 use Rattle.sharc_labels_laws.specs.Premises.{ReferenceTyped}
 use Rattle.sharc_labels_laws.specs.Typable.{type_by, ground_of, IsPointer, CellTyped, ValueTyped, Takes}
+use Rattle.sharc_access_laws.specs.Joined.{BaseStands}
 use Rattle.sharc_access_laws.specs.Typed.{IsOf, LvalueTyped}
 use Rattle.sharc_static_laws.specs.Calls.{ArgumentsFit}
 use Rattle.sharc_static_laws.specs.Laws.{IsAccepted}
@@ -49,7 +50,7 @@ use Rattle.sharc_typable_laws.specs.Laws.{IsAt, ValueLaws}
 use Rattle.sharc_typable_laws.specs.Taking.{TakingLaws}
 use Rattle.sharc_typable_laws.specs.Threads.{ThreadsPass}
 use Rattle.sharc_typable_laws.specs.Typing.{typing}
-use Rattle.sharc_accepted_laws.specs.Expressions.{CellsTyped, VariablesTaken}
+use Rattle.sharc_accepted_laws.specs.Expressions.{CellsTyped}
 use Rattle.sharc_accepted_laws.specs.Setting.{setting_of, IsSet}
 use Rattle.sharc_accepted_laws.proofs.Forms.{lvalue_some, reference_pointer, pointer_reference}
 use Rattle.sharc_accepted_laws.proofs.Lists.{of_each, each, found_there, first_of}
@@ -149,7 +150,7 @@ module _ (laws : Laws) (c : Context) (code : Code) (alone : ℕ → Bool) (lines
         sym (ap (λ t. cells_of (targets_of m) t) to ∙ fits.cells)
 
     -- ---- a cell
-    module _ (cells : CellsTyped z c n g) where
+    module _ (cells : CellsTyped z c n g) (base : BaseStands c e) where
       -- the value of an lvalue
       pub cell_typed : is_lvalue e ≡ true → is_cell (target_of c e) ≡ true → IsScalar (kind_of c e) → (site : Site) → CellTyped z n typing c e site (target_of c e) (is_ref c e)
       cell_typed lvalue cell scalar site = by (is_ref c e) refl
@@ -161,14 +162,14 @@ module _ (laws : Laws) (c : Context) (code : Code) (alone : ℕ → Bool) (lines
               let type : static_of c (kind_of c e) modes.0 ≡ type_by (entry_of c e) = sym (ap (λ (o : Option (List Sharing)). type_by (entry_by c (kind_of c e) o)) modes.1) in
               (type_by (entry_of c e), (pointer_of pointer).1, (pointer_of pointer).2,
               subst (λ s. ReferenceTyped z typing c n (target_of c e) (guard_of c e) (ground_of z n typing c e) site (lvalue_in c e) (mode_of c e) false uses.Read s) type
-              ((cells.lvalues e at cell).read.reference pointer modes.0 modes.1 site uses.Read))
-          by false other = (scalar other, (cells.lvalues e at cell).read.integer (scalar other) site uses.Read)
+              ((cells.lvalues e at base cell).read.reference pointer modes.0 modes.1 site uses.Read))
+          by false other = (scalar other, (cells.lvalues e at base cell).read.integer (scalar other) site uses.Read)
 
       pub value_typed : is_lvalue e ≡ true → is_cell (target_of c e) ≡ true → IsScalar (kind_of c e) → (site : Site) → ValueTyped z n typing c e site
       value_typed lvalue cell scalar site = (cell, cell_typed lvalue cell scalar site)
 
       -- ---- what is taken
-      module _ (taken : VariablesTaken z c n) (takes : IsTaken m e) (lvalue : is_lvalue e ≡ true) (pointer : is_pointer (kind_of c e) ≡ true) (bare : Bool) (use_made : Use) where
+      module _ (takes : IsTaken m e) (lvalue : is_lvalue e ≡ true) (pointer : is_pointer (kind_of c e) ≡ true) (bare : Bool) (use_made : Use) where
         abbrev Taken : Target → Type 0
         Taken t = Takes z n typing bare c e use_made (type_by (entry_of c e)) t
 
@@ -178,7 +179,7 @@ module _ (laws : Laws) (c : Context) (code : Code) (alone : ℕ → Bool) (lines
             let modes = pointer_modes pointer in
             let type : static_of c (kind_of c e) modes.0 ≡ type_by (entry_of c e) = sym (ap (λ (o : Option (List Sharing)). type_by (entry_by c (kind_of c e) o)) modes.1) in
             subst (λ s. ReferenceTyped z typing c n (target_of c e) (guard_of c e) (ground_of z n typing c e) (span_of e).first (lvalue_in c e) (mode_of c e) true use_made s) type
-            (((cells.lvalues e at cell).taken takes).reference pointer modes.0 modes.1 (span_of e).first use_made)
+            (((cells.lvalues e at base cell).taken takes).reference pointer modes.0 modes.1 (span_of e).first use_made)
 
         plain_names : AllByRecursion (NamesPlain r) (expressions e)
         plain_names = all_plain laws.themselves laws.own laws.plain m a n g at.function (expressions e) at.parts
@@ -193,7 +194,7 @@ module _ (laws : Laws) (c : Context) (code : Code) (alone : ℕ → Bool) (lines
             by : (t : Target) → target_of c e ≡ t → TakeSuits c (mode_of c e) t → Taken t
             by (variable x) is slot =
                 let v = variable_named r (all_results laws.plain m a) e (kind_of c e) has_type lvalue (pointer_reference (kind_of c e) pointer) plain_names x is in
-                subst Taken is (taken bare e v.span v.name x takes v.is v.names slot use_made)
+                subst Taken is (laws.taking.variables z n bare c e v.span v.name x takes v.is v.names slot use_made)
             by (in_global k j) is h = moved (in_global k j) is (cell_taken (ap is_cell is))
             by (in_global_at k j) is h = moved (in_global_at k j) is (cell_taken (ap is_cell is))
             by (in_object j) is h = moved (in_object j) is (cell_taken (ap is_cell is))

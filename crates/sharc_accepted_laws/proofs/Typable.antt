@@ -49,9 +49,10 @@ use Rattle.sharc_target_laws.specs.Lvalues.{pointer_of}
 use Rattle.sharc_typable_laws.specs.Calling.{wants_of}
 use Rattle.sharc_typable_laws.specs.Laws.{OperandSuits}
 use Rattle.sharc_typable_laws.specs.Typing.{typing}
-use Rattle.sharc_accepted_laws.specs.Expressions.{CellsTyped, VariablesTaken, ExpressionsAreTypable}
+use Rattle.sharc_accepted_laws.specs.Expressions.{CellsTyped, ExpressionsAreTypable}
 use Rattle.sharc_accepted_laws.specs.Setting.{setting_of, IsSet}
 use Rattle.sharc_accepted_laws.proofs.Arguments.{IsValued, AllSuit, AllGo, Parts, part_of, first_part, second_part, suit_all}
+use Rattle.sharc_accepted_laws.proofs.Bases.{place_base, value_base}
 use Rattle.sharc_accepted_laws.proofs.Calls.{call_goes, call_is_typed}
 use Rattle.sharc_accepted_laws.proofs.Conditions.{known_call}
 use Rattle.sharc_accepted_laws.proofs.Facts as facts
@@ -122,7 +123,7 @@ either_cell true g n k = refl
 either_cell false g n k = refl
 
 module _ (laws : Laws) (c : Context) (code : Code) (alone : ℕ → Bool) (lines : ℕ) (set : IsSet c.program c.globals code alone) (n : ℕ) (g : Function)
-    (cells : CellsTyped (setting_of c.program c.globals code alone lines) c n g) (taken : VariablesTaken (setting_of c.program c.globals code alone lines) c n) where
+    (cells : CellsTyped (setting_of c.program c.globals code alone lines) c n g) where
   abbrev m : Assignment
   m = c.program
 
@@ -155,8 +156,8 @@ module _ (laws : Laws) (c : Context) (code : Code) (alone : ℕ → Bool) (lines
   fits_own : (e : Expression) → At e → IsScalar (kind_of c e) → Fits None (guard_of c e) e
   fits_own e at scalar = let p = scalar_plain (kind_of c e) scalar in fits_with e at (guard_of c e) (own_guard p.2) p.0 p.1
 
-  value_typed : (e : Expression) → At e → is_lvalue e ≡ true → is_cell (target_of c e) ≡ true → IsScalar (kind_of c e) → (site : Site) → ValueTyped z n typing c e site
-  value_typed e at lvalue cell scalar site = facts.value_typed laws c code alone lines set n g e at cells lvalue cell scalar site
+  value_typed : (e : Expression) → At e → Suits c e → is_lvalue e ≡ true → is_cell (target_of c e) ≡ true → IsScalar (kind_of c e) → (site : Site) → ValueTyped z n typing c e site
+  value_typed e at suits lvalue cell scalar site = facts.value_typed laws c code alone lines set n g e at cells (value_base c e suits) lvalue cell scalar site
 
   -- ---- names
   name_typed : (s : Span) (i : Identifier) → At (identifier s i) → Suits c (identifier s i) → IsValued c n g (identifier s i) → NameTyped z n typing c (identifier s i) i.site (what_names c i.site.token)
@@ -166,7 +167,7 @@ module _ (laws : Laws) (c : Context) (code : Code) (alone : ℕ → Bool) (lines
       by (named.Variable x) names h = laws.values.variables z n c set.accepted s i x (facts.is_at laws c code alone lines set n g (identifier s i) at) names h (value refl)
       by (named.Global k) names h =
           let to : target_of c (identifier s i) ≡ in_global k 0 = ap (λ w. named_target w 0) names in
-          subst (λ t. CellTyped z n typing c (identifier s i) i.site t (is_ref c (identifier s i))) to (facts.cell_typed laws c code alone lines set n g (identifier s i) at cells refl (ap is_cell to) (value refl) i.site)
+          subst (λ t. CellTyped z n typing c (identifier s i) i.site t (is_ref c (identifier s i))) to (facts.cell_typed laws c code alone lines set n g (identifier s i) at cells (value_base c (identifier s i) suits) refl (ap is_cell to) (value refl) i.site)
       by (named.Struct j) names h = h
       by (named.Function j) names h = h
       by (named.Field j) names h = h
@@ -220,9 +221,9 @@ module _ (laws : Laws) (c : Context) (code : Code) (alone : ℕ → Bool) (lines
   index_cell s x i = either_cell (is_array (kind_of c x)) _ _ _
 
   -- ---- what is taken, locked and unlocked
-  take : (x : Expression) → At x → IsTaken m x → is_lvalue x ≡ true → is_pointer (kind_of c x) ≡ true → (bare : Bool) (use_made : Use) → TakeSuits c (mode_of c x) (target_of c x)
+  take : (x : Expression) → At x → PlaceSuits c x → IsTaken m x → is_lvalue x ≡ true → is_pointer (kind_of c x) ≡ true → (bare : Bool) (use_made : Use) → TakeSuits c (mode_of c x) (target_of c x)
       → Takes z n typing bare c x use_made (type_by (entry_of c x)) (target_of c x)
-  take x at takes lvalue pointer bare use_made suits = facts.takes_typed laws c code alone lines set n g x at cells taken takes lvalue pointer bare use_made suits
+  take x at placed takes lvalue pointer bare use_made suits = facts.takes_typed laws c code alone lines set n g x at cells (place_base c x placed) takes lvalue pointer bare use_made suits
 
   pointer_scalar : (x : Expression) → is_pointer (kind_of c x) ≡ true → IsScalar (kind_of c x)
   pointer_scalar x pointer = reference_scalar (kind_of c x) (pointer_reference (kind_of c x) pointer)
@@ -253,21 +254,21 @@ module _ (laws : Laws) (c : Context) (code : Code) (alone : ℕ → Bool) (lines
     typable (on_place s Lock x) at suits value bare =
         let below : At x = record { function = at.function; parts = at.parts.1; stand = at.stand.1 } in
         let operand = lock_operand r one s x (kind_of c (on_place s Lock x)) (has_type (on_place s Lock x) at) in
-        (place x below suits.0 None None (mutex_fits x below operand.1) bare, suits.1, (cells.lvalues x below suits.1).mutex operand.1)
+        (place x below suits.0 None None (mutex_fits x below operand.1) bare, suits.1, (cells.lvalues x below (place_base c x suits.0) suits.1).mutex operand.1)
     typable (on_place s Unlock x) at suits value bare =
         let below : At x = record { function = at.function; parts = at.parts.1; stand = at.stand.1 } in
         let operand = unlock_operand r one s x (kind_of c (on_place s Unlock x)) (has_type (on_place s Unlock x) at) in
-        (place x below suits.0 None None (mutex_fits x below operand.1) bare, suits.1, (cells.lvalues x below suits.1).mutex operand.1)
+        (place x below suits.0 None None (mutex_fits x below operand.1) bare, suits.1, (cells.lvalues x below (place_base c x suits.0) suits.1).mutex operand.1)
     typable (on_place s Free x) at suits value bare =
         let below : At x = record { function = at.function; parts = at.parts.1; stand = at.stand.1 } in
         let operand = free_operand r one s x (kind_of c (on_place s Free x)) (has_type (on_place s Free x) at) in
-        let takes = take x below (freed (facts.expression_of laws c code alone lines set n g (on_place s Free x) at)) operand.0 operand.1 bare (uses.Free None) suits.1.0 in
+        let takes = take x below suits.0 (freed (facts.expression_of laws c code alone lines set n g (on_place s Free x) at)) operand.0 operand.1 bare (uses.Free None) suits.1.0 in
         (place x below suits.0 None (guard_of c x) (fits_own x below (pointer_scalar x operand.1)) bare,
         laws.taking.frees z n bare c set.accepted refl set.tables x (facts.is_at laws c code alone lines set n g x below) operand.1 takes)
     typable (cast s t x) at suits value bare =
         let below : At x = record { function = at.function; parts = at.parts.1; stand = at.stand.1 } in
         let operand = cast_operand r one s t x (kind_of c (cast s t x)) (has_type (cast s t x) at) in
-        let takes = take x below (cast_away (facts.expression_of laws c code alone lines set n g (cast s t x) at)) operand.0 operand.1 bare (uses.Cast None) suits.1 in
+        let takes = take x below suits.0 (cast_away (facts.expression_of laws c code alone lines set n g (cast s t x) at)) operand.0 operand.1 bare (uses.Cast None) suits.1 in
         (place x below suits.0 None (guard_of c x) (fits_own x below (pointer_scalar x operand.1)) bare,
         laws.taking.casts z n bare c set.accepted refl s t x (facts.is_at laws c code alone lines set n g (cast s t x) at) (first_of (ExpressionStands c) x at.stand.1) takes)
     typable (index s x i) at suits value bare =
@@ -276,14 +277,14 @@ module _ (laws : Laws) (c : Context) (code : Code) (alone : ℕ → Bool) (lines
         let of_i : At i = part_of c n g at.function i (second_part c n g (expressions x) (expressions i) both) in
         (index_typable bare None (guard_of c (index s x i)) s x i at of_x suits.0 (fits_own (index s x i) at (value refl))
         (λ p f. place x of_x p None None f bare) (λ q v. typable x of_x q v bare) (λ q v. typable i of_i q v false),
-        value_typed (index s x i) at refl (index_cell s x i) (value refl) s.first)
+        value_typed (index s x i) at suits refl (index_cell s x i) (value refl) s.first)
     typable (field s x Dot k) at suits value bare =
         (place x (record { function = at.function; parts = at.parts.1; stand = at.stand.1 }) suits.0 (Some (field_place_named r (what_names c k.site.token))) (guard_of c (field s x Dot k)) (fits_own (field s x Dot k) at (value refl)) bare,
-        value_typed (field s x Dot k) at refl suits.2 (value refl) s.first)
+        value_typed (field s x Dot k) at suits refl suits.2 (value refl) s.first)
     typable (field s x Arrow k) at suits value bare =
         let below : At x = record { function = at.function; parts = at.parts.1; stand = at.stand.1 } in
         ((typable x below suits.0.0 (λ l. reference_scalar (kind_of c x) suits.0.1) bare, pointer_typed x below (arrow_pointer r one s x k (kind_of c (field s x Arrow k)) (has_type (field s x Arrow k) at))),
-        value_typed (field s x Arrow k) at refl suits.2 (value refl) s.first)
+        value_typed (field s x Arrow k) at suits refl suits.2 (value refl) s.first)
     typable (unary s Negate x) at suits value bare =
         let below : At x = record { function = at.function; parts = at.parts.1; stand = at.stand.1 } in
         operand_typable s Negate x below (integer_scalar (kind_of c x) suits.1) suits.1 bare (typable x below suits.0 (λ l. integer_scalar (kind_of c x) suits.1) bare)
@@ -296,7 +297,7 @@ module _ (laws : Laws) (c : Context) (code : Code) (alone : ℕ → Bool) (lines
     typable (unary s Dereference x) at suits value bare =
         let below : At x = record { function = at.function; parts = at.parts.1; stand = at.stand.1 } in
         (typable x below suits.0 (λ l. reference_scalar (kind_of c x) suits.1) bare, pointer_typed x below (star_pointer r one s x (kind_of c (unary s Dereference x)) (has_type (unary s Dereference x) at)),
-        value_typed (unary s Dereference x) at refl refl (value refl) s.first)
+        value_typed (unary s Dereference x) at suits refl refl (value refl) s.first)
     typable (binary s o site x y) at suits value bare =
         let both : Parts c n g (expressions x ++ expressions y) = (at.parts.1, at.stand.1) in
         let of_x : At x = part_of c n g at.function x (first_part c n g (expressions x) (expressions y) both) in
@@ -339,10 +340,10 @@ module _ (laws : Laws) (c : Context) (code : Code) (alone : ℕ → Bool) (lines
         arguments rest (second_part c n g (expressions x) (in_arguments rest) parts) is (drop 1 kinds) (λ p. wants (p + 1)) suit.1 go.1 (after_value c x bare))
 
 pub expressions_are_typable : Laws → ExpressionsAreTypable
-expressions_are_typable laws c code alone lines set n g cells taken = record {
-  values = λ e at suits value bare. typable laws c code alone lines set n g cells taken e at suits value bare;
+expressions_are_typable laws c code alone lines set n g cells = record {
+  values = λ e at suits value bare. typable laws c code alone lines set n g cells e at suits value bare;
   places = λ u at suits no_struct no_array bare. record {
-    bare_place = place laws c code alone lines set n g cells taken u at suits None None (fits_with laws c code alone lines set n g cells taken u at None no_guard no_struct no_array) bare;
-    place = λ plain. place laws c code alone lines set n g cells taken u at suits None (guard_of c u) (fits_with laws c code alone lines set n g cells taken u at (guard_of c u) (own_guard plain) no_struct no_array) bare;
+    bare_place = place laws c code alone lines set n g cells u at suits None None (fits_with laws c code alone lines set n g cells u at None no_guard no_struct no_array) bare;
+    place = λ plain. place laws c code alone lines set n g cells u at suits None (guard_of c u) (fits_with laws c code alone lines set n g cells u at (guard_of c u) (own_guard plain) no_struct no_array) bare;
   };
 }

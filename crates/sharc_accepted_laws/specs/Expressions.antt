@@ -1,23 +1,21 @@
 -- The expressions of a function of an accepted program are typable, as far as what is asked of its cells holds.
-use Rattle.std.specs.Prelude.{ℕ, ◌≡◌, Bool, true, false, List, [], Some, None}
+use Rattle.std.specs.Prelude.{ℕ, ◌≡◌, Bool, true, false, [], None}
 use Rattle.sharc_tree.specs.declared.token.Span.{Span}
 use Rattle.sharc_tree.specs.declared.tree.declaration.Identifier.{Identifier}
-use Rattle.sharc_tree.specs.Forms.{is_lvalue, without_parentheses}
-use Rattle.sharc_tree.specs.Tree.{Expression, identifier, call, Arguments, Function}
+use Rattle.sharc_tree.specs.Forms.{is_lvalue}
+use Rattle.sharc_tree.specs.Tree.{Expression, call, Arguments, Function}
 use Rattle.sharc_names.specs.declared.fault.Named.TheVariants as named
 use Rattle.sharc_names.specs.Kinds.{is_array, is_struct_behind, condition_pointer, mutex_pointer}
 use Rattle.sharc_code.specs.declared.code.Code.{Code}
-use Rattle.sharc_code.specs.declared.code.Use.{Use}
 use Rattle.sharc_ctype.specs.Resolved.{named_at}
 use Rattle.sharc_mode.specs.Cells.{is_mutex_kind}
-use Rattle.sharc_mode_laws.specs.Constructs.{IsTaken}
 use Rattle.sharc_flat.specs.Flattened.{kind_of, target_of, guard_of}
-use Rattle.sharc_flat.specs.Scope.{Context, slot_kind}
+use Rattle.sharc_flat.specs.Scope.{Context}
 use Rattle.sharc_flat.specs.Suits.{IsScalar, is_cell, Suits, PlaceSuits}
 use Rattle.sharc_invariant.specs.Types.{StaticType, Content, MutexWord, Waiters}
 use Rattle.sharc_labels_laws.specs.Stretches.{Setting}
-use Rattle.sharc_labels_laws.specs.Typable.{type_by, FirstCell, Takes, IsTypable, IsPlaceTypable}
-use Rattle.sharc_access_laws.specs.Joined.{PathLeads}
+use Rattle.sharc_labels_laws.specs.Typable.{type_by, FirstCell, IsTypable, IsPlaceTypable}
+use Rattle.sharc_access_laws.specs.Joined.{PathLeads, BaseStands}
 use Rattle.sharc_access_laws.specs.Typed.{IsOf, LvalueTyped}
 use Rattle.sharc_static_laws.specs.Static.{entry_of}
 use Rattle.sharc_typable_laws.specs.Typing.{typing}
@@ -38,14 +36,9 @@ pub record ConditionsTyped (z : Setting) (c : Context) (n : ℕ) (g : Function) 
 -- What is asked where these variables stand, in function n with definition g: cells are accessed as their types say, lock paths lead to mutexes, and what `wait`, `signal` and
 -- `broadcast` are passed is of their types.
 pub record CellsTyped (z : Setting) (c : Context) (n : ℕ) (g : Function) : Type 0 where
-  pub lvalues : (e : Expression) → IsOf c n g e → is_cell (target_of c e) ≡ true → LvalueTyped z typing c n e
+  pub lvalues : (e : Expression) → IsOf c n g e → BaseStands c e → is_cell (target_of c e) ≡ true → LvalueTyped z typing c n e
   pub paths : (e : Expression) → IsOf c n g e → PathLeads c e
   pub known : (s : Span) (i : Identifier) (all : Arguments) → IsOf c n g (call s i all) → named_at c.program.typed i.site.token ≡ named.Known → ConditionsTyped z c n g
-
--- a variable whose reference is taken
-abbrev pub VariablesTaken : Setting → Context → ℕ → Type 0
-VariablesTaken z c n = (bare : Bool) (a : Expression) (s : Span) (i : Identifier) (x : ℕ) → IsTaken c.program a → without_parentheses a ≡ identifier s i → named_at c.program.typed i.site.token ≡ named.Variable x
-    → slot_kind c.scope x ≡ Some true → (use_made : Use) → Takes z n typing bare c a use_made (type_by (entry_of c a)) (target_of c a)
 
 -- ---- what is then so
 module _ (c : Context) (code : Code) (alone : ℕ → Bool) (lines n : ℕ) (g : Function) where
@@ -67,4 +60,4 @@ module _ (c : Context) (code : Code) (alone : ℕ → Bool) (lines n : ℕ) (g :
 
 abbrev pub ExpressionsAreTypable : Type 0
 ExpressionsAreTypable = (c : Context) (code : Code) (alone : ℕ → Bool) (lines : ℕ) → IsSet c.program c.globals code alone → (n : ℕ) (g : Function)
-    → CellsTyped (setting_of c.program c.globals code alone lines) c n g → VariablesTaken (setting_of c.program c.globals code alone lines) c n → ExpressionsTypable c code alone lines n g
+    → CellsTyped (setting_of c.program c.globals code alone lines) c n g → ExpressionsTypable c code alone lines n g

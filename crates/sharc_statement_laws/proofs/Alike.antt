@@ -1,8 +1,8 @@
 -- What is known before a statement is told by the types of the variables, so two labels there are the same; and where nothing is known but that, frames are large enough.
-use Rattle.std.proofs.Common.{◌≡◌, ◌≢◌, ℕ, ◌<◌, ◌≤◌, Bool, true, false, List, [], ◌∷◌, refl, sym, ap, ◌∙◌, subst, inl, ⊎_elim, arith}
+use Rattle.std.proofs.Common.{◌≡◌, ℕ, ◌<◌, ◌≤◌, Bool, true, false, refl, sym, ◌∙◌, subst, inl, ⊎_elim, arith}
 use Rattle.std.proofs.lemmas.Bool.{cases_lt}
 use Rattle.sharc_flat.specs.Scope.{Context, int_count, ref_count}
-use Rattle.sharc_invariant.specs.Labels.{Entry, Empty, Refers, Number, Anything, Within, Closed, IsIn, Label, IsScoped}
+use Rattle.sharc_invariant.specs.Labels.{IsIn, Label, IsScoped}
 use Rattle.sharc_labels_laws.specs.Premises.{Typing}
 use Rattle.sharc_labels_laws.specs.Declared.{StandsBefore}
 

@@ -1,5 +1,5 @@
 -- The code of a function whose types say what is asked is typed, wherever it is.
-use Rattle.std.proofs.Common.{◌≡◌, ℕ, ◌+◌, ◌<◌, ◌≤◌, Bool, true, false, List, [], ◌∷◌, ◌++◌, length, Some, refl, sym, subst, arith, append_assoc, append-nil}
+use Rattle.std.proofs.Common.{◌≡◌, ℕ, ◌+◌, ◌≤◌, false, List, [], ◌∷◌, ◌++◌, length, Some, refl, sym, subst, arith, append_assoc, append-nil}
 use Rattle.std.proofs.lemmas.Bool.{false≢true}
 use Rattle.sharc_tree.specs.Tree.{Function}
 use Rattle.sharc_names.specs.Kinds.{Kind, declared_kind}
@@ -8,8 +8,7 @@ use Rattle.sharc_code.specs.declared.code.GlobalCells.{GlobalCells}
 use Rattle.sharc_mode.specs.Moded.{Assignment}
 use Rattle.sharc_flat_form.specs.declared.op.Op.{Op}
 use Rattle.sharc_flat_form.specs.declared.op.Op.TheVariants as op
-use Rattle.sharc_flat_form.specs.declared.op.Spot.{Spot}
-use Rattle.sharc_flat.specs.Scope.{Context, int_count, ref_count, ends_from, leaves, at_site}
+use Rattle.sharc_flat.specs.Scope.{Context, int_count, ref_count, ends_from, at_site}
 use Rattle.sharc_flat.specs.Flattened.{zero_code, around_body, in_function, function_code, statements_code, behind_statements}
 use Rattle.sharc_invariant.specs.Typed.{ints_in, refs_in}
 use Rattle.sharc_labels_laws.specs.Stretches.{Mark, Setting, AreWithin, LeadsFrom}

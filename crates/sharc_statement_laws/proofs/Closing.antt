@@ -1,5 +1,5 @@
 -- Code after which nothing is asked: it ends with a line that is typed whatever is said after it.
-use Rattle.std.proofs.Common.{◌≡◌, ℕ, zero, suc, ◌+◌, ◌≤◌, Bool, true, false, List, [], ◌∷◌, ◌++◌, length, Some, refl, sym, ap, subst, arith, length-append}
+use Rattle.std.proofs.Common.{◌≡◌, ℕ, ◌+◌, true, false, List, [], ◌∷◌, ◌++◌, length, Some, refl, sym, subst, arith, length-append}
 use Rattle.sharc_code.specs.declared.instr.Width.{Width}
 use Rattle.sharc_code.specs.declared.instr.Width.TheVariants.{Char, Int, Long}
 use Rattle.sharc_flat_form.specs.declared.op.Op.{Op}
@@ -7,7 +7,7 @@ use Rattle.sharc_invariant.specs.Types.{Lock, Targets}
 use Rattle.sharc_invariant.specs.Types.Lock.{Global, Through, Self}
 use Rattle.sharc_invariant.specs.Labels.{Entry, Empty, Refers, Unknown, Number, Anything, Exactly, Within, Indexes, OfElement, OfGlobal, Gate, Closed, Checked, Holds, Loaded, HoldsLoaded, Sole, Label, Itself, IsCopy, SameLock, AllSame, LessEntry, Narrower, LessNumber, LessGate, Less, IsScoped}
 use Rattle.sharc_invariant.specs.Typed.{ints_in, refs_in}
-use Rattle.sharc_labels_laws.specs.Stretches.{Mark, Setting, Fits, IsLine, Agrees, AreLines, first, Stretch, AreWithin, Way, AreOpen, LeadsAmong, LeadsFrom}
+use Rattle.sharc_labels_laws.specs.Stretches.{Mark, Setting, Fits, IsLine, Agrees, AreLines, first, AreWithin, Way, LeadsFrom}
 use Rattle.sharc_statement_laws.specs.Functions.{FunctionLines}
 
 -- ---- a label says no more than itself

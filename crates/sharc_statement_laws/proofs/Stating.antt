@@ -5,9 +5,8 @@ use Rattle.sharc_tree.specs.declared.token.Site.{Site}
 use Rattle.sharc_tree.specs.Spans.{span_of}
 use Rattle.sharc_tree.specs.declared.tree.statement.Jump.TheVariants.{Break, Continue}
 use Rattle.sharc_tree.specs.Tree.{Expression, Simple, Local, First, nothing, declares, does, Statement, empty, block, declare, simple, jump, return, if_then, if_then_else, while, for, Statements, no_statements, statement}
-use Rattle.sharc_names.specs.Kinds.{Kind, declared_kind}
+use Rattle.sharc_names.specs.Kinds.{declared_kind}
 use Rattle.sharc_meaning.specs.State.{is_reference}
-use Rattle.sharc_code.specs.declared.instr.Width.{Width}
 use Rattle.sharc_flat_form.specs.declared.op.Op.{Op}
 use Rattle.sharc_flat_form.specs.declared.op.Op.TheVariants as op
 use Rattle.sharc_flat_form.specs.declared.op.Spot.{Spot}
@@ -16,13 +15,12 @@ use Rattle.sharc_flat.specs.Scope.{Context, int_count, ref_count, leaves, ends_f
 use Rattle.sharc_flat.specs.Suits.{is_declaration}
 use Rattle.sharc_flat.specs.Flattened.{Around, opened, looping, expression_code, zero_code, result_code, return_code, test_code, turn_code, step_code, first_code, simple_code, local_code, loop_code, with_variable, behind_first, behind_statement, behind_statements, statement_code, statements_code}
 use Rattle.sharc_invariant.specs.Types.{StaticType, Mentions}
-use Rattle.sharc_invariant.specs.Labels.{Label}
 use Rattle.sharc_labels_laws.specs.Stretches.{Mark, Setting, Way, LeadsAmong, LeadsFrom}
-use Rattle.sharc_labels_laws.specs.Places.{IsNamed, mark}
+use Rattle.sharc_labels_laws.specs.Places.{IsNamed}
 use Rattle.sharc_labels_laws.specs.Premises.{Typing}
 use Rattle.sharc_labels_laws.specs.Laws.{SimplesAreTyped, TestsAreTyped}
 use Rattle.sharc_labels_laws.specs.Stated.{SimpleTypable}
-use Rattle.sharc_labels_laws.specs.Declared.{Begins, Keeps, declared_label, LocalTypable, StandsBefore, before, LocalsAreTyped}
+use Rattle.sharc_labels_laws.specs.Declared.{Begins, LocalTypable, StandsBefore, before, LocalsAreTyped}
 use Rattle.sharc_labels_laws.specs.Begun.{label_of, LabelsStand}
 use Rattle.sharc_labels_laws.specs.Blocks.{BlocksAreTyped, BlocksLead}
 use Rattle.sharc_labels_laws.specs.Decided.{loop_ways, DecisionsLead, DecisionsAreTyped}
@@ -31,7 +29,7 @@ use Rattle.sharc_labels_laws.specs.Left.{IsOpen, LeavesAreTyped, JumpsAreTyped}
 use Rattle.sharc_labels_laws.specs.Returned.{GivesBack, ReturnTypable, Returns, NothingReturns, ValuesReturn}
 use Rattle.sharc_statement_laws.specs.Statements.{TestTypable, StepTypable, DeclaredTypable, FirstTypable, StatementTypable, StatementsTypable}
 use Rattle.sharc_statement_laws.specs.Functions.{IsLowTyping}
-use Rattle.sharc_statement_laws.proofs.Growing.{Extends, AreNamed, Nest, extends_same, extends_through, refs_grow, grows_by, ends_are, nest_both, nest_named, nested}
+use Rattle.sharc_statement_laws.proofs.Growing.{Extends, AreNamed, Nest, extends_same, extends_through, grows_by, ends_are, nest_both, nest_named, nested}
 use Rattle.sharc_statement_laws.proofs.Alike.{same_label}
 use Rattle.sharc_statement_laws.proofs.Closing.{last_line}
 
