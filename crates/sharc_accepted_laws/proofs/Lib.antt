@@ -1,7 +1,7 @@
 pub mod Arguments
 pub mod Assigned
-pub mod Begun
 pub mod Bases
+pub mod Begun
 pub mod Calls
 pub mod Conditions
 pub mod Facts

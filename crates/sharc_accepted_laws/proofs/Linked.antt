@@ -27,6 +27,7 @@ use Rattle.sharc_accepted_laws.specs.Expressions.{CellsTyped, ExpressionsTypable
 use Rattle.sharc_accepted_laws.specs.Setting.{setting_of}
 use Rattle.sharc_accepted_laws.specs.Statements.{IsPlaceIn, IsThere, AreExpressionsTypable}
 use Rattle.sharc_accepted_laws.proofs.Assigned.{Laws, at_there, no_entry}
+use Rattle.sharc_accepted_laws.proofs.Bases.{place_base}
 use Rattle.sharc_accepted_laws.proofs.Sorts.{held_pointer, held_integer}
 use Rattle.sharc_accepted_laws.proofs.Wholes.{some_star}
 
@@ -77,7 +78,7 @@ module _ (expressions : ExpressionsAreTypable) (z : Setting) (alone : ℕ → Bo
   written_is laws c h u x t suits assigned holds cell = by (is_ref c u) refl
     where
       typed : CellTyped z typing c n u true
-      typed = ((cells c h).lvalues u (is_of c h u t) cell).assigned x assigned
+      typed = ((cells c h).lvalues u (is_of c h u t) (place_base c u suits) cell).assigned x assigned
 
       of_row : is_ref c u ≡ true → (o : Option (List Sharing)) → modes_at c.program u ≡ o → CellAssigned z n typing c u (type_by (entry_by c (kind_of c u) o)) (target_of c u) true
       of_row ref None is = absurd (has_modes laws c h u t (held_pointer (kind_of c u) holds ref) is)

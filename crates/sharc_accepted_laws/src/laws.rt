@@ -1,6 +1,8 @@
 // The laws, each the contract of a function with calls of other laws alone.
 
+ghost use Rattle.sharc_accepted_laws.specs.Accepted.{AcceptedIsTyped, CellsAreTyped, GlobalsAreNamed};
 ghost use Rattle.sharc_accepted_laws.specs.Expressions.{ExpressionsAreTypable};
+ghost use Rattle.sharc_accepted_laws.specs.Programs.{CodeIsSet, ProgramsAreTypable};
 
 use sharc_ctype_laws::laws::{
     are_plain, each_names_itself, each_names_own, meets_constraints, meets_globals, one_type,
@@ -41,4 +43,50 @@ pub fn expressions_law()
     taking_laws();
     calling_laws();
     threads_pass();
+}
+
+/// A program that is accepted is typable: its functions, what a thread may begin with, and main.
+pub fn programs_law()
+    ensures { ProgramsAreTypable }
+{
+    expressions_law();
+    value_laws();
+    scope_laws();
+    held_laws();
+    given_laws();
+    result_laws();
+    functions_stand();
+    spawned_begin();
+    numbers_found();
+    expressions_found();
+    variables_found();
+    pointees_fit();
+    typed_suits();
+    meets_constraints();
+    meets_statements();
+    each_names_itself();
+    each_names_own();
+    are_plain();
+    all_fair();
+    spawns_threads();
+    has_main();
+    one_function_of_name();
+    within_limits();
+}
+
+/// The code of such a program has its tables, and it can be told which functions thread 0 alone runs.
+pub fn settings_law()
+    ensures { CodeIsSet }
+{
+    some_are_alone();
+    targets_are();
+    globals_hold();
+    made_tables_fit();
+}
+
+/// What its functions name as a global is one of the program.
+pub fn globals_named()
+    ensures { GlobalsAreNamed }
+{
+    meets_constraints();
 }
