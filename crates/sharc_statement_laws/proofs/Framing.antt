@@ -10,7 +10,7 @@ use Rattle.sharc_flat_form.specs.declared.op.Op.TheVariants as op
 use Rattle.sharc_flat_form.specs.declared.op.Spot.{Spot}
 use Rattle.sharc_flat_form.specs.Framed.{BaseWithin, HandedWithin, OpWrites}
 use Rattle.sharc_flat.specs.Frames.{int_need, ref_need, base_need, handed_need, ints_in, refs_in}
-use Rattle.sharc_labels_laws.specs.Stretches.{WritesWithin, AreWithin}
+use Rattle.sharc_labels_laws.specs.Stretches.{AreWithin}
 
 -- indexes of globals have few cells
 abbrev pub IsFew : Op → Type 0
@@ -57,11 +57,7 @@ writes I R (op.Unlock a b c) p q few = omega (arith, q)
 writes I R (op.Spawn a b c d) p q few = (omega (arith, p), handed_within R c q)
 writes I R o p q few = tt
 
-frame_of : (I R : ℕ) (o : Op) → OpWrites I R o → WritesWithin I R o
-frame_of I R (op.Call a b c d) h = h
-frame_of I R o h = h
-
 pub are_within : (I R : ℕ) (os : List Op) → ints_in os ≤ I → refs_in os ≤ R → AreFew os → AreWithin I R os
 are_within I R [] p q few = tt
 are_within I R (o ∷ os) p q few =
-    (frame_of I R o (writes I R o (omega (arith, p)) (omega (arith, q)) (few zero o refl)), are_within I R os (omega (arith, p)) (omega (arith, q)) (λ n x at. few (suc n) x at))
+    (writes I R o (omega (arith, p)) (omega (arith, q)) (few zero o refl), are_within I R os (omega (arith, p)) (omega (arith, q)) (λ n x at. few (suc n) x at))

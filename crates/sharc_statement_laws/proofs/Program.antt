@@ -37,7 +37,6 @@ use Rattle.sharc_labels_laws.specs.Laws.{AreAllLines, LinesAreTyped, LinesTell, 
 use Rattle.sharc_statement_laws.specs.Functions.{FunctionTypable, FunctionsAreTyped}
 use Rattle.sharc_statement_laws.specs.Programs.{AreGlobalsNamed, TypableProgram, IsSettingOf}
 use Rattle.sharc_statement_laws.proofs.After.{OpPast}
-use Rattle.sharc_statement_laws.proofs.Arrays.{arrays_low}
 use Rattle.sharc_statement_laws.proofs.Assembled.{table_of, agrees_self, past_marks, AllFunctions, all_marks, marks_many, owner_from, lines_are, begins_at}
 use Rattle.sharc_statement_laws.proofs.Framing.{AreFew, are_within}
 use Rattle.sharc_statement_laws.proofs.Past.{AllPast, functions_past}
@@ -263,7 +262,7 @@ module _ (typed_lines : LinesAreTyped) (tell : LinesTell) (know : LinesKnow) (fu
   past : (n : ℕ) (o : Op) → slice_get made.lines n ≡ Some o → OpPast o
   past n o at =
       let w = told_at m.typed bytes L made.lines lines_laid n o at in
-      subst OpPast (sym w.is) (past_told w.lvalue w.lock w.of (past_at L (functions_past m globals (arrays_low m known) 0 fs) n w.of w.at))
+      subst OpPast (sym w.is) (past_told w.lvalue w.lock w.of (past_at L (functions_past m known 0 fs (λ f c. c)) n w.of w.at))
 
   -- ---- where functions begin
   entry_is : (f : ℕ) (g : Function) → FunctionTypable z f y (in_function m globals g) g → entry_label (labels_by z table) f ≡ label_of y (in_function m globals g) f

@@ -16,7 +16,7 @@ use Rattle.sharc_invariant.specs.Labels.{Empty, Refers, Number, Anything, Within
 use Rattle.sharc_invariant.specs.Typed.{IsPlain, MayStart}
 use Rattle.sharc_labels_laws.specs.Stretches.{Setting}
 use Rattle.sharc_labels_laws.specs.Premises.{Typing}
-use Rattle.sharc_statement_laws.specs.Statements.{GivesBackBy, GivesBack}
+use Rattle.sharc_labels_laws.specs.Returned.{GivesBackBy, GivesBack}
 
 -- ---- parameters
 or_false : (b : Bool) → (b || false) ≡ b

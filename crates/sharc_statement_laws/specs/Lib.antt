@@ -1,4 +1,3 @@
-pub mod Functions
-pub mod Programs
 pub mod Statements
 pub mod Functions
+pub mod Programs

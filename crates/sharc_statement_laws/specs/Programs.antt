@@ -1,8 +1,12 @@
 -- What the types of a source have to say of a whole program, so that its code is typed.
 use Rattle.std.specs.Prelude.{ℕ, ◌^◌, ◌≡◌, ◌<◌, true, length, None}
+use Rattle.sharc_tree.specs.declared.token.Span.{Span}
+use Rattle.sharc_tree.specs.declared.tree.declaration.Identifier.{Identifier}
+use Rattle.sharc_tree.specs.Tree.{identifier}
 use Rattle.sharc_names.specs.declared.fault.Named.TheVariants as named
 use Rattle.sharc_ctype.specs.Resolved.{globals_in, named_at, function_at}
 use Rattle.sharc_mode.specs.Moded.{Assignment}
+use Rattle.sharc_mode_laws.specs.Constructs.{IsExpression}
 use Rattle.sharc_flat_form.specs.declared.flat.Flat.{Flat as FlatCode}
 use Rattle.sharc_flat_form.specs.Made.{flat_of}
 use Rattle.sharc_flat.specs.Correct.{MayStart}
@@ -19,9 +23,9 @@ use Rattle.sharc_labels_laws.specs.Stretches.{Setting}
 use Rattle.sharc_labels_laws.specs.Premises.{Typing}
 use Rattle.sharc_statement_laws.specs.Functions.{IsLowTyping, ProgramTypable}
 
--- what is named as a global is one of the program
+-- what a function names as a global is one of the program
 abbrev pub AreGlobalsNamed : Assignment → Type 0
-AreGlobalsNamed m = (token g : ℕ) → named_at m.typed token ≡ named.Global g → g < length (globals_in m.typed.program.items)
+AreGlobalsNamed m = (s : Span) (i : Identifier) → IsExpression m (identifier s i) → (g : ℕ) → named_at m.typed i.site.token ≡ named.Global g → g < length (globals_in m.typed.program.items)
 
 -- a function with which a thread may begin is handed one argument at most, whose type names no register, and gives no reference back
 pub record StartTypable (z : Setting) (m : Assignment) (n : ℕ) : Type 0 where
