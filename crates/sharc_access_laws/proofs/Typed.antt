@@ -189,7 +189,7 @@ pub bases_stand : BasesStand
 bases_stand = record { values = λ c e h. base_stands c e (value_pointer c e h); places = λ c e h. base_stands c e (place_pointer c e h) }
 
 pub lvalues_are_typed : IntegersFit → ReferencesFit → MutexesFit → GroundsFit → UsesAreFair → PathsLead → LvaluesAreTyped
-lvalues_are_typed integers_fit references_fit mutexes_fit grounds_fit fair lead c code is signature starts lines alone y typing entries n f e at cell bases =
+lvalues_are_typed integers_fit references_fit mutexes_fit grounds_fit fair lead c code is signature starts lines alone y typing entries n f e at bases cell =
     let all = inside integers_fit references_fit mutexes_fit grounds_fit c code is signature starts lines y typing entries n f e at cell bases in
     lvalue_typed integers_fit references_fit mutexes_fit grounds_fit c code is signature starts lines y typing entries n f e at cell bases
     (fair c is.accepted (λ k. (signature k).alone) alone n f at.function e at.parts (lead c is.accepted e all at.stand))

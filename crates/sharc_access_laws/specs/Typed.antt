@@ -52,4 +52,4 @@ pub record BasesStand : Type 0 where
 -- of each lvalue that names a cell, by what the source says of expressions and variables, where it is told which functions thread 0 alone runs
 abbrev pub LvaluesAreTyped : Type 0
 LvaluesAreTyped = (c : Context) (code : Code) → IsCodeOf c code → (signature : ℕ → Signature) (starts : ℕ → Bool) (lines : ℕ) → AreAlone c.program (λ k. (signature k).alone) → (y : Typing) → IsTypingOf y c → ((p : Expression) → y.entry c p ≡ entry_of c p)
-    → (n : ℕ) (f : Function) (e : Expression) → IsOf c n f e → is_cell (target_of c e) ≡ true → BaseStands c e → LvalueTyped (setting c code signature starts lines) y c n e
+    → (n : ℕ) (f : Function) (e : Expression) → IsOf c n f e → BaseStands c e → is_cell (target_of c e) ≡ true → LvalueTyped (setting c code signature starts lines) y c n e
