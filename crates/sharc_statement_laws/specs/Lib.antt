@@ -1,2 +1,4 @@
 pub mod Functions
+pub mod Programs
 pub mod Statements
+pub mod Functions

@@ -1,1 +1,25 @@
 // The laws, each the contract of a function with calls of other laws alone.
+
+ghost use Rattle.sharc_statement_laws.specs.Functions.{FunctionsAreTyped};
+
+use sharc_labels_laws::{
+    blocks_law, decisions_law, ends_law, jumps_law, labels_law, leaves_law, locals_law,
+    returns_nothing_law, simples_law, tests_law, values_return_law,
+};
+
+/// The code of a function of which the types say what is asked is typed, wherever it is.
+pub fn functions_law()
+    ensures { FunctionsAreTyped }
+{
+    blocks_law();
+    decisions_law();
+    simples_law();
+    tests_law();
+    locals_law();
+    ends_law();
+    leaves_law();
+    jumps_law();
+    labels_law();
+    returns_nothing_law();
+    values_return_law();
+}
