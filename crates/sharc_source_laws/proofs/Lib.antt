@@ -1,4 +1,3 @@
-mod Among
 mod Behind
 mod Held
 mod Lines
