@@ -1,4 +1,5 @@
 pub mod Accesses
+pub mod Firsts
 pub mod Joined
 pub mod Paths
 pub mod Typed

@@ -14,7 +14,7 @@ use Rattle.sharc_mode_laws.specs.Constructs.{IsTaken, IsAssigned}
 use Rattle.sharc_flat.specs.Flattened.{kind_of, target_of, mode_of, lvalue_in, guard_of}
 use Rattle.sharc_flat.specs.Places.{width_of}
 use Rattle.sharc_flat.specs.Scope.{Context}
-use Rattle.sharc_flat.specs.Suits.{is_cell}
+use Rattle.sharc_flat.specs.Suits.{is_cell, Suits, PlaceSuits}
 use Rattle.sharc_invariant.specs.Labels.{Signature}
 use Rattle.sharc_labels_laws.specs.Stretches.{Setting}
 use Rattle.sharc_labels_laws.specs.Premises.{Typing, IntegerTyped, ReferenceTyped, MutexTyped}
@@ -23,7 +23,7 @@ use Rattle.sharc_static_laws.specs.Alone.{AreAlone}
 use Rattle.sharc_static_laws.specs.Standing.{ExpressionsStand}
 use Rattle.sharc_static_laws.specs.Static.{static_of, entry_of}
 use Rattle.sharc_access_laws.specs.Accesses.{IsCodeOf}
-use Rattle.sharc_access_laws.specs.Joined.{setting, IsTypingOf}
+use Rattle.sharc_access_laws.specs.Joined.{BaseStands, setting, IsTypingOf}
 
 -- an expression of function n, where the variables of the lock paths of its types stand
 pub record IsOf (c : Context) (n : ℕ) (f : Function) (e : Expression) : Type 0 where
@@ -44,7 +44,12 @@ module _ (z : Setting) (y : Typing) (c : Context) (n : ℕ) (e : Expression) whe
     pub taken : IsTaken c.program e → CellTyped true
     pub mutex : kind_of c e ≡ mutex → MutexTyped z y c n (target_of c e) None (ground_of z n y c e)
 
+-- a constant variable through which it leads stands, where what its parts name does
+pub record BasesStand : Type 0 where
+  pub values : (c : Context) (e : Expression) → Suits c e → BaseStands c e
+  pub places : (c : Context) (e : Expression) → PlaceSuits c e → BaseStands c e
+
 -- of each lvalue that names a cell, by what the source says of expressions and variables, where it is told which functions thread 0 alone runs
 abbrev pub LvaluesAreTyped : Type 0
 LvaluesAreTyped = (c : Context) (code : Code) → IsCodeOf c code → (signature : ℕ → Signature) (starts : ℕ → Bool) (lines : ℕ) → AreAlone c.program (λ k. (signature k).alone) → (y : Typing) → IsTypingOf y c → ((p : Expression) → y.entry c p ≡ entry_of c p)
-    → (n : ℕ) (f : Function) (e : Expression) → IsOf c n f e → is_cell (target_of c e) ≡ true → LvalueTyped (setting c code signature starts lines) y c n e
+    → (n : ℕ) (f : Function) (e : Expression) → IsOf c n f e → BaseStands c e → is_cell (target_of c e) ≡ true → LvalueTyped (setting c code signature starts lines) y c n e

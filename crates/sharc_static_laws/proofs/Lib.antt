@@ -1,5 +1,6 @@
 pub mod Alone
 pub mod Arrays
+pub mod Callees
 pub mod FileNames
 pub mod Given
 pub mod Holds

@@ -1,6 +1,7 @@
 pub mod Alone
 pub mod Calls
 pub mod Casting
+pub mod Conditions
 pub mod Held
 pub mod Laws
 pub mod Leading

@@ -3,6 +3,7 @@
 ghost use Rattle.sharc_static_laws.specs.Alone.{SomeAreAlone};
 ghost use Rattle.sharc_static_laws.specs.Calls.{ArgumentsFit, ArgumentsPass};
 ghost use Rattle.sharc_static_laws.specs.Casting.{CastsRecast};
+ghost use Rattle.sharc_static_laws.specs.Conditions.{KnownCalls};
 ghost use Rattle.sharc_static_laws.specs.Held.{HeldLaws};
 ghost use Rattle.sharc_static_laws.specs.Laws.{GivenLaws};
 ghost use Rattle.sharc_static_laws.specs.Leading.{ExpressionsLead};
@@ -167,4 +168,12 @@ pub fn expressions_lead()
     only_names();
     each_names_itself();
     each_names_own();
+}
+
+/// Where a call names `wait`, `signal` or `broadcast` as the program does not define them, it does not define `struct cond`.
+pub fn known_calls()
+    ensures { KnownCalls }
+{
+    each_name_once();
+    only_names();
 }
