@@ -1,26 +1,21 @@
 -- The code of a program that is accepted is typed.
-use Rattle.std.specs.Prelude.{ℕ, ◌≤◌, Bool}
+use Rattle.std.specs.Prelude.{ℕ, ◌≤◌}
 use Rattle.sharc_code.specs.declared.code.Code.{Code}
 use Rattle.sharc_mode.specs.Moded.{Assignment}
 use Rattle.sharc_flat_form.specs.declared.flat.Flat.{Flat as FlatCode}
 use Rattle.sharc_flat_form.specs.Made.{flat_of}
 use Rattle.sharc_flat.specs.Flattens.{Flattens}
 use Rattle.sharc_flat.specs.Laws.{FitsMade}
-use Rattle.sharc_flat.specs.Tables.{globals_of}
 use Rattle.sharc_compile.specs.Made.{IsCodeOf}
 use Rattle.sharc_invariant.specs.Labels.{Labels}
 use Rattle.sharc_invariant.specs.Typed.{IsWellTyped}
 use Rattle.sharc_statement_laws.specs.Programs.{AreGlobalsNamed}
 use Rattle.sharc_static_laws.specs.Laws.{IsAccepted}
 use Rattle.sharc_target_laws.specs.Targets.{targets_of}
-use Rattle.sharc_accepted_laws.specs.Programs.{AllCellsTyped, AreUnsigned}
-use Rattle.sharc_accepted_laws.specs.Setting.{ConstantsHold, IsSet}
+use Rattle.sharc_accepted_laws.specs.Programs.{AreUnsigned}
+use Rattle.sharc_accepted_laws.specs.Setting.{ConstantsHold}
 
--- ---- what is asked of cells and of names
--- cells are accessed as their types say
-abbrev pub CellsAreTyped : Type 0
-CellsAreTyped = (m : Assignment) (code : Code) (alone : ℕ → Bool) (lines : ℕ) → IsSet m (globals_of m.typed) code alone → AllCellsTyped m code alone lines
-
+-- ---- names
 -- what is named as a global is one of the program
 abbrev pub GlobalsAreNamed : Type 0
 GlobalsAreNamed = (m : Assignment) → IsAccepted m → AreGlobalsNamed m

@@ -1,4 +1,5 @@
 pub mod Accepted
+pub mod Cells
 pub mod Expressions
 pub mod Programs
 pub mod Setting

@@ -1,18 +1,25 @@
 // The laws, each the contract of a function with calls of other laws alone.
 
-ghost use Rattle.sharc_accepted_laws.specs.Accepted.{AcceptedIsTyped, CellsAreTyped, GlobalsAreNamed};
+ghost use Rattle.sharc_accepted_laws.specs.Accepted.{AcceptedIsTyped, GlobalsAreNamed};
+ghost use Rattle.sharc_accepted_laws.specs.Cells.{CellsAreTyped};
 ghost use Rattle.sharc_accepted_laws.specs.Expressions.{ExpressionsAreTypable};
 ghost use Rattle.sharc_accepted_laws.specs.Programs.{CodeIsSet, ProgramsAreTypable};
 
+use sharc_compile_laws::made_tables_fit;
 use sharc_ctype_laws::laws::{
-    are_plain, each_names_itself, each_names_own, meets_constraints, meets_globals, one_type,
-    spawns_name_functions, spawns_threads,
+    all_fair, are_plain, each_names_itself, each_names_own, has_main, meets_constraints,
+    meets_globals, meets_statements, one_function_of_name, one_type, spawns_name_functions,
+    spawns_threads, within_limits,
 };
+use sharc_flat_laws::laws::typed_suits;
+use sharc_statement_laws::laws::code_typed_law;
 use sharc_static_laws::laws::{
-    arguments_fit, functions_stand, result_laws, scope_laws, spawned_begin,
+    arguments_fit, functions_stand, given_laws, held_laws, result_laws, scope_laws,
+    some_are_alone, spawned_begin,
 };
 use sharc_target_laws::laws::{
-    arrays_fit, expressions_found, globals_are, locks_stand_beside, lvalues_fit, pointees_fit,
+    arrays_fit, expressions_found, globals_are, globals_hold, locks_stand_beside, lvalues_fit,
+    numbers_found, pointees_fit, targets_are, variables_found,
 };
 use sharc_typable_laws::laws::{calling_laws, taking_laws, threads_pass, value_laws};
 
@@ -89,4 +96,14 @@ pub fn globals_named()
     ensures { GlobalsAreNamed }
 {
     meets_constraints();
+}
+
+/// So the code of such a program is typed, where its cells are accessed as their types say.
+pub fn accepted_if_cells_law()
+    ensures { CellsAreTyped → AcceptedIsTyped }
+{
+    programs_law();
+    settings_law();
+    globals_named();
+    code_typed_law();
 }
