@@ -1,6 +1,7 @@
 pub mod Arguments
 pub mod Bases
 pub mod Calls
+pub mod Celled
 pub mod Conditions
 pub mod Facts
 pub mod Fields
