@@ -3,6 +3,7 @@ pub mod Assigned
 pub mod Bases
 pub mod Begun
 pub mod Calls
+pub mod Celled
 pub mod Conditions
 pub mod Facts
 pub mod Fields

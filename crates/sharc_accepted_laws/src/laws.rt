@@ -5,6 +5,7 @@ ghost use Rattle.sharc_accepted_laws.specs.Cells.{CellsAreTyped};
 ghost use Rattle.sharc_accepted_laws.specs.Expressions.{ExpressionsAreTypable};
 ghost use Rattle.sharc_accepted_laws.specs.Programs.{CodeIsSet, ProgramsAreTypable};
 
+use sharc_access_laws::laws::{firsts_fit, lvalues_are_typed, paths_lead};
 use sharc_compile_laws::made_tables_fit;
 use sharc_ctype_laws::laws::{
     all_fair, are_plain, each_names_itself, each_names_own, has_main, meets_constraints,
@@ -14,7 +15,7 @@ use sharc_ctype_laws::laws::{
 use sharc_flat_laws::laws::typed_suits;
 use sharc_statement_laws::laws::code_typed_law;
 use sharc_static_laws::laws::{
-    arguments_fit, functions_stand, given_laws, held_laws, result_laws, scope_laws,
+    arguments_fit, functions_stand, given_laws, held_laws, known_calls, result_laws, scope_laws,
     some_are_alone, spawned_begin,
 };
 use sharc_target_laws::laws::{
@@ -50,6 +51,18 @@ pub fn expressions_law()
     taking_laws();
     calling_laws();
     threads_pass();
+}
+
+/// What is asked of the cells of an accepted program holds.
+pub fn cells_law()
+    ensures { CellsAreTyped }
+{
+    value_laws();
+    scope_laws();
+    lvalues_are_typed();
+    paths_lead();
+    firsts_fit();
+    known_calls();
 }
 
 /// A program that is accepted is typable: its functions, what a thread may begin with, and main.
@@ -98,10 +111,11 @@ pub fn globals_named()
     meets_constraints();
 }
 
-/// So the code of such a program is typed, where its cells are accessed as their types say.
-pub fn accepted_if_cells_law()
-    ensures { CellsAreTyped → AcceptedIsTyped }
+/// So its code is typed.
+pub fn accepted_law()
+    ensures { AcceptedIsTyped }
 {
+    cells_law();
     programs_law();
     settings_law();
     globals_named();
