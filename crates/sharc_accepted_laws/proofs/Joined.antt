@@ -1,5 +1,5 @@
 -- The code of a program that is accepted is typed, by the laws of its functions and of its tables.
-use Rattle.std.proofs.Common.{◌≡◌, ℕ, ◌≤◌, Bool, length, sym, subst}
+use Rattle.std.proofs.Common.{ℕ, Bool, length, sym, subst}
 use Rattle.sharc_code.specs.declared.code.Code.{Code}
 use Rattle.sharc_mode.specs.Moded.{Assignment}
 use Rattle.sharc_flat_form.specs.Made.{flat_of}

@@ -1,11 +1,9 @@
 -- The tables of code that is made of a program.
-use Rattle.std.proofs.Common.{◌≡◌, ℕ, zero, suc, pos, ◌+◌, ◌^◌, ◌<◌, ◌≤◌, Bool, List, [], ◌∷◌, length, map, slice_get, slice_index, slice_index_or, refl, ap, sym, ◌∙◌, subst, arith, Some, None, Contains}
+use Rattle.std.proofs.Common.{◌≡◌, ℕ, zero, suc, pos, ◌+◌, ◌^◌, ◌<◌, ◌≤◌, Bool, List, [], ◌∷◌, length, map, slice_get, slice_index, slice_index_or, refl, ap, sym, ◌∙◌, subst, arith, Some}
 use Rattle.std.specs.Prelude.{unsigned_abs}
 use Rattle.std.proofs.lemmas.List.{length-map}
-use Rattle.std.specs.List.{AllByRecursion}
 use Rattle.sharc_tree.specs.declared.token.Number.{Number}
 use Rattle.sharc_tree.specs.declared.token.Span.{Span}
-use Rattle.sharc_tree.specs.declared.tree.expression.Constant.{Constant}
 use Rattle.sharc_tree.specs.declared.tree.expression.Constant.TheVariants as constants
 use Rattle.sharc_tree.specs.declared.tree.item.GlobalDefinition.{GlobalDefinition}
 use Rattle.sharc_tree.specs.declared.tree.item.GlobalForm.{GlobalForm}
@@ -14,15 +12,15 @@ use Rattle.sharc_tree.specs.Tree.{Function}
 use Rattle.sharc_code.specs.declared.code.Code.{Code}
 use Rattle.sharc_code.specs.declared.code.Function.{Function as Row}
 use Rattle.sharc_code.specs.declared.code.GlobalCells.{GlobalCells}
-use Rattle.sharc_code.specs.Machine.{no_function, function_of}
+use Rattle.sharc_code.specs.Machine.{no_function}
 use Rattle.sharc_code.specs.Ranges.{GlobalsFit}
-use Rattle.sharc_ctype.specs.Resolved.{globals_in, functions_in, function_at, global_at}
+use Rattle.sharc_ctype.specs.Resolved.{globals_in, functions_in, function_at}
 use Rattle.sharc_mode.specs.Moded.{Assignment}
 use Rattle.sharc_flat_form.specs.declared.flat.Flat.{Flat as FlatCode}
 use Rattle.sharc_flat_form.specs.Made.{flat_of}
 use Rattle.sharc_flat.specs.Flattened.{parameter_of, function_code, rows_of}
 use Rattle.sharc_flat.specs.Flattens.{Flattens, names_of}
-use Rattle.sharc_flat.specs.Laid.{IsNamed, AreNamed}
+use Rattle.sharc_flat.specs.Laid.{AreNamed}
 use Rattle.sharc_flat.specs.Tables.{globals_of}
 use Rattle.sharc_guard.specs.Guard.{entered_at, place}
 use Rattle.sharc_guard.specs.Known.{dropped}
@@ -33,9 +31,9 @@ use Rattle.sharc_static_laws.specs.Alone.{SomeAreAlone}
 use Rattle.sharc_static_laws.specs.Laws.{IsAccepted}
 use Rattle.sharc_target_laws.specs.Laws.{IsCounted, CountedForm, HasTables, TargetsAre, GlobalsHold}
 use Rattle.sharc_target_laws.specs.Targets.{targets_of}
-use Rattle.sharc_accepted_laws.specs.Programs.{AreUnsigned, IsSetting, CodeIsSet}
+use Rattle.sharc_accepted_laws.specs.Programs.{AreUnsigned, CodeIsSet}
 use Rattle.sharc_accepted_laws.specs.Setting.{HasRow}
-use Rattle.sharc_accepted_laws.proofs.Members.{head_or_tail, head_there, tail_there, to_each, same_some, none_some, place_of_element}
+use Rattle.sharc_accepted_laws.proofs.Members.{to_each, same_some, none_some, place_of_element}
 
 -- ---- rows
 record RowAt (made : List Row) (n : ℕ) (g : Function) : Type 0 where
