@@ -1,5 +1,6 @@
 pub mod Beside
 pub mod Fields
+pub mod Granules
 pub mod Laws
 pub mod Lvalues
 pub mod Pointees
