@@ -28,11 +28,11 @@ use Rattle.sharc_access_laws.specs.Joined.{GroundsFit}
 use Rattle.sharc_access_laws.proofs.Pointing.{has_pointer_modes}
 use Rattle.sharc_access_laws.proofs.Standing.{lvalue_cells}
 
-front : {A : Type 0} (P : A → Type 0) (a b : List A) → AllByRecursion P (a ++ b) → AllByRecursion P a
+pub front : {A : Type 0} (P : A → Type 0) (a b : List A) → AllByRecursion P (a ++ b) → AllByRecursion P a
 front P [] b all = tt
 front P (x ∷ a) b all = (all.0, front P a b all.1)
 
-self : (P : Expression → Type 0) (e : Expression) → AllByRecursion P (expressions e) → P e
+pub self : (P : Expression → Type 0) (e : Expression) → AllByRecursion P (expressions e) → P e
 self P (identifier s i) all = all.0
 self P (constant s v) all = all.0
 self P (parentheses s a) all = all.0

@@ -79,7 +79,7 @@ one_mode zero (x ∷ rest) low = (x, refl)
 one_mode (suc n) [] low = absurd (omega (arith, low))
 one_mode (suc n) (x ∷ rest) low = one_mode n rest (omega (arith, low))
 
-one_sharing : (m : Assignment) (row : Row) → row.count ≡ 1 → row.first + row.count ≤ length m.modes → (q : Sharing) × (modes_of m row ≡ q ∷ [])
+pub one_sharing : (m : Assignment) (row : Row) → row.count ≡ 1 → row.first + row.count ≤ length m.modes → (q : Sharing) × (modes_of m row ≡ q ∷ [])
 one_sharing m row one ends =
     let inside : row.first + 1 ≤ length m.modes = omega (arith, one, ends) in
     let w = one_mode row.first m.modes inside in

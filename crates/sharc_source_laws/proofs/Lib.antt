@@ -1,3 +1,4 @@
+mod Among
 mod Behind
 mod Held
 mod Lines

@@ -3,6 +3,7 @@ pub mod Beginning
 pub mod Beside
 pub mod Cells
 pub mod Expressing
+pub mod Firsts
 pub mod Fits
 pub mod Forms
 pub mod Found

@@ -2,9 +2,11 @@
 
 ghost use Rattle.sharc_target_laws.specs.Beside.{LocksStandBeside};
 ghost use Rattle.sharc_target_laws.specs.Fields.{FieldsPlaced};
+ghost use Rattle.sharc_target_laws.specs.Firsts.{FirstLaws};
 ghost use Rattle.sharc_target_laws.specs.Granules.{GranulesAreFew};
 ghost use Rattle.sharc_target_laws.specs.Laws.{NumbersFound, ShapesClosed, CellsAre, TargetsAre, ExpressionsFound, VariablesFound, ResultsFound, MembersAre, GlobalsAre, GlobalsEnd, GlobalsBegin, GlobalsHold, LayoutsAre};
 ghost use Rattle.sharc_target_laws.specs.Lvalues.{LvaluesFit, ArraysFit};
+ghost use Rattle.sharc_target_laws.specs.Own.{OwnAreFound};
 ghost use Rattle.sharc_target_laws.specs.Pointees.{PointeesFit, RecastsFit, SameForms};
 
 use sharc_ctype_laws::laws::{
@@ -161,3 +163,15 @@ pub fn granules_are_few()
 {
     cells_are_few();
 }
+
+/// Parameters, locals and casts are found by their tokens, with the roles that they have.
+pub fn own_found()
+    ensures { OwnAreFound }
+{
+    each_type_found();
+}
+
+/// The first cell of a mutex and of a condition variable is one, and the table has a row for each.
+pub fn first_laws()
+    ensures { FirstLaws }
+{}

@@ -209,7 +209,7 @@ calls_pass themselves arguments_fit scopes z f c a g there all call suits i k l 
     copies x at y pointer used names held =
         let slot = standing x at y pointer used names in
         let q = reference_found 0 0 c.scope y slot in
-        let kept : held_at c q.0 ≡ true = ap (held_at c) (sym (ap number_in q.1)) ∙ ap (held_named c.program.typed) (scopes.has c y slot).1.0 ∙ held in
+        let kept : held_at c q.0 ≡ true = ap (held_at c) (sym (ap number_in q.1)) ∙ ap (held_named c.program.typed) (scopes.has c y slot).1 ∙ held in
         let first : k ≡ k + 0 = omega arith in
         HasCopy (copy_at z f c l g.parameters (wants_of c g.parameters all) all i k 0 0 suits
         (subst (λ n. ArgumentsAt z f typing c (declared_kinds g.parameters) (wants_of c g.parameters all) all i n l) first given) declared x at y q.0 pointer used names q.1 kept ∙ sym (ap number_in q.1))

@@ -1,0 +1,12 @@
+pub mod Arguments
+pub mod Bases
+pub mod Calls
+pub mod Celled
+pub mod Conditions
+pub mod Facts
+pub mod Fields
+pub mod Forms
+pub mod Lists
+pub mod Plain
+pub mod Spawns
+pub mod Typable
