@@ -1,5 +1,4 @@
 -- The code of a program that is accepted is typed.
-use Rattle.std.specs.Prelude.{◌≤◌}
 use Rattle.sharc_code.specs.declared.code.Code.{Code}
 use Rattle.sharc_mode.specs.Moded.{Assignment}
 use Rattle.sharc_flat_form.specs.declared.flat.Flat.{Flat as FlatCode}
