@@ -285,15 +285,15 @@ module _ (laws : Laws) (z : Setting) (alone : ℕ → Bool) (n : ℕ) (g : Funct
           type,
           assigned_is facts u x there suits.0 does.0 meets.0 meets.1 (target_of c u) refl suits.1,
           right_is (is_bare z n typing (target_of c u)) (kind_of c u) (type_by (entry_of c u)) (pointed c.program (row_at c.program.typed u)) x
-          (record {
-            inside = back (Contains (in_function g)) (expressions u) (in_right x) given.inside;
-            stands = back (ExpressionStands c) (expressions u) (in_right x) given.stands;
-            agrees = does.1;
-            type = type;
-            goes = goes_is facts u x there suits.0 does.0 meets.0 meets.1;
-            makes = makes_is facts u x there suits.0 does.0 meets.0 meets.1;
-          })
-          suits.2,
+              (record {
+                inside = back (Contains (in_function g)) (expressions u) (in_right x) given.inside;
+                stands = back (ExpressionStands c) (expressions u) (in_right x) given.stands;
+                agrees = does.1;
+                type = type;
+                goes = goes_is facts u x there suits.0 does.0 meets.0 meets.1;
+                makes = makes_is facts u x there suits.0 does.0 meets.0 meets.1;
+              })
+              suits.2,
         ),
       )
   simple_is facts (does_call e) given meets low suits =

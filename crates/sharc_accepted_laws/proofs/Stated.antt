@@ -262,12 +262,12 @@ module _ (laws : Laws) (results : ResultLaws) (variables : VariablesFound) (z : 
         let transfers_head = front (Does g c.program) (firsts ++ tests ++ steps) (statement_transfers r g.result a) given.transfers in
         let suits2 = subst (λ d. IfThere (TestSuits d) x.test × IfThere (SimpleSuits d) x.step × StatementSuits d kind true a) (same_first c x.first) (suits.1, suits.2, suits.3) in (
           first_typable c h x.first (front (Contains (in_function g)) (in_first x.first) (in_option expressions x.test) inside_front) stands.0
-          (front (Does g c.program) firsts tests (front (Does g c.program) (firsts ++ tests) steps transfers_head))
-          (front (Own g c.program) (locals_in_first x.first) (locals_in a) given.locals) given.meets.0.0 given.low.0.0 fresh.0 suits.0,
+              (front (Does g c.program) firsts tests (front (Does g c.program) (firsts ++ tests) steps transfers_head))
+              (front (Own g c.program) (locals_in_first x.first) (locals_in a) given.locals) given.meets.0.0 given.low.0.0 fresh.0 suits.0,
           test_option c2 h2 x.test (first_program (λ m. Inside g m (in_option expressions x.test)) c x.first (back (Contains (in_function g)) (in_first x.first) (in_option expressions x.test) inside_front)) stands.1 suits2.0,
           step_option c2 h2 x.step (first_program (λ m. Inside g m (in_option in_simple x.step)) c x.first (back (Contains (in_function g)) (in_first x.first ++ in_option expressions x.test) (in_option in_simple x.step) inside_head)) stands.2
-          (first_program (λ m. AllByRecursion (Does g m) (option_transfers (simple_transfers m.typed) x.step)) c x.first (back (Does g c.program) (firsts ++ tests) steps transfers_head))
-          (first_program (λ m. IfSome x.step (MeetsSimple m.typed)) c x.first given.meets.0.2) given.low.0.2 suits2.1,
+              (first_program (λ m. AllByRecursion (Does g m) (option_transfers (simple_transfers m.typed) x.step)) c x.first (back (Does g c.program) (firsts ++ tests) steps transfers_head))
+              (first_program (λ m. IfSome x.step (MeetsSimple m.typed)) c x.first given.meets.0.2) given.low.0.2 suits2.1,
           statement_is c2 h2 true a stands.3 fresh.1 suits2.2
               (first_program (λ m. Given g m true a) c x.first
               (record {
