@@ -18,13 +18,12 @@ use Rattle.sharc_flat.specs.Suits.{PlaceSuits, is_cell}
 use Rattle.sharc_labels_laws.specs.Stretches.{Setting}
 use Rattle.sharc_labels_laws.specs.Stated.{CellAssigned}
 use Rattle.sharc_labels_laws.specs.Typable.{type_by, IsTypable, IsPlaceTypable}
-use Rattle.sharc_access_laws.specs.Typed.{IsOf, CellTyped}
+use Rattle.sharc_access_laws.specs.Typed.{IsOf, BasesStand, CellTyped}
 use Rattle.sharc_static_laws.specs.Static.{entry_by, entry_of}
 use Rattle.sharc_typable_laws.specs.Typing.{typing}
 use Rattle.sharc_accepted_laws.specs.Expressions.{CellsTyped, ExpressionsTypable, ExpressionsAreTypable}
 use Rattle.sharc_accepted_laws.specs.Statements.{IsPlaceIn, IsThere, AreExpressionsTypable}
 use Rattle.sharc_accepted_laws.proofs.Assigned.{Laws, at_there, no_entry}
-use Rattle.sharc_accepted_laws.proofs.Bases.{place_base}
 use Rattle.sharc_accepted_laws.proofs.Sorts.{held_pointer, held_integer}
 use Rattle.sharc_accepted_laws.proofs.Wholes.{some_star}
 
@@ -56,7 +55,7 @@ held_no_array : (k : Kind) → IsHeld k → is_array k ≡ false
 held_no_array k (inl (b, t, is)) = ap is_array is
 held_no_array k (inr (b, n, is)) = ap is_array is
 
-module _ (expressions : ExpressionsAreTypable) (z : Setting) (alone : ℕ → Bool) (n : ℕ) (g : Function) (cells : (c : Context) → IsPlaceIn z alone n g c → CellsTyped z c n g) where
+module _ (expressions : ExpressionsAreTypable) (bases : BasesStand) (z : Setting) (alone : ℕ → Bool) (n : ℕ) (g : Function) (cells : (c : Context) → IsPlaceIn z alone n g c → CellsTyped z c n g) where
   is_of : (c : Context) → IsPlaceIn z alone n g c → (e : Expression) → IsThere g c e → IsOf c n g e
   is_of c h e t = record { function = h.function; parts = t.inside; stand = t.stands }
 
@@ -75,7 +74,7 @@ module _ (expressions : ExpressionsAreTypable) (z : Setting) (alone : ℕ → Bo
   written_is laws c h u x t suits assigned holds cell = by (is_ref c u) refl
     where
       typed : CellTyped z typing c n u true
-      typed = ((cells c h).lvalues u (is_of c h u t) (place_base c u suits) cell).assigned x assigned
+      typed = ((cells c h).lvalues u (is_of c h u t) (bases.places c u suits) cell).assigned x assigned
 
       of_row : is_ref c u ≡ true → (o : Option (List Sharing)) → modes_at c.program u ≡ o → CellAssigned z n typing c u (type_by (entry_by c (kind_of c u) o)) (target_of c u) true
       of_row ref None is = absurd (has_modes laws c h u t (held_pointer (kind_of c u) holds ref) is)

@@ -24,6 +24,7 @@ use Rattle.sharc_flat.specs.Scope.{int_count, ref_count}
 use Rattle.sharc_flat.specs.Tables.{globals_of}
 use Rattle.sharc_invariant.specs.Labels.{Anything, Within, EntryMentions}
 use Rattle.sharc_invariant.specs.Typed.{IsPlain}
+use Rattle.sharc_access_laws.specs.Typed.{BasesStand}
 use Rattle.sharc_labels_laws.specs.Stretches.{Setting}
 use Rattle.sharc_statement_laws.specs.Functions.{IsLowTyping}
 use Rattle.sharc_statement_laws.specs.Programs.{StartTypable, MainTypable}
@@ -152,12 +153,12 @@ module _ (starts : ThreadLaws) (stand : FunctionsStand) (m : Assignment) (global
       (record { bases = λ i b h. absurd h; names = λ i name h. absurd h; result = λ q h. absurd h; result_base = λ b h. absurd h; result_name = λ name h. absurd h })
 
 -- ---- a whole program
-pub programs_typable : ExpressionsAreTypable → Laws → TypeLaws → ResultLaws → VariablesFound → TypedSuits → FunctionsStand → ThreadLaws → ProgramsAreTypable
-programs_typable expressions laws types results variables suits stand starts m code alone lines set cells =
+pub programs_typable : ExpressionsAreTypable → BasesStand → Laws → TypeLaws → ResultLaws → VariablesFound → TypedSuits → FunctionsStand → ThreadLaws → ProgramsAreTypable
+programs_typable expressions bases laws types results variables suits stand starts m code alone lines set cells =
     let z : Setting = setting_of m (globals_of m.typed) code alone lines in
     record {
       low = low_typing;
-      functions = λ n g at. function_typable laws types results variables suits stand m (globals_of m.typed) z alone set refl n g at (linked expressions z alone n g (cells n g) laws);
+      functions = λ n g at. function_typable laws types results variables suits stand m (globals_of m.typed) z alone set refl n g at (linked expressions bases z alone n g (cells n g) laws);
       others = no_function starts stand m (globals_of m.typed) code alone lines set;
       starts = start_is starts stand m (globals_of m.typed) code alone lines set;
       main = main_is starts stand m (globals_of m.typed) code alone lines set;
