@@ -1,10 +1,10 @@
 -- Arguments: what they are, where they go, and the registers that they take.
-use Rattle.std.proofs.Common.{◌≡◌, ℕ, zero, suc, ◌+◌, ◌<◌, Bool, true, false, cond, List, [], ◌∷◌, ◌++◌, map, drop, slice_get, refl, ap, sym, ◌∙◌, subst, arith, Option, Some, Contains}
+use Rattle.std.proofs.Common.{◌≡◌, ℕ, zero, suc, ◌+◌, ◌<◌, Bool, true, false, cond, List, [], ◌∷◌, ◌++◌, map, drop, slice_get, refl, ap, sym, ◌∙◌, subst, arith, Some, Contains}
 use Rattle.std.proofs.lemmas.Bool.{false≢true}
 use Rattle.std.specs.List.{AllByRecursion}
 use Rattle.sharc_tree.specs.declared.tree.declaration.Declaration.{Declaration}
 use Rattle.sharc_tree.specs.Forms.{is_lvalue}
-use Rattle.sharc_tree.specs.Measures.{expressions, in_arguments, in_function}
+use Rattle.sharc_tree.specs.Measures.{expressions, in_function}
 use Rattle.sharc_tree.specs.Tree.{Expression, Arguments, no_arguments, argument, value, Function}
 use Rattle.sharc_names.specs.declared.fault.Named.TheVariants as named
 use Rattle.sharc_names.specs.Kinds.{Kind, is_pointer, declared_kind, declared_kinds}
@@ -100,10 +100,11 @@ module _ (z : Setting) (n : ℕ) (c : Context) where
     all_go [] no_arguments wants suits typed types inside = tt
     all_go [] (argument a rest) wants suits typed types inside = absurd suits
     all_go (d ∷ ds) no_arguments wants suits typed types inside = tt
-    all_go (d ∷ ds) (argument a rest) wants suits (one_more {k = k} t fits more) types inside =
-        (subst (Goes z n typing c (declared_kinds (d ∷ ds)) a (is_ref c a)) (sym (types 0))
-        (goes_to d (declared_kinds ds) a suits.1 (subst (Assignable (declared_kind d.written)) (sym (one a k t)) fits) (inside record { receiver = variable d; source = value a } (head_there record { receiver = variable d; source = value a } (passed ds rest)))),
-        all_go ds rest (λ p. wants (p + 1)) suits.2 more (λ p. types (p + 1) ∙ next p) (λ t has. inside t (tail_there record { receiver = variable d; source = value a } t (passed ds rest) has)))
+    all_go (d ∷ ds) (argument a rest) wants suits (one_more {k = k} t fits more) types inside = (
+      subst (Goes z n typing c (declared_kinds (d ∷ ds)) a (is_ref c a)) (sym (types 0))
+          (goes_to d (declared_kinds ds) a suits.1 (subst (Assignable (declared_kind d.written)) (sym (one a k t)) fits) (inside record { receiver = variable d; source = value a } (head_there record { receiver = variable d; source = value a } (passed ds rest)))),
+      all_go ds rest (λ p. wants (p + 1)) suits.2 more (λ p. types (p + 1) ∙ next p) (λ t has. inside t (tail_there record { receiver = variable d; source = value a } t (passed ds rest) has)),
+    )
       where
         next : (p : ℕ) → type_for c whole given (slice_get (d ∷ ds) (p + 1)) ≡ type_for c whole given (slice_get ds p)
         next p = let same : p + 1 ≡ suc p = omega arith in ap (λ q. type_for c whole given (slice_get (d ∷ ds) q)) same

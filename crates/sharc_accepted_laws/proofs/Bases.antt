@@ -1,6 +1,5 @@
 -- A constant variable through which an lvalue leads is in scope, where the lvalue suits.
-use Rattle.std.proofs.Common.{◌≡◌, ℕ, Bool, true, false, cond, refl, ap, sym, ◌∙◌, subst, Option, Some, None}
-use Rattle.std.proofs.lemmas.Bool.{false≢true}
+use Rattle.std.proofs.Common.{◌≡◌, ℕ, Bool, true, false, cond, ap, ◌∙◌, subst, Some, None}
 use Rattle.sharc_tree.specs.declared.tree.expression.Access.TheVariants.{Dot, Arrow}
 use Rattle.sharc_tree.specs.declared.tree.expression.UnaryOperator.TheVariants.{Negate, Not, Complement, Dereference}
 use Rattle.sharc_tree.specs.Tree.{Expression, identifier, constant, parentheses, call, spawn, on_value, on_place, cast, index, field, unary, binary}
@@ -14,7 +13,6 @@ use Rattle.sharc_flat.specs.Places.{in_global, global_of, target}
 use Rattle.sharc_flat.specs.Scope.{Context, slot_kind}
 use Rattle.sharc_flat.specs.Suits.{Either, kind_in, NameSuits, Suits, PlaceSuits}
 use Rattle.sharc_access_laws.specs.Joined.{BaseStands}
-use Rattle.sharc_target_laws.specs.Lvalues.{pointer_of}
 use Rattle.sharc_accepted_laws.proofs.Lists.{none_some, same_some}
 
 module _ (c : Context) where

@@ -1,23 +1,19 @@
 -- Calls of the program's functions.
-use Rattle.std.proofs.Common.{◌≡◌, inl, inr, ℕ, zero, suc, ◌+◌, ◌<◌, ◌≤◌, nat_lt, ltb-true, ltb-false, Bool, true, false, cond, List, [], ◌∷◌, ◌++◌, map, slice_get, refl, ap, sym, ◌∙◌, subst, arith, Option, Some, None, IsSomeAnd, Contains}
-use Rattle.std.proofs.lemmas.Bool.{false≢true}
-use Rattle.std.specs.List.{AllByRecursion}
+use Rattle.std.proofs.Common.{◌≡◌, ℕ, zero, suc, ◌+◌, ◌≤◌, nat_lt, ltb-true, ltb-false, Bool, true, false, cond, List, [], ◌∷◌, ◌++◌, refl, ap, sym, ◌∙◌, subst, arith, Option, Some, None, IsSomeAnd, Contains}
 use Rattle.sharc_tree.specs.declared.token.Span.{Span}
-use Rattle.sharc_tree.specs.declared.tree.declaration.Declaration.{Declaration}
 use Rattle.sharc_tree.specs.declared.tree.declaration.Identifier.{Identifier}
-use Rattle.sharc_tree.specs.Measures.{expressions, in_function}
+use Rattle.sharc_tree.specs.Measures.{in_function}
 use Rattle.sharc_tree.specs.Tree.{Expression, Arguments, call, Function}
-use Rattle.sharc_names.specs.declared.fault.Named.{Named}
 use Rattle.sharc_names.specs.declared.fault.Named.TheVariants as named
-use Rattle.sharc_names.specs.Kinds.{Kind, is_pointer, is_integer, is_null, declared_kind, declared_kinds}
+use Rattle.sharc_names.specs.Kinds.{is_integer, is_null, declared_kind, declared_kinds}
 use Rattle.sharc_code.specs.declared.code.Code.{Code}
 use Rattle.sharc_code.specs.declared.code.GlobalCells.{GlobalCells}
 use Rattle.sharc_code.specs.declared.instr.Width.{Width}
 use Rattle.sharc_code.specs.declared.instr.Width.TheVariants as widths
 use Rattle.sharc_ctype.specs.Reaches.{of_all, Names, runs, Runs}
 use Rattle.sharc_ctype.specs.Resolved.{Resolution, named_at, functions_in, function_at}
-use Rattle.sharc_ctype.specs.Transfers.{Transfer, parameters_of, parameters_named, passed}
-use Rattle.sharc_ctype_laws.specs.Constraints.{HasType, HaveTypes, Callee}
+use Rattle.sharc_ctype.specs.Transfers.{parameters_of, parameters_named}
+use Rattle.sharc_ctype_laws.specs.Constraints.{HaveTypes}
 use Rattle.sharc_meaning.specs.State.{is_reference}
 use Rattle.sharc_mode.specs.Moded.{Assignment}
 use Rattle.sharc_mode_laws.specs.Constructs.{IsFunction, IsCall, called}
@@ -26,17 +22,17 @@ use Rattle.sharc_flat.specs.Places.{width_of}
 use Rattle.sharc_flat.specs.Scope.{Context, int_count, ref_count}
 use Rattle.sharc_flat.specs.Suits.{ArgumentsSuit}
 use Rattle.sharc_invariant.specs.Types.{StaticType}
-use Rattle.sharc_invariant.specs.Labels.{Entry, Empty, Refers, Anything, Within, Label, Signature, LessNumber, Narrower}
+use Rattle.sharc_invariant.specs.Labels.{Empty, Refers, Anything, Within, Label, Signature, LessNumber, Narrower}
 use Rattle.sharc_invariant.specs.Typed.{Passes}
 use Rattle.sharc_labels_laws.specs.Places.{IsPlain}
 use Rattle.sharc_labels_laws.specs.Stretches.{Setting}
 use Rattle.sharc_labels_laws.specs.Typable.{type_by, ArgumentsAt, AreFree, refs_behind, IsTypeIn, ResultTyped, CallTyped}
 use Rattle.sharc_access_laws.specs.Typed.{IsOf}
-use Rattle.sharc_static_laws.specs.Calls.{at_entry, AreStanding}
+use Rattle.sharc_static_laws.specs.Calls.{AreStanding}
 use Rattle.sharc_static_laws.specs.Laws.{IsAccepted}
-use Rattle.sharc_static_laws.specs.Static.{result_type, variable_entry, entry_of}
-use Rattle.sharc_typable_laws.specs.Calling.{type_for, wants_of}
-use Rattle.sharc_typable_laws.specs.Typing.{width_named, integers, typing}
+use Rattle.sharc_static_laws.specs.Static.{result_type, variable_entry}
+use Rattle.sharc_typable_laws.specs.Calling.{wants_of}
+use Rattle.sharc_typable_laws.specs.Typing.{typing}
 use Rattle.sharc_accepted_laws.specs.Setting.{function_signature, signature_by, setting_of, IsSet}
 use Rattle.sharc_accepted_laws.proofs.Arguments.{AllGo, all_go, refs_counted, integer_passed, parameters_declared}
 use Rattle.sharc_accepted_laws.proofs.Facts.{Laws, expression_of, is_at, has_type}

@@ -1,5 +1,5 @@
 -- Calls of `wait`, `signal` and `broadcast`.
-use Rattle.std.proofs.Common.{◌≡◌, inl, inr, ℕ, zero, suc, ◌+◌, Bool, true, false, List, [], ◌∷◌, ◌++◌, refl, ap, sym, ◌∙◌, subst, option_map, Option, Some, None, bytes_eq, codes, if◌then◌else◌}
+use Rattle.std.proofs.Common.{◌≡◌, inl, inr, ℕ, zero, suc, Bool, true, false, List, [], ◌∷◌, ◌++◌, refl, ap, sym, ◌∙◌, subst, option_map, Some, None, bytes_eq, codes, if◌then◌else◌}
 use Rattle.std.proofs.lemmas.Bool.{false≢true}
 use Rattle.sharc_tree.specs.declared.token.NumberType.{NumberType}
 use Rattle.sharc_tree.specs.declared.token.NumberType.TheVariants as number_types
@@ -10,11 +10,9 @@ use Rattle.sharc_tree.specs.declared.tree.item.GlobalForm.{GlobalForm}
 use Rattle.sharc_tree.specs.declared.tree.item.GlobalForm.TheVariants as forms
 use Rattle.sharc_tree.specs.Measures.{expressions, in_arguments}
 use Rattle.sharc_tree.specs.Tree.{Expression, call, Arguments, no_arguments, argument, Function}
-use Rattle.sharc_tree.specs.Tree as tree
-use Rattle.sharc_names.specs.declared.fault.Named.{Named}
 use Rattle.sharc_names.specs.declared.fault.Named.TheVariants as named
 use Rattle.sharc_names.specs.declared.meaning.ConditionCall.TheVariants.{Wait, Signal, Broadcast}
-use Rattle.sharc_names.specs.Kinds.{Kind, object, null, is_integer, is_pointer, is_null, condition_pointer, mutex_pointer}
+use Rattle.sharc_names.specs.Kinds.{Kind, object, null, is_pointer, is_null, condition_pointer, mutex_pointer}
 use Rattle.sharc_names.specs.Names.{global_kind}
 use Rattle.sharc_tree.specs.declared.ctype.Base.{Base}
 use Rattle.sharc_code.specs.declared.code.Code.{Code}
@@ -23,12 +21,12 @@ use Rattle.sharc_ctype.specs.Resolved.{Resolution, named_at, function_at, kind_a
 use Rattle.sharc_ctype_laws.specs.Constraints.{HasType, HaveTypes, none_left, one_more, Callee, of_program, of_conditions, Assignable, integer, pointer, null_pointer, Common, both_shorter, left_long, right_long, a_variable, a_global, a_function, a_constant, in_parentheses, element_of_pointer, element_of_array, a_call, a_field, a_field_behind, negated, complemented, denied, pointed_to, arithmetic, shifted, related, equated, joined, spawned, printed_or_joined, locked, unlocked, freed, a_cast}
 use Rattle.sharc_meaning.specs.State.{is_reference}
 use Rattle.sharc_mode.specs.Moded.{Assignment}
-use Rattle.sharc_mode.specs.Rows.{Row, modes_of, row_at}
+use Rattle.sharc_mode.specs.Rows.{modes_of, row_at}
 use Rattle.sharc_flat.specs.Flattened.{kind_of, is_ref}
 use Rattle.sharc_flat.specs.Scope.{Context}
 use Rattle.sharc_flat.specs.Suits.{Either, ReferencesSuit}
 use Rattle.sharc_invariant.specs.Types.{StaticType, Content, MutexWord, Waiters, SomeNames}
-use Rattle.sharc_invariant.specs.Labels.{Empty, Refers}
+use Rattle.sharc_invariant.specs.Labels.{Empty}
 use Rattle.sharc_labels_laws.specs.Stretches.{Setting}
 use Rattle.sharc_labels_laws.specs.Typable.{type_by, GoesTo, FirstCell, IsTypeIn, IsVoid, Goes, AreTwo, IsOne, AreTypable, ConditionTyped, CallTypable}
 use Rattle.sharc_access_laws.specs.Typed.{IsOf}

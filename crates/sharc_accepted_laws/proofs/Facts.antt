@@ -1,24 +1,20 @@
 -- What is known of each expression of a function of an accepted program.
 use Rattle.std.proofs.Common.{◌≡◌, ℕ, Bool, true, false, List, refl, ap, sym, ◌∙◌, subst, option_map, Option, Some, None, Contains}
-use Rattle.std.proofs.lemmas.Bool.{false≢true}
 use Rattle.std.specs.List.{AllByRecursion}
-use Rattle.sharc_tree.specs.declared.tree.expression.Constant.{Constant}
 use Rattle.sharc_tree.specs.declared.token.Site.{Site}
-use Rattle.sharc_tree.specs.declared.token.Span.{Span}
 use Rattle.sharc_tree.specs.Forms.{is_lvalue}
 use Rattle.sharc_tree.specs.Measures.{expressions, in_function}
 use Rattle.sharc_tree.specs.Spans.{span_of}
 use Rattle.sharc_tree.specs.Tree.{Expression, Function}
-use Rattle.sharc_names.specs.Kinds.{Kind, is_pointer, is_integer, is_null, element_kind}
+use Rattle.sharc_names.specs.Kinds.{is_pointer, element_kind}
 use Rattle.sharc_code.specs.declared.code.Code.{Code}
 use Rattle.sharc_code.specs.declared.code.Use.{Use}
 use Rattle.sharc_code.specs.declared.code.Use.TheVariants as uses
-use Rattle.sharc_ctype.specs.Resolved.{Resolution, functions_in, function_at, kind_at}
+use Rattle.sharc_ctype.specs.Resolved.{Resolution, functions_in, kind_at}
 use Rattle.sharc_ctype_laws.specs.Constraints.{HasType as IsOfType}
 use Rattle.sharc_ctype_laws.specs.Laws.{MeetsConstraints, MeetsGlobals, OneType, EachNamesItself, EachNamesOwn, ArePlain, SpawnsNameFunctions, SpawnsThreads}
 use Rattle.sharc_meaning.specs.Cells.{element_cells}
 use Rattle.sharc_mode.specs.Moded.{Assignment}
-use Rattle.sharc_mode.specs.Notes.{base_of}
 use Rattle.sharc_mode.specs.Rows.{Row, modes_of, row_at, modes_at}
 use Rattle.sharc_mode.specs.Sharings.{Sharing}
 use Rattle.sharc_mode_laws.specs.Constructs.{IsFunction, IsExpression, IsTaken}
@@ -27,12 +23,12 @@ use Rattle.sharc_flat.specs.Places.{Target, variable, in_global, in_global_at, i
 use Rattle.sharc_flat.specs.Scope.{Context}
 use Rattle.sharc_flat.specs.Suits.{IsScalar, is_cell, TakeSuits}
 use Rattle.sharc_invariant.specs.Types.{StaticType, cells_of}
-use Rattle.sharc_invariant.specs.Labels.{Entry, Empty, Refers}
+use Rattle.sharc_invariant.specs.Labels.{Empty, Refers}
 use Rattle.sharc_labels_laws.specs.Stretches.{Setting}
 use Rattle.sharc_labels_laws.specs.Premises.{ReferenceTyped}
 use Rattle.sharc_labels_laws.specs.Typable.{type_by, ground_of, IsPointer, CellTyped, ValueTyped, Takes}
 use Rattle.sharc_access_laws.specs.Joined.{BaseStands}
-use Rattle.sharc_access_laws.specs.Typed.{IsOf, LvalueTyped}
+use Rattle.sharc_access_laws.specs.Typed.{IsOf}
 use Rattle.sharc_static_laws.specs.Calls.{ArgumentsFit}
 use Rattle.sharc_static_laws.specs.Laws.{IsAccepted}
 use Rattle.sharc_static_laws.specs.Results.{ResultLaws}
@@ -159,10 +155,13 @@ module _ (laws : Laws) (c : Context) (code : Code) (alone : ℕ → Bool) (lines
           by true ref =
               let pointer = lvalue_pointer lvalue ref in
               let modes = pointer_modes pointer in
-              let type : static_of c (kind_of c e) modes.0 ≡ type_by (entry_of c e) = sym (ap (λ (o : Option (List Sharing)). type_by (entry_by c (kind_of c e) o)) modes.1) in
-              (type_by (entry_of c e), (pointer_of pointer).1, (pointer_of pointer).2,
-              subst (λ s. ReferenceTyped z typing c n (target_of c e) (guard_of c e) (ground_of z n typing c e) site (lvalue_in c e) (mode_of c e) false uses.Read s) type
-              ((cells.lvalues e at base cell).read.reference pointer modes.0 modes.1 site uses.Read))
+              let type : static_of c (kind_of c e) modes.0 ≡ type_by (entry_of c e) = sym (ap (λ (o : Option (List Sharing)). type_by (entry_by c (kind_of c e) o)) modes.1) in (
+                type_by (entry_of c e),
+                (pointer_of pointer).1,
+                (pointer_of pointer).2,
+                subst (λ s. ReferenceTyped z typing c n (target_of c e) (guard_of c e) (ground_of z n typing c e) site (lvalue_in c e) (mode_of c e) false uses.Read s) type
+                    ((cells.lvalues e at base cell).read.reference pointer modes.0 modes.1 site uses.Read),
+              )
           by false other = (scalar other, (cells.lvalues e at base cell).read.integer (scalar other) site uses.Read)
 
       pub value_typed : is_lvalue e ≡ true → is_cell (target_of c e) ≡ true → IsScalar (kind_of c e) → (site : Site) → ValueTyped z n typing c e site

@@ -1,11 +1,7 @@
 -- The fields of elements that are accessed are fields of them, and so is that with the mutex, or the pointer to it, of the same element.
-use Rattle.std.proofs.Common.{◌≡◌, ◌⊎◌, inl, inr, ℕ, zero, ◌+◌, ◌<◌, ◌≤◌, Bool, true, false, cond, List, [], ◌∷◌, length, map, slice_index_or, refl, ap, sym, ◌∙◌, subst, arith, option_map, Option, Some, None, Contains}
-use Rattle.std.proofs.lemmas.Bool.{false≢true}
-use Rattle.sharc_tree.specs.declared.tree.item.GlobalDefinition.{GlobalDefinition}
+use Rattle.std.proofs.Common.{◌≡◌, inl, inr, ℕ, ◌<◌, false, List, [], ◌∷◌, length, slice_index_or, refl, ap, sym, ◌∙◌, subst, arith, option_map, Option, Some, None, Contains}
 use Rattle.sharc_tree.specs.Tree.{Expression}
-use Rattle.sharc_names.specs.declared.fault.Named.{Named}
-use Rattle.sharc_names.specs.declared.fault.Named.TheVariants as named
-use Rattle.sharc_names.specs.Kinds.{Kind, is_array, is_struct_behind, declared_kind}
+use Rattle.sharc_names.specs.Kinds.{is_array, is_struct_behind}
 use Rattle.sharc_ctype.specs.Globals.{elements_of}
 use Rattle.sharc_ctype.specs.Resolved.{Resolution, named_at, globals_in, global_at, kind_at}
 use Rattle.sharc_ctype_laws.specs.Initials.{MeetsGlobal}
@@ -13,20 +9,19 @@ use Rattle.sharc_ctype_laws.specs.Laws.{MeetsGlobals}
 use Rattle.sharc_meaning.specs.Cells.{field_place}
 use Rattle.sharc_mode.specs.Cells.{is_mutex_kind, cell_at}
 use Rattle.sharc_mode.specs.Moded.{Assignment}
-use Rattle.sharc_mode.specs.Notes.{base_of}
 use Rattle.sharc_mode.specs.Rows.{modes_of, modes_at}
-use Rattle.sharc_mode.specs.Sharings.{Lock, Sharing, private, readonly, locked, racy, dynamic}
+use Rattle.sharc_mode.specs.Sharings.{Lock, Sharing, locked}
 use Rattle.sharc_mode_laws.specs.Constructs.{IsExpression}
 use Rattle.sharc_flat.specs.Flattened.{kind_of, guard_of}
 use Rattle.sharc_flat.specs.Places.{Target, variable, in_global, in_global_at, in_object, in_object_at, target, beside_named, beside_field}
 use Rattle.sharc_flat.specs.Scope.{Context}
-use Rattle.sharc_invariant.specs.Types.{Field, FieldMode, StaticType, no_field, row_of, cells_of, field_at}
+use Rattle.sharc_invariant.specs.Types.{Field, FieldMode, no_field, row_of, cells_of, field_at}
 use Rattle.sharc_labels_laws.specs.Stretches.{Setting}
 use Rattle.sharc_labels_laws.specs.Typable.{type_by, AreFields}
-use Rattle.sharc_access_laws.specs.Accesses.{list_or, modes_of_pointer, modes_behind, cells_in_each}
+use Rattle.sharc_access_laws.specs.Accesses.{list_or, modes_of_pointer, cells_in_each}
 use Rattle.sharc_access_laws.specs.Joined.{LockLeads, to_global, to_variable, PathLeads}
 use Rattle.sharc_static_laws.specs.Laws.{IsAccepted}
-use Rattle.sharc_static_laws.specs.Static.{static_of, entry_by, entry_of}
+use Rattle.sharc_static_laws.specs.Static.{entry_by, entry_of}
 use Rattle.sharc_target_laws.specs.Beside.{BesideFits, AreLockedBeside, LocksStandBeside}
 use Rattle.sharc_target_laws.specs.Laws.{ExpressionsFound, GlobalsAre}
 use Rattle.sharc_target_laws.specs.Lvalues.{pointer_of, IsOfObject, IsOfGlobal, ModeFits, is_private, is_readonly, is_racy, is_dynamic, locked_by_type, locked_by_global, locked_by_sibling, locked_behind, FieldFits, IsBehindPointer, IsInFile, NamesCell, no_cell, of_object, of_global, LvaluesFit}

@@ -1,24 +1,23 @@
 -- What the types of C11 say of the parts of an expression.
-use Rattle.std.proofs.Common.{◌≡◌, ℕ, zero, suc, ◌+◌, ◌<◌, ◌==◌, ◌||◌, ◌&&◌, Bool, true, false, List, [], ◌∷◌, refl, ap, sym, ◌∙◌, subst, arith, lt-ltb, eqb-true, Some}
+use Rattle.std.proofs.Common.{◌≡◌, ℕ, zero, suc, ◌+◌, ◌==◌, ◌||◌, ◌&&◌, Bool, true, false, List, [], ◌∷◌, refl, ap, sym, ◌∙◌, arith, lt-ltb, eqb-true, Some}
 use Rattle.std.proofs.lemmas.Bool.{false≢true, and_parts}
 use Rattle.sharc_tree.specs.declared.ctype.Base.{Base}
 use Rattle.sharc_tree.specs.declared.ctype.Base.TheVariants as base
 use Rattle.sharc_tree.specs.declared.token.Span.{Span}
-use Rattle.sharc_tree.specs.declared.tree.declaration.Declaration.{Declaration}
 use Rattle.sharc_tree.specs.declared.tree.declaration.Identifier.{Identifier}
 use Rattle.sharc_tree.specs.declared.tree.declaration.WrittenType.{WrittenType}
-use Rattle.sharc_tree.specs.declared.tree.expression.Access.TheVariants.{Dot, Arrow}
+use Rattle.sharc_tree.specs.declared.tree.expression.Access.TheVariants.{Arrow}
 use Rattle.sharc_tree.specs.declared.tree.expression.PlaceCall.TheVariants.{Lock, Unlock, Free}
 use Rattle.sharc_tree.specs.declared.tree.expression.UnaryOperator.TheVariants.{Dereference}
 use Rattle.sharc_tree.specs.declared.tree.item.GlobalForm.{GlobalForm}
 use Rattle.sharc_tree.specs.declared.tree.item.GlobalForm.TheVariants as forms
 use Rattle.sharc_tree.specs.Forms.{is_lvalue}
-use Rattle.sharc_tree.specs.Tree.{Expression, identifier, call, spawn, on_place, cast, index, field, unary, Arguments, no_arguments, argument, Function}
+use Rattle.sharc_tree.specs.Tree.{Expression, call, spawn, on_place, cast, index, field, unary, Arguments, no_arguments, argument, Function}
 use Rattle.sharc_names.specs.declared.fault.Named.TheVariants as named
 use Rattle.sharc_names.specs.Kinds.{Kind, object, array, null, function, void, mutex, is_integral, is_integer, is_pointer, is_null, is_array, declared_kind, declared_kinds}
 use Rattle.sharc_names.specs.Names.{global_kind}
 use Rattle.sharc_ctype.specs.Resolved.{Resolution, named_at, function_at, kind_at}
-use Rattle.sharc_ctype_laws.specs.Constraints.{HasType, HaveTypes, none_left, one_more, Callee, of_program, of_conditions, IsInteger, IsPointer, Assignable, integer, pointer, null_pointer, Common, both_shorter, left_long, right_long, a_variable, a_global, a_function, a_constant, in_parentheses, element_of_pointer, element_of_array, a_call, a_field, a_field_behind, negated, complemented, denied, pointed_to, arithmetic, shifted, related, equated, joined, spawned, printed_or_joined, locked, unlocked, freed, a_cast}
+use Rattle.sharc_ctype_laws.specs.Constraints.{HasType, HaveTypes, Callee, of_program, of_conditions, IsInteger, IsPointer, Assignable, integer, pointer, null_pointer, a_variable, a_global, a_function, a_constant, in_parentheses, element_of_pointer, element_of_array, a_call, a_field, a_field_behind, negated, complemented, denied, pointed_to, arithmetic, shifted, related, equated, joined, spawned, printed_or_joined, locked, unlocked, freed, a_cast}
 use Rattle.sharc_meaning.specs.State.{is_reference}
 use Rattle.sharc_flat.specs.Suits.{IsScalar, Passes}
 

@@ -1,11 +1,10 @@
 -- Variables are no structs: so what is a struct names a cell, and an lvalue that names a variable is that variable in parentheses.
-use Rattle.std.proofs.Common.{◌≡◌, ℕ, ◌+◌, ◌==◌, eqb-true, arith, ◌||◌, ◌&&◌, Bool, true, false, List, ◌++◌, map, refl, ap, sym, ◌∙◌, subst, Option, Some, None, cond, Contains}
+use Rattle.std.proofs.Common.{◌≡◌, ℕ, ◌+◌, ◌==◌, eqb-true, arith, ◌||◌, ◌&&◌, Bool, true, false, List, ◌++◌, map, refl, ap, sym, ◌∙◌, Option, Some, None, cond, Contains}
 use Rattle.std.proofs.lemmas.Bool.{false≢true}
 use Rattle.std.specs.List.{AllByRecursion}
 use Rattle.sharc_tree.specs.declared.token.Span.{Span}
 use Rattle.sharc_tree.specs.declared.token.NumberType.{NumberType}
 use Rattle.sharc_tree.specs.declared.token.NumberType.TheVariants as number_types
-use Rattle.sharc_tree.specs.declared.ctype.Base.TheVariants as base
 use Rattle.sharc_tree.specs.declared.tree.declaration.Declaration.{Declaration}
 use Rattle.sharc_tree.specs.declared.tree.declaration.Identifier.{Identifier}
 use Rattle.sharc_tree.specs.declared.tree.expression.Constant.{Constant}
@@ -13,7 +12,6 @@ use Rattle.sharc_tree.specs.declared.tree.expression.Constant.TheVariants as con
 use Rattle.sharc_tree.specs.Forms.{is_lvalue, without_parentheses}
 use Rattle.sharc_tree.specs.Measures.{expressions, in_function}
 use Rattle.sharc_tree.specs.Tree.{Expression, identifier, Function}
-use Rattle.sharc_names.specs.declared.fault.Named.{Named}
 use Rattle.sharc_names.specs.declared.fault.Named.TheVariants as named
 use Rattle.sharc_names.specs.Kinds.{Kind, mutex, same_kind, is_array, is_struct_base, is_struct_behind, declared_kind}
 use Rattle.sharc_ctype.specs.Expressions.{constant_kind, number_kind}
@@ -23,11 +21,11 @@ use Rattle.sharc_ctype_laws.specs.Constraints.{HasType, Callee, of_program, of_c
 use Rattle.sharc_ctype_laws.specs.Declared.{IsItself, NamesOwn, NamesOwnVariables}
 use Rattle.sharc_ctype_laws.specs.Laws.{EachNamesItself, EachNamesOwn, IsPlain, ArePlain}
 use Rattle.sharc_meaning.specs.State.{is_reference}
-use Rattle.sharc_flat.specs.Places.{Target, variable, in_global, in_global_at, in_object, in_object_at, target, named_target, own_field, global_of}
+use Rattle.sharc_flat.specs.Places.{variable, in_global, in_global_at, in_object, in_object_at, target, named_target, own_field}
 use Rattle.sharc_flat.specs.Suits.{is_cell}
 use Rattle.sharc_static_laws.specs.Laws.{IsAccepted}
 use Rattle.sharc_mode.specs.Moded.{Assignment}
-use Rattle.sharc_accepted_laws.proofs.Lists.{same_some, of_each, front, back, each, mapped, found_there}
+use Rattle.sharc_accepted_laws.proofs.Lists.{of_each, each, mapped, found_there}
 
 -- ---- variables that are named
 abbrev pub NamesPlain : Resolution → Expression → Type 0

@@ -1,47 +1,39 @@
 -- New threads.
-use Rattle.std.proofs.Common.{◌≡◌, ℕ, zero, suc, ◌+◌, ◌<◌, ◌==◌, ◌||◌, nat_lt, eq-eqb, Bool, true, false, cond, List, [], ◌∷◌, map, slice_get, refl, ap, sym, ◌∙◌, subst, Option, Some, None, IsSomeAnd, Contains}
-use Rattle.std.proofs.lemmas.Bool.{false≢true}
+use Rattle.std.proofs.Common.{◌≡◌, ℕ, nat_lt, eq-eqb, Bool, true, false, cond, [], ◌∷◌, map, slice_get, refl, ap, sym, ◌∙◌, subst, Some, IsSomeAnd, Contains}
 use Rattle.std.specs.List.{AllByRecursion, list_any}
 use Rattle.sharc_tree.specs.declared.token.Span.{Span}
 use Rattle.sharc_tree.specs.declared.tree.declaration.Declaration.{Declaration}
 use Rattle.sharc_tree.specs.declared.tree.declaration.Identifier.{Identifier}
 use Rattle.sharc_tree.specs.Measures.{in_function}
 use Rattle.sharc_tree.specs.Tree.{Expression, Arguments, no_arguments, argument, spawn, value, Function}
-use Rattle.sharc_names.specs.declared.fault.Named.{Named}
 use Rattle.sharc_names.specs.declared.fault.Named.TheVariants as named
-use Rattle.sharc_names.specs.Kinds.{Kind, void, is_pointer, is_integer, is_null, declared_kind, declared_kinds}
+use Rattle.sharc_names.specs.Kinds.{Kind, void, is_pointer, declared_kind, declared_kinds}
 use Rattle.sharc_code.specs.declared.code.Code.{Code}
-use Rattle.sharc_code.specs.declared.code.Parameter.{Parameter}
 use Rattle.sharc_code.specs.declared.code.Parameter.TheVariants as parameters
-use Rattle.sharc_code.specs.declared.instr.Width.{Width}
 use Rattle.sharc_code.specs.Machine.{function_of}
 use Rattle.sharc_ctype.specs.Reaches.{of_all, Names, spawns, Spawns}
 use Rattle.sharc_ctype.specs.Resolved.{Resolution, named_at, functions_in, function_at, declaration_at, variable_kind}
-use Rattle.sharc_ctype.specs.Transfers.{Transfer, variable, parameters_of, parameters_named, passed}
+use Rattle.sharc_ctype.specs.Transfers.{variable, parameters_of, parameters_named, passed}
 use Rattle.sharc_ctype_laws.specs.Callable.{IsThread}
 use Rattle.sharc_ctype_laws.specs.Constraints.{HaveTypes, one_more, Assignable}
 use Rattle.sharc_ctype_laws.specs.Laws.{SpawnsByName}
 use Rattle.sharc_meaning.specs.Expressions.{number_named}
-use Rattle.sharc_meaning.specs.State.{is_reference}
 use Rattle.sharc_mode.specs.Moded.{Assignment}
 use Rattle.sharc_mode_laws.specs.Constructs.{IsFunction, IsCall}
 use Rattle.sharc_mode_laws.specs.Constructs as constructs
-use Rattle.sharc_flat.specs.declared.slot.Slot.{Slot}
-use Rattle.sharc_flat.specs.Flattened.{kind_of, is_ref, parameters_scope, in_function as context_in, parameter_of, parameter_in}
+use Rattle.sharc_flat.specs.Flattened.{kind_of, is_ref, parameters_scope, in_function as context_in, parameter_of}
 use Rattle.sharc_flat.specs.Places.{width_of}
 use Rattle.sharc_flat.specs.Scope.{Context, slot_of, int_count}
 use Rattle.sharc_flat.specs.Suits.{IsScalar, Passes, Suits, ArgumentsSuit}
-use Rattle.sharc_invariant.specs.Types.{StaticType}
 use Rattle.sharc_invariant.specs.Labels.{Refers, Anything, Within, Signature, LessNumber, EntryMentions}
 use Rattle.sharc_invariant.specs.Typed.{IsShared}
 use Rattle.sharc_invariant.specs.Typed as typed
 use Rattle.sharc_labels_laws.specs.Stretches.{Setting}
 use Rattle.sharc_labels_laws.specs.Typable.{Handed, SpawnTyped}
 use Rattle.sharc_access_laws.specs.Typed.{IsOf}
-use Rattle.sharc_static_laws.specs.Calls.{argument_type, AreStanding, ArgumentFits}
+use Rattle.sharc_static_laws.specs.Calls.{argument_type}
 use Rattle.sharc_static_laws.specs.Laws.{IsAccepted}
 use Rattle.sharc_static_laws.specs.Starting.{BeginsAlone}
-use Rattle.sharc_static_laws.specs.Static.{variable_entry}
 use Rattle.sharc_typable_laws.specs.Typing.{width_named, integers, typing}
 use Rattle.sharc_accepted_laws.specs.Setting.{function_signature, signature_by, is_numbered, is_spawned, is_main, is_start, setting_of, IsSet}
 use Rattle.sharc_accepted_laws.proofs.Arguments.{parameters_declared, passes_scalar}
@@ -140,12 +132,17 @@ module _ (laws : Laws) (c : Context) (code : Code) (alone : ℕ → Bool) (lines
         let standing = laws.calling.stand c a f function_there all (subst (λ ds. ArgumentsSuit c (declared_kinds ds) all) (sym only) (suits, handed_passes, tt)) in
         let fits = laws.arguments_fit c a f.parameters all d x is_call passed_there pointer in
         let parameter : (function_of code k).parameter ≡ parameters.Reference =
-        (set.rows k f there).parameter ∙ ap parameter_of only ∙ ap (λ b. cond b parameters.Reference parameters.Int) (pointer_reference (declared_kind d.written) pointer) in
-        (argument_type c f.parameters all d, fits.goes, fits.names standing, pointer_no_integer (declared_kind d.written) pointer, parameter,
-        λ q h. begins.closed q (subst (λ (y : Signature). EntryMentions (y.takes 0) q) signature_is h),
-        λ q l. subst (λ (y : Signature). typed.Passes l q q (Refers (argument_type c f.parameters all d)) (y.takes 0)) (sym signature_is)
-        (laws.threads c a n k f spawns_it there (laws.functions_stand m a c.globals f function_there).parameters d only x is_call pointer l q q),
-        subst (λ (y : Signature). IsShared z.targets (y.takes 0)) (sym signature_is) begins.shared)
+        (set.rows k f there).parameter ∙ ap parameter_of only ∙ ap (λ b. cond b parameters.Reference parameters.Int) (pointer_reference (declared_kind d.written) pointer) in (
+          argument_type c f.parameters all d,
+          fits.goes,
+          fits.names standing,
+          pointer_no_integer (declared_kind d.written) pointer,
+          parameter,
+          λ q h. begins.closed q (subst (λ (y : Signature). EntryMentions (y.takes 0) q) signature_is h),
+          λ q l. subst (λ (y : Signature). typed.Passes l q q (Refers (argument_type c f.parameters all d)) (y.takes 0)) (sym signature_is)
+              (laws.threads c a n k f spawns_it there (laws.functions_stand m a c.globals f function_there).parameters d only x is_call pointer l q q),
+          subst (λ (y : Signature). IsShared z.targets (y.takes 0)) (sym signature_is) begins.shared,
+        )
     handed_by suits false other =
         let number = to_integer (declared_kind d.written) (kind_of c x) assigned other in
         let none : is_pointer (declared_kind d.written) ≡ false = sym handed_passes.0 ∙ other in

@@ -1,27 +1,22 @@
 -- Each expression and each lvalue of a function of an accepted program is typable, by their forms.
-use Rattle.std.proofs.Common.{◌≡◌, ℕ, zero, suc, ◌+◌, ◌==◌, ◌&&◌, eqb-true, arith, drop, Bool, true, false, cond, List, [], ◌∷◌, ◌++◌, refl, ap, sym, ◌∙◌, subst, Option, Some, None, bytes_eq, codes, if◌then◌else◌}
+use Rattle.std.proofs.Common.{◌≡◌, ℕ, zero, suc, ◌+◌, ◌==◌, ◌&&◌, eqb-true, arith, drop, Bool, true, false, cond, List, ◌++◌, refl, ap, sym, ◌∙◌, subst, Option, Some, None, bytes_eq, codes, if◌then◌else◌}
 use Rattle.std.proofs.lemmas.Bool.{false≢true}
 use Rattle.sharc_tree.specs.declared.ctype.Base.TheVariants as base
 use Rattle.sharc_tree.specs.declared.token.Site.{Site}
 use Rattle.sharc_tree.specs.declared.token.Span.{Span}
 use Rattle.sharc_tree.specs.declared.tree.declaration.Identifier.{Identifier}
-use Rattle.sharc_tree.specs.declared.tree.declaration.WrittenType.{WrittenType}
-use Rattle.sharc_tree.specs.declared.tree.expression.Access.{Access}
 use Rattle.sharc_tree.specs.declared.tree.expression.Access.TheVariants.{Dot, Arrow}
 use Rattle.sharc_tree.specs.declared.tree.expression.BinaryOperator.{BinaryOperator}
 use Rattle.sharc_tree.specs.declared.tree.expression.BinaryOperator.TheVariants.{LogicalOr, LogicalAnd, BitOr, BitXor, BitAnd, Equal, NotEqual, Less, Greater, LessOrEqual, GreaterOrEqual, ShiftLeft, ShiftRight, Add, Subtract, Multiply, Divide, Remainder}
-use Rattle.sharc_tree.specs.declared.tree.expression.Constant.{Constant}
-use Rattle.sharc_tree.specs.declared.tree.expression.PlaceCall.{PlaceCall}
 use Rattle.sharc_tree.specs.declared.tree.expression.PlaceCall.TheVariants.{Lock, Unlock, Free}
 use Rattle.sharc_tree.specs.declared.tree.expression.UnaryOperator.{UnaryOperator}
 use Rattle.sharc_tree.specs.declared.tree.expression.UnaryOperator.TheVariants.{Negate, Not, Complement, Dereference}
 use Rattle.sharc_tree.specs.Forms.{is_lvalue}
 use Rattle.sharc_tree.specs.Measures.{expressions, in_arguments}
-use Rattle.sharc_tree.specs.Spans.{span_of}
 use Rattle.sharc_tree.specs.Tree.{Expression, identifier, constant, parentheses, call, spawn, on_value, on_place, cast, index, field, unary, binary, Arguments, no_arguments, argument, Function}
 use Rattle.sharc_names.specs.declared.fault.Named.{Named}
 use Rattle.sharc_names.specs.declared.fault.Named.TheVariants as named
-use Rattle.sharc_names.specs.Kinds.{Kind, object, array, null, function, mutex, is_integer, is_pointer, is_array, is_struct_behind, declared_kind, declared_kinds, element_kind}
+use Rattle.sharc_names.specs.Kinds.{Kind, object, array, null, function, mutex, is_integer, is_pointer, is_array, is_struct_behind, declared_kinds, element_kind}
 use Rattle.sharc_code.specs.declared.code.Code.{Code}
 use Rattle.sharc_code.specs.declared.code.Use.{Use}
 use Rattle.sharc_code.specs.declared.code.Use.TheVariants as uses
@@ -34,7 +29,7 @@ use Rattle.sharc_mode.specs.Cells.{is_mutex_kind, cell_at}
 use Rattle.sharc_mode.specs.Moded.{Assignment}
 use Rattle.sharc_mode_laws.specs.Constructs.{IsTaken, cast_away, freed}
 use Rattle.sharc_flat.specs.Flattened.{kind_of, is_ref, target_of, mode_of, guard_of, what_names}
-use Rattle.sharc_flat.specs.Places.{Target, variable, in_global, in_global_at, in_object, in_object_at, global_of, named_target, target, own_field}
+use Rattle.sharc_flat.specs.Places.{in_global, in_global_at, in_object_at, global_of, named_target, target, own_field}
 use Rattle.sharc_flat.specs.Scope.{Context}
 use Rattle.sharc_flat.specs.Suits.{IsScalar, Either, is_cell, NameSuits, CallSuits, IndexSuits, TakeSuits, OperandsSuit, Suits, ArgumentsSuit, ReferencesSuit, PlaceSuits}
 use Rattle.sharc_flat.specs.Suits as suits
@@ -183,10 +178,11 @@ module _ (laws : Laws) (c : Context) (code : Code) (alone : ℕ → Bool) (lines
           → CallSuits c (kind_of c (call s i all)) what (λ kinds. ArgumentsSuit c kinds all) (ReferencesSuit c (if bytes_eq i.text (codes "wait") then 2 else 1) all)
           → CallTypable z n typing c (call s i all) what i.text all (λ kinds wants. AreTypable z n typing bare c kinds wants all)
       by (named.Function k) names (f, there, kind_is, suit) =
-          subst (λ o. (wants : ℕ → StaticType) × AreTypable z n typing bare c (declared_kinds (parameters_of o)) wants all × CallTyped z n typing c (call s i all) k (declared_kinds (parameters_of o)) wants all) (sym there)
-          (wants_of c f.parameters all,
-          args (declared_kinds f.parameters) (wants_of c f.parameters all) (suit_all c n g (declared_kinds f.parameters) all suit) (call_goes laws c code alone lines set n g s i all at k f names there kind_is suit) bare,
-          call_is_typed laws c code alone lines set n g s i all at k f names there kind_is suit)
+          subst (λ o. (wants : ℕ → StaticType) × AreTypable z n typing bare c (declared_kinds (parameters_of o)) wants all × CallTyped z n typing c (call s i all) k (declared_kinds (parameters_of o)) wants all) (sym there) (
+            wants_of c f.parameters all,
+            args (declared_kinds f.parameters) (wants_of c f.parameters all) (suit_all c n g (declared_kinds f.parameters) all suit) (call_goes laws c code alone lines set n g s i all at k f names there kind_is suit) bare,
+            call_is_typed laws c code alone lines set n g s i all at k f names there kind_is suit,
+          )
       by named.Known names h = known_call laws c code alone lines set n g (cells.known s i all at names) s i all at names h.0 args (h.1, h.2) bare
       by (named.Struct j) names h = absurd h
       by (named.Global j) names h = absurd h
@@ -246,9 +242,11 @@ module _ (laws : Laws) (c : Context) (code : Code) (alone : ℕ → Bool) (lines
     typable (constant s k) at suits value bare = laws.values.constants z n c s k (set.constants s k (facts.expression_of laws c code alone lines set n g (constant s k) at))
     typable (parentheses s x) at suits value bare = (typable x (record { function = at.function; parts = at.parts.1; stand = at.stand.1 }) suits value bare, refl)
     typable (call s i all) at suits value bare = call_typable s i all at suits (λ kinds wants suit go bare. arguments all (at.parts.1, at.stand.1) at.function kinds wants suit go bare) bare
-    typable (spawn s i x) at suits value bare =
-        (typable x (record { function = at.function; parts = at.parts.1; stand = at.stand.1 }) suits.0 (λ l. handed_scalar laws c code alone lines set n g s i x at) bare,
-        (refl, refl), spawn_is_typed laws c code alone lines set n g s i x at suits.0)
+    typable (spawn s i x) at suits value bare = (
+      typable x (record { function = at.function; parts = at.parts.1; stand = at.stand.1 }) suits.0 (λ l. handed_scalar laws c code alone lines set n g s i x at) bare,
+      (refl, refl),
+      spawn_is_typed laws c code alone lines set n g s i x at suits.0,
+    )
     typable (on_value s w x) at suits value bare =
         (typable x (record { function = at.function; parts = at.parts.1; stand = at.stand.1 }) suits.0 (λ l. integer_scalar (kind_of c x) suits.1) bare, (integer_no_reference (kind_of c x) suits.1, suits.1))
     typable (on_place s Lock x) at suits value bare =
@@ -262,29 +260,34 @@ module _ (laws : Laws) (c : Context) (code : Code) (alone : ℕ → Bool) (lines
     typable (on_place s Free x) at suits value bare =
         let below : At x = record { function = at.function; parts = at.parts.1; stand = at.stand.1 } in
         let operand = free_operand r one s x (kind_of c (on_place s Free x)) (has_type (on_place s Free x) at) in
-        let takes = take x below suits.0 (freed (facts.expression_of laws c code alone lines set n g (on_place s Free x) at)) operand.0 operand.1 bare (uses.Free None) suits.1.0 in
-        (place x below suits.0 None (guard_of c x) (fits_own x below (pointer_scalar x operand.1)) bare,
-        laws.taking.frees z n bare c set.accepted refl set.tables x (facts.is_at laws c code alone lines set n g x below) operand.1 takes)
+        let takes = take x below suits.0 (freed (facts.expression_of laws c code alone lines set n g (on_place s Free x) at)) operand.0 operand.1 bare (uses.Free None) suits.1.0 in (
+          place x below suits.0 None (guard_of c x) (fits_own x below (pointer_scalar x operand.1)) bare,
+          laws.taking.frees z n bare c set.accepted refl set.tables x (facts.is_at laws c code alone lines set n g x below) operand.1 takes,
+        )
     typable (cast s t x) at suits value bare =
         let below : At x = record { function = at.function; parts = at.parts.1; stand = at.stand.1 } in
         let operand = cast_operand r one s t x (kind_of c (cast s t x)) (has_type (cast s t x) at) in
-        let takes = take x below suits.0 (cast_away (facts.expression_of laws c code alone lines set n g (cast s t x) at)) operand.0 operand.1 bare (uses.Cast None) suits.1 in
-        (place x below suits.0 None (guard_of c x) (fits_own x below (pointer_scalar x operand.1)) bare,
-        laws.taking.casts z n bare c set.accepted refl s t x (facts.is_at laws c code alone lines set n g (cast s t x) at) (first_of (ExpressionStands c) x at.stand.1) takes)
+        let takes = take x below suits.0 (cast_away (facts.expression_of laws c code alone lines set n g (cast s t x) at)) operand.0 operand.1 bare (uses.Cast None) suits.1 in (
+          place x below suits.0 None (guard_of c x) (fits_own x below (pointer_scalar x operand.1)) bare,
+          laws.taking.casts z n bare c set.accepted refl s t x (facts.is_at laws c code alone lines set n g (cast s t x) at) (first_of (ExpressionStands c) x at.stand.1) takes,
+        )
     typable (index s x i) at suits value bare =
         let both : Parts c n g (expressions x ++ expressions i) = (at.parts.1, at.stand.1) in
         let of_x : At x = part_of c n g at.function x (first_part c n g (expressions x) (expressions i) both) in
-        let of_i : At i = part_of c n g at.function i (second_part c n g (expressions x) (expressions i) both) in
-        (index_typable bare None (guard_of c (index s x i)) s x i at of_x suits.0 (fits_own (index s x i) at (value refl))
-        (λ p f. place x of_x p None None f bare) (λ q v. typable x of_x q v bare) (λ q v. typable i of_i q v false),
-        value_typed (index s x i) at suits refl (index_cell s x i) (value refl) s.first)
-    typable (field s x Dot k) at suits value bare =
-        (place x (record { function = at.function; parts = at.parts.1; stand = at.stand.1 }) suits.0 (Some (field_place_named r (what_names c k.site.token))) (guard_of c (field s x Dot k)) (fits_own (field s x Dot k) at (value refl)) bare,
-        value_typed (field s x Dot k) at suits refl suits.2 (value refl) s.first)
+        let of_i : At i = part_of c n g at.function i (second_part c n g (expressions x) (expressions i) both) in (
+          index_typable bare None (guard_of c (index s x i)) s x i at of_x suits.0 (fits_own (index s x i) at (value refl))
+              (λ p f. place x of_x p None None f bare) (λ q v. typable x of_x q v bare) (λ q v. typable i of_i q v false),
+          value_typed (index s x i) at suits refl (index_cell s x i) (value refl) s.first,
+        )
+    typable (field s x Dot k) at suits value bare = (
+      place x (record { function = at.function; parts = at.parts.1; stand = at.stand.1 }) suits.0 (Some (field_place_named r (what_names c k.site.token))) (guard_of c (field s x Dot k)) (fits_own (field s x Dot k) at (value refl)) bare,
+      value_typed (field s x Dot k) at suits refl suits.2 (value refl) s.first,
+    )
     typable (field s x Arrow k) at suits value bare =
-        let below : At x = record { function = at.function; parts = at.parts.1; stand = at.stand.1 } in
-        ((typable x below suits.0.0 (λ l. reference_scalar (kind_of c x) suits.0.1) bare, pointer_typed x below (arrow_pointer r one s x k (kind_of c (field s x Arrow k)) (has_type (field s x Arrow k) at))),
-        value_typed (field s x Arrow k) at suits refl suits.2 (value refl) s.first)
+        let below : At x = record { function = at.function; parts = at.parts.1; stand = at.stand.1 } in (
+          (typable x below suits.0.0 (λ l. reference_scalar (kind_of c x) suits.0.1) bare, pointer_typed x below (arrow_pointer r one s x k (kind_of c (field s x Arrow k)) (has_type (field s x Arrow k) at))),
+          value_typed (field s x Arrow k) at suits refl suits.2 (value refl) s.first,
+        )
     typable (unary s Negate x) at suits value bare =
         let below : At x = record { function = at.function; parts = at.parts.1; stand = at.stand.1 } in
         operand_typable s Negate x below (integer_scalar (kind_of c x) suits.1) suits.1 bare (typable x below suits.0 (λ l. integer_scalar (kind_of c x) suits.1) bare)
@@ -295,16 +298,22 @@ module _ (laws : Laws) (c : Context) (code : Code) (alone : ℕ → Bool) (lines
         let below : At x = record { function = at.function; parts = at.parts.1; stand = at.stand.1 } in
         operand_typable s Complement x below (integer_scalar (kind_of c x) suits.1) suits.1 bare (typable x below suits.0 (λ l. integer_scalar (kind_of c x) suits.1) bare)
     typable (unary s Dereference x) at suits value bare =
-        let below : At x = record { function = at.function; parts = at.parts.1; stand = at.stand.1 } in
-        (typable x below suits.0 (λ l. reference_scalar (kind_of c x) suits.1) bare, pointer_typed x below (star_pointer r one s x (kind_of c (unary s Dereference x)) (has_type (unary s Dereference x) at)),
-        value_typed (unary s Dereference x) at suits refl refl (value refl) s.first)
+        let below : At x = record { function = at.function; parts = at.parts.1; stand = at.stand.1 } in (
+          typable x below suits.0 (λ l. reference_scalar (kind_of c x) suits.1) bare,
+          pointer_typed x below (star_pointer r one s x (kind_of c (unary s Dereference x)) (has_type (unary s Dereference x) at)),
+          value_typed (unary s Dereference x) at suits refl refl (value refl) s.first,
+        )
     typable (binary s o site x y) at suits value bare =
         let both : Parts c n g (expressions x ++ expressions y) = (at.parts.1, at.stand.1) in
         let of_x : At x = part_of c n g at.function x (first_part c n g (expressions x) (expressions y) both) in
         let of_y : At y = part_of c n g at.function y (second_part c n g (expressions x) (expressions y) both) in
-        let scalars = operand_scalars o (kind_of c x) (kind_of c y) suits.2 in
-        (typable x of_x suits.0 (λ l. scalars.0) bare, value_has_type x of_x scalars.0, typable y of_y suits.1 (λ l. scalars.1) (after_value c x bare), value_has_type y of_y scalars.1,
-        laws.values.binaries z n c s o site x y suits.2)
+        let scalars = operand_scalars o (kind_of c x) (kind_of c y) suits.2 in (
+          typable x of_x suits.0 (λ l. scalars.0) bare,
+          value_has_type x of_x scalars.0,
+          typable y of_y suits.1 (λ l. scalars.1) (after_value c x bare),
+          value_has_type y of_y scalars.1,
+          laws.values.binaries z n c s o site x y suits.2,
+        )
 
     pub place : (e : Expression) → At e → PlaceSuits c e → (own guard : Option ℕ) → Fits own guard e → (bare : Bool) → IsPlaceTypable z n typing bare c own guard e
     place (identifier s i) at suits own guard fits bare = tt
@@ -335,9 +344,11 @@ module _ (laws : Laws) (c : Context) (code : Code) (alone : ℕ → Bool) (lines
 
     arguments : (all : Arguments) → Parts c n g (in_arguments all) → function_at r n ≡ Some g → (kinds : List Kind) (wants : ℕ → StaticType) → AllSuit c n g all → AllGo z n c kinds wants all → (bare : Bool) → AreTypable z n typing bare c kinds wants all
     arguments no_arguments parts is kinds wants suit go bare = tt
-    arguments (argument x rest) parts is kinds wants suit go bare =
-        (typable x (part_of c n g is x (first_part c n g (expressions x) (in_arguments rest) parts)) suit.0.0 suit.0.1 bare, go.0,
-        arguments rest (second_part c n g (expressions x) (in_arguments rest) parts) is (drop 1 kinds) (λ p. wants (p + 1)) suit.1 go.1 (after_value c x bare))
+    arguments (argument x rest) parts is kinds wants suit go bare = (
+      typable x (part_of c n g is x (first_part c n g (expressions x) (in_arguments rest) parts)) suit.0.0 suit.0.1 bare,
+      go.0,
+      arguments rest (second_part c n g (expressions x) (in_arguments rest) parts) is (drop 1 kinds) (λ p. wants (p + 1)) suit.1 go.1 (after_value c x bare),
+    )
 
 pub expressions_are_typable : Laws → ExpressionsAreTypable
 expressions_are_typable laws c code alone lines set n g cells = record {

@@ -3,7 +3,7 @@ use Rattle.std.specs.Prelude.{ℕ, ◌≡◌, ◌<◌, ◌==◌, Bool, true, fal
 use Rattle.std.specs.List.{list_any}
 use Rattle.std.specs.Str.{bytes_eq}
 use Rattle.sharc_tree.specs.Measures.{in_function as expressions_of}
-use Rattle.sharc_tree.specs.Tree.{Expression, constant, Function}
+use Rattle.sharc_tree.specs.Tree.{constant, Function}
 use Rattle.sharc_tree.specs.declared.token.Span.{Span}
 use Rattle.sharc_tree.specs.declared.tree.expression.Constant.{Constant}
 use Rattle.sharc_names.specs.declared.fault.Named.{Named}

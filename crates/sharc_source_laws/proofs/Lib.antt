@@ -1,5 +1,5 @@
-mod Among
 mod Behind
+mod Each
 mod Held
 mod Lines
 mod Percents

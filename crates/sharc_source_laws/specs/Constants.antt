@@ -86,6 +86,6 @@ abbrev mutual
 abbrev pub ConstantsAreHeld : Type 0
 ConstantsAreHeld = (source : List ℕ) (tokens : Tokens) (p : Program) → reading source ≡ Ok tokens → Reads tokens p → (n : ℕ) (f : Function) → slice_get (functions_in p.items) n ≡ Some f → HeldInStatements f.statements
 
--- so that of each constant among the expressions of a function does
+-- each of them among the expressions of a function
 abbrev pub EachConstantIsHeld : Type 0
 EachConstantIsHeld = (source : List ℕ) (tokens : Tokens) (p : Program) → reading source ≡ Ok tokens → Reads tokens p → (f : Function) → Contains (functions_in p.items) f → (s : Span) (k : Constant) → Contains (in_function f) (constant s k) → IsHeld k

@@ -18,8 +18,8 @@ pub fn constants_are_held()
     ensures { ConstantsAreHeld }
 {}
 
-/// So does that of each constant among the expressions of a function.
-pub fn each_constant_held()
+/// So does the type of each constant among the expressions of a function.
+pub fn each_constant_is_held()
     ensures { EachConstantIsHeld }
 {
     constants_are_held();
