@@ -1,15 +1,13 @@
 -- What statements ask of expressions, from what holds of cells.
-use Rattle.std.proofs.Common.{◌≡◌, inl, inr, ℕ, ◌+◌, ◌==◌, Bool, true, false, List, refl, ap, sym, ◌∙◌, subst, arith, option_map, ◌&&◌, Option, Some, None}
+use Rattle.std.proofs.Common.{◌≡◌, inl, inr, ℕ, ◌+◌, Bool, true, false, List, refl, ap, sym, ◌∙◌, subst, ◌&&◌, Option, Some, None}
 use Rattle.std.proofs.lemmas.Bool.{false≢true}
 use Rattle.sharc_tree.specs.declared.ctype.Base.{Base}
 use Rattle.sharc_tree.specs.declared.ctype.Base.TheVariants.{Int, Char, Long, Mutex, Void, Struct}
 use Rattle.sharc_tree.specs.Spans.{span_of}
 use Rattle.sharc_tree.specs.Tree.{Expression, Right, Function}
-use Rattle.sharc_names.specs.Kinds.{Kind, object, is_integral, is_integer, is_pointer, is_array, is_struct_base, is_struct_behind}
+use Rattle.sharc_names.specs.Kinds.{Kind, object, is_integral, is_pointer, is_array, is_struct_base, is_struct_behind}
 use Rattle.sharc_code.specs.declared.code.Use.TheVariants as uses
-use Rattle.sharc_ctype_laws.specs.Constraints.{IsInteger, IsPointer}
 use Rattle.sharc_ctype_laws.specs.Rules.{IsHeld}
-use Rattle.sharc_meaning.specs.State.{is_reference}
 use Rattle.sharc_mode.specs.Cells.{is_mutex_kind}
 use Rattle.sharc_mode.specs.Rows.{modes_at}
 use Rattle.sharc_mode.specs.Sharings.{Sharing}
@@ -21,10 +19,9 @@ use Rattle.sharc_labels_laws.specs.Stretches.{Setting}
 use Rattle.sharc_labels_laws.specs.Stated.{CellAssigned}
 use Rattle.sharc_labels_laws.specs.Typable.{type_by, IsTypable, IsPlaceTypable}
 use Rattle.sharc_access_laws.specs.Typed.{IsOf, CellTyped}
-use Rattle.sharc_static_laws.specs.Static.{static_of, entry_by, entry_of}
+use Rattle.sharc_static_laws.specs.Static.{entry_by, entry_of}
 use Rattle.sharc_typable_laws.specs.Typing.{typing}
 use Rattle.sharc_accepted_laws.specs.Expressions.{CellsTyped, ExpressionsTypable, ExpressionsAreTypable}
-use Rattle.sharc_accepted_laws.specs.Setting.{setting_of}
 use Rattle.sharc_accepted_laws.specs.Statements.{IsPlaceIn, IsThere, AreExpressionsTypable}
 use Rattle.sharc_accepted_laws.proofs.Assigned.{Laws, at_there, no_entry}
 use Rattle.sharc_accepted_laws.proofs.Bases.{place_base}

@@ -19,7 +19,7 @@ use sharc_static_laws::laws::{
     some_are_alone, spawned_begin,
 };
 use sharc_target_laws::laws::{
-    arrays_fit, expressions_found, globals_are, globals_hold, locks_stand_beside, lvalues_fit,
+    arrays_fit, expressions_found, globals_are, globals_hold, granules_are_few, locks_stand_beside, lvalues_fit,
     numbers_found, pointees_fit, targets_are, variables_found,
 };
 use sharc_typable_laws::laws::{calling_laws, taking_laws, threads_pass, value_laws};
@@ -102,6 +102,7 @@ pub fn settings_law()
     targets_are();
     globals_hold();
     made_tables_fit();
+    granules_are_few();
 }
 
 /// What its functions name as a global is one of the program.
