@@ -31,7 +31,7 @@ use Rattle.sharc_static_laws.specs.Standing.{ExpressionStands, ExpressionsStand}
 use Rattle.sharc_typable_laws.specs.Calling.{type_for}
 use Rattle.sharc_typable_laws.specs.Typing.{integers, width_named, typing}
 use Rattle.sharc_accepted_laws.proofs.Forms.{pointer_no_integer, to_integer}
-use Rattle.sharc_accepted_laws.proofs.Lists.{head_there, tail_there, of_each, front, back, each}
+use Rattle.sharc_accepted_laws.proofs.Members.{head_there, tail_there, of_each, front, back, each}
 
 -- ---- parts of an expression
 module _ (c : Context) (n : ℕ) (g : Function) where

@@ -1,5 +1,5 @@
 -- Assignments, and calls whose value is dropped.
-use Rattle.std.proofs.Common.{◌≡◌, inl, inr, ℕ, ◌+◌, ◌<◌, ◌==◌, Bool, true, false, List, [], ◌∷◌, length, slice_get, refl, ap, sym, ◌∙◌, subst, arith, cond, eqb-true, suc, option_map, Option, Some, None, Contains}
+use Rattle.std.proofs.Common.{◌≡◌, ℕ, ◌+◌, ◌<◌, Bool, true, false, List, length, refl, ap, sym, ◌∙◌, subst, arith, option_map, Option, Some, None, Contains}
 use Rattle.std.proofs.lemmas.Bool.{false≢true}
 use Rattle.std.specs.List.{AllByRecursion}
 use Rattle.sharc_tree.specs.declared.token.Span.{Span}
@@ -11,9 +11,9 @@ use Rattle.sharc_tree.specs.Measures.{expressions, in_option, in_right, in_simpl
 use Rattle.sharc_tree.specs.Tree.{Expression, Right, value, malloc, Simple, assign, does_call, Function}
 use Rattle.sharc_tree.specs.Tree as tree
 use Rattle.sharc_names.specs.declared.fault.Named.TheVariants as named
-use Rattle.sharc_names.specs.Kinds.{Kind, is_integer, is_pointer, same_kind, agrees, declared_kind, element_kind}
+use Rattle.sharc_names.specs.Kinds.{Kind, is_integer, is_pointer, same_kind, declared_kind}
 use Rattle.sharc_code.specs.declared.instr.Register.TheVariants.{Int}
-use Rattle.sharc_ctype.specs.Resolved.{Resolution, functions_in, named_at, named_kind, kind_at, declaration_at, variable_kind}
+use Rattle.sharc_ctype.specs.Resolved.{Resolution, functions_in, named_at, named_kind, declaration_at, variable_kind}
 use Rattle.sharc_ctype.specs.Statements.{made}
 use Rattle.sharc_ctype.specs.Transfers.{Agrees}
 use Rattle.sharc_ctype_laws.specs.Rules.{IsHeld, MeetsSimple}
@@ -22,33 +22,33 @@ use Rattle.sharc_meaning.specs.State.{is_reference}
 use Rattle.sharc_mode.specs.Cells.{cell_at, pointed}
 use Rattle.sharc_mode.specs.Moded.{Assignment}
 use Rattle.sharc_mode.specs.Notes.{base_of}
-use Rattle.sharc_mode.specs.Rows.{Row, written, row_at, named_row, declared_row, modes_of, modes_at}
+use Rattle.sharc_mode.specs.Rows.{Row, written, row_at, named_row, modes_of, modes_at}
 use Rattle.sharc_mode.specs.Sharings.{Sharing}
 use Rattle.sharc_mode_laws.specs.Constructs.{IsExpression, IsAssigned}
-use Rattle.sharc_flat.specs.Flattened.{kind_of, is_ref, target_of, guard_of}
-use Rattle.sharc_flat.specs.Places.{Target, variable, in_global, in_global_at, in_object, in_object_at, target, width_of}
-use Rattle.sharc_flat.specs.Scope.{Context, slot_kind, int_count, ref_count, register_of, number_in}
-use Rattle.sharc_flat.specs.Suits.{Suits, PlaceSuits, Goes, LeftSuits, RightSuits, SimpleSuits, CountSuits, IfThere, is_cell}
+use Rattle.sharc_flat.specs.Flattened.{kind_of, is_ref, target_of}
+use Rattle.sharc_flat.specs.Places.{Target, variable, in_global, in_global_at, in_object, in_object_at, width_of}
+use Rattle.sharc_flat.specs.Scope.{Context, slot_kind, ref_count, register_of, number_in}
+use Rattle.sharc_flat.specs.Suits.{PlaceSuits, LeftSuits, RightSuits, SimpleSuits, CountSuits, IfThere, is_cell}
 use Rattle.sharc_invariant.specs.Types.{Targets, StaticType, cells_of}
 use Rattle.sharc_invariant.specs.Labels.{Empty, Refers}
 use Rattle.sharc_labels_laws.specs.Stretches.{Setting}
-use Rattle.sharc_labels_laws.specs.Typable.{GoesTo, type_by, IsTypeIn, IsTypable, IsPlaceTypable}
+use Rattle.sharc_labels_laws.specs.Typable.{GoesTo, type_by, IsTypeIn, IsTypable}
 use Rattle.sharc_labels_laws.specs.Stated.{IsMade, CountTypable, ValueGoes, RightTypable, VariableAssigned, CellAssigned, Assigned, is_bare, Dropped, SimpleTypable}
 use Rattle.sharc_static_laws.specs.Held.{HeldLaws, held_at}
-use Rattle.sharc_static_laws.specs.Laws.{IsAccepted, GivenLaws}
+use Rattle.sharc_static_laws.specs.Laws.{GivenLaws}
 use Rattle.sharc_static_laws.specs.Scopes.{ScopeLaws, AllStand}
 use Rattle.sharc_static_laws.specs.Standing.{ExpressionStands, ExpressionsStand}
 use Rattle.sharc_static_laws.specs.Static.{register, static_of, variable_type, entry_by, entry_of, variable_entry}
 use Rattle.sharc_target_laws.specs.Laws.{IsRowOf, NumbersFound, ExpressionsFound}
 use Rattle.sharc_target_laws.specs.Pointees.{pointee, PointeesFit}
-use Rattle.sharc_target_laws.specs.Shapes.{row_shape, number}
+use Rattle.sharc_target_laws.specs.Shapes.{row_shape}
 use Rattle.sharc_target_laws.specs.Targets.{targets_of}
 use Rattle.sharc_typable_laws.specs.Laws.{IsAt, ValueLaws}
-use Rattle.sharc_typable_laws.specs.Typing.{typing, integers, width_named}
+use Rattle.sharc_typable_laws.specs.Typing.{typing, width_named}
 use Rattle.sharc_accepted_laws.specs.Statements.{IsPlaceIn, IsThere, AreExpressionsTypable}
 use Rattle.sharc_accepted_laws.proofs.Members.{front, back, each, place_there}
 use Rattle.sharc_accepted_laws.proofs.Registers.{reference_found, integer_found}
-use Rattle.sharc_accepted_laws.proofs.Sorts.{integer_is, reference_no_integer, integer_want, held_pointer, held_integer, no_function_held, made_pointer, made_element, element_some}
+use Rattle.sharc_accepted_laws.proofs.Sorts.{integer_is, reference_no_integer, integer_want, held_pointer, no_function_held, made_pointer, made_element, element_some}
 use Rattle.sharc_accepted_laws.proofs.Wholes.{Facts, IsName, variable_named}
 
 -- an expression is the first of those that it has
@@ -285,15 +285,15 @@ module _ (laws : Laws) (z : Setting) (alone : ℕ → Bool) (n : ℕ) (g : Funct
           type,
           assigned_is facts u x there suits.0 does.0 meets.0 meets.1 (target_of c u) refl suits.1,
           right_is (is_bare z n typing (target_of c u)) (kind_of c u) (type_by (entry_of c u)) (pointed c.program (row_at c.program.typed u)) x
-          (record {
-            inside = back (Contains (in_function g)) (expressions u) (in_right x) given.inside;
-            stands = back (ExpressionStands c) (expressions u) (in_right x) given.stands;
-            agrees = does.1;
-            type = type;
-            goes = goes_is facts u x there suits.0 does.0 meets.0 meets.1;
-            makes = makes_is facts u x there suits.0 does.0 meets.0 meets.1;
-          })
-          suits.2,
+              (record {
+                inside = back (Contains (in_function g)) (expressions u) (in_right x) given.inside;
+                stands = back (ExpressionStands c) (expressions u) (in_right x) given.stands;
+                agrees = does.1;
+                type = type;
+                goes = goes_is facts u x there suits.0 does.0 meets.0 meets.1;
+                makes = makes_is facts u x there suits.0 does.0 meets.0 meets.1;
+              })
+              suits.2,
         ),
       )
   simple_is facts (does_call e) given meets low suits =

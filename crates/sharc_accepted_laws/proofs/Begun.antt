@@ -1,39 +1,32 @@
 -- Variables of blocks.
-use Rattle.std.proofs.Common.{◌≡◌, ℕ, ◌+◌, ◌<◌, Bool, true, false, List, [], ◌∷◌, ◌++◌, slice_get, refl, ap, sym, ◌∙◌, subst, arith, Option, Some, None, IfSome, Contains}
+use Rattle.std.proofs.Common.{◌≡◌, ℕ, Bool, true, false, [], ◌∷◌, refl, ap, sym, ◌∙◌, subst, Option, Some, None, IfSome, Contains}
 use Rattle.std.specs.List.{AllByRecursion}
 use Rattle.sharc_tree.specs.declared.tree.declaration.Declaration.{Declaration}
-use Rattle.sharc_tree.specs.declared.tree.declaration.WrittenType.{WrittenType}
 use Rattle.sharc_tree.specs.Measures.{in_option, in_right, in_local, in_function}
-use Rattle.sharc_tree.specs.Tree.{Expression, Right, value, Local, Function}
+use Rattle.sharc_tree.specs.Tree.{Right, Local, Function}
 use Rattle.sharc_names.specs.declared.fault.Named.TheVariants as named
-use Rattle.sharc_names.specs.Kinds.{Kind, is_pointer, same_kind, declared_kind}
-use Rattle.sharc_code.specs.declared.instr.Register.{Register}
-use Rattle.sharc_code.specs.declared.instr.Register.TheVariants.{Int, Reference}
+use Rattle.sharc_names.specs.Kinds.{Kind, is_pointer, declared_kind}
 use Rattle.sharc_ctype.specs.Resolved.{declaration_at, variable_kind}
-use Rattle.sharc_ctype.specs.Statements.{made}
 use Rattle.sharc_ctype.specs.Transfers.{Agrees}
 use Rattle.sharc_ctype_laws.specs.Declared.{IsItself}
 use Rattle.sharc_meaning.specs.Cells.{element_cells}
 use Rattle.sharc_meaning.specs.State.{is_reference}
 use Rattle.sharc_mode.specs.Cells.{pointed}
-use Rattle.sharc_mode.specs.Rows.{Row, written, declared_row, modes_of}
-use Rattle.sharc_mode.specs.Sharings.{Sharing}
+use Rattle.sharc_mode.specs.Rows.{written, declared_row, modes_of}
 use Rattle.sharc_mode_laws.specs.Constructs.{locals_in_all}
-use Rattle.sharc_flat.specs.declared.slot.Slot.{Slot}
 use Rattle.sharc_flat.specs.Flattened.{with_variable}
 use Rattle.sharc_flat.specs.Places.{width_of}
-use Rattle.sharc_flat.specs.Scope.{Context, slot_of, slot_kind, int_count, ref_count, register_of, number_in}
+use Rattle.sharc_flat.specs.Scope.{Context, slot_of}
 use Rattle.sharc_flat.specs.Suits.{InitialSuits}
 use Rattle.sharc_invariant.specs.Types.{StaticType}
-use Rattle.sharc_invariant.specs.Labels.{Refers}
 use Rattle.sharc_labels_laws.specs.Stretches.{Setting}
-use Rattle.sharc_labels_laws.specs.Typable.{GoesTo, type_by, IsTypeIn}
-use Rattle.sharc_labels_laws.specs.Stated.{IsMade, RightTypable}
-use Rattle.sharc_labels_laws.specs.Declared.{Keeps, BeginsReference, BeginsInteger, Begins, InitialTypable, LocalTypable}
+use Rattle.sharc_labels_laws.specs.Typable.{type_by, IsTypeIn}
+use Rattle.sharc_labels_laws.specs.Stated.{IsMade}
+use Rattle.sharc_labels_laws.specs.Declared.{Keeps, Begins, InitialTypable}
 use Rattle.sharc_statement_laws.specs.Statements.{DeclaredTypable}
 use Rattle.sharc_static_laws.specs.Held.{held_named}
 use Rattle.sharc_static_laws.specs.Standing.{ExpressionStands, LocalStands}
-use Rattle.sharc_static_laws.specs.Static.{register, static_of, variable_type, entry_of, variable_entry, entry_named}
+use Rattle.sharc_static_laws.specs.Static.{static_of, variable_type, entry_named}
 use Rattle.sharc_target_laws.specs.Laws.{VariablesFound}
 use Rattle.sharc_typable_laws.specs.Typing.{typing, width_named}
 use Rattle.sharc_accepted_laws.specs.Statements.{IsPlaceIn, AreExpressionsTypable}
@@ -134,8 +127,8 @@ module _ (laws : Laws) (variables : VariablesFound) (z : Setting) (alone : ℕ �
       → InitialSuits c l.declaration x → InitialTypable z n typing (with_variable c l.declaration) l.declaration (variable_type (with_variable c l.declaration) l.declaration.name.site.token) x
   initial_is None is inside agrees there suits = tt
   initial_is (Some x) is inside agrees there suits =
-    right_is laws z alone n g typable (with_variable c l.declaration) (here_with laws z alone n g c here l stands) true (declared_kind l.declaration.written) (variable_type (with_variable c l.declaration) l.declaration.name.site.token)
-    (pointed c.program (Some (declared_row c.program.typed written l.declaration.name.site.token))) x (gives_is x (record { inside = inside; agrees = agrees; there = there; is = is })) suits.0
+      right_is laws z alone n g typable (with_variable c l.declaration) (here_with laws z alone n g c here l stands) true (declared_kind l.declaration.written) (variable_type (with_variable c l.declaration) l.declaration.name.site.token)
+      (pointed c.program (Some (declared_row c.program.typed written l.declaration.name.site.token))) x (gives_is x (record { inside = inside; agrees = agrees; there = there; is = is })) suits.0
 
   pub local_is : Contains (locals_in_all g.statements) l → AllByRecursion (Contains (in_function g)) (in_local l) → IfSome l.initial (Agrees c.program.typed (declared_kind l.declaration.written)) → InitialSuits c l.declaration l.initial → DeclaredTypable z n typing c l
   local_is there inside agrees suits = (

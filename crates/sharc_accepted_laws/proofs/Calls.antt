@@ -37,7 +37,7 @@ use Rattle.sharc_accepted_laws.specs.Setting.{function_signature, signature_by, 
 use Rattle.sharc_accepted_laws.proofs.Arguments.{AllGo, all_go, refs_counted, integer_passed, parameters_declared}
 use Rattle.sharc_accepted_laws.proofs.Facts.{Laws, expression_of, is_at, has_type}
 use Rattle.sharc_accepted_laws.proofs.Forms.{reference_pointer, call_typed, function_parameters}
-use Rattle.sharc_accepted_laws.proofs.Lists.{none_there, head_there, tail_there, found_there}
+use Rattle.sharc_accepted_laws.proofs.Members.{none_there, head_there, tail_there, place_there}
 
 pub narrower_same : (w : Width) → Narrower w w
 narrower_same widths.Char = tt
@@ -87,7 +87,7 @@ module _ (laws : Laws) (c : Context) (code : Code) (alone : ℕ → Bool) (lines
     e = call s i all
 
     function_there : IsFunction m f
-    function_there = found_there (functions_in r.program.items) k f there
+    function_there = place_there (functions_in r.program.items) k f there
 
     parameters_are : parameters_named r (named_at r i.site.token) ≡ f.parameters
     parameters_are = ap (parameters_named r) names ∙ ap parameters_of there

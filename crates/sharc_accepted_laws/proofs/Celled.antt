@@ -29,7 +29,7 @@ use Rattle.sharc_typable_laws.specs.Typing.{typing}
 use Rattle.sharc_accepted_laws.specs.Cells.{CellsAreTyped}
 use Rattle.sharc_accepted_laws.specs.Expressions.{ConditionsTyped, CellsTyped}
 use Rattle.sharc_accepted_laws.specs.Setting.{signature_by, setting_of, IsSet}
-use Rattle.sharc_accepted_laws.proofs.Lists.{each, found_there, first_of}
+use Rattle.sharc_accepted_laws.proofs.Members.{each, place_there, first_of}
 
 -- a signature tells what the test of functions tells
 same_alone : (m : Assignment) (globals : List GlobalCells) (alone : Bool) (o : Option Function) → (signature_by m globals alone o).alone ≡ alone
@@ -58,7 +58,7 @@ module _ (values : ValueLaws) (scopes : ScopeLaws) (lvalues : LvaluesAreTyped) (
 
   inside : (e : Expression) → IsOf c n g e → AllByRecursion (IsExpression c.program) (expressions e)
   inside e at =
-      each (λ x. Contains (in_function g) x) (IsExpression c.program) (λ x has. record { owner = g; stands = found_there (functions_in c.program.typed.program.items) n g at.function; inside = has }) (expressions e) at.parts
+      each (λ x. Contains (in_function g) x) (IsExpression c.program) (λ x has. record { owner = g; stands = place_there (functions_in c.program.typed.program.items) n g at.function; inside = has }) (expressions e) at.parts
 
   -- a pointer refers to what its type says
   entry_is : (e : Expression) → IsOf c n g e → is_pointer (kind_of c e) ≡ true → entry_of c e ≡ Refers (type_by (entry_of c e))

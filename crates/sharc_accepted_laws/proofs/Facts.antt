@@ -1,6 +1,6 @@
 -- What is known of each expression of a function of an accepted program.
 use Rattle.std.proofs.Common.{◌≡◌, ℕ, Bool, true, false, List, refl, ap, sym, ◌∙◌, subst, option_map, Option, Some, None, Contains}
-use Rattle.std.specs.List.{AllByRecursion}
+use Rattle.std.proofs.lemmas.Bool.{false≢true}
 use Rattle.sharc_tree.specs.declared.token.Site.{Site}
 use Rattle.sharc_tree.specs.Forms.{is_lvalue}
 use Rattle.sharc_tree.specs.Measures.{expressions, in_function}
@@ -10,7 +10,7 @@ use Rattle.sharc_names.specs.Kinds.{is_pointer, element_kind}
 use Rattle.sharc_code.specs.declared.code.Code.{Code}
 use Rattle.sharc_code.specs.declared.code.Use.{Use}
 use Rattle.sharc_code.specs.declared.code.Use.TheVariants as uses
-use Rattle.sharc_ctype.specs.Resolved.{Resolution, functions_in, kind_at}
+use Rattle.sharc_ctype.specs.Resolved.{Resolution, functions_in}
 use Rattle.sharc_ctype_laws.specs.Constraints.{HasType as IsOfType}
 use Rattle.sharc_ctype_laws.specs.Laws.{MeetsConstraints, MeetsGlobals, OneType, EachNamesItself, EachNamesOwn, ArePlain, SpawnsNameFunctions, SpawnsThreads}
 use Rattle.sharc_meaning.specs.Cells.{element_cells}
@@ -28,7 +28,7 @@ use Rattle.sharc_labels_laws.specs.Stretches.{Setting}
 use Rattle.sharc_labels_laws.specs.Premises.{ReferenceTyped}
 use Rattle.sharc_labels_laws.specs.Typable.{type_by, ground_of, IsPointer, CellTyped, ValueTyped, Takes}
 use Rattle.sharc_access_laws.specs.Joined.{BaseStands}
-use Rattle.sharc_access_laws.specs.Typed.{IsOf}
+use Rattle.sharc_access_laws.specs.Typed.{IsOf, BasesStand}
 use Rattle.sharc_static_laws.specs.Calls.{ArgumentsFit}
 use Rattle.sharc_static_laws.specs.Laws.{IsAccepted}
 use Rattle.sharc_static_laws.specs.Results.{ResultLaws}
@@ -48,9 +48,10 @@ use Rattle.sharc_typable_laws.specs.Threads.{ThreadsPass}
 use Rattle.sharc_typable_laws.specs.Typing.{typing}
 use Rattle.sharc_accepted_laws.specs.Expressions.{CellsTyped}
 use Rattle.sharc_accepted_laws.specs.Setting.{setting_of, IsSet}
-use Rattle.sharc_accepted_laws.proofs.Forms.{lvalue_some, reference_pointer, pointer_reference}
-use Rattle.sharc_accepted_laws.proofs.Lists.{of_each, each, found_there, first_of}
-use Rattle.sharc_accepted_laws.proofs.Plain.{NamesPlain, all_plain, all_results, variable_named}
+use Rattle.sharc_accepted_laws.proofs.Forms.{lvalue_some, reference_pointer}
+use Rattle.sharc_accepted_laws.proofs.Members.{each, place_there, first_of}
+use Rattle.sharc_accepted_laws.proofs.Wholes as wholes
+use Rattle.sharc_accepted_laws.proofs.Wholes.{facts_of, variable_named}
 
 -- ---- the laws of the crates below
 pub record Laws : Type 0 where
@@ -62,6 +63,7 @@ pub record Laws : Type 0 where
   pub plain : ArePlain
   pub name_functions : SpawnsNameFunctions
   pub spawn_threads : SpawnsThreads
+  pub bases : BasesStand
   pub fit : LvaluesFit
   pub arrays : ArraysFit
   pub found : ExpressionsFound
@@ -100,7 +102,7 @@ module _ (laws : Laws) (c : Context) (code : Code) (alone : ℕ → Bool) (lines
   -- ---- the expression
   module _ (e : Expression) (at : At e) where
     pub owner_there : IsFunction m g
-    owner_there = found_there (functions_in r.program.items) n g at.function
+    owner_there = place_there (functions_in r.program.items) n g at.function
 
     pub expression_of : IsExpression m e
     expression_of = record { owner = g; stands = owner_there; inside = first_of (Contains (in_function g)) e at.parts }
@@ -111,10 +113,12 @@ module _ (laws : Laws) (c : Context) (code : Code) (alone : ℕ → Bool) (lines
       stands = first_of (ExpressionStands c) e at.stand;
     }
 
+    -- what is known of the function
+    known : wholes.Facts r g
+    known = facts_of laws.constraints laws.themselves laws.own laws.plain m a n g at.function
+
     pub has_type : IsOfType r e (kind_of c e)
-    has_type =
-        of_each (λ e. IsOfType r e (kind_at r e)) (in_function g) e
-        (of_each (λ f. AllByRecursion (λ e. IsOfType r e (kind_at r e)) (in_function f)) (functions_in r.program.items) g (laws.constraints r a.resolved a.placed a.low) owner_there) (first_of (Contains (in_function g)) e at.parts)
+    has_type = known.typed e (first_of (Contains (in_function g)) e at.parts)
 
     pub lvalue_pointer : is_lvalue e ≡ true → is_ref c e ≡ true → is_pointer (kind_of c e) ≡ true
     lvalue_pointer lvalue ref = reference_pointer (kind_of c e) (lvalue_some r e (kind_of c e) has_type lvalue) ref
@@ -180,9 +184,6 @@ module _ (laws : Laws) (c : Context) (code : Code) (alone : ℕ → Bool) (lines
             subst (λ s. ReferenceTyped z typing c n (target_of c e) (guard_of c e) (ground_of z n typing c e) (span_of e).first (lvalue_in c e) (mode_of c e) true use_made s) type
             (((cells.lvalues e at base cell).taken takes).reference pointer modes.0 modes.1 (span_of e).first use_made)
 
-        plain_names : AllByRecursion (NamesPlain r) (expressions e)
-        plain_names = all_plain laws.themselves laws.own laws.plain m a n g at.function (expressions e) at.parts
-
         pub takes_typed : TakeSuits c (mode_of c e) (target_of c e) → Taken (target_of c e)
         takes_typed suits = by (target_of c e) refl suits
           where
@@ -192,8 +193,8 @@ module _ (laws : Laws) (c : Context) (code : Code) (alone : ℕ → Bool) (lines
 
             by : (t : Target) → target_of c e ≡ t → TakeSuits c (mode_of c e) t → Taken t
             by (variable x) is slot =
-                let v = variable_named r (all_results laws.plain m a) e (kind_of c e) has_type lvalue (pointer_reference (kind_of c e) pointer) plain_names x is in
-                subst Taken is (laws.taking.variables z n bare c e v.span v.name x takes v.is v.names slot use_made)
+                let v = variable_named r g known e (kind_of c e) has_type lvalue (λ no_value. false≢true (sym (ap is_pointer no_value) ∙ pointer)) at.parts x is in
+                subst Taken is (laws.taking.variables z n bare c e v.span v.name x takes v.bare v.names slot use_made)
             by (in_global k j) is h = moved (in_global k j) is (cell_taken (ap is_cell is))
             by (in_global_at k j) is h = moved (in_global_at k j) is (cell_taken (ap is_cell is))
             by (in_object j) is h = moved (in_object j) is (cell_taken (ap is_cell is))

@@ -28,7 +28,7 @@ use Rattle.sharc_target_laws.specs.Lvalues.{pointer_of, IsOfObject, IsOfGlobal, 
 use Rattle.sharc_target_laws.specs.Shapes.{expression_shape, shapes, number}
 use Rattle.sharc_target_laws.specs.Targets.{global_element, targets_of}
 use Rattle.sharc_typable_laws.specs.Typing.{typing}
-use Rattle.sharc_accepted_laws.proofs.Lists.{none_some, same_some, at_place, found_there}
+use Rattle.sharc_accepted_laws.proofs.Members.{of_each, none_some, same_some, place_there}
 
 -- ---- of what an lvalue names
 module _ (z : Setting) (n : ℕ) (c : Context) where
@@ -166,13 +166,13 @@ module _ (fit : LvaluesFit) (found : ExpressionsFound) (beside : LocksStandBesid
     element_fits g k w =
         subst (λ o. Inside z n c (cells_in_each r o) k guard) (sym w.defined)
         (subst (λ count. Inside z n c count k guard) same
-        (with_guard (length element) k guard w.inside (guarded [] element k (slice_index_or element k no_field) (λ l below is _. absurd (no_modes l below is)) w.fits (locks.globals w.global (found_there (globals_in r.program.items) g w.global w.defined) k))))
+        (with_guard (length element) k guard w.inside (guarded [] element k (slice_index_or element k no_field) (λ l below is _. absurd (no_modes l below is)) w.fits (locks.globals w.global (place_there (globals_in r.program.items) g w.global w.defined) k))))
       where
         element : List Field
         element = global_element m w.global
 
         some : 0 < elements_of w.global.form
-        some = let one = (at_place MeetsGlobal (globals_in r.program.items) g w.global (meets r.program a.resolved.typed) w.defined).elements in omega (arith, one)
+        some = let one = (of_each MeetsGlobal (globals_in r.program.items) w.global (meets r.program a.resolved.typed) (place_there (globals_in r.program.items) g w.global w.defined)).elements in omega (arith, one)
 
         same : length (global_element m w.global) ≡ cells_in_each r (Some w.global)
         same = (globals_are m g w.global w.defined 0 k some w.inside).cells

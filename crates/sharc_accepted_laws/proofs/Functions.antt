@@ -1,16 +1,15 @@
 -- Functions: what their first registers hold, what they give, and their statements.
-use Rattle.std.proofs.Common.{◌≡◌, ℕ, zero, suc, ◌+◌, ◌<◌, ◌≤◌, Bool, true, false, cond, List, [], ◌∷◌, ◌++◌, length, nat_lt, slice_get, refl, ap, sym, ◌∙◌, subst, arith, ltb-true, ltb-false, Option, Some, None, Contains}
-use Rattle.std.proofs.lemmas.Bool.{false≢true}
+use Rattle.std.proofs.Common.{◌≡◌, ℕ, zero, suc, ◌<◌, Bool, true, false, cond, List, [], ◌∷◌, ◌++◌, length, nat_lt, slice_get, refl, ap, sym, ◌∙◌, subst, arith, ltb-true, ltb-false, Option, Some, None}
 use Rattle.std.specs.List.{AllByRecursion}
 use Rattle.sharc_tree.specs.Low.{LowItems, LowStatements}
 use Rattle.sharc_tree.specs.Measures.{in_function}
 use Rattle.sharc_tree.specs.Tree.{Function, Item, structure, global, function}
 use Rattle.sharc_names.specs.declared.fault.Named.TheVariants as named
-use Rattle.sharc_names.specs.Kinds.{Kind, declared_kind}
+use Rattle.sharc_names.specs.Kinds.{declared_kind}
 use Rattle.sharc_code.specs.declared.code.GlobalCells.{GlobalCells}
 use Rattle.sharc_ctype.specs.Resolved.{Resolution, functions_in, function_at, declaration_at, variable_kind}
 use Rattle.sharc_ctype.specs.Statements as ctype
-use Rattle.sharc_ctype.specs.Transfers.{Transfer, IsFair, function_transfers}
+use Rattle.sharc_ctype.specs.Transfers.{IsFair, function_transfers}
 use Rattle.sharc_ctype_laws.specs.Declared.{IsItself}
 use Rattle.sharc_ctype_laws.specs.Laws.{AllFair, ArePlain, EachNamesItself, EachNamesOwn, MeetsConstraints, MeetsStatements}
 use Rattle.sharc_ctype_laws.specs.Rules.{MeetsRules}
@@ -22,9 +21,8 @@ use Rattle.sharc_flat.specs.declared.slot.Slot.{Slot}
 use Rattle.sharc_flat.specs.Flattened.{parameters_scope}
 use Rattle.sharc_flat.specs.Flattened as flat
 use Rattle.sharc_flat.specs.Places.{width_of}
-use Rattle.sharc_flat.specs.Scope.{Context, int_count, ref_count}
+use Rattle.sharc_flat.specs.Scope.{Context, ref_count}
 use Rattle.sharc_flat_laws.specs.Stands.{TypedSuits}
-use Rattle.sharc_invariant.specs.Types.{Mentions}
 use Rattle.sharc_invariant.specs.Labels.{Empty, Refers, Anything, Within, Signature}
 use Rattle.sharc_labels_laws.specs.Stretches.{Setting}
 use Rattle.sharc_labels_laws.specs.Places.{IsNamed}
@@ -36,10 +34,10 @@ use Rattle.sharc_static_laws.specs.Held.{held_at}
 use Rattle.sharc_static_laws.specs.Results.{ResultLaws}
 use Rattle.sharc_static_laws.specs.Scopes.{AllStand, DeclaredStands}
 use Rattle.sharc_static_laws.specs.Standing.{FunctionStands, FunctionsStand}
-use Rattle.sharc_static_laws.specs.Static.{pointers, variable_type, variable_entry, entry_named, result_type}
+use Rattle.sharc_static_laws.specs.Static.{pointers, variable_entry, entry_named, result_type}
 use Rattle.sharc_target_laws.specs.Laws.{VariablesFound}
 use Rattle.sharc_typable_laws.specs.Typing.{typing}
-use Rattle.sharc_accepted_laws.specs.Setting.{function_signature, signature_by, setting_of, IsSet}
+use Rattle.sharc_accepted_laws.specs.Setting.{function_signature, setting_of, IsSet}
 use Rattle.sharc_accepted_laws.specs.Statements.{IsPlaceIn, AreExpressionsTypable}
 use Rattle.sharc_accepted_laws.proofs.Assigned.{Laws}
 use Rattle.sharc_accepted_laws.proofs.Fresh.{StatementsFresh, fresh_functions}

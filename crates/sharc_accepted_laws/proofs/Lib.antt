@@ -1,6 +1,5 @@
 pub mod Arguments
 pub mod Assigned
-pub mod Bases
 pub mod Begun
 pub mod Calls
 pub mod Celled
@@ -12,11 +11,9 @@ pub mod Fresh
 pub mod Functions
 pub mod Joined
 pub mod Linked
-pub mod Lists
 pub mod Locals
 pub mod Members
 pub mod Named
-pub mod Plain
 pub mod Registers
 pub mod Slots
 pub mod Sorts

@@ -1,15 +1,13 @@
 -- What statements ask of expressions, from what holds of cells.
-use Rattle.std.proofs.Common.{◌≡◌, inl, inr, ℕ, ◌+◌, ◌==◌, Bool, true, false, List, refl, ap, sym, ◌∙◌, subst, arith, option_map, ◌&&◌, Option, Some, None}
+use Rattle.std.proofs.Common.{◌≡◌, inl, inr, ℕ, ◌+◌, Bool, true, false, List, refl, ap, sym, ◌∙◌, subst, ◌&&◌, Option, Some, None}
 use Rattle.std.proofs.lemmas.Bool.{false≢true}
 use Rattle.sharc_tree.specs.declared.ctype.Base.{Base}
 use Rattle.sharc_tree.specs.declared.ctype.Base.TheVariants.{Int, Char, Long, Mutex, Void, Struct}
 use Rattle.sharc_tree.specs.Spans.{span_of}
 use Rattle.sharc_tree.specs.Tree.{Expression, Right, Function}
-use Rattle.sharc_names.specs.Kinds.{Kind, object, is_integral, is_integer, is_pointer, is_array, is_struct_base, is_struct_behind}
+use Rattle.sharc_names.specs.Kinds.{Kind, object, is_integral, is_pointer, is_array, is_struct_base, is_struct_behind}
 use Rattle.sharc_code.specs.declared.code.Use.TheVariants as uses
-use Rattle.sharc_ctype_laws.specs.Constraints.{IsInteger, IsPointer}
 use Rattle.sharc_ctype_laws.specs.Rules.{IsHeld}
-use Rattle.sharc_meaning.specs.State.{is_reference}
 use Rattle.sharc_mode.specs.Cells.{is_mutex_kind}
 use Rattle.sharc_mode.specs.Rows.{modes_at}
 use Rattle.sharc_mode.specs.Sharings.{Sharing}
@@ -20,14 +18,12 @@ use Rattle.sharc_flat.specs.Suits.{PlaceSuits, is_cell}
 use Rattle.sharc_labels_laws.specs.Stretches.{Setting}
 use Rattle.sharc_labels_laws.specs.Stated.{CellAssigned}
 use Rattle.sharc_labels_laws.specs.Typable.{type_by, IsTypable, IsPlaceTypable}
-use Rattle.sharc_access_laws.specs.Typed.{IsOf, CellTyped}
-use Rattle.sharc_static_laws.specs.Static.{static_of, entry_by, entry_of}
+use Rattle.sharc_access_laws.specs.Typed.{IsOf, BasesStand, CellTyped}
+use Rattle.sharc_static_laws.specs.Static.{entry_by, entry_of}
 use Rattle.sharc_typable_laws.specs.Typing.{typing}
 use Rattle.sharc_accepted_laws.specs.Expressions.{CellsTyped, ExpressionsTypable, ExpressionsAreTypable}
-use Rattle.sharc_accepted_laws.specs.Setting.{setting_of}
 use Rattle.sharc_accepted_laws.specs.Statements.{IsPlaceIn, IsThere, AreExpressionsTypable}
 use Rattle.sharc_accepted_laws.proofs.Assigned.{Laws, at_there, no_entry}
-use Rattle.sharc_accepted_laws.proofs.Bases.{place_base}
 use Rattle.sharc_accepted_laws.proofs.Sorts.{held_pointer, held_integer}
 use Rattle.sharc_accepted_laws.proofs.Wholes.{some_star}
 
@@ -59,7 +55,7 @@ held_no_array : (k : Kind) → IsHeld k → is_array k ≡ false
 held_no_array k (inl (b, t, is)) = ap is_array is
 held_no_array k (inr (b, n, is)) = ap is_array is
 
-module _ (expressions : ExpressionsAreTypable) (z : Setting) (alone : ℕ → Bool) (n : ℕ) (g : Function) (cells : (c : Context) → IsPlaceIn z alone n g c → CellsTyped z c n g) where
+module _ (expressions : ExpressionsAreTypable) (bases : BasesStand) (z : Setting) (alone : ℕ → Bool) (n : ℕ) (g : Function) (cells : (c : Context) → IsPlaceIn z alone n g c → CellsTyped z c n g) where
   is_of : (c : Context) → IsPlaceIn z alone n g c → (e : Expression) → IsThere g c e → IsOf c n g e
   is_of c h e t = record { function = h.function; parts = t.inside; stand = t.stands }
 
@@ -78,7 +74,7 @@ module _ (expressions : ExpressionsAreTypable) (z : Setting) (alone : ℕ → Bo
   written_is laws c h u x t suits assigned holds cell = by (is_ref c u) refl
     where
       typed : CellTyped z typing c n u true
-      typed = ((cells c h).lvalues u (is_of c h u t) (place_base c u suits) cell).assigned x assigned
+      typed = ((cells c h).lvalues u (is_of c h u t) (bases.places c u suits) cell).assigned x assigned
 
       of_row : is_ref c u ≡ true → (o : Option (List Sharing)) → modes_at c.program u ≡ o → CellAssigned z n typing c u (type_by (entry_by c (kind_of c u) o)) (target_of c u) true
       of_row ref None is = absurd (has_modes laws c h u t (held_pointer (kind_of c u) holds ref) is)

@@ -1,7 +1,10 @@
 -- What holds of each element of a list, and what is an element.
-use Rattle.std.proofs.Common.{◌≡◌, ◌⊎◌, inl, inr, ⊎_elim, ℕ, zero, suc, ◌<◌, Bool, true, List, [], ◌∷◌, ◌++◌, length, map, slice_index_or, slice_get, refl, ap, subst, arith, Some, None, Contains}
+use Rattle.std.proofs.Common.{◌≡◌, ◌⊎◌, inl, inr, ⊎_elim, ℕ, zero, suc, ◌<◌, ◌||◌, Bool, true, false, List, [], ◌∷◌, ◌++◌, length, slice_index_or, slice_get, refl, ap, ◌∙◌, subst, arith, Some, None, Contains}
 use Rattle.std.proofs.lemmas.Bool.{false≢true, or_cases}
 use Rattle.std.specs.List.{AllByRecursion, list_any}
+use Rattle.sharc_tree.specs.Measures.{expressions}
+use Rattle.sharc_tree.specs.Tree.{Expression}
+use Rattle.sharc_tree.specs.Tree as tree
 
 pub both : {A : Type 0} (P : A → Type 0) (a b : List A) → AllByRecursion P a → AllByRecursion P b → AllByRecursion P (a ++ b)
 both P [] b ha hb = hb
@@ -19,7 +22,7 @@ pub each : {A : Type 0} (P Q : A → Type 0) → ((x : A) → P x → Q x) → (
 each P Q f [] h = tt
 each P Q f (x ∷ rest) h = (f x h.0, each P Q f rest h.1)
 
-none_there : {A : Type 0} (x : A) → Contains [] x → ⊥
+pub none_there : {A : Type 0} (x : A) → Contains [] x → ⊥
 none_there x (k, low, is) = omega (arith, low)
 
 pub head_there : {A : Type 0} (x : A) (rest : List A) → Contains (x ∷ rest) x
@@ -77,3 +80,31 @@ next_passes p y rest found = (found.0, tail_there y found.0 rest found.1, found.
 pub passes_there : {A : Type 0} (p : A → Bool) (list : List A) → list_any p list ≡ true → (x : A) × Contains list x × (p x ≡ true)
 passes_there p [] h = absurd (false≢true h)
 passes_there p (y ∷ rest) h = ⊎_elim (λ is. (y, head_there y rest, is)) (λ later. next_passes p y rest (passes_there p rest later)) (or_cases (p y) (list_any p rest) h)
+
+pub any_passes : {A : Type 0} (p : A → Bool) (list : List A) (x : A) → Contains list x → p x ≡ true → list_any p list ≡ true
+any_passes p [] x has h = absurd (none_there x has)
+any_passes p (y ∷ rest) x has h = ⊎_elim (λ is. here (p y) (list_any p rest) (ap p is ∙ h)) (λ later. there (p y) (list_any p rest) (any_passes p rest x later h)) (head_or_tail y x rest has)
+  where
+    here : (a b : Bool) → a ≡ true → (a || b) ≡ true
+    here true b h = refl
+    here false b h = absurd (false≢true h)
+
+    there : (a b : Bool) → b ≡ true → (a || b) ≡ true
+    there true b h = refl
+    there false b h = h
+
+-- ---- expressions
+-- an expression is the first of those that it has
+pub first_of : (P : Expression → Type 0) (e : Expression) → AllByRecursion P (expressions e) → P e
+first_of P (tree.identifier s i) h = h.0
+first_of P (tree.constant s c) h = h.0
+first_of P (tree.parentheses s a) h = h.0
+first_of P (tree.call s f all) h = h.0
+first_of P (tree.spawn s f a) h = h.0
+first_of P (tree.on_value s w a) h = h.0
+first_of P (tree.on_place s w a) h = h.0
+first_of P (tree.cast s t a) h = h.0
+first_of P (tree.index s a i) h = h.0
+first_of P (tree.field s a w n) h = h.0
+first_of P (tree.unary s o a) h = h.0
+first_of P (tree.binary s o at a b) h = h.0

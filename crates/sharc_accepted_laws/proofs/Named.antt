@@ -1,11 +1,10 @@
 -- What the functions of a program name as a global is one of it.
-use Rattle.std.proofs.Common.{◌≡◌, ℕ, ◌<◌, List, length, ap, sym, ◌∙◌, subst, Contains}
+use Rattle.std.proofs.Common.{◌≡◌, ℕ, ◌<◌, List, length, sym, ◌∙◌, subst}
 use Rattle.std.specs.List.{AllByRecursion}
 use Rattle.sharc_tree.specs.declared.token.Span.{Span}
 use Rattle.sharc_tree.specs.declared.tree.declaration.Identifier.{Identifier}
 use Rattle.sharc_tree.specs.Measures.{in_function}
-use Rattle.sharc_tree.specs.Tree.{Expression, identifier}
-use Rattle.sharc_names.specs.declared.fault.Named.{Named}
+use Rattle.sharc_tree.specs.Tree.{identifier}
 use Rattle.sharc_names.specs.declared.fault.Named.TheVariants as named
 use Rattle.sharc_names.specs.Kinds.{Kind}
 use Rattle.sharc_ctype.specs.Resolved.{Resolution, globals_in, functions_in, kind_at, named_at}

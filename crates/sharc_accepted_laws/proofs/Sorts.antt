@@ -1,11 +1,10 @@
 -- Which kinds are integers, pointers and references, and how many cells an element has.
-use Rattle.std.proofs.Common.{◌≡◌, inl, inr, ℕ, zero, suc, ◌+◌, ◌-◌, ◌≤◌, ◌<◌, ◌==◌, Bool, true, false, ◌&&◌, ◌||◌, cond, List, [], ◌∷◌, length, refl, ap, ap₂, sym, ◌∙◌, subst, arith, lt-ltb, eqb-true, bytes_eq}
+use Rattle.std.proofs.Common.{◌≡◌, inl, inr, ℕ, zero, suc, ◌+◌, ◌-◌, ◌≤◌, ◌==◌, Bool, true, false, ◌||◌, cond, List, [], ◌∷◌, length, refl, ap, ap₂, sym, ◌∙◌, subst, arith, lt-ltb, eqb-true, bytes_eq}
 use Rattle.std.proofs.lemmas.Bool.{false≢true, and_parts}
 use Rattle.std.proofs.lemmas.Slice.Eq.{bytes_eq-Decides}
 use Rattle.sharc_tree.specs.declared.ctype.Base.{Base}
 use Rattle.sharc_tree.specs.declared.ctype.Base.TheVariants.{Int, Char, Long, Mutex, Void, Struct}
 use Rattle.sharc_tree.specs.declared.tree.declaration.WrittenType.{WrittenType}
-use Rattle.sharc_tree.specs.declared.tree.item.StructDefinition.{StructDefinition}
 use Rattle.sharc_tree.specs.Low.{LowItems}
 use Rattle.sharc_tree.specs.Tree.{Item, structure, global}
 use Rattle.sharc_tree.specs.Tree as tree

@@ -40,7 +40,7 @@ use Rattle.sharc_accepted_laws.proofs.Arguments.{parameters_declared, passes_sca
 use Rattle.sharc_accepted_laws.proofs.Calls.{of_all_there, alone_is, narrower_same}
 use Rattle.sharc_accepted_laws.proofs.Facts.{Laws, expression_of, has_type}
 use Rattle.sharc_accepted_laws.proofs.Forms.{or_left, pointer_no_integer, pointer_reference, integer_no_reference, to_integer, passes_of, spawn_typed, function_parameters}
-use Rattle.sharc_accepted_laws.proofs.Lists.{of_each, found_there, head_there, any_of}
+use Rattle.sharc_accepted_laws.proofs.Members.{of_each, place_there, head_there, any_passes}
 
 module _ (laws : Laws) (c : Context) (code : Code) (alone : ℕ → Bool) (lines : ℕ) (set : IsSet c.program c.globals code alone) (n : ℕ) (g : Function) where
   abbrev m : Assignment
@@ -69,7 +69,7 @@ module _ (laws : Laws) (c : Context) (code : Code) (alone : ℕ → Bool) (lines
     named_function : (k : ℕ) × (named_at r i.site.token ≡ named.Function k)
     named_function =
         of_each (SpawnsByName r) (in_function g) e
-        (of_each (λ f. AllByRecursion (SpawnsByName r) (in_function f)) (functions_in r.program.items) g (laws.name_functions r a.resolved a.placed a.low) (found_there (functions_in r.program.items) n g at.function)) at.parts.0
+        (of_each (λ f. AllByRecursion (SpawnsByName r) (in_function f)) (functions_in r.program.items) g (laws.name_functions r a.resolved a.placed a.low) (place_there (functions_in r.program.items) n g at.function)) at.parts.0
 
     abbrev k : ℕ
     k = named_function.0
@@ -90,7 +90,7 @@ module _ (laws : Laws) (c : Context) (code : Code) (alone : ℕ → Bool) (lines
     there = thread.1.callable.at
 
     function_there : IsFunction m f
-    function_there = found_there (functions_in r.program.items) k f there
+    function_there = place_there (functions_in r.program.items) k f there
 
     abbrev d : Declaration
     d = thread.1.parameter
@@ -167,8 +167,8 @@ module _ (laws : Laws) (c : Context) (code : Code) (alone : ℕ → Bool) (lines
     starts : is_start r k ≡ true
     starts =
         or_left (is_spawned r k) (is_main (function_at r k))
-        (any_of (λ f. list_any (λ token. is_numbered k (named_at r token)) (of_all spawns (in_function f))) (functions_in r.program.items) g (found_there (functions_in r.program.items) n g at.function)
-        (any_of (λ token. is_numbered k (named_at r token)) (of_all spawns (in_function g)) i.site.token token_there (ap (is_numbered k) named_function.1 ∙ eq-eqb k k refl)))
+        (any_passes (λ f. list_any (λ token. is_numbered k (named_at r token)) (of_all spawns (in_function f))) (functions_in r.program.items) g (place_there (functions_in r.program.items) n g at.function)
+        (any_passes (λ token. is_numbered k (named_at r token)) (of_all spawns (in_function g)) i.site.token token_there (ap (is_numbered k) named_function.1 ∙ eq-eqb k k refl)))
 
     spawn_by : Suits c x → SpawnTyped z n typing c x k (declared_kind d.written ∷ [])
     spawn_by suits = record {

@@ -1,5 +1,5 @@
 -- Functions with which a thread begins, main among them; and a whole program.
-use Rattle.std.proofs.Common.{◌≡◌, ◌⊎◌, ⊎_elim, ℕ, suc, ◌+◌, ◌^◌, ◌<◌, ◌≤◌, Bool, true, false, cond, List, [], ◌∷◌, length, nat_lt, slice_get, refl, ap, sym, ◌∙◌, subst, arith, eqb-true, Option, Some, None, codes, ◌||◌}
+use Rattle.std.proofs.Common.{◌≡◌, ⊎_elim, ℕ, ◌<◌, ◌≤◌, Bool, true, false, cond, List, [], ◌∷◌, length, nat_lt, slice_get, refl, ap, sym, ◌∙◌, subst, arith, eqb-true, Option, Some, None, codes, ◌||◌}
 use Rattle.std.specs.Prelude.{IsSomeAnd}
 use Rattle.std.specs.List.{list_any}
 use Rattle.std.proofs.lemmas.Bool.{false≢true, or_cases}
@@ -9,27 +9,25 @@ use Rattle.sharc_tree.specs.Measures.{in_function}
 use Rattle.sharc_tree.specs.Tree.{Function}
 use Rattle.sharc_names.specs.declared.fault.Named.{Named}
 use Rattle.sharc_names.specs.declared.fault.Named.TheVariants as named
-use Rattle.sharc_names.specs.Kinds.{Kind, int, void, declared_kind}
+use Rattle.sharc_names.specs.Kinds.{int, declared_kind}
 use Rattle.sharc_code.specs.declared.code.GlobalCells.{GlobalCells}
 use Rattle.sharc_code.specs.declared.code.Code.{Code}
 use Rattle.sharc_ctype.specs.Reaches.{spawns, of_all, Names, Spawns}
 use Rattle.sharc_ctype.specs.Resolved.{Resolution, functions_in, function_at, named_at}
 use Rattle.sharc_ctype_laws.specs.Laws.{SpawnsThreads, HasMain, OneFunctionOfName, WithinLimits}
-use Rattle.sharc_ctype_laws.specs.Limits.{IsMain}
 use Rattle.sharc_meaning.specs.State.{is_reference}
 use Rattle.sharc_mode.specs.Moded.{Assignment}
-use Rattle.sharc_flat.specs.Correct.{MayStart}
 use Rattle.sharc_flat.specs.Flattens.{IsMainOf}
 use Rattle.sharc_flat.specs.Flattened.{parameters_scope}
 use Rattle.sharc_flat.specs.Flattened as flat
-use Rattle.sharc_flat.specs.Scope.{Context, int_count, ref_count}
+use Rattle.sharc_flat.specs.Scope.{int_count, ref_count}
 use Rattle.sharc_flat.specs.Tables.{globals_of}
-use Rattle.sharc_invariant.specs.Types.{Mentions}
-use Rattle.sharc_invariant.specs.Labels.{Empty, Anything, Within, Signature, EntryMentions}
+use Rattle.sharc_invariant.specs.Labels.{Anything, Within, EntryMentions}
 use Rattle.sharc_invariant.specs.Typed.{IsPlain}
+use Rattle.sharc_access_laws.specs.Typed.{BasesStand}
 use Rattle.sharc_labels_laws.specs.Stretches.{Setting}
 use Rattle.sharc_statement_laws.specs.Functions.{IsLowTyping}
-use Rattle.sharc_statement_laws.specs.Programs.{StartTypable, MainTypable, TypableProgram}
+use Rattle.sharc_statement_laws.specs.Programs.{StartTypable, MainTypable}
 use Rattle.sharc_static_laws.specs.Held.{held_named}
 use Rattle.sharc_static_laws.specs.Results.{ResultLaws}
 use Rattle.sharc_static_laws.specs.Standing.{FunctionsStand}
@@ -38,13 +36,13 @@ use Rattle.sharc_static_laws.specs.Static.{pointers, variable_entry}
 use Rattle.sharc_target_laws.specs.Laws.{VariablesFound}
 use Rattle.sharc_flat_laws.specs.Stands.{TypedSuits}
 use Rattle.sharc_typable_laws.specs.Typing.{typing}
-use Rattle.sharc_accepted_laws.specs.Setting.{signature_by, function_signature, is_numbered, is_spawned, is_main, is_start, setting_of, IsSet}
+use Rattle.sharc_accepted_laws.specs.Setting.{signature_by, is_numbered, is_spawned, is_main, is_start, setting_of, IsSet}
 use Rattle.sharc_accepted_laws.specs.Expressions.{ExpressionsAreTypable}
 use Rattle.sharc_accepted_laws.specs.Programs.{ProgramsAreTypable}
 use Rattle.sharc_accepted_laws.proofs.Assigned.{Laws}
 use Rattle.sharc_accepted_laws.proofs.Functions.{TypeLaws, function_typable}
 use Rattle.sharc_accepted_laws.proofs.Linked.{linked}
-use Rattle.sharc_accepted_laws.proofs.Members.{got_low, place_there, place_of_element, passes_there, same_some}
+use Rattle.sharc_accepted_laws.proofs.Members.{got_low, place_there, place_of_element, passes_there}
 use Rattle.sharc_accepted_laws.proofs.Slots.{pointer_count}
 
 or_right : (a b : Bool) → b ≡ true → (a || b) ≡ true
@@ -155,12 +153,12 @@ module _ (starts : ThreadLaws) (stand : FunctionsStand) (m : Assignment) (global
       (record { bases = λ i b h. absurd h; names = λ i name h. absurd h; result = λ q h. absurd h; result_base = λ b h. absurd h; result_name = λ name h. absurd h })
 
 -- ---- a whole program
-pub programs_typable : ExpressionsAreTypable → Laws → TypeLaws → ResultLaws → VariablesFound → TypedSuits → FunctionsStand → ThreadLaws → ProgramsAreTypable
-programs_typable expressions laws types results variables suits stand starts m code alone lines set cells =
+pub programs_typable : ExpressionsAreTypable → BasesStand → Laws → TypeLaws → ResultLaws → VariablesFound → TypedSuits → FunctionsStand → ThreadLaws → ProgramsAreTypable
+programs_typable expressions bases laws types results variables suits stand starts m code alone lines set cells =
     let z : Setting = setting_of m (globals_of m.typed) code alone lines in
     record {
       low = low_typing;
-      functions = λ n g at. function_typable laws types results variables suits stand m (globals_of m.typed) z alone set refl n g at (linked expressions z alone n g (cells n g) laws);
+      functions = λ n g at. function_typable laws types results variables suits stand m (globals_of m.typed) z alone set refl n g at (linked expressions bases z alone n g (cells n g) laws);
       others = no_function starts stand m (globals_of m.typed) code alone lines set;
       starts = start_is starts stand m (globals_of m.typed) code alone lines set;
       main = main_is starts stand m (globals_of m.typed) code alone lines set;

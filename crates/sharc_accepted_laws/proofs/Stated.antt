@@ -1,22 +1,20 @@
 -- Statements.
-use Rattle.std.proofs.Common.{◌≡◌, ℕ, Bool, true, false, cond, List, [], ◌∷◌, ◌++◌, refl, ap, sym, ◌∙◌, subst, Option, Some, None, IfSome, Contains}
-use Rattle.std.proofs.lemmas.Bool.{false≢true}
+use Rattle.std.proofs.Common.{◌≡◌, ℕ, Bool, true, false, cond, List, ◌++◌, refl, ap, sym, ◌∙◌, subst, Option, Some, None, IfSome, Contains}
 use Rattle.std.specs.List.{AllByRecursion}
 use Rattle.sharc_tree.specs.declared.token.Span.{Span}
-use Rattle.sharc_tree.specs.Low.{LowRight, LowSimple, LowLocal, LowFirst, LowStatement, LowStatements}
-use Rattle.sharc_tree.specs.Measures.{expressions, in_option, in_right, in_simple, in_local, in_first, in_head, in_statement, in_statements, in_function}
+use Rattle.sharc_tree.specs.Low.{LowSimple, LowFirst, LowStatement, LowStatements}
+use Rattle.sharc_tree.specs.Measures.{expressions, in_option, in_simple, in_local, in_first, in_head, in_statement, in_statements, in_function}
 use Rattle.sharc_tree.specs.Tree.{Expression, Right, value, Simple, assign, does_call, Local, First, nothing, declares, does, Head, Statement, Statements, no_statements, statement, Function}
 use Rattle.sharc_tree.specs.Tree as tree
 use Rattle.sharc_names.specs.declared.fault.Named.TheVariants as named
 use Rattle.sharc_names.specs.Kinds.{Kind, is_integer, declared_kind}
-use Rattle.sharc_ctype.specs.Resolved.{Resolution, kind_at}
 use Rattle.sharc_ctype.specs.Transfers.{Transfer, variable, result, Agrees, IsFair, gives, transfers, in_option as option_transfers, right_transfers, simple_transfers, local_transfers, first_transfers, statement_transfers, statements_transfers, function_transfers}
 use Rattle.sharc_ctype_laws.specs.Declared.{IsItself}
-use Rattle.sharc_ctype_laws.specs.Rules.{MeetsSimple, MeetsLocal, MeetsFirst, MeetsTest, Meets, AllMeet}
+use Rattle.sharc_ctype_laws.specs.Rules.{MeetsSimple, MeetsFirst, Meets, AllMeet}
 use Rattle.sharc_meaning.specs.State.{is_reference}
 use Rattle.sharc_mode.specs.Moded.{Assignment}
 use Rattle.sharc_mode_laws.specs.Constructs.{IsAssigned, locals_in_first, locals_in, locals_in_all}
-use Rattle.sharc_flat.specs.Flattened.{kind_of, is_ref, parameters_scope, in_function as at_entry, behind_first, behind_statement}
+use Rattle.sharc_flat.specs.Flattened.{kind_of, parameters_scope, in_function as at_entry, behind_first, behind_statement}
 use Rattle.sharc_flat.specs.Scope.{Context}
 use Rattle.sharc_flat.specs.Suits.{Suits, Goes, SimpleSuits, InitialSuits, FirstSuits, TestSuits, IfThere, StatementSuits, StatementsSuit, in_first as suits_first, in_statement as suits_statement}
 use Rattle.sharc_invariant.specs.Labels.{Empty, Refers, Signature}
@@ -25,7 +23,7 @@ use Rattle.sharc_labels_laws.specs.Stated.{SimpleTypable}
 use Rattle.sharc_labels_laws.specs.Returned.{ReturnedBy, ReturnTypable}
 use Rattle.sharc_statement_laws.specs.Statements.{TestTypable, StepTypable, DeclaredTypable, FirstTypable, StatementTypable, StatementsTypable}
 use Rattle.sharc_static_laws.specs.Results.{ResultLaws}
-use Rattle.sharc_static_laws.specs.Standing.{ExpressionStands, ExpressionsStand, LocalStands, FirstStands, StatementStands, StatementsStand}
+use Rattle.sharc_static_laws.specs.Standing.{ExpressionsStand, LocalStands, FirstStands, StatementStands, StatementsStand}
 use Rattle.sharc_static_laws.specs.Static.{result_type}
 use Rattle.sharc_target_laws.specs.Laws.{VariablesFound}
 use Rattle.sharc_typable_laws.specs.Typing.{typing}
@@ -264,12 +262,12 @@ module _ (laws : Laws) (results : ResultLaws) (variables : VariablesFound) (z : 
         let transfers_head = front (Does g c.program) (firsts ++ tests ++ steps) (statement_transfers r g.result a) given.transfers in
         let suits2 = subst (λ d. IfThere (TestSuits d) x.test × IfThere (SimpleSuits d) x.step × StatementSuits d kind true a) (same_first c x.first) (suits.1, suits.2, suits.3) in (
           first_typable c h x.first (front (Contains (in_function g)) (in_first x.first) (in_option expressions x.test) inside_front) stands.0
-          (front (Does g c.program) firsts tests (front (Does g c.program) (firsts ++ tests) steps transfers_head))
-          (front (Own g c.program) (locals_in_first x.first) (locals_in a) given.locals) given.meets.0.0 given.low.0.0 fresh.0 suits.0,
+              (front (Does g c.program) firsts tests (front (Does g c.program) (firsts ++ tests) steps transfers_head))
+              (front (Own g c.program) (locals_in_first x.first) (locals_in a) given.locals) given.meets.0.0 given.low.0.0 fresh.0 suits.0,
           test_option c2 h2 x.test (first_program (λ m. Inside g m (in_option expressions x.test)) c x.first (back (Contains (in_function g)) (in_first x.first) (in_option expressions x.test) inside_front)) stands.1 suits2.0,
           step_option c2 h2 x.step (first_program (λ m. Inside g m (in_option in_simple x.step)) c x.first (back (Contains (in_function g)) (in_first x.first ++ in_option expressions x.test) (in_option in_simple x.step) inside_head)) stands.2
-          (first_program (λ m. AllByRecursion (Does g m) (option_transfers (simple_transfers m.typed) x.step)) c x.first (back (Does g c.program) (firsts ++ tests) steps transfers_head))
-          (first_program (λ m. IfSome x.step (MeetsSimple m.typed)) c x.first given.meets.0.2) given.low.0.2 suits2.1,
+              (first_program (λ m. AllByRecursion (Does g m) (option_transfers (simple_transfers m.typed) x.step)) c x.first (back (Does g c.program) (firsts ++ tests) steps transfers_head))
+              (first_program (λ m. IfSome x.step (MeetsSimple m.typed)) c x.first given.meets.0.2) given.low.0.2 suits2.1,
           statement_is c2 h2 true a stands.3 fresh.1 suits2.2
               (first_program (λ m. Given g m true a) c x.first
               (record {

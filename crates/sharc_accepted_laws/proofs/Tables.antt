@@ -1,11 +1,9 @@
 -- The tables of code that is made of a program.
-use Rattle.std.proofs.Common.{◌≡◌, ℕ, zero, suc, pos, ◌+◌, ◌^◌, ◌<◌, ◌≤◌, Bool, List, [], ◌∷◌, length, map, slice_get, slice_index, slice_index_or, refl, ap, sym, ◌∙◌, subst, arith, Some, None, Contains}
+use Rattle.std.proofs.Common.{◌≡◌, ℕ, zero, suc, pos, ◌+◌, ◌^◌, ◌<◌, ◌≤◌, Bool, List, [], ◌∷◌, length, map, slice_get, slice_index, slice_index_or, refl, ap, sym, ◌∙◌, subst, arith, Some}
 use Rattle.std.specs.Prelude.{unsigned_abs}
 use Rattle.std.proofs.lemmas.List.{length-map}
-use Rattle.std.specs.List.{AllByRecursion}
 use Rattle.sharc_tree.specs.declared.token.Number.{Number}
 use Rattle.sharc_tree.specs.declared.token.Span.{Span}
-use Rattle.sharc_tree.specs.declared.tree.expression.Constant.{Constant}
 use Rattle.sharc_tree.specs.declared.tree.expression.Constant.TheVariants as constants
 use Rattle.sharc_tree.specs.declared.tree.item.GlobalDefinition.{GlobalDefinition}
 use Rattle.sharc_tree.specs.declared.tree.item.GlobalForm.{GlobalForm}
@@ -14,15 +12,15 @@ use Rattle.sharc_tree.specs.Tree.{Function}
 use Rattle.sharc_code.specs.declared.code.Code.{Code}
 use Rattle.sharc_code.specs.declared.code.Function.{Function as Row}
 use Rattle.sharc_code.specs.declared.code.GlobalCells.{GlobalCells}
-use Rattle.sharc_code.specs.Machine.{no_function, function_of}
+use Rattle.sharc_code.specs.Machine.{no_function}
 use Rattle.sharc_code.specs.Ranges.{GlobalsFit}
-use Rattle.sharc_ctype.specs.Resolved.{globals_in, functions_in, function_at, global_at}
+use Rattle.sharc_ctype.specs.Resolved.{globals_in, functions_in, function_at}
 use Rattle.sharc_mode.specs.Moded.{Assignment}
 use Rattle.sharc_flat_form.specs.declared.flat.Flat.{Flat as FlatCode}
 use Rattle.sharc_flat_form.specs.Made.{flat_of}
 use Rattle.sharc_flat.specs.Flattened.{parameter_of, function_code, rows_of}
 use Rattle.sharc_flat.specs.Flattens.{Flattens, names_of}
-use Rattle.sharc_flat.specs.Laid.{IsNamed, AreNamed}
+use Rattle.sharc_flat.specs.Laid.{AreNamed}
 use Rattle.sharc_flat.specs.Tables.{globals_of}
 use Rattle.sharc_guard.specs.Guard.{entered_at, place}
 use Rattle.sharc_guard.specs.Known.{dropped}
@@ -31,11 +29,12 @@ use Rattle.sharc_compile_laws.specs.Fits.{MadeTablesFit}
 use Rattle.sharc_invariant.specs.Typed.{AreGlobals}
 use Rattle.sharc_static_laws.specs.Alone.{SomeAreAlone}
 use Rattle.sharc_static_laws.specs.Laws.{IsAccepted}
+use Rattle.sharc_target_laws.specs.Granules.{GranulesAreFew}
 use Rattle.sharc_target_laws.specs.Laws.{IsCounted, CountedForm, HasTables, TargetsAre, GlobalsHold}
 use Rattle.sharc_target_laws.specs.Targets.{targets_of}
-use Rattle.sharc_accepted_laws.specs.Programs.{AreUnsigned, IsSetting, CodeIsSet}
+use Rattle.sharc_accepted_laws.specs.Programs.{AreUnsigned, CodeIsSet}
 use Rattle.sharc_accepted_laws.specs.Setting.{HasRow}
-use Rattle.sharc_accepted_laws.proofs.Members.{head_or_tail, head_there, tail_there, to_each, same_some, none_some, place_of_element}
+use Rattle.sharc_accepted_laws.proofs.Members.{to_each, same_some, none_some, place_of_element}
 
 -- ---- rows
 record RowAt (made : List Row) (n : ℕ) (g : Function) : Type 0 where
@@ -71,7 +70,7 @@ counted_form (Initial span minus (constants.Number k)) unsigned = let n = unsign
 counted_form (Initial span minus (constants.Character byte)) unsigned = tt
 counted_form (Initial span minus constants.Null) unsigned = tt
 
-module _ (alone : SomeAreAlone) (targets : TargetsAre) (globals_hold : GlobalsHold) (fit : MadeTablesFit) (m : Assignment) (a : IsAccepted m) (flat : FlatCode) (made : Flattens m flat) (code : Code) (is : IsCodeOf flat code) where
+module _ (alone : SomeAreAlone) (targets : TargetsAre) (globals_hold : GlobalsHold) (fit : MadeTablesFit) (granules : GranulesAreFew) (m : Assignment) (a : IsAccepted m) (flat : FlatCode) (made : Flattens m flat) (code : Code) (is : IsCodeOf flat code) where
   tables : HasTables m code
   tables = record {
     globals = ap (λ v. v.items) (is.generated.globals ∙ is.made.globals) ∙ made.lays.globals;
@@ -94,22 +93,22 @@ module _ (alone : SomeAreAlone) (targets : TargetsAre) (globals_hold : GlobalsHo
         parameter = ap (λ (list : List Row). (slice_index_or list n no_function).parameter) rows_are ∙ entered_row pl flat.functions.items n ∙ r.parameter;
       }
 
-  globals_are : AreUnsigned m.typed → code.granules ≤ 65536 → AreGlobals (targets_of m) code
-  globals_are unsigned few =
+  globals_are : AreUnsigned m.typed → AreGlobals (targets_of m) code
+  globals_are unsigned =
       let f = fit m a.resolved a.placed a.low flat made in
       globals_hold m a.resolved.typed
       (to_each (λ (g : GlobalDefinition). CountedForm g.form) (globals_in m.typed.program.items)
       (λ g has. let k = place_of_element (globals_in m.typed.program.items) g has in counted_form g.form (λ span minus n form. unsigned k.0 g k.1 span minus n form)))
-      code tables few
+      code tables (subst (λ n. n ≤ 65536) (sym tables.granules) (granules m.typed a.resolved a.placed a.low))
       (subst (λ n. GlobalsFit code.globals.items n) (sym (is.generated.granules ∙ is.made.granules))
       (subst (λ list. GlobalsFit list flat.granules) (sym (ap (λ v. v.items) (is.generated.globals ∙ is.made.globals))) f.globals))
       (λ j. subst (λ list. slice_index list j < 2 ^ 64) (sym (ap (λ v. v.items) (is.generated.initial ∙ is.made.initial))) (f.words j))
 
-pub code_is_set : SomeAreAlone → TargetsAre → GlobalsHold → MadeTablesFit → CodeIsSet
-code_is_set some targets hold fit m a constants unsigned flat made code is few =
+pub code_is_set : SomeAreAlone → TargetsAre → GlobalsHold → MadeTablesFit → GranulesAreFew → CodeIsSet
+code_is_set some targets hold fit granules m a constants unsigned flat made code is =
     let alone = some m a in
     record {
       alone = alone.0;
-      set = record { accepted = a; globals_are = refl; tables = tables some targets hold fit m a flat made code is; rows = rows some targets hold fit m a flat made code is; alone_are = alone.1; constants = constants };
-      setting = record { code = is; lines = refl; targets = targets m a.resolved a.placed a.low a.least a.well; globals = globals_are some targets hold fit m a flat made code is unsigned few };
+      set = record { accepted = a; globals_are = refl; tables = tables some targets hold fit granules m a flat made code is; rows = rows some targets hold fit granules m a flat made code is; alone_are = alone.1; constants = constants };
+      setting = record { code = is; lines = refl; targets = targets m a.resolved a.placed a.low a.least a.well; globals = globals_are some targets hold fit granules m a flat made code is unsigned };
     }

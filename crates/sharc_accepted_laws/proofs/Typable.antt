@@ -47,14 +47,13 @@ use Rattle.sharc_typable_laws.specs.Typing.{typing}
 use Rattle.sharc_accepted_laws.specs.Expressions.{CellsTyped, ExpressionsAreTypable}
 use Rattle.sharc_accepted_laws.specs.Setting.{setting_of, IsSet}
 use Rattle.sharc_accepted_laws.proofs.Arguments.{IsValued, AllSuit, AllGo, Parts, part_of, first_part, second_part, suit_all}
-use Rattle.sharc_accepted_laws.proofs.Bases.{place_base, value_base}
 use Rattle.sharc_accepted_laws.proofs.Calls.{call_goes, call_is_typed}
 use Rattle.sharc_accepted_laws.proofs.Conditions.{known_call}
 use Rattle.sharc_accepted_laws.proofs.Facts as facts
 use Rattle.sharc_accepted_laws.proofs.Facts.{Laws}
 use Rattle.sharc_accepted_laws.proofs.Fields.{Inside, TopFits, IsGuard, no_guard, own_guard, top_fits}
 use Rattle.sharc_accepted_laws.proofs.Forms.{integer_no_reference, integer_scalar, pointer_reference, reference_scalar, index_pointer, arrow_pointer, star_pointer, cast_operand, free_operand, lock_operand, unlock_operand}
-use Rattle.sharc_accepted_laws.proofs.Lists.{first_of}
+use Rattle.sharc_accepted_laws.proofs.Members.{first_of}
 use Rattle.sharc_accepted_laws.proofs.Spawns.{handed_scalar, spawn_is_typed}
 
 -- ---- operands
@@ -152,7 +151,7 @@ module _ (laws : Laws) (c : Context) (code : Code) (alone : ℕ → Bool) (lines
   fits_own e at scalar = let p = scalar_plain (kind_of c e) scalar in fits_with e at (guard_of c e) (own_guard p.2) p.0 p.1
 
   value_typed : (e : Expression) → At e → Suits c e → is_lvalue e ≡ true → is_cell (target_of c e) ≡ true → IsScalar (kind_of c e) → (site : Site) → ValueTyped z n typing c e site
-  value_typed e at suits lvalue cell scalar site = facts.value_typed laws c code alone lines set n g e at cells (value_base c e suits) lvalue cell scalar site
+  value_typed e at suits lvalue cell scalar site = facts.value_typed laws c code alone lines set n g e at cells (laws.bases.values c e suits) lvalue cell scalar site
 
   -- ---- names
   name_typed : (s : Span) (i : Identifier) → At (identifier s i) → Suits c (identifier s i) → IsValued c n g (identifier s i) → NameTyped z n typing c (identifier s i) i.site (what_names c i.site.token)
@@ -162,7 +161,7 @@ module _ (laws : Laws) (c : Context) (code : Code) (alone : ℕ → Bool) (lines
       by (named.Variable x) names h = laws.values.variables z n c set.accepted s i x (facts.is_at laws c code alone lines set n g (identifier s i) at) names h (value refl)
       by (named.Global k) names h =
           let to : target_of c (identifier s i) ≡ in_global k 0 = ap (λ w. named_target w 0) names in
-          subst (λ t. CellTyped z n typing c (identifier s i) i.site t (is_ref c (identifier s i))) to (facts.cell_typed laws c code alone lines set n g (identifier s i) at cells (value_base c (identifier s i) suits) refl (ap is_cell to) (value refl) i.site)
+          subst (λ t. CellTyped z n typing c (identifier s i) i.site t (is_ref c (identifier s i))) to (facts.cell_typed laws c code alone lines set n g (identifier s i) at cells (laws.bases.values c (identifier s i) suits) refl (ap is_cell to) (value refl) i.site)
       by (named.Struct j) names h = h
       by (named.Function j) names h = h
       by (named.Field j) names h = h
@@ -219,7 +218,7 @@ module _ (laws : Laws) (c : Context) (code : Code) (alone : ℕ → Bool) (lines
   -- ---- what is taken, locked and unlocked
   take : (x : Expression) → At x → PlaceSuits c x → IsTaken m x → is_lvalue x ≡ true → is_pointer (kind_of c x) ≡ true → (bare : Bool) (use_made : Use) → TakeSuits c (mode_of c x) (target_of c x)
       → Takes z n typing bare c x use_made (type_by (entry_of c x)) (target_of c x)
-  take x at placed takes lvalue pointer bare use_made suits = facts.takes_typed laws c code alone lines set n g x at cells (place_base c x placed) takes lvalue pointer bare use_made suits
+  take x at placed takes lvalue pointer bare use_made suits = facts.takes_typed laws c code alone lines set n g x at cells (laws.bases.places c x placed) takes lvalue pointer bare use_made suits
 
   pointer_scalar : (x : Expression) → is_pointer (kind_of c x) ≡ true → IsScalar (kind_of c x)
   pointer_scalar x pointer = reference_scalar (kind_of c x) (pointer_reference (kind_of c x) pointer)
@@ -252,11 +251,11 @@ module _ (laws : Laws) (c : Context) (code : Code) (alone : ℕ → Bool) (lines
     typable (on_place s Lock x) at suits value bare =
         let below : At x = record { function = at.function; parts = at.parts.1; stand = at.stand.1 } in
         let operand = lock_operand r one s x (kind_of c (on_place s Lock x)) (has_type (on_place s Lock x) at) in
-        (place x below suits.0 None None (mutex_fits x below operand.1) bare, suits.1, (cells.lvalues x below (place_base c x suits.0) suits.1).mutex operand.1)
+        (place x below suits.0 None None (mutex_fits x below operand.1) bare, suits.1, (cells.lvalues x below (laws.bases.places c x suits.0) suits.1).mutex operand.1)
     typable (on_place s Unlock x) at suits value bare =
         let below : At x = record { function = at.function; parts = at.parts.1; stand = at.stand.1 } in
         let operand = unlock_operand r one s x (kind_of c (on_place s Unlock x)) (has_type (on_place s Unlock x) at) in
-        (place x below suits.0 None None (mutex_fits x below operand.1) bare, suits.1, (cells.lvalues x below (place_base c x suits.0) suits.1).mutex operand.1)
+        (place x below suits.0 None None (mutex_fits x below operand.1) bare, suits.1, (cells.lvalues x below (laws.bases.places c x suits.0) suits.1).mutex operand.1)
     typable (on_place s Free x) at suits value bare =
         let below : At x = record { function = at.function; parts = at.parts.1; stand = at.stand.1 } in
         let operand = free_operand r one s x (kind_of c (on_place s Free x)) (has_type (on_place s Free x) at) in

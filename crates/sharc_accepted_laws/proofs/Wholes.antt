@@ -1,5 +1,5 @@
 -- An lvalue that names a variable is the name of one: what has fields is a cell.
-use Rattle.std.proofs.Common.{◌≡◌, ◌⊎◌, ⊎_elim, ℕ, Bool, true, false, List, [], ◌∷◌, ◌++◌, map, refl, ap, sym, ◌∙◌, subst, Option, Some, None, if◌then◌else◌, Contains, ◌&&◌, ◌||◌, ◌==◌, ◌+◌, arith, eqb-true}
+use Rattle.std.proofs.Common.{◌≡◌, ⊎_elim, ℕ, Bool, true, false, List, [], ◌∷◌, ◌++◌, map, refl, ap, sym, ◌∙◌, subst, Option, Some, None, if◌then◌else◌, Contains, ◌&&◌, ◌||◌, ◌==◌, ◌+◌, arith, eqb-true}
 use Rattle.std.proofs.lemmas.Bool.{false≢true}
 use Rattle.std.specs.List.{AllByRecursion}
 use Rattle.sharc_tree.specs.declared.ctype.Base.TheVariants.{Mutex}
@@ -13,17 +13,16 @@ use Rattle.sharc_tree.specs.declared.tree.expression.Constant.TheVariants as con
 use Rattle.sharc_tree.specs.Forms.{is_lvalue, without_parentheses}
 use Rattle.sharc_tree.specs.Measures.{expressions, in_function}
 use Rattle.sharc_tree.specs.Tree.{Expression, identifier, Function}
-use Rattle.sharc_names.specs.declared.fault.Named.{Named}
 use Rattle.sharc_names.specs.declared.fault.Named.TheVariants as named
 use Rattle.sharc_names.specs.Kinds.{Kind, is_array, is_struct_base, same_base, declared_kind}
 use Rattle.sharc_names.specs.Kinds as kinds
 use Rattle.sharc_ctype.specs.Expressions.{constant_kind, number_kind}
-use Rattle.sharc_ctype.specs.Resolved.{Resolution, IsResolved, functions_in, function_at, declaration_at, kind_at, named_at}
+use Rattle.sharc_ctype.specs.Resolved.{Resolution, functions_in, function_at, declaration_at, kind_at, named_at}
 use Rattle.sharc_ctype.specs.Statements.{is_aggregate, locals_in_all}
 use Rattle.sharc_ctype_laws.specs.Constraints.{HasType, Callee, of_program, of_conditions, Common, both_shorter, left_long, right_long, IsPointer, a_variable, a_global, a_function, a_constant, in_parentheses, element_of_pointer, element_of_array, a_call, a_field, a_field_behind, negated, complemented, denied, pointed_to, arithmetic, shifted, related, equated, joined, spawned, printed_or_joined, locked, unlocked, freed, a_cast}
 use Rattle.sharc_ctype_laws.specs.Declared.{IsItself, NamesOwn}
 use Rattle.sharc_ctype_laws.specs.Laws.{EachNamesItself, EachNamesOwn, ArePlain, IsPlain, MeetsConstraints}
-use Rattle.sharc_flat.specs.Places.{Target, variable, in_global, in_global_at, in_object, in_object_at, target, named_target, own_field}
+use Rattle.sharc_flat.specs.Places.{Target, variable, in_global_at, in_object_at, target, named_target, own_field}
 use Rattle.sharc_flat.specs.Suits.{is_cell}
 use Rattle.sharc_static_laws.specs.Laws.{IsAccepted}
 use Rattle.sharc_mode.specs.Moded.{Assignment}

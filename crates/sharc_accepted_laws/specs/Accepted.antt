@@ -1,5 +1,5 @@
 -- The code of a program that is accepted is typed.
-use Rattle.std.specs.Prelude.{ℕ, ◌≤◌}
+use Rattle.std.specs.Prelude.{◌≤◌}
 use Rattle.sharc_code.specs.declared.code.Code.{Code}
 use Rattle.sharc_mode.specs.Moded.{Assignment}
 use Rattle.sharc_flat_form.specs.declared.flat.Flat.{Flat as FlatCode}
@@ -21,7 +21,7 @@ abbrev pub GlobalsAreNamed : Type 0
 GlobalsAreNamed = (m : Assignment) → IsAccepted m → AreGlobalsNamed m
 
 -- ---- the code
--- By the targets of the program. Its constants are held by their types and its numbers have no sign, as those of each program that a source is, and its globals take no more granules than a machine has.
+-- By the targets of the program. Its constants are held by their types and its numbers have no sign, as those of each program that a source is.
 abbrev pub AcceptedIsTyped : Type 0
-AcceptedIsTyped = (m : Assignment) → IsAccepted m → ConstantsHold m → AreUnsigned m.typed → (flat : FlatCode) → Flattens m flat → FitsMade (flat_of flat) → (code : Code) → IsCodeOf flat code → code.granules ≤ 65536
+AcceptedIsTyped = (m : Assignment) → IsAccepted m → ConstantsHold m → AreUnsigned m.typed → (flat : FlatCode) → Flattens m flat → FitsMade (flat_of flat) → (code : Code) → IsCodeOf flat code
     → (ls : Labels) × IsWellTyped (targets_of m) code ls

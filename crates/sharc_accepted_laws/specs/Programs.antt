@@ -1,5 +1,5 @@
 -- Programs that are accepted: they are typable where their expressions are, and their code has what sharc_statement_laws asks of it.
-use Rattle.std.specs.Prelude.{ℕ, ◌≡◌, ◌≤◌, Bool, pos, length, Some}
+use Rattle.std.specs.Prelude.{ℕ, ◌≡◌, Bool, pos, length, Some}
 use Rattle.sharc_tree.specs.declared.token.Number.{Number}
 use Rattle.sharc_tree.specs.declared.token.Span.{Span}
 use Rattle.sharc_tree.specs.declared.tree.expression.Constant.TheVariants as constants
@@ -45,4 +45,4 @@ pub record IsSetting (m : Assignment) (flat : FlatCode) (code : Code) : Type 0 w
 
 -- Of a program whose constants are held by their types, as those of each program that a source is.
 abbrev pub CodeIsSet : Type 0
-CodeIsSet = (m : Assignment) → IsAccepted m → ConstantsHold m → AreUnsigned m.typed → (flat : FlatCode) → Flattens m flat → (code : Code) → IsCodeOf flat code → code.granules ≤ 65536 → IsSetting m flat code
+CodeIsSet = (m : Assignment) → IsAccepted m → ConstantsHold m → AreUnsigned m.typed → (flat : FlatCode) → Flattens m flat → (code : Code) → IsCodeOf flat code → IsSetting m flat code

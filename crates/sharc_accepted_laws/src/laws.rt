@@ -5,7 +5,7 @@ ghost use Rattle.sharc_accepted_laws.specs.Cells.{CellsAreTyped};
 ghost use Rattle.sharc_accepted_laws.specs.Expressions.{ExpressionsAreTypable};
 ghost use Rattle.sharc_accepted_laws.specs.Programs.{CodeIsSet, ProgramsAreTypable};
 
-use sharc_access_laws::laws::{firsts_fit, lvalues_are_typed, paths_lead};
+use sharc_access_laws::laws::{bases_stand, firsts_fit, lvalues_are_typed, paths_lead};
 use sharc_compile_laws::made_tables_fit;
 use sharc_ctype_laws::laws::{
     all_fair, are_plain, each_names_itself, each_names_own, has_main, meets_constraints,
@@ -19,8 +19,8 @@ use sharc_static_laws::laws::{
     some_are_alone, spawned_begin,
 };
 use sharc_target_laws::laws::{
-    arrays_fit, expressions_found, globals_are, globals_hold, locks_stand_beside, lvalues_fit,
-    numbers_found, pointees_fit, targets_are, variables_found,
+    arrays_fit, expressions_found, globals_are, globals_hold, granules_are_few, locks_stand_beside,
+    lvalues_fit, numbers_found, pointees_fit, targets_are, variables_found,
 };
 use sharc_typable_laws::laws::{calling_laws, taking_laws, threads_pass, value_laws};
 
@@ -36,6 +36,7 @@ pub fn expressions_law()
     are_plain();
     spawns_name_functions();
     spawns_threads();
+    bases_stand();
     lvalues_fit();
     arrays_fit();
     expressions_found();
@@ -70,6 +71,7 @@ pub fn programs_law()
     ensures { ProgramsAreTypable }
 {
     expressions_law();
+    bases_stand();
     value_laws();
     scope_laws();
     held_laws();
@@ -102,6 +104,7 @@ pub fn settings_law()
     targets_are();
     globals_hold();
     made_tables_fit();
+    granules_are_few();
 }
 
 /// What its functions name as a global is one of the program.

@@ -10,6 +10,7 @@ pub mod Found
 pub mod Freeing
 pub mod Globals
 pub mod Good
+pub mod Granules
 pub mod Laying
 pub mod Lists
 pub mod Lvalues

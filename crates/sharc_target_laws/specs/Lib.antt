@@ -1,5 +1,6 @@
 pub mod Beside
 pub mod Fields
+pub mod Granules
 pub mod Firsts
 pub mod Laws
 pub mod Lvalues

@@ -11,6 +11,7 @@ returns c = typable.expressions_are_typable record {
   plain = c.are_plain.ensures;
   name_functions = c.spawns_name_functions.ensures;
   spawn_threads = c.spawns_threads.ensures;
+  bases = c.bases_stand.ensures;
   fit = c.lvalues_fit.ensures;
   arrays = c.arrays_fit.ensures;
   found = c.expressions_found.ensures;

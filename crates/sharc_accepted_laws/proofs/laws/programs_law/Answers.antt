@@ -2,7 +2,7 @@ use Rattle.sharc_accepted_laws.proofs.Starts as starts
 use Rattle.sharc_accepted_laws.proofs.laws.programs_law.Goals as goal
 
 pub returns : goal.returns
-returns c = starts.programs_typable c.expressions_law.ensures
+returns c = starts.programs_typable c.expressions_law.ensures c.bases_stand.ensures
     (record {
       values = c.value_laws.ensures;
       scopes = c.scope_laws.ensures;
