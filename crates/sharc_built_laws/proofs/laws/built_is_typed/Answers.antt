@@ -9,4 +9,4 @@ returns c = λ source built is.
     let made = is.compiled in
     let accepted : IsAccepted m = record { resolved = typed.resolved; placed = typed.placed; low = typed.low; least = typed.least; well = typed.well_moded } in
     c.accepted_law.ensures m accepted (λ s k e. c.each_constant_is_held.ensures source front.tokens m.typed.program front.read front.reads e.owner e.stands s k e.inside)
-    (c.numbers_have_no_sign.ensures source front.tokens m.typed.program front.read front.reads) made.flat made.flattens made.fits built.code made.coded is.numbers.few
+    (c.numbers_have_no_sign.ensures source front.tokens m.typed.program front.read front.reads) made.flat made.flattens made.fits built.code made.coded
