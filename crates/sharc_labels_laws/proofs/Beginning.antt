@@ -63,7 +63,7 @@ module _ (y : Typing) (c : Context) (f : ℕ) (names : (q : ℕ) → q < ref_cou
       wide = omega arith;
       early = omega arith;
     };
-    bare = λ _. (λ q. refl, λ q e. false≢true e, based);
+    bare = (λ q. refl, λ q e. false≢true e, based);
   }
 
 pub labels_stand : LabelsStand

@@ -80,8 +80,8 @@ module _ (named : ℕ → Bool) (l : Label) (lost : ℕ → ℕ) (h : Loses name
   }
 
   -- nothing is lost where nothing but variables is at hand
-  pub kept : IsBare true l → with_copies l lost ≡ l
-  kept alone = ap (λ same. with_copies l same) (fun_ext (λ q. ⊎_elim (λ (e : lost q ≡ l.same q). e) (λ (e : (lost q ≡ q) × (named (l.same q) ≡ false)). e.0 ∙ sym ((alone refl).0 q)) (h.each q)))
+  pub kept : IsBare l → with_copies l lost ≡ l
+  kept alone = ap (λ same. with_copies l same) (fun_ext (λ q. ⊎_elim (λ (e : lost q ≡ l.same q). e) (λ (e : (lost q ≡ q) × (named (l.same q) ≡ false)). e.0 ∙ sym (alone.0 q)) (h.each q)))
 
 -- ---- with one register more
 -- what is lost of the registers below

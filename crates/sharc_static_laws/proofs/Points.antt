@@ -60,7 +60,7 @@ use Rattle.sharc_static_laws.specs.Static.{register, lock_named, lock_at, locks_
 use Rattle.sharc_static_laws.proofs.Arrays.{IsNameOf, array_name}
 use Rattle.sharc_static_laws.proofs.Holds.{expressions_held}
 use Rattle.sharc_static_laws.proofs.Lists.{front, of_each, to_each, each, same_some, none_some, place_of_element}
-use Rattle.sharc_static_laws.proofs.Origins.{reading_kept, same_raw}
+use Rattle.sharc_static_laws.proofs.Origins.{private_path, racy_path, dynamic_path, reading_kept, same_raw, no_private, no_readonly, no_racy, no_dynamic, same_lock}
 use Rattle.sharc_static_laws.proofs.Passed.{use_named}
 use Rattle.sharc_static_laws.proofs.Places.{InFile, FileKnown, FieldInFile, file_known, struct_fields, field_found, at_number, IfSome}
 use Rattle.sharc_static_laws.proofs.Noted.{all_say}
@@ -154,7 +154,7 @@ any_pointee l r s list (Some modes) h = by (map form_of modes) h
 abbrev NamesGlobal : Resolution → Lock → Type 0
 NamesGlobal r l = (g : ℕ) × (named_at r l.first ≡ named.Global g)
 
-abbrev NamesField : Resolution → Lock → Type 0
+abbrev pub NamesField : Resolution → Lock → Type 0
 NamesField r l = (l.second ≡ None) × ((t : ℕ) × (named_at r l.first ≡ named.Field t))
 
 abbrev IsGlobalMode : Resolution → Sharing → Type 0
@@ -201,7 +201,7 @@ not_field h = cc
 not_local : place.Global ≡ place.Local → ⊥
 not_local h = cc
 
-field_not_local : place.Field ≡ place.Local → ⊥
+pub field_not_local : place.Field ≡ place.Local → ⊥
 field_not_local h = cc
 
 in_global_type : (r : Resolution) (e : Entity) (depth : ℕ) (path : Path) → place_of e.role ≡ place.Global → IsAllowed r e depth path → NamesGlobal r (lock_of path)
@@ -216,34 +216,10 @@ in_field_type r e depth _ at (sibling_mutex {f = t} other is kind) = inr (refl, 
 in_field_type r e depth _ at (sibling_pointer {f = t} other top is pointer alone) = inr (refl, (t, is))
 in_field_type r e depth _ at (through_constant other is constant behind) = absurd (field_not_local (sym at ∙ other))
 
-private_path : (path : Path) → Private ≡ Locked path → ⊥
-private_path path h = cc
-
-racy_path : (path : Path) → Racy ≡ Locked path → ⊥
-racy_path path h = cc
-
-dynamic_path : (path : Path) → Dynamic ≡ Locked path → ⊥
-dynamic_path path h = cc
-
-no_private : (l : Lock) → private ≡ locked l → ⊥
-no_private l h = cc
-
-no_readonly : (l : Lock) → readonly ≡ locked l → ⊥
-no_readonly l h = cc
-
-no_racy : (l : Lock) → racy ≡ locked l → ⊥
-no_racy l h = cc
-
-no_dynamic : (l : Lock) → dynamic ≡ locked l → ⊥
-no_dynamic l h = cc
-
-same_lock : (l k : Lock) → locked l ≡ locked k → l ≡ k
-same_lock l k h = cc
-
-abbrev ModeOf : (Path → Type 0) → Mode → Type 0
+abbrev pub ModeOf : (Path → Type 0) → Mode → Type 0
 ModeOf Good mode = (path : Path) → mode ≡ Locked path → Good path
 
-abbrev LevelOf : (Path → Type 0) → Option Mode → Type 0
+abbrev pub LevelOf : (Path → Type 0) → Option Mode → Type 0
 LevelOf Good None = Unit {0}
 LevelOf Good (Some mode) = ModeOf Good mode
 
@@ -255,7 +231,7 @@ module _ (rules : RulesAreMet) (m : Assignment) (a : IsAccepted m) where
   meets = (rules m).0 a.well
 
   -- what M4 says of the paths that are written in a type holds of those of its positions
-  allowed_row : (Good : Path → Type 0) (how : Reading) (n : Numbered) → IsEntity m n → ((depth : ℕ) (path : Path) → IsAllowed r2 n.entity depth path → Contains n.entity.written.ctype.levels (Some (Locked path)) → Good path)
+  pub allowed_row : (Good : Path → Type 0) (how : Reading) (n : Numbered) → IsEntity m n → ((depth : ℕ) (path : Path) → IsAllowed r2 n.entity depth path → Contains n.entity.written.ctype.levels (Some (Locked path)) → Good path)
       → AllByRecursion (ModeOf Good) (raw m (entity_row how (Some n)))
   allowed_row Good how n is good =
       row_good (ModeOf Good) (λ path e. absurd (private_path path e)) (λ path e. absurd (racy_path path e)) (λ path e. absurd (dynamic_path path e)) m a.least how n is
@@ -268,7 +244,7 @@ module _ (rules : RulesAreMet) (m : Assignment) (a : IsAccepted m) where
           let at = place_of_element n.entity.written.ctype.levels (Some (Locked path)) there in
           good at.0 path (meets.m4.forms n at.0 path is at.1) there
 
-  shown_modes : (Good : Lock → Type 0) (list : List Mode) → AllByRecursion (ModeOf (λ path. Good (lock_of path))) list → AllByRecursion (λ s. (l : Lock) → s ≡ locked l → Good l) (map (λ mode. read r2 written (sharing_of mode)) list)
+  pub shown_modes : (Good : Lock → Type 0) (list : List Mode) → AllByRecursion (ModeOf (λ path. Good (lock_of path))) list → AllByRecursion (λ s. (l : Lock) → s ≡ locked l → Good l) (map (λ mode. read r2 written (sharing_of mode)) list)
   shown_modes Good [] h = tt
   shown_modes Good (x ∷ rest) h = (one x h.0, shown_modes Good rest h.1)
     where
@@ -279,7 +255,7 @@ module _ (rules : RulesAreMet) (m : Assignment) (a : IsAccepted m) where
       one Dynamic k l e = absurd (no_dynamic l e)
       one (Locked path) k l e = subst Good (same_lock (lock_of path) l e) (k path refl)
 
-  entity_is : (e : Entity) (f : IsFound r2 e) → IsEntity m f.numbered
+  pub entity_is : (e : Entity) (f : IsFound r2 e) → IsEntity m f.numbered
   entity_is e f = found_there (is_told_by e.token e.last) (numbered (entities_in r2.program.items)) f.numbered f.found
 
   -- of a global
@@ -304,7 +280,7 @@ module _ (rules : RulesAreMet) (m : Assignment) (a : IsAccepted m) where
       (λ depth path allowed has. (in_field_type r2 f.numbered.entity depth path (ap (λ (e : Entity). place_of e.role) f.itself) allowed, subst (λ (e : Entity). Contains e.written.ctype.levels (Some (Locked path))) f.itself has))
 
   -- M11: without a constant variable no sibling's name is among them
-  through_used : (w : Access) (e : Expression) (x : ℕ) → IsThroughConstant r2 w e x → base_use r2 w e ≡ None → ⊥
+  pub through_used : (w : Access) (e : Expression) (x : ℕ) → IsThroughConstant r2 w e x → base_use r2 w e ≡ None → ⊥
   through_used _ _ x (is_through {s = s} {i = i} names constant) h =
       let is : is_constant_named r2 (named_at r2 i.site.token) ≡ true = ap (is_constant_named r2) names ∙ constant in
       none_some i.site.token (sym h ∙ ap (λ b. cond b (Some i.site.token) None) is)
