@@ -80,6 +80,22 @@ abbrev pub ReplaysAreOnly : Type 0
 ReplaysAreOnly =
     (words : List (List ℕ)) (input : List ℕ) (file : FileView) (m : Assignment) → IsReplayed words input file m → (s : Status) (text : List ℕ) → IsReply words (Some input) s text → IsReplaying file m s text
 
+-- ---- `replay` of what `record` wrote
+
+-- the text is what follows in the file, and both end with one status
+pub record SaysTheSame (text : List ℕ) (s : Status) (again : List ℕ) (t : Status) : Type 0 where
+  pub file : FileView
+  pub is : IsFile text file
+  pub follows : text ≡ written file again
+  pub status : t ≡ s
+
+-- whichever code each of them made
+abbrev pub ReplaysSayAgain : Type 0
+ReplaysSayAgain =
+    (words : List (List ℕ)) (heap limit : ℕ) (source : List ℕ) (m : Assignment) → IsRecorded words heap limit source m → (s : Status) (text : List ℕ) → IsReply words (Some source) s text
+    → length text ≤ recording_limit → (other : List (List ℕ)) → commands other ≡ Some Replay → (t : Status) (again : List ℕ) → IsReply other (Some text) t again → SaysTheSame text s again t
+
 pub record RecordLaws : Type 0 where
   pub records : RecordsAreOnly
   pub replays : ReplaysAreOnly
+  pub again : ReplaysSayAgain
