@@ -46,7 +46,7 @@ instr_same fs gs same (Call f ints refs site) = ap (λ (g : Function). Call g.en
 instr_same fs gs same i = refl
 
 -- ---- sites
-text_by : Option Spot → Text → Text
+abbrev text_by : Option Spot → Text → Text
 text_by None x = record { from = 0; until = 0 }
 text_by (Some spot) x = x
 
@@ -71,11 +71,11 @@ lock_told x y op.Enter = refl
 lock_told x y o = refl
 
 module _ (r : Resolution) where
-  words_by : Option Spot → List ℕ
+  abbrev words_by : Option Spot → List ℕ
   words_by None = []
   words_by (Some spot) = words_of r spot.lvalue.from spot.lvalue.until
 
-  lock_by : Option Spot → List ℕ
+  abbrev lock_by : Option Spot → List ℕ
   lock_by None = []
   lock_by (Some spot) = lock_text_of r spot.mode spot.lvalue spot.lock_text
 
@@ -121,16 +121,16 @@ module _ (r : Resolution) where
 
 -- ---- what a code is, by the program
 module _ (m : Assignment) where
-  told : Flat
+  abbrev told : Flat
   told = flattened m (globals_of m.typed)
 
-  ends : ℕ → ℕ
+  abbrev ends : ℕ → ℕ
   ends = place (dropped told) told.lines
 
-  functions : List Function
+  abbrev functions : List Function
   functions = map (entered_at ends) told.functions
 
-  statements : List Instr
+  abbrev statements : List Instr
   statements = Start 0 ∷ Exit ∷ expanded ends (dropped told) 0 told.lines
 
   record IsCanonical (code : Code) : Type 0 where

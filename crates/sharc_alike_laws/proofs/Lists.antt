@@ -18,18 +18,21 @@ flat_same f g same [] = refl
 flat_same f g same (x ∷ xs) = ap (λ z. z ++ flat_map f xs) (same x) ∙ ap (λ zs. g x ++ zs) (flat_same f g same xs)
 
 -- ---- lists of which a function gives the same
-pub length_of : {A B : Type 0} (f : A → B) (xs ys : List A) → map f xs ≡ map f ys → length xs ≡ length ys
-length_of f xs ys e = sym (mapped xs) ∙ ap length e ∙ mapped ys
-  where
-    mapped : (zs : List A) → length (map f zs) ≡ length zs
-    mapped [] = refl
-    mapped (z ∷ zs) = ap suc (mapped zs)
+mapped : {A B : Type 0} (f : A → B) (xs : List A) → length (map f xs) ≡ length xs
+mapped f [] = refl
+mapped f (x ∷ xs) = ap suc (mapped f xs)
 
-head_of : {B : Type 0} → B → List B → B
+none_is_some : {A : Type 0} (n : ℕ) → 0 ≡ suc n → A
+none_is_some n h = absurd (omega (arith, h))
+
+pub length_of : {A B : Type 0} (f : A → B) (xs ys : List A) → map f xs ≡ map f ys → length xs ≡ length ys
+length_of f xs ys e = sym (mapped f xs) ∙ ap length e ∙ mapped f ys
+
+abbrev head_of : {B : Type 0} → B → List B → B
 head_of d [] = d
 head_of d (x ∷ xs) = x
 
-tail_of : {B : Type 0} → List B → List B
+abbrev tail_of : {B : Type 0} → List B → List B
 tail_of [] = []
 tail_of (x ∷ xs) = xs
 
@@ -37,12 +40,12 @@ pub element_of : {A B : Type 0} (f : A → B) (xs ys : List A) (n : ℕ) (d : A)
 element_of f [] [] n d e = refl
 element_of f (x ∷ xs) (y ∷ ys) zero d e = ap (head_of (f x)) e
 element_of f (x ∷ xs) (y ∷ ys) (suc n) d e = element_of f xs ys n d (ap tail_of e)
-element_of f [] (y ∷ ys) n d e = let h : 0 ≡ suc (length (map f ys)) = ap length e in omega (arith, h)
-element_of f (x ∷ xs) [] n d e = let h : suc (length (map f xs)) ≡ 0 = ap length e in omega (arith, h)
+element_of f [] (y ∷ ys) n d e = none_is_some (length (map f ys)) (ap length e)
+element_of f (x ∷ xs) [] n d e = none_is_some (length (map f xs)) (sym (ap length e))
 
 -- folded by what the function gives
 pub fold_same : {A B C : Type 0} (f : A → B) (step : C → B → C) (xs ys : List A) (z : C) → map f xs ≡ map f ys → fold (λ c x. step c (f x)) z xs ≡ fold (λ c x. step c (f x)) z ys
 fold_same f step [] [] z e = refl
 fold_same f step (x ∷ xs) (y ∷ ys) z e = ap (λ b. fold (λ c x. step c (f x)) (step z b) xs) (ap (head_of (f x)) e) ∙ fold_same f step xs ys (step z (f y)) (ap tail_of e)
-fold_same f step [] (y ∷ ys) z e = let h : 0 ≡ suc (length (map f ys)) = ap length e in omega (arith, h)
-fold_same f step (x ∷ xs) [] z e = let h : suc (length (map f xs)) ≡ 0 = ap length e in omega (arith, h)
+fold_same f step [] (y ∷ ys) z e = none_is_some (length (map f ys)) (ap length e)
+fold_same f step (x ∷ xs) [] z e = none_is_some (length (map f xs)) (sym (ap length e))

@@ -72,31 +72,30 @@ module _ (a b : Code) (alike : AreAlike a b) where
     turn_same m = subst (λ i. IsSameTurn (turn a s m) (act b s i m)) (instr_same m.at.pc) (act_same (instr_at a m.at.pc) m)
 
     -- ---- the beginning
+    abbrev with_registers : ℕ → List ℤ → List ℕ → ℕ → Machine
+    with_registers thread is rs main = record {
+      at = record { pc = 0; ints = 0; refs = 0; depth = 0; state = Runs };
+      ints = is;
+      refs = rs;
+      pending = 0;
+      frames = replicate FRAMES no_frame;
+      own = record {
+        number = thread;
+        function = main;
+        table = record { notes = replicate (granules s) blank; order = [] };
+        held = [];
+        heads = replicate 16 0;
+        prints = [];
+        stage = Rests;
+        stop = None;
+      };
+    }
+
     pub begun_same : (thread : ℕ) → begun a s thread ≡ begun b s thread
     begun_same thread =
-        ap (λ is. with_registers (replicate (FRAMES * is) (pos 0)) (replicate (FRAMES * most_refs a.functions.items) 0) a.main) (fold_same unnamed (λ most f. max most f.ints) a.functions.items b.functions.items 0 alike.functions)
-        ∙ ap (λ rs. with_registers (replicate (FRAMES * most_ints b.functions.items) (pos 0)) (replicate (FRAMES * rs) 0) a.main) (fold_same unnamed (λ most f. max most f.refs) a.functions.items b.functions.items 0 alike.functions)
-        ∙ ap (with_registers (replicate (FRAMES * most_ints b.functions.items) (pos 0)) (replicate (FRAMES * most_refs b.functions.items) 0)) alike.main
-      where
-        with_registers : List ℤ → List ℕ → ℕ → Machine
-        with_registers is rs main = record {
-          at = record { pc = 0; ints = 0; refs = 0; depth = 0; state = Runs };
-          ints = is;
-          refs = rs;
-          pending = 0;
-          frames = replicate FRAMES no_frame;
-          own = record {
-            number = thread;
-            function = main;
-            table = record { notes = replicate (granules s) blank; order = [] };
-            held = [];
-            heads = replicate 16 0;
-            prints = [];
-            stage = Rests;
-            stop = None;
-          };
-        }
-
+        ap (λ is. with_registers thread (replicate (FRAMES * is) (pos 0)) (replicate (FRAMES * most_refs a.functions.items) 0) a.main) (fold_same unnamed (λ most f. max most f.ints) a.functions.items b.functions.items 0 alike.functions)
+        ∙ ap (λ rs. with_registers thread (replicate (FRAMES * most_ints b.functions.items) (pos 0)) (replicate (FRAMES * rs) 0) a.main) (fold_same unnamed (λ most f. max most f.refs) a.functions.items b.functions.items 0 alike.functions)
+        ∙ ap (with_registers thread (replicate (FRAMES * most_ints b.functions.items) (pos 0)) (replicate (FRAMES * most_refs b.functions.items) 0)) alike.main
     opens_same : (word : ℕ) → opens_with a s word ≡ opens_with b s word
     opens_same word = ap2 (λ (main : ℕ) (cells : List ℕ). cond (word == top_word) (1 + s.globals) (cond (word == next_thread_word) 1 (cond (word == state_word 0) 1 (cond (word == function_word 0) main
         (cond (nat_le (first_global s) word && nat_lt word (first_heap s)) (slice_index cells (word - first_global s)) 0))))) alike.main alike.initial
