@@ -3,6 +3,7 @@
 ghost use Rattle.std.specs.Prelude.{◌≡◌, ◌≤◌, length, IfOk};
 ghost use Rattle.sharc_mode.specs.Moded.{Assignment};
 ghost use Rattle.sharc_mode_laws.specs.Rules.{MeetsRules};
+ghost use Rattle.sharc_code.specs.Ranges.{NumbersFit};
 ghost use Rattle.sharc_sound.specs.Compiled.{IsCompiled};
 ghost use Rattle.sharc_top.specs.declared.task.Task.TheVariants as task;
 ghost use Rattle.sharc_top.specs.Answers.{Answers};
@@ -79,7 +80,7 @@ fn run_reply<R: Threads + Sync, G: Gate + Sync>(
     numbers: RunNumbers,
 ) -> Result<Reply, AllocError>
     requires { AreNumbers numbers }
-    ensures { IfOk result (λ reply. (m : Assignment) → MeetsRules m → IsCompiled m code.now → Runs numbers m reply.status reply.text.items) }
+    ensures { IfOk result (λ reply. (m : Assignment) → MeetsRules m → IsCompiled m code.now → NumbersFit code.now → Runs numbers m reply.status reply.text.items) }
 {
     let ran = ran(rt, gate, alloc, code, numbers)?;
     Ok(Reply {

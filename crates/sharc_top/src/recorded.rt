@@ -4,6 +4,7 @@ ghost use Rattle.std.specs.Prelude.{◌≡◌, ◌≤◌, length, IfOk, IsErrOf}
 ghost use Rattle.sharc_io.specs.Causes.{Rose};
 ghost use Rattle.sharc_mode.specs.Moded.{Assignment};
 ghost use Rattle.sharc_mode_laws.specs.Rules.{MeetsRules};
+ghost use Rattle.sharc_code.specs.Ranges.{NumbersFit};
 ghost use Rattle.sharc_sound.specs.Compiled.{IsCompiled};
 ghost use Rattle.sharc_cli.specs.Bounds.{IsWithin};
 ghost use Rattle.sharc_top.specs.Recording.{Records, GivesRun, GivesSource, RecordReplies, IsRecordReply, AreRecordNumbers};
@@ -43,7 +44,7 @@ fn file_of_run<R: Threads + Wait + Sync, G: Gate + Sync>(
     numbers: RecordNumbers,
 ) -> Result<Reply, AllocError>
     requires { AreRecordNumbers numbers }
-    ensures { IfOk result (λ reply. (m : Assignment) → MeetsRules m → IsCompiled m code.now → GivesRun m (Records source.now numbers.granules numbers.events) reply.status reply.text.items) }
+    ensures { IfOk result (λ reply. (m : Assignment) → MeetsRules m → IsCompiled m code.now → NumbersFit code.now → GivesRun m (Records source.now numbers.granules numbers.events) reply.status reply.text.items) }
 {
     let shape = shape_of(code, numbers.granules);
     let ran = record_by_workers(

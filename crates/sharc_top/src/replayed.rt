@@ -4,6 +4,7 @@ ghost use Rattle.std.specs.Prelude.{◌≡◌, ◌≤◌, length, IfOk, IsErrOf}
 ghost use Rattle.sharc_io.specs.Causes.{Rose};
 ghost use Rattle.sharc_mode.specs.Moded.{Assignment};
 ghost use Rattle.sharc_mode_laws.specs.Rules.{MeetsRules};
+ghost use Rattle.sharc_code.specs.Ranges.{NumbersFit};
 ghost use Rattle.sharc_sound.specs.Compiled.{IsCompiled};
 ghost use Rattle.sharc_recorded.specs.File.{IsFile, AreNumbers};
 ghost use Rattle.sharc_recorded.specs.Shown.{FaultIs, view_of};
@@ -27,7 +28,7 @@ const FILE_LIMIT: usize = 1_073_741_824;
 /// The run of this code by the schedule of a file.
 fn run_of_file(alloc: Global, code: &Code, file: &RecordFile) -> Result<Reply, AllocError>
     requires { IsWithinFile (view_of file.now) }
-    ensures { IfOk result (λ reply. (m : Assignment) → MeetsRules m → IsCompiled m code.now → GivesRun m (Replays (view_of file.now)) reply.status reply.text.items) }
+    ensures { IfOk result (λ reply. (m : Assignment) → MeetsRules m → IsCompiled m code.now → NumbersFit code.now → GivesRun m (Replays (view_of file.now)) reply.status reply.text.items) }
 {
     let shape = shape_of(code, file.heap);
     let ran = run_by_schedule(alloc, code, &shape, file.places.as_slice(), file.limit)?;

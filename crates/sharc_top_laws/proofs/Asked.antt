@@ -40,7 +40,7 @@ explain_refused m s text ill (explained z verdict is) = check_refused m z verdic
 
 run_refused : (n : RunNumbers) (m : Assignment) (s : Status) (text : List ℕ) → ¬ (MeetsRules m) → Runs n m s text → s ≡ status.ModesRefused
 run_refused n m s text ill (not_run t is) = refl
-run_refused n m s text ill (ran code run meets compiled is) = absurd (ill meets)
+run_refused n m s text ill (ran code run meets compiled fit is) = absurd (ill meets)
 
 only_refused : (t : Task) (m : Assignment) (s : Status) (text : List ℕ) → ¬ (MeetsRules m) → Does t m s text → s ≡ status.ModesRefused
 only_refused task.Check m s text ill does = check_refused m s text ill does

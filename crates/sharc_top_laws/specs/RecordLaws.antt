@@ -8,6 +8,7 @@ use Rattle.sharc_cli.specs.Commands.{commands}
 use Rattle.sharc_cli.specs.declared.command.Command.TheVariants.{Record, Replay}
 use Rattle.sharc_recorded.specs.File.{FileView, IsFile, written}
 use Rattle.sharc_run.specs.declared.run.Ran.{Ran}
+use Rattle.sharc_code.specs.Ranges.{NumbersFit}
 use Rattle.sharc_sound.specs.Compiled.{IsCompiled}
 use Rattle.sharc_sound.specs.Front.{IsFront}
 use Rattle.sharc_top.specs.declared.status.Status.{Status}
@@ -45,6 +46,7 @@ pub record IsRecorded (words : List (List ℕ)) (heap limit : ℕ) (source : Lis
 pub record IsRecording (source : List ℕ) (heap limit : ℕ) (m : Assignment) (s : Status) (text : List ℕ) : Type 0 where
   pub code : Code
   pub compiled : IsCompiled m code
+  pub fits : NumbersFit code
   pub made : Ran
   pub records : Records source heap limit code made
   pub replayable : IsReplayable source heap limit code made
@@ -71,6 +73,7 @@ pub record IsReplayed (words : List (List ℕ)) (input : List ℕ) (file : FileV
 pub record IsReplaying (file : FileView) (m : Assignment) (s : Status) (text : List ℕ) : Type 0 where
   pub code : Code
   pub compiled : IsCompiled m code
+  pub fits : NumbersFit code
   pub ran : Ran
   pub replays : Replays file code ran
   pub ends : s ≡ status_of ran.outcome

@@ -4,9 +4,9 @@ use Rattle.sharc_top.specs.Recording.{made}
 use Rattle.sharc_top.proofs.replayed.run_of_file.Goals as goal
 
 pub returns : goal.returns
-returns c = λ m meets is.
+returns c = λ m meets is fit.
     let shape = c.shape_of-shape.result in
-    rw c.status_of.ensures (made c.args.code.now c.in_ok-ran.ran meets is
+    rw c.status_of.ensures (made c.args.code.now c.in_ok-ran.ran meets is fit
     record {
       shape = shape;
       fits = c.shape_of-shape.ensures.fits;
