@@ -3,19 +3,36 @@ use Rattle.std.proofs.Common.{◌≡◌, ℕ, zero, suc, ◌+◌, ◌||◌, ◌=
 use Rattle.sharc_code.specs.declared.code.Function.{Function}
 use Rattle.sharc_code.specs.declared.code.Text.{Text}
 use Rattle.sharc_code.specs.declared.instr.Instr.{Instr}
-use Rattle.sharc_code.specs.declared.instr.Instr.TheVariants.{Jump, JumpIfZero, JumpIfNull}
+use Rattle.sharc_code.specs.declared.code.PlaceMode.{PlaceMode}
+use Rattle.sharc_code.specs.declared.code.PlaceMode.TheVariants.{Dynamic}
+use Rattle.sharc_code.specs.declared.instr.Instr.TheVariants.{Jump, JumpIfZero, JumpIfNull, ChkRead, ChkWrite}
 use Rattle.sharc_ctype.specs.Resolved.{Resolution}
-use Rattle.sharc_flat.specs.Laid.{with_texts, IsLaid, AreLaid, IsNamed, AreNamed}
+use Rattle.sharc_flat.specs.Laid.{told_by, with_texts, IsLaid, AreLaid, IsNamed, AreNamed}
 use Rattle.sharc_flat_form.specs.declared.op.Op.{Op}
 use Rattle.sharc_flat_form.specs.declared.op.Op.TheVariants as op
+use Rattle.sharc_flat_form.specs.declared.op.Spot.{Spot}
 use Rattle.sharc_flat_form.specs.Machine.{Flat}
-use Rattle.sharc_guard.specs.Guard.{head, body, own, tail, expand, width, offset, place, expanded}
+use Rattle.sharc_guard.specs.Guard.{check_under, head, body, own, tail, expand, width, offset, place, expanded}
 use Rattle.sharc_guard.specs.Known.{leads_to, line_leads, is_led_to, is_entry, is_target, Know, nothing, know_after, known, drops, drops_at, dropped}
 use Rattle.sharc_alike_laws.proofs.Lists.{ap2}
 
 -- ---- one operation
+check_told : (x y : Text) (d : Bool) (i : Instr) (spot : Spot) (n : ℕ) (mode : PlaceMode) → check_under d i (told_by x y spot) n mode ≡ check_under d i spot n mode
+check_told x y true i spot n Dynamic = refl
+check_told x y false i spot n Dynamic = refl
+check_told x y d i spot n mode = refl
+
+-- after a check
+checked_told : (pl : ℕ → ℕ) (n : ℕ) (o : Op) (x y : Text) (d : Bool) (i : Instr) (spot : Spot)
+    → check_under d i (told_by x y spot) n spot.mode ++ own (body pl n o) ++ tail o ≡ check_under d i spot n spot.mode ++ own (body pl n o) ++ tail o
+checked_told pl n o x y d i spot = ap (λ is. is ++ own (body pl n o) ++ tail o) (check_told x y d i spot n spot.mode)
+
 expand_told : (pl : ℕ → ℕ) (d : Bool) (n : ℕ) (x y : Text) (o : Op) → expand pl d n (with_texts x y o) ≡ expand pl d n o
-expand_told pl d n x y op.Enter = refl
+expand_told pl d n x y (op.Load i cell spot) = checked_told pl n (op.Load i cell spot) x y d (ChkRead cell n) spot
+expand_told pl d n x y (op.Store i cell spot) = checked_told pl n (op.Store i cell spot) x y d (ChkWrite cell n) spot
+expand_told pl d n x y (op.LoadRef r cell spot) = checked_told pl n (op.LoadRef r cell spot) x y false (ChkRead cell n) spot
+expand_told pl d n x y (op.StoreRef r cell spot) = checked_told pl n (op.StoreRef r cell spot) x y false (ChkWrite cell n) spot
+expand_told pl d n x y (op.TakeCell r cell spot) = checked_told pl n (op.TakeCell r cell spot) x y false (ChkWrite cell n) spot
 expand_told pl d n x y o = refl
 
 leads_told : (n to : ℕ) (x y : Text) (o : Op) → leads_to n (with_texts x y o) to ≡ leads_to n o to

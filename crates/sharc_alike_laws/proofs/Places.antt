@@ -54,7 +54,7 @@ module _ (a b : Code) (alike : AreAlike a b) (s : Shape) where
 
   pub stuck_same : (g h : Standing) → AreTheSame g h → IsStuck a s g → IsStuck b s h
   stuck_same g h same stuck = record {
-    some = (stuck.some.0, sym (same.started stuck.some.0) ∙ stuck.some.1.0, ap (λ (m : Machine). may_go m.at.state) (sym (same.threads stuck.some.0)) ∙ stuck.some.1.1);
+    some = (stuck.some.0, (sym (same.started stuck.some.0) ∙ stuck.some.1.0, ap (λ (m : Machine). may_go m.at.state) (sym (same.threads stuck.some.0)) ∙ stuck.some.1.1));
     all = λ t on. sym (waits_same g h same t) ∙ stuck.all t (same.started t ∙ on.0, ap (λ (m : Machine). may_go m.at.state) (same.threads t) ∙ on.1);
   }
 
