@@ -45,7 +45,8 @@ pub fn replies_are_one()
     audit_laws();
 }
 
-/// Of a source that is a program: where its modes are accepted, no reply to `check` and `explain` is another than their full text with status 0; where they are not, the status
+/// Of a source that is a program: where its modes are accepted, no reply to `check` and `explain` is another than their full text with status 0, and each reply to `run` is
+/// the text of a run of the program's code with the status of that run; where they are not, the status
 /// of `check`, `explain` and `run` is 1.
 pub fn verdicts_are_told()
     ensures { VerdictLaws }
