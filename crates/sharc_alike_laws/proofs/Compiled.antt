@@ -1,6 +1,5 @@
 -- All codes of one program are alike: its flat code is laid out in any order of its texts.
 use Rattle.std.proofs.Common.{◌≡◌, ℕ, zero, suc, List, [], ◌∷◌, map, get_or, Option, Some, None, refl, sym, ap, ◌∙◌, subst}
-use Rattle.sharc_tree.specs.Tree.{Function as Definition}
 use Rattle.sharc_code.specs.declared.code.Code.{Code}
 use Rattle.sharc_code.specs.declared.code.Function.{Function}
 use Rattle.sharc_code.specs.declared.code.SourcePlace.{SourcePlace}
@@ -9,23 +8,23 @@ use Rattle.sharc_code.specs.declared.instr.Instr.{Instr}
 use Rattle.sharc_code.specs.declared.instr.Instr.TheVariants.{Call, Start, Exit}
 use Rattle.sharc_code.specs.Machine.{no_function}
 use Rattle.sharc_code.specs.Says.{no_place}
-use Rattle.sharc_ctype.specs.Resolved.{Resolution, IsResolved, functions_in}
+use Rattle.sharc_ctype.specs.Resolved.{Resolution, functions_in}
 use Rattle.sharc_ctype_laws.specs.Laws.{OneFunctionOfName}
 use Rattle.sharc_mode.specs.Moded.{Assignment}
 use Rattle.sharc_flat.specs.Flattened.{flattened}
-use Rattle.sharc_flat.specs.Flattens.{Flattens, names_of}
-use Rattle.sharc_flat.specs.Laid.{with_texts, spot_in, words_of, lock_text_of, lies_at, AreTextsIn, AreLaid, AreNamed, Lays}
+use Rattle.sharc_flat.specs.Flattens.{names_of}
+use Rattle.sharc_flat.specs.Laid.{with_texts, spot_in, words_of, lock_text_of, lies_at, AreTextsIn, AreLaid, AreNamed}
 use Rattle.sharc_flat.specs.Tables.{globals_of}
 use Rattle.sharc_flat_form.specs.declared.op.Op.{Op}
 use Rattle.sharc_flat_form.specs.declared.op.Op.TheVariants as op
 use Rattle.sharc_flat_form.specs.declared.op.Spot.{Spot}
 use Rattle.sharc_flat_form.specs.Machine.{Flat}
 use Rattle.sharc_flat_form.specs.Made.{flat_of}
-use Rattle.sharc_gen.specs.Generated.{instr_of, generated}
+use Rattle.sharc_gen.specs.Generated.{instr_of}
 use Rattle.sharc_guard.specs.Guard.{source_of, entered_at, place, expanded}
 use Rattle.sharc_guard.specs.Known.{dropped}
 use Rattle.sharc_sound.specs.Compiled.{IsCompiled}
-use Rattle.sharc_alike_laws.specs.Alike.{unnamed, IsSamePlace, AreAlike}
+use Rattle.sharc_alike_laws.specs.Alike.{unnamed, IsSamePlace}
 use Rattle.sharc_alike_laws.specs.Laws.{CompiledAreAlike}
 use Rattle.sharc_alike_laws.proofs.Lists.{ap2, map_same, element_of}
 use Rattle.sharc_alike_laws.proofs.Lines.{place_same, statements_same}
@@ -176,4 +175,4 @@ compiled_are_alike one m resolved a b x y =
     }
   where
     main_same : x.flat.main ≡ y.flat.main
-    main_same = let f = x.flattens.main in let g = y.flattens.main in one m.typed resolved x.flat.main y.flat.main f.0 g.0 f.1.0 g.1.0 (f.1.1 ∙ sym g.1.1)
+    main_same = let f = x.flattens.main in let g = y.flattens.main in one m.typed resolved x.flat.main y.flat.main f.0 g.0 f.1 g.1 (f.2 ∙ sym g.2)

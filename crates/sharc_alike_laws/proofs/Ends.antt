@@ -1,11 +1,11 @@
 -- A run of one code is a run of each code that is alike, with the same end, the same text and the same outcome.
-use Rattle.std.proofs.Common.{◌≡◌, ℕ, List, refl, sym, ap, ◌∙◌, subst}
+use Rattle.std.proofs.Common.{ℕ, List, sym, ◌∙◌, subst}
 use Rattle.sharc_code.specs.declared.code.Code.{Code}
 use Rattle.sharc_code.specs.declared.shape.Shape.{Shape}
 use Rattle.sharc_code.specs.Whole.{place_after}
 use Rattle.sharc_cpu.specs.Thread.{ThreadView}
 use Rattle.sharc_threads.specs.Ends.{Standing}
-use Rattle.sharc_run.specs.declared.run.Outcome.{Outcome}
+use Rattle.sharc_run.specs.declared.outcome.Outcome.{Outcome}
 use Rattle.sharc_run.specs.declared.run.Ran.{Ran}
 use Rattle.sharc_run.specs.Outcome.{HasOutcome, reported, stopped, stuck, limited, done}
 use Rattle.sharc_run.specs.Run.{IsEnd}

@@ -1,5 +1,5 @@
 -- Nothing that guarding looks at of an operation is a text.
-use Rattle.std.proofs.Common.{◌≡◌, ℕ, zero, suc, ◌+◌, ◌||◌, ◌==◌, Bool, true, false, cond, List, [], ◌∷◌, ◌++◌, length, slice_get, Option, Some, None, refl, sym, ap, ◌∙◌, subst}
+use Rattle.std.proofs.Common.{◌≡◌, ℕ, zero, suc, ◌+◌, ◌||◌, ◌==◌, Bool, true, false, cond, List, [], ◌∷◌, ◌++◌, length, slice_get, Option, Some, refl, ap, ◌∙◌}
 use Rattle.sharc_code.specs.declared.code.Function.{Function}
 use Rattle.sharc_code.specs.declared.code.Text.{Text}
 use Rattle.sharc_code.specs.declared.instr.Instr.{Instr}
@@ -7,7 +7,7 @@ use Rattle.sharc_code.specs.declared.code.PlaceMode.{PlaceMode}
 use Rattle.sharc_code.specs.declared.code.PlaceMode.TheVariants.{Dynamic}
 use Rattle.sharc_code.specs.declared.instr.Instr.TheVariants.{Jump, JumpIfZero, JumpIfNull, ChkRead, ChkWrite}
 use Rattle.sharc_ctype.specs.Resolved.{Resolution}
-use Rattle.sharc_flat.specs.Laid.{told_by, with_texts, IsLaid, AreLaid, IsNamed, AreNamed}
+use Rattle.sharc_flat.specs.Laid.{told_by, with_texts, AreLaid, AreNamed}
 use Rattle.sharc_flat_form.specs.declared.op.Op.{Op}
 use Rattle.sharc_flat_form.specs.declared.op.Op.TheVariants as op
 use Rattle.sharc_flat_form.specs.declared.op.Spot.{Spot}

@@ -1,17 +1,17 @@
 -- Where runs of codes that are alike are: what may go on there, who is chosen, and which threads there are.
-use Rattle.std.proofs.Common.{◌≡◌, ℕ, ◌<◌, ◌&&◌, not, Bool, true, false, List, [], ◌∷◌, length, get_or, map, filter, All, nat_lt, refl, sym, ap, ◌∙◌, subst}
+use Rattle.std.proofs.Common.{◌≡◌, ℕ, ◌&&◌, not, List, [], ◌∷◌, length, get_or, nat_lt, refl, sym, ap, ◌∙◌, subst}
 use Rattle.std.specs.List.{range_with_len}
 use Rattle.sharc_code.specs.declared.code.Code.{Code}
 use Rattle.sharc_code.specs.declared.shape.Shape.{Shape}
 use Rattle.sharc_code.specs.Machine.{Machine}
-use Rattle.sharc_code.specs.Path.{begun, turn, asked_by, after, may_go, counted, machine_after, made_in}
-use Rattle.sharc_code.specs.Runs.{Turn, Global, CheckedRunOf, opening_of, at}
+use Rattle.sharc_code.specs.Path.{begun, turn, may_go, machine_after, made_in}
+use Rattle.sharc_code.specs.Runs.{Turn, CheckedRunOf, opening_of, at}
 use Rattle.sharc_code.specs.Waits.{waits_now, held_up}
 use Rattle.sharc_code.specs.Whole.{one_thread, bounds, CheckedRun, place_after, IsStuck}
 use Rattle.sharc_code.specs.Opening.{opening_words}
 use Rattle.sharc_cpu.specs.Thread.{ThreadView, IsThread}
-use Rattle.sharc_threads.specs.Ends.{Standing, is_enabled, IsAt, AreStarted}
-use Rattle.sharc_seq.specs.Run.{enabled, IsChosen, AreChosen}
+use Rattle.sharc_threads.specs.Ends.{Standing, is_enabled, AreStarted}
+use Rattle.sharc_seq.specs.Run.{IsChosen, AreChosen}
 use Rattle.sharc_alike_laws.specs.Alike.{AreAlike}
 use Rattle.sharc_alike_laws.proofs.Lists.{ap2, filter_same}
 use Rattle.sharc_alike_laws.proofs.Threads.{DoTheSame, AreTheSame, run_same, at_same}

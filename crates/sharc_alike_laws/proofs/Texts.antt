@@ -1,9 +1,8 @@
 -- Codes that are alike tell a run in the same words.
-use Rattle.std.proofs.Common.{◌≡◌, ℕ, ◌-◌, Bool, true, false, cond, List, [], ◌∷◌, ◌++◌, codes, decimal, slice_index, flat_map, get_or, Option, Some, None, refl, sym, ap, ◌∙◌}
+use Rattle.std.proofs.Common.{◌≡◌, ℕ, ◌-◌, cond, List, [], ◌++◌, codes, decimal, slice_index, flat_map, get_or, Option, Some, None, refl, ap, ◌∙◌}
 use Rattle.sharc_shadow.specs.declared.shadow_word.Kind.{Kind}
 use Rattle.sharc_code.specs.declared.code.Code.{Code}
 use Rattle.sharc_code.specs.declared.code.Use.{Use}
-use Rattle.sharc_code.specs.declared.state.ConflictAt.{ConflictAt}
 use Rattle.sharc_code.specs.declared.state.Stop.{Stop}
 use Rattle.sharc_code.specs.declared.state.Stop.TheVariants.{Conflict, NoLock, NotSole, Trap}
 use Rattle.sharc_code.specs.declared.state.Wait.{Wait}
@@ -13,8 +12,8 @@ use Rattle.sharc_code.specs.Waits.{is_held_up}
 use Rattle.sharc_cpu.specs.Thread.{ThreadView}
 use Rattle.sharc_run_text.specs.declared.other.Access.{Access}
 use Rattle.sharc_run_text.specs.Others.{number_of, other_access}
-use Rattle.sharc_run_text.specs.Places.{lvalue, lock_path, at_site, lvalue_at, site_text}
-use Rattle.sharc_run_text.specs.RunText.{of_kind, access_text, code_of, other_text, conflict_text, of_use, no_lock_text, of_taking, not_sole_text, trap_words, trap_text, stop_text, wait_text, made_text, unstopped_text, why_text, is_gone, thread_line, print_line, IsRunText}
+use Rattle.sharc_run_text.specs.Places.{lock_path, at_site, lvalue_at}
+use Rattle.sharc_run_text.specs.RunText.{of_kind, access_text, code_of, other_text, of_use, of_taking, trap_words, stop_text, wait_text, made_text, unstopped_text, why_text, is_gone, thread_line, print_line, IsRunText}
 use Rattle.sharc_alike_laws.specs.Alike.{AreAlike}
 use Rattle.sharc_alike_laws.proofs.Lists.{ap2, flat_same}
 

@@ -1,7 +1,7 @@
 -- Runs of threads that do the same: whole runs, and where they are.
-use Rattle.std.proofs.Common.{◌≡◌, ℕ, ◌+◌, ◌≤◌, ◌||◌, Bool, true, false, cond, List, [], ◌∷◌, ◌++◌, nat_eq, refl, sym, ap, ◌∙◌, subst}
+use Rattle.std.proofs.Common.{◌≡◌, ℕ, ◌+◌, ◌≤◌, ◌||◌, cond, List, [], ◌∷◌, nat_eq, refl, sym, ap, ◌∙◌, subst}
 use Rattle.sharc_word.specs.Words.{words_after}
-use Rattle.sharc_code.specs.Runs.{OneThread, Bounds, Turn, result_of, step_of, IsOf, word_events, turns_of, put, state_after, IsNext, IsPath, made_in, Global, is_started, opening_of, was_started, CheckedFrom, CheckedRunOf, words_now, state_now, made_now, after_turn, at}
+use Rattle.sharc_code.specs.Runs.{OneThread, Bounds, Turn, result_of, word_events, turns_of, put, state_after, IsNext, IsPath, made_in, Global, is_started, opening_of, was_started, CheckedRunOf, words_now, state_now, made_now, after_turn, at}
 use Rattle.sharc_alike_laws.proofs.Lists.{ap2}
 
 -- both threads begin at the same states, and do the same in each

@@ -1,5 +1,5 @@
 -- The turns of one machine by codes that are alike, and its path.
-use Rattle.std.proofs.Common.{◌≡◌, ℕ, ◌*◌, ◌+◌, ◌-◌, ◌/◌, ◌%◌, ◌&&◌, ◌==◌, not, pos, max, Bool, true, false, cond, List, [], ◌∷◌, length, get_or, map, fold, replicate, nat_lt, nat_le, slice_index, ℤ, Some, None, refl, sym, ap, ◌∙◌, subst}
+use Rattle.std.proofs.Common.{◌≡◌, ℕ, ◌*◌, ◌+◌, ◌-◌, ◌/◌, ◌%◌, ◌&&◌, ◌==◌, not, pos, max, true, cond, List, [], ◌∷◌, length, get_or, replicate, nat_lt, nat_le, slice_index, ℤ, Some, None, refl, sym, ap, ◌∙◌, subst}
 use Rattle.std.specs.List.{range_with_len}
 use Rattle.sharc_word.specs.declared.step.WordOp.TheVariants as ops
 use Rattle.sharc_code.specs.declared.code.Code.{Code}
@@ -13,8 +13,8 @@ use Rattle.sharc_code.specs.declared.state.Stage.TheVariants.{Rests, Empties, En
 use Rattle.sharc_code.specs.declared.state.State.TheVariants.{Runs}
 use Rattle.sharc_code.specs.declared.state.TheConstants.{FRAMES}
 use Rattle.sharc_shadow.specs.Notes.{blank}
-use Rattle.sharc_code.specs.Layout.{granules, function_at, words_of, first_cell, cell_word, cell_of, function_word, argument_word, top_word, next_thread_word, state_word}
-use Rattle.sharc_code.specs.Machine.{Machine, Turn, Asks, act, instr_at, step_of, returned, goes_to, holds_none, trapped, back_to, no_frame, free, pointer_cell, fields, field_of, layout_at, no_layout, ref, emptied, start, entered, called, with_parameter, function_of, no_function, at_stage}
+use Rattle.sharc_code.specs.Layout.{granules, function_at, words_of, cell_word, cell_of, function_word, top_word, next_thread_word, state_word}
+use Rattle.sharc_code.specs.Machine.{Machine, Turn, act, instr_at, step_of, returned, goes_to, holds_none, trapped, back_to, no_frame, free, pointer_cell, fields, field_of, layout_at, no_layout, ref, start, entered, called, with_parameter, function_of, no_function, at_stage}
 use Rattle.sharc_code.specs.Opening.{first_global, first_heap, opening_words, opens_with}
 use Rattle.sharc_code.specs.Path.{most_ints, most_refs, begun, turn, after, asked_by, may_go, counted, machine_after, IsPath, CodePath, made_in}
 use Rattle.sharc_code.specs.Waits.{asks_for, wait_of}
