@@ -1,3 +1,4 @@
+pub mod Building
 pub mod Judging
 pub mod Lines
 pub mod Recording

@@ -97,7 +97,7 @@ outcome_status outcome.Limit = low 6 (omega arith)
 
 runs_status : (n : RunNumbers) (m : Assignment) (s : Status) (text : List ℕ) → Runs n m s text → IsOfReply (code_of s)
 runs_status n m s text (not_run t is) = low 1 (omega arith)
-runs_status n m s text (ran code run meets compiled is) = outcome_status run.outcome
+runs_status n m s text (ran code run meets compiled fit is) = outcome_status run.outcome
 
 does_status : (t : Task) (m : Assignment) (s : Status) (text : List ℕ) → Does t m s text → IsOfReply (code_of s)
 does_status task.Check m s text d = checks_status m s text d
@@ -134,7 +134,7 @@ file_status input s text (source_judged source fuel events file short x y is) = 
 
 made_status : (m : Assignment) (Makes : Code → Ran → Type 0) (s : Status) (text : List ℕ) → GivesRun m Makes s text → IsOfReply (code_of s)
 made_status m Makes s text (not_made t is) = low 1 (omega arith)
-made_status m Makes s text (made code run meets compiled is) = outcome_status run.outcome
+made_status m Makes s text (made code run meets compiled fit is) = outcome_status run.outcome
 
 given_status : (source : List ℕ) (Makes : Code → Ran → Type 0) (s : Status) (text : List ℕ) → GivesSource source Makes s text → IsOfReply (code_of s)
 given_status source Makes s text (at_fault stage at is) = low 2 (omega arith)

@@ -11,6 +11,7 @@ use Rattle.sharc_replay.specs.Run.{IsRecord, IsScheduledRun}
 use Rattle.sharc_report.specs.Refusals.{refusal_line}
 use Rattle.sharc_report.specs.declared.refusal.Stage.{Stage}
 use Rattle.sharc_run.specs.declared.run.Ran.{Ran}
+use Rattle.sharc_code.specs.Ranges.{NumbersFit}
 use Rattle.sharc_sound.specs.Compiled.{IsCompiled}
 use Rattle.sharc_sound.specs.Front.{IsFront, IsFaultAt}
 use Rattle.sharc_top.specs.declared.recorded.RecordNumbers.{RecordNumbers}
@@ -47,7 +48,7 @@ pub record Replays (file : FileView) (code : Code) (ran : Ran) : Type 0 where
 -- what `check` writes where the modes are refused, else what is made of the program's code
 pub data GivesRun (m : Assignment) (Makes : Code → Ran → Type 0) : Status → List ℕ → Type 0 where
   not_made : (text : List ℕ) → IsModeRefusal m text → GivesRun m Makes status.ModesRefused text
-  made : (code : Code) (run : Ran) → MeetsRules m → IsCompiled m code → Makes code run → GivesRun m Makes (status_of run.outcome) run.text.items
+  made : (code : Code) (run : Ran) → MeetsRules m → IsCompiled m code → NumbersFit code → Makes code run → GivesRun m Makes (status_of run.outcome) run.text.items
 
 -- of a source within the limit: its first fault, else what becomes of the program that it is, with the least modes
 pub data GivesSource (source : List ℕ) (Makes : Code → Ran → Type 0) : Status → List ℕ → Type 0 where

@@ -1,14 +1,21 @@
 -- What is written for a program whose modes are refused.
 use Rattle.std.specs.Prelude.{◌≡◌, ℕ, List, Result, Ok, Err}
+use Rattle.sharc_tree.specs.declared.token.FaultAt.{FaultAt}
 use Rattle.sharc_mode.specs.declared.error.Cast.{Cast}
 use Rattle.sharc_mode.specs.declared.error.ModeError.{ModeError}
 use Rattle.sharc_mode.specs.Moded.{Assignment}
 use Rattle.sharc_mode_laws.specs.Rules.{MeetsRules}
 use Rattle.sharc_check.specs.Checks.{AreAll}
 use Rattle.sharc_suggest.specs.Casts.{AreSuggested}
+use Rattle.sharc_report.specs.Refusals.{refusal_line}
 use Rattle.sharc_report.specs.Verdicts.{check_text}
+use Rattle.sharc_report.specs.declared.refusal.Stage.{Stage}
+use Rattle.sharc_sound.specs.Front.{IsFront, IsFaultAt}
+use Rattle.sharc_build.specs.declared.building.Built.{Built}
+use Rattle.sharc_build.specs.Built.{IsBuilt}
 use Rattle.sharc_top.specs.declared.reply.Reply.{Reply}
-use Rattle.sharc_top.specs.declared.status.Status.TheVariants.{ModesRefused}
+use Rattle.sharc_top.specs.declared.status.Status.{Status}
+use Rattle.sharc_top.specs.declared.status.Status.TheVariants as status
 
 -- all the cases M1 to M11 that arise, in their order, each with the cast that would repair it
 pub record IsModeRefusal (m : Assignment) (text : List ℕ) : Type 0 where
@@ -19,7 +26,12 @@ pub record IsModeRefusal (m : Assignment) (text : List ℕ) : Type 0 where
   pub suggested : AreSuggested m errors casts
   pub written : text ≡ check_text m.typed errors casts
 
--- the program, whose modes are accepted, or the reply where they are refused
-abbrev pub IsAccepted : Assignment → Result Assignment Reply → Type 0
-IsAccepted m (Ok c) = (c ≡ m) × MeetsRules m
-IsAccepted m (Err reply) = (reply.status ≡ ModesRefused) × IsModeRefusal m reply.text.items
+-- what is written for a source of which no code is built: its first fault, or the errors of the program that it is
+pub data Refuses (source : List ℕ) : Status → List ℕ → Type 0 where
+  source_refused : (stage : Stage) (at : FaultAt) → IsFaultAt source stage at → Refuses source status.SourceRefused (refusal_line stage at)
+  modes_refused : (m : Assignment) (text : List ℕ) → IsFront source m → IsModeRefusal m text → Refuses source status.ModesRefused text
+
+-- its code, or that
+abbrev pub IsBuiltOrRefused : List ℕ → Result Built Reply → Type 0
+IsBuiltOrRefused source (Ok built) = IsBuilt source built
+IsBuiltOrRefused source (Err reply) = Refuses source reply.status reply.text.items

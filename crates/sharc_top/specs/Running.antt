@@ -9,6 +9,7 @@ use Rattle.sharc_run.specs.declared.outcome.Outcome.{Outcome}
 use Rattle.sharc_run.specs.declared.outcome.Outcome.TheVariants as outcome
 use Rattle.sharc_run.specs.declared.run.Ran.{Ran}
 use Rattle.sharc_run.specs.Run.{IsSeededRun, IsWorkersRun}
+use Rattle.sharc_code.specs.Ranges.{NumbersFit}
 use Rattle.sharc_sound.specs.Compiled.{IsCompiled}
 use Rattle.sharc_top.specs.declared.ran.RunNumbers.{RunNumbers}
 use Rattle.sharc_top.specs.declared.status.Status.{Status}
@@ -43,7 +44,8 @@ pub record IsRun (n : RunNumbers) (code : Code) (ran : Ran) : Type 0 where
   pub heap : shape.heap ≡ n.granules
   pub run : IsRunBy n.seed n code shape ran
 
--- what `check` writes where the modes are refused, else what a run of the program's code writes
+-- what `check` writes where the modes are refused, else what a run of the program's code writes, whose numbers are in the ranges that the
+-- machine asks for
 pub data Runs (n : RunNumbers) (m : Assignment) : Status → List ℕ → Type 0 where
   not_run : (text : List ℕ) → IsModeRefusal m text → Runs n m status.ModesRefused text
-  ran : (code : Code) (run : Ran) → MeetsRules m → IsCompiled m code → IsRun n code run → Runs n m (status_of run.outcome) run.text.items
+  ran : (code : Code) (run : Ran) → MeetsRules m → IsCompiled m code → NumbersFit code → IsRun n code run → Runs n m (status_of run.outcome) run.text.items

@@ -4,6 +4,7 @@
 #![tactic(auto)]
 
 mod audited;
+mod built;
 mod loaded;
 mod ran;
 mod recorded;

@@ -1,16 +1,21 @@
-//! What `run` makes of a program whose modes are accepted.
+//! What `run` makes of a source.
 
-ghost use Rattle.std.specs.Prelude.{◌≡◌, IfOk};
+ghost use Rattle.std.specs.Prelude.{◌≡◌, ◌≤◌, length, IfOk};
+ghost use Rattle.sharc_mode.specs.Moded.{Assignment};
 ghost use Rattle.sharc_mode_laws.specs.Rules.{MeetsRules};
+ghost use Rattle.sharc_code.specs.Ranges.{NumbersFit};
+ghost use Rattle.sharc_sound.specs.Compiled.{IsCompiled};
+ghost use Rattle.sharc_top.specs.declared.task.Task.TheVariants as task;
+ghost use Rattle.sharc_top.specs.Answers.{Answers};
 ghost use Rattle.sharc_top.specs.Running.{AreNumbers, status_of, IsRun, Runs};
 
+use crate::built::built;
+use crate::refused::SOURCE_LIMIT;
 use crate::reply::Reply;
 use crate::status::Status;
 use sharc_code::Code;
-use sharc_mode::moded::Moded;
 use sharc_rounds::Gate;
 use sharc_run::{Outcome, Ran, run_by_seed, run_by_workers, shape_of};
-use sharc_sound::compile;
 use std::alloc::{AllocError, Global};
 use std::thread::Threads;
 
@@ -66,22 +71,38 @@ fn ran<R: Threads + Sync, G: Gate + Sync>(
     }
 }
 
-/// What a run of a program writes whose modes are accepted.
-pub(crate) fn run_reply<R: Threads + Sync, G: Gate + Sync>(
+/// What a run of this code writes.
+fn run_reply<R: Threads + Sync, G: Gate + Sync>(
     rt: &R,
     gate: &G,
     alloc: Global,
-    program: &Moded,
+    code: &Code,
     numbers: RunNumbers,
 ) -> Result<Reply, AllocError>
-    requires numbers { AreNumbers numbers }
-    requires accepted { MeetsRules program.now }
-    ensures { IfOk result (λ reply. Runs numbers program.now reply.status reply.text.items) }
+    requires { AreNumbers numbers }
+    ensures { IfOk result (λ reply. (m : Assignment) → MeetsRules m → IsCompiled m code.now → NumbersFit code.now → Runs numbers m reply.status reply.text.items) }
 {
-    let code = compile(alloc, program)?;
-    let ran = ran(rt, gate, alloc, &code, numbers)?;
+    let ran = ran(rt, gate, alloc, code, numbers)?;
     Ok(Reply {
         status: status_of(ran.outcome),
         text: ran.text,
     })
+}
+
+/// What `run` writes for a source within the limit.
+pub(crate) fn run_source<R: Threads + Sync, G: Gate + Sync>(
+    rt: &R,
+    gate: &G,
+    alloc: Global,
+    source: &[u8],
+    numbers: RunNumbers,
+) -> Result<Reply, AllocError>
+    requires numbers { AreNumbers numbers }
+    requires short { length source.now ≤ SOURCE_LIMIT }
+    ensures { IfOk result (λ reply. Answers (task.Run numbers) source.now reply.status reply.text.items) }
+{
+    match built(alloc, source)? {
+        Ok(built) => run_reply(rt, gate, alloc, &built.code, numbers),
+        Err(refusal) => Ok(refusal),
+    }
 }

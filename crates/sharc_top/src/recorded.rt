@@ -2,23 +2,23 @@
 
 ghost use Rattle.std.specs.Prelude.{◌≡◌, ◌≤◌, length, IfOk, IsErrOf};
 ghost use Rattle.sharc_io.specs.Causes.{Rose};
-ghost use Rattle.sharc_reach.specs.Reaching.{AreReached};
+ghost use Rattle.sharc_mode.specs.Moded.{Assignment};
 ghost use Rattle.sharc_mode_laws.specs.Rules.{MeetsRules};
+ghost use Rattle.sharc_code.specs.Ranges.{NumbersFit};
+ghost use Rattle.sharc_sound.specs.Compiled.{IsCompiled};
 ghost use Rattle.sharc_cli.specs.Bounds.{IsWithin};
 ghost use Rattle.sharc_top.specs.Recording.{Records, GivesRun, GivesSource, RecordReplies, IsRecordReply, AreRecordNumbers};
 
+use crate::built::built;
 use crate::ran::status_of;
-use crate::refused::{Failure, SOURCE_LIMIT, refusal};
+use crate::refused::{Failure, SOURCE_LIMIT};
 use crate::reply::{Reply, line_reply};
 use crate::status::Status;
-use crate::verdict::accepted;
+use sharc_code::Code;
 use sharc_io::{ReadError, Source, read_all};
-use sharc_mode::moded::Moded;
-use sharc_reach::Reached;
 use sharc_replay::record_by_workers;
 use sharc_rounds::Gate;
 use sharc_run::shape_of;
-use sharc_sound::{ReachedProgram, Refusal, compile, front};
 use std::alloc::{AllocError, Global};
 use std::sync::Wait;
 use std::thread::Threads;
@@ -34,26 +34,24 @@ pub struct RecordNumbers {
     pub events: u64,
 }
 
-/// The file of a run of a program whose modes are accepted.
+/// The file of a run of this code, which is that of a source.
 fn file_of_run<R: Threads + Wait + Sync, G: Gate + Sync>(
     rt: &R,
     gate: &G,
     alloc: Global,
-    program: &Moded,
+    code: &Code,
     source: &[u8],
     numbers: RecordNumbers,
 ) -> Result<Reply, AllocError>
-    requires numbers { AreRecordNumbers numbers }
-    requires accepted { MeetsRules program.now }
-    ensures { IfOk result (λ reply. GivesRun program.now (Records source.now numbers.granules numbers.events) reply.status reply.text.items) }
+    requires { AreRecordNumbers numbers }
+    ensures { IfOk result (λ reply. (m : Assignment) → MeetsRules m → IsCompiled m code.now → NumbersFit code.now → GivesRun m (Records source.now numbers.granules numbers.events) reply.status reply.text.items) }
 {
-    let code = compile(alloc, program)?;
-    let shape = shape_of(&code, numbers.granules);
+    let shape = shape_of(code, numbers.granules);
     let ran = record_by_workers(
         rt,
         alloc,
         source,
-        &code,
+        code,
         &shape,
         numbers.workers,
         numbers.events,
@@ -63,26 +61,6 @@ fn file_of_run<R: Threads + Wait + Sync, G: Gate + Sync>(
         status: status_of(ran.outcome),
         text: ran.text,
     })
-}
-
-/// What is written for a program with its modes.
-fn program_recorded<R: Threads + Wait + Sync, G: Gate + Sync>(
-    rt: &R,
-    gate: &G,
-    alloc: Global,
-    program: Moded,
-    reached: &Reached,
-    source: &[u8],
-    numbers: RecordNumbers,
-) -> Result<Reply, AllocError>
-    requires reached { AreReached program.typed reached.now }
-    requires numbers { AreRecordNumbers numbers }
-    ensures { IfOk result (λ reply. GivesRun program (Records source.now numbers.granules numbers.events) reply.status reply.text.items) }
-{
-    match accepted(alloc, program, reached)? {
-        Ok(checked) => file_of_run(rt, gate, alloc, checked.moded(), source, numbers),
-        Err(refusal) => Ok(refusal),
-    }
 }
 
 /// What is written for a source within the limit.
@@ -97,13 +75,9 @@ fn source_recorded<R: Threads + Wait + Sync, G: Gate + Sync>(
     requires short { length source.now ≤ SOURCE_LIMIT }
     ensures { IfOk result (λ reply. GivesSource source.now (Records source.now numbers.granules numbers.events) reply.status reply.text.items) }
 {
-    match front(alloc, source) {
-        Ok(ReachedProgram { program, reached }) => {
-            program_recorded(rt, gate, alloc, program, &reached, source, numbers)
-        }
-        Err(Refusal::Source(fault)) => refusal(alloc, &fault),
-        Err(Refusal::Modes(..)) => unreachable!(),
-        Err(Refusal::Memory) => Err(AllocError),
+    match built(alloc, source)? {
+        Ok(built) => file_of_run(rt, gate, alloc, &built.code, source, numbers),
+        Err(refusal) => Ok(refusal),
     }
 }
 

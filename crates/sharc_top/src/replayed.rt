@@ -2,59 +2,40 @@
 
 ghost use Rattle.std.specs.Prelude.{◌≡◌, ◌≤◌, length, IfOk, IsErrOf};
 ghost use Rattle.sharc_io.specs.Causes.{Rose};
-ghost use Rattle.sharc_reach.specs.Reaching.{AreReached};
+ghost use Rattle.sharc_mode.specs.Moded.{Assignment};
 ghost use Rattle.sharc_mode_laws.specs.Rules.{MeetsRules};
+ghost use Rattle.sharc_code.specs.Ranges.{NumbersFit};
+ghost use Rattle.sharc_sound.specs.Compiled.{IsCompiled};
 ghost use Rattle.sharc_recorded.specs.File.{IsFile, AreNumbers};
 ghost use Rattle.sharc_recorded.specs.Shown.{FaultIs, view_of};
 ghost use Rattle.sharc_top.specs.Recording.{Replays, GivesRun, GivesSource, ReplayReplies, IsReplayReply, bad_file_line, IsWithinFile};
 
+use crate::built::built;
 use crate::ran::status_of;
-use crate::refused::{Failure, SOURCE_LIMIT, refusal};
+use crate::refused::{Failure, SOURCE_LIMIT};
 use crate::reply::{Reply, line_reply};
 use crate::status::Status;
-use crate::verdict::accepted;
+use sharc_code::Code;
 use sharc_io::{ReadError, Source, read_all};
-use sharc_mode::moded::Moded;
-use sharc_reach::Reached;
 use sharc_recorded::{FileFault, RecordFile, file_laws, read_file};
 use sharc_replay::run_by_schedule;
 use sharc_run::shape_of;
-use sharc_sound::{ReachedProgram, Refusal, compile, front};
 use std::alloc::{AllocError, Global};
 
 /// The largest recorded file, in bytes (own).
 const FILE_LIMIT: usize = 1_073_741_824;
 
-/// The run of a program whose modes are accepted, by the schedule of its file.
-fn run_of_file(alloc: Global, program: &Moded, file: &RecordFile) -> Result<Reply, AllocError>
-    requires file { IsWithinFile (view_of file.now) }
-    requires accepted { MeetsRules program.now }
-    ensures { IfOk result (λ reply. GivesRun program.now (Replays (view_of file.now)) reply.status reply.text.items) }
+/// The run of this code by the schedule of a file.
+fn run_of_file(alloc: Global, code: &Code, file: &RecordFile) -> Result<Reply, AllocError>
+    requires { IsWithinFile (view_of file.now) }
+    ensures { IfOk result (λ reply. (m : Assignment) → MeetsRules m → IsCompiled m code.now → NumbersFit code.now → GivesRun m (Replays (view_of file.now)) reply.status reply.text.items) }
 {
-    let code = compile(alloc, program)?;
-    let shape = shape_of(&code, file.heap);
-    let ran = run_by_schedule(alloc, &code, &shape, file.places.as_slice(), file.limit)?;
+    let shape = shape_of(code, file.heap);
+    let ran = run_by_schedule(alloc, code, &shape, file.places.as_slice(), file.limit)?;
     Ok(Reply {
         status: status_of(ran.outcome),
         text: ran.text,
     })
-}
-
-/// What is written for a program with its modes.
-fn program_replayed(
-    alloc: Global,
-    program: Moded,
-    reached: &Reached,
-    file: &RecordFile,
-) -> Result<Reply, AllocError>
-    requires reached { AreReached program.typed reached.now }
-    requires file { IsWithinFile (view_of file.now) }
-    ensures { IfOk result (λ reply. GivesRun program (Replays (view_of file.now)) reply.status reply.text.items) }
-{
-    match accepted(alloc, program, reached)? {
-        Ok(checked) => run_of_file(alloc, checked.moded(), file),
-        Err(refusal) => Ok(refusal),
-    }
 }
 
 /// What is written for a file whose source is within the limit.
@@ -63,11 +44,9 @@ fn source_replayed(alloc: Global, file: &RecordFile) -> Result<Reply, AllocError
     requires short { length file.now.source.items ≤ SOURCE_LIMIT }
     ensures { IfOk result (λ reply. GivesSource file.now.source.items (Replays (view_of file.now)) reply.status reply.text.items) }
 {
-    match front(alloc, &file.source) {
-        Ok(ReachedProgram { program, reached }) => program_replayed(alloc, program, &reached, file),
-        Err(Refusal::Source(fault)) => refusal(alloc, &fault),
-        Err(Refusal::Modes(..)) => unreachable!(),
-        Err(Refusal::Memory) => Err(AllocError),
+    match built(alloc, &file.source)? {
+        Ok(built) => run_of_file(alloc, &built.code, file),
+        Err(refusal) => Ok(refusal),
     }
 }
 

@@ -1,4 +1,4 @@
-//! What `check`, `explain` and `run` make of a program with its modes.
+//! What `check` and `explain` make of a program with its modes.
 //!
 //! Where `check` has its text the program is not taken apart, which would take a fifth of the time of `check`: the process ends then, and the system takes
 //! back its memory.
@@ -9,11 +9,9 @@ ghost use Rattle.sharc_check.specs.Checks.{IsRefused};
 ghost use Rattle.sharc_check.specs.Named.{TellNamed};
 ghost use Rattle.sharc_report.specs.Explanations.{explain_text};
 ghost use Rattle.sharc_top.specs.declared.status.Status.TheVariants.{ModesRefused};
-ghost use Rattle.sharc_top.specs.Refused.{IsModeRefusal, IsAccepted};
-ghost use Rattle.sharc_top.specs.Running.{AreNumbers, Runs};
-ghost use Rattle.sharc_top.specs.Verdict.{Checks, Explains, Does, IsTask};
+ghost use Rattle.sharc_top.specs.Refused.{IsModeRefusal};
+ghost use Rattle.sharc_top.specs.Verdict.{Checks, Explains, Does, IsVerdict};
 
-use crate::ran::{RunNumbers, run_reply};
 use crate::reply::Reply;
 use crate::status::Status;
 use crate::task::Task;
@@ -24,11 +22,9 @@ use sharc_mode::error::ModeErrors;
 use sharc_mode::moded::Moded;
 use sharc_reach::Reached;
 use sharc_report::{accepted_text, check_text, explain_text};
-use sharc_rounds::Gate;
 use sharc_suggest::suggest_all;
 use std::alloc::{AllocError, Global};
 use std::mem::forget;
-use std::thread::Threads;
 
 /// The warnings of a program whose modes are accepted, and that they are.
 fn acceptance(alloc: Global, checked: &Checked) -> Result<Reply, AllocError>
@@ -111,60 +107,15 @@ fn explained(alloc: Global, program: Moded, reached: &Reached) -> Result<Reply, 
     }
 }
 
-/// The program, checked, or what is written where its modes are refused.
-pub(crate) fn accepted(
-    alloc: Global,
-    program: Moded,
-    reached: &Reached,
-) -> Result<Result<Checked, Reply>, AllocError>
-    requires { AreReached program.typed reached.now }
-    ensures { IfOk result (IsAccepted program) }
-{
-    match check(alloc, program, reached) {
-        Ok(checked) => Ok(Ok(checked)),
-        Err(CheckFault::Modes(program, errors, named)) => {
-            let refusal = mode_refusal(alloc, &program, &named, &errors)?;
-            Ok(Err(refusal))
-        }
-        Err(CheckFault::Memory(_)) => Err(AllocError),
-    }
-}
-
-/// What `run` writes: what `check` writes where the modes are refused.
-fn run<R: Threads + Sync, G: Gate + Sync>(
-    rt: &R,
-    gate: &G,
-    alloc: Global,
-    program: Moded,
-    reached: &Reached,
-    numbers: RunNumbers,
-) -> Result<Reply, AllocError>
-    requires reached { AreReached program.typed reached.now }
-    requires numbers { AreNumbers numbers }
-    ensures { IfOk result (λ reply. Runs numbers program reply.status reply.text.items) }
-{
-    match accepted(alloc, program, reached)? {
-        Ok(checked) => run_reply(rt, gate, alloc, checked.moded(), numbers),
-        Err(refusal) => Ok(refusal),
-    }
-}
-
-/// What becomes of a program with its modes.
-pub fn done<R: Threads + Sync, G: Gate + Sync>(
-    rt: &R,
-    gate: &G,
-    alloc: Global,
-    task: Task,
-    program: Moded,
-    reached: &Reached,
-) -> Result<Reply, AllocError>
-    requires task { IsTask task }
+/// What `check` and `explain` make of a program with its modes.
+pub fn done(alloc: Global, task: Task, program: Moded, reached: &Reached) -> Result<Reply, AllocError>
+    requires verdict { IsVerdict task }
     requires reached { AreReached program.typed reached.now }
     ensures { IfOk result (λ reply. Does task program reply.status reply.text.items) }
 {
     match task {
         Task::Check => checked(alloc, program, reached),
         Task::Explain => explained(alloc, program, reached),
-        Task::Run(numbers) => run(rt, gate, alloc, program, reached, numbers),
+        Task::Run(_) => unreachable!(),
     }
 }

@@ -5,10 +5,11 @@ ghost use Rattle.sharc_io.specs.Causes.{Rose};
 ghost use Rattle.sharc_cli.specs.Commands.{commands};
 ghost use Rattle.sharc_top.specs.Answers.{Answers};
 ghost use Rattle.sharc_top.specs.Reply.{task_in, ReadsInput, IsReply};
-ghost use Rattle.sharc_top.specs.Verdict.{IsTask};
+ghost use Rattle.sharc_top.specs.Verdict.{IsTask, IsVerdict};
 
 use crate::audited::audited;
 use crate::loaded::loaded;
+use crate::ran::run_source;
 use crate::recorded::recorded;
 use crate::refused::{Failure, SOURCE_LIMIT, refusal};
 use crate::replayed::replayed;
@@ -29,6 +30,20 @@ use std::thread::Threads;
 const USAGE: &[u8] =
     b"usage: check | explain | run [--workers N] [--granules N] [--events N] [--seed N] | load N [--workers N] | record [--workers N] [--granules N] [--events N] | replay | audit";
 
+/// What `check` and `explain` write for a source within the limit.
+fn verdict_on(alloc: Global, task: Task, source: &[u8]) -> Result<Reply, AllocError>
+    requires verdict { IsVerdict task }
+    requires short { length source.now ≤ SOURCE_LIMIT }
+    ensures { IfOk result (λ reply. Answers task source.now reply.status reply.text.items) }
+{
+    match front(alloc, source) {
+        Ok(ReachedProgram { program, reached }) => done(alloc, task, program, &reached),
+        Err(Refusal::Source(fault)) => refusal(alloc, &fault),
+        Err(Refusal::Modes(..)) => unreachable!(),
+        Err(Refusal::Memory) => Err(AllocError),
+    }
+}
+
 /// What is written for a source within the limit.
 pub(crate) fn answer<R: Threads + Sync, G: Gate + Sync>(
     rt: &R,
@@ -41,11 +56,9 @@ pub(crate) fn answer<R: Threads + Sync, G: Gate + Sync>(
     requires short { length source.now ≤ SOURCE_LIMIT }
     ensures { IfOk result (λ reply. Answers task source.now reply.status reply.text.items) }
 {
-    match front(alloc, source) {
-        Ok(ReachedProgram { program, reached }) => done(rt, gate, alloc, task, program, &reached),
-        Err(Refusal::Source(fault)) => refusal(alloc, &fault),
-        Err(Refusal::Modes(..)) => unreachable!(),
-        Err(Refusal::Memory) => Err(AllocError),
+    match task {
+        Task::Check | Task::Explain => verdict_on(alloc, task, source),
+        Task::Run(numbers) => run_source(rt, gate, alloc, source, numbers),
     }
 }
 

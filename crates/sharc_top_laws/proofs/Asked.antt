@@ -14,7 +14,7 @@ use Rattle.sharc_top.specs.Reply.{Replies, IsReply, Replied}
 use Rattle.sharc_top.specs.Running.{Runs, not_run, ran}
 use Rattle.sharc_top.specs.Status.{code_of}
 use Rattle.sharc_top.specs.Verdict.{Checks, accepted, refused, Explains, explained, Does}
-use Rattle.sharc_top_laws.specs.Laws.{SourceLaws, IsAsked, IsAcceptance, IsExplanation}
+use Rattle.sharc_top_laws.specs.Laws.{SourceLaws, IsAsked, IsAcceptance, IsExplanation, IsRunning}
 use Rattle.sharc_top_laws.proofs.Replying.{is_answer}
 
 -- what is written for a source that is this program is written for it
@@ -31,6 +31,10 @@ only_explained m s text meets (explained z verdict is) =
     let only = only_accepted m z verdict meets is in
     (only.0, record { verdict = verdict; accepts = only.1; written = refl })
 
+only_ran : (n : RunNumbers) (m : Assignment) (s : Status) (text : List ℕ) → MeetsRules m → Runs n m s text → IsRunning n m s text
+only_ran n m s text meets (not_run t is) = absurd (is.breaks_rules meets)
+only_ran n m s text meets (ran code run also compiled fit is) = record { code = code; compiled = compiled; fits = fit; ran = run; runs = is; ends = refl; written = refl }
+
 check_refused : (m : Assignment) (s : Status) (text : List ℕ) → ¬ (MeetsRules m) → Checks m s text → s ≡ status.ModesRefused
 check_refused m s text ill (accepted w meets are) = absurd (ill meets)
 check_refused m s text ill (refused t is) = refl
@@ -40,7 +44,7 @@ explain_refused m s text ill (explained z verdict is) = check_refused m z verdic
 
 run_refused : (n : RunNumbers) (m : Assignment) (s : Status) (text : List ℕ) → ¬ (MeetsRules m) → Runs n m s text → s ≡ status.ModesRefused
 run_refused n m s text ill (not_run t is) = refl
-run_refused n m s text ill (ran code run meets compiled is) = absurd (ill meets)
+run_refused n m s text ill (ran code run meets compiled fit is) = absurd (ill meets)
 
 only_refused : (t : Task) (m : Assignment) (s : Status) (text : List ℕ) → ¬ (MeetsRules m) → Does t m s text → s ≡ status.ModesRefused
 only_refused task.Check m s text ill does = check_refused m s text ill does
@@ -58,6 +62,9 @@ module _ (laws : SourceLaws) (words : List (List ℕ)) (input : List ℕ) (m : A
 
   pub explain_only : IsAsked words task.Explain input m → MeetsRules m → (s : Status) (text : List ℕ) → IsReply words (Some input) s text → (s ≡ status.Done) × IsExplanation m text
   explain_only is meets s text reply = only_explained m s text meets (does_reply task.Explain is s text reply)
+
+  pub run_only : (n : RunNumbers) → IsAsked words (task.Run n) input m → MeetsRules m → (s : Status) (text : List ℕ) → IsReply words (Some input) s text → IsRunning n m s text
+  run_only n is meets s text reply = only_ran n m s text meets (does_reply (task.Run n) is s text reply)
 
   pub checked : IsAsked words task.Check input m → MeetsRules m → (old new : Option (List ℕ)) (code : ℕ) → Replied words (Some input) old new code → (code ≡ 0) × (text : List ℕ) × IsAcceptance m text × Appends old new text
   checked is meets old new code replied =

@@ -1,3 +1,4 @@
+pub mod Again
 pub mod Asked
 pub mod Auditing
 pub mod FaultLemmas

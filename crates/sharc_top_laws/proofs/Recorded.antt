@@ -98,7 +98,7 @@ module _ (sources : SourceLaws) where
   -- ---- `replay`
   replaying : (file : FileView) (m : Assignment) (s : Status) (text : List ℕ) → MeetsRules m → GivesRun m (Replays file) s text → IsReplaying file m s text
   replaying file m s text meets (not_made other is) = absurd (is.breaks_rules meets)
-  replaying file m s text meets (made code run also compiled is) = record { code = code; compiled = compiled; ran = run; replays = is; ends = refl; written = refl }
+  replaying file m s text meets (made code run also compiled fit is) = record { code = code; compiled = compiled; fits = fit; ran = run; replays = is; ends = refl; written = refl }
 
   module _ (files : FileLaws) where
     replay_reply : (input : List ℕ) (file : FileView) (m : Assignment) (s : Status) (text : List ℕ) → length input ≤ recording_limit → IsFile input file → length file.source ≤ source_limit → IsFront file.source m → MeetsRules m
@@ -149,8 +149,8 @@ module _ (sources : SourceLaws) where
     recording : (source : List ℕ) (heap limit : ℕ) (m : Assignment) (s : Status) (text : List ℕ) → IsFront source m → MeetsRules m → 1 ≤ limit → limit ≤ 200000 → GivesRun m (Records source heap limit) s text
         → IsRecording source heap limit m s text
     recording source heap limit m s text front meets some few (not_made other is) = absurd (is.breaks_rules meets)
-    recording source heap limit m s text front meets some few (made code run also compiled is) =
-        record { code = code; compiled = compiled; made = run; records = is; replayable = replayable source m heap limit code run front some few is; ends = refl; written = refl }
+    recording source heap limit m s text front meets some few (made code run also compiled fit is) =
+        record { code = code; compiled = compiled; fits = fit; made = run; records = is; replayable = replayable source m heap limit code run front some few is; ends = refl; written = refl }
 
     record_reply_only : (source : List ℕ) (heap limit : ℕ) (m : Assignment) (s : Status) (text : List ℕ) → length source ≤ source_limit → IsFront source m → MeetsRules m → 1 ≤ limit → limit ≤ 200000
         → RecordReplies heap limit source s text → IsRecording source heap limit m s text

@@ -8,13 +8,18 @@ use Rattle.sharc_mode.specs.declared.error.Warning.{Warning}
 use Rattle.sharc_mode.specs.Moded.{Assignment}
 use Rattle.sharc_mode_laws.specs.Rules.{MeetsRules}
 use Rattle.sharc_live.specs.Uses.{AreWarnings}
+use Rattle.sharc_code.specs.declared.code.Code.{Code}
+use Rattle.sharc_code.specs.Ranges.{NumbersFit}
 use Rattle.sharc_cli.specs.Commands.{commands}
 use Rattle.sharc_cli.specs.declared.command.Command.{Command}
 use Rattle.sharc_cli.specs.declared.command.Command.TheVariants as command
 use Rattle.sharc_report.specs.Explanations.{explain_text}
 use Rattle.sharc_report.specs.Verdicts.{accepted_text}
 use Rattle.sharc_report.specs.declared.refusal.Stage.{Stage}
+use Rattle.sharc_run.specs.declared.run.Ran.{Ran}
+use Rattle.sharc_sound.specs.Compiled.{IsCompiled}
 use Rattle.sharc_sound.specs.Front.{IsFront, IsFaultAt}
+use Rattle.sharc_top.specs.declared.ran.RunNumbers.{RunNumbers}
 use Rattle.sharc_top.specs.declared.status.Status.{Status}
 use Rattle.sharc_top.specs.declared.status.Status.TheVariants as status
 use Rattle.sharc_top.specs.declared.task.Task.{Task}
@@ -22,6 +27,7 @@ use Rattle.sharc_top.specs.declared.task.Task.TheVariants as task
 use Rattle.sharc_top.specs.Limits.{source_limit}
 use Rattle.sharc_top.specs.Answers.{Answers}
 use Rattle.sharc_top.specs.Reply.{task_in, Replies, IsReply, Replied}
+use Rattle.sharc_top.specs.Running.{status_of, IsRun}
 
 abbrev pub WarningsAreOne : Type 0
 WarningsAreOne = (r : Resolution) (a b : List Warning) → AreWarnings r a → AreWarnings r b → a ≡ b
@@ -106,6 +112,20 @@ abbrev pub ExplainsAreOnly : Type 0
 ExplainsAreOnly =
     (words : List (List ℕ)) (input : List ℕ) (m : Assignment) → IsAsked words task.Explain input m → MeetsRules m → (s : Status) (text : List ℕ) → IsReply words (Some input) s text → (s ≡ status.Done) × IsExplanation m text
 
+-- what `run` writes where the modes are accepted: the text of a run of the program's code, with these numbers, with the status of that run
+pub record IsRunning (n : RunNumbers) (m : Assignment) (s : Status) (text : List ℕ) : Type 0 where
+  pub code : Code
+  pub compiled : IsCompiled m code
+  pub fits : NumbersFit code
+  pub ran : Ran
+  pub runs : IsRun n code ran
+  pub ends : s ≡ status_of ran.outcome
+  pub written : text ≡ ran.text.items
+
+abbrev pub RunsAreOnly : Type 0
+RunsAreOnly =
+    (words : List (List ℕ)) (n : RunNumbers) (input : List ℕ) (m : Assignment) → IsAsked words (task.Run n) input m → MeetsRules m → (s : Status) (text : List ℕ) → IsReply words (Some input) s text → IsRunning n m s text
+
 -- so where it is written whole the exit status is 0
 abbrev pub ChecksAreTold : Type 0
 ChecksAreTold =
@@ -125,6 +145,7 @@ OthersAreRefused =
 pub record VerdictLaws : Type 0 where
   pub check_only : ChecksAreOnly
   pub explain_only : ExplainsAreOnly
+  pub run_only : RunsAreOnly
   pub checks : ChecksAreTold
   pub explains : ExplainsAreTold
   pub refused : OthersAreRefused

@@ -8,6 +8,7 @@ use Rattle.sharc_cli.specs.Commands.{commands}
 use Rattle.sharc_cli.specs.declared.command.Command.TheVariants.{Record, Replay}
 use Rattle.sharc_recorded.specs.File.{FileView, IsFile, written}
 use Rattle.sharc_run.specs.declared.run.Ran.{Ran}
+use Rattle.sharc_code.specs.Ranges.{NumbersFit}
 use Rattle.sharc_sound.specs.Compiled.{IsCompiled}
 use Rattle.sharc_sound.specs.Front.{IsFront}
 use Rattle.sharc_top.specs.declared.status.Status.{Status}
@@ -45,6 +46,7 @@ pub record IsRecorded (words : List (List ℕ)) (heap limit : ℕ) (source : Lis
 pub record IsRecording (source : List ℕ) (heap limit : ℕ) (m : Assignment) (s : Status) (text : List ℕ) : Type 0 where
   pub code : Code
   pub compiled : IsCompiled m code
+  pub fits : NumbersFit code
   pub made : Ran
   pub records : Records source heap limit code made
   pub replayable : IsReplayable source heap limit code made
@@ -71,6 +73,7 @@ pub record IsReplayed (words : List (List ℕ)) (input : List ℕ) (file : FileV
 pub record IsReplaying (file : FileView) (m : Assignment) (s : Status) (text : List ℕ) : Type 0 where
   pub code : Code
   pub compiled : IsCompiled m code
+  pub fits : NumbersFit code
   pub ran : Ran
   pub replays : Replays file code ran
   pub ends : s ≡ status_of ran.outcome
@@ -80,6 +83,22 @@ abbrev pub ReplaysAreOnly : Type 0
 ReplaysAreOnly =
     (words : List (List ℕ)) (input : List ℕ) (file : FileView) (m : Assignment) → IsReplayed words input file m → (s : Status) (text : List ℕ) → IsReply words (Some input) s text → IsReplaying file m s text
 
+-- ---- `replay` of what `record` wrote
+
+-- the text is what follows in the file, and both end with one status
+pub record SaysTheSame (text : List ℕ) (s : Status) (again : List ℕ) (t : Status) : Type 0 where
+  pub file : FileView
+  pub is : IsFile text file
+  pub follows : text ≡ written file again
+  pub status : t ≡ s
+
+-- whichever code each of them made
+abbrev pub ReplaysSayAgain : Type 0
+ReplaysSayAgain =
+    (words : List (List ℕ)) (heap limit : ℕ) (source : List ℕ) (m : Assignment) → IsRecorded words heap limit source m → (s : Status) (text : List ℕ) → IsReply words (Some source) s text
+    → length text ≤ recording_limit → (other : List (List ℕ)) → commands other ≡ Some Replay → (t : Status) (again : List ℕ) → IsReply other (Some text) t again → SaysTheSame text s again t
+
 pub record RecordLaws : Type 0 where
   pub records : RecordsAreOnly
   pub replays : ReplaysAreOnly
+  pub again : ReplaysSayAgain

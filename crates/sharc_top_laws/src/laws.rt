@@ -4,6 +4,7 @@ ghost use Rattle.sharc_top_laws.specs.AuditLaws.{AuditLaws};
 ghost use Rattle.sharc_top_laws.specs.Laws.{WarningsAreOne, SourceLaws, ReplyLaws, VerdictLaws};
 ghost use Rattle.sharc_top_laws.specs.RecordLaws.{RecordLaws};
 
+use sharc_alike_laws::{compiled_are_alike, runs_are_alike};
 use sharc_audit::laws::{audit_laws, file_laws};
 use sharc_check::laws::check_laws;
 use sharc_cli::laws::numbers_are_within;
@@ -44,7 +45,8 @@ pub fn replies_are_one()
     audit_laws();
 }
 
-/// Of a source that is a program: where its modes are accepted, no reply to `check` and `explain` is another than their full text with status 0; where they are not, the status
+/// Of a source that is a program: where its modes are accepted, no reply to `check` and `explain` is another than their full text with status 0, and each reply to `run` is
+/// the text of a run of the program's code with the status of that run; where they are not, the status
 /// of `check`, `explain` and `run` is 1.
 pub fn verdicts_are_told()
     ensures { VerdictLaws }
@@ -66,10 +68,13 @@ pub fn audits_are_told()
 
 /// Of a source that is a program with accepted modes: the reply to `record` is one recorded file, with the status of a run of its code; it says the source, the heap, the limit
 /// and a schedule by which the same code has the text that follows in the file, and ends alike. And of such a file, the reply to `replay` is the text of the run of the code by
-/// the file's schedule, with the status of that run, whatever follows the schedule.
+/// the file's schedule, with the status of that run, whatever follows the schedule. So the reply to `replay` of what `record` wrote, if that is within the limit of a recorded
+/// file, is what follows the schedule in it, with the same status.
 pub fn records_are_told()
     ensures { RecordLaws }
 {
+    compiled_are_alike();
+    runs_are_alike();
     sources_are_one();
     replay_laws();
     recorded_laws();

@@ -1,21 +1,12 @@
-use Rattle.std.proofs.Common.{◌∙◌, ap, sym, subst, IsSome}
 use Rattle.std.proofs.lemmas.Result.{IfOk-weaker}
-use Rattle.sharc_report.specs.Refusals.{message_of, refusal_line}
-use Rattle.sharc_top.proofs.Recording.{gives_faulty, gives_program}
+use Rattle.sharc_top.proofs.Building.{gives_unbuilt}
+use Rattle.sharc_top.proofs.Recording.{gives_program}
 use Rattle.sharc_top.proofs.replayed.source_replayed.Goals as goal
 
 pub returns-in-Ok : goal.returns-in-Ok
 returns-in-Ok c =
-    let front = rw c.deref.ensures.value at c.in-Ok.ensures in
-    IfOk-weaker c.program_replayed.result _ _ (λ reply is. gives_program _ _ _ _ _ front.0 is) c.program_replayed.ensures
+    let is = rw c.in-Ok.is at rw c.deref.ensures.value at c.in_ok-built.ensures in
+    IfOk-weaker c.run_of_file.result _ _ (λ reply gives. gives_program _ _ _ _ _ is.front (gives _ is.accepted is.compiled is.numbers)) c.run_of_file.ensures
 
-pub refusal-requires : goal.refusal-requires
-refusal-requires c =
-    let told = rw c.in-Err-Source.field-0-is at c.in-Err-Source.ensures in
-    subst (λ fault. IsSome (message_of fault.stage fault.at)) (sym c.in-Err-Source.fault-is) told.told
-
-pub returns-in-Err-Source : goal.returns-in-Err-Source
-returns-in-Err-Source c =
-    let told = rw c.in-Err-Source.field-0-is at c.in-Err-Source.ensures in
-    let fault = rw c.deref.ensures.value at told.fault in
-    IfOk-weaker c.refusal.result _ _ (λ reply is. gives_faulty _ _ _ _ _ _ fault is.0 (is.1 ∙ ap (λ fault. refusal_line fault.stage fault.at) c.in-Err-Source.fault-is)) c.refusal.ensures
+pub returns-in-Err : goal.returns-in-Err
+returns-in-Err c = let is = rw c.in-Err.is at rw c.deref.ensures.value at c.in_ok-built.ensures in gives_unbuilt _ _ _ _ is

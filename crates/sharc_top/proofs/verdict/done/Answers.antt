@@ -1,10 +1,7 @@
 use Rattle.sharc_top.proofs.verdict.done.Goals as goal
 
 pub returns-in-Check : goal.returns-in-Check
-returns-in-Check g c = rw c.in-Check.is c.checked.ensures
+returns-in-Check c = rw c.in-Check.is c.checked.ensures
 
 pub returns-in-Explain : goal.returns-in-Explain
-returns-in-Explain g c = rw c.in-Explain.is c.explained.ensures
-
-pub returns-in-Run : goal.returns-in-Run
-returns-in-Run g c = rw c.in-Run.is c.run.ensures
+returns-in-Explain c = rw c.in-Explain.is c.explained.ensures

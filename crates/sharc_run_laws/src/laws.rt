@@ -1,0 +1,18 @@
+//! The laws, each the contract of a function that calls the laws that it joins.
+
+ghost use Rattle.sharc_run_laws.specs.Kept.{KeptLaws};
+
+use sharc_build::compiled_is_faithful;
+use sharc_sound_laws::built_is_sound;
+use sharc_top_laws::laws::{records_are_told, verdicts_are_told};
+
+/// Where the modes of a source are accepted, each reply to `run` and to `replay` is the text of an interleaving of its code that performs a run of the source without checks
+/// and keeps the rules of the modes, with the status of its outcome; and each reply to `record` is the file of one.
+pub fn kept_laws()
+    ensures { KeptLaws }
+{
+    built_is_sound();
+    compiled_is_faithful();
+    verdicts_are_told();
+    records_are_told();
+}

@@ -1,5 +1,0 @@
-use Rattle.sharc_top.proofs.Verdicts.{runs_refused}
-use Rattle.sharc_top.proofs.verdict.run.Goals as goal
-
-pub returns-in-Err : goal.returns-in-Err
-returns-in-Err g c = let told = rw c.in-Err.is at c.in_ok-checked.ensures in runs_refused _ _ _ _ told.0 told.1
