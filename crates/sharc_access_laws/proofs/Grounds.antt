@@ -1,5 +1,5 @@
 -- What lvalues name, as sharc_labels_laws reads it off them.
-use Rattle.std.proofs.Common.{◌≡◌, ℕ, Bool, true, false, cond, List, [], ◌∷◌, ◌++◌, refl, ap, sym, ◌∙◌, Option, Some, None}
+use Rattle.std.proofs.Common.{◌≡◌, ℕ, Bool, true, false, cond, List, refl, ap, sym, ◌∙◌, Option, Some, None}
 use Rattle.std.proofs.lemmas.Bool.{false≢true}
 use Rattle.std.specs.List.{AllByRecursion}
 use Rattle.sharc_tree.specs.declared.tree.expression.Access.TheVariants.{Dot, Arrow}
@@ -27,24 +27,7 @@ use Rattle.sharc_access_laws.specs.Accesses.{list_or, modes_of_pointer, kind_of_
 use Rattle.sharc_access_laws.specs.Joined.{GroundsFit}
 use Rattle.sharc_access_laws.proofs.Pointing.{has_pointer_modes}
 use Rattle.sharc_access_laws.proofs.Standing.{lvalue_cells}
-
-front : {A : Type 0} (P : A → Type 0) (a b : List A) → AllByRecursion P (a ++ b) → AllByRecursion P a
-front P [] b all = tt
-front P (x ∷ a) b all = (all.0, front P a b all.1)
-
-self : (P : Expression → Type 0) (e : Expression) → AllByRecursion P (expressions e) → P e
-self P (identifier s i) all = all.0
-self P (constant s v) all = all.0
-self P (parentheses s a) all = all.0
-self P (call s i rest) all = all.0
-self P (spawn s i a) all = all.0
-self P (on_value s w a) all = all.0
-self P (on_place s w a) all = all.0
-self P (cast s w a) all = all.0
-self P (index s a i) all = all.0
-self P (field s a w n) all = all.0
-self P (unary s o a) all = all.0
-self P (binary s o at a b) all = all.0
+use Rattle.sharc_access_laws.proofs.Lists.{front, self}
 
 name_base : (n : Named) (k : ℕ) → has_base (named_target n k) ≡ false
 name_base (named.Variable x) k = refl
@@ -110,6 +93,25 @@ module _ (z : Setting) (f : ℕ) (y : Typing) (c : Context) (entries : (p : Expr
   base_is own (unary s Dereference a) h has = pointed a (h a refl)
   base_is own (binary s o at a b) h has = absurd (false≢true has)
 
+  -- and the pointer that leads there
+  leads_is : (e : Expression) → (ground_of z f y c e).pointer ≡ pointer_of r e
+  leads_is (parentheses s a) = leads_is a
+  leads_is (field s a Dot n) = leads_is a
+  leads_is (identifier s i) = refl
+  leads_is (constant s v) = refl
+  leads_is (call s i rest) = refl
+  leads_is (spawn s i a) = refl
+  leads_is (on_value s w a) = refl
+  leads_is (on_place s w a) = refl
+  leads_is (cast s w a) = refl
+  leads_is (index s a i) = refl
+  leads_is (field s a Arrow n) = refl
+  leads_is (unary s Negate a) = refl
+  leads_is (unary s Not a) = refl
+  leads_is (unary s Complement a) = refl
+  leads_is (unary s Dereference a) = refl
+  leads_is (binary s o at a b) = refl
+
   -- the array of which it is an element
   record IsElementOf (ground : Ground) (g : ℕ) : Type 0 where
     count : ground.count ≡ cells_in_each r (global_at r g)
@@ -149,6 +151,7 @@ grounds_fit fit arrays c code is z f y entries e lvalue all =
     let known : (a : Expression) → is_array (kind_at c.program.typed a) ≡ true → IsExpression c.program a → IsArrayOf c.program a = λ a array at. arrays c.program is.accepted.resolved is.accepted.placed is.accepted.low is.accepted.least is.accepted.well a at array in
     record {
       base = λ has. base_is z f y c entries None e (λ p leads. has_pointer_modes c code e lvalue (lvalue_cells fit c code is e lvalue) p leads) has;
+      pointer = λ _. leads_is z f y c entries e;
       count = λ g n at. (element_of z f y c entries known None e all g n at).count;
       elements = λ g n at. (element_of z f y c entries known None e all g n at).elements;
     }

@@ -1,5 +1,5 @@
 -- The accesses of an accepted program, by the laws of lvalues' cells.
-use Rattle.std.proofs.Common.{◌≡◌, ◌⊎◌, inl, inr, ℕ, zero, suc, ◌+◌, ◌≤◌, ◌==◌, ◌&&◌, Bool, true, false, List, refl, ap, sym, ◌∙◌, subst, arith, eqb-true, Option, Some, None}
+use Rattle.std.proofs.Common.{◌≡◌, ◌⊎◌, inl, inr, ℕ, zero, suc, ◌+◌, ◌<◌, ◌≤◌, ◌==◌, ◌&&◌, Bool, true, false, List, refl, ap, sym, ◌∙◌, subst, arith, eqb-true, Option, Some, None}
 use Rattle.std.proofs.lemmas.Bool.{false≢true}
 use Rattle.sharc_tree.specs.declared.ctype.Base.{Base}
 use Rattle.sharc_tree.specs.declared.ctype.Base.TheVariants as base
@@ -31,7 +31,7 @@ use Rattle.sharc_static_laws.specs.Static.{register, variable_type}
 use Rattle.sharc_target_laws.specs.Lvalues.{ContentFits}
 use Rattle.sharc_target_laws.specs.Targets.{base_content}
 use Rattle.sharc_access_laws.specs.Accesses.{HasBaseIn, HasIndexOf, IsCellNumber, IsPlaceNumber, HaveTarget, modes_behind, base_type, cells_in_each, LockStands, of_global, of_variable, IsFairAccess, IsGated, IsCellLvalue, IsCodeOf, AccessFits, CellsStand, AccessesFit, GuardsFit}
-use Rattle.sharc_access_laws.specs.Joined.{LockLeads, to_global, to_variable, IsFairUse, setting, IsTypingOf, IsGroundOf, IsWellPlaced, IntegersFit, MutexesFit}
+use Rattle.sharc_access_laws.specs.Joined.{LockLeads, to_global, to_variable, IsFairUse, setting, IsTypingOf, IsGroundOf, IntegersFit, MutexesFit}
 
 -- ---- contents
 integer_by : (b : Base) → kinds.is_integral b ≡ true → base_content b ≡ Integer (width_of (object b 0))
@@ -85,12 +85,12 @@ module _ (c : Context) (code : Code) (y : Typing) (f : ℕ) (e : Expression) (gr
   base_in : IsRef code q r → ground.base ≡ base_type c e → (q.env r ≡ Refers ground.base) × (q.known r ≡ true) → HasBaseIn code q r (base_type c e)
   base_in is_ref same h = record { is_ref = is_ref; refers = h.0 ∙ ap Refers same; known = h.1 }
 
-  have : (t : Target) → target c.program.typed None e ≡ t → (beside : Option ℕ) → HasBaseAt t ground r q → HasIndex c.globals t beside ground element i r q → IsWellPlaced c code e r q → HaveTarget c code q t beside (base_type c e) element i r
-  have (variable x) is beside b index well = tt
-  have (in_global g n) is beside b index well = tt
-  have (in_global_at g n) is beside b index well = place_numbers g (suits.count g n is) (suits.elements g n is) beside n index
-  have (in_object n) is beside b index well = let there = ap has_base is in base_in (well.base there) (suits.base there) b
-  have (in_object_at n) is beside b index well = let there = ap has_base is in (base_in (well.base there) (suits.base there) b, cell_numbers beside n index)
+  have : (t : Target) → target c.program.typed None e ≡ t → (beside : Option ℕ) → HasBaseAt t ground r q → HasIndex c.globals t beside ground element i r q → (has_base t ≡ true → IsRef code q r) → HaveTarget c code q t beside (base_type c e) element i r
+  have (variable x) is beside b index in_it = tt
+  have (in_global g n) is beside b index in_it = tt
+  have (in_global_at g n) is beside b index in_it = place_numbers g (suits.count g n is) (suits.elements g n is) beside n index
+  have (in_object n) is beside b index in_it = let there = ap has_base is in base_in (in_it refl) (suits.base there) b
+  have (in_object_at n) is beside b index in_it = let there = ap has_base is in (base_in (in_it refl) (suits.base there) b, cell_numbers beside n index)
 
 -- they are the same where the pointer to the mutex was loaded
 regated : (c : Context) (code : Code) (q : Label) (g : Gate) (t : Target) (beside : Option ℕ) (s : StaticType) (element : Element) (i r : ℕ) → HaveTarget c code q t beside s element i r → HaveTarget c code (gated q g) t beside s element i r
@@ -111,7 +111,7 @@ module _ (scopes : ScopeLaws) (c : Context) (code : Code) (signature : ℕ → S
   stands l (to_variable x name names second there inside mutex_there) q holds low =
       let has = scopes.has c x there in
       let low_register = has.0 in
-      of_variable x name (variable_type c x) names second (omega (arith, low, low_register)) (holds.references (register c x) has.0 ∙ ap Refers (typing x there)) inside mutex_there
+      of_variable x name (variable_type c x) names second (omega (arith, low, low_register)) (holds.references (register c x) has.0 ∙ ap Refers (typing.pointers x there)) inside mutex_there
 
   own_cell : (ls : Labels) (q : Label) (i r : ℕ) (t : Target) → ((x : ℕ) → t ≡ variable x → ⊥) → ((g : ℕ) → IsInside t g → IsAlone ls q) → IsOwn ls q (cell_of c.globals i r t)
   own_cell ls q i r (variable x) none alone = absurd (none x refl)
@@ -134,22 +134,22 @@ module _ (cells_stand : CellsStand) (accesses_fit : AccessesFit) (guards_fit : G
   abbrev t : Target
   t = target c.program.typed None e
 
-  mutexes : kind_at c.program.typed e ≡ mutex → (element : Element) (i r : ℕ) (q : Label) → IsPlaced y c f (target c.program.typed None e) None ground element i r q → IsWellPlaced c code e r q
+  mutexes : kind_at c.program.typed e ≡ mutex → (element : Element) (i r : ℕ) (q : Label) → IsPlaced (setting c code signature starts lines) y c f (target c.program.typed None e) None ground element i r q
       → HasMutex (setting c code signature starts lines) q (cell_of c.globals i r (target c.program.typed None e))
-  mutexes kind element i r q placed well =
-      let w = cells_stand c code is q e lvalue element i r None (have c code y f e ground suits element i r q (target c.program.typed None e) refl None placed.base placed.index well) in
+  mutexes kind element i r q placed =
+      let w = cells_stand c code is q e lvalue element i r None (have c code y f e ground suits element i r q (target c.program.typed None e) refl None placed.base placed.index (λ there. subst (λ o. r < refs_in code o) (sym placed.owned) (placed.frame there))) in
       record { field = w.field; has = w.there; mutex = subst (λ k. ContentFits c.program e (field_of t) (modes_behind c.program e) k w.field.holds) kind w.fits.content }
 
   module _ (typing : IsTypingOf y c) (plain : is_mutex_kind (kind_at c.program.typed e) ≡ false) (write : Bool) (use_fair : IsFairUse c (signature f).alone write e) (site : Site) (words : Lvalue) (use_made : Use) (element : Element) (i r : ℕ) (q : Label)
-      (placed : IsPlaced y c f (target c.program.typed None e) (beside_field c.program.typed (cell_at c.program e)) ground element i r q) (well : IsWellPlaced c code e r q) where
+      (placed : IsPlaced (setting c code signature starts lines) y c f (target c.program.typed None e) (beside_field c.program.typed (cell_at c.program e)) ground element i r q) where
     abbrev Fits : Label → Type 0
     Fits k = AccessFits c code (labels_by (setting c code signature starts lines) (λ n. mark k 0 0)) k write e (cell_of c.globals i r t) (spot_of c i r site words use_made (cell_at c.program e) t)
 
     registers : HaveTarget c code q t (beside_field c.program.typed (cell_at c.program e)) (base_type c e) element i r
-    registers = have c code y f e ground suits element i r q t refl (beside_field c.program.typed (cell_at c.program e)) placed.base placed.index well
+    registers = have c code y f e ground suits element i r q t refl (beside_field c.program.typed (cell_at c.program e)) placed.base placed.index (λ there. subst (λ o. r < refs_in code o) (sym placed.owned) (placed.frame there))
 
     leads : (l : Lock) → LockLeads c l → LockStands c code q l
-    leads l k = stands scopes c code signature starts lines y typing f e l k q placed.variables well.variables
+    leads l k = stands scopes c code signature starts lines y typing f e l k q placed.variables (subst (λ o. ref_count c.scope ≤ refs_in code o) (sym placed.owned) placed.variables_in)
 
     leads_on : (g : Gate) (l : Lock) → LockStands c code q l → LockStands c code (gated q g) l
     leads_on g l (of_global k names kind) = of_global k names kind
@@ -173,8 +173,8 @@ module _ (cells_stand : CellsStand) (accesses_fit : AccessesFit) (guards_fit : G
         )
 
 pub integers_fit : CellsStand → AccessesFit → GuardsFit → ScopeLaws → IntegersFit
-integers_fit cells_stand accesses_fit guards_fit scopes c code is signature starts lines y typing f e lvalue ground suits integer write use_fair site words use_made element i r q placed well =
-    through cells_stand accesses_fit guards_fit scopes c code is signature starts lines y f e lvalue ground suits typing (integer_plain (kind_at c.program.typed e) integer) write use_fair site words use_made element i r q placed well
+integers_fit cells_stand accesses_fit guards_fit scopes c code is signature starts lines y typing f e lvalue ground suits integer write use_fair site words use_made element i r q placed =
+    through cells_stand accesses_fit guards_fit scopes c code is signature starts lines y f e lvalue ground suits typing (integer_plain (kind_at c.program.typed e) integer) write use_fair site words use_made element i r q placed
     (λ k. ReachesInteger (setting c code signature starts lines) k write (cell_of c.globals i r (target c.program.typed None e)) (spot_of c i r site words use_made (cell_at c.program e) (target c.program.typed None e)) (width_of (kind_at c.program.typed e)))
     (λ k like w. let way = w.reaches in record {
       field = w.field;
@@ -184,5 +184,5 @@ integers_fit cells_stand accesses_fit guards_fit scopes c code is signature star
     (guard_field c.program.typed (cell_at c.program e)) refl
 
 pub mutexes_fit : CellsStand → AccessesFit → GuardsFit → ScopeLaws → MutexesFit
-mutexes_fit cells_stand accesses_fit guards_fit scopes c code is signature starts lines y f e lvalue ground suits kind element i r q placed well =
-    mutexes cells_stand accesses_fit guards_fit scopes c code is signature starts lines y f e lvalue ground suits kind element i r q placed well
+mutexes_fit cells_stand accesses_fit guards_fit scopes c code is signature starts lines y f e lvalue ground suits kind element i r q placed =
+    mutexes cells_stand accesses_fit guards_fit scopes c code is signature starts lines y f e lvalue ground suits kind element i r q placed

@@ -1,8 +1,12 @@
 pub mod Cells
+pub mod Firsts
 pub mod Grounds
 pub mod Joining
+pub mod Leading
+pub mod Lists
 pub mod Modes
 pub mod Paths
 pub mod Pointing
 pub mod Standing
+pub mod Typed
 pub mod Uses

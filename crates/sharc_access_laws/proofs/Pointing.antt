@@ -6,14 +6,15 @@ use Rattle.sharc_tree.specs.declared.ctype.Base.TheVariants as base
 use Rattle.sharc_tree.specs.declared.tree.expression.Access.TheVariants.{Dot, Arrow}
 use Rattle.sharc_tree.specs.declared.tree.expression.UnaryOperator.TheVariants.{Negate, Not, Complement, Dereference}
 use Rattle.sharc_tree.specs.Tree.{Expression, identifier, constant, parentheses, call, spawn, on_value, on_place, cast, index, field, unary, binary}
+use Rattle.sharc_names.specs.declared.fault.Named.TheVariants as named
 use Rattle.sharc_names.specs.Kinds.{Kind, object, array, is_array, is_pointer}
 use Rattle.sharc_names.specs.Kinds as kinds
 use Rattle.sharc_code.specs.declared.code.Code.{Code}
-use Rattle.sharc_ctype.specs.Resolved.{kind_at}
+use Rattle.sharc_ctype.specs.Resolved.{named_at, kind_at}
 use Rattle.sharc_mode.specs.Cells.{is_mutex_kind, cell_at}
 use Rattle.sharc_mode.specs.Moded.{Assignment}
 use Rattle.sharc_mode.specs.Notes.{base_of}
-use Rattle.sharc_mode.specs.Rows.{Row, row_at, modes_of, modes_at}
+use Rattle.sharc_mode.specs.Rows.{Row, row_at, modes_of, modes_at, constant_use, is_constant_named}
 use Rattle.sharc_mode.specs.Sharings.{Sharing}
 use Rattle.sharc_flat.specs.Scope.{Context}
 use Rattle.sharc_flat.specs.Suits.{Either, is_cell}
@@ -21,22 +22,18 @@ use Rattle.sharc_flat.specs.Places.{Target, variable, in_global, in_global_at, i
 use Rattle.sharc_invariant.specs.Types.{Content, Field}
 use Rattle.sharc_invariant.specs.Labels.{Refers, Gate, Label, SameReference, Itself, IsCopy, HasCopy, Copies, Chained, gated}
 use Rattle.sharc_invariant.specs.Typed.{AreFieldLocks, PointsTo}
-use Rattle.sharc_labels_laws.specs.Premises.{Typing, Ground, HasBaseAt, ReachesReference}
+use Rattle.sharc_labels_laws.specs.Premises.{Typing, IsCopyNamed, IsCopyOf, IsPointerCopy, Ground, HasBaseAt, ReachesReference}
 use Rattle.sharc_static_laws.specs.Pointing.{element_locks, pointee_locks, content_locks, BaseIs, IsBased, PlacesPoint}
+use Rattle.sharc_static_laws.specs.Held.{held_named}
 use Rattle.sharc_static_laws.specs.Scopes.{ScopeLaws}
 use Rattle.sharc_static_laws.specs.Static.{register, locks_at, static_of}
 use Rattle.sharc_target_laws.specs.Lvalues.{IsOfObject, IsOfGlobal, NamesCell, no_cell, of_object, of_global, LvaluesFit, pointer_of, below_locks, locks_below, cell_locks, PointerFits, ContentFits}
 use Rattle.sharc_target_laws.specs.Shapes.{Form, form_of, shape_of, expression_shape, number}
 use Rattle.sharc_access_laws.specs.Accesses.{modes_of_pointer, kind_of_pointer, list_or, modes_behind, base_type, IsCellLvalue, CellsStand, AccessesFit, GuardsFit}
-use Rattle.sharc_access_laws.specs.Joined.{setting, IsGroundOf, IsWellPlaced, ReferencesFit}
+use Rattle.sharc_access_laws.specs.Joined.{BaseStands, setting, IsTypingOf, IsGroundOf, ReferencesFit}
 use Rattle.sharc_access_laws.proofs.Joining.{IsLike, through}
 use Rattle.sharc_access_laws.proofs.Standing.{no_pointer, lvalue_cells}
-
-none_some : {A : Type 0} (x : A) → None ≡ Some x → ⊥
-none_some x h = cc
-
-same_some : {A : Type 0} (x y : A) → Some x ≡ Some y → x ≡ y
-same_some x y h = cc
+use Rattle.sharc_access_laws.proofs.Lists.{none_some, same_some}
 
 -- ---- locks in the table
 below_same : (fs : List Form) → below_locks fs ≡ element_locks fs
@@ -119,8 +116,20 @@ base_entry t ground r q n at h = ⊎_elim (λ is. first (subst (λ z. HasBaseAt 
     other : HasBaseAt (in_object_at n) ground r q → q.env r ≡ Refers ground.base
     other k = k.0
 
-module _ (c : Context) (code : Code) (y : Typing) (f : ℕ) (e : Expression) (lvalue : IsCellLvalue c.program e) (ground : Ground) (suits : IsGroundOf c e ground) (r : ℕ) (q : Label)
-    (entry : HasBaseAt (target c.program.typed None e) ground r q) (well : IsWellPlaced c code e r q) where
+-- what is said of copies, of a constant that types may name
+copied : (y : Typing) (c : Context) (p : Expression) (copy : ℕ) → IsCopyOf y c p copy → (token x : ℕ) → constant_use c.program.typed p ≡ Some token → named_at c.program.typed token ≡ named.Variable x → y.named c (register c x) ≡ true → copy ≡ register c x
+copied y c (identifier s i) copy h token x of names is = by (is_constant_named c.program.typed (named_at c.program.typed i.site.token)) of
+  where
+    by : (b : Bool) → cond b (Some i.site.token) None ≡ Some token → copy ≡ register c x
+    by true same =
+        let there : named_at c.program.typed i.site.token ≡ named.Variable x = ap (named_at c.program.typed) (same_some i.site.token token same) ∙ names in
+        let k : IsCopyNamed y c (named.Variable x) copy = subst (λ n. IsCopyNamed y c n copy) there h in
+        k is
+    by false same = absurd (none_some token same)
+copied y c _ copy h token x of names is = absurd (none_some token of)
+
+module _ (scopes : ScopeLaws) (c : Context) (code : Code) (y : Typing) (typing : IsTypingOf y c) (f : ℕ) (e : Expression) (lvalue : IsCellLvalue c.program e) (ground : Ground) (suits : IsGroundOf c e ground) (r : ℕ) (q : Label)
+    (entry : HasBaseAt (target c.program.typed None e) ground r q) (copies : has_base (target c.program.typed None e) ≡ true → IsPointerCopy y c ground.pointer (q.same r)) (stand : BaseStands c e) where
   base_is : (p : Expression) (row : Row) → pointer_of c.program.typed e ≡ Some p → row_at c.program.typed p ≡ Some row → base_type c e ≡ static_of c (kind_at c.program.typed p) (modes_of c.program row)
   base_is p row leads at =
       ap (λ o. static_of c (kind_of_pointer c.program.typed o) (modes_of_pointer c.program o)) leads ∙ ap (λ o. static_of c (kind_at c.program.typed p) (list_or (option_map (modes_of c.program) o))) at
@@ -134,7 +143,11 @@ module _ (c : Context) (code : Code) (y : Typing) (f : ℕ) (e : Expression) (lv
         modes = modes_of c.program w.row;
         is = ap (option_map (modes_of c.program)) w.row_is;
         entry = base_entry (target c.program.typed None e) ground r q n own entry ∙ ap Refers (suits.base (object_base (target c.program.typed None e) n own)) ∙ ap Refers (base_is w.pointer w.row w.leads w.row_is);
-        copy = λ token x of names. well.copy w.pointer token x w.leads of names;
+        copy = λ token x of names held.
+            let there = object_base (target c.program.typed None e) n own in
+            let k : IsPointerCopy y c (Some w.pointer) (q.same r) = subst (λ o. IsPointerCopy y c o (q.same r)) (suits.pointer there ∙ w.leads) (copies there) in
+            let in_scope = scopes.has c x (stand w.pointer token x w.leads of names) in
+            IsCopy (copied y c w.pointer (q.same r) k token x of names (typing.names (register c x) (ap (held_named c.program.typed) in_scope.1 ∙ held)));
       })
   known_base t here (of_global _ g n at w) p leads = absurd (none_some p (sym (no_pointer c.program.typed None e g n (subst (λ z. IsOfGlobal z g n) (sym here) at)) ∙ leads))
 
@@ -157,7 +170,7 @@ reference_gated q g a b (Copies h) = Copies h
 reference_gated q g a b (Chained k h l) = Chained k (reference_gated q g a k h) (reference_gated q g k b l)
 
 base_gated : (c : Context) (q : Label) (g : Gate) (r : ℕ) (p : Expression) → BaseIs c q r p → BaseIs c (gated q g) r p
-base_gated c q g r p h = record { modes = h.modes; is = h.is; entry = h.entry; copy = λ token x of names. reference_gated q g r (register c x) (h.copy token x of names) }
+base_gated c q g r p h = record { modes = h.modes; is = h.is; entry = h.entry; copy = λ token x of names held. reference_gated q g r (register c x) (h.copy token x of names held) }
 
 -- ---- contents
 no_pointer_base : (b : Base) → is_pointer (object b zero) ≡ true → ⊥
@@ -188,14 +201,14 @@ pointer_plain kinds.function is = refl
 
 -- ---- the law
 pub references_fit : CellsStand → AccessesFit → GuardsFit → ScopeLaws → LvaluesFit → PlacesPoint → ReferencesFit
-references_fit cells_stand accesses_fit guards_fit scopes fit points c code is signature starts lines y typing f e lvalue ground suits pointer modes modes_is write use_fair all site words use_made element i r q placed well =
-    through cells_stand accesses_fit guards_fit scopes c code is signature starts lines y f e lvalue ground suits typing (pointer_plain (kind_at c.program.typed e) pointer) write use_fair site words use_made element i r q placed well
+references_fit cells_stand accesses_fit guards_fit scopes fit points c code is signature starts lines y typing f e lvalue ground suits pointer modes modes_is write use_fair all stand site words use_made element i r q placed =
+    through cells_stand accesses_fit guards_fit scopes c code is signature starts lines y f e lvalue ground suits typing (pointer_plain (kind_at c.program.typed e) pointer) write use_fair site words use_made element i r q placed
     (λ k. ReachesReference (setting c code signature starts lines) k write (cell_of c.globals i r (target c.program.typed None e)) (spot_of c i r site words use_made (cell_at c.program e) (target c.program.typed None e)) (static_of c (kind_at c.program.typed e) modes))
     (λ k like w. let way = w.reaches in record { field = w.field; may = record { cell = way.cell_there; mode = way.mode; may = way.may }; points = pointed k like w.field w.fits.content })
     (guard_field c.program.typed (cell_at c.program e)) refl
   where
     bases : (p : Expression) → pointer_of c.program.typed e ≡ Some p → BaseIs c q r p
-    bases = known_base c code y f e lvalue ground suits r q placed.base well (target c.program.typed None e) refl (lvalue_cells fit c code is e lvalue)
+    bases = known_base scopes c code y typing f e lvalue ground suits r q placed.base placed.copy stand (target c.program.typed None e) refl (lvalue_cells fit c code is e lvalue)
 
     locks_are : (l : Label) → ((p : Expression) → pointer_of c.program.typed e ≡ Some p → BaseIs c l r p) → AreFieldLocks l (cell_of c.globals i r (target c.program.typed None e)) (locks_at c modes) (content_locks c.program e)
     locks_are l h = points c is.accepted is.globals l i r e modes all modes_is (no_variable_cell (target c.program.typed None e) lvalue.no_variable) (based c l r e h)

@@ -1,5 +1,5 @@
 -- The accesses of an accepted program, in the form in which sharc_labels_laws asks for them of each expression.
-use Rattle.std.specs.Prelude.{◌≡◌, ℕ, ◌<◌, ◌≤◌, Bool, true, false, List, ◌∷◌, Some, None}
+use Rattle.std.specs.Prelude.{◌≡◌, ℕ, ◌<◌, Bool, true, false, List, ◌∷◌, Some, None}
 use Rattle.std.specs.List.{AllByRecursion}
 use Rattle.sharc_tree.specs.declared.token.Site.{Site}
 use Rattle.sharc_tree.specs.Measures.{expressions}
@@ -15,15 +15,15 @@ use Rattle.sharc_mode.specs.Rows.{constant_use, modes_at}
 use Rattle.sharc_mode.specs.Sharings.{Lock, Sharing, private, readonly, locked}
 use Rattle.sharc_mode_laws.specs.Constructs.{IsExpression}
 use Rattle.sharc_flat.specs.declared.slot.Lvalue.{Lvalue}
-use Rattle.sharc_flat.specs.Scope.{Context, slot_kind, ref_count}
-use Rattle.sharc_flat.specs.Places.{in_global_at, has_base, target, cell_of, beside_field, guard_field, spot_of, width_of}
+use Rattle.sharc_flat.specs.Scope.{Context, slot_kind}
+use Rattle.sharc_flat.specs.Places.{in_global_at, has_base, target, beside_field, width_of}
 use Rattle.sharc_invariant.specs.Types.{MutexWord, cells_of, field_at}
-use Rattle.sharc_invariant.specs.Labels.{Element, Label, Signature, SameReference}
-use Rattle.sharc_invariant.specs.Typed.{IsRef, refs_in}
+use Rattle.sharc_invariant.specs.Labels.{Signature}
 use Rattle.sharc_labels_laws.specs.Stretches.{Setting}
-use Rattle.sharc_labels_laws.specs.Premises.{Typing, Ground, IsPlaced, ThroughGuard, ReachesInteger, ReachesReference, HasMutex}
+use Rattle.sharc_labels_laws.specs.Premises.{Typing, Ground, IntegerTyped, ReferenceTyped, MutexTyped}
 use Rattle.sharc_labels_laws.specs.Typable.{ground_of}
 use Rattle.sharc_static_laws.specs.Alone.{IsInside}
+use Rattle.sharc_static_laws.specs.Held.{held_at}
 use Rattle.sharc_static_laws.specs.Static.{register, variable_type, static_of, entry_of}
 use Rattle.sharc_target_laws.specs.Lvalues.{pointer_of}
 use Rattle.sharc_target_laws.specs.Targets.{targets_of}
@@ -40,6 +40,10 @@ pub data LockLeads (c : Context) (l : Lock) : Type 0 where
 abbrev pub PathLeads : Context → Expression → Type 0
 PathLeads c e = (l : Lock) (below : List Sharing) → modes_behind c.program e ≡ locked l ∷ below → cell_at c.program e ≡ locked l → LockLeads c l
 
+-- A constant variable through which an lvalue leads is in scope.
+abbrev pub BaseStands : Context → Expression → Type 0
+BaseStands c e = (p : Expression) (token x : ℕ) → pointer_of c.program.typed e ≡ Some p → constant_use c.program.typed p ≡ Some token → named_at c.program.typed token ≡ named.Variable x → slot_kind c.scope x ≡ Some true
+
 -- What the mode of an lvalue asks for of the function that accesses it: that thread 0 alone runs it, if it is a private cell of a global; that it writes nothing readonly; and a
 -- mutex.
 pub record IsFairUse (c : Context) (is_alone : Bool) (write : Bool) (e : Expression) : Type 0 where
@@ -52,50 +56,38 @@ pub record IsFairUse (c : Context) (is_alone : Bool) (write : Bool) (e : Express
 abbrev pub setting : Context → Code → (ℕ → Signature) → (ℕ → Bool) → ℕ → Setting
 setting c code signature starts lines = record { targets = targets_of c.program; code = code; signature = signature; starts = starts; lines = lines }
 
--- the registers of variables have the types of the source
-abbrev pub IsTypingOf : Typing → Context → Type 0
-IsTypingOf y c = (x : ℕ) → slot_kind c.scope x ≡ Some true → y.pointer c (register c x) ≡ variable_type c x
+-- the registers of variables have the types of the source, and the constants that it may name are named
+pub record IsTypingOf (y : Typing) (c : Context) : Type 0 where
+  pub pointers : (x : ℕ) → slot_kind c.scope x ≡ Some true → y.pointer c (register c x) ≡ variable_type c x
+  pub names : (q : ℕ) → held_at c q ≡ true → y.named c q ≡ true
 
--- the type of the base, and the cells of an element and the elements of an array
+-- the type of the base, with the pointer that leads there, and the cells of an element and the elements of an array
 pub record IsGroundOf (c : Context) (e : Expression) (ground : Ground) : Type 0 where
   pub base : has_base (target c.program.typed None e) ≡ true → ground.base ≡ base_type c e
+  pub pointer : has_base (target c.program.typed None e) ≡ true → ground.pointer ≡ pointer_of c.program.typed e
   pub count : (g n : ℕ) → target c.program.typed None e ≡ in_global_at g n → ground.count ≡ cells_in_each c.program.typed (global_at c.program.typed g)
   pub elements : (g n : ℕ) → target c.program.typed None e ≡ in_global_at g n → ground.elements ≡ global_elements (global_at c.program.typed g)
-
--- What IsPlaced of sharc_labels_laws does not say: the base is a register of the frame, as those of variables are, and of a constant variable through which the lvalue leads it
--- has a copy.
-pub record IsWellPlaced (c : Context) (code : Code) (e : Expression) (r : ℕ) (q : Label) : Type 0 where
-  pub variables : ref_count c.scope ≤ refs_in code q.function
-  pub base : has_base (target c.program.typed None e) ≡ true → IsRef code q r
-  pub copy : (p : Expression) (token x : ℕ) → pointer_of c.program.typed e ≡ Some p → constant_use c.program.typed p ≡ Some token → named_at c.program.typed token ≡ named.Variable x → SameReference q r (register c x)
 
 -- ---- the laws
 -- an integer may be read or written in the mode of the source, once the pointer to its mutex is loaded, if there is one
 abbrev pub IntegersFit : Type 0
 IntegersFit = (c : Context) (code : Code) → IsCodeOf c code → (signature : ℕ → Signature) (starts : ℕ → Bool) (lines : ℕ) (y : Typing) → IsTypingOf y c → (f : ℕ) (e : Expression) → IsCellLvalue c.program e
-    → (ground : Ground) → IsGroundOf c e ground → is_integer (kind_at c.program.typed e) ≡ true → (write : Bool) → IsFairUse c (signature f).alone write e
-    → (site : Site) (lvalue : Lvalue) (use_made : Use) (element : Element) (i r : ℕ) (q : Label)
-    → IsPlaced y c f (target c.program.typed None e) (beside_field c.program.typed (cell_at c.program e)) ground element i r q → IsWellPlaced c code e r q
-    → ThroughGuard (setting c code signature starts lines) c (target c.program.typed None e) i r (guard_field c.program.typed (cell_at c.program e))
-    (λ k. ReachesInteger (setting c code signature starts lines) k write (cell_of c.globals i r (target c.program.typed None e))
-    (spot_of c i r site lvalue use_made (cell_at c.program e) (target c.program.typed None e)) (width_of (kind_at c.program.typed e))) q
+    → (ground : Ground) → IsGroundOf c e ground → is_integer (kind_at c.program.typed e) ≡ true → (write : Bool) → IsFairUse c (signature f).alone write e → (site : Site) (lvalue : Lvalue) (use_made : Use)
+    → IntegerTyped (setting c code signature starts lines) y c f (target c.program.typed None e) (beside_field c.program.typed (cell_at c.program e)) ground site lvalue (cell_at c.program e) write use_made
+    (width_of (kind_at c.program.typed e))
 
 -- and a reference, of the type that the source gives it
 abbrev pub ReferencesFit : Type 0
 ReferencesFit = (c : Context) (code : Code) → IsCodeOf c code → (signature : ℕ → Signature) (starts : ℕ → Bool) (lines : ℕ) (y : Typing) → IsTypingOf y c → (f : ℕ) (e : Expression) → IsCellLvalue c.program e
     → (ground : Ground) → IsGroundOf c e ground → is_pointer (kind_at c.program.typed e) ≡ true → (modes : List Sharing) → modes_at c.program e ≡ Some modes → (write : Bool) → IsFairUse c (signature f).alone write e
-    → AllByRecursion (IsExpression c.program) (expressions e) → (site : Site) (lvalue : Lvalue) (use_made : Use) (element : Element) (i r : ℕ) (q : Label)
-    → IsPlaced y c f (target c.program.typed None e) (beside_field c.program.typed (cell_at c.program e)) ground element i r q → IsWellPlaced c code e r q
-    → ThroughGuard (setting c code signature starts lines) c (target c.program.typed None e) i r (guard_field c.program.typed (cell_at c.program e))
-    (λ k. ReachesReference (setting c code signature starts lines) k write (cell_of c.globals i r (target c.program.typed None e))
-    (spot_of c i r site lvalue use_made (cell_at c.program e) (target c.program.typed None e)) (static_of c (kind_at c.program.typed e) modes)) q
+    → AllByRecursion (IsExpression c.program) (expressions e) → BaseStands c e → (site : Site) (lvalue : Lvalue) (use_made : Use)
+    → ReferenceTyped (setting c code signature starts lines) y c f (target c.program.typed None e) (beside_field c.program.typed (cell_at c.program e)) ground site lvalue (cell_at c.program e) write use_made
+    (static_of c (kind_at c.program.typed e) modes)
 
 -- a mutex exists in its cell
 abbrev pub MutexesFit : Type 0
 MutexesFit = (c : Context) (code : Code) → IsCodeOf c code → (signature : ℕ → Signature) (starts : ℕ → Bool) (lines : ℕ) (y : Typing) → (f : ℕ) (e : Expression) → IsCellLvalue c.program e
-    → (ground : Ground) → IsGroundOf c e ground → kind_at c.program.typed e ≡ mutex → (element : Element) (i r : ℕ) (q : Label)
-    → IsPlaced y c f (target c.program.typed None e) None ground element i r q → IsWellPlaced c code e r q
-    → HasMutex (setting c code signature starts lines) q (cell_of c.globals i r (target c.program.typed None e))
+    → (ground : Ground) → IsGroundOf c e ground → kind_at c.program.typed e ≡ mutex → MutexTyped (setting c code signature starts lines) y c f (target c.program.typed None e) None ground
 
 -- What sharc_labels_laws reads off an lvalue is so, where the entries are those of the source.
 abbrev pub GroundsFit : Type 0

@@ -1,16 +1,18 @@
 // The laws, each the contract of a function that does nothing.
 
 ghost use Rattle.sharc_access_laws.specs.Accesses.{CellsStand, AccessesFit, GuardsFit};
+ghost use Rattle.sharc_access_laws.specs.Firsts.{FirstsFit};
 ghost use Rattle.sharc_access_laws.specs.Joined.{IntegersFit, ReferencesFit, MutexesFit, GroundsFit};
-ghost use Rattle.sharc_access_laws.specs.Paths.{MutexesBehind};
+ghost use Rattle.sharc_access_laws.specs.Paths.{MutexesBehind, PathsLead};
+ghost use Rattle.sharc_access_laws.specs.Typed.{BasesStand, LvaluesAreTyped};
 ghost use Rattle.sharc_access_laws.specs.Uses.{UsesAreFair};
 
 use sharc_ctype_laws::laws::meets_globals;
 use sharc_mode_laws::laws::rules_are_met;
-use sharc_static_laws::laws::{places_point, scope_laws};
+use sharc_static_laws::laws::{expressions_lead, places_point, scope_laws};
 use sharc_target_laws::laws::{
-    arrays_fit, expressions_found, fields_placed, globals_are, locks_stand_beside, lvalues_fit,
-    members_are, pointees_fit, variables_found,
+    arrays_fit, expressions_found, fields_placed, first_laws, globals_are, locks_stand_beside,
+    lvalues_fit, members_are, pointees_fit, variables_found,
 };
 
 /// Where the registers have what an lvalue names, its cell is there, with what the lvalue's type says in it, under its mode.
@@ -96,9 +98,42 @@ pub fn mutexes_behind()
     fields_placed();
 }
 
+/// The lock path of the type of an element leads to a mutex, by a global or by a variable that stands.
+pub fn paths_lead()
+    ensures { PathsLead }
+{
+    expressions_lead();
+    mutexes_behind();
+}
+
 /// What a function reads, assigns and takes, it may by the rules of the modes.
 pub fn uses_are_fair()
     ensures { UsesAreFair }
 {
     rules_are_met();
+}
+
+/// Where what an lvalue's parts name stands, so does a constant variable through which it leads.
+pub fn bases_stand()
+    ensures { BasesStand }
+{}
+
+/// The cells of lvalues are typed, as they are read, assigned and taken from.
+pub fn lvalues_are_typed()
+    ensures { LvaluesAreTyped }
+{
+    integers_fit();
+    references_fit();
+    mutexes_fit();
+    grounds_fit();
+    uses_are_fair();
+    paths_lead();
+}
+
+/// What `wait`, `signal` and `broadcast` are handed begins with a condition variable, or is a mutex.
+pub fn firsts_fit()
+    ensures { FirstsFit }
+{
+    expressions_found();
+    first_laws();
 }

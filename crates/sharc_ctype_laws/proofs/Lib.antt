@@ -18,6 +18,7 @@ pub mod OwnVariables
 pub mod Reached
 pub mod Ruled
 pub mod Scenes
+pub mod Sized
 pub mod Standings
 pub mod Themselves
 pub mod ToldOnce

@@ -8,4 +8,5 @@ pub mod Limits
 pub mod Paths
 pub mod Places
 pub mod Rules
+pub mod Sizes
 pub mod WrittenTypes

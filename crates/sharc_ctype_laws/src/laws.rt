@@ -1,6 +1,7 @@
 // The laws of typed programs: each is the contract of a function that does nothing.
 
 ghost use Rattle.sharc_ctype_laws.specs.Found.{EachTypeFound};
+ghost use Rattle.sharc_ctype_laws.specs.Sizes.{CellsAreFew};
 ghost use Rattle.sharc_ctype_laws.specs.Laws.{EachNameOnce, OnlyNames, EachNamesItself, EachNamesOwn, EachNamesFound, EachPathFound, ArePlain, NamesInTypes, SameKinds, MeetsConstraints, OneType, MeetsStatements, AllFair, MeetsGlobals, WithinLimits, HasMain, OneFunctionOfName, SpawnsNameFunctions, SpawnsThreads, ReachesFunctions, SomeTyped};
 
 /// In a typed program at its tokens each name is referred to once.
@@ -81,6 +82,11 @@ pub fn meets_globals()
 /// A typed program is within the limits.
 pub fn within_limits()
     ensures { WithinLimits }
+{}
+
+/// So its globals have few cells, counted by the structs that it defines.
+pub fn cells_are_few()
+    ensures { CellsAreFew }
 {}
 
 /// A typed program has its `main`.

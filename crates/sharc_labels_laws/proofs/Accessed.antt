@@ -1,6 +1,6 @@
 -- What an lvalue names is read, written and taken: after its base and its index are at hand.
-use Rattle.std.proofs.Common.{◌≡◌, ℕ, ◌+◌, ◌<◌, ◌≤◌, Bool, true, false, cond, List, [], ◌∷◌, ◌++◌, Option, Some, None, refl, sym, ◌∙◌, subst, arith}
-use Rattle.std.proofs.lemmas.Bool.{false≢true}
+use Rattle.std.proofs.Common.{◌≡◌, ℕ, ◌+◌, ◌<◌, ◌≤◌, Bool, true, false, cond, List, [], ◌∷◌, ◌++◌, Option, Some, None, refl, sym, ◌∙◌, subst, ⊎_elim, arith}
+use Rattle.std.proofs.lemmas.Bool.{false≢true, cases_lt}
 use Rattle.sharc_tree.specs.declared.token.Site.{Site}
 use Rattle.sharc_code.specs.declared.code.Use.{Use}
 use Rattle.sharc_code.specs.declared.code.Use.TheVariants as uses
@@ -18,12 +18,13 @@ use Rattle.sharc_flat.specs.Scope.{Context, int_count, ref_count}
 use Rattle.sharc_flat.specs.Places.{Target, variable, in_global, in_global_at, in_object, in_object_at, has_base, base_width, guard_width, index_width, cell_of, guard_cell, guard_field, guard_code, cell_value_code, cell_store_code, cell_take_code}
 use Rattle.sharc_flat.specs.Suits.{is_cell}
 use Rattle.sharc_invariant.specs.Types.{StaticType}
-use Rattle.sharc_invariant.specs.Labels.{Refers, Element, Number, Within, OfElement, Gate, Closed, Loaded, Label, LessNumber, set_number, fill}
+use Rattle.sharc_invariant.specs.Labels.{Entry, Empty, Refers, Element, Number, Within, OfElement, Gate, Closed, Loaded, Label, LessNumber, HasBase, IsScoped, set_number, fill}
+use Rattle.sharc_invariant.specs.Typed.{ints_in, refs_in}
 use Rattle.sharc_invariant.proofs.Scoped.{less_refl, less_number_refl}
 use Rattle.sharc_labels_laws.specs.Stretches.{Mark, Setting, IsAtHand}
 use Rattle.sharc_labels_laws.proofs.Fitting.{fits_same}
 use Rattle.sharc_labels_laws.specs.Places.{IsNamed, mark}
-use Rattle.sharc_labels_laws.specs.Premises.{Typing, HoldsVariables, Ground, HasNumbers, number_in_global, HasIndex, HasBaseAt, IsPlaced, ReachesInteger, ReachesReference, ThroughGuard, IntegerTyped, ReferenceTyped}
+use Rattle.sharc_labels_laws.specs.Premises.{Typing, HoldsVariables, IsPointerCopy, Ground, HasNumbers, number_in_global, HasIndex, HasBaseAt, IsPlaced, ReachesInteger, ReachesReference, ThroughGuard, IntegerTyped, ReferenceTyped}
 use Rattle.sharc_labels_laws.proofs.Parts.{P, At, at_number, at_fill, then_do, pre, none, pop_at, with_number}
 use Rattle.sharc_labels_laws.proofs.Values.{over, guard_at, load_at, load_reference_at, take_at, store_at, store_reference_at}
 use Rattle.sharc_labels_laws.proofs.Variables.{settle_base_at}
@@ -160,6 +161,9 @@ module _ (around : Setting) (f : ℕ) (D : (ℕ → Mark) → Type 0) (y : Typin
     pub high : top ≤ r
     pub wide : int_count c.scope ≤ i
     pub early : from ≤ i
+    -- what is known to be no NULL, and what is indexed, is no variable
+    pub seen : (q : ℕ) → l.known q ≡ true → top ≤ q
+    pub elements : (j q : ℕ) → HasBase (l.ints j) q → top ≤ q
 
   pub holds_over : (l k : Label) → ((q : ℕ) → q < top → k.env q ≡ l.env q) → ((q : ℕ) → q < top → k.same q ≡ l.same q) → ((j : ℕ) → j < int_count c.scope → k.ints j ≡ l.ints j) → HoldsVariables y c l → HoldsVariables y c k
   holds_over l k env same ints h = record { references = λ q lt. env q lt ∙ h.references q lt; copies = λ q lt. same q lt ∙ h.copies q lt; integers = λ j lt. ints j lt ∙ h.integers j lt }
@@ -182,6 +186,11 @@ module _ (around : Setting) (f : ℕ) (D : (ℕ → Mark) → Type 0) (y : Typin
   pub wider_names : (r k : ℕ) (s : StaticType) → r ≤ k → IsNamed named r s → IsNamed named k s
   wider_names r k s le fits p m = let z = fits p m in let lt = z.0 in (omega (arith, lt, le), z.1)
 
+  -- the registers of the variables, and that of the base, are some of the frame
+  pub record IsInFrame (r : ℕ) (t : Target) : Type 0 where
+    pub variables : top ≤ refs_in around.code (Some f)
+    pub frame : has_base t ≡ true → r < refs_in around.code (Some f)
+
   module _ (i r : ℕ) (l : Label) (fr : Frame i r l) (guard : Option ℕ) (ground : Ground) (e : Element) (v : ℕ) (base_fits : IsNamed named r ground.base) (copy : v ≤ r) where
     abbrev pub B : Label
     B = fill l r (Refers ground.base) v true
@@ -195,14 +204,43 @@ module _ (around : Setting) (f : ℕ) (D : (ℕ → Mark) → Type 0) (y : Typin
     holds_base : HoldsVariables y c B
     holds_base = let high = fr.high in holds_over l B (λ q lt. put_other l.env r q (Refers ground.base) (λ z. omega (arith, z, lt, high))) (λ q lt. put_other l.same r q v (λ z. omega (arith, z, lt, high))) (λ j lt. refl) fr.holds
 
+    no_null : (e : Entry) → e ≡ Refers ground.base → e ≡ Empty → ⊥
+    no_null e a b = let z : Refers ground.base ≡ Empty = sym a ∙ b in cc
+
+    pub inside : (t : Target) (k : Label) → ((q : ℕ) → q < r + base_width t → k.env q ≡ (based t ground r v l).env q) → IsScoped (ints_in around.code (Some f)) (refs_in around.code (Some f)) k → IsInFrame r t
+    inside t k env h = by (has_base t) refl env
+      where
+        frs : ℕ
+        frs = refs_in around.code (Some f)
+
+        high : top ≤ r
+        high = fr.high
+
+        by : (b : Bool) → has_base t ≡ b → ((q : ℕ) → q < r + cond b 1 0 → k.env q ≡ (cond b B l).env q) → IsInFrame r t
+        by true is env =
+            let more : r < r + 1 = omega arith in
+            let lt : r < frs = ⊎_elim (λ (lt : r < frs). lt) (λ (ge : frs ≤ r). absurd (no_null (k.env r) (env r more ∙ put_same l.env r (Refers ground.base)) (h.few r ge))) (cases_lt r frs) in
+            record { variables = omega (arith, lt, high); frame = λ _. lt }
+        by false is env = record {
+          variables = ⊎_elim (λ (lt : frs < r). absurd (fr.at.stands.full frs lt (sym (env frs (omega (arith, lt))) ∙ h.few frs (omega arith)))) (λ (le : r ≤ frs). omega (arith, le, high)) (cases_lt frs r);
+          frame = λ e. absurd (false≢true (sym is ∙ e));
+        }
+
+    -- so they may be taken to be, where what is said names them
+    pub framed : (t : Target) (s e : Mark) (os : List Op) → ((q : ℕ) → q < r + base_width t → s.label.env q ≡ (based t ground r v l).env q) → (IsInFrame r t → Q s os e) → Q s os e
+    framed t s e os env rest = λ w h. rest (inside t s.label env h) w h
+
     -- with anything in the integer registers after the index, and in the registers of references after the base
-    pub placed_by : (t : Target) (x : Label) → ((q : ℕ) → q < top → x.env q ≡ l.env q) → ((q : ℕ) → q < top → x.same q ≡ l.same q) → x.function ≡ Some f → HasBaseAt t ground r x → (g : ℕ → Number) → ((j : ℕ) → j < i + index_width t guard → g j ≡ ints_of t guard ground e i r l.ints j)
-        → IsPlaced y c f t guard ground e i r (over x g Closed)
-    placed_by t x env same owned based_x g ints = record {
+    pub placed_by : (t : Target) (x : Label) → ((q : ℕ) → q < top → x.env q ≡ l.env q) → ((q : ℕ) → q < top → x.same q ≡ l.same q) → x.function ≡ Some f → HasBaseAt t ground r x → IsInFrame r t → (has_base t ≡ true → IsPointerCopy y c ground.pointer (x.same r))
+        → (g : ℕ → Number) → ((j : ℕ) → j < i + index_width t guard → g j ≡ ints_of t guard ground e i r l.ints j) → IsPlaced around y c f t guard ground e i r (over x g Closed)
+    placed_by t x env same owned based_x in_it copied g ints = record {
       variables = let wide = fr.wide in holds_over l (over x g Closed) env same (λ j lt. ints j (omega (arith, lt, wide)) ∙ ints_below t guard ground e i r l.ints j (omega (arith, lt, wide))) fr.holds;
+      variables_in = in_it.variables;
       owned = owned;
       closed = refl;
       base = over_base t based_x;
+      frame = in_it.frame;
+      copy = copied;
       index = index_by t guard ground e i r l.ints (over x g Closed) ints;
     }
       where
@@ -222,28 +260,37 @@ module _ (around : Setting) (f : ℕ) (D : (ℕ → Mark) → Type 0) (y : Typin
     pub is_base : (B.env r ≡ Refers ground.base) × (B.known r ≡ true)
     is_base = (put_same l.env r (Refers ground.base), put_same l.known r true)
 
-    module _ (site : Site) (lvalue : Lvalue) (mode : Sharing) where
+    pub copy_base : IsPointerCopy y c ground.pointer v → IsPointerCopy y c ground.pointer (B.same r)
+    copy_base h = subst (IsPointerCopy y c ground.pointer) (sym (put_same l.same r v)) h
+
+    module _ (copies : IsPointerCopy y c ground.pointer v) (site : Site) (lvalue : Lvalue) (mode : Sharing) where
+      no_copy : (z : Label) → false ≡ true → IsPointerCopy y c ground.pointer (z.same r)
+      no_copy z e = absurd (false≢true e)
+
       -- an integer is read
-      pub int_value : (t : Target) → is_cell t ≡ true → (w : Width) → IntegerTyped around y c f t guard ground site lvalue mode false uses.Read w → Q (placed t guard ground e i r v l) (cell_value_code c i r site lvalue mode false t) (with_int l i (Within w))
-      int_value (variable x) is w h = absurd (false≢true is)
-      int_value (in_global g n) is w h =
-          load_by i r l fr.at l.ints (λ j lt. refl) (i + 0) (omega arith) i r site lvalue (in_global g n) (guard_field c.program.typed mode) _ _ w tt (h e i r (over l l.ints Closed) (placed_by (in_global g n) l (λ q lt. refl) (λ q lt. refl) fr.at.owned tt l.ints (λ j lt. refl))) [] (with_int l i (Within w))
+      int_value_in : (t : Target) → IsInFrame r t → is_cell t ≡ true → (w : Width) → IntegerTyped around y c f t guard ground site lvalue mode false uses.Read w → Q (placed t guard ground e i r v l) (cell_value_code c i r site lvalue mode false t) (with_int l i (Within w))
+      int_value_in (variable x) in_it is w h = absurd (false≢true is)
+      int_value_in (in_global g n) in_it is w h =
+          load_by i r l fr.at l.ints (λ j lt. refl) (i + 0) (omega arith) i r site lvalue (in_global g n) (guard_field c.program.typed mode) _ _ w tt (h e i r (over l l.ints Closed) (placed_by (in_global g n) l (λ q lt. refl) (λ q lt. refl) fr.at.owned tt in_it (no_copy l) l.ints (λ j lt. refl))) [] (with_int l i (Within w))
           (none around f D named top low from (with_int l i (Within w)) (with_int l i (Within w)) (fits_same around.targets (with_int l i (Within w))) (λ z. z))
-      int_value (in_global_at g n) is w h =
+      int_value_in (in_global_at g n) in_it is w h =
           let ints = ints_of (in_global_at g n) guard ground e i r l.ints in
           load_by i r l fr.at ints (λ j lt. ints_below (in_global_at g n) guard ground e i r l.ints j lt) (i + guard_width guard) (omega arith) i r site lvalue (in_global_at g n) (guard_field c.program.typed mode) _ _ w
           (at_hand (in_global_at g n) guard i r (i + guard_width guard) l fr.early (omega arith))
-          (h e i r (over l ints Closed) (placed_by (in_global_at g n) l (λ q lt. refl) (λ q lt. refl) fr.at.owned tt ints (λ j lt. refl))) [] (with_int l i (Within w))
+          (h e i r (over l ints Closed) (placed_by (in_global_at g n) l (λ q lt. refl) (λ q lt. refl) fr.at.owned tt in_it (no_copy l) ints (λ j lt. refl))) [] (with_int l i (Within w))
           (none around f D named top low from (with_int l i (Within w)) (with_int l i (Within w)) (fits_same around.targets (with_int l i (Within w))) (λ z. z))
-      int_value (in_object n) is w h =
-          load_by i (r + 1) B at_base l.ints (λ j lt. refl) (i + 0) (omega arith) i r site lvalue (in_object n) (guard_field c.program.typed mode) _ _ w tt (h e i r (over B l.ints Closed) (placed_by (in_object n) B env_base same_base fr.at.owned is_base l.ints (λ j lt. refl))) (op.Pop r ∷ []) (with_int l i (Within w))
+      int_value_in (in_object n) in_it is w h =
+          load_by i (r + 1) B at_base l.ints (λ j lt. refl) (i + 0) (omega arith) i r site lvalue (in_object n) (guard_field c.program.typed mode) _ _ w tt (h e i r (over B l.ints Closed) (placed_by (in_object n) B env_base same_base fr.at.owned is_base in_it (λ _. copy_base copies) l.ints (λ j lt. refl))) (op.Pop r ∷ []) (with_int l i (Within w))
           (pop_at around f D named top low from (i + 1) r (set_number l i (Within w)) (at_number around f D named top low from i r l fr.at (Within w) (λ q b. absurd b)) fr.high ground.base v true base_fits (i + 1))
-      int_value (in_object_at n) is w h =
+      int_value_in (in_object_at n) in_it is w h =
           let ints = ints_of (in_object_at n) guard ground e i r l.ints in
           load_by i (r + 1) B at_base ints (λ j lt. ints_below (in_object_at n) guard ground e i r l.ints j lt) (i + guard_width guard) (omega arith) i r site lvalue (in_object_at n) (guard_field c.program.typed mode) _ _ w
           (at_hand (in_object_at n) guard i r (i + guard_width guard) B fr.early (omega arith))
-          (h e i r (over B ints Closed) (placed_by (in_object_at n) B env_base same_base fr.at.owned is_base ints (λ j lt. refl))) (op.Pop r ∷ []) (with_int l i (Within w))
+          (h e i r (over B ints Closed) (placed_by (in_object_at n) B env_base same_base fr.at.owned is_base in_it (λ _. copy_base copies) ints (λ j lt. refl))) (op.Pop r ∷ []) (with_int l i (Within w))
           (pop_at around f D named top low from (i + 1) r (set_number l i (Within w)) (at_number around f D named top low from i r l fr.at (Within w) (λ q b. absurd b)) fr.high ground.base v true base_fits (i + 1))
+
+      pub int_value : (t : Target) → is_cell t ≡ true → (w : Width) → IntegerTyped around y c f t guard ground site lvalue mode false uses.Read w → Q (placed t guard ground e i r v l) (cell_value_code c i r site lvalue mode false t) (with_int l i (Within w))
+      int_value t is w h = framed t (placed t guard ground e i r v l) (with_int l i (Within w)) (cell_value_code c i r site lvalue mode false t) (λ q lt. refl) (λ k. int_value_in t k is w h)
 
       -- ---- a reference
       abbrev value_of : StaticType → Mark
@@ -255,77 +302,86 @@ module _ (around : Setting) (f : ℕ) (D : (ℕ → Mark) → Type 0) (y : Typin
       settled : (s : StaticType) → IsNamed named r s → Q (mark (fill B (r + 1) (Refers s) (r + 1) false) from i) (op.Settle r (r + 1) ∷ []) (value_of s)
       settled s fits = settle_base_at around f D named top low from i r l fr.at fr.high ground.base s v true false i base_fits fits copy
 
-      pub reference_value : (t : Target) → is_cell t ≡ true → (s : StaticType) → IsNamed named r s → ReferenceTyped around y c f t guard ground site lvalue mode false uses.Read s → Q (placed t guard ground e i r v l) (cell_value_code c i r site lvalue mode true t) (value_of s)
-      reference_value (variable x) is s fits h = absurd (false≢true is)
-      reference_value (in_global g n) is s fits h =
+      reference_value_in : (t : Target) → IsInFrame r t → is_cell t ≡ true → (s : StaticType) → IsNamed named r s → ReferenceTyped around y c f t guard ground site lvalue mode false uses.Read s → Q (placed t guard ground e i r v l) (cell_value_code c i r site lvalue mode true t) (value_of s)
+      reference_value_in (variable x) in_it is s fits h = absurd (false≢true is)
+      reference_value_in (in_global g n) in_it is s fits h =
           load_reference_by i (r + 0) l at_zero l.ints (λ j lt. refl) (i + 0) (omega arith) i r site lvalue (in_global g n) (guard_field c.program.typed mode) _ _ s (wider_names r (r + 0) s (omega arith) fits) tt
-          (h e i r (over l l.ints Closed) (placed_by (in_global g n) l (λ q lt. refl) (λ q lt. refl) fr.at.owned tt l.ints (λ j lt. refl))) [] (value_of s) (zero_end s)
-      reference_value (in_global_at g n) is s fits h =
+          (h e i r (over l l.ints Closed) (placed_by (in_global g n) l (λ q lt. refl) (λ q lt. refl) fr.at.owned tt in_it (no_copy l) l.ints (λ j lt. refl))) [] (value_of s) (zero_end s)
+      reference_value_in (in_global_at g n) in_it is s fits h =
           let ints = ints_of (in_global_at g n) guard ground e i r l.ints in
           load_reference_by i (r + 0) l at_zero ints (λ j lt. ints_below (in_global_at g n) guard ground e i r l.ints j lt) (i + guard_width guard) (omega arith) i r site lvalue (in_global_at g n) (guard_field c.program.typed mode) _ _ s (wider_names r (r + 0) s (omega arith) fits)
           (at_hand (in_global_at g n) guard i r (i + guard_width guard) l fr.early (omega arith))
-          (h e i r (over l ints Closed) (placed_by (in_global_at g n) l (λ q lt. refl) (λ q lt. refl) fr.at.owned tt ints (λ j lt. refl))) [] (value_of s) (zero_end s)
-      reference_value (in_object n) is s fits h =
+          (h e i r (over l ints Closed) (placed_by (in_global_at g n) l (λ q lt. refl) (λ q lt. refl) fr.at.owned tt in_it (no_copy l) ints (λ j lt. refl))) [] (value_of s) (zero_end s)
+      reference_value_in (in_object n) in_it is s fits h =
           load_reference_by i (r + 1) B at_base l.ints (λ j lt. refl) (i + 0) (omega arith) i r site lvalue (in_object n) (guard_field c.program.typed mode) _ _ s (wider_names r (r + 1) s (omega arith) fits) tt
-          (h e i r (over B l.ints Closed) (placed_by (in_object n) B env_base same_base fr.at.owned is_base l.ints (λ j lt. refl))) (op.Settle r (r + 1) ∷ []) (value_of s) (settled s fits)
-      reference_value (in_object_at n) is s fits h =
+          (h e i r (over B l.ints Closed) (placed_by (in_object n) B env_base same_base fr.at.owned is_base in_it (λ _. copy_base copies) l.ints (λ j lt. refl))) (op.Settle r (r + 1) ∷ []) (value_of s) (settled s fits)
+      reference_value_in (in_object_at n) in_it is s fits h =
           let ints = ints_of (in_object_at n) guard ground e i r l.ints in
           load_reference_by i (r + 1) B at_base ints (λ j lt. ints_below (in_object_at n) guard ground e i r l.ints j lt) (i + guard_width guard) (omega arith) i r site lvalue (in_object_at n) (guard_field c.program.typed mode) _ _ s (wider_names r (r + 1) s (omega arith) fits)
           (at_hand (in_object_at n) guard i r (i + guard_width guard) B fr.early (omega arith))
-          (h e i r (over B ints Closed) (placed_by (in_object_at n) B env_base same_base fr.at.owned is_base ints (λ j lt. refl))) (op.Settle r (r + 1) ∷ []) (value_of s) (settled s fits)
+          (h e i r (over B ints Closed) (placed_by (in_object_at n) B env_base same_base fr.at.owned is_base in_it (λ _. copy_base copies) ints (λ j lt. refl))) (op.Settle r (r + 1) ∷ []) (value_of s) (settled s fits)
+
+      pub reference_value : (t : Target) → is_cell t ≡ true → (s : StaticType) → IsNamed named r s → ReferenceTyped around y c f t guard ground site lvalue mode false uses.Read s → Q (placed t guard ground e i r v l) (cell_value_code c i r site lvalue mode true t) (value_of s)
+      reference_value t is s fits h = framed t (placed t guard ground e i r v l) (value_of s) (cell_value_code c i r site lvalue mode true t) (λ q lt. refl) (λ k. reference_value_in t k is s fits h)
 
       -- ---- one that is taken away
       module _ (form : Option ℕ → Use) where
-        pub taken_value : (t : Target) → is_cell t ≡ true → (s : StaticType) → IsNamed named r s → ReferenceTyped around y c f t guard ground site lvalue mode true (form None) s → Q (placed t guard ground e i r v l) (cell_take_code c i r site lvalue mode form t) (value_of s)
-        taken_value (variable x) is s fits h = absurd (false≢true is)
-        taken_value (in_global g n) is s fits h =
+        taken_value_in : (t : Target) → IsInFrame r t → is_cell t ≡ true → (s : StaticType) → IsNamed named r s → ReferenceTyped around y c f t guard ground site lvalue mode true (form None) s → Q (placed t guard ground e i r v l) (cell_take_code c i r site lvalue mode form t) (value_of s)
+        taken_value_in (variable x) in_it is s fits h = absurd (false≢true is)
+        taken_value_in (in_global g n) in_it is s fits h =
             take_by i (r + 0) l at_zero l.ints (λ j lt. refl) (i + 0) (omega arith) i r site lvalue (in_global g n) (guard_field c.program.typed mode) _ _ s (wider_names r (r + 0) s (omega arith) fits)
-            (h e i r (over l l.ints Closed) (placed_by (in_global g n) l (λ q lt. refl) (λ q lt. refl) fr.at.owned tt l.ints (λ j lt. refl))) [] (value_of s) (zero_end s)
-        taken_value (in_global_at g n) is s fits h =
+            (h e i r (over l l.ints Closed) (placed_by (in_global g n) l (λ q lt. refl) (λ q lt. refl) fr.at.owned tt in_it (no_copy l) l.ints (λ j lt. refl))) [] (value_of s) (zero_end s)
+        taken_value_in (in_global_at g n) in_it is s fits h =
             let ints = ints_of (in_global_at g n) guard ground e i r l.ints in
             take_by i (r + 0) l at_zero ints (λ j lt. ints_below (in_global_at g n) guard ground e i r l.ints j lt) (i + guard_width guard) (omega arith) i r site lvalue (in_global_at g n) (guard_field c.program.typed mode) _ _ s (wider_names r (r + 0) s (omega arith) fits)
-            (h e i r (over l ints Closed) (placed_by (in_global_at g n) l (λ q lt. refl) (λ q lt. refl) fr.at.owned tt ints (λ j lt. refl))) [] (value_of s) (zero_end s)
-        taken_value (in_object n) is s fits h =
+            (h e i r (over l ints Closed) (placed_by (in_global_at g n) l (λ q lt. refl) (λ q lt. refl) fr.at.owned tt in_it (no_copy l) ints (λ j lt. refl))) [] (value_of s) (zero_end s)
+        taken_value_in (in_object n) in_it is s fits h =
             take_by i (r + 1) B at_base l.ints (λ j lt. refl) (i + 0) (omega arith) i r site lvalue (in_object n) (guard_field c.program.typed mode) _ _ s (wider_names r (r + 1) s (omega arith) fits)
-            (h e i r (over B l.ints Closed) (placed_by (in_object n) B env_base same_base fr.at.owned is_base l.ints (λ j lt. refl))) (op.Settle r (r + 1) ∷ []) (value_of s) (settled s fits)
-        taken_value (in_object_at n) is s fits h =
+            (h e i r (over B l.ints Closed) (placed_by (in_object n) B env_base same_base fr.at.owned is_base in_it (λ _. copy_base copies) l.ints (λ j lt. refl))) (op.Settle r (r + 1) ∷ []) (value_of s) (settled s fits)
+        taken_value_in (in_object_at n) in_it is s fits h =
             let ints = ints_of (in_object_at n) guard ground e i r l.ints in
             take_by i (r + 1) B at_base ints (λ j lt. ints_below (in_object_at n) guard ground e i r l.ints j lt) (i + guard_width guard) (omega arith) i r site lvalue (in_object_at n) (guard_field c.program.typed mode) _ _ s (wider_names r (r + 1) s (omega arith) fits)
-            (h e i r (over B ints Closed) (placed_by (in_object_at n) B env_base same_base fr.at.owned is_base ints (λ j lt. refl))) (op.Settle r (r + 1) ∷ []) (value_of s) (settled s fits)
+            (h e i r (over B ints Closed) (placed_by (in_object_at n) B env_base same_base fr.at.owned is_base in_it (λ _. copy_base copies) ints (λ j lt. refl))) (op.Settle r (r + 1) ∷ []) (value_of s) (settled s fits)
+
+        pub taken_value : (t : Target) → is_cell t ≡ true → (s : StaticType) → IsNamed named r s → ReferenceTyped around y c f t guard ground site lvalue mode true (form None) s → Q (placed t guard ground e i r v l) (cell_take_code c i r site lvalue mode form t) (value_of s)
+        taken_value t is s fits h = framed t (placed t guard ground e i r v l) (value_of s) (cell_take_code c i r site lvalue mode form t) (λ q lt. refl) (λ k. taken_value_in t k is s fits h)
 
       -- ---- what is stored
       -- an integer, in the register after the index
       abbrev pub number_at : Target → Width → Mark
       number_at t w = mark (set_number (placed t guard ground e i r v l).label (i + index_width t guard) (Within w)) from (i + index_width t guard)
 
-      pub int_store : (t : Target) → is_cell t ≡ true → (w : Width) (vr : ℕ) → IntegerTyped around y c f t guard ground site lvalue mode true uses.Write w → Q (number_at t w) (cell_store_code c i r (i + index_width t guard) vr site lvalue mode false t) (mark l from i)
-      int_store (variable x) is w vr h = absurd (false≢true is)
-      int_store (in_global g n) is w vr h =
+      int_store_in : (t : Target) → IsInFrame r t → is_cell t ≡ true → (w : Width) (vr : ℕ) → IntegerTyped around y c f t guard ground site lvalue mode true uses.Write w → Q (number_at t w) (cell_store_code c i r (i + index_width t guard) vr site lvalue mode false t) (mark l from i)
+      int_store_in (variable x) in_it is w vr h = absurd (false≢true is)
+      int_store_in (in_global g n) in_it is w vr h =
           let ints = put l.ints (i + 0) (Within w) in
           store_by i r l fr.at ints (λ j lt. put_other l.ints (i + 0) j (Within w) (λ z. omega (arith, z, lt))) (i + 0) (omega arith) i r site lvalue (in_global g n) (guard_field c.program.typed mode) _ _ (i + 0) w (written l.ints (i + 0) w) tt
-          (h e i r (over l ints Closed) (placed_by (in_global g n) l (λ q lt. refl) (λ q lt. refl) fr.at.owned tt ints (λ j lt. put_other l.ints (i + 0) j (Within w) (λ z. omega (arith, z, lt))))) [] (mark l from i)
+          (h e i r (over l ints Closed) (placed_by (in_global g n) l (λ q lt. refl) (λ q lt. refl) fr.at.owned tt in_it (no_copy l) ints (λ j lt. put_other l.ints (i + 0) j (Within w) (λ z. omega (arith, z, lt))))) [] (mark l from i)
           (none around f D named top low from (mark l from i) (mark l from i) (fits_same around.targets (mark l from i)) (λ z. z))
-      int_store (in_global_at g n) is w vr h =
+      int_store_in (in_global_at g n) in_it is w vr h =
           let old = ints_of (in_global_at g n) guard ground e i r l.ints in
           let vi = i + guard_width guard in
           let ints = put old vi (Within w) in
           store_by i r l fr.at ints (λ j lt. put_other old vi j (Within w) (λ z. omega (arith, z, lt)) ∙ ints_below (in_global_at g n) guard ground e i r l.ints j lt) vi (omega arith) i r site lvalue (in_global_at g n) (guard_field c.program.typed mode) _ _ vi w (written old vi w)
           (at_hand (in_global_at g n) guard i r vi l fr.early (omega arith))
-          (h e i r (over l ints Closed) (placed_by (in_global_at g n) l (λ q lt. refl) (λ q lt. refl) fr.at.owned tt ints (λ j lt. put_other old vi j (Within w) (λ z. omega (arith, z, lt))))) [] (mark l from i)
+          (h e i r (over l ints Closed) (placed_by (in_global_at g n) l (λ q lt. refl) (λ q lt. refl) fr.at.owned tt in_it (no_copy l) ints (λ j lt. put_other old vi j (Within w) (λ z. omega (arith, z, lt))))) [] (mark l from i)
           (none around f D named top low from (mark l from i) (mark l from i) (fits_same around.targets (mark l from i)) (λ z. z))
-      int_store (in_object n) is w vr h =
+      int_store_in (in_object n) in_it is w vr h =
           let ints = put l.ints (i + 0) (Within w) in
           store_by i (r + 1) B at_base ints (λ j lt. put_other l.ints (i + 0) j (Within w) (λ z. omega (arith, z, lt))) (i + 0) (omega arith) i r site lvalue (in_object n) (guard_field c.program.typed mode) _ _ (i + 0) w (written l.ints (i + 0) w) tt
-          (h e i r (over B ints Closed) (placed_by (in_object n) B env_base same_base fr.at.owned is_base ints (λ j lt. put_other l.ints (i + 0) j (Within w) (λ z. omega (arith, z, lt))))) (op.Pop r ∷ []) (mark l from i)
+          (h e i r (over B ints Closed) (placed_by (in_object n) B env_base same_base fr.at.owned is_base in_it (λ _. copy_base copies) ints (λ j lt. put_other l.ints (i + 0) j (Within w) (λ z. omega (arith, z, lt))))) (op.Pop r ∷ []) (mark l from i)
           (pop_at around f D named top low from i r l fr.at fr.high ground.base v true base_fits i)
-      int_store (in_object_at n) is w vr h =
+      int_store_in (in_object_at n) in_it is w vr h =
           let old = ints_of (in_object_at n) guard ground e i r l.ints in
           let vi = i + guard_width guard in
           let ints = put old vi (Within w) in
           store_by i (r + 1) B at_base ints (λ j lt. put_other old vi j (Within w) (λ z. omega (arith, z, lt)) ∙ ints_below (in_object_at n) guard ground e i r l.ints j lt) vi (omega arith) i r site lvalue (in_object_at n) (guard_field c.program.typed mode) _ _ vi w (written old vi w)
           (at_hand (in_object_at n) guard i r vi B fr.early (omega arith))
-          (h e i r (over B ints Closed) (placed_by (in_object_at n) B env_base same_base fr.at.owned is_base ints (λ j lt. put_other old vi j (Within w) (λ z. omega (arith, z, lt))))) (op.Pop r ∷ []) (mark l from i)
+          (h e i r (over B ints Closed) (placed_by (in_object_at n) B env_base same_base fr.at.owned is_base in_it (λ _. copy_base copies) ints (λ j lt. put_other old vi j (Within w) (λ z. omega (arith, z, lt))))) (op.Pop r ∷ []) (mark l from i)
           (pop_at around f D named top low from i r l fr.at fr.high ground.base v true base_fits i)
+
+      pub int_store : (t : Target) → is_cell t ≡ true → (w : Width) (vr : ℕ) → IntegerTyped around y c f t guard ground site lvalue mode true uses.Write w → Q (number_at t w) (cell_store_code c i r (i + index_width t guard) vr site lvalue mode false t) (mark l from i)
+      int_store t is w vr h = framed t (number_at t w) (mark l from i) (cell_store_code c i r (i + index_width t guard) vr site lvalue mode false t) (λ q lt. refl) (λ k. int_store_in t k is w vr h)
 
       -- a reference, in the register after the base
       module _ (s : StaticType) (fits : IsNamed named r s) (w : ℕ) (b : Bool) where
@@ -350,28 +406,34 @@ module _ (around : Setting) (f : ℕ) (D : (ℕ → Mark) → Type 0) (y : Typin
         same_z : (q : ℕ) → q < top → Z.same q ≡ l.same q
         same_z q lt = let high = fr.high in put_other B.same (r + 1) q w (λ z. omega (arith, z, lt, high)) ∙ same_base q lt
 
+        copy_z : IsPointerCopy y c ground.pointer (Z.same r)
+        copy_z = subst (IsPointerCopy y c ground.pointer) (sym (put_other B.same (r + 1) r w (λ z. omega (arith, z)) ∙ put_same l.same r v)) copies
+
         is_base_z : (Z.env r ≡ Refers ground.base) × (Z.known r ≡ true)
         is_base_z = (put_other B.env (r + 1) r (Refers s) (λ z. omega (arith, z)) ∙ is_base.0, put_other B.known (r + 1) r b (λ z. omega (arith, z)) ∙ is_base.1)
 
-        pub reference_store : (t : Target) → is_cell t ≡ true → w ≤ r + base_width t → (vi : ℕ) → ReferenceTyped around y c f t guard ground site lvalue mode true uses.Write s → Q (reference_at t) (cell_store_code c i r vi (r + base_width t) site lvalue mode true t) (mark l from i)
-        reference_store (variable x) is small vi h = absurd (false≢true is)
-        reference_store (in_global g n) is small vi h =
+        reference_store_in : (t : Target) → IsInFrame r t → is_cell t ≡ true → w ≤ r + base_width t → (vi : ℕ) → ReferenceTyped around y c f t guard ground site lvalue mode true uses.Write s → Q (reference_at t) (cell_store_code c i r vi (r + base_width t) site lvalue mode true t) (mark l from i)
+        reference_store_in (variable x) in_it is small vi h = absurd (false≢true is)
+        reference_store_in (in_global g n) in_it is small vi h =
             store_reference_by i (r + 0) l at_zero l.ints (λ j lt. refl) (i + 0) (omega arith) i r site lvalue (in_global g n) (guard_field c.program.typed mode) _ _ (let z = fr.high in omega (arith, z)) s w b (wider_names r (r + 0) s (omega arith) fits) small tt
-            (h e i r (over Y l.ints Closed) (placed_by (in_global g n) Y env_y same_y fr.at.owned tt l.ints (λ j lt. refl))) [] (mark l from i)
+            (h e i r (over Y l.ints Closed) (placed_by (in_global g n) Y env_y same_y fr.at.owned tt in_it (no_copy Y) l.ints (λ j lt. refl))) [] (mark l from i)
             (none around f D named top low from (mark l from i) (mark l from i) (fits_same around.targets (mark l from i)) (λ z. z))
-        reference_store (in_global_at g n) is small vi h =
+        reference_store_in (in_global_at g n) in_it is small vi h =
             let ints = ints_of (in_global_at g n) guard ground e i r l.ints in
             store_reference_by i (r + 0) l at_zero ints (λ j lt. ints_below (in_global_at g n) guard ground e i r l.ints j lt) (i + guard_width guard) (omega arith) i r site lvalue (in_global_at g n) (guard_field c.program.typed mode) _ _ (let z = fr.high in omega (arith, z)) s w b
             (wider_names r (r + 0) s (omega arith) fits) small (at_hand (in_global_at g n) guard i r (i + guard_width guard) l fr.early (omega arith))
-            (h e i r (over Y ints Closed) (placed_by (in_global_at g n) Y env_y same_y fr.at.owned tt ints (λ j lt. refl))) [] (mark l from i)
+            (h e i r (over Y ints Closed) (placed_by (in_global_at g n) Y env_y same_y fr.at.owned tt in_it (no_copy Y) ints (λ j lt. refl))) [] (mark l from i)
             (none around f D named top low from (mark l from i) (mark l from i) (fits_same around.targets (mark l from i)) (λ z. z))
-        reference_store (in_object n) is small vi h =
+        reference_store_in (in_object n) in_it is small vi h =
             store_reference_by i (r + 1) B at_base l.ints (λ j lt. refl) (i + 0) (omega arith) i r site lvalue (in_object n) (guard_field c.program.typed mode) _ _ (let z = fr.high in omega (arith, z)) s w b (wider_names r (r + 1) s (omega arith) fits) small tt
-            (h e i r (over Z l.ints Closed) (placed_by (in_object n) Z env_z same_z fr.at.owned is_base_z l.ints (λ j lt. refl))) (op.Pop r ∷ []) (mark l from i)
+            (h e i r (over Z l.ints Closed) (placed_by (in_object n) Z env_z same_z fr.at.owned is_base_z in_it (λ _. copy_z) l.ints (λ j lt. refl))) (op.Pop r ∷ []) (mark l from i)
             (pop_at around f D named top low from i r l fr.at fr.high ground.base v true base_fits i)
-        reference_store (in_object_at n) is small vi h =
+        reference_store_in (in_object_at n) in_it is small vi h =
             let ints = ints_of (in_object_at n) guard ground e i r l.ints in
             store_reference_by i (r + 1) B at_base ints (λ j lt. ints_below (in_object_at n) guard ground e i r l.ints j lt) (i + guard_width guard) (omega arith) i r site lvalue (in_object_at n) (guard_field c.program.typed mode) _ _ (let z = fr.high in omega (arith, z)) s w b
             (wider_names r (r + 1) s (omega arith) fits) small (at_hand (in_object_at n) guard i r (i + guard_width guard) B fr.early (omega arith))
-            (h e i r (over Z ints Closed) (placed_by (in_object_at n) Z env_z same_z fr.at.owned is_base_z ints (λ j lt. refl))) (op.Pop r ∷ []) (mark l from i)
+            (h e i r (over Z ints Closed) (placed_by (in_object_at n) Z env_z same_z fr.at.owned is_base_z in_it (λ _. copy_z) ints (λ j lt. refl))) (op.Pop r ∷ []) (mark l from i)
             (pop_at around f D named top low from i r l fr.at fr.high ground.base v true base_fits i)
+
+        pub reference_store : (t : Target) → is_cell t ≡ true → w ≤ r + base_width t → (vi : ℕ) → ReferenceTyped around y c f t guard ground site lvalue mode true uses.Write s → Q (reference_at t) (cell_store_code c i r vi (r + base_width t) site lvalue mode true t) (mark l from i)
+        reference_store t is small vi h = framed t (reference_at t) (mark l from i) (cell_store_code c i r vi (r + base_width t) site lvalue mode true t) (λ q lt. put_other (based t ground r v l).env (r + base_width t) q (Refers s) (λ z. omega (arith, z, lt))) (λ k. reference_store_in t k is small vi h)

@@ -9,7 +9,7 @@ use Rattle.sharc_flat_form.specs.declared.op.Op.TheVariants as op
 use Rattle.sharc_flat_form.specs.declared.op.Spot.{Spot}
 use Rattle.sharc_flat.specs.Scope.{Context, ref_count}
 use Rattle.sharc_invariant.specs.Types.{StaticType, Mentions, cells_of}
-use Rattle.sharc_invariant.specs.Labels.{Empty, Refers, Closed, Label, Less, LessNumber, LessEntry, LessGate, EntryMentions, HasBase, IsScoped, IsFree, fill, empty, knows, without_copies, without_index}
+use Rattle.sharc_invariant.specs.Labels.{Empty, Refers, Closed, Label, Less, LessNumber, LessEntry, LessGate, EntryMentions, IsScoped, IsFree, fill, empty, knows, without_copies, without_index}
 use Rattle.sharc_invariant.specs.Typed.{Recasts, IsLayout, moved_copy, ints_in, refs_in}
 use Rattle.sharc_invariant.proofs.Scoped.{less_entry_refl, less_number_refl, scoped_fill}
 use Rattle.sharc_typed.specs.Passes.{IsNumberOf}
@@ -19,6 +19,7 @@ use Rattle.sharc_labels_laws.specs.Premises.{Typing}
 use Rattle.sharc_labels_laws.proofs.Fitting.{fits_by}
 use Rattle.sharc_labels_laws.proofs.Flow as flow
 use Rattle.sharc_labels_laws.proofs.Standing.{less_by, less_emptied, without_same, uncopied, scoped_frame, unnamed}
+use Rattle.sharc_labels_laws.proofs.Losing.{with_copies, loses_taken, stands_lost}
 use Rattle.sharc_labels_laws.proofs.Moves.{on_take_local, on_free, on_give}
 use Rattle.sharc_labels_laws.proofs.Parts.{P, does, same_number}
 use Rattle.sharc_labels_laws.proofs.Accessed.{Frame}
@@ -39,19 +40,23 @@ module _ (around : Setting) (f : ℕ) (D : (ℕ → Mark) → Type 0) (y : Typin
   abbrev refs : ℕ
   refs = refs_in around.code (Some f)
 
-  -- ---- a variable's reference is taken away, of which no copy is at hand
-  pub take_variable_at : (i r : ℕ) (l : Label) → Frame around f D y c low from i r l → (s : StaticType) → IsNamed N r s → (x until : ℕ) (spot : Spot) → x < top → l.env x ≡ Refers s → N x ≡ false → ((q : ℕ) → l.same q ≡ q) → ((q : ℕ) → l.known q ≡ true → ⊥) → ((j q : ℕ) → HasBase (l.ints j) q → ⊥)
-      → Q (mark (record l { gate = Closed }) from until) (op.TakeLocal r x spot ∷ []) (mark (fill l r (Refers s) r false) from i)
-  take_variable_at i r l fr s fits x until spot lt is unnamed_x itself unknown unbased =
+  -- ---- a variable's reference is taken away, and what was a copy of it is none any more
+  pub take_variable_at : (i r : ℕ) (l : Label) → Frame around f D y c low from i r l → (s : StaticType) → IsNamed N r s → (x until : ℕ) (spot : Spot) → x < top → l.env x ≡ Refers s → N x ≡ false
+      → Q (mark (record l { gate = Closed }) from until) (op.TakeLocal r x spot ∷ []) (mark (fill (with_copies l (without_copies l.same x)) r (Refers s) r false) from i)
+  take_variable_at i r l fr s fits x until spot lt is unnamed_x =
       let k : Label = record l { gate = Closed } in
-      let e = fill l r (Refers s) r false in
+      let t = with_copies l (without_copies l.same x) in
+      let e = fill t r (Refers s) r false in
       let high = fr.high in
       let apart : r ≡ x → ⊥ = λ z. omega (arith, z, lt, high) in
       let n = fill (empty k x) r (k.env x) (moved_copy k r x) (k.known x) in
-      let copy_is : moved_copy k r x ≡ r = ap (λ q. cond (nat_eq q x) r q) (itself x) ∙ ap (λ b. cond b r x) (eq_refl x) in
+      let itself : l.same x ≡ x = fr.holds.copies x lt in
+      let copy_is : moved_copy k r x ≡ r = ap (λ q. cond (nat_eq q x) r q) itself ∙ ap (λ b. cond b r x) (eq_refl x) in
+      let lost_x : without_copies l.same x x ≡ x = ap (λ q. cond (nat_eq q x) x q) itself ∙ ap (λ b. cond b x x) (eq_refl x) in
       let free_x : IsFree k x = record { paths = λ q _ m. absurd (false≢true (sym unnamed_x ∙ (fr.at.stands.paths q x m).1)) } in
       does around f D N top low from (mark k from until) (op.TakeLocal r x spot) (mark e from i)
-      (λ in_it h. scoped_fill fi refs l r s r false in_it.0 (λ q m. fr.at.stands.full q (fits q m).0) (inl refl) (scoped_frame N i r l fr.at.stands fi refs h.few h.numbers))
+      (λ in_it h. scoped_fill fi refs t r s r false in_it.0 (λ q m. fr.at.stands.full q (fits q m).0) (inl refl)
+      (scoped_frame N i r t (stands_lost N l (without_copies l.same x) (loses_taken N l.same x unnamed_x) i r fr.at.stands) fi refs h.few h.numbers))
       (λ table pc in_it h next. on_take_local around f table pc (mark k from until) (mark e from i) next (record { owned = fr.at.owned; scoped = h }) r x spot refl
       (record { is = subst (λ o. r < refs_in around.code o) (sym fr.at.owned) in_it.0; empty = fr.at.stands.free r (omega arith) }) (subst (λ o. x < refs_in around.code o) (sym fr.at.owned) in_it.1) apart free_x
       (λ m. absurd (false≢true (sym unnamed_x ∙ (fr.at.stands.paths x x m).1)))
@@ -59,11 +64,12 @@ module _ (around : Setting) (f : ℕ) (D : (ℕ → Mark) → Type 0) (y : Typin
       (λ q. entry q n (⊎_elim (λ (z : q ≡ r). inl (ap n.env z ∙ put_same (empty k x).env r (k.env x) ∙ is ∙ sym (ap e.env z ∙ put_same l.env r (Refers s))))
       (λ (ne : q ≡ r → ⊥). ⊎_elim (λ (z : q ≡ x). inr (put_other (empty k x).env r q (k.env x) ne ∙ ap (empty k x).env z ∙ put_same l.env x Empty, put_other l.env r q (Refers s) ne ∙ ap l.env z ∙ is))
       (λ (no : q ≡ x → ⊥). inl (put_other (empty k x).env r q (k.env x) ne ∙ put_other l.env x q Empty no ∙ sym (put_other l.env r q (Refers s) ne))) (cases_eq q x)) (cases_eq q r)))
-      (λ q. sym (⊎_elim (λ (z : q ≡ r). ap n.same z ∙ put_same (empty k x).same r (moved_copy k r x) ∙ copy_is ∙ sym (ap e.same z ∙ put_same l.same r r))
-      (λ (ne : q ≡ r → ⊥). put_other (empty k x).same r q (moved_copy k r x) ne ∙ ⊎_elim (λ (z : q ≡ x). ap (empty k x).same z ∙ put_same (without_copies l.same x) x x ∙ sym (itself x) ∙ ap l.same (sym z))
-      (λ (no : q ≡ x → ⊥). put_other (without_copies l.same x) x q x no ∙ uncopied l.same x q (λ z. no (sym (itself q) ∙ z))) (cases_eq q x) ∙ sym (put_other l.same r q r ne)) (cases_eq q r)))
-      (λ q z. put_all (λ q w. w ≡ true → n.known q ≡ true) l.known r false (λ w. absurd (false≢true w)) (λ q _ w. absurd (unknown q w)) q z)
-      (λ j. subst (λ w. LessNumber w (l.ints j)) (sym (without_same x (l.ints j) (λ b. unbased j x b))) (less_number_refl (l.ints j))) tt fr.at.stands.nothing_passed (λ z. z)))
+      (λ q. sym (⊎_elim (λ (z : q ≡ r). ap n.same z ∙ put_same (empty k x).same r (moved_copy k r x) ∙ copy_is ∙ sym (ap e.same z ∙ put_same t.same r r))
+      (λ (ne : q ≡ r → ⊥). put_other (empty k x).same r q (moved_copy k r x) ne ∙ ⊎_elim (λ (z : q ≡ x). ap (empty k x).same z ∙ put_same (without_copies l.same x) x x ∙ sym lost_x ∙ ap t.same (sym z))
+      (λ (no : q ≡ x → ⊥). put_other (without_copies l.same x) x q x no) (cases_eq q x) ∙ sym (put_other t.same r q r ne)) (cases_eq q r)))
+      (λ q z. put_all (λ q w. w ≡ true → n.known q ≡ true) l.known r false (λ w. absurd (false≢true w))
+      (λ q ne w. put_other (empty k x).known r q (k.known x) ne ∙ put_other l.known x q false (λ z. let le = fr.seen q w in omega (arith, z, le, lt)) ∙ w) q z)
+      (λ j. subst (λ w. LessNumber w (l.ints j)) (sym (without_same x (l.ints j) (λ b. let le = fr.elements j x b in omega (arith, le, lt)))) (less_number_refl (l.ints j))) tt fr.at.stands.nothing_passed (λ z. z)))
     where
       entry : (q : ℕ) (n : Label) → ((n.env q ≡ put l.env r (Refers s) q) ⊎ ((n.env q ≡ Empty) × (put l.env r (Refers s) q ≡ Refers s))) → LessEntry n q (n.env q) (put l.env r (Refers s) q)
       entry q n h = ⊎_elim (λ (e : n.env q ≡ put l.env r (Refers s) q). subst (LessEntry n q (n.env q)) e (less_entry_refl n q (n.env q)))

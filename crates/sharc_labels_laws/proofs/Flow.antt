@@ -3,6 +3,8 @@ use Rattle.std.specs.Prelude.{slice_get, slice_index_or}
 use Rattle.std.proofs.Common.{◌≡◌, ℕ, zero, suc, ◌+◌, ◌≤◌, List, [], ◌∷◌, ◌++◌, length, refl, ap, sym, ◌∙◌, subst, arith, length-append, append_assoc, Some, None}
 use Rattle.sharc_flat_form.specs.declared.op.Op.{Op}
 use Rattle.sharc_flat_form.specs.declared.op.Op.TheVariants as op
+use Rattle.sharc_invariant.specs.Labels.{Less}
+use Rattle.sharc_typed.proofs.Preorder.{less_through}
 use Rattle.sharc_labels_laws.specs.Stretches.{Mark, Setting, Fits, IsLine, Agrees, AreLines, first, Stretch}
 use Rattle.sharc_labels_laws.proofs.Fitting.{fits_same, fits_through}
 use Rattle.sharc_labels_laws.proofs.Rules.{Plain, PlainNull, cleared, noted, on_skip, on_zero, on_null}
@@ -145,7 +147,7 @@ module _ (around : Setting) (f : ℕ) where
     pub step_at : (table : ℕ → Mark) → Agrees table pc piece.marks → Fit n (table (pc + length (T ++ (B ++ S)))) → Fit n (table (pc + (length T + length B)))
 
   -- over a piece, or into it
-  pub over : (D : (ℕ → Mark) → Type 0) (s m e : Mark) (pc i : ℕ) (xs ys : List Op) → Plain around f s → Fit s m → Piece D s (pc + 1) xs m → Piece D m (pc + 1 + length xs) ys e → Piece D s pc (op.SkipIfZero i (length xs) ∷ (xs ++ ys)) e
+  pub over : (D : (ℕ → Mark) → Type 0) (s m e : Mark) (pc i : ℕ) (xs ys : List Op) → Plain around f s → Less s.label m.label → Piece D s (pc + 1) xs m → Piece D m (pc + 1 + length xs) ys e → Piece D s pc (op.SkipIfZero i (length xs) ∷ (xs ++ ys)) e
   unfolding joins
   over D s m e pc i xs ys plain h p q =
       let j = joins D s m e (pc + 1) xs ys p q in
@@ -162,7 +164,7 @@ module _ (around : Setting) (f : ℕ) where
             let o1 : pc + 1 + length xs ≤ around.lines = omega (arith, own, length-append xs ys) in
             let o2 : pc + 1 ≤ around.lines = omega (arith, own) in (
               subst (λ x. Needs table pc x (op.SkipIfZero i (length xs))) (sym a.0)
-                  (on_zero around f table pc s i (length xs) plain (o1, through s m (table (pc + 1 + length xs)) h (enters D m (pc + 1 + length xs) ys e q table right there2)) (o2, enters D s (pc + 1) (xs ++ ys) e j table a.1 there)),
+                  (on_zero around f table pc s i (length xs) plain (o1, less_through s.label m.label (table (pc + 1 + length xs)).label h (enters D m (pc + 1 + length xs) ys e q table right there2).less) (o2, enters D s (pc + 1) (xs ++ ys) e j table a.1 there)),
               j.runs table d (omega (arith, own)) a.1 there,
             );
       }
@@ -240,7 +242,7 @@ module _ (around : Setting) (f : ℕ) where
         levels_both table pc (tested xs i over) ys
         (levels_both table pc xs (op.SkipIfZero i over ∷ [])
         (p.runs table d (omega (arith, own, n1, n2)) a (subst (Fit s) (sym last) (same s)))
-        (subst (λ x. Needs table (pc + length xs) x (op.SkipIfZero i over)) (sym last) (on_zero around f table (pc + length xs) s i over plain (o1, far) (o2, next)), tt))
+        (subst (λ x. Needs table (pc + length xs) x (op.SkipIfZero i over)) (sym last) (on_zero around f table (pc + length xs) s i over plain (o1, far.less) (o2, next)), tt))
         (levels_at table (pc + length xs + 1) (pc + length (tested xs i over)) ys (omega (arith, n1)) rest)
 
     -- where it is met, this is done

@@ -7,13 +7,14 @@ use Rattle.sharc_code.specs.Runs.{put}
 use Rattle.sharc_code.proofs.Places.{put_same, put_other, put_all}
 use Rattle.sharc_flat_form.specs.declared.op.Op.{Op}
 use Rattle.sharc_flat_form.specs.declared.op.Op.TheVariants as op
+use Rattle.sharc_flat_form.specs.Framed.{OpWrites}
 use Rattle.sharc_guard.specs.Known.{Know, know_next, writes_ref, writes_int, number_given, with_element}
 use Rattle.sharc_invariant.specs.Types.{Targets}
 use Rattle.sharc_invariant.specs.Labels.{Empty, Element, Named, Nth, Number, Anything, Exactly, Within, Indexes, OfElement, OfGlobal, Closed, Pass, Label, Less, LessNumber, HasBase, HasName, IsNamed as IsNameOf, Fresh, IsScoped, set_number}
 use Rattle.sharc_invariant.specs.Typed.{IsElement, ints_in, refs_in}
 use Rattle.sharc_invariant.proofs.Scoped.{less_entry_refl, less_number_refl}
 use Rattle.sharc_typed.specs.Passes.{with_passes, IsNumberOf}
-use Rattle.sharc_labels_laws.specs.Stretches.{WritesWithin, Mark, Setting, Tells, Fits, IsLine}
+use Rattle.sharc_labels_laws.specs.Stretches.{Mark, Setting, Tells, Fits, IsLine}
 use Rattle.sharc_labels_laws.specs.Places.{IsPlain, mark}
 use Rattle.sharc_labels_laws.proofs.Standing.{less_by, scoped_frame, stands_number}
 use Rattle.sharc_labels_laws.proofs.Telling.{told, other_than, same_as}
@@ -173,11 +174,11 @@ pub record FindsElement (around : Setting) (f : ℕ) (l : Label) (o : ℕ → �
   pub ints : (i n j : ℕ) → writes_int (o i n) j ≡ nat_eq j i
   pub offset : ℕ → ℕ
   pub given : (i n : ℕ) (k : Option ℕ) → number_given (o i n) k ≡ with_element count (offset n) k
-  pub within : (i n : ℕ) → WritesWithin (ints_in around.code (Some f)) (refs_in around.code (Some f)) (o i n) → i < ints_in around.code (Some f)
+  pub within : (i n : ℕ) → OpWrites (ints_in around.code (Some f)) (refs_in around.code (Some f)) (o i n) → i < ints_in around.code (Some f)
   pub is : (g : ℕ → Number) (n e m : ℕ) → m ≡ e * count + offset n → IsNumberOf around.targets (record l { ints = g; gate = Closed }) m (place n (Nth e))
   pub based : (n : ℕ) (e : Element) (q : ℕ) → HasBase (place n e) q → l.env q ≢ Empty
   pub rule : (table : ℕ → Mark) (pc : ℕ) (g : ℕ → Number) (from until : ℕ) (e : Mark) (next : Fits around.targets e (table (pc + 1))) (i n : ℕ) (elem : Element) → n < count → Plain around f (mark (record l { ints = g; gate = Closed }) from until)
-      → WritesWithin (ints_in around.code (Some f)) (refs_in around.code (Some f)) (o i n) → ((ps : List Pass) → IsElement (with_passes (record l { ints = g; gate = Closed }) ps) (g i) elem) → Less (set_number (record l { ints = g; gate = Closed }) i (place n elem)) e.label
+      → OpWrites (ints_in around.code (Some f)) (refs_in around.code (Some f)) (o i n) → ((ps : List Pass) → IsElement (with_passes (record l { ints = g; gate = Closed }) ps) (g i) elem) → Less (set_number (record l { ints = g; gate = Closed }) i (place n elem)) e.label
       → ((k : Know) → Tells around.targets k (mark (record l { ints = g; gate = Closed }) from until) → Tells around.targets (know_next (o i n) k) e) → IsLine around f table pc (mark (record l { ints = g; gate = Closed }) from until) (o i n)
 
 module _ (around : Setting) (f : ℕ) (D : (ℕ → Mark) → Type 0) (named : ℕ → Bool) (top : ℕ) (low : (p : ℕ) → named p ≡ true → p < top) (from : ℕ) where

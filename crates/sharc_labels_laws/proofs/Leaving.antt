@@ -1,28 +1,20 @@
 -- How blocks are left.
-use Rattle.std.proofs.Common.{◌≡◌, ℕ, ◌+◌, ◌≤◌, Bool, true, false, List, [], ◌∷◌, ◌++◌, length, drop, Some, refl, sym, ◌∙◌, subst, ⊎_elim, arith, append_assoc, pos}
-use Rattle.sharc_code.specs.Runs.{put}
-use Rattle.sharc_code.proofs.Places.{put_same, put_other}
+use Rattle.std.proofs.Common.{◌≡◌, ℕ, ◌+◌, ◌≤◌, List, [], ◌∷◌, ◌++◌, length, drop, Some, subst, ⊎_elim}
 use Rattle.sharc_flat_form.specs.declared.op.Op.{Op}
 use Rattle.sharc_flat_form.specs.declared.op.Op.TheVariants as op
-use Rattle.sharc_flat_form.specs.declared.op.Spot.{Spot}
 use Rattle.sharc_flat.specs.Scope.{Context, int_count, ref_count, ends_from, leaves}
-use Rattle.sharc_flat.specs.Flattened.{zero_code}
-use Rattle.sharc_invariant.specs.Labels.{Empty, Refers, Exactly, Label, LessEntry, LessNumber, IsScoped, fill, set_number}
+use Rattle.sharc_invariant.specs.Labels.{Label, IsScoped}
 use Rattle.sharc_invariant.specs.Typed.{ints_in, refs_in}
-use Rattle.sharc_invariant.proofs.Scoped.{less_entry_refl}
 use Rattle.sharc_labels_laws.specs.Stretches.{Mark, Setting, Way, Fits, IsLine, AreOpen, LeadsAmong}
-use Rattle.sharc_labels_laws.specs.Places.{AreLow, mark}
+use Rattle.sharc_labels_laws.specs.Places.{AreLow}
 use Rattle.sharc_labels_laws.specs.Premises.{Typing}
 use Rattle.sharc_labels_laws.specs.Declared.{StandsBefore, before}
-use Rattle.sharc_labels_laws.specs.Left.{back, AreNested, LeavesAreTyped, IsOpen, GivesNothing, JumpsAreTyped, ReturnsAreTyped}
+use Rattle.sharc_labels_laws.specs.Left.{back, AreNested, LeavesAreTyped, IsOpen, JumpsAreTyped}
 use Rattle.sharc_labels_laws.proofs.Fitting.{fits_same}
 use Rattle.sharc_labels_laws.proofs.Ending.{ends_typed}
 use Rattle.sharc_labels_laws.proofs.Flow as flow
 use Rattle.sharc_labels_laws.proofs.Rules.{on_jump}
-use Rattle.sharc_labels_laws.proofs.Handing.{on_return}
-use Rattle.sharc_labels_laws.proofs.Parts.{At, then_do, none, constant_at, within_left}
-use Rattle.sharc_labels_laws.proofs.Accessed.{Frame}
-use Rattle.sharc_labels_laws.proofs.Expressing.{null_at}
+use Rattle.sharc_labels_laws.proofs.Parts.{then_do, none, within_left}
 
 module _ (z : Setting) (f : ℕ) (ways : List Way) where
   abbrev fi : ℕ
@@ -62,50 +54,3 @@ leaves_typed z f ways y c d l k low here inside h = leave z f ways y d k inside 
 pub jumps_typed : JumpsAreTyped
 jumps_typed z f ways y c l here q opens s os p = last z f ways s (before c l) os (op.Jump q) p
     (λ table pc h known. on_jump z f table pc (before c l) q (record { owned = here.stands.owned; scoped = h; closed = here.stands.stands.closed }) (way_at z f ways ways table q (before c l) known opens))
-
-module _ (z : Setting) (f : ℕ) (ways : List Way) (y : Typing) (c : Context) (low : AreLow (y.named c) (ref_count c.scope)) (no_ints : int_count c.scope ≡ 0) (no_refs : ref_count c.scope ≡ 0) (l : Label) (here : StandsBefore y c f l) (spot : Spot) (s : Mark) (os : List Op) (p : LeadsAmong z f ways s os (before c l)) where
-  abbrev i : ℕ
-  i = int_count c.scope
-
-  abbrev r : ℕ
-  r = ref_count c.scope
-
-  at : At z f (AreOpen z ways) (y.named c) r low i i r l
-  at = record { stands = here.stands.stands; owned = here.stands.owned }
-
-  frame : Frame z f (AreOpen z ways) y c low i i r l
-  frame = record { at = at; holds = here.stands.holds; high = here.stands.high; wide = here.stands.wide; early = here.stands.early }
-
-  -- all registers are free
-  nothing : (q : ℕ) → l.env q ≡ Empty
-  nothing q = here.stands.stands.free q (omega (arith, no_refs))
-
-  returned : (m : Mark) (xs : List Op) → LeadsAmong z f ways s xs m → ((table : ℕ → Mark) (pc : ℕ) → IsScoped (ints_in z.code (Some f)) (refs_in z.code (Some f)) m.label → IsLine z f table pc m (op.Return spot)) → LeadsAmong z f ways s (xs ++ op.Return spot ∷ []) s
-  returned m xs q line = last z f ways s m xs (op.Return spot) q (λ table pc h _. line table pc h)
-
-  returns : (b : Bool) → GivesNothing z f y c b → LeadsAmong z f ways s (os ++ (zero_code b 0 0 ++ op.Return spot ∷ [])) s
-  returns true h =
-      let k = fill l r (Refers h.0) r false in
-      let m = mark k i i in
-      let one = then_do z f (AreOpen z ways) (y.named c) r low i s (before c l) m os (op.Null r ∷ []) p (null_at z f ways y c low i i r l frame h.0 h.1) in
-      let there : k.env 0 ≡ Refers h.0 = subst (λ n. put l.env n (Refers h.0) 0 ≡ Refers h.0) (sym no_refs) (put_same l.env 0 (Refers h.0)) in
-      subst (λ xs. LeadsAmong z f ways s xs s) (append_assoc os (op.Null 0 ∷ []) (op.Return spot ∷ []))
-      (subst (λ n. LeadsAmong z f ways s ((os ++ op.Null n ∷ []) ++ op.Return spot ∷ []) s) no_refs
-      (returned m (os ++ op.Null r ∷ []) one (λ table pc g. on_return z f table pc m (record { owned = here.stands.owned; scoped = g }) spot refl
-      (subst (LessEntry k 0 (k.env 0)) (there ∙ sym h.2) (less_entry_refl k 0 (k.env 0)))
-      (subst (LessNumber (l.ints 0)) (sym h.3) tt)
-      (λ q ne. put_other l.env r q (Refers h.0) (λ e. ne (e ∙ no_refs)) ∙ nothing q))))
-  returns false h =
-      let k = set_number l i (Exactly (pos 0)) in
-      let m = mark k i (i + 1) in
-      let one = then_do z f (AreOpen z ways) (y.named c) r low i s (before c l) m os (op.Constant i (pos 0) ∷ []) p (constant_at z f (AreOpen z ways) (y.named c) r low i i r l at (pos 0)) in
-      let there : k.ints 0 ≡ Exactly (pos 0) = subst (λ n. put l.ints n (Exactly (pos 0)) 0 ≡ Exactly (pos 0)) (sym no_ints) (put_same l.ints 0 (Exactly (pos 0))) in
-      subst (λ xs. LeadsAmong z f ways s xs s) (append_assoc os (op.Constant 0 (pos 0) ∷ []) (op.Return spot ∷ []))
-      (subst (λ n. LeadsAmong z f ways s ((os ++ op.Constant n (pos 0) ∷ []) ++ op.Return spot ∷ []) s) no_ints
-      (returned m (os ++ op.Constant i (pos 0) ∷ []) one (λ table pc g. on_return z f table pc m (record { owned = here.stands.owned; scoped = g }) spot refl
-      (subst (LessEntry k 0 (k.env 0)) (nothing 0 ∙ sym h.0) (less_entry_refl k 0 (k.env 0)))
-      (subst (λ x. LessNumber x (z.signature f).result_int) (sym there) h.1)
-      (λ q _. nothing q))))
-
-pub returns_typed : ReturnsAreTyped
-returns_typed z f ways y c low no_ints no_refs l here b h spot s os p = returns z f ways y c low no_ints no_refs l here spot s os p b h

@@ -1,5 +1,6 @@
 pub mod Fitting
 pub mod Standing
+pub mod Losing
 pub mod Telling
 pub mod Rules
 pub mod Flow
@@ -25,5 +26,6 @@ pub mod Decided
 pub mod Declaring
 pub mod Ending
 pub mod Leaving
+pub mod Returning
 pub mod Blocks
 pub mod Beginning

@@ -9,7 +9,7 @@ use Rattle.sharc_flat_form.specs.declared.op.Op.{Op}
 use Rattle.sharc_flat_form.specs.declared.op.Op.TheVariants as op
 use Rattle.sharc_flat_form.specs.declared.op.Spot.{Spot}
 use Rattle.sharc_flat.specs.Scope.{Context, ref_count}
-use Rattle.sharc_flat.specs.Places.{Target, variable, in_global, in_global_at, in_object, in_object_at, base_width, cell_of}
+use Rattle.sharc_flat.specs.Places.{Target, variable, in_global, in_global_at, in_object, in_object_at, has_base, base_width, cell_of}
 use Rattle.sharc_flat.specs.Flattened.{unlocked_code}
 use Rattle.sharc_flat.specs.Suits.{is_cell}
 use Rattle.sharc_invariant.specs.Labels.{Empty, Refers, Element, Number, Anything, Gate, Closed, Holds, Label, Less, LessNumber, LessEntry, LessGate, EntryMentions, IsFree, fill, empty, without_index}
@@ -17,12 +17,12 @@ use Rattle.sharc_invariant.specs.Typed.{IsBaseFree, ints_in, refs_in, without_ba
 use Rattle.sharc_invariant.proofs.Scoped.{less_refl, less_entry_refl, less_number_refl, scoped_fill}
 use Rattle.sharc_labels_laws.specs.Stretches.{Mark, Setting}
 use Rattle.sharc_labels_laws.specs.Places.{IsNamed, mark}
-use Rattle.sharc_labels_laws.specs.Premises.{Typing, HasBaseAt, HasMutex, Ground, MutexTyped}
+use Rattle.sharc_labels_laws.specs.Premises.{Typing, IsPointerCopy, HasBaseAt, HasMutex, Ground, MutexTyped}
 use Rattle.sharc_labels_laws.proofs.Standing.{less_by, less_emptied_over, without_same, scoped_frame, unnamed}
 use Rattle.sharc_labels_laws.proofs.Moves.{on_held, on_not_held, on_room, on_lock, on_unlock}
 use Rattle.sharc_labels_laws.proofs.Parts.{P, At, does, then_do, none, told_same, same_number, pop_at}
 use Rattle.sharc_labels_laws.proofs.Values.{over}
-use Rattle.sharc_labels_laws.proofs.Accessed.{Frame, placed, ints_of, ints_below, at_base, placed_by, env_base, same_base, is_base}
+use Rattle.sharc_labels_laws.proofs.Accessed.{Frame, IsInFrame, placed, ints_of, ints_below, at_base, placed_by, framed, copy_base, env_base, same_base, is_base}
 
 module _ (around : Setting) (f : ℕ) (D : (ℕ → Mark) → Type 0) (y : Typing) (c : Context) (low : (p : ℕ) → y.named c p ≡ true → p < ref_count c.scope) (from : ℕ) where
   abbrev N : ℕ → Bool
@@ -201,7 +201,7 @@ module _ (around : Setting) (f : ℕ) (D : (ℕ → Mark) → Type 0) (y : Typin
         less (cells.ObjectAt q j) base = subst (λ z. Less (record (fill (over X g Closed) (r + 1) (X.env z) (X.same z) true) { room = true }) two) (sym base) less_two
 
   -- ---- by what is named
-  module _ (i r : ℕ) (l : Label) (fr : Frame around f D y c low from i r l) (ground : Ground) (e : Element) (v : ℕ) (base_fits : IsNamed N r ground.base) (copy : v ≤ r) where
+  module _ (i r : ℕ) (l : Label) (fr : Frame around f D y c low from i r l) (ground : Ground) (e : Element) (v : ℕ) (base_fits : IsNamed N r ground.base) (copy : v ≤ r) (copies : IsPointerCopy y c ground.pointer v) where
     abbrev Start : Target → Mark
     Start t = placed around f D y c low from t None ground e i r v l
 
@@ -211,64 +211,75 @@ module _ (around : Setting) (f : ℕ) (D : (ℕ → Mark) → Type 0) (y : Typin
     low_ints : (t : Target) (j : ℕ) → j < i → ints_for t j ≡ l.ints j
     low_ints t j lt = ints_below around f D y c low from t None ground e i r l.ints j lt
 
-    mutex_global : (t : Target) → MutexTyped around y c f t None ground → HasBaseAt t ground r l → HasMutex around (over l (ints_for t) Closed) (cell_of c.globals i r t)
-    mutex_global t h base = h e i r (over l (ints_for t) Closed) (placed_by around f D y c low from i r l fr None ground e v base_fits copy t l (λ q lt. refl) (λ q lt. refl) fr.at.owned base (ints_for t) (λ j lt. refl))
+    abbrev InIt : Target → Type 0
+    InIt t = IsInFrame around f D y c low from r t
+
+    mutex_global : (t : Target) → InIt t → MutexTyped around y c f t None ground → HasBaseAt t ground r l → has_base t ≡ false → HasMutex around (over l (ints_for t) Closed) (cell_of c.globals i r t)
+    mutex_global t in_it h base none = h e i r (over l (ints_for t) Closed)
+        (placed_by around f D y c low from i r l fr None ground e v base_fits copy t l (λ q lt. refl) (λ q lt. refl) fr.at.owned base in_it (λ z. absurd (false≢true (sym none ∙ z))) (ints_for t) (λ j lt. refl))
 
     abbrev X2 : Label
     X2 = fill l r (Refers ground.base) v true
 
-    mutex_object : (t : Target) → MutexTyped around y c f t None ground → HasBaseAt t ground r X2 → HasMutex around (over X2 (ints_for t) Closed) (cell_of c.globals i r t)
-    mutex_object t h base = h e i r (over X2 (ints_for t) Closed) (placed_by around f D y c low from i r l fr None ground e v base_fits copy t X2 (env_base around f D y c low from i r l fr None ground e v base_fits copy) (same_base around f D y c low from i r l fr None ground e v base_fits copy) fr.at.owned base (ints_for t) (λ j lt. refl))
+    mutex_object : (t : Target) → InIt t → MutexTyped around y c f t None ground → HasBaseAt t ground r X2 → HasMutex around (over X2 (ints_for t) Closed) (cell_of c.globals i r t)
+    mutex_object t in_it h base = h e i r (over X2 (ints_for t) Closed) (placed_by around f D y c low from i r l fr None ground e v base_fits copy t X2 (env_base around f D y c low from i r l fr None ground e v base_fits copy) (same_base around f D y c low from i r l fr None ground e v base_fits copy) fr.at.owned base in_it
+        (λ _. copy_base around f D y c low from i r l fr None ground e v base_fits copy copies) (ints_for t) (λ j lt. refl))
 
     base_is : (X2.env r ≡ Refers ground.base) × (X2.known r ≡ true)
     base_is = is_base around f D y c low from i r l fr None ground e v base_fits copy
 
     module _ (a b d : Spot) where
-      pub locked_at : (t : Target) → is_cell t ≡ true → MutexTyped around y c f t None ground → Q (Start t) (op.ChkNotHeld (cell_of c.globals i r t) a ∷ op.ChkRoom b ∷ op.Lock (cell_of c.globals i r t) d ∷ []) (mark l from i)
-      locked_at (variable x) is h = absurd (false≢true is)
-      locked_at (in_global g n) is h =
-          let m = mutex_global (in_global g n) h tt in
+      locked_in : (t : Target) → InIt t → is_cell t ≡ true → MutexTyped around y c f t None ground → Q (Start t) (op.ChkNotHeld (cell_of c.globals i r t) a ∷ op.ChkRoom b ∷ op.Lock (cell_of c.globals i r t) d ∷ []) (mark l from i)
+      locked_in (variable x) in_it is h = absurd (false≢true is)
+      locked_in (in_global g n) in_it is h =
+          let m = mutex_global (in_global g n) in_it h tt refl in
           joins (Start (in_global g n)) (mark (roomy (over l l.ints Closed)) from (i + 0)) (mark l from i) (op.ChkNotHeld _ a ∷ op.ChkRoom b ∷ []) (op.Lock _ d ∷ [])
           (ready_at i r l fr.at l.ints (λ j lt. refl) (i + 0) (omega arith) _ a b m) (lock_global i r l fr.at l.ints (λ j lt. refl) (i + 0) (omega arith) _ d tt m)
-      locked_at (in_global_at g n) is h =
+      locked_in (in_global_at g n) in_it is h =
           let t = in_global_at g n in
-          let m = mutex_global t h tt in
+          let m = mutex_global t in_it h tt refl in
           joins (Start t) (mark (roomy (over l (ints_for t) Closed)) from (i + 1)) (mark l from i) (op.ChkNotHeld _ a ∷ op.ChkRoom b ∷ []) (op.Lock _ d ∷ [])
           (ready_at i r l fr.at (ints_for t) (low_ints t) (i + 1) (omega arith) _ a b m) (lock_global i r l fr.at (ints_for t) (low_ints t) (i + 1) (omega arith) _ d tt m)
-      locked_at (in_object n) is h =
+      locked_in (in_object n) in_it is h =
           let t = in_object n in
-          let m = mutex_object t h base_is in
+          let m = mutex_object t in_it h base_is in
           let at2 = at_base around f D y c low from i r l fr None ground e v base_fits copy in
           joins (Start t) (mark (roomy (over X2 l.ints Closed)) from (i + 0)) (mark l from i) (op.ChkNotHeld _ a ∷ op.ChkRoom b ∷ []) (op.Lock _ d ∷ [])
           (ready_at i (r + 1) X2 at2 l.ints (λ j lt. refl) (i + 0) (omega arith) _ a b m) (lock_object i r l fr ground e v base_fits copy l.ints (λ j lt. refl) (i + 0) (omega arith) _ d refl m)
-      locked_at (in_object_at n) is h =
+      locked_in (in_object_at n) in_it is h =
           let t = in_object_at n in
-          let m = mutex_object t h base_is in
+          let m = mutex_object t in_it h base_is in
           let at2 = at_base around f D y c low from i r l fr None ground e v base_fits copy in
           joins (Start t) (mark (roomy (over X2 (ints_for t) Closed)) from (i + 1)) (mark l from i) (op.ChkNotHeld _ a ∷ op.ChkRoom b ∷ []) (op.Lock _ d ∷ [])
           (ready_at i (r + 1) X2 at2 (ints_for t) (low_ints t) (i + 1) (omega arith) _ a b m) (lock_object i r l fr ground e v base_fits copy (ints_for t) (low_ints t) (i + 1) (omega arith) _ d refl m)
 
-      pub unlocked_at : (t : Target) → is_cell t ≡ true → MutexTyped around y c f t None ground → Q (Start t) (op.ChkHeld (cell_of c.globals i r t) a ∷ op.Unlock (r + base_width t) (cell_of c.globals i r t) b ∷ unlocked_code r t) (mark l from i)
-      unlocked_at (variable x) is h = absurd (false≢true is)
-      unlocked_at (in_global g n) is h =
+      pub locked_at : (t : Target) → is_cell t ≡ true → MutexTyped around y c f t None ground → Q (Start t) (op.ChkNotHeld (cell_of c.globals i r t) a ∷ op.ChkRoom b ∷ op.Lock (cell_of c.globals i r t) d ∷ []) (mark l from i)
+      locked_at t is h = framed around f D y c low from i r l fr None ground e v base_fits copy t (Start t) (mark l from i) (op.ChkNotHeld (cell_of c.globals i r t) a ∷ op.ChkRoom b ∷ op.Lock (cell_of c.globals i r t) d ∷ []) (λ q lt. refl) (λ k. locked_in t k is h)
+
+      unlocked_in : (t : Target) → InIt t → is_cell t ≡ true → MutexTyped around y c f t None ground → Q (Start t) (op.ChkHeld (cell_of c.globals i r t) a ∷ op.Unlock (r + base_width t) (cell_of c.globals i r t) b ∷ unlocked_code r t) (mark l from i)
+      unlocked_in (variable x) in_it is h = absurd (false≢true is)
+      unlocked_in (in_global g n) in_it is h =
           let t = in_global g n in
-          let m = mutex_global t h tt in
+          let m = mutex_global t in_it h tt refl in
           joins (Start t) (mark (over l l.ints (Holds (cell_of c.globals i r t))) from (i + 0)) (mark l from i) (op.ChkHeld _ a ∷ []) (op.Unlock (r + 0) _ b ∷ [])
           (held_at i r l fr.at l.ints (λ j lt. refl) (i + 0) (omega arith) _ a m) (unlock_global i r l fr.at l.ints (λ j lt. refl) (i + 0) (omega arith) _ b (r + 0) (omega arith) tt m)
-      unlocked_at (in_global_at g n) is h =
+      unlocked_in (in_global_at g n) in_it is h =
           let t = in_global_at g n in
-          let m = mutex_global t h tt in
+          let m = mutex_global t in_it h tt refl in
           joins (Start t) (mark (over l (ints_for t) (Holds (cell_of c.globals i r t))) from (i + 1)) (mark l from i) (op.ChkHeld _ a ∷ []) (op.Unlock (r + 0) _ b ∷ [])
           (held_at i r l fr.at (ints_for t) (low_ints t) (i + 1) (omega arith) _ a m) (unlock_global i r l fr.at (ints_for t) (low_ints t) (i + 1) (omega arith) _ b (r + 0) (omega arith) tt m)
-      unlocked_at (in_object n) is h =
+      unlocked_in (in_object n) in_it is h =
           let t = in_object n in
-          let m = mutex_object t h base_is in
+          let m = mutex_object t in_it h base_is in
           let at2 = at_base around f D y c low from i r l fr None ground e v base_fits copy in
           joins (Start t) (mark (over X2 l.ints (Holds (cell_of c.globals i r t))) from (i + 0)) (mark l from i) (op.ChkHeld _ a ∷ []) (op.Unlock (r + 1) _ b ∷ op.Pop (r + 1) ∷ op.Pop r ∷ [])
           (held_at i (r + 1) X2 at2 l.ints (λ j lt. refl) (i + 0) (omega arith) _ a m) (unlock_object i r l fr ground e v base_fits copy l.ints (λ j lt. refl) (i + 0) (omega arith) _ b refl m)
-      unlocked_at (in_object_at n) is h =
+      unlocked_in (in_object_at n) in_it is h =
           let t = in_object_at n in
-          let m = mutex_object t h base_is in
+          let m = mutex_object t in_it h base_is in
           let at2 = at_base around f D y c low from i r l fr None ground e v base_fits copy in
           joins (Start t) (mark (over X2 (ints_for t) (Holds (cell_of c.globals i r t))) from (i + 1)) (mark l from i) (op.ChkHeld _ a ∷ []) (op.Unlock (r + 1) _ b ∷ op.Pop (r + 1) ∷ op.Pop r ∷ [])
           (held_at i (r + 1) X2 at2 (ints_for t) (low_ints t) (i + 1) (omega arith) _ a m) (unlock_object i r l fr ground e v base_fits copy (ints_for t) (low_ints t) (i + 1) (omega arith) _ b refl m)
+
+      pub unlocked_at : (t : Target) → is_cell t ≡ true → MutexTyped around y c f t None ground → Q (Start t) (op.ChkHeld (cell_of c.globals i r t) a ∷ op.Unlock (r + base_width t) (cell_of c.globals i r t) b ∷ unlocked_code r t) (mark l from i)
+      unlocked_at t is h = framed around f D y c low from i r l fr None ground e v base_fits copy t (Start t) (mark l from i) (op.ChkHeld (cell_of c.globals i r t) a ∷ op.Unlock (r + base_width t) (cell_of c.globals i r t) b ∷ unlocked_code r t) (λ q lt. refl) (λ k. unlocked_in t k is h)

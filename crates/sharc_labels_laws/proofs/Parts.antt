@@ -13,7 +13,7 @@ use Rattle.sharc_code.proofs.Places.{put_same, put_other, put_all}
 use Rattle.sharc_flat_form.specs.declared.op.Op.{Op}
 use Rattle.sharc_flat_form.specs.declared.op.Op.TheVariants as op
 use Rattle.sharc_flat_form.specs.declared.op.Spot.{Spot}
-use Rattle.sharc_flat_form.specs.Framed.{IsWide}
+use Rattle.sharc_flat_form.specs.Framed.{IsWide, OpWrites}
 use Rattle.sharc_flat.specs.Scope.{at_site}
 use Rattle.sharc_flat.specs.Places.{pointee_code}
 use Rattle.sharc_flat.specs.Flattened.{differ_code, compare_code, logical_code, either_code}
@@ -23,7 +23,7 @@ use Rattle.sharc_invariant.specs.Labels.{Entry, Empty, Refers, Number, Anything,
 use Rattle.sharc_invariant.specs.Typed.{is_shift, is_comparison, ints_in, refs_in}
 use Rattle.sharc_invariant.proofs.Scoped.{less_refl, less_entry_refl, less_number_refl, scoped_fill}
 use Rattle.sharc_typed.specs.Passes.{IsNumberOf}
-use Rattle.sharc_labels_laws.specs.Stretches.{WritesWithin, Mark, Setting, Tells, Fits, IsLine, AreWithin, LeadsWithin}
+use Rattle.sharc_labels_laws.specs.Stretches.{Mark, Setting, Tells, Fits, IsLine, AreWithin, LeadsWithin}
 use Rattle.sharc_labels_laws.specs.Places.{Stands, IsNamed, mark}
 use Rattle.sharc_labels_laws.proofs.Fitting.{fits_same, fits_by}
 use Rattle.sharc_labels_laws.proofs.Flow as flow
@@ -92,7 +92,7 @@ module _ (around : Setting) (f : ℕ) (D : (ℕ → Mark) → Type 0) (named : �
   none s e fits sc = λ w h. record { stretch = λ pc. flow.nothing around f D s pc e fits; scoped = sc h }
 
   -- one operation
-  pub does : (s : Mark) (o : Op) (e : Mark) → (WritesWithin fi fr o → Scoped s → Scoped e) → ((table : ℕ → Mark) (pc : ℕ) → WritesWithin fi fr o → Scoped s → Fits around.targets e (table (pc + 1)) → IsLine around f table pc s o) → P s (o ∷ []) e
+  pub does : (s : Mark) (o : Op) (e : Mark) → (OpWrites fi fr o → Scoped s → Scoped e) → ((table : ℕ → Mark) (pc : ℕ) → OpWrites fi fr o → Scoped s → Fits around.targets e (table (pc + 1)) → IsLine around f table pc s o) → P s (o ∷ []) e
   does s o e sc l = λ w h. record { stretch = λ pc. flow.line around f D s pc o e (λ table d le next. l table pc w.0 h next); scoped = sc w.0 h }
 
   pub before : (s m : Mark) (o : Op) (os : List Op) (e : Mark) → P s (o ∷ []) m → P m os e → P s (o ∷ os) e
@@ -107,7 +107,7 @@ module _ (around : Setting) (f : ℕ) (D : (ℕ → Mark) → Type 0) (named : �
   plain_at i r l until at h = record { owned = at.owned; scoped = h; closed = at.stands.closed }
 
   -- an operation that leaves all registers as they are
-  pub keeps : (i r : ℕ) (l : Label) → At i r l → (until : ℕ) (o : Op) → ((table : ℕ → Mark) (pc : ℕ) → WritesWithin fi fr o → Plain around f (mark l from until) → Fits around.targets (mark l from until) (table (pc + 1)) → IsLine around f table pc (mark l from until) o)
+  pub keeps : (i r : ℕ) (l : Label) → At i r l → (until : ℕ) (o : Op) → ((table : ℕ → Mark) (pc : ℕ) → OpWrites fi fr o → Plain around f (mark l from until) → Fits around.targets (mark l from until) (table (pc + 1)) → IsLine around f table pc (mark l from until) o)
       → P (mark l from until) (o ∷ []) (mark l from until)
   keeps i r l at until o rule = does (mark l from until) o (mark l from until) (λ w h. h) (λ table pc w h next. rule table pc w (plain_at i r l until at h) next)
 
@@ -160,8 +160,8 @@ module _ (around : Setting) (f : ℕ) (D : (ℕ → Mark) → Type 0) (named : �
 
   -- an operation that writes the first free integer register, after which no other one of those that were free is of use
   pub number_op : (i r : ℕ) (l : Label) → At i r l → (g : ℕ → Number) (c : Gate) (until : ℕ) → c ≡ Closed → ((j : ℕ) → j < i → g j ≡ l.ints j) → i ≤ until → (n : Number) → ((q : ℕ) → HasBase n q → q < r)
-      → (o : Op) → ((q : ℕ) → writes_ref o q ≡ false) → ((j : ℕ) → writes_int o j ≡ nat_eq j i) → IsGiven o i l (mark (record l { ints = g; gate = c }) from until) n → (WritesWithin fi fr o → i < fi)
-      → ((table : ℕ → Mark) (pc : ℕ) → WritesWithin fi fr o → Plain around f (mark (record l { ints = g; gate = c }) from until) → (next : Fits around.targets (with_number l i n) (table (pc + 1)))
+      → (o : Op) → ((q : ℕ) → writes_ref o q ≡ false) → ((j : ℕ) → writes_int o j ≡ nat_eq j i) → IsGiven o i l (mark (record l { ints = g; gate = c }) from until) n → (OpWrites fi fr o → i < fi)
+      → ((table : ℕ → Mark) (pc : ℕ) → OpWrites fi fr o → Plain around f (mark (record l { ints = g; gate = c }) from until) → (next : Fits around.targets (with_number l i n) (table (pc + 1)))
       → Less (set_number (record l { ints = g; gate = c }) i n) (set_number l i n)
       → ((k : Know) → Tells around.targets k (mark (record l { ints = g; gate = c }) from until) → Tells around.targets (know_next o k) (with_number l i n))
       → IsLine around f table pc (mark (record l { ints = g; gate = c }) from until) o)
@@ -398,30 +398,34 @@ module _ (around : Setting) (f : ℕ) (D : (ℕ → Mark) → Type 0) (named : �
   twice_at i r l at = then_do (mark l from i) (with_number l i (Within Char)) (with_number l i (Within Char)) (op.IsFalse i i ∷ []) (op.IsFalse i i ∷ [])
       (from_free i r l at (op.IsFalse i i) (Within Char) (false_at i r l at i)) (from_written i r l at (op.IsFalse i i) (Within Char) (Within Char) (false_at i r l at i))
 
-  -- over a piece, or into it
-  skips : (i r : ℕ) (l : Label) → At i r l → (e : Mark) (xs ys : List Op) → P (mark l from i) xs (mark l from i) → P (mark l from i) ys e → P (mark l from i) (op.SkipIfZero i (length xs) ∷ (xs ++ ys)) e
-  skips i r l at e xs ys p q = λ w h.
+  -- over a piece, or into it, after which less may be known
+  skips : (i r : ℕ) (l k : Label) → At i r l → Less l k → (e : Mark) (xs ys : List Op) → P (mark l from i) xs (mark k from i) → P (mark k from i) ys e → P (mark l from i) (op.SkipIfZero i (length xs) ∷ (xs ++ ys)) e
+  skips i r l k at less e xs ys p q = λ w h.
       let s = mark l from i in
       let a = p (within_left fi fr xs ys w.1) h in
-      let b = q (within_right fi fr xs ys w.1) h in
-      record { stretch = λ pc. flow.over around f D s s e pc i xs ys (plain_at i r l i at h) (fits_same around.targets s) (a.stretch (pc + 1)) (b.stretch (pc + 1 + length xs)); scoped = b.scoped }
+      let b = q (within_right fi fr xs ys w.1) a.scoped in
+      record { stretch = λ pc. flow.over around f D s (mark k from i) e pc i xs ys (plain_at i r l i at h) less (a.stretch (pc + 1)) (b.stretch (pc + 1 + length xs)); scoped = b.scoped }
 
-  pub logical_at : (i r : ℕ) (l : Label) → At i r l → (xs ys : List Op) → P (mark l from i) xs (mark l from i) → P (mark l from i) ys (mark l from i) → P (mark l from i) (logical_code i xs ys) (with_number l i (Within Char))
-  logical_at i r l at xs ys p q = then_do (mark l from i) (mark l from i) (with_number l i (Within Char)) xs _ p (skips i r l at (with_number l i (Within Char)) ys (op.IsFalse i i ∷ op.IsFalse i i ∷ []) q (twice_at i r l at))
+  -- the second operand, after the first one
+  module _ (i r : ℕ) (k m : Label) (at : At i r k) (at2 : At i r m) (less : Less k m) (s : Mark) (xs ys : List Op) (p : P s xs (mark k from i)) (q : P (mark k from i) ys (mark m from i)) where
+    pub logical_at : P s (logical_code i xs ys) (with_number m i (Within Char))
+    logical_at = then_do s (mark k from i) (with_number m i (Within Char)) xs _ p (skips i r k m at less (with_number m i (Within Char)) ys (op.IsFalse i i ∷ op.IsFalse i i ∷ []) q (twice_at i r m at2))
 
-  pub either_at : (i r : ℕ) (l : Label) → At i r l → (xs ys : List Op) → P (mark l from i) xs (mark l from i) → P (mark l from i) ys (mark l from i) → P (mark l from i) (either_code i xs ys) (with_number l i (Within Char))
-  either_at i r l at xs ys p q =
-      let s = mark l from i in
-      let e = with_number l i (Within Char) in
-      let F = op.IsFalse i i in
-      let one : P s (F ∷ []) s = number_dropped i r l at (Within Char) (F ∷ []) s (from_free i r l at F (Within Char) (false_at i r l at i)) in
-      let last : P s (F ∷ []) e = from_free i r l at F (Within Char) (false_at i r l at i) in
-      let count : length (ys ++ F ∷ []) ≡ length ys + 1 = length-append ys (F ∷ []) in
-      let same : op.SkipIfZero i (length (ys ++ F ∷ [])) ∷ ((ys ++ F ∷ []) ++ F ∷ []) ≡ op.SkipIfZero i (length ys + 1) ∷ (ys ++ (F ∷ F ∷ [])) =
-      ap (λ n. op.SkipIfZero i n ∷ ((ys ++ F ∷ []) ++ F ∷ [])) count ∙ ap (λ l. op.SkipIfZero i (length ys + 1) ∷ l) (append_assoc ys (F ∷ []) (F ∷ [])) in
-      then_do s s e xs _ p
-      (before s s F (op.SkipIfZero i (length ys + 1) ∷ (ys ++ (F ∷ F ∷ []))) e one
-      (subst (λ os. P s os e) same (skips i r l at e (ys ++ F ∷ []) (F ∷ []) (then_do s s s ys (F ∷ []) q one) last)))
+    pub either_at : P s (either_code i xs ys) (with_number m i (Within Char))
+    either_at =
+        let one = mark k from i in
+        let two = mark m from i in
+        let e = with_number m i (Within Char) in
+        let F = op.IsFalse i i in
+        let first : P one (F ∷ []) one = number_dropped i r k at (Within Char) (F ∷ []) one (from_free i r k at F (Within Char) (false_at i r k at i)) in
+        let second : P two (F ∷ []) two = number_dropped i r m at2 (Within Char) (F ∷ []) two (from_free i r m at2 F (Within Char) (false_at i r m at2 i)) in
+        let last : P two (F ∷ []) e = from_free i r m at2 F (Within Char) (false_at i r m at2 i) in
+        let count : length (ys ++ F ∷ []) ≡ length ys + 1 = length-append ys (F ∷ []) in
+        let same : op.SkipIfZero i (length (ys ++ F ∷ [])) ∷ ((ys ++ F ∷ []) ++ F ∷ []) ≡ op.SkipIfZero i (length ys + 1) ∷ (ys ++ (F ∷ F ∷ [])) =
+        ap (λ n. op.SkipIfZero i n ∷ ((ys ++ F ∷ []) ++ F ∷ [])) count ∙ ap (λ l. op.SkipIfZero i (length ys + 1) ∷ l) (append_assoc ys (F ∷ []) (F ∷ [])) in
+        then_do s one e xs _ p
+        (before one one F (op.SkipIfZero i (length ys + 1) ∷ (ys ++ (F ∷ F ∷ []))) e first
+        (subst (λ os. P one os e) same (skips i r k m at less e (ys ++ F ∷ []) (F ∷ []) (then_do one two two ys (F ∷ []) q second) last)))
 
   -- a pointer that is not NULL
   pub check_at : (i r : ℕ) (l : Label) → At i r l → (t : StaticType) (v : ℕ) (b : Bool) → IsNamed named r t → v ≤ r → (until : ℕ) (spot : Spot) → P (with_reference l r until t v b) (op.ChkNull r spot ∷ []) (with_reference l r until t v true)

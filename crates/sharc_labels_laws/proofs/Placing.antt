@@ -4,12 +4,13 @@ use Rattle.sharc_code.proofs.Places.{put_other}
 use Rattle.sharc_flat_form.specs.declared.op.Op.{Op}
 use Rattle.sharc_flat_form.specs.declared.op.Op.TheVariants as op
 use Rattle.sharc_flat_form.specs.declared.op.Spot.{Spot}
+use Rattle.sharc_flat_form.specs.Framed.{OpWrites}
 use Rattle.sharc_flat.specs.Scope.{Context, ref_count}
 use Rattle.sharc_flat.specs.Places.{guard_width, bounds_code}
 use Rattle.sharc_invariant.specs.Types.{StaticType, cells_of}
 use Rattle.sharc_invariant.specs.Labels.{Empty, Refers, Element, Number, OfElement, OfGlobal, Closed, Label, Fresh, set_number}
 use Rattle.sharc_invariant.specs.Typed.{ints_in, refs_in}
-use Rattle.sharc_labels_laws.specs.Stretches.{WritesWithin, Mark, Setting}
+use Rattle.sharc_labels_laws.specs.Stretches.{Mark, Setting}
 use Rattle.sharc_labels_laws.specs.Places.{IsPlain, mark}
 use Rattle.sharc_labels_laws.specs.Premises.{Typing}
 use Rattle.sharc_labels_laws.proofs.Rules.{on_bounds, on_global_bounds}
@@ -76,5 +77,5 @@ module _ (around : Setting) (f : ℕ) (D : (ℕ → Mark) → Type 0) (y : Typin
     is = λ g n e m h. omega (arith, h);
     based = λ n e q b. absurd b;
     rule = λ table pc g from until e next i n elem few plain in_it is_elem less told. on_global_bounds around f table pc (mark (record l { ints = g; gate = Closed }) from until) e next i elements count (first + n) spot elem plain
-        (subst (λ o. WritesWithin (ints_in around.code o) (refs_in around.code o) (op.GlobalBounds i elements count (first + n) spot)) (sym owned) in_it) is_elem less (λ _. told);
+        (subst (λ o. OpWrites (ints_in around.code o) (refs_in around.code o) (op.GlobalBounds i elements count (first + n) spot)) (sym owned) in_it) is_elem less (λ _. told);
   }

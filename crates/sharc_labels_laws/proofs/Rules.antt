@@ -10,7 +10,7 @@ use Rattle.sharc_code.proofs.Places.{eq_refl}
 use Rattle.sharc_flat_form.specs.declared.op.Op.{Op}
 use Rattle.sharc_flat_form.specs.declared.op.Op.TheVariants as op
 use Rattle.sharc_flat_form.specs.declared.op.Spot.{Spot}
-use Rattle.sharc_flat_form.specs.Framed.{IsWide}
+use Rattle.sharc_flat_form.specs.Framed.{IsWide, OpWrites}
 use Rattle.sharc_guard.specs.Known.{Access, access, Know, know_next, is_straight}
 use Rattle.sharc_invariant.specs.Types.{StaticType, cells_of}
 use Rattle.sharc_invariant.specs.Labels.{Refers, Exactly, Within, Indexes, OfElement, OfGlobal, Element, Closed, Pass, IsIn, Label, Less, Fresh, IsScoped, IsFree, set_number, fill, empty, knows, without_base}
@@ -18,7 +18,7 @@ use Rattle.sharc_invariant.specs.Typed.{IsVacant, Fits as FitsWidth, Operands, I
 use Rattle.sharc_typed.specs.Passes.{with_passes}
 use Rattle.sharc_typed.proofs.Alike.{same_reference, less_entry}
 use Rattle.sharc_typed.proofs.Preorder.{less_through}
-use Rattle.sharc_labels_laws.specs.Stretches.{WritesWithin, Mark, Setting, Tells, Fits, IsTypedAt, IsAtHand, IsLine}
+use Rattle.sharc_labels_laws.specs.Stretches.{Mark, Setting, Tells, Fits, IsTypedAt, IsAtHand, IsLine}
 use Rattle.sharc_labels_laws.proofs.Telling.{told}
 
 -- ---- less, with checks that are remembered
@@ -82,13 +82,14 @@ module _ (around : Setting) (f : ℕ) (table : ℕ → Mark) (pc : ℕ) (s : Mar
     tells = λ e. absurd (false≢true e);
   }
 
-  pub on_zero : (i n : ℕ) → Plain around f s → Reached s (pc + 1 + n) → Reached s (pc + 1) → IsLine around f table pc s (op.SkipIfZero i n)
+  -- where it leads over lines nothing is remembered
+  pub on_zero : (i n : ℕ) → Plain around f s → (pc + 1 + n ≤ around.lines) × Less s.label (table (pc + 1 + n)).label → Reached s (pc + 1) → IsLine around f table pc s (op.SkipIfZero i n)
   on_zero i n plain to next = record {
     owned = plain.owned;
     scoped = plain.scoped;
     typed = λ dropped passes repeats jumps on. (
       plain.closed,
-      (to.0, to_line s (pc + 1 + n) passes (passes pc) (jumps (pc + 1 + n) (eq_refl (pc + 1 + n))) to),
+      (to.0, with_less s.label (table (pc + 1 + n)).label (passes pc) (passes (pc + 1 + n)) to.1 (none_in (passes (pc + 1 + n)) (jumps (pc + 1 + n) (eq_refl (pc + 1 + n))) (passes pc))),
       with_less s.label (table (pc + 1)).label (passes pc) (passes (pc + 1)) next.1.less (λ p h. absurd (on p h)),
     );
     cells = λ a z. absurd (none-some a z);
@@ -182,7 +183,7 @@ module _ (around : Setting) (f : ℕ) (table : ℕ → Mark) (pc : ℕ) (s : Mar
     on_bounds i base count field spot type element plain int ref known is size within named less told = goes_on (op.Bounds i base count field spot) (λ a z. absurd (none-some a z)) plain told
         (λ dropped passes repeats jumps on. (plain.closed, int, ref, known, (type, is, size, within), (element, named (passes pc), lesser (set_number s.label i (OfElement base field element)) (passes pc) (passes (pc + 1)) less on)))
 
-    pub on_global_bounds : (i elements count field : ℕ) (spot : Spot) (element : Element) → Plain around f s → WritesWithin (ints_in around.code s.label.function) (refs_in around.code s.label.function) (op.GlobalBounds i elements count field spot)
+    pub on_global_bounds : (i elements count field : ℕ) (spot : Spot) (element : Element) → Plain around f s → OpWrites (ints_in around.code s.label.function) (refs_in around.code s.label.function) (op.GlobalBounds i elements count field spot)
         → ((ps : List Pass) → IsElement (with_passes s.label ps) (s.label.ints i) element) → Less (set_number s.label i (OfGlobal field count elements element)) e.label → Told (op.GlobalBounds i elements count field spot)
         → IsLine around f table pc s (op.GlobalBounds i elements count field spot)
     on_global_bounds i elements count field spot element plain writes named less told = goes_on (op.GlobalBounds i elements count field spot) (λ a z. absurd (none-some a z)) plain told

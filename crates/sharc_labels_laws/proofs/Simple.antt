@@ -6,6 +6,7 @@ use Rattle.sharc_tree.specs.Spans.{span_of}
 use Rattle.sharc_tree.specs.Tree.{Expression, Right, value, malloc, Simple, assign, does_call}
 use Rattle.sharc_names.specs.Kinds.{Kind, is_integer, declared_kind}
 use Rattle.sharc_code.specs.declared.instr.Register.{Register}
+use Rattle.sharc_code.specs.declared.instr.Width.{Width}
 use Rattle.sharc_code.specs.declared.instr.Register.TheVariants as registers
 use Rattle.sharc_code.specs.Runs.{put}
 use Rattle.sharc_code.proofs.Places.{put_same, put_other, put_all}
@@ -29,17 +30,19 @@ use Rattle.sharc_invariant.proofs.Scoped.{less_entry_refl, less_number_refl, sco
 use Rattle.sharc_typed.specs.Passes.{IsNumberOf}
 use Rattle.sharc_labels_laws.specs.Stretches.{Mark, Setting, Way, AreOpen}
 use Rattle.sharc_labels_laws.specs.Places.{IsNamed, IsPlain, AreLow, mark}
-use Rattle.sharc_labels_laws.specs.Premises.{Typing, Ground, number_in_global}
+use Rattle.sharc_labels_laws.specs.Premises.{Typing, IsPointerCopy, Ground, number_in_global}
 use Rattle.sharc_labels_laws.specs.Typable.{IsBare, IsTypeIn, ground_of, IsTypable}
-use Rattle.sharc_labels_laws.specs.Stated.{IsMade, CountTypable, ValueGoes, RightTypable, VariableAssigned, CellAssigned, Assigned, is_bare, Dropped, SimpleTypable}
+use Rattle.sharc_labels_laws.specs.Stated.{IsMade, CountTypable, ValueGoes, RightTypable, VariableAssigned, CellAssigned, Assigned, Dropped, SimpleTypable}
 use Rattle.sharc_labels_laws.proofs.Fitting.{fits_same}
+use Rattle.sharc_labels_laws.proofs.Losing.{with_copies, Loses, loses_none, loses_both, kept, below, loses_below, loses_there, small_there, lost_fill, pointer_kept}
 use Rattle.sharc_labels_laws.proofs.Standing.{less_by, scoped_frame}
 use Rattle.sharc_labels_laws.proofs.Telling.{told, other_than}
 use Rattle.sharc_labels_laws.proofs.Moves.{on_new}
 use Rattle.sharc_labels_laws.proofs.Parts.{P, does, then_do, none, enter, constant_at, positive_at, pop_at, same_number, none_some, number_dropped, width_at, with_number}
+use Rattle.sharc_labels_laws.proofs.Values.{over}
 use Rattle.sharc_labels_laws.proofs.Variables.{assign_at, assign_number_at}
-use Rattle.sharc_labels_laws.proofs.Accessed.{Frame, placed, int_store, reference_store}
-use Rattle.sharc_labels_laws.proofs.Expressing.{Value, PlaceValue, expressions, places, int_of, ref_of, in_frame, taken_number, frame_fill, frame_number, plain_base, no_bare}
+use Rattle.sharc_labels_laws.proofs.Accessed.{Frame, ints_of, placed, int_store, reference_store}
+use Rattle.sharc_labels_laws.proofs.Expressing.{Done, Value, PlaceValue, expressions, places, int_of, ref_of, in_frame, taken_number, lost_frame, frame_fill, frame_number, plain_frame}
 
 module _ (around : Setting) (f : ℕ) (ways : List Way) (y : Typing) (c : Context) (low : AreLow (y.named c) (ref_count c.scope)) where
   abbrev D : (ℕ → Mark) → Type 0
@@ -86,46 +89,88 @@ module _ (around : Setting) (f : ℕ) (ways : List Way) (y : Typing) (c : Contex
 
   -- ---- what is assigned
   -- a reference, or an integer that fits
+  pub record ReferenceAt (from i r : ℕ) (l : Label) (s : StaticType) (os : List Op) : Type 0 where
+    pub lost : ℕ → ℕ
+    pub loses : Loses N l.same lost
+    pub copy : ℕ
+    pub small : (copy ≡ r) ⊎ (copy < top)
+    pub piece : Q from (mark l from i) os (mark (fill (with_copies l lost) r (Refers s) copy false) from i)
+
+  pub record NumberAt (from i : ℕ) (l : Label) (w : Width) (os : List Op) : Type 0 where
+    pub lost : ℕ → ℕ
+    pub loses : Loses N l.same lost
+    pub piece : Q from (mark l from i) os (mark (set_number (with_copies l lost) i (Within w)) from i)
+
   abbrev pub Comes : ℕ → ℕ → ℕ → Label → Kind → StaticType → List Op → Bool → Type 0
-  Comes from i r l kind s os true = (copy : ℕ) × ((copy ≡ r) ⊎ (copy < top)) × Q from (mark l from i) os (mark (fill l r (Refers s) copy false) from i)
-  Comes from i r l kind s os false = Q from (mark l from i) os (mark (set_number l i (Within (width_of kind))) from i)
+  Comes from i r l kind s os true = ReferenceAt from i r l s os
+  Comes from i r l kind s os false = NumberAt from i l (width_of kind) os
 
-  counted : (from i r : ℕ) (l : Label) → F from i r l → (n : Option Expression) → CountTypable around f y c n → (number : Number) × IsPlain number × Q from (mark l from i) (elements_code c i r n) (with_number around f D N top low from l i number)
-  counted from i r l fr None h = (Exactly (pos 1), tt, constant_at around f D N top low from i r l fr.at (pos 1))
-  counted from i r l fr (Some n) h = let v = int_of around f ways y c low from i r l (expression_code c i r n) n h.1 (expressions around f ways y c low false from i r l fr (no_bare around f ways y c low l) n h.0) in (v.number, v.plain, v.piece)
+  -- nothing is lost where nothing but variables is at hand
+  pub reference_kept : (from i r : ℕ) (l : Label) → IsBare l → (s : StaticType) (os : List Op) → (v : ReferenceAt from i r l s os) → Q from (mark l from i) os (mark (fill l r (Refers s) v.copy false) from i)
+  reference_kept from i r l alone s os v = subst (λ k. Q from (mark l from i) os (mark (fill k r (Refers s) v.copy false) from i)) (kept N l v.lost v.loses alone) v.piece
 
-  pub rights : (bare : Bool) (from i r : ℕ) (l : Label) → F from i r l → IsBare bare l → (kind : Kind) (mode : Sharing) (s : StaticType) (x : Right) → RightTypable around f y bare c kind s x → Comes from i r l kind s (right_code c i r kind mode x) (is_reference kind)
-  rights bare from i r l fr alone kind mode s (value e) h = by (is_reference kind) h
+  pub number_kept : (from i : ℕ) (l : Label) → IsBare l → (w : Width) (os : List Op) → NumberAt from i l w os → Q from (mark l from i) os (mark (set_number l i (Within w)) from i)
+  number_kept from i l alone w os v = subst (λ k. Q from (mark l from i) os (mark (set_number k i (Within w)) from i)) (kept N l v.lost v.loses alone) v.piece
+
+  -- the number of elements
+  record Counted (from i : ℕ) (l : Label) (os : List Op) : Type 0 where
+    lost : ℕ → ℕ
+    loses : Loses N l.same lost
+    number : Number
+    plain : IsPlain number
+    piece : Q from (mark l from i) os (with_number around f D N top low from (with_copies l lost) i number)
+
+  counted : (from i r : ℕ) (l : Label) → F from i r l → (n : Option Expression) → CountTypable around f y c n → Counted from i l (elements_code c i r n)
+  counted from i r l fr None h = record { lost = l.same; loses = loses_none N l.same; number = Exactly (pos 1); plain = tt; piece = constant_at around f D N top low from i r l fr.at (pos 1) }
+  counted from i r l fr (Some n) h =
+      let v = int_of around f ways y c low from i r l (expression_code c i r n) n h.1 (expressions around f ways y c low from i r l fr n h.0) in
+      record { lost = v.lost; loses = v.loses; number = v.number; plain = v.plain; piece = v.piece }
+
+  pub rights : (from i r : ℕ) (l : Label) → F from i r l → (kind : Kind) (mode : Sharing) (s : StaticType) (x : Right) → RightTypable around f y c kind s x → Comes from i r l kind s (right_code c i r kind mode x) (is_reference kind)
+  rights from i r l fr kind mode s (value e) h = by (is_reference kind) h
     where
-      by : (b : Bool) → ValueGoes around f y bare c kind s e b → Comes from i r l kind s (expression_code c i r e ++ width_code i kind (span_of e).first) b
+      by : (b : Bool) → ValueGoes around f y c kind s e b → Comes from i r l kind s (expression_code c i r e ++ width_code i kind (span_of e).first) b
       by true h =
-          let w = ref_of around f ways y c low from i r l (expression_code c i r e) e h.1 (expressions around f ways y c low bare from i r l fr alone e h.0) s h.3 h.4 in
-          let end = mark (fill l r (Refers s) w.copy false) from i in (
-            w.copy,
-            w.small,
-            joins from (mark l from i) end end (expression_code c i r e) (width_code i kind (span_of e).first) w.piece
-                (subst (λ b. Q from end (cond b (op.ChkWidth (width_of kind) i (at_site (span_of e).first) ∷ []) []) end) (sym h.2) (none around f D N top low from end end (fits_same around.targets end) (λ z. z))),
-          )
+          let w = ref_of around f ways y c low from i r l (expression_code c i r e) e h.1 (expressions around f ways y c low from i r l fr e h.0) s h.3 h.4 in
+          let end = mark (fill (with_copies l w.lost) r (Refers s) w.copy false) from i in
+          record {
+            lost = w.lost;
+            loses = w.loses;
+            copy = w.copy;
+            small = w.small;
+            piece = joins from (mark l from i) end end (expression_code c i r e) (width_code i kind (span_of e).first) w.piece
+                (subst (λ b. Q from end (cond b (op.ChkWidth (width_of kind) i (at_site (span_of e).first) ∷ []) []) end) (sym h.2) (none around f D N top low from end end (fits_same around.targets end) (λ z. z)));
+          }
       by false h =
-          let n = int_of around f ways y c low from i r l (expression_code c i r e) e h.1 (expressions around f ways y c low bare from i r l fr alone e h.0) in
-          let start = with_number around f D N top low from l i n.number in
-          let end = mark (set_number l i (Within (width_of kind))) from i in
-          joins from (mark l from i) start end (expression_code c i r e) (width_code i kind (span_of e).first) n.piece
-          (subst (λ b. Q from start (cond b (op.ChkWidth (width_of kind) i (at_site (span_of e).first) ∷ []) []) end) (sym h.2)
-          (taken_number around f ways y c low start end (op.ChkWidth (width_of kind) i (at_site (span_of e).first) ∷ []) i n.number (width_of (kind_of c e)) (put_same l.ints i n.number) n.fits
-          (λ lt. width_at around f D N top low from i r l fr.at (width_of kind) n.number (at_site (span_of e).first) lt)))
-  rights bare from i r l fr alone kind mode s (malloc span n w) h =
-      let k = counted from i r l fr n h.3 in
-      let middle = with_number around f D N top low from l i k.0 in
-      let end = mark (fill l r (Refers s) r false) from i in
+          let n = int_of around f ways y c low from i r l (expression_code c i r e) e h.1 (expressions around f ways y c low from i r l fr e h.0) in
+          let k = with_copies l n.lost in
+          let fk = lost_frame around f ways y c low from i r l fr n.lost n.loses in
+          let start = with_number around f D N top low from k i n.number in
+          let end = mark (set_number k i (Within (width_of kind))) from i in
+          record {
+            lost = n.lost;
+            loses = n.loses;
+            piece = joins from (mark l from i) start end (expression_code c i r e) (width_code i kind (span_of e).first) n.piece
+                (subst (λ b. Q from start (cond b (op.ChkWidth (width_of kind) i (at_site (span_of e).first) ∷ []) []) end) (sym h.2)
+                (taken_number around f ways y c low start end (op.ChkWidth (width_of kind) i (at_site (span_of e).first) ∷ []) i n.number (width_of (kind_of c e)) (put_same l.ints i n.number) n.fits
+                (λ lt. width_at around f D N top low from i r k fk.at (width_of kind) n.number (at_site (span_of e).first) lt)));
+          }
+  rights from i r l fr kind mode s (malloc span n w) h =
+      let v = counted from i r l fr n h.3 in
+      let k = with_copies l v.lost in
+      let fk = lost_frame around f ways y c low from i r l fr v.lost v.loses in
+      let middle = with_number around f D N top low from k i v.number in
+      let end = mark (fill k r (Refers s) r false) from i in
       let size = element_cells c.program.typed (declared_kind w) in
-      let at2 = (frame_number around f ways y c low from i r l fr k.0 (λ q z. plain_base k.0 r q k.1 z)).at in
-      subst (Comes from i r l kind s (right_code c i r kind mode (malloc span n w))) (sym h.0) (
-        r,
-        inl refl,
-        enter around f D N top low from i r l fr.at i _ end (joins from (mark l from i) middle end (elements_code c i r n) (op.ChkPositive i (at_site span.first) ∷ op.New r i size _ ∷ []) k.2
-            (joins from middle middle end (op.ChkPositive i (at_site span.first) ∷ []) (op.New r i size _ ∷ []) (positive_at around f D N top low from (i + 1) r (set_number l i k.0) at2 (i + 1) i (at_site span.first)) (new_at from i r l fr k.0 k.1 s h.1 size h.2 _))),
-      )
+      let at2 = (plain_frame around f ways y c low from i r k fk v.number v.plain).at in
+      subst (Comes from i r l kind s (right_code c i r kind mode (malloc span n w))) (sym h.0) (record {
+        lost = v.lost;
+        loses = v.loses;
+        copy = r;
+        small = inl refl;
+        piece = enter around f D N top low from i r l fr.at i _ end (joins from (mark l from i) middle end (elements_code c i r n) (op.ChkPositive i (at_site span.first) ∷ op.New r i size _ ∷ []) v.piece
+            (joins from middle middle end (op.ChkPositive i (at_site span.first) ∷ []) (op.New r i size _ ∷ []) (positive_at around f D N top low from (i + 1) r (set_number k i v.number) at2 (i + 1) i (at_site span.first)) (new_at from i r k fk v.number v.plain s h.1 size h.2 _)));
+      })
 
   -- ---- with the registers of an lvalue at hand
   shut : (from i r : ℕ) (l : Label) → F from i r l → l ≡ record l { gate = Closed }
@@ -146,11 +191,47 @@ module _ (around : Setting) (f : ℕ) (ways : List Way) (y : Typing) (c : Contex
   placed_frame from i r l fr (in_object n) guard ground e v fits small = let k = fill l r (Refers ground.base) v true in frame_same from i (r + 1) (i + 0) (r + 1) k (frame_fill around f ways y c low from i r l fr ground.base v true fits small) (omega arith) refl
   placed_frame from i r l fr (in_object_at n) None ground e v fits small =
       let k = fill l r (Refers ground.base) v true in
-      frame_number around f ways y c low from i (r + 1) k (frame_fill around f ways y c low from i r l fr ground.base v true fits small) (OfElement r n e) (λ q b. omega (arith, b))
+      frame_number around f ways y c low from i (r + 1) k (frame_fill around f ways y c low from i r l fr ground.base v true fits small) (OfElement r n e) (λ q b. of_base q b)
+    where
+      of_base : (q : ℕ) → r ≡ q → (top ≤ q) × (q < r + 1)
+      of_base q b = let high = fr.high in (omega (arith, high, b), omega (arith, b))
   placed_frame from i r l fr (in_object_at n) (Some m) ground e v fits small =
       let k = fill l r (Refers ground.base) v true in
-      let one = frame_number around f ways y c low from i (r + 1) k (frame_fill around f ways y c low from i r l fr ground.base v true fits small) (OfElement r n e) (λ q b. omega (arith, b)) in
-      frame_same from (i + 1 + 1) (r + 1) (i + 2) (r + 1) (set_number (set_number k i (OfElement r n e)) (i + 1) (OfElement r m e)) (frame_number around f ways y c low from (i + 1) (r + 1) (set_number k i (OfElement r n e)) one (OfElement r m e) (λ q b. omega (arith, b))) (omega arith) refl
+      let one = frame_number around f ways y c low from i (r + 1) k (frame_fill around f ways y c low from i r l fr ground.base v true fits small) (OfElement r n e) (λ q b. of_base q b) in
+      frame_same from (i + 1 + 1) (r + 1) (i + 2) (r + 1) (set_number (set_number k i (OfElement r n e)) (i + 1) (OfElement r m e)) (frame_number around f ways y c low from (i + 1) (r + 1) (set_number k i (OfElement r n e)) one (OfElement r m e) (λ q b. of_base q b)) (omega arith) refl
+    where
+      of_base : (q : ℕ) → r ≡ q → (top ≤ q) × (q < r + 1)
+      of_base q b = let high = fr.high in (omega (arith, high, b), omega (arith, b))
+
+  -- what is lost of its base while the value is found
+  record PlacedLess (from i r : ℕ) (t : Target) (guard : Option ℕ) (ground : Ground) (e : Element) (v : ℕ) (l : Label) (lost : ℕ → ℕ) : Type 0 where
+    copy : ℕ
+    small : copy ≤ r
+    copies : IsPointerCopy y c ground.pointer copy
+    fewer : ℕ → ℕ
+    loses : Loses N l.same fewer
+    is : with_copies (placed around f D y c low from t guard ground e i r v l).label lost ≡ (placed around f D y c low from t guard ground e i r copy (with_copies l fewer)).label
+
+  placed_less : (from i r : ℕ) (t : Target) (guard : Option ℕ) (ground : Ground) (e : Element) (v : ℕ) (l : Label) → v ≤ r → IsPointerCopy y c ground.pointer v → (lost : ℕ → ℕ) → Loses N (placed around f D y c low from t guard ground e i r v l).label.same lost → PlacedLess from i r t guard ground e v l lost
+  placed_less from i r (variable x) guard ground e v l small copies lost h = record { copy = v; small = small; copies = copies; fewer = lost; loses = h; is = refl }
+  placed_less from i r (in_global g n) guard ground e v l small copies lost h = record { copy = v; small = small; copies = copies; fewer = lost; loses = h; is = refl }
+  placed_less from i r (in_global_at g n) guard ground e v l small copies lost h = record { copy = v; small = small; copies = copies; fewer = lost; loses = h; is = refl }
+  placed_less from i r (in_object n) guard ground e v l small copies lost h = record {
+    copy = lost r;
+    small = small_there N l.same r v lost h small;
+    copies = pointer_kept y c v (lost r) r (loses_there N l.same r v lost h) ground.pointer copies;
+    fewer = below l.same r lost;
+    loses = loses_below N l.same r v lost h;
+    is = ap (λ m. over m (ints_of around f D y c low from (in_object n) guard ground e i r l.ints) Closed) (lost_fill l r (Refers ground.base) v true lost);
+  }
+  placed_less from i r (in_object_at n) guard ground e v l small copies lost h = record {
+    copy = lost r;
+    small = small_there N l.same r v lost h small;
+    copies = pointer_kept y c v (lost r) r (loses_there N l.same r v lost h) ground.pointer copies;
+    fewer = below l.same r lost;
+    loses = loses_below N l.same r v lost h;
+    is = ap (λ m. over m (ints_of around f D y c low from (in_object_at n) guard ground e i r l.ints) Closed) (lost_fill l r (Refers ground.base) v true lost);
+  }
 
   store_is : (i r vi vr : ℕ) (site : Site) (lvalue : Lvalue) (mode : Sharing) (b : Bool) (t : Target) → is_cell t ≡ true → cell_store_code c i r vi vr site lvalue mode b t ≡ store_code c i r vi vr site lvalue mode b t
   store_is i r vi vr site lvalue mode b (variable x) h = absurd (false≢true h)
@@ -160,91 +241,152 @@ module _ (around : Setting) (f : ℕ) (ways : List Way) (y : Typing) (c : Contex
   store_is i r vi vr site lvalue mode b (in_object_at n) h = refl
 
   -- ---- to a cell
+  -- what was said at first is said again, but of copies that are lost
+  record Reached (from i : ℕ) (start : Mark) (l : Label) (same : ℕ → ℕ) (os : List Op) : Type 0 where
+    lost : ℕ → ℕ
+    loses : Loses N same lost
+    piece : Q from start os (mark (with_copies l lost) from i)
+
   cell_assigned : (from i r : ℕ) (l : Label) → F from i r l → (u : Expression) (s : StaticType) (mode : Sharing) (x : Right) (t : Target) → is_cell t ≡ true → (xs : List Op) → PlaceValue around f ways y c low from i r l xs t (guard_of c u) (ground_of around f y c u) → CellAssigned around f y c u s t (is_ref c u)
-      → IsTypeIn around f y c s → RightTypable around f y false c (kind_of c u) s x
-      → Q from (mark l from i) (xs ++ (right_code c (i + index_width t (guard_of c u)) (r + base_width t) (kind_of c u) mode x ++ store_code c i r (i + index_width t (guard_of c u)) (r + base_width t) (span_of u).first (lvalue_in c u) (mode_of c u) (is_ref c u) t)) (mark l from i)
+      → IsTypeIn around f y c s → RightTypable around f y c (kind_of c u) s x
+      → Done around f ways y c low from i l (xs ++ (right_code c (i + index_width t (guard_of c u)) (r + base_width t) (kind_of c u) mode x ++ store_code c i r (i + index_width t (guard_of c u)) (r + base_width t) (span_of u).first (lvalue_in c u) (mode_of c u) (is_ref c u) t))
   cell_assigned from i r l fr u s mode x t cell xs p assigned type right =
-      let guard = guard_of c u in
-      let ground = ground_of around f y c u in
-      let start = placed around f D y c low from t guard ground p.element i r p.copy l in
-      let fp = placed_frame from i r l fr t guard ground p.element p.copy p.fits p.small in
-      let v = rights false from (i + index_width t guard) (r + base_width t) start.label fp (no_bare around f ways y c low start.label) (kind_of c u) mode s x right in
-      joins from (mark l from i) start (mark l from i) xs _ p.piece
-      (subst (λ os. Q from start (right_code c (i + index_width t guard) (r + base_width t) (kind_of c u) mode x ++ os) (mark l from i)) (store_is i r (i + index_width t guard) (r + base_width t) (span_of u).first (lvalue_in c u) (mode_of c u) (is_ref c u) t cell)
-      (stored (is_ref c u) v assigned))
+      let d = stored (is_ref c u) (rights from (i + iw) (r + base_width t) start.label placed_there (kind_of c u) mode s x right) assigned in
+      record {
+        lost = d.lost;
+        loses = loses_both N l.same p.lost d.lost p.loses d.loses;
+        piece = joins from (mark l from i) start (mark (with_copies l d.lost) from i) xs _ p.piece
+            (subst (λ os. Q from start (right_code c (i + iw) (r + base_width t) (kind_of c u) mode x ++ os) (mark (with_copies l d.lost) from i)) (store_is i r (i + iw) (r + base_width t) (span_of u).first (lvalue_in c u) (mode_of c u) (is_ref c u) t cell) d.piece);
+      }
     where
-      stored : (b : Bool) → Comes from (i + index_width t (guard_of c u)) (r + base_width t) (placed around f D y c low from t (guard_of c u) (ground_of around f y c u) p.element i r p.copy l).label (kind_of c u) s (right_code c (i + index_width t (guard_of c u)) (r + base_width t) (kind_of c u) mode x) b
-          → CellAssigned around f y c u s t b
-          → Q from (placed around f D y c low from t (guard_of c u) (ground_of around f y c u) p.element i r p.copy l)
-          (right_code c (i + index_width t (guard_of c u)) (r + base_width t) (kind_of c u) mode x ++ cell_store_code c i r (i + index_width t (guard_of c u)) (r + base_width t) (span_of u).first (lvalue_in c u) (mode_of c u) b t) (mark l from i)
+      guard : Option ℕ
+      guard = guard_of c u
+
+      ground : Ground
+      ground = ground_of around f y c u
+
+      iw : ℕ
+      iw = index_width t guard
+
+      k : Label
+      k = with_copies l p.lost
+
+      fk : F from i r k
+      fk = lost_frame around f ways y c low from i r l fr p.lost p.loses
+
+      start : Mark
+      start = placed around f D y c low from t guard ground p.element i r p.copy k
+
+      placed_there : F from (i + iw) (r + base_width t) start.label
+      placed_there = placed_frame from i r k fk t guard ground p.element p.copy p.fits p.small
+
+      stored : (b : Bool) → Comes from (i + iw) (r + base_width t) start.label (kind_of c u) s (right_code c (i + iw) (r + base_width t) (kind_of c u) mode x) b → CellAssigned around f y c u s t b
+          → Reached from i start l p.lost (right_code c (i + iw) (r + base_width t) (kind_of c u) mode x ++ cell_store_code c i r (i + iw) (r + base_width t) (span_of u).first (lvalue_in c u) (mode_of c u) b t)
       stored true v h =
           let high = fr.high in
-          joins from (placed around f D y c low from t (guard_of c u) (ground_of around f y c u) p.element i r p.copy l)
-          (mark (fill (placed around f D y c low from t (guard_of c u) (ground_of around f y c u) p.element i r p.copy l).label (r + base_width t) (Refers s) v.0 false) from (i + index_width t (guard_of c u))) (mark l from i)
-          (right_code c (i + index_width t (guard_of c u)) (r + base_width t) (kind_of c u) mode x) _ v.2
-          (reference_store around f D y c low from i r l fr (guard_of c u) (ground_of around f y c u) p.element p.copy p.fits p.small (span_of u).first (lvalue_in c u) (mode_of c u) s (in_frame around f ways y c low from i r l fr s type) v.0 false t cell
-          (⊎_elim (λ (e : v.0 ≡ r + base_width t). omega (arith, e)) (λ (lt : v.0 < top). omega (arith, lt, high)) v.1) (i + index_width t (guard_of c u)) h)
+          let q = placed_less from i r t guard ground p.element p.copy k p.small p.copies v.lost v.loses in
+          let m = with_copies l q.fewer in
+          let fm = lost_frame around f ways y c low from i r k fk q.fewer q.loses in
+          let middle = mark (fill (placed around f D y c low from t guard ground p.element i r q.copy m).label (r + base_width t) (Refers s) v.copy false) from (i + iw) in
+          let codes = right_code c (i + iw) (r + base_width t) (kind_of c u) mode x in
+          record {
+            lost = q.fewer;
+            loses = q.loses;
+            piece = joins from start middle (mark m from i) codes _ (subst (λ z. Q from start codes (mark (fill z (r + base_width t) (Refers s) v.copy false) from (i + iw))) q.is v.piece)
+                (reference_store around f D y c low from i r m fm guard ground p.element q.copy p.fits q.small q.copies (span_of u).first (lvalue_in c u) (mode_of c u) s (in_frame around f ways y c low from i r l fr s type) v.copy false t cell
+                (⊎_elim (λ (e : v.copy ≡ r + base_width t). omega (arith, e)) (λ (lt : v.copy < top). omega (arith, lt, high)) v.small) (i + iw) h);
+          }
       stored false v h =
-          joins from (placed around f D y c low from t (guard_of c u) (ground_of around f y c u) p.element i r p.copy l)
-          (mark (set_number (placed around f D y c low from t (guard_of c u) (ground_of around f y c u) p.element i r p.copy l).label (i + index_width t (guard_of c u)) (Within (width_of (kind_of c u)))) from (i + index_width t (guard_of c u))) (mark l from i)
-          (right_code c (i + index_width t (guard_of c u)) (r + base_width t) (kind_of c u) mode x) _ v
-          (int_store around f D y c low from i r l fr (guard_of c u) (ground_of around f y c u) p.element p.copy p.fits p.small (span_of u).first (lvalue_in c u) (mode_of c u) t cell (width_of (kind_of c u)) (r + base_width t) h)
+          let q = placed_less from i r t guard ground p.element p.copy k p.small p.copies v.lost v.loses in
+          let m = with_copies l q.fewer in
+          let fm = lost_frame around f ways y c low from i r k fk q.fewer q.loses in
+          let w = width_of (kind_of c u) in
+          let middle = mark (set_number (placed around f D y c low from t guard ground p.element i r q.copy m).label (i + iw) (Within w)) from (i + iw) in
+          let codes = right_code c (i + iw) (r + base_width t) (kind_of c u) mode x in
+          record {
+            lost = q.fewer;
+            loses = q.loses;
+            piece = joins from start middle (mark m from i) codes _ (subst (λ z. Q from start codes (mark (set_number z (i + iw) (Within w)) from (i + iw))) q.is v.piece)
+                (int_store around f D y c low from i r m fm guard ground p.element q.copy p.fits q.small q.copies (span_of u).first (lvalue_in c u) (mode_of c u) t cell w (r + base_width t) h);
+          }
 
   -- ---- to a variable
   -- the value in these registers, of which nothing else is at hand
-  pub settled : (from i r : ℕ) (l : Label) → F from i r l → IsBare true l → int_count c.scope ≤ from → (kind : Kind) (s : StaticType) (x : Register) (xs : List Op) → IsTypeIn around f y c s → VariableAssigned around f y c kind s x → Comes from i r l kind s xs (is_reference kind)
+  pub settled : (from i r : ℕ) (l : Label) → F from i r l → IsBare l → int_count c.scope ≤ from → (kind : Kind) (s : StaticType) (x : Register) (xs : List Op) → IsTypeIn around f y c s → VariableAssigned around f y c kind s x → Comes from i r l kind s xs (is_reference kind)
       → Q from (mark l from i) (xs ++ settle_code i r x) (mark l from i)
   settled from i r l fr alone whole kind s (registers.Int j) xs type h v =
       let w = width_of kind in
       let wide = fr.wide in
       let lt = h.1 in
       let n = subst (Comes from i r l kind s xs) h.0 v in
-      joins from (mark l from i) (mark (set_number l i (Within w)) from i) (mark l from i) xs (op.Move j i ∷ []) n
+      joins from (mark l from i) (mark (set_number l i (Within w)) from i) (mark l from i) xs (op.Move j i ∷ []) (number_kept from i l alone w xs n)
       (assign_number_at around f D N top low from i r l fr.at j w i (omega arith) (omega (arith, lt, wide)) (omega (arith, lt, whole)) (fr.holds.integers j h.1 ∙ ap Within h.2))
   settled from i r l fr alone whole kind s (registers.Reference q) xs type h v =
       let w = subst (Comes from i r l kind s xs) h.0 v in
-      let a = alone refl in
+      let a = alone in
       let high = fr.high in
       let lt = h.1 in
-      joins from (mark l from i) (mark (fill l r (Refers s) w.0 false) from i) (mark l from i) xs (op.Settle q r ∷ []) w.2
-      (assign_at around f D N top low from i r l fr.at fr.high s w.0 false q i (in_frame around f ways y c low from i r l fr s type) (omega (arith, lt, high)) (fr.holds.references q h.1 ∙ ap Refers h.2) h.3 (a.0 q) (λ p e. sym (a.0 p) ∙ e) (a.1 q) (λ j b. a.2 j q b))
+      joins from (mark l from i) (mark (fill l r (Refers s) w.copy false) from i) (mark l from i) xs (op.Settle q r ∷ []) (reference_kept from i r l alone s xs w)
+      (assign_at around f D N top low from i r l fr.at fr.high s w.copy false q i (in_frame around f ways y c low from i r l fr s type) (omega (arith, lt, high)) (fr.holds.references q h.1 ∙ ap Refers h.2) h.3 (a.0 q) (λ p e. sym (a.0 p) ∙ e) (a.1 q) (λ j b. a.2 j q b))
 
-  shut_bare : (bare : Bool) (l : Label) → IsBare bare l → IsBare bare (record l { gate = Closed })
-  shut_bare bare l h = h
+  shut_bare : (l : Label) → IsBare l → IsBare (record l { gate = Closed })
+  shut_bare l h = h
 
-  variable_assigned : (from i r : ℕ) (l : Label) → F from i r l → IsBare true l → int_count c.scope ≤ from → (kind : Kind) (mode : Sharing) (s : StaticType) (v : ℕ) (x : Right) (xs : List Op) → IsTypeIn around f y c s → VariableAssigned around f y c kind s (register_of c.scope v) → RightTypable around f y true c kind s x
+  variable_assigned : (from i r : ℕ) (l : Label) → F from i r l → IsBare l → int_count c.scope ≤ from → (kind : Kind) (mode : Sharing) (s : StaticType) (v : ℕ) (x : Right) (xs : List Op) → IsTypeIn around f y c s → VariableAssigned around f y c kind s (register_of c.scope v) → RightTypable around f y c kind s x
       → Q from (mark l from i) xs (mark (record l { gate = Closed }) from (i + 0)) → Q from (mark l from i) (xs ++ (right_code c (i + 0) (r + 0) kind mode x ++ settle_code (i + 0) (r + 0) (register_of c.scope v))) (mark l from i)
   variable_assigned from i r l fr alone whole kind mode s v x xs type assigned right p =
       let k = record l { gate = Closed } in
       let fk = frame_same from i r (i + 0) (r + 0) k (subst (F from i r) (shut from i r l fr) fr) (omega arith) (omega arith) in
-      let w = rights true from (i + 0) (r + 0) k fk (shut_bare true l alone) kind mode s x right in
-      let q = settled from (i + 0) (r + 0) k fk (shut_bare true l alone) whole kind s (register_of c.scope v) (right_code c (i + 0) (r + 0) kind mode x) type assigned w in
+      let w = rights from (i + 0) (r + 0) k fk kind mode s x right in
+      let q = settled from (i + 0) (r + 0) k fk (shut_bare l alone) whole kind s (register_of c.scope v) (right_code c (i + 0) (r + 0) kind mode x) type assigned w in
       let z : i + 0 ≡ i = omega arith in
       joins from (mark l from i) (mark k from (i + 0)) (mark l from i) xs _ p
       (subst (λ n. Q from (mark k from (i + 0)) (right_code c (i + 0) (r + 0) kind mode x ++ settle_code (i + 0) (r + 0) (register_of c.scope v)) (mark l from n)) z
       (subst (λ m. Q from (mark k from (i + 0)) (right_code c (i + 0) (r + 0) kind mode x ++ settle_code (i + 0) (r + 0) (register_of c.scope v)) (mark m from (i + 0))) (sym (shut from i r l fr)) q))
 
   -- ---- a call whose value is dropped
-  dropped : (from i r : ℕ) (l : Label) → F from i r l → IsBare true l → (e : Expression) → IsTypable around f y true c e → Dropped around f y c e (is_ref c e) → Q from (mark l from i) (expression_code c i r e ++ drop_code (is_ref c e) r) (mark l from i)
-  dropped from i r l fr alone e h d = by (is_ref c e) (is_integer (kind_of c e)) (expressions around f ways y c low true from i r l fr alone e h) d
+  dropped : (from i r : ℕ) (l : Label) → F from i r l → (e : Expression) → IsTypable around f y c e → Dropped around f y c e (is_ref c e) → Done around f ways y c low from i l (expression_code c i r e ++ drop_code (is_ref c e) r)
+  dropped from i r l fr e h d = by (is_ref c e) (is_integer (kind_of c e)) (expressions around f ways y c low from i r l fr e h) d
     where
-      by : (a b : Bool) → Value around f ways y c low from i r l (expression_code c i r e) e a b → Dropped around f y c e a → Q from (mark l from i) (expression_code c i r e ++ drop_code a r) (mark l from i)
+      by : (a b : Bool) → Value around f ways y c low from i r l (expression_code c i r e) e a b → Dropped around f y c e a → Done around f ways y c low from i l (expression_code c i r e ++ drop_code a r)
       by true b v d =
           let w = v d.0 d.1 d.2 in
-          joins from (mark l from i) (mark (fill l r (Refers d.0) w.copy false) from i) (mark l from i) (expression_code c i r e) (op.Pop r ∷ []) w.piece (pop_at around f D N top low from i r l fr.at fr.high d.0 w.copy false (in_frame around f ways y c low from i r l fr d.0 d.2) i)
-      by false true v d = joins from (mark l from i) (mark l from i) (mark l from i) (expression_code c i r e) [] (number_dropped around f D N top low from i r l fr.at v.number (expression_code c i r e) (mark l from i) v.piece) (none around f D N top low from (mark l from i) (mark l from i) (fits_same around.targets (mark l from i)) (λ z. z))
-      by false false v d = joins from (mark l from i) (mark l from i) (mark l from i) (expression_code c i r e) [] v (none around f D N top low from (mark l from i) (mark l from i) (fits_same around.targets (mark l from i)) (λ z. z))
+          let k = with_copies l w.lost in
+          let fk = lost_frame around f ways y c low from i r l fr w.lost w.loses in
+          record {
+            lost = w.lost;
+            loses = w.loses;
+            piece = joins from (mark l from i) (mark (fill k r (Refers d.0) w.copy false) from i) (mark k from i) (expression_code c i r e) (op.Pop r ∷ []) w.piece (pop_at around f D N top low from i r k fk.at fr.high d.0 w.copy false (in_frame around f ways y c low from i r l fr d.0 d.2) i);
+          }
+      by false true v d =
+          let k = with_copies l v.lost in
+          let fk = lost_frame around f ways y c low from i r l fr v.lost v.loses in
+          record {
+            lost = v.lost;
+            loses = v.loses;
+            piece = joins from (mark l from i) (mark k from i) (mark k from i) (expression_code c i r e) [] (number_dropped around f D N top low from i r k fk.at v.number (expression_code c i r e) (mark l from i) v.piece) (none around f D N top low from (mark k from i) (mark k from i) (fits_same around.targets (mark k from i)) (λ z. z));
+          }
+      by false false v d =
+          let k = with_copies l v.lost in
+          record {
+            lost = v.lost;
+            loses = v.loses;
+            piece = joins from (mark l from i) (mark k from i) (mark k from i) (expression_code c i r e) [] v.piece (none around f D N top low from (mark k from i) (mark k from i) (fits_same around.targets (mark k from i)) (λ z. z));
+          }
+
+  pub all_kept : (from i : ℕ) (l : Label) → IsBare l → (os : List Op) → Done around f ways y c low from i l os → Q from (mark l from i) os (mark l from i)
+  all_kept from i l alone os d = subst (λ k. Q from (mark l from i) os (mark k from i)) (kept N l d.lost d.loses alone) d.piece
 
   -- ---- the whole
-  pub simples : (from i r : ℕ) (l : Label) → F from i r l → IsBare true l → int_count c.scope ≤ from → (x : Simple) → SimpleTypable around f y c x → Q from (mark l from i) (simple_code c i r x) (mark l from i)
-  simples from i r l fr alone whole (does_call e) h = dropped from i r l fr alone e h.0 h.1
-  simples from i r l fr alone whole (assign span u x) h = by (target_of c u) (places around f ways y c low true from i r l fr alone (span_of u).first None (guard_of c u) u h.0) h.1.2 h.1.3
+  pub simples : (from i r : ℕ) (l : Label) → F from i r l → IsBare l → int_count c.scope ≤ from → (x : Simple) → SimpleTypable around f y c x → Q from (mark l from i) (simple_code c i r x) (mark l from i)
+  simples from i r l fr alone whole (does_call e) h = all_kept from i l alone _ (dropped from i r l fr e h.0 h.1)
+  simples from i r l fr alone whole (assign span u x) h = by (target_of c u) (places around f ways y c low from i r l fr (span_of u).first None (guard_of c u) u h.0) h.1.2 h.1.3
     where
-      by : (t : Target) → PlaceValue around f ways y c low from i r l (place_code c i r (span_of u).first None (guard_of c u) u) t (guard_of c u) (ground_of around f y c u) → Assigned around f y c u h.1.0 t → RightTypable around f y (is_bare around f y t) c (kind_of c u) h.1.0 x
+      by : (t : Target) → PlaceValue around f ways y c low from i r l (place_code c i r (span_of u).first None (guard_of c u) u) t (guard_of c u) (ground_of around f y c u) → Assigned around f y c u h.1.0 t → RightTypable around f y c (kind_of c u) h.1.0 x
           → Q from (mark l from i) (place_code c i r (span_of u).first None (guard_of c u) u ++ (right_code c (i + index_width t (guard_of c u)) (r + base_width t) (kind_of c u) (pointed c.program (row_at c.program.typed u)) x
           ++ store_code c i r (i + index_width t (guard_of c u)) (r + base_width t) (span_of u).first (lvalue_in c u) (mode_of c u) (is_ref c u) t)) (mark l from i)
-      by (variable v) p a right = variable_assigned from i r l fr alone whole (kind_of c u) (pointed c.program (row_at c.program.typed u)) h.1.0 v x (place_code c i r (span_of u).first None (guard_of c u) u) h.1.1 a right p.piece
-      by (in_global g n) p a right = cell_assigned from i r l fr u h.1.0 (pointed c.program (row_at c.program.typed u)) x (in_global g n) refl (place_code c i r (span_of u).first None (guard_of c u) u) p a h.1.1 right
-      by (in_global_at g n) p a right = cell_assigned from i r l fr u h.1.0 (pointed c.program (row_at c.program.typed u)) x (in_global_at g n) refl (place_code c i r (span_of u).first None (guard_of c u) u) p a h.1.1 right
-      by (in_object n) p a right = cell_assigned from i r l fr u h.1.0 (pointed c.program (row_at c.program.typed u)) x (in_object n) refl (place_code c i r (span_of u).first None (guard_of c u) u) p a h.1.1 right
-      by (in_object_at n) p a right = cell_assigned from i r l fr u h.1.0 (pointed c.program (row_at c.program.typed u)) x (in_object_at n) refl (place_code c i r (span_of u).first None (guard_of c u) u) p a h.1.1 right
+      by (variable v) p a right = variable_assigned from i r l fr alone whole (kind_of c u) (pointed c.program (row_at c.program.typed u)) h.1.0 v x (place_code c i r (span_of u).first None (guard_of c u) u) h.1.1 a right (subst (λ k. Q from (mark l from i) (place_code c i r (span_of u).first None (guard_of c u) u) (mark (record k { gate = Closed }) from (i + 0))) (kept N l p.lost p.loses alone) p.piece)
+      by (in_global g n) p a right = all_kept from i l alone _ (cell_assigned from i r l fr u h.1.0 (pointed c.program (row_at c.program.typed u)) x (in_global g n) refl (place_code c i r (span_of u).first None (guard_of c u) u) p a h.1.1 right)
+      by (in_global_at g n) p a right = all_kept from i l alone _ (cell_assigned from i r l fr u h.1.0 (pointed c.program (row_at c.program.typed u)) x (in_global_at g n) refl (place_code c i r (span_of u).first None (guard_of c u) u) p a h.1.1 right)
+      by (in_object n) p a right = all_kept from i l alone _ (cell_assigned from i r l fr u h.1.0 (pointed c.program (row_at c.program.typed u)) x (in_object n) refl (place_code c i r (span_of u).first None (guard_of c u) u) p a h.1.1 right)
+      by (in_object_at n) p a right = all_kept from i l alone _ (cell_assigned from i r l fr u h.1.0 (pointed c.program (row_at c.program.typed u)) x (in_object_at n) refl (place_code c i r (span_of u).first None (guard_of c u) u) p a h.1.1 right)

@@ -8,6 +8,7 @@ use Rattle.sharc_code.proofs.Places.{put_same, put_other, put_all}
 use Rattle.sharc_flat_form.specs.declared.op.Op.{Op}
 use Rattle.sharc_flat_form.specs.declared.op.Op.TheVariants as op
 use Rattle.sharc_flat_form.specs.declared.op.Spot.{Spot}
+use Rattle.sharc_flat_form.specs.Framed.{OpWrites}
 use Rattle.sharc_invariant.specs.Types.{StaticType, Field, FieldType, Mentions}
 use Rattle.sharc_invariant.specs.Types.FieldMode.{Readonly}
 use Rattle.sharc_invariant.specs.Types.Content.{Integer, Pointer}
@@ -15,7 +16,7 @@ use Rattle.sharc_invariant.specs.Labels.{Empty, Refers, Number, Anything, Within
 use Rattle.sharc_invariant.specs.Typed.{IsVacant, PointsTo, HasCell, Fits as FitsWidth, ints_in, refs_in}
 use Rattle.sharc_invariant.proofs.Scoped.{less_refl, less_entry_refl, less_number_refl, scoped_fill}
 use Rattle.sharc_typed.specs.Passes.{IsNumberOf}
-use Rattle.sharc_labels_laws.specs.Stretches.{WritesWithin, Mark, Setting, Fits, IsAtHand, IsLine}
+use Rattle.sharc_labels_laws.specs.Stretches.{Mark, Setting, Fits, IsAtHand, IsLine}
 use Rattle.sharc_labels_laws.specs.Places.{IsNamed, MayReach, mark}
 use Rattle.sharc_labels_laws.proofs.Standing.{less_by, without_same, uncopied, scoped_frame, unnamed, stands_number}
 use Rattle.sharc_labels_laws.proofs.Telling.{told, other_than}
@@ -42,7 +43,7 @@ module _ (around : Setting) (f : ℕ) (D : (ℕ → Mark) → Type 0) (named : �
   abbrev Scoped : Mark → Type 0
   Scoped s = IsScoped fi fr s.label
 
-  one : (s : Mark) (o : Op) (e : Mark) → (WritesWithin fi fr o → Scoped s → Scoped e) → ((table : ℕ → Mark) (pc : ℕ) → WritesWithin fi fr o → Scoped s → Fits around.targets e (table (pc + 1)) → IsLine around f table pc s o) → Q s (o ∷ []) e
+  one : (s : Mark) (o : Op) (e : Mark) → (OpWrites fi fr o → Scoped s → Scoped e) → ((table : ℕ → Mark) (pc : ℕ) → OpWrites fi fr o → Scoped s → Fits around.targets e (table (pc + 1)) → IsLine around f table pc s o) → Q s (o ∷ []) e
   one = does around f D named top low from
 
   -- A label of which so many registers are taken, with anything in the integer registers that are free, and any gate.

@@ -8,12 +8,13 @@ use Rattle.sharc_code.specs.Runs.{put}
 use Rattle.sharc_code.proofs.Places.{eq_refl, put_same, put_other, put_all}
 use Rattle.sharc_flat_form.specs.declared.op.Op.{Op}
 use Rattle.sharc_flat_form.specs.declared.op.Op.TheVariants as op
-use Rattle.sharc_invariant.specs.Types.{StaticType}
+use Rattle.sharc_flat_form.specs.Framed.{OpWrites}
+use Rattle.sharc_invariant.specs.Types.{StaticType, Mentions}
 use Rattle.sharc_invariant.specs.Labels.{Entry, Empty, Refers, Number, Within, Closed, IsIn, Label, Less, Itself, IsCopy, LessNumber, LessEntry, LessGate, HasBase, EntryMentions, IsScoped, IsFree, set_number, fill, empty, without_copies, without_index}
 use Rattle.sharc_invariant.specs.Typed.{ints_in, refs_in, moved_copy}
 use Rattle.sharc_invariant.proofs.Scoped.{less_entry_refl, less_number_refl, scoped_fill}
 use Rattle.sharc_typed.specs.Passes.{IsNumberOf}
-use Rattle.sharc_labels_laws.specs.Stretches.{WritesWithin, Mark, Setting, Fits, IsLine}
+use Rattle.sharc_labels_laws.specs.Stretches.{Mark, Setting, Fits, IsLine}
 use Rattle.sharc_labels_laws.specs.Places.{IsNamed, mark}
 use Rattle.sharc_labels_laws.proofs.Standing.{less_by, without_same, uncopied, scoped_frame, unnamed}
 use Rattle.sharc_labels_laws.proofs.Telling.{told, other_than, same_as}
@@ -21,7 +22,7 @@ use Rattle.sharc_labels_laws.proofs.Rules.{on_move, on_local}
 use Rattle.sharc_labels_laws.proofs.Moves.{on_settle}
 use Rattle.sharc_labels_laws.proofs.Parts.{P, does, At, same_number, number_op, none_some, with_reference, with_number, scoped_below, number_below, number_above}
 
-either_false : (a b : Bool) → (a || b) ≡ false → (a ≡ false) × (b ≡ false)
+pub either_false : (a b : Bool) → (a || b) ≡ false → (a ≡ false) × (b ≡ false)
 either_false true b e = absurd (false≢true (sym e))
 either_false false b e = (refl, e)
 
@@ -47,7 +48,7 @@ module _ (around : Setting) (f : ℕ) (D : (ℕ → Mark) → Type 0) (named : �
   abbrev Scoped : Mark → Type 0
   Scoped s = IsScoped fi fr s.label
 
-  one : (s : Mark) (o : Op) (e : Mark) → (WritesWithin fi fr o → Scoped s → Scoped e) → ((table : ℕ → Mark) (pc : ℕ) → WritesWithin fi fr o → Scoped s → Fits around.targets e (table (pc + 1)) → IsLine around f table pc s o) → Q s (o ∷ []) e
+  one : (s : Mark) (o : Op) (e : Mark) → (OpWrites fi fr o → Scoped s → Scoped e) → ((table : ℕ → Mark) (pc : ℕ) → OpWrites fi fr o → Scoped s → Fits around.targets e (table (pc + 1)) → IsLine around f table pc s o) → Q s (o ∷ []) e
   one = does around f D named top low from
 
   module _ (i r : ℕ) (l : Label) (at : Here i r l) where
@@ -101,10 +102,10 @@ module _ (around : Setting) (f : ℕ) (D : (ℕ → Mark) → Type 0) (named : �
             (λ (ne : j ≡ x → ⊥). subst (λ y. LessNumber y (l.ints j)) (sym (put_other (put l.ints i (Within w)) x j (put l.ints i (Within w) i) ne))
             (⊎_elim (λ (e : j ≡ i). subst (LessNumber (put l.ints i (Within w) j)) (sym (at.stands.numbers j (omega (arith, e)))) tt) (λ (no : j ≡ i → ⊥). number_same (put l.ints i (Within w) j) (l.ints j) (put_other l.ints i j (Within w) no)) (cases_eq j i))) (cases_eq j x)
 
-    -- a variable of this type, which no type names and of which no copy and no element is at hand
-    pub assign_at : top ≤ r → (t : StaticType) (v : ℕ) (b : Bool) (x until : ℕ) → IsNamed named r t → x < r → l.env x ≡ Refers t → named x ≡ false → l.same x ≡ x → ((q : ℕ) → l.same q ≡ x → q ≡ x) → (l.known x ≡ true → ⊥) → ((j : ℕ) → HasBase (l.ints j) x → ⊥)
+    -- a variable of this type, which no type names that is at hand, and of which no copy and no element is at hand
+    pub assign_free_at : top ≤ r → (t : StaticType) (v : ℕ) (b : Bool) (x until : ℕ) → IsNamed named r t → x < r → l.env x ≡ Refers t → (Mentions t x → ⊥) → ((q : ℕ) → EntryMentions (l.env q) x → ⊥) → l.same x ≡ x → ((q : ℕ) → l.same q ≡ x → q ≡ x) → (l.known x ≡ true → ⊥) → ((j : ℕ) → HasBase (l.ints j) x → ⊥)
         → Q (with_reference around f D named top low from l r until t v b) (op.Settle x r ∷ []) (mark l from until)
-    assign_at le t v b x until fits lt is unnamed_x itself single unknown_x unbased_x =
+    assign_free_at le t v b x until fits lt is no_type no_path itself single unknown_x unbased_x =
         let k = fill l r (Refers t) v b in
         let k1 = empty k x in
         let k2 = empty k1 r in
@@ -113,7 +114,7 @@ module _ (around : Setting) (f : ℕ) (D : (ℕ → Mark) → Type 0) (named : �
         let apart : x ≡ r → ⊥ = λ e. omega (arith, e, lt) in
         let back : r ≡ x → ⊥ = λ e. omega (arith, e, lt) in
         let env_r : k1.env r ≡ Refers t = put_other k.env x r Empty back ∙ put_same l.env r (Refers t) in
-        let free_x : IsFree k x = record { paths = λ q _ m. put_all (λ q y. EntryMentions y x → ⊥) l.env r (Refers t) (λ m. absurd (false≢true (sym unnamed_x ∙ (fits x m).1))) (λ q _ m. absurd (false≢true (sym unnamed_x ∙ (at.stands.paths q x m).1))) q m } in
+        let free_x : IsFree k x = record { paths = λ q _ m. put_all (λ q y. EntryMentions y x → ⊥) l.env r (Refers t) (λ m. absurd (no_type m)) (λ q _ m. absurd (no_path q m)) q m } in
         let free_r : IsFree k r = record { paths = λ q ne m. put_all (λ q y. (q ≡ r → ⊥) → EntryMentions y r → ⊥) l.env r (Refers t) (λ no _. no refl) (λ q _ no m. let z = low r (at.stands.paths q r m).1 in omega (arith, z, le)) q ne m } in
         one (mark k from until) (op.Settle x r) (mark l from until) (λ _ h. scoped_below around f D named top low from i r l at r (omega arith) (Refers t) v b h)
         (λ table pc in_it h next. on_settle around f table pc (mark k from until) (mark l from until) next (record { owned = at.owned; scoped = h }) x r refl (in_refs x in_it.0) free_x (in_refs r in_it.1) free_r
@@ -140,6 +141,11 @@ module _ (around : Setting) (f : ℕ) (D : (ℕ → Mark) → Type 0) (named : �
         (λ _ know s. told around.targets (op.Settle x r) know (mark k from until) (mark l from until) s (λ q y _ e. absurd (none_some y e))
         (λ q a _. sym (put_other l.same r q v (other_than q r (either_false (nat_eq q x) (nat_eq q r) a).1)))
         (λ j m _ _ a. absurd (false≢true a)) (λ j m a z _ e. number_below around f D named top low from i r l at r (omega arith) (Refers t) v b j m (s.numbers j m a z e))))
+
+    -- that types never name
+    pub assign_at : top ≤ r → (t : StaticType) (v : ℕ) (b : Bool) (x until : ℕ) → IsNamed named r t → x < r → l.env x ≡ Refers t → named x ≡ false → l.same x ≡ x → ((q : ℕ) → l.same q ≡ x → q ≡ x) → (l.known x ≡ true → ⊥) → ((j : ℕ) → HasBase (l.ints j) x → ⊥)
+        → Q (with_reference around f D named top low from l r until t v b) (op.Settle x r ∷ []) (mark l from until)
+    assign_at le t v b x until fits lt is unnamed_x = assign_free_at le t v b x until fits lt is (λ m. false≢true (sym unnamed_x ∙ (fits x m).1)) (λ q m. false≢true (sym unnamed_x ∙ (at.stands.paths q x m).1))
 
     -- ---- the base
     pub settle_base_at : top ≤ r → (s t : StaticType) (v : ℕ) (a b : Bool) (until : ℕ) → IsNamed named r s → IsNamed named r t → v ≤ r

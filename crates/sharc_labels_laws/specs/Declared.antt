@@ -5,7 +5,7 @@ use Rattle.sharc_tree.specs.Tree.{Right, Local}
 use Rattle.sharc_names.specs.Kinds.{declared_kind}
 use Rattle.sharc_code.specs.declared.instr.Width.{Width}
 use Rattle.sharc_meaning.specs.State.{is_reference}
-use Rattle.sharc_flat.specs.Scope.{Context, int_count, ref_count, register_of}
+use Rattle.sharc_flat.specs.Scope.{Context, slot_kind, int_count, ref_count}
 use Rattle.sharc_flat.specs.Places.{width_of}
 use Rattle.sharc_flat.specs.Flattened.{with_variable, local_code}
 use Rattle.sharc_invariant.specs.Types.{StaticType}
@@ -14,13 +14,13 @@ use Rattle.sharc_labels_laws.specs.Stretches.{Mark, Setting, Way, LeadsAmong}
 use Rattle.sharc_labels_laws.specs.Places.{AreLow, mark}
 use Rattle.sharc_labels_laws.specs.Premises.{Typing}
 use Rattle.sharc_labels_laws.specs.Typable.{IsBare, IsTypeIn, StandsIn}
-use Rattle.sharc_labels_laws.specs.Stated.{RightTypable, VariableAssigned}
+use Rattle.sharc_labels_laws.specs.Stated.{RightTypable}
 
--- the variables that stood have the types that they had, and the new one is no constant that types name
+-- the variables that stood have the types that they had, and types name those constants of them that they named
 pub record Keeps (y : Typing) (c d : Context) : Type 0 where
   pub pointers : (q : ℕ) → q < ref_count c.scope → y.pointer d q ≡ y.pointer c q
   pub widths : (j : ℕ) → j < int_count c.scope → y.width d j ≡ y.width c j
-  pub names : (q : ℕ) → y.named d q ≡ y.named c q
+  pub names : (q : ℕ) → q < ref_count c.scope → y.named d q ≡ y.named c q
 
 -- it takes the first free register of its bank
 pub record BeginsReference (y : Typing) (c d : Context) (s : StaticType) : Type 0 where
@@ -43,11 +43,14 @@ declared_label c l s w true = fill l (ref_count c.scope) (Refers s) (ref_count c
 declared_label c l s w false = set_number l (int_count c.scope) (Within w)
 
 module _ (z : Setting) (f : ℕ) (y : Typing) where
+  -- what it begins with, where it stands already
   abbrev pub InitialTypable : Context → Declaration → StaticType → Option Right → Type 0
   InitialTypable d declared s None = Unit {0}
-  InitialTypable d declared s (Some x) = VariableAssigned z f y d (declared_kind declared.written) s (register_of d.scope declared.name.site.token) × RightTypable z f y true d (declared_kind declared.written) s x
+  InitialTypable d declared s (Some x) = RightTypable z f y d (declared_kind declared.written) s x
 
+  -- no variable that stands is declared at its token
   pub record LocalTypable (c : Context) (l : Local) (s : StaticType) : Type 0 where
+    pub fresh : slot_kind c.scope l.declaration.name.site.token ≡ None
     pub keeps : Keeps y c (with_variable c l.declaration)
     pub begins : Begins y c (with_variable c l.declaration) s (width_of (declared_kind l.declaration.written)) (is_reference (declared_kind l.declaration.written))
     pub type : IsTypeIn z f y c s
@@ -57,7 +60,7 @@ module _ (z : Setting) (f : ℕ) (y : Typing) where
 -- Before a statement the registers of the variables are taken, and no other; so it is behind a declaration, with one more.
 pub record StandsBefore (y : Typing) (c : Context) (f : ℕ) (l : Label) : Type 0 where
   pub stands : StandsIn y c f (int_count c.scope) (int_count c.scope) (ref_count c.scope) l
-  pub bare : IsBare true l
+  pub bare : IsBare l
 
 abbrev pub before : Context → Label → Mark
 before c l = mark l (int_count c.scope) (int_count c.scope)
@@ -68,5 +71,6 @@ module _ (z : Setting) (f : ℕ) (ways : List Way) (y : Typing) (c : Context) (l
     pub leads : LeadsAmong z f ways (before c l) (local_code c local) (before (with_variable c local.declaration) k)
 
 abbrev pub LocalsAreTyped : Type 0
-LocalsAreTyped = (z : Setting) (f : ℕ) (ways : List Way) (y : Typing) (c : Context) → AreLow (y.named c) (ref_count c.scope) → (l : Label) → StandsBefore y c f l → (local : Local) (s : StaticType) → LocalTypable z f y c local s
+LocalsAreTyped = (z : Setting) (f : ℕ) (ways : List Way) (y : Typing) (c : Context) → AreLow (y.named c) (ref_count c.scope) → (l : Label) → StandsBefore y c f l → (local : Local) (s : StaticType)
+    → AreLow (y.named (with_variable c local.declaration)) (ref_count (with_variable c local.declaration).scope) → LocalTypable z f y c local s
     → LocalLeads z f ways y c l local (declared_label c l s (width_of (declared_kind local.declaration.written)) (is_reference (declared_kind local.declaration.written)))

@@ -16,8 +16,8 @@ use Rattle.sharc_invariant.specs.Labels.{Refers, Number, Within, Label, LessNumb
 use Rattle.sharc_typed.specs.Passes.{TypedAnyhow, Knows}
 use Rattle.sharc_labels_laws.specs.Stretches.{Mark, Setting, Tells, IsLine, flat_labels, Way, LeadsAmong}
 use Rattle.sharc_labels_laws.specs.Places.{Stands, IsNamed, IsPlain, AreLow, mark}
-use Rattle.sharc_labels_laws.specs.Premises.{Typing}
-use Rattle.sharc_labels_laws.specs.Typable.{IsBare, IsCopyOf, GoesTo, StandsIn, HasType, IsTypable}
+use Rattle.sharc_labels_laws.specs.Premises.{Typing, IsCopyOf}
+use Rattle.sharc_labels_laws.specs.Typable.{IsBare, GoesTo, StandsIn, HasType, IsTypable}
 use Rattle.sharc_labels_laws.specs.Stated.{SimpleTypable}
 
 -- ---- lines
@@ -86,10 +86,10 @@ PartsAreTyped = (z : Setting) (f : ℕ) (ways : List Way) (named : ℕ → Bool)
 
 -- ---- expressions
 module _ (z : Setting) (f : ℕ) (ways : List Way) (y : Typing) (c : Context) (from i r : ℕ) (l : Label) (os : List Op) (e : Expression) where
-  -- A reference of the type to which it goes comes to the first free register, and may be a copy of a variable's.
+  -- A reference of the type to which it goes comes to the first free register, and may be a copy of a variable's: that of a variable that types name is.
   pub record ReferenceComes (s : StaticType) : Type 0 where
     pub copy : ℕ
-    pub of_variable : IsCopyOf c e copy
+    pub of_variable : IsCopyOf y c e copy
     pub is : (copy ≡ r) ⊎ (copy < ref_count c.scope)
     pub leads : LeadsAmong z f ways (mark l from i) os (mark (fill l r (Refers s) copy false) from i)
 
@@ -106,18 +106,18 @@ module _ (z : Setting) (f : ℕ) (ways : List Way) (y : Typing) (c : Context) (f
   ValueComes false true = NumberComes
   ValueComes false false = LeadsAmong z f ways (mark l from i) os (mark l from i)
 
--- The code of an expression of which the types say what is asked is typed, wherever it is.
+-- The code of an expression of which the types say what is asked is typed, wherever it is, if nothing is at hand but variables.
 abbrev pub ExpressionsAreTyped : Type 0
-ExpressionsAreTyped = (z : Setting) (f : ℕ) (ways : List Way) (y : Typing) (c : Context) → AreLow (y.named c) (ref_count c.scope) → (from i r : ℕ) (l : Label) → StandsIn y c f from i r l → (bare : Bool) → IsBare bare l → (e : Expression) → IsTypable z f y bare c e
+ExpressionsAreTyped = (z : Setting) (f : ℕ) (ways : List Way) (y : Typing) (c : Context) → AreLow (y.named c) (ref_count c.scope) → (from i r : ℕ) (l : Label) → StandsIn y c f from i r l → IsBare l → (e : Expression) → IsTypable z f y c e
     → ValueComes z f ways y c from i r l (expression_code c i r e) e (is_ref c e) (is_integer (kind_of c e))
 
 -- ---- simple statements
 -- An assignment or a call of which the types say what is asked, where nothing is at hand.
 abbrev pub SimplesAreTyped : Type 0
-SimplesAreTyped = (z : Setting) (f : ℕ) (ways : List Way) (y : Typing) (c : Context) → AreLow (y.named c) (ref_count c.scope) → (from i r : ℕ) (l : Label) → StandsIn y c f from i r l → IsBare true l → int_count c.scope ≤ from → (x : Simple) → SimpleTypable z f y c x
+SimplesAreTyped = (z : Setting) (f : ℕ) (ways : List Way) (y : Typing) (c : Context) → AreLow (y.named c) (ref_count c.scope) → (from i r : ℕ) (l : Label) → StandsIn y c f from i r l → IsBare l → int_count c.scope ≤ from → (x : Simple) → SimpleTypable z f y c x
     → LeadsAmong z f ways (mark l from i) (simple_code c i r x) (mark l from i)
 
 -- A test, whose value comes to the first free register.
 abbrev pub TestsAreTyped : Type 0
-TestsAreTyped = (z : Setting) (f : ℕ) (ways : List Way) (y : Typing) (c : Context) → AreLow (y.named c) (ref_count c.scope) → (from i r : ℕ) (l : Label) → StandsIn y c f from i r l → (bare : Bool) → IsBare bare l → (e : Expression) → IsTypable z f y bare c e → HasType z f y c e
+TestsAreTyped = (z : Setting) (f : ℕ) (ways : List Way) (y : Typing) (c : Context) → AreLow (y.named c) (ref_count c.scope) → (from i r : ℕ) (l : Label) → StandsIn y c f from i r l → IsBare l → (e : Expression) → IsTypable z f y c e → HasType z f y c e
     → LeadsAmong z f ways (mark l from i) (expression_code c i r e ++ truth_code (is_ref c e) i r) (mark l from i)

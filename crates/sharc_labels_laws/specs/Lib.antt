@@ -7,6 +7,7 @@ pub mod Decided
 pub mod Declared
 pub mod Ended
 pub mod Left
+pub mod Returned
 pub mod Blocks
 pub mod Begun
 pub mod Laws

@@ -4,7 +4,6 @@ use Rattle.sharc_code.specs.declared.code.Code.{Code}
 use Rattle.sharc_code.specs.declared.instr.Cell.{Cell}
 use Rattle.sharc_code.specs.declared.instr.Cell.TheVariants as cells
 use Rattle.sharc_flat_form.specs.declared.op.Op.{Op}
-use Rattle.sharc_flat_form.specs.declared.op.Op.TheVariants as op
 use Rattle.sharc_flat_form.specs.Framed.{OpWrites}
 use Rattle.sharc_guard.specs.Known.{is_straight, leads_to, Access, access, Know, know_next}
 use Rattle.sharc_invariant.specs.Types.{Targets, StaticType}
@@ -89,14 +88,10 @@ pub record Stretch (z : Setting) (f : ℕ) (known : (ℕ → Mark) → Type 0) (
   pub begins : Fits z.targets s (first marks e)
   pub runs : (table : ℕ → Mark) → known table → pc + length os ≤ z.lines → Agrees table pc marks → Fits z.targets e (table (pc + length os)) → AreLines z f table pc os
 
--- what an operation writes is in the frame, and so is what a call gives back
-abbrev pub WritesWithin : ℕ → ℕ → Op → Type 0
-WritesWithin ints refs (op.Call f i r spot) = (i < ints) × (r < refs)
-WritesWithin ints refs o = OpWrites ints refs o
-
+-- what the operations write is in the frame
 abbrev pub AreWithin : ℕ → ℕ → List Op → Type 0
 AreWithin ints refs [] = Unit {0}
-AreWithin ints refs (o ∷ os) = WritesWithin ints refs o × AreWithin ints refs os
+AreWithin ints refs (o ∷ os) = OpWrites ints refs o × AreWithin ints refs os
 
 -- wherever it is, such code leads from what is said before it to what is said after it
 pub record Leads (z : Setting) (f : ℕ) (known : (ℕ → Mark) → Type 0) (s : Mark) (os : List Op) (e : Mark) : Type 0 where

@@ -36,11 +36,11 @@ use Rattle.sharc_flat.specs.Suits.{Either, is_cell}
 use Rattle.sharc_flat_form.specs.Framed.{IsWide}
 use Rattle.sharc_invariant.specs.Types.{StaticType, Content, field_at, cells_of}
 use Rattle.sharc_invariant.specs.Types.Content.{MutexWord, Waiters}
-use Rattle.sharc_invariant.specs.Labels.{Entry, Empty, Refers, Unknown, Exactly, Within, Label, LessNumber, EntryMentions, HasBase}
+use Rattle.sharc_invariant.specs.Labels.{Entry, Empty, Refers, Unknown, Anything, Exactly, Within, Label, LessNumber, EntryMentions, HasBase}
 use Rattle.sharc_invariant.specs.Typed.{is_shift, is_comparison, Passes, IsShared, Recasts, IsLayout}
 use Rattle.sharc_labels_laws.specs.Stretches.{Setting}
 use Rattle.sharc_labels_laws.specs.Places.{Stands, IsNamed, IsPlain, no_type}
-use Rattle.sharc_labels_laws.specs.Premises.{Typing, HoldsVariables, Ground, IntegerTyped, ReferenceTyped, MutexTyped}
+use Rattle.sharc_labels_laws.specs.Premises.{Typing, HoldsVariables, IsCopyOf, Ground, IntegerTyped, ReferenceTyped, MutexTyped}
 
 -- ---- types
 abbrev pub type_by : Entry → StaticType
@@ -61,26 +61,9 @@ pub record StandsIn (y : Typing) (c : Context) (f from i r : ℕ) (l : Label) : 
   pub wide : int_count c.scope ≤ i
   pub early : from ≤ i
 
--- the value of a variable that is named is a copy of it
-abbrev pub IsCopyIn : Register → ℕ → Type 0
-IsCopyIn (Int j) copy = Unit {0}
-IsCopyIn (Reference q) copy = copy ≡ q
-
-abbrev pub IsCopyNamed : Context → Named → ℕ → Type 0
-IsCopyNamed c (named.Variable x) copy = IsCopyIn (register_of c.scope x) copy
-IsCopyNamed c _ copy = Unit {0}
-
-abbrev pub IsCopyOf : Context → Expression → ℕ → Type 0
-IsCopyOf c (identifier s x) copy = IsCopyNamed c (what_names c x.site.token) copy
-IsCopyOf c _ copy = Unit {0}
-
--- if it is said so, no reference is at hand but those of variables
-abbrev pub IsBare : Bool → Label → Type 0
-IsBare bare l = bare ≡ true → ((q : ℕ) → l.same q ≡ q) × ((q : ℕ) → l.known q ≡ true → ⊥) × ((j q : ℕ) → HasBase (l.ints j) q → ⊥)
-
--- after this value
-abbrev pub after_value : Context → Expression → Bool → Bool
-after_value c e bare = if is_ref c e then false else bare
+-- no reference is at hand but those of variables
+abbrev pub IsBare : Label → Type 0
+IsBare l = ((q : ℕ) → l.same q ≡ q) × ((q : ℕ) → l.known q ≡ true → ⊥) × ((j q : ℕ) → HasBase (l.ints j) q → ⊥)
 
 -- the first cell of what has this type
 pub record FirstCell (z : Setting) (s : StaticType) (content : Content) : Type 0 where
@@ -90,6 +73,19 @@ pub record FirstCell (z : Setting) (s : StaticType) (content : Content) : Type 0
 -- an integer of one width is one of another
 abbrev pub Widens : Width → Width → Type 0
 Widens v w = LessNumber (Within v) (Within w)
+
+-- the first registers behind those of arguments, which are free
+abbrev pub ints_behind : Context → Arguments → ℕ → ℕ
+ints_behind c no_arguments i = i
+ints_behind c (argument a rest) i = ints_behind c rest (behind_int (is_ref c a) i)
+
+abbrev pub refs_behind : Context → Arguments → ℕ → ℕ
+refs_behind c no_arguments r = r
+refs_behind c (argument a rest) r = refs_behind c rest (behind_ref (is_ref c a) r)
+
+pub record AreFree (c : Context) (all : Arguments) (i r : ℕ) (l : Label) : Type 0 where
+  pub references : (q : ℕ) → refs_behind c all r ≤ q → l.env q ≡ Empty
+  pub integers : (j : ℕ) → ints_behind c all i ≤ j → l.ints j ≡ Anything
 
 module _ (z : Setting) (f : ℕ) (y : Typing) where
   -- a type of an expression names constants that stand
@@ -110,11 +106,16 @@ module _ (z : Setting) (f : ℕ) (y : Typing) where
   -- ---- what lvalues name
   abbrev pub ground_of : Context → Expression → Ground
   ground_of c (parentheses s a) = ground_of c a
-  ground_of c (index s a n) = record { base = if is_array (kind_of c a) then no_type else type_by (y.entry c a); count = element_cells c.program.typed (element_kind (kind_of c a)); elements = global_elements (global_at c.program.typed (global_of (target c.program.typed None a))) }
+  ground_of c (index s a n) = record {
+    base = if is_array (kind_of c a) then no_type else type_by (y.entry c a);
+    pointer = if is_array (kind_of c a) then None else Some a;
+    count = element_cells c.program.typed (element_kind (kind_of c a));
+    elements = global_elements (global_at c.program.typed (global_of (target c.program.typed None a)));
+  }
   ground_of c (field s a Dot n) = ground_of c a
-  ground_of c (field s a Arrow n) = record { base = type_by (y.entry c a); count = 0; elements = 0 }
-  ground_of c (unary s Dereference a) = record { base = type_by (y.entry c a); count = 0; elements = 0 }
-  ground_of c e = record { base = no_type; count = 0; elements = 0 }
+  ground_of c (field s a Arrow n) = record { base = type_by (y.entry c a); pointer = Some a; count = 0; elements = 0 }
+  ground_of c (unary s Dereference a) = record { base = type_by (y.entry c a); pointer = Some a; count = 0; elements = 0 }
+  ground_of c e = record { base = no_type; pointer = None; count = 0; elements = 0 }
 
   -- the value of a cell, which is read at this site
   abbrev pub CellTyped : Context → Expression → Site → Target → Bool → Type 0
@@ -190,25 +191,25 @@ module _ (z : Setting) (f : ℕ) (y : Typing) where
   FieldTypable c Arrow a of_base of_pointer = of_pointer × IsPointer c a
 
   -- ---- what is taken away
-  -- the reference of a cell, or of a variable that is no constant and of which no copy is at hand
-  abbrev pub VariableTakes : Bool → Context → StaticType → Register → Type 0
-  VariableTakes bare c s (Int j) = ⊥
-  VariableTakes bare c s (Reference q) = (bare ≡ true) × (q < ref_count c.scope) × (y.pointer c q ≡ s) × (y.named c q ≡ false)
+  -- the reference of a cell, or of a variable that types do not name
+  abbrev pub VariableTakes : Context → StaticType → Register → Type 0
+  VariableTakes c s (Int j) = ⊥
+  VariableTakes c s (Reference q) = (q < ref_count c.scope) × (y.pointer c q ≡ s) × (y.named c q ≡ false)
 
-  abbrev pub Takes : Bool → Context → Expression → Use → StaticType → Target → Type 0
-  Takes bare c a use_made s (variable x) = VariableTakes bare c s (register_of c.scope x)
-  Takes bare c a use_made s t = ReferenceTyped z y c f t (guard_of c a) (ground_of c a) (span_of a).first (lvalue_in c a) (mode_of c a) true use_made s
+  abbrev pub Takes : Context → Expression → Use → StaticType → Target → Type 0
+  Takes c a use_made s (variable x) = VariableTakes c s (register_of c.scope x)
+  Takes c a use_made s t = ReferenceTyped z y c f t (guard_of c a) (ground_of c a) (span_of a).first (lvalue_in c a) (mode_of c a) true use_made s
 
   -- it has this type
-  pub record TakeTyped (bare : Bool) (c : Context) (a : Expression) (use_made : Use) (s : StaticType) : Type 0 where
+  pub record TakeTyped (c : Context) (a : Expression) (use_made : Use) (s : StaticType) : Type 0 where
     pub type : IsTypeIn c s
-    pub takes : Takes bare c a use_made s (target_of c a)
+    pub takes : Takes c a use_made s (target_of c a)
 
   -- it is given another type
-  pub record CastTyped (bare : Bool) (c : Context) (e a : Expression) : Type 0 where
+  pub record CastTyped (c : Context) (e a : Expression) : Type 0 where
     pub before : StaticType
     pub given : StaticType
-    pub take : TakeTyped bare c a (uses.Cast None) before
+    pub take : TakeTyped c a (uses.Cast None) before
     pub reference : is_ref c e ≡ true
     pub entry : y.entry c e ≡ Refers given
     pub type : IsTypeIn c given
@@ -216,21 +217,21 @@ module _ (z : Setting) (f : ℕ) (y : Typing) where
     pub recasts : (r : ℕ) (l : Label) → HoldsVariables y c l → l.env r ≡ Refers before → Recasts z.targets l r before given
 
   -- or freed
-  pub record FreeTyped (bare : Bool) (c : Context) (a : Expression) : Type 0 where
+  pub record FreeTyped (c : Context) (a : Expression) : Type 0 where
     pub before : StaticType
-    pub take : TakeTyped bare c a (uses.Free None) before
+    pub take : TakeTyped c a (uses.Free None) before
     pub laid : IsLayout z.targets z.code (layout_of (structs_in c.program.typed.program.items) (element_kind (kind_of c a))) before.target
 
   -- `lock(a)`, `unlock(a)` and `free(a)`, by what is asked of `a` as an lvalue with this guard
-  abbrev pub PlaceCallTypable : Bool → Context → PlaceCall → Expression → (Option ℕ → Type 0) → Type 0
-  PlaceCallTypable bare c Lock a of_place = of_place None × (is_cell (target_of c a) ≡ true) × MutexTyped z y c f (target_of c a) None (ground_of c a)
-  PlaceCallTypable bare c Unlock a of_place = of_place None × (is_cell (target_of c a) ≡ true) × MutexTyped z y c f (target_of c a) None (ground_of c a)
-  PlaceCallTypable bare c Free a of_place = of_place (guard_of c a) × FreeTyped bare c a
+  abbrev pub PlaceCallTypable : Context → PlaceCall → Expression → (Option ℕ → Type 0) → Type 0
+  PlaceCallTypable c Lock a of_place = of_place None × (is_cell (target_of c a) ≡ true) × MutexTyped z y c f (target_of c a) None (ground_of c a)
+  PlaceCallTypable c Unlock a of_place = of_place None × (is_cell (target_of c a) ≡ true) × MutexTyped z y c f (target_of c a) None (ground_of c a)
+  PlaceCallTypable c Free a of_place = of_place (guard_of c a) × FreeTyped c a
 
   -- ---- calls
   -- What is passed is in its registers: references of these types, and integers that parameters of these types hold.
   abbrev pub ArgumentAt : Context → List Kind → Expression → Bool → StaticType → ℕ → ℕ → Label → Type 0
-  ArgumentAt c kinds a true s i r l = (l.env r ≡ Refers s) × IsCopyOf c a (l.same r)
+  ArgumentAt c kinds a true s i r l = (l.env r ≡ Refers s) × IsCopyOf y c a (l.same r)
   ArgumentAt c [] a false s i r l = Unit {0}
   ArgumentAt c (kind ∷ kinds) a false s i r l = l.ints i ≡ Within (width_of kind)
 
@@ -247,8 +248,8 @@ module _ (z : Setting) (f : ℕ) (y : Typing) where
   pub record CallTyped (c : Context) (e : Expression) (g : ℕ) (kinds : List Kind) (wants : ℕ → StaticType) (all : Arguments) : Type 0 where
     pub is : g < length z.code.functions.items
     pub alone : (z.signature g).alone ≡ true → (z.signature f).alone ≡ true
-    pub passes : (i r : ℕ) (l : Label) → HoldsVariables y c l → ArgumentsAt c kinds wants all i r l → (p : ℕ) → Passes l r (r + p) (l.env (r + p)) ((z.signature g).takes p)
-    pub numbers : (i r : ℕ) (l : Label) → HoldsVariables y c l → ArgumentsAt c kinds wants all i r l → (j : ℕ) → LessNumber (l.ints (i + j)) ((z.signature g).takes_ints j)
+    pub passes : (i r : ℕ) (l : Label) → HoldsVariables y c l → ArgumentsAt c kinds wants all i r l → AreFree c all i r l → (p : ℕ) → Passes l r (r + p) (l.env (r + p)) ((z.signature g).takes p)
+    pub numbers : (i r : ℕ) (l : Label) → HoldsVariables y c l → ArgumentsAt c kinds wants all i r l → AreFree c all i r l → (j : ℕ) → LessNumber (l.ints (i + j)) ((z.signature g).takes_ints j)
     pub result : ResultTyped c e g (is_ref c e) (is_integer (kind_of c e))
 
   -- an argument goes to its parameter
@@ -295,30 +296,30 @@ module _ (z : Setting) (f : ℕ) (y : Typing) where
   CallTypable c e _ name all of_arguments = ⊥
 
   abbrev mutual
-    pub IsTypable : Bool → Context → Expression → Type 0
-    IsTypable bare c (identifier s x) = NameTyped c (identifier s x) x.site (what_names c x.site.token)
-    IsTypable bare c (constant s k) = ConstantTyped c (constant s k) k (is_ref c (constant s k))
-    IsTypable bare c (parentheses s a) = IsTypable bare c a × (y.entry c (parentheses s a) ≡ y.entry c a)
-    IsTypable bare c (call s x all) = CallTypable c (call s x all) (what_names c x.site.token) x.text all (λ kinds wants. AreTypable bare c kinds wants all)
-    IsTypable bare c (spawn s x a) = IsTypable bare c a × IsNumber c (spawn s x a) × SpawnTyped c a (number_named (what_names c x.site.token)) (declared_kinds (parameters_named c.program.typed (what_names c x.site.token)))
-    IsTypable bare c (on_value s w a) = IsTypable bare c a × IsNumber c a
-    IsTypable bare c (on_place s w a) = PlaceCallTypable bare c w a (λ guard. IsPlaceTypable bare c None guard a)
-    IsTypable bare c (cast s t a) = IsPlaceTypable bare c None (guard_of c a) a × CastTyped bare c (cast s t a) a
-    IsTypable bare c (index s a n) = IndexTypable c None (guard_of c (index s a n)) a n (IsPlaceTypable bare c None None a) (IsTypable bare c a) (IsTypable false c n) × ValueTyped c (index s a n) s.first
-    IsTypable bare c (field s a w n) = FieldTypable c w a (IsPlaceTypable bare c (Some (field_place_named c.program.typed (what_names c n.site.token))) (guard_of c (field s a w n)) a) (IsTypable bare c a) × ValueTyped c (field s a w n) s.first
-    IsTypable bare c (unary s Dereference a) = IsTypable bare c a × IsPointer c a × ValueTyped c (unary s Dereference a) s.first
-    IsTypable bare c (unary s o a) = IsTypable bare c a × HasType c a × UnaryTyped c (unary s o a) o a
-    IsTypable bare c (binary s o at a b) = IsTypable bare c a × HasType c a × IsTypable (after_value c a bare) c b × HasType c b × BinaryTyped c (binary s o at a b) o a b
+    pub IsTypable : Context → Expression → Type 0
+    IsTypable c (identifier s x) = NameTyped c (identifier s x) x.site (what_names c x.site.token)
+    IsTypable c (constant s k) = ConstantTyped c (constant s k) k (is_ref c (constant s k))
+    IsTypable c (parentheses s a) = IsTypable c a × (y.entry c (parentheses s a) ≡ y.entry c a)
+    IsTypable c (call s x all) = CallTypable c (call s x all) (what_names c x.site.token) x.text all (λ kinds wants. AreTypable c kinds wants all)
+    IsTypable c (spawn s x a) = IsTypable c a × IsNumber c (spawn s x a) × SpawnTyped c a (number_named (what_names c x.site.token)) (declared_kinds (parameters_named c.program.typed (what_names c x.site.token)))
+    IsTypable c (on_value s w a) = IsTypable c a × IsNumber c a
+    IsTypable c (on_place s w a) = PlaceCallTypable c w a (λ guard. IsPlaceTypable c None guard a)
+    IsTypable c (cast s t a) = IsPlaceTypable c None (guard_of c a) a × CastTyped c (cast s t a) a
+    IsTypable c (index s a n) = IndexTypable c None (guard_of c (index s a n)) a n (IsPlaceTypable c None None a) (IsTypable c a) (IsTypable c n) × ValueTyped c (index s a n) s.first
+    IsTypable c (field s a w n) = FieldTypable c w a (IsPlaceTypable c (Some (field_place_named c.program.typed (what_names c n.site.token))) (guard_of c (field s a w n)) a) (IsTypable c a) × ValueTyped c (field s a w n) s.first
+    IsTypable c (unary s Dereference a) = IsTypable c a × IsPointer c a × ValueTyped c (unary s Dereference a) s.first
+    IsTypable c (unary s o a) = IsTypable c a × HasType c a × UnaryTyped c (unary s o a) o a
+    IsTypable c (binary s o at a b) = IsTypable c a × HasType c a × IsTypable c b × HasType c b × BinaryTyped c (binary s o at a b) o a b
 
     -- an lvalue of which this field is accessed, with a guard in that field of the same element
-    pub IsPlaceTypable : Bool → Context → Option ℕ → Option ℕ → Expression → Type 0
-    IsPlaceTypable bare c own guard (identifier s x) = Unit {0}
-    IsPlaceTypable bare c own guard (parentheses s a) = IsPlaceTypable bare c own guard a
-    IsPlaceTypable bare c own guard (index s a n) = IndexTypable c own guard a n (IsPlaceTypable bare c None None a) (IsTypable bare c a) (IsTypable false c n)
-    IsPlaceTypable bare c own guard (field s a w n) = FieldTypable c w a (IsPlaceTypable bare c (Some (own_field own (field_place_named c.program.typed (what_names c n.site.token)))) guard a) (IsTypable bare c a)
-    IsPlaceTypable bare c own guard (unary s Dereference a) = IsTypable bare c a × IsPointer c a
-    IsPlaceTypable bare c own guard _ = Unit {0}
+    pub IsPlaceTypable : Context → Option ℕ → Option ℕ → Expression → Type 0
+    IsPlaceTypable c own guard (identifier s x) = Unit {0}
+    IsPlaceTypable c own guard (parentheses s a) = IsPlaceTypable c own guard a
+    IsPlaceTypable c own guard (index s a n) = IndexTypable c own guard a n (IsPlaceTypable c None None a) (IsTypable c a) (IsTypable c n)
+    IsPlaceTypable c own guard (field s a w n) = FieldTypable c w a (IsPlaceTypable c (Some (own_field own (field_place_named c.program.typed (what_names c n.site.token)))) guard a) (IsTypable c a)
+    IsPlaceTypable c own guard (unary s Dereference a) = IsTypable c a × IsPointer c a
+    IsPlaceTypable c own guard _ = Unit {0}
 
-    pub AreTypable : Bool → Context → List Kind → (ℕ → StaticType) → Arguments → Type 0
-    AreTypable bare c kinds wants no_arguments = Unit {0}
-    AreTypable bare c kinds wants (argument a rest) = IsTypable bare c a × Goes c kinds a (is_ref c a) (wants 0) × AreTypable (after_value c a bare) c (drop 1 kinds) (λ n. wants (n + 1)) rest
+    pub AreTypable : Context → List Kind → (ℕ → StaticType) → Arguments → Type 0
+    AreTypable c kinds wants no_arguments = Unit {0}
+    AreTypable c kinds wants (argument a rest) = IsTypable c a × Goes c kinds a (is_ref c a) (wants 0) × AreTypable c (drop 1 kinds) (λ n. wants (n + 1)) rest

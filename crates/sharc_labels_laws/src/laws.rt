@@ -5,7 +5,8 @@ ghost use Rattle.sharc_labels_laws.specs.Blocks.{BlocksAreTyped};
 ghost use Rattle.sharc_labels_laws.specs.Decided.{DecisionsAreTyped};
 ghost use Rattle.sharc_labels_laws.specs.Declared.{LocalsAreTyped};
 ghost use Rattle.sharc_labels_laws.specs.Ended.{EndsAreTyped};
-ghost use Rattle.sharc_labels_laws.specs.Left.{JumpsAreTyped, LeavesAreTyped, ReturnsAreTyped};
+ghost use Rattle.sharc_labels_laws.specs.Left.{JumpsAreTyped, LeavesAreTyped};
+ghost use Rattle.sharc_labels_laws.specs.Returned.{NothingReturns, ValuesReturn};
 ghost use Rattle.sharc_labels_laws.specs.Laws.{ExpressionsAreTyped, LinesAreTyped, LinesKnow, LinesTell, PartsAreTyped, SimplesAreTyped, StretchesJoin, TestsAreTyped};
 
 /// Lines that stand in a table of marks are typed whatever checks are remembered.
@@ -68,9 +69,14 @@ pub fn jumps_law()
     ensures { JumpsAreTyped }
 {}
 
-/// So is a return that gives nothing.
-pub fn returns_law()
-    ensures { ReturnsAreTyped }
+/// A function may be left where its variables are given up and nothing is given back.
+pub fn returns_nothing_law()
+    ensures { NothingReturns }
+{}
+
+/// So it may with a value, which goes to its first register after the variables are given up.
+pub fn values_return_law()
+    ensures { ValuesReturn }
 {}
 
 /// Statements and blocks at a line are typed.

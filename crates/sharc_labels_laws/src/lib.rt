@@ -9,6 +9,6 @@ mod laws;
 
 pub use laws::{
     blocks_law, decisions_law, ends_law, expressions_law, jumps_law, knows_law, labels_law,
-    leaves_law, lines_law, locals_law, parts_law, returns_law, simples_law, stretches_law,
-    tells_law, tests_law,
+    leaves_law, lines_law, locals_law, parts_law, returns_nothing_law, simples_law, stretches_law,
+    tells_law, tests_law, values_return_law,
 };

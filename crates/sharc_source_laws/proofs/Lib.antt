@@ -1,4 +1,5 @@
 mod Behind
+mod Each
 mod Held
 mod Lines
 mod Percents

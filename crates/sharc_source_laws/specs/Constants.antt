@@ -1,7 +1,9 @@
 -- The constants in the functions of a program that a source is: each has a value that its type holds.
-use Rattle.std.specs.Prelude.{◌≡◌, ℕ, true, false, List, Option, Some, None, Ok, slice_get}
+use Rattle.std.specs.Prelude.{◌≡◌, ℕ, true, false, List, Option, Some, None, Ok, slice_get, Contains}
+use Rattle.sharc_tree.specs.declared.token.Span.{Span}
 use Rattle.sharc_tree.specs.declared.token.Tokens.{Tokens}
 use Rattle.sharc_tree.specs.declared.tree.expression.Constant.{Constant}
+use Rattle.sharc_tree.specs.Measures.{in_function}
 use Rattle.sharc_tree.specs.Tree.{Program, Expression, identifier, constant, parentheses, call, spawn, on_value, on_place, cast, index, field, unary, binary, Arguments, no_arguments, argument, Right, value, malloc, Simple, assign, does_call, First, nothing, declares, does, Head, Statement, empty, block, declare, simple, jump, return, if_then, if_then_else, while, for, Statements, no_statements, statement, Function}
 use Rattle.sharc_lex.specs.Grammar.{reading}
 use Rattle.sharc_grammar.specs.Places.{Reads}
@@ -83,3 +85,7 @@ abbrev mutual
 -- as the lexer types numbers and characters (C11 6.4.4.1, 6.4.4.4)
 abbrev pub ConstantsAreHeld : Type 0
 ConstantsAreHeld = (source : List ℕ) (tokens : Tokens) (p : Program) → reading source ≡ Ok tokens → Reads tokens p → (n : ℕ) (f : Function) → slice_get (functions_in p.items) n ≡ Some f → HeldInStatements f.statements
+
+-- each of them among the expressions of a function
+abbrev pub EachConstantIsHeld : Type 0
+EachConstantIsHeld = (source : List ℕ) (tokens : Tokens) (p : Program) → reading source ≡ Ok tokens → Reads tokens p → (f : Function) → Contains (functions_in p.items) f → (s : Span) (k : Constant) → Contains (in_function f) (constant s k) → IsHeld k

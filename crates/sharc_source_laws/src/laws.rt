@@ -1,6 +1,6 @@
 //! The laws: each is the contract of a function that does nothing.
 
-ghost use Rattle.sharc_source_laws.specs.Constants.{ConstantsAreHeld};
+ghost use Rattle.sharc_source_laws.specs.Constants.{ConstantsAreHeld, EachConstantIsHeld};
 ghost use Rattle.sharc_source_laws.specs.Laws.{NumbersHaveNoSign, ProgramsHoldNoSchedule};
 
 /// No newline of a program is followed by `%%schedule `: so a recorded file of a program ends it where the schedule begins.
@@ -17,3 +17,10 @@ pub fn numbers_have_no_sign()
 pub fn constants_are_held()
     ensures { ConstantsAreHeld }
 {}
+
+/// So does the type of each constant among the expressions of a function.
+pub fn each_constant_is_held()
+    ensures { EachConstantIsHeld }
+{
+    constants_are_held();
+}

@@ -1,0 +1,14 @@
+pub mod Growing
+pub mod Alike
+pub mod Closing
+pub mod Stating
+pub mod Bodies
+pub mod After
+pub mod Arrays
+pub mod Assembled
+pub mod Framing
+pub mod Past
+pub mod Program
+pub mod Remembered
+pub mod Starting
+pub mod Texts

@@ -14,7 +14,8 @@ use Rattle.sharc_labels_laws.specs.Places.{IsNamed, AreLow}
 use Rattle.sharc_labels_laws.specs.Premises.{Typing}
 use Rattle.sharc_labels_laws.specs.Declared.{before}
 use Rattle.sharc_labels_laws.specs.Begun.{label_of}
-use Rattle.sharc_statement_laws.specs.Statements.{GivesBack, StatementsTypable}
+use Rattle.sharc_labels_laws.specs.Returned.{GivesBack}
+use Rattle.sharc_statement_laws.specs.Statements.{StatementsTypable}
 
 -- constants have registers of variables
 abbrev pub IsLowTyping : Typing → Type 0

@@ -1,2 +1,3 @@
-pub mod Functions
 pub mod Statements
+pub mod Functions
+pub mod Programs

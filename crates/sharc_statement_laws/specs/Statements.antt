@@ -1,24 +1,23 @@
 -- What the types of a source have to say of its statements, so that their code is typed: one clause for each form.
 use Rattle.std.specs.Prelude.{ℕ, ◌≡◌, Bool, true, false, Option, Some, None}
 use Rattle.sharc_tree.specs.Tree.{Expression, Simple, Local, First, nothing, declares, does, Statement, empty, block, declare, simple, jump, return, if_then, if_then_else, while, for, Statements, no_statements, statement}
-use Rattle.sharc_names.specs.Kinds.{Kind, is_integer}
-use Rattle.sharc_meaning.specs.State.{is_reference}
-use Rattle.sharc_flat.specs.Places.{width_of}
+use Rattle.sharc_names.specs.Kinds.{Kind}
 use Rattle.sharc_flat.specs.Scope.{Context}
-use Rattle.sharc_flat.specs.Flattened.{is_ref, behind_first, behind_statement}
-use Rattle.sharc_invariant.specs.Types.{StaticType, Mentions}
-use Rattle.sharc_invariant.specs.Labels.{Empty, Refers, Anything, Within}
+use Rattle.sharc_flat.specs.Flattened.{behind_first, behind_statement}
+use Rattle.sharc_flat.specs.Suits.{is_declaration}
+use Rattle.sharc_invariant.specs.Types.{StaticType}
 use Rattle.sharc_labels_laws.specs.Stretches.{Setting}
 use Rattle.sharc_labels_laws.specs.Premises.{Typing}
-use Rattle.sharc_labels_laws.specs.Typable.{GoesTo, IsNumber, HasType, IsTypable}
+use Rattle.sharc_labels_laws.specs.Typable.{HasType, IsTypable}
 use Rattle.sharc_labels_laws.specs.Stated.{SimpleTypable}
 use Rattle.sharc_labels_laws.specs.Declared.{LocalTypable}
+use Rattle.sharc_labels_laws.specs.Returned.{ReturnTypable}
 
 module _ (z : Setting) (f : ℕ) (y : Typing) where
   -- ---- parts
   abbrev pub TestTypable : Context → Option Expression → Type 0
   TestTypable c None = Unit {0}
-  TestTypable c (Some e) = IsTypable z f y true c e × HasType z f y c e
+  TestTypable c (Some e) = IsTypable z f y c e × HasType z f y c e
 
   abbrev pub StepTypable : Context → Option Simple → Type 0
   StepTypable c None = Unit {0}
@@ -32,26 +31,8 @@ module _ (z : Setting) (f : ℕ) (y : Typing) where
   FirstTypable c (declares l) = DeclaredTypable c l
   FirstTypable c (does x) = SimpleTypable z f y c x
 
-  -- ---- what a function gives back
-  -- a reference of a type that names no register, or an integer
-  abbrev pub GivesBackBy : Kind → Bool → Type 0
-  GivesBackBy kind true = (s : StaticType) × ((p : ℕ) → Mentions s p → ⊥) × ((z.signature f).result ≡ Refers s) × ((z.signature f).result_int ≡ Anything)
-  GivesBackBy kind false = ((z.signature f).result ≡ Empty) × ((z.signature f).result_int ≡ Within (width_of kind))
-
-  abbrev pub GivesBack : Kind → Type 0
-  GivesBack kind = GivesBackBy kind (is_reference kind)
-
-  -- the value of a return goes to the result's type
-  abbrev pub ReturnedBy : Context → Kind → Expression → Bool → Type 0
-  ReturnedBy c kind e true = (is_ref c e ≡ true) × ((s : StaticType) × GoesTo (y.entry c e) s × ((z.signature f).result ≡ Refers s))
-  ReturnedBy c kind e false = IsNumber z f y c e × (is_integer kind ≡ true)
-
-  abbrev pub ReturnTypable : Context → Kind → Option Expression → Type 0
-  ReturnTypable c kind None = Unit {0}
-  ReturnTypable c kind (Some e) = IsTypable z f y true c e × ReturnedBy c kind e (is_reference kind)
-
   -- ---- statements
-  -- in a function with a result of this type, and in a loop or not
+  -- in a function with a result of this type, and in a loop or not; what is chosen and what is done again declares no variable
   abbrev mutual
     pub StatementTypable : Context → Kind → Bool → Statement → Type 0
     StatementTypable c kind looped (empty s) = Unit {0}
@@ -59,11 +40,11 @@ module _ (z : Setting) (f : ℕ) (y : Typing) where
     StatementTypable c kind looped (declare s l) = DeclaredTypable c l
     StatementTypable c kind looped (simple s x) = SimpleTypable z f y c x
     StatementTypable c kind looped (jump s j) = looped ≡ true
-    StatementTypable c kind looped (return s e) = ReturnTypable c kind e
-    StatementTypable c kind looped (if_then s e a) = TestTypable c (Some e) × StatementTypable c kind looped a
-    StatementTypable c kind looped (if_then_else s e a b) = TestTypable c (Some e) × StatementTypable c kind looped a × StatementTypable c kind looped b
-    StatementTypable c kind looped (while s e a) = TestTypable c (Some e) × StatementTypable c kind true a
-    StatementTypable c kind looped (for s h a) = FirstTypable c h.first × TestTypable (behind_first c h.first) h.test × StepTypable (behind_first c h.first) h.step × StatementTypable (behind_first c h.first) kind true a
+    StatementTypable c kind looped (return s e) = ReturnTypable z f y c kind e
+    StatementTypable c kind looped (if_then s e a) = TestTypable c (Some e) × StatementTypable c kind looped a × (is_declaration a ≡ false)
+    StatementTypable c kind looped (if_then_else s e a b) = TestTypable c (Some e) × StatementTypable c kind looped a × (is_declaration a ≡ false) × StatementTypable c kind looped b × (is_declaration b ≡ false)
+    StatementTypable c kind looped (while s e a) = TestTypable c (Some e) × StatementTypable c kind true a × (is_declaration a ≡ false)
+    StatementTypable c kind looped (for s h a) = FirstTypable c h.first × TestTypable (behind_first c h.first) h.test × StepTypable (behind_first c h.first) h.step × StatementTypable (behind_first c h.first) kind true a × (is_declaration a ≡ false)
 
     pub StatementsTypable : Context → Kind → Bool → Statements → Type 0
     StatementsTypable c kind looped no_statements = Unit {0}

@@ -139,7 +139,7 @@ module _ (rules : RulesAreMet) (m : Assignment) (a : IsAccepted m) where
   turned : (modes : List Sharing) → AllByRecursion (Of m HeldBy writes makes) modes → AllHeld m modes
   turned modes h = each (Of m HeldBy writes makes) (IsHeldPath m) (λ s k l x e o. k l e x o) modes h
 
-  expressions_held : (e : Expression) (modes : List Sharing) → AllByRecursion (IsExpression m) (expressions e) → modes_at m e ≡ Some modes → AllHeld m modes
+  pub expressions_held : (e : Expression) (modes : List Sharing) → AllByRecursion (IsExpression m) (expressions e) → modes_at m e ≡ Some modes → AllHeld m modes
   expressions_held e modes all is = turned modes (expression_of m HeldBy writes makes a.least e modes all is)
 
   declared_held : (token : ℕ) → AllHeld m (modes_of m (declared_row m.typed written token))

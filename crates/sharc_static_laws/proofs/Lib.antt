@@ -1,8 +1,10 @@
 pub mod Alone
 pub mod Arrays
+pub mod Callees
 pub mod FileNames
 pub mod Given
 pub mod Holds
+pub mod Leading
 pub mod Lists
 pub mod Locals
 pub mod Names

@@ -160,7 +160,7 @@ module _ (r : Resolution) where
       )
 
   -- ---- the functions of the program
-  functions_say : (file : Scope) (items : List Item) → AllSay r (items_notes file items) → AllByRecursion (λ f. AllSay r (function_notes file f)) (functions_in items)
+  pub functions_say : (file : Scope) (items : List Item) → AllSay r (items_notes file items) → AllByRecursion (λ f. AllSay r (function_notes file f)) (functions_in items)
   functions_say file [] h = tt
   functions_say file (structure s ∷ rest) h = functions_say file rest (back P (item_notes file (structure s)) (items_notes file rest) h)
   functions_say file (global g ∷ rest) h = functions_say file rest (back P (item_notes file (global g)) (items_notes file rest) h)

@@ -44,7 +44,7 @@ use Rattle.sharc_target_laws.specs.Shapes.{form_of, shape_of, number}
 use Rattle.sharc_static_laws.specs.Static.{register, lock_named, lock_at, locks_at, static_of, variable_type, entry_by, entry_of}
 use Rattle.sharc_static_laws.specs.Laws.{IsAccepted}
 use Rattle.sharc_static_laws.specs.Calls.{at_entry, AreCopies, ArgumentsPass, argument_type, AreStanding, ArgumentFits, ArgumentsFit}
-use Rattle.sharc_static_laws.specs.Held.{IsHeldPath, AllHeld}
+use Rattle.sharc_static_laws.specs.Held.{is_held, IsHeldPath, AllHeld}
 use Rattle.sharc_static_laws.specs.Scopes.{AllStand}
 use Rattle.sharc_static_laws.proofs.Holds.{path_named, held_by, object as object_there, all_named}
 use Rattle.sharc_static_laws.proofs.Scoping.{HasOneStruct}
@@ -266,156 +266,6 @@ module _ (found : EachTypeFound) (rules : RulesAreMet) (all_fair : AllFair) (the
   struct_pointer : (x : ℕ) → (struct : List ℕ) × (variable_kind (declaration_at r x) ≡ object (base.Struct struct) 1) → is_pointer (variable_kind (declaration_at r x)) ≡ true
   struct_pointer x h = ap is_pointer h.1 ∙ lt-ltb 0 1 (omega arith)
 
-  module _ (one_struct : HasOneStruct r) (l : Label) (k a : ℕ) (copies : AreCopies c ds all l k) where
-    -- the argument for a parameter that is a pointer, where it is a constant variable, has the same fields
-    same_variable : (x at y : ℕ) (struct : List ℕ) → variable_kind (declaration_at r x) ≡ object (base.Struct struct) 1 → argument_use r ds all x ≡ Some at → named_at r at ≡ named.Variable y → variable_kind (declaration_at r y) ≡ object (base.Struct struct) 1
-    same_variable x at y struct points_to used names =
-        let f = used_for r ds all x at used in
-        let u = use_named r f.of at f.used in
-        let declared : variable_kind (declaration_at r x) ≡ declared_kind f.parameter.written =
-        ap (λ z. variable_kind (declaration_at r z)) (sym f.token) ∙ ap variable_kind (declared_by call f.parameter f.among) in
-        let kind : kind_at r f.of ≡ variable_kind (declaration_at r y) = u.kind ∙ ap (λ z. variable_kind (declaration_at r z)) (same_token u.variable y (sym u.names ∙ names)) in
-        sym kind ∙ by (declared_kind f.parameter.written) (kind_at r f.of) (fair (declared_kind f.parameter.written) (kind_at r f.of) (ap is_pointer (sym declared ∙ points_to) ∙ lt-ltb 0 1 (omega arith)) (fair_argument f.parameter f.of f.passes)) kind ∙ sym declared ∙ points_to
-      where
-        by : (want kind : Kind) → Fair want kind → kind ≡ variable_kind (declaration_at r y) → kind ≡ want
-        by want kind (is_nothing e) is = absurd (no_variable (declaration_at r y) (sym is ∙ e))
-        by want kind (is_like one h) is = sym (same_kinds want kind h)
-
-    same_place : (x y : ℕ) (struct name : List ℕ) → variable_kind (declaration_at r x) ≡ object (base.Struct struct) 1 → variable_kind (declaration_at r y) ≡ object (base.Struct struct) 1 → field_place_behind r y name ≡ field_place_behind r x name
-    same_place x y struct name e f = ap (λ fields. unwrap_or (position (λ d. bytes_eq d.name.text name) fields) 0) (one_struct y x struct f e)
-
-    plain : (x y : TypeLock) (j : ℕ) → x ≡ Global j → y ≡ Global j → PassesLock l k a x y
-    plain x y j e f = subst (λ z. PassesLock l k a z y) (sym e) (subst (PassesLock l k a (Global j)) (sym f) refl)
-
-    -- a path that names no variable is passed as it is
-    alone : (lock : Lock) (n : Named) (j : ℕ) → named_at r lock.first ≡ n → variable_named n ≡ None → (lock_named c n lock.second ≡ Global j) → (lock_named inner n lock.second ≡ Global j)
-        → PassesLock l k a (lock_at c (lock_for r ds all (path_variable r lock) lock)) (lock_at inner lock)
-    alone lock n j is none here there =
-        let unnamed : path_variable r lock ≡ None = ap (λ w. cond (is_some lock.second) (variable_named w) None) is ∙ ap (λ w. cond (is_some lock.second) w None) none ∙ nothing (is_some lock.second) in
-        plain _ _ j (ap (λ o. lock_at c (lock_for r ds all o lock)) unnamed ∙ ap (λ w. lock_named c w lock.second) is ∙ here) (ap (λ w. lock_named inner w lock.second) is ∙ there)
-      where
-        nothing : (b : Bool) → cond {A = Option ℕ} b None None ≡ None
-        nothing true = refl
-        nothing false = refl
-
-    one_lock : (lock : Lock) → PathPoints r lock → ((x : ℕ) → path_variable r lock ≡ Some x → (at : ℕ) × (argument_use r ds all x ≡ Some at))
-        → PassesLock l k a (lock_at c (lock_for r ds all (path_variable r lock) lock)) (lock_at inner lock)
-    one_lock lock pointer met = by (named_at r lock.first) refl lock.second refl
-      where
-        through : (x at y : ℕ) (name : List ℕ) → named_at r lock.first ≡ named.Variable x → lock.second ≡ Some name → path_variable r lock ≡ Some x → argument_use r ds all x ≡ Some at → named_at r at ≡ named.Variable y
-            → PassesLock l k a (lock_at c (lock_for r ds all (path_variable r lock) lock)) (lock_at inner lock)
-        through x at y name is second path used names =
-            let e : lock_at c (lock_for r ds all (path_variable r lock) lock) ≡ InRegister (register c y) (field_place_behind r y name) =
-            ap (λ o. lock_at c (lock_for r ds all o lock)) path ∙ ap (λ o. lock_at c (with_base o lock)) used ∙ ap (λ w. lock_named c w lock.second) names ∙ ap (lock_named c (named.Variable y)) second in
-            let f : lock_at inner lock ≡ InRegister (register inner x) (field_place_behind r x name) = ap (λ w. lock_named inner w lock.second) is ∙ ap (lock_named inner (named.Variable x)) second in
-            subst (λ z. PassesLock l k a z (lock_at inner lock)) (sym e) (subst (PassesLock l k a (InRegister (register c y) (field_place_behind r y name))) (sym f)
-            (same_place x y (pointer x path).0 name (pointer x path).1 (same_variable x at y (pointer x path).0 (pointer x path).1 used names), copies x at y (struct_pointer x (pointer x path)) used names))
-
-        by : (n : Named) → named_at r lock.first ≡ n → (o : Option (List ℕ)) → lock.second ≡ o → PassesLock l k a (lock_at c (lock_for r ds all (path_variable r lock) lock)) (lock_at inner lock)
-        by (named.Variable x) is (Some name) second =
-            let path : path_variable r lock ≡ Some x = ap (λ o. cond (is_some o) (variable_of r lock) None) second ∙ ap variable_named is in
-            let used = met x path in
-            let f = used_for r ds all x used.0 used.1 in
-            let u = use_named r f.of used.0 f.used in
-            through x used.0 u.variable name is second path used.1 u.names
-        by (named.Variable x) is None second =
-            let unnamed : path_variable r lock ≡ None = ap (λ o. cond (is_some o) (variable_of r lock) None) second in
-            plain _ _ 0 (ap (λ o. lock_at c (lock_for r ds all o lock)) unnamed ∙ ap (λ w. lock_named c w lock.second) is ∙ ap (lock_named c (named.Variable x)) second)
-            (ap (λ w. lock_named inner w lock.second) is ∙ ap (lock_named inner (named.Variable x)) second)
-        by (named.Global g) is o second = alone lock (named.Global g) _ is refl refl refl
-        by (named.Struct n) is o second = alone lock (named.Struct n) 0 is refl refl refl
-        by (named.Function n) is o second = alone lock (named.Function n) 0 is refl refl refl
-        by (named.Field n) is o second = alone lock (named.Field n) 0 is refl refl refl
-        by named.Known is o second = alone lock named.Known 0 is refl refl refl
-
-    abbrev called_as : Mode → Sharing
-    called_as mode = read r (at_call ds all) (sharing_of mode)
-
-    abbrev declared_as : Mode → Sharing
-    declared_as mode = read r written (sharing_of mode)
-
-    abbrev LockPasses : Mode → Type 0
-    LockPasses mode = (path : Path) → mode ≡ Locked path → PassesLock l k a (lock_at c (lock_for r ds all (path_variable r (lock_of path)) (lock_of path))) (lock_at inner (lock_of path))
-
-    list_passes : (list : List Mode) → AllByRecursion LockPasses list → AllSame (PassesLock l k a) (locks_at c (map called_as list)) (locks_at inner (map declared_as list))
-    list_passes [] h = tt
-    list_passes (Private ∷ rest) h = list_passes rest h.1
-    list_passes (Readonly ∷ rest) h = list_passes rest h.1
-    list_passes (Locked path ∷ rest) h = (h.0 path refl, list_passes rest h.1)
-    list_passes (Racy ∷ rest) h = list_passes rest h.1
-    list_passes (Dynamic ∷ rest) h = list_passes rest h.1
-
-    -- a path of a parameter's type is met
-    mode_passes : (d : Declaration) → Contains ds d → (row : Row) → row ≡ declared_row r written d.name.site.token → row.reading ≡ written → (mode : Mode) → ModePoints r mode × Contains (raw m row) mode → LockPasses mode
-    mode_passes d among row is reading mode h path e =
-        let there : Contains (modes_of m row) (locked (lock_of path)) =
-        subst (λ z. Contains (map (λ mode. read r z (sharing_of mode)) (raw m row)) (locked (lock_of path))) (sym reading)
-        (mapped_there declared_as (raw m row) (Locked path) (subst (Contains (raw m row)) e h.1)) in
-        one_lock (lock_of path) (h.0 path e)
-        (λ x variable. (meets rules all_fair themselves m accepted).m4.arguments ds all d (lock_of path) x call among (at_target (subst (λ z. Contains (modes_of m z) (locked (lock_of path))) is there)) variable)
-
-    row_passes : (d : Declaration) → Contains ds d → (o : Option Numbered) → entity_at r d.name.site.token d.name.site.token ≡ o
-        → AllSame (PassesLock l k a) (locks_at c (modes_of m (entity_row (at_call ds all) o))) (locks_at inner (modes_of m (entity_row written o)))
-    row_passes d among None is = tt
-    row_passes d among (Some n) is =
-        let row = entity_row written (Some n) in
-        let other = entity_row (at_call ds all) (Some n) in
-        let entity : IsEntity m n = found_there (is_told_by d.name.site.token d.name.site.token) (numbered (entities_in r.program.items)) n is in
-        let same : raw m row ≡ raw m other = same_raw m written (at_call ds all) n.entity.role n.first (positions_of n.entity) in
-        let hold : AllByRecursion LockPasses (raw m row) =
-        each (λ mode. ModePoints r mode × Contains (raw m row) mode) LockPasses (mode_passes d among row (ap (entity_row written) (sym is)) (reading_kept n.entity.role _)) (raw m row)
-        (both_hold (ModePoints r) (Contains (raw m row)) (raw m row) (row_points found m accepted written n entity) (to_each (Contains (raw m row)) (raw m row) (λ mode has. has))) in
-        subst (λ z. AllSame (PassesLock l k a) (locks_at c (map (λ mode. read r z (sharing_of mode)) (raw m other))) (locks_at inner (modes_of m row))) (sym (reading_kept n.entity.role _))
-        (subst (λ z. AllSame (PassesLock l k a) (locks_at c (map called_as (raw m other))) (locks_at inner (map (λ mode. read r z (sharing_of mode)) (raw m row)))) (sym (reading_kept n.entity.role _))
-        (subst (λ z. AllSame (PassesLock l k a) (locks_at c (map called_as z)) (locks_at inner (map declared_as (raw m row)))) same (list_passes (raw m row) hold)))
-
-    row_forms : (o : Option Numbered) → map form_of (modes_of m (entity_row (at_call ds all) o)) ≡ map form_of (modes_of m (entity_row written o))
-    row_forms None = refl
-    row_forms (Some n) =
-        let row = entity_row written (Some n) in
-        let other = entity_row (at_call ds all) (Some n) in
-        ap (λ z. map form_of (map (λ mode. read r other.reading (sharing_of mode)) z)) (same_raw m (at_call ds all) written n.entity.role n.first (positions_of n.entity)) ∙ forms_read r other.reading row.reading (raw m row)
-
-    passes : (d : Declaration) (e : Expression) → Contains (passed ds all) (given d e) → is_pointer (declared_kind d.written) ≡ true
-        → Passes l k a (entry_of c e) (Refers (variable_type inner d.name.site.token))
-    passes d e has pointer =
-        subst (λ (o : Option Declaration). Passes l k a (entry_of c e) (Refers (static_of inner (variable_kind o) here))) (sym (declared_by call d among))
-        (by (fair (declared_kind d.written) (kind_at r e) pointer (fair_argument d e has)) (modes_at m e) refl)
-      where
-        among : Contains ds d
-        among = parameter_among ds all d e has
-
-        token : ℕ
-        token = d.name.site.token
-
-        to : List Sharing
-        to = modes_of m (declared_row r (at_call ds all) token)
-
-        here : List Sharing
-        here = modes_of m (declared_row r written token)
-
-        some : (found_modes : List Sharing) → modes_at m e ≡ Some found_modes → base_of (declared_kind d.written) ≡ base_of (kind_at r e)
-            → Passes l k a (Refers (static_of c (kind_at r e) found_modes)) (Refers (static_of inner (declared_kind d.written) here))
-        some found_modes is one =
-            let agree : same_all r to found_modes ≡ true = (meets rules all_fair themselves m accepted).m1 to found_modes e (an_argument call has) is in
-            let forms : map form_of found_modes ≡ map form_of here = sym (forms_of_same c to found_modes agree) ∙ row_forms (entity_at r token token) in (
-              ap (λ x. number m (shape_of x found_modes)) (sym one) ∙ ap (λ fs. number m (record { base = base_of (declared_kind d.written); forms = fs })) forms,
-              subst (λ ls. AllSame (PassesLock l k a) ls (locks_at inner here)) (locks_of_same c to found_modes agree) (row_passes d among (entity_at r token token) refl),
-            )
-
-        by : Fair (declared_kind d.written) (kind_at r e) → (o : Option (List Sharing)) → modes_at m e ≡ o → Passes l k a (entry_of c e) (Refers (static_of inner (declared_kind d.written) here))
-        by f None is = subst (λ z. Passes l k a (entry_by c (kind_at r e) z) (Refers (static_of inner (declared_kind d.written) here))) (sym is) tt
-        by (is_nothing n) (Some found_modes) is = absurd (none_some found_modes (sym (null_modes m e n) ∙ is))
-        by (is_like one h) (Some found_modes) is = subst (λ z. Passes l k a (entry_by c (kind_at r e) z) (Refers (static_of inner (declared_kind d.written) here))) (sym is) (some found_modes is one)
-
-    -- and so does the type of the argument
-    type_passes : (d : Declaration) → Contains ds d → Passes l k a (Refers (argument_type c ds all d)) (Refers (variable_type inner d.name.site.token))
-    type_passes d among =
-        let token = d.name.site.token in
-        let kind = declared_kind d.written in
-        subst (λ (o : Option Declaration). Passes l k a (Refers (argument_type c ds all d)) (Refers (static_of inner (variable_kind o) (modes_of m (declared_row r written token))))) (sym (declared_by call d among))
-        (ap (λ fs. number m (record { base = base_of kind; forms = fs })) (row_forms (entity_at r token token)), row_passes d among (entity_at r token token) refl)
-
   -- ---- the paths at the call
   abbrev at_caller : Lock → Lock
   at_caller lock = lock_for r ds all (path_variable r lock) lock
@@ -515,6 +365,162 @@ module _ (found : EachTypeFound) (rules : RulesAreMet) (all_fair : AllFair) (the
         subst (λ z. AllHeld m (map (λ mode. read r z (sharing_of mode)) (raw m other))) (sym kept) (list_held (raw m other) fits),
         λ s. subst (λ z. AllStand m c.scope (map (λ mode. read r z (sharing_of mode)) (raw m other))) (sym kept) (list_stands s (raw m other) fits),
       )
+
+  -- ---- what is passed
+  module _ (one_struct : HasOneStruct r) (l : Label) (k a : ℕ) (copies : AreCopies c ds all l k) where
+    -- the argument for a parameter that is a pointer, where it is a constant variable, has the same fields
+    same_variable : (x at y : ℕ) (struct : List ℕ) → variable_kind (declaration_at r x) ≡ object (base.Struct struct) 1 → argument_use r ds all x ≡ Some at → named_at r at ≡ named.Variable y → variable_kind (declaration_at r y) ≡ object (base.Struct struct) 1
+    same_variable x at y struct points_to used names =
+        let f = used_for r ds all x at used in
+        let u = use_named r f.of at f.used in
+        let declared : variable_kind (declaration_at r x) ≡ declared_kind f.parameter.written =
+        ap (λ z. variable_kind (declaration_at r z)) (sym f.token) ∙ ap variable_kind (declared_by call f.parameter f.among) in
+        let kind : kind_at r f.of ≡ variable_kind (declaration_at r y) = u.kind ∙ ap (λ z. variable_kind (declaration_at r z)) (same_token u.variable y (sym u.names ∙ names)) in
+        sym kind ∙ by (declared_kind f.parameter.written) (kind_at r f.of) (fair (declared_kind f.parameter.written) (kind_at r f.of) (ap is_pointer (sym declared ∙ points_to) ∙ lt-ltb 0 1 (omega arith)) (fair_argument f.parameter f.of f.passes)) kind ∙ sym declared ∙ points_to
+      where
+        by : (want kind : Kind) → Fair want kind → kind ≡ variable_kind (declaration_at r y) → kind ≡ want
+        by want kind (is_nothing e) is = absurd (no_variable (declaration_at r y) (sym is ∙ e))
+        by want kind (is_like one h) is = sym (same_kinds want kind h)
+
+    same_place : (x y : ℕ) (struct name : List ℕ) → variable_kind (declaration_at r x) ≡ object (base.Struct struct) 1 → variable_kind (declaration_at r y) ≡ object (base.Struct struct) 1 → field_place_behind r y name ≡ field_place_behind r x name
+    same_place x y struct name e f = ap (λ fields. unwrap_or (position (λ d. bytes_eq d.name.text name) fields) 0) (one_struct y x struct f e)
+
+    plain : (x y : TypeLock) (j : ℕ) → x ≡ Global j → y ≡ Global j → PassesLock l k a x y
+    plain x y j e f = subst (λ z. PassesLock l k a z y) (sym e) (subst (PassesLock l k a (Global j)) (sym f) refl)
+
+    -- a path that names no variable is passed as it is
+    alone : (lock : Lock) (n : Named) (j : ℕ) → named_at r lock.first ≡ n → variable_named n ≡ None → (lock_named c n lock.second ≡ Global j) → (lock_named inner n lock.second ≡ Global j)
+        → PassesLock l k a (lock_at c (lock_for r ds all (path_variable r lock) lock)) (lock_at inner lock)
+    alone lock n j is none here there =
+        let unnamed : path_variable r lock ≡ None = ap (λ w. cond (is_some lock.second) (variable_named w) None) is ∙ ap (λ w. cond (is_some lock.second) w None) none ∙ nothing (is_some lock.second) in
+        plain _ _ j (ap (λ o. lock_at c (lock_for r ds all o lock)) unnamed ∙ ap (λ w. lock_named c w lock.second) is ∙ here) (ap (λ w. lock_named inner w lock.second) is ∙ there)
+      where
+        nothing : (b : Bool) → cond {A = Option ℕ} b None None ≡ None
+        nothing true = refl
+        nothing false = refl
+
+    one_lock : (lock : Lock) → PathPoints r lock → ((x : ℕ) → path_variable r lock ≡ Some x → (at : ℕ) × (argument_use r ds all x ≡ Some at)) → IsHeldPath m (locked (at_caller lock))
+        → PassesLock l k a (lock_at c (lock_for r ds all (path_variable r lock) lock)) (lock_at inner lock)
+    one_lock lock pointer met held = by (named_at r lock.first) refl lock.second refl
+      where
+        through : (x at y : ℕ) (name : List ℕ) → named_at r lock.first ≡ named.Variable x → lock.second ≡ Some name → path_variable r lock ≡ Some x → argument_use r ds all x ≡ Some at → named_at r at ≡ named.Variable y
+            → PassesLock l k a (lock_at c (lock_for r ds all (path_variable r lock) lock)) (lock_at inner lock)
+        through x at y name is second path used names =
+            let e : lock_at c (lock_for r ds all (path_variable r lock) lock) ≡ InRegister (register c y) (field_place_behind r y name) =
+            ap (λ o. lock_at c (lock_for r ds all o lock)) path ∙ ap (λ o. lock_at c (with_base o lock)) used ∙ ap (λ w. lock_named c w lock.second) names ∙ ap (lock_named c (named.Variable y)) second in
+            let to : at_caller lock ≡ with_base (Some at) lock = ap (λ o. lock_for r ds all o lock) path ∙ ap (λ o. with_base o lock) used in
+            let leads : path_variable r (with_base (Some at) lock) ≡ Some y = ap (λ o. cond (is_some o) (variable_named (named_at r at)) None) second ∙ ap variable_named names in
+            let kept : is_held r y ≡ true = held (with_base (Some at) lock) y (ap locked to) leads in
+            let f : lock_at inner lock ≡ InRegister (register inner x) (field_place_behind r x name) = ap (λ w. lock_named inner w lock.second) is ∙ ap (lock_named inner (named.Variable x)) second in
+            subst (λ z. PassesLock l k a z (lock_at inner lock)) (sym e) (subst (PassesLock l k a (InRegister (register c y) (field_place_behind r y name))) (sym f)
+            (same_place x y (pointer x path).0 name (pointer x path).1 (same_variable x at y (pointer x path).0 (pointer x path).1 used names), copies x at y (struct_pointer x (pointer x path)) used names kept))
+
+        by : (n : Named) → named_at r lock.first ≡ n → (o : Option (List ℕ)) → lock.second ≡ o → PassesLock l k a (lock_at c (lock_for r ds all (path_variable r lock) lock)) (lock_at inner lock)
+        by (named.Variable x) is (Some name) second =
+            let path : path_variable r lock ≡ Some x = ap (λ o. cond (is_some o) (variable_of r lock) None) second ∙ ap variable_named is in
+            let used = met x path in
+            let f = used_for r ds all x used.0 used.1 in
+            let u = use_named r f.of used.0 f.used in
+            through x used.0 u.variable name is second path used.1 u.names
+        by (named.Variable x) is None second =
+            let unnamed : path_variable r lock ≡ None = ap (λ o. cond (is_some o) (variable_of r lock) None) second in
+            plain _ _ 0 (ap (λ o. lock_at c (lock_for r ds all o lock)) unnamed ∙ ap (λ w. lock_named c w lock.second) is ∙ ap (lock_named c (named.Variable x)) second)
+            (ap (λ w. lock_named inner w lock.second) is ∙ ap (lock_named inner (named.Variable x)) second)
+        by (named.Global g) is o second = alone lock (named.Global g) _ is refl refl refl
+        by (named.Struct n) is o second = alone lock (named.Struct n) 0 is refl refl refl
+        by (named.Function n) is o second = alone lock (named.Function n) 0 is refl refl refl
+        by (named.Field n) is o second = alone lock (named.Field n) 0 is refl refl refl
+        by named.Known is o second = alone lock named.Known 0 is refl refl refl
+
+    abbrev called_as : Mode → Sharing
+    called_as mode = read r (at_call ds all) (sharing_of mode)
+
+    abbrev declared_as : Mode → Sharing
+    declared_as mode = read r written (sharing_of mode)
+
+    abbrev LockPasses : Mode → Type 0
+    LockPasses mode = (path : Path) → mode ≡ Locked path → IsHeldPath m (locked (at_caller (lock_of path))) → PassesLock l k a (lock_at c (lock_for r ds all (path_variable r (lock_of path)) (lock_of path))) (lock_at inner (lock_of path))
+
+    list_passes : (list : List Mode) → AllByRecursion LockPasses list → AllHeld m (map called_as list) → AllSame (PassesLock l k a) (locks_at c (map called_as list)) (locks_at inner (map declared_as list))
+    list_passes [] h held = tt
+    list_passes (Private ∷ rest) h held = list_passes rest h.1 held.1
+    list_passes (Readonly ∷ rest) h held = list_passes rest h.1 held.1
+    list_passes (Locked path ∷ rest) h held = (h.0 path refl held.0, list_passes rest h.1 held.1)
+    list_passes (Racy ∷ rest) h held = list_passes rest h.1 held.1
+    list_passes (Dynamic ∷ rest) h held = list_passes rest h.1 held.1
+
+    -- a path of a parameter's type is met
+    mode_passes : (d : Declaration) → Contains ds d → (row : Row) → row ≡ declared_row r written d.name.site.token → row.reading ≡ written → (mode : Mode) → ModePoints r mode × Contains (raw m row) mode → LockPasses mode
+    mode_passes d among row is reading mode h path e held =
+        let there : Contains (modes_of m row) (locked (lock_of path)) =
+        subst (λ z. Contains (map (λ mode. read r z (sharing_of mode)) (raw m row)) (locked (lock_of path))) (sym reading)
+        (mapped_there declared_as (raw m row) (Locked path) (subst (Contains (raw m row)) e h.1)) in
+        one_lock (lock_of path) (h.0 path e)
+        (λ x variable. (meets rules all_fair themselves m accepted).m4.arguments ds all d (lock_of path) x call among (at_target (subst (λ z. Contains (modes_of m z) (locked (lock_of path))) is there)) variable) held
+
+    row_passes : (d : Declaration) → Contains ds d → (o : Option Numbered) → entity_at r d.name.site.token d.name.site.token ≡ o
+        → AllSame (PassesLock l k a) (locks_at c (modes_of m (entity_row (at_call ds all) o))) (locks_at inner (modes_of m (entity_row written o)))
+    row_passes d among None is = tt
+    row_passes d among (Some n) is =
+        let row = entity_row written (Some n) in
+        let other = entity_row (at_call ds all) (Some n) in
+        let entity : IsEntity m n = found_there (is_told_by d.name.site.token d.name.site.token) (numbered (entities_in r.program.items)) n is in
+        let same : raw m row ≡ raw m other = same_raw m written (at_call ds all) n.entity.role n.first (positions_of n.entity) in
+        let held : AllHeld m (map called_as (raw m row)) =
+        subst (λ z. AllHeld m (map called_as z)) (sym same) (subst (λ z. AllHeld m (map (λ mode. read r z (sharing_of mode)) (raw m other))) (reading_kept n.entity.role _) (row_fits d among (Some n) is).0) in
+        let hold : AllByRecursion LockPasses (raw m row) =
+        each (λ mode. ModePoints r mode × Contains (raw m row) mode) LockPasses (mode_passes d among row (ap (entity_row written) (sym is)) (reading_kept n.entity.role _)) (raw m row)
+        (both_hold (ModePoints r) (Contains (raw m row)) (raw m row) (row_points found m accepted written n entity) (to_each (Contains (raw m row)) (raw m row) (λ mode has. has))) in
+        subst (λ z. AllSame (PassesLock l k a) (locks_at c (map (λ mode. read r z (sharing_of mode)) (raw m other))) (locks_at inner (modes_of m row))) (sym (reading_kept n.entity.role _))
+        (subst (λ z. AllSame (PassesLock l k a) (locks_at c (map called_as (raw m other))) (locks_at inner (map (λ mode. read r z (sharing_of mode)) (raw m row)))) (sym (reading_kept n.entity.role _))
+        (subst (λ z. AllSame (PassesLock l k a) (locks_at c (map called_as z)) (locks_at inner (map declared_as (raw m row)))) same (list_passes (raw m row) hold held)))
+
+    row_forms : (o : Option Numbered) → map form_of (modes_of m (entity_row (at_call ds all) o)) ≡ map form_of (modes_of m (entity_row written o))
+    row_forms None = refl
+    row_forms (Some n) =
+        let row = entity_row written (Some n) in
+        let other = entity_row (at_call ds all) (Some n) in
+        ap (λ z. map form_of (map (λ mode. read r other.reading (sharing_of mode)) z)) (same_raw m (at_call ds all) written n.entity.role n.first (positions_of n.entity)) ∙ forms_read r other.reading row.reading (raw m row)
+
+    passes : (d : Declaration) (e : Expression) → Contains (passed ds all) (given d e) → is_pointer (declared_kind d.written) ≡ true
+        → Passes l k a (entry_of c e) (Refers (variable_type inner d.name.site.token))
+    passes d e has pointer =
+        subst (λ (o : Option Declaration). Passes l k a (entry_of c e) (Refers (static_of inner (variable_kind o) here))) (sym (declared_by call d among))
+        (by (fair (declared_kind d.written) (kind_at r e) pointer (fair_argument d e has)) (modes_at m e) refl)
+      where
+        among : Contains ds d
+        among = parameter_among ds all d e has
+
+        token : ℕ
+        token = d.name.site.token
+
+        to : List Sharing
+        to = modes_of m (declared_row r (at_call ds all) token)
+
+        here : List Sharing
+        here = modes_of m (declared_row r written token)
+
+        some : (found_modes : List Sharing) → modes_at m e ≡ Some found_modes → base_of (declared_kind d.written) ≡ base_of (kind_at r e)
+            → Passes l k a (Refers (static_of c (kind_at r e) found_modes)) (Refers (static_of inner (declared_kind d.written) here))
+        some found_modes is one =
+            let agree : same_all r to found_modes ≡ true = (meets rules all_fair themselves m accepted).m1 to found_modes e (an_argument call has) is in
+            let forms : map form_of found_modes ≡ map form_of here = sym (forms_of_same c to found_modes agree) ∙ row_forms (entity_at r token token) in (
+              ap (λ x. number m (shape_of x found_modes)) (sym one) ∙ ap (λ fs. number m (record { base = base_of (declared_kind d.written); forms = fs })) forms,
+              subst (λ ls. AllSame (PassesLock l k a) ls (locks_at inner here)) (locks_of_same c to found_modes agree) (row_passes d among (entity_at r token token) refl),
+            )
+
+        by : Fair (declared_kind d.written) (kind_at r e) → (o : Option (List Sharing)) → modes_at m e ≡ o → Passes l k a (entry_of c e) (Refers (static_of inner (declared_kind d.written) here))
+        by f None is = subst (λ z. Passes l k a (entry_by c (kind_at r e) z) (Refers (static_of inner (declared_kind d.written) here))) (sym is) tt
+        by (is_nothing n) (Some found_modes) is = absurd (none_some found_modes (sym (null_modes m e n) ∙ is))
+        by (is_like one h) (Some found_modes) is = subst (λ z. Passes l k a (entry_by c (kind_at r e) z) (Refers (static_of inner (declared_kind d.written) here))) (sym is) (some found_modes is one)
+
+    -- and so does the type of the argument
+    type_passes : (d : Declaration) → Contains ds d → Passes l k a (Refers (argument_type c ds all d)) (Refers (variable_type inner d.name.site.token))
+    type_passes d among =
+        let token = d.name.site.token in
+        let kind = declared_kind d.written in
+        subst (λ (o : Option Declaration). Passes l k a (Refers (argument_type c ds all d)) (Refers (static_of inner (variable_kind o) (modes_of m (declared_row r written token))))) (sym (declared_by call d among))
+        (ap (λ fs. number m (record { base = base_of kind; forms = fs })) (row_forms (entity_at r token token)), row_passes d among (entity_at r token token) refl)
 
   argument_fits : HasOneStruct r → (d : Declaration) (e : Expression) → Contains (passed ds all) (given d e) → is_pointer (declared_kind d.written) ≡ true → ArgumentFits c ds all d e
   argument_fits one_struct d e has pointer =

@@ -36,8 +36,8 @@ use Rattle.sharc_mode.specs.declared.place.Place.TheVariants as place
 use Rattle.sharc_mode.specs.Cells.{pointed}
 use Rattle.sharc_mode.specs.Moded.{Assignment}
 use Rattle.sharc_mode.specs.RowLaws.{RowLaws}
-use Rattle.sharc_mode.specs.Rows.{Reading, written, through, Row, is_constant_named, constant_use, base_use, lock_through, read, deeper, entity_row, declared_row, global_row, named_row, behind, reading_through, row_at, modes_of, modes_at}
-use Rattle.sharc_mode.specs.Sharings.{Lock, Sharing, private, readonly, locked, racy, dynamic, lock_of, sharing_of, text_at, is_field, is_sibling_lock}
+use Rattle.sharc_mode.specs.Rows.{Reading, written, through, Row, is_constant_named, constant_use, base_use, lock_through, path_variable, read, deeper, entity_row, declared_row, global_row, named_row, behind, reading_through, row_at, modes_of, modes_at}
+use Rattle.sharc_mode.specs.Sharings.{Lock, Sharing, private, readonly, locked, racy, dynamic, lock_of, sharing_of, text_at, variable_named, is_field, is_sibling_lock}
 use Rattle.sharc_mode.specs.WellFormed.{place_of}
 use Rattle.sharc_mode_laws.specs.Constructs.{IsExpression, IsEntity}
 use Rattle.sharc_mode_laws.specs.Laws.{RulesAreMet}
@@ -54,11 +54,13 @@ use Rattle.sharc_invariant.specs.Types.Lock.{Global, Through, Self}
 use Rattle.sharc_invariant.specs.Labels.{Refers, Label, SameReference, Itself, SameLock, AllSame}
 use Rattle.sharc_invariant.specs.Typed.{no_lock, IsFieldLock, IsGlobalLock, IsAnyLock, IsAnyGlobalLock, AreFieldLocks}
 use Rattle.sharc_static_laws.specs.Laws.{IsAccepted}
+use Rattle.sharc_static_laws.specs.Held.{is_held, IsHeldPath, AllHeld}
 use Rattle.sharc_static_laws.specs.Pointing.{element_locks, pointee_locks, declared_locks, content_locks, BaseIs, IsBased, PlacesPoint}
 use Rattle.sharc_static_laws.specs.Static.{register, lock_named, lock_at, locks_at, static_of}
 use Rattle.sharc_static_laws.proofs.Arrays.{IsNameOf, array_name}
+use Rattle.sharc_static_laws.proofs.Holds.{expressions_held}
 use Rattle.sharc_static_laws.proofs.Lists.{front, of_each, to_each, each, same_some, none_some, place_of_element}
-use Rattle.sharc_static_laws.proofs.Origins.{reading_kept, same_raw}
+use Rattle.sharc_static_laws.proofs.Origins.{private_path, racy_path, dynamic_path, reading_kept, same_raw, no_private, no_readonly, no_racy, no_dynamic, same_lock}
 use Rattle.sharc_static_laws.proofs.Passed.{use_named}
 use Rattle.sharc_static_laws.proofs.Places.{InFile, FileKnown, FieldInFile, file_known, struct_fields, field_found, at_number, IfSome}
 use Rattle.sharc_static_laws.proofs.Noted.{all_say}
@@ -152,7 +154,7 @@ any_pointee l r s list (Some modes) h = by (map form_of modes) h
 abbrev NamesGlobal : Resolution → Lock → Type 0
 NamesGlobal r l = (g : ℕ) × (named_at r l.first ≡ named.Global g)
 
-abbrev NamesField : Resolution → Lock → Type 0
+abbrev pub NamesField : Resolution → Lock → Type 0
 NamesField r l = (l.second ≡ None) × ((t : ℕ) × (named_at r l.first ≡ named.Field t))
 
 abbrev IsGlobalMode : Resolution → Sharing → Type 0
@@ -199,7 +201,7 @@ not_field h = cc
 not_local : place.Global ≡ place.Local → ⊥
 not_local h = cc
 
-field_not_local : place.Field ≡ place.Local → ⊥
+pub field_not_local : place.Field ≡ place.Local → ⊥
 field_not_local h = cc
 
 in_global_type : (r : Resolution) (e : Entity) (depth : ℕ) (path : Path) → place_of e.role ≡ place.Global → IsAllowed r e depth path → NamesGlobal r (lock_of path)
@@ -214,34 +216,10 @@ in_field_type r e depth _ at (sibling_mutex {f = t} other is kind) = inr (refl, 
 in_field_type r e depth _ at (sibling_pointer {f = t} other top is pointer alone) = inr (refl, (t, is))
 in_field_type r e depth _ at (through_constant other is constant behind) = absurd (field_not_local (sym at ∙ other))
 
-private_path : (path : Path) → Private ≡ Locked path → ⊥
-private_path path h = cc
-
-racy_path : (path : Path) → Racy ≡ Locked path → ⊥
-racy_path path h = cc
-
-dynamic_path : (path : Path) → Dynamic ≡ Locked path → ⊥
-dynamic_path path h = cc
-
-no_private : (l : Lock) → private ≡ locked l → ⊥
-no_private l h = cc
-
-no_readonly : (l : Lock) → readonly ≡ locked l → ⊥
-no_readonly l h = cc
-
-no_racy : (l : Lock) → racy ≡ locked l → ⊥
-no_racy l h = cc
-
-no_dynamic : (l : Lock) → dynamic ≡ locked l → ⊥
-no_dynamic l h = cc
-
-same_lock : (l k : Lock) → locked l ≡ locked k → l ≡ k
-same_lock l k h = cc
-
-abbrev ModeOf : (Path → Type 0) → Mode → Type 0
+abbrev pub ModeOf : (Path → Type 0) → Mode → Type 0
 ModeOf Good mode = (path : Path) → mode ≡ Locked path → Good path
 
-abbrev LevelOf : (Path → Type 0) → Option Mode → Type 0
+abbrev pub LevelOf : (Path → Type 0) → Option Mode → Type 0
 LevelOf Good None = Unit {0}
 LevelOf Good (Some mode) = ModeOf Good mode
 
@@ -253,7 +231,7 @@ module _ (rules : RulesAreMet) (m : Assignment) (a : IsAccepted m) where
   meets = (rules m).0 a.well
 
   -- what M4 says of the paths that are written in a type holds of those of its positions
-  allowed_row : (Good : Path → Type 0) (how : Reading) (n : Numbered) → IsEntity m n → ((depth : ℕ) (path : Path) → IsAllowed r2 n.entity depth path → Contains n.entity.written.ctype.levels (Some (Locked path)) → Good path)
+  pub allowed_row : (Good : Path → Type 0) (how : Reading) (n : Numbered) → IsEntity m n → ((depth : ℕ) (path : Path) → IsAllowed r2 n.entity depth path → Contains n.entity.written.ctype.levels (Some (Locked path)) → Good path)
       → AllByRecursion (ModeOf Good) (raw m (entity_row how (Some n)))
   allowed_row Good how n is good =
       row_good (ModeOf Good) (λ path e. absurd (private_path path e)) (λ path e. absurd (racy_path path e)) (λ path e. absurd (dynamic_path path e)) m a.least how n is
@@ -266,7 +244,7 @@ module _ (rules : RulesAreMet) (m : Assignment) (a : IsAccepted m) where
           let at = place_of_element n.entity.written.ctype.levels (Some (Locked path)) there in
           good at.0 path (meets.m4.forms n at.0 path is at.1) there
 
-  shown_modes : (Good : Lock → Type 0) (list : List Mode) → AllByRecursion (ModeOf (λ path. Good (lock_of path))) list → AllByRecursion (λ s. (l : Lock) → s ≡ locked l → Good l) (map (λ mode. read r2 written (sharing_of mode)) list)
+  pub shown_modes : (Good : Lock → Type 0) (list : List Mode) → AllByRecursion (ModeOf (λ path. Good (lock_of path))) list → AllByRecursion (λ s. (l : Lock) → s ≡ locked l → Good l) (map (λ mode. read r2 written (sharing_of mode)) list)
   shown_modes Good [] h = tt
   shown_modes Good (x ∷ rest) h = (one x h.0, shown_modes Good rest h.1)
     where
@@ -277,7 +255,7 @@ module _ (rules : RulesAreMet) (m : Assignment) (a : IsAccepted m) where
       one Dynamic k l e = absurd (no_dynamic l e)
       one (Locked path) k l e = subst Good (same_lock (lock_of path) l e) (k path refl)
 
-  entity_is : (e : Entity) (f : IsFound r2 e) → IsEntity m f.numbered
+  pub entity_is : (e : Entity) (f : IsFound r2 e) → IsEntity m f.numbered
   entity_is e f = found_there (is_told_by e.token e.last) (numbered (entities_in r2.program.items)) f.numbered f.found
 
   -- of a global
@@ -302,7 +280,7 @@ module _ (rules : RulesAreMet) (m : Assignment) (a : IsAccepted m) where
       (λ depth path allowed has. (in_field_type r2 f.numbered.entity depth path (ap (λ (e : Entity). place_of e.role) f.itself) allowed, subst (λ (e : Entity). Contains e.written.ctype.levels (Some (Locked path))) f.itself has))
 
   -- M11: without a constant variable no sibling's name is among them
-  through_used : (w : Access) (e : Expression) (x : ℕ) → IsThroughConstant r2 w e x → base_use r2 w e ≡ None → ⊥
+  pub through_used : (w : Access) (e : Expression) (x : ℕ) → IsThroughConstant r2 w e x → base_use r2 w e ≡ None → ⊥
   through_used _ _ x (is_through {s = s} {i = i} names constant) h =
       let is : is_constant_named r2 (named_at r2 i.site.token) ≡ true = ap (is_constant_named r2) names ∙ constant in
       none_some i.site.token (sym h ∙ ap (λ b. cond b (Some i.site.token) None) is)
@@ -348,26 +326,26 @@ module _ (rules : RulesAreMet) (c : Context) (a : IsAccepted c.program) (globals
   r3 = c.program.typed
 
   -- a field's types are read through the constant variable x, which is this use
-  module _ (token x : ℕ) (names : named_at r3 token ≡ named.Variable x) (copy : SameReference l reg (register c x)) (n : ℕ) (struct name : List ℕ) (d : Declaration)
+  module _ (token x : ℕ) (names : named_at r3 token ≡ named.Variable x) (copy : is_held r3 x ≡ true → SameReference l reg (register c x)) (n : ℕ) (struct name : List ℕ) (d : Declaration)
       (kind : variable_kind (declaration_at r3 x) ≡ object (base.Struct struct) 1) (member : IsMemberOf r3 struct name d) where
     abbrev R : TypeLock → FieldLock → Type 0
     R = IsFieldLock l reg n s
 
-    one_path : (path : Path) → FieldPath rules m3 a d path → R (lock_at c (lock_through r3 token (lock_of path))) (field_lock r3 n (lock_of path))
-    one_path (PathThrough text at second) (inl g, has) =
+    one_path : (path : Path) → FieldPath rules m3 a d path → IsHeldPath m3 (locked (lock_through r3 token (lock_of path))) → R (lock_at c (lock_through r3 token (lock_of path))) (field_lock r3 n (lock_of path))
+    one_path (PathThrough text at second) (inl g, has) held =
         let one : lock_at c (lock_through r3 token (lock_of (PathThrough text at second))) ≡ Global (first_cell (globals_of r3) g.0 - 2) =
         ap (λ z. lock_at c (cond (z && false) (record { first = token; second = Some (text_at r3 at) }) (lock_of (PathThrough text at second)))) (ap is_field g.1)
         ∙ ap (λ w. lock_named c w (Some second)) g.1 ∙ ap (λ z. Global (first_cell z g.0 - 2)) globals in
         let other : field_lock r3 n (lock_of (PathThrough text at second)) ≡ OfGlobals (first_cell (globals_of r3) g.0 - 2) = ap (table_lock r3 n) g.1 in
         subst (λ z. R z (field_lock r3 n (lock_of (PathThrough text at second)))) (sym one) (subst (R (Global (first_cell (globals_of r3) g.0 - 2))) (sym other) refl)
-    one_path (PathThrough text at second) (inr k, has) = absurd (none_some second (sym k.0))
-    one_path (One text at) (inl g, has) =
+    one_path (PathThrough text at second) (inr k, has) held = absurd (none_some second (sym k.0))
+    one_path (One text at) (inl g, has) held =
         let one : lock_at c (lock_through r3 token (lock_of (One text at))) ≡ Global (first_cell (globals_of r3) g.0 - 2) =
         ap (λ z. lock_at c (cond (z && true) (record { first = token; second = Some (text_at r3 at) }) (lock_of (One text at)))) (ap is_field g.1)
         ∙ ap (λ w. lock_named c w None) g.1 ∙ ap (λ z. Global (first_cell z g.0 - 2)) globals in
         let other : field_lock r3 n (lock_of (One text at)) ≡ OfGlobals (first_cell (globals_of r3) g.0 - 2) = ap (table_lock r3 n) g.1 in
         subst (λ z. R z (field_lock r3 n (lock_of (One text at)))) (sym one) (subst (R (Global (first_cell (globals_of r3) g.0 - 2))) (sym other) refl)
-    one_path (One text at) (inr k, has) =
+    one_path (One text at) (inr k, has) held =
         let t = k.1.0 in
         let j = field_place_behind r3 x (text_at r3 at) in
         let one : lock_at c (lock_through r3 token (lock_of (One text at))) ≡ Through (register c x) j =
@@ -375,27 +353,35 @@ module _ (rules : RulesAreMet) (c : Context) (a : IsAccepted c.program) (globals
         ∙ ap (λ w. lock_named c w (Some (text_at r3 at))) names in
         let other : field_lock r3 n (lock_of (One text at)) ≡ OfElement n (field_place r3 t) = ap (table_lock r3 n) k.1.1 in
         let same : j ≡ field_place r3 t = siblings x struct name d text at t kind member has k.1.1 in
-        subst (λ z. R z (field_lock r3 n (lock_of (One text at)))) (sym one) (subst (R (Through (register c x) j)) (sym other) (omega arith, (let e : j ≡ n - n + field_place r3 t = omega (arith, same) in e), copy))
+        let path : lock_through r3 token (lock_of (One text at)) ≡ record { first = token; second = Some (text_at r3 at) } = ap (λ z. cond (z && true) (record { first = token; second = Some (text_at r3 at) }) (lock_of (One text at))) (ap is_field k.1.1) in
+        let is_x : path_variable r3 (lock_through r3 token (lock_of (One text at))) ≡ Some x = ap (path_variable r3) path ∙ ap variable_named names in
+        subst (λ z. R z (field_lock r3 n (lock_of (One text at)))) (sym one) (subst (R (Through (register c x) j)) (sym other) (omega arith, (let e : j ≡ n - n + field_place r3 t = omega (arith, same) in e), copy (held (lock_through r3 token (lock_of (One text at))) x refl is_x)))
 
-    through_locks : (list : List Mode) → AllByRecursion (ModeOf (FieldPath rules m3 a d)) list
+    abbrev Held : List Mode → Type 0
+    Held list = AllByRecursion (IsHeldPath m3) (map (λ mode. read r3 (through token) (sharing_of mode)) list)
+
+    through_locks : (list : List Mode) → AllByRecursion (ModeOf (FieldPath rules m3 a d)) list → Held list
         → AllSame R (locks_at c (map (λ mode. read r3 (through token) (sharing_of mode)) list)) (field_locks r3 n (map (λ mode. read r3 written (sharing_of mode)) list))
-    through_locks [] h = tt
-    through_locks (Private ∷ rest) h = through_locks rest h.1
-    through_locks (Readonly ∷ rest) h = through_locks rest h.1
-    through_locks (Racy ∷ rest) h = through_locks rest h.1
-    through_locks (Dynamic ∷ rest) h = through_locks rest h.1
-    through_locks (Locked path ∷ rest) h = (one_path path (h.0 path refl), through_locks rest h.1)
+    through_locks [] h held = tt
+    through_locks (Private ∷ rest) h held = through_locks rest h.1 held.1
+    through_locks (Readonly ∷ rest) h held = through_locks rest h.1 held.1
+    through_locks (Racy ∷ rest) h held = through_locks rest h.1 held.1
+    through_locks (Dynamic ∷ rest) h held = through_locks rest h.1 held.1
+    through_locks (Locked path ∷ rest) h held = (one_path path (h.0 path refl) held.0, through_locks rest h.1 held.1)
 
-    field_through : FieldInFile r3 d → AllSame R (locks_at c (modes_of m3 (declared_row r3 (through token) d.name.site.token))) (field_locks r3 n (modes_of m3 (declared_row r3 written d.name.site.token)))
-    field_through f =
+    field_through : FieldInFile r3 d → AllHeld m3 (modes_of m3 (declared_row r3 (through token) d.name.site.token)) → AllSame R (locks_at c (modes_of m3 (declared_row r3 (through token) d.name.site.token))) (field_locks r3 n (modes_of m3 (declared_row r3 written d.name.site.token)))
+    field_through f held =
         let e = f.0.numbered in
         let row = entity_row written (Some e) in
         let other = entity_row (through token) (Some e) in
+        let other_held : Held (raw m3 row) =
+        subst Held (sym (same_raw m3 written (through token) e.entity.role e.first _))
+        (subst (λ z. AllHeld m3 (map (λ mode. read r3 z (sharing_of mode)) (raw m3 other))) (reading_kept e.entity.role _) (subst (λ o. AllHeld m3 (modes_of m3 (entity_row (through token) o))) f.0.found held)) in
         subst (λ o. AllSame R (locks_at c (modes_of m3 (entity_row (through token) o))) (field_locks r3 n (modes_of m3 (entity_row written o)))) (sym f.0.found)
         (subst (λ z. AllSame R (locks_at c (map (λ mode. read r3 z (sharing_of mode)) (raw m3 other))) (field_locks r3 n (modes_of m3 row))) (sym (reading_kept e.entity.role _))
         (subst (λ z. AllSame R (locks_at c (map (λ mode. read r3 (through token) (sharing_of mode)) (raw m3 other))) (field_locks r3 n (map (λ mode. read r3 z (sharing_of mode)) (raw m3 row)))) (sym (reading_kept e.entity.role _))
         (subst (λ z. AllSame R (locks_at c (map (λ mode. read r3 (through token) (sharing_of mode)) z)) (field_locks r3 n (map (λ mode. read r3 written (sharing_of mode)) (raw m3 row)))) (same_raw m3 written (through token) e.entity.role e.first _)
-        (through_locks (raw m3 row) (field_row rules m3 a written d f.0)))))
+        (through_locks (raw m3 row) (field_row rules m3 a written d f.0) other_held))))
 
 -- ---- lvalues
 no_cell : false ≡ true → ⊥
@@ -578,9 +564,9 @@ module _ (rows : RowLaws) (expressions_found : ExpressionsFound) (one_type : One
 
   -- behind one
   through_points : (s : Span) (e : Expression) (name : Identifier) → IsExpression m4 (tree.field s e Arrow name) → (b : BaseIs c l reg e) → (token : ℕ) → constant_use r4 e ≡ Some token → (n : ℕ) (modes : List Sharing)
-      → Some (modes_of m4 (named_row r4 (reading_through (constant_use r4 e)) (named_at r4 name.site.token))) ≡ Some modes
+      → Some (modes_of m4 (named_row r4 (reading_through (constant_use r4 e)) (named_at r4 name.site.token))) ≡ Some modes → AllHeld m4 modes
       → AllSame (IsFieldLock l reg n (static_of c (kind_at r4 e) b.modes)) (locks_at c modes) (declared_locks m4 n (named_at r4 name.site.token))
-  through_points s e name there b token used n modes is = by _ (typed_at (tree.field s e Arrow name) there)
+  through_points s e name there b token used n modes is held = by _ (typed_at (tree.field s e Arrow name) there)
     where
       by : (k : Kind) → HasType r4 (tree.field s e Arrow name) k → AllSame (IsFieldLock l reg n (static_of c (kind_at r4 e) b.modes)) (locks_at c modes) (declared_locks m4 n (named_at r4 name.site.token))
       by _ (a_field_behind {x = struct} {d = d} t h names) =
@@ -591,15 +577,15 @@ module _ (rows : RowLaws) (expressions_found : ExpressionsFound) (one_type : One
           (sym (ap (λ o. Some (modes_of m4 (named_row r4 (reading_through o) (named_at r4 name.site.token)))) used ∙ ap (λ z. Some (modes_of m4 (named_row r4 (through token) z))) names) ∙ is) in
           subst (λ z. AllSame (IsFieldLock l reg n (static_of c (kind_at r4 e) b.modes)) (locks_at c modes) (declared_locks m4 n z)) (sym names)
           (subst (λ z. AllSame (IsFieldLock l reg n (static_of c (kind_at r4 e) b.modes)) (locks_at c z) (declared_locks m4 n (named.Field d.name.site.token))) of_row
-          (field_through rules c a globals siblings l reg (static_of c (kind_at r4 e) b.modes) token u.variable u.names (b.copy token u.variable used u.names) n struct name.text d kind h (a_member struct name.text d h)))
+          (field_through rules c a globals siblings l reg (static_of c (kind_at r4 e) b.modes) token u.variable u.names (b.copy token u.variable used u.names) n struct name.text d kind h (a_member struct name.text d h) (subst (AllHeld m4) (sym of_row) held)))
 
   arrow_points : (s : Span) (e : Expression) (name : Identifier) → IsExpression m4 (tree.field s e Arrow name) → BaseIs c l reg e → (n : ℕ) (modes : List Sharing)
-      → Some (modes_of m4 (named_row r4 (reading_through (constant_use r4 e)) (named_at r4 name.site.token))) ≡ Some modes → AreFieldLocks l (cells.Object reg n) (locks_at c modes) (declared_locks m4 n (named_at r4 name.site.token))
-  arrow_points s e name there b n modes is = by (constant_use r4 e) refl
+      → Some (modes_of m4 (named_row r4 (reading_through (constant_use r4 e)) (named_at r4 name.site.token))) ≡ Some modes → AllHeld m4 modes → AreFieldLocks l (cells.Object reg n) (locks_at c modes) (declared_locks m4 n (named_at r4 name.site.token))
+  arrow_points s e name there b n modes is held = by (constant_use r4 e) refl
     where
       by : (o : Option ℕ) → constant_use r4 e ≡ o → AreFieldLocks l (cells.Object reg n) (locks_at c modes) (declared_locks m4 n (named_at r4 name.site.token))
       by None used = plain_points s e Arrow name there used (cells.Object reg n) (static_of c (kind_at r4 e) b.modes, b.entry) n modes is
-      by (Some token) used = (static_of c (kind_at r4 e) b.modes, b.entry, through_points s e name there b token used n modes is)
+      by (Some token) used = (static_of c (kind_at r4 e) b.modes, b.entry, through_points s e name there b token used n modes is held)
 
   points : (e : Expression) (modes : List Sharing) → AllByRecursion (IsExpression m4) (expressions e) → modes_at m4 e ≡ Some modes → is_cell (target r4 None e) ≡ true → IsBased c l reg e
       → AreFieldLocks l (cell_at (target r4 None e)) (locks_at c modes) (content_locks m4 e)
@@ -609,7 +595,7 @@ module _ (rows : RowLaws) (expressions_found : ExpressionsFound) (one_type : One
   points (tree.field s e Dot n) modes h is cell b =
       let place = field_place_named r4 (named_at r4 n.site.token) in
       plain_points s e Dot n h.0 refl (cell_at (target r4 (Some place) e)) (based e (Some place) b) place modes is
-  points (tree.field s e Arrow n) modes h is cell b = arrow_points s e n h.0 b (field_place_named r4 (named_at r4 n.site.token)) modes is
+  points (tree.field s e Arrow n) modes h is cell b = arrow_points s e n h.0 b (field_place_named r4 (named_at r4 n.site.token)) modes is (expressions_held rules m4 a (tree.field s e Arrow n) modes h is)
   points (tree.unary s Dereference e) modes h is cell b = (static_of c (kind_at r4 e) b.modes, b.entry, pointee 0 e (own e h.1) b modes is)
   points (tree.unary s Negate e) modes h is cell b = absurd (no_cell cell)
   points (tree.unary s Not e) modes h is cell b = absurd (no_cell cell)

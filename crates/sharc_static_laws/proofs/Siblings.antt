@@ -16,7 +16,7 @@ use Rattle.sharc_tree.specs.Tree.{Item, structure, global, function}
 use Rattle.sharc_names.specs.declared.fault.Named.TheVariants as named
 use Rattle.sharc_names.specs.declared.scope.Scope.{Scope}
 use Rattle.sharc_names.specs.declared.types.Role.TheVariants as role
-use Rattle.sharc_names.specs.Kinds.{object}
+use Rattle.sharc_names.specs.Kinds.{object, declared_kind}
 use Rattle.sharc_names.specs.Names.{Entry, Meaning, defined, look_up, named_of, field_of, struct_of, named_struct}
 use Rattle.sharc_names.specs.Names as meaning
 use Rattle.sharc_names.specs.Notes.{Note}
@@ -76,7 +76,7 @@ module _ (all : List Token) where
   field_placed (function f ∷ rest) s d h has member = field_placed rest s d h.1 has member
 
 -- ---- fields by their names
-found_there : (list : List Declaration) (name : List ℕ) (d : Declaration) → field_of list name ≡ Some d → Contains list d
+pub found_there : (list : List Declaration) (name : List ℕ) (d : Declaration) → field_of list name ≡ Some d → Contains list d
 found_there [] name d is = absurd (none_some d is)
 found_there (x ∷ rest) name d is = by (bytes_eq x.name.text name) is (found_there rest name d)
   where
@@ -84,7 +84,7 @@ found_there (x ∷ rest) name d is = by (bytes_eq x.name.text name) is (found_th
     by true is later = subst (Contains (x ∷ rest)) (same_some x d is) (head_there x rest)
     by false is later = tail_there x d rest (later is)
 
-struct_there : (list : List StructDefinition) (name : List ℕ) (s : StructDefinition) → struct_named list name ≡ Some s → Contains list s
+pub struct_there : (list : List StructDefinition) (name : List ℕ) (s : StructDefinition) → struct_named list name ≡ Some s → Contains list s
 struct_there [] name s is = absurd (none_some s is)
 struct_there (x ∷ rest) name s is = by (bytes_eq x.name.text name) is (struct_there rest name s)
   where
@@ -167,18 +167,29 @@ module _ (r : Resolution) where
     declared : AllByRecursion (BaseSays r file.structs) (declarations_in r.program.items)
     declared = declarations_base r file r.program.items of_items
 
-    pub siblings_are : SiblingsAre r
-    siblings_are x struct name d text token t kind member level names = by (declaration_at r x) refl kind
+    -- the struct to which a variable points
+    pub record PointsTo (d : Declaration) (s : StructDefinition) : Type 0 where
+      pub number : ℕ
+      pub names : named_at r d.written.base.token ≡ named.Struct number
+      pub is : slice_get (structs_in r.program.items) number ≡ Some s
+
+    pub points_to : (x : ℕ) (d : Declaration) (struct : List ℕ) (s : StructDefinition) → declaration_at r x ≡ Some d → declared_kind d.written ≡ object (base.Struct struct) 1 → struct_named (structs_in r.program.items) struct ≡ Some s → PointsTo d s
+    points_to x d struct s at kind is =
+        let f = in_file struct r.program.items s is in
+        let b = named_by r file.structs d struct (base_of_kind r d struct 1 kind) (declared_has r (BaseSays r file.structs) (declarations_in r.program.items) x d declared at) in
+        let same : b.0 ≡ defined f.0 s.fields = same_some b.0 (defined f.0 s.fields) (sym b.1 ∙ f.2) in
+        record { number = f.0; names = b.2 ∙ ap named_struct same; is = f.1 }
+
+    -- the sibling that a name in the type of a field names
+    pub record IsBeside (s : StructDefinition) (text : List ℕ) (token t : ℕ) : Type 0 where
+      pub found : Declaration
+      pub has : field_of s.fields text ≡ Some found
+      pub is : t ≡ found.name.site.token
+      pub text_is : text_at r token ≡ text
+
+    pub is_beside : (s : StructDefinition) (d : Declaration) (text : List ℕ) (token t : ℕ) → Contains (structs_in r.program.items) s → Contains s.fields d → Contains d.written.ctype.levels (Some (Locked (One text token))) → named_at r token ≡ named.Field t → IsBeside s text token t
+    is_beside s d text token t s_there d_there level names = record { found = beside.0; has = beside.1; is = beside.2; text_is = text_in r.program.tokens.list token text marked.0 (λ e. (marked.1 e).1) }
       where
-        s : StructDefinition
-        s = member.0
-
-        s_there : Contains (structs_in r.program.items) s
-        s_there = struct_there (structs_in r.program.items) struct s member.1
-
-        d_there : Contains s.fields d
-        d_there = found_there s.fields name d member.2
-
         type_says : AllSay r (type_notes file s.fields role.Field d.written)
         type_says =
             of_each (λ d. AllSay r (type_notes file s.fields role.Field d.written)) s.fields d
@@ -190,28 +201,35 @@ module _ (r : Resolution) where
         beside : (e : Declaration) × (field_of s.fields text ≡ Some e) × (t ≡ e.name.site.token)
         beside = sibling s.fields text token t (field_of s.fields text) (look_up file.names text) refl path_says names
 
-        there : IsPlace s.fields text beside.0
-        there = place_named s.fields text beside.0 beside.1
-
         marked : IsMark r.program.tokens.list (a_name token text)
         marked =
             (level_marked r.program.tokens.list d.written.mode_first (base_marks d.written.ctype.base d.written.base.token) d.written.ctype.levels (Some (Locked (One text token)))
             (field_placed r.program.tokens.list r.program.items s d placed.items s_there d_there).1 level).0
 
-        text_is : text_at r token ≡ text
-        text_is = text_in r.program.tokens.list token text marked.0 (λ e. (marked.1 e).1)
+    pub siblings_are : SiblingsAre r
+    siblings_are x struct name d text token t kind member level names = by (declaration_at r x) refl kind
+      where
+        s : StructDefinition
+        s = member.0
+
+        s_there : Contains (structs_in r.program.items) s
+        s_there = struct_there (structs_in r.program.items) struct s member.1
+
+        beside : IsBeside s text token t
+        beside = is_beside s d text token t s_there (found_there s.fields name d member.2) level names
+
+        there : IsPlace s.fields text beside.found
+        there = place_named s.fields text beside.found beside.has
 
         fields_are : (e : Declaration) → declaration_at r x ≡ Some e → variable_kind (Some e) ≡ object (base.Struct struct) 1 → fields_behind r (declaration_at r x) ≡ s.fields
         fields_are e at kind =
-            let f = in_file struct r.program.items s member.1 in
-            let b = named_by r file.structs e struct (base_of_kind r e struct 1 kind) (declared_has r (BaseSays r file.structs) (declarations_in r.program.items) x e declared at) in
-            let same : b.0 ≡ defined f.0 s.fields = same_some b.0 (defined f.0 s.fields) (sym b.1 ∙ f.2) in
-            ap (fields_behind r) at ∙ ap (fields_named r) (b.2 ∙ ap named_struct same) ∙ ap fields_of f.1
+            let to = points_to x e struct s at kind member.1 in
+            ap (fields_behind r) at ∙ ap (fields_named r) to.names ∙ ap fields_of to.is
 
         by : (o : Option Declaration) → declaration_at r x ≡ o → variable_kind o ≡ object (base.Struct struct) 1 → field_place_behind r x (text_at r token) ≡ field_place r t
         by None at kind = absurd (let k : variable_kind None ≡ object (base.Struct struct) 1 = kind in cc)
         by (Some e) at kind =
             ap (λ list. unwrap_or (position (λ (y : Declaration). bytes_eq y.name.text (text_at r token)) list) 0) (fields_are e at kind)
-            ∙ ap (λ z. unwrap_or (position (λ (y : Declaration). bytes_eq y.name.text z) s.fields) 0) text_is
-            ∙ ap (λ o. unwrap_or o 0) (position_is s.fields text beside.0 there)
-            ∙ sym (ap (field_place r) beside.2 ∙ fields_placed r placed s there.place beside.0 s_there there.at)
+            ∙ ap (λ z. unwrap_or (position (λ (y : Declaration). bytes_eq y.name.text z) s.fields) 0) beside.text_is
+            ∙ ap (λ o. unwrap_or o 0) (position_is s.fields text beside.found there)
+            ∙ sym (ap (field_place r) beside.is ∙ fields_placed r placed s there.place beside.found s_there there.at)

@@ -77,12 +77,12 @@ module _ (name : List ℕ) where
   all_kept h (global g ∷ rest) m is = all_kept (behind h (global g)) rest m is
   all_kept h (function f ∷ rest) m is = all_kept (behind h (function f)) rest m is
 
-  record IsFirst (h : Heads) (items : List Item) (s : StructDefinition) : Type 0 where
-    place : ℕ
-    at : slice_get (structs_in items) place ≡ Some s
-    is : struct_of (behind_all h items).scope.structs name ≡ Some (defined (h.structs + place) s.fields)
+  pub record IsFirst (h : Heads) (items : List Item) (s : StructDefinition) : Type 0 where
+    pub place : ℕ
+    pub at : slice_get (structs_in items) place ≡ Some s
+    pub is : struct_of (behind_all h items).scope.structs name ≡ Some (defined (h.structs + place) s.fields)
 
-  first : (h : Heads) (items : List Item) (s : StructDefinition) → struct_of h.scope.structs name ≡ None → struct_named (structs_in items) name ≡ Some s → IsFirst h items s
+  pub first : (h : Heads) (items : List Item) (s : StructDefinition) → struct_of h.scope.structs name ≡ None → struct_named (structs_in items) name ≡ Some s → IsFirst h items s
   first h [] s none is = absurd (none_some s is)
   first h (structure x ∷ rest) s none is = by (bytes_eq x.name.text name) refl is (first (behind h (structure x)) rest s)
     where

@@ -1,5 +1,5 @@
 -- What holds of the modes that are written in a type, and of those that are never written, holds of the modes of all its positions.
-use Rattle.std.proofs.Common.{◌≡◌, ⊎_elim, ℕ, zero, suc, ◌+◌, ◌-◌, ◌<◌, ◌≤◌, ◌==◌, Bool, true, false, cond, List, [], ◌∷◌, ◌++◌, length, take, drop, refl, ap, sym, ◌∙◌, subst, arith, Option, Some, None, Contains}
+use Rattle.std.proofs.Common.{◌≡◌, ⊎_elim, ℕ, zero, suc, ◌+◌, ◌-◌, ◌<◌, ◌≤◌, ◌==◌, Bool, true, false, cond, not, ◌||◌, List, [], ◌∷◌, ◌++◌, length, take, drop, refl, ap, sym, ◌∙◌, subst, arith, Option, Some, None, Contains}
 use Rattle.std.proofs.lemmas.Bool.{eqb-false}
 use Rattle.std.specs.Prelude.{slice_index_or}
 use Rattle.std.specs.List.{AllByRecursion, find}
@@ -19,8 +19,9 @@ use Rattle.sharc_mode.specs.Flows.{IsLeastAssignment, mode_found}
 use Rattle.sharc_mode.specs.Moded.{Assignment}
 use Rattle.sharc_mode.specs.Rows.{Reading, Row, deeper, targets_from, entity_row}
 use Rattle.sharc_mode.specs.Settled.{is_mutex, settled, field_target, otherwise_of, settled_modes, settled_in, settled_at}
+use Rattle.sharc_mode.specs.WellFormed.{leaves_open}
 use Rattle.sharc_mode_laws.specs.Constructs.{IsEntity}
-use Rattle.sharc_static_laws.proofs.Lists.{head_or_tail, none_there}
+use Rattle.sharc_static_laws.proofs.Lists.{head_or_tail, none_there, or_right}
 
 -- ---- where an entity's positions are
 settled_length : (b : Base) (otherwise : Option Mode) (levels : List (Option Mode)) → length (settled b otherwise levels) ≡ length levels
@@ -151,7 +152,7 @@ module _ (Good : Mode → Type 0) (private_good : Good Private) (racy_good : Goo
   found_good None Source h = dynamic_good
   found_good None (Behind rank reason) h = dynamic_good
 
-  positions_good : (m : Assignment) → IsLeastAssignment m → (n : Numbered) → Position (entities_in m.typed.program.items) 0 n → AllByRecursion LevelGood n.entity.written.ctype.levels
+  positions_good : (m : Assignment) → IsLeastAssignment m → (n : Numbered) → Position (entities_in m.typed.program.items) 0 n → AllByRecursion LevelGood (settled_modes n.entity)
       → (k : ℕ) → k < positions_of n.entity → n.first + k < length m.modes → Good (slice_index_or m.modes (n.first + k) Private)
   positions_good m least n w good k low inside =
       let first = w.first in
@@ -160,11 +161,11 @@ module _ (Good : Mode → Type 0) (private_good : Good Private) (racy_good : Goo
       subst Good (sym (least.mode (n.first + k) (omega (arith, inside, size))))
       (found_good (settled_at m.typed (n.first + k)) (finding_at least.findings (n.first + k))
       (subst LevelGood (sym (ap (λ p. slice_index_or (settled_in (entities_in m.typed.program.items)) p (Some Private)) z ∙ w.levels k low))
-      (one_good (settled_modes n.entity) k (entity_good n.entity good))))
+      (one_good (settled_modes n.entity) k good)))
 
-  -- of the row of what has a type
-  pub row_good : (m : Assignment) → IsLeastAssignment m → (how : Reading) (n : Numbered) → IsEntity m n → AllByRecursion LevelGood n.entity.written.ctype.levels → AllByRecursion Good (raw m (entity_row how (Some n)))
-  row_good m least how n is good = by n.entity.role
+  -- of the row of what has a type, by what is settled of its positions
+  pub row_settled : (m : Assignment) → IsLeastAssignment m → (how : Reading) (n : Numbered) → IsEntity m n → AllByRecursion LevelGood (settled_modes n.entity) → AllByRecursion Good (raw m (entity_row how (Some n)))
+  row_settled m least how n is good = by n.entity.role
     where
       whole : Row
       whole = record { first = n.first; count = positions_of n.entity; reading = how }
@@ -180,6 +181,24 @@ module _ (Good : Mode → Type 0) (private_good : Good Private) (racy_good : Goo
       by role.Result = all
       by role.Cast = all
       by role.Made = all
+
+  -- by what is written
+  pub row_good : (m : Assignment) → IsLeastAssignment m → (how : Reading) (n : Numbered) → IsEntity m n → AllByRecursion LevelGood n.entity.written.ctype.levels → AllByRecursion Good (raw m (entity_row how (Some n)))
+  row_good m least how n is good = row_settled m least how n is (entity_good n.entity good)
+
+  -- What is meant where nothing is written is to be good where some target has no mode of its own.
+  pub open_good : (b : Base) (otherwise : Option Mode) (levels : List (Option Mode)) → AllByRecursion LevelGood levels → (leaves_open b levels ≡ true → LevelGood otherwise) → AllByRecursion LevelGood (settled b otherwise levels)
+  open_good b otherwise [] h o = tt
+  open_good b otherwise (Some mode ∷ below) h o = (by (is_mutex b below), open_good b otherwise below h.1 o)
+    where
+      by : (z : Bool) → LevelGood (cond z (Some Racy) (option_or (Some mode) otherwise))
+      by true = racy_good
+      by false = h.0
+  open_good b otherwise (None ∷ below) h o = (by (is_mutex b below) o, open_good b otherwise below h.1 (λ free. o (or_right (not (is_mutex b below)) (leaves_open b below) free)))
+    where
+      by : (z : Bool) → ((not z || leaves_open b below) ≡ true → LevelGood otherwise) → LevelGood (cond z (Some Racy) (option_or None otherwise))
+      by true k = racy_good
+      by false k = k refl
 
 -- ---- what is found
 none_some : {A : Type 0} (x : A) → None ≡ Some x → ⊥

@@ -14,16 +14,18 @@ use Rattle.sharc_invariant.specs.Types.{StaticType, Mentions}
 use Rattle.sharc_invariant.specs.Labels.{Refers, Label, SameReference}
 use Rattle.sharc_invariant.specs.Typed.{Passes}
 use Rattle.sharc_static_laws.specs.Laws.{IsAccepted}
-use Rattle.sharc_static_laws.specs.Held.{held_at}
+use Rattle.sharc_static_laws.specs.Held.{is_held, held_at}
 use Rattle.sharc_static_laws.specs.Static.{register, static_of, variable_type, entry_of, GoesTo}
 
 -- where a function with these parameters begins
 abbrev pub at_entry : Context → List Declaration → Context
 at_entry c ds = record c { scope = parameters_scope ds }
 
--- The frame of the callee begins at register k. Where the argument for a parameter that is a pointer is a constant variable, its register holds a copy of that.
+-- The frame of the callee begins at register k. Where the argument for a parameter that is a pointer is a constant variable that keeps its reference, its register holds a
+-- copy of that.
 abbrev pub AreCopies : Context → List Declaration → Arguments → Label → ℕ → Type 0
-AreCopies c ds all l k = (x at y : ℕ) → is_pointer (variable_kind (declaration_at c.program.typed x)) ≡ true → argument_use c.program.typed ds all x ≡ Some at → named_at c.program.typed at ≡ named.Variable y → SameReference l (register c y) (k + register (at_entry c ds) x)
+AreCopies c ds all l k = (x at y : ℕ) → is_pointer (variable_kind (declaration_at c.program.typed x)) ≡ true → argument_use c.program.typed ds all x ≡ Some at → named_at c.program.typed at ≡ named.Variable y → is_held c.program.typed y ≡ true
+    → SameReference l (register c y) (k + register (at_entry c ds) x)
 
 -- an argument in register a
 abbrev pub ArgumentsPass : Type 0

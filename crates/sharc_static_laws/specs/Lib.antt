@@ -1,8 +1,10 @@
 pub mod Alone
 pub mod Calls
 pub mod Casting
+pub mod Conditions
 pub mod Held
 pub mod Laws
+pub mod Leading
 pub mod Pointing
 pub mod Results
 pub mod Scopes

@@ -21,6 +21,7 @@ use Rattle.sharc_flat.specs.Tables.{globals_of}
 use Rattle.sharc_invariant.specs.Types.{FieldLock}
 use Rattle.sharc_invariant.specs.Labels.{Refers, Label, SameReference}
 use Rattle.sharc_invariant.specs.Typed.{AreFieldLocks}
+use Rattle.sharc_static_laws.specs.Held.{is_held}
 use Rattle.sharc_static_laws.specs.Laws.{IsAccepted}
 use Rattle.sharc_static_laws.specs.Static.{register, locks_at, static_of}
 use Rattle.sharc_target_laws.specs.Shapes.{Form, form_of}
@@ -50,12 +51,12 @@ content_locks m (unary s Dereference a) = pointee_locks (modes_at m a)
 content_locks m _ = []
 
 -- ---- the base of a cell
--- The register has the value of this pointer. Where that is a constant variable, it has a copy of it.
+-- The register has the value of this pointer. Where that is a constant variable that keeps its reference, it has a copy of it.
 pub record BaseIs (c : Context) (l : Label) (r : ℕ) (a : Expression) : Type 0 where
   pub modes : List Sharing
   pub is : modes_at c.program a ≡ Some modes
   pub entry : l.env r ≡ Refers (static_of c (kind_at c.program.typed a) modes)
-  pub copy : (token x : ℕ) → constant_use c.program.typed a ≡ Some token → named_at c.program.typed token ≡ named.Variable x → SameReference l r (register c x)
+  pub copy : (token x : ℕ) → constant_use c.program.typed a ≡ Some token → named_at c.program.typed token ≡ named.Variable x → is_held c.program.typed x ≡ true → SameReference l r (register c x)
 
 -- the register has the base of what an lvalue names, if there is one
 abbrev pub IsBased : Context → Label → ℕ → Expression → Type 0

@@ -8,6 +8,7 @@ use Rattle.sharc_ctype.specs.Resolved.{named_at, function_at}
 use Rattle.sharc_mode_laws.specs.Constructs.{IsFunction}
 use Rattle.sharc_flat.specs.declared.slot.Slot.{Slot}
 use Rattle.sharc_flat.specs.Scope.{Context}
+use Rattle.sharc_invariant.specs.Types.{Mentions}
 use Rattle.sharc_invariant.specs.Labels.{Refers}
 use Rattle.sharc_static_laws.specs.Laws.{IsAccepted}
 use Rattle.sharc_static_laws.specs.Static.{result_type, entry_of}
@@ -20,6 +21,10 @@ where_stand c scope = record c { scope = scope }
 abbrev pub ResultsStay : Type 0
 ResultsStay = (c : Context) → IsAccepted c.program → (f : Function) → IsFunction c.program f → (one other : List Slot) → result_type (where_stand c one) f ≡ result_type (where_stand c other) f
 
+-- and no register is named
+abbrev pub ResultsNameNone : Type 0
+ResultsNameNone = (c : Context) → IsAccepted c.program → (f : Function) → IsFunction c.program f → (p : ℕ) → Mentions (result_type c f) p → ⊥
+
 -- a call has the type of what the function gives
 abbrev pub CallsGive : Type 0
 CallsGive = (c : Context) (s : Span) (i : Identifier) (all : Arguments) (n : ℕ) (f : Function) → named_at c.program.typed i.site.token ≡ named.Function n → function_at c.program.typed n ≡ Some f → entry_of c (call s i all) ≡ Refers (result_type c f)
@@ -27,3 +32,4 @@ CallsGive = (c : Context) (s : Span) (i : Identifier) (all : Arguments) (n : ℕ
 pub record ResultLaws : Type 0 where
   pub stay : ResultsStay
   pub give : CallsGive
+  pub none : ResultsNameNone

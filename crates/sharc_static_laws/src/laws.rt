@@ -3,8 +3,10 @@
 ghost use Rattle.sharc_static_laws.specs.Alone.{SomeAreAlone};
 ghost use Rattle.sharc_static_laws.specs.Calls.{ArgumentsFit, ArgumentsPass};
 ghost use Rattle.sharc_static_laws.specs.Casting.{CastsRecast};
+ghost use Rattle.sharc_static_laws.specs.Conditions.{KnownCalls};
 ghost use Rattle.sharc_static_laws.specs.Held.{HeldLaws};
 ghost use Rattle.sharc_static_laws.specs.Laws.{GivenLaws};
+ghost use Rattle.sharc_static_laws.specs.Leading.{ExpressionsLead};
 ghost use Rattle.sharc_static_laws.specs.Pointing.{PlacesPoint};
 ghost use Rattle.sharc_static_laws.specs.Results.{ResultLaws};
 ghost use Rattle.sharc_static_laws.specs.Scopes.{ScopeLaws};
@@ -13,13 +15,15 @@ ghost use Rattle.sharc_static_laws.specs.Starting.{SpawnedBegin};
 ghost use Rattle.sharc_static_laws.specs.Taken.{TakenLaws};
 
 use sharc_ctype_laws::laws::{
-    all_fair, each_name_once, each_names_found, each_names_itself, each_path_found,
+    all_fair, each_name_once, each_names_found, each_names_itself, each_names_own, each_path_found,
     each_type_found, meets_constraints, one_type, only_names, spawns_threads,
 };
 use sharc_mode::laws::link_laws;
 use sharc_mode::shown::row_laws;
 use sharc_mode_laws::laws::{reached_are_told, rules_are_met};
-use sharc_target_laws::laws::{expressions_found, fields_placed, numbers_found, variables_found};
+use sharc_target_laws::laws::{
+    expressions_found, fields_placed, numbers_found, own_found, variables_found,
+};
 
 /// What is assigned, begun with and returned has the type of what it is given to.
 pub fn given_laws()
@@ -147,4 +151,29 @@ pub fn result_laws()
     scope_laws();
     each_type_found();
     each_path_found();
+}
+
+/// Each lock path of the type of an expression leads to a mutex.
+pub fn expressions_lead()
+    ensures { ExpressionsLead }
+{
+    rules_are_met();
+    fields_placed();
+    own_found();
+    each_type_found();
+    each_path_found();
+    meets_constraints();
+    one_type();
+    each_name_once();
+    only_names();
+    each_names_itself();
+    each_names_own();
+}
+
+/// Where a call names `wait`, `signal` or `broadcast` as the program does not define them, it does not define `struct cond`.
+pub fn known_calls()
+    ensures { KnownCalls }
+{
+    each_name_once();
+    only_names();
 }

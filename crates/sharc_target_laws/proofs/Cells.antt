@@ -53,7 +53,7 @@ down_some b [] = tt
 down_some b (f ∷ below) = (omega arith, down_some b below)
 
 list_some : (m : Assignment) (list : List Numbered) → AllByRecursion HasForms (shapes_of m list)
-list_some m [] = tt
+list_some m [] = (omega arith, (omega arith, tt))
 list_some m (n ∷ rest) = both HasForms (entity_shapes m n) (shapes_of m rest) (down_some n.entity.written.ctype.base _) (list_some m rest)
 
 pub has_forms : (m : Assignment) (s : Shape) → Contains (shapes m) s → 0 < length s.forms

@@ -176,9 +176,12 @@ module _ (m : Assignment) (least : IsLeastAssignment m) (rules : MeetsRules m) w
         ⊎_elim (λ h. private_written (skipped n.entity.role + k) is (settled_from n.entity.written.ctype.base (otherwise_of n.entity.role levels) (written_modes n.entity) (skipped n.entity.role + k) Private low h))
         (λ h. private_open (skipped n.entity.role + k) is h) (private_found _ s.finding s.found)
 
+  dynamic_racy : dynamic_form ≡ racy_form → ⊥
+  dynamic_racy h = cc
+
   -- ---- all shapes
   list_fit : (list : List Numbered) → ((n : Numbered) → Contains list n → IsEntity m n) → AllByRecursion IsFitShape (shapes_of m list)
-  list_fit [] all = tt
+  list_fit [] all = ((λ struct is. dynamic_racy is), ((λ struct is. dynamic_racy is), tt))
   list_fit (n ∷ rest) all =
       both IsFitShape (entity_shapes m n) (shapes_of m rest) (down_fit n.entity.written.ctype.base (map form_of (modes_of m (entity_row written (Some n)))) (entity_fit n (all n (head_there n rest))))
       (list_fit rest (λ k has. all k (tail_there n k rest has)))

@@ -3,12 +3,14 @@ pub mod Beginning
 pub mod Beside
 pub mod Cells
 pub mod Expressing
+pub mod Firsts
 pub mod Fits
 pub mod Forms
 pub mod Found
 pub mod Freeing
 pub mod Globals
 pub mod Good
+pub mod Granules
 pub mod Laying
 pub mod Lists
 pub mod Lvalues

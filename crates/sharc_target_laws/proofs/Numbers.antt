@@ -7,7 +7,7 @@ use Rattle.sharc_ctype.specs.declared.entity.Numbered.{Numbered}
 use Rattle.sharc_ctype.specs.Entities.{entities_in, numbered}
 use Rattle.sharc_mode.specs.Moded.{Assignment}
 use Rattle.sharc_invariant.specs.Types.{no_target, row_of}
-use Rattle.sharc_target_laws.specs.Shapes.{Form, Shape, shapes_down, entity_shapes, shapes_of, shapes, same_shape, number_from, number}
+use Rattle.sharc_target_laws.specs.Shapes.{Form, dynamic_form, Shape, known_condition, known_mutex, shapes_down, entity_shapes, shapes_of, shapes, same_shape, number_from, number}
 use Rattle.sharc_target_laws.specs.Targets.{shape_row, targets_of}
 use Rattle.sharc_target_laws.specs.Laws.{NumbersFound, ShapesClosed}
 use Rattle.sharc_target_laws.proofs.Alike.{shape_itself, shape_is}
@@ -92,8 +92,14 @@ below_down b (x ∷ rest) c f g below has =
     here e fs is = subst (λ l. Contains (shapes_down b l) (made c (g ∷ below))) (sym is)
         (subst (λ z. Contains (shapes_down b (g ∷ below)) (made z (g ∷ below))) e (head_there (made b (g ∷ below)) (shapes_down b below)))
 
+one_form : (x f g : Form) (below : List Form) → x ∷ [] ≡ f ∷ g ∷ below → ⊥
+one_form x f g below h = cc
+
 below_of : (m : Assignment) (list : List Numbered) (c : Base) (f g : Form) (below : List Form) → Contains (shapes_of m list) (made c (f ∷ g ∷ below)) → Contains (shapes_of m list) (made c (g ∷ below))
-below_of m [] c f g below has = absurd (none_there _ has)
+below_of m [] c f g below has =
+    ⊎_elim (λ is. absurd (one_form dynamic_form f g below (ap (λ (s : Shape). s.forms) is)))
+    (λ later. ⊎_elim (λ is. absurd (one_form dynamic_form f g below (ap (λ (s : Shape). s.forms) is))) (λ more. absurd (none_there _ more)) (head_or_tail known_mutex (made c (f ∷ g ∷ below)) [] later))
+    (head_or_tail known_condition (made c (f ∷ g ∷ below)) (known_mutex ∷ []) has)
 below_of m (n ∷ rest) c f g below has =
     ⊎_elim (λ l. left_there (entity_shapes m n) (shapes_of m rest) _ (below_down n.entity.written.ctype.base _ c f g below l)) (λ r. right_there (entity_shapes m n) (shapes_of m rest) _ (below_of m rest c f g below r))
     (either_there (entity_shapes m n) (shapes_of m rest) _ has)

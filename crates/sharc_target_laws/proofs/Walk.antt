@@ -8,21 +8,21 @@ use Rattle.sharc_tree.specs.Tree as tree
 use Rattle.sharc_names.specs.declared.types.Role.{Role}
 use Rattle.sharc_names.specs.declared.types.Role.TheVariants as role
 use Rattle.sharc_ctype.specs.declared.entity.Entity.{Entity}
-use Rattle.sharc_ctype.specs.Entities.{declared, cast_entity, casts, first_entities, head_entities, statement_entities, statements_entities, result_of, function_entities, entities_in}
+use Rattle.sharc_ctype.specs.Entities.{declared, casts, first_entities, head_entities, statement_entities, statements_entities, result_of, function_entities, entities_in}
 use Rattle.sharc_ctype.specs.Resolved.{Resolution, functions_in, declarations_of, declarations_in, declared_at, declaration_at}
 use Rattle.sharc_ctype.specs.Statements.{first_locals, locals_in, locals_in_all}
-use Rattle.sharc_ctype_laws.specs.Found.{IsFound}
+use Rattle.sharc_ctype_laws.specs.Found.{IsFound, EachTypeFound}
+use Rattle.sharc_target_laws.specs.Own.{IsOwn, IsCastFound, HasOwn, OwnAreFound}
 use Rattle.sharc_target_laws.proofs.Forms.{skipped}
 use Rattle.sharc_target_laws.proofs.Found.{front, back}
-use Rattle.sharc_target_laws.proofs.Lists.{none_there, head_there, tail_there, head_or_tail, left_there, right_there, either_there, of_each, each_mapped, both, same_some, none_some}
+use Rattle.sharc_target_laws.proofs.Lists.{none_there, head_there, tail_there, head_or_tail, left_there, right_there, either_there, of_each, to_each, each_mapped, both, same_some, none_some}
 
 module _ (r : Resolution) where
   abbrev Found : List Entity → Type 0
   Found list = AllByRecursion (IsFound r) list
 
   abbrev pub CastFound : Expression → Type 0
-  CastFound (tree.cast s t a) = IsFound r (cast_entity s t)
-  CastFound _ = Unit {0}
+  CastFound = IsCastFound r
 
   abbrev IsLocalFound : Declaration → Type 0
   IsLocalFound d = IsFound r (declared role.Local d)
@@ -126,6 +126,25 @@ module _ (r : Resolution) where
   pub result_found : Found (entities_in r.program.items) → (f : Function) → Contains (functions_in r.program.items) f → IsFound r (result_of f)
   result_found all f has = (front (IsFound r) (result_of f ∷ map (declared role.Parameter) f.parameters) (statements_entities f.statements) (function_in r.program.items all f has)).0
 
+  own_parameters : (ds : List Declaration) → Found (map (declared role.Parameter) ds) → AllByRecursion (IsOwn r) ds
+  own_parameters [] h = tt
+  own_parameters (d ∷ rest) h = (record { what = role.Parameter; is_local = refl; found = h.0 }, own_parameters rest h.1)
+
+  own_locals : (ds : List Declaration) → AllByRecursion IsLocalFound ds → AllByRecursion (IsOwn r) ds
+  own_locals [] h = tt
+  own_locals (d ∷ rest) h = (record { what = role.Local; is_local = refl; found = h.0 }, own_locals rest h.1)
+
+  function_own : Found (entities_in r.program.items) → (f : Function) → Contains (functions_in r.program.items) f → HasOwn r f
+  function_own all f has =
+      let here = function_in r.program.items all f has in
+      let heads = result_of f ∷ map (declared role.Parameter) f.parameters in
+      let head = front (IsFound r) heads (statements_entities f.statements) here in
+      record {
+        variables = both (IsOwn r) f.parameters (locals_in_all f.statements) (own_parameters f.parameters head.1)
+            (own_locals (locals_in_all f.statements) (statements_declared f.statements (back (IsFound r) heads (statements_entities f.statements) here)));
+        cast_types = function_casts all f has;
+      }
+
   -- ---- declarations: fields, parameters and locals
   pub record IsDeclared (d : Declaration) : Type 0 where
     pub what : Role
@@ -170,6 +189,9 @@ module _ (r : Resolution) where
 
   pub declaration_found : Found (entities_in r.program.items) → (token : ℕ) (d : Declaration) → declaration_at r token ≡ Some d → IsDeclaredAt token d
   declaration_found all token d is = let w = at_token (declarations_in r.program.items) token d is in record { declared_there = in_items r.program.items all d w.has; token_is = w.is }
+
+pub own_found : EachTypeFound → OwnAreFound
+own_found found r resolved placed low = to_each (HasOwn r) (functions_in r.program.items) (function_own r (found r resolved placed low))
 
 -- ---- with an expression of a function those below it are
 abbrev pub IsClosed : List Expression → Type 0

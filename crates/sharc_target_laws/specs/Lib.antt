@@ -1,7 +1,10 @@
 pub mod Beside
 pub mod Fields
+pub mod Granules
+pub mod Firsts
 pub mod Laws
 pub mod Lvalues
+pub mod Own
 pub mod Pointees
 pub mod Shapes
 pub mod Targets

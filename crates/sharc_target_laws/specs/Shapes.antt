@@ -1,7 +1,8 @@
 -- Shapes: what an element is and what its pointers lead to in turn, with the kinds of the modes and without the locks that they name. The table of targets
 -- has a row for each shape.
-use Rattle.std.specs.Prelude.{ℕ, ◌+◌, ◌-◌, Bool, true, false, ◌&&◌, List, [], ◌∷◌, ◌++◌, length, map, Some, if◌then◌else◌}
+use Rattle.std.specs.Prelude.{ℕ, ◌+◌, ◌-◌, Bool, true, false, ◌&&◌, List, [], ◌∷◌, ◌++◌, length, map, Some, if◌then◌else◌, codes}
 use Rattle.sharc_tree.specs.declared.ctype.Base.{Base}
+use Rattle.sharc_tree.specs.declared.ctype.Base.TheVariants as base
 use Rattle.sharc_tree.specs.Tree.{Expression}
 use Rattle.sharc_names.specs.Kinds.{Kind, object, array, null, function, same_base}
 use Rattle.sharc_ctype.specs.declared.entity.Numbered.{Numbered}
@@ -51,8 +52,16 @@ shapes_down b (f ∷ below) = record { base = b; forms = f ∷ below } ∷ shape
 abbrev pub entity_shapes : Assignment → Numbered → List Shape
 entity_shapes m n = shapes_down n.entity.written.ctype.base (map form_of (modes_of m (entity_row written (Some n))))
 
+-- what `wait`, `signal` and `broadcast` are handed, NULL too
+abbrev pub known_condition : Shape
+known_condition = record { base = base.Struct (codes "cond"); forms = dynamic_form ∷ [] }
+
+abbrev pub known_mutex : Shape
+known_mutex = record { base = base.Mutex; forms = dynamic_form ∷ [] }
+
+-- these are there whether the program has such a type or not
 abbrev pub shapes_of : Assignment → List Numbered → List Shape
-shapes_of m [] = []
+shapes_of m [] = known_condition ∷ known_mutex ∷ []
 shapes_of m (n ∷ rest) = entity_shapes m n ++ shapes_of m rest
 
 abbrev pub shapes : Assignment → List Shape

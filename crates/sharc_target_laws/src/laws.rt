@@ -2,13 +2,16 @@
 
 ghost use Rattle.sharc_target_laws.specs.Beside.{LocksStandBeside};
 ghost use Rattle.sharc_target_laws.specs.Fields.{FieldsPlaced};
+ghost use Rattle.sharc_target_laws.specs.Firsts.{FirstLaws};
+ghost use Rattle.sharc_target_laws.specs.Granules.{GranulesAreFew};
 ghost use Rattle.sharc_target_laws.specs.Laws.{NumbersFound, ShapesClosed, CellsAre, TargetsAre, ExpressionsFound, VariablesFound, ResultsFound, MembersAre, GlobalsAre, GlobalsEnd, GlobalsBegin, GlobalsHold, LayoutsAre};
 ghost use Rattle.sharc_target_laws.specs.Lvalues.{LvaluesFit, ArraysFit};
+ghost use Rattle.sharc_target_laws.specs.Own.{OwnAreFound};
 ghost use Rattle.sharc_target_laws.specs.Pointees.{PointeesFit, RecastsFit, SameForms};
 
 use sharc_ctype_laws::laws::{
-    each_name_once, each_names_itself, each_type_found, meets_constraints, meets_globals, one_type,
-    only_names, within_limits,
+    cells_are_few, each_name_once, each_names_itself, each_type_found, meets_constraints,
+    meets_globals, one_type, only_names, within_limits,
 };
 use sharc_mode_laws::laws::rules_are_met;
 
@@ -152,4 +155,23 @@ pub fn locks_stand_beside()
 /// A field's place in an element is that at which it stands in its struct.
 pub fn fields_placed()
     ensures { FieldsPlaced }
+{}
+
+/// The globals of a program take few granules.
+pub fn granules_are_few()
+    ensures { GranulesAreFew }
+{
+    cells_are_few();
+}
+
+/// Parameters, locals and casts are found by their tokens, with the roles that they have.
+pub fn own_found()
+    ensures { OwnAreFound }
+{
+    each_type_found();
+}
+
+/// The first cell of a mutex and of a condition variable is one, and the table has a row for each.
+pub fn first_laws()
+    ensures { FirstLaws }
 {}

@@ -25,8 +25,11 @@ use Rattle.sharc_invariant.specs.Types.{StaticType}
 use Rattle.sharc_invariant.specs.Labels.{Refers, Label, HasCopy}
 use Rattle.sharc_invariant.specs.Typed.{Passes}
 use Rattle.sharc_labels_laws.specs.Stretches.{Setting}
-use Rattle.sharc_labels_laws.specs.Typable.{IsCopyIn, IsCopyNamed, IsCopyOf, ArgumentAt, ArgumentsAt}
+use Rattle.sharc_labels_laws.specs.Premises.{IsCopyIn, IsCopyNamed, IsCopyOf}
+use Rattle.sharc_labels_laws.specs.Typable.{ArgumentAt, ArgumentsAt}
 use Rattle.sharc_static_laws.specs.Calls.{AreStanding, at_entry, argument_type, AreCopies, ArgumentsFit}
+use Rattle.sharc_static_laws.specs.Held.{held_named, held_at}
+use Rattle.sharc_static_laws.specs.Scopes.{ScopeLaws}
 use Rattle.sharc_static_laws.specs.Static.{variable_type, pointers, entry_named}
 use Rattle.sharc_typable_laws.specs.Calling.{type_for, wants_of, CallsPass, ArgumentsStand, CallingLaws}
 use Rattle.sharc_typable_laws.specs.Typing.{typing}
@@ -114,30 +117,30 @@ module _ (z : Setting) (f : ℕ) (c : Context) (l : Label) where
       by false pointer true same q h is more = absurd (false≢true (sym (same ∙ pointer)))
 
   -- ---- the copies of constant variables
-  copy_named : (a : Expression) (at y copy q : ℕ) → constant_use r a ≡ Some at → named_at r at ≡ named.Variable y → register_of c.scope y ≡ Reference q → IsCopyOf c a copy → copy ≡ q
-  copy_named (tree.identifier s i) at y copy q used names there_is h = by (is_constant_named r (named_at r i.site.token)) used
+  copy_named : (a : Expression) (at y copy q : ℕ) → constant_use r a ≡ Some at → named_at r at ≡ named.Variable y → register_of c.scope y ≡ Reference q → held_at c q ≡ true → IsCopyOf typing c a copy → copy ≡ q
+  copy_named (tree.identifier s i) at y copy q used names there_is held h = by (is_constant_named r (named_at r i.site.token)) used
     where
       by : (b : Bool) → cond b (Some i.site.token) None ≡ Some at → copy ≡ q
       by true is =
           let what : named_at r i.site.token ≡ named.Variable y = ap (named_at r) (same_some i.site.token at is) ∙ names in
-          subst (λ g. IsCopyIn g copy) there_is (subst (λ w. IsCopyNamed c w copy) what h)
+          subst (λ g. IsCopyIn typing c (number_in g) copy) there_is (subst (λ w. IsCopyNamed typing c w copy) what h) held
       by false is = absurd (none_some at is)
-  copy_named _ at y copy q used names there_is h = absurd (none_some at used)
+  copy_named _ at y copy q used names there_is held h = absurd (none_some at used)
 
   copy_at : (ds : List Declaration) (wants : ℕ → StaticType) (all : Arguments) (i k j n : ℕ) → ArgumentsSuit c (declared_kinds ds) all → Given ds wants all i (k + n) → AllByRecursion (λ d. declaration_at r d.name.site.token ≡ Some d) ds
-      → (x at y q : ℕ) → is_pointer (variable_kind (declaration_at r x)) ≡ true → argument_use r ds all x ≡ Some at → named_at r at ≡ named.Variable y → register_of c.scope y ≡ Reference q
+      → (x at y q : ℕ) → is_pointer (variable_kind (declaration_at r x)) ≡ true → argument_use r ds all x ≡ Some at → named_at r at ≡ named.Variable y → register_of c.scope y ≡ Reference q → held_at c q ≡ true
       → l.same (k + number_in (register_from j n (map slot_of ds) x)) ≡ q
-  copy_at [] wants all i k j n suits h declared x at y q pointer used names there_is = absurd (none_some at used)
-  copy_at (d ∷ ds) wants no_arguments i k j n suits h declared x at y q pointer used names there_is = absurd suits
-  copy_at (d ∷ ds) wants (argument a rest) i k j n suits h declared x at y q pointer used names there_is =
+  copy_at [] wants all i k j n suits h declared x at y q pointer used names there_is held = absurd (none_some at used)
+  copy_at (d ∷ ds) wants no_arguments i k j n suits h declared x at y q pointer used names there_is held = absurd suits
+  copy_at (d ∷ ds) wants (argument a rest) i k j n suits h declared x at y q pointer used names there_is held =
       by (d.name.site.token == x) refl used (is_pointer (declared_kind d.written)) refl (is_ref c a) suits.1.0 h
-      (λ i j n g used. copy_at ds (λ n. wants (n + 1)) rest i k j n suits.2 g declared.1 x at y q pointer used names there_is)
+      (λ i j n g used. copy_at ds (λ n. wants (n + 1)) rest i k j n suits.2 g declared.1 x at y q pointer used names there_is held)
     where
       by : (t : Bool) → (d.name.site.token == x) ≡ t → cond t (constant_use r a) (argument_use r ds rest x) ≡ Some at → (b : Bool) → is_pointer (declared_kind d.written) ≡ b → (e : Bool) → e ≡ is_pointer (declared_kind d.written)
           → ArgumentAt z f typing c (declared_kinds (d ∷ ds)) a e (wants 0) i (k + n) l × Given ds (λ n. wants (n + 1)) rest (behind_int e i) (behind_ref e (k + n))
           → ((i j n : ℕ) → Given ds (λ n. wants (n + 1)) rest i (k + n) → argument_use r ds rest x ≡ Some at → l.same (k + number_in (register_from j n (map slot_of ds) x)) ≡ q)
           → l.same (k + number_in (cond t (cond b (Reference n) (Int j)) (cond b (register_from j (n + 1) (map slot_of ds) x) (register_from (j + 1) n (map slot_of ds) x)))) ≡ q
-      by true same used true is true ref h more = copy_named a at y (l.same (k + n)) q used names there_is h.0.1
+      by true same used true is true ref h more = copy_named a at y (l.same (k + n)) q used names there_is held h.0.1
       by true same used false is e ref h more =
           let token : d.name.site.token ≡ x = eqb-true d.name.site.token x same in
           absurd (false≢true (sym is ∙ ap (λ o. is_pointer (variable_kind o)) (sym declared.0 ∙ ap (declaration_at r) token) ∙ pointer))
@@ -183,8 +186,8 @@ parameters_declared themselves c a g there =
 arguments_stand : EachNamesItself → ArgumentsStand
 arguments_stand themselves c a g there all suits = stands_by c g.parameters all suits (parameters_declared themselves c a g there)
 
-calls_pass : EachNamesItself → ArgumentsFit → CallsPass
-calls_pass themselves arguments_fit z f c a g there all call suits i k l given p low =
+calls_pass : EachNamesItself → ArgumentsFit → ScopeLaws → CallsPass
+calls_pass themselves arguments_fit scopes z f c a g there all call suits i k l given p low =
     subst (λ o. Passes l k (k + p) (l.env (k + p)) (entry_named (at_entry c g.parameters) o)) (sym x.1)
     (subst (λ e. Passes l k (k + p) e (Refers (variable_type (at_entry c g.parameters) x.0))) (sym (w.entry ∙ ap (λ o. Refers (type_for c g.parameters all o)) w.at))
     (subst (λ t. Passes l k (k + p) (Refers (argument_type c g.parameters all w.parameter)) (Refers (variable_type (at_entry c g.parameters) t))) w.token
@@ -203,11 +206,13 @@ calls_pass themselves arguments_fit z f c a g there all call suits i k l given p
     standing = arguments_stand themselves c a g there all suits
 
     copies : AreCopies c g.parameters all l k
-    copies x at y pointer used names =
-        let q = reference_found 0 0 c.scope y (standing x at y pointer used names) in
+    copies x at y pointer used names held =
+        let slot = standing x at y pointer used names in
+        let q = reference_found 0 0 c.scope y slot in
+        let kept : held_at c q.0 ≡ true = ap (held_at c) (sym (ap number_in q.1)) ∙ ap (held_named c.program.typed) (scopes.has c y slot).1 ∙ held in
         let first : k ≡ k + 0 = omega arith in
         HasCopy (copy_at z f c l g.parameters (wants_of c g.parameters all) all i k 0 0 suits
-        (subst (λ n. ArgumentsAt z f typing c (declared_kinds g.parameters) (wants_of c g.parameters all) all i n l) first given) declared x at y q.0 pointer used names q.1 ∙ sym (ap number_in q.1))
+        (subst (λ n. ArgumentsAt z f typing c (declared_kinds g.parameters) (wants_of c g.parameters all) all i n l) first given) declared x at y q.0 pointer used names q.1 kept ∙ sym (ap number_in q.1))
 
-pub calling_laws : EachNamesItself → ArgumentsFit → CallingLaws
-calling_laws themselves arguments_fit = record { stand = arguments_stand themselves; passes = calls_pass themselves arguments_fit }
+pub calling_laws : EachNamesItself → ArgumentsFit → ScopeLaws → CallingLaws
+calling_laws themselves arguments_fit scopes = record { stand = arguments_stand themselves; passes = calls_pass themselves arguments_fit scopes }

@@ -73,7 +73,7 @@ abbrev copied : Context → Expression → Label → Label
 copied c a l = record l { same = λ q. register c (variable_at c.program.typed (constant_use c.program.typed a)) }
 
 copies : (c : Context) (d : Declaration) (a : Expression) (l : Label) → AreCopies c (d ∷ []) (argument a no_arguments) (copied c a l) 0
-copies c d a l x at y pointer used names =
+copies c d a l x at y pointer used names held =
     let is : variable_at c.program.typed (constant_use c.program.typed a) ≡ y = ap (variable_at c.program.typed) (only_use c.program.typed d a x at used) ∙ ap variable_number names in
     HasCopy (ap (register c) is)
 

@@ -38,6 +38,7 @@ pub fn calling_laws()
 {
     each_names_itself();
     arguments_fit();
+    scope_laws();
 }
 
 /// What a new thread is handed passes wherever it stands.

@@ -1,0 +1,305 @@
+-- Assignments, and calls whose value is dropped.
+use Rattle.std.proofs.Common.{◌≡◌, ℕ, ◌+◌, ◌<◌, Bool, true, false, List, length, refl, ap, sym, ◌∙◌, subst, arith, option_map, Option, Some, None, Contains}
+use Rattle.std.proofs.lemmas.Bool.{false≢true}
+use Rattle.std.specs.List.{AllByRecursion}
+use Rattle.sharc_tree.specs.declared.token.Span.{Span}
+use Rattle.sharc_tree.specs.declared.tree.declaration.Identifier.{Identifier}
+use Rattle.sharc_tree.specs.declared.tree.declaration.WrittenType.{WrittenType}
+use Rattle.sharc_tree.specs.Forms.{is_lvalue, without_parentheses}
+use Rattle.sharc_tree.specs.Low.{is_call, LowSimple}
+use Rattle.sharc_tree.specs.Measures.{expressions, in_option, in_right, in_simple, in_function}
+use Rattle.sharc_tree.specs.Tree.{Expression, Right, value, malloc, Simple, assign, does_call, Function}
+use Rattle.sharc_tree.specs.Tree as tree
+use Rattle.sharc_names.specs.declared.fault.Named.TheVariants as named
+use Rattle.sharc_names.specs.Kinds.{Kind, is_integer, is_pointer, same_kind, declared_kind}
+use Rattle.sharc_code.specs.declared.instr.Register.TheVariants.{Int}
+use Rattle.sharc_ctype.specs.Resolved.{Resolution, functions_in, named_at, named_kind, declaration_at, variable_kind}
+use Rattle.sharc_ctype.specs.Statements.{made}
+use Rattle.sharc_ctype.specs.Transfers.{Agrees}
+use Rattle.sharc_ctype_laws.specs.Rules.{IsHeld, MeetsSimple}
+use Rattle.sharc_meaning.specs.Cells.{element_cells}
+use Rattle.sharc_meaning.specs.State.{is_reference}
+use Rattle.sharc_mode.specs.Cells.{cell_at, pointed}
+use Rattle.sharc_mode.specs.Moded.{Assignment}
+use Rattle.sharc_mode.specs.Notes.{base_of}
+use Rattle.sharc_mode.specs.Rows.{Row, written, row_at, named_row, modes_of, modes_at}
+use Rattle.sharc_mode.specs.Sharings.{Sharing}
+use Rattle.sharc_mode_laws.specs.Constructs.{IsExpression, IsAssigned}
+use Rattle.sharc_flat.specs.Flattened.{kind_of, is_ref, target_of}
+use Rattle.sharc_flat.specs.Places.{Target, variable, in_global, in_global_at, in_object, in_object_at, width_of}
+use Rattle.sharc_flat.specs.Scope.{Context, slot_kind, ref_count, register_of, number_in}
+use Rattle.sharc_flat.specs.Suits.{PlaceSuits, LeftSuits, RightSuits, SimpleSuits, CountSuits, IfThere, is_cell}
+use Rattle.sharc_invariant.specs.Types.{Targets, StaticType, cells_of}
+use Rattle.sharc_invariant.specs.Labels.{Empty, Refers}
+use Rattle.sharc_labels_laws.specs.Stretches.{Setting}
+use Rattle.sharc_labels_laws.specs.Typable.{GoesTo, type_by, IsTypeIn, IsTypable}
+use Rattle.sharc_labels_laws.specs.Stated.{IsMade, CountTypable, ValueGoes, RightTypable, VariableAssigned, CellAssigned, Assigned, Dropped, SimpleTypable}
+use Rattle.sharc_static_laws.specs.Held.{HeldLaws, held_at}
+use Rattle.sharc_static_laws.specs.Laws.{GivenLaws}
+use Rattle.sharc_static_laws.specs.Scopes.{ScopeLaws, AllStand}
+use Rattle.sharc_static_laws.specs.Standing.{ExpressionStands, ExpressionsStand}
+use Rattle.sharc_static_laws.specs.Static.{register, static_of, variable_type, entry_by, entry_of, variable_entry}
+use Rattle.sharc_target_laws.specs.Laws.{IsRowOf, NumbersFound, ExpressionsFound}
+use Rattle.sharc_target_laws.specs.Pointees.{pointee, PointeesFit}
+use Rattle.sharc_target_laws.specs.Shapes.{row_shape}
+use Rattle.sharc_target_laws.specs.Targets.{targets_of}
+use Rattle.sharc_typable_laws.specs.Laws.{IsAt, ValueLaws}
+use Rattle.sharc_typable_laws.specs.Typing.{typing, width_named}
+use Rattle.sharc_accepted_laws.specs.Statements.{IsPlaceIn, IsThere, AreExpressionsTypable}
+use Rattle.sharc_accepted_laws.proofs.Members.{front, back, each, place_there}
+use Rattle.sharc_accepted_laws.proofs.Registers.{reference_found, integer_found}
+use Rattle.sharc_accepted_laws.proofs.Sorts.{integer_is, reference_no_integer, integer_want, held_pointer, no_function_held, made_pointer, made_element, element_some}
+use Rattle.sharc_accepted_laws.proofs.Wholes.{Facts, IsName, variable_named}
+
+-- an expression is the first of those that it has
+pub first_of : (P : Expression → Type 0) (e : Expression) → AllByRecursion P (expressions e) → P e
+first_of P (tree.identifier s i) h = h.0
+first_of P (tree.constant s c) h = h.0
+first_of P (tree.parentheses s a) h = h.0
+first_of P (tree.call s f all) h = h.0
+first_of P (tree.spawn s f a) h = h.0
+first_of P (tree.on_value s w a) h = h.0
+first_of P (tree.on_place s w a) h = h.0
+first_of P (tree.cast s t a) h = h.0
+first_of P (tree.index s a i) h = h.0
+first_of P (tree.field s a w n) h = h.0
+first_of P (tree.unary s o a) h = h.0
+first_of P (tree.binary s o at a b) h = h.0
+
+-- a call is no lvalue
+call_is : (e : Expression) → is_call e ≡ true → is_lvalue e ≡ false
+call_is (tree.identifier s i) h = absurd (false≢true h)
+call_is (tree.constant s c) h = absurd (false≢true h)
+call_is (tree.parentheses s a) h = absurd (false≢true h)
+call_is (tree.call s f all) h = refl
+call_is (tree.spawn s f a) h = refl
+call_is (tree.on_value s w a) h = refl
+call_is (tree.on_place s w a) h = refl
+call_is (tree.cast s t a) h = absurd (false≢true h)
+call_is (tree.index s a i) h = absurd (false≢true h)
+call_is (tree.field s a w n) h = absurd (false≢true h)
+call_is (tree.unary s o a) h = absurd (false≢true h)
+call_is (tree.binary s o at a b) h = absurd (false≢true h)
+
+pub no_entry : (s : StaticType) → Empty ≡ Refers s → ⊥
+no_entry s h = cc
+
+-- ---- in parentheses
+module _ (c : Context) where
+  record Bare (e : Expression) : Type 0 where
+    entry : entry_of c e ≡ entry_of c (without_parentheses e)
+    kind : kind_of c e ≡ kind_of c (without_parentheses e)
+
+  bare_of : (e : Expression) → Bare e
+  bare_of (tree.identifier s i) = record { entry = refl; kind = refl }
+  bare_of (tree.constant s k) = record { entry = refl; kind = refl }
+  bare_of (tree.parentheses s a) = let b = bare_of a in record { entry = b.entry; kind = b.kind }
+  bare_of (tree.call s f all) = record { entry = refl; kind = refl }
+  bare_of (tree.spawn s f a) = record { entry = refl; kind = refl }
+  bare_of (tree.on_value s w a) = record { entry = refl; kind = refl }
+  bare_of (tree.on_place s w a) = record { entry = refl; kind = refl }
+  bare_of (tree.cast s t a) = record { entry = refl; kind = refl }
+  bare_of (tree.index s a i) = record { entry = refl; kind = refl }
+  bare_of (tree.field s a w n) = record { entry = refl; kind = refl }
+  bare_of (tree.unary s o a) = record { entry = refl; kind = refl }
+  bare_of (tree.binary s o at a b) = record { entry = refl; kind = refl }
+
+  named_entry : (s : Span) (i : Identifier) (x : ℕ) → named_at c.program.typed i.site.token ≡ named.Variable x → entry_of c (tree.identifier s i) ≡ Refers (variable_type c x)
+  named_entry s i x names = ap (λ n. Refers (static_of c (named_kind c.program.typed n) (modes_of c.program (named_row c.program.typed written n)))) names
+
+-- ---- parts of a function
+module _ (z : Setting) (alone : ℕ → Bool) (n : ℕ) (g : Function) (c : Context) (here : IsPlaceIn z alone n g c) where
+  pub function_there : Contains (functions_in c.program.typed.program.items) g
+  function_there = place_there (functions_in c.program.typed.program.items) n g here.function
+
+  pub inside_there : (x : Expression) → Contains (in_function g) x → IsExpression c.program x
+  inside_there x has = record { owner = g; stands = function_there; inside = has }
+
+  pub at_there : (e : Expression) → IsThere g c e → IsAt c e
+  at_there e t = record { inside = each (Contains (in_function g)) (IsExpression c.program) inside_there (expressions e) t.inside; stands = first_of (ExpressionStands c) e t.stands }
+
+-- the laws that are used
+pub record Laws : Type 0 where
+  pub values : ValueLaws
+  pub scopes : ScopeLaws
+  pub held : HeldLaws
+  pub given : GivenLaws
+  pub numbers : NumbersFound
+  pub found : ExpressionsFound
+  pub pointees : PointeesFit
+
+module _ (laws : Laws) (z : Setting) (alone : ℕ → Bool) (n : ℕ) (g : Function) (typable : AreExpressionsTypable z alone n g) (c : Context) (here : IsPlaceIn z alone n g c) where
+  abbrev m : Assignment
+  m = c.program
+
+  abbrev r : Resolution
+  r = c.program.typed
+
+  targets_are : z.targets ≡ targets_of c.program
+  targets_are = ap (λ (x : Setting). x.targets) here.setting
+
+  at_of : (e : Expression) → IsThere g c e → IsAt c e
+  at_of e t = at_there z alone n g c here e t
+
+  -- ---- new objects
+  -- of the first target of a pointer with this row
+  pub made_is : (kind : Kind) (row : Row) → IsRowOf c.program kind row → (w : WrittenType) → same_kind kind (made w) ≡ true
+      → IsMade z n typing (static_of c kind (modes_of c.program row)) (element_cells c.program.typed (declared_kind w))
+  made_is kind row is w same =
+      let fits = laws.pointees c.program kind row is (made_pointer kind w same) in
+      let found = laws.numbers c.program (row_shape c.program (base_of kind) row) fits.shape in
+      record {
+        some = found.some;
+        row = subst (λ (x : Targets). pointee c.program kind row < length x.rows) (sym targets_are) found.inside;
+        cells = ap (element_cells c.program.typed) (sym (made_element kind w same)) ∙ sym fits.cells ∙ ap (λ x. cells_of x (pointee c.program kind row)) (sym targets_are);
+        few = element_some c.program.typed here.set.accepted.low (declared_kind w);
+      }
+
+  -- ---- what an expression refers to
+  record Pointed (e : Expression) : Type 0 where
+    row : Row
+    is : row_at c.program.typed e ≡ Some row
+    modes : modes_at c.program e ≡ Some (modes_of c.program row)
+    entry : entry_of c e ≡ Refers (static_of c (kind_of c e) (modes_of c.program row))
+    type : IsTypeIn z n typing c (type_by (entry_of c e))
+
+  pointed_of : (e : Expression) → IsThere g c e → is_pointer (kind_of c e) ≡ true → Pointed e
+  pointed_of e t pointer = by (row_at c.program.typed e) refl
+    where
+      is_pointer_value : (entry_of c e ≡ Refers (type_by (entry_of c e))) × IsTypeIn z n typing c (type_by (entry_of c e))
+      is_pointer_value = let p = laws.values.pointers z n c here.set.accepted e (at_of e t) pointer in (p.1, p.2)
+
+      by : (o : Option Row) → row_at c.program.typed e ≡ o → Pointed e
+      by None is = absurd (no_entry (type_by (entry_of c e)) (sym (ap (λ o. entry_by c (kind_of c e) (option_map (modes_of c.program) o)) is) ∙ is_pointer_value.0))
+      by (Some row) is = record {
+        row = row;
+        is = is;
+        modes = ap (option_map (modes_of c.program)) is;
+        entry = ap (λ o. entry_by c (kind_of c e) (option_map (modes_of c.program) o)) is;
+        type = is_pointer_value.1;
+      }
+
+  -- a type of an expression names constants that stand
+  pub type_of_any : (e : Expression) → IsThere g c e → IsTypeIn z n typing c (type_by (entry_of c e))
+  type_of_any e t = by (modes_at c.program e) refl
+    where
+      by : (o : Option (List Sharing)) → modes_at c.program e ≡ o → IsTypeIn z n typing c (type_by (entry_of c e))
+      by None is = subst (λ y. IsTypeIn z n typing c (type_by y)) (sym (ap (entry_by c (kind_of c e)) is)) (λ p mentions. absurd mentions)
+      by (Some modes) is = subst (λ y. IsTypeIn z n typing c (type_by y)) (sym (ap (entry_by c (kind_of c e)) is))
+          (λ p mentions. laws.held.types c (kind_of c e) modes p (laws.held.expressions c.program here.set.accepted e modes (at_of e t).inside is) (subst (IfThere (AllStand c.program c.scope)) is (at_of e t).stands) mentions)
+
+  -- ---- what is given
+  -- to something of this kind and this type
+  pub record Gives (kind : Kind) (s : StaticType) (x : Right) : Type 0 where
+    pub inside : AllByRecursion (Contains (in_function g)) (in_right x)
+    pub stands : ExpressionsStand c (in_right x)
+    pub agrees : Agrees c.program.typed kind x
+    pub type : IsTypeIn z n typing c s
+    pub goes : (e : Expression) → x ≡ value e → is_reference kind ≡ true → GoesTo (entry_of c e) s
+    pub makes : (w : WrittenType) → same_kind kind (made w) ≡ true → IsMade z n typing s (element_cells c.program.typed (declared_kind w))
+
+  count_is : (e : Option Expression) → AllByRecursion (Contains (in_function g)) (in_option expressions e) → ExpressionsStand c (in_option expressions e) → CountSuits c e → CountTypable z n typing c e
+  count_is None i s h = tt
+  count_is (Some e) i s h = (typable.value c here e (record { inside = i; stands = s }) h.0 (λ l no. h.1), (integer_is (kind_of c e) h.1, h.1))
+
+  pub right_is : (kind : Kind) (s : StaticType) (mode : Sharing) (x : Right) → Gives kind s x → RightSuits c kind mode x → RightTypable z n typing c kind s x
+  right_is kind s mode (value e) given suits = by (is_reference kind) refl
+    where
+      typed : IsTypable z n typing c e
+      typed = typable.value c here e (record { inside = given.inside; stands = given.stands }) suits.0 (λ l no. suits.1.1 (sym suits.1.0 ∙ no))
+
+      by : (b : Bool) → is_reference kind ≡ b → ValueGoes z n typing c kind s e b
+      by true is = (typed, suits.1.0 ∙ is, reference_no_integer kind is, given.goes e refl is, given.type)
+      by false is = let number : is_integer (kind_of c e) ≡ true = suits.1.1 is in (typed, (integer_is (kind_of c e) number, number), integer_want kind (kind_of c e) given.agrees number)
+  right_is kind s mode (malloc span count w) given suits = (suits.0, given.type, given.makes w given.agrees, count_is count given.inside given.stands suits.2)
+
+  -- ---- what is assigned to
+  module _ (facts : Facts c.program.typed g) (u : Expression) (x : Right) (there : IsThere g c u) (placed : PlaceSuits c u) (does : IsAssigned c.program u x) (lvalue : is_lvalue u ≡ true) (holds : IsHeld (kind_of c u)) where
+    abbrev s : StaticType
+    s = type_by (entry_of c u)
+
+    variable_is : (y : ℕ) → target_of c u ≡ variable y → slot_kind c.scope y ≡ Some (is_ref c u) → VariableAssigned z n typing c (kind_of c u) (type_by (entry_of c u)) (register_of c.scope y)
+    variable_is y to slot = by (is_ref c u) refl slot
+      where
+        name : IsName c.program.typed g facts u y
+        name = variable_named c.program.typed g facts u (kind_of c u) (facts.typed u (first_of (Contains (in_function g)) u there.inside)) lvalue (no_function_held (kind_of c u) holds) there.inside y to
+
+        entry : entry_of c u ≡ Refers (variable_type c y)
+        entry = (bare_of c u).entry ∙ ap (entry_of c) name.bare ∙ named_entry c name.span name.name y name.names
+
+        kind : kind_of c u ≡ variable_kind (declaration_at c.program.typed y)
+        kind = (bare_of c u).kind ∙ ap (kind_of c) name.bare ∙ ap (named_kind c.program.typed) name.names
+
+        by : (b : Bool) → is_ref c u ≡ b → slot_kind c.scope y ≡ Some b → VariableAssigned z n typing c (kind_of c u) (type_by (entry_of c u)) (register_of c.scope y)
+        by true is slot =
+            let q = reference_found 0 0 c.scope y slot in
+            let h = laws.scopes.has c y slot in
+            let same : register c y ≡ q.0 = ap number_in q.1 in
+            let pointer : type_by (variable_entry c q.0) ≡ type_by (entry_of c u) = ap type_by (subst (λ k. variable_entry c k ≡ Refers (variable_type c y)) same h.2) ∙ sym (ap type_by entry) in
+            subst (VariableAssigned z n typing c (kind_of c u) (type_by (entry_of c u))) (sym q.1)
+            (is, subst (λ k. k < ref_count c.scope) same h.0, pointer, subst (λ k. held_at c k ≡ false) same (laws.held.assigned c u x name.span name.name y does name.bare name.names slot))
+        by false is slot =
+            let f = integer_found 0 0 c.scope y slot in
+            let zero_more : 0 + f.at ≡ f.at = omega arith in
+            subst (VariableAssigned z n typing c (kind_of c u) (type_by (entry_of c u))) (sym (f.is ∙ ap Int zero_more))
+            (is, f.low, ap (width_named c) f.token ∙ ap width_of (sym kind))
+
+    cell_is : (t : Target) → target_of c u ≡ t → is_cell t ≡ true → CellAssigned z n typing c u (type_by (entry_of c u)) t (is_ref c u)
+    cell_is t to cell = subst (λ t. CellAssigned z n typing c u (type_by (entry_of c u)) t (is_ref c u)) to (typable.written c here u x there placed does holds (ap is_cell to ∙ cell))
+
+    pub assigned_is : (t : Target) → target_of c u ≡ t → LeftSuits c (kind_of c u) (cell_at c.program u) t → Assigned z n typing c u (type_by (entry_of c u)) t
+    assigned_is (variable y) to left = variable_is y to left
+    assigned_is (in_global h k) to left = cell_is (in_global h k) to refl
+    assigned_is (in_global_at h k) to left = cell_is (in_global_at h k) to refl
+    assigned_is (in_object k) to left = cell_is (in_object k) to refl
+    assigned_is (in_object_at k) to left = cell_is (in_object_at k) to refl
+
+    -- what is given to it
+    goes_is : (e : Expression) → x ≡ value e → is_reference (kind_of c u) ≡ true → GoesTo (entry_of c e) (type_by (entry_of c u))
+    goes_is e is ref =
+        let pointer = held_pointer (kind_of c u) holds ref in
+        let p = pointed_of u there pointer in
+        subst (GoesTo (entry_of c e)) (sym (ap type_by p.entry))
+        (laws.given.assigned c here.set.accepted u e (modes_of c.program p.row) (subst (IsAssigned c.program u) is does) p.modes pointer)
+
+    makes_is : (w : WrittenType) → same_kind (kind_of c u) (made w) ≡ true → IsMade z n typing (type_by (entry_of c u)) (element_cells c.program.typed (declared_kind w))
+    makes_is w same =
+        let p = pointed_of u there (made_pointer (kind_of c u) w same) in
+        let found = laws.found c.program here.set.accepted.resolved here.set.accepted.placed here.set.accepted.low here.set.accepted.least.modes u (inside_there z alone n g c here u (first_of (Contains (in_function g)) u there.inside)) p.row p.is in
+        subst (λ t. IsMade z n typing t (element_cells c.program.typed (declared_kind w))) (sym (ap type_by p.entry)) (made_is (kind_of c u) p.row found w same)
+
+  -- ---- simple statements
+  pub record SimpleGiven (x : Simple) : Type 0 where
+    pub inside : AllByRecursion (Contains (in_function g)) (in_simple x)
+    pub stands : ExpressionsStand c (in_simple x)
+    pub does : (u : Expression) (y : Right) (s : Span) → x ≡ assign s u y → IsAssigned c.program u y × Agrees c.program.typed (kind_of c u) y
+
+  pub simple_is : Facts c.program.typed g → (x : Simple) → SimpleGiven x → MeetsSimple c.program.typed x → LowSimple x → SimpleSuits c x → SimpleTypable z n typing c x
+  simple_is facts (assign span u x) given meets low suits =
+      let there : IsThere g c u = record { inside = front (Contains (in_function g)) (expressions u) (in_right x) given.inside; stands = front (ExpressionStands c) (expressions u) (in_right x) given.stands } in
+      let does = given.does u x span refl in
+      let type = type_of_any u there in (
+        typable.place c here u there suits.0 meets.0 meets.1,
+        (
+          type_by (entry_of c u),
+          type,
+          assigned_is facts u x there suits.0 does.0 meets.0 meets.1 (target_of c u) refl suits.1,
+          right_is (kind_of c u) (type_by (entry_of c u)) (pointed c.program (row_at c.program.typed u)) x
+              (record {
+                inside = back (Contains (in_function g)) (expressions u) (in_right x) given.inside;
+                stands = back (ExpressionStands c) (expressions u) (in_right x) given.stands;
+                agrees = does.1;
+                type = type;
+                goes = goes_is facts u x there suits.0 does.0 meets.0 meets.1;
+                makes = makes_is facts u x there suits.0 does.0 meets.0 meets.1;
+              })
+              suits.2,
+        ),
+      )
+  simple_is facts (does_call e) given meets low suits =
+      let there : IsThere g c e = record { inside = given.inside; stands = given.stands } in
+      (typable.value c here e there suits (λ l. absurd (false≢true (sym (call_is e low.0) ∙ l))), by there (is_ref c e) refl)
+    where
+      by : IsThere g c e → (b : Bool) → is_ref c e ≡ b → Dropped z n typing c e b
+      by there true is = (laws.values.values z n c here.set.accepted e (at_of e there) (λ no. absurd (false≢true (sym no ∙ is)))).0 is
+      by there false is = tt

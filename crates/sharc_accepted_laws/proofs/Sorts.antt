@@ -1,0 +1,122 @@
+-- Which kinds are integers, pointers and references, and how many cells an element has.
+use Rattle.std.proofs.Common.{◌≡◌, inl, inr, ℕ, zero, suc, ◌+◌, ◌-◌, ◌≤◌, ◌==◌, Bool, true, false, ◌||◌, cond, List, [], ◌∷◌, length, refl, ap, ap₂, sym, ◌∙◌, subst, arith, lt-ltb, eqb-true, bytes_eq}
+use Rattle.std.proofs.lemmas.Bool.{false≢true, and_parts}
+use Rattle.std.proofs.lemmas.Slice.Eq.{bytes_eq-Decides}
+use Rattle.sharc_tree.specs.declared.ctype.Base.{Base}
+use Rattle.sharc_tree.specs.declared.ctype.Base.TheVariants.{Int, Char, Long, Mutex, Void, Struct}
+use Rattle.sharc_tree.specs.declared.tree.declaration.WrittenType.{WrittenType}
+use Rattle.sharc_tree.specs.Low.{LowItems}
+use Rattle.sharc_tree.specs.Tree.{Item, structure, global}
+use Rattle.sharc_tree.specs.Tree as tree
+use Rattle.sharc_names.specs.Kinds.{Kind, object, array, null, function, is_integer, is_pointer, is_null, is_integral, same_base, same_kind, agrees, stars_of, declared_kind, element_kind}
+use Rattle.sharc_ctype.specs.Resolved.{Resolution, structs_in}
+use Rattle.sharc_ctype.specs.Statements.{made}
+use Rattle.sharc_ctype_laws.specs.Constraints.{IsInteger, IsPointer}
+use Rattle.sharc_ctype_laws.specs.Rules.{IsHeld}
+use Rattle.sharc_meaning.specs.Cells.{element_cells, base_cells, struct_cells}
+use Rattle.sharc_meaning.specs.State.{is_reference}
+
+pub or_false : (b : Bool) → (b || false) ≡ b
+or_false true = refl
+or_false false = refl
+
+-- ---- integers
+pub integer_is : (k : Kind) → is_integer k ≡ true → is_reference k ≡ false
+integer_is (object b zero) h = refl
+integer_is (object b (suc n)) h = absurd (let e = eqb-true (suc n) 0 (and_parts (suc n == 0) (is_integral b) h).0 in omega (arith, e))
+integer_is (array b n) h = absurd (false≢true h)
+integer_is null h = absurd (false≢true h)
+integer_is function h = absurd (false≢true h)
+
+pub reference_no_integer : (k : Kind) → is_reference k ≡ true → is_integer k ≡ false
+reference_no_integer k h = by (is_integer k) refl
+  where
+    by : (b : Bool) → is_integer k ≡ b → b ≡ false
+    by true is = absurd (false≢true (sym (integer_is k is) ∙ h))
+    by false is = refl
+
+-- what an integer goes to is one
+pub integer_want : (want k : Kind) → agrees want k ≡ true → is_integer k ≡ true → is_integer want ≡ true
+integer_want want (object b n) fair h = subst (λ t. cond t (is_integer want) (same_kind want (object b n)) ≡ true) h fair
+integer_want want (array b n) fair h = absurd (false≢true h)
+integer_want want null fair h = absurd (false≢true h)
+integer_want want function fair h = absurd (false≢true h)
+
+-- ---- pointers
+pub declared_pointer : (w : WrittenType) → is_reference (declared_kind w) ≡ is_pointer (declared_kind w)
+declared_pointer w = or_false (is_pointer (declared_kind w))
+
+integer_no_reference : (k : Kind) → IsInteger k → is_reference k ≡ false
+integer_no_reference k (b, t, is) = ap is_reference is
+
+pointer_pointer : (k : Kind) → IsPointer k → is_pointer k ≡ true
+pointer_pointer k (b, n, is) = ap is_pointer is ∙ lt-ltb 0 (n + 1) (omega arith)
+
+pointer_reference : (k : Kind) → IsPointer k → is_reference k ≡ true
+pointer_reference k p = ap (λ b. b || is_null k) (pointer_pointer k p)
+
+pub held_pointer : (k : Kind) → IsHeld k → is_reference k ≡ true → is_pointer k ≡ true
+held_pointer k (inl i) h = absurd (false≢true (sym (integer_no_reference k i) ∙ h))
+held_pointer k (inr p) h = pointer_pointer k p
+
+pub held_integer : (k : Kind) → IsHeld k → is_reference k ≡ false → is_integer k ≡ true
+held_integer k (inl (b, t, is)) h = ap is_integer is ∙ t
+held_integer k (inr p) h = absurd (false≢true (sym h ∙ pointer_reference k p))
+
+pub no_function_held : (k : Kind) → IsHeld k → k ≡ function → ⊥
+no_function_held k (inl (b, t, is)) e = false≢true (ap is_integer (sym e) ∙ ap is_integer is ∙ t)
+no_function_held k (inr p) e = false≢true (ap is_reference (sym e) ∙ pointer_reference k p)
+
+-- ---- what is made
+one_base : (a b : Base) → same_base a b ≡ true → a ≡ b
+one_base Int Int h = refl
+one_base Char Char h = refl
+one_base Long Long h = refl
+one_base Mutex Mutex h = refl
+one_base Void Void h = refl
+one_base (Struct a) (Struct b) h = ap Struct ((bytes_eq-Decides a b).0 h)
+one_base _ _ h = absurd (false≢true h)
+
+one_kind : (j k : Kind) → same_kind j k ≡ true → j ≡ k
+one_kind (object a m) (object b n) h = let p = and_parts _ _ h in ap₂ object (one_base a b p.0) (eqb-true m n p.1)
+one_kind _ _ h = absurd (false≢true h)
+
+pub made_pointer : (want : Kind) (w : WrittenType) → same_kind want (made w) ≡ true → is_pointer want ≡ true
+made_pointer want w h = ap is_pointer (one_kind want (made w) h) ∙ lt-ltb 0 (stars_of w + 1) (omega arith)
+
+pub made_element : (want : Kind) (w : WrittenType) → same_kind want (made w) ≡ true → element_kind want ≡ declared_kind w
+made_element want w h = let e : stars_of w + 1 - 1 ≡ stars_of w = omega arith in ap element_kind (one_kind want (made w) h) ∙ ap (object w.ctype.base) e
+
+-- ---- cells
+struct_some : (items : List Item) → LowItems items → (name : List ℕ) → 1 ≤ struct_cells (structs_in items) name
+struct_some [] low name = omega arith
+struct_some (structure s ∷ rest) low name = by (bytes_eq s.name.text name) (struct_some rest low.1 name)
+  where
+    by : (b : Bool) → 1 ≤ struct_cells (structs_in rest) name → 1 ≤ cond b (length s.fields) (struct_cells (structs_in rest) name)
+    by true more = let few = low.0.0 in omega (arith, few)
+    by false more = more
+struct_some (global g ∷ rest) low name = struct_some rest low.1 name
+struct_some (tree.function f ∷ rest) low name = struct_some rest low.1 name
+
+base_some : (r : Resolution) → LowItems r.program.items → (b : Base) → 1 ≤ base_cells r b
+base_some r low Int = omega arith
+base_some r low Char = omega arith
+base_some r low Long = omega arith
+base_some r low Mutex = omega arith
+base_some r low Void = omega arith
+base_some r low (Struct name) = struct_some r.program.items low name
+
+-- an element has a cell at least
+pub element_some : (r : Resolution) → LowItems r.program.items → (k : Kind) → 1 ≤ element_cells r k
+element_some r low (object b stars) = by (stars == 0)
+  where
+    by : (z : Bool) → 1 ≤ cond z (base_cells r b) 1
+    by true = base_some r low b
+    by false = omega arith
+element_some r low (array b stars) = by (stars == 0)
+  where
+    by : (z : Bool) → 1 ≤ cond z (base_cells r b) 1
+    by true = base_some r low b
+    by false = omega arith
+element_some r low null = omega arith
+element_some r low function = omega arith

@@ -1,0 +1,165 @@
+-- Functions with which a thread begins, main among them; and a whole program.
+use Rattle.std.proofs.Common.{◌≡◌, ⊎_elim, ℕ, ◌<◌, ◌≤◌, Bool, true, false, cond, List, [], ◌∷◌, length, nat_lt, slice_get, refl, ap, sym, ◌∙◌, subst, arith, eqb-true, Option, Some, None, codes, ◌||◌}
+use Rattle.std.specs.Prelude.{IsSomeAnd}
+use Rattle.std.specs.List.{list_any}
+use Rattle.std.proofs.lemmas.Bool.{false≢true, or_cases}
+use Rattle.std.proofs.lemmas.Slice.Eq.{bytes_eq-Decides}
+use Rattle.sharc_tree.specs.declared.tree.declaration.Declaration.{Declaration}
+use Rattle.sharc_tree.specs.Measures.{in_function}
+use Rattle.sharc_tree.specs.Tree.{Function}
+use Rattle.sharc_names.specs.declared.fault.Named.{Named}
+use Rattle.sharc_names.specs.declared.fault.Named.TheVariants as named
+use Rattle.sharc_names.specs.Kinds.{int, declared_kind}
+use Rattle.sharc_code.specs.declared.code.GlobalCells.{GlobalCells}
+use Rattle.sharc_code.specs.declared.code.Code.{Code}
+use Rattle.sharc_ctype.specs.Reaches.{spawns, of_all, Names, Spawns}
+use Rattle.sharc_ctype.specs.Resolved.{Resolution, functions_in, function_at, named_at}
+use Rattle.sharc_ctype_laws.specs.Laws.{SpawnsThreads, HasMain, OneFunctionOfName, WithinLimits}
+use Rattle.sharc_meaning.specs.State.{is_reference}
+use Rattle.sharc_mode.specs.Moded.{Assignment}
+use Rattle.sharc_flat.specs.Flattens.{IsMainOf}
+use Rattle.sharc_flat.specs.Flattened.{parameters_scope}
+use Rattle.sharc_flat.specs.Flattened as flat
+use Rattle.sharc_flat.specs.Scope.{int_count, ref_count}
+use Rattle.sharc_flat.specs.Tables.{globals_of}
+use Rattle.sharc_invariant.specs.Labels.{Anything, Within, EntryMentions}
+use Rattle.sharc_invariant.specs.Typed.{IsPlain}
+use Rattle.sharc_access_laws.specs.Typed.{BasesStand}
+use Rattle.sharc_labels_laws.specs.Stretches.{Setting}
+use Rattle.sharc_statement_laws.specs.Functions.{IsLowTyping}
+use Rattle.sharc_statement_laws.specs.Programs.{StartTypable, MainTypable}
+use Rattle.sharc_static_laws.specs.Held.{held_named}
+use Rattle.sharc_static_laws.specs.Results.{ResultLaws}
+use Rattle.sharc_static_laws.specs.Standing.{FunctionsStand}
+use Rattle.sharc_static_laws.specs.Starting.{SpawnedBegin}
+use Rattle.sharc_static_laws.specs.Static.{pointers, variable_entry}
+use Rattle.sharc_target_laws.specs.Laws.{VariablesFound}
+use Rattle.sharc_flat_laws.specs.Stands.{TypedSuits}
+use Rattle.sharc_typable_laws.specs.Typing.{typing}
+use Rattle.sharc_accepted_laws.specs.Setting.{signature_by, is_numbered, is_spawned, is_main, is_start, setting_of, IsSet}
+use Rattle.sharc_accepted_laws.specs.Expressions.{ExpressionsAreTypable}
+use Rattle.sharc_accepted_laws.specs.Programs.{ProgramsAreTypable}
+use Rattle.sharc_accepted_laws.proofs.Assigned.{Laws}
+use Rattle.sharc_accepted_laws.proofs.Functions.{TypeLaws, function_typable}
+use Rattle.sharc_accepted_laws.proofs.Linked.{linked}
+use Rattle.sharc_accepted_laws.proofs.Members.{got_low, place_there, place_of_element, passes_there}
+use Rattle.sharc_accepted_laws.proofs.Slots.{pointer_count}
+
+or_right : (a b : Bool) → b ≡ true → (a || b) ≡ true
+or_right true b h = refl
+or_right false b h = h
+
+-- what is held is in the register of a variable
+low_typing : IsLowTyping typing
+low_typing c p held = by (slice_get (pointers c.scope) p) refl held
+  where
+    by : (o : Option ℕ) → slice_get (pointers c.scope) p ≡ o → held_named c.program.typed o ≡ true → p < ref_count c.scope
+    by None is h = absurd (false≢true h)
+    by (Some x) is h = let low = got_low (pointers c.scope) p x is in let n = pointer_count c.scope in omega (arith, low, n)
+
+-- ---- what is spawned
+names_it : (n : ℕ) (w : Named) → is_numbered n w ≡ true → w ≡ named.Function n
+names_it n (named.Struct k) h = absurd (false≢true h)
+names_it n (named.Global k) h = absurd (false≢true h)
+names_it n (named.Function k) h = ap named.Function (eqb-true k n h)
+names_it n (named.Variable k) h = absurd (false≢true h)
+names_it n (named.Field k) h = absurd (false≢true h)
+names_it n named.Known h = absurd (false≢true h)
+
+spawned_by : (r : Resolution) (n : ℕ) → is_spawned r n ≡ true → (k : ℕ) × Spawns r k n
+spawned_by r n h =
+    let f = passes_there (λ f. list_any (λ token. is_numbered n (named_at r token)) (of_all spawns (in_function f))) (functions_in r.program.items) h in
+    let t = passes_there (λ token. is_numbered n (named_at r token)) (of_all spawns (in_function f.0)) f.2 in
+    let k = place_of_element (functions_in r.program.items) f.0 f.1 in
+    (k.0, subst (λ o. IsSomeAnd o (λ g. Names r (named.Function n) (of_all spawns (in_function g)))) (sym k.1) (t.0, t.1, names_it n (named_at r t.0) t.2))
+
+-- the laws of threads that are used
+pub record ThreadLaws : Type 0 where
+  pub threads : SpawnsThreads
+  pub begin : SpawnedBegin
+  pub main : HasMain
+  pub one : OneFunctionOfName
+  pub limits : WithinLimits
+
+module _ (starts : ThreadLaws) (stand : FunctionsStand) (m : Assignment) (globals : List GlobalCells) (code : Code) (alone : ℕ → Bool) (lines : ℕ) (set : IsSet m globals code alone) where
+  abbrev z : Setting
+  z = setting_of m globals code alone lines
+
+  one_at_most : (list : List Declaration) (d : Declaration) → list ≡ d ∷ [] → length list ≤ 1
+  one_at_most list d is = subst (λ (l : List Declaration). length l ≤ 1) (sym is) (omega arith)
+
+  none_at_all : (list : List Declaration) → list ≡ [] → length list ≤ 1
+  none_at_all list is = subst (λ (l : List Declaration). length l ≤ 1) (sym is) (omega arith)
+
+  takes_of : (n : ℕ) (g : Function) → function_at m.typed n ≡ Some g → (p : ℕ) → ((setting_of m globals code alone lines).signature n).takes p ≡ variable_entry (flat.in_function m globals g) p
+  takes_of n g at p = ap (λ o. (signature_by m globals (alone n) o).takes p) at
+
+  spawned_start : (n : ℕ) → is_spawned m.typed n ≡ true → StartTypable (setting_of m globals code alone lines) m n
+  spawned_start n h =
+      let s = spawned_by m.typed n h in
+      let t = starts.threads m.typed set.accepted.resolved set.accepted.placed set.accepted.low s.0 n s.1 in
+      let at = t.1.callable.at in
+      let begins = starts.begin m set.accepted globals s.0 n t.0 s.1 at (stand m set.accepted globals t.0 (place_there (functions_in m.typed.program.items) n t.0 at)).parameters in
+      record {
+        may = record { function = t.0; at = at; parameters = one_at_most t.0.parameters t.1.parameter t.1.parameters; result = ap is_reference t.1.result };
+        closed = λ q mentions. begins.closed q (subst (λ e. EntryMentions e q) (takes_of n t.0 at 0) mentions);
+      }
+
+  -- `int main(void)`
+  record IsMainAt (n : ℕ) : Type 0 where
+    function : Function
+    at : function_at m.typed n ≡ Some function
+    result : declared_kind function.result ≡ int
+    parameters : function.parameters ≡ []
+
+  main_at : (n : ℕ) (g : Function) → function_at m.typed n ≡ Some g → g.name.text ≡ codes "main" → IsMainAt n
+  main_at n g at name =
+      let k = starts.main m.typed set.accepted.resolved set.accepted.placed set.accepted.low in
+      let same : n ≡ k.0 = starts.one m.typed set.accepted.resolved n k.0 g k.1 at k.2.at (name ∙ sym k.2.name) in
+      record { function = k.1; at = ap (function_at m.typed) same ∙ k.2.at; result = k.2.result; parameters = k.2.parameters }
+
+  no_register : (n : ℕ) → IsMainAt n → (q : ℕ) → EntryMentions (((setting_of m globals code alone lines).signature n).takes 0) q → ⊥
+  no_register n x q mentions = absurd (subst (λ ds. EntryMentions (variable_entry (record { program = m; globals = globals; scope = parameters_scope ds }) 0) q) x.parameters (subst (λ e. EntryMentions e q) (takes_of n x.function x.at 0) mentions))
+
+  main_start : (n : ℕ) → is_main (function_at m.typed n) ≡ true → StartTypable (setting_of m globals code alone lines) m n
+  main_start n h = by (function_at m.typed n) refl h
+    where
+      by : (o : Option Function) → function_at m.typed n ≡ o → is_main o ≡ true → StartTypable (setting_of m globals code alone lines) m n
+      by None at h = absurd (false≢true h)
+      by (Some g) at h =
+          let x = main_at n g at ((bytes_eq-Decides g.name.text (codes "main")).0 h) in
+          record {
+            may = record { function = x.function; at = x.at; parameters = none_at_all x.function.parameters x.parameters; result = ap is_reference x.result };
+            closed = no_register n x;
+          }
+
+  start_is : (n : ℕ) → is_start m.typed n ≡ true → StartTypable (setting_of m globals code alone lines) m n
+  start_is n h = ⊎_elim (λ s. spawned_start n s) (λ k. main_start n k) (or_cases (is_spawned m.typed n) (is_main (function_at m.typed n)) h)
+
+  main_is : (n : ℕ) → IsMainOf m n → MainTypable (setting_of m globals code alone lines) n
+  main_is n k =
+      let x = main_at n k.0 k.1 k.2 in
+      let named : is_main (function_at m.typed n) ≡ true = ap is_main k.1 ∙ (bytes_eq-Decides k.0.name.text (codes "main")).1 k.2 in
+      let low = got_low (functions_in m.typed.program.items) n k.0 k.1 in
+      let few = (starts.limits m.typed.program set.accepted.resolved.typed).functions in
+      record {
+        starts = or_right (is_spawned m.typed n) (is_main (function_at m.typed n)) named;
+        few = omega (arith, low, few);
+        number = ap (λ o. (signature_by m globals (alone n) o).takes_ints 0) x.at ∙ ap (λ ds. cond (nat_lt 0 (int_count (parameters_scope ds))) (Within (typing.width (flat.in_function m globals x.function) 0)) Anything) x.parameters;
+      }
+
+  no_function : (n : ℕ) → function_at m.typed n ≡ None → IsPlain ((setting_of m globals code alone lines).signature n)
+  no_function n at = subst (λ o. IsPlain (signature_by m globals (alone n) o)) (sym at)
+      (record { bases = λ i b h. absurd h; names = λ i name h. absurd h; result = λ q h. absurd h; result_base = λ b h. absurd h; result_name = λ name h. absurd h })
+
+-- ---- a whole program
+pub programs_typable : ExpressionsAreTypable → BasesStand → Laws → TypeLaws → ResultLaws → VariablesFound → TypedSuits → FunctionsStand → ThreadLaws → ProgramsAreTypable
+programs_typable expressions bases laws types results variables suits stand starts m code alone lines set cells =
+    let z : Setting = setting_of m (globals_of m.typed) code alone lines in
+    record {
+      low = low_typing;
+      functions = λ n g at. function_typable laws types results variables suits stand m (globals_of m.typed) z alone set refl n g at (linked expressions bases z alone n g (cells n g) laws);
+      others = no_function starts stand m (globals_of m.typed) code alone lines set;
+      starts = start_is starts stand m (globals_of m.typed) code alone lines set;
+      main = main_is starts stand m (globals_of m.typed) code alone lines set;
+    }
