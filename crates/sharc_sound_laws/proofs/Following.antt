@@ -1,38 +1,49 @@
 -- A thread of a checked run follows the source: the function that it begins with is the one that its name says.
-use Rattle.std.proofs.Common.{◌≡◌, ℕ, ◌<◌, ◌⊎◌, inl, inr, List, Option, Some, None, refl, sym, ap, ◌∙◌, subst, ⊎_elim}
+use Rattle.std.proofs.Common.{◌≡◌, ℕ, ℤ, ◌<◌, ◌⊎◌, inl, inr, ◌||◌, cond, List, [], ◌∷◌, map, Option, Some, None, refl, sym, ap, ◌∙◌, subst, ⊎_elim}
 use Rattle.std.specs.Prelude.{IsTrue, codes, length}
+use Rattle.std.specs.List.{list_any}
 use Rattle.std.specs.Str.{bytes_eq}
-use Rattle.sharc_tree.specs.declared.token.Site.{Site}
+use Rattle.sharc_tree.specs.declared.event.Act.TheVariants.{Started}
+use Rattle.sharc_tree.specs.declared.event.CellAt.{CellAt}
+use Rattle.sharc_tree.specs.declared.event.SourceEvent.{SourceEvent}
 use Rattle.sharc_tree.specs.Tree.{Function}
-use Rattle.sharc_names.specs.declared.fault.Named.TheVariants as named
-use Rattle.sharc_ctype.specs.Resolved.{Resolution, function_at, named_at}
+use Rattle.sharc_ctype.specs.Resolved.{function_at}
 use Rattle.sharc_ctype_laws.specs.Declared.{NameThemselves}
 use Rattle.sharc_mode.specs.Moded.{Assignment}
+use Rattle.sharc_meaning.specs.Events.{events_of, held_mutexes, locked_by, same_cell, unless_unlocked, unlocks}
+use Rattle.sharc_meaning.specs.Meaning.{asks}
 use Rattle.sharc_meaning.specs.Obeys.{History}
-use Rattle.sharc_meaning.specs.Runs.{Follows, IsFirst, IsNamedAt, IsSpawned, is_named_main}
+use Rattle.sharc_meaning.specs.Runs.{Follows, IsFirst, IsNamedAt, IsSpawned, answers_of, by, is_named_main}
 use Rattle.sharc_code.specs.declared.code.Code.{Code}
-use Rattle.sharc_code.specs.Machine.{function_of}
+use Rattle.sharc_code.specs.Machine.{Machine, function_of}
 use Rattle.sharc_flat.specs.Correct.{MayStart}
 use Rattle.sharc_flat.specs.Flattens.{IsMainOf}
 use Rattle.sharc_ctype.specs.Reaches.{Spawns}
 use Rattle.sharc_compile_laws.specs.Started.{HasThread}
 use Rattle.sharc_compile_laws.specs.Threads.{TellsIn}
+use Rattle.sharc_wants_laws.specs.Wants.{IsWhere}
+use Rattle.sharc_sound_laws.specs.Standing.{IsPlaced}
+use Rattle.sharc_sound_laws.proofs.Named.{same_function}
+use Rattle.sharc_sound_laws.proofs.Standing.{from_first}
 use Rattle.sharc_history_laws.specs.Starts.{IsOfMain, IsSpawnedByCode, IsStartedBy}
 
--- two functions with one name are one
-same_function : (r : Resolution) → NameThemselves r → (n k : ℕ) (site : Site) → IsNamedAt (function_at r n) site → IsNamedAt (function_at r k) site → n ≡ k
-same_function r names n k site a b = by (function_at r n) (function_at r k) refl refl a b
+-- ---- what is held by events of a thread
+held_started : (e : SourceEvent) (v : ℤ) (later : List SourceEvent) → e.act ≡ Started v → held_mutexes (e ∷ later) ≡ held_mutexes later
+held_started e v later is = ap (λ a. unless_unlocked later (locked_by a) (held_mutexes later)) is
+
+unlocks_map : (t : ℕ) (c : CellAt) (es : List SourceEvent) → list_any (unlocks c) (map (by t) es) ≡ list_any (unlocks c) es
+unlocks_map t c [] = refl
+unlocks_map t c (e ∷ es) = ap (λ b. unlocks c e || b) (unlocks_map t c es)
+
+held_map : (t : ℕ) (es : List SourceEvent) → held_mutexes (map (by t) es) ≡ held_mutexes es
+held_map t [] = refl
+held_map t (e ∷ es) = same_lock (locked_by e.act) ∙ ap (unless_unlocked es (locked_by e.act)) (held_map t es)
   where
-    number_eq : (a b : ℕ) → named.Function a ≡ named.Function b → a ≡ b
-    number_eq a b e = cc
+    same_lock : (o : Option CellAt) → unless_unlocked (map (by t) es) o (held_mutexes (map (by t) es)) ≡ unless_unlocked es o (held_mutexes (map (by t) es))
+    same_lock None = refl
+    same_lock (Some c) = ap (λ b. cond b (held_mutexes (map (by t) es)) (c ∷ held_mutexes (map (by t) es))) (unlocks_map t c es)
 
-    by : (f g : Option Function) → function_at r n ≡ f → function_at r k ≡ g → IsNamedAt f site → IsNamedAt g site → n ≡ k
-    by None g p q a b = absurd a
-    by (Some f) None p q a b = absurd b
-    by (Some f) (Some g) p q a b =
-        let tokens = ap (λ (s : Site). named_at r s.token) (sym a ∙ b) in
-        number_eq n k (sym (names.functions n f p) ∙ tokens ∙ names.functions k g q)
-
+-- ---- the function of a thread
 main_is : (m : Assignment) (n : ℕ) → IsMainOf m n → IsTrue (is_named_main (function_at m.typed n))
 main_is m n is = subst (λ (o : Option Function). IsTrue (is_named_main o)) (sym is.1) (subst (λ (text : List ℕ). IsTrue (bytes_eq text (codes "main"))) (sym is.2) refl)
 
@@ -44,7 +55,7 @@ module _ (m : Assignment) (code : Code) (names : NameThemselves m.typed) (main :
   same : started.function ≡ tells.function
   same = same_function m.typed names started.function tells.function (function_of code started.function).site (named_code started.function started.known) (subst (IsNamedAt (function_at m.typed tells.function)) started.site tells.site)
 
-  may : MayStart m tells.function
+  pub may : MayStart m tells.function
   may = subst (MayStart m) same (may_start started.function (⊎_elim
       (λ (e : started.function ≡ code.main). inl (subst (IsMainOf m) (sym e) main))
       (λ (k : IsSpawnedByCode code started.function). inr (spawned started.function k))
@@ -60,6 +71,39 @@ module _ (m : Assignment) (code : Code) (names : NameThemselves m.typed) (main :
       (λ (k : IsSpawned tells.before tells.begins.thread started.function tells.argument).
       inr (subst (λ f. IsSpawned tells.before thread f tells.argument) same (subst (λ t. IsSpawned tells.before t started.function tells.argument) tells.own k)))
       started.right
+
+  -- where the code is placed, with the fuel with which the thread has asked for its events
+  pub placed : (at : Machine) → IsWhere m code thread tells.function tells.argument (events_of thread tells.after) at → IsPlaced m code R thread at
+  placed at w =
+      let come = asks m tells.function tells.argument (answers_of (events_of thread tells.after)) w.fuel in
+      record {
+        come = come;
+        stands = record {
+          fuel = w.fuel;
+          own = record {
+            function = tells.function;
+            argument = tells.argument;
+            before = tells.before;
+            begins = tells.begins;
+            after = tells.after;
+            stands = tells.stands;
+            own = tells.own;
+            first = tells.first;
+            act = tells.act;
+            answer = tells.answer;
+            site = tells.site;
+            by_right = right;
+            asked = w.events;
+          };
+          is = refl;
+        };
+        next = w.next;
+        refused = w.refused;
+        gone = w.gone;
+        mutexes = λ mutex. ap (λ (held : List CellAt). list_any (same_cell mutex) held)
+            (ap held_mutexes (from_first thread R tells.before tells.after tells.begins tells.stands tells.own tells.first) ∙ held_started tells.begins tells.argument (events_of thread tells.after) tells.act
+            ∙ ap held_mutexes (sym w.events) ∙ held_map thread come.events);
+      }
 
   pub follows : (fuel : ℕ) × Follows m R fuel thread
   follows = let asked = tells.asked may in (

@@ -1,3 +1,9 @@
 pub mod Beginning
-pub mod Following
+pub mod Named
 pub mod Next
+pub mod Standing
+pub mod Following
+pub mod Starts
+pub mod Deadlocked
+pub mod Unreported
+pub mod Reported

@@ -36,7 +36,7 @@ module _ (laws : AskLaws) (m : Assignment) (f : ℕ) (argument : ℤ) (answers :
         omega arith
 
     -- so it wants one
-    wanted : (o : Outcome) → (asks m f argument answers (fuel + more)).outcome ≡ o → (d : SourceEvent) × ((asks m f argument answers (fuel + more)).outcome ≡ wants d)
+    pub wanted : (o : Outcome) → (asks m f argument answers (fuel + more)).outcome ≡ o → (d : SourceEvent) × ((asks m f argument answers (fuel + more)).outcome ≡ wants d)
     wanted (wants d) e = (d, e)
     wanted o e = absurd (none (λ d q. let z : o ≡ wants d = sym e ∙ q in cc))
       where
@@ -48,7 +48,7 @@ module _ (laws : AskLaws) (m : Assignment) (f : ℕ) (argument : ℤ) (answers :
             let l = many in
             omega arith
 
-    comes_as : (d : SourceEvent) → (asks m f argument answers (fuel + more)).outcome ≡ wants d → IsSameAsked w d
+    pub comes_as : (d : SourceEvent) → (asks m f argument answers (fuel + more)).outcome ≡ wants d → IsSameAsked w d
     comes_as d e =
         let c = laws.comes m f argument answers a (fuel + more) d e in
         let n = laws.wanted m f argument answers (fuel + more) d e in

@@ -1,0 +1,22 @@
+-- Functions by their names.
+use Rattle.std.proofs.Common.{◌≡◌, ℕ, Option, Some, None, refl, sym, ap, ◌∙◌}
+use Rattle.sharc_tree.specs.declared.token.Site.{Site}
+use Rattle.sharc_tree.specs.Tree.{Function}
+use Rattle.sharc_names.specs.declared.fault.Named.TheVariants as named
+use Rattle.sharc_ctype.specs.Resolved.{Resolution, function_at, named_at}
+use Rattle.sharc_ctype_laws.specs.Declared.{NameThemselves}
+use Rattle.sharc_meaning.specs.Runs.{IsNamedAt}
+
+-- two functions with one name are one
+pub same_function : (r : Resolution) → NameThemselves r → (n k : ℕ) (site : Site) → IsNamedAt (function_at r n) site → IsNamedAt (function_at r k) site → n ≡ k
+same_function r names n k site a b = by (function_at r n) (function_at r k) refl refl a b
+  where
+    number_eq : (a b : ℕ) → named.Function a ≡ named.Function b → a ≡ b
+    number_eq a b e = cc
+
+    by : (f g : Option Function) → function_at r n ≡ f → function_at r k ≡ g → IsNamedAt f site → IsNamedAt g site → n ≡ k
+    by None g p q a b = absurd a
+    by (Some f) None p q a b = absurd b
+    by (Some f) (Some g) p q a b =
+        let tokens = ap (λ (s : Site). named_at r s.token) (sym a ∙ b) in
+        number_eq n k (sym (names.functions n f p) ∙ tokens ∙ names.functions k g q)

@@ -1,0 +1,13 @@
+-- The first instruction of the code of flat code.
+use Rattle.std.proofs.Common.{◌≡◌, ap, ◌∙◌}
+use Rattle.std.specs.Prelude.{List, slice_index_or}
+use Rattle.sharc_code.specs.declared.code.Code.{Code}
+use Rattle.sharc_code.specs.declared.instr.Instr.{Instr}
+use Rattle.sharc_code.specs.declared.instr.Instr.TheVariants.{Exit, Start}
+use Rattle.sharc_code.specs.Machine.{instr_at}
+use Rattle.sharc_flat_form.specs.declared.flat.Flat.{Flat as FlatCode}
+use Rattle.sharc_gen.specs.Generated.{generated}
+use Rattle.sharc_compile.specs.Made.{IsCodeOf}
+
+pub first_is : (flat : FlatCode) (code : Code) → IsCodeOf flat code → instr_at code 0 ≡ Start 0
+first_is flat code is = ap (λ (is : List Instr). slice_index_or is 0 Exit) is.generated.instrs ∙ ap (λ (statements : List Instr). slice_index_or (generated is.g.functions.items statements) 0 Exit) is.made.statements

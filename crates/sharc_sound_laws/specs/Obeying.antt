@@ -1,0 +1,44 @@
+-- A program that always obeys gets no report of an access, where its code is typed.
+use Rattle.std.specs.Prelude.{◌≡◌, ℕ, List, Some}
+use Rattle.sharc_mode.specs.Moded.{Assignment}
+use Rattle.sharc_code.specs.declared.code.Code.{Code}
+use Rattle.sharc_code.specs.declared.shape.Shape.{Shape}
+use Rattle.sharc_code.specs.declared.state.Stop.{Stop}
+use Rattle.sharc_code.specs.declared.state.Stop.TheVariants.{Conflict, NoLock}
+use Rattle.sharc_code.specs.Layout.{Fits}
+use Rattle.sharc_code.specs.Runs.{Turn}
+use Rattle.sharc_code.specs.Whole.{CheckedRun, place_after}
+use Rattle.sharc_flat_form.specs.declared.flat.Flat.{Flat as FlatCode}
+use Rattle.sharc_flat_form.specs.Made.{flat_of}
+use Rattle.sharc_flat.specs.Laws.{FitsMade}
+use Rattle.sharc_flat.specs.Flattens.{Flattens}
+use Rattle.sharc_meaning.specs.Obeys.{AlwaysObeys}
+use Rattle.sharc_compile.specs.Made.{IsCodeOf}
+use Rattle.sharc_compile_laws.specs.Typed.{IsTypedProgram}
+use Rattle.sharc_invariant.specs.Types.{Targets}
+use Rattle.sharc_invariant.specs.Labels.{Labels}
+use Rattle.sharc_invariant.specs.Typed.{IsWellTyped}
+use Rattle.sharc_invariant.specs.State.{IsSmall}
+use Rattle.sharc_build.specs.declared.building.Built.{Built}
+use Rattle.sharc_build.specs.Built.{IsBuilt}
+use Rattle.sharc_sound_laws.specs.Begins.{AreUnsigned}
+
+-- A1, A2 and A3: the check of an access was refused
+abbrev pub IsAccessReport : Stop → Type 0
+IsAccessReport (Conflict c) = Unit {0}
+IsAccessReport (NoLock site word) = Unit {0}
+IsAccessReport _ = ⊥
+
+-- no thread has stopped so
+abbrev pub NoAccessReport : Code → Shape → List Turn → Type 0
+NoAccessReport code s run = (t : ℕ) (stop : Stop) → ((place_after code s run).threads t).own.stop ≡ Some stop → IsAccessReport stop → ⊥
+
+-- in no checked run, by threads in any order, of the code of a program whose source runs all obey
+abbrev pub ObeyingIsUnreportedIfTyped : Type 0
+ObeyingIsUnreportedIfTyped = (m : Assignment) → IsTypedProgram m → AreUnsigned m.typed → (flat : FlatCode) → Flattens m flat → FitsMade (flat_of flat) → (code : Code) → IsCodeOf flat code
+    → (x : Targets) (ls : Labels) → IsWellTyped x code ls → AlwaysObeys m → (s : Shape) → Fits code s → IsSmall code s → (run : List Turn) → CheckedRun code s run → NoAccessReport code s run
+
+-- nor of the code that is built of a source
+abbrev pub BuiltObeyingIsUnreportedIfTyped : Type 0
+BuiltObeyingIsUnreportedIfTyped = (source : List ℕ) (built : Built) → IsBuilt source built → (x : Targets) (ls : Labels) → IsWellTyped x built.code ls → AlwaysObeys built.checked
+    → (s : Shape) → Fits built.code s → (run : List Turn) → CheckedRun built.code s run → NoAccessReport built.code s run
