@@ -1,2 +1,4 @@
 pub mod Sound
 pub mod Typed
+pub mod Deadlock
+pub mod Reports

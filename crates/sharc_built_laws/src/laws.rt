@@ -1,11 +1,16 @@
 // The laws, each the contract of a function with calls of other laws alone.
 
+ghost use Rattle.sharc_built_laws.specs.Deadlock.{BuiltStuckIsDeadlock};
+ghost use Rattle.sharc_built_laws.specs.Reports.{BuiltObeyingIsUnreported, BuiltReportsShow};
 ghost use Rattle.sharc_built_laws.specs.Sound.{BuiltIsSound};
 ghost use Rattle.sharc_built_laws.specs.Typed.{BuiltIsTyped};
 
 use sharc_accepted_laws::laws::accepted_law;
 use sharc_build::fronts_are_typed;
-use sharc_sound_laws::built_is_sound_if_typed;
+use sharc_sound_laws::{
+    built_is_sound_if_typed, built_obeying_is_unreported_if_typed, built_reports_show_if_typed,
+    built_stuck_is_deadlock_if_typed,
+};
 use sharc_source_laws::laws::{each_constant_is_held, numbers_have_no_sign};
 
 /// The code that is built of a source is typed.
@@ -24,4 +29,29 @@ pub fn built_is_sound()
 {
     built_is_typed();
     built_is_sound_if_typed();
+}
+
+/// Where such a run is stuck the source is in a deadlock: no event of a thread that was not stopped extends the events of the run to a
+/// source run.
+pub fn built_stuck_is_deadlock()
+    ensures { BuiltStuckIsDeadlock }
+{
+    built_is_typed();
+    built_stuck_is_deadlock_if_typed();
+}
+
+/// Where every source run of the program obeys no such run has a report A1, A2 or A3.
+pub fn built_obeying_is_unreported()
+    ensures { BuiltObeyingIsUnreported }
+{
+    built_is_typed();
+    built_obeying_is_unreported_if_typed();
+}
+
+/// Each report of such a run shows its cause, and comes at the event that the source wants next.
+pub fn built_reports_show()
+    ensures { BuiltReportsShow }
+{
+    built_is_typed();
+    built_reports_show_if_typed();
 }

@@ -1,6 +1,6 @@
 -- In a stuck run no thread has an event that may come next.
-use Rattle.std.proofs.Common.{◌≡◌, ◌≢◌, ℕ, zero, suc, ℤ, pos, ◌<◌, ◌⊎◌, inl, inr, ⊎_elim, Bool, true, false, ◌||◌, ◌&&◌, cond, List, [], ◌∷◌, ◌++◌, length, Some, None, Option, refl, sym, ap, ◌∙◌, subst, arith}
-use Rattle.std.specs.Prelude.{◌==◌, slice_index_or, Any}
+use Rattle.std.proofs.Common.{◌≡◌, ◌≢◌, ℕ, zero, suc, pos, ◌<◌, ◌⊎◌, inl, inr, ⊎_elim, Bool, true, false, ◌||◌, ◌&&◌, cond, List, [], ◌∷◌, ◌++◌, length, Some, None, refl, sym, ap, ◌∙◌, subst, arith}
+use Rattle.std.specs.Prelude.{◌==◌, slice_index_or}
 use Rattle.std.specs.List.{list_any}
 use Rattle.std.proofs.lemmas.Bool.Decides.{nat_tests}
 use Rattle.sharc_tree.specs.declared.event.Act.{Act}
@@ -8,7 +8,7 @@ use Rattle.sharc_tree.specs.declared.event.Act.TheVariants as acts
 use Rattle.sharc_tree.specs.declared.event.SourceEvent.{SourceEvent}
 use Rattle.sharc_ctype_laws.specs.Declared.{NameThemselves}
 use Rattle.sharc_mode.specs.Moded.{Assignment}
-use Rattle.sharc_meaning.specs.Events.{Stands, events_of, is_of}
+use Rattle.sharc_meaning.specs.Events.{events_of, is_of}
 use Rattle.sharc_meaning.specs.Laws.{AskLaws}
 use Rattle.sharc_meaning.specs.Obeys.{History}
 use Rattle.sharc_meaning.specs.Runs.{Follows, IsFirst, IsSpawned, SourceRun}
@@ -22,7 +22,7 @@ use Rattle.sharc_code.specs.declared.state.State.{State}
 use Rattle.sharc_code.specs.declared.state.State.TheVariants.{Runs, Tries, Stopped, Ended}
 use Rattle.sharc_code.specs.Machine.{Machine, instr_at, int}
 use Rattle.sharc_code.specs.Path.{may_go}
-use Rattle.sharc_code.specs.Runs.{Turn, Global}
+use Rattle.sharc_code.specs.Runs.{Turn}
 use Rattle.sharc_code.specs.Says.{cell_at, place_at}
 use Rattle.sharc_code.specs.Waits.{asks_for, held_up}
 use Rattle.sharc_code.specs.Whole.{IsOn, Stuck, Waits, place_after}
@@ -30,8 +30,7 @@ use Rattle.sharc_history_laws.specs.History.{history_of}
 use Rattle.sharc_history_laws.specs.Stuck.{act_awaited}
 use Rattle.sharc_history_laws.specs.Threads.{ThreadsAreTold}
 use Rattle.sharc_wants_laws.specs.Wants.{IsNotThere, WantsBy}
-use Rattle.sharc_sound_laws.specs.Deadlock.{IsDeadlock}
-use Rattle.sharc_sound_laws.specs.Standing.{IsPlaced, StandsAt}
+use Rattle.sharc_sound_laws.specs.Standing.{IsPlaced}
 use Rattle.sharc_sound_laws.proofs.Standing.{IsNextBy, behind_own, from_first, next_by}
 
 yes : true ≡ false → ⊥

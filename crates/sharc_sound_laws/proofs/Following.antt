@@ -22,7 +22,7 @@ use Rattle.sharc_ctype.specs.Reaches.{Spawns}
 use Rattle.sharc_compile_laws.specs.Started.{HasThread}
 use Rattle.sharc_compile_laws.specs.Threads.{TellsIn}
 use Rattle.sharc_wants_laws.specs.Wants.{IsWhere}
-use Rattle.sharc_sound_laws.specs.Standing.{IsPlaced, StandsAt}
+use Rattle.sharc_sound_laws.specs.Standing.{IsPlaced}
 use Rattle.sharc_sound_laws.proofs.Named.{same_function}
 use Rattle.sharc_sound_laws.proofs.Standing.{from_first}
 use Rattle.sharc_history_laws.specs.Starts.{IsOfMain, IsSpawnedByCode, IsStartedBy}

@@ -1,6 +1,5 @@
 -- What a thread that was stopped by a report wants.
-use Rattle.std.proofs.Common.{◌≡◌, ℕ, pos, ◌⊎◌, inl, inr, ⊎_elim, Bool, cond, true, false, List, [], ◌∷◌, ◌++◌, reverse, map, Some, None, Option, refl, sym, ap, ◌∙◌, subst}
-use Rattle.std.specs.Prelude.{filter}
+use Rattle.std.proofs.Common.{◌≡◌, ℕ, ◌⊎◌, ⊎_elim, List, [], ◌∷◌, ◌++◌, reverse, Some, None, Option, refl, sym, ap, ◌∙◌, subst}
 use Rattle.std.proofs.lemmas.List.{reverse-append}
 use Rattle.std.proofs.lemmas.List.Elements.{filter-append}
 use Rattle.sharc_tree.specs.declared.event.SourceEvent.{SourceEvent}

@@ -1,6 +1,6 @@
 -- Where a thread of a source run stands: by its events it has come to this outcome. What then may come next of it, and how the run goes on.
-use Rattle.std.proofs.Common.{◌≡◌, ◌≢◌, ℕ, suc, ℤ, pos, ◌+◌, ◌⊎◌, inl, inr, ⊎_elim, Bool, true, false, cond, List, [], ◌∷◌, ◌++◌, length, map, Some, None, refl, sym, ap, ◌∙◌, subst, arith, append_assoc}
-use Rattle.std.specs.Prelude.{◌==◌, filter}
+use Rattle.std.proofs.Common.{◌≡◌, ◌≢◌, ℕ, suc, ℤ, pos, ◌+◌, ⊎_elim, true, false, cond, List, [], ◌∷◌, ◌++◌, length, map, Some, refl, sym, ap, ◌∙◌, subst, arith, append_assoc}
+use Rattle.std.specs.Prelude.{◌==◌}
 use Rattle.std.proofs.lemmas.Bool.Decides.{nat_tests}
 use Rattle.std.proofs.lemmas.List.{map-append, append-nil}
 use Rattle.std.proofs.lemmas.List.Elements.{filter-append}
@@ -17,7 +17,7 @@ use Rattle.sharc_meaning.specs.Laws.{AskLaws, RunLaws, IsAnswer, Next}
 use Rattle.sharc_meaning.specs.Meaning.{Asked, asks}
 use Rattle.sharc_meaning.specs.Obeys.{History}
 use Rattle.sharc_meaning.specs.Runs.{Follows, IsNamedAt, SourceRun, answers_of, by}
-use Rattle.sharc_meaning.specs.State.{Outcome, wants, spent, event_of}
+use Rattle.sharc_meaning.specs.State.{wants, spent, event_of}
 use Rattle.sharc_meaning.specs.Store.{MayCome, value_after}
 use Rattle.sharc_sound_laws.specs.Next.{IsSameAsked}
 use Rattle.sharc_sound_laws.specs.Standing.{StandsAt}

@@ -1,9 +1,8 @@
 -- With an access that was refused a source run goes on, and obeys no more.
-use Rattle.std.proofs.Common.{◌≡◌, ◌≢◌, ℕ, ℤ, pos, ◌+◌, ◌⊎◌, inl, inr, ⊎_elim, Bool, true, false, List, [], ◌∷◌, ◌++◌, Some, None, Option, refl, sym, ap, ◌∙◌, subst, append_assoc}
+use Rattle.std.proofs.Common.{◌≡◌, ◌≢◌, ℕ, ◌+◌, ◌⊎◌, inl, inr, ⊎_elim, Bool, true, false, List, [], ◌∷◌, ◌++◌, Some, None, refl, sym, ap, ◌∙◌, subst, append_assoc}
 use Rattle.sharc_tree.specs.declared.event.Act.{Act}
 use Rattle.sharc_tree.specs.declared.event.Act.TheVariants as acts
 use Rattle.sharc_tree.specs.declared.event.CellAt.{CellAt}
-use Rattle.sharc_tree.specs.declared.event.CellMode.{CellMode}
 use Rattle.sharc_tree.specs.declared.event.CellMode.TheVariants as modes
 use Rattle.sharc_tree.specs.declared.event.SourceEvent.{SourceEvent}
 use Rattle.sharc_tree.specs.declared.event.Taken.TheVariants as taken
@@ -13,7 +12,7 @@ use Rattle.sharc_meaning.specs.Laws.{AskLaws, RunLaws}
 use Rattle.sharc_meaning.specs.Meaning.{Asked}
 use Rattle.sharc_meaning.specs.Obeys.{AlwaysObeys, History, Obeys, until_gone}
 use Rattle.sharc_meaning.specs.Runs.{SourceRun}
-use Rattle.sharc_meaning.specs.State.{Outcome, wants, ended, stopped, event_of}
+use Rattle.sharc_meaning.specs.State.{Outcome, wants, ended, stopped}
 use Rattle.sharc_code.specs.declared.code.Code.{Code}
 use Rattle.sharc_code.specs.declared.code.PlaceMode.{PlaceMode}
 use Rattle.sharc_code.specs.declared.code.PlaceMode.TheVariants.{Dynamic}
@@ -32,10 +31,10 @@ use Rattle.sharc_code.specs.Whole.{place_after}
 use Rattle.sharc_guard.specs.Counted.{IsUnder}
 use Rattle.sharc_history_laws.specs.Causes.{BreaksRules, GoesOn, WasMade, IsNextOf}
 use Rattle.sharc_history_laws.specs.Conflicts.{site_of_check}
-use Rattle.sharc_history_laws.specs.Followed.{Accesses, ChecksAreFollowed, IsFollowed, access_of, access_checked, access_to}
+use Rattle.sharc_history_laws.specs.Followed.{Accesses, ChecksAreFollowed, IsFollowed, access_of, access_to}
 use Rattle.sharc_history_laws.specs.History.{history_of}
 use Rattle.sharc_history_laws.specs.Reports.{IsLockCheck, LacksLock}
-use Rattle.sharc_wants_laws.specs.Wants.{IsNotThere, WantsAct, WantsAccess, WantsBy, StopsOrWantsUnder, access_at, access_tested}
+use Rattle.sharc_wants_laws.specs.Wants.{IsNotThere, WantsAccess, WantsBy, StopsOrWantsUnder, access_tested}
 use Rattle.sharc_sound_laws.specs.Standing.{IsPlaced, StandsAt}
 use Rattle.sharc_sound_laws.proofs.Standing.{grows, stays}
 

@@ -5,7 +5,6 @@ use Rattle.sharc_shadow.specs.declared.shadow_word.Kind.{Kind}
 use Rattle.sharc_mode.specs.Moded.{Assignment}
 use Rattle.sharc_code.specs.declared.code.Code.{Code}
 use Rattle.sharc_code.specs.declared.shape.Shape.{Shape}
-use Rattle.sharc_code.specs.declared.state.ConflictAt.{ConflictAt}
 use Rattle.sharc_code.specs.declared.state.State.TheVariants.{Stopped}
 use Rattle.sharc_code.specs.declared.state.Stop.{Stop}
 use Rattle.sharc_code.specs.declared.state.Stop.TheVariants.{Conflict, NoLock, NotSole, Trap}
@@ -31,6 +30,8 @@ use Rattle.sharc_history_laws.specs.Causes.{HasNamed, IsNamed, ShowsCause}
 use Rattle.sharc_history_laws.specs.Followed.{ShowsLock}
 use Rattle.sharc_history_laws.specs.History.{history_of}
 use Rattle.sharc_history_laws.specs.Reports.{FindsOthers}
+use Rattle.sharc_build.specs.declared.building.Built.{Built}
+use Rattle.sharc_build.specs.Built.{IsBuilt}
 use Rattle.sharc_sound_laws.specs.Standing.{StandsAt}
 
 -- A1 and A2: whatever check a report may name, by the notes and stops at the end of the run, is the cause, and there is one to name. A3: the mode of the access
@@ -60,3 +61,9 @@ abbrev pub ReportsShowIfTyped : Type 0
 ReportsShowIfTyped = (m : Assignment) → IsTypedProgram m → (flat : FlatCode) → Flattens m flat → FitsMade (flat_of flat) → (code : Code) → IsCodeOf flat code
     → (x : Targets) (ls : Labels) → IsWellTyped x code ls → (s : Shape) → Fits code s → IsSmall code s → (run : List Turn) → CheckedRun code s run
     → (t : ℕ) (stop : Stop) → ((place_after code s run).threads t).at.state ≡ Stopped → ((place_after code s run).threads t).own.stop ≡ Some stop → IsReport stop → IsReportOf m x code s ls run t stop
+
+-- and of the code that is built of a source
+abbrev pub BuiltReportsShowIfTyped : Type 0
+BuiltReportsShowIfTyped = (source : List ℕ) (built : Built) → IsBuilt source built → (x : Targets) (ls : Labels) → IsWellTyped x built.code ls
+    → (s : Shape) → Fits built.code s → (run : List Turn) → CheckedRun built.code s run → (t : ℕ) (stop : Stop)
+    → ((place_after built.code s run).threads t).at.state ≡ Stopped → ((place_after built.code s run).threads t).own.stop ≡ Some stop → IsReport stop → IsReportOf built.checked x built.code s ls run t stop

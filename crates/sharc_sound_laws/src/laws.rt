@@ -5,7 +5,7 @@ ghost use Rattle.sharc_sound_laws.specs.Built.{BuiltIsSoundIfTyped};
 ghost use Rattle.sharc_sound_laws.specs.Deadlock.{BuiltStuckIsDeadlockIfTyped, StuckIsDeadlockIfTyped};
 ghost use Rattle.sharc_sound_laws.specs.Next.{OneIsNext};
 ghost use Rattle.sharc_sound_laws.specs.Obeying.{BuiltObeyingIsUnreportedIfTyped, ObeyingIsUnreportedIfTyped};
-ghost use Rattle.sharc_sound_laws.specs.Reports.{ReportsShowIfTyped};
+ghost use Rattle.sharc_sound_laws.specs.Reports.{BuiltReportsShowIfTyped, ReportsShowIfTyped};
 ghost use Rattle.sharc_sound_laws.specs.Sound.{SoundIfTyped};
 ghost use Rattle.sharc_sound_laws.specs.Standing.{ThreadsStandIfTyped};
 
@@ -144,4 +144,13 @@ pub fn reports_show_if_typed()
     followed_law();
     code_is_followed();
     threads_stand_if_typed();
+}
+
+/// So it is of the code that is built of a source.
+pub fn built_reports_show_if_typed()
+    ensures { BuiltReportsShowIfTyped }
+{
+    fronts_are_typed();
+    range_laws();
+    reports_show_if_typed();
 }

@@ -1,4 +1,4 @@
-use Rattle.std.proofs.Common.{◌≡◌, ℕ, ◌⊎◌, inl, inr, ap, ◌∙◌, ⊎_elim}
+use Rattle.std.proofs.Common.{ℕ, inl, inr, ap, ◌∙◌, ⊎_elim}
 use Rattle.sharc_ctype.specs.Reaches.{Spawns}
 use Rattle.sharc_meaning.specs.Events.{events_of}
 use Rattle.sharc_code.specs.Whole.{place_after}
