@@ -1,3 +1,4 @@
 pub mod Holding
 pub mod Quiet
+pub mod Seeing
 pub mod Telling

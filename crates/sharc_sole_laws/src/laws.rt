@@ -2,8 +2,10 @@
 
 ghost use Rattle.sharc_compile_laws.specs.Paths.{OfTyped};
 ghost use Rattle.sharc_sole_laws.specs.Holding.{PathsHold, ThreadsHold};
+ghost use Rattle.sharc_sole_laws.specs.Seeing.{ThreadsSee};
 
 use sharc_compile_laws::functions_are_named;
+use sharc_ctype_laws::laws::each_names_itself;
 use sharc_flat_form::laws::paths_are_runs;
 use sharc_flat_laws::laws::{typed_asks_the_same, typed_is_framed};
 use sharc_gen::{paths_law, run_paths_law};
@@ -32,4 +34,12 @@ pub fn thread_holds()
 {
     path_holds();
     run_paths_law();
+}
+
+/// So what the registers of a thread refer to is among the references of its history, where no reference to it is in flight.
+pub fn threads_see()
+    ensures { OfTyped ThreadsSee }
+{
+    thread_holds();
+    each_names_itself();
 }
