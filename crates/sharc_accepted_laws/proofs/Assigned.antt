@@ -32,7 +32,7 @@ use Rattle.sharc_invariant.specs.Types.{Targets, StaticType, cells_of}
 use Rattle.sharc_invariant.specs.Labels.{Empty, Refers}
 use Rattle.sharc_labels_laws.specs.Stretches.{Setting}
 use Rattle.sharc_labels_laws.specs.Typable.{GoesTo, type_by, IsTypeIn, IsTypable, VariableTyped}
-use Rattle.sharc_labels_laws.specs.Stated.{IsMade, CountTypable, ValueGoes, RightTypable, VariableAssigned, CellAssigned, Assigned, is_bare, Dropped, SimpleTypable}
+use Rattle.sharc_labels_laws.specs.Stated.{IsMade, CountTypable, ValueGoes, RightTypable, VariableAssigned, CellAssigned, Assigned, Dropped, SimpleTypable}
 use Rattle.sharc_static_laws.specs.Held.{HeldLaws, held_at}
 use Rattle.sharc_static_laws.specs.Laws.{GivenLaws}
 use Rattle.sharc_static_laws.specs.Scopes.{ScopeLaws, AllStand}
@@ -190,18 +190,18 @@ module _ (laws : Laws) (z : Setting) (alone : ℕ → Bool) (n : ℕ) (g : Funct
 
   count_is : (e : Option Expression) → AllByRecursion (Contains (in_function g)) (in_option expressions e) → ExpressionsStand c (in_option expressions e) → CountSuits c e → CountTypable z n typing c e
   count_is None i s h = tt
-  count_is (Some e) i s h = (typable.value false c here e (record { inside = i; stands = s }) h.0 (λ l no. h.1), (integer_is (kind_of c e) h.1, h.1))
+  count_is (Some e) i s h = (typable.value c here e (record { inside = i; stands = s }) h.0 (λ l no. h.1), (integer_is (kind_of c e) h.1, h.1))
 
-  pub right_is : (bare : Bool) (kind : Kind) (s : StaticType) (mode : Sharing) (x : Right) → Gives kind s x → RightSuits c kind mode x → RightTypable z n typing bare c kind s x
-  right_is bare kind s mode (value e) given suits = by (is_reference kind) refl
+  pub right_is : (kind : Kind) (s : StaticType) (mode : Sharing) (x : Right) → Gives kind s x → RightSuits c kind mode x → RightTypable z n typing c kind s x
+  right_is kind s mode (value e) given suits = by (is_reference kind) refl
     where
-      typed : IsTypable z n typing bare c e
-      typed = typable.value bare c here e (record { inside = given.inside; stands = given.stands }) suits.0 (λ l no. suits.1.1 (sym suits.1.0 ∙ no))
+      typed : IsTypable z n typing c e
+      typed = typable.value c here e (record { inside = given.inside; stands = given.stands }) suits.0 (λ l no. suits.1.1 (sym suits.1.0 ∙ no))
 
-      by : (b : Bool) → is_reference kind ≡ b → ValueGoes z n typing bare c kind s e b
+      by : (b : Bool) → is_reference kind ≡ b → ValueGoes z n typing c kind s e b
       by true is = (typed, suits.1.0 ∙ is, reference_no_integer kind is, given.goes e refl is, given.type)
       by false is = let number : is_integer (kind_of c e) ≡ true = suits.1.1 is in (typed, (integer_is (kind_of c e) number, number), integer_want kind (kind_of c e) given.agrees number)
-  right_is bare kind s mode (malloc span count w) given suits = (suits.0, given.type, given.makes w given.agrees, count_is count given.inside given.stands suits.2)
+  right_is kind s mode (malloc span count w) given suits = (suits.0, given.type, given.makes w given.agrees, count_is count given.inside given.stands suits.2)
 
   -- ---- what is assigned to
   module _ (facts : Facts c.program.typed g) (u : Expression) (x : Right) (there : IsThere g c u) (placed : PlaceSuits c u) (does : IsAssigned c.program u x) (lvalue : is_lvalue u ≡ true) (holds : IsHeld (kind_of c u)) where
@@ -265,12 +265,12 @@ module _ (laws : Laws) (z : Setting) (alone : ℕ → Bool) (n : ℕ) (g : Funct
       let there : IsThere g c u = record { inside = front (Contains (in_function g)) (expressions u) (in_right x) given.inside; stands = front (ExpressionStands c) (expressions u) (in_right x) given.stands } in
       let does = given.does u x span refl in
       let type = type_of_any u there in (
-        typable.place true c here u there suits.0 meets.0 meets.1,
+        typable.place c here u there suits.0 meets.0 meets.1,
         (
           type_by (entry_of c u),
           type,
           assigned_is facts u x there suits.0 does.0 meets.0 meets.1 (target_of c u) refl suits.1,
-          right_is (is_bare z n typing (target_of c u)) (kind_of c u) (type_by (entry_of c u)) (pointed c.program (row_at c.program.typed u)) x
+          right_is (kind_of c u) (type_by (entry_of c u)) (pointed c.program (row_at c.program.typed u)) x
               (record {
                 inside = back (Contains (in_function g)) (expressions u) (in_right x) given.inside;
                 stands = back (ExpressionStands c) (expressions u) (in_right x) given.stands;
@@ -284,7 +284,7 @@ module _ (laws : Laws) (z : Setting) (alone : ℕ → Bool) (n : ℕ) (g : Funct
       )
   simple_is facts (does_call e) given meets low suits =
       let there : IsThere g c e = record { inside = given.inside; stands = given.stands } in
-      (typable.value true c here e there suits (λ l. absurd (false≢true (sym (call_is e low.0) ∙ l))), by there (is_ref c e) refl)
+      (typable.value c here e there suits (λ l. absurd (false≢true (sym (call_is e low.0) ∙ l))), by there (is_ref c e) refl)
     where
       by : IsThere g c e → (b : Bool) → is_ref c e ≡ b → Dropped z n typing c e b
       by there true is = (laws.values.values z n c here.set.accepted e (at_of e there) (λ no. absurd (false≢true (sym no ∙ is)))).0 is

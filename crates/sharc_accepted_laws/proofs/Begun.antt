@@ -127,7 +127,7 @@ module _ (laws : Laws) (variables : VariablesFound) (z : Setting) (alone : ℕ �
       → InitialSuits c l.declaration x → InitialTypable z n typing (with_variable c l.declaration) l.declaration (variable_type (with_variable c l.declaration) l.declaration.name.site.token) x
   initial_is None is inside agrees there suits = tt
   initial_is (Some x) is inside agrees there suits =
-      right_is laws z alone n g typable (with_variable c l.declaration) (here_with laws z alone n g c here l stands) true (declared_kind l.declaration.written) (variable_type (with_variable c l.declaration) l.declaration.name.site.token)
+      right_is laws z alone n g typable (with_variable c l.declaration) (here_with laws z alone n g c here l stands) (declared_kind l.declaration.written) (variable_type (with_variable c l.declaration) l.declaration.name.site.token)
       (pointed c.program (Some (declared_row c.program.typed written l.declaration.name.site.token))) x (gives_is x (record { inside = inside; agrees = agrees; there = there; is = is })) suits.0
 
   pub local_is : Contains (locals_in_all g.statements) l → AllByRecursion (Contains (in_function g)) (in_local l) → IfSome l.initial (Agrees c.program.typed (declared_kind l.declaration.written)) → InitialSuits c l.declaration l.initial → DeclaredTypable z n typing c l

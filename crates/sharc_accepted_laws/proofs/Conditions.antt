@@ -196,9 +196,9 @@ module _ (laws : Laws) (c : Context) (code : Code) (alone : ℕ → Bool) (lines
       single i.text (ap (λ t. bytes_eq t (codes "wait")) spelled) all parts here typed (subst (λ t. ReferencesSuit c (if bytes_eq t (codes "wait") then 2 else 1) all) spelled suits)
 
   pub known_call : (s : Span) (i : Identifier) (all : Arguments) → At (call s i all) → named_at r i.site.token ≡ named.Known → ReferencesSuit c (if bytes_eq i.text (codes "wait") then 2 else 1) all
-      → ((kinds : List Kind) (wants : ℕ → StaticType) → AllSuit c n g all → AllGo z n c kinds wants all → (bare : Bool) → AreTypable z n typing bare c kinds wants all)
-      → IsVoid z n typing c (call s i all) → (bare : Bool) → CallTypable z n typing c (call s i all) named.Known i.text all (λ kinds wants. AreTypable z n typing bare c kinds wants all)
-  known_call s i all at known suits args void bare =
+      → ((kinds : List Kind) (wants : ℕ → StaticType) → AllSuit c n g all → AllGo z n c kinds wants all → AreTypable z n typing c kinds wants all)
+      → IsVoid z n typing c (call s i all) → CallTypable z n typing c (call s i all) named.Known i.text all (λ kinds wants. AreTypable z n typing c kinds wants all)
+  known_call s i all at known suits args void =
       let t = call_typed r s i all (kind_of c (call s i all)) (has_type laws c code alone lines set n g (call s i all) at) in
       let w = by_callee i all t.0 t.1 t.2 known t.3 (at.parts.1, at.stand.1) at.function suits in
-      (w.wants, args [] w.wants w.suit w.go bare, void, w.typed)
+      (w.wants, args [] w.wants w.suit w.go, void, w.typed)

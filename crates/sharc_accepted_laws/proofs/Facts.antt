@@ -172,9 +172,9 @@ module _ (laws : Laws) (c : Context) (code : Code) (alone : ℕ → Bool) (lines
       value_typed lvalue cell scalar site = (cell, cell_typed lvalue cell scalar site)
 
       -- ---- what is taken
-      module _ (takes : IsTaken m e) (lvalue : is_lvalue e ≡ true) (pointer : is_pointer (kind_of c e) ≡ true) (bare : Bool) (use_made : Use) where
+      module _ (takes : IsTaken m e) (lvalue : is_lvalue e ≡ true) (pointer : is_pointer (kind_of c e) ≡ true) (use_made : Use) where
         abbrev Taken : Target → Type 0
-        Taken t = Takes z n typing bare c e use_made (type_by (entry_of c e)) t
+        Taken t = Takes z n typing c e use_made (type_by (entry_of c e)) t
 
         cell_taken : is_cell (target_of c e) ≡ true
             → ReferenceTyped z typing c n (target_of c e) (guard_of c e) (ground_of z n typing c e) (span_of e).first (lvalue_in c e) (mode_of c e) true use_made (type_by (entry_of c e))
@@ -194,7 +194,7 @@ module _ (laws : Laws) (c : Context) (code : Code) (alone : ℕ → Bool) (lines
             by : (t : Target) → target_of c e ≡ t → TakeSuits c (mode_of c e) t → Taken t
             by (variable x) is slot =
                 let v = variable_named r g known e (kind_of c e) has_type lvalue (λ no_value. false≢true (sym (ap is_pointer no_value) ∙ pointer)) at.parts x is in
-                subst Taken is (laws.taking.variables z n bare c e v.span v.name x takes v.bare v.names slot use_made)
+                subst Taken is (laws.taking.variables z n c e v.span v.name x takes v.bare v.names slot use_made)
             by (in_global k j) is h = moved (in_global k j) is (cell_taken (ap is_cell is))
             by (in_global_at k j) is h = moved (in_global_at k j) is (cell_taken (ap is_cell is))
             by (in_object j) is h = moved (in_object j) is (cell_taken (ap is_cell is))

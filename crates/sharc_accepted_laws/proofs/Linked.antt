@@ -86,8 +86,8 @@ module _ (expressions : ExpressionsAreTypable) (bases : BasesStand) (z : Setting
 
   pub linked : Laws → AreExpressionsTypable z alone n g
   linked laws = record {
-    value = λ bare c h e t suits is_value. subst (λ x. IsTypable x n typing bare c e) (sym h.setting) ((at c h).values e (is_of c h e t) suits is_value bare);
-    place = λ bare c h u t suits lvalue holds. subst (λ x. IsPlaceTypable x n typing bare c None (guard_of c u) u) (sym h.setting)
-        (((at c h).places u (is_of c h u t) suits (held_plain (kind_of c u) holds).0 (held_no_array (kind_of c u) holds) bare).place (held_plain (kind_of c u) holds).1);
+    value = λ c h e t suits is_value. subst (λ x. IsTypable x n typing c e) (sym h.setting) ((at c h).values e (is_of c h e t) suits is_value);
+    place = λ c h u t suits lvalue holds. subst (λ x. IsPlaceTypable x n typing c None (guard_of c u) u) (sym h.setting)
+        (((at c h).places u (is_of c h u t) suits (held_plain (kind_of c u) holds).0 (held_no_array (kind_of c u) holds)).place (held_plain (kind_of c u) holds).1);
     written = λ c h u x t suits assigned holds cell. written_is laws c h u x t suits assigned holds cell;
   }

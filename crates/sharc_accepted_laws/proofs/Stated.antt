@@ -131,7 +131,7 @@ module _ (laws : Laws) (results : ResultLaws) (variables : VariablesFound) (z : 
   test_typable : (c : Context) → Here c → (e : Expression) → Inside g c.program (expressions e) → ExpressionsStand c (expressions e) → TestSuits c e → TestTypable z n typing c (Some e)
   test_typable c h e inside stands suits =
       let there : IsThere g c e = record { inside = inside; stands = stands } in
-      (typable.value true c h e there suits.0 (λ l. suits.1), laws.values.values z n c h.set.accepted e (at_there z alone n g c h e there) suits.1)
+      (typable.value c h e there suits.0 (λ l. suits.1), laws.values.values z n c h.set.accepted e (at_there z alone n g c h e there) suits.1)
 
   test_option : (c : Context) → Here c → (e : Option Expression) → Inside g c.program (in_option expressions e) → ExpressionsStand c (in_option expressions e) → IfThere (TestSuits c) e → TestTypable z n typing c e
   test_option c h None inside stands suits = tt
@@ -155,7 +155,7 @@ module _ (laws : Laws) (results : ResultLaws) (variables : VariablesFound) (z : 
       → AllByRecursion (Does g c.program) (option_transfers (λ x. gives (result g.result) (value x) ++ transfers c.program.typed x) e) → IfThere (λ x. Suits c x × Goes kind (kind_of c x)) e → ReturnTypable z n typing c kind e
   return_typable c h None inside stands acts suits = tt
   return_typable c h (Some e) inside stands acts suits =
-      (typable.value true c h e (record { inside = inside; stands = stands }) suits.0 (λ l no. suits.1.1 (sym suits.1.0 ∙ no)), by (is_reference kind) refl)
+      (typable.value c h e (record { inside = inside; stands = stands }) suits.0 (λ l no. suits.1.1 (sym suits.1.0 ∙ no)), by (is_reference kind) refl)
     where
       by : (b : Bool) → is_reference kind ≡ b → ReturnedBy z n typing c kind e b
       by true is = (suits.1.0 ∙ is, (result_type c g, laws.given.returned c h.set.accepted g e (function_there z alone n g c h) acts.0.among (sym (declared_pointer g.result) ∙ is), result_is c h is))

@@ -35,7 +35,7 @@ use Rattle.sharc_flat.specs.Suits.{IsScalar, Either, is_cell, NameSuits, CallSui
 use Rattle.sharc_flat.specs.Suits as suits
 use Rattle.sharc_invariant.specs.Types.{StaticType, cells_of}
 use Rattle.sharc_labels_laws.specs.Stretches.{Setting}
-use Rattle.sharc_labels_laws.specs.Typable.{type_by, after_value, IsPointer, CellTyped, ValueTyped, NameTyped, UnaryTyped, HasType, ElementTyped, IndexTypable, Takes, CallTyped, CallTypable, IsTypable, IsPlaceTypable, AreTypable}
+use Rattle.sharc_labels_laws.specs.Typable.{type_by, IsPointer, CellTyped, ValueTyped, NameTyped, UnaryTyped, HasType, ElementTyped, IndexTypable, Takes, CallTyped, CallTypable, IsTypable, IsPlaceTypable, AreTypable}
 use Rattle.sharc_access_laws.specs.Accesses.{cells_in_each}
 use Rattle.sharc_access_laws.specs.Typed.{IsOf}
 use Rattle.sharc_static_laws.specs.Standing.{ExpressionStands}
@@ -169,37 +169,37 @@ module _ (laws : Laws) (c : Context) (code : Code) (alone : ℕ → Bool) (lines
 
   -- ---- calls
   call_typable : (s : Span) (i : Identifier) (all : Arguments) → At (call s i all) → Suits c (call s i all)
-      → ((kinds : List Kind) (wants : ℕ → StaticType) → AllSuit c n g all → AllGo z n c kinds wants all → (bare : Bool) → AreTypable z n typing bare c kinds wants all)
-      → (bare : Bool) → IsTypable z n typing bare c (call s i all)
-  call_typable s i all at suits args bare = by (named_at r i.site.token) refl suits
+      → ((kinds : List Kind) (wants : ℕ → StaticType) → AllSuit c n g all → AllGo z n c kinds wants all → AreTypable z n typing c kinds wants all)
+      → IsTypable z n typing c (call s i all)
+  call_typable s i all at suits args = by (named_at r i.site.token) refl suits
     where
       by : (what : Named) → named_at r i.site.token ≡ what
           → CallSuits c (kind_of c (call s i all)) what (λ kinds. ArgumentsSuit c kinds all) (ReferencesSuit c (if bytes_eq i.text (codes "wait") then 2 else 1) all)
-          → CallTypable z n typing c (call s i all) what i.text all (λ kinds wants. AreTypable z n typing bare c kinds wants all)
+          → CallTypable z n typing c (call s i all) what i.text all (λ kinds wants. AreTypable z n typing c kinds wants all)
       by (named.Function k) names (f, there, kind_is, suit) =
-          subst (λ o. (wants : ℕ → StaticType) × AreTypable z n typing bare c (declared_kinds (parameters_of o)) wants all × CallTyped z n typing c (call s i all) k (declared_kinds (parameters_of o)) wants all) (sym there) (
+          subst (λ o. (wants : ℕ → StaticType) × AreTypable z n typing c (declared_kinds (parameters_of o)) wants all × CallTyped z n typing c (call s i all) k (declared_kinds (parameters_of o)) wants all) (sym there) (
             wants_of c f.parameters all,
-            args (declared_kinds f.parameters) (wants_of c f.parameters all) (suit_all c n g (declared_kinds f.parameters) all suit) (call_goes laws c code alone lines set n g s i all at k f names there kind_is suit) bare,
+            args (declared_kinds f.parameters) (wants_of c f.parameters all) (suit_all c n g (declared_kinds f.parameters) all suit) (call_goes laws c code alone lines set n g s i all at k f names there kind_is suit),
             call_is_typed laws c code alone lines set n g s i all at k f names there kind_is suit,
           )
-      by named.Known names h = known_call laws c code alone lines set n g (cells.known s i all at names) s i all at names h.0 args (h.1, h.2) bare
+      by named.Known names h = known_call laws c code alone lines set n g (cells.known s i all at names) s i all at names h.0 args (h.1, h.2)
       by (named.Struct j) names h = absurd h
       by (named.Global j) names h = absurd h
       by (named.Variable j) names h = absurd h
       by (named.Field j) names h = absurd h
 
   -- ---- elements
-  index_typable : (bare : Bool) (own guard : Option ℕ) (s : Span) (x i : Expression) → At (index s x i) → At x → IndexSuits c x i (PlaceSuits c x) (Suits c x) (Suits c i) → Fits own guard (index s x i)
-      → (PlaceSuits c x → Fits None None x → IsPlaceTypable z n typing bare c None None x) → (Suits c x → IsValued c n g x → IsTypable z n typing bare c x) → (Suits c i → IsValued c n g i → IsTypable z n typing false c i)
-      → IndexTypable z n typing c own guard x i (IsPlaceTypable z n typing bare c None None x) (IsTypable z n typing bare c x) (IsTypable z n typing false c i)
-  index_typable bare own guard s x i at at_x suits fits place value number =
+  index_typable : (own guard : Option ℕ) (s : Span) (x i : Expression) → At (index s x i) → At x → IndexSuits c x i (PlaceSuits c x) (Suits c x) (Suits c i) → Fits own guard (index s x i)
+      → (PlaceSuits c x → Fits None None x → IsPlaceTypable z n typing c None None x) → (Suits c x → IsValued c n g x → IsTypable z n typing c x) → (Suits c i → IsValued c n g i → IsTypable z n typing c i)
+      → IndexTypable z n typing c own guard x i (IsPlaceTypable z n typing c None None x) (IsTypable z n typing c x) (IsTypable z n typing c i)
+  index_typable own guard s x i at at_x suits fits place value number =
       let top = by (is_array (kind_of c x)) refl suits.0 fits in
       (top.0, number suits.1 (λ l. integer_scalar (kind_of c i) suits.2), (integer_no_reference (kind_of c i) suits.2, suits.2), top.1)
     where
       by : (b : Bool) → is_array (kind_of c x) ≡ b → Either b (PlaceSuits c x × (target r None x ≡ in_global (global_of (target r None x)) 0)) (Suits c x × (is_reference (kind_of c x) ≡ true))
           → TopFits z n c (cond b (in_global_at (global_of (target r None x)) (own_field own 0)) (in_object_at (own_field own 0))) (cond b None (Some x)) guard
-          → Either b (IsPlaceTypable z n typing bare c None None x × (target r None x ≡ in_global (global_of (target r None x)) 0))
-          (IsTypable z n typing bare c x × IsPointer z n typing c x × (element_cells r (element_kind (kind_of c x)) ≡ cells_of z.targets (type_by (entry_of c x)).target))
+          → Either b (IsPlaceTypable z n typing c None None x × (target r None x ≡ in_global (global_of (target r None x)) 0))
+          (IsTypable z n typing c x × IsPointer z n typing c x × (element_cells r (element_kind (kind_of c x)) ≡ cells_of z.targets (type_by (entry_of c x)).target))
           × ElementTyped z n typing c x (own_field own 0) guard
       by true indexed h f =
           let a = set.accepted in
@@ -216,9 +216,9 @@ module _ (laws : Laws) (c : Context) (code : Code) (alone : ℕ → Bool) (lines
   index_cell s x i = either_cell (is_array (kind_of c x)) _ _ _
 
   -- ---- what is taken, locked and unlocked
-  take : (x : Expression) → At x → PlaceSuits c x → IsTaken m x → is_lvalue x ≡ true → is_pointer (kind_of c x) ≡ true → (bare : Bool) (use_made : Use) → TakeSuits c (mode_of c x) (target_of c x)
-      → Takes z n typing bare c x use_made (type_by (entry_of c x)) (target_of c x)
-  take x at placed takes lvalue pointer bare use_made suits = facts.takes_typed laws c code alone lines set n g x at cells (laws.bases.places c x placed) takes lvalue pointer bare use_made suits
+  take : (x : Expression) → At x → PlaceSuits c x → IsTaken m x → is_lvalue x ≡ true → is_pointer (kind_of c x) ≡ true → (use_made : Use) → TakeSuits c (mode_of c x) (target_of c x)
+      → Takes z n typing c x use_made (type_by (entry_of c x)) (target_of c x)
+  take x at placed takes lvalue pointer use_made suits = facts.takes_typed laws c code alone lines set n g x at cells (laws.bases.places c x placed) takes lvalue pointer use_made suits
 
   pointer_scalar : (x : Expression) → is_pointer (kind_of c x) ≡ true → IsScalar (kind_of c x)
   pointer_scalar x pointer = reference_scalar (kind_of c x) (pointer_reference (kind_of c x) pointer)
@@ -230,130 +230,130 @@ module _ (laws : Laws) (c : Context) (code : Code) (alone : ℕ → Bool) (lines
   value_has_type : (x : Expression) → At x → IsScalar (kind_of c x) → HasType z n typing c x
   value_has_type x at scalar = laws.values.values z n c set.accepted x (facts.is_at laws c code alone lines set n g x at) scalar
 
-  operand_typable : (s : Span) (o : UnaryOperator) (x : Expression) → At x → IsScalar (kind_of c x) → OperandSuits o (kind_of c x) → (bare : Bool) → IsTypable z n typing bare c x
-      → IsTypable z n typing bare c x × HasType z n typing c x × UnaryTyped z n typing c (unary s o x) o x
-  operand_typable s o x at scalar suits bare typed = (typed, value_has_type x at scalar, laws.values.unaries z n c set.accepted s o x (facts.is_at laws c code alone lines set n g x at) suits)
+  operand_typable : (s : Span) (o : UnaryOperator) (x : Expression) → At x → IsScalar (kind_of c x) → OperandSuits o (kind_of c x) → IsTypable z n typing c x
+      → IsTypable z n typing c x × HasType z n typing c x × UnaryTyped z n typing c (unary s o x) o x
+  operand_typable s o x at scalar suits typed = (typed, value_has_type x at scalar, laws.values.unaries z n c set.accepted s o x (facts.is_at laws c code alone lines set n g x at) suits)
 
   -- ---- by their forms
   mutual
-    pub typable : (e : Expression) → At e → Suits c e → IsValued c n g e → (bare : Bool) → IsTypable z n typing bare c e
-    typable (identifier s i) at suits value bare = name_typed s i at suits value
-    typable (constant s k) at suits value bare = laws.values.constants z n c s k (set.constants s k (facts.expression_of laws c code alone lines set n g (constant s k) at))
-    typable (parentheses s x) at suits value bare = (typable x (record { function = at.function; parts = at.parts.1; stand = at.stand.1 }) suits value bare, refl)
-    typable (call s i all) at suits value bare = call_typable s i all at suits (λ kinds wants suit go bare. arguments all (at.parts.1, at.stand.1) at.function kinds wants suit go bare) bare
-    typable (spawn s i x) at suits value bare = (
-      typable x (record { function = at.function; parts = at.parts.1; stand = at.stand.1 }) suits.0 (λ l. handed_scalar laws c code alone lines set n g s i x at) bare,
+    pub typable : (e : Expression) → At e → Suits c e → IsValued c n g e → IsTypable z n typing c e
+    typable (identifier s i) at suits value = name_typed s i at suits value
+    typable (constant s k) at suits value = laws.values.constants z n c s k (set.constants s k (facts.expression_of laws c code alone lines set n g (constant s k) at))
+    typable (parentheses s x) at suits value = (typable x (record { function = at.function; parts = at.parts.1; stand = at.stand.1 }) suits value, refl)
+    typable (call s i all) at suits value = call_typable s i all at suits (λ kinds wants suit go. arguments all (at.parts.1, at.stand.1) at.function kinds wants suit go)
+    typable (spawn s i x) at suits value = (
+      typable x (record { function = at.function; parts = at.parts.1; stand = at.stand.1 }) suits.0 (λ l. handed_scalar laws c code alone lines set n g s i x at),
       (refl, refl),
       spawn_is_typed laws c code alone lines set n g s i x at suits.0,
     )
-    typable (on_value s w x) at suits value bare =
-        (typable x (record { function = at.function; parts = at.parts.1; stand = at.stand.1 }) suits.0 (λ l. integer_scalar (kind_of c x) suits.1) bare, (integer_no_reference (kind_of c x) suits.1, suits.1))
-    typable (on_place s Lock x) at suits value bare =
+    typable (on_value s w x) at suits value =
+        (typable x (record { function = at.function; parts = at.parts.1; stand = at.stand.1 }) suits.0 (λ l. integer_scalar (kind_of c x) suits.1), (integer_no_reference (kind_of c x) suits.1, suits.1))
+    typable (on_place s Lock x) at suits value =
         let below : At x = record { function = at.function; parts = at.parts.1; stand = at.stand.1 } in
         let operand = lock_operand r one s x (kind_of c (on_place s Lock x)) (has_type (on_place s Lock x) at) in
-        (place x below suits.0 None None (mutex_fits x below operand.1) bare, suits.1, (cells.lvalues x below (laws.bases.places c x suits.0) suits.1).mutex operand.1)
-    typable (on_place s Unlock x) at suits value bare =
+        (place x below suits.0 None None (mutex_fits x below operand.1), suits.1, (cells.lvalues x below (laws.bases.places c x suits.0) suits.1).mutex operand.1)
+    typable (on_place s Unlock x) at suits value =
         let below : At x = record { function = at.function; parts = at.parts.1; stand = at.stand.1 } in
         let operand = unlock_operand r one s x (kind_of c (on_place s Unlock x)) (has_type (on_place s Unlock x) at) in
-        (place x below suits.0 None None (mutex_fits x below operand.1) bare, suits.1, (cells.lvalues x below (laws.bases.places c x suits.0) suits.1).mutex operand.1)
-    typable (on_place s Free x) at suits value bare =
+        (place x below suits.0 None None (mutex_fits x below operand.1), suits.1, (cells.lvalues x below (laws.bases.places c x suits.0) suits.1).mutex operand.1)
+    typable (on_place s Free x) at suits value =
         let below : At x = record { function = at.function; parts = at.parts.1; stand = at.stand.1 } in
         let operand = free_operand r one s x (kind_of c (on_place s Free x)) (has_type (on_place s Free x) at) in
-        let takes = take x below suits.0 (freed (facts.expression_of laws c code alone lines set n g (on_place s Free x) at)) operand.0 operand.1 bare (uses.Free None) suits.1.0 in (
-          place x below suits.0 None (guard_of c x) (fits_own x below (pointer_scalar x operand.1)) bare,
-          laws.taking.frees z n bare c set.accepted refl set.tables x (facts.is_at laws c code alone lines set n g x below) operand.1 takes,
+        let takes = take x below suits.0 (freed (facts.expression_of laws c code alone lines set n g (on_place s Free x) at)) operand.0 operand.1 (uses.Free None) suits.1.0 in (
+          place x below suits.0 None (guard_of c x) (fits_own x below (pointer_scalar x operand.1)),
+          laws.taking.frees z n c set.accepted refl set.tables x (facts.is_at laws c code alone lines set n g x below) operand.1 takes,
         )
-    typable (cast s t x) at suits value bare =
+    typable (cast s t x) at suits value =
         let below : At x = record { function = at.function; parts = at.parts.1; stand = at.stand.1 } in
         let operand = cast_operand r one s t x (kind_of c (cast s t x)) (has_type (cast s t x) at) in
-        let takes = take x below suits.0 (cast_away (facts.expression_of laws c code alone lines set n g (cast s t x) at)) operand.0 operand.1 bare (uses.Cast None) suits.1 in (
-          place x below suits.0 None (guard_of c x) (fits_own x below (pointer_scalar x operand.1)) bare,
-          laws.taking.casts z n bare c set.accepted refl s t x (facts.is_at laws c code alone lines set n g (cast s t x) at) (first_of (ExpressionStands c) x at.stand.1) takes,
+        let takes = take x below suits.0 (cast_away (facts.expression_of laws c code alone lines set n g (cast s t x) at)) operand.0 operand.1 (uses.Cast None) suits.1 in (
+          place x below suits.0 None (guard_of c x) (fits_own x below (pointer_scalar x operand.1)),
+          laws.taking.casts z n c set.accepted refl s t x (facts.is_at laws c code alone lines set n g (cast s t x) at) (first_of (ExpressionStands c) x at.stand.1) takes,
         )
-    typable (index s x i) at suits value bare =
+    typable (index s x i) at suits value =
         let both : Parts c n g (expressions x ++ expressions i) = (at.parts.1, at.stand.1) in
         let of_x : At x = part_of c n g at.function x (first_part c n g (expressions x) (expressions i) both) in
         let of_i : At i = part_of c n g at.function i (second_part c n g (expressions x) (expressions i) both) in (
-          index_typable bare None (guard_of c (index s x i)) s x i at of_x suits.0 (fits_own (index s x i) at (value refl))
-              (λ p f. place x of_x p None None f bare) (λ q v. typable x of_x q v bare) (λ q v. typable i of_i q v false),
+          index_typable None (guard_of c (index s x i)) s x i at of_x suits.0 (fits_own (index s x i) at (value refl))
+              (λ p f. place x of_x p None None f) (λ q v. typable x of_x q v) (λ q v. typable i of_i q v),
           value_typed (index s x i) at suits refl (index_cell s x i) (value refl) s.first,
         )
-    typable (field s x Dot k) at suits value bare = (
-      place x (record { function = at.function; parts = at.parts.1; stand = at.stand.1 }) suits.0 (Some (field_place_named r (what_names c k.site.token))) (guard_of c (field s x Dot k)) (fits_own (field s x Dot k) at (value refl)) bare,
+    typable (field s x Dot k) at suits value = (
+      place x (record { function = at.function; parts = at.parts.1; stand = at.stand.1 }) suits.0 (Some (field_place_named r (what_names c k.site.token))) (guard_of c (field s x Dot k)) (fits_own (field s x Dot k) at (value refl)),
       value_typed (field s x Dot k) at suits refl suits.2 (value refl) s.first,
     )
-    typable (field s x Arrow k) at suits value bare =
+    typable (field s x Arrow k) at suits value =
         let below : At x = record { function = at.function; parts = at.parts.1; stand = at.stand.1 } in (
-          (typable x below suits.0.0 (λ l. reference_scalar (kind_of c x) suits.0.1) bare, pointer_typed x below (arrow_pointer r one s x k (kind_of c (field s x Arrow k)) (has_type (field s x Arrow k) at))),
+          (typable x below suits.0.0 (λ l. reference_scalar (kind_of c x) suits.0.1), pointer_typed x below (arrow_pointer r one s x k (kind_of c (field s x Arrow k)) (has_type (field s x Arrow k) at))),
           value_typed (field s x Arrow k) at suits refl suits.2 (value refl) s.first,
         )
-    typable (unary s Negate x) at suits value bare =
+    typable (unary s Negate x) at suits value =
         let below : At x = record { function = at.function; parts = at.parts.1; stand = at.stand.1 } in
-        operand_typable s Negate x below (integer_scalar (kind_of c x) suits.1) suits.1 bare (typable x below suits.0 (λ l. integer_scalar (kind_of c x) suits.1) bare)
-    typable (unary s Not x) at suits value bare =
+        operand_typable s Negate x below (integer_scalar (kind_of c x) suits.1) suits.1 (typable x below suits.0 (λ l. integer_scalar (kind_of c x) suits.1))
+    typable (unary s Not x) at suits value =
         let below : At x = record { function = at.function; parts = at.parts.1; stand = at.stand.1 } in
-        operand_typable s Not x below suits.1 tt bare (typable x below suits.0 (λ l. suits.1) bare)
-    typable (unary s Complement x) at suits value bare =
+        operand_typable s Not x below suits.1 tt (typable x below suits.0 (λ l. suits.1))
+    typable (unary s Complement x) at suits value =
         let below : At x = record { function = at.function; parts = at.parts.1; stand = at.stand.1 } in
-        operand_typable s Complement x below (integer_scalar (kind_of c x) suits.1) suits.1 bare (typable x below suits.0 (λ l. integer_scalar (kind_of c x) suits.1) bare)
-    typable (unary s Dereference x) at suits value bare =
+        operand_typable s Complement x below (integer_scalar (kind_of c x) suits.1) suits.1 (typable x below suits.0 (λ l. integer_scalar (kind_of c x) suits.1))
+    typable (unary s Dereference x) at suits value =
         let below : At x = record { function = at.function; parts = at.parts.1; stand = at.stand.1 } in (
-          typable x below suits.0 (λ l. reference_scalar (kind_of c x) suits.1) bare,
+          typable x below suits.0 (λ l. reference_scalar (kind_of c x) suits.1),
           pointer_typed x below (star_pointer r one s x (kind_of c (unary s Dereference x)) (has_type (unary s Dereference x) at)),
           value_typed (unary s Dereference x) at suits refl refl (value refl) s.first,
         )
-    typable (binary s o site x y) at suits value bare =
+    typable (binary s o site x y) at suits value =
         let both : Parts c n g (expressions x ++ expressions y) = (at.parts.1, at.stand.1) in
         let of_x : At x = part_of c n g at.function x (first_part c n g (expressions x) (expressions y) both) in
         let of_y : At y = part_of c n g at.function y (second_part c n g (expressions x) (expressions y) both) in
         let scalars = operand_scalars o (kind_of c x) (kind_of c y) suits.2 in (
-          typable x of_x suits.0 (λ l. scalars.0) bare,
+          typable x of_x suits.0 (λ l. scalars.0),
           value_has_type x of_x scalars.0,
-          typable y of_y suits.1 (λ l. scalars.1) (after_value c x bare),
+          typable y of_y suits.1 (λ l. scalars.1),
           value_has_type y of_y scalars.1,
           laws.values.binaries z n c s o site x y suits.2,
         )
 
-    pub place : (e : Expression) → At e → PlaceSuits c e → (own guard : Option ℕ) → Fits own guard e → (bare : Bool) → IsPlaceTypable z n typing bare c own guard e
-    place (identifier s i) at suits own guard fits bare = tt
-    place (constant s k) at suits own guard fits bare = tt
-    place (parentheses s x) at suits own guard fits bare = place x (record { function = at.function; parts = at.parts.1; stand = at.stand.1 }) suits own guard fits bare
-    place (call s i all) at suits own guard fits bare = tt
-    place (spawn s i x) at suits own guard fits bare = tt
-    place (on_value s w x) at suits own guard fits bare = tt
-    place (on_place s w x) at suits own guard fits bare = tt
-    place (cast s t x) at suits own guard fits bare = tt
-    place (index s x i) at suits own guard fits bare =
+    pub place : (e : Expression) → At e → PlaceSuits c e → (own guard : Option ℕ) → Fits own guard e → IsPlaceTypable z n typing c own guard e
+    place (identifier s i) at suits own guard fits = tt
+    place (constant s k) at suits own guard fits = tt
+    place (parentheses s x) at suits own guard fits = place x (record { function = at.function; parts = at.parts.1; stand = at.stand.1 }) suits own guard fits
+    place (call s i all) at suits own guard fits = tt
+    place (spawn s i x) at suits own guard fits = tt
+    place (on_value s w x) at suits own guard fits = tt
+    place (on_place s w x) at suits own guard fits = tt
+    place (cast s t x) at suits own guard fits = tt
+    place (index s x i) at suits own guard fits =
         let both : Parts c n g (expressions x ++ expressions i) = (at.parts.1, at.stand.1) in
         let of_x : At x = part_of c n g at.function x (first_part c n g (expressions x) (expressions i) both) in
         let of_i : At i = part_of c n g at.function i (second_part c n g (expressions x) (expressions i) both) in
-        index_typable bare own guard s x i at of_x suits fits (λ p f. place x of_x p None None f bare) (λ q v. typable x of_x q v bare) (λ q v. typable i of_i q v false)
-    place (field s x Dot k) at suits own guard fits bare =
-        place x (record { function = at.function; parts = at.parts.1; stand = at.stand.1 }) suits (Some (own_field own (field_place_named r (what_names c k.site.token)))) guard fits bare
-    place (field s x Arrow k) at suits own guard fits bare =
+        index_typable own guard s x i at of_x suits fits (λ p f. place x of_x p None None f) (λ q v. typable x of_x q v) (λ q v. typable i of_i q v)
+    place (field s x Dot k) at suits own guard fits =
+        place x (record { function = at.function; parts = at.parts.1; stand = at.stand.1 }) suits (Some (own_field own (field_place_named r (what_names c k.site.token)))) guard fits
+    place (field s x Arrow k) at suits own guard fits =
         let below : At x = record { function = at.function; parts = at.parts.1; stand = at.stand.1 } in
-        (typable x below suits.0 (λ l. reference_scalar (kind_of c x) suits.1) bare, pointer_typed x below (arrow_pointer r one s x k (kind_of c (field s x Arrow k)) (has_type (field s x Arrow k) at)))
-    place (unary s Negate x) at suits own guard fits bare = tt
-    place (unary s Not x) at suits own guard fits bare = tt
-    place (unary s Complement x) at suits own guard fits bare = tt
-    place (unary s Dereference x) at suits own guard fits bare =
+        (typable x below suits.0 (λ l. reference_scalar (kind_of c x) suits.1), pointer_typed x below (arrow_pointer r one s x k (kind_of c (field s x Arrow k)) (has_type (field s x Arrow k) at)))
+    place (unary s Negate x) at suits own guard fits = tt
+    place (unary s Not x) at suits own guard fits = tt
+    place (unary s Complement x) at suits own guard fits = tt
+    place (unary s Dereference x) at suits own guard fits =
         let below : At x = record { function = at.function; parts = at.parts.1; stand = at.stand.1 } in
-        (typable x below suits.0 (λ l. reference_scalar (kind_of c x) suits.1) bare, pointer_typed x below (star_pointer r one s x (kind_of c (unary s Dereference x)) (has_type (unary s Dereference x) at)))
-    place (binary s o site x y) at suits own guard fits bare = tt
+        (typable x below suits.0 (λ l. reference_scalar (kind_of c x) suits.1), pointer_typed x below (star_pointer r one s x (kind_of c (unary s Dereference x)) (has_type (unary s Dereference x) at)))
+    place (binary s o site x y) at suits own guard fits = tt
 
-    arguments : (all : Arguments) → Parts c n g (in_arguments all) → function_at r n ≡ Some g → (kinds : List Kind) (wants : ℕ → StaticType) → AllSuit c n g all → AllGo z n c kinds wants all → (bare : Bool) → AreTypable z n typing bare c kinds wants all
-    arguments no_arguments parts is kinds wants suit go bare = tt
-    arguments (argument x rest) parts is kinds wants suit go bare = (
-      typable x (part_of c n g is x (first_part c n g (expressions x) (in_arguments rest) parts)) suit.0.0 suit.0.1 bare,
+    arguments : (all : Arguments) → Parts c n g (in_arguments all) → function_at r n ≡ Some g → (kinds : List Kind) (wants : ℕ → StaticType) → AllSuit c n g all → AllGo z n c kinds wants all → AreTypable z n typing c kinds wants all
+    arguments no_arguments parts is kinds wants suit go = tt
+    arguments (argument x rest) parts is kinds wants suit go = (
+      typable x (part_of c n g is x (first_part c n g (expressions x) (in_arguments rest) parts)) suit.0.0 suit.0.1,
       go.0,
-      arguments rest (second_part c n g (expressions x) (in_arguments rest) parts) is (drop 1 kinds) (λ p. wants (p + 1)) suit.1 go.1 (after_value c x bare),
+      arguments rest (second_part c n g (expressions x) (in_arguments rest) parts) is (drop 1 kinds) (λ p. wants (p + 1)) suit.1 go.1,
     )
 
 pub expressions_are_typable : Laws → ExpressionsAreTypable
 expressions_are_typable laws c code alone lines set n g cells = record {
-  values = λ e at suits value bare. typable laws c code alone lines set n g cells e at suits value bare;
-  places = λ u at suits no_struct no_array bare. record {
-    bare_place = place laws c code alone lines set n g cells u at suits None None (fits_with laws c code alone lines set n g cells u at None no_guard no_struct no_array) bare;
-    place = λ plain. place laws c code alone lines set n g cells u at suits None (guard_of c u) (fits_with laws c code alone lines set n g cells u at (guard_of c u) (own_guard plain) no_struct no_array) bare;
+  values = λ e at suits value. typable laws c code alone lines set n g cells e at suits value;
+  places = λ u at suits no_struct no_array. record {
+    bare_place = place laws c code alone lines set n g cells u at suits None None (fits_with laws c code alone lines set n g cells u at None no_guard no_struct no_array);
+    place = λ plain. place laws c code alone lines set n g cells u at suits None (guard_of c u) (fits_with laws c code alone lines set n g cells u at (guard_of c u) (own_guard plain) no_struct no_array);
   };
 }

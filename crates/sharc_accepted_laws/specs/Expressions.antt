@@ -50,13 +50,13 @@ module _ (c : Context) (code : Code) (alone : ℕ → Bool) (lines n : ℕ) (g :
   IsValue e = is_lvalue e ≡ true → IsScalar (kind_of c e)
 
   -- an lvalue that is a value or a mutex, and is accessed under its mode or under none
-  pub record PlaceTypable (u : Expression) (bare : Bool) : Type 0 where
-    pub bare_place : IsPlaceTypable here n typing bare c None None u
-    pub place : is_mutex_kind (kind_of c u) ≡ false → IsPlaceTypable here n typing bare c None (guard_of c u) u
+  pub record PlaceTypable (u : Expression) : Type 0 where
+    pub bare_place : IsPlaceTypable here n typing c None None u
+    pub place : is_mutex_kind (kind_of c u) ≡ false → IsPlaceTypable here n typing c None (guard_of c u) u
 
   pub record ExpressionsTypable : Type 0 where
-    pub values : (e : Expression) → IsOf c n g e → Suits c e → IsValue e → (bare : Bool) → IsTypable here n typing bare c e
-    pub places : (u : Expression) → IsOf c n g u → PlaceSuits c u → is_struct_behind 0 (kind_of c u) ≡ false → is_array (kind_of c u) ≡ false → (bare : Bool) → PlaceTypable u bare
+    pub values : (e : Expression) → IsOf c n g e → Suits c e → IsValue e → IsTypable here n typing c e
+    pub places : (u : Expression) → IsOf c n g u → PlaceSuits c u → is_struct_behind 0 (kind_of c u) ≡ false → is_array (kind_of c u) ≡ false → PlaceTypable u
 
 abbrev pub ExpressionsAreTypable : Type 0
 ExpressionsAreTypable = (c : Context) (code : Code) (alone : ℕ → Bool) (lines : ℕ) → IsSet c.program c.globals code alone → (n : ℕ) (g : Function)

@@ -1,5 +1,5 @@
 -- The cells of an lvalue's element are there.
-use Rattle.std.proofs.Common.{◌≡◌, ℕ, zero, suc, ◌+◌, ◌-◌, ◌*◌, ◌<◌, ◌≤◌, List, [], ◌∷◌, length, slice_index_or, refl, ap, sym, ◌∙◌, subst, arith, Some, None}
+use Rattle.std.proofs.Common.{◌≡◌, ℕ, zero, suc, ◌+◌, ◌-◌, ◌*◌, ◌<◌, ◌≤◌, List, [], ◌∷◌, length, slice_index_or, refl, ap, sym, ◌∙◌, subst, arith, Some}
 use Rattle.std.proofs.Math.Nat.{suc-mul}
 use Rattle.std.specs.Prelude.{slice_get}
 use Rattle.sharc_tree.specs.declared.tree.item.GlobalDefinition.{GlobalDefinition}
@@ -18,18 +18,13 @@ use Rattle.sharc_invariant.specs.Typed.{IsInGlobal, HasCell, IsSibling, HasBefor
 use Rattle.sharc_target_laws.specs.Laws.{HasTables, GlobalsAre}
 use Rattle.sharc_target_laws.specs.Targets.{global_element, targets_of}
 use Rattle.sharc_access_laws.specs.Accesses.{HasBaseIn, IsCellNumber}
+use Rattle.sharc_access_laws.proofs.Lists.{none_some, same_some}
 
 -- ---- the globals of code
 record IsEntry (r : Resolution) (at : ℕ) (list : List GlobalDefinition) (g : ℕ) (d : GlobalDefinition) : Type 0 where
   inside : g < length (globals_from r at list)
   cells : (slice_index_or (globals_from r at list) g no_global).cells ≡ cells_in r d
   low : at ≤ (slice_index_or (globals_from r at list) g no_global).granule
-
-none_some : {A : Type 0} (x : A) → None ≡ Some x → ⊥
-none_some x h = cc
-
-same_some : {A : Type 0} (x y : A) → Some x ≡ Some y → x ≡ y
-same_some x y h = cc
 
 entry_of : (r : Resolution) (at : ℕ) (list : List GlobalDefinition) (g : ℕ) (d : GlobalDefinition) → slice_get list g ≡ Some d → IsEntry r at list g d
 entry_of r at [] g d is = absurd (none_some d is)

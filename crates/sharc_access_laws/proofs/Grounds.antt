@@ -1,5 +1,5 @@
 -- What lvalues name, as sharc_labels_laws reads it off them.
-use Rattle.std.proofs.Common.{◌≡◌, ℕ, Bool, true, false, cond, List, [], ◌∷◌, ◌++◌, refl, ap, sym, ◌∙◌, Option, Some, None}
+use Rattle.std.proofs.Common.{◌≡◌, ℕ, Bool, true, false, cond, List, refl, ap, sym, ◌∙◌, Option, Some, None}
 use Rattle.std.proofs.lemmas.Bool.{false≢true}
 use Rattle.std.specs.List.{AllByRecursion}
 use Rattle.sharc_tree.specs.declared.tree.expression.Access.TheVariants.{Dot, Arrow}
@@ -27,24 +27,7 @@ use Rattle.sharc_access_laws.specs.Accesses.{list_or, modes_of_pointer, kind_of_
 use Rattle.sharc_access_laws.specs.Joined.{GroundsFit}
 use Rattle.sharc_access_laws.proofs.Pointing.{has_pointer_modes}
 use Rattle.sharc_access_laws.proofs.Standing.{lvalue_cells}
-
-pub front : {A : Type 0} (P : A → Type 0) (a b : List A) → AllByRecursion P (a ++ b) → AllByRecursion P a
-front P [] b all = tt
-front P (x ∷ a) b all = (all.0, front P a b all.1)
-
-pub self : (P : Expression → Type 0) (e : Expression) → AllByRecursion P (expressions e) → P e
-self P (identifier s i) all = all.0
-self P (constant s v) all = all.0
-self P (parentheses s a) all = all.0
-self P (call s i rest) all = all.0
-self P (spawn s i a) all = all.0
-self P (on_value s w a) all = all.0
-self P (on_place s w a) all = all.0
-self P (cast s w a) all = all.0
-self P (index s a i) all = all.0
-self P (field s a w n) all = all.0
-self P (unary s o a) all = all.0
-self P (binary s o at a b) all = all.0
+use Rattle.sharc_access_laws.proofs.Lists.{front, self}
 
 name_base : (n : Named) (k : ℕ) → has_base (named_target n k) ≡ false
 name_base (named.Variable x) k = refl

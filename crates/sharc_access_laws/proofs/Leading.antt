@@ -20,13 +20,7 @@ use Rattle.sharc_target_laws.specs.Lvalues.{pointer_of}
 use Rattle.sharc_access_laws.specs.Accesses.{list_or, modes_of_pointer}
 use Rattle.sharc_access_laws.specs.Joined.{LockLeads, to_global, to_variable}
 use Rattle.sharc_access_laws.specs.Paths.{MutexesBehind, PathsLead}
-use Rattle.sharc_access_laws.proofs.Grounds.{front, self}
-
-none_some : {A : Type 0} (x : A) → None ≡ Some x → ⊥
-none_some x h = cc
-
-same_some : {A : Type 0} (x y : A) → Some x ≡ Some y → x ≡ y
-same_some x y h = cc
+use Rattle.sharc_access_laws.proofs.Lists.{none_some, same_some, front, self}
 
 no_modes : (l : Lock) (below : List Sharing) → [] ≡ locked l ∷ below → ⊥
 no_modes l below h = cc

@@ -3,6 +3,7 @@ pub mod Firsts
 pub mod Grounds
 pub mod Joining
 pub mod Leading
+pub mod Lists
 pub mod Modes
 pub mod Paths
 pub mod Pointing

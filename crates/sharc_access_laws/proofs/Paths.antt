@@ -26,12 +26,7 @@ use Rattle.sharc_target_laws.specs.Pointees.{PointeesFit, pointee}
 use Rattle.sharc_target_laws.specs.Shapes.{form_of, stars_in}
 use Rattle.sharc_target_laws.specs.Targets.{own_mode, base_content, pointer_content, declared_content, base_fields, shape_fields, targets_of}
 use Rattle.sharc_access_laws.specs.Paths.{IsMutexThere, MutexesBehind}
-
-none_some : {A : Type 0} (x : A) → None ≡ Some x → ⊥
-none_some x h = cc
-
-same_some : {A : Type 0} (x y : A) → Some x ≡ Some y → x ≡ y
-same_some x y h = cc
+use Rattle.sharc_access_laws.proofs.Lists.{none_some, same_some, there_at}
 
 -- ---- a field by its name
 abbrev place_of : List ℕ → List Declaration → ℕ
@@ -58,11 +53,6 @@ place_named (x ∷ rest) name d is = by (bytes_eq x.name.text name) refl is (pla
 
 position_is : (list : List Declaration) (name : List ℕ) (d : Declaration) (p : IsPlace list name d) → position (λ (e : Declaration). bytes_eq e.name.text name) list ≡ Some p.place
 position_is list name d p = ap (λ i. cond (nat_lt i (length list)) (Some i) None) p.first ∙ ap (λ b. cond b (Some p.place) None) (lt-ltb p.place (length list) p.low)
-
-there_at : {A : Type 0} (list : List A) (k : ℕ) (x : A) → slice_get list k ≡ Some x → Contains list x
-there_at [] k x is = absurd (none_some x is)
-there_at (y ∷ rest) zero x is = (zero, omega arith, same_some y x is)
-there_at (y ∷ rest) (suc k) x is = let later = there_at rest k x is in let inside = later.1 in (suc later.0, omega (arith, inside), later.2)
 
 struct_there : (list : List StructDefinition) (name : List ℕ) (s : StructDefinition) → struct_named list name ≡ Some s → Contains list s
 struct_there [] name s is = absurd (none_some s is)

@@ -33,12 +33,7 @@ use Rattle.sharc_access_laws.specs.Accesses.{modes_of_pointer, kind_of_pointer, 
 use Rattle.sharc_access_laws.specs.Joined.{BaseStands, setting, IsTypingOf, IsGroundOf, ReferencesFit}
 use Rattle.sharc_access_laws.proofs.Joining.{IsLike, through}
 use Rattle.sharc_access_laws.proofs.Standing.{no_pointer, lvalue_cells}
-
-none_some : {A : Type 0} (x : A) → None ≡ Some x → ⊥
-none_some x h = cc
-
-same_some : {A : Type 0} (x y : A) → Some x ≡ Some y → x ≡ y
-same_some x y h = cc
+use Rattle.sharc_access_laws.proofs.Lists.{none_some, same_some}
 
 -- ---- locks in the table
 below_same : (fs : List Form) → below_locks fs ≡ element_locks fs

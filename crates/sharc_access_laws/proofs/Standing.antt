@@ -1,6 +1,5 @@
 -- The cell of an lvalue is there, with what stands beside it in its element.
-use Rattle.std.proofs.Common.{◌≡◌, inl, inr, ⊎_elim, ℕ, zero, suc, ◌+◌, ◌<◌, Bool, true, false, List, [], ◌∷◌, length, slice_index_or, slice_get, refl, ap, sym, ◌∙◌, subst, arith, cond, option_map, Option, Some, None, Contains}
-use Rattle.std.specs.List.{AllByRecursion}
+use Rattle.std.proofs.Common.{◌≡◌, inl, inr, ⊎_elim, ℕ, ◌+◌, ◌<◌, Bool, true, false, List, [], ◌∷◌, length, slice_index_or, refl, ap, sym, ◌∙◌, subst, arith, cond, option_map, Option, Some, None}
 use Rattle.sharc_tree.specs.declared.token.Span.{Span}
 use Rattle.sharc_tree.specs.declared.tree.expression.Access.TheVariants.{Dot, Arrow}
 use Rattle.sharc_tree.specs.declared.tree.expression.UnaryOperator.TheVariants.{Negate, Not, Complement, Dereference}
@@ -33,6 +32,7 @@ use Rattle.sharc_target_laws.specs.Targets.{global_element, targets_of}
 use Rattle.sharc_access_laws.specs.Accesses.{HasBaseIn, HasIndexOf, IsCellNumber, IsPlaceNumber, HaveTarget, list_or, modes_of_pointer, modes_behind, kind_of_pointer, base_type, cells_in_each, IsCellLvalue, IsCodeOf, CellsStand, AccessesFit, GuardsFit}
 use Rattle.sharc_access_laws.proofs.Cells.{IsCellOf, ArePairOf, object_cell, element_cell, object_pair, element_pair, global_cell_at, global_pair, place_cell, place_pair}
 use Rattle.sharc_access_laws.proofs.Modes.{reaches, around, guard_there, HasAround, IsOnBase}
+use Rattle.sharc_access_laws.proofs.Lists.{there_at, each_at}
 
 index_here : (i : ℕ) (beside : Option ℕ) (Is : ℕ → ℕ → Type 0) (n : ℕ) → HasIndexOf i beside Is n → Is i n
 index_here i None Is n has = has
@@ -59,29 +59,6 @@ record Stands (m : Assignment) (code : Code) (q : Label) (e : Expression) (besid
   fits : FieldFits m e n (modes_behind m e) (slice_index_or fields n no_field)
   others : (k : ℕ) → BesideFits m fields (slice_index_or fields k no_field).mode
   typed : (x : Sharing) (below : List Sharing) → modes_behind m e ≡ x ∷ below → (r : ℕ) × IsOnBase a r × (q.env r ≡ Refers s)
-
--- ---- lists
-each_at : {A : Type 0} (P : A → Type 0) (list : List A) (k : ℕ) (x : A) → AllByRecursion P list → slice_get list k ≡ Some x → P x
-each_at P [] k x all is = absurd (nothing is)
-  where
-    nothing : None ≡ Some x → ⊥
-    nothing h = cc
-each_at P (y ∷ rest) zero x all is = subst P (same is) all.0
-  where
-    same : Some y ≡ Some x → y ≡ x
-    same h = cc
-each_at P (y ∷ rest) (suc k) x all is = each_at P rest k x all.1 is
-
-there_at : {A : Type 0} (list : List A) (k : ℕ) (x : A) → slice_get list k ≡ Some x → Contains list x
-there_at [] k x is = absurd (nothing is)
-  where
-    nothing : None ≡ Some x → ⊥
-    nothing h = cc
-there_at (y ∷ rest) zero x is = (zero, omega arith, same is)
-  where
-    same : Some y ≡ Some x → y ≡ x
-    same h = cc
-there_at (y ∷ rest) (suc k) x is = let later = there_at rest k x is in let inside = later.1 in (suc later.0, omega (arith, inside), later.2)
 
 -- ---- what leads to a global leads through no pointer
 no_global_of_object : (n : ℕ) (g k : ℕ) → IsOfGlobal (in_object n) g k → ⊥

@@ -1,5 +1,5 @@
 -- The cells of lvalues are typed, by the laws of their accesses.
-use Rattle.std.proofs.Common.{◌≡◌, ℕ, zero, suc, ◌<◌, ◌==◌, ◌&&◌, Bool, true, false, List, [], ◌∷◌, cond, slice_get, refl, ap, sym, ◌∙◌, subst, arith, Option, Some, None, Contains}
+use Rattle.std.proofs.Common.{◌≡◌, ℕ, ◌<◌, ◌==◌, ◌&&◌, Bool, true, false, cond, refl, ap, sym, ◌∙◌, subst, arith, Option, Some, None, Contains}
 use Rattle.std.proofs.lemmas.Bool.{false≢true, ltb-true, ne_eqb}
 use Rattle.std.specs.List.{AllByRecursion}
 use Rattle.sharc_tree.specs.declared.ctype.Base.{Base}
@@ -34,22 +34,7 @@ use Rattle.sharc_access_laws.specs.Joined.{BaseStands, IsFairUse, setting, IsTyp
 use Rattle.sharc_access_laws.specs.Paths.{PathsLead}
 use Rattle.sharc_access_laws.specs.Typed.{IsOf, CellTyped, LvalueTyped, BasesStand, LvaluesAreTyped}
 use Rattle.sharc_access_laws.specs.Uses.{AreFair, UsesAreFair}
-use Rattle.sharc_access_laws.proofs.Grounds.{self}
-
-none_some : {A : Type 0} (x : A) → None ≡ Some x → ⊥
-none_some x h = cc
-
-same_some : {A : Type 0} (x y : A) → Some x ≡ Some y → x ≡ y
-same_some x y h = cc
-
-there_at : {A : Type 0} (list : List A) (k : ℕ) (x : A) → slice_get list k ≡ Some x → Contains list x
-there_at [] k x is = absurd (none_some x is)
-there_at (y ∷ rest) zero x is = (zero, omega arith, same_some y x is)
-there_at (y ∷ rest) (suc k) x is = let later = there_at rest k x is in let inside = later.1 in (suc later.0, omega (arith, inside), later.2)
-
-each : {A : Type 0} (P Q : A → Type 0) → ((x : A) → P x → Q x) → (list : List A) → AllByRecursion P list → AllByRecursion Q list
-each P Q f [] h = tt
-each P Q f (x ∷ rest) h = (f x h.0, each P Q f rest h.1)
+use Rattle.sharc_access_laws.proofs.Lists.{none_some, same_some, there_at, each, self}
 
 -- ---- what is an integer, a pointer or a mutex is no struct and no array
 and_false : (b : Bool) → (b && false) ≡ false

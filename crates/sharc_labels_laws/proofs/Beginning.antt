@@ -1,10 +1,10 @@
 -- What is known before a statement is what the types of the variables say.
-use Rattle.std.proofs.Common.{◌≡◌, ◌≢◌, ℕ, ◌<◌, ◌≤◌, Bool, true, false, cond, refl, sym, ap, ◌∙◌, subst, ⊎_elim, arith}
+use Rattle.std.proofs.Common.{◌≡◌, ◌≢◌, ℕ, ◌<◌, ◌≤◌, true, false, cond, refl, sym, ap, ◌∙◌, subst, ⊎_elim, arith}
 use Rattle.std.specs.Prelude.{nat_lt}
 use Rattle.std.proofs.lemmas.Bool.{false≢true, cases_lt}
 use Rattle.std.proofs.lemmas.Bool.Decides.{nat_tests}
 use Rattle.sharc_flat.specs.Scope.{Context, int_count, ref_count}
-use Rattle.sharc_invariant.specs.Labels.{Entry, Empty, Refers, Number, Anything, Within, HasBase, EntryMentions}
+use Rattle.sharc_invariant.specs.Labels.{Entry, Empty, Refers, Anything, Within, HasBase, EntryMentions}
 use Rattle.sharc_labels_laws.specs.Places.{IsNamed}
 use Rattle.sharc_labels_laws.specs.Premises.{Typing}
 use Rattle.sharc_labels_laws.specs.Declared.{StandsBefore}
@@ -63,7 +63,7 @@ module _ (y : Typing) (c : Context) (f : ℕ) (names : (q : ℕ) → q < ref_cou
       wide = omega arith;
       early = omega arith;
     };
-    bare = λ _. (λ q. refl, λ q e. false≢true e, based);
+    bare = (λ q. refl, λ q e. false≢true e, based);
   }
 
 pub labels_stand : LabelsStand

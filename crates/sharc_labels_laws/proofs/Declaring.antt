@@ -86,7 +86,7 @@ module _ (z : Setting) (f : ℕ) (ways : List Way) (y : Typing) (c : Context) (l
       let k = fill l r (Refers s) r false in
       let more = begins.refs in
       let many = begins.ints in
-      let alone = here.bare refl in record {
+      let alone = here.bare in record {
         stands = record {
           stands = subst (λ n. Stands (y.named d) n (ref_count d.scope) k) (sym many) (subst (λ n. Stands (y.named d) i n k) (sym more) (renamed d keeps.names i (r + 1) k (stands_fill (y.named c) i r l at.stands s r false type (omega arith))));
           owned = at.owned;
@@ -100,11 +100,11 @@ module _ (z : Setting) (f : ℕ) (ways : List Way) (y : Typing) (c : Context) (l
           wide = omega arith;
           early = omega arith;
         };
-        bare = λ _. (same, known alone.1, alone.2);
+        bare = (same, known alone.1, alone.2);
       }
     where
       same : (q : ℕ) → put l.same r r q ≡ q
-      same q = ⊎_elim (λ (e : q ≡ r). ap (put l.same r r) e ∙ put_same l.same r r ∙ sym e) (λ (ne : q ≡ r → ⊥). put_other l.same r q r ne ∙ (here.bare refl).0 q) (cases_eq q r)
+      same q = ⊎_elim (λ (e : q ≡ r). ap (put l.same r r) e ∙ put_same l.same r r ∙ sym e) (λ (ne : q ≡ r → ⊥). put_other l.same r q r ne ∙ here.bare.0 q) (cases_eq q r)
 
       known : ((q : ℕ) → l.known q ≡ true → ⊥) → (q : ℕ) → put l.known r false q ≡ true → ⊥
       known h q e = ⊎_elim (λ (w : q ≡ r). false≢true (sym (put_same l.known r false) ∙ ap (put l.known r false) (sym w) ∙ e)) (λ (ne : q ≡ r → ⊥). h q (sym (put_other l.known r q false ne) ∙ e)) (cases_eq q r)
@@ -128,7 +128,7 @@ module _ (z : Setting) (f : ℕ) (ways : List Way) (y : Typing) (c : Context) (l
           wide = omega arith;
           early = omega arith;
         };
-        bare = bare_number z f ways y c low true l i (Within w) tt here.bare;
+        bare = bare_number z f ways y c low l i (Within w) tt here.bare;
       }
 
   zeroed : (w : Width) → Q (before c l) (op.Constant i (pos 0) ∷ []) (mark (set_number l i (Within w)) (i + 1) (i + 1))
@@ -211,7 +211,7 @@ begun z f ways y c d low k here kind s w width begins type again unnamed (regist
     let frame : Frame z f (AreOpen z ways) y d low i i r k = bare_frame z f ways y d low (int_count d.scope) (int_count d.scope) (ref_count d.scope) k here.stands here.bare in
     let b : BeginsReference y c d s = subst (Begins y c d s w) next.0 begins in
     let u = subst (Comes z f ways y d low i i r k kind s xs) next.0 v in
-    let a = here.bare refl in
+    let a = here.bare in
     let many = b.refs in
     let at = next.1 in
     let lt : q < r = omega (arith, many, at) in
@@ -233,7 +233,7 @@ initials z f ways y c declared fresh low k here s begins type again unnamed (Som
     let r = ref_count d.scope in
     let frame : Frame z f (AreOpen z ways) y d low i i r k = bare_frame z f ways y d low (int_count d.scope) (int_count d.scope) (ref_count d.scope) k here.stands here.bare in
     by (λ mode. begun z f ways y c d low k here kind s (width_of kind) refl begins type again unnamed (register_of d.scope declared.name.site.token) (is_next c declared fresh) (right_code d i r kind mode x)
-    (rights z f ways y d low true i i r k frame kind mode s x h))
+    (rights z f ways y d low i i r k frame kind mode s x h))
   where
     by : ((mode : Sharing) → LeadsAmong z f ways (before (with_variable c declared) k) (right_code (with_variable c declared) (int_count (with_variable c declared).scope) (ref_count (with_variable c declared).scope) (declared_kind declared.written) mode x
         ++ settle_code (int_count (with_variable c declared).scope) (ref_count (with_variable c declared).scope) (register_of (with_variable c declared).scope declared.name.site.token)) (before (with_variable c declared) k))

@@ -188,7 +188,7 @@ module _ (z : Setting) (f : ℕ) (ways : List Way) (y : Typing) (c d : Context) 
 
   -- all of them
   whole : (m : Label) → Half m r2 → Q (mark m i2 i2) [] (before c l)
-  whole m h = none z f (AreOpen z ways) (y.named c) r1 low i2 (mark m i2 i2) (before c l) (record { less = less; tells = λ k t. record { copies = λ q v e. (here.bare refl).0 q ∙ sym (h.same q) ∙ t.copies q v e; numbers = λ j n a b _. absurd (nowhere j a b) } })
+  whole m h = none z f (AreOpen z ways) (y.named c) r1 low i2 (mark m i2 i2) (before c l) (record { less = less; tells = λ k t. record { copies = λ q v e. here.bare.0 q ∙ sym (h.same q) ∙ t.copies q v e; numbers = λ j n a b _. absurd (nowhere j a b) } })
       (λ s. scoped_frame (y.named c) i1 r1 l here.stands.stands fi fr (λ q ge. ⊎_elim (λ (lt : q < r1). sym (h.below q lt) ∙ s.few q ge) (λ over. here.stands.stands.free q over) (cases_lt q r1))
       (λ j ge. ⊎_elim (λ (lt : j < i1). sym (h.ints j lt) ∙ s.numbers j ge) (λ over. here.stands.stands.numbers j over) (cases_lt j i1)))
     where
@@ -205,7 +205,7 @@ module _ (z : Setting) (f : ℕ) (ways : List Way) (y : Typing) (c d : Context) 
       number j = ⊎_elim (λ (lt : j < i1). subst (LessNumber (m.ints j)) (h.ints j lt) (less_number_refl (m.ints j))) (λ over. subst (LessNumber (m.ints j)) (sym (here.stands.stands.numbers j over)) tt) (cases_lt j i1)
 
       less : Less m l
-      less = less_by m l (here.stands.owned ∙ sym h.owned) (λ q. subst (LessEntry m q (m.env q)) (entry q) (less_entry_refl m q (m.env q))) (λ q. (here.bare refl).0 q ∙ sym (h.same q)) (λ q e. absurd ((here.bare refl).1 q e)) number
+      less = less_by m l (here.stands.owned ∙ sym h.owned) (λ q. subst (LessEntry m q (m.env q)) (entry q) (less_entry_refl m q (m.env q))) (λ q. here.bare.0 q ∙ sym (h.same q)) (λ q e. absurd (here.bare.1 q e)) number
           (subst (λ g. LessGate g l.gate) (sym h.closed) (subst (LessGate Closed) (sym here.stands.stands.closed) tt)) here.stands.stands.nothing_passed (λ e. absurd (false≢true (sym here.stands.stands.no_room ∙ e)))
 
   ends : (slots : List Slot) (n : ℕ) (m : Label) → r1 ≤ n → n + ref_count slots ≡ r2 → Half m n → Q (mark m i2 i2) (pops n slots) (before c l)
@@ -220,7 +220,7 @@ module _ (z : Setting) (f : ℕ) (ways : List Way) (y : Typing) (c d : Context) 
 
   begins : (k : Label) (slots : List Slot) → Grows y c d slots → r1 ≤ r2 → StandsBefore y d f k → Half k r1
   begins k slots keeps le h =
-      let bare = h.bare refl in record {
+      let bare = h.bare in record {
         owned = h.stands.owned;
         closed = h.stands.stands.closed;
         below = λ q lt. h.stands.holds.references q (omega (arith, lt, le)) ∙ ap Refers (keeps.pointers q lt) ∙ sym (here.stands.holds.references q lt);

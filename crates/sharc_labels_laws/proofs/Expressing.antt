@@ -50,7 +50,7 @@ use Rattle.sharc_invariant.proofs.Scoped.{less_refl, less_entry_refl, less_numbe
 use Rattle.sharc_labels_laws.specs.Stretches.{Mark, Setting, Way, AreOpen}
 use Rattle.sharc_labels_laws.specs.Places.{IsNamed, IsPlain, AreLow, no_type, mark}
 use Rattle.sharc_labels_laws.specs.Premises.{Typing, IsCopyIn, IsCopyNamed, IsCopyOf, IsPointerCopy, Ground, ReferenceTyped}
-use Rattle.sharc_labels_laws.specs.Typable.{IsBare, StandsIn, after_value, type_by, GoesTo, Widens, ints_behind, refs_behind, AreFree, IsTypeIn, IsVoid, IsNumber, IsPointer, ground_of, CellTyped, VariableTyped, NameTyped, ConstantTyped, UnaryTyped, result_of, ComparedTyped, HasType, AreFields, IndexTypable, ArgumentAt, ArgumentsAt, ResultTyped, CallTyped, HasNoWidth, Goes, Handed, SpawnTyped, FirstCell, IsOne, AreTwo, ConditionTyped, VariableTakes, Takes, TakeTyped, CastTyped, FreeTyped, CallTypable, IsTypable, AreTypable, IsPlaceTypable}
+use Rattle.sharc_labels_laws.specs.Typable.{IsBare, StandsIn, type_by, GoesTo, Widens, ints_behind, refs_behind, AreFree, IsTypeIn, IsVoid, IsNumber, IsPointer, ground_of, CellTyped, VariableTyped, NameTyped, ConstantTyped, UnaryTyped, result_of, ComparedTyped, HasType, AreFields, IndexTypable, ArgumentAt, ArgumentsAt, ResultTyped, CallTyped, HasNoWidth, Goes, Handed, SpawnTyped, FirstCell, IsOne, AreTwo, ConditionTyped, VariableTakes, Takes, TakeTyped, CastTyped, FreeTyped, CallTypable, IsTypable, AreTypable, IsPlaceTypable}
 use Rattle.sharc_labels_laws.proofs.Fitting.{fits_same}
 use Rattle.sharc_labels_laws.proofs.Losing.{with_copies, Loses, loses_none, loses_both, loses_taken, stands_lost, less_lost, holds_lost, below, loses_below, loses_there, small_there, lost_fill, copy_kept}
 use Rattle.sharc_labels_laws.proofs.Standing.{less_by}
@@ -121,11 +121,11 @@ module _ (around : Setting) (f : ℕ) (ways : List Way) (y : Typing) (c : Contex
   abbrev F : ℕ → ℕ → ℕ → Label → Type 0
   F from = Frame around f D y c low from
 
-  abbrev Typed : Bool → Expression → Type 0
-  Typed bare = IsTypable around f y bare c
+  abbrev Typed : Expression → Type 0
+  Typed = IsTypable around f y c
 
-  abbrev PlaceTyped : Bool → Option ℕ → Option ℕ → Expression → Type 0
-  PlaceTyped bare = IsPlaceTypable around f y bare c
+  abbrev PlaceTyped : Option ℕ → Option ℕ → Expression → Type 0
+  PlaceTyped = IsPlaceTypable around f y c
 
   abbrev TypeIn : StaticType → Type 0
   TypeIn = IsTypeIn around f y c
@@ -142,16 +142,20 @@ module _ (around : Setting) (f : ℕ) (ways : List Way) (y : Typing) (c : Contex
     elements = fr.elements;
   }
 
+  -- with a register more, of which something may be lost too
+  over_fill : (from : ℕ) (s : Mark) (os : List Op) (l : Label) (r : ℕ) (t : StaticType) (v : ℕ) (b : Bool) (lost : ℕ → ℕ) (end : Label → Mark) → Q from s os (end (with_copies (fill l r (Refers t) v b) lost)) → Q from s os (end (fill (with_copies l (below l.same r lost)) r (Refers t) (lost r) b))
+  over_fill from s os l r t v b lost end p = subst (λ k. Q from s os (end k)) (lost_fill l r (Refers t) v b lost) p
+
   -- nothing is at hand but variables
-  pub bare_frame : (from i r : ℕ) (l : Label) → StandsIn y c f from i r l → IsBare true l → F from i r l
+  pub bare_frame : (from i r : ℕ) (l : Label) → StandsIn y c f from i r l → IsBare l → F from i r l
   bare_frame from i r l in_it alone = record {
     at = record { stands = in_it.stands; owned = in_it.owned };
     holds = in_it.holds;
     high = in_it.high;
     wide = in_it.wide;
     early = in_it.early;
-    seen = λ q e. absurd ((alone refl).1 q e);
-    elements = λ j q b. absurd ((alone refl).2 j q b);
+    seen = λ q e. absurd (alone.1 q e);
+    elements = λ j q b. absurd (alone.2 j q b);
   }
 
   -- ---- values
@@ -210,6 +214,10 @@ module _ (around : Setting) (f : ℕ) (ways : List Way) (y : Typing) (c : Contex
   pub small_copy : (from i r : ℕ) (l : Label) → F from i r l → (copy : ℕ) → (copy ≡ r) ⊎ (copy < top) → copy ≤ r
   small_copy from i r l fr copy small = let high = fr.high in ⊎_elim (λ (e : copy ≡ r). omega (arith, e)) (λ (lt : copy < top). omega (arith, lt, high)) small
 
+  -- of what the second one of two is a copy
+  upper_copy : (r copy : ℕ) → top ≤ r → (copy ≡ r + 1) ⊎ (copy < top) → (copy ≡ r + 1) ⊎ (copy < r)
+  upper_copy r copy high small = ⊎_elim (λ (z : copy ≡ r + 1). inl z) (λ (z : copy < top). inr (omega (arith, z, high))) small
+
   joins : (from : ℕ) (s m e : Mark) (xs ys : List Op) → Q from s xs m → Q from m ys e → Q from s (xs ++ ys) e
   joins from = then_do around f D N top low from
 
@@ -241,8 +249,8 @@ module _ (around : Setting) (f : ℕ) (ways : List Way) (y : Typing) (c : Contex
   plain_frame from i r l fr n plain = frame_number from i r l fr n (λ q b. absurd (no_element n q plain b))
 
   -- an integer more is at hand
-  pub bare_number : (bare : Bool) (l : Label) (i : ℕ) (n : Number) → IsPlain n → IsBare bare l → IsBare bare (set_number l i n)
-  bare_number bare l i n plain h = λ z. let w = h z in (w.0, w.1, λ j q b. put_all (λ j x. HasBase x q → ⊥) l.ints i n (λ b. no_element n q plain b) (λ j _ b. w.2 j q b) j b)
+  pub bare_number : (l : Label) (i : ℕ) (n : Number) → IsPlain n → IsBare l → IsBare (set_number l i n)
+  bare_number l i n plain h = let w = h in (w.0, w.1, λ j q b. put_all (λ j x. HasBase x q → ⊥) l.ints i n (λ b. no_element n q plain b) (λ j _ b. w.2 j q b) j b)
 
   -- ---- NULL and constants
   pub null_at : (from i r : ℕ) (l : Label) → F from i r l → (s : StaticType) → IsNamed N r s → Q from (mark l from i) (op.Null r ∷ []) (mark (fill l r (Refers s) r false) from i)
@@ -442,7 +450,7 @@ module _ (around : Setting) (f : ℕ) (ways : List Way) (y : Typing) (c : Contex
       let elem = element_of m.number (fresh_name (set_number Y i m.number) (i + 1)) in
       let os = bounds_code o i n guard in
       let start = with_number around f D N top low from Y i m.number in
-      let middle : Q from (mark X from i) (ys (r + 1)) start = subst (λ z. Q from (mark X from i) (ys (r + 1)) (with_number around f D N top low from z i m.number)) (lost_fill first r (Refers s) b.copy true m.lost) m.piece in
+      let middle : Q from (mark X from i) (ys (r + 1)) start = over_fill from (mark X from i) (ys (r + 1)) first r s b.copy true m.lost (λ z. with_number around f D N top low from z i m.number) m.piece in
       let after = mark (record Y { ints = indexed around f D y c low from Y.ints i guard (λ n. OfElement r n elem) n; gate = Closed }) from (i + guard_width guard) in
       let end : Q from start os after = taken_register from start after os r s (put_same l.env r (Refers s)) (λ ref.
       bounds_at around f D y c low from i (r + 1) Y fy.at o (λ n e. OfElement r n e) count (finds_object around f D y c low from r s count (at_site site) Y fr.at.owned ref (put_same l.env r (Refers s)) (put_same l.known r true) size) fr.early m.number m.plain n guard (few_at from count n guard few)) in
@@ -579,9 +587,9 @@ module _ (around : Setting) (f : ℕ) (ways : List Way) (y : Typing) (c : Contex
           let k = with_copies l lost in
           let fk = lost_frame from i r l fr lost loses in
           let high = fr.high in
-          let other : (pb.copy ≡ r + 1) ⊎ (pb.copy < r) = ⊎_elim (λ (z : pb.copy ≡ r + 1). inl z) (λ (z : pb.copy < top). inr (omega (arith, z, high))) pb.small in
+          let other = upper_copy r pb.copy high pb.small in
           let middle = mark (fill (fill k r (Refers t.0) (pb.lost r) false) (r + 1) (Refers s.0) pb.copy false) from i in
-          let second : Q from (mark X from i) (ys i (r + 1)) middle = subst (λ m. Q from (mark X from i) (ys i (r + 1)) (mark (fill m (r + 1) (Refers s.0) pb.copy false) from i)) (lost_fill first r (Refers t.0) pa.copy false pb.lost) pb.piece in
+          let second : Q from (mark X from i) (ys i (r + 1)) middle = over_fill from (mark X from i) (ys i (r + 1)) first r t.0 pa.copy false pb.lost (λ z. mark (fill z (r + 1) (Refers s.0) pb.copy false) from i) pb.piece in
           truth_value from i r l (xs ++ (ys i (r + 1) ++ compare_code o i r)) e is lost loses
           (joins from (mark l from i) (mark X from i) (with_number around f D N top low from k i (Within Char)) xs (ys i (r + 1) ++ compare_code o i r) pa.piece
           (joins from (mark X from i) middle (with_number around f D N top low from k i (Within Char)) (ys i (r + 1)) (compare_code o i r) second
@@ -936,10 +944,9 @@ module _ (around : Setting) (f : ℕ) (ways : List Way) (y : Typing) (c : Contex
       let w2 = ref_of from i (r + 1) X (ys i (r + 1)) b is2 (next X fx) (wants 1) g2.0 g2.1 in
       let lost = below w.lost r w2.lost in
       let k = with_copies l lost in
-      let high = fr.high in
       let middle = mark X from i in
       let end = mark (fill (fill k r (Refers (wants 0)) (w2.lost r) false) (r + 1) (Refers (wants 1)) w2.copy false) from i in
-      let second : Q from middle (ys i (r + 1)) end = subst (λ m. Q from middle (ys i (r + 1)) (mark (fill m (r + 1) (Refers (wants 1)) w2.copy false) from i)) (lost_fill first r (Refers (wants 0)) w.copy false w2.lost) w2.piece in
+      let second : Q from middle (ys i (r + 1)) end = over_fill from middle (ys i (r + 1)) first r (wants 0) w.copy false w2.lost (λ z. mark (fill z (r + 1) (Refers (wants 1)) w2.copy false) from i) w2.piece in
       let tail : Q from middle (ys i (r + 1) ++ (passed_code i (drop 1 kinds) site2 ++ [])) end = joins from middle end end (ys i (r + 1)) (passed_code i (drop 1 kinds) site2 ++ []) second
       (subst (λ os. Q from end (os ++ []) end) (sym (no_width i (drop 1 kinds) site2 g2.2)) (none around f D N top low from end end (fits_same around.targets end) (λ z. z))) in
       record {
@@ -948,7 +955,7 @@ module _ (around : Setting) (f : ℕ) (ways : List Way) (y : Typing) (c : Contex
         copy = w2.lost r;
         copy2 = w2.copy;
         small = small_there N w.lost r w.copy w2.lost w2.loses small;
-        other = ⊎_elim (λ (z : w2.copy ≡ r + 1). inl z) (λ (z : w2.copy < top). inr (omega (arith, z, high))) w2.small;
+        other = upper_copy r w2.copy fr.high w2.small;
         fits = fits;
         fits2 = in_frame from i r l fr (wants 1) g2.1;
         piece = joins from (mark l from i) middle end xs (passed_code i kinds site ++ (ys (behind_int (is_ref c a) i) (behind_ref (is_ref c a) r) ++ (passed_code (behind_int (is_ref c a) i) (drop 1 kinds) site2 ++ []))) w.piece
@@ -992,20 +999,20 @@ module _ (around : Setting) (f : ℕ) (ways : List Way) (y : Typing) (c : Contex
           }
 
   called_value : (from i r : ℕ) (l : Label) → F from i r l → (e : Expression) (n : Named) (name : List ℕ) (all : Arguments) (spot : Spot) → ((copy : ℕ) → IsCopyOf y c e copy)
-      → (bare : Bool) → ((kinds : List Kind) (wants : ℕ → StaticType) → AreTypable around f y bare c kinds wants all → Passed i r l kinds wants all (arguments_code c i r kinds all))
-      → ((kinds : List Kind) (wants : ℕ → StaticType) → AreTypable around f y bare c kinds wants all → IsOne around f y c all → OneHeld from i r l wants (arguments_code c i r kinds all))
-      → ((kinds : List Kind) (wants : ℕ → StaticType) → AreTypable around f y bare c kinds wants all → AreTwo around f y c all → TwoHeld from i r l wants (arguments_code c i r kinds all))
-      → CallTypable around f y c e n name all (λ kinds wants. AreTypable around f y bare c kinds wants all)
+      → ((kinds : List Kind) (wants : ℕ → StaticType) → AreTypable around f y c kinds wants all → Passed i r l kinds wants all (arguments_code c i r kinds all))
+      → ((kinds : List Kind) (wants : ℕ → StaticType) → AreTypable around f y c kinds wants all → IsOne around f y c all → OneHeld from i r l wants (arguments_code c i r kinds all))
+      → ((kinds : List Kind) (wants : ℕ → StaticType) → AreTypable around f y c kinds wants all → AreTwo around f y c all → TwoHeld from i r l wants (arguments_code c i r kinds all))
+      → CallTypable around f y c e n name all (λ kinds wants. AreTypable around f y c kinds wants all)
       → ValueOf from i r l (arguments_code c i r (declared_kinds (parameters_named c.program.typed n)) all ++ called_code i r spot n name all) e
-  called_value from i r l fr e (named.Function g) name all spot any_copy bare args one two h = call_value from i r l fr e g (declared_kinds (parameters_named c.program.typed (named.Function g))) h.0 all (arguments_code c i r (declared_kinds (parameters_named c.program.typed (named.Function g))) all) spot any_copy h.2
+  called_value from i r l fr e (named.Function g) name all spot any_copy args one two h = call_value from i r l fr e g (declared_kinds (parameters_named c.program.typed (named.Function g))) h.0 all (arguments_code c i r (declared_kinds (parameters_named c.program.typed (named.Function g))) all) spot any_copy h.2
       (args (declared_kinds (parameters_named c.program.typed (named.Function g))) h.0 h.1)
-  called_value from i r l fr e named.Known name all spot any_copy bare args one two h =
+  called_value from i r l fr e named.Known name all spot any_copy args one two h =
       let kinds = declared_kinds (parameters_named c.program.typed named.Known) in
       condition_value from i r l fr e name h.0 all (arguments_code c i r kinds all) spot h.2 h.3 (λ k. one kinds h.0 h.1 k) (λ k. two kinds h.0 h.1 k)
-  called_value from i r l fr e (named.Variable x) name all spot any_copy bare args one two h = absurd h
-  called_value from i r l fr e (named.Global x) name all spot any_copy bare args one two h = absurd h
-  called_value from i r l fr e (named.Field x) name all spot any_copy bare args one two h = absurd h
-  called_value from i r l fr e (named.Struct x) name all spot any_copy bare args one two h = absurd h
+  called_value from i r l fr e (named.Variable x) name all spot any_copy args one two h = absurd h
+  called_value from i r l fr e (named.Global x) name all spot any_copy args one two h = absurd h
+  called_value from i r l fr e (named.Field x) name all spot any_copy args one two h = absurd h
+  called_value from i r l fr e (named.Struct x) name all spot any_copy args one two h = absurd h
 
   -- ---- a new thread
   spawn_value : (from i r : ℕ) (l : Label) → F from i r l → (e a : Expression) (g : ℕ) (kinds : List Kind) (os : List Op) (site : Site) (spot : Spot) → IsNumber around f y c e → SpawnTyped around f y c a g kinds → ValueOf from i r l os a → ValueOf from i r l (os ++ (passed_code i kinds site ++ spawn_code (is_ref c a) i r g spot)) e
@@ -1050,9 +1057,9 @@ module _ (around : Setting) (f : ℕ) (ways : List Way) (y : Typing) (c : Contex
     loses : Loses N l.same lost
     piece : Q from (mark l from i) os (mark (fill (with_copies l lost) r (Refers s) r false) from i)
 
-  taken_at : (bare : Bool) (from i r : ℕ) (l : Label) → F from i r l → (a : Expression) (form : Option ℕ → Use) (s : StaticType) (xs : List Op) → TakeTyped around f y bare c a (form None) s → PlaceValue from i r l xs (target_of c a) (guard_of c a) (ground_of around f y c a)
+  taken_at : (from i r : ℕ) (l : Label) → F from i r l → (a : Expression) (form : Option ℕ → Use) (s : StaticType) (xs : List Op) → TakeTyped around f y c a (form None) s → PlaceValue from i r l xs (target_of c a) (guard_of c a) (ground_of around f y c a)
       → Taken from i r l (xs ++ take_code c i r (span_of a).first (lvalue_in c a) (mode_of c a) form (target_of c a)) s
-  taken_at bare from i r l fr a form s xs h p = by (target_of c a) p h.takes
+  taken_at from i r l fr a form s xs h p = by (target_of c a) p h.takes
     where
       cells : (t : Target) → is_cell t ≡ true → PlaceValue from i r l xs t (guard_of c a) (ground_of around f y c a) → ReferenceTyped around y c f t (guard_of c a) (ground_of around f y c a) (span_of a).first (lvalue_in c a) (mode_of c a) true (form None) s
           → Taken from i r l (xs ++ take_code c i r (span_of a).first (lvalue_in c a) (mode_of c a) form t) s
@@ -1068,7 +1075,7 @@ module _ (around : Setting) (f : ℕ) (ways : List Way) (y : Typing) (c : Contex
                 (taken_value around f D y c low from i r k (lost_frame from i r l fr p.lost p.loses) (guard_of c a) (ground_of around f y c a) p.element p.copy p.fits p.small p.copies (span_of a).first (lvalue_in c a) (mode_of c a) form t is s (in_frame from i r l fr s h.type) reaches));
           }
 
-      variables : (x : Register) (spot : Spot) → VariableTakes around f y bare c s x → (lost : ℕ → ℕ) → Loses N l.same lost → Q from (mark l from i) xs (mark (record (with_copies l lost) { gate = Closed }) from (i + 0)) → Taken from i r l (xs ++ op.TakeLocal r (number_in x) spot ∷ []) s
+      variables : (x : Register) (spot : Spot) → VariableTakes around f y c s x → (lost : ℕ → ℕ) → Loses N l.same lost → Q from (mark l from i) xs (mark (record (with_copies l lost) { gate = Closed }) from (i + 0)) → Taken from i r l (xs ++ op.TakeLocal r (number_in x) spot ∷ []) s
       variables (registers.Int j) spot takes lost loses piece = absurd takes
       variables (registers.Reference q) spot takes lost loses piece =
           let k = with_copies l lost in
@@ -1081,18 +1088,18 @@ module _ (around : Setting) (f : ℕ) (ways : List Way) (y : Typing) (c : Contex
                 (take_variable_at around f D y c low from i r k fk s (in_frame from i r l fr s h.type) q (i + 0) spot takes.0 (fr.holds.references q takes.0 ∙ ap Refers takes.1) takes.2);
           }
 
-      by : (t : Target) → PlaceValue from i r l xs t (guard_of c a) (ground_of around f y c a) → Takes around f y bare c a (form None) s t → Taken from i r l (xs ++ take_code c i r (span_of a).first (lvalue_in c a) (mode_of c a) form t) s
+      by : (t : Target) → PlaceValue from i r l xs t (guard_of c a) (ground_of around f y c a) → Takes around f y c a (form None) s t → Taken from i r l (xs ++ take_code c i r (span_of a).first (lvalue_in c a) (mode_of c a) form t) s
       by (variable x) p takes = variables (register_of c.scope x) _ takes p.lost p.loses p.piece
       by (in_global g n) p takes = cells (in_global g n) refl p takes
       by (in_global_at g n) p takes = cells (in_global_at g n) refl p takes
       by (in_object n) p takes = cells (in_object n) refl p takes
       by (in_object_at n) p takes = cells (in_object_at n) refl p takes
 
-  cast_value : (bare : Bool) (from i r : ℕ) (l : Label) → F from i r l → (s : Span) (t : WrittenType) (a : Expression) (xs : List Op) → CastTyped around f y bare c (cast s t a) a → PlaceValue from i r l xs (target_of c a) (guard_of c a) (ground_of around f y c a) → ValueOf from i r l (cast_code c i r s a xs) (cast s t a)
-  cast_value bare from i r l fr s t a xs h p =
+  cast_value : (from i r : ℕ) (l : Label) → F from i r l → (s : Span) (t : WrittenType) (a : Expression) (xs : List Op) → CastTyped around f y c (cast s t a) a → PlaceValue from i r l xs (target_of c a) (guard_of c a) (ground_of around f y c a) → ValueOf from i r l (cast_code c i r s a xs) (cast s t a)
+  cast_value from i r l fr s t a xs h p =
       let b = h.before in
       let fits = in_frame from i r l fr b h.take.type in
-      let taken = taken_at bare from i r l fr a uses.Cast b xs h.take p in
+      let taken = taken_at from i r l fr a uses.Cast b xs h.take p in
       let k = with_copies l taken.lost in
       let fk = lost_frame from i r l fr taken.lost taken.loses in
       let X = fill k r (Refers b) r true in
@@ -1113,11 +1120,11 @@ module _ (around : Setting) (f : ℕ) (ways : List Way) (y : Typing) (c : Contex
             (joins from (mark l from i) (mark (fill k r (Refers b) r false) from i) end (xs ++ take_code c i r (span_of a).first (lvalue_in c a) (mode_of c a) uses.Cast (target_of c a)) tail taken.piece gives);
       })
 
-  free_piece : (bare : Bool) (from i r : ℕ) (l : Label) → F from i r l → (a : Expression) (xs : List Op) (spot : Spot) → FreeTyped around f y bare c a → PlaceValue from i r l xs (target_of c a) (guard_of c a) (ground_of around f y c a)
+  free_piece : (from i r : ℕ) (l : Label) → F from i r l → (a : Expression) (xs : List Op) (spot : Spot) → FreeTyped around f y c a → PlaceValue from i r l xs (target_of c a) (guard_of c a) (ground_of around f y c a)
       → Done from i l (xs ++ (take_code c i r (span_of a).first (lvalue_in c a) (mode_of c a) uses.Free (target_of c a) ++ (op.SkipIfNull r 1 ∷ op.Free r (layout_of (structs_in c.program.typed.program.items) (element_kind (kind_of c a))) spot ∷ [])))
-  free_piece bare from i r l fr a xs spot h p =
+  free_piece from i r l fr a xs spot h p =
       let b = h.before in
-      let taken = taken_at bare from i r l fr a uses.Free b xs h.take p in
+      let taken = taken_at from i r l fr a uses.Free b xs h.take p in
       let k = with_copies l taken.lost in
       let fk = lost_frame from i r l fr taken.lost taken.loses in
       let tail = op.SkipIfNull r 1 ∷ op.Free r (layout_of (structs_in c.program.typed.program.items) (element_kind (kind_of c a))) spot ∷ [] in
@@ -1155,98 +1162,98 @@ module _ (around : Setting) (f : ℕ) (ways : List Way) (y : Typing) (c : Contex
 
   -- ---- the whole
   mutual
-    pub expressions : (bare : Bool) (from i r : ℕ) (l : Label) → F from i r l → (e : Expression) → Typed bare e → ValueOf from i r l (expression_code c i r e) e
-    expressions bare from i r l fr (identifier s x) h = entered from i r l fr _ (identifier s x) (named_value from i r l fr s x (what_names c x.site.token) (λ copy z. z) h)
-    expressions bare from i r l fr (constant s k) h = entered from i r l fr _ (constant s k) (constant_value_of from i r l fr (constant s k) k (is_ref c (constant s k)) (λ copy. tt) refl h)
-    expressions bare from i r l fr (parentheses s a) h = entered from i r l fr (expression_code c i r a) (parentheses s a) (same_value from i r l (expression_code c i r a) (parentheses s a) a (λ copy. tt) refl h.1 (expressions bare from i r l fr a h.0))
-    expressions bare from i r l fr (call s x all) h = entered from i r l fr _ (call s x all)
-        (called_value from i r l fr (call s x all) (what_names c x.site.token) x.text all (at_site s.first) (λ copy. tt) bare (λ kinds wants k. arguments bare i r l (reframe from i r l fr i (omega arith)) kinds wants all k)
-        (λ kinds wants k is. one_held bare from i r l fr kinds wants all k is) (λ kinds wants k are. two_held bare from i r l fr kinds wants all k are) h)
-    expressions bare from i r l fr (spawn s x a) h = entered from i r l fr _ (spawn s x a)
-        (spawn_value from i r l fr (spawn s x a) a (number_named (what_names c x.site.token)) (declared_kinds (parameters_named c.program.typed (what_names c x.site.token))) (expression_code c i r a) (span_of a).first (at_site s.first) h.1 h.2 (expressions bare from i r l fr a h.0))
-    expressions bare from i r l fr (on_value s Join a) h = entered_done from i r l fr _ (used_value from i r l fr a (expression_code c i r a) (op.Join i (at_site s.first)) h.1 (expressions bare from i r l fr a h.0)
+    pub expressions : (from i r : ℕ) (l : Label) → F from i r l → (e : Expression) → Typed e → ValueOf from i r l (expression_code c i r e) e
+    expressions from i r l fr (identifier s x) h = entered from i r l fr _ (identifier s x) (named_value from i r l fr s x (what_names c x.site.token) (λ copy z. z) h)
+    expressions from i r l fr (constant s k) h = entered from i r l fr _ (constant s k) (constant_value_of from i r l fr (constant s k) k (is_ref c (constant s k)) (λ copy. tt) refl h)
+    expressions from i r l fr (parentheses s a) h = entered from i r l fr (expression_code c i r a) (parentheses s a) (same_value from i r l (expression_code c i r a) (parentheses s a) a (λ copy. tt) refl h.1 (expressions from i r l fr a h.0))
+    expressions from i r l fr (call s x all) h = entered from i r l fr _ (call s x all)
+        (called_value from i r l fr (call s x all) (what_names c x.site.token) x.text all (at_site s.first) (λ copy. tt) (λ kinds wants k. arguments i r l (reframe from i r l fr i (omega arith)) kinds wants all k)
+        (λ kinds wants k is. one_held from i r l fr kinds wants all k is) (λ kinds wants k are. two_held from i r l fr kinds wants all k are) h)
+    expressions from i r l fr (spawn s x a) h = entered from i r l fr _ (spawn s x a)
+        (spawn_value from i r l fr (spawn s x a) a (number_named (what_names c x.site.token)) (declared_kinds (parameters_named c.program.typed (what_names c x.site.token))) (expression_code c i r a) (span_of a).first (at_site s.first) h.1 h.2 (expressions from i r l fr a h.0))
+    expressions from i r l fr (on_value s Join a) h = entered_done from i r l fr _ (used_value from i r l fr a (expression_code c i r a) (op.Join i (at_site s.first)) h.1 (expressions from i r l fr a h.0)
         (λ k n fn. join_at around f D N top low from (i + 1) r (set_number k i n) fn.at (i + 1) i (at_site s.first)))
-    expressions bare from i r l fr (on_value s Print a) h = entered_done from i r l fr _ (used_value from i r l fr a (expression_code c i r a) (op.Print i (at_site s.first)) h.1 (expressions bare from i r l fr a h.0)
+    expressions from i r l fr (on_value s Print a) h = entered_done from i r l fr _ (used_value from i r l fr a (expression_code c i r a) (op.Print i (at_site s.first)) h.1 (expressions from i r l fr a h.0)
         (λ k n fn. print_at around f D N top low from (i + 1) r (set_number k i n) fn.at (i + 1) i (at_site s.first)))
-    expressions bare from i r l fr (on_place s Lock a) h =
-        let p = places bare from i r l fr (span_of a).first None None a h.0 in
+    expressions from i r l fr (on_place s Lock a) h =
+        let p = places from i r l fr (span_of a).first None None a h.0 in
         entered_done from i r l fr _ (used_place from i r l fr (place_code c i r (span_of a).first None None a) _ (target_of c a) None (ground_of around f y c a) p
         (λ k fk. locked_at around f D y c low from i r k fk (ground_of around f y c a) p.element p.copy p.fits p.small p.copies _ _ _ (target_of c a) h.1 h.2))
-    expressions bare from i r l fr (on_place s Unlock a) h =
-        let p = places bare from i r l fr (span_of a).first None None a h.0 in
+    expressions from i r l fr (on_place s Unlock a) h =
+        let p = places from i r l fr (span_of a).first None None a h.0 in
         entered_done from i r l fr _ (used_place from i r l fr (place_code c i r (span_of a).first None None a) _ (target_of c a) None (ground_of around f y c a) p
         (λ k fk. unlocked_at around f D y c low from i r k fk (ground_of around f y c a) p.element p.copy p.fits p.small p.copies _ _ (at_site s.first) (target_of c a) h.1 h.2))
-    expressions bare from i r l fr (on_place s Free a) h = entered_done from i r l fr _ (free_piece bare from i r l fr a (place_code c i r (span_of a).first None (guard_of c a) a) _ h.1 (places bare from i r l fr (span_of a).first None (guard_of c a) a h.0))
-    expressions bare from i r l fr (cast s t a) h = entered from i r l fr _ (cast s t a) (cast_value bare from i r l fr s t a (place_code c i r (span_of a).first None (guard_of c a) a) h.1 (places bare from i r l fr (span_of a).first None (guard_of c a) a h.0))
-    expressions bare from i r l fr (index s a n) h =
+    expressions from i r l fr (on_place s Free a) h = entered_done from i r l fr _ (free_piece from i r l fr a (place_code c i r (span_of a).first None (guard_of c a) a) _ h.1 (places from i r l fr (span_of a).first None (guard_of c a) a h.0))
+    expressions from i r l fr (cast s t a) h = entered from i r l fr _ (cast s t a) (cast_value from i r l fr s t a (place_code c i r (span_of a).first None (guard_of c a) a) h.1 (places from i r l fr (span_of a).first None (guard_of c a) a h.0))
+    expressions from i r l fr (index s a n) h =
         let e = index s a n in
         entered from i r l fr _ e (read from i r l fr e s.first (target_of c e) (index_code c i r s.first None (guard_of c e) a (place_code c i r s.first None None a) (expression_code c i r a) (λ d. expression_code c i d n))
-        (index_place from i r l fr s.first None (guard_of c e) s a n (place_code c i r s.first None None a) (expression_code c i r a) (λ d. expression_code c i d n) (PlaceTyped bare None None a) (Typed bare a) (Typed false n)
-        (λ (k : PlaceTyped bare None None a). places bare from i r l fr s.first None None a k) (λ (k : Typed bare a). expressions bare from i r l fr a k) (λ (k : Typed false n). λ r2 l2 f2. expressions false from i r2 l2 f2 n k) h.0) h.1.0 (λ copy. tt) h.1.1)
-    expressions bare from i r l fr (field s a Dot n) h =
+        (index_place from i r l fr s.first None (guard_of c e) s a n (place_code c i r s.first None None a) (expression_code c i r a) (λ d. expression_code c i d n) (PlaceTyped None None a) (Typed a) (Typed n)
+        (λ (k : PlaceTyped None None a). places from i r l fr s.first None None a k) (λ (k : Typed a). expressions from i r l fr a k) (λ (k : Typed n). λ r2 l2 f2. expressions from i r2 l2 f2 n k) h.0) h.1.0 (λ copy. tt) h.1.1)
+    expressions from i r l fr (field s a Dot n) h =
         let e = field s a Dot n in
         let own = Some (field_place_named c.program.typed (what_names c n.site.token)) in
-        entered from i r l fr _ e (read from i r l fr e s.first (target_of c e) (place_code c i r s.first own (guard_of c e) a) (places bare from i r l fr s.first own (guard_of c e) a h.0) h.1.0 (λ copy. tt) h.1.1)
-    expressions bare from i r l fr (field s a Arrow n) h =
+        entered from i r l fr _ e (read from i r l fr e s.first (target_of c e) (place_code c i r s.first own (guard_of c e) a) (places from i r l fr s.first own (guard_of c e) a h.0) h.1.0 (λ copy. tt) h.1.1)
+    expressions from i r l fr (field s a Arrow n) h =
         let e = field s a Arrow n in
         entered from i r l fr _ e (read from i r l fr e s.first (target_of c e) (pointee_code r s.first (expression_code c i r a)) (object_place from i r l fr a s.first (expression_code c i r a) (field_place_named c.program.typed (what_names c n.site.token)) (guard_of c e) (ground_of around f y c e) refl refl h.0.1
-        (expressions bare from i r l fr a h.0.0)) h.1.0 (λ copy. tt) h.1.1)
-    expressions bare from i r l fr (unary s Dereference a) h =
+        (expressions from i r l fr a h.0.0)) h.1.0 (λ copy. tt) h.1.1)
+    expressions from i r l fr (unary s Dereference a) h =
         let e = unary s Dereference a in
-        entered from i r l fr _ e (read from i r l fr e s.first (target_of c e) (pointee_code r s.first (expression_code c i r a)) (object_place from i r l fr a s.first (expression_code c i r a) 0 (guard_of c e) (ground_of around f y c e) refl refl h.1 (expressions bare from i r l fr a h.0)) h.2.0 (λ copy. tt) h.2.1)
-    expressions bare from i r l fr (unary s Negate a) h = entered from i r l fr _ (unary s Negate a) (negated from i r l fr (unary s Negate a) a (expression_code c i r a) s.first h.2 (expressions bare from i r l fr a h.0))
-    expressions bare from i r l fr (unary s Not a) h = entered from i r l fr _ (unary s Not a) (not_value from i r l fr (unary s Not a) a (expression_code c i r a) h.2 h.1 (expressions bare from i r l fr a h.0))
-    expressions bare from i r l fr (unary s Complement a) h = entered from i r l fr _ (unary s Complement a) (complemented from i r l fr (unary s Complement a) a (expression_code c i r a) h.2 (expressions bare from i r l fr a h.0))
-    expressions bare from i r l fr (binary s LogicalAnd at a b) h = entered from i r l fr _ (binary s LogicalAnd at a b)
-        (both_value from i r l fr (binary s LogicalAnd at a b) (expression_code c i r a ++ truth_code (is_ref c a) i r) (expression_code c i r b ++ truth_code (is_ref c b) i r) h.4 (truth_of from i r l fr a (expression_code c i r a) h.1 (expressions bare from i r l fr a h.0))
-        (λ l2 f2. truth_of from i r l2 f2 b (expression_code c i r b) h.3 (expressions (after_value c a bare) from i r l2 f2 b h.2)))
-    expressions bare from i r l fr (binary s LogicalOr at a b) h = entered from i r l fr _ (binary s LogicalOr at a b)
-        (either_value from i r l fr (binary s LogicalOr at a b) (expression_code c i r a ++ truth_code (is_ref c a) i r) (expression_code c i r b ++ truth_code (is_ref c b) i r) h.4 (truth_of from i r l fr a (expression_code c i r a) h.1 (expressions bare from i r l fr a h.0))
-        (λ l2 f2. truth_of from i r l2 f2 b (expression_code c i r b) h.3 (expressions (after_value c a bare) from i r l2 f2 b h.2)))
-    expressions bare from i r l fr (binary s BitOr at a b) h = entered from i r l fr _ (binary s BitOr at a b) (computed from i r l fr (binary s BitOr at a b) at BitOr a b (expression_code c i r a) (λ i2 r2. expression_code c i2 r2 b) h.4.0 h.4.1 h.1 h.3 (expressions bare from i r l fr a h.0) (λ i2 r2 l2 f2. expressions (after_value c a bare) from i2 r2 l2 f2 b h.2))
-    expressions bare from i r l fr (binary s BitXor at a b) h = entered from i r l fr _ (binary s BitXor at a b) (computed from i r l fr (binary s BitXor at a b) at BitXor a b (expression_code c i r a) (λ i2 r2. expression_code c i2 r2 b) h.4.0 h.4.1 h.1 h.3 (expressions bare from i r l fr a h.0) (λ i2 r2 l2 f2. expressions (after_value c a bare) from i2 r2 l2 f2 b h.2))
-    expressions bare from i r l fr (binary s BitAnd at a b) h = entered from i r l fr _ (binary s BitAnd at a b) (computed from i r l fr (binary s BitAnd at a b) at BitAnd a b (expression_code c i r a) (λ i2 r2. expression_code c i2 r2 b) h.4.0 h.4.1 h.1 h.3 (expressions bare from i r l fr a h.0) (λ i2 r2 l2 f2. expressions (after_value c a bare) from i2 r2 l2 f2 b h.2))
-    expressions bare from i r l fr (binary s Equal at a b) h = entered from i r l fr _ (binary s Equal at a b) (computed from i r l fr (binary s Equal at a b) at Equal a b (expression_code c i r a) (λ i2 r2. expression_code c i2 r2 b) h.4.0 h.4.1 h.1 h.3 (expressions bare from i r l fr a h.0) (λ i2 r2 l2 f2. expressions (after_value c a bare) from i2 r2 l2 f2 b h.2))
-    expressions bare from i r l fr (binary s NotEqual at a b) h = entered from i r l fr _ (binary s NotEqual at a b) (computed from i r l fr (binary s NotEqual at a b) at NotEqual a b (expression_code c i r a) (λ i2 r2. expression_code c i2 r2 b) h.4.0 h.4.1 h.1 h.3 (expressions bare from i r l fr a h.0) (λ i2 r2 l2 f2. expressions (after_value c a bare) from i2 r2 l2 f2 b h.2))
-    expressions bare from i r l fr (binary s Less at a b) h = entered from i r l fr _ (binary s Less at a b) (computed from i r l fr (binary s Less at a b) at Less a b (expression_code c i r a) (λ i2 r2. expression_code c i2 r2 b) h.4.0 h.4.1 h.1 h.3 (expressions bare from i r l fr a h.0) (λ i2 r2 l2 f2. expressions (after_value c a bare) from i2 r2 l2 f2 b h.2))
-    expressions bare from i r l fr (binary s Greater at a b) h = entered from i r l fr _ (binary s Greater at a b) (computed from i r l fr (binary s Greater at a b) at Greater a b (expression_code c i r a) (λ i2 r2. expression_code c i2 r2 b) h.4.0 h.4.1 h.1 h.3 (expressions bare from i r l fr a h.0) (λ i2 r2 l2 f2. expressions (after_value c a bare) from i2 r2 l2 f2 b h.2))
-    expressions bare from i r l fr (binary s LessOrEqual at a b) h = entered from i r l fr _ (binary s LessOrEqual at a b) (computed from i r l fr (binary s LessOrEqual at a b) at LessOrEqual a b (expression_code c i r a) (λ i2 r2. expression_code c i2 r2 b) h.4.0 h.4.1 h.1 h.3 (expressions bare from i r l fr a h.0) (λ i2 r2 l2 f2. expressions (after_value c a bare) from i2 r2 l2 f2 b h.2))
-    expressions bare from i r l fr (binary s GreaterOrEqual at a b) h = entered from i r l fr _ (binary s GreaterOrEqual at a b) (computed from i r l fr (binary s GreaterOrEqual at a b) at GreaterOrEqual a b (expression_code c i r a) (λ i2 r2. expression_code c i2 r2 b) h.4.0 h.4.1 h.1 h.3 (expressions bare from i r l fr a h.0) (λ i2 r2 l2 f2. expressions (after_value c a bare) from i2 r2 l2 f2 b h.2))
-    expressions bare from i r l fr (binary s ShiftLeft at a b) h = entered from i r l fr _ (binary s ShiftLeft at a b) (computed from i r l fr (binary s ShiftLeft at a b) at ShiftLeft a b (expression_code c i r a) (λ i2 r2. expression_code c i2 r2 b) h.4.0 h.4.1 h.1 h.3 (expressions bare from i r l fr a h.0) (λ i2 r2 l2 f2. expressions (after_value c a bare) from i2 r2 l2 f2 b h.2))
-    expressions bare from i r l fr (binary s ShiftRight at a b) h = entered from i r l fr _ (binary s ShiftRight at a b) (computed from i r l fr (binary s ShiftRight at a b) at ShiftRight a b (expression_code c i r a) (λ i2 r2. expression_code c i2 r2 b) h.4.0 h.4.1 h.1 h.3 (expressions bare from i r l fr a h.0) (λ i2 r2 l2 f2. expressions (after_value c a bare) from i2 r2 l2 f2 b h.2))
-    expressions bare from i r l fr (binary s Add at a b) h = entered from i r l fr _ (binary s Add at a b) (computed from i r l fr (binary s Add at a b) at Add a b (expression_code c i r a) (λ i2 r2. expression_code c i2 r2 b) h.4.0 h.4.1 h.1 h.3 (expressions bare from i r l fr a h.0) (λ i2 r2 l2 f2. expressions (after_value c a bare) from i2 r2 l2 f2 b h.2))
-    expressions bare from i r l fr (binary s Subtract at a b) h = entered from i r l fr _ (binary s Subtract at a b) (computed from i r l fr (binary s Subtract at a b) at Subtract a b (expression_code c i r a) (λ i2 r2. expression_code c i2 r2 b) h.4.0 h.4.1 h.1 h.3 (expressions bare from i r l fr a h.0) (λ i2 r2 l2 f2. expressions (after_value c a bare) from i2 r2 l2 f2 b h.2))
-    expressions bare from i r l fr (binary s Multiply at a b) h = entered from i r l fr _ (binary s Multiply at a b) (computed from i r l fr (binary s Multiply at a b) at Multiply a b (expression_code c i r a) (λ i2 r2. expression_code c i2 r2 b) h.4.0 h.4.1 h.1 h.3 (expressions bare from i r l fr a h.0) (λ i2 r2 l2 f2. expressions (after_value c a bare) from i2 r2 l2 f2 b h.2))
-    expressions bare from i r l fr (binary s Divide at a b) h = entered from i r l fr _ (binary s Divide at a b) (computed from i r l fr (binary s Divide at a b) at Divide a b (expression_code c i r a) (λ i2 r2. expression_code c i2 r2 b) h.4.0 h.4.1 h.1 h.3 (expressions bare from i r l fr a h.0) (λ i2 r2 l2 f2. expressions (after_value c a bare) from i2 r2 l2 f2 b h.2))
-    expressions bare from i r l fr (binary s Remainder at a b) h = entered from i r l fr _ (binary s Remainder at a b) (computed from i r l fr (binary s Remainder at a b) at Remainder a b (expression_code c i r a) (λ i2 r2. expression_code c i2 r2 b) h.4.0 h.4.1 h.1 h.3 (expressions bare from i r l fr a h.0) (λ i2 r2 l2 f2. expressions (after_value c a bare) from i2 r2 l2 f2 b h.2))
+        entered from i r l fr _ e (read from i r l fr e s.first (target_of c e) (pointee_code r s.first (expression_code c i r a)) (object_place from i r l fr a s.first (expression_code c i r a) 0 (guard_of c e) (ground_of around f y c e) refl refl h.1 (expressions from i r l fr a h.0)) h.2.0 (λ copy. tt) h.2.1)
+    expressions from i r l fr (unary s Negate a) h = entered from i r l fr _ (unary s Negate a) (negated from i r l fr (unary s Negate a) a (expression_code c i r a) s.first h.2 (expressions from i r l fr a h.0))
+    expressions from i r l fr (unary s Not a) h = entered from i r l fr _ (unary s Not a) (not_value from i r l fr (unary s Not a) a (expression_code c i r a) h.2 h.1 (expressions from i r l fr a h.0))
+    expressions from i r l fr (unary s Complement a) h = entered from i r l fr _ (unary s Complement a) (complemented from i r l fr (unary s Complement a) a (expression_code c i r a) h.2 (expressions from i r l fr a h.0))
+    expressions from i r l fr (binary s LogicalAnd at a b) h = entered from i r l fr _ (binary s LogicalAnd at a b)
+        (both_value from i r l fr (binary s LogicalAnd at a b) (expression_code c i r a ++ truth_code (is_ref c a) i r) (expression_code c i r b ++ truth_code (is_ref c b) i r) h.4 (truth_of from i r l fr a (expression_code c i r a) h.1 (expressions from i r l fr a h.0))
+        (λ l2 f2. truth_of from i r l2 f2 b (expression_code c i r b) h.3 (expressions from i r l2 f2 b h.2)))
+    expressions from i r l fr (binary s LogicalOr at a b) h = entered from i r l fr _ (binary s LogicalOr at a b)
+        (either_value from i r l fr (binary s LogicalOr at a b) (expression_code c i r a ++ truth_code (is_ref c a) i r) (expression_code c i r b ++ truth_code (is_ref c b) i r) h.4 (truth_of from i r l fr a (expression_code c i r a) h.1 (expressions from i r l fr a h.0))
+        (λ l2 f2. truth_of from i r l2 f2 b (expression_code c i r b) h.3 (expressions from i r l2 f2 b h.2)))
+    expressions from i r l fr (binary s BitOr at a b) h = entered from i r l fr _ (binary s BitOr at a b) (computed from i r l fr (binary s BitOr at a b) at BitOr a b (expression_code c i r a) (λ i2 r2. expression_code c i2 r2 b) h.4.0 h.4.1 h.1 h.3 (expressions from i r l fr a h.0) (λ i2 r2 l2 f2. expressions from i2 r2 l2 f2 b h.2))
+    expressions from i r l fr (binary s BitXor at a b) h = entered from i r l fr _ (binary s BitXor at a b) (computed from i r l fr (binary s BitXor at a b) at BitXor a b (expression_code c i r a) (λ i2 r2. expression_code c i2 r2 b) h.4.0 h.4.1 h.1 h.3 (expressions from i r l fr a h.0) (λ i2 r2 l2 f2. expressions from i2 r2 l2 f2 b h.2))
+    expressions from i r l fr (binary s BitAnd at a b) h = entered from i r l fr _ (binary s BitAnd at a b) (computed from i r l fr (binary s BitAnd at a b) at BitAnd a b (expression_code c i r a) (λ i2 r2. expression_code c i2 r2 b) h.4.0 h.4.1 h.1 h.3 (expressions from i r l fr a h.0) (λ i2 r2 l2 f2. expressions from i2 r2 l2 f2 b h.2))
+    expressions from i r l fr (binary s Equal at a b) h = entered from i r l fr _ (binary s Equal at a b) (computed from i r l fr (binary s Equal at a b) at Equal a b (expression_code c i r a) (λ i2 r2. expression_code c i2 r2 b) h.4.0 h.4.1 h.1 h.3 (expressions from i r l fr a h.0) (λ i2 r2 l2 f2. expressions from i2 r2 l2 f2 b h.2))
+    expressions from i r l fr (binary s NotEqual at a b) h = entered from i r l fr _ (binary s NotEqual at a b) (computed from i r l fr (binary s NotEqual at a b) at NotEqual a b (expression_code c i r a) (λ i2 r2. expression_code c i2 r2 b) h.4.0 h.4.1 h.1 h.3 (expressions from i r l fr a h.0) (λ i2 r2 l2 f2. expressions from i2 r2 l2 f2 b h.2))
+    expressions from i r l fr (binary s Less at a b) h = entered from i r l fr _ (binary s Less at a b) (computed from i r l fr (binary s Less at a b) at Less a b (expression_code c i r a) (λ i2 r2. expression_code c i2 r2 b) h.4.0 h.4.1 h.1 h.3 (expressions from i r l fr a h.0) (λ i2 r2 l2 f2. expressions from i2 r2 l2 f2 b h.2))
+    expressions from i r l fr (binary s Greater at a b) h = entered from i r l fr _ (binary s Greater at a b) (computed from i r l fr (binary s Greater at a b) at Greater a b (expression_code c i r a) (λ i2 r2. expression_code c i2 r2 b) h.4.0 h.4.1 h.1 h.3 (expressions from i r l fr a h.0) (λ i2 r2 l2 f2. expressions from i2 r2 l2 f2 b h.2))
+    expressions from i r l fr (binary s LessOrEqual at a b) h = entered from i r l fr _ (binary s LessOrEqual at a b) (computed from i r l fr (binary s LessOrEqual at a b) at LessOrEqual a b (expression_code c i r a) (λ i2 r2. expression_code c i2 r2 b) h.4.0 h.4.1 h.1 h.3 (expressions from i r l fr a h.0) (λ i2 r2 l2 f2. expressions from i2 r2 l2 f2 b h.2))
+    expressions from i r l fr (binary s GreaterOrEqual at a b) h = entered from i r l fr _ (binary s GreaterOrEqual at a b) (computed from i r l fr (binary s GreaterOrEqual at a b) at GreaterOrEqual a b (expression_code c i r a) (λ i2 r2. expression_code c i2 r2 b) h.4.0 h.4.1 h.1 h.3 (expressions from i r l fr a h.0) (λ i2 r2 l2 f2. expressions from i2 r2 l2 f2 b h.2))
+    expressions from i r l fr (binary s ShiftLeft at a b) h = entered from i r l fr _ (binary s ShiftLeft at a b) (computed from i r l fr (binary s ShiftLeft at a b) at ShiftLeft a b (expression_code c i r a) (λ i2 r2. expression_code c i2 r2 b) h.4.0 h.4.1 h.1 h.3 (expressions from i r l fr a h.0) (λ i2 r2 l2 f2. expressions from i2 r2 l2 f2 b h.2))
+    expressions from i r l fr (binary s ShiftRight at a b) h = entered from i r l fr _ (binary s ShiftRight at a b) (computed from i r l fr (binary s ShiftRight at a b) at ShiftRight a b (expression_code c i r a) (λ i2 r2. expression_code c i2 r2 b) h.4.0 h.4.1 h.1 h.3 (expressions from i r l fr a h.0) (λ i2 r2 l2 f2. expressions from i2 r2 l2 f2 b h.2))
+    expressions from i r l fr (binary s Add at a b) h = entered from i r l fr _ (binary s Add at a b) (computed from i r l fr (binary s Add at a b) at Add a b (expression_code c i r a) (λ i2 r2. expression_code c i2 r2 b) h.4.0 h.4.1 h.1 h.3 (expressions from i r l fr a h.0) (λ i2 r2 l2 f2. expressions from i2 r2 l2 f2 b h.2))
+    expressions from i r l fr (binary s Subtract at a b) h = entered from i r l fr _ (binary s Subtract at a b) (computed from i r l fr (binary s Subtract at a b) at Subtract a b (expression_code c i r a) (λ i2 r2. expression_code c i2 r2 b) h.4.0 h.4.1 h.1 h.3 (expressions from i r l fr a h.0) (λ i2 r2 l2 f2. expressions from i2 r2 l2 f2 b h.2))
+    expressions from i r l fr (binary s Multiply at a b) h = entered from i r l fr _ (binary s Multiply at a b) (computed from i r l fr (binary s Multiply at a b) at Multiply a b (expression_code c i r a) (λ i2 r2. expression_code c i2 r2 b) h.4.0 h.4.1 h.1 h.3 (expressions from i r l fr a h.0) (λ i2 r2 l2 f2. expressions from i2 r2 l2 f2 b h.2))
+    expressions from i r l fr (binary s Divide at a b) h = entered from i r l fr _ (binary s Divide at a b) (computed from i r l fr (binary s Divide at a b) at Divide a b (expression_code c i r a) (λ i2 r2. expression_code c i2 r2 b) h.4.0 h.4.1 h.1 h.3 (expressions from i r l fr a h.0) (λ i2 r2 l2 f2. expressions from i2 r2 l2 f2 b h.2))
+    expressions from i r l fr (binary s Remainder at a b) h = entered from i r l fr _ (binary s Remainder at a b) (computed from i r l fr (binary s Remainder at a b) at Remainder a b (expression_code c i r a) (λ i2 r2. expression_code c i2 r2 b) h.4.0 h.4.1 h.1 h.3 (expressions from i r l fr a h.0) (λ i2 r2 l2 f2. expressions from i2 r2 l2 f2 b h.2))
 
-    pub places : (bare : Bool) (from i r : ℕ) (l : Label) → F from i r l → (site : Site) (own guard : Option ℕ) (e : Expression) → PlaceTyped bare own guard e → PlaceValue from i r l (place_code c i r site own guard e) (target c.program.typed own e) guard (ground_of around f y c e)
-    places bare from i r l fr site own guard (identifier s x) h = entered_place from i r l fr [] _ guard _ (named_place from i r l fr (what_names c x.site.token) (own_field own 0) guard _ refl refl)
-    places bare from i r l fr site own guard (parentheses s a) h = entered_place from i r l fr _ _ guard _ (places bare from i r l fr site own guard a h)
-    places bare from i r l fr site own guard (index s a n) h = entered_place from i r l fr _ _ guard _
-        (index_place from i r l fr site own guard s a n (place_code c i r site None None a) (expression_code c i r a) (λ d. expression_code c i d n) (PlaceTyped bare None None a) (Typed bare a) (Typed false n)
-        (λ (k : PlaceTyped bare None None a). places bare from i r l fr site None None a k) (λ (k : Typed bare a). expressions bare from i r l fr a k) (λ (k : Typed false n). λ r2 l2 f2. expressions false from i r2 l2 f2 n k) h)
-    places bare from i r l fr site own guard (field s a Dot n) h = entered_place from i r l fr _ _ guard _ (places bare from i r l fr site (Some (own_field own (field_place_named c.program.typed (what_names c n.site.token)))) guard a h)
-    places bare from i r l fr site own guard (field s a Arrow n) h = entered_place from i r l fr _ _ guard _ (object_place from i r l fr a site (expression_code c i r a) (own_field own (field_place_named c.program.typed (what_names c n.site.token))) guard _ refl refl h.1 (expressions bare from i r l fr a h.0))
-    places bare from i r l fr site own guard (unary s Dereference a) h = entered_place from i r l fr _ _ guard _ (object_place from i r l fr a site (expression_code c i r a) (own_field own 0) guard _ refl refl h.1 (expressions bare from i r l fr a h.0))
-    places bare from i r l fr site own guard (unary s Negate a) h = entered_place from i r l fr [] (variable 0) guard _ (variable_place from i r l fr 0 guard _ refl refl)
-    places bare from i r l fr site own guard (unary s Not a) h = entered_place from i r l fr [] (variable 0) guard _ (variable_place from i r l fr 0 guard _ refl refl)
-    places bare from i r l fr site own guard (unary s Complement a) h = entered_place from i r l fr [] (variable 0) guard _ (variable_place from i r l fr 0 guard _ refl refl)
-    places bare from i r l fr site own guard _ h = entered_place from i r l fr [] (variable 0) guard _ (variable_place from i r l fr 0 guard _ refl refl)
+    pub places : (from i r : ℕ) (l : Label) → F from i r l → (site : Site) (own guard : Option ℕ) (e : Expression) → PlaceTyped own guard e → PlaceValue from i r l (place_code c i r site own guard e) (target c.program.typed own e) guard (ground_of around f y c e)
+    places from i r l fr site own guard (identifier s x) h = entered_place from i r l fr [] _ guard _ (named_place from i r l fr (what_names c x.site.token) (own_field own 0) guard _ refl refl)
+    places from i r l fr site own guard (parentheses s a) h = entered_place from i r l fr _ _ guard _ (places from i r l fr site own guard a h)
+    places from i r l fr site own guard (index s a n) h = entered_place from i r l fr _ _ guard _
+        (index_place from i r l fr site own guard s a n (place_code c i r site None None a) (expression_code c i r a) (λ d. expression_code c i d n) (PlaceTyped None None a) (Typed a) (Typed n)
+        (λ (k : PlaceTyped None None a). places from i r l fr site None None a k) (λ (k : Typed a). expressions from i r l fr a k) (λ (k : Typed n). λ r2 l2 f2. expressions from i r2 l2 f2 n k) h)
+    places from i r l fr site own guard (field s a Dot n) h = entered_place from i r l fr _ _ guard _ (places from i r l fr site (Some (own_field own (field_place_named c.program.typed (what_names c n.site.token)))) guard a h)
+    places from i r l fr site own guard (field s a Arrow n) h = entered_place from i r l fr _ _ guard _ (object_place from i r l fr a site (expression_code c i r a) (own_field own (field_place_named c.program.typed (what_names c n.site.token))) guard _ refl refl h.1 (expressions from i r l fr a h.0))
+    places from i r l fr site own guard (unary s Dereference a) h = entered_place from i r l fr _ _ guard _ (object_place from i r l fr a site (expression_code c i r a) (own_field own 0) guard _ refl refl h.1 (expressions from i r l fr a h.0))
+    places from i r l fr site own guard (unary s Negate a) h = entered_place from i r l fr [] (variable 0) guard _ (variable_place from i r l fr 0 guard _ refl refl)
+    places from i r l fr site own guard (unary s Not a) h = entered_place from i r l fr [] (variable 0) guard _ (variable_place from i r l fr 0 guard _ refl refl)
+    places from i r l fr site own guard (unary s Complement a) h = entered_place from i r l fr [] (variable 0) guard _ (variable_place from i r l fr 0 guard _ refl refl)
+    places from i r l fr site own guard _ h = entered_place from i r l fr [] (variable 0) guard _ (variable_place from i r l fr 0 guard _ refl refl)
 
-    pub arguments : (bare : Bool) (i r : ℕ) (l : Label) → F i i r l → (kinds : List Kind) (wants : ℕ → StaticType) (all : Arguments) → AreTypable around f y bare c kinds wants all → Passed i r l kinds wants all (arguments_code c i r kinds all)
-    arguments bare i r l fr kinds wants no_arguments h = record { label = l; ints = i; refs = r; frame = fr; more_ints = omega arith; more_refs = omega arith; ints_are = refl; refs_are = refl; env = λ q lt. refl; lost = l.same; loses = loses_none N l.same; same = λ q lt. refl; known = λ q lt. refl; numbers = λ j lt. refl; here = tt; piece = untold i i i i l (omega arith) }
-    arguments bare i r l fr kinds wants (argument a rest) h = one_passed i r l fr kinds wants a rest (expression_code c i r a) (λ i2 r2. arguments_code c i2 r2 (drop 1 kinds) rest) (span_of a).first h.1 (expressions bare i i r l fr a h.0)
-        (λ i2 r2 l2 f2. arguments (after_value c a bare) i2 r2 l2 f2 (drop 1 kinds) (λ n. wants (n + 1)) rest h.2)
+    pub arguments : (i r : ℕ) (l : Label) → F i i r l → (kinds : List Kind) (wants : ℕ → StaticType) (all : Arguments) → AreTypable around f y c kinds wants all → Passed i r l kinds wants all (arguments_code c i r kinds all)
+    arguments i r l fr kinds wants no_arguments h = record { label = l; ints = i; refs = r; frame = fr; more_ints = omega arith; more_refs = omega arith; ints_are = refl; refs_are = refl; env = λ q lt. refl; lost = l.same; loses = loses_none N l.same; same = λ q lt. refl; known = λ q lt. refl; numbers = λ j lt. refl; here = tt; piece = untold i i i i l (omega arith) }
+    arguments i r l fr kinds wants (argument a rest) h = one_passed i r l fr kinds wants a rest (expression_code c i r a) (λ i2 r2. arguments_code c i2 r2 (drop 1 kinds) rest) (span_of a).first h.1 (expressions i i r l fr a h.0)
+        (λ i2 r2 l2 f2. arguments i2 r2 l2 f2 (drop 1 kinds) (λ n. wants (n + 1)) rest h.2)
 
-    pub one_held : (bare : Bool) (from i r : ℕ) (l : Label) → F from i r l → (kinds : List Kind) (wants : ℕ → StaticType) (all : Arguments) → AreTypable around f y bare c kinds wants all → IsOne around f y c all → OneHeld from i r l wants (arguments_code c i r kinds all)
-    one_held bare from i r l fr kinds wants no_arguments h is = absurd is
-    one_held bare from i r l fr kinds wants (argument a no_arguments) h is = one_by from i r l fr kinds wants a (expression_code c i r a) (span_of a).first is h.1 (expressions bare from i r l fr a h.0)
-    one_held bare from i r l fr kinds wants (argument a (argument b rest)) h is = absurd is
+    pub one_held : (from i r : ℕ) (l : Label) → F from i r l → (kinds : List Kind) (wants : ℕ → StaticType) (all : Arguments) → AreTypable around f y c kinds wants all → IsOne around f y c all → OneHeld from i r l wants (arguments_code c i r kinds all)
+    one_held from i r l fr kinds wants no_arguments h is = absurd is
+    one_held from i r l fr kinds wants (argument a no_arguments) h is = one_by from i r l fr kinds wants a (expression_code c i r a) (span_of a).first is h.1 (expressions from i r l fr a h.0)
+    one_held from i r l fr kinds wants (argument a (argument b rest)) h is = absurd is
 
-    pub two_held : (bare : Bool) (from i r : ℕ) (l : Label) → F from i r l → (kinds : List Kind) (wants : ℕ → StaticType) (all : Arguments) → AreTypable around f y bare c kinds wants all → AreTwo around f y c all → TwoHeld from i r l wants (arguments_code c i r kinds all)
-    two_held bare from i r l fr kinds wants no_arguments h are = absurd are
-    two_held bare from i r l fr kinds wants (argument a no_arguments) h are = absurd are
-    two_held bare from i r l fr kinds wants (argument a (argument b no_arguments)) h are = two_by from i r l fr kinds wants a b (expression_code c i r a) (λ i2 r2. expression_code c i2 r2 b) (span_of a).first are.0 are.1 h.1 h.2.1 (expressions bare from i r l fr a h.0)
-        (λ l2 f2. expressions (after_value c a bare) from i (r + 1) l2 f2 b h.2.0) (span_of b).first
-    two_held bare from i r l fr kinds wants (argument a (argument b (argument d rest))) h are = absurd are
+    pub two_held : (from i r : ℕ) (l : Label) → F from i r l → (kinds : List Kind) (wants : ℕ → StaticType) (all : Arguments) → AreTypable around f y c kinds wants all → AreTwo around f y c all → TwoHeld from i r l wants (arguments_code c i r kinds all)
+    two_held from i r l fr kinds wants no_arguments h are = absurd are
+    two_held from i r l fr kinds wants (argument a no_arguments) h are = absurd are
+    two_held from i r l fr kinds wants (argument a (argument b no_arguments)) h are = two_by from i r l fr kinds wants a b (expression_code c i r a) (λ i2 r2. expression_code c i2 r2 b) (span_of a).first are.0 are.1 h.1 h.2.1 (expressions from i r l fr a h.0)
+        (λ l2 f2. expressions from i (r + 1) l2 f2 b h.2.0) (span_of b).first
+    two_held from i r l fr kinds wants (argument a (argument b (argument d rest))) h are = absurd are

@@ -1,5 +1,5 @@
 -- The laws of parts of expressions, of expressions and of simple statements.
-use Rattle.std.proofs.Common.{◌≡◌, ℕ, ◌+◌, Bool, true, false, List, ◌++◌, refl, subst}
+use Rattle.std.proofs.Common.{ℕ, ◌+◌, Bool, true, false, List, ◌++◌, subst}
 use Rattle.sharc_tree.specs.Tree.{Expression}
 use Rattle.sharc_names.specs.Kinds.{is_integer}
 use Rattle.sharc_flat_form.specs.declared.op.Op.{Op}
@@ -34,7 +34,7 @@ parts_typed z f ways named top from i r l low le stands owned =
 
 -- ---- expressions
 -- nothing is at hand but variables
-module _ (z : Setting) (f : ℕ) (ways : List Way) (y : Typing) (c : Context) (low : AreLow (y.named c) (ref_count c.scope)) (from i r : ℕ) (l : Label) (alone : IsBare true l) where
+module _ (z : Setting) (f : ℕ) (ways : List Way) (y : Typing) (c : Context) (low : AreLow (y.named c) (ref_count c.scope)) (from i r : ℕ) (l : Label) (alone : IsBare l) where
   comes : (e : Expression) (os : List Op) (a b : Bool) → Value z f ways y c low from i r l os e a b → ValueComes z f ways y c from i r l os e a b
   comes e os true b v = λ s goes fits.
       let w = v s goes fits in
@@ -48,14 +48,14 @@ module _ (z : Setting) (f : ℕ) (ways : List Way) (y : Typing) (c : Context) (l
   comes e os false false v = all_kept z f ways y c low from i l alone os v
 
 pub expressions_typed : ExpressionsAreTyped
-expressions_typed z f ways y c low from i r l in_it bare alone e h =
-    comes z f ways y c low from i r l alone e (expression_code c i r e) (is_ref c e) (is_integer (kind_of c e)) (expressions z f ways y c low bare from i r l (bare_frame z f ways y c low from i r l in_it alone) e h)
+expressions_typed z f ways y c low from i r l in_it alone e h =
+    comes z f ways y c low from i r l alone e (expression_code c i r e) (is_ref c e) (is_integer (kind_of c e)) (expressions z f ways y c low from i r l (bare_frame z f ways y c low from i r l in_it alone) e h)
 
 -- ---- simple statements
 pub simples_typed : SimplesAreTyped
 simples_typed z f ways y c low from i r l in_it alone whole x h = simples z f ways y c low from i r l (bare_frame z f ways y c low from i r l in_it alone) alone whole x h
 
 pub tests_typed : TestsAreTyped
-tests_typed z f ways y c low from i r l in_it bare alone e h type =
+tests_typed z f ways y c low from i r l in_it alone e h type =
     let fr = bare_frame z f ways y c low from i r l in_it alone in
-    all_kept z f ways y c low from i l alone (expression_code c i r e ++ truth_code (is_ref c e) i r) (truth_of z f ways y c low from i r l fr e (expression_code c i r e) type (expressions z f ways y c low bare from i r l fr e h))
+    all_kept z f ways y c low from i l alone (expression_code c i r e ++ truth_code (is_ref c e) i r) (truth_of z f ways y c low from i r l fr e (expression_code c i r e) type (expressions z f ways y c low from i r l fr e h))

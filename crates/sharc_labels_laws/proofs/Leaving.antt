@@ -6,7 +6,7 @@ use Rattle.sharc_flat.specs.Scope.{Context, int_count, ref_count, ends_from, lea
 use Rattle.sharc_invariant.specs.Labels.{Label, IsScoped}
 use Rattle.sharc_invariant.specs.Typed.{ints_in, refs_in}
 use Rattle.sharc_labels_laws.specs.Stretches.{Mark, Setting, Way, Fits, IsLine, AreOpen, LeadsAmong}
-use Rattle.sharc_labels_laws.specs.Places.{AreLow, mark}
+use Rattle.sharc_labels_laws.specs.Places.{AreLow}
 use Rattle.sharc_labels_laws.specs.Premises.{Typing}
 use Rattle.sharc_labels_laws.specs.Declared.{StandsBefore, before}
 use Rattle.sharc_labels_laws.specs.Left.{back, AreNested, LeavesAreTyped, IsOpen, JumpsAreTyped}

@@ -1,10 +1,10 @@
 -- Labels where some registers are copies no more: of variables that are taken away, which no type names.
-use Rattle.std.proofs.Common.{◌≡◌, ℕ, ◌<◌, ◌≤◌, ◌⊎◌, Bool, true, false, cond, Option, Some, None, refl, sym, ap, ◌∙◌, inl, inr, ⊎_elim, arith}
+use Rattle.std.proofs.Common.{◌≡◌, ℕ, ◌≤◌, ◌⊎◌, Bool, true, false, cond, Option, Some, None, refl, sym, ap, ◌∙◌, inl, inr, ⊎_elim, arith}
 use Rattle.std.specs.Prelude.{nat_eq}
 use Rattle.std.proofs.lemmas.Bool.{false≢true, cases_eq}
 use Rattle.std.proofs.lemmas.Bool.Decides.{nat_tests}
 use mathlib.Core.Path.{fun_ext}
-use Rattle.sharc_tree.specs.Tree.{Expression, identifier, constant, parentheses, call, spawn, on_value, on_place, cast, index, field, unary, binary}
+use Rattle.sharc_tree.specs.Tree.{Expression, identifier}
 use Rattle.sharc_names.specs.declared.fault.Named.{Named}
 use Rattle.sharc_names.specs.declared.fault.Named.TheVariants as names
 use Rattle.sharc_code.specs.Runs.{put}
@@ -80,8 +80,8 @@ module _ (named : ℕ → Bool) (l : Label) (lost : ℕ → ℕ) (h : Loses name
   }
 
   -- nothing is lost where nothing but variables is at hand
-  pub kept : IsBare true l → with_copies l lost ≡ l
-  kept alone = ap (λ same. with_copies l same) (fun_ext (λ q. ⊎_elim (λ (e : lost q ≡ l.same q). e) (λ (e : (lost q ≡ q) × (named (l.same q) ≡ false)). e.0 ∙ sym ((alone refl).0 q)) (h.each q)))
+  pub kept : IsBare l → with_copies l lost ≡ l
+  kept alone = ap (λ same. with_copies l same) (fun_ext (λ q. ⊎_elim (λ (e : lost q ≡ l.same q). e) (λ (e : (lost q ≡ q) × (named (l.same q) ≡ false)). e.0 ∙ sym (alone.0 q)) (h.each q)))
 
 -- ---- with one register more
 -- what is lost of the registers below

@@ -17,16 +17,15 @@ use Rattle.sharc_flat_form.specs.declared.op.Spot.{Spot}
 use Rattle.sharc_flat.specs.declared.slot.Slot.{Slot}
 use Rattle.sharc_flat.specs.Scope.{Context, int_count, ref_count, pops, ends_from, leaves}
 use Rattle.sharc_flat.specs.Places.{width_of, width_code}
-use Rattle.sharc_flat.specs.Flattened.{expression_code, right_code, zero_code, result_code}
+use Rattle.sharc_flat.specs.Flattened.{expression_code, zero_code, result_code}
 use Rattle.sharc_guard.specs.Known.{Know, know_next}
 use Rattle.sharc_invariant.specs.Types.{StaticType, Mentions}
 use Rattle.sharc_invariant.specs.Labels.{Entry, Empty, Refers, Number, Anything, Exactly, Within, Closed, IsIn, Label, Less, Itself, LessEntry, LessNumber, LessGate, EntryMentions, HasBase, IsScoped, IsFree, set_number, fill, empty, forgets, forgotten, without_copies, without_index, without_base}
 use Rattle.sharc_invariant.specs.Typed.{ints_in, refs_in, moved_copy}
 use Rattle.sharc_invariant.proofs.Scoped.{less_refl, less_entry_refl, less_number_refl, scoped_number}
 use Rattle.sharc_labels_laws.specs.Stretches.{Mark, Setting, Way, Tells, Fits, IsLine, AreOpen, LeadsAmong}
-use Rattle.sharc_labels_laws.specs.Places.{AreLow, IsNamed, mark}
+use Rattle.sharc_labels_laws.specs.Places.{AreLow, mark}
 use Rattle.sharc_labels_laws.specs.Premises.{Typing}
-use Rattle.sharc_labels_laws.specs.Typable.{GoesTo}
 use Rattle.sharc_labels_laws.specs.Stated.{ValueGoes, RightTypable}
 use Rattle.sharc_labels_laws.specs.Declared.{StandsBefore, before}
 use Rattle.sharc_labels_laws.specs.Left.{back, AreNested}
@@ -334,7 +333,7 @@ module _ (z : Setting) (f : ℕ) (ways : List Way) where
     -- after a reference
     gives_reference : (s : StaticType) → ((p : ℕ) → Mentions s p → ⊥) → (z.signature f).result ≡ Refers s → (z.signature f).result_int ≡ Anything → (copy : ℕ) → Returns z f ways (mark (fill l r1 (Refers s) copy false) i1 i1) (rest_code true) spot
     gives_reference s unnamed result number copy =
-        let bare = here.bare refl in
+        let bare = here.bare in
         let m = fill l r1 (Refers s) copy false in
         let start : Gone (Refers s) unnamed l.ints bare.2 i1 r1 m r1 r1 r1 = record {
           owned = here.stands.owned;
@@ -353,7 +352,7 @@ module _ (z : Setting) (f : ℕ) (ways : List Way) where
     -- after an integer
     gives_number : (v : Width) → (z.signature f).result ≡ Empty → (z.signature f).result_int ≡ Within v → Returns z f ways (mark (set_number l i1 (Within v)) i1 i1) (rest_code false) spot
     gives_number v result number =
-        let bare = here.bare refl in
+        let bare = here.bare in
         let m = set_number l i1 (Within v) in
         let unbased : (j q : ℕ) → HasBase (m.ints j) q → ⊥ = λ j q b. put_all (λ j x. HasBase x q → ⊥) l.ints i1 (Within v) (λ b. b) (λ j _ b. bare.2 j q b) j b in
         let start : Gone Empty (λ p e. e) m.ints unbased i1 r1 m r1 r1 r1 = record {
@@ -375,7 +374,7 @@ module _ (z : Setting) (f : ℕ) (ways : List Way) where
 
     values : GivesBack z f y kind → (e : Expression) → ReturnTypable z f y c kind (Some e)
         → Returns z f ways (before c l) (expression_code c i1 r1 e ++ (width_code i1 kind (span_of e).first ++ rest_code (is_reference kind))) spot
-    values gives e h = by (is_reference kind) refl gives h.1 (λ s t. rights z f ways y c low true i1 i1 r1 l frame kind private s (value e) t)
+    values gives e h = by (is_reference kind) refl gives h.1 (λ s t. rights z f ways y c low i1 i1 r1 l frame kind private s (value e) t)
       where
         code : List Op
         code = expression_code c i1 r1 e ++ width_code i1 kind (span_of e).first
@@ -384,18 +383,18 @@ module _ (z : Setting) (f : ℕ) (ways : List Way) where
         apart b w = subst (λ os. Returns z f ways (before c l) os spot) (append_assoc (expression_code c i1 r1 e) (width_code i1 kind (span_of e).first) (rest_code b)) w
 
         by : (b : Bool) → is_reference kind ≡ b → GivesBackBy z f y kind b → ReturnedBy z f y c kind e b
-            → ((s : StaticType) → RightTypable z f y true c kind s (value e) → Comes z f ways y c low i1 i1 r1 l kind s code (is_reference kind))
+            → ((s : StaticType) → RightTypable z f y c kind s (value e) → Comes z f ways y c low i1 i1 r1 l kind s code (is_reference kind))
             → Returns z f ways (before c l) (expression_code c i1 r1 e ++ (width_code i1 kind (span_of e).first ++ rest_code b)) spot
         by true is gives goes comes =
             let s = goes.1.0 in
             let same : gives.0 ≡ s = same_type gives.0 s (sym gives.2 ∙ goes.1.2) in
             let unnamed : (p : ℕ) → Mentions s p → ⊥ = subst (λ s. (p : ℕ) → Mentions s p → ⊥) same gives.1 in
-            let right : RightTypable z f y true c kind s (value e) = subst (ValueGoes z f y true c kind s e) (sym is) (h.0, goes.0, no_integer kind is, goes.1.1, λ p w. absurd (unnamed p w)) in
+            let right : RightTypable z f y c kind s (value e) = subst (ValueGoes z f y c kind s e) (sym is) (h.0, goes.0, no_integer kind is, goes.1.1, λ p w. absurd (unnamed p w)) in
             let v = subst (Comes z f ways y c low i1 i1 r1 l kind s code) is (comes s right) in
             apart true (after (before c l) (mark (fill l r1 (Refers s) v.copy false) i1 i1) code (rest_code true) spot (reference_kept z f ways y c low i1 i1 r1 l here.bare s code v) (gives_reference s unnamed goes.1.2 gives.3 v.copy))
         by false is gives goes comes =
             let s : StaticType = record { target = 0; locks = [] } in
-            let right : RightTypable z f y true c kind s (value e) = subst (ValueGoes z f y true c kind s e) (sym is) (h.0, goes.0, goes.1) in
+            let right : RightTypable z f y c kind s (value e) = subst (ValueGoes z f y c kind s e) (sym is) (h.0, goes.0, goes.1) in
             let v = subst (Comes z f ways y c low i1 i1 r1 l kind s code) is (comes s right) in
             apart false (after (before c l) (mark (set_number l i1 (Within (width_of kind))) i1 i1) code (rest_code false) spot (number_kept z f ways y c low i1 i1 l here.bare (width_of kind) code v) (gives_number (width_of kind) gives.0 gives.1))
 

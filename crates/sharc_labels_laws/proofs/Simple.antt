@@ -32,7 +32,7 @@ use Rattle.sharc_labels_laws.specs.Stretches.{Mark, Setting, Way, AreOpen}
 use Rattle.sharc_labels_laws.specs.Places.{IsNamed, IsPlain, AreLow, mark}
 use Rattle.sharc_labels_laws.specs.Premises.{Typing, IsPointerCopy, Ground, number_in_global}
 use Rattle.sharc_labels_laws.specs.Typable.{IsBare, IsTypeIn, ground_of, IsTypable}
-use Rattle.sharc_labels_laws.specs.Stated.{IsMade, CountTypable, ValueGoes, RightTypable, VariableAssigned, CellAssigned, Assigned, is_bare, Dropped, SimpleTypable}
+use Rattle.sharc_labels_laws.specs.Stated.{IsMade, CountTypable, ValueGoes, RightTypable, VariableAssigned, CellAssigned, Assigned, Dropped, SimpleTypable}
 use Rattle.sharc_labels_laws.proofs.Fitting.{fits_same}
 use Rattle.sharc_labels_laws.proofs.Losing.{with_copies, Loses, loses_none, loses_both, kept, below, loses_below, loses_there, small_there, lost_fill, pointer_kept}
 use Rattle.sharc_labels_laws.proofs.Standing.{less_by, scoped_frame}
@@ -106,10 +106,10 @@ module _ (around : Setting) (f : ℕ) (ways : List Way) (y : Typing) (c : Contex
   Comes from i r l kind s os false = NumberAt from i l (width_of kind) os
 
   -- nothing is lost where nothing but variables is at hand
-  pub reference_kept : (from i r : ℕ) (l : Label) → IsBare true l → (s : StaticType) (os : List Op) → (v : ReferenceAt from i r l s os) → Q from (mark l from i) os (mark (fill l r (Refers s) v.copy false) from i)
+  pub reference_kept : (from i r : ℕ) (l : Label) → IsBare l → (s : StaticType) (os : List Op) → (v : ReferenceAt from i r l s os) → Q from (mark l from i) os (mark (fill l r (Refers s) v.copy false) from i)
   reference_kept from i r l alone s os v = subst (λ k. Q from (mark l from i) os (mark (fill k r (Refers s) v.copy false) from i)) (kept N l v.lost v.loses alone) v.piece
 
-  pub number_kept : (from i : ℕ) (l : Label) → IsBare true l → (w : Width) (os : List Op) → NumberAt from i l w os → Q from (mark l from i) os (mark (set_number l i (Within w)) from i)
+  pub number_kept : (from i : ℕ) (l : Label) → IsBare l → (w : Width) (os : List Op) → NumberAt from i l w os → Q from (mark l from i) os (mark (set_number l i (Within w)) from i)
   number_kept from i l alone w os v = subst (λ k. Q from (mark l from i) os (mark (set_number k i (Within w)) from i)) (kept N l v.lost v.loses alone) v.piece
 
   -- the number of elements
@@ -123,15 +123,15 @@ module _ (around : Setting) (f : ℕ) (ways : List Way) (y : Typing) (c : Contex
   counted : (from i r : ℕ) (l : Label) → F from i r l → (n : Option Expression) → CountTypable around f y c n → Counted from i l (elements_code c i r n)
   counted from i r l fr None h = record { lost = l.same; loses = loses_none N l.same; number = Exactly (pos 1); plain = tt; piece = constant_at around f D N top low from i r l fr.at (pos 1) }
   counted from i r l fr (Some n) h =
-      let v = int_of around f ways y c low from i r l (expression_code c i r n) n h.1 (expressions around f ways y c low false from i r l fr n h.0) in
+      let v = int_of around f ways y c low from i r l (expression_code c i r n) n h.1 (expressions around f ways y c low from i r l fr n h.0) in
       record { lost = v.lost; loses = v.loses; number = v.number; plain = v.plain; piece = v.piece }
 
-  pub rights : (bare : Bool) (from i r : ℕ) (l : Label) → F from i r l → (kind : Kind) (mode : Sharing) (s : StaticType) (x : Right) → RightTypable around f y bare c kind s x → Comes from i r l kind s (right_code c i r kind mode x) (is_reference kind)
-  rights bare from i r l fr kind mode s (value e) h = by (is_reference kind) h
+  pub rights : (from i r : ℕ) (l : Label) → F from i r l → (kind : Kind) (mode : Sharing) (s : StaticType) (x : Right) → RightTypable around f y c kind s x → Comes from i r l kind s (right_code c i r kind mode x) (is_reference kind)
+  rights from i r l fr kind mode s (value e) h = by (is_reference kind) h
     where
-      by : (b : Bool) → ValueGoes around f y bare c kind s e b → Comes from i r l kind s (expression_code c i r e ++ width_code i kind (span_of e).first) b
+      by : (b : Bool) → ValueGoes around f y c kind s e b → Comes from i r l kind s (expression_code c i r e ++ width_code i kind (span_of e).first) b
       by true h =
-          let w = ref_of around f ways y c low from i r l (expression_code c i r e) e h.1 (expressions around f ways y c low bare from i r l fr e h.0) s h.3 h.4 in
+          let w = ref_of around f ways y c low from i r l (expression_code c i r e) e h.1 (expressions around f ways y c low from i r l fr e h.0) s h.3 h.4 in
           let end = mark (fill (with_copies l w.lost) r (Refers s) w.copy false) from i in
           record {
             lost = w.lost;
@@ -142,7 +142,7 @@ module _ (around : Setting) (f : ℕ) (ways : List Way) (y : Typing) (c : Contex
                 (subst (λ b. Q from end (cond b (op.ChkWidth (width_of kind) i (at_site (span_of e).first) ∷ []) []) end) (sym h.2) (none around f D N top low from end end (fits_same around.targets end) (λ z. z)));
           }
       by false h =
-          let n = int_of around f ways y c low from i r l (expression_code c i r e) e h.1 (expressions around f ways y c low bare from i r l fr e h.0) in
+          let n = int_of around f ways y c low from i r l (expression_code c i r e) e h.1 (expressions around f ways y c low from i r l fr e h.0) in
           let k = with_copies l n.lost in
           let fk = lost_frame around f ways y c low from i r l fr n.lost n.loses in
           let start = with_number around f D N top low from k i n.number in
@@ -155,7 +155,7 @@ module _ (around : Setting) (f : ℕ) (ways : List Way) (y : Typing) (c : Contex
                 (taken_number around f ways y c low start end (op.ChkWidth (width_of kind) i (at_site (span_of e).first) ∷ []) i n.number (width_of (kind_of c e)) (put_same l.ints i n.number) n.fits
                 (λ lt. width_at around f D N top low from i r k fk.at (width_of kind) n.number (at_site (span_of e).first) lt)));
           }
-  rights bare from i r l fr kind mode s (malloc span n w) h =
+  rights from i r l fr kind mode s (malloc span n w) h =
       let v = counted from i r l fr n h.3 in
       let k = with_copies l v.lost in
       let fk = lost_frame around f ways y c low from i r l fr v.lost v.loses in
@@ -248,10 +248,10 @@ module _ (around : Setting) (f : ℕ) (ways : List Way) (y : Typing) (c : Contex
     piece : Q from start os (mark (with_copies l lost) from i)
 
   cell_assigned : (from i r : ℕ) (l : Label) → F from i r l → (u : Expression) (s : StaticType) (mode : Sharing) (x : Right) (t : Target) → is_cell t ≡ true → (xs : List Op) → PlaceValue around f ways y c low from i r l xs t (guard_of c u) (ground_of around f y c u) → CellAssigned around f y c u s t (is_ref c u)
-      → IsTypeIn around f y c s → RightTypable around f y false c (kind_of c u) s x
+      → IsTypeIn around f y c s → RightTypable around f y c (kind_of c u) s x
       → Done around f ways y c low from i l (xs ++ (right_code c (i + index_width t (guard_of c u)) (r + base_width t) (kind_of c u) mode x ++ store_code c i r (i + index_width t (guard_of c u)) (r + base_width t) (span_of u).first (lvalue_in c u) (mode_of c u) (is_ref c u) t))
   cell_assigned from i r l fr u s mode x t cell xs p assigned type right =
-      let d = stored (is_ref c u) (rights false from (i + iw) (r + base_width t) start.label placed_there (kind_of c u) mode s x right) assigned in
+      let d = stored (is_ref c u) (rights from (i + iw) (r + base_width t) start.label placed_there (kind_of c u) mode s x right) assigned in
       record {
         lost = d.lost;
         loses = loses_both N l.same p.lost d.lost p.loses d.loses;
@@ -312,7 +312,7 @@ module _ (around : Setting) (f : ℕ) (ways : List Way) (y : Typing) (c : Contex
 
   -- ---- to a variable
   -- the value in these registers, of which nothing else is at hand
-  pub settled : (from i r : ℕ) (l : Label) → F from i r l → IsBare true l → int_count c.scope ≤ from → (kind : Kind) (s : StaticType) (x : Register) (xs : List Op) → IsTypeIn around f y c s → VariableAssigned around f y c kind s x → Comes from i r l kind s xs (is_reference kind)
+  pub settled : (from i r : ℕ) (l : Label) → F from i r l → IsBare l → int_count c.scope ≤ from → (kind : Kind) (s : StaticType) (x : Register) (xs : List Op) → IsTypeIn around f y c s → VariableAssigned around f y c kind s x → Comes from i r l kind s xs (is_reference kind)
       → Q from (mark l from i) (xs ++ settle_code i r x) (mark l from i)
   settled from i r l fr alone whole kind s (registers.Int j) xs type h v =
       let w = width_of kind in
@@ -323,30 +323,30 @@ module _ (around : Setting) (f : ℕ) (ways : List Way) (y : Typing) (c : Contex
       (assign_number_at around f D N top low from i r l fr.at j w i (omega arith) (omega (arith, lt, wide)) (omega (arith, lt, whole)) (fr.holds.integers j h.1 ∙ ap Within h.2))
   settled from i r l fr alone whole kind s (registers.Reference q) xs type h v =
       let w = subst (Comes from i r l kind s xs) h.0 v in
-      let a = alone refl in
+      let a = alone in
       let high = fr.high in
       let lt = h.1 in
       joins from (mark l from i) (mark (fill l r (Refers s) w.copy false) from i) (mark l from i) xs (op.Settle q r ∷ []) (reference_kept from i r l alone s xs w)
       (assign_at around f D N top low from i r l fr.at fr.high s w.copy false q i (in_frame around f ways y c low from i r l fr s type) (omega (arith, lt, high)) (fr.holds.references q h.1 ∙ ap Refers h.2) h.3 (a.0 q) (λ p e. sym (a.0 p) ∙ e) (a.1 q) (λ j b. a.2 j q b))
 
-  shut_bare : (bare : Bool) (l : Label) → IsBare bare l → IsBare bare (record l { gate = Closed })
-  shut_bare bare l h = h
+  shut_bare : (l : Label) → IsBare l → IsBare (record l { gate = Closed })
+  shut_bare l h = h
 
-  variable_assigned : (from i r : ℕ) (l : Label) → F from i r l → IsBare true l → int_count c.scope ≤ from → (kind : Kind) (mode : Sharing) (s : StaticType) (v : ℕ) (x : Right) (xs : List Op) → IsTypeIn around f y c s → VariableAssigned around f y c kind s (register_of c.scope v) → RightTypable around f y true c kind s x
+  variable_assigned : (from i r : ℕ) (l : Label) → F from i r l → IsBare l → int_count c.scope ≤ from → (kind : Kind) (mode : Sharing) (s : StaticType) (v : ℕ) (x : Right) (xs : List Op) → IsTypeIn around f y c s → VariableAssigned around f y c kind s (register_of c.scope v) → RightTypable around f y c kind s x
       → Q from (mark l from i) xs (mark (record l { gate = Closed }) from (i + 0)) → Q from (mark l from i) (xs ++ (right_code c (i + 0) (r + 0) kind mode x ++ settle_code (i + 0) (r + 0) (register_of c.scope v))) (mark l from i)
   variable_assigned from i r l fr alone whole kind mode s v x xs type assigned right p =
       let k = record l { gate = Closed } in
       let fk = frame_same from i r (i + 0) (r + 0) k (subst (F from i r) (shut from i r l fr) fr) (omega arith) (omega arith) in
-      let w = rights true from (i + 0) (r + 0) k fk kind mode s x right in
-      let q = settled from (i + 0) (r + 0) k fk (shut_bare true l alone) whole kind s (register_of c.scope v) (right_code c (i + 0) (r + 0) kind mode x) type assigned w in
+      let w = rights from (i + 0) (r + 0) k fk kind mode s x right in
+      let q = settled from (i + 0) (r + 0) k fk (shut_bare l alone) whole kind s (register_of c.scope v) (right_code c (i + 0) (r + 0) kind mode x) type assigned w in
       let z : i + 0 ≡ i = omega arith in
       joins from (mark l from i) (mark k from (i + 0)) (mark l from i) xs _ p
       (subst (λ n. Q from (mark k from (i + 0)) (right_code c (i + 0) (r + 0) kind mode x ++ settle_code (i + 0) (r + 0) (register_of c.scope v)) (mark l from n)) z
       (subst (λ m. Q from (mark k from (i + 0)) (right_code c (i + 0) (r + 0) kind mode x ++ settle_code (i + 0) (r + 0) (register_of c.scope v)) (mark m from (i + 0))) (sym (shut from i r l fr)) q))
 
   -- ---- a call whose value is dropped
-  dropped : (from i r : ℕ) (l : Label) → F from i r l → (e : Expression) → IsTypable around f y true c e → Dropped around f y c e (is_ref c e) → Done around f ways y c low from i l (expression_code c i r e ++ drop_code (is_ref c e) r)
-  dropped from i r l fr e h d = by (is_ref c e) (is_integer (kind_of c e)) (expressions around f ways y c low true from i r l fr e h) d
+  dropped : (from i r : ℕ) (l : Label) → F from i r l → (e : Expression) → IsTypable around f y c e → Dropped around f y c e (is_ref c e) → Done around f ways y c low from i l (expression_code c i r e ++ drop_code (is_ref c e) r)
+  dropped from i r l fr e h d = by (is_ref c e) (is_integer (kind_of c e)) (expressions around f ways y c low from i r l fr e h) d
     where
       by : (a b : Bool) → Value around f ways y c low from i r l (expression_code c i r e) e a b → Dropped around f y c e a → Done around f ways y c low from i l (expression_code c i r e ++ drop_code a r)
       by true b v d =
@@ -374,15 +374,15 @@ module _ (around : Setting) (f : ℕ) (ways : List Way) (y : Typing) (c : Contex
             piece = joins from (mark l from i) (mark k from i) (mark k from i) (expression_code c i r e) [] v.piece (none around f D N top low from (mark k from i) (mark k from i) (fits_same around.targets (mark k from i)) (λ z. z));
           }
 
-  pub all_kept : (from i : ℕ) (l : Label) → IsBare true l → (os : List Op) → Done around f ways y c low from i l os → Q from (mark l from i) os (mark l from i)
+  pub all_kept : (from i : ℕ) (l : Label) → IsBare l → (os : List Op) → Done around f ways y c low from i l os → Q from (mark l from i) os (mark l from i)
   all_kept from i l alone os d = subst (λ k. Q from (mark l from i) os (mark k from i)) (kept N l d.lost d.loses alone) d.piece
 
   -- ---- the whole
-  pub simples : (from i r : ℕ) (l : Label) → F from i r l → IsBare true l → int_count c.scope ≤ from → (x : Simple) → SimpleTypable around f y c x → Q from (mark l from i) (simple_code c i r x) (mark l from i)
+  pub simples : (from i r : ℕ) (l : Label) → F from i r l → IsBare l → int_count c.scope ≤ from → (x : Simple) → SimpleTypable around f y c x → Q from (mark l from i) (simple_code c i r x) (mark l from i)
   simples from i r l fr alone whole (does_call e) h = all_kept from i l alone _ (dropped from i r l fr e h.0 h.1)
-  simples from i r l fr alone whole (assign span u x) h = by (target_of c u) (places around f ways y c low true from i r l fr (span_of u).first None (guard_of c u) u h.0) h.1.2 h.1.3
+  simples from i r l fr alone whole (assign span u x) h = by (target_of c u) (places around f ways y c low from i r l fr (span_of u).first None (guard_of c u) u h.0) h.1.2 h.1.3
     where
-      by : (t : Target) → PlaceValue around f ways y c low from i r l (place_code c i r (span_of u).first None (guard_of c u) u) t (guard_of c u) (ground_of around f y c u) → Assigned around f y c u h.1.0 t → RightTypable around f y (is_bare around f y t) c (kind_of c u) h.1.0 x
+      by : (t : Target) → PlaceValue around f ways y c low from i r l (place_code c i r (span_of u).first None (guard_of c u) u) t (guard_of c u) (ground_of around f y c u) → Assigned around f y c u h.1.0 t → RightTypable around f y c (kind_of c u) h.1.0 x
           → Q from (mark l from i) (place_code c i r (span_of u).first None (guard_of c u) u ++ (right_code c (i + index_width t (guard_of c u)) (r + base_width t) (kind_of c u) (pointed c.program (row_at c.program.typed u)) x
           ++ store_code c i r (i + index_width t (guard_of c u)) (r + base_width t) (span_of u).first (lvalue_in c u) (mode_of c u) (is_ref c u) t)) (mark l from i)
       by (variable v) p a right = variable_assigned from i r l fr alone whole (kind_of c u) (pointed c.program (row_at c.program.typed u)) h.1.0 v x (place_code c i r (span_of u).first None (guard_of c u) u) h.1.1 a right (subst (λ k. Q from (mark l from i) (place_code c i r (span_of u).first None (guard_of c u) u) (mark (record k { gate = Closed }) from (i + 0))) (kept N l p.lost p.loses alone) p.piece)

@@ -1,7 +1,7 @@
 -- What is known where a function begins, and before each of its statements: what the types of the variables that stand say.
-use Rattle.std.specs.Prelude.{ℕ, ◌<◌, Bool, false, nat_lt, if◌then◌else◌, [], Some}
+use Rattle.std.specs.Prelude.{ℕ, ◌<◌, false, nat_lt, if◌then◌else◌, [], Some}
 use Rattle.sharc_flat.specs.Scope.{Context, int_count, ref_count}
-use Rattle.sharc_invariant.specs.Labels.{Entry, Empty, Refers, Number, Anything, Within, Closed, Label}
+use Rattle.sharc_invariant.specs.Labels.{Empty, Refers, Anything, Within, Closed, Label}
 use Rattle.sharc_labels_laws.specs.Places.{IsNamed}
 use Rattle.sharc_labels_laws.specs.Premises.{Typing}
 use Rattle.sharc_labels_laws.specs.Declared.{StandsBefore}

@@ -46,7 +46,7 @@ module _ (z : Setting) (f : ℕ) (y : Typing) where
   -- what it begins with, where it stands already
   abbrev pub InitialTypable : Context → Declaration → StaticType → Option Right → Type 0
   InitialTypable d declared s None = Unit {0}
-  InitialTypable d declared s (Some x) = RightTypable z f y true d (declared_kind declared.written) s x
+  InitialTypable d declared s (Some x) = RightTypable z f y d (declared_kind declared.written) s x
 
   -- no variable that stands is declared at its token
   pub record LocalTypable (c : Context) (l : Local) (s : StaticType) : Type 0 where
@@ -60,7 +60,7 @@ module _ (z : Setting) (f : ℕ) (y : Typing) where
 -- Before a statement the registers of the variables are taken, and no other; so it is behind a declaration, with one more.
 pub record StandsBefore (y : Typing) (c : Context) (f : ℕ) (l : Label) : Type 0 where
   pub stands : StandsIn y c f (int_count c.scope) (int_count c.scope) (ref_count c.scope) l
-  pub bare : IsBare true l
+  pub bare : IsBare l
 
 abbrev pub before : Context → Label → Mark
 before c l = mark l (int_count c.scope) (int_count c.scope)

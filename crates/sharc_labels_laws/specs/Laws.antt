@@ -108,16 +108,16 @@ module _ (z : Setting) (f : ℕ) (ways : List Way) (y : Typing) (c : Context) (f
 
 -- The code of an expression of which the types say what is asked is typed, wherever it is, if nothing is at hand but variables.
 abbrev pub ExpressionsAreTyped : Type 0
-ExpressionsAreTyped = (z : Setting) (f : ℕ) (ways : List Way) (y : Typing) (c : Context) → AreLow (y.named c) (ref_count c.scope) → (from i r : ℕ) (l : Label) → StandsIn y c f from i r l → (bare : Bool) → IsBare true l → (e : Expression) → IsTypable z f y bare c e
+ExpressionsAreTyped = (z : Setting) (f : ℕ) (ways : List Way) (y : Typing) (c : Context) → AreLow (y.named c) (ref_count c.scope) → (from i r : ℕ) (l : Label) → StandsIn y c f from i r l → IsBare l → (e : Expression) → IsTypable z f y c e
     → ValueComes z f ways y c from i r l (expression_code c i r e) e (is_ref c e) (is_integer (kind_of c e))
 
 -- ---- simple statements
 -- An assignment or a call of which the types say what is asked, where nothing is at hand.
 abbrev pub SimplesAreTyped : Type 0
-SimplesAreTyped = (z : Setting) (f : ℕ) (ways : List Way) (y : Typing) (c : Context) → AreLow (y.named c) (ref_count c.scope) → (from i r : ℕ) (l : Label) → StandsIn y c f from i r l → IsBare true l → int_count c.scope ≤ from → (x : Simple) → SimpleTypable z f y c x
+SimplesAreTyped = (z : Setting) (f : ℕ) (ways : List Way) (y : Typing) (c : Context) → AreLow (y.named c) (ref_count c.scope) → (from i r : ℕ) (l : Label) → StandsIn y c f from i r l → IsBare l → int_count c.scope ≤ from → (x : Simple) → SimpleTypable z f y c x
     → LeadsAmong z f ways (mark l from i) (simple_code c i r x) (mark l from i)
 
 -- A test, whose value comes to the first free register.
 abbrev pub TestsAreTyped : Type 0
-TestsAreTyped = (z : Setting) (f : ℕ) (ways : List Way) (y : Typing) (c : Context) → AreLow (y.named c) (ref_count c.scope) → (from i r : ℕ) (l : Label) → StandsIn y c f from i r l → (bare : Bool) → IsBare true l → (e : Expression) → IsTypable z f y bare c e → HasType z f y c e
+TestsAreTyped = (z : Setting) (f : ℕ) (ways : List Way) (y : Typing) (c : Context) → AreLow (y.named c) (ref_count c.scope) → (from i r : ℕ) (l : Label) → StandsIn y c f from i r l → IsBare l → (e : Expression) → IsTypable z f y c e → HasType z f y c e
     → LeadsAmong z f ways (mark l from i) (expression_code c i r e ++ truth_code (is_ref c e) i r) (mark l from i)

@@ -36,7 +36,7 @@ module _ (z : Setting) (f : ℕ) (y : Typing) where
 
   abbrev pub ReturnTypable : Context → Kind → Option Expression → Type 0
   ReturnTypable c kind None = Unit {0}
-  ReturnTypable c kind (Some e) = IsTypable z f y true c e × ReturnedBy c kind e (is_reference kind)
+  ReturnTypable c kind (Some e) = IsTypable z f y c e × ReturnedBy c kind e (is_reference kind)
 
 -- code after which the function may be left, whatever comes next
 pub record Returns (z : Setting) (f : ℕ) (ways : List Way) (s : Mark) (os : List Op) (spot : Spot) : Type 0 where

@@ -1,5 +1,5 @@
 -- What the types of a source have to say of an assignment, so that its code is typed.
-use Rattle.std.specs.Prelude.{ℕ, ◌≡◌, ◌≢◌, ◌<◌, ◌≤◌, Bool, true, false, List, length, Option, Some, None}
+use Rattle.std.specs.Prelude.{ℕ, ◌≡◌, ◌≢◌, ◌<◌, ◌≤◌, Bool, true, false, length, Option, Some, None}
 use Rattle.sharc_tree.specs.Spans.{span_of}
 use Rattle.sharc_tree.specs.Tree.{Expression, Right, value, malloc, Simple, assign, does_call}
 use Rattle.sharc_names.specs.Kinds.{Kind, is_integer, declared_kind}
@@ -26,16 +26,16 @@ module _ (z : Setting) (f : ℕ) (y : Typing) where
 
   abbrev pub CountTypable : Context → Option Expression → Type 0
   CountTypable c None = Unit {0}
-  CountTypable c (Some n) = IsTypable z f y false c n × IsNumber z f y c n
+  CountTypable c (Some n) = IsTypable z f y c n × IsNumber z f y c n
 
   -- a value goes to something of this kind, and, if that is a pointer, of this type
-  abbrev pub ValueGoes : Bool → Context → Kind → StaticType → Expression → Bool → Type 0
-  ValueGoes bare c kind s e true = IsTypable z f y bare c e × (is_ref c e ≡ true) × (is_integer kind ≡ false) × GoesTo (y.entry c e) s × IsTypeIn z f y c s
-  ValueGoes bare c kind s e false = IsTypable z f y bare c e × IsNumber z f y c e × (is_integer kind ≡ true)
+  abbrev pub ValueGoes : Context → Kind → StaticType → Expression → Bool → Type 0
+  ValueGoes c kind s e true = IsTypable z f y c e × (is_ref c e ≡ true) × (is_integer kind ≡ false) × GoesTo (y.entry c e) s × IsTypeIn z f y c s
+  ValueGoes c kind s e false = IsTypable z f y c e × IsNumber z f y c e × (is_integer kind ≡ true)
 
-  abbrev pub RightTypable : Bool → Context → Kind → StaticType → Right → Type 0
-  RightTypable bare c kind s (value e) = ValueGoes bare c kind s e (is_reference kind)
-  RightTypable bare c kind s (malloc span n w) = (is_reference kind ≡ true) × IsTypeIn z f y c s × IsMade s (element_cells c.program.typed (declared_kind w)) × CountTypable c n
+  abbrev pub RightTypable : Context → Kind → StaticType → Right → Type 0
+  RightTypable c kind s (value e) = ValueGoes c kind s e (is_reference kind)
+  RightTypable c kind s (malloc span n w) = (is_reference kind ≡ true) × IsTypeIn z f y c s × IsMade s (element_cells c.program.typed (declared_kind w)) × CountTypable c n
 
   -- what is assigned to, of this kind and of this type
   abbrev pub VariableAssigned : Context → Kind → StaticType → Register → Type 0
@@ -50,16 +50,11 @@ module _ (z : Setting) (f : ℕ) (y : Typing) where
   Assigned c u s (variable x) = VariableAssigned c (kind_of c u) s (register_of c.scope x)
   Assigned c u s t = CellAssigned c u s t (is_ref c u)
 
-  -- nothing is at hand but the variables, where the lvalue is one
-  abbrev pub is_bare : Target → Bool
-  is_bare (variable x) = true
-  is_bare _ = false
-
   -- a value that is dropped
   abbrev pub Dropped : Context → Expression → Bool → Type 0
   Dropped c e true = (s : StaticType) × GoesTo (y.entry c e) s × IsTypeIn z f y c s
   Dropped c e false = Unit {0}
 
   abbrev pub SimpleTypable : Context → Simple → Type 0
-  SimpleTypable c (assign span u x) = IsPlaceTypable z f y true c None (guard_of c u) u × ((s : StaticType) × IsTypeIn z f y c s × Assigned c u s (target_of c u) × RightTypable (is_bare (target_of c u)) c (kind_of c u) s x)
-  SimpleTypable c (does_call e) = IsTypable z f y true c e × Dropped c e (is_ref c e)
+  SimpleTypable c (assign span u x) = IsPlaceTypable z f y c None (guard_of c u) u × ((s : StaticType) × IsTypeIn z f y c s × Assigned c u s (target_of c u) × RightTypable c (kind_of c u) s x)
+  SimpleTypable c (does_call e) = IsTypable z f y c e × Dropped c e (is_ref c e)

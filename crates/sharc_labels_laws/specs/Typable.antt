@@ -61,13 +61,9 @@ pub record StandsIn (y : Typing) (c : Context) (f from i r : ℕ) (l : Label) : 
   pub wide : int_count c.scope ≤ i
   pub early : from ≤ i
 
--- if it is said so, no reference is at hand but those of variables
-abbrev pub IsBare : Bool → Label → Type 0
-IsBare bare l = bare ≡ true → ((q : ℕ) → l.same q ≡ q) × ((q : ℕ) → l.known q ≡ true → ⊥) × ((j q : ℕ) → HasBase (l.ints j) q → ⊥)
-
--- after this value
-abbrev pub after_value : Context → Expression → Bool → Bool
-after_value c e bare = if is_ref c e then false else bare
+-- no reference is at hand but those of variables
+abbrev pub IsBare : Label → Type 0
+IsBare l = ((q : ℕ) → l.same q ≡ q) × ((q : ℕ) → l.known q ≡ true → ⊥) × ((j q : ℕ) → HasBase (l.ints j) q → ⊥)
 
 -- the first cell of what has this type
 pub record FirstCell (z : Setting) (s : StaticType) (content : Content) : Type 0 where
@@ -196,24 +192,24 @@ module _ (z : Setting) (f : ℕ) (y : Typing) where
 
   -- ---- what is taken away
   -- the reference of a cell, or of a variable that types do not name
-  abbrev pub VariableTakes : Bool → Context → StaticType → Register → Type 0
-  VariableTakes bare c s (Int j) = ⊥
-  VariableTakes bare c s (Reference q) = (q < ref_count c.scope) × (y.pointer c q ≡ s) × (y.named c q ≡ false)
+  abbrev pub VariableTakes : Context → StaticType → Register → Type 0
+  VariableTakes c s (Int j) = ⊥
+  VariableTakes c s (Reference q) = (q < ref_count c.scope) × (y.pointer c q ≡ s) × (y.named c q ≡ false)
 
-  abbrev pub Takes : Bool → Context → Expression → Use → StaticType → Target → Type 0
-  Takes bare c a use_made s (variable x) = VariableTakes bare c s (register_of c.scope x)
-  Takes bare c a use_made s t = ReferenceTyped z y c f t (guard_of c a) (ground_of c a) (span_of a).first (lvalue_in c a) (mode_of c a) true use_made s
+  abbrev pub Takes : Context → Expression → Use → StaticType → Target → Type 0
+  Takes c a use_made s (variable x) = VariableTakes c s (register_of c.scope x)
+  Takes c a use_made s t = ReferenceTyped z y c f t (guard_of c a) (ground_of c a) (span_of a).first (lvalue_in c a) (mode_of c a) true use_made s
 
   -- it has this type
-  pub record TakeTyped (bare : Bool) (c : Context) (a : Expression) (use_made : Use) (s : StaticType) : Type 0 where
+  pub record TakeTyped (c : Context) (a : Expression) (use_made : Use) (s : StaticType) : Type 0 where
     pub type : IsTypeIn c s
-    pub takes : Takes bare c a use_made s (target_of c a)
+    pub takes : Takes c a use_made s (target_of c a)
 
   -- it is given another type
-  pub record CastTyped (bare : Bool) (c : Context) (e a : Expression) : Type 0 where
+  pub record CastTyped (c : Context) (e a : Expression) : Type 0 where
     pub before : StaticType
     pub given : StaticType
-    pub take : TakeTyped bare c a (uses.Cast None) before
+    pub take : TakeTyped c a (uses.Cast None) before
     pub reference : is_ref c e ≡ true
     pub entry : y.entry c e ≡ Refers given
     pub type : IsTypeIn c given
@@ -221,16 +217,16 @@ module _ (z : Setting) (f : ℕ) (y : Typing) where
     pub recasts : (r : ℕ) (l : Label) → HoldsVariables y c l → l.env r ≡ Refers before → Recasts z.targets l r before given
 
   -- or freed
-  pub record FreeTyped (bare : Bool) (c : Context) (a : Expression) : Type 0 where
+  pub record FreeTyped (c : Context) (a : Expression) : Type 0 where
     pub before : StaticType
-    pub take : TakeTyped bare c a (uses.Free None) before
+    pub take : TakeTyped c a (uses.Free None) before
     pub laid : IsLayout z.targets z.code (layout_of (structs_in c.program.typed.program.items) (element_kind (kind_of c a))) before.target
 
   -- `lock(a)`, `unlock(a)` and `free(a)`, by what is asked of `a` as an lvalue with this guard
-  abbrev pub PlaceCallTypable : Bool → Context → PlaceCall → Expression → (Option ℕ → Type 0) → Type 0
-  PlaceCallTypable bare c Lock a of_place = of_place None × (is_cell (target_of c a) ≡ true) × MutexTyped z y c f (target_of c a) None (ground_of c a)
-  PlaceCallTypable bare c Unlock a of_place = of_place None × (is_cell (target_of c a) ≡ true) × MutexTyped z y c f (target_of c a) None (ground_of c a)
-  PlaceCallTypable bare c Free a of_place = of_place (guard_of c a) × FreeTyped bare c a
+  abbrev pub PlaceCallTypable : Context → PlaceCall → Expression → (Option ℕ → Type 0) → Type 0
+  PlaceCallTypable c Lock a of_place = of_place None × (is_cell (target_of c a) ≡ true) × MutexTyped z y c f (target_of c a) None (ground_of c a)
+  PlaceCallTypable c Unlock a of_place = of_place None × (is_cell (target_of c a) ≡ true) × MutexTyped z y c f (target_of c a) None (ground_of c a)
+  PlaceCallTypable c Free a of_place = of_place (guard_of c a) × FreeTyped c a
 
   -- ---- calls
   -- What is passed is in its registers: references of these types, and integers that parameters of these types hold.
@@ -300,30 +296,30 @@ module _ (z : Setting) (f : ℕ) (y : Typing) where
   CallTypable c e _ name all of_arguments = ⊥
 
   abbrev mutual
-    pub IsTypable : Bool → Context → Expression → Type 0
-    IsTypable bare c (identifier s x) = NameTyped c (identifier s x) x.site (what_names c x.site.token)
-    IsTypable bare c (constant s k) = ConstantTyped c (constant s k) k (is_ref c (constant s k))
-    IsTypable bare c (parentheses s a) = IsTypable bare c a × (y.entry c (parentheses s a) ≡ y.entry c a)
-    IsTypable bare c (call s x all) = CallTypable c (call s x all) (what_names c x.site.token) x.text all (λ kinds wants. AreTypable bare c kinds wants all)
-    IsTypable bare c (spawn s x a) = IsTypable bare c a × IsNumber c (spawn s x a) × SpawnTyped c a (number_named (what_names c x.site.token)) (declared_kinds (parameters_named c.program.typed (what_names c x.site.token)))
-    IsTypable bare c (on_value s w a) = IsTypable bare c a × IsNumber c a
-    IsTypable bare c (on_place s w a) = PlaceCallTypable bare c w a (λ guard. IsPlaceTypable bare c None guard a)
-    IsTypable bare c (cast s t a) = IsPlaceTypable bare c None (guard_of c a) a × CastTyped bare c (cast s t a) a
-    IsTypable bare c (index s a n) = IndexTypable c None (guard_of c (index s a n)) a n (IsPlaceTypable bare c None None a) (IsTypable bare c a) (IsTypable false c n) × ValueTyped c (index s a n) s.first
-    IsTypable bare c (field s a w n) = FieldTypable c w a (IsPlaceTypable bare c (Some (field_place_named c.program.typed (what_names c n.site.token))) (guard_of c (field s a w n)) a) (IsTypable bare c a) × ValueTyped c (field s a w n) s.first
-    IsTypable bare c (unary s Dereference a) = IsTypable bare c a × IsPointer c a × ValueTyped c (unary s Dereference a) s.first
-    IsTypable bare c (unary s o a) = IsTypable bare c a × HasType c a × UnaryTyped c (unary s o a) o a
-    IsTypable bare c (binary s o at a b) = IsTypable bare c a × HasType c a × IsTypable (after_value c a bare) c b × HasType c b × BinaryTyped c (binary s o at a b) o a b
+    pub IsTypable : Context → Expression → Type 0
+    IsTypable c (identifier s x) = NameTyped c (identifier s x) x.site (what_names c x.site.token)
+    IsTypable c (constant s k) = ConstantTyped c (constant s k) k (is_ref c (constant s k))
+    IsTypable c (parentheses s a) = IsTypable c a × (y.entry c (parentheses s a) ≡ y.entry c a)
+    IsTypable c (call s x all) = CallTypable c (call s x all) (what_names c x.site.token) x.text all (λ kinds wants. AreTypable c kinds wants all)
+    IsTypable c (spawn s x a) = IsTypable c a × IsNumber c (spawn s x a) × SpawnTyped c a (number_named (what_names c x.site.token)) (declared_kinds (parameters_named c.program.typed (what_names c x.site.token)))
+    IsTypable c (on_value s w a) = IsTypable c a × IsNumber c a
+    IsTypable c (on_place s w a) = PlaceCallTypable c w a (λ guard. IsPlaceTypable c None guard a)
+    IsTypable c (cast s t a) = IsPlaceTypable c None (guard_of c a) a × CastTyped c (cast s t a) a
+    IsTypable c (index s a n) = IndexTypable c None (guard_of c (index s a n)) a n (IsPlaceTypable c None None a) (IsTypable c a) (IsTypable c n) × ValueTyped c (index s a n) s.first
+    IsTypable c (field s a w n) = FieldTypable c w a (IsPlaceTypable c (Some (field_place_named c.program.typed (what_names c n.site.token))) (guard_of c (field s a w n)) a) (IsTypable c a) × ValueTyped c (field s a w n) s.first
+    IsTypable c (unary s Dereference a) = IsTypable c a × IsPointer c a × ValueTyped c (unary s Dereference a) s.first
+    IsTypable c (unary s o a) = IsTypable c a × HasType c a × UnaryTyped c (unary s o a) o a
+    IsTypable c (binary s o at a b) = IsTypable c a × HasType c a × IsTypable c b × HasType c b × BinaryTyped c (binary s o at a b) o a b
 
     -- an lvalue of which this field is accessed, with a guard in that field of the same element
-    pub IsPlaceTypable : Bool → Context → Option ℕ → Option ℕ → Expression → Type 0
-    IsPlaceTypable bare c own guard (identifier s x) = Unit {0}
-    IsPlaceTypable bare c own guard (parentheses s a) = IsPlaceTypable bare c own guard a
-    IsPlaceTypable bare c own guard (index s a n) = IndexTypable c own guard a n (IsPlaceTypable bare c None None a) (IsTypable bare c a) (IsTypable false c n)
-    IsPlaceTypable bare c own guard (field s a w n) = FieldTypable c w a (IsPlaceTypable bare c (Some (own_field own (field_place_named c.program.typed (what_names c n.site.token)))) guard a) (IsTypable bare c a)
-    IsPlaceTypable bare c own guard (unary s Dereference a) = IsTypable bare c a × IsPointer c a
-    IsPlaceTypable bare c own guard _ = Unit {0}
+    pub IsPlaceTypable : Context → Option ℕ → Option ℕ → Expression → Type 0
+    IsPlaceTypable c own guard (identifier s x) = Unit {0}
+    IsPlaceTypable c own guard (parentheses s a) = IsPlaceTypable c own guard a
+    IsPlaceTypable c own guard (index s a n) = IndexTypable c own guard a n (IsPlaceTypable c None None a) (IsTypable c a) (IsTypable c n)
+    IsPlaceTypable c own guard (field s a w n) = FieldTypable c w a (IsPlaceTypable c (Some (own_field own (field_place_named c.program.typed (what_names c n.site.token)))) guard a) (IsTypable c a)
+    IsPlaceTypable c own guard (unary s Dereference a) = IsTypable c a × IsPointer c a
+    IsPlaceTypable c own guard _ = Unit {0}
 
-    pub AreTypable : Bool → Context → List Kind → (ℕ → StaticType) → Arguments → Type 0
-    AreTypable bare c kinds wants no_arguments = Unit {0}
-    AreTypable bare c kinds wants (argument a rest) = IsTypable bare c a × Goes c kinds a (is_ref c a) (wants 0) × AreTypable (after_value c a bare) c (drop 1 kinds) (λ n. wants (n + 1)) rest
+    pub AreTypable : Context → List Kind → (ℕ → StaticType) → Arguments → Type 0
+    AreTypable c kinds wants no_arguments = Unit {0}
+    AreTypable c kinds wants (argument a rest) = IsTypable c a × Goes c kinds a (is_ref c a) (wants 0) × AreTypable c (drop 1 kinds) (λ n. wants (n + 1)) rest

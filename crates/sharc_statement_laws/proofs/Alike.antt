@@ -27,8 +27,8 @@ module _ (y : Typing) (c : Context) (f : ℕ) where
   same_label l k a b =
       let function : l.function ≡ k.function = a.stands.owned ∙ sym b.stands.owned in
       let env : (q : ℕ) → l.env q ≡ k.env q = entries l k a b in
-      let same : (q : ℕ) → l.same q ≡ k.same q = λ q. (a.bare refl).0 q ∙ sym ((b.bare refl).0 q) in
-      let known : (q : ℕ) → l.known q ≡ k.known q = λ q. never (l.known q) ((a.bare refl).1 q) ∙ sym (never (k.known q) ((b.bare refl).1 q)) in
+      let same : (q : ℕ) → l.same q ≡ k.same q = λ q. a.bare.0 q ∙ sym (b.bare.0 q) in
+      let known : (q : ℕ) → l.known q ≡ k.known q = λ q. never (l.known q) (a.bare.1 q) ∙ sym (never (k.known q) (b.bare.1 q)) in
       let ints : (j : ℕ) → l.ints j ≡ k.ints j = integers l k a b in
       let gate : l.gate ≡ k.gate = a.stands.stands.closed ∙ sym b.stands.stands.closed in
       let passed : l.passed ≡ k.passed = a.stands.stands.nothing_passed ∙ sym b.stands.stands.nothing_passed in
@@ -40,9 +40,9 @@ module _ (y : Typing) (c : Context) (f : ℕ) where
   scoped_in ints refs l wide high a = record {
     few = λ q ge. a.stands.stands.free q (omega (arith, ge, high));
     paths = λ q p m. a.stands.stands.full p (a.stands.stands.paths q p m).0;
-    copies = λ q. inl ((a.bare refl).0 q);
-    bases = λ j q b. absurd ((a.bare refl).2 j q b);
-    known = λ q e. absurd ((a.bare refl).1 q e);
+    copies = λ q. inl (a.bare.0 q);
+    bases = λ j q b. absurd (a.bare.2 j q b);
+    known = λ q e. absurd (a.bare.1 q e);
     passes = λ p q b _. absurd (subst (IsIn p) a.stands.stands.nothing_passed b);
     numbers = λ j ge. a.stands.stands.numbers j (omega (arith, ge, wide));
   }

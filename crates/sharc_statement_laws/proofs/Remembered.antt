@@ -49,12 +49,6 @@ not_empty : (s : StaticType) → Refers s ≢ Empty
 not_empty s e = absurd (cc)
 
 -- ---- what an access tells of its place
--- the register of a cell's base
-abbrev pub BaseOf : Label → Cell → ℕ → Type 0
-BaseOf l (cells.Object r n) v = (l.same r ≡ v) × (l.env r ≢ Empty)
-BaseOf l (cells.ObjectAt r i) v = (l.same r ≡ v) × (l.env r ≢ Empty)
-BaseOf l _ v = ⊥
-
 variable_is : (c n : Option ℕ) (y m : ℕ) → variable_place c n ≡ Some (in_variable y m) → c ≡ Some y
 variable_is None n y m e = absurd (none-some (in_variable y m) e)
 variable_is (Some x) None y m e = absurd (none-some (in_variable y m) e)
@@ -122,24 +116,16 @@ module _ (z : Setting) (owner : ℕ → ℕ) (table : ℕ → Mark) (flat : Flat
               written false w = λ g. (next n o at e).past i w (old v g)
 
   -- ---- variables whose checks are remembered
-  -- the base of a cell is a copy of the variable
-  copy_full : (n : ℕ) → n < length flat.lines → (o : Op) → slice_get flat.lines n ≡ Some o → (v : ℕ) (c : Cell) → BaseOf (label n) c v → (label n).env v ≢ Empty
-  copy_full n lt o at v (cells.Object r i) h = by r h.0 h.1
-    where
-      by : (r : ℕ) → (label n).same r ≡ v → (label n).env r ≢ Empty → (label n).env v ≢ Empty
-      by r same full = ⊎_elim (λ (e : (label n).same r ≡ r). subst (λ q. (label n).env q ≢ Empty) (sym e ∙ same) full) (λ (f : (label n).env ((label n).same r) ≢ Empty). subst (λ q. (label n).env q ≢ Empty) same f) ((all n o at).scoped.copies r)
-  copy_full n lt o at v (cells.ObjectAt r i) h = by r h.0 h.1
-    where
-      by : (r : ℕ) → (label n).same r ≡ v → (label n).env r ≢ Empty → (label n).env v ≢ Empty
-      by r same full = ⊎_elim (λ (e : (label n).same r ≡ r). subst (λ q. (label n).env q ≢ Empty) (sym e ∙ same) full) (λ (f : (label n).env ((label n).same r) ≢ Empty). subst (λ q. (label n).env q ≢ Empty) same f) ((all n o at).scoped.copies r)
-  copy_full n lt o at v (cells.Global g p) h = absurd h
-  copy_full n lt o at v (cells.GlobalAt g i) h = absurd h
+  -- what a register that holds something is a copy of holds something
+  copy_full : (n : ℕ) (o : Op) → slice_get flat.lines n ≡ Some o → (r v : ℕ) → (label n).same r ≡ v → (label n).env r ≢ Empty → (label n).env v ≢ Empty
+  copy_full n o at r v same full = ⊎_elim (λ (e : (label n).same r ≡ r). subst (λ q. (label n).env q ≢ Empty) (sym e ∙ same) full) (λ (f : (label n).env ((label n).same r) ≢ Empty). subst (λ q. (label n).env q ≢ Empty) same f) ((all n o at).scoped.copies r)
 
-  base_of : (n : ℕ) → n < length flat.lines → (c : Cell) (f : Field) → HasField z.targets z.code (with_passes (label n) []) c f → (y m : ℕ) → place_of (known flat n) c ≡ Some (in_variable y m) → BaseOf (label n) c y
-  base_of n lt (cells.Object r i) f has y m e = ((told n lt).copies r y (variable_is ((known flat n).copy r) (Some i) y m e), λ z. not_empty has.1.0 (sym has.1.1 ∙ z))
-  base_of n lt (cells.ObjectAt r i) f has y m e = ((told n lt).copies r y (variable_is ((known flat n).copy r) ((known flat n).number i) y m e), λ z. not_empty has.1.0 (sym has.1.3 ∙ z))
-  base_of n lt (cells.Global g p) f has y m e = let q : in_global g p ≡ in_variable y m = same_Some (in_global g p) (in_variable y m) e in absurd (cc)
-  base_of n lt (cells.GlobalAt g i) f has y m e = no_variable_place g ((known flat n).number i) y m e
+  -- so the variable that the base of a cell is a copy of
+  base_full : (n : ℕ) → n < length flat.lines → (o : Op) → slice_get flat.lines n ≡ Some o → (c : Cell) (f : Field) → HasField z.targets z.code (with_passes (label n) []) c f → (v m : ℕ) → place_of (known flat n) c ≡ Some (in_variable v m) → (label n).env v ≢ Empty
+  base_full n lt o at (cells.Object r i) f has v m e = copy_full n o at r v ((told n lt).copies r v (variable_is ((known flat n).copy r) (Some i) v m e)) (λ z. not_empty has.1.0 (sym has.1.1 ∙ z))
+  base_full n lt o at (cells.ObjectAt r i) f has v m e = copy_full n o at r v ((told n lt).copies r v (variable_is ((known flat n).copy r) ((known flat n).number i) v m e)) (λ z. not_empty has.1.0 (sym has.1.3 ∙ z))
+  base_full n lt o at (cells.Global g p) f has v m e = let q : in_global g p ≡ in_variable v m = same_Some (in_global g p) (in_variable v m) e in absurd (cc)
+  base_full n lt o at (cells.GlobalAt g i) f has v m e = absurd (no_variable_place g ((known flat n).number i) v m e)
 
   -- the check of the access itself
   new_full : (n : ℕ) → n < length flat.lines → (o : Op) → slice_get flat.lines n ≡ Some o → (p : Pass) (v : ℕ) → p.base ≡ Some v → (w : Option Access) → access o ≡ w → IsIn p (pass_by (known flat n) w) → (label n).env v ≢ Empty
@@ -154,7 +140,7 @@ module _ (z : Setting) (owner : ℕ → ℕ) (table : ℕ → Mark) (flat : Flat
           variable : y ≡ v → (label n).env v ≢ Empty
           variable same =
               let has = fields_of z (with_all (labels_by z table) (λ n. [])) z.lines (table n).replaced n (with_passes (label n) []) (with_passes (label (n + 1)) []) o (bare n o at) a e in
-              copy_full n lt o at v a.cell (subst (BaseOf (label n) a.cell) same (base_of n lt a.cell has.0 has.1 y m q))
+              subst (λ v. (label n).env v ≢ Empty) same (base_full n lt o at a.cell has.0 has.1 y m q)
 
       by : (b : Bool) → IsIn p (cond b (pass_of_place a.kind (place_of (known flat n) a.cell)) []) → (label n).env v ≢ Empty
       by true i = placed (place_of (known flat n) a.cell) refl i
@@ -201,23 +187,21 @@ module _ (z : Setting) (owner : ℕ → ℕ) (table : ℕ → Mark) (flat : Flat
 
   -- ---- cells of globals
   module _ (globals : AreGlobals z.targets z.code) where
-    low_cell : (n : ℕ) (o : Op) (a : Access) → slice_get flat.lines n ≡ Some o → access o ≡ Some a → (c : Cell) (f : Field) → a.cell ≡ c → HasField z.targets z.code (with_passes (label n) []) c f → Knows z.targets (known flat n) (label n) c
+    low_cell : (n : ℕ) (o : Op) → slice_get flat.lines n ≡ Some o → (c : Cell) (f : Field) → HasField z.targets z.code (with_passes (label n) []) c f → Knows z.targets (known flat n) (label n) c
         → (g place : ℕ) → place_of (known flat n) c ≡ Some (in_global g place) → 2 ≤ place
-    low_cell n o a at e (cells.Global h p) f is has knows g place q =
+    low_cell n o at (cells.Global h p) f has knows g place q =
         let same : in_global h p ≡ in_global g place = same_Some (in_global h p) (in_global g place) q in
         let equal : p ≡ place = cc in
-        let inside = has.0.is in
         let from = has.0.from in
-        let one = globals.low h inside in
+        let one = globals.low h has.0.is in
         omega (arith, equal, from, one)
-    low_cell n o a at e (cells.GlobalAt h i) f is has knows g place q =
+    low_cell n o at (cells.GlobalAt h i) f has knows g place q =
         let number : (known flat n).number i ≡ Some place = global_is h ((known flat n).number i) g place q in
-        let lt = within flat.lines n o at in
-        past_number z.targets (label n) place has.0 has.1 has.2 has.3 (subst (IsNumberOf z.targets (label n) place) has.4 (knows place number)) (subst IsPast has.4 (number_past n lt i place number))
-    low_cell n o a at e (cells.Object r i) f is has knows g place q = absurd (no_global_place ((known flat n).copy r) (Some i) g place q)
-    low_cell n o a at e (cells.ObjectAt r i) f is has knows g place q = absurd (no_global_place ((known flat n).copy r) ((known flat n).number i) g place q)
+        past_number z.targets (label n) place has.0 has.1 has.2 has.3 (subst (IsNumberOf z.targets (label n) place) has.4 (knows place number)) (subst IsPast has.4 (number_past n (within flat.lines n o at) i place number))
+    low_cell n o at (cells.Object r i) f has knows g place q = absurd (no_global_place ((known flat n).copy r) (Some i) g place q)
+    low_cell n o at (cells.ObjectAt r i) f has knows g place q = absurd (no_global_place ((known flat n).copy r) ((known flat n).number i) g place q)
 
     pub low : (n : ℕ) (o : Op) (a : Access) (g place : ℕ) → slice_get flat.lines n ≡ Some o → access o ≡ Some a → place_of (known flat n) a.cell ≡ Some (in_global g place) → 2 ≤ place
     low n o a g place at e q =
         let has = fields_of z (with_all (labels_by z table) (λ n. [])) z.lines (table n).replaced n (with_passes (label n) []) (with_passes (label (n + 1)) []) o (bare n o at) a e in
-        low_cell n o a at e a.cell has.0 refl has.1 (knows n o a at e) g place q
+        low_cell n o at a.cell has.0 has.1 (knows n o a at e) g place q

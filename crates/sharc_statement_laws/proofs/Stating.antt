@@ -126,7 +126,7 @@ module _ (laws : Below) (z : Setting) (f : ℕ) (y : Typing) (lows : IsLowTyping
   test_leads ways c names e h pc =
       let k = here c names in
       anywhere ways pc (at c) (at c) (test_code c e)
-      (laws.tests z f ways y c (lows c) (int_count c.scope) (int_count c.scope) (ref_count c.scope) (label_of y c f) k.stands true k.bare e h.0 h.1)
+      (laws.tests z f ways y c (lows c) (int_count c.scope) (int_count c.scope) (ref_count c.scope) (label_of y c f) k.stands k.bare e h.0 h.1)
 
   -- ---- declarations
   declared_names : (c : Context) (l : Local) (s : StaticType) → Named c → LocalTypable z f y c l s → Named (with_variable c l.declaration)

@@ -17,7 +17,7 @@ module _ (z : Setting) (f : ℕ) (y : Typing) where
   -- ---- parts
   abbrev pub TestTypable : Context → Option Expression → Type 0
   TestTypable c None = Unit {0}
-  TestTypable c (Some e) = IsTypable z f y true c e × HasType z f y c e
+  TestTypable c (Some e) = IsTypable z f y c e × HasType z f y c e
 
   abbrev pub StepTypable : Context → Option Simple → Type 0
   StepTypable c None = Unit {0}

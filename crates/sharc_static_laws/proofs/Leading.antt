@@ -51,10 +51,10 @@ use Rattle.sharc_static_laws.specs.Laws.{IsAccepted}
 use Rattle.sharc_static_laws.specs.Leading.{LeadsToMutex, by_global, by_variable, LeadsIfLocked, AllLead, ExpressionsLead}
 use Rattle.sharc_static_laws.proofs.Lists.{front, each, of_each, to_each, head_or_tail, head_there, tail_there, none_there, place_there, same_some, none_some}
 use Rattle.sharc_static_laws.proofs.Noted.{AllSay, all_say}
-use Rattle.sharc_static_laws.proofs.Origins.{reading_kept, deeper_hold}
+use Rattle.sharc_static_laws.proofs.Origins.{private_path, racy_path, dynamic_path, reading_kept, deeper_hold, no_private, no_readonly, no_racy, no_dynamic, same_lock}
 use Rattle.sharc_static_laws.proofs.Passed.{use_named, first_kind}
 use Rattle.sharc_static_laws.proofs.Places.{InFile, FileKnown, FieldInFile, file_known, struct_fields, field_found, at_number, IfSome}
-use Rattle.sharc_static_laws.proofs.Points.{NamesField, private_path, racy_path, dynamic_path, no_private, no_readonly, no_racy, no_dynamic, same_lock, field_not_local, ModeOf, LevelOf, allowed_row, shown_modes, entity_is, through_used}
+use Rattle.sharc_static_laws.proofs.Points.{NamesField, field_not_local, ModeOf, LevelOf, allowed_row, shown_modes, entity_is, through_used}
 use Rattle.sharc_static_laws.proofs.Siblings.{found_there, struct_there, points_to, is_beside}
 use Rattle.sharc_static_laws.proofs.Written.{raw, row_settled, open_good}
 use Rattle.sharc_target_laws.specs.Fields.{FieldsPlaced}

@@ -41,13 +41,13 @@ WrittenIn n mode = (path : Path) → mode ≡ Locked path → Contains n.entity.
 no_path : (n : Numbered) (mode : Mode) → ((path : Path) → mode ≡ Locked path → ⊥) → WrittenIn n mode
 no_path n mode none path is = absurd (none path is)
 
-private_path : (path : Path) → Private ≡ Locked path → ⊥
+pub private_path : (path : Path) → Private ≡ Locked path → ⊥
 private_path path h = cc
 
-racy_path : (path : Path) → Racy ≡ Locked path → ⊥
+pub racy_path : (path : Path) → Racy ≡ Locked path → ⊥
 racy_path path h = cc
 
-dynamic_path : (path : Path) → Dynamic ≡ Locked path → ⊥
+pub dynamic_path : (path : Path) → Dynamic ≡ Locked path → ⊥
 dynamic_path path h = cc
 
 abbrev LevelWritten : Numbered → Option Mode → Type 0
@@ -122,19 +122,19 @@ deeper_hold m P row h =
     (deeper_modes m P row.reading (raw m row) (raw m (deeper row)) (λ Q k. deeper_raw m Q row k) h)
 
 -- ---- readings
-no_private : (l : Lock) → private ≡ locked l → ⊥
+pub no_private : (l : Lock) → private ≡ locked l → ⊥
 no_private l h = cc
 
-no_readonly : (l : Lock) → readonly ≡ locked l → ⊥
+pub no_readonly : (l : Lock) → readonly ≡ locked l → ⊥
 no_readonly l h = cc
 
-no_racy : (l : Lock) → racy ≡ locked l → ⊥
+pub no_racy : (l : Lock) → racy ≡ locked l → ⊥
 no_racy l h = cc
 
-no_dynamic : (l : Lock) → dynamic ≡ locked l → ⊥
+pub no_dynamic : (l : Lock) → dynamic ≡ locked l → ⊥
 no_dynamic l h = cc
 
-same_lock : (l k : Lock) → locked l ≡ locked k → l ≡ k
+pub same_lock : (l k : Lock) → locked l ≡ locked k → l ≡ k
 same_lock l k h = cc
 
 -- the variable of a use `x->f` is constant

@@ -60,7 +60,7 @@ use Rattle.sharc_static_laws.specs.Static.{register, lock_named, lock_at, locks_
 use Rattle.sharc_static_laws.proofs.Arrays.{IsNameOf, array_name}
 use Rattle.sharc_static_laws.proofs.Holds.{expressions_held}
 use Rattle.sharc_static_laws.proofs.Lists.{front, of_each, to_each, each, same_some, none_some, place_of_element}
-use Rattle.sharc_static_laws.proofs.Origins.{reading_kept, same_raw}
+use Rattle.sharc_static_laws.proofs.Origins.{private_path, racy_path, dynamic_path, reading_kept, same_raw, no_private, no_readonly, no_racy, no_dynamic, same_lock}
 use Rattle.sharc_static_laws.proofs.Passed.{use_named}
 use Rattle.sharc_static_laws.proofs.Places.{InFile, FileKnown, FieldInFile, file_known, struct_fields, field_found, at_number, IfSome}
 use Rattle.sharc_static_laws.proofs.Noted.{all_say}
@@ -215,30 +215,6 @@ in_field_type r e depth _ at (global_mutex {g = g} is kind) = inl (g, is)
 in_field_type r e depth _ at (sibling_mutex {f = t} other is kind) = inr (refl, (t, is))
 in_field_type r e depth _ at (sibling_pointer {f = t} other top is pointer alone) = inr (refl, (t, is))
 in_field_type r e depth _ at (through_constant other is constant behind) = absurd (field_not_local (sym at ∙ other))
-
-pub private_path : (path : Path) → Private ≡ Locked path → ⊥
-private_path path h = cc
-
-pub racy_path : (path : Path) → Racy ≡ Locked path → ⊥
-racy_path path h = cc
-
-pub dynamic_path : (path : Path) → Dynamic ≡ Locked path → ⊥
-dynamic_path path h = cc
-
-pub no_private : (l : Lock) → private ≡ locked l → ⊥
-no_private l h = cc
-
-pub no_readonly : (l : Lock) → readonly ≡ locked l → ⊥
-no_readonly l h = cc
-
-pub no_racy : (l : Lock) → racy ≡ locked l → ⊥
-no_racy l h = cc
-
-pub no_dynamic : (l : Lock) → dynamic ≡ locked l → ⊥
-no_dynamic l h = cc
-
-pub same_lock : (l k : Lock) → locked l ≡ locked k → l ≡ k
-same_lock l k h = cc
 
 abbrev pub ModeOf : (Path → Type 0) → Mode → Type 0
 ModeOf Good mode = (path : Path) → mode ≡ Locked path → Good path

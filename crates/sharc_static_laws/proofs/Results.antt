@@ -1,5 +1,5 @@
 -- Results.
-use Rattle.std.proofs.Common.{◌≡◌, ℕ, ◌<◌, List, [], ap, sym, ◌∙◌, subst, arith}
+use Rattle.std.proofs.Common.{◌≡◌, ℕ, List, [], ap, sym, ◌∙◌, subst, arith}
 use Rattle.sharc_names.specs.Kinds.{declared_kind}
 use Rattle.sharc_ctype.specs.Entities.{result_of}
 use Rattle.sharc_ctype.specs.Resolved.{functions_in, called_kind, result_kind_of}

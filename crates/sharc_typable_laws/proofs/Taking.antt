@@ -1,5 +1,5 @@
 -- Casts, and what is freed.
-use Rattle.std.proofs.Common.{◌≡◌, ℕ, ◌+◌, ◌<◌, Bool, true, false, List, refl, ap, sym, ◌∙◌, subst, arith, option_map, lt-ltb, Some, None}
+use Rattle.std.proofs.Common.{◌≡◌, ℕ, ◌+◌, ◌<◌, true, false, refl, ap, sym, ◌∙◌, subst, arith, option_map, lt-ltb, Some, None}
 use Rattle.sharc_tree.specs.declared.token.Span.{Span}
 use Rattle.sharc_tree.specs.declared.tree.declaration.Identifier.{Identifier}
 use Rattle.sharc_tree.specs.declared.tree.declaration.WrittenType.{WrittenType}
@@ -68,20 +68,20 @@ module _ (c : Context) where
       ap (λ n. Refers (static_of c (named_kind c.program.typed n) (modes_of c.program (named_row c.program.typed written n)))) names
 
 variables_are_taken : HeldLaws → ScopeLaws → VariablesAreTaken
-variables_are_taken held scopes z f bare c a s i x taken bare_is names slot use_made =
+variables_are_taken held scopes z f c a s i x taken bare_is names slot use_made =
     let q = reference_found 0 0 c.scope x slot in
     let h = scopes.has c x slot in
     let same : register c x ≡ q.0 = ap number_in q.1 in
     let entry : entry_of c a ≡ Refers (variable_type c x) = (bare_of c a).entry ∙ ap (entry_of c) bare_is ∙ variable_entry_is c s i x names in
     let to : target_of c a ≡ variable x = (bare_of c a).target ∙ ap (target_of c) bare_is ∙ ap (λ n. named_target n 0) names in
     let pointer : type_by (variable_entry c q.0) ≡ type_by (entry_of c a) = ap type_by (subst (λ n. variable_entry c n ≡ Refers (variable_type c x)) same h.2) ∙ sym (ap type_by entry) in
-    subst (Takes z f typing bare c a use_made (type_by (entry_of c a))) (sym to)
-    (subst (VariableTakes z f typing bare c (type_by (entry_of c a))) (sym q.1)
+    subst (Takes z f typing c a use_made (type_by (entry_of c a))) (sym to)
+    (subst (VariableTakes z f typing c (type_by (entry_of c a))) (sym q.1)
     (subst (λ n. n < ref_count c.scope) same h.0, pointer, subst (λ n. held_at c n ≡ false) same (held.taken c a s i x taken bare_is names slot)))
 
 -- ---- casts and frees
 module _ (constraints : MeetsConstraints) (one_type : OneType) (held : HeldLaws) (scopes : ScopeLaws) (expressions_found : ExpressionsFound) (pointees_fit : PointeesFit) (layouts_are : LayoutsAre) (casts_recast : CastsRecast)
-    (z : Setting) (f : ℕ) (bare : Bool) (c : Context) (a : IsAccepted c.program) (targets : z.targets ≡ targets_of c.program) where
+    (z : Setting) (f : ℕ) (c : Context) (a : IsAccepted c.program) (targets : z.targets ≡ targets_of c.program) where
   -- what a pointer refers to
   record Pointed (e : Expression) : Type 0 where
     row : Row
@@ -108,7 +108,7 @@ module _ (constraints : MeetsConstraints) (one_type : OneType) (held : HeldLaws)
   operand s t e _ (a_cast lvalue has pointer) =
       (ap is_pointer pointer.2 ∙ lt-ltb 0 (pointer.1 + 1) (omega arith), one_type c.program.typed a.resolved a.placed a.low e (declared_kind t) has)
 
-  cast_is : (s : Span) (t : WrittenType) (e : Expression) → IsAt c (tree.cast s t e) → ExpressionStands c e → Takes z f typing bare c e (uses.Cast None) (type_by (entry_of c e)) (target_of c e) → CastTyped z f typing bare c (tree.cast s t e) e
+  cast_is : (s : Span) (t : WrittenType) (e : Expression) → IsAt c (tree.cast s t e) → ExpressionStands c e → Takes z f typing c e (uses.Cast None) (type_by (entry_of c e)) (target_of c e) → CastTyped z f typing c (tree.cast s t e) e
   cast_is s t e at stands takes =
       let there = at.inside.0 in
       let inner : IsAt c e = record { inside = at.inside.1; stands = stands } in
@@ -130,7 +130,7 @@ module _ (constraints : MeetsConstraints) (one_type : OneType) (held : HeldLaws)
             (subst (λ b. Recasts (targets_of c.program) l r b (static_of c (declared_kind t) new)) (sym p.entry) (casts_recast c a s t e found there below p.modes l r));
       }
 
-  free_is : HasTables c.program z.code → (e : Expression) → IsAt c e → is_pointer (kind_of c e) ≡ true → Takes z f typing bare c e (uses.Free None) (type_by (entry_of c e)) (target_of c e) → FreeTyped z f typing bare c e
+  free_is : HasTables c.program z.code → (e : Expression) → IsAt c e → is_pointer (kind_of c e) ≡ true → Takes z f typing c e (uses.Free None) (type_by (entry_of c e)) (target_of c e) → FreeTyped z f typing c e
   free_is tables e at pointer takes =
       let there = first_of (IsExpression c.program) e at.inside in
       let p = pointed e there pointer in
@@ -146,6 +146,6 @@ module _ (constraints : MeetsConstraints) (one_type : OneType) (held : HeldLaws)
 pub taking_laws : MeetsConstraints → OneType → HeldLaws → ScopeLaws → ExpressionsFound → PointeesFit → LayoutsAre → CastsRecast → TakingLaws
 taking_laws constraints one_type held scopes found pointees layouts recasts = record {
   variables = variables_are_taken held scopes;
-  casts = λ z f bare c a targets s t e at stands takes. cast_is constraints one_type held scopes found pointees layouts recasts z f bare c a targets s t e at stands takes;
-  frees = λ z f bare c a targets tables e at pointer takes. free_is constraints one_type held scopes found pointees layouts recasts z f bare c a targets tables e at pointer takes;
+  casts = λ z f c a targets s t e at stands takes. cast_is constraints one_type held scopes found pointees layouts recasts z f c a targets s t e at stands takes;
+  frees = λ z f c a targets tables e at pointer takes. free_is constraints one_type held scopes found pointees layouts recasts z f c a targets tables e at pointer takes;
 }

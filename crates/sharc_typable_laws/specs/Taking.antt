@@ -1,5 +1,5 @@
 -- What SCAST and `free` take, and what a cast gives.
-use Rattle.std.specs.Prelude.{◌≡◌, ℕ, Bool, true, List, Some, None}
+use Rattle.std.specs.Prelude.{◌≡◌, ℕ, true, Some, None}
 use Rattle.sharc_tree.specs.declared.token.Span.{Span}
 use Rattle.sharc_tree.specs.declared.tree.declaration.Identifier.{Identifier}
 use Rattle.sharc_tree.specs.declared.tree.declaration.WrittenType.{WrittenType}
@@ -25,18 +25,18 @@ use Rattle.sharc_typable_laws.specs.Typing.{typing}
 
 -- a variable that is taken is no constant, and has the type of the expression
 abbrev pub VariablesAreTaken : Type 0
-VariablesAreTaken = (z : Setting) (f : ℕ) (bare : Bool) (c : Context) (a : Expression) (s : Span) (i : Identifier) (x : ℕ) → IsTaken c.program a → without_parentheses a ≡ identifier s i → named_at c.program.typed i.site.token ≡ named.Variable x
-    → slot_kind c.scope x ≡ Some true → (use_made : Use) → Takes z f typing bare c a use_made (type_by (entry_of c a)) (target_of c a)
+VariablesAreTaken = (z : Setting) (f : ℕ) (c : Context) (a : Expression) (s : Span) (i : Identifier) (x : ℕ) → IsTaken c.program a → without_parentheses a ≡ identifier s i → named_at c.program.typed i.site.token ≡ named.Variable x
+    → slot_kind c.scope x ≡ Some true → (use_made : Use) → Takes z f typing c a use_made (type_by (entry_of c a)) (target_of c a)
 
 -- what is taken is given the type of the cast
 abbrev pub CastsAreTyped : Type 0
-CastsAreTyped = (z : Setting) (f : ℕ) (bare : Bool) (c : Context) → IsAccepted c.program → z.targets ≡ targets_of c.program → (s : Span) (t : WrittenType) (a : Expression) → IsAt c (cast s t a) → ExpressionStands c a
-    → Takes z f typing bare c a (uses.Cast None) (type_by (entry_of c a)) (target_of c a) → CastTyped z f typing bare c (cast s t a) a
+CastsAreTyped = (z : Setting) (f : ℕ) (c : Context) → IsAccepted c.program → z.targets ≡ targets_of c.program → (s : Span) (t : WrittenType) (a : Expression) → IsAt c (cast s t a) → ExpressionStands c a
+    → Takes z f typing c a (uses.Cast None) (type_by (entry_of c a)) (target_of c a) → CastTyped z f typing c (cast s t a) a
 
 -- or is freed, by its layout
 abbrev pub FreesAreTyped : Type 0
-FreesAreTyped = (z : Setting) (f : ℕ) (bare : Bool) (c : Context) → IsAccepted c.program → z.targets ≡ targets_of c.program → HasTables c.program z.code → (a : Expression) → IsAt c a → is_pointer (kind_of c a) ≡ true
-    → Takes z f typing bare c a (uses.Free None) (type_by (entry_of c a)) (target_of c a) → FreeTyped z f typing bare c a
+FreesAreTyped = (z : Setting) (f : ℕ) (c : Context) → IsAccepted c.program → z.targets ≡ targets_of c.program → HasTables c.program z.code → (a : Expression) → IsAt c a → is_pointer (kind_of c a) ≡ true
+    → Takes z f typing c a (uses.Free None) (type_by (entry_of c a)) (target_of c a) → FreeTyped z f typing c a
 
 pub record TakingLaws : Type 0 where
   pub variables : VariablesAreTaken
