@@ -3,3 +3,4 @@ pub mod Holding
 pub mod Joined
 pub mod Same
 pub mod Sourced
+pub mod Testing

@@ -6,3 +6,4 @@ pub mod Program
 pub mod Refused
 pub mod Runs
 pub mod Source
+pub mod Tested

@@ -1,0 +1,29 @@
+use Rattle.std.proofs.Common.{length, inl, inr, ⊎_elim, subst, sym}
+use Rattle.sharc_code.specs.Paced.{paced_in}
+use Rattle.sharc_code.specs.Path.{begun, machine_after}
+use Rattle.sharc_flat_form.specs.Made.{flat_of}
+use Rattle.sharc_gen.specs.Consistent.{said_in}
+use Rattle.sharc_gen.specs.Correct.{IsBeginning, HasCome}
+use Rattle.sharc_gen.specs.Generated.{program_of}
+use Rattle.sharc_gen.specs.Lowered.{lowered_in}
+use Rattle.sharc_guard.specs.Known.{dropped}
+use Rattle.sharc_guarded_form.specs.Form.{IsGuarded}
+use Rattle.sharc_compile.proofs.Testing.{tests_hold}
+use Rattle.sharc_compile.proofs.Same.{same}
+use Rattle.sharc_compile.proofs.laws.tested_law.Goals as goal
+
+pub returns : goal.returns
+returns c = λ m flat code asks framed level locks is s thread elements founds path consistent register site tested.
+    let d = dropped (flat_of flat) in
+    let made = same d flat is.g is.made in
+    let good : IsGuarded (program_of is.g) = subst IsGuarded (sym made) (c.framed_law.ensures (flat_of flat) d framed) in
+    let first = begun code s thread in
+    let at = machine_after code s first founds in
+    let said = said_in code s first elements founds in
+    let lowered = lowered_in code s first elements founds in
+    let paced = paced_in code s first founds in
+    ⊎_elim
+    (λ (h : IsBeginning at said paced). inl h)
+    (λ (h : HasCome code s (program_of is.g) (elements (length founds)) thread at said lowered paced).
+    inr (tests_hold c.paths_are_runs.ensures c.counted_law.ensures m (flat_of flat) asks level locks d is.g code made is.generated s (elements (length founds)) thread at said lowered paced h register site tested))
+    (c.paths_law.ensures is.g code is.generated good s thread elements founds path consistent)
