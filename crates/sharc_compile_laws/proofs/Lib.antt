@@ -1,4 +1,5 @@
 pub mod Fitting
+pub mod Holding
 pub mod Naming
 pub mod Pathing
 pub mod Spawners

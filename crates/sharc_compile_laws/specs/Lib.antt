@@ -2,5 +2,6 @@ pub mod Fits
 pub mod Names
 pub mod Paths
 pub mod Started
+pub mod Tested
 pub mod Threads
 pub mod Typed
