@@ -10,7 +10,5 @@
 mod laws;
 mod making;
 
-pub use laws::{
-    checks_law, coded_law, held_law, made_law, program_law, run_law, source_law, tested_law,
-};
+pub use laws::{checks_law, coded_law, held_law, made_law, program_law, run_law, source_law, tested_law};
 pub use making::code_of;

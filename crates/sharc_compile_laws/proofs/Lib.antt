@@ -1,5 +1,4 @@
 pub mod Fitting
-pub mod Holding
 pub mod Naming
 pub mod Pathing
 pub mod Spawners

@@ -1,9 +1,11 @@
 -- What the instructions of code spawn is what the program spawns.
-use Rattle.std.proofs.Common.{◌≡◌, ℕ, zero, suc, ◌+◌, Bool, true, false, List, [], ◌∷◌, ◌++◌, map, Option, Some, refl, sym, ap, ◌∙◌, subst, arith, slice_get}
+use Rattle.std.proofs.Common.{◌≡◌, ℕ, zero, suc, ◌+◌, Bool, true, false, List, [], ◌∷◌, ◌++◌, map, Option, Some, None, refl, sym, ap, ◌∙◌, subst, arith, slice_get}
 use Rattle.std.specs.Prelude.{IsSomeAnd, slice_index_or}
 use Rattle.std.specs.List.{AllByRecursion, Contains}
 use Rattle.std.proofs.lemmas.List.Elements.{Contains-append_right}
+use Rattle.sharc_tree.specs.Low.{IsLow}
 use Rattle.sharc_tree.specs.Measures.{in_function as expressions_in}
+use Rattle.sharc_tree.specs.Placed.{IsPlaced}
 use Rattle.sharc_tree.specs.Tree.{Expression, spawn, Function}
 use Rattle.sharc_names.specs.declared.fault.Named.TheVariants as named
 use Rattle.sharc_code.specs.declared.code.Function.{Function as Row}
@@ -14,7 +16,7 @@ use Rattle.sharc_code.specs.declared.instr.Instr.{Instr}
 use Rattle.sharc_code.specs.declared.instr.Instr.TheVariants as instrs
 use Rattle.sharc_code.specs.declared.instr.Register.{Register}
 use Rattle.sharc_ctype.specs.Reaches.{of_all, spawns, Spawns}
-use Rattle.sharc_ctype.specs.Resolved.{Resolution, function_at, functions_in, named_at}
+use Rattle.sharc_ctype.specs.Resolved.{Resolution, IsResolved, function_at, functions_in, named_at}
 use Rattle.sharc_ctype_laws.specs.Laws.{SpawnsByName, SpawnsNameFunctions}
 use Rattle.sharc_meaning.specs.Expressions.{number_named}
 use Rattle.sharc_flat_form.specs.declared.op.Op.{Op}
@@ -23,7 +25,7 @@ use Rattle.sharc_flat_form.specs.declared.op.Spot.{Spot}
 use Rattle.sharc_flat_form.specs.Made.{flat_of}
 use Rattle.sharc_flat.specs.Flattened.{functions_code}
 use Rattle.sharc_flat.specs.Tables.{globals_of}
-use Rattle.sharc_guard.specs.Guard.{check_under, head, own, body, tail, expand, expanded, place}
+use Rattle.sharc_guard.specs.Guard.{check_under, head, own, body, tail, expand, expanded, guarded, place}
 use Rattle.sharc_guard.specs.Known.{dropped}
 use Rattle.sharc_gen.specs.Generated.{instr_of}
 use Rattle.sharc_compile_laws.specs.Started.{SpawnedAreThreads}

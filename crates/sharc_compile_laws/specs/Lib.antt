@@ -2,6 +2,5 @@ pub mod Fits
 pub mod Names
 pub mod Paths
 pub mod Started
-pub mod Tested
 pub mod Threads
 pub mod Typed

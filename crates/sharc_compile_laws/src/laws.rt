@@ -4,11 +4,10 @@ ghost use Rattle.sharc_compile_laws.specs.Fits.{MadeTablesFit};
 ghost use Rattle.sharc_compile_laws.specs.Names.{CodeHasMain, FunctionsAreNamed};
 ghost use Rattle.sharc_compile_laws.specs.Paths.{OfTyped, PathsTell, ThreadsTellInRuns};
 ghost use Rattle.sharc_compile_laws.specs.Started.{SpawnedAreThreads, ThreadsMayStart};
-ghost use Rattle.sharc_compile_laws.specs.Tested.{TypedCodeHoldsAtTests};
 ghost use Rattle.sharc_compile_laws.specs.Threads.{ThreadsTell};
 ghost use Rattle.sharc_compile_laws.specs.Typed.{TypedCodeCounts, TypedThreadsTell};
 
-use sharc_compile::{held_law, program_law, run_law, tested_law};
+use sharc_compile::{held_law, program_law, run_law};
 use sharc_ctype_laws::laws::{
     has_main, meets_globals, one_function_of_name, spawns_name_functions, spawns_threads,
     within_limits,
@@ -72,18 +71,6 @@ pub fn typed_code_counts()
     typed_is_level();
     made_locks_stand();
     held_law();
-}
-
-/// Where a thread of that code looks whether a reference is the only one to its object, the program holds as many references to an object as
-/// registers of the thread refer to it.
-pub fn typed_tested_law()
-    ensures { TypedCodeHoldsAtTests }
-{
-    typed_asks_the_same();
-    typed_is_framed();
-    typed_is_level();
-    made_locks_stand();
-    tested_law();
 }
 
 /// The functions of the code are those of the program by their numbers, and the code's first function is `main`.

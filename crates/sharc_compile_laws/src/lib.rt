@@ -5,12 +5,12 @@
 //! the code of a program tell is what the program asks for (specs/Threads.antt). `typed_threads_tell` and `typed_code_counts` say it of
 //! typed, well-moded programs, and whose references their registers have (specs/Typed.antt); `typed_paths_tell` says it of each path by
 //! itself, with how it is over and its pace (specs/Paths.antt), if its function may be started; `threads_may_start`: those of threads may
-//! (specs/Started.antt). `typed_tested_law` says that at a test of a reference as many are held as registers have it (specs/Tested.antt).
+//! (specs/Started.antt).
 #![tactic(auto)]
 
 mod laws;
 
 pub use laws::{
     functions_are_named, made_tables_fit, spawned_are_threads, threads_may_start, threads_tell,
-    typed_code_counts, typed_paths_tell, typed_tested_law, typed_threads_tell,
+    typed_code_counts, typed_paths_tell, typed_threads_tell,
 };
