@@ -3,4 +3,3 @@ pub mod Holding
 pub mod Joined
 pub mod Same
 pub mod Sourced
-pub mod Testing

@@ -6,4 +6,3 @@ pub mod Program
 pub mod Refused
 pub mod Runs
 pub mod Source
-pub mod Tested

@@ -7,7 +7,6 @@ ghost use Rattle.sharc_compile.specs.Made.{MadeCodeFollows};
 ghost use Rattle.sharc_compile.specs.Program.{ProgramCodeFollows};
 ghost use Rattle.sharc_compile.specs.Runs.{RunsFollowSource};
 ghost use Rattle.sharc_compile.specs.Source.{CodeFollowsSource};
-ghost use Rattle.sharc_compile.specs.Tested.{CodeHoldsAtTests};
 
 use sharc_flat::laws::{made_asks_the_same, made_is_framed};
 use sharc_flat_form::laws::paths_are_runs;
@@ -77,16 +76,5 @@ pub fn held_law()
     framed_law();
     counted_law();
     log_law();
-    paths_are_runs();
-}
-
-/// Where a thread of that code looks whether a reference is the only one to its object, the program holds what each of its registers has, at the
-/// same place: so of two registers with one object it holds two references.
-pub fn tested_law()
-    ensures { CodeHoldsAtTests }
-{
-    paths_law();
-    framed_law();
-    counted_law();
     paths_are_runs();
 }
