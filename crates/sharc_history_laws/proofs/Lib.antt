@@ -73,3 +73,4 @@ pub mod Unemptied
 pub mod Woken
 pub mod Placed
 pub mod Stuck
+pub mod Spawned

@@ -1,0 +1,3 @@
+pub mod Holding
+pub mod Quiet
+pub mod Telling
