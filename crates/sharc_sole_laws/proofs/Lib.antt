@@ -1,3 +1,5 @@
+pub mod Counting
 pub mod Holding
 pub mod Quiet
 pub mod Telling
+pub mod Testing
