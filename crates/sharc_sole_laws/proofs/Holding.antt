@@ -1,47 +1,40 @@
 -- From the registers of code to what the program holds that was asked by the answers of its own events.
-use Rattle.std.proofs.Common.{◌≡◌, ◌≢◌, ℕ, zero, suc, ℤ, pos, ◌+◌, ◌^◌, ◌<◌, ◌⊎◌, inl, inr, ⊎_elim, Bool, List, [], ◌∷◌, ◌++◌, length, map, refl, sym, ap, ◌∙◌, Some, subst, arith, get_or, slice_get, append_assoc, append-nil}
-use Rattle.std.specs.Prelude.{IsSomeAnd, slice_index, slice_index_or}
+use Rattle.std.proofs.Common.{◌≡◌, ◌≢◌, ℕ, zero, suc, ℤ, pos, ◌+◌, ◌^◌, ◌<◌, ◌⊎◌, inl, inr, ⊎_elim, Bool, List, [], ◌∷◌, ◌++◌, length, map, refl, sym, ap, ◌∙◌, subst, arith, get_or, slice_get, append_assoc, append-nil}
+use Rattle.std.specs.Prelude.{slice_index, slice_index_or}
 use Rattle.std.proofs.lemmas.List.{length-map}
-use Rattle.sharc_tree.specs.declared.event.Act.{Act}
 use Rattle.sharc_tree.specs.declared.event.CellAt.{CellAt}
 use Rattle.sharc_tree.specs.declared.event.SourceEvent.{SourceEvent}
 use Rattle.sharc_mode.specs.Moded.{Assignment}
 use Rattle.sharc_meaning.specs.declared.given.GivenUp.{GivenUp}
 use Rattle.sharc_meaning.specs.declared.given.GivenUp.TheVariants.{Emptied, Released, Replaced}
-use Rattle.sharc_meaning.specs.Events.{held_mutexes}
 use Rattle.sharc_meaning.specs.Meaning as Meaning
-use Rattle.sharc_meaning.specs.State.{wants, event_of}
 use Rattle.sharc_meaning.specs.Reference.{number_of}
 use Rattle.sharc_code.specs.declared.code.Code.{Code}
 use Rattle.sharc_code.specs.declared.instr.Instr.{Instr}
-use Rattle.sharc_code.specs.declared.instr.Instr.TheVariants.{Exit}
+use Rattle.sharc_code.specs.declared.instr.Instr.TheVariants.{Exit, TestSole}
 use Rattle.sharc_code.specs.declared.shape.Shape.{Shape}
-use Rattle.sharc_code.specs.declared.state.Stop.TheVariants.{Conflict, NoLock, NotSole, Trap}
-use Rattle.sharc_code.specs.declared.state.Stop.{Stop}
-use Rattle.sharc_code.specs.declared.state.State.TheVariants.{Runs, Stopped}
 use Rattle.sharc_code.specs.declared.code.Function.{Function}
 use Rattle.sharc_code.specs.Machine.{Machine, instr_at, no_function, function_of}
 use Rattle.sharc_ctype.specs.Resolved.{function_at}
 use Rattle.sharc_meaning.specs.Runs.{IsNamedAt, answers_of}
-use Rattle.sharc_code.specs.Says.{place_at, reference}
+use Rattle.sharc_code.specs.Says.{reference}
 use Rattle.sharc_flat_form.specs.Machine.{Flat, At, Came, Turn, goes, asks, halts, turn, on_turn, exec, start}
 use Rattle.sharc_flat_form.specs.Path.{at_after, asked, PathsAreRuns}
 use Rattle.sharc_flat.specs.Correct.{AsksTheSame, MayStart}
 use Rattle.sharc_guarded_form.specs.declared.guarded.Guarded.{Guarded}
-use Rattle.sharc_guarded_form.specs.Machine as Form
-use Rattle.sharc_guarded_form.specs.Machine.{Program, Thread, Check, Accesses, Locks, IsSole, is_held, statement_at}
+use Rattle.sharc_guarded_form.specs.Machine.{Program, Thread, statement_at}
 use Rattle.sharc_guarded_form.specs.Path.{started, thread_after}
 use Rattle.sharc_gen.specs.Consistent.{Elements, IsNumber}
 use Rattle.sharc_gen.specs.Correct.{by, begins, HasCome}
 use Rattle.sharc_gen.specs.Generated.{IsGenerated, instr_of, program_of}
-use Rattle.sharc_gen.specs.Related.{IsReference, IsAt, IsLinking, IsOver, StopsAt, ChecksNext}
+use Rattle.sharc_gen.specs.Related.{IsReference, IsAt, IsLinking}
 use Rattle.sharc_guard.specs.Correct.{Resolved}
-use Rattle.sharc_guard.specs.Counted.{AreLowered, GuardedCounts, IsReleased, IsOf, IsReplaced, LocksStand, OnWay, Quietly, Tells}
+use Rattle.sharc_guard.specs.Counted.{AreLowered, GuardedCounts, IsReleased, IsReplaced, LocksStand, OnWay, Quietly}
 use Rattle.sharc_guard.specs.Guard.{entered_at, guarded, place}
 use Rattle.sharc_guard.specs.Level.{IsLevel}
-use Rattle.sharc_guard.specs.Logged.{LogsAreHeld}
 use Rattle.sharc_compile.specs.Held.{IsAccountedFor}
-use Rattle.sharc_sole_laws.specs.Holding.{IsHolding, IsHoldingThere}
+use Rattle.sharc_sole_laws.specs.Holding.{IsTested, IsHolding, IsHoldingThere}
+use Rattle.sharc_sole_laws.proofs.Testing.{test_is, no_free, tested}
 use Rattle.sharc_sole_laws.proofs.Quiet.{IsQuiet, line_quiet, same_given, given_in, given_same, given_path, are_own, beyond}
 
 -- ---- what flat code does without an answer
@@ -122,6 +115,9 @@ module _ (runs : PathsAreRuns) (counts : GuardedCounts) (m : Assignment) (flat :
   instr_is pc =
       ap (λ is. slice_index_or is pc Exit) is.instrs ∙ mapped_at (instr_of g.functions.items) g.statements.items pc refl ∙ ap (λ (q : Program). instr_of g.functions.items (statement_at q pc)) made
 
+  statement_is : (register site : ℕ) → instr_at code at.at.pc ≡ TestSole register site → statement_at p at.at.pc ≡ TestSole register site
+  statement_is register site tests = test_is g.functions.items (statement_at p at.at.pc) register site (sym (instr_is at.at.pc) ∙ tests)
+
   h : HasCome code s p T thread at said lowered paced
   h = subst (λ p. HasCome code s p T thread at said lowered paced) made h0
 
@@ -197,6 +193,11 @@ module _ (runs : PathsAreRuns) (counts : GuardedCounts) (m : Assignment) (flat :
             accounted m2 last a x w held given h.lowers c.stands.lowered k n number (c.stands.flight k (not_null (a.refs k) n number some)) y.pc_is y.same.from_refs)
             (λ (l : IsLinking code s p T at a). absurd (free l.elements l.stage))
             h.stands);
+        tested = λ register site is_test. subst (λ xs. IsTested (Meaning.asks m h.function h.argument xs b.fuel) at) answers
+            (let statement = statement_is register site is_test in
+            let y : IsAt code s p T at a = ⊎_elim (λ (y : IsAt code s p T at a). y) (λ (l : IsLinking code s p T at a). absurd (no_free l.register l.layout l.site register site (sym l.statement ∙ statement))) h.stands in
+            tested flat p m2 w.mid last a at x f.more w.turns register site (ap (statement_at p) y.pc_is ∙ statement) c.stands.tells c.stands.held w.quietly w.refs held (ap (λ (c : Came). c.outcome) (sym final_is) ∙ b.same.outcome)
+            (λ k n e. number_here a k n e (y.same.in_refs.are k)));
       }
 
   pub there : IsHoldingThere m code thread at said lowered

@@ -19,7 +19,6 @@ use Rattle.sharc_flat.specs.Correct.{MayStart}
 use Rattle.sharc_gen.specs.Consistent.{said_in, IsConsistent}
 use Rattle.sharc_gen.specs.Correct.{IsBeginning}
 use Rattle.sharc_gen.specs.OfRuns.{told_in, elements_before, founds_of, RunsHavePaths}
-use Rattle.sharc_gen.specs.Lowered.{lowered_in}
 use Rattle.sharc_sole_laws.specs.Holding.{IsHolding, IsHoldingThere, IsHoldingIn, PathsHold, lowered_of}
 
 -- ---- lists

@@ -1,16 +1,19 @@
 -- What the registers of a thread refer to, by what the program holds that was asked by the answers of the thread's own events.
-use Rattle.std.specs.Prelude.{ℕ, ℤ, pos, ◌≡◌, ◌⊎◌, ◌<◌, List, [], ◌∷◌, map, reverse, slice_index}
+use Rattle.std.specs.Prelude.{ℕ, ℤ, pos, ◌≡◌, ◌⊎◌, ◌<◌, true, List, [], ◌∷◌, map, get_or, reverse, slice_index}
 use Rattle.sharc_tree.specs.declared.event.Act.TheVariants.{Started}
 use Rattle.sharc_tree.specs.declared.event.SourceEvent.{SourceEvent}
 use Rattle.sharc_ctype.specs.Resolved.{function_at}
 use Rattle.sharc_mode.specs.Moded.{Assignment}
 use Rattle.sharc_meaning.specs.Events.{events_of}
-use Rattle.sharc_meaning.specs.Meaning.{asks}
+use Rattle.sharc_meaning.specs.Meaning.{Asked, asks}
+use Rattle.sharc_meaning.specs.References.{refers}
 use Rattle.sharc_meaning.specs.Runs.{IsNamedAt, answers_of, by}
+use Rattle.sharc_meaning.specs.State.{wants}
 use Rattle.sharc_code.specs.declared.code.Code.{Code}
+use Rattle.sharc_code.specs.declared.instr.Instr.TheVariants.{TestSole}
 use Rattle.sharc_code.specs.declared.shape.Shape.{Shape}
 use Rattle.sharc_code.specs.declared.state.Stage.TheVariants.{Links}
-use Rattle.sharc_code.specs.Machine.{Machine}
+use Rattle.sharc_code.specs.Machine.{Machine, instr_at}
 use Rattle.sharc_code.specs.Paced.{paced_in}
 use Rattle.sharc_code.specs.Path.{begun, machine_after, CodePath}
 use Rattle.sharc_code.specs.Runs.{Turn, turns_of}
@@ -24,12 +27,19 @@ use Rattle.sharc_compile.specs.Held.{IsAccountedFor}
 use Rattle.sharc_compile_laws.specs.Threads.{TellsIn}
 
 -- ---- by the place of a thread
+-- where the thread looks whether a reference is the only one to its object, the program wants something, and what a register refers to, it refers to by what it holds at the same place
+pub record IsTested (a : Asked) (at : Machine) : Type 0 where
+  pub wanted : SourceEvent
+  pub outcome : a.outcome ≡ wants wanted
+  pub registers : (k n : ℕ) → slice_index at.refs k ≡ n → 0 < n → refers n (get_or a.held k (pos 0)) ≡ true
+
 -- With some fuel a thread of the program asks for exactly these events, by their answers. What its registers have, it then holds, or has given up since, but while the block of a
 -- freed object is linked.
 pub record IsHolding (m : Assignment) (code : Code) (f : ℕ) (argument : ℤ) (thread : ℕ) (told : List SourceEvent) (at : Machine) (lowered : List ℕ) : Type 0 where
   pub fuel : ℕ
   pub events : map (by thread) (asks m f argument (answers_of told) fuel).events ≡ told
   pub registers : ((elements : ℕ) → at.own.stage ≡ Links elements → ⊥) → (k n : ℕ) → slice_index at.refs k ≡ n → 0 < n → IsAccountedFor code at lowered (asks m f argument (answers_of told) fuel) k n
+  pub tested : (register site : ℕ) → instr_at code at.at.pc ≡ TestSole register site → IsTested (asks m f argument (answers_of told) fuel) at
 
 -- the thread begins with the Started of a function, at the name of that, and then holds what the function does, if that may be started
 pub record IsHoldingThere (m : Assignment) (code : Code) (thread : ℕ) (at : Machine) (said : List SourceEvent) (lowered : List ℕ) : Type 0 where
