@@ -28,6 +28,7 @@ use Rattle.sharc_meaning.specs.Events.{events_of}
 use Rattle.sharc_invariant.specs.Types.{Targets}
 use Rattle.sharc_invariant.specs.Labels.{Labels}
 use Rattle.sharc_invariant.specs.Typed.{IsWellTyped}
+use Rattle.sharc_invariant.specs.World.{ArgumentOf, In}
 use Rattle.sharc_invariant.specs.Words.{is_unread, is_first, if_reference, argument_of}
 use Rattle.sharc_invariant.specs.State.{IsSmall, StageStands, FramesStand, view_of}
 use Rattle.sharc_invariant.specs.MachineInvariant.{IsOn}
@@ -35,6 +36,7 @@ use Rattle.sharc_invariant.specs.Laws.{Keeps, Begins as CodeBegins, CellsAreTher
 use Rattle.sharc_history_laws.specs.History.{history_of}
 use Rattle.sharc_history_laws.specs.Seen.{IsGivenTo}
 use Rattle.sharc_history_laws.proofs.Consists.{Consists}
+use Rattle.sharc_history_laws.proofs.Finds.{low_slot}
 use Rattle.sharc_history_laws.proofs.Holding.{own_push}
 use Rattle.sharc_history_laws.proofs.Lists.{Newest}
 use Rattle.sharc_history_laws.proofs.Locking.{is_others}
@@ -227,15 +229,16 @@ module _ (cell_laws : CellsAreThere) (pointers : PointersAreThere) (rights : Acc
       let quiet : Unheard L u = quiet_runs run is_run u k.2 in
       let state : slice_index g.words (state_word u) ≡ 1 = eqb-true (slice_index g.words (state_word u)) 1 k.1 in
       let told = begun_runs cell_laws pointers rights laws starts begins_law keeps x code s ls wt fits few run is_run in
-      by (k.3) (k.4) quiet (told.told.given u (under u k.0) quiet state)
+      let low : o < 2 ^ 32 = subst (λ n. n < 2 ^ 32) (told.consists.state.sim.args u ∙ e) (low_slot cell_laws x code s ls wt fits g told.consists.world told.consists.state (In (ArgumentOf u))) in
+      by low k.3 k.4 quiet (told.told.given u (under u k.0) quiet state)
     where
       under : (t : ℕ) → nat_lt t THREADS ≡ true → t < THREADS
       under t e = grind (arith, nat_tests)
 
-      by : (function_of code (function_given (place_after code s run) u)).parameter ≡ parameters.Reference → argument_given (place_after code s run) u ≡ o → Unheard (newest code s run) u
+      by : o < 2 ^ 32 → (function_of code (function_given (place_after code s run) u)).parameter ≡ parameters.Reference → argument_given (place_after code s run) u ≡ o → Unheard (newest code s run) u
           → WasGiven code (newest code s run) (table_of code s run) (place_after code s run) u → IsGivenTo code (history_of code s run) u o
-      by p v quiet (inl z) = absurd (nz (sym v ∙ z.2))
-      by p v quiet (inr z) =
+      by low p v quiet (inl z) = absurd (nz (sym v ∙ z.2))
+      by low p v quiet (inr z) =
           let g = place_after code s run in
           let L = newest code s run in
           let T = table_of code s run in
@@ -243,6 +246,7 @@ module _ (cell_laws : CellsAreThere) (pointers : PointersAreThere) (rights : Acc
           let a = argument_given g u in
           let typed : SpawnedIn L u f (reference a (T a)) = subst (λ p. SpawnedIn L u f (started_with p a (T a))) p z.2 in
           record {
+            number = low;
             unread = none_of L u quiet;
             function = f;
             elements = T o;

@@ -1,6 +1,6 @@
 -- What the source events of a checked run of typed code tell of references that are in no register and in no cell: of held mutexes, and of arguments that are
 -- not read yet.
-use Rattle.std.specs.Prelude.{ℕ, ◌≡◌, ◌≢◌, true, List, [], ◌++◌}
+use Rattle.std.specs.Prelude.{ℕ, ◌≡◌, ◌≢◌, ◌<◌, ◌^◌, true, List, [], ◌++◌}
 use Rattle.sharc_tree.specs.declared.event.CellAt.{CellAt}
 use Rattle.sharc_tree.specs.declared.event.Object.TheVariants.{Made}
 use Rattle.sharc_code.specs.declared.code.Code.{Code}
@@ -37,6 +37,7 @@ LogsAreLocked = (x : Targets) (code : Code) (s : Shape) (ls : Labels) → IsWell
 
 -- The thread has had no event, and a Spawn has answered its number that gave it a function with a reference to the object for its argument.
 pub record IsGivenTo (code : Code) (R : History) (u o : ℕ) : Type 0 where
+  pub number : o < 2 ^ 32
   pub unread : events_of u R ≡ []
   pub function : ℕ
   pub elements : ℕ
