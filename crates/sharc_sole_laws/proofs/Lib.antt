@@ -1,4 +1,3 @@
-pub mod Caster
 pub mod Counting
 pub mod Holding
 pub mod Quiet

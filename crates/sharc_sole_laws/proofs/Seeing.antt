@@ -1,6 +1,6 @@
 -- From what a thread's registers have to the references of its history.
-use Rattle.std.proofs.Common.{◌≡◌, ℕ, zero, suc, ℤ, pos, negsuc, ◌+◌, ◌-◌, ◌<◌, ◌≤◌, ◌⊎◌, inl, inr, Bool, true, false, cond, List, [], ◌∷◌, ◌++◌, refl, sym, ap, ◌∙◌, subst, arith, eq-eqb, get_or, count_by, nat_lt, ltb-true, ltb-false, Option, Some, None}
-use Rattle.std.specs.Prelude.{slice_index}
+use Rattle.std.proofs.Common.{◌≡◌, ℕ, zero, suc, ℤ, pos, negsuc, ◌+◌, ◌-◌, ◌<◌, ◌≤◌, ◌==◌, ◌&&◌, ◌⊎◌, inl, inr, Bool, true, false, not, cond, List, [], ◌∷◌, ◌++◌, refl, sym, ap, ◌∙◌, subst, arith, eq-eqb, get_or, count_by, nat_lt, ltb-true, ltb-false, Option, Some, None}
+use Rattle.std.specs.Prelude.{filter, slice_index}
 use Rattle.std.proofs.lemmas.Bool.{false≢true}
 use Rattle.std.proofs.lemmas.List.Elements.{filter-append}
 use Rattle.std.proofs.lemmas.List.Sums.{sum_by-cons}
@@ -13,14 +13,15 @@ use Rattle.sharc_ctype.specs.Resolved.{Resolution, named_at, function_at}
 use Rattle.sharc_ctype_laws.specs.Declared.{NameThemselves}
 use Rattle.sharc_mode.specs.Moded.{Assignment}
 use Rattle.sharc_meaning.specs.Events.{events_of, is_of}
-use Rattle.sharc_meaning.specs.Reference.{number_of}
+use Rattle.sharc_meaning.specs.Reference.{is_null, number_of}
 use Rattle.sharc_meaning.specs.References.{refers, Begun, asked_with, held_count, ThreadHolds}
 use Rattle.sharc_meaning.specs.Runs.{IsNamedAt}
 use Rattle.sharc_code.specs.declared.code.Code.{Code}
 use Rattle.sharc_code.specs.declared.state.Stage.TheVariants.{Links}
 use Rattle.sharc_code.specs.Machine.{Machine}
 use Rattle.sharc_flat.specs.Correct.{MayStart}
-use Rattle.sharc_compile.specs.Held.{IsAccountedFor}
+use Rattle.sharc_compile.specs.Held.{IsAmong, IsAccountedFor}
+use Rattle.sharc_compile_laws.specs.Threads.{TellsIn}
 use Rattle.sharc_sole_laws.specs.Holding.{IsHolding, IsHoldingIn}
 use Rattle.sharc_sole_laws.specs.InFlight.{IsInFlight, is_given, is_replaced, is_left}
 
@@ -53,7 +54,7 @@ same_head a b xs ys h = cc
 same_tail : (a b : SourceEvent) (xs ys : List SourceEvent) → a ∷ xs ≡ b ∷ ys → xs ≡ ys
 same_tail a b xs ys h = cc
 
-pub no_first : (a : SourceEvent) (xs : List SourceEvent) → a ∷ xs ≡ [] → ⊥
+no_first : (a : SourceEvent) (xs : List SourceEvent) → a ∷ xs ≡ [] → ⊥
 no_first a xs h = cc
 
 same_argument : (v w : ℤ) → Started v ≡ Started w → v ≡ w
@@ -75,11 +76,11 @@ same_function r names n k site a b = by (function_at r n) (function_at r k) refl
 
 -- ---- a thread
 module _ (m : Assignment) (names : NameThemselves m.typed) (code : Code) (R : List SourceEvent) (thread : ℕ) (at : Machine) (lowered : List ℕ) (b : Begun m R thread) (may : MayStart m b.own.function) where
-  pub own_events : events_of thread R ≡ b.own.begins ∷ events_of thread b.own.after
+  own_events : events_of thread R ≡ b.own.begins ∷ events_of thread b.own.after
   own_events = first_event thread R b.own.before b.own.begins b.own.after b.own.stands b.own.first b.own.own
 
   -- what it holds is told of the function and the events with which it was begun
-  pub holding : IsHoldingIn m code R thread at lowered → IsHolding m code b.own.function b.own.argument thread (events_of thread b.own.after) at lowered
+  holding : IsHoldingIn m code R thread at lowered → IsHolding m code b.own.function b.own.argument thread (events_of thread b.own.after) at lowered
   holding h =
       let t = h.tells in
       let both : t.begins ∷ events_of thread t.after ≡ b.own.begins ∷ events_of thread b.own.after = sym (first_event thread R t.before t.begins t.after t.stands t.first t.own) ∙ own_events in

@@ -1,4 +1,3 @@
-pub mod Caster
 pub mod Holding
 pub mod InFlight
 pub mod Seeing

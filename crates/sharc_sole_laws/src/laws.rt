@@ -1,7 +1,6 @@
 //! The laws, each the contract of a function that calls at most the laws that it joins.
 
 ghost use Rattle.sharc_compile_laws.specs.Paths.{OfTyped};
-ghost use Rattle.sharc_sole_laws.specs.Caster.{CastersHold};
 ghost use Rattle.sharc_sole_laws.specs.Holding.{PathsHold, ThreadsHold};
 ghost use Rattle.sharc_sole_laws.specs.Seeing.{ThreadsSee};
 
@@ -12,7 +11,6 @@ use sharc_flat_laws::laws::{typed_asks_the_same, typed_is_framed};
 use sharc_gen::{paths_law, run_paths_law};
 use sharc_guard::{counted_law, framed_law};
 use sharc_guard_laws::laws::{made_locks_stand, typed_is_level};
-use sharc_meaning::laws::ask_laws;
 
 /// What the registers of a thread of the code of a typed, well-moded program refer to, on each path whose results are consistent, the program holds or has given up that was
 /// asked by the answers of the thread's own events.
@@ -44,13 +42,4 @@ pub fn threads_see()
 {
     thread_holds();
     each_names_itself();
-}
-
-/// Where a thread tests a reference, what its registers refer to is among the references of its history, as often as two registers refer to it.
-pub fn casters_hold()
-    ensures { OfTyped CastersHold }
-{
-    thread_holds();
-    each_names_itself();
-    ask_laws();
 }
