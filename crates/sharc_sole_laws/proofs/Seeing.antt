@@ -1,9 +1,7 @@
 -- From what a thread's registers have to the references of its history.
-use Rattle.std.proofs.Common.{◌≡◌, ℕ, zero, suc, ℤ, pos, negsuc, ◌+◌, ◌-◌, ◌<◌, ◌≤◌, ◌==◌, ◌&&◌, ◌⊎◌, inl, inr, Bool, true, false, not, cond, List, [], ◌∷◌, ◌++◌, refl, sym, ap, ◌∙◌, subst, arith, eq-eqb, get_or, count_by, nat_lt, ltb-true, ltb-false, Option, Some, None}
-use Rattle.std.specs.Prelude.{filter, slice_index}
-use Rattle.std.proofs.lemmas.Bool.{false≢true}
+use Rattle.std.proofs.Common.{◌≡◌, ℕ, zero, suc, ℤ, pos, negsuc, ◌+◌, ◌-◌, ◌<◌, ◌≤◌, ◌⊎◌, inl, inr, Bool, true, false, cond, List, [], ◌∷◌, ◌++◌, refl, sym, ap, ◌∙◌, subst, arith, eq-eqb, get_or, nat_lt, ltb-true, ltb-false, Option, Some, None}
+use Rattle.std.specs.Prelude.{slice_index}
 use Rattle.std.proofs.lemmas.List.Elements.{filter-append}
-use Rattle.std.proofs.lemmas.List.Sums.{sum_by-cons}
 use Rattle.sharc_tree.specs.declared.event.Act.TheVariants.{Started}
 use Rattle.sharc_tree.specs.declared.event.SourceEvent.{SourceEvent}
 use Rattle.sharc_tree.specs.declared.token.Site.{Site}
@@ -15,17 +13,15 @@ use Rattle.sharc_mode.specs.Moded.{Assignment}
 use Rattle.sharc_meaning.specs.Events.{events_of, is_of}
 use Rattle.sharc_meaning.specs.Laws.{AskLaws}
 use Rattle.sharc_meaning.specs.State.{wants, spent}
-use Rattle.sharc_meaning.specs.Reference.{is_null, number_of}
+use Rattle.sharc_meaning.specs.Reference.{number_of}
 use Rattle.sharc_meaning.specs.References.{refers, Begun, asked_with, held_count, ThreadHolds}
 use Rattle.sharc_meaning.specs.Runs.{IsNamedAt, answers_of}
 use Rattle.sharc_code.specs.declared.code.Code.{Code}
-use Rattle.sharc_code.specs.declared.state.Stage.TheVariants.{Links}
 use Rattle.sharc_code.specs.declared.instr.Instr.TheVariants.{TestSole}
 use Rattle.sharc_code.specs.Machine.{Machine, instr_at}
 use Rattle.sharc_flat.specs.Correct.{MayStart}
-use Rattle.sharc_compile.specs.Held.{IsAmong, IsAccountedFor}
-use Rattle.sharc_compile_laws.specs.Threads.{TellsIn}
-use Rattle.sharc_sole_laws.specs.Holding.{IsHolding, IsHoldingIn}
+use Rattle.sharc_invariant.specs.Words.{register_of}
+use Rattle.sharc_sole_laws.specs.Holding.{IsAccounted, IsHolding, IsHoldingIn}
 use Rattle.sharc_sole_laws.proofs.Counting.{one_there, twice}
 use Rattle.sharc_sole_laws.specs.InFlight.{IsInFlight, is_given, is_replaced, is_left}
 
@@ -115,11 +111,11 @@ module _ (m : Assignment) (names : NameThemselves m.typed) (code : Code) (R : Li
             let more : later ≡ fuel + (later - fuel) = omega (arith, le) in
             absurd (rests (is_left fuel (later - fuel) some (subst (λ g. held_count (asked_with b g) n ≡ 0) more none)))
 
-    accounted : (fuel k : ℕ) → slice_index at.refs k ≡ n → 0 < n → IsAccountedFor code at lowered (asked_with b fuel) k n → ThreadHolds m R thread 0 n
+    accounted : (fuel k : ℕ) → register_of code at k ≡ n → 0 < n → IsAccounted code at lowered (asked_with b fuel) k n → ThreadHolds m R thread 0 n
     accounted fuel k here some (inl held) = still_held fuel (one_there (refers n) (pos 0) refl (asked_with b fuel).held held.0 (number_refers n (get_or (asked_with b fuel).held held.0 (pos 0)) held.1 some))
     accounted fuel k here some (inr (inl given)) = absurd (rests (is_given fuel given))
     accounted fuel k here some (inr (inr old)) = absurd (rests (is_replaced fuel k here old))
 
-    pub seen : (events_of thread R ≡ []) ⊎ IsHoldingIn m code R thread at lowered → ((elements : ℕ) → at.own.stage ≡ Links elements → ⊥) → (k : ℕ) → slice_index at.refs k ≡ n → 0 < n → ThreadHolds m R thread 0 n
-    seen (inl nothing) free k here some = absurd (no_first b.own.begins (events_of thread b.own.after) (sym own_events ∙ nothing))
-    seen (inr h) free k here some = let w = holding h in accounted w.fuel k here some (w.registers free k n here some)
+    pub seen : (events_of thread R ≡ []) ⊎ IsHoldingIn m code R thread at lowered → (k : ℕ) → register_of code at k ≡ n → 0 < n → ThreadHolds m R thread 0 n
+    seen (inl nothing) k here some = absurd (no_first b.own.begins (events_of thread b.own.after) (sym own_events ∙ nothing))
+    seen (inr h) k here some = let w = holding h in accounted w.fuel k here some (w.registers k n here some)

@@ -1,4 +1,3 @@
-use Rattle.std.proofs.Common.{◌≡◌}
 use Rattle.std.specs.Prelude.{reverse}
 use Rattle.sharc_code.specs.Whole.{Erase, place_after}
 use Rattle.sharc_gen.specs.OfRuns.{told_in}
