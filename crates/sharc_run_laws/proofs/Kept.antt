@@ -15,7 +15,7 @@ use Rattle.sharc_build.specs.Built.{IsBuilt}
 use Rattle.sharc_build.specs.Faithful.{CompiledIsFaithful}
 use Rattle.sharc_sound.specs.Compiled.{IsCompiled}
 use Rattle.sharc_sound.specs.Front.{IsFront}
-use Rattle.sharc_sound_laws.specs.Built.{BuiltIsSound}
+use Rattle.sharc_built_laws.specs.Sound.{BuiltIsSound}
 use Rattle.sharc_sound_laws.specs.Sound.{KeepsTo}
 use Rattle.sharc_top.specs.declared.ran.RunNumbers.{RunNumbers}
 use Rattle.sharc_top.specs.Running.{status_of, IsRunBy}
