@@ -1,4 +1,5 @@
 pub mod Sound
+pub mod Stands
 pub mod Typed
 pub mod Deadlock
 pub mod Reports

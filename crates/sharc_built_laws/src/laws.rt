@@ -3,15 +3,18 @@
 ghost use Rattle.sharc_built_laws.specs.Deadlock.{BuiltStuckIsDeadlock};
 ghost use Rattle.sharc_built_laws.specs.Reports.{BuiltObeyingIsUnreported, BuiltReportsShow};
 ghost use Rattle.sharc_built_laws.specs.Sound.{BuiltIsSound};
+ghost use Rattle.sharc_built_laws.specs.Stands.{BuiltRunsStand};
 ghost use Rattle.sharc_built_laws.specs.Typed.{BuiltIsTyped};
 
 use sharc_accepted_laws::laws::accepted_law;
 use sharc_build::fronts_are_typed;
+use sharc_code::range_laws;
 use sharc_sound_laws::{
     built_is_sound_if_typed, built_obeying_is_unreported_if_typed, built_reports_show_if_typed,
     built_stuck_is_deadlock_if_typed,
 };
 use sharc_source_laws::laws::{each_constant_is_held, numbers_have_no_sign};
+use sharc_stand_laws::laws::typed_runs_stand;
 
 /// The code that is built of a source is typed.
 pub fn built_is_typed()
@@ -54,4 +57,15 @@ pub fn built_reports_show()
 {
     built_is_typed();
     built_reports_show_if_typed();
+}
+
+/// And what stands of each such run beside: its threads tell what the program asks for and keep the pace, the machine invariant holds at each of its places, and
+/// what it reports is so.
+pub fn built_runs_stand()
+    ensures { BuiltRunsStand }
+{
+    built_is_typed();
+    fronts_are_typed();
+    range_laws();
+    typed_runs_stand();
 }
