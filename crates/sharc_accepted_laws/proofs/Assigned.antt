@@ -1,19 +1,18 @@
 -- Assignments, and calls whose value is dropped.
-use Rattle.std.proofs.Common.{◌≡◌, ℕ, ◌+◌, ◌<◌, Bool, true, false, List, length, refl, ap, sym, ◌∙◌, subst, arith, option_map, Option, Some, None, Contains}
+use Rattle.std.proofs.Common.{◌≡◌, ℕ, ◌<◌, Bool, true, false, List, length, refl, ap, sym, ◌∙◌, subst, option_map, Option, Some, None, Contains}
 use Rattle.std.proofs.lemmas.Bool.{false≢true}
 use Rattle.std.specs.List.{AllByRecursion}
 use Rattle.sharc_tree.specs.declared.token.Span.{Span}
-use Rattle.sharc_tree.specs.declared.tree.declaration.Identifier.{Identifier}
 use Rattle.sharc_tree.specs.declared.tree.declaration.WrittenType.{WrittenType}
 use Rattle.sharc_tree.specs.Forms.{is_lvalue, without_parentheses}
 use Rattle.sharc_tree.specs.Low.{is_call, LowSimple}
 use Rattle.sharc_tree.specs.Measures.{expressions, in_option, in_right, in_simple, in_function}
 use Rattle.sharc_tree.specs.Tree.{Expression, Right, value, malloc, Simple, assign, does_call, Function}
 use Rattle.sharc_tree.specs.Tree as tree
-use Rattle.sharc_names.specs.declared.fault.Named.TheVariants as named
 use Rattle.sharc_names.specs.Kinds.{Kind, is_integer, is_pointer, same_kind, declared_kind}
-use Rattle.sharc_code.specs.declared.instr.Register.TheVariants.{Int}
-use Rattle.sharc_ctype.specs.Resolved.{Resolution, functions_in, named_at, named_kind, declaration_at, variable_kind}
+use Rattle.sharc_code.specs.declared.instr.Register.{Register}
+use Rattle.sharc_code.specs.declared.instr.Register.TheVariants.{Int, Reference}
+use Rattle.sharc_ctype.specs.Resolved.{Resolution, functions_in}
 use Rattle.sharc_ctype.specs.Statements.{made}
 use Rattle.sharc_ctype.specs.Transfers.{Agrees}
 use Rattle.sharc_ctype_laws.specs.Rules.{IsHeld, MeetsSimple}
@@ -22,33 +21,32 @@ use Rattle.sharc_meaning.specs.State.{is_reference}
 use Rattle.sharc_mode.specs.Cells.{cell_at, pointed}
 use Rattle.sharc_mode.specs.Moded.{Assignment}
 use Rattle.sharc_mode.specs.Notes.{base_of}
-use Rattle.sharc_mode.specs.Rows.{Row, written, row_at, named_row, modes_of, modes_at}
+use Rattle.sharc_mode.specs.Rows.{Row, row_at, modes_of, modes_at}
 use Rattle.sharc_mode.specs.Sharings.{Sharing}
 use Rattle.sharc_mode_laws.specs.Constructs.{IsExpression, IsAssigned}
 use Rattle.sharc_flat.specs.Flattened.{kind_of, is_ref, target_of}
 use Rattle.sharc_flat.specs.Places.{Target, variable, in_global, in_global_at, in_object, in_object_at, width_of}
-use Rattle.sharc_flat.specs.Scope.{Context, slot_kind, ref_count, register_of, number_in}
+use Rattle.sharc_flat.specs.Scope.{Context, slot_kind, register_of, number_in}
 use Rattle.sharc_flat.specs.Suits.{PlaceSuits, LeftSuits, RightSuits, SimpleSuits, CountSuits, IfThere, is_cell}
 use Rattle.sharc_invariant.specs.Types.{Targets, StaticType, cells_of}
 use Rattle.sharc_invariant.specs.Labels.{Empty, Refers}
 use Rattle.sharc_labels_laws.specs.Stretches.{Setting}
-use Rattle.sharc_labels_laws.specs.Typable.{GoesTo, type_by, IsTypeIn, IsTypable}
+use Rattle.sharc_labels_laws.specs.Typable.{GoesTo, type_by, IsTypeIn, IsTypable, VariableTyped}
 use Rattle.sharc_labels_laws.specs.Stated.{IsMade, CountTypable, ValueGoes, RightTypable, VariableAssigned, CellAssigned, Assigned, Dropped, SimpleTypable}
 use Rattle.sharc_static_laws.specs.Held.{HeldLaws, held_at}
 use Rattle.sharc_static_laws.specs.Laws.{GivenLaws}
 use Rattle.sharc_static_laws.specs.Scopes.{ScopeLaws, AllStand}
 use Rattle.sharc_static_laws.specs.Standing.{ExpressionStands, ExpressionsStand}
-use Rattle.sharc_static_laws.specs.Static.{register, static_of, variable_type, entry_by, entry_of, variable_entry}
+use Rattle.sharc_static_laws.specs.Static.{static_of, entry_by, entry_of}
 use Rattle.sharc_target_laws.specs.Laws.{IsRowOf, NumbersFound, ExpressionsFound}
 use Rattle.sharc_target_laws.specs.Pointees.{pointee, PointeesFit}
 use Rattle.sharc_target_laws.specs.Shapes.{row_shape}
 use Rattle.sharc_target_laws.specs.Targets.{targets_of}
 use Rattle.sharc_typable_laws.specs.Laws.{IsAt, ValueLaws}
-use Rattle.sharc_typable_laws.specs.Typing.{typing, width_named}
+use Rattle.sharc_typable_laws.specs.Typing.{typing}
 use Rattle.sharc_accepted_laws.specs.Statements.{IsPlaceIn, IsThere, AreExpressionsTypable}
 use Rattle.sharc_accepted_laws.proofs.Members.{front, back, each, place_there}
-use Rattle.sharc_accepted_laws.proofs.Registers.{reference_found, integer_found}
-use Rattle.sharc_accepted_laws.proofs.Sorts.{integer_is, reference_no_integer, integer_want, held_pointer, no_function_held, made_pointer, made_element, element_some}
+use Rattle.sharc_accepted_laws.proofs.Sorts.{integer_is, reference_no_integer, integer_want, held_pointer, held_integer, no_function_held, made_pointer, made_element, element_some}
 use Rattle.sharc_accepted_laws.proofs.Wholes.{Facts, IsName, variable_named}
 
 -- an expression is the first of those that it has
@@ -91,21 +89,13 @@ module _ (c : Context) where
     kind : kind_of c e ≡ kind_of c (without_parentheses e)
 
   bare_of : (e : Expression) → Bare e
-  bare_of (tree.identifier s i) = record { entry = refl; kind = refl }
-  bare_of (tree.constant s k) = record { entry = refl; kind = refl }
   bare_of (tree.parentheses s a) = let b = bare_of a in record { entry = b.entry; kind = b.kind }
-  bare_of (tree.call s f all) = record { entry = refl; kind = refl }
-  bare_of (tree.spawn s f a) = record { entry = refl; kind = refl }
-  bare_of (tree.on_value s w a) = record { entry = refl; kind = refl }
-  bare_of (tree.on_place s w a) = record { entry = refl; kind = refl }
-  bare_of (tree.cast s t a) = record { entry = refl; kind = refl }
-  bare_of (tree.index s a i) = record { entry = refl; kind = refl }
-  bare_of (tree.field s a w n) = record { entry = refl; kind = refl }
-  bare_of (tree.unary s o a) = record { entry = refl; kind = refl }
-  bare_of (tree.binary s o at a b) = record { entry = refl; kind = refl }
+  bare_of _ = record { entry = refl; kind = refl }
 
-  named_entry : (s : Span) (i : Identifier) (x : ℕ) → named_at c.program.typed i.site.token ≡ named.Variable x → entry_of c (tree.identifier s i) ≡ Refers (variable_type c x)
-  named_entry s i x names = ap (λ n. Refers (static_of c (named_kind c.program.typed n) (modes_of c.program (named_row c.program.typed written n)))) names
+-- and what stands there
+bare_there : (g : Function) (c : Context) (e : Expression) → IsThere g c e → IsThere g c (without_parentheses e)
+bare_there g c (tree.parentheses s a) t = bare_there g c a (record { inside = t.inside.1; stands = t.stands.1 })
+bare_there g c _ t = t
 
 -- ---- parts of a function
 module _ (z : Setting) (alone : ℕ → Bool) (n : ℕ) (g : Function) (c : Context) (here : IsPlaceIn z alone n g c) where
@@ -219,30 +209,26 @@ module _ (laws : Laws) (z : Setting) (alone : ℕ → Bool) (n : ℕ) (g : Funct
     s = type_by (entry_of c u)
 
     variable_is : (y : ℕ) → target_of c u ≡ variable y → slot_kind c.scope y ≡ Some (is_ref c u) → VariableAssigned z n typing c (kind_of c u) (type_by (entry_of c u)) (register_of c.scope y)
-    variable_is y to slot = by (is_ref c u) refl slot
+    variable_is y to slot = by (register_of c.scope y) refl typed
       where
         name : IsName c.program.typed g facts u y
         name = variable_named c.program.typed g facts u (kind_of c u) (facts.typed u (first_of (Contains (in_function g)) u there.inside)) lvalue (no_function_held (kind_of c u) holds) there.inside y to
 
-        entry : entry_of c u ≡ Refers (variable_type c y)
-        entry = (bare_of c u).entry ∙ ap (entry_of c) name.bare ∙ named_entry c name.span name.name y name.names
+        kind : kind_of c u ≡ kind_of c (tree.identifier name.span name.name)
+        kind = (bare_of c u).kind ∙ ap (kind_of c) name.bare
 
-        kind : kind_of c u ≡ variable_kind (declaration_at c.program.typed y)
-        kind = (bare_of c u).kind ∙ ap (kind_of c) name.bare ∙ ap (named_kind c.program.typed) name.names
+        entry : entry_of c u ≡ entry_of c (tree.identifier name.span name.name)
+        entry = (bare_of c u).entry ∙ ap (entry_of c) name.bare
 
-        by : (b : Bool) → is_ref c u ≡ b → slot_kind c.scope y ≡ Some b → VariableAssigned z n typing c (kind_of c u) (type_by (entry_of c u)) (register_of c.scope y)
-        by true is slot =
-            let q = reference_found 0 0 c.scope y slot in
-            let h = laws.scopes.has c y slot in
-            let same : register c y ≡ q.0 = ap number_in q.1 in
-            let pointer : type_by (variable_entry c q.0) ≡ type_by (entry_of c u) = ap type_by (subst (λ k. variable_entry c k ≡ Refers (variable_type c y)) same h.2) ∙ sym (ap type_by entry) in
-            subst (VariableAssigned z n typing c (kind_of c u) (type_by (entry_of c u))) (sym q.1)
-            (is, subst (λ k. k < ref_count c.scope) same h.0, pointer, subst (λ k. held_at c k ≡ false) same (laws.held.assigned c u x name.span name.name y does name.bare name.names slot))
-        by false is slot =
-            let f = integer_found 0 0 c.scope y slot in
-            let zero_more : 0 + f.at ≡ f.at = omega arith in
-            subst (VariableAssigned z n typing c (kind_of c u) (type_by (entry_of c u))) (sym (f.is ∙ ap Int zero_more))
-            (is, f.low, ap (width_named c) f.token ∙ ap width_of (sym kind))
+        typed : VariableTyped z n typing c (tree.identifier name.span name.name) (register_of c.scope y)
+        typed = laws.values.variables z n c here.set.accepted name.span name.name y (at_of (tree.identifier name.span name.name) (subst (IsThere g c) name.bare (bare_there g c u there))) name.names
+            (slot ∙ ap (λ k. Some (is_reference k)) kind) (λ no. ap is_integer (sym kind) ∙ held_integer (kind_of c u) holds (ap is_reference kind ∙ no))
+
+        by : (q : Register) → register_of c.scope y ≡ q → VariableTyped z n typing c (tree.identifier name.span name.name) q → VariableAssigned z n typing c (kind_of c u) (type_by (entry_of c u)) q
+        by (Int j) is v = (ap is_reference kind ∙ v.0.0, v.1, v.2 ∙ ap width_of (sym kind))
+        by (Reference q) is v =
+            let ref : is_ref c u ≡ true = ap is_reference kind ∙ v.0 in
+            (ref, v.1, sym (ap type_by (entry ∙ v.2)), subst (λ k. held_at c k ≡ false) (ap number_in is) (laws.held.assigned c u x name.span name.name y does name.bare name.names (slot ∙ ap Some ref)))
 
     cell_is : (t : Target) → target_of c u ≡ t → is_cell t ≡ true → CellAssigned z n typing c u (type_by (entry_of c u)) t (is_ref c u)
     cell_is t to cell = subst (λ t. CellAssigned z n typing c u (type_by (entry_of c u)) t (is_ref c u)) to (typable.written c here u x there placed does holds (ap is_cell to ∙ cell))

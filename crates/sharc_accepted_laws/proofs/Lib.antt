@@ -14,7 +14,6 @@ pub mod Linked
 pub mod Locals
 pub mod Members
 pub mod Named
-pub mod Registers
 pub mod Slots
 pub mod Sorts
 pub mod Spawns

@@ -74,3 +74,4 @@ pub mod Unemptied
 pub mod Woken
 pub mod Placed
 pub mod Stuck
+pub mod Spawned

@@ -11,6 +11,7 @@ ghost use Rattle.sharc_history_laws.specs.SeenCells.{CellsAreSeen};
 ghost use Rattle.sharc_history_laws.specs.Starts.{StartsAreSpawned};
 ghost use Rattle.sharc_history_laws.specs.Stores.{StoresAreLegal};
 ghost use Rattle.sharc_history_laws.specs.Stuck.{AwaitedMayNotCome};
+ghost use Rattle.sharc_history_laws.specs.Threads.{RunsTellThreads};
 ghost use Rattle.sharc_history_laws.specs.Waiters.{EventsMayCome};
 
 use sharc_code::{run_laws, standing_laws};
@@ -173,4 +174,15 @@ pub fn stuck_law()
     state_stands();
     cells_are_there();
     awaits_law();
+}
+
+/// Thread 0 and each thread that a Spawn has answered in such a run were started, a thread that has ended is gone by the events, and one that was stopped goes
+/// on no more.
+pub fn threads_law()
+    ensures { RunsTellThreads }
+{
+    run_laws();
+    begins();
+    keeps();
+    cells_are_there();
 }

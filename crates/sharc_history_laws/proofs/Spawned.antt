@@ -1,0 +1,67 @@
+-- Which threads were started and have ended, at each place of a run.
+use Rattle.std.proofs.Common.{◌≡◌, Bool, true, false, ◌||◌, List, [], ◌∷◌, is_some, refl, sym, ap, subst, arith}
+use Rattle.std.specs.Prelude.{nat_eq, slice_index}
+use Rattle.std.proofs.lemmas.List.FromFn.{get_or-map-range_with_len}
+use Rattle.sharc_code.specs.declared.code.Code.{Code}
+use Rattle.sharc_code.specs.declared.shape.Shape.{Shape}
+use Rattle.sharc_code.specs.Laws.{RunLaws}
+use Rattle.sharc_code.specs.Layout.{Fits, state_word, words_of}
+use Rattle.sharc_code.specs.Opening.{opening_words, opens_with}
+use Rattle.sharc_code.specs.Runs.{Turn, IsRun, is_started, opening_of, words_now}
+use Rattle.sharc_code.specs.Whole.{one_thread, bounds, place_after}
+use Rattle.sharc_invariant.specs.Types.{Targets}
+use Rattle.sharc_invariant.specs.Labels.{Labels}
+use Rattle.sharc_invariant.specs.Laws.{Keeps, Begins as CodeBegins, CellsAreThere, PointersAreThere, AccessesAreAllowed}
+use Rattle.sharc_invariant.specs.State.{IsSmall}
+use Rattle.sharc_invariant.specs.Typed.{IsWellTyped}
+use Rattle.sharc_invariant.specs.Words.{is_ended}
+use Rattle.sharc_history_laws.specs.Threads.{ThreadsAreTold}
+use Rattle.sharc_history_laws.proofs.Consists.{Consists, consists_then, at_first}
+use Rattle.sharc_history_laws.proofs.Lists.{Newest}
+use Rattle.sharc_history_laws.proofs.Logged.{lacking}
+use Rattle.sharc_history_laws.proofs.Rules.{newest, newest_now}
+use Rattle.sharc_history_laws.proofs.Threaded.{ThreadsTold, threads_then, nobody_yet}
+
+yes : true ≡ false → ⊥
+yes e = cc
+
+or_right : (a b : Bool) → b ≡ true → (a || b) ≡ true
+or_right true b e = refl
+or_right false b e = e
+
+-- ---- thread 0
+module _ (code : Code) (s : Shape) where
+  first_word : slice_index (opening_words code s) (state_word 0) ≡ 1
+  first_word = get_or-map-range_with_len (opens_with code s) 0 (words_of s) (state_word 0) (state_word 0) 0 (omega arith) (omega arith)
+
+  pub first_started : (run : List Turn) → (place_after code s run).started 0 ≡ true
+  first_started [] = ap (λ n. nat_eq n 1) first_word
+  first_started (one ∷ earlier) = or_right (is_started bounds (words_now (place_after code s earlier).words one.event) 0) ((place_after code s earlier).started 0) (first_started earlier)
+
+-- ---- each thread
+pub record Spawned (x : Targets) (code : Code) (s : Shape) (ls : Labels) (run : List Turn) : Type 0 where
+  pub consists : Consists x code s ls run
+  pub threads : ThreadsTold (newest code s run) (place_after code s run)
+
+module _ (cell_laws : CellsAreThere) (pointers : PointersAreThere) (rights : AccessesAreAllowed) (laws : RunLaws) (begins_law : CodeBegins) (keeps : Keeps) (x : Targets) (code : Code) (s : Shape) (ls : Labels) (wt : IsWellTyped x code ls) (fits : Fits code s) (few : IsSmall code s) where
+  spawned : (run : List Turn) → IsRun bounds (one_thread code s) (opening_of bounds (one_thread code s) (opening_words code s)) run → Spawned x code s ls run
+  spawned [] run = record { consists = at_first begins_law x code s ls wt fits; threads = nobody_yet (place_after code s []) (λ t is. yes (sym is)) }
+  spawned (one ∷ earlier) run =
+      let old = spawned earlier run.0 in
+      let h = old.consists in
+      let may = run.1 in
+      record {
+        consists = consists_then laws keeps cell_laws pointers x code s ls wt fits few one earlier h may;
+        threads = subst (λ (L : Newest). ThreadsTold L (place_after code s (one ∷ earlier))) (sym (newest_now code s one earlier))
+            (threads_then cell_laws pointers rights laws keeps x code s ls wt fits few one earlier h may (newest code s earlier) old.threads);
+      }
+
+  pub threads_told : (run : List Turn) → IsRun bounds (one_thread code s) (opening_of bounds (one_thread code s) (opening_words code s)) run → ThreadsAreTold code s run
+  threads_told run is_run =
+      let h = spawned run is_run in
+      record {
+        first = first_started code s run;
+        spawned = h.threads.spawned;
+        ended = λ t e. h.threads.gone t (ap is_ended e);
+        stopped = λ t stop e. (lacking cell_laws pointers rights laws begins_law keeps x code s ls wt fits few run is_run).halts t (ap (λ o. is_some o) e);
+      }

@@ -1,0 +1,216 @@
+-- Flat code by what its events answer, and what it gives up on its way.
+use Rattle.std.proofs.Common.{◌≡◌, ℕ, zero, suc, ℤ, pos, negsuc, ◌+◌, ◌-◌, ◌*◌, ◌≤◌, ◌⊎◌, inl, inr, Bool, true, false, not, List, [], ◌∷◌, ◌++◌, length, refl, sym, ap, ◌∙◌, subst, arith, Some, None, Option, Ok, Err, Result, nat_lt, cond, slice_get, append_assoc, append-nil}
+use Rattle.sharc_tree.specs.declared.event.Act.{Act}
+use Rattle.sharc_tree.specs.declared.event.Act.TheVariants as acts
+use Rattle.sharc_tree.specs.declared.event.CellAt.{CellAt}
+use Rattle.sharc_tree.specs.declared.event.CellMode.{CellMode}
+use Rattle.sharc_tree.specs.declared.event.SourceEvent.{SourceEvent}
+use Rattle.sharc_tree.specs.declared.event.Taken.TheVariants as taken
+use Rattle.sharc_meaning.specs.declared.given.GivenUp.{GivenUp}
+use Rattle.sharc_meaning.specs.declared.given.GivenUp.TheVariants.{Emptied, Released, Replaced}
+use Rattle.sharc_meaning.specs.Arithmetic.{is_zero, null_base, out_of_bounds, out_of_range, mutex_not_held, mutex_already_held, calls_too_deep, returns_with_a_lock, size_not_positive, too_many_locks}
+use Rattle.sharc_meaning.specs.Events.{held_mutexes, holds_mutex}
+use Rattle.sharc_meaning.specs.Reference.{is_null, elements_of, number_of}
+use Rattle.sharc_meaning.specs.State.{answer_of, event_of}
+use Rattle.sharc_meaning.specs.Statements.{is_positive}
+use Rattle.sharc_code.specs.Arithmetic.{computed, negated, holds}
+use Rattle.sharc_code.specs.declared.code.GlobalCells.{GlobalCells}
+use Rattle.sharc_code.specs.declared.instr.Cell.{Cell}
+use Rattle.sharc_flat_form.specs.declared.op.Op.{Op}
+use Rattle.sharc_flat_form.specs.declared.op.Op.TheVariants as op
+use Rattle.sharc_flat_form.specs.declared.op.Spot.{Spot}
+use Rattle.sharc_flat_form.specs.Machine.{Flat, At, Caller, Turn, goes, asks, halts, int, ref, goes_on, next, over_lines, stops, asserts, with_result, set_int, set_ref, gives_up, kind_of, cell_at, mode_of, accessed, accesses, lock_is_null, indexed, takes_local, returned, called, op_turn, end_turn, line_turn, turn, exec, start, begun, first_at, function_of, handed, with_event, without_base}
+use Rattle.sharc_flat_form.specs.Path.{after, at_after, may_go, asked, asked_by, IsPath, PathsAreRuns}
+use Rattle.sharc_meaning.specs.Runs.{answers_of}
+use Rattle.sharc_code.specs.declared.code.Parameter.{Parameter}
+use Rattle.sharc_code.specs.declared.code.Parameter.TheVariants as parameters
+use Rattle.sharc_code.specs.declared.instr.Cell.TheVariants as cells
+use Rattle.sharc_code.specs.declared.instr.Register.{Register}
+use Rattle.sharc_code.specs.declared.instr.Register.TheVariants as registers
+use Rattle.std.proofs.lemmas.List.{map-append}
+
+-- ---- events, and what is given up
+-- no event is told, and nothing is taken back of what was given up
+abbrev pub IsStill : At → At → Type 0
+IsStill m m2 = (m2.events ≡ m.events) × (extra : List GivenUp) × (m2.given ≡ m.given ++ extra)
+
+-- nor by a turn before it is answered; and what comes with the answer tells no other event
+abbrev pub IsQuiet : At → Turn → Type 0
+IsQuiet m (goes m2) = IsStill m m2
+IsQuiet m (asks m2 site act held go) = IsStill m m2 × (m2.refs ≡ m.refs) × ((v : ℤ) (n : At) → (go v n).events ≡ n.events)
+IsQuiet m (halts o) = Unit {0}
+
+-- as much is given up
+pub same_given : (m : At) → m.given ≡ m.given ++ []
+same_given m = sym (append-nil m.given)
+
+cond_quiet : (b : Bool) (x y : Turn) (m : At) → IsQuiet m x → IsQuiet m y → IsQuiet m (cond b x y)
+cond_quiet true x y m p q = p
+cond_quiet false x y m p q = q
+
+asserts_quiet : (b : Bool) (code : ℕ) (spot : Spot) (m : At) → IsQuiet m (asserts b code spot m)
+asserts_quiet b code spot m = cond_quiet b (goes_on m) (stops code spot) m (refl, [], same_given m) tt
+
+result_quiet : (i : ℕ) (spot : Spot) (m : At) (r : Result ℤ ℕ) → IsQuiet m (with_result i spot m r)
+result_quiet i spot m (Ok v) = (refl, [], same_given m)
+result_quiet i spot m (Err code) = tt
+
+indexed_quiet : (i cells field : ℕ) (v : ℤ) (elements : ℕ) (spot : Spot) (m : At) → IsQuiet m (indexed i cells field v elements spot m)
+indexed_quiet i cells field (pos n) elements spot m = cond_quiet (nat_lt n elements) (goes_on (set_int i (pos (n * cells + field)) m)) (stops out_of_bounds spot) m (refl, [], same_given m) tt
+indexed_quiet i cells field (negsuc n) elements spot m = tt
+
+skip_quiet : (b : Bool) (n : ℕ) (m : At) → IsStill m (cond b (over_lines n m) (next m))
+skip_quiet true n m = (refl, [], same_given m)
+skip_quiet false n m = (refl, [], same_given m)
+
+accesses_quiet : (globals : List GlobalCells) (cell : Cell) (spot : Spot) (act : CellAt → CellMode → Act) (then_ : CellAt → ℤ → At → At) (m : At) → ((c : CellAt) (v : ℤ) (n : At) → (then_ c v n).events ≡ n.events)
+    → IsQuiet m (accesses globals cell spot act then_ m)
+accesses_quiet globals cell spot act then_ m k =
+    cond_quiet (lock_is_null m spot spot.mode) (stops null_base spot)
+    (asks m spot.site (act (cell_at globals m cell) (mode_of globals m (cell_at globals m cell) spot.mode)) (pos 0) (λ v n. accessed (next (then_ (cell_at globals m cell) v n)))) m tt
+    ((refl, [], same_given m), refl, k (cell_at globals m cell))
+
+returned_quiet : (flat : Flat) (frames : List Caller) (spot : Spot) (m : At) → IsQuiet m (returned flat frames spot m)
+returned_quiet flat [] spot m = cond_quiet (not (nat_lt 0 (length (held_mutexes m.events)))) (goes (record m { pc = length flat.lines })) (stops returns_with_a_lock spot) m (refl, [], same_given m) tt
+returned_quiet flat (c ∷ rest) spot m = (refl, [], same_given m)
+
+takes_quiet : (r x : ℕ) (spot : Spot) (m : At) (b : Bool) → IsQuiet m (takes_local r x spot m b)
+takes_quiet r x spot m true = (refl, [], same_given m)
+takes_quiet r x spot m false = ((refl, [], same_given m), refl, λ v n. refl)
+
+base_events : (cell : Cell) (n : At) → (without_base cell n).events ≡ n.events
+base_events (cells.Global g place) n = refl
+base_events (cells.GlobalAt g i) n = refl
+base_events (cells.Object r k) n = refl
+base_events (cells.ObjectAt r i) n = refl
+
+handed_events : (from : Register) (n : At) → (handed from n).events ≡ n.events
+handed_events (registers.Int i) n = refl
+handed_events (registers.Reference r) n = refl
+
+op_quiet : (flat : Flat) (o : Op) (m : At) → IsQuiet m (op_turn flat o m)
+op_quiet flat (op.Compute width o i a b spot) m = result_quiet i spot m (computed width o (int m a) (int m b))
+op_quiet flat (op.Negate width i a spot) m = result_quiet i spot m (negated width (int m a))
+op_quiet flat (op.ChkWidth width i spot) m = asserts_quiet (holds width (int m i)) out_of_range spot m
+op_quiet flat (op.SkipIfZero i n) m = skip_quiet (is_zero (int m i)) n m
+op_quiet flat (op.SkipIfNull r n) m = skip_quiet (is_null (ref m r)) n m
+op_quiet flat (op.Call f ints refs spot) m = cond_quiet (nat_lt (length m.frames) 255) (goes (called flat f ints refs m)) (stops calls_too_deep spot) m (refl, [], same_given m) tt
+op_quiet flat (op.Return spot) m = returned_quiet flat m.frames spot m
+op_quiet flat (op.ChkNull r spot) m = asserts_quiet (not (is_null (ref m r))) null_base spot m
+op_quiet flat (op.ChkPositive i spot) m = asserts_quiet (is_positive (int m i)) size_not_positive spot m
+op_quiet flat (op.ChkHeld cell spot) m = asserts_quiet (holds_mutex m.events (cell_at flat.globals m cell)) mutex_not_held spot m
+op_quiet flat (op.ChkNotHeld cell spot) m = asserts_quiet (not (holds_mutex m.events (cell_at flat.globals m cell))) mutex_already_held spot m
+op_quiet flat (op.ChkRoom spot) m = asserts_quiet (nat_lt (length (held_mutexes m.events)) 16) too_many_locks spot m
+op_quiet flat (op.Bounds i r cells field spot) m = indexed_quiet i cells field (int m i) (elements_of (ref m r)) spot m
+op_quiet flat (op.GlobalBounds i elements cells field spot) m = indexed_quiet i cells field (int m i) elements spot m
+op_quiet flat (op.Load i cell spot) m = accesses_quiet flat.globals cell spot acts.Read (λ c v. set_int i v) m (λ c v n. refl)
+op_quiet flat (op.Store i cell spot) m = accesses_quiet flat.globals cell spot (λ c mode. acts.Write c mode (int m i)) (λ c v n. n) m (λ c v n. refl)
+op_quiet flat (op.LoadRef r cell spot) m = accesses_quiet flat.globals cell spot acts.Read (λ c v. set_ref r v) m (λ c v n. refl)
+op_quiet flat (op.StoreRef r cell spot) m = accesses_quiet flat.globals cell spot (λ c mode. acts.Write c mode (ref m r)) (λ c v n. gives_up (Replaced c) (set_ref r (pos 0) n)) m (λ c v n. refl)
+op_quiet flat (op.TakeCell r cell spot) m = accesses_quiet flat.globals cell spot (λ c mode. acts.Take (taken.Cell c mode) (kind_of spot.at)) (λ c v. set_ref r v) m (λ c v n. refl)
+op_quiet flat (op.TakeLocal r x spot) m = takes_quiet r x spot m (is_null (ref m x))
+op_quiet flat (op.Pop r) m = (refl, Released (number_of (ref m r)) ∷ [], refl)
+op_quiet flat (op.Settle x from) m = (refl, Released (number_of (ref m x)) ∷ [], refl)
+op_quiet flat (op.Free r layout spot) m = ((refl, Emptied (number_of (ref m r)) ∷ [], refl), refl, λ v n. refl)
+op_quiet flat (op.LoadGuard cell spot) m = ((refl, [], same_given m), refl, λ v n. refl)
+op_quiet flat (op.New r count cells spot) m = ((refl, [], same_given m), refl, λ v n. refl)
+op_quiet flat (op.Give r cells spot) m = ((refl, [], same_given m), refl, λ v n. refl)
+op_quiet flat (op.Lock cell spot) m = ((refl, [], same_given m), refl, λ v n. base_events cell n)
+op_quiet flat (op.Unlock r cell spot) m = ((refl, [], same_given m), refl, λ v n. refl)
+op_quiet flat (op.CondEnter cell spot) m = ((refl, [], same_given m), refl, λ v n. refl)
+op_quiet flat (op.CondWait cell spot) m = ((refl, [], same_given m), refl, λ v n. refl)
+op_quiet flat (op.CondSignal cell spot) m = ((refl, [], same_given m), refl, λ v n. refl)
+op_quiet flat (op.CondBroadcast cell spot) m = ((refl, [], same_given m), refl, λ v n. refl)
+op_quiet flat (op.Spawn i f from spot) m = ((refl, [], same_given m), refl, λ v n. handed_events from n)
+op_quiet flat (op.Join i spot) m = ((refl, [], same_given m), refl, λ v n. refl)
+op_quiet flat (op.Print i spot) m = ((refl, [], same_given m), refl, λ v n. refl)
+op_quiet flat _ m = (refl, [], same_given m)
+
+pub line_quiet : (flat : Flat) (o : Option Op) (m : At) → IsQuiet m (line_turn flat o m)
+line_quiet flat (Some o) m = op_quiet flat o m
+line_quiet flat None m = by_place (m.pc - length flat.lines)
+  where
+    by_place : (n : ℕ) → IsQuiet m (end_turn flat m n)
+    by_place zero = ((refl, [], same_given m), refl, λ v n. refl)
+    by_place (suc zero) = ((refl, [], same_given m), refl, λ v n. refl)
+    by_place (suc (suc n)) = tt
+
+-- what a turn answers, by what it was told
+abbrev given_by : Turn → ℤ → ℤ
+given_by (goes m2) x = x
+given_by (asks m2 site act held go) x = answer_of (λ token. held) act x
+given_by (halts o) x = x
+
+abbrev pub given_in : Flat → At → List ℤ → List ℤ
+given_in flat m [] = []
+given_in flat m (x ∷ earlier) = given_by (turn flat (at_after flat m earlier)) x ∷ given_in flat m earlier
+
+again : (held : ℤ) (act : Act) (x : ℤ) → answer_of (λ token. held) act (answer_of (λ token. held) act x) ≡ answer_of (λ token. held) act x
+again held (acts.Take (taken.Cell c mode) kind) x = refl
+again held (acts.Take (taken.Local token) kind) x = refl
+again held _ x = refl
+
+same_after : (m : At) (t : Turn) (x : ℤ) → after m t (given_by t x) ≡ after m t x
+same_after m (goes m2) x = refl
+same_after m (asks m2 site act held go) x = ap (λ a. go a (with_event (event_of site act a) m2)) (again held act x)
+same_after m (halts o) x = refl
+
+pub given_same : (flat : Flat) (m : At) (answers : List ℤ) → at_after flat m (given_in flat m answers) ≡ at_after flat m answers
+given_same flat m [] = refl
+given_same flat m (x ∷ earlier) =
+    let t = turn flat (at_after flat m earlier) in
+    ap (λ n. after n (turn flat n) (given_by t x)) (given_same flat m earlier) ∙ same_after (at_after flat m earlier) t x
+
+pub given_path : (flat : Flat) (m : At) (answers : List ℤ) → IsPath flat m answers → IsPath flat m (given_in flat m answers)
+given_path flat m [] path = tt
+given_path flat m (x ∷ earlier) path = (given_path flat m earlier path.0, subst (λ n. may_go (turn flat n) ≡ true) (sym (given_same flat m earlier)) path.1)
+
+-- each turn that asks tells one event, with this answer
+told_one : (t : Turn) (now : At) (x : ℤ) → IsQuiet now t → answers_of (after now t x).events ≡ answers_of now.events ++ asked_by t (given_by t x)
+told_one (goes m2) now x q = ap answers_of q.0 ∙ sym (append-nil (answers_of now.events))
+told_one (asks m2 site act held go) now x q =
+    let answer = answer_of (λ token. held) act x in
+    let e = event_of site act answer in
+    ap answers_of (q.2 answer (with_event e m2)) ∙ map-append (λ (e : SourceEvent). e.answer) m2.events (e ∷ []) ∙ ap (λ es. answers_of es ++ answer ∷ []) q.0.0
+told_one (halts o) now x q = sym (append-nil (answers_of now.events))
+
+told_all : (flat : Flat) (m : At) (answers : List ℤ) → answers_of (at_after flat m answers).events ≡ answers_of m.events ++ asked flat m (given_in flat m answers)
+told_all flat m [] = sym (append-nil (answers_of m.events))
+told_all flat m (x ∷ earlier) =
+    let now = at_after flat m earlier in
+    let t = turn flat now in
+    told_one t now x (line_quiet flat (slice_get flat.lines now.pc) now) ∙ ap (λ xs. xs ++ asked_by t (given_by t x)) (told_all flat m earlier)
+    ∙ append_assoc (answers_of m.events) (asked flat m (given_in flat m earlier)) (asked_by t (given_by t x))
+    ∙ ap (λ n. answers_of m.events ++ (asked flat m (given_in flat m earlier) ++ asked_by (turn flat n) (given_by t x))) (sym (given_same flat m earlier))
+
+no_events : (flat : Flat) (f : ℕ) (v : ℤ) → (start flat f v).events ≡ []
+no_events flat f v = by (function_of flat f).parameter
+  where
+    by : (q : Parameter) → (begun q v (first_at flat f)).events ≡ []
+    by parameters.None = refl
+    by parameters.Int = refl
+    by parameters.Reference = refl
+
+-- ---- a path and its beginnings
+pub are_own : (flat : Flat) (f : ℕ) (v : ℤ) (answers : List ℤ) → asked flat (start flat f v) (given_in flat (start flat f v) answers) ≡ answers_of (at_after flat (start flat f v) answers).events
+are_own flat f v answers =
+    let st = start flat f v in
+    sym (told_all flat st answers ∙ ap (λ es. answers_of es ++ asked flat st (given_in flat st answers)) (no_events flat f v))
+
+module _ (runs : PathsAreRuns) (flat : Flat) (st : At) (answers : List ℤ) (path : IsPath flat st answers) where
+  -- past the path nothing is answered
+  goes_beyond : (k : ℕ) → exec flat (length answers + k) (asked flat st answers) st ≡ exec flat k [] (at_after flat st answers)
+  goes_beyond k = ap (λ xs. exec flat (length answers + k) xs st) (sym (append-nil (asked flat st answers))) ∙ runs flat st answers path k []
+
+  -- so many turns lead one turn beyond the path at least
+  pub record IsBeyond (later : ℕ) : Type 0 where
+    pub more : ℕ
+    pub is : exec flat later (asked flat st answers) st ≡ exec flat (suc more) [] (at_after flat st answers)
+
+  pub beyond : (later : ℕ) → (length answers + 1 ≤ later) ⊎ (exec flat (length answers + 1) (asked flat st answers) st ≡ exec flat later (asked flat st answers) st) → IsBeyond later
+  beyond later (inl le) =
+      let e : later ≡ length answers + suc (later - (length answers + 1)) = omega arith in
+      record { more = later - (length answers + 1); is = ap (λ n. exec flat n (asked flat st answers) st) e ∙ goes_beyond (suc (later - (length answers + 1))) }
+  beyond later (inr same) = record { more = 0; is = sym same ∙ goes_beyond 1 }
+
+-- ---- how it is over

@@ -1,0 +1,115 @@
+-- From what a thread's registers have to the references of its history.
+use Rattle.std.proofs.Common.{◌≡◌, ℕ, zero, suc, ℤ, pos, negsuc, ◌+◌, ◌-◌, ◌<◌, ◌≤◌, ◌==◌, ◌&&◌, ◌⊎◌, inl, inr, Bool, true, false, not, cond, List, [], ◌∷◌, ◌++◌, refl, sym, ap, ◌∙◌, subst, arith, eq-eqb, get_or, count_by, nat_lt, ltb-true, ltb-false, Option, Some, None}
+use Rattle.std.specs.Prelude.{filter, slice_index}
+use Rattle.std.proofs.lemmas.Bool.{false≢true}
+use Rattle.std.proofs.lemmas.List.Elements.{filter-append}
+use Rattle.std.proofs.lemmas.List.Sums.{sum_by-cons}
+use Rattle.sharc_tree.specs.declared.event.Act.TheVariants.{Started}
+use Rattle.sharc_tree.specs.declared.event.SourceEvent.{SourceEvent}
+use Rattle.sharc_tree.specs.declared.token.Site.{Site}
+use Rattle.sharc_names.specs.declared.fault.Named.TheVariants as named
+use Rattle.sharc_tree.specs.Tree.{Function}
+use Rattle.sharc_ctype.specs.Resolved.{Resolution, named_at, function_at}
+use Rattle.sharc_ctype_laws.specs.Declared.{NameThemselves}
+use Rattle.sharc_mode.specs.Moded.{Assignment}
+use Rattle.sharc_meaning.specs.Events.{events_of, is_of}
+use Rattle.sharc_meaning.specs.Reference.{is_null, number_of}
+use Rattle.sharc_meaning.specs.References.{refers, Begun, asked_with, held_count, ThreadHolds}
+use Rattle.sharc_meaning.specs.Runs.{IsNamedAt}
+use Rattle.sharc_code.specs.declared.code.Code.{Code}
+use Rattle.sharc_code.specs.declared.state.Stage.TheVariants.{Links}
+use Rattle.sharc_code.specs.Machine.{Machine}
+use Rattle.sharc_flat.specs.Correct.{MayStart}
+use Rattle.sharc_compile.specs.Held.{IsAmong, IsAccountedFor}
+use Rattle.sharc_compile_laws.specs.Threads.{TellsIn}
+use Rattle.sharc_sole_laws.specs.Holding.{IsHolding, IsHoldingIn}
+use Rattle.sharc_sole_laws.specs.InFlight.{IsInFlight, is_given, is_replaced, is_left}
+
+-- ---- one of a list
+number_refers : (n : ℕ) (v : ℤ) → number_of v ≡ n → 0 < n → refers n v ≡ true
+number_refers n (pos zero) is some = let none : 0 ≡ n = is in absurd (omega (arith, none, some))
+number_refers n (pos (suc k)) is some = eq-eqb (number_of (pos (suc k))) n is
+number_refers n (negsuc k) is some = eq-eqb (number_of (negsuc k)) n is
+
+among : (n : ℕ) (held : List ℤ) (j : ℕ) → number_of (get_or held j (pos 0)) ≡ n → 0 < n → 0 < count_by (refers n) held
+among n [] j is some = let none : 0 ≡ n = is in absurd (omega (arith, none, some))
+among n (v ∷ rest) zero is some = subst (λ k. 0 < k) (sym (sum_by-cons (λ x. cond (refers n x) 1 0) v rest)) (by (refers n v) (number_refers n v is some))
+  where
+    by : (b : Bool) → b ≡ true → 0 < cond b 1 0 + count_by (refers n) rest
+    by true h = omega arith
+    by false h = absurd (false≢true h)
+among n (v ∷ rest) (suc j) is some =
+    let later = among n rest j is some in
+    subst (λ k. 0 < k) (sym (sum_by-cons (λ x. cond (refers n x) 1 0) v rest)) (omega (arith, later))
+
+-- ---- the first event of a thread
+first_event : (thread : ℕ) (R before : List SourceEvent) (e : SourceEvent) (after : List SourceEvent) → R ≡ before ++ e ∷ after → events_of thread before ≡ [] → e.thread ≡ thread → events_of thread R ≡ e ∷ events_of thread after
+first_event thread R before e after is none own =
+    ap (events_of thread) is ∙ filter-append (is_of thread) before (e ∷ after) ∙ ap (λ es. es ++ events_of thread (e ∷ after)) none
+    ∙ ap (λ b. cond b (e ∷ events_of thread after) (events_of thread after)) (eq-eqb e.thread thread own)
+
+same_head : (a b : SourceEvent) (xs ys : List SourceEvent) → a ∷ xs ≡ b ∷ ys → a ≡ b
+same_head a b xs ys h = cc
+
+same_tail : (a b : SourceEvent) (xs ys : List SourceEvent) → a ∷ xs ≡ b ∷ ys → xs ≡ ys
+same_tail a b xs ys h = cc
+
+no_first : (a : SourceEvent) (xs : List SourceEvent) → a ∷ xs ≡ [] → ⊥
+no_first a xs h = cc
+
+same_argument : (v w : ℤ) → Started v ≡ Started w → v ≡ w
+same_argument v w h = cc
+
+-- two functions with one name are one
+same_function : (r : Resolution) → NameThemselves r → (n k : ℕ) (site : Site) → IsNamedAt (function_at r n) site → IsNamedAt (function_at r k) site → n ≡ k
+same_function r names n k site a b = by (function_at r n) (function_at r k) refl refl a b
+  where
+    number_eq : (a b : ℕ) → named.Function a ≡ named.Function b → a ≡ b
+    number_eq a b e = cc
+
+    by : (f g : Option Function) → function_at r n ≡ f → function_at r k ≡ g → IsNamedAt f site → IsNamedAt g site → n ≡ k
+    by None g p q a b = absurd a
+    by (Some f) None p q a b = absurd b
+    by (Some f) (Some g) p q a b =
+        let tokens = ap (λ (s : Site). named_at r s.token) (sym a ∙ b) in
+        number_eq n k (sym (names.functions n f p) ∙ tokens ∙ names.functions k g q)
+
+-- ---- a thread
+module _ (m : Assignment) (names : NameThemselves m.typed) (code : Code) (R : List SourceEvent) (thread : ℕ) (at : Machine) (lowered : List ℕ) (b : Begun m R thread) (may : MayStart m b.own.function) where
+  own_events : events_of thread R ≡ b.own.begins ∷ events_of thread b.own.after
+  own_events = first_event thread R b.own.before b.own.begins b.own.after b.own.stands b.own.first b.own.own
+
+  -- what it holds is told of the function and the events with which it was begun
+  holding : IsHoldingIn m code R thread at lowered → IsHolding m code b.own.function b.own.argument thread (events_of thread b.own.after) at lowered
+  holding h =
+      let t = h.tells in
+      let both : t.begins ∷ events_of thread t.after ≡ b.own.begins ∷ events_of thread b.own.after = sym (first_event thread R t.before t.begins t.after t.stands t.first t.own) ∙ own_events in
+      let begins : t.begins ≡ b.own.begins = same_head t.begins b.own.begins (events_of thread t.after) (events_of thread b.own.after) both in
+      let after : events_of thread t.after ≡ events_of thread b.own.after = same_tail t.begins b.own.begins (events_of thread t.after) (events_of thread b.own.after) both in
+      let argument : t.argument ≡ b.own.argument = same_argument t.argument b.own.argument (sym t.act ∙ ap (λ (e : SourceEvent). e.act) begins ∙ b.own.act) in
+      let function : t.function ≡ b.own.function = same_function m.typed names t.function b.own.function b.own.begins.site (subst (λ (e : SourceEvent). IsNamedAt (function_at m.typed t.function) e.site) begins t.site) b.own.site in
+      subst (λ f. IsHolding m code f b.own.argument thread (events_of thread b.own.after) at lowered) function
+      (subst (λ v. IsHolding m code t.function v thread (events_of thread b.own.after) at lowered) argument
+      (subst (λ es. IsHolding m code t.function t.argument thread es at lowered) after (h.holds (subst (MayStart m) (sym function) may))))
+
+  module _ (n : ℕ) (rests : IsInFlight code at lowered b n → ⊥) where
+    -- what it holds with some fuel it holds with more, since nothing is in flight
+    still_held : (fuel : ℕ) → 0 < held_count (asked_with b fuel) n → ThreadHolds m R thread 0 n
+    still_held fuel some = record { begun = b; from = fuel; holds = λ later le. by later le (nat_lt 0 (held_count (asked_with b later) n)) refl }
+      where
+        by : (later : ℕ) → fuel ≤ later → (t : Bool) → nat_lt 0 (held_count (asked_with b later) n) ≡ t → 0 < held_count (asked_with b later) n
+        by later le true h = ltb-true 0 (held_count (asked_with b later) n) h
+        by later le false h =
+            let low = ltb-false 0 (held_count (asked_with b later) n) h in
+            let none : held_count (asked_with b later) n ≡ 0 = omega (arith, low) in
+            let more : later ≡ fuel + (later - fuel) = omega (arith, le) in
+            absurd (rests (is_left fuel (later - fuel) some (subst (λ g. held_count (asked_with b g) n ≡ 0) more none)))
+
+    accounted : (fuel k : ℕ) → slice_index at.refs k ≡ n → 0 < n → IsAccountedFor code at lowered (asked_with b fuel) k n → ThreadHolds m R thread 0 n
+    accounted fuel k here some (inl held) = still_held fuel (among n (asked_with b fuel).held held.0 held.1 some)
+    accounted fuel k here some (inr (inl given)) = absurd (rests (is_given fuel given))
+    accounted fuel k here some (inr (inr old)) = absurd (rests (is_replaced fuel k here old))
+
+    pub seen : (events_of thread R ≡ []) ⊎ IsHoldingIn m code R thread at lowered → ((elements : ℕ) → at.own.stage ≡ Links elements → ⊥) → (k : ℕ) → slice_index at.refs k ≡ n → 0 < n → ThreadHolds m R thread 0 n
+    seen (inl nothing) free k here some = absurd (no_first b.own.begins (events_of thread b.own.after) (sym own_events ∙ nothing))
+    seen (inr h) free k here some = let w = holding h in accounted w.fuel k here some (w.registers free k n here some)

@@ -1,0 +1,45 @@
+//! The laws, each the contract of a function that calls at most the laws that it joins.
+
+ghost use Rattle.sharc_compile_laws.specs.Paths.{OfTyped};
+ghost use Rattle.sharc_sole_laws.specs.Holding.{PathsHold, ThreadsHold};
+ghost use Rattle.sharc_sole_laws.specs.Seeing.{ThreadsSee};
+
+use sharc_compile_laws::functions_are_named;
+use sharc_ctype_laws::laws::each_names_itself;
+use sharc_flat_form::laws::paths_are_runs;
+use sharc_flat_laws::laws::{typed_asks_the_same, typed_is_framed};
+use sharc_gen::{paths_law, run_paths_law};
+use sharc_guard::{counted_law, framed_law};
+use sharc_guard_laws::laws::{made_locks_stand, typed_is_level};
+
+/// What the registers of a thread of the code of a typed, well-moded program refer to, on each path whose results are consistent, the program holds or has given up that was
+/// asked by the answers of the thread's own events.
+pub fn path_holds()
+    ensures { OfTyped PathsHold }
+{
+    typed_asks_the_same();
+    typed_is_framed();
+    typed_is_level();
+    made_locks_stand();
+    functions_are_named();
+    paths_law();
+    framed_law();
+    counted_law();
+    paths_are_runs();
+}
+
+/// So it is of each thread of a checked run of that code, by threads in any order, where the results of the paths of all are consistent.
+pub fn thread_holds()
+    ensures { OfTyped ThreadsHold }
+{
+    path_holds();
+    run_paths_law();
+}
+
+/// So what the registers of a thread refer to is among the references of its history, where no reference to it is in flight.
+pub fn threads_see()
+    ensures { OfTyped ThreadsSee }
+{
+    thread_holds();
+    each_names_itself();
+}

@@ -1,0 +1,4 @@
+pub mod Quiet
+pub mod Cells
+pub mod Wanting
+pub mod Telling

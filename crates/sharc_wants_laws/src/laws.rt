@@ -1,0 +1,37 @@
+//! The laws, each the contract of a function that calls at most the laws that it joins.
+
+ghost use Rattle.sharc_compile_laws.specs.Paths.{OfTyped};
+ghost use Rattle.sharc_wants_laws.specs.Wants.{PathsWant, ThreadsWant};
+
+use sharc_compile_laws::functions_are_named;
+use sharc_flat_form::laws::paths_are_runs;
+use sharc_flat_laws::laws::{typed_asks_the_same, typed_is_framed};
+use sharc_gen::{paths_law, run_paths_law};
+use sharc_guard::{counted_law, framed_law, log_law};
+use sharc_guard_laws::laws::{made_locks_stand, typed_is_level};
+
+/// Each path of a thread of the code of a typed, well-moded program, whose results are consistent, has not begun, or is where the program is
+/// that was asked by the answers of its events: that wants next the Lock, the Join or the Woken for which the thread waits, the access that
+/// it makes or that it checks, and what A1 to A4 refused; and it has ended where the thread has.
+pub fn path_wants()
+    ensures { OfTyped PathsWant }
+{
+    typed_asks_the_same();
+    typed_is_framed();
+    typed_is_level();
+    made_locks_stand();
+    functions_are_named();
+    paths_law();
+    framed_law();
+    counted_law();
+    log_law();
+    paths_are_runs();
+}
+
+/// So it is of each thread of a checked run of that code, by threads in any order, where the results of the paths of all are consistent.
+pub fn thread_wants()
+    ensures { OfTyped ThreadsWant }
+{
+    path_wants();
+    run_paths_law();
+}
