@@ -11,6 +11,7 @@ use Rattle.sharc_code.specs.declared.code.Code.{Code}
 use Rattle.sharc_code.specs.declared.shape.Shape.{Shape}
 use Rattle.sharc_code.specs.Laws.{RunLaws}
 use Rattle.sharc_code.specs.Layout.{Fits, granules, granule_at, words_of, first_cell, cell_word, cell_of, length_word}
+use Rattle.sharc_code.specs.Machine.{Machine}
 use Rattle.sharc_code.specs.Opening.{opening_words}
 use Rattle.sharc_code.specs.Ranges.{IsInGlobal}
 use Rattle.sharc_code.specs.Runs.{Turn, Global, IsRun, result_of, opening_of}
