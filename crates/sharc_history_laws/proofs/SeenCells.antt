@@ -22,7 +22,7 @@ use Rattle.sharc_gen.specs.OfRuns.{table_of}
 use Rattle.sharc_meaning.specs.Reference.{is_null}
 use Rattle.sharc_meaning.specs.References.{refers}
 use Rattle.sharc_meaning.specs.Store.{value_after}
-use Rattle.sharc_invariant.specs.Types.{Targets, Content, Pointer, field_in, is_pointer, cells_of}
+use Rattle.sharc_invariant.specs.Types.{Targets, Field, Content, Pointer, field_in, field_of_cell, global_field, globals_target, is_pointer, cells_of}
 use Rattle.sharc_invariant.specs.Labels.{Labels}
 use Rattle.sharc_invariant.specs.Typed.{IsWellTyped}
 use Rattle.sharc_invariant.specs.World.{Cell as CellOf, World, ObjectState}
@@ -34,7 +34,7 @@ use Rattle.sharc_invariant.specs.MachineInvariant.{cells_now, is_pointer_now, ce
 use Rattle.sharc_invariant.specs.Laws.{Keeps, Begins as CodeBegins, CellsAreThere, PointersAreThere, AccessesAreAllowed, StateStands}
 use Rattle.sharc_history_laws.specs.History.{history_of}
 use Rattle.sharc_history_laws.specs.Stores.{BeginsWith}
-use Rattle.sharc_history_laws.specs.SeenCells.{IsCellIn, IsLiveBy, IsBeingFreed, CellIsSeen}
+use Rattle.sharc_history_laws.specs.SeenCells.{IsCellIn, IsLiveBy, IsBeingFreed, RefersBy, CellIsSeen}
 use Rattle.sharc_history_laws.proofs.Consists.{Consists, consists_then, objects_then, at_first, none_live}
 use Rattle.sharc_history_laws.proofs.Contents.{newest_value, value_is, value_held, IsCellOf, content_of, word_of_cell, Contents}
 use Rattle.sharc_history_laws.proofs.Emptying.{IsEmptied}
@@ -71,6 +71,9 @@ holds_reference _ T v e = absurd (cc)
 pointer_value : (a : Content) → is_pointer a ≡ true → is_value a ≡ true
 pointer_value (Pointer f) e = refl
 pointer_value _ e = absurd (cc)
+
+eq_refl : (n : ℕ) → (n == n) ≡ true
+eq_refl n = grind (arith, nat_tests)
 
 ne_zero : (n : ℕ) → (n ≡ 0 → ⊥) → (n == 0) ≡ false
 ne_zero n ne = grind (arith, nat_tests)
@@ -258,22 +261,30 @@ module _ (state_law : StateStands) (cell_laws : CellsAreThere) (pointers : Point
           by (objects.Global q) h = tt
           by (objects.Made n) h = subst (λ n. IsLiveBy (history_of code s run) (objects.Made n)) (sym h.0) (is_live_in (newest code s run) p ∙ k.objects.live p h.1 live)
 
-      pub cell_seen : CellIsSeen r x code (place_after code s run) k.consists.world.obj (history_of code s run) c p i o
-      cell_seen = record {
+      by_events : RefersBy r code (place_after code s run) (history_of code s run) c p o
+      by_events = record {
         live = live_by;
-        pointer = pointer;
-        seen = ⊎_elim
+        refers_there = ⊎_elim
             (λ (e : newest_value r (newest code s run) c ≡ value_held (content_of x code world c) (table_of code s run) (slice_index g.words (word_of_cell code s c))). inl (by_value e))
             (λ (z : IsEmptied code g (number_of c.object)). inr (freed z))
             (k.contents c cell (pointer_value (content_of x code world c) is_pointer_cell));
       }
 
+    -- a cell of the globals has a field of theirs
+    global : p ≡ 0 → is_pointer (global_field x i).holds ≡ true
+    global z =
+        let own : (world.obj p).ty.target ≡ globals_target x = ap (λ n. (world.obj n).ty.target) z ∙ ap (λ (q : ObjectState). q.ty.target) st.globals in
+        let is : ((world.obj p).ty.target == globals_target x) ≡ true = ap (λ n. n == globals_target x) own ∙ eq_refl (globals_target x) in
+        ap (λ b. is_pointer (elim b as (λ b. Field) [ true ↦ global_field x i | false ↦ field_of_cell x (k.consists.world.obj p).ty.target i ]).holds) (sym is) ∙ pointer
+
+    pub cell_seen : CellIsSeen r x code (place_after code s run) k.consists.world.obj (history_of code s run) p i o
+    cell_seen = record { pointer = pointer; global = global; by_events = by_events }
+
   -- by the objects of the turns
   pub cells_seen : (run : List Turn) → IsRun bounds (one_thread code s) (opening_of bounds (one_thread code s) (opening_words code s)) run → (p i o : ℕ) → o ≢ 0
       → cell_refers x s (place_after code s run) (objects_after code s ls (first_place code s) (first_world x).obj run) p i ≡ o
-      → (c : CellAt) → IsCellIn code c.object c.cell p i
-      → CellIsSeen r x code (place_after code s run) (objects_after code s ls (first_place code s) (first_world x).obj run) (history_of code s run) c p i o
-  cells_seen run is_run p i o nz is c at =
+      → CellIsSeen r x code (place_after code s run) (objects_after code s ls (first_place code s) (first_world x).obj run) (history_of code s run) p i o
+  cells_seen run is_run p i o nz is =
       let k = seen run is_run in
-      subst (λ (obj : ℕ → ObjectState). CellIsSeen r x code (place_after code s run) obj (history_of code s run) c p i o) k.same
-      (cell_seen run k p i o nz (subst (λ (obj : ℕ → ObjectState). cell_refers x s (place_after code s run) obj p i ≡ o) (sym k.same) is) c at)
+      subst (λ (obj : ℕ → ObjectState). CellIsSeen r x code (place_after code s run) obj (history_of code s run) p i o) k.same
+      (cell_seen run k p i o nz (subst (λ (obj : ℕ → ObjectState). cell_refers x s (place_after code s run) obj p i ≡ o) (sym k.same) is))

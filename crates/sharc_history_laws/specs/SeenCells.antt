@@ -16,7 +16,7 @@ use Rattle.sharc_code.specs.Whole.{CheckedRun, place_after}
 use Rattle.sharc_meaning.specs.Obeys.{History}
 use Rattle.sharc_meaning.specs.References.{refers}
 use Rattle.sharc_meaning.specs.Store.{is_live, value_after}
-use Rattle.sharc_invariant.specs.Types.{Targets, field_in, is_pointer}
+use Rattle.sharc_invariant.specs.Types.{Targets, field_in, global_field, is_pointer}
 use Rattle.sharc_invariant.specs.Labels.{Labels}
 use Rattle.sharc_invariant.specs.Typed.{IsWellTyped}
 use Rattle.sharc_invariant.specs.World.{ObjectState}
@@ -48,16 +48,20 @@ pub record IsBeingFreed (code : Code) (g : Global Machine) (p : ℕ) : Type 0 wh
   pub is_free : instr_at code (g.threads thread).at.pc ≡ Free register layout site
   pub object : ref (g.threads thread) register ≡ p
 
--- the cell is a pointer of a live object, and it refers to object o by the events; but they do not tell that a Free empties the cells of its object
-pub record CellIsSeen (r : Resolution) (x : Targets) (code : Code) (g : Global Machine) (obj : ℕ → ObjectState) (R : History) (c : CellAt) (p i o : ℕ) : Type 0 where
+-- by the events the cell is one of a live object and refers to object o; but they do not tell that a Free empties the cells of its object
+pub record RefersBy (r : Resolution) (code : Code) (g : Global Machine) (R : History) (c : CellAt) (p o : ℕ) : Type 0 where
   pub live : IsLiveBy R c.object
+  pub refers_there : (refers o (value_after r R c) ≡ true) ⊎ IsBeingFreed code g p
+
+-- the cell is a pointer by the table, and so it is with the cell of the source
+pub record CellIsSeen (r : Resolution) (x : Targets) (code : Code) (g : Global Machine) (obj : ℕ → ObjectState) (R : History) (p i o : ℕ) : Type 0 where
   pub pointer : is_pointer (field_in x (obj p).ty i).holds ≡ true
-  pub seen : (refers o (value_after r R c) ≡ true) ⊎ IsBeingFreed code g p
+  pub global : p ≡ 0 → is_pointer (global_field x i).holds ≡ true
+  pub by_events : (c : CellAt) → IsCellIn code c.object c.cell p i → RefersBy r code g R c p o
 
 -- so it is of each cell that refers to an object by the words
 abbrev pub CellsAreSeen : Type 0
 CellsAreSeen = (x : Targets) (code : Code) (s : Shape) (ls : Labels) → IsWellTyped x code ls → Fits code s → IsSmall code s → (r : Resolution) → BeginsWith r code
     → (run : List Turn) → CheckedRun code s run → (p i o : ℕ) → o ≢ 0
     → cell_refers x s (place_after code s run) (objects_after code s ls (first_place code s) (first_world x).obj run) p i ≡ o
-    → (c : CellAt) → IsCellIn code c.object c.cell p i
-    → CellIsSeen r x code (place_after code s run) (objects_after code s ls (first_place code s) (first_world x).obj run) (history_of code s run) c p i o
+    → CellIsSeen r x code (place_after code s run) (objects_after code s ls (first_place code s) (first_world x).obj run) (history_of code s run) p i o
