@@ -1,7 +1,8 @@
 -- From the registers of code to what the program holds that was asked by the answers of its own events.
-use Rattle.std.proofs.Common.{◌≡◌, ◌≢◌, ℕ, zero, suc, ℤ, pos, ◌+◌, ◌^◌, ◌<◌, ◌⊎◌, inl, inr, ⊎_elim, Bool, List, [], ◌∷◌, ◌++◌, length, map, refl, sym, ap, ◌∙◌, subst, arith, get_or, slice_get, append_assoc, append-nil}
-use Rattle.std.specs.Prelude.{slice_index, slice_index_or}
-use Rattle.std.proofs.lemmas.List.{length-map}
+use Rattle.std.proofs.Common.{◌≡◌, ◌≢◌, ℕ, zero, suc, ℤ, pos, ◌+◌, ◌^◌, ◌<◌, ◌⊎◌, inl, inr, ⊎_elim, Bool, List, [], ◌∷◌, ◌++◌, length, map, refl, sym, ap, ◌∙◌, subst, arith, get_or, slice_get, append_assoc, append-nil, cond, ◌==◌, eq-eqb, true, false}
+use Rattle.std.specs.Prelude.{slice_index, slice_index_or, slice_set}
+use Rattle.std.proofs.lemmas.Bool.{false≢true}
+use Rattle.std.proofs.lemmas.List.{length-map, get_or-set_other}
 use Rattle.sharc_tree.specs.declared.event.CellAt.{CellAt}
 use Rattle.sharc_tree.specs.declared.event.SourceEvent.{SourceEvent}
 use Rattle.sharc_mode.specs.Moded.{Assignment}
@@ -11,7 +12,7 @@ use Rattle.sharc_meaning.specs.Meaning as Meaning
 use Rattle.sharc_meaning.specs.Reference.{number_of}
 use Rattle.sharc_code.specs.declared.code.Code.{Code}
 use Rattle.sharc_code.specs.declared.instr.Instr.{Instr}
-use Rattle.sharc_code.specs.declared.instr.Instr.TheVariants.{Exit, TestSole}
+use Rattle.sharc_code.specs.declared.instr.Instr.TheVariants.{Exit, TestSole, Free}
 use Rattle.sharc_code.specs.declared.shape.Shape.{Shape}
 use Rattle.sharc_code.specs.declared.code.Function.{Function}
 use Rattle.sharc_code.specs.Machine.{Machine, instr_at, no_function, function_of}
@@ -32,8 +33,8 @@ use Rattle.sharc_guard.specs.Correct.{Resolved}
 use Rattle.sharc_guard.specs.Counted.{AreLowered, GuardedCounts, IsReleased, IsReplaced, LocksStand, OnWay, Quietly}
 use Rattle.sharc_guard.specs.Guard.{entered_at, guarded, place}
 use Rattle.sharc_guard.specs.Level.{IsLevel}
-use Rattle.sharc_compile.specs.Held.{IsAccountedFor}
-use Rattle.sharc_sole_laws.specs.Holding.{IsTested, IsHolding, IsHoldingThere}
+use Rattle.sharc_invariant.specs.Words.{is_freed, register_of}
+use Rattle.sharc_sole_laws.specs.Holding.{IsAccounted, IsTested, IsHolding, IsHoldingThere}
 use Rattle.sharc_sole_laws.proofs.Testing.{test_is, no_free, tested}
 use Rattle.sharc_sole_laws.proofs.Quiet.{IsQuiet, line_quiet, same_given, given_in, given_same, given_path, are_own, beyond}
 
@@ -141,19 +142,21 @@ module _ (runs : PathsAreRuns) (counts : GuardedCounts) (m : Assignment) (flat :
   done_resolved m2 a e (inr h) = (0 ∷ [], subst (λ gs. Resolved gs (lowered ++ 0 ∷ [])) (sym h.1) (subst (λ xs. Resolved (Replaced h.0 ∷ []) (xs ++ 0 ∷ [])) (sym (e ∙ h.2)) tt))
 
   accounted : (m2 final : At) (a : Thread) (x : Meaning.Asked) (w : Way flat m2 final) → ((j : ℕ) → final.refs j ≡ get_or x.held j (pos 0)) → x.given_up ≡ w.mid.given ++ w.extra → lowered ≡ a.lowered → AreDone m2 a
-      → (k n : ℕ) → number_of (a.refs k) ≡ n → IsReplaced p m2 a k ⊎ ((q : ℕ) (m3 : At) → Quietly flat q m2 m3 → OnWay (a.refs k) m2 m3) → a.pc ≡ at.at.pc → a.refs_from ≡ at.at.refs → IsAccountedFor code at lowered x k n
-  accounted m2 final a x w held given low done k n number (inl r) pc from = inr (inr (record {
+      → (k n : ℕ) → number_of (a.refs k) ≡ n → IsReplaced p m2 a k ⊎ ((q : ℕ) (m3 : At) → Quietly flat q m2 m3 → OnWay (a.refs k) m2 m3) → (place : ℕ) → (place ≡ at.at.pc) ⊎ (place ≡ at.at.pc + 1) → a.pc ≡ place → a.refs_from ≡ at.at.refs → IsAccounted code at lowered x k n
+  accounted m2 final a x w held given low done k n number (inl r) place near pc from = inr (inr (record {
+    place = place;
+    near = near;
     register = r.register;
-    next = instr_is at.at.pc ∙ ap (instr_of g.functions.items) (ap (statement_at p) (sym pc) ∙ r.next);
+    next = instr_is place ∙ ap (instr_of g.functions.items) (ap (statement_at p) (sym pc) ∙ r.next);
     here = r.at ∙ ap (λ b. b + r.register) from;
     cell = r.cell;
     after = w.more ++ w.extra;
     given_is = given ∙ ap (λ gs. gs ++ w.extra) (w.more_given ∙ ap (λ gs. gs ++ w.more) r.given);
     none = low ∙ r.none;
   }))
-  accounted m2 final a x w held given low done k n number (inr flight) pc from = by (flight w.turns w.mid w.quietly)
+  accounted m2 final a x w held given low done k n number (inr flight) place near pc from = by (flight w.turns w.mid w.quietly)
     where
-      by : OnWay (a.refs k) m2 w.mid → IsAccountedFor code at lowered x k n
+      by : OnWay (a.refs k) m2 w.mid → IsAccounted code at lowered x k n
       by o = ⊎_elim
           (λ (h : (j : ℕ) × (w.mid.refs j ≡ a.refs k)). inl (h.0, ap number_of (sym (held h.0) ∙ ap (λ (f : ℕ → ℤ). f h.0) w.refs ∙ h.1) ∙ number))
           (λ (h : IsReleased o.more (number_of (a.refs k))). inr (inl (record {
@@ -164,6 +167,26 @@ module _ (runs : PathsAreRuns) (counts : GuardedCounts) (m : Assignment) (flat :
             released = released_more o.more w.extra n (subst (IsReleased o.more) number h);
           })))
           o.stays
+
+  -- ---- registers that are not freed
+  chosen : (b : Bool) (v n : ℕ) → cond b 0 v ≡ n → 0 < n → (b ≡ false) × (v ≡ n)
+  chosen true v n e some = absurd (let none : 0 ≡ n = e in omega (arith, none, some))
+  chosen false v n e some = (refl, e)
+
+  unfreed : (k n : ℕ) → register_of code at k ≡ n → 0 < n → slice_index at.refs k ≡ n
+  unfreed k n e some = (chosen (is_freed (instr_at code at.at.pc) at.own.stage at.at.refs k) (slice_index at.refs k) n e some).1
+
+  -- while the block of a freed object is linked, the others are as they were
+  linked_number : (a : Thread) (l : IsLinking code s p T at a) (k n : ℕ) → register_of code at k ≡ n → 0 < n → number_of (a.refs k) ≡ n
+  linked_number a l k n e some =
+      let instr : instr_at code at.at.pc ≡ Free l.register l.layout l.site = instr_is at.at.pc ∙ ap (instr_of g.functions.items) l.statement in
+      let test : is_freed (instr_at code at.at.pc) at.own.stage at.at.refs k ≡ (k == at.at.refs + l.register) =
+      ap (λ i. is_freed i at.own.stage at.at.refs k) instr ∙ ap (λ st. is_freed (Free l.register l.layout l.site) st at.at.refs k) l.stage in
+      let c = chosen (is_freed (instr_at code at.at.pc) at.own.stage at.at.refs k) (slice_index at.refs k) n e some in
+      let other : k ≢ at.at.refs + l.register = λ same. false≢true (sym (sym test ∙ c.0) ∙ eq-eqb k (at.at.refs + l.register) same) in
+      let kept : slice_index (slice_set at.refs (at.at.refs + l.register) 0) k ≡ n = get_or-set_other at.refs (at.at.refs + l.register) k 0 0 other ∙ c.1 in
+      let r = l.same.in_refs.are k in
+      ap number_of r.is ∙ number_is (slice_index (slice_set at.refs (at.at.refs + l.register) 0) k) (T (slice_index (slice_set at.refs (at.at.refs + l.register) 0) k)) r.small ∙ kept
 
   holds_by : MayStart m h.function → IsHolding m code h.function h.argument thread (map (by thread) (thread_after p (started p h.function h.argument) h.answers).events) at lowered
   holds_by may =
@@ -187,11 +210,13 @@ module _ (runs : PathsAreRuns) (counts : GuardedCounts) (m : Assignment) (flat :
       record {
         fuel = b.fuel;
         events = ap (λ xs. map (by thread) (Meaning.asks m h.function h.argument xs b.fuel).events) (sym answers) ∙ ap (map (by thread)) (sym events);
-        registers = λ free k n e some. subst (λ xs. IsAccountedFor code at lowered (Meaning.asks m h.function h.argument xs b.fuel) k n) answers (⊎_elim
+        registers = λ k n e some. subst (λ xs. IsAccounted code at lowered (Meaning.asks m h.function h.argument xs b.fuel) k n) answers (⊎_elim
             (λ (y : IsAt code s p T at a).
-            let number = number_here a k n e (y.same.in_refs.are k) in
-            accounted m2 last a x w held given h.lowers c.stands.lowered k n number (c.stands.flight k (not_null (a.refs k) n number some)) y.pc_is y.same.from_refs)
-            (λ (l : IsLinking code s p T at a). absurd (free l.elements l.stage))
+            let number = number_here a k n (unfreed k n e some) (y.same.in_refs.are k) in
+            accounted m2 last a x w held given h.lowers c.stands.lowered k n number (c.stands.flight k (not_null (a.refs k) n number some)) at.at.pc (inl refl) y.pc_is y.same.from_refs)
+            (λ (l : IsLinking code s p T at a).
+            let number = linked_number a l k n e some in
+            accounted m2 last a x w held given h.lowers c.stands.lowered k n number (c.stands.flight k (not_null (a.refs k) n number some)) (at.at.pc + 1) (inr refl) l.pc_is l.same.from_refs)
             h.stands);
         tested = λ register site is_test. subst (λ xs. IsTested (Meaning.asks m h.function h.argument xs b.fuel) at) answers
             (let statement = statement_is register site is_test in

@@ -1,9 +1,7 @@
 -- From what a thread's registers have to the references of its history.
-use Rattle.std.proofs.Common.{◌≡◌, ℕ, zero, suc, ℤ, pos, negsuc, ◌+◌, ◌-◌, ◌<◌, ◌≤◌, ◌==◌, ◌&&◌, ◌⊎◌, inl, inr, Bool, true, false, not, cond, List, [], ◌∷◌, ◌++◌, refl, sym, ap, ◌∙◌, subst, arith, eq-eqb, get_or, count_by, nat_lt, ltb-true, ltb-false, Option, Some, None}
-use Rattle.std.specs.Prelude.{filter, slice_index}
-use Rattle.std.proofs.lemmas.Bool.{false≢true}
+use Rattle.std.proofs.Common.{◌≡◌, ℕ, zero, suc, ℤ, pos, negsuc, ◌+◌, ◌-◌, ◌<◌, ◌≤◌, ◌⊎◌, inl, inr, Bool, true, false, cond, List, [], ◌∷◌, ◌++◌, refl, sym, ap, ◌∙◌, subst, arith, eq-eqb, get_or, nat_lt, ltb-true, ltb-false, Option, Some, None}
+use Rattle.std.specs.Prelude.{slice_index}
 use Rattle.std.proofs.lemmas.List.Elements.{filter-append}
-use Rattle.std.proofs.lemmas.List.Sums.{sum_by-cons}
 use Rattle.sharc_tree.specs.declared.event.Act.TheVariants.{Started}
 use Rattle.sharc_tree.specs.declared.event.SourceEvent.{SourceEvent}
 use Rattle.sharc_tree.specs.declared.token.Site.{Site}
@@ -13,16 +11,18 @@ use Rattle.sharc_ctype.specs.Resolved.{Resolution, named_at, function_at}
 use Rattle.sharc_ctype_laws.specs.Declared.{NameThemselves}
 use Rattle.sharc_mode.specs.Moded.{Assignment}
 use Rattle.sharc_meaning.specs.Events.{events_of, is_of}
-use Rattle.sharc_meaning.specs.Reference.{is_null, number_of}
+use Rattle.sharc_meaning.specs.Laws.{AskLaws}
+use Rattle.sharc_meaning.specs.State.{wants, spent}
+use Rattle.sharc_meaning.specs.Reference.{number_of}
 use Rattle.sharc_meaning.specs.References.{refers, Begun, asked_with, held_count, ThreadHolds}
-use Rattle.sharc_meaning.specs.Runs.{IsNamedAt}
+use Rattle.sharc_meaning.specs.Runs.{IsNamedAt, answers_of}
 use Rattle.sharc_code.specs.declared.code.Code.{Code}
-use Rattle.sharc_code.specs.declared.state.Stage.TheVariants.{Links}
-use Rattle.sharc_code.specs.Machine.{Machine}
+use Rattle.sharc_code.specs.declared.instr.Instr.TheVariants.{TestSole}
+use Rattle.sharc_code.specs.Machine.{Machine, instr_at}
 use Rattle.sharc_flat.specs.Correct.{MayStart}
-use Rattle.sharc_compile.specs.Held.{IsAmong, IsAccountedFor}
-use Rattle.sharc_compile_laws.specs.Threads.{TellsIn}
-use Rattle.sharc_sole_laws.specs.Holding.{IsHolding, IsHoldingIn}
+use Rattle.sharc_invariant.specs.Words.{register_of}
+use Rattle.sharc_sole_laws.specs.Holding.{IsAccounted, IsHolding, IsHoldingIn}
+use Rattle.sharc_sole_laws.proofs.Counting.{one_there, twice}
 use Rattle.sharc_sole_laws.specs.InFlight.{IsInFlight, is_given, is_replaced, is_left}
 
 -- ---- one of a list
@@ -30,17 +30,6 @@ number_refers : (n : ℕ) (v : ℤ) → number_of v ≡ n → 0 < n → refers n
 number_refers n (pos zero) is some = let none : 0 ≡ n = is in absurd (omega (arith, none, some))
 number_refers n (pos (suc k)) is some = eq-eqb (number_of (pos (suc k))) n is
 number_refers n (negsuc k) is some = eq-eqb (number_of (negsuc k)) n is
-
-among : (n : ℕ) (held : List ℤ) (j : ℕ) → number_of (get_or held j (pos 0)) ≡ n → 0 < n → 0 < count_by (refers n) held
-among n [] j is some = let none : 0 ≡ n = is in absurd (omega (arith, none, some))
-among n (v ∷ rest) zero is some = subst (λ k. 0 < k) (sym (sum_by-cons (λ x. cond (refers n x) 1 0) v rest)) (by (refers n v) (number_refers n v is some))
-  where
-    by : (b : Bool) → b ≡ true → 0 < cond b 1 0 + count_by (refers n) rest
-    by true h = omega arith
-    by false h = absurd (false≢true h)
-among n (v ∷ rest) (suc j) is some =
-    let later = among n rest j is some in
-    subst (λ k. 0 < k) (sym (sum_by-cons (λ x. cond (refers n x) 1 0) v rest)) (omega (arith, later))
 
 -- ---- the first event of a thread
 first_event : (thread : ℕ) (R before : List SourceEvent) (e : SourceEvent) (after : List SourceEvent) → R ≡ before ++ e ∷ after → events_of thread before ≡ [] → e.thread ≡ thread → events_of thread R ≡ e ∷ events_of thread after
@@ -92,6 +81,23 @@ module _ (m : Assignment) (names : NameThemselves m.typed) (code : Code) (R : Li
       (subst (λ v. IsHolding m code t.function v thread (events_of thread b.own.after) at lowered) argument
       (subst (λ es. IsHolding m code t.function t.argument thread es at lowered) after (h.holds (subst (MayStart m) (sym function) may))))
 
+  -- at a test more fuel changes nothing, since it wants something
+  pub seen_twice : AskLaws → (events_of thread R ≡ []) ⊎ IsHoldingIn m code R thread at lowered → (register site : ℕ) → instr_at code at.at.pc ≡ TestSole register site
+      → (i k n : ℕ) → (i ≡ k → ⊥) → slice_index at.refs i ≡ n → slice_index at.refs k ≡ n → 0 < n → ThreadHolds m R thread 1 n
+  seen_twice laws (inl nothing) register site tests i k n apart first second some = absurd (no_first b.own.begins (events_of thread b.own.after) (sym own_events ∙ nothing))
+  seen_twice laws (inr h) register site tests i k n apart first second some =
+      let w = holding h in
+      let t = w.tested register site tests in
+      record { begun = b; from = w.fuel; holds = λ later le. subst (λ a. 1 < held_count a n) (sym (rests t.wanted t.outcome later le)) (twice (asked_with b w.fuel) at t i k n apart first second some) }
+    where
+      no_end : (e : SourceEvent) → wants e ≡ spent → ⊥
+      no_end e h = cc
+
+      rests : (e : SourceEvent) → (asked_with b (holding h).fuel).outcome ≡ wants e → (later : ℕ) → (holding h).fuel ≤ later → asked_with b later ≡ asked_with b (holding h).fuel
+      rests e is later le =
+          let more : later ≡ (holding h).fuel + (later - (holding h).fuel) = omega (arith, le) in
+          ap (asked_with b) more ∙ laws.fuel_same m b.own.function b.own.argument (answers_of (events_of thread b.own.after)) (holding h).fuel (later - (holding h).fuel) (λ end. no_end e (sym is ∙ end))
+
   module _ (n : ℕ) (rests : IsInFlight code at lowered b n → ⊥) where
     -- what it holds with some fuel it holds with more, since nothing is in flight
     still_held : (fuel : ℕ) → 0 < held_count (asked_with b fuel) n → ThreadHolds m R thread 0 n
@@ -105,11 +111,11 @@ module _ (m : Assignment) (names : NameThemselves m.typed) (code : Code) (R : Li
             let more : later ≡ fuel + (later - fuel) = omega (arith, le) in
             absurd (rests (is_left fuel (later - fuel) some (subst (λ g. held_count (asked_with b g) n ≡ 0) more none)))
 
-    accounted : (fuel k : ℕ) → slice_index at.refs k ≡ n → 0 < n → IsAccountedFor code at lowered (asked_with b fuel) k n → ThreadHolds m R thread 0 n
-    accounted fuel k here some (inl held) = still_held fuel (among n (asked_with b fuel).held held.0 held.1 some)
+    accounted : (fuel k : ℕ) → register_of code at k ≡ n → 0 < n → IsAccounted code at lowered (asked_with b fuel) k n → ThreadHolds m R thread 0 n
+    accounted fuel k here some (inl held) = still_held fuel (one_there (refers n) (pos 0) refl (asked_with b fuel).held held.0 (number_refers n (get_or (asked_with b fuel).held held.0 (pos 0)) held.1 some))
     accounted fuel k here some (inr (inl given)) = absurd (rests (is_given fuel given))
     accounted fuel k here some (inr (inr old)) = absurd (rests (is_replaced fuel k here old))
 
-    pub seen : (events_of thread R ≡ []) ⊎ IsHoldingIn m code R thread at lowered → ((elements : ℕ) → at.own.stage ≡ Links elements → ⊥) → (k : ℕ) → slice_index at.refs k ≡ n → 0 < n → ThreadHolds m R thread 0 n
-    seen (inl nothing) free k here some = absurd (no_first b.own.begins (events_of thread b.own.after) (sym own_events ∙ nothing))
-    seen (inr h) free k here some = let w = holding h in accounted w.fuel k here some (w.registers free k n here some)
+    pub seen : (events_of thread R ≡ []) ⊎ IsHoldingIn m code R thread at lowered → (k : ℕ) → register_of code at k ≡ n → 0 < n → ThreadHolds m R thread 0 n
+    seen (inl nothing) k here some = absurd (no_first b.own.begins (events_of thread b.own.after) (sym own_events ∙ nothing))
+    seen (inr h) k here some = let w = holding h in accounted w.fuel k here some (w.registers k n here some)

@@ -1,18 +1,20 @@
 -- What the registers of a thread refer to, by what the program holds that was asked by the answers of the thread's own events.
-use Rattle.std.specs.Prelude.{ℕ, ℤ, pos, ◌≡◌, ◌⊎◌, ◌<◌, true, List, [], ◌∷◌, map, get_or, reverse, slice_index}
+use Rattle.std.specs.Prelude.{ℕ, ℤ, pos, ◌≡◌, ◌+◌, ◌⊎◌, ◌<◌, true, List, [], ◌∷◌, map, get_or, reverse, slice_index}
 use Rattle.sharc_tree.specs.declared.event.Act.TheVariants.{Started}
+use Rattle.sharc_tree.specs.declared.event.CellAt.{CellAt}
 use Rattle.sharc_tree.specs.declared.event.SourceEvent.{SourceEvent}
 use Rattle.sharc_ctype.specs.Resolved.{function_at}
 use Rattle.sharc_mode.specs.Moded.{Assignment}
+use Rattle.sharc_meaning.specs.declared.given.GivenUp.{GivenUp}
+use Rattle.sharc_meaning.specs.declared.given.GivenUp.TheVariants.{Replaced}
 use Rattle.sharc_meaning.specs.Events.{events_of}
 use Rattle.sharc_meaning.specs.Meaning.{Asked, asks}
 use Rattle.sharc_meaning.specs.References.{refers}
 use Rattle.sharc_meaning.specs.Runs.{IsNamedAt, answers_of, by}
 use Rattle.sharc_meaning.specs.State.{wants}
 use Rattle.sharc_code.specs.declared.code.Code.{Code}
-use Rattle.sharc_code.specs.declared.instr.Instr.TheVariants.{TestSole}
+use Rattle.sharc_code.specs.declared.instr.Instr.TheVariants.{Lower, TestSole}
 use Rattle.sharc_code.specs.declared.shape.Shape.{Shape}
-use Rattle.sharc_code.specs.declared.state.Stage.TheVariants.{Links}
 use Rattle.sharc_code.specs.Machine.{Machine, instr_at}
 use Rattle.sharc_code.specs.Paced.{paced_in}
 use Rattle.sharc_code.specs.Path.{begun, machine_after, CodePath}
@@ -22,9 +24,27 @@ use Rattle.sharc_flat.specs.Correct.{MayStart}
 use Rattle.sharc_gen.specs.Consistent.{Elements, said_in, IsConsistent}
 use Rattle.sharc_gen.specs.Correct.{IsBeginning}
 use Rattle.sharc_gen.specs.Lowered.{lowered_in}
+use Rattle.sharc_invariant.specs.Words.{register_of}
 use Rattle.sharc_gen.specs.OfRuns.{elements_before, founds_of, told_in}
-use Rattle.sharc_compile.specs.Held.{IsAccountedFor}
+use Rattle.sharc_compile.specs.Held.{IsAmong, IsGivenUpLater}
 use Rattle.sharc_compile_laws.specs.Threads.{TellsIn}
+
+-- ---- what a register has
+-- the old value of a cell that the program has just written, which an instruction lowers at the thread's place, or at the next one where the block of a freed object is linked
+pub record IsOldValue (code : Code) (at : Machine) (given : List GivenUp) (lowered : List ℕ) (k : ℕ) : Type 0 where
+  pub place : ℕ
+  pub near : (place ≡ at.at.pc) ⊎ (place ≡ at.at.pc + 1)
+  pub register : ℕ
+  pub next : instr_at code place ≡ Lower register
+  pub here : k ≡ at.at.refs + register
+  pub cell : CellAt
+  pub after : List GivenUp
+  pub given_is : given ≡ Replaced cell ∷ after
+  pub none : lowered ≡ []
+
+-- of the object of number n: the program holds one, or has given one up that is not lowered yet, or it is such a value
+abbrev pub IsAccounted : Code → Machine → List ℕ → Asked → ℕ → ℕ → Type 0
+IsAccounted code at lowered a k n = IsAmong a.held n ⊎ (IsGivenUpLater a.given_up lowered n ⊎ IsOldValue code at a.given_up lowered k)
 
 -- ---- by the place of a thread
 -- where the thread looks whether a reference is the only one to its object, the program wants something, and what a register refers to, it refers to by what it holds at the same place
@@ -33,12 +53,11 @@ pub record IsTested (a : Asked) (at : Machine) : Type 0 where
   pub outcome : a.outcome ≡ wants wanted
   pub registers : (k n : ℕ) → slice_index at.refs k ≡ n → 0 < n → refers n (get_or a.held k (pos 0)) ≡ true
 
--- With some fuel a thread of the program asks for exactly these events, by their answers. What its registers have, it then holds, or has given up since, but while the block of a
--- freed object is linked.
+-- With some fuel a thread of the program asks for exactly these events, by their answers. What its registers refer to, it then holds, or has given up since.
 pub record IsHolding (m : Assignment) (code : Code) (f : ℕ) (argument : ℤ) (thread : ℕ) (told : List SourceEvent) (at : Machine) (lowered : List ℕ) : Type 0 where
   pub fuel : ℕ
   pub events : map (by thread) (asks m f argument (answers_of told) fuel).events ≡ told
-  pub registers : ((elements : ℕ) → at.own.stage ≡ Links elements → ⊥) → (k n : ℕ) → slice_index at.refs k ≡ n → 0 < n → IsAccountedFor code at lowered (asks m f argument (answers_of told) fuel) k n
+  pub registers : (k n : ℕ) → register_of code at k ≡ n → 0 < n → IsAccounted code at lowered (asks m f argument (answers_of told) fuel) k n
   pub tested : (register site : ℕ) → instr_at code at.at.pc ≡ TestSole register site → IsTested (asks m f argument (answers_of told) fuel) at
 
 -- the thread begins with the Started of a function, at the name of that, and then holds what the function does, if that may be started

@@ -2,7 +2,7 @@
 
 ghost use Rattle.sharc_compile_laws.specs.Paths.{OfTyped};
 ghost use Rattle.sharc_sole_laws.specs.Holding.{PathsHold, ThreadsHold};
-ghost use Rattle.sharc_sole_laws.specs.Seeing.{ThreadsSee};
+ghost use Rattle.sharc_sole_laws.specs.Seeing.{CastersHold, ThreadsSee};
 
 use sharc_compile_laws::functions_are_named;
 use sharc_ctype_laws::laws::each_names_itself;
@@ -11,6 +11,7 @@ use sharc_flat_laws::laws::{typed_asks_the_same, typed_is_framed};
 use sharc_gen::{paths_law, run_paths_law};
 use sharc_guard::{counted_law, framed_law};
 use sharc_guard_laws::laws::{made_locks_stand, typed_is_level};
+use sharc_meaning::laws::ask_laws;
 
 /// What the registers of a thread of the code of a typed, well-moded program refer to, on each path whose results are consistent, the program holds or has given up that was
 /// asked by the answers of the thread's own events.
@@ -42,4 +43,13 @@ pub fn threads_see()
 {
     thread_holds();
     each_names_itself();
+}
+
+/// And where a thread looks whether a reference is the only one, and two of its registers refer to the object, it holds two references to it.
+pub fn casters_hold()
+    ensures { OfTyped CastersHold }
+{
+    thread_holds();
+    each_names_itself();
+    ask_laws();
 }

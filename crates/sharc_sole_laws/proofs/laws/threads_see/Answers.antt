@@ -1,4 +1,3 @@
-use Rattle.std.proofs.Common.{◌≡◌}
 use Rattle.std.specs.Prelude.{reverse}
 use Rattle.sharc_code.specs.Whole.{Erase, place_after}
 use Rattle.sharc_gen.specs.OfRuns.{told_in}
@@ -7,6 +6,6 @@ use Rattle.sharc_sole_laws.proofs.Seeing.{seen}
 use Rattle.sharc_sole_laws.proofs.laws.threads_see.Goals as goal
 
 pub returns : goal.returns
-returns c = λ m p flat flattens fits code is s run checked consistent thread b may free k n here some rests.
+returns c = λ m p flat flattens fits code is s run checked consistent thread b may k n here some rests.
     seen m (c.each_names_itself.ensures m.typed p.resolved p.placed p.low) code (reverse (told_in (Erase code s run))) thread ((place_after code s run).threads thread) (lowered_of code s run thread) b may n rests
-    (c.thread_holds.ensures m p flat flattens fits code is s run checked consistent thread) free k here some
+    (c.thread_holds.ensures m p flat flattens fits code is s run checked consistent thread) k here some
