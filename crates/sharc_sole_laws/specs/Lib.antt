@@ -1,3 +1,4 @@
 pub mod Holding
 pub mod InFlight
 pub mod Seeing
+pub mod Sole
