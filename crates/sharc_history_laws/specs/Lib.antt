@@ -10,3 +10,4 @@ pub mod Stores
 pub mod Waiters
 pub mod Stuck
 pub mod Threads
+pub mod Seen
