@@ -75,3 +75,6 @@ pub mod Woken
 pub mod Placed
 pub mod Stuck
 pub mod Spawned
+pub mod Seen
+pub mod Past
+pub mod Unread

@@ -11,3 +11,4 @@ pub mod Stores
 pub mod Waiters
 pub mod Stuck
 pub mod Threads
+pub mod Seen

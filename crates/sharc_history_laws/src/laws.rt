@@ -7,6 +7,7 @@ ghost use Rattle.sharc_history_laws.specs.Followed.{AccessesFollow, LockReportsB
 ghost use Rattle.sharc_history_laws.specs.History.{HistoriesObey};
 ghost use Rattle.sharc_history_laws.specs.Paths.{PathsAreConsistent};
 ghost use Rattle.sharc_history_laws.specs.Reports.{CastReportsShow, LockReportsShow};
+ghost use Rattle.sharc_history_laws.specs.Seen.{ArgumentsAreGiven, LogsAreLocked, RunsBegin};
 ghost use Rattle.sharc_history_laws.specs.SeenCells.{CellsAreSeen};
 ghost use Rattle.sharc_history_laws.specs.Starts.{StartsAreSpawned};
 ghost use Rattle.sharc_history_laws.specs.Stores.{StoresAreLegal};
@@ -184,5 +185,21 @@ pub fn threads_law()
     run_laws();
     begins();
     keeps();
+    cells_are_there();
+}
+
+/// The turns of a checked run up to some turn are a checked run. Where the held log of a thread of a checked run of typed code refers to an object, a mutex of
+/// that object is locked by the events; and a thread whose argument, not read yet, refers to an object has had no event, and a Spawn has given it that reference.
+pub fn seen_law()
+    ensures begins { RunsBegin }
+    ensures logs { LogsAreLocked }
+    ensures arguments { ArgumentsAreGiven }
+{
+    run_laws();
+    standing_laws();
+    states_law();
+    begins();
+    keeps();
+    state_stands();
     cells_are_there();
 }

@@ -2,3 +2,4 @@ pub mod Cells
 pub mod Holding
 pub mod InFlight
 pub mod Seeing
+pub mod Sole

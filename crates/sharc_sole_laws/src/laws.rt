@@ -4,6 +4,7 @@ ghost use Rattle.sharc_compile_laws.specs.Paths.{OfTyped};
 ghost use Rattle.sharc_sole_laws.specs.Cells.{CellsSee};
 ghost use Rattle.sharc_sole_laws.specs.Holding.{PathsHold, ThreadsHold};
 ghost use Rattle.sharc_sole_laws.specs.Seeing.{CastersHold, ThreadsSee};
+ghost use Rattle.sharc_sole_laws.specs.Sole.{RegistersAreSeen};
 
 use sharc_compile_laws::functions_are_named;
 use sharc_ctype_laws::laws::each_names_itself;
@@ -64,4 +65,13 @@ pub fn cells_see()
 {
     cells_seen_law();
     global_pointers_are();
+}
+
+/// Where a thread looks whether a reference is the only one to its object, another register with one is another thread's that the history shows, or shows that the
+/// thread holds two: if each thread has begun or has nothing, and no other thread has one in flight.
+pub fn registers_seen()
+    ensures { OfTyped RegistersAreSeen }
+{
+    threads_see();
+    casters_hold();
 }
