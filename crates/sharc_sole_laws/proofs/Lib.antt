@@ -1,6 +1,8 @@
+pub mod Cells
 pub mod Counting
 pub mod Holding
 pub mod Quiet
 pub mod Seeing
+pub mod Sole
 pub mod Telling
 pub mod Testing

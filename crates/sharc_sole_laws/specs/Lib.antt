@@ -1,3 +1,5 @@
+pub mod Cells
 pub mod Holding
 pub mod InFlight
 pub mod Seeing
+pub mod Sole
