@@ -1,4 +1,5 @@
 pub mod Counting
+pub mod Emptying
 pub mod Holding
 pub mod Quiet
 pub mod Seeing

@@ -1,3 +1,5 @@
+pub mod Emptying
+pub mod Hands
 pub mod Holding
 pub mod InFlight
 pub mod Seeing

@@ -1,6 +1,7 @@
 //! The laws, each the contract of a function that calls at most the laws that it joins.
 
 ghost use Rattle.sharc_compile_laws.specs.Paths.{OfTyped};
+ghost use Rattle.sharc_sole_laws.specs.Hands.{HandsFly};
 ghost use Rattle.sharc_sole_laws.specs.Holding.{PathsHold, ThreadsHold};
 ghost use Rattle.sharc_sole_laws.specs.Seeing.{CastersHold, ThreadsSee};
 
@@ -52,4 +53,12 @@ pub fn casters_hold()
     thread_holds();
     each_names_itself();
     ask_laws();
+}
+
+/// What a Free of a thread has taken out of a cell and not lowered yet is in flight.
+pub fn hands_fly()
+    ensures { OfTyped HandsFly }
+{
+    thread_holds();
+    each_names_itself();
 }
