@@ -22,7 +22,7 @@ use Rattle.sharc_code.specs.declared.instr.Instr.{Instr}
 use Rattle.sharc_code.specs.declared.instr.Instr.TheVariants.{Free}
 use Rattle.sharc_code.specs.declared.shape.Shape.{Shape}
 use Rattle.sharc_code.specs.declared.state.Stage.{Stage}
-use Rattle.sharc_code.specs.declared.state.Stage.TheVariants.{Links, Lowers}
+use Rattle.sharc_code.specs.declared.state.Stage.TheVariants.{Empties, Lowers, FreeLooks, FreeClears, Uncounts, Links}
 use Rattle.sharc_code.specs.Machine.{Machine, instr_at}
 use Rattle.sharc_flat_form.specs.declared.op.Op.{Op}
 use Rattle.sharc_flat_form.specs.declared.op.Op.TheVariants as op
@@ -34,7 +34,7 @@ use Rattle.sharc_gen.specs.Consistent.{Elements}
 use Rattle.sharc_gen.specs.Generated.{instr_of}
 use Rattle.sharc_gen.specs.Related.{IsAt, IsAtStage, IsInFree}
 use Rattle.sharc_guard.specs.Counted.{Tells}
-use Rattle.sharc_sole_laws.specs.Emptying.{IsEmptying}
+use Rattle.sharc_sole_laws.specs.Emptying.{IsEmptying, is_emptying}
 
 -- ---- what is asked for
 abbrev is_freed : Act → Bool
@@ -157,14 +157,23 @@ free_is : (i : Instr) → IsInFree i → (r : ℕ) × (layout : ℕ) × (site : 
 free_is (Free r layout site) h = (r, layout, site, refl)
 free_is _ h = absurd h
 
--- where a reference that was in a cell is lowered
-pub at_free : (code : Code) (s : Shape) (T : Elements) (rows : List Row) (flat : Flat) (p : Program) (m : At) (a : Thread) (at : Machine) (x : Asked) (more i elements found : ℕ) → IsAt code s p T at a
+-- a stage before the Freed is inside a Free
+in_free : (at : Machine) (i : Instr) (stage : Stage) → is_emptying stage ≡ true → IsAtStage at i stage → IsInFree i
+in_free at i (Empties k elements) e h = h
+in_free at i (Lowers k elements found) e h = h
+in_free at i (FreeLooks done elements) e h = h
+in_free at i (FreeClears done elements seen) e h = h
+in_free at i (Uncounts elements) e h = h
+in_free at i _ e h = absurd (false≢true e)
+
+pub at_free : (code : Code) (s : Shape) (T : Elements) (rows : List Row) (flat : Flat) (p : Program) (m : At) (a : Thread) (at : Machine) (x : Asked) (more : ℕ) → IsAt code s p T at a
     → instr_at code at.at.pc ≡ instr_of rows (statement_at p at.at.pc) → Tells p (Form.turn p a) (turn flat m) → x.given_up ≡ (exec flat (suc more) [] m).at.given
-    → ((k : ℕ) → number_of (a.refs k) ≡ slice_index at.refs k) → at.own.stage ≡ Lowers i elements found → IsEmptying code x at
-at_free code s T rows flat p m a at x more i elements found y instr tells given numbers stage =
-    let f = free_is (statement_at p a.pc) (subst (IsAtStage at (statement_at p a.pc)) stage y.stage) in
+    → ((k : ℕ) → number_of (a.refs k) ≡ slice_index at.refs k) → is_emptying at.own.stage ≡ true → IsEmptying code x at
+at_free code s T rows flat p m a at x more y instr tells given numbers empties =
+    let f = free_is (statement_at p a.pc) (in_free at (statement_at p a.pc) at.own.stage empties y.stage) in
     emptying flat p m a code at x more f.0 f.1 f.2 (instr ∙ ap (instr_of rows) (ap (statement_at p) (sym y.pc_is) ∙ f.3)) f.3 tells given
     (numbers (a.refs_from + f.0) ∙ ap (λ b. slice_index at.refs (b + f.0)) y.same.from_refs)
 
-pub not_linking : (i elements found more : ℕ) (stage : Stage) → stage ≡ Lowers i elements found → stage ≡ Links more → ⊥
-not_linking i elements found more stage e h = cc
+-- then the block is not linked yet
+pub not_linking : (elements : ℕ) (stage : Stage) → is_emptying stage ≡ true → stage ≡ Links elements → ⊥
+not_linking elements stage e h = false≢true (sym (ap is_emptying h) ∙ e)

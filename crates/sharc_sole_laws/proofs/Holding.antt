@@ -225,10 +225,10 @@ module _ (runs : PathsAreRuns) (counts : GuardedCounts) (m : Assignment) (flat :
             let y : IsAt code s p T at a = ⊎_elim (λ (y : IsAt code s p T at a). y) (λ (l : IsLinking code s p T at a). absurd (no_free l.register l.layout l.site register site (sym l.statement ∙ statement))) h.stands in
             tested flat p m2 w.mid last a at x f.more w.turns register site (ap (statement_at p) y.pc_is ∙ statement) c.stands.tells c.stands.held w.quietly w.refs held (ap (λ (c : Came). c.outcome) (sym final_is) ∙ b.same.outcome)
             (λ k n e. number_here a k n e (y.same.in_refs.are k)));
-        emptying = λ i elements found stage. subst (λ xs. IsEmptying code (Meaning.asks m h.function h.argument xs b.fuel) at) answers
-            (let y : IsAt code s p T at a = ⊎_elim (λ (y : IsAt code s p T at a). y) (λ (l : IsLinking code s p T at a). absurd (not_linking i elements found l.elements at.own.stage stage l.stage)) h.stands in
-            at_free code s T g.functions.items flat p m2 a at x f.more i elements found y (instr_is at.at.pc) c.stands.tells (sym b.same.given_up ∙ ap (λ (n : At). n.given) (sym final))
-            (λ k. number_here a k (slice_index at.refs k) refl (y.same.in_refs.are k)) stage);
+        emptying = λ empties. subst (λ xs. IsEmptying code (Meaning.asks m h.function h.argument xs b.fuel) at) answers
+            (let y : IsAt code s p T at a = ⊎_elim (λ (y : IsAt code s p T at a). y) (λ (l : IsLinking code s p T at a). absurd (not_linking l.elements at.own.stage empties l.stage)) h.stands in
+            at_free code s T g.functions.items flat p m2 a at x f.more y (instr_is at.at.pc) c.stands.tells (sym b.same.given_up ∙ ap (λ (n : At). n.given) (sym final))
+            (λ k. number_here a k (slice_index at.refs k) refl (y.same.in_refs.are k)) empties);
       }
 
   pub there : IsHoldingThere m code thread at said lowered

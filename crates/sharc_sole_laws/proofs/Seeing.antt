@@ -23,6 +23,7 @@ use Rattle.sharc_code.specs.declared.state.Stage.TheVariants.{Lowers}
 use Rattle.sharc_code.specs.Machine.{Machine, instr_at}
 use Rattle.sharc_flat.specs.Correct.{MayStart}
 use Rattle.sharc_invariant.specs.Words.{register_of, staged_of}
+use Rattle.sharc_sole_laws.specs.Emptying.{IsEmptying, is_emptying}
 use Rattle.sharc_sole_laws.specs.Holding.{IsAccounted, IsHolding, IsHoldingIn}
 use Rattle.sharc_sole_laws.proofs.Counting.{one_there, twice}
 use Rattle.sharc_sole_laws.specs.InFlight.{IsInFlight, is_given, is_replaced, is_emptied, is_left}
@@ -106,8 +107,12 @@ module _ (m : Assignment) (names : NameThemselves m.typed) (code : Code) (R : Li
   in_hand (inr h) n is some = by at.own.stage refl is
     where
       by : (st : Stage) → at.own.stage ≡ st → staged_of st ≡ n → IsInFlight code at lowered b n
-      by (Lowers i elements found) stage is = let w = holding h in is_emptied w.fuel (w.emptying i elements found stage) (ap staged_of stage ∙ is)
+      by (Lowers i elements found) stage is = let w = holding h in is_emptied w.fuel (w.emptying (ap is_emptying stage)) (ap staged_of stage ∙ is)
       by _ stage is = let zero : 0 ≡ n = is in absurd (omega (arith, zero, some))
+
+  pub frees : (events_of thread R ≡ []) ⊎ IsHoldingIn m code R thread at lowered → is_emptying at.own.stage ≡ true → (fuel : ℕ) × IsEmptying code (asked_with b fuel) at
+  frees (inl nothing) empties = absurd (no_first b.own.begins (events_of thread b.own.after) (sym own_events ∙ nothing))
+  frees (inr h) empties = let w = holding h in (w.fuel, w.emptying empties)
 
   module _ (n : ℕ) (rests : IsInFlight code at lowered b n → ⊥) where
     -- what it holds with some fuel it holds with more, since nothing is in flight

@@ -1,7 +1,7 @@
 //! The laws, each the contract of a function that calls at most the laws that it joins.
 
 ghost use Rattle.sharc_compile_laws.specs.Paths.{OfTyped};
-ghost use Rattle.sharc_sole_laws.specs.Hands.{HandsFly};
+ghost use Rattle.sharc_sole_laws.specs.Hands.{FreesEmpty, HandsFly};
 ghost use Rattle.sharc_sole_laws.specs.Holding.{PathsHold, ThreadsHold};
 ghost use Rattle.sharc_sole_laws.specs.Seeing.{CastersHold, ThreadsSee};
 
@@ -58,6 +58,14 @@ pub fn casters_hold()
 /// What a Free of a thread has taken out of a cell and not lowered yet is in flight.
 pub fn hands_fly()
     ensures { OfTyped HandsFly }
+{
+    thread_holds();
+    each_names_itself();
+}
+
+/// And wherever a thread is at a Free before the Freed of the object, the program gives up the pointer cells of that.
+pub fn frees_empty()
+    ensures { OfTyped FreesEmpty }
 {
     thread_holds();
     each_names_itself();
