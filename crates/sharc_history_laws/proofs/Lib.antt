@@ -44,6 +44,7 @@ pub mod Opening
 pub mod Quits
 pub mod Remaining
 pub mod Rules
+pub mod SeenCells
 pub mod Sets
 pub mod Shadows
 pub mod Shared
@@ -74,3 +75,6 @@ pub mod Woken
 pub mod Placed
 pub mod Stuck
 pub mod Spawned
+pub mod Seen
+pub mod Past
+pub mod Unread

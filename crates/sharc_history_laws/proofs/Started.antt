@@ -91,7 +91,7 @@ any_left P xs e h = let long = length_push xs e in let lt = h.2 in (h.0, h.1, om
 any_last : (P : SourceEvent → Type 0) (xs : History) (e : SourceEvent) → P e → Any P (xs ++ e ∷ [])
 any_last P xs e h = let long = length_push xs e in (length xs, e, omega arith, get_or_push xs e e (length xs) refl, h)
 
-spawned_any : (L : Newest) (t f : ℕ) (v : ℤ) → SpawnedIn L t f v → Any (IsStart t f v) (reverse L)
+pub spawned_any : (L : Newest) (t f : ℕ) (v : ℤ) → SpawnedIn L t f v → Any (IsStart t f v) (reverse L)
 spawned_any [] t f v h = absurd h
 spawned_any (e ∷ L) t f v h = subst (Any (IsStart t f v)) (sym (reverse_push e L)) (⊎_elim (λ (now : IsStart t f v e). any_last (IsStart t f v) (reverse L) e now) (λ rest. any_left (IsStart t f v) (reverse L) e (spawned_any L t f v rest)) h)
 

@@ -5,8 +5,10 @@ pub mod Followed
 pub mod History
 pub mod Paths
 pub mod Reports
+pub mod SeenCells
 pub mod Starts
 pub mod Stores
 pub mod Waiters
 pub mod Stuck
 pub mod Threads
+pub mod Seen

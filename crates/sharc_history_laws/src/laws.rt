@@ -7,6 +7,8 @@ ghost use Rattle.sharc_history_laws.specs.Followed.{AccessesFollow, LockReportsB
 ghost use Rattle.sharc_history_laws.specs.History.{HistoriesObey};
 ghost use Rattle.sharc_history_laws.specs.Paths.{PathsAreConsistent};
 ghost use Rattle.sharc_history_laws.specs.Reports.{CastReportsShow, LockReportsShow};
+ghost use Rattle.sharc_history_laws.specs.Seen.{ArgumentsAreGiven, LogsAreLocked, RunsBegin};
+ghost use Rattle.sharc_history_laws.specs.SeenCells.{CellsAreSeen};
 ghost use Rattle.sharc_history_laws.specs.Starts.{StartsAreSpawned};
 ghost use Rattle.sharc_history_laws.specs.Stores.{StoresAreLegal};
 ghost use Rattle.sharc_history_laws.specs.Stuck.{AwaitedMayNotCome};
@@ -69,6 +71,18 @@ pub fn stores_law()
 {
     run_laws();
     states_law();
+    begins();
+    keeps();
+    state_stands();
+    cells_are_there();
+}
+
+/// Where the cells of the globals hold at first what the program says: each pointer cell that refers to an object in a checked run of typed code, by the words,
+/// is one of a live object and refers to it by the source events, but while a Free empties the cell's object.
+pub fn cells_seen_law()
+    ensures { CellsAreSeen }
+{
+    run_laws();
     begins();
     keeps();
     state_stands();
@@ -171,5 +185,21 @@ pub fn threads_law()
     run_laws();
     begins();
     keeps();
+    cells_are_there();
+}
+
+/// The turns of a checked run up to some turn are a checked run. Where the held log of a thread of a checked run of typed code refers to an object, a mutex of
+/// that object is locked by the events; and a thread whose argument, not read yet, refers to an object has had no event, and a Spawn has given it that reference.
+pub fn seen_law()
+    ensures begins { RunsBegin }
+    ensures logs { LogsAreLocked }
+    ensures arguments { ArgumentsAreGiven }
+{
+    run_laws();
+    standing_laws();
+    states_law();
+    begins();
+    keeps();
+    state_stands();
     cells_are_there();
 }

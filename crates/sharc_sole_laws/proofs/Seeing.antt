@@ -53,7 +53,7 @@ same_argument : (v w : ℤ) → Started v ≡ Started w → v ≡ w
 same_argument v w h = cc
 
 -- two functions with one name are one
-same_function : (r : Resolution) → NameThemselves r → (n k : ℕ) (site : Site) → IsNamedAt (function_at r n) site → IsNamedAt (function_at r k) site → n ≡ k
+pub same_function : (r : Resolution) → NameThemselves r → (n k : ℕ) (site : Site) → IsNamedAt (function_at r n) site → IsNamedAt (function_at r k) site → n ≡ k
 same_function r names n k site a b = by (function_at r n) (function_at r k) refl refl a b
   where
     number_eq : (a b : ℕ) → named.Function a ≡ named.Function b → a ≡ b

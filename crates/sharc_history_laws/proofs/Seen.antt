@@ -1,0 +1,70 @@
+-- Where the held log of a thread refers to an object, a mutex of that object is locked by the events; and the beginning of a checked run is a checked run.
+use Rattle.std.proofs.Common.{◌≡◌, ◌≢◌, ℕ, suc, ◌+◌, ◌*◌, Bool, true, false, List, [], ◌∷◌, ◌++◌, Some, inl, inr, if◌then◌else◌, refl, sym, ap, ◌∙◌, ⊎_elim, arith}
+use Rattle.std.specs.Prelude.{◌==◌, Contains}
+use Rattle.sharc_tree.specs.declared.event.CellAt.{CellAt}
+use Rattle.sharc_tree.specs.declared.event.Object.TheVariants as objects
+use Rattle.sharc_locks.specs.declared.held_log.HeldMutex.{HeldMutex}
+use Rattle.sharc_locks.specs.HeldLog.{object_of}
+use Rattle.sharc_ctype.specs.Resolved.{Resolution}
+use Rattle.sharc_code.specs.declared.code.Code.{Code}
+use Rattle.sharc_code.specs.declared.shape.Shape.{Shape}
+use Rattle.sharc_code.specs.Laws.{RunLaws}
+use Rattle.sharc_code.specs.Layout.{Fits, first_cell}
+use Rattle.sharc_code.specs.Machine.{reference_of}
+use Rattle.sharc_code.specs.Opening.{opening_words}
+use Rattle.sharc_code.specs.Runs.{Turn, IsRun, opening_of}
+use Rattle.sharc_code.specs.Whole.{CheckedRun, one_thread, bounds, place_after}
+use Rattle.sharc_meaning.specs.Store.{is_locked}
+use Rattle.sharc_invariant.specs.Types.{Targets}
+use Rattle.sharc_invariant.specs.Labels.{Labels}
+use Rattle.sharc_invariant.specs.Typed.{IsWellTyped}
+use Rattle.sharc_invariant.specs.Words.{cell_at}
+use Rattle.sharc_invariant.specs.MachineInvariant.{log_refers}
+use Rattle.sharc_invariant.specs.Laws.{CellsAreThere}
+use Rattle.sharc_history_laws.specs.History.{history_of}
+use Rattle.sharc_history_laws.proofs.Finds.{is_apart}
+use Rattle.sharc_history_laws.proofs.Locked.{IsIn}
+use Rattle.sharc_history_laws.proofs.Mutual.{locked_is}
+use Rattle.sharc_history_laws.proofs.Rules.{newest}
+use Rattle.sharc_history_laws.proofs.Stored.{Stored}
+
+-- ---- beginnings of runs
+begins_run : (code : Code) (s : Shape) (later earlier : List Turn) → IsRun bounds (one_thread code s) (opening_of bounds (one_thread code s) (opening_words code s)) (later ++ earlier)
+    → IsRun bounds (one_thread code s) (opening_of bounds (one_thread code s) (opening_words code s)) earlier
+begins_run code s [] earlier run = run
+begins_run code s (one ∷ later) earlier run = begins_run code s later earlier run.0
+
+pub runs_begin : (laws : RunLaws) (code : Code) (s : Shape) (later earlier : List Turn) → CheckedRun code s (later ++ earlier) → CheckedRun code s earlier
+runs_begin laws code s later earlier run = (laws.checked code s earlier).1 (begins_run code s later earlier ((laws.checked code s (later ++ earlier)).0 run))
+
+-- ---- entries of a log
+pub entry : (log : List HeldMutex) (word o : ℕ) → o ≢ 0 → reference_of (object_of log word) ≡ o → (h : HeldMutex) × IsIn h log × (h.object ≡ o)
+entry [] word o nz e = absurd (nz (sym e))
+entry (k ∷ log) word o nz e = by (k.word == word) e (λ q. entry log word o nz q)
+  where
+    by : (b : Bool) → reference_of (if b then Some k.object else object_of log word) ≡ o → (reference_of (object_of log word) ≡ o → (h : HeldMutex) × IsIn h log × (h.object ≡ o)) → (h : HeldMutex) × IsIn h (k ∷ log) × (h.object ≡ o)
+    by true q rest = (k, inl refl, q)
+    by false q rest = let r = rest q in (r.0, inr r.1, r.2)
+
+contains : (log : List HeldMutex) (b : HeldMutex) → IsIn b log → Contains log b
+contains [] b is = absurd is
+contains (y ∷ log) b is = ⊎_elim (λ (e : y ≡ b). (0, omega arith, e)) (λ rest. let k = contains log b rest in let lt = k.1 in (suc k.0, omega arith, k.2)) is
+
+pub logs_locked : (cell_laws : CellsAreThere) (x : Targets) (code : Code) (s : Shape) (ls : Labels) (wt : IsWellTyped x code ls) (fits : Fits code s) (r : Resolution)
+    (run : List Turn) → Stored r x code s ls run → (u word o : ℕ) → o ≢ 0 → log_refers (place_after code s run) u word ≡ o
+    → (c : CellAt) × (c.object ≡ objects.Made o) × (is_locked (history_of code s run) c ≡ true)
+logs_locked cell_laws x code s ls wt fits r run k u word o nz refers =
+    let g = place_after code s run in
+    let L = newest code s run in
+    let state = k.consists.state in
+    let log = (g.threads u).own.held in
+    let found = entry log word o nz refers in
+    let h = found.0 in
+    let inside = state.locks.logged u h (contains log h found.1) in
+    let j = inside.0 in
+    let apart = is_apart cell_laws x code s ls wt fits g k.consists.world state u h.object j inside.1.1 inside.1.2 in
+    let c : CellAt = record { object = objects.Made h.object; cell = j } in
+    let some : h.object ≢ 0 = λ z. nz (sym found.2 ∙ z) in
+    let at : h.word ≡ first_cell s + (2 * (h.object + 1) + j) = inside.1.0 ∙ (let z : cell_at s h.object j ≡ first_cell s + (2 * (h.object + 1) + j) = omega arith in z) in
+    let holds = k.told.logs u h found.1 c (2 * (h.object + 1) + j) at (refl, some, refl) in
+    (c, ap objects.Made found.2, locked_is L c ∙ (k.told.mutexes.last u c holds).0)
