@@ -1,19 +1,30 @@
 //! The laws, each the contract of a function that calls at most the laws that it joins.
 
 ghost use Rattle.sharc_compile_laws.specs.Paths.{OfTyped};
+<<<<<<< HEAD
 ghost use Rattle.sharc_sole_laws.specs.Cells.{CellsSee};
+=======
+ghost use Rattle.sharc_sole_laws.specs.Beginning.{ThreadsHaveBegun};
+ghost use Rattle.sharc_sole_laws.specs.Hands.{FreesEmpty, HandsFly};
+>>>>>>> 6a695870cb0f532ee9aa2a5124662979e6c50a37
 ghost use Rattle.sharc_sole_laws.specs.Holding.{PathsHold, ThreadsHold};
 ghost use Rattle.sharc_sole_laws.specs.Seeing.{CastersHold, ThreadsSee};
 ghost use Rattle.sharc_sole_laws.specs.Sole.{RegistersAreSeen};
 
-use sharc_compile_laws::functions_are_named;
+use sharc_compile_laws::{
+    functions_are_named, spawned_are_threads, threads_may_start, typed_threads_tell,
+};
 use sharc_ctype_laws::laws::each_names_itself;
 use sharc_flat_form::laws::paths_are_runs;
 use sharc_flat_laws::laws::{typed_asks_the_same, typed_is_framed};
 use sharc_gen::{paths_law, run_paths_law};
 use sharc_guard::{counted_law, framed_law};
 use sharc_guard_laws::laws::{made_locks_stand, typed_is_level};
+<<<<<<< HEAD
 use sharc_history_laws::cells_seen_law;
+=======
+use sharc_history_laws::{paths_law as history_paths_law, starts_law};
+>>>>>>> 6a695870cb0f532ee9aa2a5124662979e6c50a37
 use sharc_meaning::laws::ask_laws;
 use sharc_target_laws::laws::global_pointers_are;
 
@@ -58,6 +69,7 @@ pub fn casters_hold()
     ask_laws();
 }
 
+<<<<<<< HEAD
 /// What a cell refers to at a place of a checked run of code that is typed by the program's targets: a cell of a global is among the references of the history, one of an object
 /// that is made refers to it by the events, but while a Free empties the object.
 pub fn cells_see()
@@ -65,6 +77,22 @@ pub fn cells_see()
 {
     cells_seen_law();
     global_pointers_are();
+=======
+/// What a Free of a thread has taken out of a cell and not lowered yet is in flight.
+pub fn hands_fly()
+    ensures { OfTyped HandsFly }
+{
+    thread_holds();
+    each_names_itself();
+}
+
+/// And wherever a thread is at a Free before the Freed of the object, the program gives up the pointer cells of that.
+pub fn frees_empty()
+    ensures { OfTyped FreesEmpty }
+{
+    thread_holds();
+    each_names_itself();
+>>>>>>> 6a695870cb0f532ee9aa2a5124662979e6c50a37
 }
 
 /// Where a thread looks whether a reference is the only one to its object, another register with one is another thread's that the history shows, or shows that the
@@ -74,4 +102,17 @@ pub fn registers_seen()
 {
     threads_see();
     casters_hold();
+}
+
+/// A thread of a checked run of typed code that has told an event has begun with a function that may be started.
+pub fn threads_have_begun()
+    ensures { OfTyped ThreadsHaveBegun }
+{
+    each_names_itself();
+    functions_are_named();
+    spawned_are_threads();
+    threads_may_start();
+    typed_threads_tell();
+    history_paths_law();
+    starts_law();
 }
