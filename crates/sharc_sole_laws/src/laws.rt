@@ -1,12 +1,9 @@
 //! The laws, each the contract of a function that calls at most the laws that it joins.
 
 ghost use Rattle.sharc_compile_laws.specs.Paths.{OfTyped};
-<<<<<<< HEAD
 ghost use Rattle.sharc_sole_laws.specs.Cells.{CellsSee};
-=======
 ghost use Rattle.sharc_sole_laws.specs.Beginning.{ThreadsHaveBegun};
 ghost use Rattle.sharc_sole_laws.specs.Hands.{FreesEmpty, HandsFly};
->>>>>>> 6a695870cb0f532ee9aa2a5124662979e6c50a37
 ghost use Rattle.sharc_sole_laws.specs.Holding.{PathsHold, ThreadsHold};
 ghost use Rattle.sharc_sole_laws.specs.Seeing.{CastersHold, ThreadsSee};
 ghost use Rattle.sharc_sole_laws.specs.Sole.{RegistersAreSeen};
@@ -20,11 +17,7 @@ use sharc_flat_laws::laws::{typed_asks_the_same, typed_is_framed};
 use sharc_gen::{paths_law, run_paths_law};
 use sharc_guard::{counted_law, framed_law};
 use sharc_guard_laws::laws::{made_locks_stand, typed_is_level};
-<<<<<<< HEAD
-use sharc_history_laws::cells_seen_law;
-=======
-use sharc_history_laws::{paths_law as history_paths_law, starts_law};
->>>>>>> 6a695870cb0f532ee9aa2a5124662979e6c50a37
+use sharc_history_laws::{cells_seen_law, paths_law as history_paths_law, starts_law};
 use sharc_meaning::laws::ask_laws;
 use sharc_target_laws::laws::global_pointers_are;
 
@@ -69,7 +62,6 @@ pub fn casters_hold()
     ask_laws();
 }
 
-<<<<<<< HEAD
 /// What a cell refers to at a place of a checked run of code that is typed by the program's targets: a cell of a global is among the references of the history, one of an object
 /// that is made refers to it by the events, but while a Free empties the object.
 pub fn cells_see()
@@ -77,7 +69,8 @@ pub fn cells_see()
 {
     cells_seen_law();
     global_pointers_are();
-=======
+}
+
 /// What a Free of a thread has taken out of a cell and not lowered yet is in flight.
 pub fn hands_fly()
     ensures { OfTyped HandsFly }
@@ -92,7 +85,6 @@ pub fn frees_empty()
 {
     thread_holds();
     each_names_itself();
->>>>>>> 6a695870cb0f532ee9aa2a5124662979e6c50a37
 }
 
 /// Where a thread looks whether a reference is the only one to its object, another register with one is another thread's that the history shows, or shows that the
