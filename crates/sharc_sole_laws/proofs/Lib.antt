@@ -1,3 +1,4 @@
+pub mod Cause
 pub mod Counting
 pub mod Holding
 pub mod Quiet

@@ -1,6 +1,7 @@
 //! The laws, each the contract of a function that calls at most the laws that it joins.
 
 ghost use Rattle.sharc_compile_laws.specs.Paths.{OfTyped};
+ghost use Rattle.sharc_sole_laws.specs.Cause.{CastReportsShowCause};
 ghost use Rattle.sharc_sole_laws.specs.Holding.{PathsHold, ThreadsHold};
 ghost use Rattle.sharc_sole_laws.specs.Seeing.{CastersHold, ThreadsSee};
 ghost use Rattle.sharc_sole_laws.specs.Sole.{RegistersAreSeen};
@@ -12,6 +13,7 @@ use sharc_flat_laws::laws::{typed_asks_the_same, typed_is_framed};
 use sharc_gen::{paths_law, run_paths_law};
 use sharc_guard::{counted_law, framed_law};
 use sharc_guard_laws::laws::{made_locks_stand, typed_is_level};
+use sharc_history_laws::{paths_law as history_paths_law, reports_law, seen_law};
 use sharc_meaning::laws::ask_laws;
 
 /// What the registers of a thread of the code of a typed, well-moded program refer to, on each path whose results are consistent, the program holds or has given up that was
@@ -62,4 +64,15 @@ pub fn registers_seen()
 {
     threads_see();
     casters_hold();
+}
+
+/// What the report of a refused cast shows: the number was found where the thread tested a reference, and at that place the history shows another one, or an argument
+/// that is not read, or the words do in a cell or in the hand of a Free; if no other thread has one in flight.
+pub fn reports_show_cause()
+    ensures { OfTyped CastReportsShowCause }
+{
+    history_paths_law();
+    reports_law();
+    seen_law();
+    registers_seen();
 }
