@@ -1,5 +1,7 @@
 pub mod Cause
+pub mod Beginning
 pub mod Counting
+pub mod Emptying
 pub mod Holding
 pub mod Quiet
 pub mod Seeing
