@@ -21,25 +21,28 @@ use Rattle.sharc_history_laws.specs.History.{history_of}
 use Rattle.sharc_history_laws.specs.Reports.{FindsOthers}
 use Rattle.sharc_history_laws.specs.Seen.{IsGivenTo}
 use Rattle.sharc_history_laws.specs.Stores.{BeginsWith}
-use Rattle.sharc_sole_laws.specs.Sole.{HaveBegun, IsSeen, NoneIsInFlight}
+use Rattle.sharc_target_laws.specs.Laws.{HasTables}
+use Rattle.sharc_target_laws.specs.Targets.{targets_of}
+use Rattle.sharc_history_laws.specs.SeenCells.{IsBeingFreed}
+use Rattle.sharc_sole_laws.specs.Cells.{RefersFromMade}
+use Rattle.sharc_sole_laws.specs.Sole.{AreQuiet, IsSeen, NoneIsInFlight}
 
--- Another reference to object n than the first one of thread t: one that the history tells of a thread or a held mutex, an argument that is not read yet, or, by the words alone, what a Free
--- has in hand, and a cell.
-pub data IsOther (m : Assignment) (x : Targets) (code : Code) (s : Shape) (g : Global Machine) (obj : ℕ → ObjectState) (R : List SourceEvent) (t n : ℕ) : Type 0 where
-  is_seen : IsSeen m R t n → IsOther m x code s g obj R t n
-  is_given : (u : ℕ) → IsGivenTo code R u n → IsOther m x code s g obj R t n
-  is_in_hand : (u : ℕ) → hand_refers g u ≡ n → IsOther m x code s g obj R t n
-  is_in_cell : (p i : ℕ) → cell_refers x s g obj p i ≡ n → IsOther m x code s g obj R t n
+-- Another reference to object n than the first one of thread t: one that the history tells of a thread, a held mutex or a cell of a global; an argument that a Spawn gave and nobody has read; or
+-- a cell of an object that is made, which refers to it by the events, or that is being freed.
+pub data IsOther (m : Assignment) (code : Code) (g : Global Machine) (R : List SourceEvent) (t n : ℕ) : Type 0 where
+  is_seen : IsSeen m R t n → IsOther m code g R t n
+  is_given : (u : ℕ) → IsGivenTo code R u n → IsOther m code g R t n
+  is_in_made : (p i : ℕ) → RefersFromMade m R p i n → IsOther m code g R t n
+  is_in_freed : (p : ℕ) → IsBeingFreed code g p → IsOther m code g R t n
 
 -- the count of the report was found at a test, and there is another reference at its place, where no other thread has one in flight
-pub record ShowsCause (m : Assignment) (x : Targets) (code : Code) (s : Shape) (ls : Labels) (run : List Turn) (t site count : ℕ) : Type 0 where
-  pub finds : FindsOthers x code s ls run t site count
+pub record ShowsCause (m : Assignment) (code : Code) (s : Shape) (ls : Labels) (run : List Turn) (t site count : ℕ) : Type 0 where
+  pub finds : FindsOthers (targets_of m) code s ls run t site count
   pub cause : let g = place_after code s finds.earlier in let R = history_of code s finds.earlier in let n = ref (g.threads t) finds.register in
-      0 < n → HaveBegun m code R g → NoneIsInFlight m code s finds.earlier R t n
-      → IsOther m x code s g (objects_after code s ls (first_place code s) (first_world x).obj finds.earlier) R t n
+      0 < n → AreQuiet code R g → NoneIsInFlight m code s finds.earlier R t n → IsOther m code g R t n
 
--- so it is of each thread that has stopped at such a test
+-- so it is of each thread that has stopped at such a test, in code that is typed by the program's targets
 abbrev pub CastReportsShowCause : Assignment → Code → Type 0
-CastReportsShowCause m code = (x : Targets) (s : Shape) (ls : Labels) → IsWellTyped x code ls → Fits code s → IsSmall code s → BeginsWith m.typed code
+CastReportsShowCause m code = (s : Shape) (ls : Labels) → HasTables m code → IsWellTyped (targets_of m) code ls → Fits code s → IsSmall code s → BeginsWith m.typed code
     → (run : List Turn) → CheckedRun code s run → (t site count : ℕ) → ((place_after code s run).threads t).own.stop ≡ Some (NotSole site count)
-    → ShowsCause m x code s ls run t site count
+    → ShowsCause m code s ls run t site count
