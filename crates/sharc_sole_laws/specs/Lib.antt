@@ -4,4 +4,5 @@ pub mod Hands
 pub mod Holding
 pub mod InFlight
 pub mod Seeing
+pub mod Silent
 pub mod Sole
