@@ -1,4 +1,6 @@
+pub mod Cause
 pub mod Beginning
+pub mod Cells
 pub mod Counting
 pub mod Emptying
 pub mod Holding
