@@ -7,5 +7,6 @@ pub mod Holding
 pub mod Quiet
 pub mod Seeing
 pub mod Sole
+pub mod Silent
 pub mod Telling
 pub mod Testing

@@ -6,4 +6,5 @@ pub mod Cells
 pub mod Holding
 pub mod InFlight
 pub mod Seeing
+pub mod Silent
 pub mod Sole

@@ -7,6 +7,7 @@ ghost use Rattle.sharc_sole_laws.specs.Hands.{FreesEmpty, HandsFly};
 ghost use Rattle.sharc_sole_laws.specs.Cells.{CellsSee};
 ghost use Rattle.sharc_sole_laws.specs.Holding.{PathsHold, ThreadsHold};
 ghost use Rattle.sharc_sole_laws.specs.Seeing.{CastersHold, ThreadsSee};
+ghost use Rattle.sharc_sole_laws.specs.Silent.{SilentHaveNothing};
 ghost use Rattle.sharc_sole_laws.specs.Sole.{RegistersAreSeen};
 
 use sharc_compile_laws::{
@@ -110,6 +111,16 @@ pub fn threads_have_begun()
     typed_threads_tell();
     history_paths_law();
     starts_law();
+}
+
+/// One that has told no event has nothing in its registers or in hand.
+pub fn silent_have_nothing()
+    ensures { OfTyped SilentHaveNothing }
+{
+    path_holds();
+    run_paths_law();
+    typed_is_framed();
+    framed_law();
 }
 
 /// What the report of a refused cast shows: the number was found where the thread tested a reference, and at that place the history shows another one, or an argument
