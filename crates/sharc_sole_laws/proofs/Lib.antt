@@ -1,3 +1,4 @@
+pub mod Elsewhere
 pub mod Counting
 pub mod Holding
 pub mod Quiet

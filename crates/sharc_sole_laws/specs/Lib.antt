@@ -1,3 +1,4 @@
+pub mod Elsewhere
 pub mod Holding
 pub mod InFlight
 pub mod Seeing

@@ -1,6 +1,7 @@
 //! The laws, each the contract of a function that calls at most the laws that it joins.
 
 ghost use Rattle.sharc_compile_laws.specs.Paths.{OfTyped};
+ghost use Rattle.sharc_sole_laws.specs.Elsewhere.{ArgumentsSee, LogsSee};
 ghost use Rattle.sharc_sole_laws.specs.Holding.{PathsHold, ThreadsHold};
 ghost use Rattle.sharc_sole_laws.specs.Seeing.{CastersHold, ThreadsSee};
 
@@ -11,6 +12,7 @@ use sharc_flat_laws::laws::{typed_asks_the_same, typed_is_framed};
 use sharc_gen::{paths_law, run_paths_law};
 use sharc_guard::{counted_law, framed_law};
 use sharc_guard_laws::laws::{made_locks_stand, typed_is_level};
+use sharc_history_laws::seen_law;
 use sharc_meaning::laws::ask_laws;
 
 /// What the registers of a thread of the code of a typed, well-moded program refer to, on each path whose results are consistent, the program holds or has given up that was
@@ -52,4 +54,18 @@ pub fn casters_hold()
     thread_holds();
     each_names_itself();
     ask_laws();
+}
+
+/// Where the argument of a thread that has not read it refers to an object, the argument is among the references of the history.
+pub fn arguments_see()
+    ensures { ArgumentsSee }
+{
+    seen_law();
+}
+
+/// Where the log of a thread's held mutexes refers to an object, a mutex of it is.
+pub fn logs_see()
+    ensures { LogsSee }
+{
+    seen_law();
 }
