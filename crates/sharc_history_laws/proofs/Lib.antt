@@ -44,6 +44,7 @@ pub mod Opening
 pub mod Quits
 pub mod Remaining
 pub mod Rules
+pub mod SeenCells
 pub mod Sets
 pub mod Shadows
 pub mod Shared

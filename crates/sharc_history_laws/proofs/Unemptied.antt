@@ -23,7 +23,7 @@ use Rattle.sharc_history_laws.proofs.Shared.{closing_own, some_closing, not_sole
 use Rattle.sharc_history_laws.proofs.Stands.{gate}
 use Rattle.sharc_history_laws.proofs.Unwritten.{emptying}
 
-on_hold : (stage : Stage) → is_emptying stage ≡ true → OnHold stage
+pub on_hold : (stage : Stage) → is_emptying stage ≡ true → OnHold stage
 on_hold (Links all) e = absurd (let z : false ≡ true = e in cc)
 on_hold _ e = tt
 

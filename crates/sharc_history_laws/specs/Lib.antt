@@ -5,6 +5,7 @@ pub mod Followed
 pub mod History
 pub mod Paths
 pub mod Reports
+pub mod SeenCells
 pub mod Starts
 pub mod Stores
 pub mod Waiters

@@ -8,6 +8,7 @@ ghost use Rattle.sharc_history_laws.specs.History.{HistoriesObey};
 ghost use Rattle.sharc_history_laws.specs.Paths.{PathsAreConsistent};
 ghost use Rattle.sharc_history_laws.specs.Reports.{CastReportsShow, LockReportsShow};
 ghost use Rattle.sharc_history_laws.specs.Seen.{ArgumentsAreGiven, LogsAreLocked, RunsBegin};
+ghost use Rattle.sharc_history_laws.specs.SeenCells.{CellsAreSeen};
 ghost use Rattle.sharc_history_laws.specs.Starts.{StartsAreSpawned};
 ghost use Rattle.sharc_history_laws.specs.Stores.{StoresAreLegal};
 ghost use Rattle.sharc_history_laws.specs.Stuck.{AwaitedMayNotCome};
@@ -70,6 +71,18 @@ pub fn stores_law()
 {
     run_laws();
     states_law();
+    begins();
+    keeps();
+    state_stands();
+    cells_are_there();
+}
+
+/// Where the cells of the globals hold at first what the program says: each pointer cell that refers to an object in a checked run of typed code, by the words,
+/// is one of a live object and refers to it by the source events, but while a Free empties the cell's object.
+pub fn cells_seen_law()
+    ensures { CellsAreSeen }
+{
+    run_laws();
     begins();
     keeps();
     state_stands();

@@ -35,6 +35,8 @@ use Rattle.sharc_guard.specs.Guard.{entered_at, guarded, place}
 use Rattle.sharc_guard.specs.Level.{IsLevel}
 use Rattle.sharc_invariant.specs.Words.{is_freed, register_of}
 use Rattle.sharc_sole_laws.specs.Holding.{IsAccounted, IsTested, IsHolding, IsHoldingThere}
+use Rattle.sharc_sole_laws.specs.Emptying.{IsEmptying}
+use Rattle.sharc_sole_laws.proofs.Emptying.{at_free, not_linking}
 use Rattle.sharc_sole_laws.proofs.Testing.{test_is, no_free, tested}
 use Rattle.sharc_sole_laws.proofs.Quiet.{IsQuiet, line_quiet, same_given, given_in, given_same, given_path, are_own, beyond}
 
@@ -223,6 +225,10 @@ module _ (runs : PathsAreRuns) (counts : GuardedCounts) (m : Assignment) (flat :
             let y : IsAt code s p T at a = ⊎_elim (λ (y : IsAt code s p T at a). y) (λ (l : IsLinking code s p T at a). absurd (no_free l.register l.layout l.site register site (sym l.statement ∙ statement))) h.stands in
             tested flat p m2 w.mid last a at x f.more w.turns register site (ap (statement_at p) y.pc_is ∙ statement) c.stands.tells c.stands.held w.quietly w.refs held (ap (λ (c : Came). c.outcome) (sym final_is) ∙ b.same.outcome)
             (λ k n e. number_here a k n e (y.same.in_refs.are k)));
+        emptying = λ empties. subst (λ xs. IsEmptying code (Meaning.asks m h.function h.argument xs b.fuel) at) answers
+            (let y : IsAt code s p T at a = ⊎_elim (λ (y : IsAt code s p T at a). y) (λ (l : IsLinking code s p T at a). absurd (not_linking l.elements at.own.stage empties l.stage)) h.stands in
+            at_free code s T g.functions.items flat p m2 a at x f.more y (instr_is at.at.pc) c.stands.tells (sym b.same.given_up ∙ ap (λ (n : At). n.given) (sym final))
+            (λ k. number_here a k (slice_index at.refs k) refl (y.same.in_refs.are k)) empties);
       }
 
   pub there : IsHoldingThere m code thread at said lowered

@@ -1,7 +1,11 @@
 pub mod Elsewhere
+pub mod Cause
+pub mod Beginning
 pub mod Counting
+pub mod Emptying
 pub mod Holding
 pub mod Quiet
 pub mod Seeing
+pub mod Sole
 pub mod Telling
 pub mod Testing

@@ -18,12 +18,15 @@ use Rattle.sharc_meaning.specs.References.{refers, Begun, asked_with, held_count
 use Rattle.sharc_meaning.specs.Runs.{IsNamedAt, answers_of}
 use Rattle.sharc_code.specs.declared.code.Code.{Code}
 use Rattle.sharc_code.specs.declared.instr.Instr.TheVariants.{TestSole}
+use Rattle.sharc_code.specs.declared.state.Stage.{Stage}
+use Rattle.sharc_code.specs.declared.state.Stage.TheVariants.{Lowers}
 use Rattle.sharc_code.specs.Machine.{Machine, instr_at}
 use Rattle.sharc_flat.specs.Correct.{MayStart}
-use Rattle.sharc_invariant.specs.Words.{register_of}
+use Rattle.sharc_invariant.specs.Words.{register_of, staged_of}
+use Rattle.sharc_sole_laws.specs.Emptying.{IsEmptying, is_emptying}
 use Rattle.sharc_sole_laws.specs.Holding.{IsAccounted, IsHolding, IsHoldingIn}
 use Rattle.sharc_sole_laws.proofs.Counting.{one_there, twice}
-use Rattle.sharc_sole_laws.specs.InFlight.{IsInFlight, is_given, is_replaced, is_left}
+use Rattle.sharc_sole_laws.specs.InFlight.{IsInFlight, is_given, is_replaced, is_emptied, is_left}
 
 -- ---- one of a list
 number_refers : (n : ℕ) (v : ℤ) → number_of v ≡ n → 0 < n → refers n v ≡ true
@@ -50,7 +53,7 @@ same_argument : (v w : ℤ) → Started v ≡ Started w → v ≡ w
 same_argument v w h = cc
 
 -- two functions with one name are one
-same_function : (r : Resolution) → NameThemselves r → (n k : ℕ) (site : Site) → IsNamedAt (function_at r n) site → IsNamedAt (function_at r k) site → n ≡ k
+pub same_function : (r : Resolution) → NameThemselves r → (n k : ℕ) (site : Site) → IsNamedAt (function_at r n) site → IsNamedAt (function_at r k) site → n ≡ k
 same_function r names n k site a b = by (function_at r n) (function_at r k) refl refl a b
   where
     number_eq : (a b : ℕ) → named.Function a ≡ named.Function b → a ≡ b
@@ -97,6 +100,19 @@ module _ (m : Assignment) (names : NameThemselves m.typed) (code : Code) (R : Li
       rests e is later le =
           let more : later ≡ (holding h).fuel + (later - (holding h).fuel) = omega (arith, le) in
           ap (asked_with b) more ∙ laws.fuel_same m b.own.function b.own.argument (answers_of (events_of thread b.own.after)) (holding h).fuel (later - (holding h).fuel) (λ end. no_end e (sym is ∙ end))
+
+  -- what it has taken out of a cell of an object that it frees is in flight
+  pub in_hand : (events_of thread R ≡ []) ⊎ IsHoldingIn m code R thread at lowered → (n : ℕ) → staged_of at.own.stage ≡ n → 0 < n → IsInFlight code at lowered b n
+  in_hand (inl nothing) n is some = absurd (no_first b.own.begins (events_of thread b.own.after) (sym own_events ∙ nothing))
+  in_hand (inr h) n is some = by at.own.stage refl is
+    where
+      by : (st : Stage) → at.own.stage ≡ st → staged_of st ≡ n → IsInFlight code at lowered b n
+      by (Lowers i elements found) stage is = let w = holding h in is_emptied w.fuel (w.emptying (ap is_emptying stage)) (ap staged_of stage ∙ is)
+      by _ stage is = let zero : 0 ≡ n = is in absurd (omega (arith, zero, some))
+
+  pub frees : (events_of thread R ≡ []) ⊎ IsHoldingIn m code R thread at lowered → is_emptying at.own.stage ≡ true → (fuel : ℕ) × IsEmptying code (asked_with b fuel) at
+  frees (inl nothing) empties = absurd (no_first b.own.begins (events_of thread b.own.after) (sym own_events ∙ nothing))
+  frees (inr h) empties = let w = holding h in (w.fuel, w.emptying empties)
 
   module _ (n : ℕ) (rests : IsInFlight code at lowered b n → ⊥) where
     -- what it holds with some fuel it holds with more, since nothing is in flight

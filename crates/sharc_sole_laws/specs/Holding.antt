@@ -28,6 +28,7 @@ use Rattle.sharc_invariant.specs.Words.{register_of}
 use Rattle.sharc_gen.specs.OfRuns.{elements_before, founds_of, told_in}
 use Rattle.sharc_compile.specs.Held.{IsAmong, IsGivenUpLater}
 use Rattle.sharc_compile_laws.specs.Threads.{TellsIn}
+use Rattle.sharc_sole_laws.specs.Emptying.{IsEmptying, is_emptying}
 
 -- ---- what a register has
 -- the old value of a cell that the program has just written, which an instruction lowers at the thread's place, or at the next one where the block of a freed object is linked
@@ -59,6 +60,7 @@ pub record IsHolding (m : Assignment) (code : Code) (f : ℕ) (argument : ℤ) (
   pub events : map (by thread) (asks m f argument (answers_of told) fuel).events ≡ told
   pub registers : (k n : ℕ) → register_of code at k ≡ n → 0 < n → IsAccounted code at lowered (asks m f argument (answers_of told) fuel) k n
   pub tested : (register site : ℕ) → instr_at code at.at.pc ≡ TestSole register site → IsTested (asks m f argument (answers_of told) fuel) at
+  pub emptying : is_emptying at.own.stage ≡ true → IsEmptying code (asks m f argument (answers_of told) fuel) at
 
 -- the thread begins with the Started of a function, at the name of that, and then holds what the function does, if that may be started
 pub record IsHoldingThere (m : Assignment) (code : Code) (thread : ℕ) (at : Machine) (said : List SourceEvent) (lowered : List ℕ) : Type 0 where

@@ -1,4 +1,9 @@
 pub mod Elsewhere
+pub mod Cause
+pub mod Beginning
+pub mod Emptying
+pub mod Hands
 pub mod Holding
 pub mod InFlight
 pub mod Seeing
+pub mod Sole

@@ -1,18 +1,24 @@
 //! The laws, each the contract of a function that calls at most the laws that it joins.
 
 ghost use Rattle.sharc_compile_laws.specs.Paths.{OfTyped};
+ghost use Rattle.sharc_sole_laws.specs.Cause.{CastReportsShowCause};
+ghost use Rattle.sharc_sole_laws.specs.Beginning.{ThreadsHaveBegun};
 ghost use Rattle.sharc_sole_laws.specs.Elsewhere.{ArgumentsSee, LogsSee};
+ghost use Rattle.sharc_sole_laws.specs.Hands.{FreesEmpty, HandsFly};
 ghost use Rattle.sharc_sole_laws.specs.Holding.{PathsHold, ThreadsHold};
 ghost use Rattle.sharc_sole_laws.specs.Seeing.{CastersHold, ThreadsSee};
+ghost use Rattle.sharc_sole_laws.specs.Sole.{RegistersAreSeen};
 
-use sharc_compile_laws::functions_are_named;
+use sharc_compile_laws::{
+    functions_are_named, spawned_are_threads, threads_may_start, typed_threads_tell,
+};
 use sharc_ctype_laws::laws::each_names_itself;
 use sharc_flat_form::laws::paths_are_runs;
 use sharc_flat_laws::laws::{typed_asks_the_same, typed_is_framed};
 use sharc_gen::{paths_law, run_paths_law};
 use sharc_guard::{counted_law, framed_law};
 use sharc_guard_laws::laws::{made_locks_stand, typed_is_level};
-use sharc_history_laws::seen_law;
+use sharc_history_laws::{paths_law as history_paths_law, reports_law, seen_law, starts_law};
 use sharc_meaning::laws::ask_laws;
 
 /// What the registers of a thread of the code of a typed, well-moded program refer to, on each path whose results are consistent, the program holds or has given up that was
@@ -56,6 +62,44 @@ pub fn casters_hold()
     ask_laws();
 }
 
+/// What a Free of a thread has taken out of a cell and not lowered yet is in flight.
+pub fn hands_fly()
+    ensures { OfTyped HandsFly }
+{
+    thread_holds();
+    each_names_itself();
+}
+
+/// And wherever a thread is at a Free before the Freed of the object, the program gives up the pointer cells of that.
+pub fn frees_empty()
+    ensures { OfTyped FreesEmpty }
+{
+    thread_holds();
+    each_names_itself();
+}
+
+/// Where a thread looks whether a reference is the only one to its object, another register with one is another thread's that the history shows, or shows that the
+/// thread holds two: if each thread has begun or has nothing, and no other thread has one in flight.
+pub fn registers_seen()
+    ensures { OfTyped RegistersAreSeen }
+{
+    threads_see();
+    casters_hold();
+}
+
+/// A thread of a checked run of typed code that has told an event has begun with a function that may be started.
+pub fn threads_have_begun()
+    ensures { OfTyped ThreadsHaveBegun }
+{
+    each_names_itself();
+    functions_are_named();
+    spawned_are_threads();
+    threads_may_start();
+    typed_threads_tell();
+    history_paths_law();
+    starts_law();
+}
+
 /// Where the argument of a thread that has not read it refers to an object, the argument is among the references of the history.
 pub fn arguments_see()
     ensures { ArgumentsSee }
@@ -68,4 +112,16 @@ pub fn logs_see()
     ensures { LogsSee }
 {
     seen_law();
+}
+
+/// What the report of a refused cast shows: the number was found where the thread tested a reference, and at that place the history shows another one, or
+/// the words do in a cell or in the hand of a Free; if no other thread has one in flight.
+pub fn reports_show_cause()
+    ensures { OfTyped CastReportsShowCause }
+{
+    history_paths_law();
+    reports_law();
+    seen_law();
+    arguments_see();
+    registers_seen();
 }

@@ -19,6 +19,7 @@ pub mod Moding
 pub mod Numbers
 pub mod Owners
 pub mod Pointees
+pub mod Pointing
 pub mod Ready
 pub mod Rows
 pub mod Settling

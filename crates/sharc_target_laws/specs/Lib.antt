@@ -6,5 +6,6 @@ pub mod Laws
 pub mod Lvalues
 pub mod Own
 pub mod Pointees
+pub mod Pointers
 pub mod Shapes
 pub mod Targets

@@ -1,0 +1,290 @@
+-- A pointer cell that refers to an object by the words does so by the events, but where a Free empties its object.
+use Rattle.std.proofs.Common.{◌≡◌, ℕ, pos, zero, suc, ◌+◌, ◌*◌, ◌/◌, ◌^◌, ◌<◌, ◌≢◌, ◌⊎◌, inl, inr, Bool, true, false, cond, not, ◌&&◌, List, [], ◌∷◌, refl, sym, ap, ◌∙◌, subst, ⊎_elim, arith, ltb-true}
+use Rattle.std.specs.Prelude.{slice_index, nat_lt, ◌==◌, ◌%◌}
+use Rattle.std.proofs.lemmas.Bool.{cases_Bool, and_parts}
+use Rattle.std.proofs.lemmas.Bool.Decides.{nat_tests}
+use Rattle.sharc_tree.specs.declared.event.CellAt.{CellAt}
+use Rattle.sharc_tree.specs.declared.event.Object.{Object}
+use Rattle.sharc_tree.specs.declared.event.Object.TheVariants as objects
+use Rattle.sharc_ctype.specs.Resolved.{Resolution}
+use Rattle.sharc_code.specs.declared.code.Code.{Code}
+use Rattle.sharc_code.specs.declared.shape.Shape.{Shape}
+use Rattle.sharc_code.specs.Laws.{RunLaws}
+use Rattle.sharc_code.specs.Layout.{Fits, granules, granule_at, words_of, first_cell, cell_word, cell_of, length_word}
+use Rattle.sharc_code.specs.Machine.{Machine}
+use Rattle.sharc_code.specs.Opening.{opening_words}
+use Rattle.sharc_code.specs.Ranges.{IsInGlobal}
+use Rattle.sharc_code.specs.Runs.{Turn, Global, IsRun, result_of, opening_of}
+use Rattle.sharc_code.specs.Says.{reference}
+use Rattle.sharc_code.specs.Whole.{one_thread, bounds, place_after}
+use Rattle.sharc_gen.specs.Consistent.{Elements, said_now}
+use Rattle.sharc_gen.specs.OfRuns.{table_of}
+use Rattle.sharc_meaning.specs.Reference.{is_null}
+use Rattle.sharc_meaning.specs.References.{refers}
+use Rattle.sharc_meaning.specs.Store.{value_after}
+use Rattle.sharc_invariant.specs.Types.{Targets, Field, Content, Pointer, field_in, field_of_cell, global_field, globals_target, is_pointer, cells_of}
+use Rattle.sharc_invariant.specs.Labels.{Labels}
+use Rattle.sharc_invariant.specs.Typed.{IsWellTyped}
+use Rattle.sharc_invariant.specs.World.{Cell as CellOf, World, ObjectState}
+use Rattle.sharc_invariant.specs.Words as Words
+use Rattle.sharc_invariant.specs.State.{State, IsSmall}
+use Rattle.sharc_invariant.specs.Opened.{first_world, first_place}
+use Rattle.sharc_invariant.specs.Objects.{objects_after, objects_now}
+use Rattle.sharc_invariant.specs.MachineInvariant.{cells_now, is_pointer_now, cell_refers}
+use Rattle.sharc_invariant.specs.Laws.{Keeps, Begins as CodeBegins, CellsAreThere, PointersAreThere, AccessesAreAllowed, StateStands}
+use Rattle.sharc_history_laws.specs.History.{history_of}
+use Rattle.sharc_history_laws.specs.Stores.{BeginsWith}
+use Rattle.sharc_history_laws.specs.SeenCells.{IsCellIn, IsLiveBy, IsBeingFreed, RefersBy, CellIsSeen}
+use Rattle.sharc_history_laws.proofs.Consists.{Consists, consists_then, objects_then, at_first, none_live}
+use Rattle.sharc_history_laws.proofs.Contents.{newest_value, value_is, value_held, IsCellOf, content_of, word_of_cell, Contents}
+use Rattle.sharc_history_laws.proofs.Emptying.{IsEmptied}
+use Rattle.sharc_history_laws.proofs.Lists.{Newest, is_live_in}
+use Rattle.sharc_history_laws.proofs.Locked.{Names, NamesIn}
+use Rattle.sharc_history_laws.proofs.OneMode.{place_of}
+use Rattle.sharc_history_laws.proofs.Opening.{contents_first}
+use Rattle.sharc_history_laws.proofs.Rules.{ObjectsTold, newest, newest_now, about_now, objects_told}
+use Rattle.sharc_history_laws.proofs.Shared.{number_of, some_closing}
+use Rattle.sharc_history_laws.proofs.Sparing.{is_value}
+use Rattle.sharc_history_laws.proofs.Stands.{live_low}
+use Rattle.sharc_history_laws.proofs.Unemptied.{on_hold}
+use Rattle.sharc_history_laws.proofs.Unwritten.{emptying}
+use Rattle.sharc_history_laws.proofs.Valued.{contents_then}
+
+-- ---- references
+not_null : (n : ℕ) → n ≢ 0 → is_null (pos n) ≡ false
+not_null zero nz = absurd (nz refl)
+not_null (suc n) nz = refl
+
+back : (n elements : ℕ) → n ≢ 0 → n < 2 ^ 32 → refers n (reference n elements) ≡ true
+back zero elements nz lt = absurd (nz refl)
+back (suc k) elements nz lt =
+    let some : is_null (pos (suc k + 2 ^ 32 * elements)) ≡ false = not_null (suc k + 2 ^ 32 * elements) (λ z. omega arith) in
+    let e : (suc k + 2 ^ 32 * elements) % 2 ^ 32 ≡ suc k = omega arith in
+    let q : (suc k == suc k) ≡ true = grind (arith, nat_tests) in
+    ap (λ b. not b && (((suc k + 2 ^ 32 * elements) % 2 ^ 32) == suc k)) some ∙ ap (λ n. n == suc k) e ∙ q
+
+-- a pointer cell holds a reference
+holds_reference : (a : Content) (T : Elements) (v : ℕ) → is_pointer a ≡ true → value_held a T v ≡ reference v (T v)
+holds_reference (Pointer f) T v e = refl
+holds_reference _ T v e = absurd (cc)
+
+pointer_value : (a : Content) → is_pointer a ≡ true → is_value a ≡ true
+pointer_value (Pointer f) e = refl
+pointer_value _ e = absurd (cc)
+
+eq_refl : (n : ℕ) → (n == n) ≡ true
+eq_refl n = grind (arith, nat_tests)
+
+ne_zero : (n : ℕ) → (n ≡ 0 → ⊥) → (n == 0) ≡ false
+ne_zero n ne = grind (arith, nat_tests)
+
+-- ---- words and numbers of cells
+length_is : (s : Shape) (o : ℕ) → o < granules s → length_word s o ≡ Words.length_at s o
+length_is s o lt = let e : nat_lt o (granules s) ≡ true = grind (arith, nat_tests) in let q : granule_at s o ≡ o = rw e refl in omega arith
+
+cell_word_is : (s : Shape) (o c : ℕ) → o + 1 + c / 2 < granules s → cell_word s (cell_of o c) ≡ Words.cell_at s o c
+cell_word_is s o c lt =
+    let w = first_cell s + cell_of o c in
+    let below : w < words_of s = omega arith in
+    let e : nat_lt w (words_of s) ≡ true = grind (arith, nat_tests) in
+    let q : cell_word s (cell_of o c) ≡ w = rw e refl in
+    q ∙ (let z : w ≡ Words.cell_at s o c = omega arith in z)
+
+-- the cell of the source in the world
+number_is : (code : Code) (a : Object) (cell p i : ℕ) → IsCellIn code a cell p i → number_of a ≡ p
+number_is code (objects.Made n) cell p i h = h.0
+number_is code (objects.Global g) cell p i h = sym h.0
+
+place_is : (code : Code) (a : Object) (cell p i : ℕ) → IsCellIn code a cell p i → place_of code a cell ≡ i
+place_is code (objects.Made n) cell p i h = h.2
+place_is code (objects.Global g) cell p i h = let e = h.2 in omega arith
+
+names : (code : Code) (c : CellAt) (a : Object) (p i : ℕ) → c.object ≡ a → IsCellIn code a c.cell p i → Names code c p (2 * (p + 1) + i)
+names code c (objects.Made n) p i is h =
+    subst (λ b. NamesIn code b c.cell p (2 * (p + 1) + i)) (sym is) (h.0, h.1, in_made n c.cell p i h.0 h.2)
+  where
+    in_made : (n j p i : ℕ) → n ≡ p → j ≡ i → 2 * (p + 1) + i ≡ cell_of n j
+    in_made n j p i a b = omega arith
+names code c (objects.Global g) p i is h =
+    let at : i + 2 ≡ 2 * (p + 1) + i = in_globals p i h.0 in
+    subst (λ b. NamesIn code b c.cell p (2 * (p + 1) + i)) (sym is) (h.0, subst (λ k. IsInGlobal code.globals.items g k) at h.1, sym at ∙ h.2)
+  where
+    in_globals : (p i : ℕ) → p ≡ 0 → i + 2 ≡ 2 * (p + 1) + i
+    in_globals p i z = omega arith
+
+-- ---- runs
+pub record Seen (r : Resolution) (x : Targets) (code : Code) (s : Shape) (ls : Labels) (run : List Turn) : Type 0 where
+  pub consists : Consists x code s ls run
+  pub objects : ObjectsTold (newest code s run) consists.world.obj
+  pub contents : Contents r x code s (newest code s run) (table_of code s run) (place_after code s run) consists.world consists.state.cells
+  pub same : consists.world.obj ≡ objects_after code s ls (first_place code s) (first_world x).obj run
+
+module _ (state_law : StateStands) (cell_laws : CellsAreThere) (pointers : PointersAreThere) (rights : AccessesAreAllowed) (laws : RunLaws) (begins_law : CodeBegins) (keeps : Keeps) (x : Targets) (code : Code) (s : Shape) (ls : Labels) (wt : IsWellTyped x code ls) (fits : Fits code s) (few : IsSmall code s)
+    (r : Resolution) (first : BeginsWith r code) where
+  seen : (run : List Turn) → IsRun bounds (one_thread code s) (opening_of bounds (one_thread code s) (opening_words code s)) run → Seen r x code s ls run
+  seen [] run =
+      let never = none_live begins_law x code s ls wt fits in
+      record {
+        consists = at_first begins_law x code s ls wt fits;
+        objects = record { live = λ n nz live. absurd (never n nz live); owner = λ n nz live. absurd (never n nz live) };
+        contents = contents_first begins_law x code s ls wt fits r first;
+        same = refl;
+      }
+  seen (one ∷ earlier) run =
+      let old = seen earlier run.0 in
+      let h = old.consists in
+      let may = run.1 in
+      let g = place_after code s earlier in
+      let ev = said_now code (table_of code s earlier) (g.threads one.thread) (result_of one.event) in
+      let L = newest code s earlier in
+      let now = newest_now code s one earlier in
+      let then' = consists_then laws keeps cell_laws pointers x code s ls wt fits few one earlier h may in
+      let then_objects = objects_then laws keeps cell_laws pointers x code s ls wt fits few one earlier h may in
+      record {
+        consists = then';
+        objects = subst (λ (L : Newest). ObjectsTold L then'.world.obj) (sym now)
+            (objects_told cell_laws pointers rights laws keeps x code s ls wt fits few one earlier h may then'.world.obj then_objects L old.objects ev
+            (about_now cell_laws pointers rights laws keeps x code s ls wt fits few one earlier h may));
+        contents = subst (λ (L : Newest). Contents r x code s L (table_of code s (one ∷ earlier)) (place_after code s (one ∷ earlier)) then'.world then'.state.cells) (sym now)
+            (contents_then cell_laws pointers rights laws keeps x code s ls wt fits few one earlier h may r L old.contents);
+        same = then_objects ∙ ap (objects_now code s ls (place_after code s earlier) one) old.same;
+      }
+
+  -- ---- a cell that refers to an object
+  module _ (run : List Turn) (k : Seen r x code s ls run) (p i o : ℕ) (nz : o ≢ 0) (is : cell_refers x s (place_after code s run) k.consists.world.obj p i ≡ o) where
+    abbrev g : Global Machine
+    g = place_after code s run
+
+    abbrev world : World
+    world = k.consists.world
+
+    abbrev st : State x code s ls (place_after code s run) k.consists.world
+    st = k.consists.state
+
+    abbrev b : Bool
+    b = is_pointer_now x s (place_after code s run) k.consists.world.obj p i
+
+    is_there : b ≡ true
+    is_there = ⊎_elim (λ (e : b ≡ true). e) (λ (e : b ≡ false). absurd (nz (sym is ∙ ap (λ b. cond b (slice_index (place_after code s run).words (cell_word s (cell_of p i))) 0) e))) (cases_Bool b)
+
+    parts : ((k.consists.world.obj p).live ≡ true) × ((nat_lt i (cells_now x s (place_after code s run) k.consists.world.obj p) && is_pointer (field_in x (k.consists.world.obj p).ty i).holds) ≡ true)
+    parts = and_parts (k.consists.world.obj p).live (nat_lt i (cells_now x s (place_after code s run) k.consists.world.obj p) && is_pointer (field_in x (k.consists.world.obj p).ty i).holds) is_there
+
+    inside_parts : (nat_lt i (cells_now x s (place_after code s run) k.consists.world.obj p) ≡ true) × (is_pointer (field_in x (k.consists.world.obj p).ty i).holds ≡ true)
+    inside_parts = and_parts (nat_lt i (cells_now x s (place_after code s run) k.consists.world.obj p)) (is_pointer (field_in x (k.consists.world.obj p).ty i).holds) parts.1
+
+    live : (k.consists.world.obj p).live ≡ true
+    live = parts.0
+
+    pub pointer : is_pointer (field_in x (k.consists.world.obj p).ty i).holds ≡ true
+    pointer = inside_parts.1
+
+    cells_are : (p : ℕ) → (k.consists.world.obj p).live ≡ true → cells_now x s (place_after code s run) k.consists.world.obj p ≡ k.consists.state.cells p
+    cells_are zero live = sym st.globals_cells
+    cells_are (suc q) live =
+        let o = suc q in
+        let some : o ≢ 0 = λ e. cc in
+        let long : st.elements o ≡ slice_index g.words (length_word s o) = st.sim.lengths o some live ∙ ap (λ i. slice_index g.words i) (sym (length_is s o (st.apart.headers o live))) in
+        ap (λ b. cond b (2 * s.globals) (slice_index g.words (length_word s o) * cells_of x (world.obj o).ty.target)) (ne_zero o some)
+        ∙ ap (λ n. n * cells_of x (world.obj o).ty.target) (sym long) ∙ sym (st.whole o some live).1
+
+    inside : i < k.consists.state.cells p
+    inside = subst (λ n. i < n) (cells_are p live) (ltb-true i (cells_now x s g world.obj p) inside_parts.0)
+
+    word_is : slice_index (place_after code s run).words (Words.cell_at s p i) ≡ o
+    word_is =
+        let lt = inside in
+        ap (λ w. slice_index g.words w) (sym (cell_word_is s p i (st.apart.within p (i / 2) live (omega arith))))
+        ∙ sym (ap (λ b. cond b (slice_index g.words (cell_word s (cell_of p i))) 0) is_there) ∙ is
+
+    -- the object that it refers to is live, so its number is low
+    low : o < 2 ^ 32
+    low =
+        let e : (world.slots (CellOf p i)).reference ≡ o = st.sim.pointers p i live inside pointer ∙ word_is in
+        let f = st.inv.words.fits (CellOf p i) (λ z. nz (sym e ∙ z)) in
+        let lt = live_low x code s ls wt fits g world st o (subst (λ o. (world.obj o).live ≡ true) e f.live) in
+        omega arith
+
+    module _ (c : CellAt) (at : IsCellIn code c.object c.cell p i) where
+      number : number_of c.object ≡ p
+      number = number_is code c.object c.cell p i at
+
+      place : place_of code c.object c.cell ≡ i
+      place = place_is code c.object c.cell p i at
+
+      content : content_of x code k.consists.world c ≡ (field_in x (k.consists.world.obj p).ty i).holds
+      content = ap (λ n. (field_in x (world.obj n).ty (place_of code c.object c.cell)).holds) number ∙ ap (λ j. (field_in x (world.obj p).ty j).holds) place
+
+      is_pointer_cell : is_pointer (content_of x code k.consists.world c) ≡ true
+      is_pointer_cell = ap is_pointer content ∙ pointer
+
+      cell : IsCellOf code k.consists.world k.consists.state.cells c
+      cell = record {
+        live = ap (λ n. (world.obj n).live) number ∙ live;
+        inside = subst (λ n. place_of code c.object c.cell < st.cells n) (sym number) (subst (λ j. j < st.cells p) (sym place) inside);
+        named = subst (λ n. Names code c n (2 * (n + 1) + place_of code c.object c.cell)) (sym number) (subst (λ j. Names code c p (2 * (p + 1) + j)) (sym place) (names code c c.object p i refl at));
+      }
+
+      word : slice_index (place_after code s run).words (word_of_cell code s c) ≡ o
+      word = ap (λ n. slice_index g.words (Words.cell_at s n (place_of code c.object c.cell))) number ∙ ap (λ j. slice_index g.words (Words.cell_at s p j)) place ∙ word_is
+
+      by_value : newest_value r (newest code s run) c ≡ value_held (content_of x code k.consists.world c) (table_of code s run) (slice_index (place_after code s run).words (word_of_cell code s c))
+          → refers o (value_after r (history_of code s run) c) ≡ true
+      by_value e =
+          let v = slice_index g.words (word_of_cell code s c) in
+          let T = table_of code s run in
+          let q : value_after r (history_of code s run) c ≡ reference o (T o) =
+          value_is r (newest code s run) c ∙ e ∙ holds_reference (content_of x code world c) T v is_pointer_cell ∙ ap (λ v. reference v (T v)) word in
+          ap (refers o) q ∙ back o (T o) nz low
+
+      freed : IsEmptied code (place_after code s run) (number_of c.object) → IsBeingFreed code (place_after code s run) p
+      freed z =
+          let u = z.0 in
+          let y = z.1.1 in
+          let closing = emptying x code s ls wt fits g world st u (z.1.0, y.on) (on_hold (g.threads u).own.stage y.emptying) (number_of c.object) y.register y.layout y.site y.is_free y.object in
+          record {
+            some = subst (λ n. n ≢ 0) number (some_closing state_law x code s ls wt fits g world st (number_of c.object) closing);
+            thread = u;
+            started = z.1.0;
+            on = y.on;
+            register = y.register;
+            layout = y.layout;
+            site = y.site;
+            is_free = y.is_free;
+            object = y.object ∙ number;
+          }
+
+      live_by : IsLiveBy (history_of code s run) c.object
+      live_by = by c.object at
+        where
+          by : (a : Object) → IsCellIn code a c.cell p i → IsLiveBy (history_of code s run) a
+          by (objects.Global q) h = tt
+          by (objects.Made n) h = subst (λ n. IsLiveBy (history_of code s run) (objects.Made n)) (sym h.0) (is_live_in (newest code s run) p ∙ k.objects.live p h.1 live)
+
+      by_events : RefersBy r code (place_after code s run) (history_of code s run) c p o
+      by_events = record {
+        live = live_by;
+        refers_there = ⊎_elim
+            (λ (e : newest_value r (newest code s run) c ≡ value_held (content_of x code world c) (table_of code s run) (slice_index g.words (word_of_cell code s c))). inl (by_value e))
+            (λ (z : IsEmptied code g (number_of c.object)). inr (freed z))
+            (k.contents c cell (pointer_value (content_of x code world c) is_pointer_cell));
+      }
+
+    -- a cell of the globals has a field of theirs
+    global : p ≡ 0 → is_pointer (global_field x i).holds ≡ true
+    global z =
+        let own : (world.obj p).ty.target ≡ globals_target x = ap (λ n. (world.obj n).ty.target) z ∙ ap (λ (q : ObjectState). q.ty.target) st.globals in
+        let is : ((world.obj p).ty.target == globals_target x) ≡ true = ap (λ n. n == globals_target x) own ∙ eq_refl (globals_target x) in
+        ap (λ b. is_pointer (elim b as (λ b. Field) [ true ↦ global_field x i | false ↦ field_of_cell x (k.consists.world.obj p).ty.target i ]).holds) (sym is) ∙ pointer
+
+    pub cell_seen : CellIsSeen r x code (place_after code s run) k.consists.world.obj (history_of code s run) p i o
+    cell_seen = record { pointer = pointer; global = global; by_events = by_events }
+
+  -- by the objects of the turns
+  pub cells_seen : (run : List Turn) → IsRun bounds (one_thread code s) (opening_of bounds (one_thread code s) (opening_words code s)) run → (p i o : ℕ) → o ≢ 0
+      → cell_refers x s (place_after code s run) (objects_after code s ls (first_place code s) (first_world x).obj run) p i ≡ o
+      → CellIsSeen r x code (place_after code s run) (objects_after code s ls (first_place code s) (first_world x).obj run) (history_of code s run) p i o
+  cells_seen run is_run p i o nz is =
+      let k = seen run is_run in
+      subst (λ (obj : ℕ → ObjectState). CellIsSeen r x code (place_after code s run) obj (history_of code s run) p i o) k.same
+      (cell_seen run k p i o nz (subst (λ (obj : ℕ → ObjectState). cell_refers x s (place_after code s run) obj p i ≡ o) (sym k.same) is))

@@ -1,0 +1,188 @@
+-- A pointer cell of the globals is one of a global of the source.
+use Rattle.std.proofs.Common.{◌≡◌, ℕ, zero, suc, ◌+◌, ◌-◌, ◌*◌, ◌<◌, ◌≤◌, ◌⊎◌, inl, inr, Bool, true, false, ◌||◌, cond, List, [], ◌∷◌, ◌++◌, length, replicate, slice_index_or, Some, refl, ap, sym, ◌∙◌, subst, ⊎_elim, arith, bytes_eq}
+use Rattle.std.specs.Prelude.{slice_get, ◌%◌}
+use Rattle.std.proofs.Math.Nat.{suc-mul}
+use Rattle.std.proofs.lemmas.Bool.{cases_lt}
+use Rattle.std.proofs.lemmas.Nat.{mod-mul-add}
+use Rattle.sharc_tree.specs.declared.ctype.Base.{Base}
+use Rattle.sharc_tree.specs.declared.ctype.Base.TheVariants as base
+use Rattle.sharc_tree.specs.declared.tree.declaration.Declaration.{Declaration}
+use Rattle.sharc_tree.specs.declared.tree.item.GlobalDefinition.{GlobalDefinition}
+use Rattle.sharc_tree.specs.declared.tree.item.StructDefinition.{StructDefinition}
+use Rattle.sharc_names.specs.Kinds.{declared_kind}
+use Rattle.sharc_names.specs.Kinds as Kinds
+use Rattle.sharc_code.specs.Ranges.{IsInGlobal, first_place}
+use Rattle.sharc_code.specs.Says.{no_global}
+use Rattle.sharc_ctype.specs.Globals.{elements_of}
+use Rattle.sharc_ctype.specs.Layouts.{pointer_cells}
+use Rattle.sharc_ctype.specs.Resolved.{Resolution, structs_in, globals_in, global_at}
+use Rattle.sharc_meaning.specs.References.{fields_called, is_pointer_in, is_pointer_of_global}
+use Rattle.sharc_meaning.specs.References as References
+use Rattle.sharc_mode.specs.Moded.{Assignment}
+use Rattle.sharc_mode.specs.Rows.{written, declared_row, modes_of}
+use Rattle.sharc_flat.specs.Tables.{cells_in, granules_in, globals_from, globals_of}
+use Rattle.sharc_invariant.specs.Types.{FieldMode, Field, Content, Pointer, no_field, is_pointer}
+use Rattle.sharc_target_laws.specs.Pointers.{IsPointerOfGlobal, PointersAreOfGlobals}
+use Rattle.sharc_target_laws.specs.Targets.{base_content, pointer_content, declared_content, single, members, struct_fields, base_fields, top_mode, global_element, repeated, global_fields, all_global_fields}
+use Rattle.sharc_target_laws.proofs.Cells.{member_count}
+use Rattle.sharc_target_laws.proofs.Good.{at_left, at_right, size}
+use Rattle.sharc_target_laws.proofs.Laying.{globals_are, global_count}
+
+abbrev Points : List Field → ℕ → Type 0
+Points list i = is_pointer (slice_index_or list i no_field).holds ≡ true
+
+abbrev Part : List Field → List Field → ℕ → Type 0
+Part a b i = ((i < length a) × Points a i) ⊎ ((k : ℕ) × (i ≡ length a + k) × Points b k)
+
+parts : (a b : List Field) (i : ℕ) → Points (a ++ b) i → Part a b i
+parts a b i h = ⊎_elim
+    (λ (low : i < length a). inl (low, subst (λ (f : Field). is_pointer f.holds ≡ true) (at_left a b i low) h))
+    (λ (high : length a ≤ i).
+    let e : i ≡ length a + (i - length a) = omega (arith, high) in
+    inr (i - length a, e, subst (λ (f : Field). is_pointer f.holds ≡ true) (at_right a b i (i - length a) e) h))
+    (cases_lt i (length a))
+
+-- ---- elements
+no_base : (b : Base) → is_pointer (base_content b) ≡ true → ⊥
+no_base base.Mutex h = let z : false ≡ true = h in cc
+no_base (base.Struct name) h = let z : false ≡ true = h in cc
+no_base _ h = let z : false ≡ true = h in cc
+
+no_single : (q : FieldMode) (b : Base) (k : ℕ) → Points (single q b ∷ []) k → ⊥
+no_single q base.Mutex zero h = let z : false ≡ true = h in cc
+no_single q (base.Struct name) zero h = let z : false ≡ true = h in cc
+no_single q _ zero h = let z : false ≡ true = h in cc
+no_single q b (suc k) h = let z : false ≡ true = h in cc
+
+declared_pointer : (m : Assignment) (n : ℕ) (d : Declaration) → is_pointer (declared_content m n d) ≡ true → Kinds.is_pointer (declared_kind d.written) ≡ true
+declared_pointer m n d h = by (Kinds.is_pointer (declared_kind d.written)) h
+  where
+    by : (b : Bool) → is_pointer (cond b (pointer_content m n d.written.ctype.base (modes_of m (declared_row m.typed written d.name.site.token))) (base_content d.written.ctype.base)) ≡ true → b ≡ true
+    by true h = refl
+    by false h = absurd (no_base d.written.ctype.base h)
+
+members_point : (m : Assignment) (q : FieldMode) (n : ℕ) (fields : List Declaration) (k : ℕ) → Points (members m q n fields) k → slice_index_or (pointer_cells fields) k false ≡ true
+members_point m q n [] k h = absurd (let z : false ≡ true = h in cc)
+members_point m q n (d ∷ rest) zero h = declared_pointer m n d h
+members_point m q n (d ∷ rest) (suc k) h = members_point m q (n + 1) rest k h
+
+-- cell k of element e is cell k
+in_element : (c e l k : ℕ) → k < l → c ≡ e * l + k → c % l ≡ k
+in_element c e l k low is = ap (λ n. n % l) is ∙ mod-mul-add e l k low
+
+struct_points : (m : Assignment) (q : FieldMode) (list : List StructDefinition) (name : List ℕ) (c e k : ℕ) → k < length (struct_fields m q list name) → c ≡ e * length (struct_fields m q list name) + k → Points (struct_fields m q list name) k
+    → slice_index_or (pointer_cells (fields_called list name)) (c % length (fields_called list name)) false ≡ true
+struct_points m q [] name c e k low is h = absurd (no_single q (base.Struct name) k h)
+struct_points m q (s ∷ rest) name c e k low is h = by (bytes_eq s.name.text name) low is h (struct_points m q rest name c e k)
+  where
+    by : (b : Bool) → k < length (cond b (members m q 0 s.fields) (struct_fields m q rest name)) → c ≡ e * length (cond b (members m q 0 s.fields) (struct_fields m q rest name)) + k → Points (cond b (members m q 0 s.fields) (struct_fields m q rest name)) k
+        → (k < length (struct_fields m q rest name) → c ≡ e * length (struct_fields m q rest name) + k → Points (struct_fields m q rest name) k → slice_index_or (pointer_cells (fields_called rest name)) (c % length (fields_called rest name)) false ≡ true)
+        → slice_index_or (pointer_cells (cond b s.fields (fields_called rest name))) (c % length (cond b s.fields (fields_called rest name))) false ≡ true
+    by true low is h more =
+        let many = member_count m q 0 s.fields in
+        let place : c % length s.fields ≡ k = in_element c e (length s.fields) k (subst (λ l. k < l) many low) (is ∙ ap (λ l. e * l + k) many) in
+        ap (λ j. slice_index_or (pointer_cells s.fields) j false) place ∙ members_point m q 0 s.fields k h
+    by false low is h more = more low is h
+
+base_points : (m : Assignment) (q : FieldMode) (b : Base) (c e k : ℕ) → k < length (base_fields m q b) → c ≡ e * length (base_fields m q b) + k → Points (base_fields m q b) k
+    → slice_index_or (pointer_cells (References.base_fields m.typed b)) (c % length (References.base_fields m.typed b)) false ≡ true
+base_points m q (base.Struct name) c e k low is h = struct_points m q (structs_in m.typed.program.items) name c e k low is h
+base_points m q base.Int c e k low is h = absurd (no_single q base.Int k h)
+base_points m q base.Char c e k low is h = absurd (no_single q base.Char k h)
+base_points m q base.Long c e k low is h = absurd (no_single q base.Long k h)
+base_points m q base.Mutex c e k low is h = absurd (no_single q base.Mutex k h)
+base_points m q base.Void c e k low is h = absurd (no_single q base.Void k h)
+
+element_points : (m : Assignment) (g : GlobalDefinition) (c e k : ℕ) → k < length (global_element m g) → c ≡ e * length (global_element m g) + k → Points (global_element m g) k → is_pointer_in m.typed g.declaration.written c ≡ true
+element_points m g c e k low is h = by (Kinds.is_pointer (declared_kind g.declaration.written)) low is h
+  where
+    by : (b : Bool) → k < length (cond b (record { mode = top_mode m g; holds = declared_content m 0 g.declaration } ∷ []) (base_fields m (top_mode m g) g.declaration.written.ctype.base))
+        → c ≡ e * length (cond b (record { mode = top_mode m g; holds = declared_content m 0 g.declaration } ∷ []) (base_fields m (top_mode m g) g.declaration.written.ctype.base)) + k
+        → Points (cond b (record { mode = top_mode m g; holds = declared_content m 0 g.declaration } ∷ []) (base_fields m (top_mode m g) g.declaration.written.ctype.base)) k
+        → (b || slice_index_or (pointer_cells (References.base_fields m.typed g.declaration.written.ctype.base)) (c % length (References.base_fields m.typed g.declaration.written.ctype.base)) false) ≡ true
+    by true low is h = refl
+    by false low is h = base_points m (top_mode m g) g.declaration.written.ctype.base c e k low is h
+
+-- ---- globals
+record InElement (n : ℕ) (fields : List Field) (i : ℕ) : Type 0 where
+  pub element : ℕ
+  pub cell : ℕ
+  pub low : element < n
+  pub inside : cell < length fields
+  pub at : i ≡ element * length fields + cell
+  pub points : Points fields cell
+
+repeated_points : (n : ℕ) (fields : List Field) (i : ℕ) → Points (repeated n fields) i → InElement n fields i
+repeated_points zero fields i h = absurd (let z : false ≡ true = h in cc)
+repeated_points (suc n) fields i h = ⊎_elim
+    (λ (k : (i < length fields) × Points fields i). record { element = 0; cell = i; low = omega arith; inside = k.0; at = omega arith; points = k.1 })
+    (λ (k : (j : ℕ) × (i ≡ length fields + j) × Points (repeated n fields) j).
+    let r = repeated_points n fields k.0 k.2 in
+    let low = r.low in
+    let product = suc-mul r.element (length fields) in
+    let e = k.1 in
+    let at = r.at in
+    record { element = suc r.element; cell = r.cell; low = omega (arith, low); inside = r.inside; at = omega (arith, product, e, at); points = r.points })
+    (parts fields (repeated n fields) i h)
+
+no_padding : (n i : ℕ) → Points (replicate n no_field) i → ⊥
+no_padding zero i h = let z : false ≡ true = h in cc
+no_padding (suc n) zero h = let z : false ≡ true = h in cc
+no_padding (suc n) (suc i) h = no_padding n i h
+
+record InGlobals (m : Assignment) (from : ℕ) (list : List GlobalDefinition) (i : ℕ) : Type 0 where
+  pub number : ℕ
+  pub definition : GlobalDefinition
+  pub is : slice_get list number ≡ Some definition
+  pub known : number < length (globals_from m.typed from list)
+  pub cell : ℕ
+  pub at : i + 2 * from ≡ 2 * (slice_index_or (globals_from m.typed from list) number no_global).granule + cell
+  pub cells : (slice_index_or (globals_from m.typed from list) number no_global).cells ≡ cells_in m.typed definition
+  pub element : InElement (elements_of definition.form) (global_element m definition) cell
+
+all_points : (m : Assignment) (from : ℕ) (list : List GlobalDefinition) (i : ℕ) → Points (all_global_fields m list) i → InGlobals m from list i
+all_points m from [] i h = absurd (let z : false ≡ true = h in cc)
+all_points m from (x ∷ rest) i h = ⊎_elim
+    (λ (k : (i < length (global_fields m x)) × Points (global_fields m x) i). ⊎_elim
+    (λ (y : (i < length (repeated (elements_of x.form) (global_element m x))) × Points (repeated (elements_of x.form) (global_element m x)) i).
+    record { number = 0; definition = x; is = refl; known = omega arith; cell = i; at = omega arith; cells = refl; element = repeated_points (elements_of x.form) (global_element m x) i y.1 })
+    (λ (y : (j : ℕ) × (i ≡ length (repeated (elements_of x.form) (global_element m x)) + j) × Points (replicate (2 * granules_in m.typed x - cells_in m.typed x) no_field) j).
+    absurd (no_padding (2 * granules_in m.typed x - cells_in m.typed x) y.0 y.2))
+    (parts (repeated (elements_of x.form) (global_element m x)) (replicate (2 * granules_in m.typed x - cells_in m.typed x) no_field) i k.1))
+    (λ (k : (j : ℕ) × (i ≡ length (global_fields m x) + j) × Points (all_global_fields m rest) j).
+    let r = all_points m (from + granules_in m.typed x) rest k.0 k.2 in
+    let here = global_count m x in
+    let e = k.1 in
+    let known = r.known in
+    let at = r.at in
+    record { number = suc r.number; definition = r.definition; is = r.is; known = omega (arith, known); cell = r.cell; at = omega (arith, here, e, at); cells = r.cells; element = r.element })
+    (parts (global_fields m x) (all_global_fields m rest) i h)
+
+below_product : (e c l n : ℕ) → e < c → n < l → e * l + n < c * l
+below_product e zero l n low inside = absurd (omega (arith, low))
+below_product zero (suc c) l n low inside = let product = suc-mul c l in omega (arith, product, inside)
+below_product (suc e) (suc c) l n low inside =
+    let more = below_product e c l n (omega (arith, low)) inside in
+    let left = suc-mul e l in
+    let right = suc-mul c l in
+    omega (arith, more, left, right)
+
+pub pointers_are_of_globals : PointersAreOfGlobals
+pointers_are_of_globals m j h =
+    let r = all_points m 1 (globals_in m.typed.program.items) j h in
+    let g = r.definition in
+    let el = r.element in
+    let there = globals_are m r.number g r.is el.element el.cell el.low el.inside in
+    let below = below_product el.element (elements_of g.form) (length (global_element m g)) el.cell el.low el.inside in
+    let at = r.at in
+    let place = el.at in
+    let cells : (slice_index_or (globals_of m.typed) r.number no_global).cells ≡ elements_of g.form * length (global_element m g) = r.cells ∙ ap (λ n. elements_of g.form * n) (sym there.cells) in
+    record {
+      global = r.number;
+      definition = g;
+      is = r.is;
+      cell = r.cell;
+      inside = record { known = r.known; low = omega (arith, at); high = omega (arith, at, place, below, cells) };
+      at = omega (arith, at);
+      pointer = ap (λ o. is_pointer_of_global m.typed o r.cell) r.is ∙ element_points m g r.cell el.element el.cell el.inside el.at el.points;
+    }
