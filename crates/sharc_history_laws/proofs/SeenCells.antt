@@ -9,6 +9,8 @@ use Rattle.sharc_tree.specs.declared.event.Object.TheVariants as objects
 use Rattle.sharc_ctype.specs.Resolved.{Resolution}
 use Rattle.sharc_code.specs.declared.code.Code.{Code}
 use Rattle.sharc_code.specs.declared.shape.Shape.{Shape}
+use Rattle.sharc_code.specs.declared.state.Stage.{Stage}
+use Rattle.sharc_code.specs.declared.state.Stage.TheVariants.{Empties, Lowers, FreeLooks, FreeClears, Uncounts}
 use Rattle.sharc_code.specs.Laws.{RunLaws}
 use Rattle.sharc_code.specs.Layout.{Fits, granules, granule_at, words_of, first_cell, cell_word, cell_of, length_word}
 use Rattle.sharc_code.specs.Machine.{Machine}
@@ -34,10 +36,10 @@ use Rattle.sharc_invariant.specs.MachineInvariant.{cells_now, is_pointer_now, ce
 use Rattle.sharc_invariant.specs.Laws.{Keeps, Begins as CodeBegins, CellsAreThere, PointersAreThere, AccessesAreAllowed, StateStands}
 use Rattle.sharc_history_laws.specs.History.{history_of}
 use Rattle.sharc_history_laws.specs.Stores.{BeginsWith}
-use Rattle.sharc_history_laws.specs.SeenCells.{IsCellIn, IsLiveBy, IsBeingFreed, RefersBy, CellIsSeen}
+use Rattle.sharc_history_laws.specs.SeenCells.{is_clearing, IsCellIn, IsLiveBy, IsBeingFreed, RefersBy, CellIsSeen}
 use Rattle.sharc_history_laws.proofs.Consists.{Consists, consists_then, objects_then, at_first, none_live}
 use Rattle.sharc_history_laws.proofs.Contents.{newest_value, value_is, value_held, IsCellOf, content_of, word_of_cell, Contents}
-use Rattle.sharc_history_laws.proofs.Emptying.{IsEmptied}
+use Rattle.sharc_history_laws.proofs.Emptying.{IsEmptied, is_emptying}
 use Rattle.sharc_history_laws.proofs.Lists.{Newest, is_live_in}
 use Rattle.sharc_history_laws.proofs.Locked.{Names, NamesIn}
 use Rattle.sharc_history_laws.proofs.OneMode.{place_of}
@@ -77,6 +79,14 @@ eq_refl n = grind (arith, nat_tests)
 
 ne_zero : (n : ℕ) → (n ≡ 0 → ⊥) → (n == 0) ≡ false
 ne_zero n ne = grind (arith, nat_tests)
+
+clears : (stage : Stage) → is_emptying stage ≡ true → is_clearing stage ≡ true
+clears (Empties i all) e = refl
+clears (Lowers i all found) e = refl
+clears (FreeLooks done all) e = refl
+clears (FreeClears done all seen) e = refl
+clears (Uncounts all) e = refl
+clears _ e = absurd (cc)
 
 -- ---- words and numbers of cells
 length_is : (s : Shape) (o : ℕ) → o < granules s → length_word s o ≡ Words.length_at s o
@@ -252,6 +262,7 @@ module _ (state_law : StateStands) (cell_laws : CellsAreThere) (pointers : Point
             site = y.site;
             is_free = y.is_free;
             object = y.object ∙ number;
+            clearing = clears (g.threads u).own.stage y.emptying;
           }
 
       live_by : IsLiveBy (history_of code s run) c.object

@@ -1,5 +1,5 @@
 -- What the pointer cells of a checked run of typed code refer to, by the events.
-use Rattle.std.specs.Prelude.{◌≡◌, ◌≢◌, ◌⊎◌, ℕ, ◌+◌, true, List}
+use Rattle.std.specs.Prelude.{◌≡◌, ◌≢◌, ◌⊎◌, ℕ, ◌+◌, Bool, true, false, List}
 use Rattle.sharc_tree.specs.declared.event.CellAt.{CellAt}
 use Rattle.sharc_tree.specs.declared.event.Object.{Object}
 use Rattle.sharc_tree.specs.declared.event.Object.TheVariants.{Global as GlobalNumber, Made}
@@ -7,6 +7,8 @@ use Rattle.sharc_ctype.specs.Resolved.{Resolution}
 use Rattle.sharc_code.specs.declared.code.Code.{Code}
 use Rattle.sharc_code.specs.declared.instr.Instr.TheVariants.{Free}
 use Rattle.sharc_code.specs.declared.shape.Shape.{Shape}
+use Rattle.sharc_code.specs.declared.state.Stage.{Stage}
+use Rattle.sharc_code.specs.declared.state.Stage.TheVariants.{Empties, Lowers, FreeLooks, FreeClears, Uncounts}
 use Rattle.sharc_code.specs.Layout.{Fits}
 use Rattle.sharc_code.specs.Machine.{Machine, instr_at, ref}
 use Rattle.sharc_code.specs.Path.{may_go}
@@ -36,6 +38,15 @@ abbrev pub IsLiveBy : History → Object → Type 0
 IsLiveBy R (Made n) = is_live R (Made n) ≡ true
 IsLiveBy R (GlobalNumber g) = Unit {0}
 
+-- a Free has begun to clear the object's cells, and the object is not gone
+abbrev pub is_clearing : Stage → Bool
+is_clearing (Empties i all) = true
+is_clearing (Lowers i all found) = true
+is_clearing (FreeLooks done all) = true
+is_clearing (FreeClears done all seen) = true
+is_clearing (Uncounts all) = true
+is_clearing _ = false
+
 -- a thread that goes on is in the middle of a Free of this object
 pub record IsBeingFreed (code : Code) (g : Global Machine) (p : ℕ) : Type 0 where
   pub some : p ≢ 0
@@ -47,6 +58,7 @@ pub record IsBeingFreed (code : Code) (g : Global Machine) (p : ℕ) : Type 0 wh
   pub site : ℕ
   pub is_free : instr_at code (g.threads thread).at.pc ≡ Free register layout site
   pub object : ref (g.threads thread) register ≡ p
+  pub clearing : is_clearing (g.threads thread).own.stage ≡ true
 
 -- by the events the cell is one of a live object and refers to object o; but they do not tell that a Free empties the cells of its object
 pub record RefersBy (r : Resolution) (code : Code) (g : Global Machine) (R : History) (c : CellAt) (p o : ℕ) : Type 0 where

@@ -1,6 +1,7 @@
 pub mod Elsewhere
 pub mod Cause
 pub mod Beginning
+pub mod Cells
 pub mod Counting
 pub mod Emptying
 pub mod Holding

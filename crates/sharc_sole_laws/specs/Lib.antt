@@ -3,6 +3,7 @@ pub mod Cause
 pub mod Beginning
 pub mod Emptying
 pub mod Hands
+pub mod Cells
 pub mod Holding
 pub mod InFlight
 pub mod Seeing

@@ -5,6 +5,7 @@ ghost use Rattle.sharc_sole_laws.specs.Cause.{CastReportsShowCause};
 ghost use Rattle.sharc_sole_laws.specs.Beginning.{ThreadsHaveBegun};
 ghost use Rattle.sharc_sole_laws.specs.Elsewhere.{ArgumentsSee, LogsSee};
 ghost use Rattle.sharc_sole_laws.specs.Hands.{FreesEmpty, HandsFly};
+ghost use Rattle.sharc_sole_laws.specs.Cells.{CellsSee};
 ghost use Rattle.sharc_sole_laws.specs.Holding.{PathsHold, ThreadsHold};
 ghost use Rattle.sharc_sole_laws.specs.Seeing.{CastersHold, ThreadsSee};
 ghost use Rattle.sharc_sole_laws.specs.Sole.{RegistersAreSeen};
@@ -18,8 +19,11 @@ use sharc_flat_laws::laws::{typed_asks_the_same, typed_is_framed};
 use sharc_gen::{paths_law, run_paths_law};
 use sharc_guard::{counted_law, framed_law};
 use sharc_guard_laws::laws::{made_locks_stand, typed_is_level};
-use sharc_history_laws::{paths_law as history_paths_law, reports_law, seen_law, starts_law};
+use sharc_history_laws::{
+    cells_seen_law, paths_law as history_paths_law, reports_law, seen_law, starts_law,
+};
 use sharc_meaning::laws::ask_laws;
+use sharc_target_laws::laws::global_pointers_are;
 
 /// What the registers of a thread of the code of a typed, well-moded program refer to, on each path whose results are consistent, the program holds or has given up that was
 /// asked by the answers of the thread's own events.
@@ -78,6 +82,15 @@ pub fn frees_empty()
     each_names_itself();
 }
 
+/// What a cell refers to at a place of a checked run of code that is typed by the program's targets: a cell of a global is among the references of the history, one of an object
+/// that is made refers to it by the events, but while a Free empties the object.
+pub fn cells_see()
+    ensures { CellsSee }
+{
+    cells_seen_law();
+    global_pointers_are();
+}
+
 /// Where a thread looks whether a reference is the only one to its object, another register with one is another thread's that the history shows, or shows that the
 /// thread holds two: if each thread has begun or has nothing, and no other thread has one in flight.
 pub fn registers_seen()
@@ -124,4 +137,8 @@ pub fn reports_show_cause()
     seen_law();
     arguments_see();
     registers_seen();
+    threads_have_begun();
+    hands_fly();
+    frees_empty();
+    cells_see();
 }

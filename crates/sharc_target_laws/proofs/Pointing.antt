@@ -11,21 +11,20 @@ use Rattle.sharc_tree.specs.declared.tree.item.GlobalDefinition.{GlobalDefinitio
 use Rattle.sharc_tree.specs.declared.tree.item.StructDefinition.{StructDefinition}
 use Rattle.sharc_names.specs.Kinds.{declared_kind}
 use Rattle.sharc_names.specs.Kinds as Kinds
-use Rattle.sharc_code.specs.Ranges.{IsInGlobal, first_place}
 use Rattle.sharc_code.specs.Says.{no_global}
 use Rattle.sharc_ctype.specs.Globals.{elements_of}
 use Rattle.sharc_ctype.specs.Layouts.{pointer_cells}
-use Rattle.sharc_ctype.specs.Resolved.{Resolution, structs_in, globals_in, global_at}
+use Rattle.sharc_ctype.specs.Resolved.{structs_in, globals_in}
 use Rattle.sharc_meaning.specs.References.{fields_called, is_pointer_in, is_pointer_of_global}
 use Rattle.sharc_meaning.specs.References as References
 use Rattle.sharc_mode.specs.Moded.{Assignment}
 use Rattle.sharc_mode.specs.Rows.{written, declared_row, modes_of}
 use Rattle.sharc_flat.specs.Tables.{cells_in, granules_in, globals_from, globals_of}
-use Rattle.sharc_invariant.specs.Types.{FieldMode, Field, Content, Pointer, no_field, is_pointer}
-use Rattle.sharc_target_laws.specs.Pointers.{IsPointerOfGlobal, PointersAreOfGlobals}
+use Rattle.sharc_invariant.specs.Types.{FieldMode, Field, no_field, is_pointer}
+use Rattle.sharc_target_laws.specs.Pointers.{PointersAreOfGlobals}
 use Rattle.sharc_target_laws.specs.Targets.{base_content, pointer_content, declared_content, single, members, struct_fields, base_fields, top_mode, global_element, repeated, global_fields, all_global_fields}
 use Rattle.sharc_target_laws.proofs.Cells.{member_count}
-use Rattle.sharc_target_laws.proofs.Good.{at_left, at_right, size}
+use Rattle.sharc_target_laws.proofs.Good.{at_left, at_right}
 use Rattle.sharc_target_laws.proofs.Laying.{globals_are, global_count}
 
 abbrev Points : List Field → ℕ → Type 0
