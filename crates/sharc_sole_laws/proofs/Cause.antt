@@ -21,7 +21,7 @@ use Rattle.sharc_sole_laws.specs.Beginning.{ThreadsHaveBegun}
 use Rattle.sharc_sole_laws.specs.Cells.{CellsSee, IsSeenInCell, in_global, in_made, in_freed}
 use Rattle.sharc_sole_laws.specs.Emptying.{is_emptying}
 use Rattle.sharc_sole_laws.specs.Hands.{FreesEmpty, HandsFly}
-use Rattle.sharc_meaning.specs.References.{Begun, in_cell, in_mutex, in_thread}
+use Rattle.sharc_meaning.specs.References.{Begun, in_argument, in_cell, in_mutex, in_thread}
 use Rattle.sharc_code.specs.declared.code.Code.{Code}
 use Rattle.sharc_code.specs.declared.shape.Shape.{Shape}
 use Rattle.sharc_code.specs.declared.state.Stop.TheVariants.{NotSole}
@@ -38,13 +38,21 @@ use Rattle.sharc_invariant.specs.Objects.{objects_after}
 use Rattle.sharc_history_laws.specs.History.{history_of}
 use Rattle.sharc_history_laws.specs.Paths.{PathsAreConsistent}
 use Rattle.sharc_history_laws.specs.Reports.{CastReportsShow, FindsOthers, OtherReference, InRegister, InArgument, InLog, InHand, InCell}
-use Rattle.sharc_history_laws.specs.Seen.{ArgumentsAreGiven, LogsAreLocked, RunsBegin}
+use Rattle.sharc_history_laws.specs.Seen.{RunsBegin}
+use Rattle.sharc_sole_laws.specs.Elsewhere.{ArgumentsSee, LogsSee}
+use Rattle.sharc_sole_laws.specs.Silent.{SilentHaveNothing}
+use Rattle.sharc_flat_form.specs.declared.flat.Flat.{Flat as FlatCode}
+use Rattle.sharc_flat.specs.Flattens.{Flattens}
+use Rattle.sharc_compile.specs.Made.{IsCodeOf}
 use Rattle.sharc_history_laws.specs.Stores.{BeginsWith}
-use Rattle.sharc_sole_laws.specs.Cause.{IsOther, is_seen, is_given, is_in_made, is_in_freed, ShowsCause}
+use Rattle.sharc_sole_laws.specs.Cause.{IsOther, is_seen, is_in_made, is_in_freed, ShowsCause}
 use Rattle.sharc_sole_laws.specs.Sole.{AreQuiet, HaveBegun, NoneIsInFlight, RegistersAreSeen}
 
 no_thread : (c : CellAt) (t i : ℕ) → in_mutex c ≡ in_thread t i → ⊥
 no_thread c t i h = cc
+
+no_argument : (u t i : ℕ) → in_argument u ≡ in_thread t i → ⊥
+no_argument u t i h = cc
 
 no_cell : (c : CellAt) (t i : ℕ) → in_cell c ≡ in_thread t i → ⊥
 no_cell c t i h = cc
@@ -60,8 +68,8 @@ hand_empties : (stage : Stage) (n : ℕ) → staged_of stage ≡ n → (n ≡ 0 
 hand_empties (Lowers i elements found) n e some = refl
 hand_empties _ n e some = absurd (some (sym e))
 
-module _ (paths : PathsAreConsistent) (reports : CastReportsShow) (begins : RunsBegin) (logs : LogsAreLocked) (arguments : ArgumentsAreGiven) (cells : CellsSee) (m : Assignment) (code : Code)
-    (registers : RegistersAreSeen m code) (have_begun : ThreadsHaveBegun m code) (fly : HandsFly m code) (empty : FreesEmpty m code)
+module _ (paths : PathsAreConsistent) (reports : CastReportsShow) (begins : RunsBegin) (logs : LogsSee) (arguments : ArgumentsSee) (cells : CellsSee) (m : Assignment) (flat : FlatCode) (flattens : Flattens m flat) (code : Code) (is_code : IsCodeOf flat code)
+    (registers : RegistersAreSeen m code) (have_begun : ThreadsHaveBegun m code) (silent : SilentHaveNothing m code) (fly : HandsFly m code) (empty : FreesEmpty m code)
     (s : Shape) (ls : Labels) (tables : HasTables m code) (wt : IsWellTyped (targets_of m) code ls) (fits : Fits code s) (small : IsSmall code s) (initial : BeginsWith m.typed code)
     (run : List Turn) (checked : CheckedRun code s run) (t site count : ℕ) where
   module _ (f : FindsOthers (targets_of m) code s ls run t site count) where
@@ -83,7 +91,13 @@ module _ (paths : PathsAreConsistent) (reports : CastReportsShow) (begins : Runs
     have : HaveBegun m R
     have = have_begun (targets_of m) s ls wt fits small f.earlier was_checked
 
-    module _ (some : 0 < n) (quiet : AreQuiet code R g) (rests : NoneIsInFlight m code s f.earlier R t n) where
+    quiet : AreQuiet code R g
+    quiet = record {
+      registers = λ thread i none. (silent s f.earlier was_checked consistent thread none).registers i;
+      hands = λ thread none. (silent s f.earlier was_checked consistent thread none).hand;
+    }
+
+    module _ (some : 0 < n) (rests : NoneIsInFlight m code s f.earlier R t n) where
       no_null : n ≡ 0 → ⊥
       no_null z = omega (arith, z, some)
 
@@ -110,14 +124,14 @@ module _ (paths : PathsAreConsistent) (reports : CastReportsShow) (begins : Runs
 
       other : OtherReference (targets_of m) code s g (objects_after code s ls (first_place code s) (first_world (targets_of m)).obj f.earlier) t ((g.threads t).at.refs + f.register) n → IsOther m code g R t n
       other (InRegister u i apart here) = is_seen (registers s f.earlier was_checked consistent have quiet t f.register site f.is_test n refl some rests u i apart here)
-      other (InArgument u here) = is_given u (arguments (targets_of m) code s ls wt fits small f.earlier was_checked u n no_null here)
+      other (InArgument u here) = is_seen (record { holder = in_argument u; other = no_argument u t 0; refers_there = arguments m flat flattens code is_code (targets_of m) s ls wt fits small f.earlier was_checked u n no_null here })
       other (InLog u word here) =
-          let k = logs (targets_of m) code s ls wt fits small m.typed initial f.earlier was_checked u word n no_null here in
-          is_seen (record { holder = in_mutex k.0; other = no_thread k.0 t 0; refers_there = (k.1, k.2) })
+          let k = logs m code (targets_of m) s ls wt fits small initial f.earlier was_checked u word n no_null here in
+          is_seen (record { holder = in_mutex k.0; other = no_thread k.0 t 0; refers_there = k.1 })
       other (InHand u here) = absurd (no_hand u here)
       other (InCell p i here) = cell p i (cells m code s ls tables wt fits small initial f.earlier was_checked p i n no_null here)
 
   pub cause_shown : ((place_after code s run).threads t).own.stop ≡ Some (NotSole site count) → ShowsCause m code s ls run t site count
   cause_shown stop =
       let f = reports (targets_of m) code s ls wt fits small run checked t site count stop in
-      record { finds = f; cause = λ some quiet rests. other f some quiet rests f.counts.other }
+      record { finds = f; cause = λ some rests. other f some rests f.counts.other }

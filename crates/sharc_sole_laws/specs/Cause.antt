@@ -19,19 +19,17 @@ use Rattle.sharc_invariant.specs.Objects.{objects_after}
 use Rattle.sharc_invariant.specs.MachineInvariant.{cell_refers, hand_refers}
 use Rattle.sharc_history_laws.specs.History.{history_of}
 use Rattle.sharc_history_laws.specs.Reports.{FindsOthers}
-use Rattle.sharc_history_laws.specs.Seen.{IsGivenTo}
 use Rattle.sharc_history_laws.specs.Stores.{BeginsWith}
 use Rattle.sharc_target_laws.specs.Laws.{HasTables}
 use Rattle.sharc_target_laws.specs.Targets.{targets_of}
 use Rattle.sharc_history_laws.specs.SeenCells.{IsBeingFreed}
 use Rattle.sharc_sole_laws.specs.Cells.{RefersFromMade}
-use Rattle.sharc_sole_laws.specs.Sole.{AreQuiet, IsSeen, NoneIsInFlight}
+use Rattle.sharc_sole_laws.specs.Sole.{IsSeen, NoneIsInFlight}
 
--- Another reference to object n than the first one of thread t: one that the history tells of a thread, a held mutex or a cell of a global; an argument that a Spawn gave and nobody has read; or
--- a cell of an object that is made, which refers to it by the events, or that is being freed.
+-- Another reference to object n than the first one of thread t: one that the history tells of a thread, a held mutex, an argument or a cell of a global; or a cell of
+-- an object that is made, which refers to it by the events, or that is being freed.
 pub data IsOther (m : Assignment) (code : Code) (g : Global Machine) (R : List SourceEvent) (t n : ℕ) : Type 0 where
   is_seen : IsSeen m R t n → IsOther m code g R t n
-  is_given : (u : ℕ) → IsGivenTo code R u n → IsOther m code g R t n
   is_in_made : (p i : ℕ) → RefersFromMade m R p i n → IsOther m code g R t n
   is_in_freed : (p : ℕ) → IsBeingFreed code g p → IsOther m code g R t n
 
@@ -39,7 +37,7 @@ pub data IsOther (m : Assignment) (code : Code) (g : Global Machine) (R : List S
 pub record ShowsCause (m : Assignment) (code : Code) (s : Shape) (ls : Labels) (run : List Turn) (t site count : ℕ) : Type 0 where
   pub finds : FindsOthers (targets_of m) code s ls run t site count
   pub cause : let g = place_after code s finds.earlier in let R = history_of code s finds.earlier in let n = ref (g.threads t) finds.register in
-      0 < n → AreQuiet code R g → NoneIsInFlight m code s finds.earlier R t n → IsOther m code g R t n
+      0 < n → NoneIsInFlight m code s finds.earlier R t n → IsOther m code g R t n
 
 -- so it is of each thread that has stopped at such a test, in code that is typed by the program's targets
 abbrev pub CastReportsShowCause : Assignment → Code → Type 0

@@ -1,3 +1,4 @@
+pub mod Elsewhere
 pub mod Cause
 pub mod Beginning
 pub mod Emptying

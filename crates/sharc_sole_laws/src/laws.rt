@@ -3,6 +3,7 @@
 ghost use Rattle.sharc_compile_laws.specs.Paths.{OfTyped};
 ghost use Rattle.sharc_sole_laws.specs.Cause.{CastReportsShowCause};
 ghost use Rattle.sharc_sole_laws.specs.Beginning.{ThreadsHaveBegun};
+ghost use Rattle.sharc_sole_laws.specs.Elsewhere.{ArgumentsSee, LogsSee};
 ghost use Rattle.sharc_sole_laws.specs.Hands.{FreesEmpty, HandsFly};
 ghost use Rattle.sharc_sole_laws.specs.Cells.{CellsSee};
 ghost use Rattle.sharc_sole_laws.specs.Holding.{PathsHold, ThreadsHold};
@@ -123,8 +124,22 @@ pub fn silent_have_nothing()
     framed_law();
 }
 
-/// What the report of a refused cast shows: the number was found where the thread tested a reference, and at that place the history shows another one, or an argument
-/// that is not read, or the words do in a cell or in the hand of a Free; if no other thread has one in flight.
+/// Where the argument of a thread that has not read it refers to an object, the argument is among the references of the history.
+pub fn arguments_see()
+    ensures { ArgumentsSee }
+{
+    seen_law();
+}
+
+/// Where the log of a thread's held mutexes refers to an object, a mutex of it is.
+pub fn logs_see()
+    ensures { LogsSee }
+{
+    seen_law();
+}
+
+/// What the report of a refused cast shows: the number was found where the thread tested a reference, and at that place the history shows another one, or that a cell
+/// of an object that is made has one, or a Free of the cell's object is under way; if no other thread has one in flight.
 pub fn reports_show_cause()
     ensures { OfTyped CastReportsShowCause }
 {
@@ -133,7 +148,10 @@ pub fn reports_show_cause()
     seen_law();
     registers_seen();
     threads_have_begun();
+    silent_have_nothing();
     hands_fly();
     frees_empty();
     cells_see();
+    arguments_see();
+    logs_see();
 }
