@@ -15,7 +15,7 @@ use Rattle.sharc_gen.specs.Consistent.{IsConsistent}
 use Rattle.sharc_gen.specs.OfRuns.{elements_before, founds_of}
 use Rattle.sharc_target_laws.specs.Laws.{HasTables}
 use Rattle.sharc_target_laws.specs.Targets.{targets_of}
-use Rattle.sharc_invariant.specs.MachineInvariant.{hand_refers}
+use Rattle.sharc_invariant.specs.MachineInvariant.{cell_refers, hand_refers}
 use Rattle.sharc_invariant.specs.Words.{staged_of}
 use Rattle.sharc_sole_laws.specs.Beginning.{ThreadsHaveBegun}
 use Rattle.sharc_sole_laws.specs.Cells.{CellsSee, IsSeenInCell, in_global, in_made, in_freed}
@@ -116,20 +116,20 @@ module _ (paths : PathsAreConsistent) (reports : CastReportsShow) (begins : Runs
           by true e (inr k) = own (eqb-true u t e) k
           by false e (inr k) = rests u (λ same. yes (sym (eq-eqb u t same) ∙ e)) k.0 (fly s f.earlier was_checked consistent u k.0 k.1 n here some)
 
-      cell : (p i : ℕ) → IsSeenInCell m code g R p i n → IsOther m code g R t n
-      cell p i (in_global k c refers_there) =
+      cell : (p i : ℕ) → cell_refers (targets_of m) s g (objects_after code s ls (first_place code s) (first_world (targets_of m)).obj f.earlier) p i ≡ n → IsSeenInCell m code g R p i n → IsOther m code s g (objects_after code s ls (first_place code s) (first_world (targets_of m)).obj f.earlier) R t n
+      cell p i here (in_global k c refers_there) =
           is_seen (record { holder = in_cell (record { object = GlobalNumber k; cell = c }); other = no_cell (record { object = GlobalNumber k; cell = c }) t 0; refers_there = refers_there })
-      cell p i (in_made k) = is_in_made p i k
-      cell p i (in_freed k) = is_in_freed p k
+      cell p i here (in_made k) = is_in_made p i k
+      cell p i here (in_freed k) = is_in_freed p i here k
 
-      other : OtherReference (targets_of m) code s g (objects_after code s ls (first_place code s) (first_world (targets_of m)).obj f.earlier) t ((g.threads t).at.refs + f.register) n → IsOther m code g R t n
+      other : OtherReference (targets_of m) code s g (objects_after code s ls (first_place code s) (first_world (targets_of m)).obj f.earlier) t ((g.threads t).at.refs + f.register) n → IsOther m code s g (objects_after code s ls (first_place code s) (first_world (targets_of m)).obj f.earlier) R t n
       other (InRegister u i apart here) = is_seen (registers s f.earlier was_checked consistent have quiet t f.register site f.is_test n refl some rests u i apart here)
       other (InArgument u here) = is_seen (record { holder = in_argument u; other = no_argument u t 0; refers_there = arguments m flat flattens code is_code (targets_of m) s ls wt fits small f.earlier was_checked u n no_null here })
       other (InLog u word here) =
           let k = logs m code (targets_of m) s ls wt fits small initial f.earlier was_checked u word n no_null here in
           is_seen (record { holder = in_mutex k.0; other = no_thread k.0 t 0; refers_there = k.1 })
       other (InHand u here) = absurd (no_hand u here)
-      other (InCell p i here) = cell p i (cells m code s ls tables wt fits small initial f.earlier was_checked p i n no_null here)
+      other (InCell p i here) = cell p i here (cells m code s ls tables wt fits small initial f.earlier was_checked p i n no_null here)
 
   pub cause_shown : ((place_after code s run).threads t).own.stop ≡ Some (NotSole site count) → ShowsCause m code s ls run t site count
   cause_shown stop =

@@ -27,17 +27,18 @@ use Rattle.sharc_sole_laws.specs.Cells.{RefersFromMade}
 use Rattle.sharc_sole_laws.specs.Sole.{IsSeen, NoneIsInFlight}
 
 -- Another reference to object n than the first one of thread t: one that the history tells of a thread, a held mutex, an argument or a cell of a global; or a cell of
--- an object that is made, which refers to it by the events, or that is being freed.
-pub data IsOther (m : Assignment) (code : Code) (g : Global Machine) (R : List SourceEvent) (t n : ℕ) : Type 0 where
-  is_seen : IsSeen m R t n → IsOther m code g R t n
-  is_in_made : (p i : ℕ) → RefersFromMade m R p i n → IsOther m code g R t n
-  is_in_freed : (p : ℕ) → IsBeingFreed code g p → IsOther m code g R t n
+-- an object that is made, which refers to it by the events, or by the words, and is being freed.
+pub data IsOther (m : Assignment) (code : Code) (s : Shape) (g : Global Machine) (obj : ℕ → ObjectState) (R : List SourceEvent) (t n : ℕ) : Type 0 where
+  is_seen : IsSeen m R t n → IsOther m code s g obj R t n
+  is_in_made : (p i : ℕ) → RefersFromMade m R p i n → IsOther m code s g obj R t n
+  is_in_freed : (p i : ℕ) → cell_refers (targets_of m) s g obj p i ≡ n → IsBeingFreed code g p → IsOther m code s g obj R t n
 
 -- the count of the report was found at a test, and there is another reference at its place, where no other thread has one in flight
 pub record ShowsCause (m : Assignment) (code : Code) (s : Shape) (ls : Labels) (run : List Turn) (t site count : ℕ) : Type 0 where
   pub finds : FindsOthers (targets_of m) code s ls run t site count
   pub cause : let g = place_after code s finds.earlier in let R = history_of code s finds.earlier in let n = ref (g.threads t) finds.register in
-      0 < n → NoneIsInFlight m code s finds.earlier R t n → IsOther m code g R t n
+      0 < n → NoneIsInFlight m code s finds.earlier R t n
+      → IsOther m code s g (objects_after code s ls (first_place code s) (first_world (targets_of m)).obj finds.earlier) R t n
 
 -- so it is of each thread that has stopped at such a test, in code that is typed by the program's targets
 abbrev pub CastReportsShowCause : Assignment → Code → Type 0
