@@ -1,3 +1,6 @@
+pub mod Elsewhere
+pub mod Cause
+pub mod Beginning
 pub mod Cells
 pub mod Beginning
 pub mod Counting
@@ -6,5 +9,6 @@ pub mod Holding
 pub mod Quiet
 pub mod Seeing
 pub mod Sole
+pub mod Silent
 pub mod Telling
 pub mod Testing

@@ -18,7 +18,7 @@ use Rattle.sharc_gen.specs.OfRuns.{elements_before, founds_of, told_in}
 use Rattle.sharc_invariant.specs.MachineInvariant.{register_refers}
 use Rattle.sharc_invariant.specs.Words.{is_freed, register_of}
 use Rattle.sharc_sole_laws.specs.Seeing.{CastersHold, ThreadsSee}
-use Rattle.sharc_sole_laws.specs.Sole.{HaveBegun, IsSeen, NoneIsInFlight}
+use Rattle.sharc_sole_laws.specs.Sole.{AreQuiet, HaveBegun, IsSeen, NoneIsInFlight}
 
 same_thread : (u t i j : ℕ) → in_thread u i ≡ in_thread t j → u ≡ t
 same_thread u t i j h = cc
@@ -34,7 +34,7 @@ at_test code at register site i is = ap (λ j. if is_freed j at.own.stage at.at.
 
 module _ (m : Assignment) (code : Code) (see : ThreadsSee m code) (hold : CastersHold m code) (s : Shape) (run : List Turn) (checked : CheckedRun code s run)
     (consistent : (thread : ℕ) → IsConsistent code s (begun code s thread) (elements_before code s thread run) (founds_of (turns_of thread run)))
-    (have : HaveBegun m code (reverse (told_in (Erase code s run))) (place_after code s run)) where
+    (have : HaveBegun m (reverse (told_in (Erase code s run)))) (quiet : AreQuiet code (reverse (told_in (Erase code s run))) (place_after code s run)) where
   abbrev R : List SourceEvent
   R = reverse (told_in (Erase code s run))
 
@@ -44,7 +44,7 @@ module _ (m : Assignment) (code : Code) (see : ThreadsSee m code) (hold : Caster
   module _ (t register site : ℕ) (tests : instr_at code (g.threads t).at.pc ≡ TestSole register site) (n : ℕ) (tested : ref (g.threads t) register ≡ n) (some : 0 < n)
       (rests : NoneIsInFlight m code s run R t n) (u i : ℕ) (apart : (u ≡ t) × (i ≡ (g.threads t).at.refs + register) → ⊥) (here : register_refers code g u i ≡ n) where
     nothing : events_of u R ≡ [] → ⊥
-    nothing e = let none : 0 ≡ n = sym (have.quiet u i e) ∙ here in omega (arith, none, some)
+    nothing e = let none : 0 ≡ n = sym (quiet.registers u i e) ∙ here in omega (arith, none, some)
 
     others : (u ≡ t → ⊥) → (b : Begun m R u) × MayStart m b.own.function → IsSeen m R t n
     others ne b = record { holder = in_thread u 0; other = λ h. ne (same_thread u t 0 0 h); refers_there = see s run checked consistent u b.0 b.1 i n here some (rests u ne b.0) }
@@ -59,7 +59,7 @@ module _ (m : Assignment) (code : Code) (see : ThreadsSee m code) (hold : Caster
         }
 
     pub register_seen : IsSeen m R t n
-    register_seen = by (u == t) refl (have.threads u)
+    register_seen = by (u == t) refl (have u)
       where
         by : (b : Bool) → (u == t) ≡ b → (events_of u R ≡ []) ⊎ ((b : Begun m R u) × MayStart m b.own.function) → IsSeen m R t n
         by b e (inl none) = absurd (nothing none)

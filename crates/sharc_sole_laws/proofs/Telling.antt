@@ -152,11 +152,11 @@ module _ (paths : RunsHavePaths) (m : Assignment) (code : Code) (holds : PathsHo
   owned : (t : ℕ) → AreOf t (told_in (said_by t (Erase code s run)))
   owned t = subst (AreOf t) (sym (paths code s t run checked).said) (of_reverse t (said t) (said_own t))
 
-  events_are : (t : ℕ) → events_of t R ≡ said t
+  pub events_are : (t : ℕ) → events_of t R ≡ said t
   events_are t =
       filter_reverse (is_of t) (told_in (Erase code s run)) ∙ ap reverse (filtered t (Erase code s run) (all_own (Erase code s run) owned) ∙ (paths code s t run checked).said) ∙ reverse-reverse (said t)
 
-  place_is : (t : ℕ) → (place_after code s run).threads t ≡ at_end t
+  pub place_is : (t : ℕ) → (place_after code s run).threads t ≡ at_end t
   place_is t = (paths code s t run checked).machine
 
   there_in : (t : ℕ) → IsHoldingThere m code t (at_end t) (said t) (lowered_of code s run t) → IsHoldingIn m code R t ((place_after code s run).threads t) (lowered_of code s run t)

@@ -1,8 +1,11 @@
 pub mod Cells
+pub mod Elsewhere
+pub mod Cause
 pub mod Beginning
 pub mod Emptying
 pub mod Hands
 pub mod Holding
 pub mod InFlight
 pub mod Seeing
+pub mod Silent
 pub mod Sole

@@ -14,7 +14,7 @@ use Rattle.sharc_code.specs.Whole.{CheckedRun, Erase, place_after}
 use Rattle.sharc_flat.specs.Correct.{MayStart}
 use Rattle.sharc_gen.specs.Consistent.{IsConsistent}
 use Rattle.sharc_gen.specs.OfRuns.{elements_before, founds_of, told_in}
-use Rattle.sharc_invariant.specs.MachineInvariant.{register_refers}
+use Rattle.sharc_invariant.specs.MachineInvariant.{hand_refers, register_refers}
 use Rattle.sharc_sole_laws.specs.Holding.{lowered_of}
 use Rattle.sharc_sole_laws.specs.InFlight.{IsInFlight}
 
@@ -24,10 +24,14 @@ pub record IsSeen (m : Assignment) (R : List SourceEvent) (t n : ℕ) : Type 0 w
   pub other : holder ≡ in_thread t 0 → ⊥
   pub refers_there : References m R n holder
 
--- each thread has no event, and nothing in its registers, or it has begun with a function that may be started
-pub record HaveBegun (m : Assignment) (code : Code) (R : List SourceEvent) (g : Global Machine) : Type 0 where
-  pub threads : (thread : ℕ) → (events_of thread R ≡ []) ⊎ ((b : Begun m R thread) × MayStart m b.own.function)
-  pub quiet : (thread i : ℕ) → events_of thread R ≡ [] → register_refers code g thread i ≡ 0
+-- a thread without events has nothing in its registers and in its hand
+pub record AreQuiet (code : Code) (R : List SourceEvent) (g : Global Machine) : Type 0 where
+  pub registers : (thread i : ℕ) → events_of thread R ≡ [] → register_refers code g thread i ≡ 0
+  pub hands : (thread : ℕ) → events_of thread R ≡ [] → hand_refers g thread ≡ 0
+
+-- each thread has no event, or it has begun with a function that may be started
+abbrev pub HaveBegun : Assignment → List SourceEvent → Type 0
+HaveBegun m R = (thread : ℕ) → (events_of thread R ≡ []) ⊎ ((b : Begun m R thread) × MayStart m b.own.function)
 
 -- no other thread than t has a reference to the object in flight
 abbrev pub NoneIsInFlight : (m : Assignment) → Code → Shape → List Turn → List SourceEvent → ℕ → ℕ → Type 0
@@ -37,6 +41,6 @@ NoneIsInFlight m code s run R t n = (u : ℕ) → (u ≡ t → ⊥) → (b : Beg
 abbrev pub RegistersAreSeen : Assignment → Code → Type 0
 RegistersAreSeen m code = (s : Shape) (run : List Turn) → CheckedRun code s run
     → ((thread : ℕ) → IsConsistent code s (begun code s thread) (elements_before code s thread run) (founds_of (turns_of thread run)))
-    → let R = reverse (told_in (Erase code s run)) in let g = place_after code s run in HaveBegun m code R g
+    → let R = reverse (told_in (Erase code s run)) in let g = place_after code s run in HaveBegun m R → AreQuiet code R g
     → (t register site : ℕ) → instr_at code (g.threads t).at.pc ≡ TestSole register site → (n : ℕ) → ref (g.threads t) register ≡ n → 0 < n → NoneIsInFlight m code s run R t n
     → (u i : ℕ) → ((u ≡ t) × (i ≡ (g.threads t).at.refs + register) → ⊥) → register_refers code g u i ≡ n → IsSeen m R t n

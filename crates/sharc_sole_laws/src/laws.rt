@@ -1,11 +1,14 @@
 //! The laws, each the contract of a function that calls at most the laws that it joins.
 
 ghost use Rattle.sharc_compile_laws.specs.Paths.{OfTyped};
-ghost use Rattle.sharc_sole_laws.specs.Cells.{CellsSee};
+ghost use Rattle.sharc_sole_laws.specs.Cause.{CastReportsShowCause};
 ghost use Rattle.sharc_sole_laws.specs.Beginning.{ThreadsHaveBegun};
+ghost use Rattle.sharc_sole_laws.specs.Elsewhere.{ArgumentsSee, LogsSee};
 ghost use Rattle.sharc_sole_laws.specs.Hands.{FreesEmpty, HandsFly};
+ghost use Rattle.sharc_sole_laws.specs.Cells.{CellsSee};
 ghost use Rattle.sharc_sole_laws.specs.Holding.{PathsHold, ThreadsHold};
 ghost use Rattle.sharc_sole_laws.specs.Seeing.{CastersHold, ThreadsSee};
+ghost use Rattle.sharc_sole_laws.specs.Silent.{SilentHaveNothing};
 ghost use Rattle.sharc_sole_laws.specs.Sole.{RegistersAreSeen};
 
 use sharc_compile_laws::{
@@ -17,7 +20,9 @@ use sharc_flat_laws::laws::{typed_asks_the_same, typed_is_framed};
 use sharc_gen::{paths_law, run_paths_law};
 use sharc_guard::{counted_law, framed_law};
 use sharc_guard_laws::laws::{made_locks_stand, typed_is_level};
-use sharc_history_laws::{cells_seen_law, paths_law as history_paths_law, starts_law};
+use sharc_history_laws::{
+    cells_seen_law, paths_law as history_paths_law, reports_law, seen_law, starts_law,
+};
 use sharc_meaning::laws::ask_laws;
 use sharc_target_laws::laws::global_pointers_are;
 
@@ -62,15 +67,6 @@ pub fn casters_hold()
     ask_laws();
 }
 
-/// What a cell refers to at a place of a checked run of code that is typed by the program's targets: a cell of a global is among the references of the history, one of an object
-/// that is made refers to it by the events, but while a Free empties the object.
-pub fn cells_see()
-    ensures { CellsSee }
-{
-    cells_seen_law();
-    global_pointers_are();
-}
-
 /// What a Free of a thread has taken out of a cell and not lowered yet is in flight.
 pub fn hands_fly()
     ensures { OfTyped HandsFly }
@@ -85,6 +81,15 @@ pub fn frees_empty()
 {
     thread_holds();
     each_names_itself();
+}
+
+/// What a cell refers to at a place of a checked run of code that is typed by the program's targets: a cell of a global is among the references of the history, one of an object
+/// that is made refers to it by the events, but while a Free empties the object.
+pub fn cells_see()
+    ensures { CellsSee }
+{
+    cells_seen_law();
+    global_pointers_are();
 }
 
 /// Where a thread looks whether a reference is the only one to its object, another register with one is another thread's that the history shows, or shows that the
@@ -107,4 +112,46 @@ pub fn threads_have_begun()
     typed_threads_tell();
     history_paths_law();
     starts_law();
+}
+
+/// One that has told no event has nothing in its registers or in hand.
+pub fn silent_have_nothing()
+    ensures { OfTyped SilentHaveNothing }
+{
+    path_holds();
+    run_paths_law();
+    typed_is_framed();
+    framed_law();
+}
+
+/// Where the argument of a thread that has not read it refers to an object, the argument is among the references of the history.
+pub fn arguments_see()
+    ensures { ArgumentsSee }
+{
+    seen_law();
+}
+
+/// Where the log of a thread's held mutexes refers to an object, a mutex of it is.
+pub fn logs_see()
+    ensures { LogsSee }
+{
+    seen_law();
+}
+
+/// What the report of a refused cast shows: the number was found where the thread tested a reference, and at that place the history shows another one, or that a cell
+/// of an object that is made has one, or a Free of the cell's object is under way; if no other thread has one in flight.
+pub fn reports_show_cause()
+    ensures { OfTyped CastReportsShowCause }
+{
+    history_paths_law();
+    reports_law();
+    seen_law();
+    registers_seen();
+    threads_have_begun();
+    silent_have_nothing();
+    hands_fly();
+    frees_empty();
+    cells_see();
+    arguments_see();
+    logs_see();
 }

@@ -1,0 +1,92 @@
+-- What an argument that is not read refers to, a Spawn has given.
+use Rattle.std.proofs.Common.{◌≡◌, ◌≢◌, ℕ, zero, suc, ℤ, pos, ◌+◌, ◌*◌, ◌^◌, ◌<◌, Bool, true, false, ◌&&◌, ◌||◌, length, List, [], ◌∷◌, map, if◌then◌else◌, refl, sym, ap, ◌∙◌, subst, arith}
+use Rattle.std.specs.Prelude.{Any, nat_lt, ◌==◌, slice_index_or, slice_get}
+use Rattle.std.proofs.lemmas.Bool.Decides.{nat_tests}
+use Rattle.sharc_tree.specs.declared.event.Act.TheVariants.{Spawn}
+use Rattle.sharc_tree.specs.declared.event.SourceEvent.{SourceEvent}
+use Rattle.sharc_tree.specs.declared.tree.declaration.Declaration.{Declaration}
+use Rattle.sharc_tree.specs.Tree.{Function}
+use Rattle.sharc_names.specs.Kinds.{declared_kind, is_pointer}
+use Rattle.sharc_ctype.specs.Resolved.{functions_in, function_at}
+use Rattle.sharc_mode.specs.Moded.{Assignment}
+use Rattle.sharc_meaning.specs.Obeys.{History}
+use Rattle.sharc_meaning.specs.Reference.{number_of}
+use Rattle.sharc_meaning.specs.References.{References, refers, has_pointer, takes_reference, passes, in_argument}
+use Rattle.sharc_meaning.specs.Store.{is_spawn, is_natural, spawns}
+use Rattle.sharc_code.specs.declared.code.Code.{Code}
+use Rattle.sharc_code.specs.declared.code.Function.{Function as Row}
+use Rattle.sharc_code.specs.declared.code.Parameter.TheVariants as parameters
+use Rattle.sharc_code.specs.Machine.{function_of, no_function}
+use Rattle.sharc_code.specs.Says.{reference}
+use Rattle.sharc_flat.specs.Flattened.{function_code, parameter_in, parameter_of, rows_of}
+use Rattle.sharc_flat.specs.Flattens.{names_of, Flattens}
+use Rattle.sharc_flat.specs.Laid.{AreNamed}
+use Rattle.sharc_flat.specs.Tables.{globals_of}
+use Rattle.sharc_flat_form.specs.declared.flat.Flat.{Flat as FlatCode}
+use Rattle.sharc_code.specs.declared.code.GlobalCells.{GlobalCells}
+use Rattle.sharc_flat_form.specs.Made.{flat_of}
+use Rattle.sharc_guard.specs.Guard.{entered_at, place}
+use Rattle.sharc_guard.specs.Known.{dropped}
+use Rattle.sharc_compile.specs.Made.{IsCodeOf}
+use Rattle.sharc_history_laws.specs.Seen.{IsGivenTo}
+
+-- ---- what the function of a row takes
+entered_parameter : (pl : ℕ → ℕ) (rows : List Row) (n : ℕ) → (slice_index_or (map (entered_at pl) rows) n no_function).parameter ≡ (slice_index_or rows n no_function).parameter
+entered_parameter pl [] n = refl
+entered_parameter pl (x ∷ rows) zero = refl
+entered_parameter pl (x ∷ rows) (suc n) = entered_parameter pl rows n
+
+named_parameter : (bytes : List ℕ) (told : List Row) (names : List (List ℕ)) (made : List Row) (n : ℕ) → AreNamed bytes told names made → (slice_index_or made n no_function).parameter ≡ (slice_index_or told n no_function).parameter
+named_parameter bytes [] [] [] n h = refl
+named_parameter bytes (x ∷ xs) (k ∷ ks) (y ∷ ys) zero h = ap (λ (r : Row). r.parameter) h.0.is
+named_parameter bytes (x ∷ xs) (k ∷ ks) (y ∷ ys) (suc n) h = named_parameter bytes xs ks ys n h.1
+named_parameter bytes [] [] (y ∷ ys) n h = absurd h
+named_parameter bytes [] (k ∷ ks) ys n h = absurd h
+named_parameter bytes (x ∷ xs) [] ys n h = absurd h
+named_parameter bytes (x ∷ xs) (k ∷ ks) [] n h = absurd h
+
+takes_first : (ds : List Declaration) → parameter_of ds ≡ parameters.Reference → takes_reference ds ≡ true
+takes_first [] e = absurd (let z : parameters.None ≡ parameters.Reference = e in cc)
+takes_first (d ∷ rest) e = by (is_pointer (declared_kind d.written)) e
+  where
+    by : (b : Bool) → (if b || false then parameters.Reference else parameters.Int) ≡ parameters.Reference → b ≡ true
+    by true q = refl
+    by false q = absurd (let z : parameters.Int ≡ parameters.Reference = q in cc)
+
+row_reference : (m : Assignment) (globals : List GlobalCells) (pc : ℕ) (fs : List Function) (n : ℕ) → (slice_index_or (rows_of m globals pc fs) n no_function).parameter ≡ parameters.Reference → has_pointer (slice_get fs n) ≡ true
+row_reference m globals pc [] n e = absurd (let z : parameters.None ≡ parameters.Reference = e in cc)
+row_reference m globals pc (f ∷ rest) zero e = takes_first f.parameters e
+row_reference m globals pc (f ∷ rest) (suc n) e = row_reference m globals (pc + length (function_code m globals pc f)) rest n e
+
+takes_pointer : (m : Assignment) (flat : FlatCode) → Flattens m flat → (code : Code) → IsCodeOf flat code → (f : ℕ) → (function_of code f).parameter ≡ parameters.Reference → has_pointer (function_at m.typed f) ≡ true
+takes_pointer m flat made code is f e =
+    let fs = functions_in m.typed.program.items in
+    let gs = globals_of m.typed in
+    let pl = place (dropped (flat_of flat)) flat.lines.items in
+    let same : (function_of code f).parameter ≡ (slice_index_or (rows_of m gs 0 fs) f no_function).parameter =
+    ap (λ v. (slice_index_or v.items f no_function).parameter) is.generated.functions
+    ∙ ap (λ (rows : List Row). (slice_index_or rows f no_function).parameter) is.made.functions ∙ entered_parameter pl flat.functions.items f
+    ∙ named_parameter flat.texts.items (rows_of m gs 0 fs) (names_of fs) flat.functions.items f made.lays.functions
+    in
+    row_reference m gs 0 fs f (sym same ∙ e)
+
+-- ---- the Spawn
+number_back : (n e : ℕ) → n ≢ 0 → n < 2 ^ 32 → refers n (reference n e) ≡ true
+number_back zero e nz lt = absurd (nz refl)
+number_back (suc n) e nz lt =
+    let k : number_of (reference (suc n) e) ≡ suc n = omega arith in
+    grind (arith, nat_tests)
+
+natural_is : (n : ℕ) → is_natural n (pos n) ≡ true
+natural_is n = grind (arith, nat_tests)
+
+pub argument_seen : (m : Assignment) (flat : FlatCode) → Flattens m flat → (code : Code) → IsCodeOf flat code → (R : History) (u o : ℕ) → o ≢ 0 → IsGivenTo code R u o → References m R o (in_argument u)
+argument_seen m flat made code is R u o nz k =
+    let h = k.spawned.spawned in
+    record { unread = k.unread; spawned = (h.0, h.1, h.2, h.3, gives h.1 h.4) }
+  where
+    gives : (e : SourceEvent) → (e.act ≡ Spawn k.function (reference o k.elements)) × (e.answer ≡ pos u) → (spawns u e ≡ true) × (passes m.typed o e.act ≡ true)
+    gives e h = (
+      ap (λ a. is_spawn a && is_natural u e.answer) h.0 ∙ ap (is_natural u) h.1 ∙ natural_is u,
+      ap (passes m.typed o) h.0 ∙ ap (λ b. b && refers o (reference o k.elements)) (takes_pointer m flat made code is k.function k.takes) ∙ number_back o k.elements nz k.number,
+    )
