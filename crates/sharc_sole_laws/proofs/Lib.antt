@@ -2,7 +2,6 @@ pub mod Elsewhere
 pub mod Cause
 pub mod Beginning
 pub mod Cells
-pub mod Beginning
 pub mod Counting
 pub mod Emptying
 pub mod Holding

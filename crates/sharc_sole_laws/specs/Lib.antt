@@ -1,9 +1,9 @@
-pub mod Cells
 pub mod Elsewhere
 pub mod Cause
 pub mod Beginning
 pub mod Emptying
 pub mod Hands
+pub mod Cells
 pub mod Holding
 pub mod InFlight
 pub mod Seeing
