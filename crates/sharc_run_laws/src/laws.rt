@@ -3,7 +3,7 @@
 ghost use Rattle.sharc_run_laws.specs.Kept.{KeptLaws};
 
 use sharc_build::compiled_is_faithful;
-use sharc_built_laws::built_is_sound;
+use sharc_built_laws::laws::built_is_sound;
 use sharc_top_laws::laws::{records_are_told, verdicts_are_told};
 
 /// Where the modes of a source are accepted, each reply to `run` and to `replay` is the text of an interleaving of its code that performs a run of the source without checks

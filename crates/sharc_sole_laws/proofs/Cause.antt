@@ -1,5 +1,5 @@
 -- The reference besides the one that was tested, by where the words tell of it.
-use Rattle.std.proofs.Common.{◌≡◌, ℕ, ◌+◌, ◌<◌, ◌⊎◌, inl, inr, Bool, true, false, List, [], ◌∷◌, ◌++◌, refl, sym, ◌∙◌, subst, arith, eq-eqb, eqb-true}
+use Rattle.std.proofs.Common.{◌≡◌, ℕ, ◌+◌, ◌<◌, ◌⊎◌, inl, inr, Bool, true, false, List, [], ◌∷◌, refl, sym, ◌∙◌, subst, arith, eq-eqb, eqb-true}
 use Rattle.std.specs.Prelude.{◌==◌, Some}
 use Rattle.sharc_tree.specs.declared.event.CellAt.{CellAt}
 use Rattle.sharc_mode.specs.Moded.{Assignment}
@@ -29,7 +29,6 @@ use Rattle.sharc_code.specs.Layout.{Fits}
 use Rattle.sharc_code.specs.Machine.{Machine, instr_at, ref}
 use Rattle.sharc_code.specs.Runs.{Global, Turn, turns_of}
 use Rattle.sharc_code.specs.Whole.{CheckedRun, place_after}
-use Rattle.sharc_invariant.specs.Types.{Targets}
 use Rattle.sharc_invariant.specs.Labels.{Labels}
 use Rattle.sharc_invariant.specs.Typed.{IsWellTyped}
 use Rattle.sharc_invariant.specs.State.{IsSmall}

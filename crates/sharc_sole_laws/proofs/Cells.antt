@@ -1,5 +1,5 @@
 -- A cell that refers to an object is seen among the references of the history.
-use Rattle.std.proofs.Common.{◌≡◌, ◌+◌, ◌≢◌, ◌⊎◌, true, refl, sym, ap, ◌∙◌, subst, ⊎_elim}
+use Rattle.std.proofs.Common.{◌≡◌, ◌+◌, ◌≢◌, true, refl, sym, ap, ◌∙◌, subst, ⊎_elim}
 use Rattle.std.proofs.lemmas.Bool.{cases_eq}
 use Rattle.sharc_tree.specs.declared.event.CellAt.{CellAt}
 use Rattle.sharc_tree.specs.declared.event.Object.TheVariants as objects

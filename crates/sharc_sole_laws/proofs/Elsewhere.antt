@@ -1,6 +1,6 @@
 -- What an argument that is not read refers to, a Spawn has given.
-use Rattle.std.proofs.Common.{◌≡◌, ◌≢◌, ℕ, zero, suc, ℤ, pos, ◌+◌, ◌*◌, ◌^◌, ◌<◌, Bool, true, false, ◌&&◌, ◌||◌, length, List, [], ◌∷◌, map, if◌then◌else◌, refl, sym, ap, ◌∙◌, subst, arith}
-use Rattle.std.specs.Prelude.{Any, nat_lt, ◌==◌, slice_index_or, slice_get}
+use Rattle.std.proofs.Common.{◌≡◌, ◌≢◌, ℕ, zero, suc, pos, ◌+◌, ◌^◌, ◌<◌, Bool, true, false, ◌&&◌, ◌||◌, length, List, [], ◌∷◌, map, if◌then◌else◌, refl, sym, ap, ◌∙◌, arith}
+use Rattle.std.specs.Prelude.{slice_index_or, slice_get}
 use Rattle.std.proofs.lemmas.Bool.Decides.{nat_tests}
 use Rattle.sharc_tree.specs.declared.event.Act.TheVariants.{Spawn}
 use Rattle.sharc_tree.specs.declared.event.SourceEvent.{SourceEvent}
@@ -18,7 +18,7 @@ use Rattle.sharc_code.specs.declared.code.Function.{Function as Row}
 use Rattle.sharc_code.specs.declared.code.Parameter.TheVariants as parameters
 use Rattle.sharc_code.specs.Machine.{function_of, no_function}
 use Rattle.sharc_code.specs.Says.{reference}
-use Rattle.sharc_flat.specs.Flattened.{function_code, parameter_in, parameter_of, rows_of}
+use Rattle.sharc_flat.specs.Flattened.{function_code, parameter_of, rows_of}
 use Rattle.sharc_flat.specs.Flattens.{names_of, Flattens}
 use Rattle.sharc_flat.specs.Laid.{AreNamed}
 use Rattle.sharc_flat.specs.Tables.{globals_of}

@@ -1,12 +1,11 @@
 -- A thread of code tells nothing only before its Started, and has nothing then.
-use Rattle.std.proofs.Common.{◌≡◌, ℕ, zero, suc, ◌+◌, ◌*◌, ◌⊎◌, inl, inr, Bool, true, false, cond, List, [], ◌∷◌, ◌++◌, length, Option, Some, None, map, replicate, refl, sym, ap, ◌∙◌, subst, slice_get, slice_index, slice_index_or}
+use Rattle.std.proofs.Common.{◌≡◌, ℕ, zero, suc, ◌*◌, ◌⊎◌, inl, inr, Bool, true, false, cond, List, [], ◌∷◌, ◌++◌, length, Some, map, replicate, refl, sym, ap, ◌∙◌, subst, slice_get, slice_index, slice_index_or}
 use Rattle.std.specs.Prelude.{option_to_list}
 use Rattle.sharc_tree.specs.declared.event.SourceEvent.{SourceEvent}
 use Rattle.sharc_code.specs.declared.code.Code.{Code}
 use Rattle.sharc_code.specs.declared.instr.Instr.{Instr}
 use Rattle.sharc_code.specs.declared.instr.Instr.TheVariants.{Exit, Start}
 use Rattle.sharc_code.specs.declared.shape.Shape.{Shape}
-use Rattle.sharc_code.specs.declared.state.Stage.{Stage}
 use Rattle.sharc_code.specs.declared.state.Stage.TheVariants.{Rests, Enters}
 use Rattle.sharc_code.specs.declared.state.TheConstants.{FRAMES}
 use Rattle.sharc_code.specs.Machine.{Machine, act, instr_at, start}
@@ -16,7 +15,7 @@ use Rattle.sharc_gen.specs.Consistent.{Elements, said_in, said_now}
 use Rattle.sharc_gen.specs.Generated.{IsGenerated, instr_of, program_of}
 use Rattle.sharc_guarded_form.specs.declared.guarded.Guarded.{Guarded}
 use Rattle.sharc_guarded_form.specs.Form.{IsGuarded}
-use Rattle.sharc_invariant.specs.Words.{is_freed, register_of, staged_of}
+use Rattle.sharc_invariant.specs.Words.{is_freed, staged_of}
 use Rattle.sharc_sole_laws.specs.Silent.{HasNothing}
 
 left_empty : (xs ys : List SourceEvent) → xs ++ ys ≡ [] → xs ≡ []

@@ -9,14 +9,13 @@ use Rattle.sharc_code.specs.Layout.{Fits}
 use Rattle.sharc_code.specs.Machine.{Machine, ref}
 use Rattle.sharc_code.specs.Runs.{Global, Turn}
 use Rattle.sharc_code.specs.Whole.{CheckedRun, place_after}
-use Rattle.sharc_invariant.specs.Types.{Targets}
 use Rattle.sharc_invariant.specs.Labels.{Labels}
 use Rattle.sharc_invariant.specs.Typed.{IsWellTyped}
 use Rattle.sharc_invariant.specs.World.{ObjectState}
 use Rattle.sharc_invariant.specs.State.{IsSmall}
 use Rattle.sharc_invariant.specs.Opened.{first_world, first_place}
 use Rattle.sharc_invariant.specs.Objects.{objects_after}
-use Rattle.sharc_invariant.specs.MachineInvariant.{cell_refers, hand_refers}
+use Rattle.sharc_invariant.specs.MachineInvariant.{cell_refers}
 use Rattle.sharc_history_laws.specs.History.{history_of}
 use Rattle.sharc_history_laws.specs.Reports.{FindsOthers}
 use Rattle.sharc_history_laws.specs.Stores.{BeginsWith}

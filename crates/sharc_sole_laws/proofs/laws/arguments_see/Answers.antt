@@ -1,4 +1,3 @@
-use Rattle.sharc_code.specs.Whole.{place_after}
 use Rattle.sharc_history_laws.specs.History.{history_of}
 use Rattle.sharc_sole_laws.proofs.Elsewhere.{argument_seen}
 use Rattle.sharc_sole_laws.proofs.laws.arguments_see.Goals as goal

@@ -1,5 +1,4 @@
 use Rattle.std.proofs.Common.{◌≡◌, ℕ, Bool, sym, ◌∙◌, subst}
-use Rattle.sharc_code.specs.Path.{begun}
 use Rattle.sharc_code.specs.Runs.{turns_of}
 use Rattle.sharc_flat_form.specs.declared.flat.Flat.{Flat as FlatCode}
 use Rattle.sharc_flat_form.specs.Made.{flat_of}
