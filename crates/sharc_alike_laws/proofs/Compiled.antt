@@ -147,7 +147,7 @@ module _ (m : Assignment) where
       let names = names_of (functions_in m.typed.program.items) in
       let bytes = is.flat.texts.items in
       let same : map unnamed is.coded.g.functions.items ≡ map unnamed functions =
-          ap (map unnamed) is.coded.made.functions ∙ entered_same bytes (place (dropped flat) flat.lines) ends (place_same m.typed bytes told flat lays.lines names lays.functions) told.functions names flat.functions lays.functions in
+      ap (map unnamed) is.coded.made.functions ∙ entered_same bytes (place (dropped flat) flat.lines) ends (place_same m.typed bytes told flat lays.lines names lays.functions) told.functions names flat.functions lays.functions in
       record {
         made = flat.lines;
         laid = subst (λ bytes. AreLaid m.typed bytes told.lines flat.lines) (sym texts) lays.lines;

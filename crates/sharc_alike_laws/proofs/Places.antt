@@ -48,9 +48,11 @@ module _ (a b : Code) (alike : AreAlike a b) (s : Shape) where
 
   pub chosen_same : (answers : ℕ → ℕ → ℕ → Type 0) (limit : ℕ) (turns : List Turn) → AreChosen answers a s limit turns → AreChosen answers b s limit turns
   chosen_same answers limit [] chosen = tt
-  chosen_same answers limit (turn ∷ earlier) chosen = (chosen_same answers limit earlier chosen.0,
-      subst (λ among. IsChosen answers (length earlier) among turn.thread)
-      (filter_same (is_enabled a s limit (place_after a s earlier)) (is_enabled b s limit (place_after b s earlier)) (enabled_same limit (place_after a s earlier) (place_after b s earlier) (place_same earlier)) (range_with_len 0 s.threads)) chosen.1)
+  chosen_same answers limit (turn ∷ earlier) chosen = (
+    chosen_same answers limit earlier chosen.0,
+    subst (λ among. IsChosen answers (length earlier) among turn.thread)
+        (filter_same (is_enabled a s limit (place_after a s earlier)) (is_enabled b s limit (place_after b s earlier)) (enabled_same limit (place_after a s earlier) (place_after b s earlier) (place_same earlier)) (range_with_len 0 s.threads)) chosen.1,
+  )
 
   pub stuck_same : (g h : Standing) → AreTheSame g h → IsStuck a s g → IsStuck b s h
   stuck_same g h same stuck = record {

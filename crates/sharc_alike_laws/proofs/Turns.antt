@@ -96,6 +96,7 @@ module _ (a b : Code) (alike : AreAlike a b) where
         ap (λ is. with_registers thread (replicate (FRAMES * is) (pos 0)) (replicate (FRAMES * most_refs a.functions.items) 0) a.main) (fold_same unnamed (λ most f. max most f.ints) a.functions.items b.functions.items 0 alike.functions)
         ∙ ap (λ rs. with_registers thread (replicate (FRAMES * most_ints b.functions.items) (pos 0)) (replicate (FRAMES * rs) 0) a.main) (fold_same unnamed (λ most f. max most f.refs) a.functions.items b.functions.items 0 alike.functions)
         ∙ ap (with_registers thread (replicate (FRAMES * most_ints b.functions.items) (pos 0)) (replicate (FRAMES * most_refs b.functions.items) 0)) alike.main
+
     opens_same : (word : ℕ) → opens_with a s word ≡ opens_with b s word
     opens_same word = ap2 (λ (main : ℕ) (cells : List ℕ). cond (word == top_word) (1 + s.globals) (cond (word == next_thread_word) 1 (cond (word == state_word 0) 1 (cond (word == function_word 0) main
         (cond (nat_le (first_global s) word && nat_lt word (first_heap s)) (slice_index cells (word - first_global s)) 0))))) alike.main alike.initial

@@ -7,8 +7,7 @@ use sharc_ctype_laws::laws::one_function_of_name;
 /// The run by a schedule of a code is that of each code that differs from it in nothing but where its texts are, with the same text and the same outcome.
 pub fn runs_are_alike()
     ensures { RunsAreAlike }
-{
-}
+{}
 
 /// All codes to which a typed program is compiled differ in nothing but that.
 pub fn compiled_are_alike()

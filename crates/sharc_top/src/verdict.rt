@@ -108,7 +108,12 @@ fn explained(alloc: Global, program: Moded, reached: &Reached) -> Result<Reply, 
 }
 
 /// What `check` and `explain` make of a program with its modes.
-pub fn done(alloc: Global, task: Task, program: Moded, reached: &Reached) -> Result<Reply, AllocError>
+pub fn done(
+    alloc: Global,
+    task: Task,
+    program: Moded,
+    reached: &Reached,
+) -> Result<Reply, AllocError>
     requires verdict { IsVerdict task }
     requires reached { AreReached program.typed reached.now }
     ensures { IfOk result (λ reply. Does task program reply.status reply.text.items) }
