@@ -1,4 +1,4 @@
--- Codes that differ in nothing but where their texts are.
+-- Codes that are the same to the machine (which looks at no table of globals), and whose sites say the same in the same words, wherever their texts are.
 use Rattle.std.specs.Prelude.{ℕ, ◌≡◌, map}
 use Rattle.sharc_code.specs.declared.code.Code.{Code}
 use Rattle.sharc_code.specs.declared.code.Function.{Function}
