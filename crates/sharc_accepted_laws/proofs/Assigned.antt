@@ -21,7 +21,7 @@ use Rattle.sharc_meaning.specs.State.{is_reference}
 use Rattle.sharc_mode.specs.Cells.{cell_at, pointed}
 use Rattle.sharc_mode.specs.Moded.{Assignment}
 use Rattle.sharc_mode.specs.Notes.{base_of}
-use Rattle.sharc_mode.specs.Rows.{Row, row_at, modes_of, modes_at}
+use Rattle.sharc_mode.specs.Rows.{Targets as ModeTargets, row_at, modes_of, modes_at}
 use Rattle.sharc_mode.specs.Sharings.{Sharing}
 use Rattle.sharc_mode_laws.specs.Constructs.{IsExpression, IsAssigned}
 use Rattle.sharc_flat.specs.Flattened.{kind_of, is_ref, target_of}
@@ -133,7 +133,7 @@ module _ (laws : Laws) (z : Setting) (alone : ℕ → Bool) (n : ℕ) (g : Funct
 
   -- ---- new objects
   -- of the first target of a pointer with this row
-  pub made_is : (kind : Kind) (row : Row) → IsRowOf c.program kind row → (w : WrittenType) → same_kind kind (made w) ≡ true
+  pub made_is : (kind : Kind) (row : ModeTargets) → IsRowOf c.program kind row → (w : WrittenType) → same_kind kind (made w) ≡ true
       → IsMade z n typing (static_of c kind (modes_of c.program row)) (element_cells c.program.typed (declared_kind w))
   made_is kind row is w same =
       let fits = laws.pointees c.program kind row is (made_pointer kind w same) in
@@ -147,7 +147,7 @@ module _ (laws : Laws) (z : Setting) (alone : ℕ → Bool) (n : ℕ) (g : Funct
 
   -- ---- what an expression refers to
   record Pointed (e : Expression) : Type 0 where
-    row : Row
+    row : ModeTargets
     is : row_at c.program.typed e ≡ Some row
     modes : modes_at c.program e ≡ Some (modes_of c.program row)
     entry : entry_of c e ≡ Refers (static_of c (kind_of c e) (modes_of c.program row))
@@ -159,7 +159,7 @@ module _ (laws : Laws) (z : Setting) (alone : ℕ → Bool) (n : ℕ) (g : Funct
       is_pointer_value : (entry_of c e ≡ Refers (type_by (entry_of c e))) × IsTypeIn z n typing c (type_by (entry_of c e))
       is_pointer_value = let p = laws.values.pointers z n c here.set.accepted e (at_of e t) pointer in (p.1, p.2)
 
-      by : (o : Option Row) → row_at c.program.typed e ≡ o → Pointed e
+      by : (o : Option ModeTargets) → row_at c.program.typed e ≡ o → Pointed e
       by None is = absurd (no_entry (type_by (entry_of c e)) (sym (ap (λ o. entry_by c (kind_of c e) (option_map (modes_of c.program) o)) is) ∙ is_pointer_value.0))
       by (Some row) is = record {
         row = row;

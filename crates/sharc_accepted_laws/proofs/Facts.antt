@@ -15,7 +15,7 @@ use Rattle.sharc_ctype_laws.specs.Constraints.{HasType as IsOfType}
 use Rattle.sharc_ctype_laws.specs.Laws.{MeetsConstraints, MeetsGlobals, OneType, EachNamesItself, EachNamesOwn, ArePlain, SpawnsNameFunctions, SpawnsThreads}
 use Rattle.sharc_meaning.specs.Cells.{element_cells}
 use Rattle.sharc_mode.specs.Moded.{Assignment}
-use Rattle.sharc_mode.specs.Rows.{Row, modes_of, row_at, modes_at}
+use Rattle.sharc_mode.specs.Rows.{Targets, modes_of, row_at, modes_at}
 use Rattle.sharc_mode.specs.Sharings.{Sharing}
 use Rattle.sharc_mode_laws.specs.Constructs.{IsFunction, IsExpression, IsTaken}
 use Rattle.sharc_flat.specs.Flattened.{kind_of, is_ref, target_of, mode_of, lvalue_in, guard_of}
@@ -127,11 +127,11 @@ module _ (laws : Laws) (c : Context) (code : Code) (alone : ℕ → Bool) (lines
     pub pointer_of : is_pointer (kind_of c e) ≡ true → IsPointer z n typing c e
     pointer_of pointer = laws.values.pointers z n c a e is_at pointer
 
-    row_by : (o : Option Row) → row_at r e ≡ o → (s : StaticType) → entry_by c (kind_of c e) (option_map (modes_of m) o) ≡ Refers s → (row : Row) × (row_at r e ≡ Some row)
+    row_by : (o : Option Targets) → row_at r e ≡ o → (s : StaticType) → entry_by c (kind_of c e) (option_map (modes_of m) o) ≡ Refers s → (row : Targets) × (row_at r e ≡ Some row)
     row_by None is s h = absurd (none_refers s h)
     row_by (Some row) is s h = (row, is)
 
-    pub row_of : is_pointer (kind_of c e) ≡ true → (row : Row) × (row_at r e ≡ Some row)
+    pub row_of : is_pointer (kind_of c e) ≡ true → (row : Targets) × (row_at r e ≡ Some row)
     row_of pointer = row_by (row_at r e) refl (type_by (entry_of c e)) (pointer_of pointer).1
 
     modes_by : (o : Option (List Sharing)) → modes_at m e ≡ o → (s : StaticType) → entry_by c (kind_of c e) o ≡ Refers s → (modes : List Sharing) × (modes_at m e ≡ Some modes)
@@ -146,7 +146,7 @@ module _ (laws : Laws) (c : Context) (code : Code) (alone : ℕ → Bool) (lines
     cells_are pointer =
         let row = row_of pointer in
         let fits = laws.pointees m (kind_of c e) row.0 (laws.found m a.resolved a.placed a.low a.least.modes e expression_of row.0 row.1) pointer in
-        let to : (type_by (entry_of c e)).target ≡ pointee m (kind_of c e) row.0 = ap (λ (o : Option Row). (type_by (entry_by c (kind_of c e) (option_map (modes_of m) o))).target) row.1 in
+        let to : (type_by (entry_of c e)).target ≡ pointee m (kind_of c e) row.0 = ap (λ (o : Option Targets). (type_by (entry_by c (kind_of c e) (option_map (modes_of m) o))).target) row.1 in
         sym (ap (λ t. cells_of (targets_of m) t) to ∙ fits.cells)
 
     -- ---- a cell

@@ -6,7 +6,7 @@ use Rattle.sharc_tree.specs.Tree.{Expression}
 use Rattle.sharc_names.specs.Kinds.{object}
 use Rattle.sharc_ctype.specs.Resolved.{kind_at}
 use Rattle.sharc_mode.specs.Notes.{base_of}
-use Rattle.sharc_mode.specs.Rows.{Row, row_at, modes_of}
+use Rattle.sharc_mode.specs.Rows.{Targets, row_at, modes_of}
 use Rattle.sharc_mode_laws.specs.Constructs.{IsExpression}
 use Rattle.sharc_flat.specs.Scope.{Context}
 use Rattle.sharc_invariant.specs.Types.{StaticType, Content, cells_of, field_at}
@@ -45,7 +45,7 @@ module _ (expressions_found : ExpressionsFound) (firsts : FirstLaws) (z : Settin
   one_target : (b : Base) (e : Expression) → IsExpression c.program e → kind_at c.program.typed e ≡ object b 1 → (s : StaticType) → entry_of c e ≡ Refers s → IsOneTarget b s
   one_target b e there kind s = by (row_at c.program.typed e) refl
     where
-      by : (o : Option Row) → row_at c.program.typed e ≡ o → entry_by c (kind_at c.program.typed e) (option_map (modes_of c.program) o) ≡ Refers s → IsOneTarget b s
+      by : (o : Option Targets) → row_at c.program.typed e ≡ o → entry_by c (kind_at c.program.typed e) (option_map (modes_of c.program) o) ≡ Refers s → IsOneTarget b s
       by None none h = absurd (no_entry s h)
       by (Some row) is h =
           let found = expressions_found c.program a.resolved a.placed a.low a.least.modes e there row is in

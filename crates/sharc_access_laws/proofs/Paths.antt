@@ -12,7 +12,7 @@ use Rattle.sharc_ctype_laws.specs.Constraints.{struct_named}
 use Rattle.sharc_meaning.specs.Cells.{field_place, field_place_behind}
 use Rattle.sharc_mode.specs.Moded.{Assignment}
 use Rattle.sharc_mode.specs.Notes.{base_of}
-use Rattle.sharc_mode.specs.Rows.{Row, written, read, declared_row, modes_of}
+use Rattle.sharc_mode.specs.Rows.{Targets, written, read, declared_row, modes_of}
 use Rattle.sharc_mode.specs.Sharings.{Sharing, sharing_of}
 use Rattle.sharc_mode.specs.WellFormed.{fields_of, fields_named, fields_behind}
 use Rattle.sharc_mode_laws.specs.Paths.{IsMutexBehind}
@@ -69,7 +69,7 @@ one_mode zero (x ∷ rest) low = (x, refl)
 one_mode (suc n) [] low = absurd (omega (arith, low))
 one_mode (suc n) (x ∷ rest) low = one_mode n rest (omega (arith, low))
 
-pub one_sharing : (m : Assignment) (row : Row) → row.count ≡ 1 → row.first + row.count ≤ length m.modes → (q : Sharing) × (modes_of m row ≡ q ∷ [])
+pub one_sharing : (m : Assignment) (row : Targets) → row.count ≡ 1 → row.first + row.count ≤ length m.modes → (q : Sharing) × (modes_of m row ≡ q ∷ [])
 one_sharing m row one ends =
     let inside : row.first + 1 ≤ length m.modes = omega (arith, one, ends) in
     let w = one_mode row.first m.modes inside in
@@ -87,7 +87,7 @@ module _ (variables : VariablesFound) (members : MembersAre) (pointees : Pointee
   abbrev r : Resolution
   r = c.program.typed
 
-  abbrev row : Row
+  abbrev row : Targets
   row = declared_row c.program.typed written x
 
   row_is : IsRowOf m (declared_kind w.variable.written) row

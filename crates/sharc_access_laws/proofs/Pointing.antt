@@ -14,7 +14,7 @@ use Rattle.sharc_ctype.specs.Resolved.{named_at, kind_at}
 use Rattle.sharc_mode.specs.Cells.{is_mutex_kind, cell_at}
 use Rattle.sharc_mode.specs.Moded.{Assignment}
 use Rattle.sharc_mode.specs.Notes.{base_of}
-use Rattle.sharc_mode.specs.Rows.{Row, row_at, modes_of, modes_at, constant_use, is_constant_named}
+use Rattle.sharc_mode.specs.Rows.{Targets, row_at, modes_of, modes_at, constant_use, is_constant_named}
 use Rattle.sharc_mode.specs.Sharings.{Sharing}
 use Rattle.sharc_flat.specs.Scope.{Context}
 use Rattle.sharc_flat.specs.Suits.{Either, is_cell}
@@ -130,7 +130,7 @@ copied y c _ copy h token x of names is = absurd (none_some token of)
 
 module _ (scopes : ScopeLaws) (c : Context) (code : Code) (y : Typing) (typing : IsTypingOf y c) (f : ℕ) (e : Expression) (lvalue : IsCellLvalue c.program e) (ground : Ground) (suits : IsGroundOf c e ground) (r : ℕ) (q : Label)
     (entry : HasBaseAt (target c.program.typed None e) ground r q) (copies : has_base (target c.program.typed None e) ≡ true → IsPointerCopy y c ground.pointer (q.same r)) (stand : BaseStands c e) where
-  base_is : (p : Expression) (row : Row) → pointer_of c.program.typed e ≡ Some p → row_at c.program.typed p ≡ Some row → base_type c e ≡ static_of c (kind_at c.program.typed p) (modes_of c.program row)
+  base_is : (p : Expression) (row : Targets) → pointer_of c.program.typed e ≡ Some p → row_at c.program.typed p ≡ Some row → base_type c e ≡ static_of c (kind_at c.program.typed p) (modes_of c.program row)
   base_is p row leads at =
       ap (λ o. static_of c (kind_of_pointer c.program.typed o) (modes_of_pointer c.program o)) leads ∙ ap (λ o. static_of c (kind_at c.program.typed p) (list_or (option_map (modes_of c.program) o))) at
 

@@ -23,60 +23,72 @@ use sharc_names::kind::is_array;
 use sharc_tree::token::{Site, Span};
 use sharc_tree::tree::{Access, BinaryOperator, Expr, PlaceCall, UnaryOperator};
 
-fn on_place_plan<'a>(e: &'a Expr, span: Span, word: PlaceCall, a: &'a Expr, st: &State) -> Plan<'a>
-    requires form { view_expr e.now ≡ on_place span word (view_expr a.now) }
-    ensures means { (on_call : Calls) (m : Assignment) → LeadsFrom on_call m (view_state st.now) (inside (gives number (eval on_call m (view_expr e.now)))) result }
+fn on_place_plan<'a>(
+    expr: &'a Expr,
+    span: Span,
+    word: PlaceCall,
+    operand: &'a Expr,
+    st: &State,
+) -> Plan<'a>
+    requires form { view_expr expr.now ≡ on_place span word (view_expr operand.now) }
+    ensures means { (on_call : Calls) (m : Assignment) → LeadsFrom on_call m (view_state st.now) (inside (gives number (eval on_call m (view_expr expr.now)))) result }
     ensures fits { Fits 15 result }
 {
     let mark = st.frame.temporaries.len();
-    let place = Task::PlaceOf(a.span().first, a);
+    let place = Task::PlaceOf(operand.span().first, operand);
     match word {
-        PlaceCall::Lock => Plan::Goes(place, Rest::Place(a, WithPlace::Locks(span.first, mark))),
+        PlaceCall::Lock => Plan::Goes(
+            place,
+            Rest::Place(operand, WithPlace::Locks(span.first, mark)),
+        ),
         PlaceCall::Unlock => Plan::Goes(
             place,
-            Rest::Place(a, WithPlace::Unlocks(span.first, mark)),
+            Rest::Place(operand, WithPlace::Unlocks(span.first, mark)),
         ),
-        PlaceCall::Free => Plan::Goes(place, Rest::Place(a, WithPlace::Frees(span, mark))),
+        PlaceCall::Free => Plan::Goes(place, Rest::Place(operand, WithPlace::Frees(span, mark))),
     }
 }
 
 fn unary_plan<'a>(
-    e: &'a Expr,
+    expr: &'a Expr,
     span: Span,
     operator: UnaryOperator,
-    a: &'a Expr,
+    operand: &'a Expr,
     st: &State,
 ) -> Plan<'a>
-    requires form { view_expr e.now ≡ unary span operator (view_expr a.now) }
-    ensures means { (on_call : Calls) (m : Assignment) → LeadsFrom on_call m (view_state st.now) (inside (gives number (eval on_call m (view_expr e.now)))) result }
+    requires form { view_expr expr.now ≡ unary span operator (view_expr operand.now) }
+    ensures means { (on_call : Calls) (m : Assignment) → LeadsFrom on_call m (view_state st.now) (inside (gives number (eval on_call m (view_expr expr.now)))) result }
     ensures fits { Fits 15 result }
 {
     let mark = st.frame.temporaries.len();
-    let value = Task::Eval(a);
+    let value = Task::Eval(operand);
     match operator {
         UnaryOperator::Negate => {
-            Plan::Goes(value, Rest::Value(a, WithValue::Negated(span.first)))
+            Plan::Goes(value, Rest::Value(operand, WithValue::Negated(span.first)))
         }
-        UnaryOperator::Not => Plan::Goes(value, Rest::Value(a, WithValue::Inverted)),
-        UnaryOperator::Complement => Plan::Goes(value, Rest::Value(a, WithValue::Complemented)),
+        UnaryOperator::Not => Plan::Goes(value, Rest::Value(operand, WithValue::Inverted)),
+        UnaryOperator::Complement => Plan::Goes(
+            value,
+            Rest::Value(operand, WithValue::Complemented),
+        ),
         UnaryOperator::Dereference => Plan::Goes(
-            Task::Pointee(span.first, a),
-            Rest::Place(e, WithPlace::Fetched(mark)),
+            Task::Pointee(span.first, operand),
+            Rest::Place(expr, WithPlace::Fetched(mark)),
         ),
     }
 }
 
 fn binary_plan<'a>(
-    m: &'a Moded,
-    e: &'a Expr,
+    program: &'a Moded,
+    expr: &'a Expr,
     site: Site,
     operator: BinaryOperator,
     left: &'a Expr,
     right: &'a Expr,
     st: &State,
 ) -> Plan<'a>
-    requires form { (s : Span) × (view_expr e.now ≡ binary s operator site (view_expr left.now) (view_expr right.now)) }
-    ensures means { (on_call : Calls) → LeadsFrom on_call m.now (view_state st.now) (inside (gives number (eval on_call m.now (view_expr e.now)))) result }
+    requires form { (s : Span) × (view_expr expr.now ≡ binary s operator site (view_expr left.now) (view_expr right.now)) }
+    ensures means { (on_call : Calls) → LeadsFrom on_call program.now (view_state st.now) (inside (gives number (eval on_call program.now (view_expr expr.now)))) result }
     ensures fits { Fits 15 result }
 {
     let mark = st.frame.temporaries.len();
@@ -84,7 +96,7 @@ fn binary_plan<'a>(
     match logic_of(operator) {
         None => {
             let operation = Operation {
-                width: width_of(kind_of(m, e)),
+                width: width_of(kind_of(program, expr)),
                 site,
                 operator,
                 mark,
@@ -104,34 +116,34 @@ fn binary_plan<'a>(
     }
 }
 
-fn eval_plan<'a>(m: &'a Moded, e: &'a Expr, st: &mut State) -> Result<Plan<'a>, End>
-    ensures means { (on_call : Calls) → Plans on_call m.now (view_state st.old) result (view_state st.new) (inside (gives number (eval on_call m.now (view_expr e.now)))) }
+fn eval_plan<'a>(program: &'a Moded, expr: &'a Expr, st: &mut State) -> Result<Plan<'a>, End>
+    ensures means { (on_call : Calls) → Plans on_call program.now (view_state st.old) result (view_state st.new) (inside (gives number (eval on_call program.now (view_expr expr.now)))) }
     ensures fits { IfOk result (Fits 15) }
     ensures fuel { st.new.fuel ≤ st.old.fuel }
 {
     let mark = st.frame.temporaries.len();
-    match e {
+    match expr {
         Expr::Identifier(_, name) => {
-            done_number(named_value(m, e, name.site, name.site.token, st))
+            done_number(named_value(program, expr, name.site, name.site.token, st))
         }
         Expr::Constant(_, constant) => { Ok(Plan::Done(Value::Number(constant_value(constant)))) }
         Expr::Parentheses(_, inner) => Ok(Plan::Goes(Task::Eval(inner), Rest::Same)),
         Expr::Call(span, name, all) => Ok(Plan::Calls(Call {
             site: span.first,
-            named: named(m, name.site.token),
+            named: named(program, name.site.token),
             name: name.text.as_slice(),
             arguments: all.as_slice(),
         })),
         Expr::Spawn(span, name, a) => {
             let a: &'a Expr = a;
-            let rest = WithValue::Spawned(span.first, named(m, name.site.token), mark);
+            let rest = WithValue::Spawned(span.first, named(program, name.site.token), mark);
             Ok(Plan::Goes(Task::Eval(a), Rest::Value(a, rest)))
         }
         Expr::OnValue(span, word, a) => Ok(Plan::Goes(
             Task::Eval(a),
             Rest::Value(a, WithValue::Performs(span.first, *word)),
         )),
-        Expr::OnPlace(span, word, a) => Ok(on_place_plan(e, *span, *word, a, st)),
+        Expr::OnPlace(span, word, a) => Ok(on_place_plan(expr, *span, *word, a, st)),
         Expr::Cast(span, _, a) => {
             let a: &'a Expr = a;
             let place = Task::PlaceOf(a.span().first, a);
@@ -139,7 +151,7 @@ fn eval_plan<'a>(m: &'a Moded, e: &'a Expr, st: &mut State) -> Result<Plan<'a>, 
         }
         Expr::Index(span, a, i) => Ok(Plan::Goes(
             Task::Index(span.first, a, i),
-            Rest::Place(e, WithPlace::Fetched(mark)),
+            Rest::Place(expr, WithPlace::Fetched(mark)),
         )),
         Expr::Field {
             span,
@@ -147,50 +159,50 @@ fn eval_plan<'a>(m: &'a Moded, e: &'a Expr, st: &mut State) -> Result<Plan<'a>, 
             access,
             name,
         } => Ok(Plan::Goes(
-            Task::Field(span.first, base, *access, named(m, name.site.token)),
-            Rest::Place(e, WithPlace::Fetched(mark)),
+            Task::Field(span.first, base, *access, named(program, name.site.token)),
+            Rest::Place(expr, WithPlace::Fetched(mark)),
         )),
-        Expr::Unary(span, operator, a) => Ok(unary_plan(e, *span, *operator, a, st)),
+        Expr::Unary(span, operator, a) => Ok(unary_plan(expr, *span, *operator, a, st)),
         Expr::Binary {
             operator,
             site,
             left,
             right,
             ..
-        } => Ok(binary_plan(m, e, *site, *operator, left, right, st)),
+        } => Ok(binary_plan(program, expr, *site, *operator, left, right, st)),
     }
 }
 
 /// The value of an expression.
-pub fn begin_eval<'a>(m: &'a Moded, e: &'a Expr, st: &mut State) -> Result<Plan<'a>, End>
-    ensures means { (on_call : Calls) → Plans on_call m.now (view_state st.old) result (view_state st.new) (gives number (eval on_call m.now (view_expr e.now))) }
+pub fn begin_eval<'a>(program: &'a Moded, expr: &'a Expr, st: &mut State) -> Result<Plan<'a>, End>
+    ensures means { (on_call : Calls) → Plans on_call program.now (view_state st.old) result (view_state st.new) (gives number (eval on_call program.now (view_expr expr.now))) }
     ensures begins { IfOk result (Begins 1 1 st.old.fuel st.new.fuel) }
 {
     match enter(st) {
-        Ok(()) => eval_plan(m, e, st),
+        Ok(()) => eval_plan(program, expr, st),
         Err(end) => Err(end),
     }
 }
 
-fn unary_place_plan<'a>(site: Site, operator: UnaryOperator, a: &'a Expr) -> Plan<'a>
-    ensures means { (on_call : Calls) (m : Assignment) → Leads on_call m (gives place (unary_place m.typed site operator (view_expr a.now) (eval on_call m (view_expr a.now)))) result }
+fn unary_place_plan<'a>(site: Site, operator: UnaryOperator, operand: &'a Expr) -> Plan<'a>
+    ensures means { (on_call : Calls) (m : Assignment) → Leads on_call m (gives place (unary_place m.typed site operator (view_expr operand.now) (eval on_call m (view_expr operand.now)))) result }
     ensures fits { Fits 15 result }
 {
     match operator {
-        UnaryOperator::Dereference => Plan::Goes(Task::Pointee(site, a), Rest::Same),
+        UnaryOperator::Dereference => Plan::Goes(Task::Pointee(site, operand), Rest::Same),
         UnaryOperator::Negate => Plan::Done(Value::Place(Place::Variable(0))),
         UnaryOperator::Not => Plan::Done(Value::Place(Place::Variable(0))),
         UnaryOperator::Complement => Plan::Done(Value::Place(Place::Variable(0))),
     }
 }
 
-fn place_plan<'a>(m: &'a Moded, site: Site, e: &'a Expr) -> Plan<'a>
-    ensures means { (on_call : Calls) → Leads on_call m.now (inside (gives place (place_of on_call m.now site (view_expr e.now)))) result }
+fn place_plan<'a>(program: &'a Moded, site: Site, expr: &'a Expr) -> Plan<'a>
+    ensures means { (on_call : Calls) → Leads on_call program.now (inside (gives place (place_of on_call program.now site (view_expr expr.now)))) result }
     ensures fits { Fits 15 result }
 {
-    match e {
+    match expr {
         Expr::Identifier(_, name) => {
-            Plan::Done(Value::Place(place_named(named(m, name.site.token))))
+            Plan::Done(Value::Place(place_named(named(program, name.site.token))))
         }
         Expr::Parentheses(_, inner) => Plan::Goes(Task::PlaceOf(site, inner), Rest::Same),
         Expr::Index(_, a, i) => Plan::Goes(Task::Index(site, a, i), Rest::Same),
@@ -200,7 +212,7 @@ fn place_plan<'a>(m: &'a Moded, site: Site, e: &'a Expr) -> Plan<'a>
             name,
             ..
         } => Plan::Goes(
-            Task::Field(site, base, *access, named(m, name.site.token)),
+            Task::Field(site, base, *access, named(program, name.site.token)),
             Rest::Same,
         ),
         Expr::Unary(_, operator, a) => unary_place_plan(site, *operator, a),
@@ -216,54 +228,54 @@ fn place_plan<'a>(m: &'a Moded, site: Site, e: &'a Expr) -> Plan<'a>
 
 /// The place that an lvalue names.
 pub fn begin_place<'a>(
-    m: &'a Moded,
+    program: &'a Moded,
     site: Site,
-    e: &'a Expr,
+    expr: &'a Expr,
     st: &mut State,
 ) -> Result<Plan<'a>, End>
-    ensures means { (on_call : Calls) → Plans on_call m.now (view_state st.old) result (view_state st.new) (gives place (place_of on_call m.now site (view_expr e.now))) }
+    ensures means { (on_call : Calls) → Plans on_call program.now (view_state st.old) result (view_state st.new) (gives place (place_of on_call program.now site (view_expr expr.now))) }
     ensures begins { IfOk result (Begins 1 1 st.old.fuel st.new.fuel) }
 {
     match enter(st) {
-        Ok(()) => Ok(place_plan(m, site, e)),
+        Ok(()) => Ok(place_plan(program, site, expr)),
         Err(end) => Err(end),
     }
 }
 
 /// `a[i]`
-pub fn index_plan<'a>(m: &'a Moded, site: Site, a: &'a Expr, i: &'a Expr) -> Plan<'a>
-    ensures means { (on_call : Calls) → Leads on_call m.now (gives place (index_place m.now.typed site (view_expr a.now) (place_of on_call m.now site (view_expr a.now)) (eval on_call m.now (view_expr a.now)) (eval on_call m.now (view_expr i.now)))) result }
+pub fn index_plan<'a>(program: &'a Moded, site: Site, base: &'a Expr, index: &'a Expr) -> Plan<'a>
+    ensures means { (on_call : Calls) → Leads on_call program.now (gives place (index_place program.now.typed site (view_expr base.now) (place_of on_call program.now site (view_expr base.now)) (eval on_call program.now (view_expr base.now)) (eval on_call program.now (view_expr index.now)))) result }
     ensures starts { Starts 2 1 result }
 {
-    if is_array(kind_of(m, a)) {
+    if is_array(kind_of(program, base)) {
         Plan::Goes(
-            Task::PlaceOf(site, a),
-            Rest::Place(a, WithPlace::ArrayBase(site, i)),
+            Task::PlaceOf(site, base),
+            Rest::Place(base, WithPlace::ArrayBase(site, index)),
         )
     } else {
         Plan::Goes(
-            Task::Eval(a),
-            Rest::Value(a, WithValue::PointerBase(site, i)),
+            Task::Eval(base),
+            Rest::Value(base, WithValue::PointerBase(site, index)),
         )
     }
 }
 
 /// `a.n` and `a->n`
-pub fn field_plan<'a>(site: Site, a: &'a Expr, access: Access, named: Named) -> Plan<'a>
-    ensures means { (on_call : Calls) (m : Assignment) → Leads on_call m (gives place (field_place m.typed site (view_expr a.now) access named (place_of on_call m site (view_expr a.now)) (eval on_call m (view_expr a.now)))) result }
+pub fn field_plan<'a>(site: Site, base: &'a Expr, access: Access, named: Named) -> Plan<'a>
+    ensures means { (on_call : Calls) (m : Assignment) → Leads on_call m (gives place (field_place m.typed site (view_expr base.now) access named (place_of on_call m site (view_expr base.now)) (eval on_call m (view_expr base.now)))) result }
     ensures starts { Starts 3 1 result }
 {
-    let rest = Rest::Place(a, WithPlace::FieldIn(named));
+    let rest = Rest::Place(base, WithPlace::FieldIn(named));
     match access {
-        Access::Dot => Plan::Goes(Task::PlaceOf(site, a), rest),
-        Access::Arrow => Plan::Goes(Task::Pointee(site, a), rest),
+        Access::Dot => Plan::Goes(Task::PlaceOf(site, base), rest),
+        Access::Arrow => Plan::Goes(Task::Pointee(site, base), rest),
     }
 }
 
 /// `*a`
-pub fn pointee_plan<'a>(site: Site, a: &'a Expr) -> Plan<'a>
-    ensures means { (on_call : Calls) (m : Assignment) → Leads on_call m (gives place (pointee_place m.typed site (view_expr a.now) (eval on_call m (view_expr a.now)))) result }
+pub fn pointee_plan<'a>(site: Site, base: &'a Expr) -> Plan<'a>
+    ensures means { (on_call : Calls) (m : Assignment) → Leads on_call m (gives place (pointee_place m.typed site (view_expr base.now) (eval on_call m (view_expr base.now)))) result }
     ensures starts { Starts 2 1 result }
 {
-    Plan::Goes(Task::Eval(a), Rest::Value(a, WithValue::Based(site)))
+    Plan::Goes(Task::Eval(base), Rest::Value(base, WithValue::Based(site)))
 }

@@ -76,113 +76,125 @@ pub fn zero_behind(answer: Result<(), End>) -> Result<i64, End>
 }
 
 /// Whether a value is neither 0 nor NULL.
-pub fn tested_value(m: &Moded, e: &Expr, value: i64, st: &mut State) -> Result<bool, End>
-    ensures does { Does (view_state st.old) result (view_state st.new) (tested m.now.typed (view_expr e.now) (give value)) }
+pub fn tested_value(program: &Moded, expr: &Expr, value: i64, st: &mut State) -> Result<bool, End>
+    ensures does { Does (view_state st.old) result (view_state st.new) (tested program.now.typed (view_expr expr.now) (give value)) }
     ensures fuel { st.new.fuel ≤ st.old.fuel }
 {
-    match let_go(m, e, value, st) {
+    match let_go(program, expr, value, st) {
         Ok(()) => Ok(!is_zero(value)),
         Err(end) => Err(end),
     }
 }
 
-pub fn truth_of(m: &Moded, e: &Expr, value: i64, st: &mut State) -> Result<i64, End>
-    ensures does { Does (view_state st.old) result (view_state st.new) (truth_with m.now.typed (view_expr e.now) value) }
+pub fn truth_of(program: &Moded, expr: &Expr, value: i64, st: &mut State) -> Result<i64, End>
+    ensures does { Does (view_state st.old) result (view_state st.new) (truth_with program.now.typed (view_expr expr.now) value) }
     ensures fuel { st.new.fuel ≤ st.old.fuel }
 {
-    match tested_value(m, e, value, st) {
+    match tested_value(program, expr, value, st) {
         Ok(is_true) => Ok(truth(is_true)),
         Err(end) => Err(end),
     }
 }
 
-pub fn inverted(m: &Moded, e: &Expr, value: i64, st: &mut State) -> Result<i64, End>
-    ensures does { Does (view_state st.old) result (view_state st.new) (inverted_with m.now.typed (view_expr e.now) value) }
+pub fn inverted(program: &Moded, expr: &Expr, value: i64, st: &mut State) -> Result<i64, End>
+    ensures does { Does (view_state st.old) result (view_state st.new) (inverted_with program.now.typed (view_expr expr.now) value) }
     ensures fuel { st.new.fuel ≤ st.old.fuel }
 {
-    match tested_value(m, e, value, st) {
+    match tested_value(program, expr, value, st) {
         Ok(is_true) => Ok(truth(!is_true)),
         Err(end) => Err(end),
     }
 }
 
 /// A value that stands in a temporary.
-pub fn operand_value(m: &Moded, e: &Expr, value: i64, st: &mut State) -> Result<i64, End>
-    ensures does { Does (view_state st.old) result (view_state st.new) (operand m.now.typed (view_expr e.now) (give value)) }
+pub fn operand_value(program: &Moded, expr: &Expr, value: i64, st: &mut State) -> Result<i64, End>
+    ensures does { Does (view_state st.old) result (view_state st.new) (operand program.now.typed (view_expr expr.now) (give value)) }
     ensures fuel { st.new.fuel ≤ st.old.fuel }
 {
-    match held(m, e, value, st) {
+    match held(program, expr, value, st) {
         Ok(()) => Ok(value),
         Err(end) => Err(end),
     }
 }
 
 /// A value that what it goes to has to hold.
-pub fn fitted(kind: Kind<'_>, e: &Expr, value: i64, st: &State) -> Result<i64, End>
-    ensures { Does (view_state st.now) result (view_state st.now) (fitting (view_kind kind.entry) (view_expr e.now) (give value)) }
+pub fn fitted(kind: Kind<'_>, expr: &Expr, value: i64, st: &State) -> Result<i64, End>
+    ensures { Does (view_state st.now) result (view_state st.now) (fitting (view_kind kind.entry) (view_expr expr.now) (give value)) }
 {
-    match unless(fits(kind, value), 4, e.span().first, st) {
+    match unless(fits(kind, value), 4, expr.span().first, st) {
         Ok(()) => Ok(value),
         Err(end) => Err(end),
     }
 }
 
-pub fn returned(kind: Kind<'_>, site: Site, e: &Expr, value: i64, st: &State) -> Result<Flow, End>
-    ensures { DoesAs view_flow (view_state st.now) result (view_state st.now) (returned_with (view_kind kind.entry) site (view_expr e.now) value) }
+pub fn returned(
+    kind: Kind<'_>,
+    site: Site,
+    expr: &Expr,
+    value: i64,
+    st: &State,
+) -> Result<Flow, End>
+    ensures { DoesAs view_flow (view_state st.now) result (view_state st.now) (returned_with (view_kind kind.entry) site (view_expr expr.now) value) }
 {
-    match unless(fits(kind, value), 4, e.span().first, st) {
+    match unless(fits(kind, value), 4, expr.span().first, st) {
         Ok(()) => Ok(Flow::Returned(site, value)),
         Err(end) => Err(end),
     }
 }
 
 fn fitted_operand(
-    m: &Moded,
+    program: &Moded,
     kind: Kind<'_>,
-    e: &Expr,
+    expr: &Expr,
     value: i64,
     st: &mut State,
 ) -> Result<i64, End>
-    ensures does { Does (view_state st.old) result (view_state st.new) (operand m.now.typed (view_expr e.now) (fitting (view_kind kind.entry) (view_expr e.now) (give value))) }
+    ensures does { Does (view_state st.old) result (view_state st.new) (operand program.now.typed (view_expr expr.now) (fitting (view_kind kind.entry) (view_expr expr.now) (give value))) }
     ensures fuel { st.new.fuel ≤ st.old.fuel }
 {
-    match unless(fits(kind, value), 4, e.span().first, st) {
-        Ok(()) => operand_value(m, e, value, st),
+    match unless(fits(kind, value), 4, expr.span().first, st) {
+        Ok(()) => operand_value(program, expr, value, st),
         Err(end) => Err(end),
     }
 }
 
 /// An argument for the first of these parameters.
 pub fn passed_value(
-    m: &Moded,
+    program: &Moded,
     parameters: &[Declaration],
-    e: &Expr,
+    expr: &Expr,
     value: i64,
     st: &mut State,
 ) -> Result<i64, End>
-    ensures does { Does (view_state st.old) result (view_state st.new) (passed m.now.typed (declared_kinds parameters.now) (view_expr e.now) (give value)) }
+    ensures does { Does (view_state st.old) result (view_state st.new) (passed program.now.typed (declared_kinds parameters.now) (view_expr expr.now) (give value)) }
     ensures fuel { st.new.fuel ≤ st.old.fuel }
 {
     match parameters {
-        [] => operand_value(m, e, value, st),
-        [parameter, ..] => fitted_operand(m, declared_kind(&parameter.written), e, value, st),
+        [] => operand_value(program, expr, value, st),
+        [parameter, ..] => fitted_operand(
+            program,
+            declared_kind(&parameter.written),
+            expr,
+            value,
+            st,
+        ),
     }
 }
 
 fn spawned_value(
-    m: &Moded,
+    program: &Moded,
     site: Site,
     named: Named,
-    e: &Expr,
+    expr: &Expr,
     value: i64,
     st: &mut State,
 ) -> Result<i64, End>
-    ensures does { Does (view_state st.old) result (view_state st.new) (spawned_with m.now.typed site named (view_expr e.now) value) }
+    ensures does { Does (view_state st.old) result (view_state st.new) (spawned_with program.now.typed site named (view_expr expr.now) value) }
     ensures fuel { st.new.fuel ≤ st.old.fuel }
 {
-    match passed_value(m, parameters_named(m, named), e, value, st) {
+    match passed_value(program, parameters_named(program, named), expr, value, st) {
         Ok(value) => match ask_event(site, Act::Spawn(number_named(named), value), st) {
-            Ok(thread) => match moves(kind_of(m, e), st) {
+            Ok(thread) => match moves(kind_of(program, expr), st) {
                 Ok(()) => Ok(thread),
                 Err(end) => Err(end),
             },
@@ -194,18 +206,22 @@ fn spawned_value(
 
 /// A new thread gets the argument.
 pub fn spawned(
-    m: &Moded,
+    program: &Moded,
     site: Site,
     named: Named,
-    e: &Expr,
+    expr: &Expr,
     value: i64,
     mark: usize,
     st: &mut State,
 ) -> Result<i64, End>
-    ensures does { Does (view_state st.old) result (view_state st.new) (ends_above mark (spawned_with m.now.typed site named (view_expr e.now) value)) }
+    ensures does { Does (view_state st.old) result (view_state st.new) (ends_above mark (spawned_with program.now.typed site named (view_expr expr.now) value)) }
     ensures fuel { st.new.fuel ≤ st.old.fuel }
 {
-    end_above(spawned_value(m, site, named, e, value, st), mark, st)
+    end_above(
+        spawned_value(program, site, named, expr, value, st),
+        mark,
+        st,
+    )
 }
 
 /// `join` and `print`
@@ -225,17 +241,17 @@ pub fn freed_with(site: Site, value: i64, st: &mut State) -> Result<i64, End>
 }
 
 fn joined_value(
-    m: &Moded,
+    program: &Moded,
     operation: Operation,
     left: i64,
-    e: &Expr,
+    expr: &Expr,
     right: i64,
     st: &mut State,
 ) -> Result<i64, End>
-    ensures does { Does (view_state st.old) result (view_state st.new) (joined_with m.now.typed (value_bits operation.width) operation.site operation.operator (view_expr e.now) left (give right)) }
+    ensures does { Does (view_state st.old) result (view_state st.new) (joined_with program.now.typed (value_bits operation.width) operation.site operation.operator (view_expr expr.now) left (give right)) }
     ensures fuel { st.new.fuel ≤ st.old.fuel }
 {
-    match operand_value(m, e, right, st) {
+    match operand_value(program, expr, right, st) {
         Ok(right) => resulting(
             operation.site,
             operated(operation.width, operation.operator, left, right),
@@ -247,18 +263,18 @@ fn joined_value(
 
 /// An operator with the values of both operands, of which the right one is that of the expression.
 pub fn joined(
-    m: &Moded,
+    program: &Moded,
     operation: Operation,
     left: i64,
-    e: &Expr,
+    expr: &Expr,
     right: i64,
     st: &mut State,
 ) -> Result<i64, End>
-    ensures does { Does (view_state st.old) result (view_state st.new) (ends_above operation.mark (joined_with m.now.typed (value_bits operation.width) operation.site operation.operator (view_expr e.now) left (give right))) }
+    ensures does { Does (view_state st.old) result (view_state st.new) (ends_above operation.mark (joined_with program.now.typed (value_bits operation.width) operation.site operation.operator (view_expr expr.now) left (give right))) }
     ensures fuel { st.new.fuel ≤ st.old.fuel }
 {
     end_above(
-        joined_value(m, operation, left, e, right, st),
+        joined_value(program, operation, left, expr, right, st),
         operation.mark,
         st,
     )
@@ -266,51 +282,51 @@ pub fn joined(
 
 /// An element of a global array.
 pub fn element_in(
-    m: &Moded,
+    program: &Moded,
     site: Site,
-    a: &Expr,
+    array: &Expr,
     base: Place,
-    n: i64,
+    number: i64,
     st: &State,
 ) -> Result<Place, End>
-    ensures { DoesAs view_place (view_state st.now) result (view_state st.now) (element_in m.now.typed site (view_expr a.now) (view_place base) n) }
+    ensures { DoesAs view_place (view_state st.now) result (view_state st.now) (element_in program.now.typed site (view_expr array.now) (view_place base) number) }
 {
-    element_of_array(m, site, cells_of(m, a), base, n, st)
+    element_of_array(program, site, cells_of(program, array), base, number, st)
 }
 
 /// An element behind a pointer.
 pub fn element_behind(
-    m: &Moded,
+    program: &Moded,
     site: Site,
-    a: &Expr,
+    pointed: &Expr,
     pointer: i64,
-    n: i64,
+    number: i64,
     st: &State,
 ) -> Result<Place, End>
-    ensures { DoesAs view_place (view_state st.now) result (view_state st.now) (element_behind m.now.typed site (view_expr a.now) pointer n) }
+    ensures { DoesAs view_place (view_state st.now) result (view_state st.now) (element_behind program.now.typed site (view_expr pointed.now) pointer number) }
 {
     element(
         site,
         Object::Made(number_of(pointer)),
-        cells_of(m, a),
+        cells_of(program, pointed),
         elements_of(pointer),
-        n,
+        number,
         st,
     )
 }
 
 /// The first element behind a pointer.
 pub fn first_behind(
-    m: &Moded,
+    program: &Moded,
     site: Site,
-    a: &Expr,
+    pointed: &Expr,
     pointer: i64,
     st: &mut State,
 ) -> Result<Place, End>
-    ensures does { DoesAs view_place (view_state st.old) result (view_state st.new) (pointee_place m.now.typed site (view_expr a.now) (give pointer)) }
+    ensures does { DoesAs view_place (view_state st.old) result (view_state st.new) (pointee_place program.now.typed site (view_expr pointed.now) (give pointer)) }
     ensures fuel { st.new.fuel ≤ st.old.fuel }
 {
-    match based(m, site, a, pointer, st) {
+    match based(program, site, pointed, pointer, st) {
         Ok(()) => Ok(pointee(pointer)),
         Err(end) => Err(end),
     }
@@ -318,19 +334,27 @@ pub fn first_behind(
 
 /// A value goes to the place that an expression names.
 pub fn stored_at(
-    m: &Moded,
-    e: &Expr,
+    program: &Moded,
+    expr: &Expr,
     place: Place,
     value: i64,
     mark: usize,
     st: &mut State,
 ) -> Result<(), End>
-    ensures does { Does (view_state st.old) result (view_state st.new) (ends_above mark (assigned_to m.now (view_expr e.now) (view_place place) (give value))) }
+    ensures does { Does (view_state st.old) result (view_state st.new) (ends_above mark (assigned_to program.now (view_expr expr.now) (view_place place) (give value))) }
     ensures fuel { st.new.fuel ≤ st.old.fuel }
 {
-    let site = e.span().first;
+    let site = expr.span().first;
     end_step(
-        stored(m, site, kind_of(m, e), cell_of(m, e), place, value, st),
+        stored(
+            program,
+            site,
+            kind_of(program, expr),
+            cell_of(program, expr),
+            place,
+            value,
+            st,
+        ),
         mark,
         st,
     )
@@ -338,17 +362,17 @@ pub fn stored_at(
 
 /// A local gets its first value.
 pub fn initialised(
-    m: &Moded,
+    program: &Moded,
     declaration: &Declaration,
     value: i64,
     st: &mut State,
 ) -> Result<(), End>
-    ensures does { Does (view_state st.old) result (view_state st.new) (stored m.now.typed declaration.now.name.site (declared_kind declaration.now.written) private (variable declaration.now.name.site.token) value) }
+    ensures does { Does (view_state st.old) result (view_state st.new) (stored program.now.typed declaration.now.name.site (declared_kind declaration.now.written) private (variable declaration.now.name.site.token) value) }
     ensures fuel { st.new.fuel ≤ st.old.fuel }
 {
     let site = declaration.name.site;
     stored(
-        m,
+        program,
         site,
         declared_kind(&declaration.written),
         Sharing::Private,

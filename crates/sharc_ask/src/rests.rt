@@ -36,154 +36,166 @@ use sharc_tree::token::Span;
 use sharc_tree::tree::Expr;
 
 fn with_value<'a>(
-    m: &'a Moded,
-    e: &'a Expr,
+    program: &'a Moded,
+    expr: &'a Expr,
     rest: WithValue<'a>,
     x: i64,
     st: &mut State,
 ) -> Result<Plan<'a>, End>
-    ensures means { (on_call : Calls) → Plans on_call m.now (view_state st.old) result (view_state st.new) (value_means on_call m.now (view_expr e.now) rest.entry x) }
+    ensures means { (on_call : Calls) → Plans on_call program.now (view_state st.old) result (view_state st.new) (value_means on_call program.now (view_expr expr.now) rest.entry x) }
     ensures fits { IfOk result (Fits 15) }
     ensures fuel { st.new.fuel ≤ st.old.fuel }
 {
     match rest {
-        WithValue::Tested => done_test(tested_value(m, e, x, st)),
-        WithValue::Passed(parameters) => done_number(passed_value(m, parameters, e, x, st)),
+        WithValue::Tested => done_test(tested_value(program, expr, x, st)),
+        WithValue::Passed(parameters) => done_number(passed_value(
+            program, parameters, expr, x, st,
+        )),
         WithValue::Spawned(site, named, mark) => {
-            done_number(spawned(m, site, named, e, x, mark, st))
+            done_number(spawned(program, site, named, expr, x, mark, st))
         }
         WithValue::Performs(site, word) => done_number(value_called(site, word, x, st)),
         WithValue::Negated(site) => done_number(resulting(
             site,
-            negated(width_of(promoted(kind_of(m, e))), x),
+            negated(width_of(promoted(kind_of(program, expr))), x),
             st,
         )),
-        WithValue::Inverted => done_number(inverted(m, e, x, st)),
+        WithValue::Inverted => done_number(inverted(program, expr, x, st)),
         WithValue::Complemented => Ok(Plan::Done(Value::Number(complement(x)))),
         WithValue::AndLeft(right) => by_truth(
-            tested_value(m, e, x, st),
+            tested_value(program, expr, x, st),
             Plan::Goes(Task::Eval(right), Rest::Value(right, WithValue::TruthOf)),
             Plan::Done(Value::Number(0)),
         ),
         WithValue::OrLeft(right) => by_truth(
-            tested_value(m, e, x, st),
+            tested_value(program, expr, x, st),
             Plan::Done(Value::Number(1)),
             Plan::Goes(Task::Eval(right), Rest::Value(right, WithValue::TruthOf)),
         ),
-        WithValue::TruthOf => done_number(truth_of(m, e, x, st)),
+        WithValue::TruthOf => done_number(truth_of(program, expr, x, st)),
         WithValue::LeftOperand(operation, right) => then(
-            held(m, e, x, st),
+            held(program, expr, x, st),
             Plan::Goes(
                 Task::Eval(right),
                 Rest::Value(right, WithValue::RightOperand(operation, x)),
             ),
         ),
         WithValue::RightOperand(operation, left) => {
-            done_number(joined(m, operation, left, e, x, st))
+            done_number(joined(program, operation, left, expr, x, st))
         }
-        WithValue::Fitted(kind) => done_number(fitted(kind, e, x, st)),
+        WithValue::Fitted(kind) => done_number(fitted(kind, expr, x, st)),
         WithValue::Made(site, target, written) => {
-            done_number(made(m, site, target, x, written, st))
+            done_number(made(program, site, target, x, written, st))
         }
         WithValue::PointerBase(site, index) => then(
-            based(m, site, e, x, st),
+            based(program, site, expr, x, st),
             Plan::Goes(
                 Task::Eval(index),
-                Rest::Number(WithNumber::PointerElement(site, e, x)),
+                Rest::Number(WithNumber::PointerElement(site, expr, x)),
             ),
         ),
-        WithValue::Based(site) => done_place(first_behind(m, site, e, x, st)),
-        WithValue::Dropped => done_step(let_go(m, e, x, st)),
-        WithValue::Returns(kind, site) => done_flow(returned(kind, site, e, x, st)),
+        WithValue::Based(site) => done_place(first_behind(program, site, expr, x, st)),
+        WithValue::Dropped => done_step(let_go(program, expr, x, st)),
+        WithValue::Returns(kind, site) => done_flow(returned(kind, site, expr, x, st)),
     }
 }
 
 fn with_number<'a>(
-    m: &'a Moded,
+    program: &'a Moded,
     rest: WithNumber<'a>,
     x: i64,
     st: &mut State,
 ) -> Result<Plan<'a>, End>
-    ensures means { (on_call : Calls) → Plans on_call m.now (view_state st.old) result (view_state st.new) (number_means m.now rest.entry x) }
+    ensures means { (on_call : Calls) → Plans on_call program.now (view_state st.old) result (view_state st.new) (number_means program.now rest.entry x) }
     ensures fits { IfOk result (Fits 15) }
     ensures fuel { st.new.fuel ≤ st.old.fuel }
 {
     match rest {
         WithNumber::ArrayElement(site, a, base) => {
-            done_place(element_in(m, site, a, base, x, st))
+            done_place(element_in(program, site, a, base, x, st))
         }
         WithNumber::PointerElement(site, a, pointer) => {
-            done_place(element_behind(m, site, a, pointer, x, st))
+            done_place(element_behind(program, site, a, pointer, x, st))
         }
-        WithNumber::Stored(e, place, mark) => done_step(stored_at(m, e, place, x, mark, st)),
-        WithNumber::Initialised(declaration) => { done_step(initialised(m, declaration, x, st)) }
+        WithNumber::Stored(e, place, mark) => done_step(stored_at(program, e, place, x, mark, st)),
+        WithNumber::Initialised(declaration) => {
+            done_step(initialised(program, declaration, x, st))
+        }
     }
 }
 
 fn taken(
-    m: &Moded,
+    program: &Moded,
     span: Span,
     kind: TakeKind,
-    e: &Expr,
+    expr: &Expr,
     place: Place,
     mark: usize,
     st: &mut State,
 ) -> Result<i64, End>
-    ensures does { Does (view_state st.old) result (view_state st.new) (ends_above mark (taken_from m.now.typed span.first (span_of (view_expr e.now)).first (cell_at m.now (view_expr e.now)) kind (view_place place))) }
+    ensures does { Does (view_state st.old) result (view_state st.new) (ends_above mark (taken_from program.now.typed span.first (span_of (view_expr expr.now)).first (cell_at program.now (view_expr expr.now)) kind (view_place place))) }
     ensures fuel { st.new.fuel ≤ st.old.fuel }
 {
-    let site = e.span().first;
+    let site = expr.span().first;
     end_above(
-        taken_from(m, span.first, site, cell_of(m, e), kind, place, st),
+        taken_from(
+            program,
+            span.first,
+            site,
+            cell_of(program, expr),
+            kind,
+            place,
+            st,
+        ),
         mark,
         st,
     )
 }
 
 fn freed<'a>(
-    m: &'a Moded,
+    program: &'a Moded,
     span: Span,
-    e: &'a Expr,
+    expr: &'a Expr,
     place: Place,
     mark: usize,
     st: &mut State,
 ) -> Result<Plan<'a>, End>
-    ensures means { (on_call : Calls) → Plans on_call m.now (view_state st.old) result (view_state st.new) (place_means on_call m.now (view_expr e.now) (Frees span mark) (view_place place)) }
+    ensures means { (on_call : Calls) → Plans on_call program.now (view_state st.old) result (view_state st.new) (place_means on_call program.now (view_expr expr.now) (Frees span mark) (view_place place)) }
     ensures fits { IfOk result (Fits 15) }
     ensures fuel { st.new.fuel ≤ st.old.fuel }
 {
-    match taken(m, span, TakeKind::Free, e, place, mark, st) {
-        Ok(value) => done_number(freed_with(e.span().first, value, st)),
+    match taken(program, span, TakeKind::Free, expr, place, mark, st) {
+        Ok(value) => done_number(freed_with(expr.span().first, value, st)),
         Err(end) => Err(end),
     }
 }
 
 fn cast<'a>(
-    m: &'a Moded,
+    program: &'a Moded,
     span: Span,
-    e: &'a Expr,
+    expr: &'a Expr,
     place: Place,
     mark: usize,
     st: &mut State,
 ) -> Result<Plan<'a>, End>
-    ensures means { (on_call : Calls) → Plans on_call m.now (view_state st.old) result (view_state st.new) (place_means on_call m.now (view_expr e.now) (Casts span mark) (view_place place)) }
+    ensures means { (on_call : Calls) → Plans on_call program.now (view_state st.old) result (view_state st.new) (place_means on_call program.now (view_expr expr.now) (Casts span mark) (view_place place)) }
     ensures fits { IfOk result (Fits 15) }
     ensures fuel { st.new.fuel ≤ st.old.fuel }
 {
-    match taken(m, span, TakeKind::Cast, e, place, mark, st) {
-        Ok(value) => done_number(cast_unless_null(m, span, e, value, st)),
+    match taken(program, span, TakeKind::Cast, expr, place, mark, st) {
+        Ok(value) => done_number(cast_unless_null(program, span, expr, value, st)),
         Err(end) => Err(end),
     }
 }
 
 fn with_place<'a>(
-    m: &'a Moded,
-    e: &'a Expr,
+    program: &'a Moded,
+    expr: &'a Expr,
     rest: WithPlace<'a>,
     place: Place,
     st: &mut State,
 ) -> Result<Plan<'a>, End>
-    ensures means { (on_call : Calls) → Plans on_call m.now (view_state st.old) result (view_state st.new) (place_means on_call m.now (view_expr e.now) rest.entry (view_place place)) }
+    ensures means { (on_call : Calls) → Plans on_call program.now (view_state st.old) result (view_state st.new) (place_means on_call program.now (view_expr expr.now) rest.entry (view_place place)) }
     ensures fits { IfOk result (Fits 15) }
     ensures fuel { st.new.fuel ≤ st.old.fuel }
 {
@@ -194,40 +206,44 @@ fn with_place<'a>(
         WithPlace::Unlocks(site, mark) => {
             done_number(zero_behind(end_step(unlock_call(site, place, st), mark, st)))
         }
-        WithPlace::Frees(span, mark) => freed(m, span, e, place, mark, st),
-        WithPlace::Casts(span, mark) => cast(m, span, e, place, mark, st),
+        WithPlace::Frees(span, mark) => freed(program, span, expr, place, mark, st),
+        WithPlace::Casts(span, mark) => cast(program, span, expr, place, mark, st),
         WithPlace::Fetched(mark) => {
-            done_number(end_above(place_fetched(m, e, place, st), mark, st))
+            done_number(end_above(place_fetched(program, expr, place, st), mark, st))
         }
         WithPlace::ArrayBase(site, index) => Ok(Plan::Goes(
             Task::Eval(index),
-            Rest::Number(WithNumber::ArrayElement(site, e, place)),
+            Rest::Number(WithNumber::ArrayElement(site, expr, place)),
         )),
         WithPlace::FieldIn(named) => {
-            done_place(field_in(field_place_named(m.typed(), named), place, st))
+            done_place(field_in(field_place_named(program.typed(), named), place, st))
         }
         WithPlace::Assigned(right, mark) => Ok(Plan::Goes(
-            Task::Right(kind_of(m, e), pointed(m, row_of(m.typed(), e)), right),
-            Rest::Number(WithNumber::Stored(e, place, mark)),
+            Task::Right(
+                kind_of(program, expr),
+                pointed(program, row_of(program.typed(), expr)),
+                right,
+            ),
+            Rest::Number(WithNumber::Stored(expr, place, mark)),
         )),
     }
 }
 
 /// What goes on with this value.
 pub fn resume<'a>(
-    m: &'a Moded,
+    program: &'a Moded,
     rest: Rest<'a>,
     value: Value,
     st: &mut State,
 ) -> Result<Plan<'a>, End>
-    ensures means { (on_call : Calls) → Plans on_call m.now (view_state st.old) result (view_state st.new) (rest_means on_call m.now rest.entry (view_value value)) }
+    ensures means { (on_call : Calls) → Plans on_call program.now (view_state st.old) result (view_state st.new) (rest_means on_call program.now rest.entry (view_value value)) }
     ensures fits { IfOk result (Fits (limit rest.entry)) }
     ensures fuel { st.new.fuel ≤ st.old.fuel }
 {
     match rest {
         Rest::Same => Ok(Plan::Done(value)),
-        Rest::Value(e, rest) => with_value(m, e, rest, number_in(value), st),
-        Rest::Place(e, rest) => with_place(m, e, rest, place_in(value), st),
-        Rest::Number(rest) => with_number(m, rest, number_in(value), st),
+        Rest::Value(e, rest) => with_value(program, e, rest, number_in(value), st),
+        Rest::Place(e, rest) => with_place(program, e, rest, place_in(value), st),
+        Rest::Number(rest) => with_number(program, rest, number_in(value), st),
     }
 }

@@ -27,19 +27,19 @@ use sharc_tree::token::{Site, Span};
 use sharc_tree::tree::{Declaration, Expr, ForFirst, Local, Right, Simple, WrittenType};
 
 fn counted<'a>(
-    m: &'a Moded,
+    program: &'a Moded,
     target: Sharing<'a>,
     span: Span,
     count: &'a Option<Expr>,
     written: &'a WrittenType,
     st: &mut State,
 ) -> Result<Plan<'a>, End>
-    ensures means { (on_call : Calls) (kind : KindMeant) → Plans on_call m.now (view_state st.old) result (view_state st.new) (inside (gives number (right_value on_call m.now kind (view_sharing target.entry) (malloc span (view_option view_expr count.now) written.now)))) }
+    ensures means { (on_call : Calls) (kind : KindMeant) → Plans on_call program.now (view_state st.old) result (view_state st.new) (inside (gives number (right_value on_call program.now kind (view_sharing target.entry) (malloc span (view_option view_expr count.now) written.now)))) }
     ensures fits { IfOk result (Fits 15) }
     ensures fuel { st.new.fuel ≤ st.old.fuel }
 {
     match count {
-        None => done_number(made(m, span.first, target, 1, written, st)),
+        None => done_number(made(program, span.first, target, 1, written, st)),
         Some(e) => Ok(Plan::Goes(
             Task::Eval(e),
             Rest::Value(e, WithValue::Made(span.first, target, written)),
@@ -48,37 +48,37 @@ fn counted<'a>(
 }
 
 fn begin_malloc<'a>(
-    m: &'a Moded,
+    program: &'a Moded,
     target: Sharing<'a>,
     span: Span,
     count: &'a Option<Expr>,
     written: &'a WrittenType,
     st: &mut State,
 ) -> Result<Plan<'a>, End>
-    ensures means { (on_call : Calls) (kind : KindMeant) → Plans on_call m.now (view_state st.old) result (view_state st.new) (gives number (right_value on_call m.now kind (view_sharing target.entry) (malloc span (view_option view_expr count.now) written.now))) }
+    ensures means { (on_call : Calls) (kind : KindMeant) → Plans on_call program.now (view_state st.old) result (view_state st.new) (gives number (right_value on_call program.now kind (view_sharing target.entry) (malloc span (view_option view_expr count.now) written.now))) }
     ensures begins { IfOk result (Begins 2 1 st.old.fuel st.new.fuel) }
 {
     match enter(st) {
-        Ok(()) => counted(m, target, span, count, written, st),
+        Ok(()) => counted(program, target, span, count, written, st),
         Err(end) => Err(end),
     }
 }
 
 /// What stands right of `=`.
 pub fn begin_right<'a>(
-    m: &'a Moded,
+    program: &'a Moded,
     kind: Kind<'a>,
     target: Sharing<'a>,
     right: &'a Right,
     st: &mut State,
 ) -> Result<Plan<'a>, End>
-    ensures means { (on_call : Calls) → Plans on_call m.now (view_state st.old) result (view_state st.new) (gives number (right_value on_call m.now (view_kind kind.entry) (view_sharing target.entry) (view_right right.now))) }
+    ensures means { (on_call : Calls) → Plans on_call program.now (view_state st.old) result (view_state st.new) (gives number (right_value on_call program.now (view_kind kind.entry) (view_sharing target.entry) (view_right right.now))) }
     ensures begins { IfOk result (Begins 2 1 st.old.fuel st.new.fuel) }
 {
     match right {
         Right::Value(e) => Ok(Plan::Goes(Task::Eval(e), Rest::Value(e, WithValue::Fitted(kind)))),
         Right::Malloc(span, count, written) => {
-            begin_malloc(m, target, *span, count, written, st)
+            begin_malloc(program, target, *span, count, written, st)
         }
     }
 }
@@ -99,21 +99,25 @@ pub fn simple_plan<'a>(simple: &'a Simple, st: &State) -> Plan<'a>
 }
 
 fn initial_plan<'a>(
-    m: &'a Moded,
+    program: &'a Moded,
     declaration: &'a Declaration,
     initial: &'a Option<Right>,
 ) -> Plan<'a>
-    ensures means { (on_call : Calls) → Leads on_call m.now (gives as_nothing (initialised on_call m.now declaration.now (view_option view_right initial.now))) result }
+    ensures means { (on_call : Calls) → Leads on_call program.now (gives as_nothing (initialised on_call program.now declaration.now (view_option view_right initial.now))) result }
     ensures fits { Fits 2 result }
 {
     match initial {
         None => Plan::Done(Value::Nothing),
         Some(right) => {
-            let row = declared_row(m.typed(), Reading::Written, declaration.name.site.token);
+            let row = declared_row(
+                program.typed(),
+                Reading::Written,
+                declaration.name.site.token,
+            );
             Plan::Goes(
                 Task::Right(
                     declared_kind(&declaration.written),
-                    pointed(m, Some(row)),
+                    pointed(program, Some(row)),
                     right,
                 ),
                 Rest::Number(WithNumber::Initialised(declaration)),
@@ -123,13 +127,17 @@ fn initial_plan<'a>(
 }
 
 /// A local of a block.
-pub fn begin_local<'a>(m: &'a Moded, local: &'a Local, st: &mut State) -> Result<Plan<'a>, End>
-    ensures means { (on_call : Calls) → Plans on_call m.now (view_state st.old) result (view_state st.new) (gives as_nothing (declared on_call m.now (view_local local.now))) }
+pub fn begin_local<'a>(
+    program: &'a Moded,
+    local: &'a Local,
+    st: &mut State,
+) -> Result<Plan<'a>, End>
+    ensures means { (on_call : Calls) → Plans on_call program.now (view_state st.old) result (view_state st.new) (gives as_nothing (declared on_call program.now (view_local local.now))) }
     ensures begins { IfOk result (Begins 4 0 st.old.fuel st.new.fuel) }
 {
     then(
         begin(&local.declaration, 0, st),
-        initial_plan(m, &local.declaration, &local.initial),
+        initial_plan(program, &local.declaration, &local.initial),
     )
 }
 
@@ -149,13 +157,13 @@ pub fn begin_first<'a>(first: &'a ForFirst, st: &mut State) -> Result<Plan<'a>, 
 }
 
 /// The test of a loop.
-pub fn test_plan<'a>(e: Option<&'a Expr>) -> Plan<'a>
-    ensures means { (on_call : Calls) (m : Assignment) → Leads on_call m (gives test (done_test on_call m (view_test e.entry))) result }
+pub fn test_plan<'a>(condition: Option<&'a Expr>) -> Plan<'a>
+    ensures means { (on_call : Calls) (m : Assignment) → Leads on_call m (gives test (done_test on_call m (view_test condition.entry))) result }
     ensures starts { Starts 3 0 result }
 {
-    match e {
+    match condition {
         None => Plan::Done(Value::Truth(true)),
-        Some(e) => Plan::Goes(Task::Test(e), Rest::Same),
+        Some(condition) => Plan::Goes(Task::Test(condition), Rest::Same),
     }
 }
 

@@ -37,12 +37,12 @@ fn goes_away(name: Site, site: Site, st: &mut State) -> Result<(), End>
     }
 }
 
-fn run_thread(m: &Moded, number: u32, argument: i64, st: &mut State) -> Result<(), End>
-    ensures { Does (view_state st.old) result (view_state st.new) (run_thread m.now (function_at m.now.typed number) argument) }
+fn run_thread(program: &Moded, number: u32, argument: i64, st: &mut State) -> Result<(), End>
+    ensures { Does (view_state st.old) result (view_state st.new) (run_thread program.now (function_at program.now.typed number) argument) }
 {
-    match m.typed().function_at(number) {
+    match program.typed().function_at(number) {
         None => Ok(()),
-        Some(function) => match run_function(m, 255, function, &[argument], st) {
+        Some(function) => match run_function(program, 255, function, &[argument], st) {
             Ok(left) => goes_away(function.name.site, left.0, st),
             Err(end) => Err(end),
         },
@@ -53,13 +53,13 @@ fn run_thread(m: &Moded, number: u32, argument: i64, st: &mut State) -> Result<(
 /// that there is not asks for nothing and is over. Its only fault is want of memory.
 pub fn ask(
     alloc: Global,
-    m: &Moded,
+    program: &Moded,
     function: u32,
     argument: i64,
     answers: &[i64],
     fuel: u64,
 ) -> Result<Asked, AllocError>
-    ensures { IfOk result (λ a. Tells a (asks m.now function argument answers.now fuel)) }
+    ensures { IfOk result (λ a. Tells a (asks program.now function argument answers.now fuel)) }
 {
     let frame = Frame {
         variables: Vec::new(alloc),
@@ -75,7 +75,7 @@ pub fn ask(
         fuel,
         given_up: Vec::new(alloc),
     };
-    match run_thread(m, function, argument, &mut st) {
+    match run_thread(program, function, argument, &mut st) {
         Ok(()) => Ok(told(st, Outcome::Ended)),
         Err(End::Memory) => Err(AllocError),
         Err(End::Stopped(code, site)) => Ok(told(st, Outcome::StoppedX(code, site))),
@@ -130,16 +130,16 @@ fn held_in(alloc: Global, st: State) -> Result<Holds, AllocError>
 /// is spent. Its only fault is want of memory.
 pub fn held(
     alloc: Global,
-    m: &Moded,
+    program: &Moded,
     function: u32,
     argument: i64,
     answers: &[i64],
     fuel: u64,
 ) -> Result<Holds, AllocError>
-    ensures { IfOk result (λ all. all ≡ (asks m.now function argument answers.now fuel).held) }
+    ensures { IfOk result (λ all. all ≡ (asks program.now function argument answers.now fuel).held) }
 {
     let mut st = started(alloc, answers, fuel);
-    match run_thread(m, function, argument, &mut st) {
+    match run_thread(program, function, argument, &mut st) {
         Err(End::Memory) => Err(AllocError),
         Ok(()) => held_in(alloc, st),
         Err(End::Stopped(_, _)) => held_in(alloc, st),

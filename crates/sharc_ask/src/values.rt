@@ -45,23 +45,23 @@ pub enum Flow {
     Returned(Site, i64),
 }
 
-pub fn kind_of<'a>(m: &'a Moded, e: &'a Expr) -> Kind<'a>
-    ensures { view_kind result ≡ kind_at m.now.typed (view_expr e.now) }
+pub fn kind_of<'a>(program: &'a Moded, expr: &'a Expr) -> Kind<'a>
+    ensures { view_kind result ≡ kind_at program.now.typed (view_expr expr.now) }
 {
-    m.typed().kind_at(e)
+    program.typed().kind_at(expr)
 }
 
-pub fn named(m: &Moded, token: u32) -> Named
-    ensures { result ≡ named_at m.now.typed token }
+pub fn named(program: &Moded, token: u32) -> Named
+    ensures { result ≡ named_at program.now.typed token }
 {
-    m.typed().named(token)
+    program.typed().named(token)
 }
 
 // The cells of an element behind an expression.
-pub fn cells_of(m: &Moded, e: &Expr) -> u64
-    ensures { result ≡ element_cells m.now.typed (element_kind (kind_at m.now.typed (view_expr e.now))) }
+pub fn cells_of(program: &Moded, expr: &Expr) -> u64
+    ensures { result ≡ element_cells program.now.typed (element_kind (kind_at program.now.typed (view_expr expr.now))) }
 {
-    element_cells(m.typed(), element_kind(m.typed().kind_at(e)))
+    element_cells(program.typed(), element_kind(program.typed().kind_at(expr)))
 }
 
 pub fn number_named(named: Named) -> u32
@@ -73,11 +73,11 @@ pub fn number_named(named: Named) -> u32
     }
 }
 
-pub fn parameters_named(m: &Moded, named: Named) -> &[Declaration]
-    ensures { result.now ≡ parameters_named m.now.typed named }
+pub fn parameters_named(program: &Moded, named: Named) -> &[Declaration]
+    ensures { result.now ≡ parameters_named program.now.typed named }
 {
     match named {
-        Named::Function(number) => match m.typed().function_at(number) {
+        Named::Function(number) => match program.typed().function_at(number) {
             None => &[],
             Some(function) => function.parameters.as_slice(),
         },
@@ -99,25 +99,31 @@ pub fn rest_of(parameters: &[Declaration]) -> &[Declaration]
 }
 
 // A value that a temporary holds, if it is a pointer.
-pub fn held(m: &Moded, e: &Expr, value: i64, st: &mut State) -> Result<(), End>
-    ensures does { Does (view_state st.old) result (view_state st.new) (holds (kind_at m.now.typed (view_expr e.now)) value) }
+pub fn held(program: &Moded, expr: &Expr, value: i64, st: &mut State) -> Result<(), End>
+    ensures does { Does (view_state st.old) result (view_state st.new) (holds (kind_at program.now.typed (view_expr expr.now)) value) }
     ensures fuel { st.new.fuel ≤ st.old.fuel }
 {
-    hold(kind_of(m, e), value, st)
+    hold(kind_of(program, expr), value, st)
 }
 
-pub fn let_go(m: &Moded, e: &Expr, value: i64, st: &mut State) -> Result<(), End>
-    ensures does { Does (view_state st.old) result (view_state st.new) (drops (kind_at m.now.typed (view_expr e.now)) value) }
+pub fn let_go(program: &Moded, expr: &Expr, value: i64, st: &mut State) -> Result<(), End>
+    ensures does { Does (view_state st.old) result (view_state st.new) (drops (kind_at program.now.typed (view_expr expr.now)) value) }
     ensures fuel { st.new.fuel ≤ st.old.fuel }
 {
-    dropped(kind_of(m, e), value, st)
+    dropped(kind_of(program, expr), value, st)
 }
 
-pub fn based(m: &Moded, site: Site, e: &Expr, pointer: i64, st: &mut State) -> Result<(), End>
-    ensures does { Does (view_state st.old) result (view_state st.new) (based site (kind_at m.now.typed (view_expr e.now)) pointer) }
+pub fn based(
+    program: &Moded,
+    site: Site,
+    expr: &Expr,
+    pointer: i64,
+    st: &mut State,
+) -> Result<(), End>
+    ensures does { Does (view_state st.old) result (view_state st.new) (based site (kind_at program.now.typed (view_expr expr.now)) pointer) }
     ensures fuel { st.new.fuel ≤ st.old.fuel }
 {
-    base(site, kind_of(m, e), pointer, st)
+    base(site, kind_of(program, expr), pointer, st)
 }
 
 pub fn resulting(site: Site, value: Result<i64, u8>, st: &State) -> Result<i64, End>
@@ -130,23 +136,35 @@ pub fn resulting(site: Site, value: Result<i64, u8>, st: &State) -> Result<i64, 
 }
 
 // The value in the place that an expression names.
-pub fn place_fetched(m: &Moded, e: &Expr, place: Place, st: &mut State) -> Result<i64, End>
-    ensures does { Does (view_state st.old) result (view_state st.new) (place_fetched m.now (view_expr e.now) (view_place place)) }
+pub fn place_fetched(program: &Moded, expr: &Expr, place: Place, st: &mut State) -> Result<i64, End>
+    ensures does { Does (view_state st.old) result (view_state st.new) (place_fetched program.now (view_expr expr.now) (view_place place)) }
     ensures fuel { st.new.fuel ≤ st.old.fuel }
 {
-    fetched(m, e.span().first, cell_of(m, e), place, st)
+    fetched(
+        program,
+        expr.span().first,
+        cell_of(program, expr),
+        place,
+        st,
+    )
 }
 
-pub fn named_value(m: &Moded, e: &Expr, site: Site, token: u32, st: &mut State) -> Result<i64, End>
-    ensures does { Does (view_state st.old) result (view_state st.new) (named_value m.now.typed (cell_at m.now (view_expr e.now)) site (named_at m.now.typed token)) }
+pub fn named_value(
+    program: &Moded,
+    expr: &Expr,
+    site: Site,
+    token: u32,
+    st: &mut State,
+) -> Result<i64, End>
+    ensures does { Does (view_state st.old) result (view_state st.new) (named_value program.now.typed (cell_at program.now (view_expr expr.now)) site (named_at program.now.typed token)) }
     ensures fuel { st.new.fuel ≤ st.old.fuel }
 {
-    match named(m, token) {
+    match named(program, token) {
         Named::Variable(token) => Ok(value_in(st.frame.variables.as_slice(), token)),
         Named::Global(number) => fetched(
-            m,
+            program,
             site,
-            cell_of(m, e),
+            cell_of(program, expr),
             Place::Cell(Object::Global(number), 0, 0),
             st,
         ),
@@ -198,22 +216,22 @@ pub fn freed_unless_null(site: Site, value: i64, st: &mut State) -> Result<(), E
 }
 
 pub fn cast_unless_null(
-    m: &Moded,
+    program: &Moded,
     span: Span,
-    e: &Expr,
+    expr: &Expr,
     value: i64,
     st: &mut State,
 ) -> Result<i64, End>
-    ensures does { Does (view_state st.old) result (view_state st.new) (if is_null value then give value else cast_to m.now.typed (span_of (view_expr e.now)).first (pointed m.now (Some (cast_row m.now.typed span))) value) }
+    ensures does { Does (view_state st.old) result (view_state st.new) (if is_null value then give value else cast_to program.now.typed (span_of (view_expr expr.now)).first (pointed program.now (Some (cast_row program.now.typed span))) value) }
     ensures fuel { st.new.fuel ≤ st.old.fuel }
 {
     if is_zero(value) {
         Ok(value)
     } else {
         cast_to(
-            m,
-            e.span().first,
-            pointed(m, Some(cast_row(m.typed(), span))),
+            program,
+            expr.span().first,
+            pointed(program, Some(cast_row(program.typed(), span))),
             value,
             st,
         )
@@ -246,20 +264,20 @@ pub fn logic_of(operator: BinaryOperator) -> Option<bool>
 }
 
 pub fn made(
-    m: &Moded,
+    program: &Moded,
     site: Site,
     target: Sharing<'_>,
     elements: i64,
     written: &WrittenType,
     st: &mut State,
 ) -> Result<i64, End>
-    ensures does { Does (view_state st.old) result (view_state st.new) (made m.now.typed site (view_sharing target.entry) elements written.now) }
+    ensures does { Does (view_state st.old) result (view_state st.new) (made program.now.typed site (view_sharing target.entry) elements written.now) }
     ensures fuel { st.new.fuel ≤ st.old.fuel }
 {
     match unless(is_positive(elements), 12, site, st) {
         Ok(()) => {
-            let cells = element_cells(m.typed(), declared_kind(written));
-            let mode = instance_mode(m.typed(), st.frame.variables.as_slice(), target);
+            let cells = element_cells(program.typed(), declared_kind(written));
+            let mode = instance_mode(program.typed(), st.frame.variables.as_slice(), target);
             ask_event(site, Act::New(cells, elements.unsigned_abs(), mode), st)
         }
         Err(end) => Err(end),

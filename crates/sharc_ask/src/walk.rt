@@ -34,24 +34,24 @@ use sharc_names::kind::{Kind, declared_kind};
 use sharc_tree::token::Site;
 use sharc_tree::tree::{Declaration, Expr, ForFirst, FunctionDefinition, Simple, Stmt};
 
-fn begin<'a>(m: &'a Moded, task: Task<'a>, st: &mut State) -> Result<Plan<'a>, End>
-    ensures means { (on_call : Calls) → Plans on_call m.now (view_state st.old) result (view_state st.new) (task_means on_call m.now task.entry) }
+fn begin<'a>(program: &'a Moded, task: Task<'a>, st: &mut State) -> Result<Plan<'a>, End>
+    ensures means { (on_call : Calls) → Plans on_call program.now (view_state st.old) result (view_state st.new) (task_means on_call program.now task.entry) }
     ensures begins { IfOk result (Begins (rank task.entry) (cost task.entry) st.old.fuel st.new.fuel) }
 {
     match task {
-        Task::Eval(e) => begin_eval(m, e, st),
+        Task::Eval(e) => begin_eval(program, e, st),
         Task::Test(e) => Ok(Plan::Goes(Task::Eval(e), Rest::Value(e, WithValue::Tested))),
         Task::Argument(parameters, e) => Ok(Plan::Goes(
             Task::Eval(e),
             Rest::Value(e, WithValue::Passed(parameters)),
         )),
-        Task::PlaceOf(site, e) => begin_place(m, site, e, st),
-        Task::Index(site, a, i) => Ok(index_plan(m, site, a, i)),
+        Task::PlaceOf(site, e) => begin_place(program, site, e, st),
+        Task::Index(site, a, i) => Ok(index_plan(program, site, a, i)),
         Task::Pointee(site, a) => Ok(pointee_plan(site, a)),
         Task::Field(site, a, access, named) => Ok(field_plan(site, a, access, named)),
-        Task::Right(kind, target, right) => begin_right(m, kind, target, right, st),
+        Task::Right(kind, target, right) => begin_right(program, kind, target, right, st),
         Task::Simple(simple) => Ok(simple_plan(simple, st)),
-        Task::Declare(local) => begin_local(m, local, st),
+        Task::Declare(local) => begin_local(program, local, st),
         Task::First(first) => begin_first(first, st),
         Task::LoopTest(test) => Ok(test_plan(test)),
         Task::Return(kind, site, value) => Ok(return_plan(kind, site, value)),
@@ -59,18 +59,18 @@ fn begin<'a>(m: &'a Moded, task: Task<'a>, st: &mut State) -> Result<Plan<'a>, E
 }
 
 #[cycle(walk)]
-fn run<'a>(m: &'a Moded, frames: u32, plan: Plan<'a>, st: &mut State) -> Result<Value, End>
+fn run<'a>(program: &'a Moded, frames: u32, plan: Plan<'a>, st: &mut State) -> Result<Value, End>
     requires { Sound plan }
-    ensures does { DoesAs view_value (view_state st.old) result (view_state st.new) (plan_means (calls m.now frames) m.now plan.entry) }
+    ensures does { DoesAs view_value (view_state st.old) result (view_state st.new) (plan_means (calls program.now frames) program.now plan.entry) }
     ensures fuel { IfOk result (λ _. st.new.fuel + plan_cost plan.entry ≤ st.old.fuel) }
 {
     match plan {
         Plan::Done(value) => Ok(value),
-        Plan::Calls(call) => numbered(calling(m, frames, call, st)),
-        Plan::Goes(task, rest) => match begin(m, task, st) {
-            Ok(first) => match run(m, frames, first, st) {
-                Ok(value) => match resume(m, rest, value, st) {
-                    Ok(later) => run(m, frames, later, st),
+        Plan::Calls(call) => numbered(calling(program, frames, call, st)),
+        Plan::Goes(task, rest) => match begin(program, task, st) {
+            Ok(first) => match run(program, frames, first, st) {
+                Ok(value) => match resume(program, rest, value, st) {
+                    Ok(later) => run(program, frames, later, st),
                     Err(end) => Err(end),
                 },
                 Err(end) => Err(end),
@@ -82,58 +82,63 @@ fn run<'a>(m: &'a Moded, frames: u32, plan: Plan<'a>, st: &mut State) -> Result<
 
 // A task alone.
 #[cycle(walk)]
-fn alone<'a>(m: &'a Moded, frames: u32, task: Task<'a>, st: &mut State) -> Result<Value, End>
-    ensures does { DoesAs view_value (view_state st.old) result (view_state st.new) (task_means (calls m.now frames) m.now task.entry) }
+fn alone<'a>(program: &'a Moded, frames: u32, task: Task<'a>, st: &mut State) -> Result<Value, End>
+    ensures does { DoesAs view_value (view_state st.old) result (view_state st.new) (task_means (calls program.now frames) program.now task.entry) }
     ensures fuel { IfOk result (λ _. st.new.fuel + cost task.entry ≤ st.old.fuel) }
 {
-    run(m, frames, Plan::Goes(task, Rest::Same), st)
+    run(program, frames, Plan::Goes(task, Rest::Same), st)
 }
 
 #[cycle(walk)]
 fn argument<'a>(
-    m: &'a Moded,
+    program: &'a Moded,
     frames: u32,
     parameters: &'a [Declaration],
-    e: &'a Expr,
+    expr: &'a Expr,
     st: &mut State,
 ) -> Result<i64, End>
-    ensures does { Does (view_state st.old) result (view_state st.new) (passed m.now.typed (declared_kinds parameters.now) (view_expr e.now) (eval (calls m.now frames) m.now (view_expr e.now))) }
+    ensures does { Does (view_state st.old) result (view_state st.new) (passed program.now.typed (declared_kinds parameters.now) (view_expr expr.now) (eval (calls program.now frames) program.now (view_expr expr.now))) }
     ensures fuel { IfOk result (λ _. st.new.fuel + 1 ≤ st.old.fuel) }
 {
-    number_behind(alone(m, frames, Task::Argument(parameters, e), st))
+    number_behind(alone(program, frames, Task::Argument(parameters, expr), st))
 }
 
 #[cycle(walk)]
-fn tested<'a>(m: &'a Moded, frames: u32, e: &'a Expr, st: &mut State) -> Result<bool, End>
-    ensures does { Does (view_state st.old) result (view_state st.new) (tested m.now.typed (view_expr e.now) (eval (calls m.now frames) m.now (view_expr e.now))) }
+fn tested<'a>(program: &'a Moded, frames: u32, expr: &'a Expr, st: &mut State) -> Result<bool, End>
+    ensures does { Does (view_state st.old) result (view_state st.new) (tested program.now.typed (view_expr expr.now) (eval (calls program.now frames) program.now (view_expr expr.now))) }
     ensures fuel { IfOk result (λ _. st.new.fuel + 1 ≤ st.old.fuel) }
 {
-    test_behind(alone(m, frames, Task::Test(e), st))
+    test_behind(alone(program, frames, Task::Test(expr), st))
 }
 
 #[cycle(walk)]
-fn simple<'a>(m: &'a Moded, frames: u32, simple: &'a Simple, st: &mut State) -> Result<(), End>
-    ensures does { Does (view_state st.old) result (view_state st.new) (done_simple (calls m.now frames) m.now (view_simple simple.now)) }
+fn simple<'a>(
+    program: &'a Moded,
+    frames: u32,
+    simple: &'a Simple,
+    st: &mut State,
+) -> Result<(), End>
+    ensures does { Does (view_state st.old) result (view_state st.new) (done_simple (calls program.now frames) program.now (view_simple simple.now)) }
     ensures fuel { IfOk result (λ _. st.new.fuel ≤ st.old.fuel) }
 {
-    step_behind(alone(m, frames, Task::Simple(simple), st))
+    step_behind(alone(program, frames, Task::Simple(simple), st))
 }
 
 #[cycle(walk)]
 fn arguments<'a>(
-    m: &'a Moded,
+    program: &'a Moded,
     frames: u32,
     parameters: &'a [Declaration],
     all: &'a [Expr],
     st: &mut State,
 ) -> Result<Vec<i64>, End>
-    ensures does { DoesAs (λ v. v.items) (view_state st.old) result (view_state st.new) (eval_all (calls m.now frames) m.now (declared_kinds parameters.now) (view_arguments all.now)) }
+    ensures does { DoesAs (λ v. v.items) (view_state st.old) result (view_state st.new) (eval_all (calls program.now frames) program.now (declared_kinds parameters.now) (view_arguments all.now)) }
     ensures fuel { IfOk result (λ _. st.new.fuel ≤ st.old.fuel) }
 {
     match all {
         [] => Ok(Vec::new(st.alloc)),
-        [first, rest @ ..] => match argument(m, frames, parameters, first, st) {
-            Ok(value) => match arguments(m, frames, rest_of(parameters), rest, st) {
+        [first, rest @ ..] => match argument(program, frames, parameters, first, st) {
+            Ok(value) => match arguments(program, frames, rest_of(parameters), rest, st) {
                 Ok(values) => match with_first(value, values) {
                     Some(all) => Ok(all),
                     None => Err(End::Memory),
@@ -147,17 +152,17 @@ fn arguments<'a>(
 
 #[cycle(walk)]
 fn called<'a>(
-    m: &'a Moded,
+    program: &'a Moded,
     frames: u32,
     call: Call<'a>,
     values: &[i64],
     st: &mut State,
 ) -> Result<i64, End>
-    ensures does { Does (view_state st.old) result (view_state st.new) (called (calls m.now frames) call.entry.site call.entry.named call.entry.name.now values.now) }
+    ensures does { Does (view_state st.old) result (view_state st.new) (called (calls program.now frames) call.entry.site call.entry.named call.entry.name.now values.now) }
     ensures fuel { IfOk result (λ _. st.new.fuel ≤ st.old.fuel) }
 {
     match call.named {
-        Named::Function(number) => function(m, frames, number, call.site, values, st),
+        Named::Function(number) => function(program, frames, number, call.site, values, st),
         Named::Known => zero_behind(condition_call(call.site, call.name, values, st)),
         Named::Struct(_) => Ok(0),
         Named::Global(_) => Ok(0),
@@ -167,36 +172,40 @@ fn called<'a>(
 }
 
 #[cycle(walk)]
-fn calling<'a>(m: &'a Moded, frames: u32, call: Call<'a>, st: &mut State) -> Result<i64, End>
-    ensures does { Does (view_state st.old) result (view_state st.new) (calling (calls m.now frames) m.now call.entry.site call.entry.named call.entry.name.now (view_arguments call.entry.arguments.now)) }
+fn calling<'a>(program: &'a Moded, frames: u32, call: Call<'a>, st: &mut State) -> Result<i64, End>
+    ensures does { Does (view_state st.old) result (view_state st.new) (calling (calls program.now frames) program.now call.entry.site call.entry.named call.entry.name.now (view_arguments call.entry.arguments.now)) }
     ensures fuel { IfOk result (λ _. st.new.fuel ≤ st.old.fuel) }
 {
     let mark = st.frame.temporaries.len();
     match arguments(
-        m,
+        program,
         frames,
-        parameters_named(m, call.named),
+        parameters_named(program, call.named),
         call.arguments,
         st,
     ) {
-        Ok(values) => end_above(called(m, frames, call, values.as_slice(), st), mark, st),
+        Ok(values) => end_above(
+            called(program, frames, call, values.as_slice(), st),
+            mark,
+            st,
+        ),
         Err(end) => Err(end),
     }
 }
 
 #[cycle(walk)]
 fn exec_all<'a>(
-    m: &'a Moded,
+    program: &'a Moded,
     frames: u32,
     kind: Kind<'a>,
     all: &'a [Stmt],
     st: &mut State,
 ) -> Result<Flow, End>
-    ensures does { DoesAs view_flow (view_state st.old) result (view_state st.new) (exec_all (calls m.now frames) m.now (view_kind kind.entry) (view_statements all.now)) }
+    ensures does { DoesAs view_flow (view_state st.old) result (view_state st.new) (exec_all (calls program.now frames) program.now (view_kind kind.entry) (view_statements all.now)) }
     ensures fuel { IfOk result (λ _. st.new.fuel ≤ st.old.fuel) }
 {
     for statement in all {
-        match exec(m, frames, kind, statement, st) {
+        match exec(program, frames, kind, statement, st) {
             Ok(Flow::Next) => {}
             Ok(Flow::Continued) => return Ok(Flow::Continued),
             Ok(Flow::Broken) => return Ok(Flow::Broken),
@@ -209,34 +218,40 @@ fn exec_all<'a>(
 
 #[cycle(walk)]
 fn block<'a>(
-    m: &'a Moded,
+    program: &'a Moded,
     frames: u32,
     kind: Kind<'a>,
     all: &'a [Stmt],
     st: &mut State,
 ) -> Result<Flow, End>
-    ensures does { DoesAs view_flow (view_state st.old) result (view_state st.new) (in_block (exec_all (calls m.now frames) m.now (view_kind kind.entry) (view_statements all.now))) }
+    ensures does { DoesAs view_flow (view_state st.old) result (view_state st.new) (in_block (exec_all (calls program.now frames) program.now (view_kind kind.entry) (view_statements all.now))) }
     ensures fuel { IfOk result (λ _. st.new.fuel ≤ st.old.fuel) }
 {
     let mark = st.frame.variables.len();
-    end_block(exec_all(m, frames, kind, all, st), mark, st)
+    end_block(exec_all(program, frames, kind, all, st), mark, st)
 }
 
 #[cycle(walk)]
-fn goes_on<'a>(m: &'a Moded, frames: u32, l: Loop<'a>, st: &mut State) -> Result<bool, End>
-    ensures does { Does (view_state st.old) result (view_state st.new) (loop_test (calls m.now frames) m.now l.entry) }
+fn goes_on<'a>(program: &'a Moded, frames: u32, l: Loop<'a>, st: &mut State) -> Result<bool, End>
+    ensures does { Does (view_state st.old) result (view_state st.new) (loop_test (calls program.now frames) program.now l.entry) }
     ensures fuel { IfOk result (λ _. st.new.fuel ≤ st.old.fuel) }
 {
-    test_behind(alone(m, frames, Task::LoopTest(l.test), st))
+    test_behind(alone(program, frames, Task::LoopTest(l.test), st))
 }
 
 #[cycle(walk)]
-fn turns<'a>(m: &'a Moded, frames: u32, n: u64, l: Loop<'a>, st: &mut State) -> Result<Flow, End>
-    ensures does { DoesAs view_flow (view_state st.old) result (view_state st.new) (turns n (loop_test (calls m.now frames) m.now l.entry) (loop_step (calls m.now frames) m.now l.entry) (loop_body (calls m.now frames) m.now l.entry)) }
+fn turns<'a>(
+    program: &'a Moded,
+    frames: u32,
+    number: u64,
+    l: Loop<'a>,
+    st: &mut State,
+) -> Result<Flow, End>
+    ensures does { DoesAs view_flow (view_state st.old) result (view_state st.new) (turns number (loop_test (calls program.now frames) program.now l.entry) (loop_step (calls program.now frames) program.now l.entry) (loop_body (calls program.now frames) program.now l.entry)) }
     ensures fuel { IfOk result (λ _. st.new.fuel ≤ st.old.fuel) }
 {
     for _ in 0..n {
-        match turn(m, frames, l, st) {
+        match turn(program, frames, l, st) {
             Ok(None) => {}
             Ok(Some(flow)) => return Ok(flow),
             Err(end) => return Err(end),
@@ -247,14 +262,19 @@ fn turns<'a>(m: &'a Moded, frames: u32, n: u64, l: Loop<'a>, st: &mut State) -> 
 
 // One turn of a loop: how the loop is left by it, `None` where another turn follows.
 #[cycle(walk)]
-fn turn<'a>(m: &'a Moded, frames: u32, l: Loop<'a>, st: &mut State) -> Result<Option<Flow>, End>
-    ensures does { DoesAs view_left (view_state st.old) result (view_state st.new) (turn (loop_test (calls m.now frames) m.now l.entry) (loop_step (calls m.now frames) m.now l.entry) (loop_body (calls m.now frames) m.now l.entry)) }
+fn turn<'a>(
+    program: &'a Moded,
+    frames: u32,
+    l: Loop<'a>,
+    st: &mut State,
+) -> Result<Option<Flow>, End>
+    ensures does { DoesAs view_left (view_state st.old) result (view_state st.new) (turn (loop_test (calls program.now frames) program.now l.entry) (loop_step (calls program.now frames) program.now l.entry) (loop_body (calls program.now frames) program.now l.entry)) }
     ensures fuel { IfOk result (λ _. st.new.fuel ≤ st.old.fuel) }
 {
-    match goes_on(m, frames, l, st) {
+    match goes_on(program, frames, l, st) {
         Ok(goes_on) => {
             if goes_on {
-                around(m, frames, l, st)
+                around(program, frames, l, st)
             } else {
                 Ok(Some(Flow::Next))
             }
@@ -265,13 +285,18 @@ fn turn<'a>(m: &'a Moded, frames: u32, l: Loop<'a>, st: &mut State) -> Result<Op
 
 // The body of a loop, and what is behind it.
 #[cycle(walk)]
-fn around<'a>(m: &'a Moded, frames: u32, l: Loop<'a>, st: &mut State) -> Result<Option<Flow>, End>
-    ensures does { DoesAs view_left (view_state st.old) result (view_state st.new) (around (loop_step (calls m.now frames) m.now l.entry) (loop_body (calls m.now frames) m.now l.entry)) }
+fn around<'a>(
+    program: &'a Moded,
+    frames: u32,
+    l: Loop<'a>,
+    st: &mut State,
+) -> Result<Option<Flow>, End>
+    ensures does { DoesAs view_left (view_state st.old) result (view_state st.new) (around (loop_step (calls program.now frames) program.now l.entry) (loop_body (calls program.now frames) program.now l.entry)) }
     ensures fuel { IfOk result (λ _. st.new.fuel ≤ st.old.fuel) }
 {
-    match exec(m, frames, l.kind, l.body, st) {
-        Ok(Flow::Next) => another(m, frames, l, st),
-        Ok(Flow::Continued) => another(m, frames, l, st),
+    match exec(program, frames, l.kind, l.body, st) {
+        Ok(Flow::Next) => another(program, frames, l, st),
+        Ok(Flow::Continued) => another(program, frames, l, st),
         Ok(Flow::Broken) => Ok(Some(Flow::Next)),
         Ok(Flow::Returned(site, value)) => Ok(Some(Flow::Returned(site, value))),
         Err(end) => Err(end),
@@ -279,13 +304,18 @@ fn around<'a>(m: &'a Moded, frames: u32, l: Loop<'a>, st: &mut State) -> Result<
 }
 
 #[cycle(walk)]
-fn another<'a>(m: &'a Moded, frames: u32, l: Loop<'a>, st: &mut State) -> Result<Option<Flow>, End>
-    ensures does { DoesAs view_left (view_state st.old) result (view_state st.new) (another (loop_step (calls m.now frames) m.now l.entry)) }
+fn another<'a>(
+    program: &'a Moded,
+    frames: u32,
+    l: Loop<'a>,
+    st: &mut State,
+) -> Result<Option<Flow>, End>
+    ensures does { DoesAs view_left (view_state st.old) result (view_state st.new) (another (loop_step (calls program.now frames) program.now l.entry)) }
     ensures fuel { IfOk result (λ _. st.new.fuel ≤ st.old.fuel) }
 {
     match l.step {
         None => Ok(None),
-        Some(step) => match simple(m, frames, step, st) {
+        Some(step) => match simple(program, frames, step, st) {
             Ok(()) => Ok(None),
             Err(end) => Err(end),
         },
@@ -294,25 +324,25 @@ fn another<'a>(m: &'a Moded, frames: u32, l: Loop<'a>, st: &mut State) -> Result
 
 #[cycle(walk)]
 fn for_loop<'a>(
-    m: &'a Moded,
+    program: &'a Moded,
     frames: u32,
     first: &'a ForFirst,
     l: Loop<'a>,
     st: &mut State,
 ) -> Result<Flow, End>
-    ensures does { DoesAs view_flow (view_state st.old) result (view_state st.new) (for_loop (calls m.now frames) m.now (view_first first.now) l.entry) }
+    ensures does { DoesAs view_flow (view_state st.old) result (view_state st.new) (for_loop (calls program.now frames) program.now (view_first first.now) l.entry) }
     ensures fuel { IfOk result (λ _. st.new.fuel ≤ st.old.fuel) }
 {
     let mark = st.frame.variables.len();
-    match step_behind(alone(m, frames, Task::First(first), st)) {
-        Ok(()) => end_block(turns(m, frames, st.fuel, l, st), mark, st),
+    match step_behind(alone(program, frames, Task::First(first), st)) {
+        Ok(()) => end_block(turns(program, frames, st.fuel, l, st), mark, st),
         Err(end) => Err(end),
     }
 }
 
 #[cycle(walk)]
 fn choice<'a>(
-    m: &'a Moded,
+    program: &'a Moded,
     frames: u32,
     kind: Kind<'a>,
     test: &'a Expr,
@@ -320,17 +350,17 @@ fn choice<'a>(
     otherwise: Option<&'a Stmt>,
     st: &mut State,
 ) -> Result<Flow, End>
-    ensures does { DoesAs view_flow (view_state st.old) result (view_state st.new) (choice (calls m.now frames) m.now (view_kind kind.entry) (view_expr test.now) (view_stmt body.now) (view_otherwise otherwise.entry)) }
+    ensures does { DoesAs view_flow (view_state st.old) result (view_state st.new) (choice (calls program.now frames) program.now (view_kind kind.entry) (view_expr test.now) (view_stmt body.now) (view_otherwise otherwise.entry)) }
     ensures fuel { IfOk result (λ _. st.new.fuel ≤ st.old.fuel) }
 {
-    match tested(m, frames, test, st) {
+    match tested(program, frames, test, st) {
         Ok(is_true) => {
             if is_true {
-                exec(m, frames, kind, body, st)
+                exec(program, frames, kind, body, st)
             } else {
                 match otherwise {
                     None => Ok(Flow::Next),
-                    Some(otherwise) => exec(m, frames, kind, otherwise, st),
+                    Some(otherwise) => exec(program, frames, kind, otherwise, st),
                 }
             }
         }
@@ -340,32 +370,42 @@ fn choice<'a>(
 
 #[cycle(walk)]
 fn exec<'a>(
-    m: &'a Moded,
+    program: &'a Moded,
     frames: u32,
     kind: Kind<'a>,
     statement: &'a Stmt,
     st: &mut State,
 ) -> Result<Flow, End>
-    ensures does { DoesAs view_flow (view_state st.old) result (view_state st.new) (exec (calls m.now frames) m.now (view_kind kind.entry) (view_stmt statement.now)) }
+    ensures does { DoesAs view_flow (view_state st.old) result (view_state st.new) (exec (calls program.now frames) program.now (view_kind kind.entry) (view_stmt statement.now)) }
     ensures fuel { IfOk result (λ _. st.new.fuel + 1 ≤ st.old.fuel) }
 {
     match enter(st) {
         Ok(()) => match statement {
             Stmt::Empty(_) => Ok(Flow::Next),
-            Stmt::Block(_, all) => block(m, frames, kind, all.as_slice(), st),
-            Stmt::Declare(_, local) => next_behind(alone(m, frames, Task::Declare(local), st)),
-            Stmt::Simple(_, simple) => next_behind(alone(m, frames, Task::Simple(simple), st)),
+            Stmt::Block(_, all) => block(program, frames, kind, all.as_slice(), st),
+            Stmt::Declare(_, local) => next_behind(alone(
+                program,
+                frames,
+                Task::Declare(local),
+                st,
+            )),
+            Stmt::Simple(_, simple) => next_behind(alone(
+                program,
+                frames,
+                Task::Simple(simple),
+                st,
+            )),
             Stmt::Jump(_, jump) => Ok(left_by(*jump)),
             Stmt::Return(span, value) => {
-                flow_behind(alone(m, frames, Task::Return(kind, span.first, value), st))
+                flow_behind(alone(program, frames, Task::Return(kind, span.first, value), st))
             }
-            Stmt::If(_, test, body) => choice(m, frames, kind, test, body, None, st),
+            Stmt::If(_, test, body) => choice(program, frames, kind, test, body, None, st),
             Stmt::IfElse {
                 test,
                 then,
                 otherwise,
                 ..
-            } => choice(m, frames, kind, test, then, Some(otherwise), st),
+            } => choice(program, frames, kind, test, then, Some(otherwise), st),
             Stmt::While(_, test, body) => {
                 let l = Loop {
                     kind,
@@ -373,7 +413,7 @@ fn exec<'a>(
                     step: None,
                     body,
                 };
-                turns(m, frames, st.fuel, l, st)
+                turns(program, frames, st.fuel, l, st)
             }
             Stmt::For(_, head, body) => {
                 let l = Loop {
@@ -382,7 +422,7 @@ fn exec<'a>(
                     step: step_of(head),
                     body,
                 };
-                for_loop(m, frames, &head.first, l, st)
+                for_loop(program, frames, &head.first, l, st)
             }
         },
         Err(end) => Err(end),
@@ -391,36 +431,36 @@ fn exec<'a>(
 
 #[cycle(walk)]
 fn body<'a>(
-    m: &'a Moded,
+    program: &'a Moded,
     frames: u32,
     kind: Kind<'a>,
     all: &'a [Stmt],
     st: &mut State,
 ) -> Result<Flow, End>
-    ensures does { DoesAs view_flow (view_state st.old) result (view_state st.new) (entered (exec_all (calls m.now frames) m.now (view_kind kind.entry) (view_statements all.now))) }
+    ensures does { DoesAs view_flow (view_state st.old) result (view_state st.new) (entered (exec_all (calls program.now frames) program.now (view_kind kind.entry) (view_statements all.now))) }
     ensures fuel { IfOk result (λ _. st.new.fuel ≤ st.old.fuel) }
 {
     match enter(st) {
-        Ok(()) => exec_all(m, frames, kind, all, st),
+        Ok(()) => exec_all(program, frames, kind, all, st),
         Err(end) => Err(end),
     }
 }
 
 #[cycle(walk)]
 fn body_block<'a>(
-    m: &'a Moded,
+    program: &'a Moded,
     frames: u32,
     function: &'a FunctionDefinition,
     values: &[i64],
     st: &mut State,
 ) -> Result<(Site, i64), End>
-    ensures does { Does (view_state st.old) result (view_state st.new) (body_block (calls m.now frames) m.now (view_function function.now) values.now) }
+    ensures does { Does (view_state st.old) result (view_state st.new) (body_block (calls program.now frames) program.now (view_function function.now) values.now) }
     ensures fuel { IfOk result (λ _. st.new.fuel ≤ st.old.fuel) }
 {
     let mark = st.frame.variables.len();
     match begin_parameters(function.parameters.as_slice(), values, st) {
         Ok(()) => match body(
-            m,
+            program,
             frames,
             declared_kind(&function.result),
             function.statements.as_slice(),
@@ -439,17 +479,17 @@ fn body_block<'a>(
 /// A function of a frame of its own: where it is left, and its result.
 #[cycle(walk)]
 pub fn run_function<'a>(
-    m: &'a Moded,
+    program: &'a Moded,
     frames: u32,
     function: &'a FunctionDefinition,
     values: &[i64],
     st: &mut State,
 ) -> Result<(Site, i64), End>
-    ensures does { Does (view_state st.old) result (view_state st.new) (run_function (calls m.now frames) m.now (view_function function.now) values.now) }
+    ensures does { Does (view_state st.old) result (view_state st.new) (run_function (calls program.now frames) program.now (view_function function.now) values.now) }
     ensures fuel { IfOk result (λ _. st.new.fuel ≤ st.old.fuel) }
 {
     match push_frame(pointers_passed(function.parameters.as_slice()), st) {
-        Some(kept) => match body_block(m, frames, function, values, st) {
+        Some(kept) => match body_block(program, frames, function, values, st) {
             Ok(left) => {
                 st.frame = kept.frame;
                 st.below = kept.below;
@@ -463,22 +503,22 @@ pub fn run_function<'a>(
 
 #[cycle(walk)]
 fn function<'a>(
-    m: &'a Moded,
+    program: &'a Moded,
     frames: u32,
     number: u32,
     site: Site,
     values: &[i64],
     st: &mut State,
 ) -> Result<i64, End>
-    ensures does { Does (view_state st.old) result (view_state st.new) (calls m.now frames number site values.now) }
+    ensures does { Does (view_state st.old) result (view_state st.new) (calls program.now frames number site values.now) }
     ensures fuel { IfOk result (λ _. st.new.fuel ≤ st.old.fuel) }
 {
     if frames == 0 {
         return Err(End::Stopped(10, site));
     }
-    match m.typed().function_at(number) {
+    match program.typed().function_at(number) {
         None => Ok(0),
-        Some(function) => match run_function(m, frames - 1, function, values, st) {
+        Some(function) => match run_function(program, frames - 1, function, values, st) {
             Ok(left) => Ok(left.1),
             Err(end) => Err(end),
         },

@@ -68,8 +68,8 @@ fn struct_cells(items: &[Item], name: &[u8]) -> u64
     }
 }
 
-fn base_cells(t: &Typed, root: Root<'_>) -> u64
-    ensures { result ≡ base_cells t.now (view_root root.entry) }
+fn base_cells(typed: &Typed, root: Root<'_>) -> u64
+    ensures { result ≡ base_cells typed.now (view_root root.entry) }
 {
     match root {
         Root::Int => 1,
@@ -77,23 +77,27 @@ fn base_cells(t: &Typed, root: Root<'_>) -> u64
         Root::Long => 1,
         Root::Mutex => 1,
         Root::Void => 1,
-        Root::Struct(name) => struct_cells(t.program().items.as_slice(), name),
+        Root::Struct(name) => struct_cells(typed.program().items.as_slice(), name),
     }
 }
 
-fn cells_behind(t: &Typed, root: Root<'_>, stars: usize) -> u64
-    ensures { result ≡ (if stars == 0 then base_cells t.now (view_root root.entry) else 1) }
+fn cells_behind(typed: &Typed, root: Root<'_>, stars: usize) -> u64
+    ensures { result ≡ (if stars == 0 then base_cells typed.now (view_root root.entry) else 1) }
 {
-    if stars == 0 { base_cells(t, root) } else { 1 }
+    if stars == 0 {
+        base_cells(typed, root)
+    } else {
+        1
+    }
 }
 
 /// The cells of one element.
-pub fn element_cells(t: &Typed, kind: Kind<'_>) -> u64
-    ensures { result ≡ element_cells t.now (view_kind kind.entry) }
+pub fn element_cells(typed: &Typed, kind: Kind<'_>) -> u64
+    ensures { result ≡ element_cells typed.now (view_kind kind.entry) }
 {
     match kind {
-        Kind::Object(root, stars) => cells_behind(t, root, stars),
-        Kind::Array(root, stars) => cells_behind(t, root, stars),
+        Kind::Object(root, stars) => cells_behind(typed, root, stars),
+        Kind::Array(root, stars) => cells_behind(typed, root, stars),
         Kind::Null => 1,
         Kind::Function => 1,
     }
@@ -110,10 +114,10 @@ fn elements_of_form(form: &GlobalForm) -> u64
 }
 
 /// How many elements a global has.
-pub fn global_elements(t: &Typed, number: u32) -> u64
-    ensures { result ≡ global_elements (global_at t.now number) }
+pub fn global_elements(typed: &Typed, number: u32) -> u64
+    ensures { result ≡ global_elements (global_at typed.now number) }
 {
-    match t.global_at(number) {
+    match typed.global_at(number) {
         None => 0,
         Some(global) => elements_of_form(&global.form),
     }
@@ -173,27 +177,27 @@ fn field_place_in(items: &[Item], token: u32) -> u64
 }
 
 /// The place of a field's cell among those of an element.
-pub fn field_place(t: &Typed, token: u32) -> u64
-    ensures { result ≡ field_place t.now token }
+pub fn field_place(typed: &Typed, token: u32) -> u64
+    ensures { result ≡ field_place typed.now token }
 {
-    field_place_in(t.program().items.as_slice(), token)
+    field_place_in(typed.program().items.as_slice(), token)
 }
 
 /// The place of the field that a name names.
-pub fn field_place_named(t: &Typed, named: Named) -> u64
-    ensures { result ≡ field_place_named t.now named }
+pub fn field_place_named(typed: &Typed, named: Named) -> u64
+    ensures { result ≡ field_place_named typed.now named }
 {
     match named {
-        Named::Field(token) => field_place(t, token),
+        Named::Field(token) => field_place(typed, token),
         _ => 0,
     }
 }
 
-fn fields_named(t: &Typed, named: Named) -> &[Declaration]
-    ensures { result.now ≡ fields_named t.now named }
+fn fields_named(typed: &Typed, named: Named) -> &[Declaration]
+    ensures { result.now ≡ fields_named typed.now named }
 {
     match named {
-        Named::Struct(number) => match t.struct_at(number) {
+        Named::Struct(number) => match typed.struct_at(number) {
             None => &[],
             Some(definition) => definition.fields.as_slice(),
         },
@@ -201,19 +205,19 @@ fn fields_named(t: &Typed, named: Named) -> &[Declaration]
     }
 }
 
-fn fields_behind<'a>(t: &'a Typed, declaration: Option<&Declaration>) -> &'a [Declaration]
-    ensures { result.now ≡ fields_behind t.now (option_copied declaration.entry) }
+fn fields_behind<'a>(typed: &'a Typed, declaration: Option<&Declaration>) -> &'a [Declaration]
+    ensures { result.now ≡ fields_behind typed.now (option_copied declaration.entry) }
 {
     match declaration {
         None => &[],
-        Some(declaration) => fields_named(t, t.named(declaration.written.base.token)),
+        Some(declaration) => fields_named(typed, typed.named(declaration.written.base.token)),
     }
 }
 
-fn field_place_behind(t: &Typed, variable: u32, name: &[u8]) -> u64
-    ensures { result ≡ field_place_behind t.now variable name.now }
+fn field_place_behind(typed: &Typed, variable: u32, name: &[u8]) -> u64
+    ensures { result ≡ field_place_behind typed.now variable name.now }
 {
-    let fields = fields_behind(t, t.declaration_at(variable));
+    let fields = fields_behind(typed, typed.declaration_at(variable));
     let place = fields_before_name(fields, name);
     if place < fields.len() {
         place as u64
@@ -237,12 +241,12 @@ fn through(pointer: i64, place: u64) -> Option<CellAt>
 
 /// The mutex that a lock path names without siblings, by what the variables hold.
 fn mutex_named(
-    t: &Typed,
+    typed: &Typed,
     variables: &[Variable],
     what: Named,
     second: Option<&[u8]>,
 ) -> Option<CellAt>
-    ensures { result ≡ mutex_named t.now (value_in variables.now) what (view_name second.entry) }
+    ensures { result ≡ mutex_named typed.now (value_in variables.now) what (view_name second.entry) }
 {
     match what {
         Named::Global(number) => Some(CellAt {
@@ -252,7 +256,7 @@ fn mutex_named(
         Named::Variable(token) => match second {
             Some(name) => through(
                 value_in(variables, token),
-                field_place_behind(t, token, name),
+                field_place_behind(typed, token, name),
             ),
             None => None,
         },
@@ -263,10 +267,10 @@ fn mutex_named(
     }
 }
 
-fn is_behind_pointer(t: &Typed, lock: Lock<'_>) -> bool
-    ensures { result ≡ is_behind_pointer t.now (view_lock lock.entry) }
+fn is_behind_pointer(typed: &Typed, lock: Lock<'_>) -> bool
+    ensures { result ≡ is_behind_pointer typed.now (view_lock lock.entry) }
 {
-    is_sibling_lock(t, lock) && is_pointer(named_kind(t, t.named(lock.first)))
+    is_sibling_lock(typed, lock) && is_pointer(named_kind(typed, typed.named(lock.first)))
 }
 
 fn guard_beside(is_pointer: bool, cell: CellAt) -> Guard
@@ -288,66 +292,72 @@ fn guard_by(mutex: Option<CellAt>) -> Guard
     }
 }
 
-fn guard_sibling(t: &Typed, object: Object, first: u64, lock: Lock<'_>, token: u32) -> Option<Guard>
-    ensures { IfSome result (λ g. view_guard g ≡ guard_beside (is_behind_pointer t.now (view_lock lock.entry)) (record { object = object; cell = first + field_place t.now token })) }
+fn guard_sibling(
+    typed: &Typed,
+    object: Object,
+    first: u64,
+    lock: Lock<'_>,
+    token: u32,
+) -> Option<Guard>
+    ensures { IfSome result (λ g. view_guard g ≡ guard_beside (is_behind_pointer typed.now (view_lock lock.entry)) (record { object = object; cell = first + field_place typed.now token })) }
 {
-    match first.checked_add(field_place(t, token)) {
+    match first.checked_add(field_place(typed, token)) {
         None => None,
-        Some(cell) => Some(guard_beside(is_behind_pointer(t, lock), CellAt { object, cell })),
+        Some(cell) => Some(guard_beside(is_behind_pointer(typed, lock), CellAt { object, cell })),
     }
 }
 
 /// What guards a cell in the element that begins at this cell of this object. None only where the cell of a sibling has no number of 64 bits.
 pub fn guard_of(
-    t: &Typed,
+    typed: &Typed,
     variables: &[Variable],
     object: Object,
     first: u64,
     lock: Lock<'_>,
 ) -> Option<Guard>
-    ensures { IfSome result (λ g. view_guard g ≡ guard_of t.now (value_in variables.now) object first (view_lock lock.entry)) }
+    ensures { IfSome result (λ g. view_guard g ≡ guard_of typed.now (value_in variables.now) object first (view_lock lock.entry)) }
 {
-    match t.named(lock.first) {
-        Named::Field(token) => guard_sibling(t, object, first, lock, token),
+    match typed.named(lock.first) {
+        Named::Field(token) => guard_sibling(typed, object, first, lock, token),
         Named::Global(number) => Some(guard_by(mutex_named(
-            t,
+            typed,
             variables,
             Named::Global(number),
             lock.second,
         ))),
         Named::Variable(token) => Some(guard_by(mutex_named(
-            t,
+            typed,
             variables,
             Named::Variable(token),
             lock.second,
         ))),
         Named::Struct(number) => Some(guard_by(mutex_named(
-            t,
+            typed,
             variables,
             Named::Struct(number),
             lock.second,
         ))),
         Named::Function(number) => Some(guard_by(mutex_named(
-            t,
+            typed,
             variables,
             Named::Function(number),
             lock.second,
         ))),
-        Named::Known => Some(guard_by(mutex_named(t, variables, Named::Known, lock.second))),
+        Named::Known => Some(guard_by(mutex_named(typed, variables, Named::Known, lock.second))),
     }
 }
 
 /// The mode of an object that is made or given, by that of the target to which the reference goes.
-pub fn instance_mode(t: &Typed, variables: &[Variable], mode: Sharing<'_>) -> CellMode
-    ensures { result ≡ instance_mode t.now (value_in variables.now) (view_sharing mode.entry) }
+pub fn instance_mode(typed: &Typed, variables: &[Variable], mode: Sharing<'_>) -> CellMode
+    ensures { result ≡ instance_mode typed.now (value_in variables.now) (view_sharing mode.entry) }
 {
     match mode {
         Sharing::Private => CellMode::Private,
         Sharing::Readonly => CellMode::Readonly,
         Sharing::Locked(lock) => CellMode::Locked(mutex_named(
-            t,
+            typed,
             variables,
-            t.named(lock.first),
+            typed.named(lock.first),
             lock.second,
         )),
         Sharing::Racy => CellMode::Racy,

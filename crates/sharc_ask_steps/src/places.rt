@@ -55,12 +55,12 @@ pub fn pointee(pointer: i64) -> Place
 }
 
 /// The place of the field so many cells behind the element's first. A cell that has no number of 64 bits is want of memory.
-pub fn field_in(n: u64, place: Place, st: &State) -> Result<Place, End>
-    ensures { DoesAs view_place (view_state st.now) result (view_state st.now) (give (field_in n (view_place place))) }
+pub fn field_in(number: u64, place: Place, st: &State) -> Result<Place, End>
+    ensures { DoesAs view_place (view_state st.now) result (view_state st.now) (give (field_in number (view_place place))) }
 {
     match place {
         Place::Variable(token) => Ok(Place::Variable(token)),
-        Place::Cell(object, first, _) => match first.checked_add(n) {
+        Place::Cell(object, first, _) => match first.checked_add(number) {
             Some(cell) => Ok(Place::Cell(object, first, cell)),
             None => Err(End::Memory),
         },
@@ -104,21 +104,21 @@ pub fn element(
 
 /// The element of a global array.
 pub fn element_of_array(
-    m: &Moded,
+    program: &Moded,
     site: Site,
     cells: u64,
     array: Place,
     index: i64,
     st: &State,
 ) -> Result<Place, End>
-    ensures { DoesAs view_place (view_state st.now) result (view_state st.now) (element_of_array m.now.typed site cells (view_place array) index) }
+    ensures { DoesAs view_place (view_state st.now) result (view_state st.now) (element_of_array program.now.typed site cells (view_place array) index) }
 {
     match array {
         Place::Cell(Object::Global(number), _, _) => element(
             site,
             Object::Global(number),
             cells,
-            global_elements(m.typed(), number),
+            global_elements(program.typed(), number),
             index,
             st,
         ),
@@ -149,18 +149,18 @@ pub fn guarding(site: Site, guard: Guard, st: &mut State) -> Result<CellAt, End>
 }
 
 fn locked_mode(
-    m: &Moded,
+    program: &Moded,
     site: Site,
     lock: Lock<'_>,
     object: Object,
     first: u64,
     st: &mut State,
 ) -> Result<CellMode, End>
-    ensures does { Does (view_state st.old) result (view_state st.new) (access_mode m.now.typed site (locked (view_lock lock.entry)) object first) }
+    ensures does { Does (view_state st.old) result (view_state st.new) (access_mode program.now.typed site (locked (view_lock lock.entry)) object first) }
     ensures fuel { st.new.fuel ≤ st.old.fuel }
 {
     match guard_of(
-        m.typed(),
+        program.typed(),
         st.frame.variables.as_slice(),
         object,
         first,
@@ -176,20 +176,20 @@ fn locked_mode(
 
 /// The mode in the event of an access to a cell in this element.
 pub fn access_mode(
-    m: &Moded,
+    program: &Moded,
     site: Site,
     mode: Sharing<'_>,
     object: Object,
     first: u64,
     st: &mut State,
 ) -> Result<CellMode, End>
-    ensures does { Does (view_state st.old) result (view_state st.new) (access_mode m.now.typed site (view_sharing mode.entry) object first) }
+    ensures does { Does (view_state st.old) result (view_state st.new) (access_mode program.now.typed site (view_sharing mode.entry) object first) }
     ensures fuel { st.new.fuel ≤ st.old.fuel }
 {
     match mode {
         Sharing::Private => Ok(CellMode::Private),
         Sharing::Readonly => Ok(CellMode::Readonly),
-        Sharing::Locked(lock) => locked_mode(m, site, lock, object, first, st),
+        Sharing::Locked(lock) => locked_mode(program, site, lock, object, first, st),
         Sharing::Racy => Ok(CellMode::Racy),
         Sharing::Dynamic => Ok(CellMode::Dynamic),
     }
@@ -197,18 +197,20 @@ pub fn access_mode(
 
 /// The value at a place.
 pub fn fetched(
-    m: &Moded,
+    program: &Moded,
     site: Site,
     mode: Sharing<'_>,
     place: Place,
     st: &mut State,
 ) -> Result<i64, End>
-    ensures does { Does (view_state st.old) result (view_state st.new) (fetched m.now.typed site (view_sharing mode.entry) (view_place place)) }
+    ensures does { Does (view_state st.old) result (view_state st.new) (fetched program.now.typed site (view_sharing mode.entry) (view_place place)) }
     ensures fuel { st.new.fuel ≤ st.old.fuel }
 {
     match place {
         Place::Variable(token) => Ok(value_in(st.frame.variables.as_slice(), token)),
-        Place::Cell(object, first, cell) => match access_mode(m, site, mode, object, first, st) {
+        Place::Cell(object, first, cell) => match access_mode(
+            program, site, mode, object, first, st,
+        ) {
             Ok(under) => ask_event(site, Act::Read(CellAt { object, cell }, under), st),
             Err(end) => Err(end),
         },
@@ -249,7 +251,7 @@ fn stored_in_cell(
 
 /// A value of this type to a place; the old one is given up, the reference moves in.
 pub fn stored(
-    m: &Moded,
+    program: &Moded,
     site: Site,
     kind: Kind<'_>,
     mode: Sharing<'_>,
@@ -257,7 +259,7 @@ pub fn stored(
     value: i64,
     st: &mut State,
 ) -> Result<(), End>
-    ensures does { Does (view_state st.old) result (view_state st.new) (stored m.now.typed site (view_kind kind.entry) (view_sharing mode.entry) (view_place place) value) }
+    ensures does { Does (view_state st.old) result (view_state st.new) (stored program.now.typed site (view_kind kind.entry) (view_sharing mode.entry) (view_place place) value) }
     ensures fuel { st.new.fuel ≤ st.old.fuel }
 {
     match place {
@@ -269,7 +271,7 @@ pub fn stored(
             }
         }
         Place::Cell(object, first, cell) => match hold(kind, value, st) {
-            Ok(()) => match access_mode(m, site, mode, object, first, st) {
+            Ok(()) => match access_mode(program, site, mode, object, first, st) {
                 Ok(under) => stored_in_cell(site, kind, CellAt { object, cell }, under, value, st),
                 Err(end) => Err(end),
             },
@@ -297,7 +299,7 @@ fn taken_of_local(
 
 /// What a sharing cast or `free` takes away; the place is NULL from then on.
 pub fn taken_from(
-    m: &Moded,
+    program: &Moded,
     token_site: Site,
     site: Site,
     mode: Sharing<'_>,
@@ -305,7 +307,7 @@ pub fn taken_from(
     place: Place,
     st: &mut State,
 ) -> Result<i64, End>
-    ensures does { Does (view_state st.old) result (view_state st.new) (taken_from m.now.typed token_site site (view_sharing mode.entry) kind (view_place place)) }
+    ensures does { Does (view_state st.old) result (view_state st.new) (taken_from program.now.typed token_site site (view_sharing mode.entry) kind (view_place place)) }
     ensures fuel { st.new.fuel ≤ st.old.fuel }
 {
     match place {
@@ -319,7 +321,9 @@ pub fn taken_from(
                 Err(end) => Err(end),
             }
         }
-        Place::Cell(object, first, cell) => match access_mode(m, site, mode, object, first, st) {
+        Place::Cell(object, first, cell) => match access_mode(
+            program, site, mode, object, first, st,
+        ) {
             Ok(under) => ask_event(
                 site,
                 Act::Take(Taken::Cell(CellAt { object, cell }, under), kind),
@@ -332,18 +336,18 @@ pub fn taken_from(
 
 /// The reference that was taken goes on under its new mode.
 pub fn cast_to(
-    m: &Moded,
+    program: &Moded,
     site: Site,
     mode: Sharing<'_>,
     value: i64,
     st: &mut State,
 ) -> Result<i64, End>
-    ensures does { Does (view_state st.old) result (view_state st.new) (cast_to m.now.typed site (view_sharing mode.entry) value) }
+    ensures does { Does (view_state st.old) result (view_state st.new) (cast_to program.now.typed site (view_sharing mode.entry) value) }
     ensures fuel { st.new.fuel ≤ st.old.fuel }
 {
     match hold_reference(value, st) {
         Ok(()) => {
-            let under = instance_mode(m.typed(), st.frame.variables.as_slice(), mode);
+            let under = instance_mode(program.typed(), st.frame.variables.as_slice(), mode);
             match perform(site, Act::Give(value, under), st) {
                 Ok(()) => match move_on(st) {
                     Ok(()) => Ok(value),

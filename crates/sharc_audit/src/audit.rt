@@ -54,10 +54,10 @@ fn digit(rule: Rule) -> u8
 }
 
 /// Why the event, which is asked for, is not accepted behind these.
-fn fault_of(m: &Moded, past: &Past, e: &SourceEvent) -> Option<EventFault>
-    ensures { MatchOption result (IsPassed m.now past.now e.now) (λ fault. IsFault m.now past.now e.now fault) }
+fn fault_of(program: &Moded, past: &Past, e: &SourceEvent) -> Option<EventFault>
+    ensures { MatchOption result (IsPassed program.now past.now e.now) (λ fault. IsFault program.now past.now e.now fault) }
 {
-    if !may_come(m.typed(), past.as_slice(), e) {
+    if !may_come(program.typed(), past.as_slice(), e) {
         return Some(EventFault::NotLegal);
     }
     match past.broken_by(e) {
@@ -69,18 +69,18 @@ fn fault_of(m: &Moded, past: &Past, e: &SourceEvent) -> Option<EventFault>
 /// Audits a list of event lines with a fuel for each thread.
 pub fn audit(
     alloc: Global,
-    c: &Checked,
+    checked: &Checked,
     lines: &EventLines,
     fuel: u64,
 ) -> Result<Verdict, AllocError>
     requires { length lines.now < 2 ^ 32 }
-    ensures { IfOk result (λ v. Audits c.now fuel lines.now v) }
+    ensures { IfOk result (λ v. Audits checked.now fuel lines.now v) }
 {
     ask_laws();
     store_laws();
     run_laws();
     rule_laws();
-    let m = c.moded();
+    let m = checked.moded();
     let main = main_of(m.typed())?;
     let all = lines.as_slice();
     let mut past = Past::new(alloc);

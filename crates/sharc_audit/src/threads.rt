@@ -45,14 +45,14 @@ pub struct ThreadRun {
 }
 
 /// The number of `main`. The answer of want of memory comes also where there are more functions than a number of 32 bits counts.
-pub(crate) fn main_of(t: &Typed) -> Result<Option<u32>, AllocError>
-    ensures main { IfOk result (λ f. f ≡ main_of t.now) }
-    ensures one { OnOk result (OneMain t.now) }
+pub(crate) fn main_of(typed: &Typed) -> Result<Option<u32>, AllocError>
+    ensures main { IfOk result (λ f. f ≡ main_of typed.now) }
+    ensures one { OnOk result (OneMain typed.now) }
 {
     one_function_of_name();
-    t.program();
+    typed.program();
     for n in 0..u32::MAX {
-        match t.function_at(n) {
+        match typed.function_at(n) {
             None => return Ok(None),
             Some(f) => {
                 if f.name.text.as_slice() == b"main".as_slice() {
@@ -95,10 +95,10 @@ fn entry(main: Option<u32>, before: &[SourceEvent], thread: u32) -> Option<(u32,
     }
 }
 
-fn start_at(t: &Typed, thread: u32, function: u32, argument: i64) -> Next
-    ensures { result ≡ start_at thread argument (function_at t.now function) }
+fn start_at(typed: &Typed, thread: u32, function: u32, argument: i64) -> Next
+    ensures { result ≡ start_at thread argument (function_at typed.now function) }
 {
-    match t.function_at(function) {
+    match typed.function_at(function) {
         None => Next::Nothing,
         Some(f) => Next::Wants(SourceEvent {
             thread,
@@ -110,13 +110,13 @@ fn start_at(t: &Typed, thread: u32, function: u32, argument: i64) -> Next
 }
 
 /// The first event of a thread.
-fn start_of(t: &Typed, main: Option<u32>, before: &[SourceEvent], thread: u32) -> Next
-    requires { main ≡ main_of t.now }
-    ensures { result ≡ start_of t.now thread (entry t.now before.now thread) }
+fn start_of(typed: &Typed, main: Option<u32>, before: &[SourceEvent], thread: u32) -> Next
+    requires { main ≡ main_of typed.now }
+    ensures { result ≡ start_of typed.now thread (entry typed.now before.now thread) }
 {
     match entry(main, before, thread) {
         None => Next::Nothing,
-        Some(with) => start_at(t, thread, with.0, with.1),
+        Some(with) => start_at(typed, thread, with.0, with.1),
     }
 }
 
@@ -174,7 +174,7 @@ fn run_of(thread: u32, runs: &[ThreadRun]) -> Option<&ThreadRun>
 
 /// What the thread of the line asks for behind these events.
 pub(crate) fn next_asked(
-    m: &Moded,
+    program: &Moded,
     main: Option<u32>,
     fuel: u64,
     before: &[SourceEvent],
@@ -182,13 +182,13 @@ pub(crate) fn next_asked(
     rest: &[EventLine],
     runs: &[ThreadRun],
 ) -> Next
-    requires main { main ≡ main_of m.now.typed }
-    requires known { AreKnown m.now fuel before.now (line.now ∷ rest.now) runs.now }
-    ensures { result ≡ next_asked m.now fuel before.now line.now }
+    requires main { main ≡ main_of program.now.typed }
+    requires known { AreKnown program.now fuel before.now (line.now ∷ rest.now) runs.now }
+    ensures { result ≡ next_asked program.now fuel before.now line.now }
 {
     ask_laws();
     match run_of(line.thread, runs) {
-        None => start_of(m.typed(), main, before, line.thread),
+        None => start_of(program.typed(), main, before, line.thread),
         Some(run) => {
             let count = event_count(line.thread, before);
             if count == 0 {
@@ -202,18 +202,18 @@ pub(crate) fn next_asked(
 /// What a thread that starts asks for, told all that the lines tell it.
 fn begin(
     alloc: Global,
-    m: &Moded,
+    program: &Moded,
     fuel: u64,
     thread: u32,
     with: (u32, i64),
     rest: &[EventLine],
 ) -> Result<ThreadRun, AllocError>
     ensures thread { IfOk result (λ run. run.thread ≡ thread) }
-    ensures events { IfOk result (λ run. run.events ≡ (asks m.now with.0 with.1 (told_to thread rest.now) fuel).events) }
-    ensures spent { IfOk result (λ run. run.spent ≡ is_spent (asks m.now with.0 with.1 (told_to thread rest.now) fuel).outcome) }
+    ensures events { IfOk result (λ run. run.events ≡ (asks program.now with.0 with.1 (told_to thread rest.now) fuel).events) }
+    ensures spent { IfOk result (λ run. run.spent ≡ is_spent (asks program.now with.0 with.1 (told_to thread rest.now) fuel).outcome) }
 {
     let answers = told_to(alloc, thread, rest)?;
-    let asked = ask(alloc, m, with.0, with.1, answers.as_slice(), fuel)?;
+    let asked = ask(alloc, program, with.0, with.1, answers.as_slice(), fuel)?;
     let spent = match &asked.outcome {
         Outcome::Fuel => true,
         _ => false,
@@ -228,7 +228,7 @@ fn begin(
 /// Takes note of an event that is accepted: where its thread starts by it, what it asks for.
 pub(crate) fn accept(
     alloc: Global,
-    m: &Moded,
+    program: &Moded,
     main: Option<u32>,
     fuel: u64,
     before: &[SourceEvent],
@@ -236,16 +236,16 @@ pub(crate) fn accept(
     rest: &[EventLine],
     runs: &mut Vec<ThreadRun>,
 ) -> Result<(), AllocError>
-    requires main { main ≡ main_of m.now.typed }
-    requires known { AreKnown m.now fuel before.now (line.now ∷ rest.now) runs.old.items }
-    ensures { OnOk result ((e : SourceEvent) → next_asked m.now fuel before.now line.now ≡ Wants e → line.now.thread ≡ e.thread → told line.now ≡ e.answer → AreKnown m.now fuel (before.now ++ e ∷ []) rest.now runs.new.items) }
+    requires main { main ≡ main_of program.now.typed }
+    requires known { AreKnown program.now fuel before.now (line.now ∷ rest.now) runs.old.items }
+    ensures { OnOk result ((e : SourceEvent) → next_asked program.now fuel before.now line.now ≡ Wants e → line.now.thread ≡ e.thread → told line.now ≡ e.answer → AreKnown program.now fuel (before.now ++ e ∷ []) rest.now runs.new.items) }
 {
     match run_of(line.thread, runs.as_slice()) {
         Some(_) => Ok(()),
         None => match entry(main, before, line.thread) {
             None => Ok(()),
             Some(with) => {
-                let run = begin(alloc, m, fuel, line.thread, with, rest)?;
+                let run = begin(alloc, program, fuel, line.thread, with, rest)?;
                 runs.push(run)?;
                 Ok(())
             }

@@ -8,12 +8,12 @@ use Rattle.sharc_tree.specs.Tree.{Expression, call}
 use Rattle.sharc_tree.specs.View.{view_arguments}
 use Rattle.sharc_ctype.specs.Resolved.{named_at}
 use Rattle.sharc_ctype.specs.Transfers.{parameters_named}
-use Rattle.sharc_mode.specs.declared.note.Note.{Note}
+use Rattle.sharc_mode.specs.declared.finding.Finding.{Finding}
 use Rattle.sharc_mode.specs.Expressions.{notes_of, notes_of_all}
 use Rattle.sharc_mode.specs.Moded.{Assignment}
 use Rattle.sharc_mode.specs.Notes.{call_notes}
 
-pub call_said : (m : Assignment) (e : Expression) (s : Span) (f : Identifier) (list slice : List Expr) (ps : List Declaration) (n0 n1 : List Note)
+pub call_said : (m : Assignment) (e : Expression) (s : Span) (f : Identifier) (list slice : List Expr) (ps : List Declaration) (n0 n1 : List Finding)
     → e ≡ call s f (view_arguments list) → slice ≡ list → ps ≡ parameters_named m.typed (named_at m.typed f.site.token)
     → n1 ≡ n0 ++ notes_of_all m ps (view_arguments slice) ps (view_arguments slice)
     → n1 ++ call_notes m s ps (view_arguments slice) ≡ n0 ++ notes_of m e

@@ -8,8 +8,8 @@ use Rattle.sharc_tree.specs.declared.tree.item.GlobalDefinition.{GlobalDefinitio
 use Rattle.sharc_tree.specs.Tree.{Function}
 use Rattle.sharc_ctype.specs.Entities.{entities_in, numbered}
 use Rattle.sharc_ctype.specs.Resolved.{functions_in, globals_in}
-use Rattle.sharc_mode.specs.declared.note.Note.{Note}
-use Rattle.sharc_mode.specs.declared.note.Note.TheVariants.{Wrong, Names, Takes}
+use Rattle.sharc_mode.specs.declared.finding.Finding.{Finding}
+use Rattle.sharc_mode.specs.declared.finding.Finding.TheVariants.{Wrong, Names, Takes}
 use Rattle.sharc_mode.specs.Cells.{top_of}
 use Rattle.sharc_mode.specs.Expressions.{items_notes}
 use Rattle.sharc_mode.specs.Moded.{Assignment}
@@ -24,16 +24,16 @@ or_assoc : (a b c : Bool) → ((a || b) || c) ≡ (a || (b || c))
 or_assoc true b c = refl
 or_assoc false b c = refl
 
-named_in_both : (x : ℕ) (a b : List Note) → is_named x (a ++ b) ≡ (is_named x a || is_named x b)
+named_in_both : (x : ℕ) (a b : List Finding) → is_named x (a ++ b) ≡ (is_named x a || is_named x b)
 named_in_both x [] b = refl
 named_in_both x (Wrong e ∷ rest) b = named_in_both x rest b
 named_in_both x (Takes s y ∷ rest) b = named_in_both x rest b
 named_in_both x (Names y ∷ rest) b = ap (λ t. x == y || t) (named_in_both x rest b) ∙ sym (or_assoc (x == y) (is_named x rest) (is_named x b))
 
-abbrev NamesNone : ℕ → List Note → Type 0
+abbrev NamesNone : ℕ → List Finding → Type 0
 NamesNone x l = is_named x l ≡ false
 
-none_in_both : (x : ℕ) (a b : List Note) → NamesNone x a → NamesNone x b → NamesNone x (a ++ b)
+none_in_both : (x : ℕ) (a b : List Finding) → NamesNone x a → NamesNone x b → NamesNone x (a ++ b)
 none_in_both x a b in_a in_b = named_in_both x a b ∙ ap (λ t. t || is_named x b) in_a ∙ in_b
 
 none_where : (x : ℕ) (test : Bool) (code : ℕ) (s : Span) (text : List ℕ) → NamesNone x (error_where test code s text)
@@ -47,7 +47,7 @@ none_of_parameters m x name (d ∷ rest) =
     (none_where x (has_private_target (modes_of m (declared_row m.typed written d.name.site.token))) 7 d.written.span name)
     (none_of_parameters m x name rest)
 
-none_if : (x : ℕ) (test : Bool) (l : List Note) → NamesNone x l → NamesNone x (cond test l [])
+none_if : (x : ℕ) (test : Bool) (l : List Finding) → NamesNone x l → NamesNone x (cond test l [])
 none_if x true l none = none
 none_if x false l none = refl
 
@@ -69,7 +69,7 @@ or_none : (b : Bool) → (b || false) ≡ b
 or_none true = refl
 or_none false = refl
 
-ends : (x : ℕ) (l rest : List Note) → NamesNone x rest → is_named x (l ++ rest) ≡ is_named x l
+ends : (x : ℕ) (l rest : List Finding) → NamesNone x rest → is_named x (l ++ rest) ≡ is_named x l
 ends x l rest none = named_in_both x l rest ∙ ap (λ t. is_named x l || t) none ∙ or_none (is_named x l)
 
 all_or_paths : (m : Assignment) (touched : ℕ → Bool) (x : ℕ) → is_named x (notes_about m touched) ≡ is_named x (said_of_paths m)
@@ -83,6 +83,6 @@ all_or_paths m touched x =
     (ends x (types ++ threads) globals (none_of_touched touched x 0 (globals_in m.typed.program.items)) ∙ ends x types threads (none_of_spawned m x 0 (functions_in m.typed.program.items)))
     ∙ sym (named_in_both x types code)
 
-pub told_by : (m : Assignment) (touched : ℕ → Bool) (flags : List Bool) (notes : List Note) → flags ≡ marks notes → notes ≡ notes_about m touched → TellNamed m flags
+pub told_by : (m : Assignment) (touched : ℕ → Bool) (flags : List Bool) (notes : List Finding) → flags ≡ marks notes → notes ≡ notes_about m touched → TellNamed m flags
 told_by m touched flags notes marked said x =
     ap (λ l. slice_index_or l x false) marked ∙ marks_are notes x ∙ ap (is_named x) said ∙ all_or_paths m touched x

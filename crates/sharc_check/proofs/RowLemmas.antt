@@ -11,15 +11,15 @@ use Rattle.sharc_mode.specs.Cells.{pointed}
 use Rattle.sharc_mode.specs.Moded.{Assignment}
 use Rattle.sharc_mode.specs.Notes.{cast_notes, mismatch, shown, unmet, unmet_in}
 use Rattle.sharc_mode.specs.RowLaws.{RowLaws}
-use Rattle.sharc_mode.specs.Rows.{Row, deeper, modes_of}
+use Rattle.sharc_mode.specs.Rows.{Targets, deeper, modes_of}
 use Rattle.sharc_mode.specs.Sharings.{Lock, Sharing, same_all}
 
-pub step_row : (laws : RowLaws) (m : Assignment) (row next : Row) (s : Sharing) → 0 < row.count → row.first + row.count ≤ length m.modes → s ≡ pointed m (Some row) → next ≡ deeper row → modes_of m row ≡ s ∷ modes_of m next
+pub step_row : (laws : RowLaws) (m : Assignment) (row next : Targets) (s : Sharing) → 0 < row.count → row.first + row.count ≤ length m.modes → s ≡ pointed m (Some row) → next ≡ deeper row → modes_of m row ≡ s ∷ modes_of m next
 step_row laws m row next s some ends s_is next_is =
     laws.begins m row some ends ∙ ap (λ x. x ∷ modes_of m (deeper row)) (sym s_is) ∙ ap (λ r. s ∷ modes_of m r) (sym next_is)
 
-pub step_ends : (laws : RowLaws) (limit : ℕ) (row next : Row) → row.first + row.count ≤ limit → next ≡ deeper row → next.first + next.count ≤ limit
-step_ends laws limit row next ends next_is = subst (λ (r : Row). r.first + r.count ≤ limit) (sym next_is) (laws.ends limit row ends)
+pub step_ends : (laws : RowLaws) (limit : ℕ) (row next : Targets) → row.first + row.count ≤ limit → next ≡ deeper row → next.first + next.count ≤ limit
+step_ends laws limit row next ends next_is = subst (λ (r : Targets). r.first + r.count ≤ limit) (sym next_is) (laws.ends limit row ends)
 
 pub said_one : {A B : Type 0} (f : A → List B) (all rest : List A) (s : A) (before after whole : List B) → all ≡ s ∷ rest → after ≡ before ++ f s → before ++ flat_map f all ≡ whole → after ++ flat_map f rest ≡ whole
 said_one f all rest s before after whole all_is after_is were =
@@ -39,7 +39,7 @@ unmet_one r ds args all rest s found next whole all_is next_is were =
     ∙ sym (or_assoc (unmet_in r ds args rest) (unmet r ds args s) found)
     ∙ ap (λ l. option_or (unmet_in r ds args l) found) (sym all_is) ∙ were
 
-pub cast_said : (laws : RowLaws) (m : Assignment) (s : Span) (b : Base) (to from below_to below_from : Row) (row : Option Row) (same : Bool) → row ≡ Some from
+pub cast_said : (laws : RowLaws) (m : Assignment) (s : Span) (b : Base) (to from below_to below_from : Targets) (row : Option Targets) (same : Bool) → row ≡ Some from
     → to.first + to.count ≤ length m.modes → from.first + from.count ≤ length m.modes → below_to ≡ deeper to → below_from ≡ deeper from → same ≡ same_all m.typed (modes_of m below_to) (modes_of m below_from)
     → cast_notes m.typed s b (modes_of m to) (option_map (modes_of m) row) ≡ cond same [] (mismatch 8 s (shown m.typed b (modes_of m to)) (shown m.typed b (modes_of m from)) ∷ [])
 cast_said laws m s b to from below_to below_from row same row_is ends_to ends_from to_is from_is same_is =

@@ -8,8 +8,8 @@ use Rattle.std.specs.List.{flat_map}
 use Rattle.sharc_tree.specs.declared.token.Span.{Span}
 use Rattle.sharc_ctype.specs.Resolved.{Resolution}
 use Rattle.sharc_mode.specs.declared.error.ModeError.{ModeError}
-use Rattle.sharc_mode.specs.declared.note.Note.{Note}
-use Rattle.sharc_mode.specs.declared.note.Note.TheVariants.{Wrong, Names, Takes}
+use Rattle.sharc_mode.specs.declared.finding.Finding.{Finding}
+use Rattle.sharc_mode.specs.declared.finding.Finding.TheVariants.{Wrong, Names, Takes}
 use Rattle.sharc_mode.specs.Notes.{is_named, errors_by, errors_of}
 use Rattle.sharc_check.specs.Settles.{past, past_all, marked, marks, taken_errors, settled}
 
@@ -18,7 +18,7 @@ taken_reversed r true s x = refl
 taken_reversed r false s x = refl
 
 -- one of at most one is its own reverse
-pub settled_reversed : (r : Resolution) (flags : List Bool) (note : Note) → reverse (settled r flags note) ≡ settled r flags note
+pub settled_reversed : (r : Resolution) (flags : List Bool) (note : Finding) → reverse (settled r flags note) ≡ settled r flags note
 settled_reversed r flags (Wrong e) = refl
 settled_reversed r flags (Names x) = refl
 settled_reversed r flags (Takes s x) = taken_reversed r (slice_index_or flags x false) s x
@@ -35,14 +35,14 @@ one_flag : (flags : List Bool) (y x : ℕ) → y < length flags → get_or (set 
 one_flag flags y x below = grind (arith, nat_tests, get_or-set_at, get_or-set_other, common_steps)
 
 -- what is past all is past what went before
-grows : (n : ℕ) (notes : List Note) → n ≤ fold past n notes
+grows : (n : ℕ) (notes : List Finding) → n ≤ fold past n notes
 grows n [] = omega arith
 grows n (Wrong e ∷ rest) = grows n rest
 grows n (Takes s x ∷ rest) = grows n rest
 grows n (Names x ∷ rest) = let h : max n (x + 1) ≤ fold past (max n (x + 1)) rest = grows (max n (x + 1)) rest in omega (arith, h)
 
 -- the flags say what is named
-flag_is : (flags : List Bool) (notes : List Note) (n x : ℕ) → fold past n notes ≤ length flags → get_or (fold marked flags notes) x false ≡ (get_or flags x false || is_named x notes)
+flag_is : (flags : List Bool) (notes : List Finding) (n x : ℕ) → fold past n notes ≤ length flags → get_or (fold marked flags notes) x false ≡ (get_or flags x false || is_named x notes)
 flag_is flags [] n x all = or_false (get_or flags x false)
 flag_is flags (Wrong e ∷ rest) n x all = flag_is flags rest n x all
 flag_is flags (Takes s y ∷ rest) n x all = flag_is flags rest n x all
@@ -56,13 +56,13 @@ flag_is flags (Names y ∷ rest) n x all =
 none_at_first : (n x : ℕ) → get_or (replicate n false) x false ≡ false
 none_at_first n x = grind (arith, get_or-replicate, common_steps)
 
-pub marks_are : (notes : List Note) (x : ℕ) → slice_index_or (marks notes) x false ≡ is_named x notes
+pub marks_are : (notes : List Finding) (x : ℕ) → slice_index_or (marks notes) x false ≡ is_named x notes
 marks_are notes x =
     let size = length-replicate (past_all notes) false in
     flag_is (replicate (past_all notes) false) notes 0 x (omega (arith, size))
     ∙ ap (λ b. b || is_named x notes) (none_at_first (past_all notes) x)
 
-settled_are : (r : Resolution) (notes part : List Note) → flat_map (settled r (marks notes)) part ≡ flat_map (errors_by r notes) part
+settled_are : (r : Resolution) (notes part : List Finding) → flat_map (settled r (marks notes)) part ≡ flat_map (errors_by r notes) part
 settled_are r notes [] = refl
 settled_are r notes (Wrong e ∷ rest) = ap (λ l. e ∷ l) (settled_are r notes rest)
 settled_are r notes (Names x ∷ rest) = settled_are r notes rest
@@ -70,13 +70,13 @@ settled_are r notes (Takes s x ∷ rest) =
     ap (λ b. taken_errors r b s x ++ flat_map (settled r (marks notes)) rest) (marks_are notes x)
     ∙ ap (λ l. taken_errors r (is_named x notes) s x ++ l) (settled_are r notes rest)
 
-pub all_settled : (r : Resolution) (notes list seen : List Note) (flags : List Bool) (back errors : List ModeError) → seen ≡ notes → list ≡ notes → flags ≡ marks seen
+pub all_settled : (r : Resolution) (notes list seen : List Finding) (flags : List Bool) (back errors : List ModeError) → seen ≡ notes → list ≡ notes → flags ≡ marks seen
     → reverse back ≡ flat_map (settled r flags) list → errors ≡ reverse back → errors ≡ errors_of r notes
 all_settled r notes list seen flags back errors seen_is list_is flags_is back_is errors_is =
     errors_is ∙ back_is ∙ ap (λ f. flat_map (settled r f) list) (flags_is ∙ ap marks seen_is) ∙ ap (λ l. flat_map (settled r (marks notes)) l) list_is ∙ settled_are r notes notes
 
 -- one note from the back
-pub one_settled : (r : Resolution) (flags : List Bool) (rest old : List Note) (note : Note) (before after : List ModeError) → old ≡ rest ++ note ∷ [] → after ≡ before ++ settled r flags note
+pub one_settled : (r : Resolution) (flags : List Bool) (rest old : List Finding) (note : Finding) (before after : List ModeError) → old ≡ rest ++ note ∷ [] → after ≡ before ++ settled r flags note
     → flat_map (settled r flags) rest ++ reverse after ≡ flat_map (settled r flags) old ++ reverse before
 one_settled r flags rest old note before after old_is after_is =
     ap (λ l. flat_map (settled r flags) rest ++ reverse l) after_is

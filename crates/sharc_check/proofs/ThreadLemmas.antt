@@ -4,7 +4,7 @@ use Rattle.std.proofs.lemmas.List.{append-nil, drop_all}
 use Rattle.std.specs.List.{slice_get, flat_map}
 use Rattle.sharc_tree.specs.declared.tree.item.GlobalDefinition.{GlobalDefinition}
 use Rattle.sharc_tree.specs.Tree.{Function}
-use Rattle.sharc_mode.specs.declared.note.Note.{Note}
+use Rattle.sharc_mode.specs.declared.finding.Finding.{Finding}
 use Rattle.sharc_mode.specs.Moded.{Assignment}
 use Rattle.sharc_mode.specs.WellModed.{is_spawned, parameter_notes, spawned_notes, touched_notes}
 use Rattle.sharc_check.specs.Threads.{function_notes, global_notes}
@@ -14,34 +14,34 @@ at_place [] n below = absurd (omega arith)
 at_place (x ∷ xs) zero below = (x, refl, refl)
 at_place (x ∷ xs) (suc n) below = at_place xs n (omega arith)
 
-pub spawned_one : (m : Assignment) (fs : List Function) (n : ℕ) (spawned : Bool) (before after whole : List Note) → n < length fs → spawned ≡ is_spawned m.typed n
+pub spawned_one : (m : Assignment) (fs : List Function) (n : ℕ) (spawned : Bool) (before after whole : List Finding) → n < length fs → spawned ≡ is_spawned m.typed n
     → after ≡ before ++ function_notes m spawned (slice_get fs n) → before ++ spawned_notes m n (drop n fs) ≡ whole → after ++ spawned_notes m (n + 1) (drop (n + 1) fs) ≡ whole
 spawned_one m fs n spawned before after whole below spawned_is after_is were =
     let at = at_place fs n below in
     let f = at.0 in
     let rest = spawned_notes m (n + 1) (drop (n + 1) fs) in
-    let said : Bool → List Note = λ b. cond b (flat_map (parameter_notes m f.name.text) f.parameters) [] in
+    let said : Bool → List Finding = λ b. cond b (flat_map (parameter_notes m f.name.text) f.parameters) [] in
     ap (λ l. l ++ rest) (after_is ∙ ap (λ x. before ++ function_notes m spawned x) at.1 ∙ ap (λ b. before ++ said b) spawned_is)
     ∙ append_assoc before (said (is_spawned m.typed n)) rest
     ∙ ap (λ k. before ++ (said (is_spawned m.typed n) ++ spawned_notes m (n + 1) (drop k fs))) (add-one n)
     ∙ ap (λ l. before ++ spawned_notes m n l) (sym at.2)
     ∙ were
 
-pub touched_one : (touched : ℕ → Bool) (gs : List GlobalDefinition) (n : ℕ) (is : Bool) (before after whole : List Note) → n < length gs → is ≡ touched n
+pub touched_one : (touched : ℕ → Bool) (gs : List GlobalDefinition) (n : ℕ) (is : Bool) (before after whole : List Finding) → n < length gs → is ≡ touched n
     → after ≡ before ++ global_notes is (slice_get gs n) → before ++ touched_notes touched n (drop n gs) ≡ whole → after ++ touched_notes touched (n + 1) (drop (n + 1) gs) ≡ whole
 touched_one touched gs n is before after whole below is_it after_is were =
     let at = at_place gs n below in
     let g = at.0 in
     let rest = touched_notes touched (n + 1) (drop (n + 1) gs) in
-    let said : Bool → List Note = λ b. global_notes b (Some g) in
+    let said : Bool → List Finding = λ b. global_notes b (Some g) in
     ap (λ l. l ++ rest) (after_is ∙ ap (λ x. before ++ global_notes is x) at.1 ∙ ap (λ b. before ++ said b) is_it)
     ∙ append_assoc before (said (touched n)) rest
     ∙ ap (λ k. before ++ (said (touched n) ++ touched_notes touched (n + 1) (drop k gs))) (add-one n)
     ∙ ap (λ l. before ++ touched_notes touched n l) (sym at.2)
     ∙ were
 
-pub spawned_end : (m : Assignment) (fs : List Function) (n : ℕ) (before whole : List Note) → length fs ≤ n → before ++ spawned_notes m n (drop n fs) ≡ whole → before ≡ whole
+pub spawned_end : (m : Assignment) (fs : List Function) (n : ℕ) (before whole : List Finding) → length fs ≤ n → before ++ spawned_notes m n (drop n fs) ≡ whole → before ≡ whole
 spawned_end m fs n before whole past were = sym (append-nil before) ∙ ap (λ l. before ++ spawned_notes m n l) (sym (drop_all n fs past)) ∙ were
 
-pub touched_end : (touched : ℕ → Bool) (gs : List GlobalDefinition) (n : ℕ) (before whole : List Note) → length gs ≤ n → before ++ touched_notes touched n (drop n gs) ≡ whole → before ≡ whole
+pub touched_end : (touched : ℕ → Bool) (gs : List GlobalDefinition) (n : ℕ) (before whole : List Finding) → length gs ≤ n → before ++ touched_notes touched n (drop n gs) ≡ whole → before ≡ whole
 touched_end touched gs n before whole past were = sym (append-nil before) ∙ ap (λ l. before ++ touched_notes touched n l) (sym (drop_all n gs past)) ∙ were

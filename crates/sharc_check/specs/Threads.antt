@@ -4,17 +4,17 @@ use Rattle.std.specs.List.{flat_map}
 use Rattle.sharc_tree.specs.declared.tree.item.GlobalDefinition.{GlobalDefinition}
 use Rattle.sharc_tree.specs.Tree.{Function}
 use Rattle.sharc_reach.specs.Reaching.{Reaching, first_of}
-use Rattle.sharc_mode.specs.declared.note.Note.{Note}
+use Rattle.sharc_mode.specs.declared.finding.Finding.{Finding}
 use Rattle.sharc_mode.specs.Cells.{top_of}
 use Rattle.sharc_mode.specs.Moded.{Assignment}
 use Rattle.sharc_mode.specs.Notes.{error_where, is_private_level}
 use Rattle.sharc_mode.specs.WellModed.{parameter_notes}
 
-abbrev pub function_notes : Assignment → Bool → Option Function → List Note
+abbrev pub function_notes : Assignment → Bool → Option Function → List Finding
 function_notes m spawned None = []
 function_notes m spawned (Some f) = if spawned then flat_map (parameter_notes m f.name.text) f.parameters else []
 
-abbrev pub global_notes : Bool → Option GlobalDefinition → List Note
+abbrev pub global_notes : Bool → Option GlobalDefinition → List Finding
 global_notes touched None = []
 global_notes touched (Some g) = error_where (touched && is_private_level (top_of g.declaration.written.ctype.levels)) 7 g.declaration.written.span g.declaration.name.text
 

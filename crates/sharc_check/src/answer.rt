@@ -15,9 +15,9 @@ use crate::statement::items;
 use crate::threads::{spawned, touched};
 use crate::types::types;
 use sharc_mode::error::ModeErrors;
+use sharc_mode::finding::Finding;
 use sharc_mode::laws::mode_laws;
 use sharc_mode::moded::Moded;
-use sharc_mode::note::Note;
 use sharc_mode_laws::laws::rules_are_met;
 use sharc_reach::Reached;
 use sharc_tree::listed::Listed;
@@ -65,7 +65,7 @@ impl Checked {
 }
 
 /// What is to be said of a program, by what is reached in it.
-fn said(alloc: Global, program: &Moded, reached: &Reached) -> Result<Vec<Note>, AllocError>
+fn said(alloc: Global, program: &Moded, reached: &Reached) -> Result<Vec<Finding>, AllocError>
     requires { AreReached program.now.typed reached.now }
     ensures { IfOk result (λ notes. notes.items ≡ notes_about program.now (touched_by reached.now)) }
 {

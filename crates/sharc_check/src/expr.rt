@@ -6,8 +6,8 @@ ghost use Rattle.sharc_mode.specs.Expressions.{notes_of, notes_of_all};
 
 use crate::passing::{Passed, Passing, parameters_named, without_first};
 use crate::rules::{agree, call, cast, expected, field, place, source};
+use sharc_mode::finding::Finding;
 use sharc_mode::moded::Moded;
-use sharc_mode::note::Note;
 use sharc_mode::row::{Reading, base_use, named_row};
 use sharc_tree::tree::{Declaration, Expr};
 use std::alloc::{AllocError, Global};
@@ -18,7 +18,7 @@ pub(crate) fn expression(
     alloc: Global,
     program: &Moded,
     expr: &Expr,
-    notes: &mut Vec<Note>,
+    notes: &mut Vec<Finding>,
 ) -> Result<(), AllocError>
     ensures { OnOk result (notes.new.items ≡ notes.old.items ++ notes_of program.now (view_expr expr.now)) }
 {
@@ -93,7 +93,7 @@ fn arguments(
     program: &Moded,
     parameters: &[Declaration],
     list: &[Expr],
-    notes: &mut Vec<Note>,
+    notes: &mut Vec<Finding>,
 ) -> Result<(), AllocError>
     ensures { OnOk result (notes.new.items ≡ notes.old.items ++ notes_of_all program.now parameters.now (view_arguments list.now) parameters.now (view_arguments list.now)) }
 {

@@ -9,25 +9,25 @@ use crate::named::NamedVariables;
 use crate::rules::error;
 use sharc_ctype::typed::Typed;
 use sharc_mode::error::ModeError;
-use sharc_mode::note::Note;
+use sharc_mode::finding::Finding;
 use sharc_mode::text::text_at;
 use sharc_tree::name::Name;
 use sharc_tree::token::Span;
 use std::alloc::{AllocError, Global};
 
 /// The number behind the highest token so far that a path names.
-fn past(limit: usize, note: &Note) -> usize
+fn past(limit: usize, note: &Finding) -> usize
     ensures { result ≡ past limit note.now }
 {
     match note {
-        Note::Names(variable) => limit.max(*variable as usize + 1),
-        Note::Wrong(_) => limit,
-        Note::Takes(_, _) => limit,
+        Finding::Names(variable) => limit.max(*variable as usize + 1),
+        Finding::Wrong(_) => limit,
+        Finding::Takes(_, _) => limit,
     }
 }
 
 /// The number behind the highest token that a path names.
-fn past_all(notes: &[Note]) -> usize
+fn past_all(notes: &[Finding]) -> usize
     ensures { result ≡ past_all notes.now }
 {
     let mut limit = 0;
@@ -38,23 +38,23 @@ fn past_all(notes: &[Note]) -> usize
 }
 
 #[tactic(auto, using(std::proofs::lemmas::List::set_past))]
-fn mark(flags: &mut Vec<bool>, note: &Note)
+fn mark(flags: &mut Vec<bool>, note: &Finding)
     ensures { flags.new.items ≡ marked flags.old.items note.now }
 {
     match note {
-        Note::Names(variable) => {
+        Finding::Names(variable) => {
             let place = *variable as usize;
             if place < flags.len() {
                 flags[place] = true;
             }
         }
-        Note::Wrong(_) => {}
-        Note::Takes(_, _) => {}
+        Finding::Wrong(_) => {}
+        Finding::Takes(_, _) => {}
     }
 }
 
 /// Which variables and globals paths name, by the token that declares them.
-fn marks(alloc: Global, notes: &[Note]) -> Result<NamedVariables, AllocError>
+fn marks(alloc: Global, notes: &[Finding]) -> Result<NamedVariables, AllocError>
     ensures { IfOk result (λ named. named ≡ marks notes.now) }
 {
     let mut flags = vec![in alloc; false; past_all(notes)]?;
@@ -76,7 +76,7 @@ fn taken(
 {
     if named {
         let subject = Name::from_slice(alloc, text_at(typed, taken.1))?;
-        if let Note::Wrong(case) = error(alloc, 10, taken.0, subject) {
+        if let Finding::Wrong(case) = error(alloc, 10, taken.0, subject) {
             errors.push(case)?;
         }
     }
@@ -87,18 +87,18 @@ fn settle_one(
     alloc: Global,
     typed: &Typed,
     named: &NamedVariables,
-    note: Note,
+    note: Finding,
     errors: &mut Vec<ModeError>,
 ) -> Result<(), AllocError>
     ensures { OnOk result (errors.new.items ≡ errors.old.items ++ settled typed.now named.now note) }
 {
     match note {
-        Note::Wrong(case) => {
+        Finding::Wrong(case) => {
             errors.push(case)?;
             Ok(())
         }
-        Note::Names(_) => Ok(()),
-        Note::Takes(span, variable) => {
+        Finding::Names(_) => Ok(()),
+        Finding::Takes(span, variable) => {
             taken(alloc, typed, named.has(variable), (span, variable), errors)
         }
     }
@@ -109,7 +109,7 @@ fn settle_back(
     alloc: Global,
     typed: &Typed,
     named: &NamedVariables,
-    mut list: Vec<Note>,
+    mut list: Vec<Finding>,
 ) -> Result<Vec<ModeError>, AllocError>
     ensures { IfOk result (λ errors. reverse errors.items ≡ flat_map (settled typed.now named.now) list.items) }
 {
@@ -124,7 +124,7 @@ fn settle_back(
 pub(crate) fn settle(
     alloc: Global,
     typed: &Typed,
-    notes: Vec<Note>,
+    notes: Vec<Finding>,
 ) -> Result<(Vec<ModeError>, NamedVariables), AllocError>
     ensures errors { IfOk result (λ found. found.0.items ≡ errors_of typed.now notes.items) }
     ensures named { IfOk result (λ found. found.1 ≡ marks notes.items) }

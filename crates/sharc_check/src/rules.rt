@@ -19,10 +19,10 @@ use crate::passing::Passing;
 use sharc_ctype::typed::Typed;
 use sharc_mode::cell::{cell_of, pointed};
 use sharc_mode::error::ModeError;
+use sharc_mode::finding::Finding;
 use sharc_mode::moded::Moded;
-use sharc_mode::note::Note;
 use sharc_mode::read::{path_variable, read};
-use sharc_mode::row::{Reading, Row, cast_row, declared_row, row_of};
+use sharc_mode::row::{Reading, Targets, cast_row, declared_row, row_of};
 use sharc_mode::sharing::{
     Lock, Sharing, is_readonly, is_sibling, object_named, object_of, sharing_of, variable_named,
 };
@@ -47,10 +47,10 @@ fn no_type(alloc: Global) -> CType
 }
 
 /// A case that shows no types.
-pub(crate) fn error(alloc: Global, code: u8, span: Span, subject: Name) -> Note
+pub(crate) fn error(alloc: Global, code: u8, span: Span, subject: Name) -> Finding
     ensures { result ≡ error code span subject }
 {
-    Note::Wrong(ModeError {
+    Finding::Wrong(ModeError {
         code,
         site: span.first,
         expected: no_type(alloc),
@@ -60,10 +60,16 @@ pub(crate) fn error(alloc: Global, code: u8, span: Span, subject: Name) -> Note
 }
 
 /// A case that shows two types.
-pub(crate) fn mismatch(alloc: Global, code: u8, span: Span, expected: CType, found: CType) -> Note
+pub(crate) fn mismatch(
+    alloc: Global,
+    code: u8,
+    span: Span,
+    expected: CType,
+    found: CType,
+) -> Finding
     ensures { result ≡ mismatch code span expected found }
 {
-    Note::Wrong(ModeError {
+    Finding::Wrong(ModeError {
         code,
         site: span.first,
         expected,
@@ -79,8 +85,8 @@ fn differ(
     code: u8,
     span: Span,
     root: Root<'_>,
-    rows: (Row<'_>, Row<'_>),
-    notes: &mut Vec<Note>,
+    rows: (Targets<'_>, Targets<'_>),
+    notes: &mut Vec<Finding>,
 ) -> Result<(), AllocError>
     requires expected { rows.0.first + rows.0.count ≤ position_count program.now.typed }
     requires found { rows.1.first + rows.1.count ≤ position_count program.now.typed }
@@ -97,9 +103,9 @@ fn differ(
 pub(crate) fn agree(
     alloc: Global,
     program: &Moded,
-    expected: Option<Row<'_>>,
+    expected: Option<Targets<'_>>,
     expr: &Expr,
-    notes: &mut Vec<Note>,
+    notes: &mut Vec<Finding>,
 ) -> Result<(), AllocError>
     requires { EndsWithin program.now.typed expected }
     ensures { OnOk result (notes.new.items ≡ notes.old.items ++ agree_notes program.now (option_map (modes_of program.now) (view_rows expected.entry)) (view_expr expr.now)) }
@@ -132,7 +138,7 @@ fn readonly(
     program: &Moded,
     code: u8,
     place: &Expr,
-    notes: &mut Vec<Note>,
+    notes: &mut Vec<Finding>,
 ) -> Result<(), AllocError>
     ensures { OnOk result (notes.new.items ≡ notes.old.items ++ error_where (is_readonly (cell_at program.now (view_expr place.now))) code (span_of (view_expr place.now)) (span_text program.now.typed (span_of (view_expr place.now)))) }
 {
@@ -149,7 +155,7 @@ pub(crate) fn write(
     alloc: Global,
     program: &Moded,
     place: &Expr,
-    notes: &mut Vec<Note>,
+    notes: &mut Vec<Finding>,
 ) -> Result<(), AllocError>
     ensures { OnOk result (notes.new.items ≡ notes.old.items ++ write_notes program.now (view_expr place.now)) }
 {
@@ -163,7 +169,7 @@ pub(crate) fn cast(
     span: Span,
     to: &WrittenType,
     from: &Expr,
-    notes: &mut Vec<Note>,
+    notes: &mut Vec<Finding>,
 ) -> Result<(), AllocError>
     ensures { OnOk result (notes.new.items ≡ notes.old.items ++ cast_notes program.now.typed to.now.span to.now.ctype.base (modes_of program.now (cast_row program.now.typed span)) (modes_at program.now (view_expr from.now))) }
 {
@@ -194,11 +200,11 @@ pub fn taken_variable(typed: &Typed, place: &Expr) -> Option<u32>
     }
 }
 
-fn takes(span: Span, variable: Option<u32>, notes: &mut Vec<Note>) -> Result<(), AllocError>
+fn takes(span: Span, variable: Option<u32>, notes: &mut Vec<Finding>) -> Result<(), AllocError>
     ensures { OnOk result (notes.new.items ≡ notes.old.items ++ takes span variable) }
 {
     if let Some(variable) = variable {
-        notes.push(Note::Takes(span, variable))?;
+        notes.push(Finding::Takes(span, variable))?;
     }
     Ok(())
 }
@@ -208,7 +214,7 @@ pub(crate) fn source(
     alloc: Global,
     program: &Moded,
     place: &Expr,
-    notes: &mut Vec<Note>,
+    notes: &mut Vec<Finding>,
 ) -> Result<(), AllocError>
     ensures { OnOk result (notes.new.items ≡ notes.old.items ++ source_notes program.now (view_expr place.now)) }
 {
@@ -223,7 +229,7 @@ pub(crate) fn place(
     program: &Moded,
     call: PlaceCall,
     place: &Expr,
-    notes: &mut Vec<Note>,
+    notes: &mut Vec<Finding>,
 ) -> Result<(), AllocError>
     ensures { OnOk result (notes.new.items ≡ notes.old.items ++ place_notes program.now call (view_expr place.now)) }
 {
@@ -234,11 +240,11 @@ pub(crate) fn place(
     }
 }
 
-fn name(variable: Option<u32>, notes: &mut Vec<Note>) -> Result<(), AllocError>
+fn name(variable: Option<u32>, notes: &mut Vec<Finding>) -> Result<(), AllocError>
     ensures { OnOk result (notes.new.items ≡ notes.old.items ++ names_of variable) }
 {
     if let Some(variable) = variable {
-        notes.push(Note::Names(variable))?;
+        notes.push(Finding::Names(variable))?;
     }
     Ok(())
 }
@@ -247,7 +253,7 @@ fn name(variable: Option<u32>, notes: &mut Vec<Note>) -> Result<(), AllocError>
 pub(crate) fn name_in(
     typed: &Typed,
     s: Sharing<'_>,
-    notes: &mut Vec<Note>,
+    notes: &mut Vec<Finding>,
 ) -> Result<(), AllocError>
     ensures { OnOk result (notes.new.items ≡ notes.old.items ++ names_in typed.now (view_sharing s.entry)) }
 {
@@ -261,7 +267,11 @@ pub(crate) fn name_in(
 }
 
 /// The variables and globals that the paths of a row name.
-fn names_in_row(program: &Moded, row: Row<'_>, notes: &mut Vec<Note>) -> Result<(), AllocError>
+fn names_in_row(
+    program: &Moded,
+    row: Targets<'_>,
+    notes: &mut Vec<Finding>,
+) -> Result<(), AllocError>
     requires { row.first + row.count ≤ position_count program.now.typed }
     ensures { OnOk result (notes.new.items ≡ notes.old.items ++ names_in_all program.now.typed (modes_of program.now (view_row row.entry))) }
 {
@@ -277,7 +287,7 @@ fn names_in_row(program: &Moded, row: Row<'_>, notes: &mut Vec<Note>) -> Result<
 }
 
 /// Whether some target is locked by a sibling.
-fn any_sibling(program: &Moded, row: Row<'_>) -> bool
+fn any_sibling(program: &Moded, row: Targets<'_>) -> bool
     requires { row.first + row.count ≤ position_count program.now.typed }
     ensures { result ≡ list_any (is_sibling program.now.typed) (modes_of program.now (view_row row.entry)) }
 {
@@ -299,7 +309,7 @@ fn sibling(
     typed: &Typed,
     span: Span,
     base: Option<u32>,
-    notes: &mut Vec<Note>,
+    notes: &mut Vec<Finding>,
 ) -> Result<(), AllocError>
     ensures { OnOk result (notes.new.items ≡ notes.old.items ++ sibling_notes typed.now span base) }
 {
@@ -319,8 +329,8 @@ pub(crate) fn field(
     program: &Moded,
     span: Span,
     base: Option<u32>,
-    targets: Row<'_>,
-    notes: &mut Vec<Note>,
+    targets: Targets<'_>,
+    notes: &mut Vec<Finding>,
 ) -> Result<(), AllocError>
     requires { targets.first + targets.count ≤ position_count program.now.typed }
     ensures { OnOk result (notes.new.items ≡ notes.old.items ++ field_notes program.now.typed span base (modes_of program.now (view_row targets.entry))) }
@@ -361,7 +371,7 @@ fn or_else<'a>(first: Option<Lock<'a>>, second: Option<Lock<'a>>) -> Option<Lock
 }
 
 /// The first of them in the source, where the deepest target stands first.
-fn unmet_in<'a>(program: &'a Moded, passing: Passing<'_>, row: Row<'a>) -> Option<Lock<'a>>
+fn unmet_in<'a>(program: &'a Moded, passing: Passing<'_>, row: Targets<'a>) -> Option<Lock<'a>>
     requires { row.first + row.count ≤ position_count program.now.typed }
     ensures { view_locks result ≡ unmet_in program.now.typed passing.entry.parameters.now (view_passed passing.entry.passed) (modes_of program.now (view_row row.entry)) }
 {
@@ -437,7 +447,7 @@ fn said_unmet(
     typed: &Typed,
     span: Span,
     lock: Option<Lock<'_>>,
-    notes: &mut Vec<Note>,
+    notes: &mut Vec<Finding>,
 ) -> Result<(), AllocError>
     ensures { OnOk result (notes.new.items ≡ notes.old.items ++ unmet_notes typed.now span (view_locks lock.entry)) }
 {
@@ -453,7 +463,7 @@ fn name_read(
     typed: &Typed,
     reading: Reading<'_>,
     level: &Option<Mode>,
-    notes: &mut Vec<Note>,
+    notes: &mut Vec<Finding>,
 ) -> Result<(), AllocError>
     ensures { OnOk result (notes.new.items ≡ notes.old.items ++ names_read typed.now (view_reading reading.entry) level.now) }
 {
@@ -468,7 +478,7 @@ fn names_read(
     typed: &Typed,
     reading: Reading<'_>,
     levels: &[Option<Mode>],
-    notes: &mut Vec<Note>,
+    notes: &mut Vec<Finding>,
 ) -> Result<(), AllocError>
     ensures { OnOk result (notes.new.items ≡ notes.old.items ++ flat_map (names_read typed.now (view_reading reading.entry)) levels.now) }
 {
@@ -483,7 +493,7 @@ fn parameter_names(
     program: &Moded,
     passing: Passing<'_>,
     parameter: &Declaration,
-    notes: &mut Vec<Note>,
+    notes: &mut Vec<Finding>,
 ) -> Result<(), AllocError>
     ensures { OnOk result (notes.new.items ≡ notes.old.items ++ parameter_names program.now (at_call passing.entry.parameters.now (view_passed passing.entry.passed)) parameter.now) }
 {
@@ -498,7 +508,7 @@ fn parameter_names(
 fn names_at_call(
     program: &Moded,
     passing: Passing<'_>,
-    notes: &mut Vec<Note>,
+    notes: &mut Vec<Finding>,
 ) -> Result<(), AllocError>
     ensures { OnOk result (notes.new.items ≡ notes.old.items ++ names_at_call program.now passing.entry.parameters.now (view_passed passing.entry.passed) passing.entry.parameters.now) }
 {
@@ -514,7 +524,7 @@ pub(crate) fn call(
     program: &Moded,
     span: Span,
     passing: Passing<'_>,
-    notes: &mut Vec<Note>,
+    notes: &mut Vec<Finding>,
 ) -> Result<(), AllocError>
     ensures { OnOk result (notes.new.items ≡ notes.old.items ++ call_notes program.now span passing.entry.parameters.now (view_passed passing.entry.passed)) }
 {
@@ -533,7 +543,7 @@ pub fn expected<'a>(
     program: &'a Moded,
     passing: Passing<'a>,
     left: &[Declaration],
-) -> Option<Row<'a>>
+) -> Option<Targets<'a>>
     ensures row { option_map (modes_of program.now) (view_rows result) ≡ expected program.now passing.entry.parameters.now (view_passed passing.entry.passed) left.now }
     ensures within { EndsWithin program.now.typed result }
 {

@@ -9,9 +9,9 @@ ghost use Rattle.sharc_mode.specs.View.{view_rows, EndsWithin};
 
 use crate::expr::expression;
 use crate::rules::{agree, write};
+use sharc_mode::finding::Finding;
 use sharc_mode::moded::Moded;
-use sharc_mode::note::Note;
-use sharc_mode::row::{Reading, Row, declared_row, row_of};
+use sharc_mode::row::{Reading, Targets, declared_row, row_of};
 use sharc_tree::tree::{Expr, ForFirst, ForHead, Item, Local, Right, Simple, Stmt};
 use std::alloc::{AllocError, Global};
 
@@ -19,7 +19,7 @@ fn optional(
     alloc: Global,
     program: &Moded,
     expr: &Option<Expr>,
-    notes: &mut Vec<Note>,
+    notes: &mut Vec<Finding>,
 ) -> Result<(), AllocError>
     ensures { OnOk result (notes.new.items ≡ notes.old.items ++ option_notes (notes_of program.now) (view_option view_expr expr.now)) }
 {
@@ -33,9 +33,9 @@ fn optional(
 fn right(
     alloc: Global,
     program: &Moded,
-    want: Option<Row<'_>>,
+    want: Option<Targets<'_>>,
     right: &Right,
-    notes: &mut Vec<Note>,
+    notes: &mut Vec<Finding>,
 ) -> Result<(), AllocError>
     requires { EndsWithin program.now.typed want }
     ensures { OnOk result (notes.new.items ≡ notes.old.items ++ right_notes program.now (option_map (modes_of program.now) (view_rows want.entry)) (view_right right.now)) }
@@ -53,7 +53,7 @@ fn simple(
     alloc: Global,
     program: &Moded,
     simple: &Simple,
-    notes: &mut Vec<Note>,
+    notes: &mut Vec<Finding>,
 ) -> Result<(), AllocError>
     ensures { OnOk result (notes.new.items ≡ notes.old.items ++ simple_notes program.now (view_simple simple.now)) }
 {
@@ -70,9 +70,9 @@ fn simple(
 fn initial(
     alloc: Global,
     program: &Moded,
-    want: Option<Row<'_>>,
+    want: Option<Targets<'_>>,
     value: &Option<Right>,
-    notes: &mut Vec<Note>,
+    notes: &mut Vec<Finding>,
 ) -> Result<(), AllocError>
     requires { EndsWithin program.now.typed want }
     ensures { OnOk result (notes.new.items ≡ notes.old.items ++ option_notes (right_notes program.now (option_map (modes_of program.now) (view_rows want.entry))) (view_option view_right value.now)) }
@@ -87,7 +87,7 @@ fn local(
     alloc: Global,
     program: &Moded,
     local: &Local,
-    notes: &mut Vec<Note>,
+    notes: &mut Vec<Finding>,
 ) -> Result<(), AllocError>
     ensures { OnOk result (notes.new.items ≡ notes.old.items ++ local_notes program.now (view_local local.now)) }
 {
@@ -100,7 +100,7 @@ fn first(
     alloc: Global,
     program: &Moded,
     first: &ForFirst,
-    notes: &mut Vec<Note>,
+    notes: &mut Vec<Finding>,
 ) -> Result<(), AllocError>
     ensures { OnOk result (notes.new.items ≡ notes.old.items ++ first_notes program.now (view_first first.now)) }
 {
@@ -115,7 +115,7 @@ fn step(
     alloc: Global,
     program: &Moded,
     step: &Option<Simple>,
-    notes: &mut Vec<Note>,
+    notes: &mut Vec<Finding>,
 ) -> Result<(), AllocError>
     ensures { OnOk result (notes.new.items ≡ notes.old.items ++ option_notes (simple_notes program.now) (view_option view_simple step.now)) }
 {
@@ -129,7 +129,7 @@ fn head(
     alloc: Global,
     program: &Moded,
     head: &ForHead,
-    notes: &mut Vec<Note>,
+    notes: &mut Vec<Finding>,
 ) -> Result<(), AllocError>
     ensures { OnOk result (notes.new.items ≡ notes.old.items ++ head_notes program.now (view_head head.now)) }
 {
@@ -144,7 +144,7 @@ fn returned(
     program: &Moded,
     function: u32,
     value: &Option<Box<Expr>>,
-    notes: &mut Vec<Note>,
+    notes: &mut Vec<Finding>,
 ) -> Result<(), AllocError>
     ensures { OnOk result (notes.new.items ≡ notes.old.items ++ option_notes (return_notes program.now function) (view_option (λ b. view_expr b.value) value.now)) }
 {
@@ -165,7 +165,7 @@ fn statement(
     program: &Moded,
     function: u32,
     stmt: &Stmt,
-    notes: &mut Vec<Note>,
+    notes: &mut Vec<Finding>,
 ) -> Result<(), AllocError>
     ensures { OnOk result (notes.new.items ≡ notes.old.items ++ notes_in program.now function (view_stmt stmt.now)) }
 {
@@ -208,7 +208,7 @@ fn statements(
     program: &Moded,
     function: u32,
     all: &[Stmt],
-    notes: &mut Vec<Note>,
+    notes: &mut Vec<Finding>,
 ) -> Result<(), AllocError>
     ensures { OnOk result (notes.new.items ≡ notes.old.items ++ notes_in_all program.now function (view_statements all.now)) }
 {
@@ -222,7 +222,7 @@ fn item(
     alloc: Global,
     program: &Moded,
     item: &Item,
-    notes: &mut Vec<Note>,
+    notes: &mut Vec<Finding>,
 ) -> Result<(), AllocError>
     ensures { OnOk result (notes.new.items ≡ notes.old.items ++ item_notes program.now (view_item item.now)) }
 {
@@ -247,7 +247,7 @@ pub(crate) fn items(
     alloc: Global,
     program: &Moded,
     items: &[Item],
-    notes: &mut Vec<Note>,
+    notes: &mut Vec<Finding>,
 ) -> Result<(), AllocError>
     ensures { OnOk result (notes.new.items ≡ notes.old.items ++ items_notes program.now (view_items items.now)) }
 {

@@ -15,8 +15,8 @@ ghost use Rattle.sharc_check.specs.Threads.{function_notes, global_notes, touche
 use crate::rules::error;
 use crate::types::is_private_level;
 use sharc_mode::cell::pointed;
+use sharc_mode::finding::Finding;
 use sharc_mode::moded::Moded;
-use sharc_mode::note::Note;
 use sharc_mode::row::{Reading, declared_row};
 use sharc_mode::sharing::is_private;
 use sharc_mode::shown::row_laws;
@@ -43,7 +43,7 @@ fn parameter(
     program: &Moded,
     name: &Name,
     of: &Declaration,
-    notes: &mut Vec<Note>,
+    notes: &mut Vec<Finding>,
 ) -> Result<(), AllocError>
     ensures { OnOk result (notes.new.items ≡ notes.old.items ++ parameter_notes program.now name.now of.now) }
 {
@@ -58,7 +58,7 @@ fn parameters(
     program: &Moded,
     name: &Name,
     all: &[Declaration],
-    notes: &mut Vec<Note>,
+    notes: &mut Vec<Finding>,
 ) -> Result<(), AllocError>
     ensures { OnOk result (notes.new.items ≡ notes.old.items ++ flat_map (parameter_notes program.now name.now) all.now) }
 {
@@ -73,7 +73,7 @@ fn function(
     program: &Moded,
     spawned: bool,
     of: Option<&FunctionDefinition>,
-    notes: &mut Vec<Note>,
+    notes: &mut Vec<Finding>,
 ) -> Result<(), AllocError>
     ensures { OnOk result (notes.new.items ≡ notes.old.items ++ function_notes program.now spawned (option_map (λ f. view_function f.now) of.entry)) }
 {
@@ -100,7 +100,7 @@ pub(crate) fn spawned(
     alloc: Global,
     program: &Moded,
     reached: &Reached,
-    notes: &mut Vec<Note>,
+    notes: &mut Vec<Finding>,
 ) -> Result<(), AllocError>
     requires { AreReached program.now.typed reached.now }
     ensures { OnOk result (notes.new.items ≡ notes.old.items ++ spawned_notes program.now 0 (functions_in program.now.typed.program.items)) }
@@ -127,7 +127,7 @@ fn global(
     alloc: Global,
     touched: bool,
     of: Option<&GlobalDefinition>,
-    notes: &mut Vec<Note>,
+    notes: &mut Vec<Finding>,
 ) -> Result<(), AllocError>
     ensures { OnOk result (notes.new.items ≡ notes.old.items ++ global_notes touched (option_copied of.entry)) }
 {
@@ -159,7 +159,7 @@ pub(crate) fn touched(
     alloc: Global,
     program: &Moded,
     reached: &Reached,
-    notes: &mut Vec<Note>,
+    notes: &mut Vec<Finding>,
 ) -> Result<(), AllocError>
     requires { length reached.now.firsts ≡ length (globals_in program.now.typed.program.items) }
     ensures { OnOk result (notes.new.items ≡ notes.old.items ++ touched_notes (touched_by reached.now) 0 (globals_in program.now.typed.program.items)) }

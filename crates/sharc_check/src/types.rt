@@ -12,8 +12,8 @@ use crate::rules::{error, mismatch, name_in};
 use sharc_ctype::entity::Numbered;
 use sharc_ctype::typed::Typed;
 use sharc_mode::cell::top_of;
+use sharc_mode::finding::Finding;
 use sharc_mode::moded::Moded;
-use sharc_mode::note::Note;
 use sharc_mode::place::Place;
 use sharc_mode::sharing::sharing_of;
 use sharc_mode::shown::printed_type;
@@ -72,7 +72,7 @@ fn private(
     alloc: Global,
     program: &Moded,
     numbered: &Numbered,
-    notes: &mut Vec<Note>,
+    notes: &mut Vec<Finding>,
 ) -> Result<(), AllocError>
     requires { numbered.now.first + positions_of numbered.now.entity ≤ position_count program.now.typed }
     ensures { OnOk result (notes.new.items ≡ notes.old.items ++ private_notes program.now numbered.now) }
@@ -91,7 +91,7 @@ fn path(
     alloc: Global,
     typed: &Typed,
     numbered: &Numbered,
-    notes: &mut Vec<Note>,
+    notes: &mut Vec<Finding>,
 ) -> Result<(), AllocError>
     ensures { OnOk result (notes.new.items ≡ notes.old.items ++ path_notes numbered.now.entity.written.span (first_unfit_path typed.now (place_of numbered.now.entity.role) numbered.now.entity.written.ctype.base numbered.now.entity.written.ctype.levels)) }
 {
@@ -109,7 +109,7 @@ fn path(
 }
 
 /// M5
-fn mode(alloc: Global, numbered: &Numbered, notes: &mut Vec<Note>) -> Result<(), AllocError>
+fn mode(alloc: Global, numbered: &Numbered, notes: &mut Vec<Finding>) -> Result<(), AllocError>
     ensures { OnOk result (notes.new.items ≡ notes.old.items ++ mode_notes numbered.now.entity.written.span (first_unfit_mode (place_of numbered.now.entity.role) numbered.now.entity.written.ctype.base numbered.now.entity.written.ctype.levels)) }
 {
     let place = place_of(numbered.entity.role);
@@ -160,7 +160,7 @@ fn private_field(
     alloc: Global,
     typed: &Typed,
     numbered: &Numbered,
-    notes: &mut Vec<Note>,
+    notes: &mut Vec<Finding>,
 ) -> Result<(), AllocError>
     ensures { OnOk result (notes.new.items ≡ notes.old.items ++ private_field_notes typed.now numbered.now) }
 {
@@ -175,7 +175,7 @@ fn private_field(
 fn name_in_level(
     typed: &Typed,
     level: &Option<Mode>,
-    notes: &mut Vec<Note>,
+    notes: &mut Vec<Finding>,
 ) -> Result<(), AllocError>
     ensures { OnOk result (notes.new.items ≡ notes.old.items ++ names_in_level typed.now level.now) }
 {
@@ -186,7 +186,7 @@ fn name_in_level(
 }
 
 /// The variables and globals that the paths of a type name.
-fn names(typed: &Typed, levels: &[Option<Mode>], notes: &mut Vec<Note>) -> Result<(), AllocError>
+fn names(typed: &Typed, levels: &[Option<Mode>], notes: &mut Vec<Finding>) -> Result<(), AllocError>
     ensures { OnOk result (notes.new.items ≡ notes.old.items ++ flat_map (names_in_level typed.now) levels.now) }
 {
     for level in levels {
@@ -200,7 +200,7 @@ fn type_said(
     alloc: Global,
     program: &Moded,
     numbered: &Numbered,
-    notes: &mut Vec<Note>,
+    notes: &mut Vec<Finding>,
 ) -> Result<(), AllocError>
     requires { numbered.now.first + positions_of numbered.now.entity ≤ position_count program.now.typed }
     ensures { OnOk result (notes.new.items ≡ notes.old.items ++ type_notes program.now numbered.now) }
@@ -218,7 +218,11 @@ fn type_said(
 }
 
 /// Says what is to be said of all types.
-pub(crate) fn types(alloc: Global, program: &Moded, notes: &mut Vec<Note>) -> Result<(), AllocError>
+pub(crate) fn types(
+    alloc: Global,
+    program: &Moded,
+    notes: &mut Vec<Finding>,
+) -> Result<(), AllocError>
     ensures { OnOk result (notes.new.items ≡ notes.old.items ++ flat_map (type_notes program.now) (numbered (entities_in program.now.typed.program.items))) }
 {
     let typed = program.typed();

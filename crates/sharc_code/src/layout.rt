@@ -152,8 +152,11 @@ pub fn argument_word(thread: u32) -> u32
 /// The number of cell `j` of the object with this header granule, counted from the first cell of granule 0: the largest number where it
 /// is larger.
 #[inline(always)]
-pub fn cell_of(header: u64, j: u64) -> u64
-    ensures { result ≡ min (cell_of header j) (2 ^ 64 - 1) }
+pub fn cell_of(header: u64, index: u64) -> u64
+    ensures { result ≡ min (cell_of header index) (2 ^ 64 - 1) }
 {
-    header.saturating_add(1).saturating_mul(2).saturating_add(j)
+    header
+        .saturating_add(1)
+        .saturating_mul(2)
+        .saturating_add(index)
 }

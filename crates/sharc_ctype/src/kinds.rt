@@ -23,16 +23,16 @@ fn variable_kind(declaration: Option<&Declaration>) -> Kind<'_>
 }
 
 /// The kind of a name that names this.
-fn named_kind(t: &Typed, named: Named) -> Kind<'_>
-    ensures { view_kind result ≡ named_kind t.now named }
+fn named_kind(typed: &Typed, named: Named) -> Kind<'_>
+    ensures { view_kind result ≡ named_kind typed.now named }
 {
     match named {
-        Named::Global(number) => match t.global_at(number) {
+        Named::Global(number) => match typed.global_at(number) {
             None => Kind::Function,
             Some(global) => kind_of(Meaning::Global(number, global)),
         },
-        Named::Variable(token) => variable_kind(t.declaration_at(token)),
-        Named::Field(token) => variable_kind(t.declaration_at(token)),
+        Named::Variable(token) => variable_kind(typed.declaration_at(token)),
+        Named::Field(token) => variable_kind(typed.declaration_at(token)),
         Named::Struct(_) => Kind::Function,
         Named::Function(_) => Kind::Function,
         Named::Known => Kind::Function,
@@ -40,11 +40,11 @@ fn named_kind(t: &Typed, named: Named) -> Kind<'_>
 }
 
 /// The kind of a call of a name that names this.
-fn called_kind(t: &Typed, named: Named) -> Kind<'_>
-    ensures { view_kind result ≡ called_kind t.now named }
+fn called_kind(typed: &Typed, named: Named) -> Kind<'_>
+    ensures { view_kind result ≡ called_kind typed.now named }
 {
     match named {
-        Named::Function(number) => match t.function_at(number) {
+        Named::Function(number) => match typed.function_at(number) {
             None => Kind::void(),
             Some(function) => declared_kind(&function.result),
         },

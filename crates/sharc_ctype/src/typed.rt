@@ -211,11 +211,11 @@ impl Typed {
 }
 
 /// The cells of an element of the struct with this number. It takes no memory.
-pub fn layout(t: &Typed, of: u32) -> StructCells
-    requires { IsSome (struct_at t.now of) }
-    ensures { IsSomeAnd (struct_at t.now of) (λ s. IsLayout s.fields result) }
+pub fn layout(typed: &Typed, of: u32) -> StructCells
+    requires { IsSome (struct_at typed.now of) }
+    ensures { IsSomeAnd (struct_at typed.now of) (λ s. IsLayout s.fields result) }
 {
-    let definition = t.struct_at(of).unwrap();
+    let definition = typed.struct_at(of).unwrap();
     cells_of(definition.fields.as_slice())
 }
 

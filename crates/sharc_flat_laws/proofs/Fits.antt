@@ -7,7 +7,7 @@ use Rattle.sharc_ctype.specs.declared.entity.Entity.{Entity}
 use Rattle.sharc_ctype.specs.declared.entity.Numbered.{Numbered}
 use Rattle.sharc_ctype.specs.Entities.{entities_in, numbered, numbered_from, positions_of}
 use Rattle.sharc_ctype.specs.Resolved.{Resolution, globals_in, functions_in}
-use Rattle.sharc_mode.specs.declared.note.Note.{Note}
+use Rattle.sharc_mode.specs.declared.finding.Finding.{Finding}
 use Rattle.sharc_mode.specs.Expressions.{items_notes}
 use Rattle.sharc_mode.specs.Moded.{Assignment}
 use Rattle.sharc_mode.specs.Notes.{type_notes, path_notes, errors_by, private_notes, mode_notes, private_field_notes, names_in_level}
@@ -31,15 +31,15 @@ from_all : {A B : Type 0} (P : B → Type 0) (f : A → List B) (xs : List A) �
 from_all P f [] h = tt
 from_all P f (x ∷ xs) h = (front P (f x) (flat_map f xs) h, from_all P f xs (back P (f x) (flat_map f xs) h))
 
-no_path : (r : Resolution) (all : List Note) (s : Span) (o : Option Path) → AllByRecursion (λ n. errors_by r all n ≡ []) (path_notes s o) → o ≡ None
+no_path : (r : Resolution) (all : List Finding) (s : Span) (o : Option Path) → AllByRecursion (λ n. errors_by r all n ≡ []) (path_notes s o) → o ≡ None
 no_path r all s None h = refl
 no_path r all s (Some path) h = absurd (no_head _ _ h.0)
 
-fit_from : (m : Assignment) (all : List Note) (k : ℕ) (list : List Entity) → AllByRecursion (λ n. AllByRecursion (λ z. errors_by m.typed all z ≡ []) (type_notes m n)) (numbered_from k list) → AllByRecursion (IsFit m.typed) list
+fit_from : (m : Assignment) (all : List Finding) (k : ℕ) (list : List Entity) → AllByRecursion (λ n. AllByRecursion (λ z. errors_by m.typed all z ≡ []) (type_notes m n)) (numbered_from k list) → AllByRecursion (IsFit m.typed) list
 fit_from m all k [] h = tt
 fit_from m all k (e ∷ rest) h =
     let n : Numbered = record { entity = e; first = k } in
-    let P : Note → Type 0 = λ z. errors_by m.typed all z ≡ [] in
+    let P : Finding → Type 0 = λ z. errors_by m.typed all z ≡ [] in
     let a = private_notes m n in
     let b = path_notes e.written.span (first_unfit_path m.typed (place_of e.role) e.written.ctype.base e.written.ctype.levels) in
     let d = mode_notes e.written.span (first_unfit_mode (place_of e.role) e.written.ctype.base e.written.ctype.levels) in
@@ -54,7 +54,7 @@ pub well_moded_fit : (m : Assignment) → WellModed m → AllByRecursion (IsFit 
 well_moded_fit m well =
     let all = notes_about m well.touched in
     fit_from m all 0 (entities_in m.typed.program.items)
-    let P : Note → Type 0 = λ z. errors_by m.typed all z ≡ [] in
+    let P : Finding → Type 0 = λ z. errors_by m.typed all z ≡ [] in
     let a = flat_map (type_notes m) (numbered (entities_in m.typed.program.items)) in
     let b = spawned_notes m 0 (functions_in m.typed.program.items) in
     let d = touched_notes well.touched 0 (globals_in m.typed.program.items) in

@@ -27,7 +27,7 @@ use Rattle.sharc_graph.specs.Findings.{finding_at}
 use Rattle.sharc_mode.specs.Cells.{first_of, pointed}
 use Rattle.sharc_mode.specs.Flows.{IsLeastAssignment, mode_found}
 use Rattle.sharc_mode.specs.Moded.{Assignment, mode_at}
-use Rattle.sharc_mode.specs.Rows.{Reading, written, through, Row, deeper, targets_from, entity_row, read}
+use Rattle.sharc_mode.specs.Rows.{Reading, written, through, Targets, deeper, targets_from, entity_row, read}
 use Rattle.sharc_mode.specs.Settled.{is_mutex, settled, field_target, otherwise_of, settled_modes, settled_in, settled_at}
 use Rattle.sharc_mode.specs.Sharings.{Sharing, private, readonly, locked, racy, dynamic, sharing_of, text_at, is_sibling_lock}
 use Rattle.sharc_flat_laws.specs.Stands.{PathNamedIn, PathIn}
@@ -213,10 +213,10 @@ mode_good m least names n w good k low =
     (one_good m.typed names (settled_modes n.entity) k (entity_good m.typed names n.entity good)))))
 
 -- ---- rows
-abbrev pub GoodRow : Assignment → List Entry → Row → Type 0
+abbrev pub GoodRow : Assignment → List Entry → Targets → Type 0
 GoodRow m names row = (k : ℕ) → k < row.count → PathIn m.typed names (read m.typed row.reading (mode_at m (row.first + k)))
 
-pub deeper_good : (m : Assignment) (names : List Entry) (row : Row) → GoodRow m names row → GoodRow m names (deeper row)
+pub deeper_good : (m : Assignment) (names : List Entry) (row : Targets) → GoodRow m names row → GoodRow m names (deeper row)
 deeper_good m names row g = by (row.count == 0)
   where
     by : (b : Bool) → GoodRow m names (cond b row (record { first = row.first + 1; count = row.count - 1; reading = row.reading }))
@@ -233,7 +233,7 @@ first_taken Q f (suc c) (suc n) [] q h = q
 first_taken Q f zero (suc n) (x ∷ xs) q h = first_taken Q f zero n xs q h
 first_taken Q f (suc c) (suc n) (x ∷ xs) q h = first_taken Q f (suc c) n xs q h
 
-pub pointed_good : (m : Assignment) (names : List Entry) (row : Row) → GoodRow m names row → PathIn m.typed names (pointed m (Some row))
+pub pointed_good : (m : Assignment) (names : List Entry) (row : Targets) → GoodRow m names row → PathIn m.typed names (pointed m (Some row))
 pointed_good m names row g =
     first_taken (PathIn m.typed names) (λ mode. read m.typed row.reading (sharing_of mode)) row.count row.first m.modes tt
     (λ low. let z : row.first + 0 ≡ row.first = omega arith in subst (λ p. PathIn m.typed names (read m.typed row.reading (mode_at m p))) z (g 0 low))
@@ -264,7 +264,7 @@ pub entity_row_good : (m : Assignment) → IsLeastAssignment m → (names : List
     → GoodRow m names (entity_row how (Some n))
 entity_row_good m least names how reads n w good = by n.entity.role
   where
-    whole : Row
+    whole : Targets
     whole = record { first = n.first; count = positions_of n.entity; reading = how }
 
     all : GoodRow m names whole

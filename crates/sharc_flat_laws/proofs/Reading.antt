@@ -35,7 +35,7 @@ use Rattle.sharc_ctype.specs.Resolved.{Resolution, named_at, declaration_at, glo
 use Rattle.sharc_mode.specs.Cells.{is_mutex_kind, written_cell, top_of, declared_cell, field_named, first_mode, global_cell, named_cell, pointed, instance, unary_cell, cell_at}
 use Rattle.sharc_mode.specs.Flows.{IsLeastAssignment}
 use Rattle.sharc_mode.specs.Moded.{Assignment, mode_at}
-use Rattle.sharc_mode.specs.Rows.{Reading, written, Row, is_constant_named, constant_use, base_use, no_row, declared_row, global_row, named_row, result_row, called_row, behind, constant_row, reading_through, unary_row, row_at}
+use Rattle.sharc_mode.specs.Rows.{Reading, written, Targets, is_constant_named, constant_use, base_use, no_row, declared_row, global_row, named_row, result_row, called_row, behind, constant_row, reading_through, unary_row, row_at}
 use Rattle.sharc_mode.specs.Sharings.{Sharing, private, readonly, locked, racy, lock_of, is_private}
 use Rattle.sharc_ctype_laws.specs.Constraints.{HasType, IsMemberOf, struct_named, a_variable, a_global, a_function, a_field, a_field_behind}
 use Rattle.sharc_ctype_laws.specs.Found.{IsFound}
@@ -202,7 +202,7 @@ pub record Seen (r : Resolution) (scope : Scope) (e : Expression) : Type 0 where
   pub name : NamesFound r (record { scope = scope; expression = e }) e
   pub cast : CastIn r scope.names e
 
-abbrev RowGood : Assignment → List Entry → Option Row → Type 0
+abbrev RowGood : Assignment → List Entry → Option Targets → Type 0
 RowGood m names None = Unit {0}
 RowGood m names (Some row) = GoodRow m names row
 
@@ -224,15 +224,15 @@ module _ (m : Assignment) (w : FileKnown m) (scope : Scope) where
   choose true s t h k = h
   choose false s t h k = k
 
-  choose_row : (b : Bool) (s t : Option Row) → RowGood m names s → RowGood m names t → RowGood m names (cond b s t)
+  choose_row : (b : Bool) (s t : Option Targets) → RowGood m names s → RowGood m names t → RowGood m names (cond b s t)
   choose_row true s t h k = h
   choose_row false s t h k = k
 
-  deep : (o : Option Row) → RowGood m names o → RowGood m names (behind o)
+  deep : (o : Option Targets) → RowGood m names o → RowGood m names (behind o)
   deep None h = tt
   deep (Some row) h = deeper_good m names row h
 
-  first_target : (o : Option Row) → RowGood m names o → PathIn r names (pointed m o)
+  first_target : (o : Option Targets) → RowGood m names o → PathIn r names (pointed m o)
   first_target None h = tt
   first_target (Some row) h = pointed_good m names row h
 
@@ -359,7 +359,7 @@ module _ (m : Assignment) (w : FileKnown m) (scope : Scope) where
   unary_cells Complement t h = tt
   unary_cells Dereference t h = h
 
-  unary_rows : (o : UnaryOperator) (row : Option Row) → RowGood m names row → RowGood m names (unary_row o row)
+  unary_rows : (o : UnaryOperator) (row : Option Targets) → RowGood m names row → RowGood m names (unary_row o row)
   unary_rows Negate row h = none_good
   unary_rows Not row h = none_good
   unary_rows Complement row h = none_good

@@ -45,23 +45,23 @@ pub struct Around<'a> {
 
 /// The count of a malloc.
 fn elements(
-    p: &Source<'_>,
+    source: &Source<'_>,
     scope: &[Slot],
     at: Registers,
     count: &Option<Expr>,
     lines: &mut Vec<Op>,
 ) -> Result<(), AllocError>
-    ensures { OnOk result (lines.new.items ≡ lines.old.items ++ elements_code (context p.now scope.now) at.int at.reference (view_option view_expr count.now)) }
+    ensures { OnOk result (lines.new.items ≡ lines.old.items ++ elements_code (context source.now scope.now) at.int at.reference (view_option view_expr count.now)) }
 {
     match count {
         None => emit(Op::Constant(at.int, 1), lines),
-        Some(count) => expression(p, scope, at, count, lines),
+        Some(count) => expression(source, scope, at, count, lines),
     }
 }
 
 /// The right side of `=`, for a target of this type, to which a pointer of this mode goes.
 fn right(
-    p: &Source<'_>,
+    source: &Source<'_>,
     scope: &[Slot],
     at: Registers,
     kind: Kind<'_>,
@@ -69,18 +69,18 @@ fn right(
     right: &Right,
     lines: &mut Vec<Op>,
 ) -> Result<(), AllocError>
-    ensures { OnOk result (lines.new.items ≡ lines.old.items ++ right_code (context p.now scope.now) at.int at.reference (view_kind kind.entry) (view_sharing mode.entry) (view_right right.now)) }
+    ensures { OnOk result (lines.new.items ≡ lines.old.items ++ right_code (context source.now scope.now) at.int at.reference (view_kind kind.entry) (view_sharing mode.entry) (view_right right.now)) }
 {
     match right {
         Right::Value(expr) => {
-            expression(p, scope, at, expr, lines)?;
+            expression(source, scope, at, expr, lines)?;
             narrow(at.int, kind, expr.span().first, lines)
         }
         Right::Malloc(span, count, of) => {
-            let cells = element_cells(p, declared_kind(of));
-            let spot = object_spot(p, scope, span.first, no_text(), Use::Other, mode)?;
+            let cells = element_cells(source, declared_kind(of));
+            let spot = object_spot(source, scope, span.first, no_text(), Use::Other, mode)?;
             emit(Op::Enter, lines)?;
-            elements(p, scope, at, count, lines)?;
+            elements(source, scope, at, count, lines)?;
             emit(Op::ChkPositive(at.int, at_site(span.first)), lines)?;
             emit(Op::New(at.reference, at.int, cells, spot), lines)
         }
@@ -88,54 +88,54 @@ fn right(
 }
 
 fn assign(
-    p: &Source<'_>,
+    source: &Source<'_>,
     scope: &[Slot],
     at: Registers,
     to: &Expr,
     value: &Right,
     lines: &mut Vec<Op>,
 ) -> Result<(), AllocError>
-    ensures { OnOk result (lines.new.items ≡ lines.old.items ++ assign_code (context p.now scope.now) at.int at.reference (view_expr to.now) (view_right value.now)) }
+    ensures { OnOk result (lines.new.items ≡ lines.old.items ++ assign_code (context source.now scope.now) at.int at.reference (view_expr to.now) (view_right value.now)) }
 {
-    let t = p.m.typed();
-    let access = access_of(p, to);
-    let guard = guard_of(p, to);
+    let t = source.m.typed();
+    let access = access_of(source, to);
+    let guard = guard_of(source, to);
     let from = at
         .behind_base(access.target)?
         .behind_index(access.target, guard)?;
-    place(p, scope, at, access.site, None, guard, to, lines)?;
-    let mode = pointed(p.m, row_of(t, to));
-    right(p, scope, from, t.kind_at(to), mode, value, lines)?;
-    store(p, scope, at, from, access, is_ref(p, to), lines)
+    place(source, scope, at, access.site, None, guard, to, lines)?;
+    let mode = pointed(source.m, row_of(t, to));
+    right(source, scope, from, t.kind_at(to), mode, value, lines)?;
+    store(source, scope, at, from, access, is_ref(source, to), lines)
 }
 
 fn simple(
-    p: &Source<'_>,
+    source: &Source<'_>,
     scope: &[Slot],
     simple: &Simple,
     lines: &mut Vec<Op>,
 ) -> Result<(), AllocError>
-    ensures { OnOk result (lines.new.items ≡ lines.old.items ++ simple_at (context p.now scope.now) (view_simple simple.now)) }
+    ensures { OnOk result (lines.new.items ≡ lines.old.items ++ simple_at (context source.now scope.now) (view_simple simple.now)) }
 {
     let at = free(scope)?;
     match simple {
-        Simple::Assign(_, to, value) => assign(p, scope, at, to, value, lines),
+        Simple::Assign(_, to, value) => assign(source, scope, at, to, value, lines),
         Simple::Call(call) => {
-            expression(p, scope, at, call, lines)?;
-            drop_value(is_ref(p, call), at.reference, lines)
+            expression(source, scope, at, call, lines)?;
+            drop_value(is_ref(source, call), at.reference, lines)
         }
     }
 }
 
 /// The value of a local, where it has one, in its declaration.
 fn initial(
-    p: &Source<'_>,
+    source: &Source<'_>,
     scope: &[Slot],
     declaration: &Declaration,
     value: &Option<Right>,
     lines: &mut Vec<Op>,
 ) -> Result<(), AllocError>
-    ensures { OnOk result (lines.new.items ≡ lines.old.items ++ initial_code (context p.now scope.now) declaration.now (view_option view_right value.now)) }
+    ensures { OnOk result (lines.new.items ≡ lines.old.items ++ initial_code (context source.now scope.now) declaration.now (view_option view_right value.now)) }
 {
     match value {
         None => Ok(()),
@@ -143,14 +143,22 @@ fn initial(
             let at = free(scope)?;
             let kind = declared_kind(&declaration.written);
             let site = declaration.name.site;
-            let row = declared_row(p.m.typed(), Reading::Written, site.token);
-            right(p, scope, at, kind, pointed(p.m, Some(row)), value, lines)?;
+            let row = declared_row(source.m.typed(), Reading::Written, site.token);
+            right(
+                source,
+                scope,
+                at,
+                kind,
+                pointed(source.m, Some(row)),
+                value,
+                lines,
+            )?;
             let none = Registers {
                 int: 0,
                 reference: 0,
             };
             store(
-                p,
+                source,
                 scope,
                 none,
                 at,
@@ -183,68 +191,68 @@ fn own_access<'a>(site: Site) -> Access<'a>
 
 /// A declaration: the variable is in scope from then on.
 fn local(
-    p: &Source<'_>,
+    source: &Source<'_>,
     slots: &mut Vec<Slot>,
     local: &Local,
     lines: &mut Vec<Op>,
 ) -> Result<(), AllocError>
-    ensures code { OnOk result (lines.new.items ≡ lines.old.items ++ local_code (context p.now slots.old.items) (view_local local.now)) }
+    ensures code { OnOk result (lines.new.items ≡ lines.old.items ++ local_code (context source.now slots.old.items) (view_local local.now)) }
     ensures slots { OnOk result (slots.new.items ≡ slots.old.items ++ slot_of local.now.declaration ∷ []) }
 {
     let at = free(slots.as_slice())?;
     let declaration = &local.declaration;
     zero(is_reference(declared_kind(&declaration.written)), at, lines)?;
     slots.push(slot_of(declaration))?;
-    initial(p, slots.as_slice(), declaration, &local.initial, lines)
+    initial(source, slots.as_slice(), declaration, &local.initial, lines)
 }
 
 /// The first part of the head of a `for`.
 fn first(
-    p: &Source<'_>,
+    source: &Source<'_>,
     slots: &mut Vec<Slot>,
     first: &ForFirst,
     lines: &mut Vec<Op>,
 ) -> Result<(), AllocError>
-    ensures code { OnOk result (lines.new.items ≡ lines.old.items ++ first_code (context p.now slots.old.items) (view_first first.now)) }
-    ensures slots { OnOk result (slots.new.items ≡ (behind_first (context p.now slots.old.items) (view_first first.now)).scope) }
+    ensures code { OnOk result (lines.new.items ≡ lines.old.items ++ first_code (context source.now slots.old.items) (view_first first.now)) }
+    ensures slots { OnOk result (slots.new.items ≡ (behind_first (context source.now slots.old.items) (view_first first.now)).scope) }
 {
     match first {
         ForFirst::Nothing => Ok(()),
         ForFirst::Declares(declared) => {
             emit(Op::Enter, lines)?;
-            local(p, slots, declared, lines)
+            local(source, slots, declared, lines)
         }
-        ForFirst::Does(x) => simple(p, slots.as_slice(), x, lines),
+        ForFirst::Does(x) => simple(source, slots.as_slice(), x, lines),
     }
 }
 
 fn step(
-    p: &Source<'_>,
+    source: &Source<'_>,
     scope: &[Slot],
     step: Option<&Simple>,
     lines: &mut Vec<Op>,
 ) -> Result<(), AllocError>
-    ensures { OnOk result (lines.new.items ≡ lines.old.items ++ step_code (context p.now scope.now) (option_map (λ x. view_simple x.now) step.entry)) }
+    ensures { OnOk result (lines.new.items ≡ lines.old.items ++ step_code (context source.now scope.now) (option_map (λ x. view_simple x.now) step.entry)) }
 {
     match step {
         None => Ok(()),
-        Some(x) => simple(p, scope, x, lines),
+        Some(x) => simple(source, scope, x, lines),
     }
 }
 
 /// What decides by a test: the last of its lines leads over so many that are not known yet.
 fn turn(
-    p: &Source<'_>,
+    source: &Source<'_>,
     scope: &[Slot],
     test: &Expr,
     lines: &mut Vec<Op>,
 ) -> Result<Hole, AllocError>
-    ensures code { OnOk result (lines.new.items ≡ lines.old.items ++ turn_code (context p.now scope.now) (Some (view_expr test.now)) 0) }
-    ensures hole { IfOk result (λ h. h ≡ hole_at (context p.now scope.now) (length lines.new.items)) }
+    ensures code { OnOk result (lines.new.items ≡ lines.old.items ++ turn_code (context source.now scope.now) (Some (view_expr test.now)) 0) }
+    ensures hole { IfOk result (λ h. h ≡ hole_at (context source.now scope.now) (length lines.new.items)) }
 {
     let at = free(scope)?;
-    expression(p, scope, at, test, lines)?;
-    truth(is_ref(p, test), at, lines)?;
+    expression(source, scope, at, test, lines)?;
+    truth(is_ref(source, test), at, lines)?;
     let line = lines.len();
     emit(Op::SkipIfZero(at.int, 0), lines)?;
     Ok(Hole {
@@ -254,14 +262,14 @@ fn turn(
 }
 
 fn jump(
-    p: &Source<'_>,
+    source: &Source<'_>,
     scope: &[Slot],
     marks: &[usize],
     around: Around<'_>,
     jump: Jump,
     lines: &mut Vec<Op>,
 ) -> Result<(), AllocError>
-    ensures { OnOk result (lines.new.items ≡ lines.old.items ++ jump_code (context p.now scope.now) (around_of around.entry marks.now) jump) }
+    ensures { OnOk result (lines.new.items ≡ lines.old.items ++ jump_code (context source.now scope.now) (around_of around.entry marks.now) jump) }
 {
     leave(scope, marks, around.outer, lines)?;
     match jump {
@@ -283,7 +291,7 @@ fn give(is_ref: bool, at: Registers, lines: &mut Vec<Op>) -> Result<(), AllocErr
 
 /// `return`
 fn returned(
-    p: &Source<'_>,
+    source: &Source<'_>,
     scope: &[Slot],
     marks: &[usize],
     around: Around<'_>,
@@ -292,7 +300,7 @@ fn returned(
     lines: &mut Vec<Op>,
 ) -> Result<(), AllocError>
     requires { around.outer ≤ length marks.now }
-    ensures { OnOk result (lines.new.items ≡ lines.old.items ++ return_code (context p.now scope.now) (around_of around.entry marks.now) site (view_option (λ b. view_expr b.value) value.now)) }
+    ensures { OnOk result (lines.new.items ≡ lines.old.items ++ return_code (context source.now scope.now) (around_of around.entry marks.now) site (view_option (λ b. view_expr b.value) value.now)) }
 {
     let gives_reference = is_reference(around.result);
     let first = Registers {
@@ -307,7 +315,7 @@ fn returned(
         }
         Some(expr) => {
             let at = free(scope)?;
-            expression(p, scope, at, expr, lines)?;
+            expression(source, scope, at, expr, lines)?;
             narrow(at.int, around.result, expr.span().first, lines)?;
             leave(scope, marks, 0, lines)?;
             give(gives_reference, at, lines)?;
@@ -332,7 +340,7 @@ fn other_side(hole: Hole, lines: &mut Vec<Op>) -> Result<usize, AllocError>
 /// A statement under a test or in a loop: what it declares is not in scope after it.
 #[cycle(statement)]
 fn inner(
-    p: &Source<'_>,
+    source: &Source<'_>,
     slots: &mut Vec<Slot>,
     marks: &mut Vec<usize>,
     around: Around<'_>,
@@ -340,12 +348,12 @@ fn inner(
     lines: &mut Vec<Op>,
 ) -> Result<(), AllocError>
     requires { around.outer ≤ vec_len marks.old }
-    ensures code { OnOk result (lines.new.items ≡ lines.old.items ++ statement_code (context p.now slots.old.items) (around_of around.entry marks.old.items) (length lines.old.items) (view_stmt stmt.now)) }
+    ensures code { OnOk result (lines.new.items ≡ lines.old.items ++ statement_code (context source.now slots.old.items) (around_of around.entry marks.old.items) (length lines.old.items) (view_stmt stmt.now)) }
     ensures slots { OnOk result (slots.new.items ≡ slots.old.items) }
     ensures marks { OnOk result (marks.new.items ≡ marks.old.items) }
 {
     let began = slots.len();
-    statement(p, slots, marks, around, stmt, lines)?;
+    statement(source, slots, marks, around, stmt, lines)?;
     slots.truncate(began);
     Ok(())
 }
@@ -353,7 +361,7 @@ fn inner(
 /// Statements that follow one another.
 #[cycle(statement)]
 pub fn statements(
-    p: &Source<'_>,
+    source: &Source<'_>,
     slots: &mut Vec<Slot>,
     marks: &mut Vec<usize>,
     around: Around<'_>,
@@ -361,12 +369,12 @@ pub fn statements(
     lines: &mut Vec<Op>,
 ) -> Result<(), AllocError>
     requires { around.outer ≤ vec_len marks.old }
-    ensures code { OnOk result (lines.new.items ≡ lines.old.items ++ statements_code (context p.now slots.old.items) (around_of around.entry marks.old.items) (length lines.old.items) (view_statements all.now)) }
-    ensures slots { OnOk result (slots.new.items ≡ (behind_statements (context p.now slots.old.items) (view_statements all.now)).scope) }
+    ensures code { OnOk result (lines.new.items ≡ lines.old.items ++ statements_code (context source.now slots.old.items) (around_of around.entry marks.old.items) (length lines.old.items) (view_statements all.now)) }
+    ensures slots { OnOk result (slots.new.items ≡ (behind_statements (context source.now slots.old.items) (view_statements all.now)).scope) }
     ensures marks { OnOk result (marks.new.items ≡ marks.old.items) }
 {
     for stmt in all {
-        statement(p, slots, marks, around, stmt, lines)?;
+        statement(source, slots, marks, around, stmt, lines)?;
     }
     Ok(())
 }
@@ -374,7 +382,7 @@ pub fn statements(
 /// `{ .. }`
 #[cycle(statement)]
 fn block(
-    p: &Source<'_>,
+    source: &Source<'_>,
     slots: &mut Vec<Slot>,
     marks: &mut Vec<usize>,
     around: Around<'_>,
@@ -382,14 +390,14 @@ fn block(
     lines: &mut Vec<Op>,
 ) -> Result<(), AllocError>
     requires { around.outer ≤ vec_len marks.old }
-    ensures code { OnOk result (lines.new.items ≡ lines.old.items ++ block_code (context p.now slots.old.items) (around_of around.entry marks.old.items) (length lines.old.items) (view_statements all.now)) }
+    ensures code { OnOk result (lines.new.items ≡ lines.old.items ++ block_code (context source.now slots.old.items) (around_of around.entry marks.old.items) (length lines.old.items) (view_statements all.now)) }
     ensures slots { OnOk result (slots.new.items ≡ slots.old.items) }
     ensures marks { OnOk result (marks.new.items ≡ marks.old.items) }
 {
     let began = slots.len();
     let depth = marks.len();
     marks.push(began)?;
-    statements(p, slots, marks, around, all, lines)?;
+    statements(source, slots, marks, around, all, lines)?;
     marks.truncate(depth);
     end_block(slots.as_slice(), began, lines)?;
     slots.truncate(began);
@@ -399,7 +407,7 @@ fn block(
 /// What is done where a test is met.
 #[cycle(statement)]
 fn choice(
-    p: &Source<'_>,
+    source: &Source<'_>,
     slots: &mut Vec<Slot>,
     marks: &mut Vec<usize>,
     around: Around<'_>,
@@ -408,28 +416,28 @@ fn choice(
     lines: &mut Vec<Op>,
 ) -> Result<(), AllocError>
     requires { around.outer ≤ vec_len marks.old }
-    ensures code { OnOk result (lines.new.items ≡ lines.old.items ++ if_in (context p.now slots.old.items) (around_of around.entry marks.old.items) (length lines.old.items) (view_expr test.now) (view_stmt then.now)) }
+    ensures code { OnOk result (lines.new.items ≡ lines.old.items ++ if_in (context source.now slots.old.items) (around_of around.entry marks.old.items) (length lines.old.items) (view_expr test.now) (view_stmt then.now)) }
     ensures slots { OnOk result (slots.new.items ≡ slots.old.items) }
     ensures marks { OnOk result (marks.new.items ≡ marks.old.items) }
 {
-    let hole = turn(p, slots.as_slice(), test, lines)?;
-    inner(p, slots, marks, around, then, lines)?;
+    let hole = turn(source, slots.as_slice(), test, lines)?;
+    inner(source, slots, marks, around, then, lines)?;
     skip_if_zero(hole, 0, lines)
 }
 
 /// What decides whether there is a turn more, if a test is written.
 fn decision(
-    p: &Source<'_>,
+    source: &Source<'_>,
     scope: &[Slot],
     test: Option<&Expr>,
     lines: &mut Vec<Op>,
 ) -> Result<Option<Hole>, AllocError>
-    ensures code { OnOk result (lines.new.items ≡ lines.old.items ++ turn_code (context p.now scope.now) (option_map (λ e. view_expr e.now) test.entry) 0) }
-    ensures hole { IfOk result (λ hole. hole ≡ hole_of (context p.now scope.now) (option_map (λ e. view_expr e.now) test.entry) (length lines.new.items)) }
+    ensures code { OnOk result (lines.new.items ≡ lines.old.items ++ turn_code (context source.now scope.now) (option_map (λ e. view_expr e.now) test.entry) 0) }
+    ensures hole { IfOk result (λ hole. hole ≡ hole_of (context source.now scope.now) (option_map (λ e. view_expr e.now) test.entry) (length lines.new.items)) }
 {
     match test {
         None => Ok(None),
-        Some(test) => Ok(Some(turn(p, scope, test, lines)?)),
+        Some(test) => Ok(Some(turn(source, scope, test, lines)?)),
     }
 }
 
@@ -448,7 +456,7 @@ fn finish(head: usize, hole: Option<Hole>, lines: &mut Vec<Op>) -> Result<(), Al
 /// A loop.
 #[cycle(statement)]
 fn turns(
-    p: &Source<'_>,
+    source: &Source<'_>,
     slots: &mut Vec<Slot>,
     marks: &mut Vec<usize>,
     around: Around<'_>,
@@ -458,7 +466,7 @@ fn turns(
     lines: &mut Vec<Op>,
 ) -> Result<(), AllocError>
     requires { around.outer ≤ vec_len marks.old }
-    ensures code { OnOk result (lines.new.items ≡ lines.old.items ++ loop_in (context p.now slots.old.items) (around_of around.entry marks.old.items) (length lines.old.items) (option_map (λ e. view_expr e.now) test.entry) (option_map (λ x. view_simple x.now) after.entry) (view_stmt body.now)) }
+    ensures code { OnOk result (lines.new.items ≡ lines.old.items ++ loop_in (context source.now slots.old.items) (around_of around.entry marks.old.items) (length lines.old.items) (option_map (λ e. view_expr e.now) test.entry) (option_map (λ x. view_simple x.now) after.entry) (view_stmt body.now)) }
     ensures slots { OnOk result (slots.new.items ≡ slots.old.items) }
     ensures marks { OnOk result (marks.new.items ≡ marks.old.items) }
 {
@@ -472,17 +480,17 @@ fn turns(
     emit(Op::Skip(2), lines)?;
     emit(Op::Skip(0), lines)?;
     emit(Op::Skip(0), lines)?;
-    let hole = decision(p, slots.as_slice(), test, lines)?;
-    inner(p, slots, marks, within, body, lines)?;
+    let hole = decision(source, slots.as_slice(), test, lines)?;
+    inner(source, slots, marks, within, body, lines)?;
     skip(head + 2, lines)?;
-    step(p, slots.as_slice(), after, lines)?;
+    step(source, slots.as_slice(), after, lines)?;
     finish(head, hole, lines)
 }
 
 /// `for`
 #[cycle(statement)]
 fn counted(
-    p: &Source<'_>,
+    source: &Source<'_>,
     slots: &mut Vec<Slot>,
     marks: &mut Vec<usize>,
     around: Around<'_>,
@@ -491,17 +499,17 @@ fn counted(
     lines: &mut Vec<Op>,
 ) -> Result<(), AllocError>
     requires { around.outer ≤ vec_len marks.old }
-    ensures code { OnOk result (lines.new.items ≡ lines.old.items ++ for_in (context p.now slots.old.items) (around_of around.entry marks.old.items) (length lines.old.items) (view_head head.now) (view_stmt body.now)) }
+    ensures code { OnOk result (lines.new.items ≡ lines.old.items ++ for_in (context source.now slots.old.items) (around_of around.entry marks.old.items) (length lines.old.items) (view_head head.now) (view_stmt body.now)) }
     ensures slots { OnOk result (slots.new.items ≡ slots.old.items) }
     ensures marks { OnOk result (marks.new.items ≡ marks.old.items) }
 {
     let began = slots.len();
     let depth = marks.len();
     marks.push(began)?;
-    first(p, slots, &head.first, lines)?;
+    first(source, slots, &head.first, lines)?;
     let test = head.test.as_ref();
     turns(
-        p,
+        source,
         slots,
         marks,
         around,
@@ -519,7 +527,7 @@ fn counted(
 /// A statement.
 #[cycle(statement)]
 fn statement(
-    p: &Source<'_>,
+    source: &Source<'_>,
     slots: &mut Vec<Slot>,
     marks: &mut Vec<usize>,
     around: Around<'_>,
@@ -527,37 +535,52 @@ fn statement(
     lines: &mut Vec<Op>,
 ) -> Result<(), AllocError>
     requires { around.outer ≤ vec_len marks.old }
-    ensures code { OnOk result (lines.new.items ≡ lines.old.items ++ statement_code (context p.now slots.old.items) (around_of around.entry marks.old.items) (length lines.old.items) (view_stmt stmt.now)) }
-    ensures slots { OnOk result (slots.new.items ≡ (behind_statement (context p.now slots.old.items) (view_stmt stmt.now)).scope) }
+    ensures code { OnOk result (lines.new.items ≡ lines.old.items ++ statement_code (context source.now slots.old.items) (around_of around.entry marks.old.items) (length lines.old.items) (view_stmt stmt.now)) }
+    ensures slots { OnOk result (slots.new.items ≡ (behind_statement (context source.now slots.old.items) (view_stmt stmt.now)).scope) }
     ensures marks { OnOk result (marks.new.items ≡ marks.old.items) }
 {
     emit(Op::Enter, lines)?;
     match stmt {
         Stmt::Empty(_) => Ok(()),
-        Stmt::Block(_, all) => block(p, slots, marks, around, all.as_slice(), lines),
-        Stmt::Declare(_, declared) => local(p, slots, declared, lines),
-        Stmt::Simple(_, x) => simple(p, slots.as_slice(), x, lines),
-        Stmt::Jump(_, of) => jump(p, slots.as_slice(), marks.as_slice(), around, *of, lines),
+        Stmt::Block(_, all) => block(source, slots, marks, around, all.as_slice(), lines),
+        Stmt::Declare(_, declared) => local(source, slots, declared, lines),
+        Stmt::Simple(_, x) => simple(source, slots.as_slice(), x, lines),
+        Stmt::Jump(_, of) => jump(
+            source,
+            slots.as_slice(),
+            marks.as_slice(),
+            around,
+            *of,
+            lines,
+        ),
         Stmt::Return(span, value) => {
             let scope = slots.as_slice();
-            returned(p, scope, marks.as_slice(), around, span.first, value, lines)
+            returned(
+                source,
+                scope,
+                marks.as_slice(),
+                around,
+                span.first,
+                value,
+                lines,
+            )
         }
-        Stmt::If(_, test, then) => choice(p, slots, marks, around, then, test, lines),
+        Stmt::If(_, test, then) => choice(source, slots, marks, around, then, test, lines),
         Stmt::IfElse {
             test,
             then,
             otherwise,
             ..
         } => {
-            let hole = turn(p, slots.as_slice(), test, lines)?;
-            inner(p, slots, marks, around, then, lines)?;
+            let hole = turn(source, slots.as_slice(), test, lines)?;
+            inner(source, slots, marks, around, then, lines)?;
             let over = other_side(hole, lines)?;
-            inner(p, slots, marks, around, otherwise, lines)?;
+            inner(source, slots, marks, around, otherwise, lines)?;
             skip(over, lines)
         }
         Stmt::While(_, test, body) => {
-            turns(p, slots, marks, around, Some(test), None, body, lines)
+            turns(source, slots, marks, around, Some(test), None, body, lines)
         }
-        Stmt::For(_, head, body) => counted(p, slots, marks, around, head, body, lines),
+        Stmt::For(_, head, body) => counted(source, slots, marks, around, head, body, lines),
     }
 }

@@ -45,77 +45,84 @@ use sharc_tree::tree::{
 use std::alloc::AllocError;
 
 /// An expression as an lvalue that is accessed.
-pub fn access_of<'a>(p: &'a Source<'_>, expr: &'a Expr) -> Access<'a>
+pub fn access_of<'a>(source: &'a Source<'_>, expr: &'a Expr) -> Access<'a>
     ensures site { result.site ≡ (span_of (view_expr expr.now)).first }
-    ensures lvalue { result.lvalue ≡ lvalue_of p.now.m.now.typed (view_expr expr.now) }
-    ensures mode { view_sharing result.mode ≡ cell_at p.now.m.now (view_expr expr.now) }
-    ensures target { view_target result.target ≡ target p.now.m.now.typed None (view_expr expr.now) }
+    ensures lvalue { result.lvalue ≡ lvalue_of source.now.m.now.typed (view_expr expr.now) }
+    ensures mode { view_sharing result.mode ≡ cell_at source.now.m.now (view_expr expr.now) }
+    ensures target { view_target result.target ≡ target source.now.m.now.typed None (view_expr expr.now) }
 {
-    access_at(p, expr.span().first, expr)
+    access_at(source, expr.span().first, expr)
 }
 
 /// The same, for this place of the source.
-fn access_at<'a>(p: &'a Source<'_>, site: Site, expr: &'a Expr) -> Access<'a>
+fn access_at<'a>(source: &'a Source<'_>, site: Site, expr: &'a Expr) -> Access<'a>
     ensures site { result.site ≡ site }
-    ensures lvalue { result.lvalue ≡ lvalue_of p.now.m.now.typed (view_expr expr.now) }
-    ensures mode { view_sharing result.mode ≡ cell_at p.now.m.now (view_expr expr.now) }
-    ensures target { view_target result.target ≡ target p.now.m.now.typed None (view_expr expr.now) }
+    ensures lvalue { result.lvalue ≡ lvalue_of source.now.m.now.typed (view_expr expr.now) }
+    ensures mode { view_sharing result.mode ≡ cell_at source.now.m.now (view_expr expr.now) }
+    ensures target { view_target result.target ≡ target source.now.m.now.typed None (view_expr expr.now) }
 {
     Access {
         site,
-        lvalue: lvalue_of(p, expr),
-        mode: mode_of(p.m, expr),
-        target: target_of(p, None, expr),
+        lvalue: lvalue_of(source, expr),
+        mode: mode_of(source.m, expr),
+        target: target_of(source, None, expr),
     }
 }
 
 /// Whether the value of an expression is a reference.
-pub fn is_ref(p: &Source<'_>, expr: &Expr) -> bool
-    ensures { result ≡ is_ref (context p.now []) (view_expr expr.now) }
+pub fn is_ref(source: &Source<'_>, expr: &Expr) -> bool
+    ensures { result ≡ is_ref (context source.now []) (view_expr expr.now) }
 {
-    is_reference(p.m.typed().kind_at(expr))
+    is_reference(source.m.typed().kind_at(expr))
 }
 
 /// The field with the mutex beside the cell that an lvalue names, or with the pointer to it.
-pub fn guard_of(p: &Source<'_>, expr: &Expr) -> Option<u32>
-    ensures { result ≡ guard_of (context p.now []) (view_expr expr.now) }
+pub fn guard_of(source: &Source<'_>, expr: &Expr) -> Option<u32>
+    ensures { result ≡ guard_of (context source.now []) (view_expr expr.now) }
 {
-    beside_field(p, mode_of(p.m, expr))
+    beside_field(source, mode_of(source.m, expr))
 }
 
 /// The value of what an lvalue names, after the code that finds it.
 fn lvalue(
-    p: &Source<'_>,
+    source: &Source<'_>,
     scope: &[Slot],
     at: Registers,
     expr: &Expr,
     lines: &mut Vec<Op>,
 ) -> Result<(), AllocError>
-    ensures { OnOk result (lines.new.items ≡ lines.old.items ++ lvalue_code (context p.now scope.now) at.int at.reference (view_expr expr.now)) }
+    ensures { OnOk result (lines.new.items ≡ lines.old.items ++ lvalue_code (context source.now scope.now) at.int at.reference (view_expr expr.now)) }
 {
-    value(p, scope, at, access_of(p, expr), is_ref(p, expr), lines)
+    value(
+        source,
+        scope,
+        at,
+        access_of(source, expr),
+        is_ref(source, expr),
+        lines,
+    )
 }
 
 /// The value of a name.
 fn name(
-    p: &Source<'_>,
+    source: &Source<'_>,
     scope: &[Slot],
     at: Registers,
     expr: &Expr,
     name: &Identifier,
     lines: &mut Vec<Op>,
 ) -> Result<(), AllocError>
-    ensures { OnOk result (lines.new.items ≡ lines.old.items ++ named_code (context p.now scope.now) at.int at.reference name.now.site (lvalue_of p.now.m.now.typed (view_expr expr.now)) (cell_at p.now.m.now (view_expr expr.now)) (is_ref (context p.now scope.now) (view_expr expr.now)) (named_at p.now.m.now.typed name.now.site.token)) }
+    ensures { OnOk result (lines.new.items ≡ lines.old.items ++ named_code (context source.now scope.now) at.int at.reference name.now.site (lvalue_of source.now.m.now.typed (view_expr expr.now)) (cell_at source.now.m.now (view_expr expr.now)) (is_ref (context source.now scope.now) (view_expr expr.now)) (named_at source.now.m.now.typed name.now.site.token)) }
 {
-    let mut access = access_at(p, name.site, expr);
-    match p.m.typed().named(name.site.token) {
+    let mut access = access_at(source, name.site, expr);
+    match source.m.typed().named(name.site.token) {
         Named::Variable(token) => {
             access.target = Target::Variable(token);
-            value(p, scope, at, access, is_ref(p, expr), lines)
+            value(source, scope, at, access, is_ref(source, expr), lines)
         }
         Named::Global(number) => {
             access.target = Target::InGlobal(number, 0);
-            value(p, scope, at, access, is_ref(p, expr), lines)
+            value(source, scope, at, access, is_ref(source, expr), lines)
         }
         Named::Struct(_) => Ok(()),
         Named::Function(_) => Ok(()),
@@ -125,11 +132,11 @@ fn name(
 }
 
 /// The parameters of the function that a name names.
-fn parameters_named(t: &Typed, named: Named) -> &[Declaration]
-    ensures { result.now ≡ parameters_named t.now named }
+fn parameters_named(typed: &Typed, named: Named) -> &[Declaration]
+    ensures { result.now ≡ parameters_named typed.now named }
 {
     match named {
-        Named::Function(number) => match t.function_at(number) {
+        Named::Function(number) => match typed.function_at(number) {
             None => &[],
             Some(function) => function.parameters.as_slice(),
         },
@@ -168,16 +175,16 @@ fn after_first(parameters: &[Declaration]) -> &[Declaration]
 
 /// `lock`, after the code that finds the mutex.
 fn lock(
-    p: &Source<'_>,
+    source: &Source<'_>,
     at: Registers,
     span: Span,
     place: &Expr,
     lines: &mut Vec<Op>,
 ) -> Result<(), AllocError>
-    ensures { OnOk result (lines.new.items ≡ lines.old.items ++ place_call_code (context p.now []) at.int at.reference span PlaceCall.Lock (view_expr place.now) []) }
+    ensures { OnOk result (lines.new.items ≡ lines.old.items ++ place_call_code (context source.now []) at.int at.reference span PlaceCall.Lock (view_expr place.now) []) }
 {
     let site = span.first;
-    let cell = cell_of(p, at, target_of(p, None, place))?;
+    let cell = cell_of(source, at, target_of(source, None, place))?;
     let spot = at_words(site, place.span(), Use::Other)?;
     emit(Op::ChkNotHeld(cell, at_site(site)), lines)?;
     emit(Op::ChkRoom(at_site(site)), lines)?;
@@ -186,17 +193,17 @@ fn lock(
 
 /// `unlock`, after the code that finds the mutex.
 fn unlock(
-    p: &Source<'_>,
+    source: &Source<'_>,
     at: Registers,
     span: Span,
     place: &Expr,
     lines: &mut Vec<Op>,
 ) -> Result<(), AllocError>
-    ensures { OnOk result (lines.new.items ≡ lines.old.items ++ place_call_code (context p.now []) at.int at.reference span PlaceCall.Unlock (view_expr place.now) []) }
+    ensures { OnOk result (lines.new.items ≡ lines.old.items ++ place_call_code (context source.now []) at.int at.reference span PlaceCall.Unlock (view_expr place.now) []) }
 {
     let site = span.first;
-    let target = target_of(p, None, place);
-    let cell = cell_of(p, at, target)?;
+    let target = target_of(source, None, place);
+    let cell = cell_of(source, at, target)?;
     let to = at.behind_base(target)?;
     emit(Op::ChkHeld(cell, at_site(site)), lines)?;
     emit(Op::Unlock(to.reference, cell, at_site(site)), lines)?;
@@ -210,38 +217,38 @@ fn unlock(
 
 /// `free`, after the code that finds the pointer.
 fn free(
-    p: &Source<'_>,
+    source: &Source<'_>,
     scope: &[Slot],
     at: Registers,
     span: Span,
     place: &Expr,
     lines: &mut Vec<Op>,
 ) -> Result<(), AllocError>
-    ensures { OnOk result (lines.new.items ≡ lines.old.items ++ place_call_code (context p.now scope.now) at.int at.reference span PlaceCall.Free (view_expr place.now) []) }
+    ensures { OnOk result (lines.new.items ≡ lines.old.items ++ place_call_code (context source.now scope.now) at.int at.reference span PlaceCall.Free (view_expr place.now) []) }
 {
-    let access = access_of(p, place);
+    let access = access_of(source, place);
     let use_made = Taking::Free.use_of(access.target);
     let spot = at_words(access.site, place.span(), use_made)?;
-    let layout = layout_of(p, element_kind(p.m.typed().kind_at(place)))?;
-    take(p, scope, at, access, Taking::Free, lines)?;
+    let layout = layout_of(source, element_kind(source.m.typed().kind_at(place)))?;
+    take(source, scope, at, access, Taking::Free, lines)?;
     emit(Op::SkipIfNull(at.reference, 1), lines)?;
     emit(Op::Free(at.reference, layout, spot), lines)
 }
 
 /// The guard of the place of a call: a mutex is accessed under no mode.
-fn taken_guard(p: &Source<'_>, call: PlaceCall, place: &Expr) -> Option<u32>
-    ensures { result ≡ taken_guard (context p.now []) call (view_expr place.now) }
+fn taken_guard(source: &Source<'_>, call: PlaceCall, place: &Expr) -> Option<u32>
+    ensures { result ≡ taken_guard (context source.now []) call (view_expr place.now) }
 {
     match call {
         PlaceCall::Lock => None,
         PlaceCall::Unlock => None,
-        PlaceCall::Free => guard_of(p, place),
+        PlaceCall::Free => guard_of(source, place),
     }
 }
 
 /// `lock`, `unlock` or `free`, after what finds its place.
 fn on_place(
-    p: &Source<'_>,
+    source: &Source<'_>,
     scope: &[Slot],
     at: Registers,
     span: Span,
@@ -249,41 +256,41 @@ fn on_place(
     place: &Expr,
     lines: &mut Vec<Op>,
 ) -> Result<(), AllocError>
-    ensures { OnOk result (lines.new.items ≡ lines.old.items ++ place_call_code (context p.now scope.now) at.int at.reference span call (view_expr place.now) []) }
+    ensures { OnOk result (lines.new.items ≡ lines.old.items ++ place_call_code (context source.now scope.now) at.int at.reference span call (view_expr place.now) []) }
 {
     match call {
-        PlaceCall::Lock => lock(p, at, span, place, lines),
-        PlaceCall::Unlock => unlock(p, at, span, place, lines),
-        PlaceCall::Free => free(p, scope, at, span, place, lines),
+        PlaceCall::Lock => lock(source, at, span, place, lines),
+        PlaceCall::Unlock => unlock(source, at, span, place, lines),
+        PlaceCall::Free => free(source, scope, at, span, place, lines),
     }
 }
 
 /// The sharing cast at these tokens, after the code that finds its source.
 fn cast(
-    p: &Source<'_>,
+    source: &Source<'_>,
     scope: &[Slot],
     at: Registers,
     span: Span,
     place: &Expr,
     lines: &mut Vec<Op>,
 ) -> Result<(), AllocError>
-    ensures { OnOk result (lines.new.items ≡ lines.old.items ++ cast_code (context p.now scope.now) at.int at.reference span (view_expr place.now) []) }
+    ensures { OnOk result (lines.new.items ≡ lines.old.items ++ cast_code (context source.now scope.now) at.int at.reference span (view_expr place.now) []) }
 {
-    let t = p.m.typed();
-    let access = access_of(p, place);
+    let t = source.m.typed();
+    let access = access_of(source, place);
     let use_made = Taking::Cast.use_of(access.target);
-    let mode = pointed(p.m, Some(cast_row(t, span)));
+    let mode = pointed(source.m, Some(cast_row(t, span)));
     let words = tokens_in(place.span())?;
-    let spot = object_spot(p, scope, access.site, words, use_made, mode)?;
-    let cells = element_cells(p, element_kind(t.kind_at(place)));
-    take(p, scope, at, access, Taking::Cast, lines)?;
+    let spot = object_spot(source, scope, access.site, words, use_made, mode)?;
+    let cells = element_cells(source, element_kind(t.kind_at(place)));
+    take(source, scope, at, access, Taking::Cast, lines)?;
     emit(Op::SkipIfNull(at.reference, 1), lines)?;
     emit(Op::Give(at.reference, cells, spot), lines)
 }
 
 /// An operator before its operand, after the operand.
 fn unary(
-    p: &Source<'_>,
+    source: &Source<'_>,
     scope: &[Slot],
     at: Registers,
     expr: &Expr,
@@ -293,29 +300,29 @@ fn unary(
     lines: &mut Vec<Op>,
 ) -> Result<(), AllocError>
     requires { view_expr expr.now ≡ of_unary span operator (view_expr operand.now) }
-    ensures { OnOk result (lines.new.items ≡ lines.old.items ++ unary_code (context p.now scope.now) at.int at.reference span operator (view_expr operand.now) []) }
+    ensures { OnOk result (lines.new.items ≡ lines.old.items ++ unary_code (context source.now scope.now) at.int at.reference span operator (view_expr operand.now) []) }
 {
     match operator {
         UnaryOperator::Negate => {
-            let width = width_of(promoted(p.m.typed().kind_at(operand)));
+            let width = width_of(promoted(source.m.typed().kind_at(operand)));
             emit(
                 Op::Negate(width, at.int, at.int, at_site(span.first)),
                 lines,
             )
         }
         UnaryOperator::Not => {
-            truth(is_ref(p, operand), at, lines)?;
+            truth(is_ref(source, operand), at, lines)?;
             emit(Op::IsFalse(at.int, at.int), lines)
         }
         UnaryOperator::Complement => emit(Op::Complement(at.int, at.int), lines),
         UnaryOperator::Dereference => {
             pointee(at.reference, span.first, lines)?;
             value(
-                p,
+                source,
                 scope,
                 at,
-                access_at(p, span.first, expr),
-                is_ref(p, expr),
+                access_at(source, span.first, expr),
+                is_ref(source, expr),
                 lines,
             )
         }
@@ -346,11 +353,11 @@ fn computed(
 }
 
 /// The elements of a global that is indexed.
-fn global_bound(p: &Source<'_>, global: u32, cells: u32) -> Result<Bound, AllocError>
-    ensures { IfOk result (λ b. b ≡ Bound.Global (global_elements (global_at p.now.m.now.typed global)) cells (first_cell p.now.globals.items global)) }
+fn global_bound(source: &Source<'_>, global: u32, cells: u32) -> Result<Bound, AllocError>
+    ensures { IfOk result (λ b. b ≡ Bound.Global (global_elements (global_at source.now.m.now.typed global)) cells (first_cell source.now.globals.items global)) }
 {
-    let elements = global_elements(p.m.typed(), global)?;
-    let first = first_cell(p, global)?;
+    let elements = global_elements(source.m.typed(), global)?;
+    let first = first_cell(source, global)?;
     Ok(Bound::Global {
         elements,
         cells,
@@ -360,7 +367,7 @@ fn global_bound(p: &Source<'_>, global: u32, cells: u32) -> Result<Bound, AllocE
 
 /// The number of an element becomes that of a cell, after what is indexed and the index.
 fn element(
-    p: &Source<'_>,
+    source: &Source<'_>,
     at: Registers,
     site: Site,
     of: Option<u32>,
@@ -368,13 +375,13 @@ fn element(
     base: &Expr,
     lines: &mut Vec<Op>,
 ) -> Result<(), AllocError>
-    ensures { OnOk result (lines.new.items ≡ lines.old.items ++ element_code (context p.now []) at.int at.reference site of guard (view_expr base.now)) }
+    ensures { OnOk result (lines.new.items ≡ lines.old.items ++ element_code (context source.now []) at.int at.reference site of guard (view_expr base.now)) }
 {
-    let kind = p.m.typed().kind_at(base);
-    let cells = element_cells(p, element_kind(kind));
+    let kind = source.m.typed().kind_at(base);
+    let cells = element_cells(source, element_kind(kind));
     let field = own_field(of, 0);
     if is_array(kind) {
-        let bound = global_bound(p, global_of(target_of(p, None, base)), cells)?;
+        let bound = global_bound(source, global_of(target_of(source, None, base)), cells)?;
         index_bounds(bound, at, field, guard, site, lines)
     } else {
         let bound = Bound::Object {
@@ -388,24 +395,24 @@ fn element(
 /// The value of an expression.
 #[cycle(expression)]
 pub fn expression(
-    p: &Source<'_>,
+    source: &Source<'_>,
     scope: &[Slot],
     at: Registers,
     expr: &Expr,
     lines: &mut Vec<Op>,
 ) -> Result<(), AllocError>
-    ensures { OnOk result (lines.new.items ≡ lines.old.items ++ expression_code (context p.now scope.now) at.int at.reference (view_expr expr.now)) }
+    ensures { OnOk result (lines.new.items ≡ lines.old.items ++ expression_code (context source.now scope.now) at.int at.reference (view_expr expr.now)) }
 {
     emit(Op::Enter, lines)?;
-    let t = p.m.typed();
+    let t = source.m.typed();
     match expr {
-        Expr::Identifier(_, of) => name(p, scope, at, expr, of, lines),
-        Expr::Constant(_, of) => constant(is_ref(p, expr), at, *of, lines),
-        Expr::Parentheses(_, inner) => expression(p, scope, at, inner, lines),
+        Expr::Identifier(_, of) => name(source, scope, at, expr, of, lines),
+        Expr::Constant(_, of) => constant(is_ref(source, expr), at, *of, lines),
+        Expr::Parentheses(_, inner) => expression(source, scope, at, inner, lines),
         Expr::Call(span, of, all) => {
             let named = t.named(of.site.token);
             arguments(
-                p,
+                source,
                 scope,
                 at,
                 parameters_named(t, named),
@@ -417,11 +424,11 @@ pub fn expression(
         }
         Expr::Spawn(span, of, argument) => {
             let named = t.named(of.site.token);
-            expression(p, scope, at, argument, lines)?;
+            expression(source, scope, at, argument, lines)?;
             let site = argument.span().first;
             passed(at.int, parameters_named(t, named), site, lines)?;
             spawned(
-                is_ref(p, argument),
+                is_ref(source, argument),
                 at,
                 number_named(named),
                 span.first,
@@ -429,33 +436,33 @@ pub fn expression(
             )
         }
         Expr::OnValue(span, call, argument) => {
-            expression(p, scope, at, argument, lines)?;
+            expression(source, scope, at, argument, lines)?;
             on_value(*call, at.int, span.first, lines)
         }
         Expr::OnPlace(span, call, of) => {
-            let guard = taken_guard(p, *call, of);
-            place(p, scope, at, of.span().first, None, guard, of, lines)?;
-            on_place(p, scope, at, *span, *call, of, lines)
+            let guard = taken_guard(source, *call, of);
+            place(source, scope, at, of.span().first, None, guard, of, lines)?;
+            on_place(source, scope, at, *span, *call, of, lines)
         }
         Expr::Cast(span, _, of) => {
             place(
-                p,
+                source,
                 scope,
                 at,
                 of.span().first,
                 None,
-                guard_of(p, of),
+                guard_of(source, of),
                 of,
                 lines,
             )?;
-            cast(p, scope, at, *span, of, lines)
+            cast(source, scope, at, *span, of, lines)
         }
         Expr::Index(span, base, number) => {
-            let guard = guard_of(p, expr);
-            let next = indexed(p, scope, at, span.first, base, lines)?;
-            expression(p, scope, next, number, lines)?;
-            element(p, at, span.first, None, guard, base, lines)?;
-            lvalue(p, scope, at, expr, lines)
+            let guard = guard_of(source, expr);
+            let next = indexed(source, scope, at, span.first, base, lines)?;
+            expression(source, scope, next, number, lines)?;
+            element(source, at, span.first, None, guard, base, lines)?;
+            lvalue(source, scope, at, expr, lines)
         }
         Expr::Field {
             span,
@@ -463,15 +470,15 @@ pub fn expression(
             access,
             name,
         } => {
-            let guard = guard_of(p, expr);
+            let guard = guard_of(source, expr);
             field(
-                p, scope, at, span.first, None, guard, base, *access, name, lines,
+                source, scope, at, span.first, None, guard, base, *access, name, lines,
             )?;
-            lvalue(p, scope, at, expr, lines)
+            lvalue(source, scope, at, expr, lines)
         }
         Expr::Unary(span, operator, operand) => {
-            expression(p, scope, at, operand, lines)?;
-            unary(p, scope, at, expr, *span, *operator, operand, lines)
+            expression(source, scope, at, operand, lines)?;
+            unary(source, scope, at, expr, *span, *operator, operand, lines)
         }
         Expr::Binary {
             operator,
@@ -481,8 +488,10 @@ pub fn expression(
             ..
         } => {
             let width = width_of(t.kind_at(expr));
-            expression(p, scope, at, left, lines)?;
-            binary(p, scope, at, *operator, *site, width, right, left, lines)
+            expression(source, scope, at, left, lines)?;
+            binary(
+                source, scope, at, *operator, *site, width, right, left, lines,
+            )
         }
     }
 }
@@ -490,7 +499,7 @@ pub fn expression(
 /// An operator after its left operand.
 #[cycle(expression)]
 fn binary(
-    p: &Source<'_>,
+    source: &Source<'_>,
     scope: &[Slot],
     at: Registers,
     operator: BinaryOperator,
@@ -500,22 +509,22 @@ fn binary(
     left: &Expr,
     lines: &mut Vec<Op>,
 ) -> Result<(), AllocError>
-    requires { width ≡ width_of (binary_result (class_of operator) (kind_at p.now.m.now.typed (view_expr left.now)) (kind_at p.now.m.now.typed (view_expr right.now))) }
-    ensures { OnOk result (lines.new.items ≡ lines.old.items ++ binary_code (context p.now scope.now) at.int at.reference site operator (view_expr left.now) (view_expr right.now) [] (λ i r. expression_code (context p.now scope.now) i r (view_expr right.now))) }
+    requires { width ≡ width_of (binary_result (class_of operator) (kind_at source.now.m.now.typed (view_expr left.now)) (kind_at source.now.m.now.typed (view_expr right.now))) }
+    ensures { OnOk result (lines.new.items ≡ lines.old.items ++ binary_code (context source.now scope.now) at.int at.reference site operator (view_expr left.now) (view_expr right.now) [] (λ i r. expression_code (context source.now scope.now) i r (view_expr right.now))) }
 {
-    let is_ref = is_ref(p, left);
+    let is_ref = is_ref(source, left);
     match evaluation_of(operator) {
         Evaluation::And => {
             truth(is_ref, at, lines)?;
-            decided(p, scope, at, right, 0, lines)
+            decided(source, scope, at, right, 0, lines)
         }
         Evaluation::Or => {
             truth(is_ref, at, lines)?;
             emit(Op::IsFalse(at.int, at.int), lines)?;
-            decided(p, scope, at, right, 1, lines)
+            decided(source, scope, at, right, 1, lines)
         }
         Evaluation::Both => {
-            expression(p, scope, at.behind(is_ref)?, right, lines)?;
+            expression(source, scope, at.behind(is_ref)?, right, lines)?;
             computed(at, operator, site, width, is_ref, lines)
         }
     }
@@ -524,22 +533,22 @@ fn binary(
 /// The right operand of `&&` or `||`: where the register is 0, the code leads over it, and so many operations after it.
 #[cycle(expression)]
 fn decided(
-    p: &Source<'_>,
+    source: &Source<'_>,
     scope: &[Slot],
     at: Registers,
     right: &Expr,
     more: usize,
     lines: &mut Vec<Op>,
 ) -> Result<(), AllocError>
-    ensures { OnOk result (lines.new.items ≡ lines.old.items ++ decided_code at.int more (expression_code (context p.now scope.now) at.int at.reference (view_expr right.now) ++ truth_code (is_ref (context p.now []) (view_expr right.now)) at.int at.reference)) }
+    ensures { OnOk result (lines.new.items ≡ lines.old.items ++ decided_code at.int more (expression_code (context source.now scope.now) at.int at.reference (view_expr right.now) ++ truth_code (is_ref (context source.now []) (view_expr right.now)) at.int at.reference)) }
 {
     let hole = Hole {
         line: lines.len(),
         register: at.int,
     };
     emit(Op::SkipIfZero(at.int, 0), lines)?;
-    expression(p, scope, at, right, lines)?;
-    truth(is_ref(p, right), at, lines)?;
+    expression(source, scope, at, right, lines)?;
+    truth(is_ref(source, right), at, lines)?;
     skip_if_zero(hole, more, lines)?;
     emit(Op::IsFalse(at.int, at.int), lines)?;
     emit(Op::IsFalse(at.int, at.int), lines)
@@ -548,23 +557,23 @@ fn decided(
 /// Each argument, in the registers after those of the arguments before it.
 #[cycle(expression)]
 fn arguments(
-    p: &Source<'_>,
+    source: &Source<'_>,
     scope: &[Slot],
     at: Registers,
     parameters: &[Declaration],
     arguments: &[Expr],
     lines: &mut Vec<Op>,
 ) -> Result<(), AllocError>
-    ensures { OnOk result (lines.new.items ≡ lines.old.items ++ arguments_code (context p.now scope.now) at.int at.reference (declared_kinds parameters.now) (view_arguments arguments.now)) }
+    ensures { OnOk result (lines.new.items ≡ lines.old.items ++ arguments_code (context source.now scope.now) at.int at.reference (declared_kinds parameters.now) (view_arguments arguments.now)) }
 {
     let mut int = at.int;
     let mut reference = at.reference;
     let mut left = parameters;
     for argument in arguments {
         let here = Registers::of(int, reference)?;
-        expression(p, scope, here, argument, lines)?;
+        expression(source, scope, here, argument, lines)?;
         passed(int, left, argument.span().first, lines)?;
-        let next = here.behind(is_ref(p, argument))?;
+        let next = here.behind(is_ref(source, argument))?;
         int = next.int;
         reference = next.reference;
         left = after_first(left);
@@ -576,7 +585,7 @@ fn arguments(
 /// same element.
 #[cycle(expression)]
 pub fn place(
-    p: &Source<'_>,
+    source: &Source<'_>,
     scope: &[Slot],
     at: Registers,
     site: Site,
@@ -585,24 +594,26 @@ pub fn place(
     expr: &Expr,
     lines: &mut Vec<Op>,
 ) -> Result<(), AllocError>
-    ensures { OnOk result (lines.new.items ≡ lines.old.items ++ place_code (context p.now scope.now) at.int at.reference site of guard (view_expr expr.now)) }
+    ensures { OnOk result (lines.new.items ≡ lines.old.items ++ place_code (context source.now scope.now) at.int at.reference site of guard (view_expr expr.now)) }
 {
     emit(Op::Enter, lines)?;
     match expr {
-        Expr::Parentheses(_, inner) => place(p, scope, at, site, of, guard, inner, lines),
+        Expr::Parentheses(_, inner) => place(source, scope, at, site, of, guard, inner, lines),
         Expr::Index(_, base, number) => {
-            let next = indexed(p, scope, at, site, base, lines)?;
-            expression(p, scope, next, number, lines)?;
-            element(p, at, site, of, guard, base, lines)
+            let next = indexed(source, scope, at, site, base, lines)?;
+            expression(source, scope, next, number, lines)?;
+            element(source, at, site, of, guard, base, lines)
         }
         Expr::Field {
             base,
             access,
             name,
             ..
-        } => field(p, scope, at, site, of, guard, base, *access, name, lines),
+        } => field(
+            source, scope, at, site, of, guard, base, *access, name, lines,
+        ),
         Expr::Unary(_, UnaryOperator::Dereference, operand) => {
-            expression(p, scope, at, operand, lines)?;
+            expression(source, scope, at, operand, lines)?;
             pointee(at.reference, site, lines)
         }
         Expr::Unary(_, _, _) => Ok(()),
@@ -620,22 +631,22 @@ pub fn place(
 /// What is indexed, and the first registers for the index: an array takes none, a pointer takes a reference.
 #[cycle(expression)]
 fn indexed(
-    p: &Source<'_>,
+    source: &Source<'_>,
     scope: &[Slot],
     at: Registers,
     site: Site,
     base: &Expr,
     lines: &mut Vec<Op>,
 ) -> Result<Registers, AllocError>
-    ensures code { OnOk result (lines.new.items ≡ lines.old.items ++ indexed_code (context p.now scope.now) at.reference site (view_expr base.now) (place_code (context p.now scope.now) at.int at.reference site None None (view_expr base.now)) (expression_code (context p.now scope.now) at.int at.reference (view_expr base.now))) }
+    ensures code { OnOk result (lines.new.items ≡ lines.old.items ++ indexed_code (context source.now scope.now) at.reference site (view_expr base.now) (place_code (context source.now scope.now) at.int at.reference site None None (view_expr base.now)) (expression_code (context source.now scope.now) at.int at.reference (view_expr base.now))) }
     ensures int { IfOk result (λ next. next.int ≡ at.int) }
-    ensures reference { IfOk result (λ next. next.reference ≡ index_register (context p.now scope.now) at.reference (view_expr base.now)) }
+    ensures reference { IfOk result (λ next. next.reference ≡ index_register (context source.now scope.now) at.reference (view_expr base.now)) }
 {
-    if is_array(p.m.typed().kind_at(base)) {
-        place(p, scope, at, site, None, None, base, lines)?;
+    if is_array(source.m.typed().kind_at(base)) {
+        place(source, scope, at, site, None, None, base, lines)?;
         Ok(at)
     } else {
-        expression(p, scope, at, base, lines)?;
+        expression(source, scope, at, base, lines)?;
         pointee(at.reference, site, lines)?;
         at.behind_reference()
     }
@@ -644,7 +655,7 @@ fn indexed(
 /// `a.n` and `a->n`
 #[cycle(expression)]
 fn field(
-    p: &Source<'_>,
+    source: &Source<'_>,
     scope: &[Slot],
     at: Registers,
     site: Site,
@@ -655,15 +666,18 @@ fn field(
     name: &Identifier,
     lines: &mut Vec<Op>,
 ) -> Result<(), AllocError>
-    ensures { OnOk result (lines.new.items ≡ lines.old.items ++ field_code (context p.now scope.now) at.reference site of access name.now (λ f. place_code (context p.now scope.now) at.int at.reference site f guard (view_expr base.now)) (expression_code (context p.now scope.now) at.int at.reference (view_expr base.now))) }
+    ensures { OnOk result (lines.new.items ≡ lines.old.items ++ field_code (context source.now scope.now) at.reference site of access name.now (λ f. place_code (context source.now scope.now) at.int at.reference site f guard (view_expr base.now)) (expression_code (context source.now scope.now) at.int at.reference (view_expr base.now))) }
 {
     match access {
         Form::Dot => {
-            let own = own_field(of, field_named(p, p.m.typed().named(name.site.token)));
-            place(p, scope, at, site, Some(own), guard, base, lines)
+            let own = own_field(
+                of,
+                field_named(source, source.m.typed().named(name.site.token)),
+            );
+            place(source, scope, at, site, Some(own), guard, base, lines)
         }
         Form::Arrow => {
-            expression(p, scope, at, base, lines)?;
+            expression(source, scope, at, base, lines)?;
             pointee(at.reference, site, lines)
         }
     }

@@ -24,26 +24,26 @@ use sharc_tree::tree::{Declaration, GlobalForm};
 use std::alloc::AllocError;
 
 /// A number of cells, of elements or of lines as one of 32 bits; where it is none, there would not be enough memory.
-pub fn small(n: usize) -> Result<u32, AllocError>
-    ensures { IfOk result (λ k. k ≡ n) }
+pub fn small(number: usize) -> Result<u32, AllocError>
+    ensures { IfOk result (λ k. k ≡ number) }
 {
-    match u32::try_from(n) {
+    match u32::try_from(number) {
         Ok(k) => Ok(k),
         Err(_) => Err(AllocError),
     }
 }
 
-fn struct_cells(p: &Source<'_>, name: &[u8]) -> u32
-    ensures { result ≡ struct_cells (structs_in p.now.m.now.typed.program.items) name.now }
+fn struct_cells(source: &Source<'_>, name: &[u8]) -> u32
+    ensures { result ≡ struct_cells (structs_in source.now.m.now.typed.program.items) name.now }
 {
-    match p.structs.get(name) {
+    match source.structs.get(name) {
         None => 1,
         Some(row) => row.cells,
     }
 }
 
-fn base_cells(p: &Source<'_>, root: Root<'_>) -> u32
-    ensures { result ≡ base_cells p.now.m.now.typed (view_root root.entry) }
+fn base_cells(source: &Source<'_>, root: Root<'_>) -> u32
+    ensures { result ≡ base_cells source.now.m.now.typed (view_root root.entry) }
 {
     match root {
         Root::Int => 1,
@@ -51,23 +51,27 @@ fn base_cells(p: &Source<'_>, root: Root<'_>) -> u32
         Root::Long => 1,
         Root::Mutex => 1,
         Root::Void => 1,
-        Root::Struct(name) => struct_cells(p, name),
+        Root::Struct(name) => struct_cells(source, name),
     }
 }
 
-fn cells_behind(p: &Source<'_>, root: Root<'_>, stars: usize) -> u32
-    ensures { result ≡ (if stars == 0 then base_cells p.now.m.now.typed (view_root root.entry) else 1) }
+fn cells_behind(source: &Source<'_>, root: Root<'_>, stars: usize) -> u32
+    ensures { result ≡ (if stars == 0 then base_cells source.now.m.now.typed (view_root root.entry) else 1) }
 {
-    if stars == 0 { base_cells(p, root) } else { 1 }
+    if stars == 0 {
+        base_cells(source, root)
+    } else {
+        1
+    }
 }
 
 /// The cells of one element.
-pub fn element_cells(p: &Source<'_>, kind: Kind<'_>) -> u32
-    ensures { result ≡ element_cells p.now.m.now.typed (view_kind kind.entry) }
+pub fn element_cells(source: &Source<'_>, kind: Kind<'_>) -> u32
+    ensures { result ≡ element_cells source.now.m.now.typed (view_kind kind.entry) }
 {
     match kind {
-        Kind::Object(root, stars) => cells_behind(p, root, stars),
-        Kind::Array(root, stars) => cells_behind(p, root, stars),
+        Kind::Object(root, stars) => cells_behind(source, root, stars),
+        Kind::Array(root, stars) => cells_behind(source, root, stars),
         Kind::Null => 1,
         Kind::Function => 1,
     }
@@ -85,10 +89,10 @@ pub fn elements_of_form(form: &GlobalForm) -> u64
 }
 
 /// How many elements a global has.
-pub(crate) fn global_elements(t: &Typed, number: u32) -> Result<u32, AllocError>
-    ensures { IfOk result (λ n. n ≡ global_elements (global_at t.now number)) }
+pub(crate) fn global_elements(typed: &Typed, number: u32) -> Result<u32, AllocError>
+    ensures { IfOk result (λ n. n ≡ global_elements (global_at typed.now number)) }
 {
-    match t.global_at(number) {
+    match typed.global_at(number) {
         None => Ok(0),
         Some(global) => match u32::try_from(elements_of_form(&global.form)) {
             Ok(n) => Ok(n),
@@ -98,18 +102,18 @@ pub(crate) fn global_elements(t: &Typed, number: u32) -> Result<u32, AllocError>
 }
 
 /// The place of a field's cell among those of an element.
-pub(crate) fn field_place(p: &Source<'_>, token: u32) -> u32
-    ensures { result ≡ field_place p.now.m.now.typed token }
+pub(crate) fn field_place(source: &Source<'_>, token: u32) -> u32
+    ensures { result ≡ field_place source.now.m.now.typed token }
 {
-    p.fields.get(&token).copied().unwrap_or(0)
+    source.fields.get(&token).copied().unwrap_or(0)
 }
 
 /// The place of the field that a name names.
-pub(crate) fn field_named(p: &Source<'_>, named: Named) -> u32
-    ensures { result ≡ field_place_named p.now.m.now.typed named }
+pub(crate) fn field_named(source: &Source<'_>, named: Named) -> u32
+    ensures { result ≡ field_place_named source.now.m.now.typed named }
 {
     match named {
-        Named::Field(token) => field_place(p, token),
+        Named::Field(token) => field_place(source, token),
         Named::Struct(_) => 0,
         Named::Global(_) => 0,
         Named::Function(_) => 0,
@@ -118,11 +122,11 @@ pub(crate) fn field_named(p: &Source<'_>, named: Named) -> u32
     }
 }
 
-fn fields_named(t: &Typed, named: Named) -> &[Declaration]
-    ensures { result.now ≡ fields_named t.now named }
+fn fields_named(typed: &Typed, named: Named) -> &[Declaration]
+    ensures { result.now ≡ fields_named typed.now named }
 {
     match named {
-        Named::Struct(number) => match t.struct_at(number) {
+        Named::Struct(number) => match typed.struct_at(number) {
             None => &[],
             Some(definition) => definition.fields.as_slice(),
         },
@@ -130,12 +134,12 @@ fn fields_named(t: &Typed, named: Named) -> &[Declaration]
     }
 }
 
-fn fields_behind<'a>(t: &'a Typed, declaration: Option<&Declaration>) -> &'a [Declaration]
-    ensures { result.now ≡ fields_behind t.now (option_copied declaration.entry) }
+fn fields_behind<'a>(typed: &'a Typed, declaration: Option<&Declaration>) -> &'a [Declaration]
+    ensures { result.now ≡ fields_behind typed.now (option_copied declaration.entry) }
 {
     match declaration {
         None => &[],
-        Some(declaration) => fields_named(t, t.named(declaration.written.base.token)),
+        Some(declaration) => fields_named(typed, typed.named(declaration.written.base.token)),
     }
 }
 
@@ -154,24 +158,28 @@ fn place_of_name(fields: &[Declaration], name: &[u8]) -> Result<u32, AllocError>
 }
 
 /// The place of the field with this name, in the struct to which the variable that this token declares points.
-pub(crate) fn field_place_behind(t: &Typed, variable: u32, name: &[u8]) -> Result<u32, AllocError>
-    ensures { IfOk result (λ n. n ≡ field_place_behind t.now variable name.now) }
+pub(crate) fn field_place_behind(
+    typed: &Typed,
+    variable: u32,
+    name: &[u8],
+) -> Result<u32, AllocError>
+    ensures { IfOk result (λ n. n ≡ field_place_behind typed.now variable name.now) }
 {
-    place_of_name(fields_behind(t, t.declaration_at(variable)), name)
+    place_of_name(fields_behind(typed, typed.declaration_at(variable)), name)
 }
 
 /// Whether a path names a sibling that points to a mutex.
-pub(crate) fn is_behind_pointer(t: &Typed, lock: Lock<'_>) -> bool
-    ensures { result ≡ is_behind_pointer t.now (view_lock lock.entry) }
+pub(crate) fn is_behind_pointer(typed: &Typed, lock: Lock<'_>) -> bool
+    ensures { result ≡ is_behind_pointer typed.now (view_lock lock.entry) }
 {
-    is_sibling_lock(t, lock) && is_pointer(named_kind(t, t.named(lock.first)))
+    is_sibling_lock(typed, lock) && is_pointer(named_kind(typed, typed.named(lock.first)))
 }
 
 /// The first cell of a global.
-pub(crate) fn first_cell(p: &Source<'_>, number: u32) -> Result<u32, AllocError>
-    ensures { IfOk result (λ n. n ≡ first_cell p.now.globals.items number) }
+pub(crate) fn first_cell(source: &Source<'_>, number: u32) -> Result<u32, AllocError>
+    ensures { IfOk result (λ n. n ≡ first_cell source.now.globals.items number) }
 {
-    let globals = p.globals.as_slice();
+    let globals = source.globals.as_slice();
     let number = number as usize;
     if number >= globals.len() {
         return Ok(0);
@@ -183,39 +191,39 @@ pub(crate) fn first_cell(p: &Source<'_>, number: u32) -> Result<u32, AllocError>
 }
 
 /// The cell of this field of a global's first element.
-pub(crate) fn cell_in(p: &Source<'_>, number: u32, field: u32) -> Result<u32, AllocError>
-    ensures { IfOk result (λ n. n ≡ first_cell p.now.globals.items number + field) }
+pub(crate) fn cell_in(source: &Source<'_>, number: u32, field: u32) -> Result<u32, AllocError>
+    ensures { IfOk result (λ n. n ≡ first_cell source.now.globals.items number + field) }
 {
-    match first_cell(p, number)?.checked_add(field) {
+    match first_cell(source, number)?.checked_add(field) {
         Some(cell) => Ok(cell),
         None => Err(AllocError),
     }
 }
 
 /// The number after those of all layouts of structs.
-fn last_layout(t: &Typed) -> Result<u32, AllocError>
-    ensures { IfOk result (λ n. n ≡ length (structs_in t.now.program.items) + 2) }
+fn last_layout(typed: &Typed) -> Result<u32, AllocError>
+    ensures { IfOk result (λ n. n ≡ length (structs_in typed.now.program.items) + 2) }
 {
-    match small(t.struct_count())?.checked_add(2) {
+    match small(typed.struct_count())?.checked_add(2) {
         Some(n) => Ok(n),
         None => Err(AllocError),
     }
 }
 
-fn struct_layout(p: &Source<'_>, name: &[u8]) -> Result<u32, AllocError>
-    ensures { IfOk result (λ n. n ≡ struct_layout 2 (structs_in p.now.m.now.typed.program.items) name.now) }
+fn struct_layout(source: &Source<'_>, name: &[u8]) -> Result<u32, AllocError>
+    ensures { IfOk result (λ n. n ≡ struct_layout 2 (structs_in source.now.m.now.typed.program.items) name.now) }
 {
-    match p.structs.get(name) {
-        None => last_layout(p.m.typed()),
+    match source.structs.get(name) {
+        None => last_layout(source.m.typed()),
         Some(row) => Ok(row.layout),
     }
 }
 
-fn base_layout(p: &Source<'_>, root: Root<'_>) -> Result<u32, AllocError>
-    ensures { IfOk result (λ n. n ≡ base_layout (structs_in p.now.m.now.typed.program.items) (view_root root.entry)) }
+fn base_layout(source: &Source<'_>, root: Root<'_>) -> Result<u32, AllocError>
+    ensures { IfOk result (λ n. n ≡ base_layout (structs_in source.now.m.now.typed.program.items) (view_root root.entry)) }
 {
     match root {
-        Root::Struct(name) => struct_layout(p, name),
+        Root::Struct(name) => struct_layout(source, name),
         Root::Int => Ok(0),
         Root::Char => Ok(0),
         Root::Long => Ok(0),
@@ -225,11 +233,11 @@ fn base_layout(p: &Source<'_>, root: Root<'_>) -> Result<u32, AllocError>
 }
 
 /// The number of the layout of an element.
-pub(crate) fn layout_of(p: &Source<'_>, kind: Kind<'_>) -> Result<u32, AllocError>
-    ensures { IfOk result (λ n. n ≡ layout_of (structs_in p.now.m.now.typed.program.items) (view_kind kind.entry)) }
+pub(crate) fn layout_of(source: &Source<'_>, kind: Kind<'_>) -> Result<u32, AllocError>
+    ensures { IfOk result (λ n. n ≡ layout_of (structs_in source.now.m.now.typed.program.items) (view_kind kind.entry)) }
 {
     match kind {
-        Kind::Object(root, 0) => base_layout(p, root),
+        Kind::Object(root, 0) => base_layout(source, root),
         Kind::Object(_, _) => Ok(1),
         Kind::Array(_, _) => Ok(0),
         Kind::Null => Ok(0),

@@ -39,17 +39,17 @@ fn guard_spot(access: Access<'_>) -> Result<Spot, AllocError>
 
 /// The pointer to the mutex is read, where the access is locked through one.
 fn guard(
-    p: &Source<'_>,
+    source: &Source<'_>,
     at: Registers,
     access: Access<'_>,
     lines: &mut Vec<Op>,
 ) -> Result<(), AllocError>
-    ensures { OnOk result (lines.new.items ≡ lines.old.items ++ guard_code (context p.now []) at.int at.reference access.entry.site access.entry.lvalue (view_target access.entry.target) (guard_field p.now.m.now.typed (view_sharing access.entry.mode))) }
+    ensures { OnOk result (lines.new.items ≡ lines.old.items ++ guard_code (context source.now []) at.int at.reference access.entry.site access.entry.lvalue (view_target access.entry.target) (guard_field source.now.m.now.typed (view_sharing access.entry.mode))) }
 {
-    match guard_field(p, access.mode) {
+    match guard_field(source, access.mode) {
         None => Ok(()),
         Some(mutex) => {
-            let cell = guard_cell(p, mutex, at, access.target)?;
+            let cell = guard_cell(source, mutex, at, access.target)?;
             emit(Op::LoadGuard(cell, guard_spot(access)?), lines)
         }
     }
@@ -88,18 +88,18 @@ fn copy(at: Registers, register: Register, lines: &mut Vec<Op>) -> Result<(), Al
 }
 
 fn cell_value(
-    p: &Source<'_>,
+    source: &Source<'_>,
     scope: &[Slot],
     at: Registers,
     access: Access<'_>,
     is_ref: bool,
     lines: &mut Vec<Op>,
 ) -> Result<(), AllocError>
-    ensures { OnOk result (lines.new.items ≡ lines.old.items ++ cell_value_code (context p.now scope.now) at.int at.reference access.entry.site access.entry.lvalue (view_sharing access.entry.mode) is_ref (view_target access.entry.target)) }
+    ensures { OnOk result (lines.new.items ≡ lines.old.items ++ cell_value_code (context source.now scope.now) at.int at.reference access.entry.site access.entry.lvalue (view_sharing access.entry.mode) is_ref (view_target access.entry.target)) }
 {
-    guard(p, at, access, lines)?;
-    let cell = cell_of(p, at, access.target)?;
-    let spot = spot_of(p, scope, at, access, Use::Read)?;
+    guard(source, at, access, lines)?;
+    let cell = cell_of(source, at, access.target)?;
+    let spot = spot_of(source, scope, at, access, Use::Read)?;
     if is_ref {
         let to = at.behind_base(access.target)?;
         emit(Op::LoadRef(to.reference, cell, spot), lines)?;
@@ -112,21 +112,21 @@ fn cell_value(
 
 /// The value of what an lvalue names.
 pub fn value(
-    p: &Source<'_>,
+    source: &Source<'_>,
     scope: &[Slot],
     at: Registers,
     access: Access<'_>,
     is_ref: bool,
     lines: &mut Vec<Op>,
 ) -> Result<(), AllocError>
-    ensures { OnOk result (lines.new.items ≡ lines.old.items ++ value_code (context p.now scope.now) at.int at.reference access.entry.site access.entry.lvalue (view_sharing access.entry.mode) is_ref (view_target access.entry.target)) }
+    ensures { OnOk result (lines.new.items ≡ lines.old.items ++ value_code (context source.now scope.now) at.int at.reference access.entry.site access.entry.lvalue (view_sharing access.entry.mode) is_ref (view_target access.entry.target)) }
 {
     match access.target {
         Target::Variable(token) => copy(at, register_of(scope, token)?, lines),
-        Target::InGlobal(_, _) => cell_value(p, scope, at, access, is_ref, lines),
-        Target::InGlobalAt(_, _) => cell_value(p, scope, at, access, is_ref, lines),
-        Target::InObject(_) => cell_value(p, scope, at, access, is_ref, lines),
-        Target::InObjectAt(_) => cell_value(p, scope, at, access, is_ref, lines),
+        Target::InGlobal(_, _) => cell_value(source, scope, at, access, is_ref, lines),
+        Target::InGlobalAt(_, _) => cell_value(source, scope, at, access, is_ref, lines),
+        Target::InObject(_) => cell_value(source, scope, at, access, is_ref, lines),
+        Target::InObjectAt(_) => cell_value(source, scope, at, access, is_ref, lines),
     }
 }
 
@@ -141,7 +141,7 @@ fn settle(from: Registers, register: Register, lines: &mut Vec<Op>) -> Result<()
 }
 
 fn cell_store(
-    p: &Source<'_>,
+    source: &Source<'_>,
     scope: &[Slot],
     at: Registers,
     from: Registers,
@@ -149,11 +149,11 @@ fn cell_store(
     is_ref: bool,
     lines: &mut Vec<Op>,
 ) -> Result<(), AllocError>
-    ensures { OnOk result (lines.new.items ≡ lines.old.items ++ cell_store_code (context p.now scope.now) at.int at.reference from.int from.reference access.entry.site access.entry.lvalue (view_sharing access.entry.mode) is_ref (view_target access.entry.target)) }
+    ensures { OnOk result (lines.new.items ≡ lines.old.items ++ cell_store_code (context source.now scope.now) at.int at.reference from.int from.reference access.entry.site access.entry.lvalue (view_sharing access.entry.mode) is_ref (view_target access.entry.target)) }
 {
-    guard(p, at, access, lines)?;
-    let cell = cell_of(p, at, access.target)?;
-    let spot = spot_of(p, scope, at, access, Use::Write)?;
+    guard(source, at, access, lines)?;
+    let cell = cell_of(source, at, access.target)?;
+    let spot = spot_of(source, scope, at, access, Use::Write)?;
     if is_ref {
         emit(Op::StoreRef(from.reference, cell, spot), lines)?;
     } else {
@@ -164,7 +164,7 @@ fn cell_store(
 
 /// A value in these registers goes to what an lvalue names.
 pub fn store(
-    p: &Source<'_>,
+    source: &Source<'_>,
     scope: &[Slot],
     at: Registers,
     from: Registers,
@@ -172,14 +172,14 @@ pub fn store(
     is_ref: bool,
     lines: &mut Vec<Op>,
 ) -> Result<(), AllocError>
-    ensures { OnOk result (lines.new.items ≡ lines.old.items ++ store_code (context p.now scope.now) at.int at.reference from.int from.reference access.entry.site access.entry.lvalue (view_sharing access.entry.mode) is_ref (view_target access.entry.target)) }
+    ensures { OnOk result (lines.new.items ≡ lines.old.items ++ store_code (context source.now scope.now) at.int at.reference from.int from.reference access.entry.site access.entry.lvalue (view_sharing access.entry.mode) is_ref (view_target access.entry.target)) }
 {
     match access.target {
         Target::Variable(token) => settle(from, register_of(scope, token)?, lines),
-        Target::InGlobal(_, _) => cell_store(p, scope, at, from, access, is_ref, lines),
-        Target::InGlobalAt(_, _) => cell_store(p, scope, at, from, access, is_ref, lines),
-        Target::InObject(_) => cell_store(p, scope, at, from, access, is_ref, lines),
-        Target::InObjectAt(_) => cell_store(p, scope, at, from, access, is_ref, lines),
+        Target::InGlobal(_, _) => cell_store(source, scope, at, from, access, is_ref, lines),
+        Target::InGlobalAt(_, _) => cell_store(source, scope, at, from, access, is_ref, lines),
+        Target::InObject(_) => cell_store(source, scope, at, from, access, is_ref, lines),
+        Target::InObjectAt(_) => cell_store(source, scope, at, from, access, is_ref, lines),
     }
 }
 
@@ -219,18 +219,18 @@ impl Taking {
 }
 
 fn cell_take(
-    p: &Source<'_>,
+    source: &Source<'_>,
     scope: &[Slot],
     at: Registers,
     access: Access<'_>,
     taking: Taking,
     lines: &mut Vec<Op>,
 ) -> Result<(), AllocError>
-    ensures { OnOk result (lines.new.items ≡ lines.old.items ++ cell_take_code (context p.now scope.now) at.int at.reference access.entry.site access.entry.lvalue (view_sharing access.entry.mode) (use_of taking) (view_target access.entry.target)) }
+    ensures { OnOk result (lines.new.items ≡ lines.old.items ++ cell_take_code (context source.now scope.now) at.int at.reference access.entry.site access.entry.lvalue (view_sharing access.entry.mode) (use_of taking) (view_target access.entry.target)) }
 {
-    guard(p, at, access, lines)?;
-    let cell = cell_of(p, at, access.target)?;
-    let spot = spot_of(p, scope, at, access, taking.of(None))?;
+    guard(source, at, access, lines)?;
+    let cell = cell_of(source, at, access.target)?;
+    let spot = spot_of(source, scope, at, access, taking.of(None))?;
     let to = at.behind_base(access.target)?;
     emit(Op::TakeCell(to.reference, cell, spot), lines)?;
     settle_base(at, access.target, lines)
@@ -238,14 +238,14 @@ fn cell_take(
 
 /// What an lvalue names is taken away.
 pub fn take(
-    p: &Source<'_>,
+    source: &Source<'_>,
     scope: &[Slot],
     at: Registers,
     access: Access<'_>,
     taking: Taking,
     lines: &mut Vec<Op>,
 ) -> Result<(), AllocError>
-    ensures { OnOk result (lines.new.items ≡ lines.old.items ++ take_code (context p.now scope.now) at.int at.reference access.entry.site access.entry.lvalue (view_sharing access.entry.mode) (use_of taking) (view_target access.entry.target)) }
+    ensures { OnOk result (lines.new.items ≡ lines.old.items ++ take_code (context source.now scope.now) at.int at.reference access.entry.site access.entry.lvalue (view_sharing access.entry.mode) (use_of taking) (view_target access.entry.target)) }
 {
     match access.target {
         Target::Variable(token) => {
@@ -254,13 +254,13 @@ pub fn take(
                 int: 0,
                 reference: 0,
             };
-            let spot = spot_of(p, scope, none, access, taking.of(Some(token)))?;
+            let spot = spot_of(source, scope, none, access, taking.of(Some(token)))?;
             emit(Op::TakeLocal(at.reference, register, spot), lines)
         }
-        Target::InGlobal(_, _) => cell_take(p, scope, at, access, taking, lines),
-        Target::InGlobalAt(_, _) => cell_take(p, scope, at, access, taking, lines),
-        Target::InObject(_) => cell_take(p, scope, at, access, taking, lines),
-        Target::InObjectAt(_) => cell_take(p, scope, at, access, taking, lines),
+        Target::InGlobal(_, _) => cell_take(source, scope, at, access, taking, lines),
+        Target::InGlobalAt(_, _) => cell_take(source, scope, at, access, taking, lines),
+        Target::InObject(_) => cell_take(source, scope, at, access, taking, lines),
+        Target::InObjectAt(_) => cell_take(source, scope, at, access, taking, lines),
     }
 }
 

@@ -44,15 +44,18 @@ fn enter_struct<'a>(
 }
 
 /// The structs of a program by their names. Of two structs with one name the first stays, so the last is entered first.
-fn structs_of<'a>(alloc: Global, t: &'a Typed) -> Result<IndexMap<&'a [u8], StructRow>, AllocError>
-    ensures cells { IfOk result (λ rows. HasCells (structs_in t.now.program.items) rows) }
-    ensures layouts { IfOk result (λ rows. HasLayouts 2 (length (structs_in t.now.program.items) + 2) (structs_in t.now.program.items) rows) }
+fn structs_of<'a>(
+    alloc: Global,
+    typed: &'a Typed,
+) -> Result<IndexMap<&'a [u8], StructRow>, AllocError>
+    ensures cells { IfOk result (λ rows. HasCells (structs_in typed.now.program.items) rows) }
+    ensures layouts { IfOk result (λ rows. HasLayouts 2 (length (structs_in typed.now.program.items) + 2) (structs_in typed.now.program.items) rows) }
 {
     let mut structs = IndexMap::new(alloc);
-    let mut left = small(t.struct_count())?;
+    let mut left = small(typed.struct_count())?;
     while left > 0 {
         left -= 1;
-        match t.struct_at(left) {
+        match typed.struct_at(left) {
             // Each number below the count has a struct.
             None => return Err(AllocError),
             Some(definition) => enter_struct(left, definition, &mut structs)?,
@@ -74,14 +77,14 @@ fn enter_fields(fields: &[Declaration], places: &mut IndexMap<u32, u32>) -> Resu
 }
 
 /// The places of all fields.
-fn places_of(alloc: Global, t: &Typed) -> Result<IndexMap<u32, u32>, AllocError>
-    ensures { IfOk result (λ places. HasFields (structs_in t.now.program.items) places) }
+fn places_of(alloc: Global, typed: &Typed) -> Result<IndexMap<u32, u32>, AllocError>
+    ensures { IfOk result (λ places. HasFields (structs_in typed.now.program.items) places) }
 {
     let mut places = IndexMap::new(alloc);
-    let mut left = small(t.struct_count())?;
+    let mut left = small(typed.struct_count())?;
     while left > 0 {
         left -= 1;
-        match t.struct_at(left) {
+        match typed.struct_at(left) {
             // Each number below the count has a struct.
             None => return Err(AllocError),
             Some(definition) => enter_fields(definition.fields.as_slice(), &mut places)?,
@@ -94,15 +97,15 @@ impl<'a> Source<'a> {
     ghost use Rattle.std.specs.Prelude.{◌≡◌, [], IfOk};
 
     /// A program with its modes, whose globals have no places yet.
-    pub fn of(alloc: Global, m: &'a Moded) -> Result<Self, AllocError>
-        ensures m { IfOk result (λ p. p.m.now ≡ m.now) }
+    pub fn of(alloc: Global, program: &'a Moded) -> Result<Self, AllocError>
+        ensures m { IfOk result (λ p. p.m.now ≡ program.now) }
         ensures globals { IfOk result (λ p. p.globals.items ≡ []) }
     {
-        let t = m.typed();
+        let t = program.typed();
         let structs = structs_of(alloc, t)?;
         let fields = places_of(alloc, t)?;
         Ok(Source {
-            m,
+            m: program,
             globals: Vec::new(alloc),
             structs,
             fields,

@@ -24,12 +24,19 @@ use sharc_tree::token::{Site, Span};
 use std::alloc::AllocError;
 
 /// The cell that something names, whose base and number are in the first of these registers.
-pub(crate) fn cell_of(p: &Source<'_>, at: Registers, target: Target) -> Result<Cell, AllocError>
-    ensures { IfOk result (λ cell. cell ≡ cell_of p.now.globals.items at.int at.reference (view_target target)) }
+pub(crate) fn cell_of(
+    source: &Source<'_>,
+    at: Registers,
+    target: Target,
+) -> Result<Cell, AllocError>
+    ensures { IfOk result (λ cell. cell ≡ cell_of source.now.globals.items at.int at.reference (view_target target)) }
 {
     match target {
         Target::Variable(_) => Ok(Cell::Global(0, 0)),
-        Target::InGlobal(number, field) => Ok(Cell::Global(number, cell_in(p, number, field)?)),
+        Target::InGlobal(number, field) => Ok(Cell::Global(
+            number,
+            cell_in(source, number, field)?,
+        )),
         Target::InGlobalAt(number, _) => Ok(Cell::GlobalAt(number, at.int)),
         Target::InObject(field) => Ok(Cell::Object(at.reference, field)),
         Target::InObjectAt(_) => Ok(Cell::ObjectAt(at.reference, at.int)),
@@ -38,29 +45,29 @@ pub(crate) fn cell_of(p: &Source<'_>, at: Registers, target: Target) -> Result<C
 
 /// The cell of its element with a mutex or the pointer to one.
 pub(crate) fn guard_cell(
-    p: &Source<'_>,
+    source: &Source<'_>,
     mutex: u32,
     at: Registers,
     target: Target,
 ) -> Result<Cell, AllocError>
-    ensures { IfOk result (λ cell. cell ≡ guard_cell p.now.globals.items mutex at.int at.reference (view_target target)) }
+    ensures { IfOk result (λ cell. cell ≡ guard_cell source.now.globals.items mutex at.int at.reference (view_target target)) }
 {
     match target {
         Target::Variable(_) => Ok(Cell::Global(0, 0)),
-        Target::InGlobal(number, _) => Ok(Cell::Global(number, cell_in(p, number, mutex)?)),
+        Target::InGlobal(number, _) => Ok(Cell::Global(number, cell_in(source, number, mutex)?)),
         Target::InGlobalAt(number, _) => Ok(Cell::GlobalAt(number, at.int + 1)),
         Target::InObject(_) => Ok(Cell::Object(at.reference, mutex)),
         Target::InObjectAt(_) => Ok(Cell::ObjectAt(at.reference, at.int + 1)),
     }
 }
 
-fn guard_named(p: &Source<'_>, lock: Lock<'_>, named: Named) -> Option<u32>
-    ensures { result ≡ guard_named p.now.m.now.typed (view_lock lock.entry) named }
+fn guard_named(source: &Source<'_>, lock: Lock<'_>, named: Named) -> Option<u32>
+    ensures { result ≡ guard_named source.now.m.now.typed (view_lock lock.entry) named }
 {
     match named {
         Named::Field(token) => {
-            if is_behind_pointer(p.m.typed(), lock) {
-                Some(field_place(p, token))
+            if is_behind_pointer(source.m.typed(), lock) {
+                Some(field_place(source, token))
             } else {
                 None
             }
@@ -74,11 +81,11 @@ fn guard_named(p: &Source<'_>, lock: Lock<'_>, named: Named) -> Option<u32>
 }
 
 /// The field with the pointer to the mutex, where an access is locked through one.
-pub(crate) fn guard_field(p: &Source<'_>, mode: Sharing<'_>) -> Option<u32>
-    ensures { result ≡ guard_field p.now.m.now.typed (view_sharing mode.entry) }
+pub(crate) fn guard_field(source: &Source<'_>, mode: Sharing<'_>) -> Option<u32>
+    ensures { result ≡ guard_field source.now.m.now.typed (view_sharing mode.entry) }
 {
     match mode {
-        Sharing::Locked(lock) => guard_named(p, lock, p.m.typed().named(lock.first)),
+        Sharing::Locked(lock) => guard_named(source, lock, source.m.typed().named(lock.first)),
         Sharing::Private => None,
         Sharing::Readonly => None,
         Sharing::Racy => None,
@@ -86,11 +93,11 @@ pub(crate) fn guard_field(p: &Source<'_>, mode: Sharing<'_>) -> Option<u32>
     }
 }
 
-fn beside_named(p: &Source<'_>, named: Named) -> Option<u32>
-    ensures { result ≡ beside_named p.now.m.now.typed (record { first = 0; second = None }) named }
+fn beside_named(source: &Source<'_>, named: Named) -> Option<u32>
+    ensures { result ≡ beside_named source.now.m.now.typed (record { first = 0; second = None }) named }
 {
     match named {
-        Named::Field(token) => Some(field_place(p, token)),
+        Named::Field(token) => Some(field_place(source, token)),
         Named::Struct(_) => None,
         Named::Global(_) => None,
         Named::Function(_) => None,
@@ -100,11 +107,11 @@ fn beside_named(p: &Source<'_>, named: Named) -> Option<u32>
 }
 
 /// The field with the mutex or the pointer to it, where an access is locked by one of the same element.
-pub(crate) fn beside_field(p: &Source<'_>, mode: Sharing<'_>) -> Option<u32>
-    ensures { result ≡ beside_field p.now.m.now.typed (view_sharing mode.entry) }
+pub(crate) fn beside_field(source: &Source<'_>, mode: Sharing<'_>) -> Option<u32>
+    ensures { result ≡ beside_field source.now.m.now.typed (view_sharing mode.entry) }
 {
     match mode {
-        Sharing::Locked(lock) => beside_named(p, p.m.typed().named(lock.first)),
+        Sharing::Locked(lock) => beside_named(source, source.m.typed().named(lock.first)),
         Sharing::Private => None,
         Sharing::Readonly => None,
         Sharing::Racy => None,
@@ -114,31 +121,31 @@ pub(crate) fn beside_field(p: &Source<'_>, mode: Sharing<'_>) -> Option<u32>
 
 /// The mode of what is locked by the mutex to which a variable leads.
 fn through(
-    p: &Source<'_>,
+    source: &Source<'_>,
     scope: &[Slot],
     variable: u32,
     name: &[u8],
 ) -> Result<PlaceMode, AllocError>
-    ensures { IfOk result (λ mode. mode ≡ PlaceMode.LockedThrough (number_in (register_of scope.now variable)) (field_place_behind p.now.m.now.typed variable name.now)) }
+    ensures { IfOk result (λ mode. mode ≡ PlaceMode.LockedThrough (number_in (register_of scope.now variable)) (field_place_behind source.now.m.now.typed variable name.now)) }
 {
     let register = number_in(register_of(scope, variable)?);
-    let place = field_place_behind(p.m.typed(), variable, name)?;
+    let place = field_place_behind(source.m.typed(), variable, name)?;
     Ok(PlaceMode::LockedThrough(register, place))
 }
 
 /// The mode of what is locked by something that is no sibling.
 fn object_mode_named(
-    p: &Source<'_>,
+    source: &Source<'_>,
     scope: &[Slot],
     named: Named,
     second: Option<&[u8]>,
 ) -> Result<PlaceMode, AllocError>
-    ensures { IfOk result (λ mode. mode ≡ object_mode_named (context p.now scope.now) named (view_name second.entry)) }
+    ensures { IfOk result (λ mode. mode ≡ object_mode_named (context source.now scope.now) named (view_name second.entry)) }
 {
     match named {
-        Named::Global(number) => Ok(PlaceMode::LockedGlobal(number, first_cell(p, number)?)),
+        Named::Global(number) => Ok(PlaceMode::LockedGlobal(number, first_cell(source, number)?)),
         Named::Variable(token) => match second {
-            Some(name) => through(p, scope, token, name),
+            Some(name) => through(source, scope, token, name),
             None => Ok(PlaceMode::LockedLoaded),
         },
         Named::Struct(_) => Ok(PlaceMode::LockedLoaded),
@@ -159,37 +166,37 @@ fn mode_beside(is_pointer: bool, field: u32, mutex: u32) -> PlaceMode
 }
 
 fn locked_mode(
-    p: &Source<'_>,
+    source: &Source<'_>,
     scope: &[Slot],
     field: u32,
     lock: Lock<'_>,
 ) -> Result<PlaceMode, AllocError>
-    ensures { IfOk result (λ mode. mode ≡ mode_named (context p.now scope.now) field (view_lock lock.entry) (named_at p.now.m.now.typed lock.entry.first) (view_name lock.entry.second)) }
+    ensures { IfOk result (λ mode. mode ≡ mode_named (context source.now scope.now) field (view_lock lock.entry) (named_at source.now.m.now.typed lock.entry.first) (view_name lock.entry.second)) }
 {
-    let t = p.m.typed();
+    let t = source.m.typed();
     match t.named(lock.first) {
         Named::Field(token) => Ok(mode_beside(
             is_behind_pointer(t, lock),
             field,
-            field_place(p, token),
+            field_place(source, token),
         )),
-        named => object_mode_named(p, scope, named, lock.second),
+        named => object_mode_named(source, scope, named, lock.second),
     }
 }
 
 /// The mode of an access to this field of an element.
 pub(crate) fn place_mode(
-    p: &Source<'_>,
+    source: &Source<'_>,
     scope: &[Slot],
     field: u32,
     mode: Sharing<'_>,
 ) -> Result<PlaceMode, AllocError>
-    ensures { IfOk result (λ of. of ≡ place_mode (context p.now scope.now) field (view_sharing mode.entry)) }
+    ensures { IfOk result (λ of. of ≡ place_mode (context source.now scope.now) field (view_sharing mode.entry)) }
 {
     match mode {
         Sharing::Private => Ok(PlaceMode::Private),
         Sharing::Readonly => Ok(PlaceMode::Readonly),
-        Sharing::Locked(lock) => locked_mode(p, scope, field, lock),
+        Sharing::Locked(lock) => locked_mode(source, scope, field, lock),
         Sharing::Racy => Ok(PlaceMode::Racy),
         Sharing::Dynamic => Ok(PlaceMode::Dynamic),
     }
@@ -197,17 +204,22 @@ pub(crate) fn place_mode(
 
 /// The mode of an object that is made or given.
 pub(crate) fn object_mode(
-    p: &Source<'_>,
+    source: &Source<'_>,
     scope: &[Slot],
     mode: Sharing<'_>,
 ) -> Result<PlaceMode, AllocError>
-    ensures { IfOk result (λ of. of ≡ object_mode (context p.now scope.now) (view_sharing mode.entry)) }
+    ensures { IfOk result (λ of. of ≡ object_mode (context source.now scope.now) (view_sharing mode.entry)) }
 {
     match mode {
         Sharing::Private => Ok(PlaceMode::Private),
         Sharing::Readonly => Ok(PlaceMode::Readonly),
         Sharing::Locked(lock) => {
-            object_mode_named(p, scope, p.m.typed().named(lock.first), lock.second)
+            object_mode_named(
+                source,
+                scope,
+                source.m.typed().named(lock.first),
+                lock.second,
+            )
         }
         Sharing::Racy => Ok(PlaceMode::Racy),
         Sharing::Dynamic => Ok(PlaceMode::Dynamic),
@@ -216,16 +228,16 @@ pub(crate) fn object_mode(
 
 /// The cell of the mutex or of the pointer to it, where it is one of the same element.
 fn lock_cell(
-    p: &Source<'_>,
+    source: &Source<'_>,
     at: Registers,
     target: Target,
     mode: Sharing<'_>,
 ) -> Result<Cell, AllocError>
-    ensures { IfOk result (λ cell. cell ≡ lock_beside p.now.globals.items at.int at.reference (view_target target) (beside_field p.now.m.now.typed (view_sharing mode.entry))) }
+    ensures { IfOk result (λ cell. cell ≡ lock_beside source.now.globals.items at.int at.reference (view_target target) (beside_field source.now.m.now.typed (view_sharing mode.entry))) }
 {
-    match beside_field(p, mode) {
+    match beside_field(source, mode) {
         None => Ok(Cell::Global(0, 0)),
-        Some(mutex) => guard_cell(p, mutex, at, target),
+        Some(mutex) => guard_cell(source, mutex, at, target),
     }
 }
 
@@ -291,18 +303,18 @@ pub(crate) fn at_words(site: Site, words: Span, at: Use) -> Result<Spot, AllocEr
 
 /// Where an object is made or given.
 pub(crate) fn object_spot(
-    p: &Source<'_>,
+    source: &Source<'_>,
     scope: &[Slot],
     site: Site,
     words: Text,
     at: Use,
     mode: Sharing<'_>,
 ) -> Result<Spot, AllocError>
-    ensures { IfOk result (λ spot. spot ≡ object_spot (context p.now scope.now) site words at (view_sharing mode.entry)) }
+    ensures { IfOk result (λ spot. spot ≡ object_spot (context source.now scope.now) site words at (view_sharing mode.entry)) }
 {
     let mut spot = at_site(site);
     spot.lvalue = words;
-    spot.mode = object_mode(p, scope, mode)?;
+    spot.mode = object_mode(source, scope, mode)?;
     spot.at = at;
     Ok(spot)
 }
@@ -318,17 +330,17 @@ pub struct Access<'a> {
 
 /// The place of an access, where what it names has these registers.
 pub(crate) fn spot_of(
-    p: &Source<'_>,
+    source: &Source<'_>,
     scope: &[Slot],
     registers: Registers,
     access: Access<'_>,
     at: Use,
 ) -> Result<Spot, AllocError>
-    ensures { IfOk result (λ spot. spot ≡ spot_of (context p.now scope.now) registers.int registers.reference access.entry.site access.entry.lvalue at (view_sharing access.entry.mode) (view_target access.entry.target)) }
+    ensures { IfOk result (λ spot. spot ≡ spot_of (context source.now scope.now) registers.int registers.reference access.entry.site access.entry.lvalue at (view_sharing access.entry.mode) (view_target access.entry.target)) }
 {
     let lvalue = tokens_in(access.lvalue.words)?;
-    let mode = place_mode(p, scope, access.target.field(), access.mode)?;
-    let lock = lock_cell(p, registers, access.target, access.mode)?;
+    let mode = place_mode(source, scope, access.target.field(), access.mode)?;
+    let lock = lock_cell(source, registers, access.target, access.mode)?;
     Ok(Spot {
         site: access.site,
         lvalue,

@@ -61,16 +61,16 @@ pub fn global_of(target: Target) -> u32
 }
 
 /// What an lvalue names, for this field of it if there is one.
-pub fn target_of(p: &Source<'_>, field: Option<u32>, expr: &Expr) -> Target
-    ensures { view_target result ≡ target p.now.m.now.typed field (view_expr expr.now) }
+pub fn target_of(source: &Source<'_>, field: Option<u32>, expr: &Expr) -> Target
+    ensures { view_target result ≡ target source.now.m.now.typed field (view_expr expr.now) }
 {
-    let t = p.m.typed();
+    let t = source.m.typed();
     match expr {
         Expr::Identifier(_, name) => named_target(t.named(name.site.token), own_field(field, 0)),
-        Expr::Parentheses(_, inner) => target_of(p, field, inner),
+        Expr::Parentheses(_, inner) => target_of(source, field, inner),
         Expr::Index(_, base, _) => {
             if is_array(t.kind_at(base)) {
-                let number = global_of(target_of(p, None, base));
+                let number = global_of(target_of(source, None, base));
                 Target::InGlobalAt(number, own_field(field, 0))
             } else {
                 Target::InObjectAt(own_field(field, 0))
@@ -82,14 +82,14 @@ pub fn target_of(p: &Source<'_>, field: Option<u32>, expr: &Expr) -> Target
             name,
             ..
         } => {
-            let inner = own_field(field, field_named(p, t.named(name.site.token)));
-            target_of(p, Some(inner), base)
+            let inner = own_field(field, field_named(source, t.named(name.site.token)));
+            target_of(source, Some(inner), base)
         }
         Expr::Field {
             access: Access::Arrow,
             name,
             ..
-        } => Target::InObject(own_field(field, field_named(p, t.named(name.site.token)))),
+        } => Target::InObject(own_field(field, field_named(source, t.named(name.site.token)))),
         Expr::Unary(_, UnaryOperator::Dereference, _) => Target::InObject(own_field(field, 0)),
         Expr::Unary(_, _, _) => Target::Variable(0),
         Expr::Constant(_, _) => Target::Variable(0),
@@ -130,23 +130,23 @@ impl Target {
     }
 }
 
-fn names_variable(p: &Source<'_>, expr: &Expr) -> bool
-    ensures { result ≡ names_variable p.now.m.now.typed (view_expr expr.now) }
+fn names_variable(source: &Source<'_>, expr: &Expr) -> bool
+    ensures { result ≡ names_variable source.now.m.now.typed (view_expr expr.now) }
 {
     match expr {
         Expr::Identifier(_, name) => {
-            matches!(p.m.typed().named(name.site.token), Named::Variable(_))
+            matches!(source.m.typed().named(name.site.token), Named::Variable(_))
         }
         _ => false,
     }
 }
 
-fn names_global(p: &Source<'_>, expr: &Expr) -> bool
-    ensures { result ≡ names_global p.now.m.now.typed (view_expr expr.now) }
+fn names_global(source: &Source<'_>, expr: &Expr) -> bool
+    ensures { result ≡ names_global source.now.m.now.typed (view_expr expr.now) }
 {
     match expr {
         Expr::Identifier(_, name) => {
-            matches!(p.m.typed().named(name.site.token), Named::Global(_))
+            matches!(source.m.typed().named(name.site.token), Named::Global(_))
         }
         _ => false,
     }
@@ -161,36 +161,36 @@ fn is_number_token(expr: &Expr) -> bool
     }
 }
 
-fn is_simple_element(p: &Source<'_>, expr: &Expr) -> bool
-    ensures { result ≡ is_simple_element p.now.m.now.typed (view_expr expr.now) }
+fn is_simple_element(source: &Source<'_>, expr: &Expr) -> bool
+    ensures { result ≡ is_simple_element source.now.m.now.typed (view_expr expr.now) }
 {
     match expr {
         Expr::Index(_, base, index) => {
-            let is_array = is_array(p.m.typed().kind_at(base));
-            (names_variable(p, base) || (names_global(p, base) && is_array))
+            let is_array = is_array(source.m.typed().kind_at(base));
+            (names_variable(source, base) || (names_global(source, base) && is_array))
                 && is_number_token(index)
         }
         _ => false,
     }
 }
 
-fn is_simple_place(p: &Source<'_>, expr: &Expr) -> bool
-    ensures { result ≡ is_simple_place p.now.m.now.typed (view_expr expr.now) }
+fn is_simple_place(source: &Source<'_>, expr: &Expr) -> bool
+    ensures { result ≡ is_simple_place source.now.m.now.typed (view_expr expr.now) }
 {
     match expr {
-        Expr::Identifier(_, _) => names_global(p, expr),
-        Expr::Index(_, _, _) => is_simple_element(p, expr),
+        Expr::Identifier(_, _) => names_global(source, expr),
+        Expr::Index(_, _, _) => is_simple_element(source, expr),
         Expr::Field {
             base,
             access: Access::Dot,
             ..
-        } => names_global(p, base) || is_simple_element(p, base),
+        } => names_global(source, base) || is_simple_element(source, base),
         Expr::Field {
             base,
             access: Access::Arrow,
             ..
-        } => names_variable(p, base),
-        Expr::Unary(_, UnaryOperator::Dereference, operand) => names_variable(p, operand),
+        } => names_variable(source, base),
+        Expr::Unary(_, UnaryOperator::Dereference, operand) => names_variable(source, operand),
         _ => false,
     }
 }
@@ -205,12 +205,12 @@ fn bare_token(expr: &Expr) -> u32
 }
 
 /// How an lvalue is written.
-pub fn lvalue_of(p: &Source<'_>, expr: &Expr) -> Lvalue
-    ensures { result ≡ lvalue_of p.now.m.now.typed (view_expr expr.now) }
+pub fn lvalue_of(source: &Source<'_>, expr: &Expr) -> Lvalue
+    ensures { result ≡ lvalue_of source.now.m.now.typed (view_expr expr.now) }
 {
     Lvalue {
         words: expr.span(),
         bare: bare_token(expr),
-        is_simple: is_simple_place(p, expr),
+        is_simple: is_simple_place(source, expr),
     }
 }

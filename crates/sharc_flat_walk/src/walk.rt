@@ -57,12 +57,12 @@ fn begin(
 /// The code of a function, at the end of these lines. It fails where the number of a register, a line, a cell or an
 /// element is too large, or where memory is short.
 pub fn function_lines(
-    p: &Source<'_>,
+    source: &Source<'_>,
     walk: &mut Walk,
     of: &FunctionDefinition,
     lines: &mut Vec<Op>,
 ) -> Result<(), AllocError>
-    ensures { OnOk result (lines.new.items ≡ lines.old.items ++ function_code p.now.m.now p.now.globals.items (length lines.old.items) (view_function of.now)) }
+    ensures { OnOk result (lines.new.items ≡ lines.old.items ++ function_code source.now.m.now source.now.globals.items (length lines.old.items) (view_function of.now)) }
 {
     let around = Around {
         result: declared_kind(&of.result),
@@ -74,7 +74,14 @@ pub fn function_lines(
     let marks = &mut walk.marks;
     begin(of.parameters.as_slice(), slots, marks)?;
     emit(Op::Enter, lines)?;
-    statements(p, slots, marks, around, of.statements.as_slice(), lines)?;
+    statements(
+        source,
+        slots,
+        marks,
+        around,
+        of.statements.as_slice(),
+        lines,
+    )?;
     end_block(slots.as_slice(), 0, lines)?;
     let at = Registers {
         int: 0,

@@ -64,40 +64,40 @@ fn row_of(
 
 /// The code of a function, at the end of these lines, and its row.
 fn function(
-    p: &Source<'_>,
+    source: &Source<'_>,
     walk: &mut Walk,
     of: &FunctionDefinition,
     lines: &mut Vec<Op>,
 ) -> Result<Function, AllocError>
     ensures row { IfOk result (λ row. row
-        ≡ row_of p.now.m.now p.now.globals.items (length lines.old.items) (view_function of.now)) }
+        ≡ row_of source.now.m.now source.now.globals.items (length lines.old.items) (view_function of.now)) }
     ensures code { OnOk result (lines.new.items ≡ lines.old.items
-        ++ function_code p.now.m.now p.now.globals.items (length lines.old.items) (view_function of.now)) }
+        ++ function_code source.now.m.now source.now.globals.items (length lines.old.items) (view_function of.now)) }
 {
     let entry = lines.len();
-    function_lines(p, walk, of, lines)?;
+    function_lines(source, walk, of, lines)?;
     row_of(walk, of, entry, &lines[entry..])
 }
 
 /// The code of all functions, one after the other, and their rows.
 pub fn functions(
     alloc: Global,
-    p: &Source<'_>,
+    source: &Source<'_>,
     lines: &mut Vec<Op>,
 ) -> Result<Vec<Function>, AllocError>
     requires { lines.old.items ≡ [] }
     ensures rows { IfOk result (λ rows. rows.items
-        ≡ rows_of p.now.m.now p.now.globals.items 0 (functions_in p.now.m.now.typed.program.items)) }
+        ≡ rows_of source.now.m.now source.now.globals.items 0 (functions_in source.now.m.now.typed.program.items)) }
     ensures code { OnOk result (lines.new.items
-        ≡ functions_code p.now.m.now p.now.globals.items 0 (functions_in p.now.m.now.typed.program.items)) }
+        ≡ functions_code source.now.m.now source.now.globals.items 0 (functions_in source.now.m.now.typed.program.items)) }
 {
-    let t = p.m.typed();
+    let t = source.m.typed();
     let mut rows = Vec::with_capacity(alloc, t.function_count())?;
     let mut walk = Walk::new(alloc);
     for number in 0..small(t.function_count())? {
         match t.function_at(number) {
             None => return Err(AllocError),
-            Some(of) => rows.push(function(p, &mut walk, of, lines)?)?,
+            Some(of) => rows.push(function(source, &mut walk, of, lines)?)?,
         }
     }
     Ok(rows)

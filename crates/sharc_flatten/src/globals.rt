@@ -73,10 +73,10 @@ impl Globals {
 }
 
 /// The cells of a global.
-fn cells_in(p: &Source<'_>, global: &GlobalDefinition) -> Result<u32, AllocError>
-    ensures { IfOk result (λ n. n ≡ cells_in p.now.m.now.typed global.now) }
+fn cells_in(source: &Source<'_>, global: &GlobalDefinition) -> Result<u32, AllocError>
+    ensures { IfOk result (λ n. n ≡ cells_in source.now.m.now.typed global.now) }
 {
-    let of_element = element_cells(p, declared_kind(&global.declaration.written));
+    let of_element = element_cells(source, declared_kind(&global.declaration.written));
     match elements_of_form(&global.form).checked_mul(u64::from(of_element)) {
         None => Err(AllocError),
         Some(cells) => match u32::try_from(cells) {
@@ -122,14 +122,14 @@ fn first_word(form: &GlobalForm) -> u64
 }
 
 /// Where the globals lie, one after the other from granule 1 on, and what their cells hold at first.
-pub fn globals_of(alloc: Global, p: &Source<'_>) -> Result<Globals, AllocError>
-    ensures list { IfOk result (λ all. all.list.items ≡ globals_of p.now.m.now.typed) }
+pub fn globals_of(alloc: Global, source: &Source<'_>) -> Result<Globals, AllocError>
+    ensures list { IfOk result (λ all. all.list.items ≡ globals_of source.now.m.now.typed) }
     ensures granules { IfOk result (λ all. all.granules
-        ≡ all_granules p.now.m.now.typed (globals_in p.now.m.now.typed.program.items)) }
+        ≡ all_granules source.now.m.now.typed (globals_in source.now.m.now.typed.program.items)) }
     ensures initial { IfOk result (λ all. all.initial.items
-        ≡ all_first_words p.now.m.now.typed (globals_in p.now.m.now.typed.program.items)) }
+        ≡ all_first_words source.now.m.now.typed (globals_in source.now.m.now.typed.program.items)) }
 {
-    let t = p.m.typed();
+    let t = source.m.typed();
     let mut all = Globals {
         list: Vec::new(alloc),
         granules: 0,
@@ -138,7 +138,7 @@ pub fn globals_of(alloc: Global, p: &Source<'_>) -> Result<Globals, AllocError>
     for number in 0..small(t.global_count())? {
         match t.global_at(number) {
             None => return Err(AllocError),
-            Some(global) => all.add(cells_in(p, global)?, first_word(&global.form))?,
+            Some(global) => all.add(cells_in(source, global)?, first_word(&global.form))?,
         }
     }
     Ok(all)

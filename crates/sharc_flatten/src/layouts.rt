@@ -78,13 +78,13 @@ fn simple_layouts(alloc: Global) -> Result<Layouts, AllocError>
 }
 
 /// The layouts of an integer or a mutex, of a pointer, of the structs, and of `struct cond`.
-pub fn layouts_of(alloc: Global, t: &Typed) -> Result<Layouts, AllocError>
-    ensures list { IfOk result (λ all. all.list.items ≡ layouts_of t.now) }
-    ensures pointers { IfOk result (λ all. all.pointers.items ≡ pointers_of t.now) }
+pub fn layouts_of(alloc: Global, typed: &Typed) -> Result<Layouts, AllocError>
+    ensures list { IfOk result (λ all. all.list.items ≡ layouts_of typed.now) }
+    ensures pointers { IfOk result (λ all. all.pointers.items ≡ pointers_of typed.now) }
 {
     let mut all = simple_layouts(alloc)?;
-    for number in 0..small(t.struct_count())? {
-        match t.struct_at(number) {
+    for number in 0..small(typed.struct_count())? {
+        match typed.struct_at(number) {
             None => return Err(AllocError),
             Some(definition) => all.add(definition.fields.as_slice())?,
         }

@@ -31,10 +31,10 @@ struct Parts {
 }
 
 /// The number of `main`, which every typed program has.
-fn main_of(m: &Moded) -> Result<u32, AllocError>
-    ensures { IfOk result (λ n. IsMainOf m.now n) }
+fn main_of(program: &Moded) -> Result<u32, AllocError>
+    ensures { IfOk result (λ n. IsMainOf program.now n) }
 {
-    let t = m.typed();
+    let t = program.typed();
     for number in 0..small(t.function_count())? {
         match t.function_at(number) {
             None => return Err(AllocError),
@@ -49,18 +49,18 @@ fn main_of(m: &Moded) -> Result<u32, AllocError>
 }
 
 /// The code, before its texts are laid out.
-fn parts_of(alloc: Global, m: &Moded) -> Result<Parts, AllocError>
+fn parts_of(alloc: Global, program: &Moded) -> Result<Parts, AllocError>
     ensures lines { IfOk result (λ parts. parts.lines.items
-        ≡ functions_code m.now (globals_of m.now.typed) 0 (functions_in m.now.typed.program.items)) }
+        ≡ functions_code program.now (globals_of program.now.typed) 0 (functions_in program.now.typed.program.items)) }
     ensures functions { IfOk result (λ parts. parts.functions.items
-        ≡ rows_of m.now (globals_of m.now.typed) 0 (functions_in m.now.typed.program.items)) }
-    ensures list { IfOk result (λ parts. parts.globals.list.items ≡ globals_of m.now.typed) }
+        ≡ rows_of program.now (globals_of program.now.typed) 0 (functions_in program.now.typed.program.items)) }
+    ensures list { IfOk result (λ parts. parts.globals.list.items ≡ globals_of program.now.typed) }
     ensures granules { IfOk result (λ parts. parts.globals.granules
-        ≡ all_granules m.now.typed (globals_in m.now.typed.program.items)) }
+        ≡ all_granules program.now.typed (globals_in program.now.typed.program.items)) }
     ensures initial { IfOk result (λ parts. parts.globals.initial.items
-        ≡ all_first_words m.now.typed (globals_in m.now.typed.program.items)) }
+        ≡ all_first_words program.now.typed (globals_in program.now.typed.program.items)) }
 {
-    let source = Source::of(alloc, m)?;
+    let source = Source::of(alloc, program)?;
     let globals = globals_of(alloc, &source)?;
     let list = Vec::from_slice(alloc, globals.list.as_slice())?;
     let source = source.with_globals(list);
@@ -77,20 +77,20 @@ fn parts_of(alloc: Global, m: &Moded) -> Result<Parts, AllocError>
 /// The bytes of all texts; the lines and the rows get the places of theirs.
 fn lay_texts(
     alloc: Global,
-    t: &Typed,
+    typed: &Typed,
     lines: &mut Vec<Op>,
     rows: &mut Vec<Function>,
 ) -> Result<Vec<u8>, AllocError>
-    requires { length rows.old.items ≡ length (functions_in t.now.program.items) }
-    ensures lines { IfOk result (λ bytes. AreLaid t.now bytes.items lines.old.items lines.new.items) }
+    requires { length rows.old.items ≡ length (functions_in typed.now.program.items) }
+    ensures lines { IfOk result (λ bytes. AreLaid typed.now bytes.items lines.old.items lines.new.items) }
     ensures rows { IfOk result (λ bytes.
-        AreNamed bytes.items rows.old.items (names_of (functions_in t.now.program.items)) rows.new.items) }
+        AreNamed bytes.items rows.old.items (names_of (functions_in typed.now.program.items)) rows.new.items) }
 {
     let mut bytes = Vec::new(alloc);
-    let words = Words::of(alloc, t, &mut bytes)?;
+    let words = Words::of(alloc, typed, &mut bytes)?;
     words.lay(alloc, lines, &mut bytes)?;
     drop(words);
-    lay_names(t, rows, &mut bytes)?;
+    lay_names(typed, rows, &mut bytes)?;
     Ok(bytes)
 }
 
@@ -110,15 +110,15 @@ fn few_granules(granules: u32) -> Result<u32, AllocError>
 ///
 /// It fails where memory is short, and where a number of the flat form would not be one of 32 bits or the globals would
 /// have more granules than a state may have, which is so of no program within the limits of the language.
-pub fn flatten(alloc: Global, m: &Moded) -> Result<Flat, AllocError>
-    ensures { IfOk result (λ code. Flattens m.now code × FitsMade (flat_of code)) }
+pub fn flatten(alloc: Global, program: &Moded) -> Result<Flat, AllocError>
+    ensures { IfOk result (λ code. Flattens program.now code × FitsMade (flat_of code)) }
 {
-    let t = m.typed();
+    let t = program.typed();
     let Parts {
         mut lines,
         mut functions,
         globals,
-    } = parts_of(alloc, m)?;
+    } = parts_of(alloc, program)?;
     let texts = lay_texts(alloc, t, &mut lines, &mut functions)?;
     frames_fit(functions.as_slice())?;
     cells_fit(lines.as_slice())?;
@@ -127,7 +127,7 @@ pub fn flatten(alloc: Global, m: &Moded) -> Result<Flat, AllocError>
     Ok(Flat {
         lines,
         functions,
-        main: main_of(m)?,
+        main: main_of(program)?,
         globals: globals.list,
         granules: few_granules(globals.granules)?,
         initial: globals.initial,

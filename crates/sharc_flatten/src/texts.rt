@@ -20,11 +20,11 @@ use sharc_tree::print::print_span;
 use sharc_tree::tree::Declaration;
 use std::alloc::{AllocError, Global};
 
-fn fields_named(t: &Typed, named: Named) -> &[Declaration]
-    ensures { result.now ≡ fields_named t.now named }
+fn fields_named(typed: &Typed, named: Named) -> &[Declaration]
+    ensures { result.now ≡ fields_named typed.now named }
 {
     match named {
-        Named::Struct(number) => match t.struct_at(number) {
+        Named::Struct(number) => match typed.struct_at(number) {
             None => &[],
             Some(definition) => definition.fields.as_slice(),
         },
@@ -33,12 +33,12 @@ fn fields_named(t: &Typed, named: Named) -> &[Declaration]
 }
 
 /// The fields of what a declared pointer leads to.
-fn fields_behind<'a>(t: &'a Typed, declaration: Option<&Declaration>) -> &'a [Declaration]
-    ensures { result.now ≡ fields_behind t.now (option_copied declaration.entry) }
+fn fields_behind<'a>(typed: &'a Typed, declaration: Option<&Declaration>) -> &'a [Declaration]
+    ensures { result.now ≡ fields_behind typed.now (option_copied declaration.entry) }
 {
     match declaration {
         None => &[],
-        Some(declaration) => fields_named(t, t.named(declaration.written.base.token)),
+        Some(declaration) => fields_named(typed, typed.named(declaration.written.base.token)),
     }
 }
 
@@ -52,11 +52,11 @@ fn name_at(fields: &[Declaration], place: u32) -> &[u8]
 }
 
 /// The name of the field at this place of what a variable points to.
-fn field_behind(t: &Typed, named: Named, place: u32) -> &[u8]
-    ensures { result.now ≡ field_behind t.now named place }
+fn field_behind(typed: &Typed, named: Named, place: u32) -> &[u8]
+    ensures { result.now ≡ field_behind typed.now named place }
 {
     match named {
-        Named::Variable(token) => name_at(fields_behind(t, t.declaration_at(token)), place),
+        Named::Variable(token) => name_at(fields_behind(typed, typed.declaration_at(token)), place),
         Named::Struct(_) => &[],
         Named::Global(_) => &[],
         Named::Function(_) => &[],
@@ -68,14 +68,14 @@ fn field_behind(t: &Typed, named: Named, place: u32) -> &[u8]
 /// The text of the tokens from the first number up to the second, at the end of these bytes.
 fn add_words(
     alloc: Global,
-    t: &Typed,
+    typed: &Typed,
     from: u32,
     until: u32,
     bytes: &mut Vec<u8>,
 ) -> Result<(), AllocError>
-    ensures { OnOk result (bytes.new.items ≡ bytes.old.items ++ words_of t.now from until) }
+    ensures { OnOk result (bytes.new.items ≡ bytes.old.items ++ words_of typed.now from until) }
 {
-    let program = t.program();
+    let program = typed.program();
     let until = (until as usize).min(program.tokens.list.len());
     if (from as usize) < until {
         let words = print_span(alloc, program, from, until as u32 - 1)?;
@@ -89,36 +89,42 @@ fn add_words(
 /// bytes.
 fn add_beside(
     alloc: Global,
-    t: &Typed,
+    typed: &Typed,
     lvalue: Text,
     lock: Text,
     bytes: &mut Vec<u8>,
 ) -> Result<(), AllocError>
-    ensures { OnOk result (bytes.new.items ≡ bytes.old.items ++ beside_words t.now lvalue lock) }
+    ensures { OnOk result (bytes.new.items ≡ bytes.old.items ++ beside_words typed.now lvalue lock) }
 {
     let open = lock.from.saturating_sub(lvalue.from);
     let last = lvalue.until.saturating_sub(1).saturating_sub(open);
-    add_words(alloc, t, lock.from, last, bytes)?;
-    bytes.extend_from_slice(text_at(t, lock.until))
+    add_words(alloc, typed, lock.from, last, bytes)?;
+    bytes.extend_from_slice(text_at(typed, lock.until))
 }
 
 /// The path of the lock of a mode, as reports print it, at the end of these bytes; nothing for a mode without one.
-fn add_lock(alloc: Global, t: &Typed, spot: Spot, bytes: &mut Vec<u8>) -> Result<(), AllocError>
+fn add_lock(alloc: Global, typed: &Typed, spot: Spot, bytes: &mut Vec<u8>) -> Result<(), AllocError>
     ensures { OnOk result (bytes.new.items
-        ≡ bytes.old.items ++ lock_text_of t.now spot.mode spot.lvalue spot.lock_text) }
+        ≡ bytes.old.items ++ lock_text_of typed.now spot.mode spot.lvalue spot.lock_text) }
 {
     let token = spot.lock_text.until;
     match spot.mode {
-        PlaceMode::LockedGlobal(_, _) => bytes.extend_from_slice(text_at(t, token)),
+        PlaceMode::LockedGlobal(_, _) => bytes.extend_from_slice(text_at(typed, token)),
         PlaceMode::LockedThrough(_, place) => {
-            bytes.extend_from_slice(text_at(t, token))?;
+            bytes.extend_from_slice(text_at(typed, token))?;
             bytes.extend_from_slice(b"->")?;
-            bytes.extend_from_slice(field_behind(t, t.named(token), place))
+            bytes.extend_from_slice(field_behind(typed, typed.named(token), place))
         }
-        PlaceMode::LockedSibling(_, _) => add_beside(alloc, t, spot.lvalue, spot.lock_text, bytes),
+        PlaceMode::LockedSibling(_, _) => add_beside(
+            alloc,
+            typed,
+            spot.lvalue,
+            spot.lock_text,
+            bytes,
+        ),
         PlaceMode::LockedLoaded => {
             bytes.extend_from_slice(b"*")?;
-            add_beside(alloc, t, spot.lvalue, spot.lock_text, bytes)
+            add_beside(alloc, typed, spot.lvalue, spot.lock_text, bytes)
         }
         PlaceMode::Private => Ok(()),
         PlaceMode::Readonly => Ok(()),
@@ -128,13 +134,18 @@ fn add_lock(alloc: Global, t: &Typed, spot: Spot, bytes: &mut Vec<u8>) -> Result
 }
 
 /// The same with where it lies.
-fn lock_text(alloc: Global, t: &Typed, spot: Spot, bytes: &mut Vec<u8>) -> Result<Text, AllocError>
+fn lock_text(
+    alloc: Global,
+    typed: &Typed,
+    spot: Spot,
+    bytes: &mut Vec<u8>,
+) -> Result<Text, AllocError>
     ensures grows { OnOk result (Grows bytes.old.items bytes.new.items) }
     ensures lies { IfOk result (λ lock.
-        LiesIn bytes.new.items lock (lock_text_of t.now spot.mode spot.lvalue spot.lock_text)) }
+        LiesIn bytes.new.items lock (lock_text_of typed.now spot.mode spot.lvalue spot.lock_text)) }
 {
     let from = small(bytes.len())?;
-    add_lock(alloc, t, spot, bytes)?;
+    add_lock(alloc, typed, spot, bytes)?;
     let until = small(bytes.len())?;
     Ok(Text { from, until })
 }
@@ -154,14 +165,14 @@ impl<'a> Words<'a> {
     ghost use Rattle.sharc_flatten.specs.Places.{LiesIn, Grows};
 
     /// The text of all tokens of a program, and where these lie in it.
-    pub fn of(alloc: Global, t: &'a Typed, bytes: &mut Vec<u8>) -> Result<Self, AllocError>
+    pub fn of(alloc: Global, typed: &'a Typed, bytes: &mut Vec<u8>) -> Result<Self, AllocError>
         requires { bytes.old.items ≡ [] }
-        ensures t { IfOk result (λ words. words.t.now ≡ t.now) }
-        ensures bytes { OnOk result (bytes.new.items ≡ tokens_text t.now.program.tokens.list) }
+        ensures t { IfOk result (λ words. words.t.now ≡ typed.now) }
+        ensures bytes { OnOk result (bytes.new.items ≡ tokens_text typed.now.program.tokens.list) }
     {
-        let tokens = t.program().tokens.list.as_slice();
+        let tokens = typed.program().tokens.list.as_slice();
         let places = lay_tokens(alloc, tokens, bytes)?;
-        Ok(Words { t, places })
+        Ok(Words { t: typed, places })
     }
 
     /// Where the tokens from the first number up to the second lie.
@@ -215,14 +226,18 @@ impl<'a> Words<'a> {
 }
 
 /// All rows with where the names of their functions lie; these come to the end of the bytes.
-pub fn lay_names(t: &Typed, rows: &mut Vec<Function>, bytes: &mut Vec<u8>) -> Result<(), AllocError>
-    requires { length rows.old.items ≡ length (functions_in t.now.program.items) }
+pub fn lay_names(
+    typed: &Typed,
+    rows: &mut Vec<Function>,
+    bytes: &mut Vec<u8>,
+) -> Result<(), AllocError>
+    requires { length rows.old.items ≡ length (functions_in typed.now.program.items) }
     ensures grows { OnOk result (Grows bytes.old.items bytes.new.items) }
     ensures named { OnOk result (
-        AreNamed bytes.new.items rows.old.items (names_of (functions_in t.now.program.items)) rows.new.items) }
+        AreNamed bytes.new.items rows.old.items (names_of (functions_in typed.now.program.items)) rows.new.items) }
 {
     for number in 0..rows.len() {
-        match t.function_at(small(number)?) {
+        match typed.function_at(small(number)?) {
             None => return Err(AllocError),
             Some(of) => {
                 let name = add_text(of.name.text.as_slice(), bytes)?;

@@ -15,23 +15,23 @@ use std::alloc::{AllocError, Global};
 /// guarded code are.
 ///
 /// An `Err` says that memory was not found.
-pub fn generate(alloc: Global, g: Guarded) -> Result<Code, AllocError>
-    ensures is { IfOk result (λ code. IsGenerated g code) }
-    ensures numbers { IfOk result (λ code. IsGuarded (program_of g) → TablesFit g → NumbersFit code) }
+pub fn generate(alloc: Global, guarded: Guarded) -> Result<Code, AllocError>
+    ensures is { IfOk result (λ code. IsGenerated guarded code) }
+    ensures numbers { IfOk result (λ code. IsGuarded (program_of guarded) → TablesFit guarded → NumbersFit code) }
 {
-    let instrs = instructions(alloc, &g.statements, &g.functions)?;
+    let instrs = instructions(alloc, &guarded.statements, &guarded.functions)?;
     Ok(Code {
         instrs,
-        functions: g.functions,
-        main: g.main,
-        globals: g.globals,
-        granules: g.granules,
-        initial: g.initial,
-        layouts: g.layouts,
-        pointers: g.pointers,
-        sites: g.sites,
-        texts: g.texts,
-        files: g.files,
+        functions: guarded.functions,
+        main: guarded.main,
+        globals: guarded.globals,
+        granules: guarded.granules,
+        initial: guarded.initial,
+        layouts: guarded.layouts,
+        pointers: guarded.pointers,
+        sites: guarded.sites,
+        texts: guarded.texts,
+        files: guarded.files,
     })
 }
 

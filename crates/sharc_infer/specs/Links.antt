@@ -6,9 +6,9 @@ use Rattle.sharc_tree.specs.Tree.{Expression}
 use Rattle.sharc_ctype.specs.Resolved.{Resolution}
 use Rattle.sharc_ctype.specs.Transfers.{Receiver, lvalue, variable, result, Transfer}
 use Rattle.sharc_mode.specs.Flows.{equal_rows, source_row, cast_links}
-use Rattle.sharc_mode.specs.Rows.{Row, written, declared_row, row_at}
+use Rattle.sharc_mode.specs.Rows.{Targets, written, declared_row, row_at}
 
-abbrev pub given_row : Resolution → ℕ → Receiver → Option Row
+abbrev pub given_row : Resolution → ℕ → Receiver → Option Targets
 given_row r function (lvalue u) = row_at r u
 given_row r function (variable d) = Some (declared_row r written d.name.site.token)
 given_row r function (result w) = Some (declared_row r written function)

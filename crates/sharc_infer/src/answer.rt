@@ -52,19 +52,19 @@ fn found(
 /// The modes and reasons of a program's positions.
 fn assignment(
     alloc: Global,
-    t: &Typed,
-    r: &Reached,
+    typed: &Typed,
+    reached: &Reached,
     search: Search,
 ) -> Result<(Modes, Reasons), AllocError>
-    requires { AreReached t.now r.now }
-    ensures { IfOk result (λ a. IsLeastAssignment (record { typed = t.now; modes = a.0; reasons = a.1 })) }
+    requires { AreReached typed.now reached.now }
+    ensures { IfOk result (λ a. IsLeastAssignment (record { typed = typed.now; modes = a.0; reasons = a.1 })) }
 {
     link_laws();
-    let _all = t.position_count();
-    let settled = settled(alloc, t)?;
-    let roots = roots(alloc, t, r)?;
+    let _all = typed.position_count();
+    let settled = settled(alloc, typed)?;
+    let roots = roots(alloc, typed, reached)?;
     let places = places(alloc, &settled, &roots)?;
-    let links = links(alloc, t)?;
+    let links = links(alloc, typed)?;
     if links.len() > u32::MAX as usize {
         return Err(AllocError);
     }
@@ -75,37 +75,37 @@ fn assignment(
 }
 
 /// The program with its least assignment, found in this way.
-fn infer_by(alloc: Global, t: Typed, r: &Reached, search: Search) -> Result<Moded, Typed>
-    requires { AreReached t r.now }
+fn infer_by(alloc: Global, typed: Typed, reached: &Reached, search: Search) -> Result<Moded, Typed>
+    requires { AreReached typed reached.now }
     ensures least { IfOk result (λ m. IsLeastAssignment m) }
-    ensures typed { IfOk result (λ m. m.typed ≡ t) }
-    ensures refused { IfErr result (λ back. back ≡ t) }
+    ensures typed { IfOk result (λ m. m.typed ≡ typed) }
+    ensures refused { IfErr result (λ back. back ≡ typed) }
 {
-    match assignment(alloc, &t, r, search) {
-        Ok((modes, reasons)) => Ok(Moded::assign(t, modes, reasons)),
-        Err(_) => Err(t),
+    match assignment(alloc, &typed, reached, search) {
+        Ok((modes, reasons)) => Ok(Moded::assign(typed, modes, reasons)),
+        Err(_) => Err(typed),
     }
 }
 
 /// The program with the least assignment of modes: a position without a written mode is dynamic exactly where a path of links leads to it from a
-/// root, from a dynamic position or from below another mode that is not private, and has a reason then (own). `r` is what `reach` answers for the
-/// program. Want of memory hands the program back and is the only refusal; more links, globals or functions than a number of 32 bits counts are
+/// root, from a dynamic position or from below another mode that is not private, and has a reason then (own). `reached` is what `reach` answers for the
+/// program. Being out of memory hands the program back and is the only refusal; more links, globals or functions than a number of 32 bits counts are
 /// answered so, too.
-pub fn infer(alloc: Global, t: Typed, r: &Reached) -> Result<Moded, Typed>
-    requires { AreReached t r.now }
+pub fn infer(alloc: Global, typed: Typed, reached: &Reached) -> Result<Moded, Typed>
+    requires { AreReached typed reached.now }
     ensures least { IfOk result (λ m. IsLeastAssignment m) }
-    ensures typed { IfOk result (λ m. m.typed ≡ t) }
-    ensures refused { IfErr result (λ back. back ≡ t) }
+    ensures typed { IfOk result (λ m. m.typed ≡ typed) }
+    ensures refused { IfErr result (λ back. back ≡ typed) }
 {
-    infer_by(alloc, t, r, Search::Queue)
+    infer_by(alloc, typed, reached, Search::Queue)
 }
 
 /// The same answer by a plain, slow program, for tests to compare with: rounds over all links until one finds nothing (own).
-pub fn infer_by_rounds(alloc: Global, t: Typed, r: &Reached) -> Result<Moded, Typed>
-    requires { AreReached t r.now }
+pub fn infer_by_rounds(alloc: Global, typed: Typed, reached: &Reached) -> Result<Moded, Typed>
+    requires { AreReached typed reached.now }
     ensures least { IfOk result (λ m. IsLeastAssignment m) }
-    ensures typed { IfOk result (λ m. m.typed ≡ t) }
-    ensures refused { IfErr result (λ back. back ≡ t) }
+    ensures typed { IfOk result (λ m. m.typed ≡ typed) }
+    ensures refused { IfErr result (λ back. back ≡ typed) }
 {
-    infer_by(alloc, t, r, Search::Rounds)
+    infer_by(alloc, typed, reached, Search::Rounds)
 }

@@ -14,30 +14,30 @@ use std::alloc::AllocError;
 /// Adds the links of the casts of an expression.
 #[cycle(expression)]
 #[tactic(auto, using(crate::proofs::LinkLemmas::casts_both))]
-fn expression(expr: &Expr, t: &Typed, links: &mut Vec<Link>) -> Result<(), AllocError>
-    ensures { OnOk result (links.new.items ≡ links.old.items ++ casts_in t.now (expressions (view_expr expr.now))) }
+fn expression(expr: &Expr, typed: &Typed, links: &mut Vec<Link>) -> Result<(), AllocError>
+    ensures { OnOk result (links.new.items ≡ links.old.items ++ casts_in typed.now (expressions (view_expr expr.now))) }
 {
     match expr {
         Expr::Identifier(_, _) => Ok(()),
         Expr::Constant(_, _) => Ok(()),
-        Expr::Parentheses(_, inner) => expression(inner, t, links),
-        Expr::Call(_, _, all) => arguments(all.as_slice(), t, links),
-        Expr::Spawn(_, _, argument) => expression(argument, t, links),
-        Expr::OnValue(_, _, argument) => expression(argument, t, links),
-        Expr::OnPlace(_, _, argument) => expression(argument, t, links),
+        Expr::Parentheses(_, inner) => expression(inner, typed, links),
+        Expr::Call(_, _, all) => arguments(all.as_slice(), typed, links),
+        Expr::Spawn(_, _, argument) => expression(argument, typed, links),
+        Expr::OnValue(_, _, argument) => expression(argument, typed, links),
+        Expr::OnPlace(_, _, argument) => expression(argument, typed, links),
         Expr::Cast(span, _, source) => {
-            equate_cast(t, *span, source, links)?;
-            expression(source, t, links)
+            equate_cast(typed, *span, source, links)?;
+            expression(source, typed, links)
         }
         Expr::Index(_, base, index) => {
-            expression(base, t, links)?;
-            expression(index, t, links)
+            expression(base, typed, links)?;
+            expression(index, typed, links)
         }
-        Expr::Field { base, .. } => expression(base, t, links),
-        Expr::Unary(_, _, operand) => expression(operand, t, links),
+        Expr::Field { base, .. } => expression(base, typed, links),
+        Expr::Unary(_, _, operand) => expression(operand, typed, links),
         Expr::Binary { left, right, .. } => {
-            expression(left, t, links)?;
-            expression(right, t, links)
+            expression(left, typed, links)?;
+            expression(right, typed, links)
         }
     }
 }
@@ -45,108 +45,112 @@ fn expression(expr: &Expr, t: &Typed, links: &mut Vec<Link>) -> Result<(), Alloc
 /// The same of arguments.
 #[cycle(expression)]
 #[tactic(auto, using(crate::proofs::LinkLemmas::casts_both))]
-fn arguments(all: &[Expr], t: &Typed, links: &mut Vec<Link>) -> Result<(), AllocError>
-    ensures { OnOk result (links.new.items ≡ links.old.items ++ casts_in t.now (in_arguments (view_arguments all.now))) }
+fn arguments(all: &[Expr], typed: &Typed, links: &mut Vec<Link>) -> Result<(), AllocError>
+    ensures { OnOk result (links.new.items ≡ links.old.items ++ casts_in typed.now (in_arguments (view_arguments all.now))) }
 {
     for expr in all {
-        expression(expr, t, links)?;
+        expression(expr, typed, links)?;
     }
     Ok(())
 }
 
-fn optional(expr: &Option<Expr>, t: &Typed, links: &mut Vec<Link>) -> Result<(), AllocError>
-    ensures { OnOk result (links.new.items ≡ links.old.items ++ casts_in t.now (in_option expressions (view_option view_expr expr.now))) }
+fn optional(expr: &Option<Expr>, typed: &Typed, links: &mut Vec<Link>) -> Result<(), AllocError>
+    ensures { OnOk result (links.new.items ≡ links.old.items ++ casts_in typed.now (in_option expressions (view_option view_expr expr.now))) }
 {
     match expr {
         None => Ok(()),
-        Some(expr) => expression(expr, t, links),
+        Some(expr) => expression(expr, typed, links),
     }
 }
 
-fn right(right: &Right, t: &Typed, links: &mut Vec<Link>) -> Result<(), AllocError>
-    ensures { OnOk result (links.new.items ≡ links.old.items ++ casts_in t.now (in_right (view_right right.now))) }
+fn right(right: &Right, typed: &Typed, links: &mut Vec<Link>) -> Result<(), AllocError>
+    ensures { OnOk result (links.new.items ≡ links.old.items ++ casts_in typed.now (in_right (view_right right.now))) }
 {
     match right {
-        Right::Value(expr) => expression(expr, t, links),
-        Right::Malloc(_, count, _) => optional(count, t, links),
+        Right::Value(expr) => expression(expr, typed, links),
+        Right::Malloc(_, count, _) => optional(count, typed, links),
     }
 }
 
 #[tactic(auto, using(crate::proofs::LinkLemmas::casts_both))]
-fn simple(simple: &Simple, t: &Typed, links: &mut Vec<Link>) -> Result<(), AllocError>
-    ensures { OnOk result (links.new.items ≡ links.old.items ++ casts_in t.now (in_simple (view_simple simple.now))) }
+fn simple(simple: &Simple, typed: &Typed, links: &mut Vec<Link>) -> Result<(), AllocError>
+    ensures { OnOk result (links.new.items ≡ links.old.items ++ casts_in typed.now (in_simple (view_simple simple.now))) }
 {
     match simple {
         Simple::Assign(_, place, value) => {
-            expression(place, t, links)?;
-            right(value, t, links)
+            expression(place, typed, links)?;
+            right(value, typed, links)
         }
-        Simple::Call(call) => expression(call, t, links),
+        Simple::Call(call) => expression(call, typed, links),
     }
 }
 
-fn local(local: &Local, t: &Typed, links: &mut Vec<Link>) -> Result<(), AllocError>
-    ensures { OnOk result (links.new.items ≡ links.old.items ++ casts_in t.now (in_local (view_local local.now))) }
+fn local(local: &Local, typed: &Typed, links: &mut Vec<Link>) -> Result<(), AllocError>
+    ensures { OnOk result (links.new.items ≡ links.old.items ++ casts_in typed.now (in_local (view_local local.now))) }
 {
     match &local.initial {
         None => Ok(()),
-        Some(value) => right(value, t, links),
+        Some(value) => right(value, typed, links),
     }
 }
 
-fn first(first: &ForFirst, t: &Typed, links: &mut Vec<Link>) -> Result<(), AllocError>
-    ensures { OnOk result (links.new.items ≡ links.old.items ++ casts_in t.now (in_first (view_first first.now))) }
+fn first(first: &ForFirst, typed: &Typed, links: &mut Vec<Link>) -> Result<(), AllocError>
+    ensures { OnOk result (links.new.items ≡ links.old.items ++ casts_in typed.now (in_first (view_first first.now))) }
 {
     match first {
         ForFirst::Nothing => Ok(()),
-        ForFirst::Declares(declared) => local(declared, t, links),
-        ForFirst::Does(x) => simple(x, t, links),
+        ForFirst::Declares(declared) => local(declared, typed, links),
+        ForFirst::Does(x) => simple(x, typed, links),
     }
 }
 
-fn step(step: &Option<Simple>, t: &Typed, links: &mut Vec<Link>) -> Result<(), AllocError>
-    ensures { OnOk result (links.new.items ≡ links.old.items ++ casts_in t.now (in_option in_simple (view_option view_simple step.now))) }
+fn step(step: &Option<Simple>, typed: &Typed, links: &mut Vec<Link>) -> Result<(), AllocError>
+    ensures { OnOk result (links.new.items ≡ links.old.items ++ casts_in typed.now (in_option in_simple (view_option view_simple step.now))) }
 {
     match step {
         None => Ok(()),
-        Some(x) => simple(x, t, links),
+        Some(x) => simple(x, typed, links),
     }
 }
 
 #[tactic(auto, using(crate::proofs::LinkLemmas::casts_both))]
-fn head(head: &ForHead, t: &Typed, links: &mut Vec<Link>) -> Result<(), AllocError>
-    ensures { OnOk result (links.new.items ≡ links.old.items ++ casts_in t.now (in_head (view_head head.now))) }
+fn head(head: &ForHead, typed: &Typed, links: &mut Vec<Link>) -> Result<(), AllocError>
+    ensures { OnOk result (links.new.items ≡ links.old.items ++ casts_in typed.now (in_head (view_head head.now))) }
 {
-    first(&head.first, t, links)?;
-    optional(&head.test, t, links)?;
-    step(&head.step, t, links)
+    first(&head.first, typed, links)?;
+    optional(&head.test, typed, links)?;
+    step(&head.step, typed, links)
 }
 
-fn returned(value: &Option<Box<Expr>>, t: &Typed, links: &mut Vec<Link>) -> Result<(), AllocError>
-    ensures { OnOk result (links.new.items ≡ links.old.items ++ casts_in t.now (in_option expressions (view_option (λ b. view_expr b.value) value.now))) }
+fn returned(
+    value: &Option<Box<Expr>>,
+    typed: &Typed,
+    links: &mut Vec<Link>,
+) -> Result<(), AllocError>
+    ensures { OnOk result (links.new.items ≡ links.old.items ++ casts_in typed.now (in_option expressions (view_option (λ b. view_expr b.value) value.now))) }
 {
     match value {
         None => Ok(()),
-        Some(expr) => expression(expr, t, links),
+        Some(expr) => expression(expr, typed, links),
     }
 }
 
 /// Adds the links of the casts of a statement.
 #[cycle(statement)]
 #[tactic(auto, using(crate::proofs::LinkLemmas::casts_both))]
-fn statement(stmt: &Stmt, t: &Typed, links: &mut Vec<Link>) -> Result<(), AllocError>
-    ensures { OnOk result (links.new.items ≡ links.old.items ++ casts_in t.now (in_statement (view_stmt stmt.now))) }
+fn statement(stmt: &Stmt, typed: &Typed, links: &mut Vec<Link>) -> Result<(), AllocError>
+    ensures { OnOk result (links.new.items ≡ links.old.items ++ casts_in typed.now (in_statement (view_stmt stmt.now))) }
 {
     match stmt {
         Stmt::Empty(_) => Ok(()),
-        Stmt::Block(_, all) => statements(all.as_slice(), t, links),
-        Stmt::Declare(_, declared) => local(declared, t, links),
-        Stmt::Simple(_, x) => simple(x, t, links),
+        Stmt::Block(_, all) => statements(all.as_slice(), typed, links),
+        Stmt::Declare(_, declared) => local(declared, typed, links),
+        Stmt::Simple(_, x) => simple(x, typed, links),
         Stmt::Jump(_, _) => Ok(()),
-        Stmt::Return(_, value) => returned(value, t, links),
+        Stmt::Return(_, value) => returned(value, typed, links),
         Stmt::If(_, test, then) => {
-            expression(test, t, links)?;
-            statement(then, t, links)
+            expression(test, typed, links)?;
+            statement(then, typed, links)
         }
         Stmt::IfElse {
             test,
@@ -154,17 +158,17 @@ fn statement(stmt: &Stmt, t: &Typed, links: &mut Vec<Link>) -> Result<(), AllocE
             otherwise,
             ..
         } => {
-            expression(test, t, links)?;
-            statement(then, t, links)?;
-            statement(otherwise, t, links)
+            expression(test, typed, links)?;
+            statement(then, typed, links)?;
+            statement(otherwise, typed, links)
         }
         Stmt::While(_, test, body) => {
-            expression(test, t, links)?;
-            statement(body, t, links)
+            expression(test, typed, links)?;
+            statement(body, typed, links)
         }
         Stmt::For(_, parts, body) => {
-            head(parts, t, links)?;
-            statement(body, t, links)
+            head(parts, typed, links)?;
+            statement(body, typed, links)
         }
     }
 }
@@ -172,11 +176,15 @@ fn statement(stmt: &Stmt, t: &Typed, links: &mut Vec<Link>) -> Result<(), AllocE
 /// The same of statements that follow one another.
 #[cycle(statement)]
 #[tactic(auto, using(crate::proofs::LinkLemmas::casts_both))]
-pub(crate) fn statements(all: &[Stmt], t: &Typed, links: &mut Vec<Link>) -> Result<(), AllocError>
-    ensures { OnOk result (links.new.items ≡ links.old.items ++ casts_in t.now (in_statements (view_statements all.now))) }
+pub(crate) fn statements(
+    all: &[Stmt],
+    typed: &Typed,
+    links: &mut Vec<Link>,
+) -> Result<(), AllocError>
+    ensures { OnOk result (links.new.items ≡ links.old.items ++ casts_in typed.now (in_statements (view_statements all.now))) }
 {
     for stmt in all {
-        statement(stmt, t, links)?;
+        statement(stmt, typed, links)?;
     }
     Ok(())
 }

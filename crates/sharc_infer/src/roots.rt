@@ -31,83 +31,88 @@ fn mark(numbered: Option<&Numbered>, reason: Reason, roots: &mut Vec<Option<Reas
 }
 
 /// The same of what this token declares.
-fn root(t: &Typed, token: u32, reason: Reason, roots: &mut Vec<Option<Reason>>)
-    ensures { roots.new.items ≡ rooted t.now token reason roots.old.items }
+fn root(typed: &Typed, token: u32, reason: Reason, roots: &mut Vec<Option<Reason>>)
+    ensures { roots.new.items ≡ rooted typed.now token reason roots.old.items }
 {
-    mark(t.entity_at(token, token), reason, roots);
+    mark(typed.entity_at(token, token), reason, roots);
 }
 
 /// Makes the top of a global a root, where a function touches it.
-fn touch(t: &Typed, r: &Reached, global: u32, roots: &mut Vec<Option<Reason>>)
-    requires { global < length r.now.firsts }
-    ensures { roots.new.items ≡ touch t.now (global_at t.now global) (first_of r.now global) roots.old.items }
+fn touch(typed: &Typed, reached: &Reached, global: u32, roots: &mut Vec<Option<Reason>>)
+    requires { global < length reached.now.firsts }
+    ensures { roots.new.items ≡ touch typed.now (global_at typed.now global) (first_of reached.now global) roots.old.items }
 {
-    if let Some(definition) = t.global_at(global) {
-        if let Some(function) = r.touched(global) {
+    if let Some(definition) = typed.global_at(global) {
+        if let Some(function) = reached.touched(global) {
             let token = definition.declaration.name.site.token;
-            root(t, token, Reason::Touched(function), roots);
+            root(typed, token, Reason::Touched(function), roots);
         }
     }
 }
 
 /// Makes the targets of parameters roots.
-fn mark_all(t: &Typed, function: u32, parameters: &[Declaration], roots: &mut Vec<Option<Reason>>)
-    ensures { roots.new.items ≡ mark_all t.now function parameters.now roots.old.items }
+fn mark_all(
+    typed: &Typed,
+    function: u32,
+    parameters: &[Declaration],
+    roots: &mut Vec<Option<Reason>>,
+)
+    ensures { roots.new.items ≡ mark_all typed.now function parameters.now roots.old.items }
 {
     for parameter in parameters {
         let token = parameter.name.site.token;
-        root(t, token, Reason::Spawned(function), roots);
+        root(typed, token, Reason::Spawned(function), roots);
     }
 }
 
 /// Makes the targets of the parameters of a function roots, where it is spawned.
-fn pass(t: &Typed, r: &Reached, function: u32, roots: &mut Vec<Option<Reason>>)
-    requires { function < length r.now.spawned }
-    ensures { roots.new.items ≡ pass t.now function (function_at t.now function) (is_chosen r.now.spawned function) roots.old.items }
+fn pass(typed: &Typed, reached: &Reached, function: u32, roots: &mut Vec<Option<Reason>>)
+    requires { function < length reached.now.spawned }
+    ensures { roots.new.items ≡ pass typed.now function (function_at typed.now function) (is_chosen reached.now.spawned function) roots.old.items }
 {
-    if r.spawned(function) {
-        if let Some(definition) = t.function_at(function) {
-            mark_all(t, function, definition.parameters.as_slice(), roots);
+    if reached.spawned(function) {
+        if let Some(definition) = typed.function_at(function) {
+            mark_all(typed, function, definition.parameters.as_slice(), roots);
         }
     }
 }
 
 /// Makes the tops of the touched globals roots.
-fn touch_globals(t: &Typed, r: &Reached, globals: u32, roots: &mut Vec<Option<Reason>>)
-    requires { globals ≤ length r.now.firsts }
-    ensures { roots.new.items ≡ touched_below t.now r.now globals roots.old.items }
+fn touch_globals(typed: &Typed, reached: &Reached, globals: u32, roots: &mut Vec<Option<Reason>>)
+    requires { globals ≤ length reached.now.firsts }
+    ensures { roots.new.items ≡ touched_below typed.now reached.now globals roots.old.items }
 {
     for global in 0..globals {
-        touch(t, r, global, roots);
+        touch(typed, reached, global, roots);
     }
 }
 
 /// Makes the targets of the parameters of spawned functions roots.
-fn pass_all(t: &Typed, r: &Reached, functions: u32, roots: &mut Vec<Option<Reason>>)
-    requires { functions ≤ length r.now.spawned }
-    ensures { roots.new.items ≡ passed_below t.now r.now functions roots.old.items }
+fn pass_all(typed: &Typed, reached: &Reached, functions: u32, roots: &mut Vec<Option<Reason>>)
+    requires { functions ≤ length reached.now.spawned }
+    ensures { roots.new.items ≡ passed_below typed.now reached.now functions roots.old.items }
 {
     for function in 0..functions {
-        pass(t, r, function, roots);
+        pass(typed, reached, function, roots);
     }
 }
 
 /// Why each position is a root; none of any other. More globals or functions than a number of 32 bits counts are answered as want of memory.
 pub(crate) fn roots(
     alloc: Global,
-    t: &Typed,
-    r: &Reached,
+    typed: &Typed,
+    reached: &Reached,
 ) -> Result<Vec<Option<Reason>>, AllocError>
-    requires { AreReached t.now r.now }
-    ensures { IfOk result (λ roots. roots.items ≡ roots_of t.now r.now) }
+    requires { AreReached typed.now reached.now }
+    ensures { IfOk result (λ roots. roots.items ≡ roots_of typed.now reached.now) }
 {
-    let globals = t.global_count();
-    let functions = t.function_count();
+    let globals = typed.global_count();
+    let functions = typed.function_count();
     if globals > u32::MAX as usize || functions > u32::MAX as usize {
         return Err(AllocError);
     }
-    let mut roots = vec![in alloc; None; t.position_count() as usize]?;
-    touch_globals(t, r, globals as u32, &mut roots);
-    pass_all(t, r, functions as u32, &mut roots);
+    let mut roots = vec![in alloc; None; typed.position_count() as usize]?;
+    touch_globals(typed, reached, globals as u32, &mut roots);
+    pass_all(typed, reached, functions as u32, &mut roots);
     Ok(roots)
 }

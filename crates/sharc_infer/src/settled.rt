@@ -90,11 +90,11 @@ fn add(alloc: Global, entity: &Entity, list: &mut Vec<Option<Mode>>) -> Result<(
 }
 
 /// What is settled at each position of a program.
-pub(crate) fn settled(alloc: Global, t: &Typed) -> Result<Vec<Option<Mode>>, AllocError>
-    ensures { IfOk result (λ list. list.items ≡ settled_in (entities_in t.now.program.items)) }
+pub(crate) fn settled(alloc: Global, typed: &Typed) -> Result<Vec<Option<Mode>>, AllocError>
+    ensures { IfOk result (λ list. list.items ≡ settled_in (entities_in typed.now.program.items)) }
 {
     let mut list = Vec::new(alloc);
-    for numbered in t.entities() {
+    for numbered in typed.entities() {
         add(alloc, &numbered.entity, &mut list)?;
     }
     Ok(list)

@@ -20,11 +20,11 @@ use sharc_tree::tree::{
 use std::alloc::AllocError;
 
 /// The parameters of what a name names.
-fn parameters_named(t: &Typed, named: Named) -> &[Declaration]
-    ensures { result.now ≡ parameters_named t.now named }
+fn parameters_named(typed: &Typed, named: Named) -> &[Declaration]
+    ensures { result.now ≡ parameters_named typed.now named }
 {
     match named {
-        Named::Function(number) => match t.function_at(number) {
+        Named::Function(number) => match typed.function_at(number) {
             None => &[],
             Some(function) => function.parameters.as_slice(),
         },
@@ -40,13 +40,13 @@ fn parameters_named(t: &Typed, named: Named) -> &[Declaration]
 fn pass(
     to: &Declaration,
     argument: &Expr,
-    t: &Typed,
+    typed: &Typed,
     links: &mut Vec<Link>,
 ) -> Result<(), AllocError>
-    ensures { OnOk result (links.new.items ≡ links.old.items ++ equal_rows (Some (declared_row t.now written to.now.name.site.token)) (row_at t.now (view_expr argument.now))) }
+    ensures { OnOk result (links.new.items ≡ links.old.items ++ equal_rows (Some (declared_row typed.now written to.now.name.site.token)) (row_at typed.now (view_expr argument.now))) }
 {
-    let row = declared_row(t, Reading::Written, to.name.site.token);
-    equate(t, Some(row), row_of(t, argument), links)
+    let row = declared_row(typed, Reading::Written, to.name.site.token);
+    equate(typed, Some(row), row_of(typed, argument), links)
 }
 
 /// Adds the links of the arguments of a call.
@@ -54,13 +54,13 @@ fn pass_all(
     parameters: &[Declaration],
     all: &[Expr],
     function: u32,
-    t: &Typed,
+    typed: &Typed,
     links: &mut Vec<Link>,
 ) -> Result<(), AllocError>
-    ensures { OnOk result (links.new.items ≡ links.old.items ++ given t.now function (passed parameters.now (view_arguments all.now))) }
+    ensures { OnOk result (links.new.items ≡ links.old.items ++ given typed.now function (passed parameters.now (view_arguments all.now))) }
 {
     for i in 0..parameters.len().min(all.len()) {
-        pass(&parameters[i], &all[i], t, links)?;
+        pass(&parameters[i], &all[i], typed, links)?;
     }
     Ok(())
 }
@@ -70,14 +70,14 @@ fn pass_one(
     parameters: &[Declaration],
     source: &Expr,
     function: u32,
-    t: &Typed,
+    typed: &Typed,
     links: &mut Vec<Link>,
 ) -> Result<(), AllocError>
-    ensures { OnOk result (links.new.items ≡ links.old.items ++ given t.now function (passed parameters.now (argument (view_expr source.now) no_arguments))) }
+    ensures { OnOk result (links.new.items ≡ links.old.items ++ given typed.now function (passed parameters.now (argument (view_expr source.now) no_arguments))) }
 {
     match parameters {
         [] => Ok(()),
-        [parameter, ..] => pass(parameter, source, t, links),
+        [parameter, ..] => pass(parameter, source, typed, links),
     }
 }
 
@@ -87,37 +87,37 @@ fn pass_one(
 fn expression(
     expr: &Expr,
     function: u32,
-    t: &Typed,
+    typed: &Typed,
     links: &mut Vec<Link>,
 ) -> Result<(), AllocError>
-    ensures { OnOk result (links.new.items ≡ links.old.items ++ given t.now function (transfers t.now (view_expr expr.now))) }
+    ensures { OnOk result (links.new.items ≡ links.old.items ++ given typed.now function (transfers typed.now (view_expr expr.now))) }
 {
     match expr {
         Expr::Identifier(_, _) => Ok(()),
         Expr::Constant(_, _) => Ok(()),
-        Expr::Parentheses(_, inner) => expression(inner, function, t, links),
+        Expr::Parentheses(_, inner) => expression(inner, function, typed, links),
         Expr::Call(_, name, all) => {
-            let parameters = parameters_named(t, t.named(name.site.token));
-            pass_all(parameters, all.as_slice(), function, t, links)?;
-            arguments(all.as_slice(), function, t, links)
+            let parameters = parameters_named(typed, typed.named(name.site.token));
+            pass_all(parameters, all.as_slice(), function, typed, links)?;
+            arguments(all.as_slice(), function, typed, links)
         }
         Expr::Spawn(_, name, argument) => {
-            let parameters = parameters_named(t, t.named(name.site.token));
-            pass_one(parameters, argument, function, t, links)?;
-            expression(argument, function, t, links)
+            let parameters = parameters_named(typed, typed.named(name.site.token));
+            pass_one(parameters, argument, function, typed, links)?;
+            expression(argument, function, typed, links)
         }
-        Expr::OnValue(_, _, argument) => expression(argument, function, t, links),
-        Expr::OnPlace(_, _, argument) => expression(argument, function, t, links),
-        Expr::Cast(_, _, source) => expression(source, function, t, links),
+        Expr::OnValue(_, _, argument) => expression(argument, function, typed, links),
+        Expr::OnPlace(_, _, argument) => expression(argument, function, typed, links),
+        Expr::Cast(_, _, source) => expression(source, function, typed, links),
         Expr::Index(_, base, index) => {
-            expression(base, function, t, links)?;
-            expression(index, function, t, links)
+            expression(base, function, typed, links)?;
+            expression(index, function, typed, links)
         }
-        Expr::Field { base, .. } => expression(base, function, t, links),
-        Expr::Unary(_, _, operand) => expression(operand, function, t, links),
+        Expr::Field { base, .. } => expression(base, function, typed, links),
+        Expr::Unary(_, _, operand) => expression(operand, function, typed, links),
         Expr::Binary { left, right, .. } => {
-            expression(left, function, t, links)?;
-            expression(right, function, t, links)
+            expression(left, function, typed, links)?;
+            expression(right, function, typed, links)
         }
     }
 }
@@ -128,13 +128,13 @@ fn expression(
 fn arguments(
     all: &[Expr],
     function: u32,
-    t: &Typed,
+    typed: &Typed,
     links: &mut Vec<Link>,
 ) -> Result<(), AllocError>
-    ensures { OnOk result (links.new.items ≡ links.old.items ++ given t.now function (argument_transfers t.now (view_arguments all.now))) }
+    ensures { OnOk result (links.new.items ≡ links.old.items ++ given typed.now function (argument_transfers typed.now (view_arguments all.now))) }
 {
     for expr in all {
-        expression(expr, function, t, links)?;
+        expression(expr, function, typed, links)?;
     }
     Ok(())
 }
@@ -142,23 +142,28 @@ fn arguments(
 fn optional(
     expr: &Option<Expr>,
     function: u32,
-    t: &Typed,
+    typed: &Typed,
     links: &mut Vec<Link>,
 ) -> Result<(), AllocError>
-    ensures { OnOk result (links.new.items ≡ links.old.items ++ given t.now function (in_option (transfers t.now) (view_option view_expr expr.now))) }
+    ensures { OnOk result (links.new.items ≡ links.old.items ++ given typed.now function (in_option (transfers typed.now) (view_option view_expr expr.now))) }
 {
     match expr {
         None => Ok(()),
-        Some(expr) => expression(expr, function, t, links),
+        Some(expr) => expression(expr, function, typed, links),
     }
 }
 
-fn right(right: &Right, function: u32, t: &Typed, links: &mut Vec<Link>) -> Result<(), AllocError>
-    ensures { OnOk result (links.new.items ≡ links.old.items ++ given t.now function (right_transfers t.now (view_right right.now))) }
+fn right(
+    right: &Right,
+    function: u32,
+    typed: &Typed,
+    links: &mut Vec<Link>,
+) -> Result<(), AllocError>
+    ensures { OnOk result (links.new.items ≡ links.old.items ++ given typed.now function (right_transfers typed.now (view_right right.now))) }
 {
     match right {
-        Right::Value(expr) => expression(expr, function, t, links),
-        Right::Malloc(_, count, _) => optional(count, function, t, links),
+        Right::Value(expr) => expression(expr, function, typed, links),
+        Right::Malloc(_, count, _) => optional(count, function, typed, links),
     }
 }
 
@@ -166,32 +171,37 @@ fn right(right: &Right, function: u32, t: &Typed, links: &mut Vec<Link>) -> Resu
 fn simple(
     simple: &Simple,
     function: u32,
-    t: &Typed,
+    typed: &Typed,
     links: &mut Vec<Link>,
 ) -> Result<(), AllocError>
-    ensures { OnOk result (links.new.items ≡ links.old.items ++ given t.now function (simple_transfers t.now (view_simple simple.now))) }
+    ensures { OnOk result (links.new.items ≡ links.old.items ++ given typed.now function (simple_transfers typed.now (view_simple simple.now))) }
 {
     match simple {
         Simple::Assign(_, place, value) => {
-            equate(t, row_of(t, place), source_row(t, value), links)?;
-            expression(place, function, t, links)?;
-            right(value, function, t, links)
+            equate(typed, row_of(typed, place), source_row(typed, value), links)?;
+            expression(place, function, typed, links)?;
+            right(value, function, typed, links)
         }
-        Simple::Call(call) => expression(call, function, t, links),
+        Simple::Call(call) => expression(call, function, typed, links),
     }
 }
 
 /// Adds the links of an initialiser.
 #[tactic(auto, using(crate::proofs::LinkLemmas::given_both))]
-fn local(local: &Local, function: u32, t: &Typed, links: &mut Vec<Link>) -> Result<(), AllocError>
-    ensures { OnOk result (links.new.items ≡ links.old.items ++ given t.now function (local_transfers t.now (view_local local.now))) }
+fn local(
+    local: &Local,
+    function: u32,
+    typed: &Typed,
+    links: &mut Vec<Link>,
+) -> Result<(), AllocError>
+    ensures { OnOk result (links.new.items ≡ links.old.items ++ given typed.now function (local_transfers typed.now (view_local local.now))) }
 {
     match &local.initial {
         None => Ok(()),
         Some(value) => {
-            let row = declared_row(t, Reading::Written, local.declaration.name.site.token);
-            equate(t, Some(row), source_row(t, value), links)?;
-            right(value, function, t, links)
+            let row = declared_row(typed, Reading::Written, local.declaration.name.site.token);
+            equate(typed, Some(row), source_row(typed, value), links)?;
+            right(value, function, typed, links)
         }
     }
 }
@@ -199,29 +209,29 @@ fn local(local: &Local, function: u32, t: &Typed, links: &mut Vec<Link>) -> Resu
 fn first(
     first: &ForFirst,
     function: u32,
-    t: &Typed,
+    typed: &Typed,
     links: &mut Vec<Link>,
 ) -> Result<(), AllocError>
-    ensures { OnOk result (links.new.items ≡ links.old.items ++ given t.now function (first_transfers t.now (view_first first.now))) }
+    ensures { OnOk result (links.new.items ≡ links.old.items ++ given typed.now function (first_transfers typed.now (view_first first.now))) }
 {
     match first {
         ForFirst::Nothing => Ok(()),
-        ForFirst::Declares(declared) => local(declared, function, t, links),
-        ForFirst::Does(x) => simple(x, function, t, links),
+        ForFirst::Declares(declared) => local(declared, function, typed, links),
+        ForFirst::Does(x) => simple(x, function, typed, links),
     }
 }
 
 fn step(
     step: &Option<Simple>,
     function: u32,
-    t: &Typed,
+    typed: &Typed,
     links: &mut Vec<Link>,
 ) -> Result<(), AllocError>
-    ensures { OnOk result (links.new.items ≡ links.old.items ++ given t.now function (in_option (simple_transfers t.now) (view_option view_simple step.now))) }
+    ensures { OnOk result (links.new.items ≡ links.old.items ++ given typed.now function (in_option (simple_transfers typed.now) (view_option view_simple step.now))) }
 {
     match step {
         None => Ok(()),
-        Some(x) => simple(x, function, t, links),
+        Some(x) => simple(x, function, typed, links),
     }
 }
 
@@ -231,29 +241,34 @@ fn returned(
     expr: &Option<Box<Expr>>,
     function: u32,
     returns: &WrittenType,
-    t: &Typed,
+    typed: &Typed,
     links: &mut Vec<Link>,
 ) -> Result<(), AllocError>
-    ensures { OnOk result (links.new.items ≡ links.old.items ++ given t.now function (in_option (λ x. gives (result_receiver returns.now) (value x) ++ transfers t.now x) (view_option (λ b. view_expr b.value) expr.now))) }
+    ensures { OnOk result (links.new.items ≡ links.old.items ++ given typed.now function (in_option (λ x. gives (result_receiver returns.now) (value x) ++ transfers typed.now x) (view_option (λ b. view_expr b.value) expr.now))) }
 {
     match expr {
         None => Ok(()),
         Some(expr) => {
-            let row = declared_row(t, Reading::Written, function);
-            equate(t, Some(row), row_of(t, expr), links)?;
-            expression(expr, function, t, links)
+            let row = declared_row(typed, Reading::Written, function);
+            equate(typed, Some(row), row_of(typed, expr), links)?;
+            expression(expr, function, typed, links)
         }
     }
 }
 
 /// Adds the links of the head of a `for`.
 #[tactic(auto, using(crate::proofs::LinkLemmas::given_both))]
-fn head(head: &ForHead, function: u32, t: &Typed, links: &mut Vec<Link>) -> Result<(), AllocError>
-    ensures { OnOk result (links.new.items ≡ links.old.items ++ given t.now function (first_transfers t.now (view_head head.now).first ++ in_option (transfers t.now) (view_head head.now).test ++ in_option (simple_transfers t.now) (view_head head.now).step)) }
+fn head(
+    head: &ForHead,
+    function: u32,
+    typed: &Typed,
+    links: &mut Vec<Link>,
+) -> Result<(), AllocError>
+    ensures { OnOk result (links.new.items ≡ links.old.items ++ given typed.now function (first_transfers typed.now (view_head head.now).first ++ in_option (transfers typed.now) (view_head head.now).test ++ in_option (simple_transfers typed.now) (view_head head.now).step)) }
 {
-    first(&head.first, function, t, links)?;
-    optional(&head.test, function, t, links)?;
-    step(&head.step, function, t, links)
+    first(&head.first, function, typed, links)?;
+    optional(&head.test, function, typed, links)?;
+    step(&head.step, function, typed, links)
 }
 
 /// Adds the links of a statement of a function whose result has this type.
@@ -263,21 +278,21 @@ fn statement(
     stmt: &Stmt,
     function: u32,
     returns: &WrittenType,
-    t: &Typed,
+    typed: &Typed,
     links: &mut Vec<Link>,
 ) -> Result<(), AllocError>
-    ensures { OnOk result (links.new.items ≡ links.old.items ++ given t.now function (statement_transfers t.now returns.now (view_stmt stmt.now))) }
+    ensures { OnOk result (links.new.items ≡ links.old.items ++ given typed.now function (statement_transfers typed.now returns.now (view_stmt stmt.now))) }
 {
     match stmt {
         Stmt::Empty(_) => Ok(()),
-        Stmt::Block(_, all) => statements(all.as_slice(), function, returns, t, links),
-        Stmt::Declare(_, declared) => local(declared, function, t, links),
-        Stmt::Simple(_, x) => simple(x, function, t, links),
+        Stmt::Block(_, all) => statements(all.as_slice(), function, returns, typed, links),
+        Stmt::Declare(_, declared) => local(declared, function, typed, links),
+        Stmt::Simple(_, x) => simple(x, function, typed, links),
         Stmt::Jump(_, _) => Ok(()),
-        Stmt::Return(_, value) => returned(value, function, returns, t, links),
+        Stmt::Return(_, value) => returned(value, function, returns, typed, links),
         Stmt::If(_, test, then) => {
-            expression(test, function, t, links)?;
-            statement(then, function, returns, t, links)
+            expression(test, function, typed, links)?;
+            statement(then, function, returns, typed, links)
         }
         Stmt::IfElse {
             test,
@@ -285,17 +300,17 @@ fn statement(
             otherwise,
             ..
         } => {
-            expression(test, function, t, links)?;
-            statement(then, function, returns, t, links)?;
-            statement(otherwise, function, returns, t, links)
+            expression(test, function, typed, links)?;
+            statement(then, function, returns, typed, links)?;
+            statement(otherwise, function, returns, typed, links)
         }
         Stmt::While(_, test, body) => {
-            expression(test, function, t, links)?;
-            statement(body, function, returns, t, links)
+            expression(test, function, typed, links)?;
+            statement(body, function, returns, typed, links)
         }
         Stmt::For(_, parts, body) => {
-            head(parts, function, t, links)?;
-            statement(body, function, returns, t, links)
+            head(parts, function, typed, links)?;
+            statement(body, function, returns, typed, links)
         }
     }
 }
@@ -307,13 +322,13 @@ pub(crate) fn statements(
     all: &[Stmt],
     function: u32,
     returns: &WrittenType,
-    t: &Typed,
+    typed: &Typed,
     links: &mut Vec<Link>,
 ) -> Result<(), AllocError>
-    ensures { OnOk result (links.new.items ≡ links.old.items ++ given t.now function (statements_transfers t.now returns.now (view_statements all.now))) }
+    ensures { OnOk result (links.new.items ≡ links.old.items ++ given typed.now function (statements_transfers typed.now returns.now (view_statements all.now))) }
 {
     for stmt in all {
-        statement(stmt, function, returns, t, links)?;
+        statement(stmt, function, returns, typed, links)?;
     }
     Ok(())
 }

@@ -20,8 +20,8 @@ use Rattle.sharc_ctype.specs.declared.entity.Numbered.{Numbered}
 use Rattle.sharc_ctype.specs.Entities.{entities_in, first_depth, numbered, numbered_from, positions_of, written_modes}
 use Rattle.sharc_ctype.specs.Resolved.{Resolution}
 use Rattle.sharc_mode.specs.declared.error.ModeError.{ModeError}
-use Rattle.sharc_mode.specs.declared.note.Note.{Note}
-use Rattle.sharc_mode.specs.declared.note.Note.TheVariants.{Wrong, Names, Takes}
+use Rattle.sharc_mode.specs.declared.finding.Finding.{Finding}
+use Rattle.sharc_mode.specs.declared.finding.Finding.TheVariants.{Wrong, Names, Takes}
 use Rattle.sharc_mode.specs.Flows.{IsLeastAssignment}
 use Rattle.sharc_mode.specs.Laws.{SettledStay, SettledAreCounted}
 use Rattle.sharc_mode.specs.Moded.{Assignment, position_count}
@@ -186,7 +186,7 @@ holds_by role.Made b (top ∷ below) ps h is = topped b top top None below ps (�
 
 -- ---- what is told
 
-stands_front : (a b : List Note) (x : Note) (k : ℕ) → k < length a → get_or a k x ≡ x → Contains (a ++ b) x
+stands_front : (a b : List Finding) (x : Finding) (k : ℕ) → k < length a → get_or a k x ≡ x → Contains (a ++ b) x
 stands_front [] b x k low is = absurd (omega (arith, low))
 stands_front (y ∷ a) b x zero low is = (zero, omega arith, is)
 stands_front (y ∷ a) b x (suc k) low is =
@@ -194,20 +194,20 @@ stands_front (y ∷ a) b x (suc k) low is =
     let next : more.0 < length (a ++ b) = more.1 in
     (suc more.0, omega (arith, next), more.2)
 
-stands_back : (a b : List Note) (x : Note) (k : ℕ) → k < length b → get_or b k x ≡ x → Contains (a ++ b) x
+stands_back : (a b : List Finding) (x : Finding) (k : ℕ) → k < length b → get_or b k x ≡ x → Contains (a ++ b) x
 stands_back [] b x k low is = (k, low, is)
 stands_back (y ∷ a) b x k low is =
     let more : Contains (a ++ b) x = stands_back a b x k low is in
     let next : more.0 < length (a ++ b) = more.1 in
     (suc more.0, omega (arith, next), more.2)
 
-before : (a b : List Note) (x : Note) → Contains a x → Contains (a ++ b) x
+before : (a b : List Finding) (x : Finding) → Contains a x → Contains (a ++ b) x
 before a b x at = stands_front a b x at.0 at.1 at.2
 
-behind : (a b : List Note) (x : Note) → Contains b x → Contains (a ++ b) x
+behind : (a b : List Finding) (x : Finding) → Contains b x → Contains (a ++ b) x
 behind a b x at = stands_back a b x at.0 at.1 at.2
 
-alone : (x : Note) → Contains (x ∷ []) x
+alone : (x : Finding) → Contains (x ∷ []) x
 alone x = (zero, omega arith, refl)
 
 module _ (m : Assignment) (n : Numbered) where
@@ -223,15 +223,15 @@ module _ (m : Assignment) (n : Numbered) where
   abbrev mode : Option Mode
   mode = first_unfit_mode (place_of n.entity.role) n.entity.written.ctype.base levels
 
-  abbrev names : List Note
+  abbrev names : List Finding
   names = flat_map (names_in_level m.typed) levels
 
-  abbrev fields : List Note
+  abbrev fields : List Finding
   fields = private_field_notes m.typed n
 
   third : holds_private (levels_of m n) ≡ true → IsTold m n 3
   third is =
-      let x : Note = mismatch 3 span (printed_type m n) (printed_type m n) in
+      let x : Finding = mismatch 3 span (printed_type m n) (printed_type m n) in
       let here : Contains (private_notes m n) x = subst (λ (b : Bool). Contains (cond b (x ∷ []) []) x) (sym is) (alone x) in
       record {
         error = record { code = 3; site = span.first; expected = printed_type m n; found = printed_type m n; subject = [] };
@@ -243,7 +243,7 @@ module _ (m : Assignment) (n : Numbered) where
 
   fourth : (p : Path) → path ≡ Some p → IsTold m n 4
   fourth p is =
-      let x : Note = error 4 span (path_text p) in
+      let x : Finding = error 4 span (path_text p) in
       let here : Contains (path_notes span path) x = subst (λ (o : Option Path). Contains (path_notes span o) x) (sym is) (alone x) in
       record {
         error = record { code = 4; site = span.first; expected = no_type; found = no_type; subject = path_text p };
@@ -255,7 +255,7 @@ module _ (m : Assignment) (n : Numbered) where
 
   fifth : (x : Mode) → mode ≡ Some x → IsTold m n 5
   fifth w is =
-      let x : Note = error 5 span (mode_text w) in
+      let x : Finding = error 5 span (mode_text w) in
       let here : Contains (mode_notes span mode) x = subst (λ (o : Option Mode). Contains (mode_notes span o) x) (sym is) (alone x) in
       record {
         error = record { code = 5; site = span.first; expected = no_type; found = no_type; subject = mode_text w };
@@ -287,17 +287,17 @@ module _ (m : Assignment) (n : Numbered) where
 
   -- ---- where none is told, there is neither an M4 nor an M5
 
-  abbrev IsOther : Note → Type 0
+  abbrev IsOther : Finding → Type 0
   IsOther (Wrong e) = (e.code ≡ 4 → ⊥) × (e.code ≡ 5 → ⊥)
   IsOther (Names x) = Unit {0}
   IsOther (Takes s x) = Unit {0}
 
-  others_at : (l : List Note) (x : Note) (k : ℕ) → k < length l → get_or l k x ≡ x → AllByRecursion IsOther l → IsOther x
+  others_at : (l : List Finding) (x : Finding) (k : ℕ) → k < length l → get_or l k x ≡ x → AllByRecursion IsOther l → IsOther x
   others_at [] x k low is all = absurd (omega (arith, low))
   others_at (y ∷ l) x zero low is all = subst IsOther is all.0
   others_at (y ∷ l) x (suc k) low is all = others_at l x k (omega (arith, low)) is all.1
 
-  both : (a b : List Note) → AllByRecursion IsOther a → AllByRecursion IsOther b → AllByRecursion IsOther (a ++ b)
+  both : (a b : List Finding) → AllByRecursion IsOther a → AllByRecursion IsOther b → AllByRecursion IsOther (a ++ b)
   both [] b first second = second
   both (x ∷ a) b first second = (first.0, both a b first.1 second)
 

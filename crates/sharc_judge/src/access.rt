@@ -51,57 +51,57 @@ pub fn number_of(reference: i64) -> u32
 }
 
 /// Whether the event is a New of the object.
-pub fn makes(object: Object, e: &SourceEvent) -> bool
-    ensures { result ≡ makes object e.now }
+pub fn makes(object: Object, event: &SourceEvent) -> bool
+    ensures { result ≡ makes object event.now }
 {
-    match (object, e.act) {
-        (Object::Made(n), Act::New(_, _, _)) => n == number_of(e.answer),
+    match (object, event.act) {
+        (Object::Made(n), Act::New(_, _, _)) => n == number_of(event.answer),
         _ => false,
     }
 }
 
-fn gives(object: Object, e: &SourceEvent) -> bool
-    ensures { result ≡ gives object e.now }
+fn gives(object: Object, event: &SourceEvent) -> bool
+    ensures { result ≡ gives object event.now }
 {
-    match (object, e.act) {
+    match (object, event.act) {
         (Object::Made(n), Act::Give(reference, _)) => n == number_of(reference),
         _ => false,
     }
 }
 
 /// Whether it is a Freed of the object.
-pub fn frees(object: Object, e: &SourceEvent) -> bool
-    ensures { result ≡ frees object e.now }
+pub fn frees(object: Object, event: &SourceEvent) -> bool
+    ensures { result ≡ frees object event.now }
 {
-    match (object, e.act) {
+    match (object, event.act) {
         (Object::Made(n), Act::Freed(reference)) => n == number_of(reference),
         _ => false,
     }
 }
 
 /// Whether it is a New or a Give of the object: from there on the object has its mode and its owner.
-pub fn begins(object: Object, e: &SourceEvent) -> bool
-    ensures { result ≡ begins object e.now }
+pub fn begins(object: Object, event: &SourceEvent) -> bool
+    ensures { result ≡ begins object event.now }
 {
-    makes(object, e) || gives(object, e)
+    makes(object, event) || gives(object, event)
 }
 
 /// Whether it is a Lock of the mutex in this cell.
-pub fn locks(c: CellAt, e: &SourceEvent) -> bool
-    ensures { result ≡ locks c e.now }
+pub fn locks(cell: CellAt, event: &SourceEvent) -> bool
+    ensures { result ≡ locks cell event.now }
 {
-    match e.act {
-        Act::Lock(d) => is_cell(c, Some(d)),
+    match event.act {
+        Act::Lock(d) => is_cell(cell, Some(d)),
         _ => false,
     }
 }
 
 /// Whether it is an Unlock of the mutex in this cell.
-pub fn unlocks(c: CellAt, e: &SourceEvent) -> bool
-    ensures { result ≡ unlocks c e.now }
+pub fn unlocks(cell: CellAt, event: &SourceEvent) -> bool
+    ensures { result ≡ unlocks cell event.now }
 {
-    match e.act {
-        Act::Unlock(d) => is_cell(c, Some(d)),
+    match event.act {
+        Act::Unlock(d) => is_cell(cell, Some(d)),
         _ => false,
     }
 }
@@ -117,10 +117,10 @@ fn cell_changed(act: Act) -> Option<CellAt>
 }
 
 /// Whether the event gives the cell a value.
-pub fn changes(c: CellAt, e: &SourceEvent) -> bool
-    ensures { result ≡ changes c e.now }
+pub fn changes(cell: CellAt, event: &SourceEvent) -> bool
+    ensures { result ≡ changes cell event.now }
 {
-    is_cell(c, cell_changed(e.act)) || makes(c.object, e)
+    is_cell(cell, cell_changed(event.act)) || makes(cell.object, event)
 }
 
 /// The value that it gives.
@@ -134,18 +134,18 @@ pub fn value_left(act: Act) -> i64
 }
 
 /// Whether the value is this number.
-pub fn is_natural(n: u64, value: i64) -> bool
-    ensures { result ≡ is_natural n value }
+pub fn is_natural(number: u64, value: i64) -> bool
+    ensures { result ≡ is_natural number value }
 {
-    value >= 0 && value.unsigned_abs() == n
+    value >= 0 && value.unsigned_abs() == number
 }
 
 /// Whether the event is a Spawn that answered this number.
-pub fn spawns(thread: u64, e: &SourceEvent) -> bool
-    ensures { result ≡ spawns thread e.now }
+pub fn spawns(thread: u64, event: &SourceEvent) -> bool
+    ensures { result ≡ spawns thread event.now }
 {
-    match e.act {
-        Act::Spawn(_, _) => is_natural(thread, e.answer),
+    match event.act {
+        Act::Spawn(_, _) => is_natural(thread, event.answer),
         _ => false,
     }
 }
@@ -161,22 +161,22 @@ pub fn is_gone(act: Act) -> bool
 }
 
 /// Whether the thread makes itself a waiter of the cell by the event.
-pub fn enters(c: CellAt, thread: u32, e: &SourceEvent) -> bool
-    ensures { result ≡ enters c thread e.now }
+pub fn enters(cell: CellAt, thread: u32, event: &SourceEvent) -> bool
+    ensures { result ≡ enters cell thread event.now }
 {
-    match e.act {
-        Act::Enter(d) => is_cell(c, Some(d)) && e.thread == thread,
+    match event.act {
+        Act::Enter(d) => is_cell(cell, Some(d)) && event.thread == thread,
         _ => false,
     }
 }
 
 /// Whether it is taken away from there by the event.
-pub fn takes_away(c: CellAt, thread: u32, e: &SourceEvent) -> bool
-    ensures { result ≡ takes_away c thread e.now }
+pub fn takes_away(cell: CellAt, thread: u32, event: &SourceEvent) -> bool
+    ensures { result ≡ takes_away cell thread event.now }
 {
-    match e.act {
-        Act::Signal(d) => is_cell(c, Some(d)) && is_natural(thread as u64 + 1, e.answer),
-        Act::Broadcast(d) => is_cell(c, Some(d)),
+    match event.act {
+        Act::Signal(d) => is_cell(cell, Some(d)) && is_natural(thread as u64 + 1, event.answer),
+        Act::Broadcast(d) => is_cell(cell, Some(d)),
         _ => false,
     }
 }

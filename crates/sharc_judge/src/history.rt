@@ -57,24 +57,25 @@ fn ends(until: Until, act: Act) -> bool
 
 impl Test {
     /// Whether the event meets the test.
-    pub fn is_met(self, e: &SourceEvent) -> bool
-        ensures { result ≡ test_of self e.now }
+    pub fn is_met(self, event: &SourceEvent) -> bool
+        ensures { result ≡ test_of self event.now }
     {
         match self {
-            Test::Changes(c) => changes(c, e),
-            Test::Makes(o) => makes(o, e),
-            Test::MakesOrFrees(o) => makes(o, e) || frees(o, e),
-            Test::Begins(o) => begins(o, e),
-            Test::BeginsOrFrees(o) => begins(o, e) || frees(o, e),
-            Test::Locks(c) => locks(c, e),
-            Test::LocksOrUnlocks(c) => locks(c, e) || unlocks(c, e),
-            Test::Unlocks(c, thread) => e.thread == thread && unlocks(c, e),
-            Test::Enters(c, thread) => enters(c, thread, e),
-            Test::EntersOrLeaves(c, thread) => enters(c, thread, e) || takes_away(c, thread, e),
-            Test::IsOf(thread) => e.thread == thread,
-            Test::Spawns(thread) => spawns(thread, e),
-            Test::Goes(thread) => is_gone(e.act) && is_natural(e.thread as u64, thread),
-            Test::Ends(until, thread) => e.thread == thread && ends(until, e.act),
+            Test::Changes(c) => changes(c, event),
+            Test::Makes(o) => makes(o, event),
+            Test::MakesOrFrees(o) => makes(o, event) || frees(o, event),
+            Test::Begins(o) => begins(o, event),
+            Test::BeginsOrFrees(o) => begins(o, event) || frees(o, event),
+            Test::Locks(c) => locks(c, event),
+            Test::LocksOrUnlocks(c) => locks(c, event) || unlocks(c, event),
+            Test::Unlocks(c, thread) => event.thread == thread && unlocks(c, event),
+            Test::Enters(c, thread) => enters(c, thread, event),
+            Test::EntersOrLeaves(c, thread) => enters(c, thread, event)
+                || takes_away(c, thread, event),
+            Test::IsOf(thread) => event.thread == thread,
+            Test::Spawns(thread) => spawns(thread, event),
+            Test::Goes(thread) => is_gone(event.act) && is_natural(event.thread as u64, thread),
+            Test::Ends(until, thread) => event.thread == thread && ends(until, event.act),
         }
     }
 }

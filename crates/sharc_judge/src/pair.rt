@@ -54,21 +54,24 @@ fn conflicts(b: CellAccess, with: Option<CellAccess>) -> bool
 
 impl Pair {
     /// Whether the event meets the test with those between it and the place.
-    pub fn is_met(self, d: &SourceEvent, between: &[SourceEvent]) -> bool
-        ensures { result ≡ pair_of self d.now between.now }
+    pub fn is_met(self, earlier: &SourceEvent, between: &[SourceEvent]) -> bool
+        ensures { result ≡ pair_of self earlier.now between.now }
     {
         match self {
             Pair::Holds(c, thread) => {
-                d.thread == thread && locks(c, d) && !any(Test::Unlocks(c, thread), between)
+                earlier.thread == thread
+                    && locks(c, earlier)
+                    && !any(Test::Unlocks(c, thread), between)
             }
             Pair::OtherMode(b) => {
-                disagrees(b, access_by(d.act)) && !any(Test::BeginsOrFrees(b.cell.object), between)
+                disagrees(b, access_by(earlier.act))
+                    && !any(Test::BeginsOrFrees(b.cell.object), between)
             }
             Pair::Conflicts(until, thread, b) => {
-                d.thread != thread
-                    && conflicts(b, access_by(d.act))
+                earlier.thread != thread
+                    && conflicts(b, access_by(earlier.act))
                     && !any(Test::Begins(b.cell.object), between)
-                    && !any(Test::Ends(until, d.thread), between)
+                    && !any(Test::Ends(until, earlier.thread), between)
             }
         }
     }

@@ -30,22 +30,22 @@ pub enum Rule {
 }
 
 /// Whether the object is a global, or live.
-pub fn is_there(before: &[SourceEvent], o: Object) -> bool
-    ensures { result ≡ is_there before.now o }
+pub fn is_there(before: &[SourceEvent], object: Object) -> bool
+    ensures { result ≡ is_there before.now object }
 {
-    match o {
+    match object {
         Object::Global(_) => true,
-        Object::Made(_) => is_live(before, o),
+        Object::Made(_) => is_live(before, object),
     }
 }
 
 /// Whether the thread made the last New or Give of the object; a global is owned by thread 0.
-pub fn is_owner(before: &[SourceEvent], o: Object, thread: u32) -> bool
-    ensures { result ≡ is_owner before.now o thread }
+pub fn is_owner(before: &[SourceEvent], object: Object, thread: u32) -> bool
+    ensures { result ≡ is_owner before.now object thread }
 {
-    match o {
+    match object {
         Object::Global(_) => thread == 0,
-        Object::Made(_) => meets_latest(Test::IsOf(thread), Test::Begins(o), before),
+        Object::Made(_) => meets_latest(Test::IsOf(thread), Test::Begins(object), before),
     }
 }
 
@@ -75,12 +75,12 @@ fn breaks(rule: Rule, until: Until, before: &[SourceEvent], thread: u32, a: Cell
     }
 }
 
-fn breaks_by(rule: Rule, until: Until, before: &[SourceEvent], e: &SourceEvent) -> bool
-    ensures { result ≡ breaks_by rule until before.now e.now }
+fn breaks_by(rule: Rule, until: Until, before: &[SourceEvent], event: &SourceEvent) -> bool
+    ensures { result ≡ breaks_by rule until before.now event.now }
 {
-    match access_by(e.act) {
+    match access_by(event.act) {
         None => false,
-        Some(a) => breaks(rule, until, before, e.thread, a),
+        Some(a) => breaks(rule, until, before, event.thread, a),
     }
 }
 

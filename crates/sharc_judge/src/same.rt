@@ -25,12 +25,12 @@ pub fn same_cell(a: CellAt, b: CellAt) -> bool
 }
 
 /// Whether there is a cell, and it is this one.
-pub fn is_cell(c: CellAt, of: Option<CellAt>) -> bool
-    ensures { result ≡ is_cell c of }
+pub fn is_cell(cell: CellAt, of: Option<CellAt>) -> bool
+    ensures { result ≡ is_cell cell of }
 {
     match of {
         None => false,
-        Some(d) => same_cell(c, d),
+        Some(d) => same_cell(cell, d),
     }
 }
 

@@ -44,51 +44,51 @@ fn global_value(global: Option<&GlobalDefinition>) -> i128
     }
 }
 
-fn initial_value(t: &Typed, object: Object) -> i128
-    ensures { result ≡ initial_value t.now object }
+fn initial_value(typed: &Typed, object: Object) -> i128
+    ensures { result ≡ initial_value typed.now object }
 {
     match object {
-        Object::Global(number) => global_value(t.global_at(number)),
+        Object::Global(number) => global_value(typed.global_at(number)),
         Object::Made(_) => 0,
     }
 }
 
 /// The last value that was given to the cell, else its initial value.
-pub fn value_after(t: &Typed, before: &[SourceEvent], c: CellAt) -> i128
-    ensures { result ≡ value_after t.now before.now c }
+pub fn value_after(typed: &Typed, before: &[SourceEvent], cell: CellAt) -> i128
+    ensures { result ≡ value_after typed.now before.now cell }
 {
-    match latest(Test::Changes(c), before) {
-        None => initial_value(t, c.object),
+    match latest(Test::Changes(cell), before) {
+        None => initial_value(typed, cell.object),
         Some(e) => value_left(e.act) as i128,
     }
 }
 
 /// Whether the answer is the cell's value.
-pub fn tells_value(t: &Typed, before: &[SourceEvent], c: CellAt, answer: i64) -> bool
-    ensures { IsTrue result ↔ (answer ≡ value_after t.now before.now c) }
+pub fn tells_value(typed: &Typed, before: &[SourceEvent], cell: CellAt, answer: i64) -> bool
+    ensures { IsTrue result ↔ (answer ≡ value_after typed.now before.now cell) }
 {
-    value_after(t, before, c) == answer as i128
+    value_after(typed, before, cell) == answer as i128
 }
 
 /// Whether the object is live: of its events New and Freed the last is a New.
-pub fn is_live(before: &[SourceEvent], o: Object) -> bool
-    ensures { result ≡ is_live before.now o }
+pub fn is_live(before: &[SourceEvent], object: Object) -> bool
+    ensures { result ≡ is_live before.now object }
 {
-    meets_latest(Test::Makes(o), Test::MakesOrFrees(o), before)
+    meets_latest(Test::Makes(object), Test::MakesOrFrees(object), before)
 }
 
 /// Whether the last event of the mutex is a Lock.
-pub fn is_locked(before: &[SourceEvent], c: CellAt) -> bool
-    ensures { result ≡ is_locked before.now c }
+pub fn is_locked(before: &[SourceEvent], cell: CellAt) -> bool
+    ensures { result ≡ is_locked before.now cell }
 {
-    meets_latest(Test::Locks(c), Test::LocksOrUnlocks(c), before)
+    meets_latest(Test::Locks(cell), Test::LocksOrUnlocks(cell), before)
 }
 
 /// Whether the last Lock of the mutex is this thread's.
-pub fn was_locked_by(before: &[SourceEvent], c: CellAt, thread: u32) -> bool
-    ensures { result ≡ was_locked_by before.now c thread }
+pub fn was_locked_by(before: &[SourceEvent], cell: CellAt, thread: u32) -> bool
+    ensures { result ≡ was_locked_by before.now cell thread }
 {
-    meets_latest(Test::IsOf(thread), Test::Locks(c), before)
+    meets_latest(Test::IsOf(thread), Test::Locks(cell), before)
 }
 
 /// Whether the thread of this number is gone.
@@ -99,12 +99,12 @@ pub fn went(before: &[SourceEvent], thread: i64) -> bool
 }
 
 /// Whether the thread made itself a waiter of the cell and was not taken away since.
-pub fn is_waiter(before: &[SourceEvent], c: CellAt, thread: u32) -> bool
-    ensures { result ≡ is_waiter before.now c thread }
+pub fn is_waiter(before: &[SourceEvent], cell: CellAt, thread: u32) -> bool
+    ensures { result ≡ is_waiter before.now cell thread }
 {
     meets_latest(
-        Test::Enters(c, thread),
-        Test::EntersOrLeaves(c, thread),
+        Test::Enters(cell, thread),
+        Test::EntersOrLeaves(cell, thread),
         before,
     )
 }
@@ -129,51 +129,55 @@ pub fn is_new_thread(before: &[SourceEvent], answer: i64) -> bool
 
 fn lower_waiter(
     before: &[SourceEvent],
-    c: CellAt,
-    e: &SourceEvent,
+    cell: CellAt,
+    event: &SourceEvent,
     least: Option<u32>,
 ) -> Option<u32>
-    ensures { result ≡ lower_waiter before.now c e.now least }
+    ensures { result ≡ lower_waiter before.now cell event.now least }
 {
-    if !is_waiter(before, c, e.thread) {
+    if !is_waiter(before, cell, event.thread) {
         return least;
     }
     match least {
-        None => Some(e.thread),
-        Some(other) => Some(if e.thread < other { e.thread } else { other }),
+        None => Some(event.thread),
+        Some(other) => Some(if event.thread < other {
+            event.thread
+        } else {
+            other
+        }),
     }
 }
 
 /// The lowest of the threads that wait at the cell.
-fn lowest_waiter(before: &[SourceEvent], c: CellAt) -> Option<u32>
-    ensures { result ≡ lowest_waiter before.now c before.now }
+fn lowest_waiter(before: &[SourceEvent], cell: CellAt) -> Option<u32>
+    ensures { result ≡ lowest_waiter before.now cell before.now }
 {
     let mut least = None;
     for e in before {
-        least = lower_waiter(before, c, e, least);
+        least = lower_waiter(before, cell, e, least);
     }
     least
 }
 
 /// What a Signal answers: the lowest waiter plus 1, or 0 where nobody waits.
-fn signal_answer(before: &[SourceEvent], c: CellAt) -> i128
-    ensures { result ≡ waiter_answer (lowest_waiter before.now c before.now) }
+fn signal_answer(before: &[SourceEvent], cell: CellAt) -> i128
+    ensures { result ≡ waiter_answer (lowest_waiter before.now cell before.now) }
 {
-    match lowest_waiter(before, c) {
+    match lowest_waiter(before, cell) {
         None => 0,
         Some(thread) => thread as i128 + 1,
     }
 }
 
-fn tells_waiter(before: &[SourceEvent], c: CellAt, answer: i64) -> bool
-    ensures { IsTrue result ↔ (answer ≡ waiter_answer (lowest_waiter before.now c before.now)) }
+fn tells_waiter(before: &[SourceEvent], cell: CellAt, answer: i64) -> bool
+    ensures { IsTrue result ↔ (answer ≡ waiter_answer (lowest_waiter before.now cell before.now)) }
 {
-    signal_answer(before, c) == answer as i128
+    signal_answer(before, cell) == answer as i128
 }
 
 /// Whether a Signal may answer this.
-pub fn signals(before: &[SourceEvent], c: CellAt, answer: i64) -> bool
-    ensures { IsTrue result ↔ Signals before.now c answer }
+pub fn signals(before: &[SourceEvent], cell: CellAt, answer: i64) -> bool
+    ensures { IsTrue result ↔ Signals before.now cell answer }
 {
-    tells_waiter(before, c, answer)
+    tells_waiter(before, cell, answer)
 }

@@ -6,21 +6,23 @@ ghost use Rattle.sharc_load.specs.Source.{source_of, text_of, step_line, call_li
 
 use std::alloc::{AllocError, Allocator};
 
-/// The program with `n` functions `step0`, `step1`, .. behind its globals: each of eight threads runs its number through all
+/// The program with this number of functions, `step0`, `step1`, .. behind its globals: each of eight threads runs its number through all
 /// of them under no lock, and adds what comes out to a total under one (own).
 ///
 /// An `Err` says that memory was not found.
-pub fn make<A: Allocator>(alloc: A, n: u32) -> Result<Vec<u8, A>, AllocError>
-    requires least { 1 ≤ n }
-    requires most { n ≤ 10000 }
-    ensures { IfOk result (λ text. text.items ≡ source_of n) }
+pub fn make<A: Allocator>(alloc: A, functions: u32) -> Result<Vec<u8, A>, AllocError>
+    requires least { 1 ≤ functions }
+    requires most { functions ≤ 10000 }
+    ensures { IfOk result (λ text. text.items ≡ source_of functions) }
 {
     let mut text = String::new(alloc);
     text.push_str("mutex m;\nint locked(m) total;\n")?;
-    write_steps(&mut text, n)?;
+    write_steps(&mut text, functions)?;
     text.push_str("void work(int v) {\n")?;
-    write_calls(&mut text, n)?;
-    text.push_str("lock(&m);\ntotal = total + v;\nunlock(&m);\n}\nint main(void) {\n")?;
+    write_calls(&mut text, functions)?;
+    text.push_str(
+        "lock(&m);\ntotal = total + v;\nunlock(&m);\n}\nint main(void) {\n",
+    )?;
     write_spawns(&mut text)?;
     write_joins(&mut text)?;
     text.push_str("lock(&m);\nprint(total);\nunlock(&m);\nreturn 0;\n}\n")?;

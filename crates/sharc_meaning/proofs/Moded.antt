@@ -12,7 +12,7 @@ use Rattle.sharc_ctype.specs.Resolved.{Resolution, named_at, global_at, kind_at}
 use Rattle.sharc_mode.specs.declared.position.Reason.{Reason}
 use Rattle.sharc_mode.specs.Cells.{first_mode, global_cell, named_cell, pointed, unary_cell, instance, field_named, cell_at}
 use Rattle.sharc_mode.specs.Moded.{Assignment}
-use Rattle.sharc_mode.specs.Rows.{Row, row_at}
+use Rattle.sharc_mode.specs.Rows.{Targets, row_at}
 use Rattle.sharc_mode.specs.Sharings.{Sharing}
 use Rattle.sharc_meaning.specs.Laws.{SameModes, ModesAlone}
 
@@ -39,7 +39,7 @@ module _ (r : Resolution) (modes : List Mode) (a b : List (Option Reason)) where
   same_named (named.Field k) = refl
   same_named named.Known = refl
 
-  same_pointed : (o : Option Row) → pointed m o ≡ pointed n o
+  same_pointed : (o : Option Targets) → pointed m o ≡ pointed n o
   same_pointed None = refl
   same_pointed (Some row) = refl
 

@@ -5,7 +5,7 @@ use Rattle.sharc_tree.specs.declared.ctype.Mode.{Mode}
 use Rattle.sharc_tree.specs.declared.ctype.Mode.TheVariants.{Private}
 use Rattle.sharc_mode.specs.Cells.{first_of}
 use Rattle.sharc_mode.specs.Moded.{Assignment, mode_at}
-use Rattle.sharc_mode.specs.Rows.{Row, read, modes_of}
+use Rattle.sharc_mode.specs.Rows.{Targets, read, modes_of}
 use Rattle.sharc_mode.specs.Sharings.{Sharing, private, sharing_of}
 
 first_at : (f : Mode → Sharing) (modes : List Mode) (first count : ℕ) → f Private ≡ private → first_of (map f (take (suc count) (drop first modes))) ≡ f (slice_index_or modes first Private)
@@ -18,5 +18,5 @@ by_count : (f : Mode → Sharing) (modes : List Mode) (first count : ℕ) → 0 
 by_count f modes first zero h e = absurd (omega arith)
 by_count f modes first (suc k) h e = first_at f modes first k e
 
-pub first_is : (m : Assignment) (row : Row) → 0 < row.count → first_of (modes_of m row) ≡ read m.typed row.reading (mode_at m row.first)
+pub first_is : (m : Assignment) (row : Targets) → 0 < row.count → first_of (modes_of m row) ≡ read m.typed row.reading (mode_at m row.first)
 first_is m row h = by_count (λ mode. read m.typed row.reading (sharing_of mode)) m.modes row.first row.count h refl

@@ -15,7 +15,7 @@ use Rattle.sharc_ctype.specs.Resolved.{Resolution}
 use Rattle.sharc_ctype.specs.Transfers.{function_transfers}
 use Rattle.sharc_mode.specs.Flows.{equal_rows, levels_down, receiver_row, source_row, transfer_links, cast_links, function_links, item_links, links_of}
 use Rattle.sharc_mode.specs.Pairs.{AreGiven, AreCast, AreLevel, AreEquated, IsBelow}
-use Rattle.sharc_mode.specs.Rows.{Row, cast_row, row_at, behind}
+use Rattle.sharc_mode.specs.Rows.{Targets, cast_row, row_at, behind}
 use Rattle.sharc_mode.proofs.MemberLemmas.{Has, has_left, has_right, has_cases, has_contained, contained, has_source, has_made}
 
 -- among the links
@@ -94,15 +94,15 @@ equal_made a b (suc n) depth inside =
     ]
 
 -- ---- rows
-record RowsJoin (a b : Option Row) (x y : ℕ) (below : Bool) : Type 0 where
-  left : Row
-  right : Row
+record RowsJoin (a b : Option Targets) (x y : ℕ) (below : Bool) : Type 0 where
+  left : Targets
+  right : Targets
   is_left : a ≡ Some left
   is_right : b ≡ Some right
   ends : AreLevel left right x y ⊎ AreLevel left right y x
   level : below ≡ false
 
-rows_parts : (a b : Option Row) (x y : ℕ) (c : Bool) → HasLink x y c (equal_rows a b) → RowsJoin a b x y c
+rows_parts : (a b : Option Targets) (x y : ℕ) (c : Bool) → HasLink x y c (equal_rows a b) → RowsJoin a b x y c
 rows_parts None b x y c h = absurd h
 rows_parts (Some a) None x y c h = absurd h
 rows_parts (Some a) (Some b) x y c h =
@@ -122,13 +122,13 @@ rows_parts (Some a) (Some b) x y c h =
       level = p.level;
     }
 
-rows_made : (a b : Option Row) (left right : Row) (x y : ℕ) → a ≡ Some left → b ≡ Some right → AreLevel left right x y → HasLink x y false (equal_rows a b) × HasLink y x false (equal_rows a b)
+rows_made : (a b : Option Targets) (left right : Targets) (x y : ℕ) → a ≡ Some left → b ≡ Some right → AreLevel left right x y → HasLink x y false (equal_rows a b) × HasLink y x false (equal_rows a b)
 rows_made a b left right x y is_left is_right level =
     let inside : level.depth < min left.count right.count = let l = level.left in let r = level.right in omega arith in
     let made = equal_made left.first right.first (min left.count right.count) level.depth inside in
     let P : ℕ → ℕ → Type 0 = λ p q. HasLink p q false (equal_links left.first right.first (min left.count right.count)) × HasLink q p false (equal_links left.first right.first (min left.count right.count)) in
     let here : P x y = subst (λ p. P p y) (sym level.first) (subst (P (left.first + level.depth)) (sym level.second) made) in
-    let Q : Option Row → Option Row → Type 0 = λ p q. HasLink x y false (equal_rows p q) × HasLink y x false (equal_rows p q) in
+    let Q : Option Targets → Option Targets → Type 0 = λ p q. HasLink x y false (equal_rows p q) × HasLink y x false (equal_rows p q) in
     subst (λ p. Q p b) (sym is_left) (subst (Q (Some left)) (sym is_right) here)
 
 -- ---- casts
@@ -171,7 +171,7 @@ module _ (r : Resolution) (x y : ℕ) where
       let here : HasLink x y true (levels_down n) = subst (λ p. HasLink p y true (levels_down n)) (sym is.first) (subst (λ q. HasLink (n.first + is.depth) q true (levels_down n)) (sym is.second) made) in
       has_made (λ z. z ≡ link_of x y true) levels_down (numbered (entities_in r.program.items)) (has_contained (λ k. HasLink x y true (levels_down k)) (numbered (entities_in r.program.items)) n is.stands here)
 
-  equated : (a b : Row) → AreGiven r a b ⊎ AreCast r a b → AreLevel a b x y ⊎ AreLevel a b y x → AreEquated r x y
+  equated : (a b : Targets) → AreGiven r a b ⊎ AreCast r a b → AreLevel a b x y ⊎ AreLevel a b y x → AreEquated r x y
   equated a b types (inl level) = inl (record { a = a; b = b; types = types; level = level })
   equated a b types (inr level) = inr (record { a = a; b = b; types = types; level = level })
 
@@ -212,7 +212,7 @@ module _ (r : Resolution) (x y : ℕ) where
       has_right (λ z. z ≡ link_of p q false) (flat_map levels_down (numbered (entities_in r.program.items))) (flat_map (item_links r) r.program.items)
       (has_made (λ z. z ≡ link_of p q false) (item_links r) r.program.items (has_contained (λ i. HasLink p q false (item_links r i)) r.program.items (function f) stands h))
 
-  types_in : (a b : Row) → AreGiven r a b ⊎ AreCast r a b → AreLevel a b x y → HasLink x y false (links_of r) × HasLink y x false (links_of r)
+  types_in : (a b : Targets) → AreGiven r a b ⊎ AreCast r a b → AreLevel a b x y → HasLink x y false (links_of r) × HasLink y x false (links_of r)
   types_in a b (inl given) level =
       let f = given.owner in
       let t = given.transfer in

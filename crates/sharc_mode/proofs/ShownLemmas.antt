@@ -7,7 +7,7 @@ use Rattle.sharc_tree.specs.declared.ctype.Mode.{Mode}
 use Rattle.sharc_tree.specs.declared.ctype.Mode.TheVariants.{Private}
 use Rattle.sharc_mode.specs.Cells.{first_of, pointed}
 use Rattle.sharc_mode.specs.Moded.{Assignment}
-use Rattle.sharc_mode.specs.Rows.{Row, deeper, read, modes_of}
+use Rattle.sharc_mode.specs.Rows.{Targets, deeper, read, modes_of}
 use Rattle.sharc_mode.specs.Sharings.{Sharing, sharing_of, same, same_all, mode_of}
 
 from_first : (f : Mode → Sharing) (modes : List Mode) (first k : ℕ) → first < length modes
@@ -25,51 +25,51 @@ by_count f modes first (suc k) h e =
     ∙ ap (λ n. first_of (map f (take (suc k) (drop first modes))) ∷ map f (take k (drop n modes))) (sym (add-one first))
     ∙ ap (λ n. first_of (map f (take (suc k) (drop first modes))) ∷ map f (take n (drop (first + 1) modes))) less
 
-deeper_some : (row : Row) → 0 < row.count → deeper row ≡ record { first = row.first + 1; count = row.count - 1; reading = row.reading }
+deeper_some : (row : Targets) → 0 < row.count → deeper row ≡ record { first = row.first + 1; count = row.count - 1; reading = row.reading }
 deeper_some row h =
     let e : (row.count == 0) ≡ false = grind (arith, nat_tests) in
     ap (λ b. cond b row (record { first = row.first + 1; count = row.count - 1; reading = row.reading })) e
 
-deeper_none : (row : Row) → row.count ≡ 0 → deeper row ≡ row
+deeper_none : (row : Targets) → row.count ≡ 0 → deeper row ≡ row
 deeper_none row h =
     let e : (row.count == 0) ≡ true = grind (arith, nat_tests) in
     ap (λ b. cond b row (record { first = row.first + 1; count = row.count - 1; reading = row.reading })) e
 
 -- the first target of a row, and the rest
-pub first_and_rest : (m : Assignment) (row : Row) → 0 < row.count → row.first + row.count ≤ length m.modes → modes_of m row ≡ pointed m (Some row) ∷ modes_of m (deeper row)
+pub first_and_rest : (m : Assignment) (row : Targets) → 0 < row.count → row.first + row.count ≤ length m.modes → modes_of m row ≡ pointed m (Some row) ∷ modes_of m (deeper row)
 first_and_rest m row h e =
     by_count (λ mode. read m.typed row.reading (sharing_of mode)) m.modes row.first row.count h e
     ∙ ap (λ r. pointed m (Some row) ∷ modes_of m r) (sym (deeper_some row h))
 
-pub none_of_row : (m : Assignment) (row : Row) → row.count ≡ 0 → modes_of m row ≡ []
+pub none_of_row : (m : Assignment) (row : Targets) → row.count ≡ 0 → modes_of m row ≡ []
 none_of_row m row e = let f : Mode → Sharing = λ mode. read m.typed row.reading (sharing_of mode) in ap (λ n. map f (take n (drop row.first m.modes))) e
 
 none_or_some : (n : ℕ) → (n ≡ 0) ⊎ (0 < n)
 none_or_some zero = inl refl
 none_or_some (suc n) = inr (omega arith)
 
-pub deeper_ends : (limit : ℕ) (row : Row) → row.first + row.count ≤ limit → (deeper row).first + (deeper row).count ≤ limit
+pub deeper_ends : (limit : ℕ) (row : Targets) → row.first + row.count ≤ limit → (deeper row).first + (deeper row).count ≤ limit
 deeper_ends limit row h =
     elim (none_or_some row.count) [
-      | inl none ↦ subst (λ (r : Row). r.first + r.count ≤ limit) (sym (deeper_none row none)) h
-      | inr some ↦ subst (λ (r : Row). r.first + r.count ≤ limit) (sym (deeper_some row some)) (let e : row.first + 1 + (row.count - 1) ≤ limit = omega arith in e)
+      | inl none ↦ subst (λ (r : Targets). r.first + r.count ≤ limit) (sym (deeper_none row none)) h
+      | inr some ↦ subst (λ (r : Targets). r.first + r.count ≤ limit) (sym (deeper_some row some)) (let e : row.first + 1 + (row.count - 1) ≤ limit = omega arith in e)
     ]
 
 -- the targets behind the first
-pub rest_of_row : (m : Assignment) (row : Row) → row.first + row.count ≤ length m.modes → drop 1 (modes_of m row) ≡ modes_of m (deeper row)
+pub rest_of_row : (m : Assignment) (row : Targets) → row.first + row.count ≤ length m.modes → drop 1 (modes_of m row) ≡ modes_of m (deeper row)
 rest_of_row m row e =
     elim (none_or_some row.count) [
       | inl none ↦ ap (drop 1) (none_of_row m row none) ∙ sym (none_of_row m row none) ∙ ap (modes_of m) (sym (deeper_none row none))
       | inr some ↦ ap (drop 1) (first_and_rest m row some e)
     ]
 
-one_more : (m : Assignment) (a b : Row) → 0 < a.count → 0 < b.count → a.first + a.count ≤ length m.modes → b.first + b.count ≤ length m.modes
+one_more : (m : Assignment) (a b : Targets) → 0 < a.count → 0 < b.count → a.first + a.count ≤ length m.modes → b.first + b.count ≤ length m.modes
     → same_all m.typed (modes_of m a) (modes_of m b) ≡ (same m.typed (pointed m (Some a)) (pointed m (Some b)) && same_all m.typed (modes_of m (deeper a)) (modes_of m (deeper b)))
 one_more m a b some_a some_b ends_a ends_b =
     ap (λ l. same_all m.typed l (modes_of m b)) (first_and_rest m a some_a ends_a)
     ∙ ap (λ l. same_all m.typed (pointed m (Some a) ∷ modes_of m (deeper a)) l) (first_and_rest m b some_b ends_b)
 
-pub alike : (m : Assignment) (a b next_a next_b : Row) (whole : Bool) → 0 < a.count → 0 < b.count → a.first + a.count ≤ length m.modes → b.first + b.count ≤ length m.modes
+pub alike : (m : Assignment) (a b next_a next_b : Targets) (whole : Bool) → 0 < a.count → 0 < b.count → a.first + a.count ≤ length m.modes → b.first + b.count ≤ length m.modes
     → same m.typed (pointed m (Some a)) (pointed m (Some b)) ≡ true → next_a ≡ deeper a → next_b ≡ deeper b
     → same_all m.typed (modes_of m a) (modes_of m b) ≡ whole → same_all m.typed (modes_of m next_a) (modes_of m next_b) ≡ whole
 alike m a b next_a next_b whole some_a some_b ends_a ends_b same_first a_is b_is were =
@@ -78,22 +78,22 @@ alike m a b next_a next_b whole some_a some_b ends_a ends_b same_first a_is b_is
     ∙ ap (λ t. t && same_all m.typed (modes_of m (deeper a)) (modes_of m (deeper b))) (sym same_first)
     ∙ sym (one_more m a b some_a some_b ends_a ends_b) ∙ were
 
-pub unlike : (m : Assignment) (a b : Row) → 0 < a.count → 0 < b.count → a.first + a.count ≤ length m.modes → b.first + b.count ≤ length m.modes
+pub unlike : (m : Assignment) (a b : Targets) → 0 < a.count → 0 < b.count → a.first + a.count ≤ length m.modes → b.first + b.count ≤ length m.modes
     → same m.typed (pointed m (Some a)) (pointed m (Some b)) ≡ false → same_all m.typed (modes_of m a) (modes_of m b) ≡ false
 unlike m a b some_a some_b ends_a ends_b other =
     one_more m a b some_a some_b ends_a ends_b ∙ ap (λ t. t && same_all m.typed (modes_of m (deeper a)) (modes_of m (deeper b))) other
 
-pub both_end : (m : Assignment) (a b : Row) → a.count ≡ 0 → b.count ≡ 0 → same_all m.typed (modes_of m a) (modes_of m b) ≡ true
+pub both_end : (m : Assignment) (a b : Targets) → a.count ≡ 0 → b.count ≡ 0 → same_all m.typed (modes_of m a) (modes_of m b) ≡ true
 both_end m a b none_a none_b = ap (λ l. same_all m.typed l (modes_of m b)) (none_of_row m a none_a) ∙ ap (λ l. same_all m.typed [] l) (none_of_row m b none_b)
 
-pub first_ends : (m : Assignment) (a b : Row) → a.count ≡ 0 → 0 < b.count → b.first + b.count ≤ length m.modes → same_all m.typed (modes_of m a) (modes_of m b) ≡ false
+pub first_ends : (m : Assignment) (a b : Targets) → a.count ≡ 0 → 0 < b.count → b.first + b.count ≤ length m.modes → same_all m.typed (modes_of m a) (modes_of m b) ≡ false
 first_ends m a b none some ends = ap (λ l. same_all m.typed l (modes_of m b)) (none_of_row m a none) ∙ ap (λ l. same_all m.typed [] l) (first_and_rest m b some ends)
 
-pub second_ends : (m : Assignment) (a b : Row) → 0 < a.count → a.first + a.count ≤ length m.modes → b.count ≡ 0 → same_all m.typed (modes_of m a) (modes_of m b) ≡ false
+pub second_ends : (m : Assignment) (a b : Targets) → 0 < a.count → a.first + a.count ≤ length m.modes → b.count ≡ 0 → same_all m.typed (modes_of m a) (modes_of m b) ≡ false
 second_ends m a b some ends none = ap (λ l. same_all m.typed l (modes_of m b)) (first_and_rest m a some ends) ∙ ap (λ l. same_all m.typed (pointed m (Some a) ∷ modes_of m (deeper a)) l) (none_of_row m b none)
 
 -- one mode more is shown
-pub one_shown : (m : Assignment) (row next : Row) (known more whole : List (Option Mode)) (s : Sharing) (mode : Mode) → 0 < row.count → row.first + row.count ≤ length m.modes
+pub one_shown : (m : Assignment) (row next : Targets) (known more whole : List (Option Mode)) (s : Sharing) (mode : Mode) → 0 < row.count → row.first + row.count ≤ length m.modes
     → next ≡ deeper row → s ≡ pointed m (Some row) → mode ≡ mode_of m.typed s → more ≡ known ++ Some mode ∷ []
     → known ++ map (λ x. Some (mode_of m.typed x)) (modes_of m row) ≡ whole → more ++ map (λ x. Some (mode_of m.typed x)) (modes_of m next) ≡ whole
 one_shown m row next known more whole s mode some ends next_is s_is mode_is more_is were =

@@ -26,7 +26,7 @@ use Rattle.sharc_ctype.specs.declared.entity.Entity.{Entity}
 use Rattle.sharc_ctype.specs.declared.entity.Numbered.{Numbered}
 use Rattle.sharc_mode.specs.Flows.{equal_rows, levels_down, receiver_row, source_row, transfer_links, cast_links, item_links, links_of}
 use Rattle.sharc_mode.specs.Moded.{position_count}
-use Rattle.sharc_mode.specs.Rows.{Reading, written, Row, no_row, deeper, targets_from, entity_row, declared_row, cast_row, global_row, named_row, result_row, called_row, behind, constant_row, reading_through, base_use, unary_row, row_at}
+use Rattle.sharc_mode.specs.Rows.{Reading, written, Targets, no_row, deeper, targets_from, entity_row, declared_row, cast_row, global_row, named_row, result_row, called_row, behind, constant_row, reading_through, base_use, unary_row, row_at}
 use Rattle.sharc_mode.proofs.RowLemmas.{EndsBy, ends_by}
 
 abbrev pub AllWithin : ℕ → List Link → Type 0
@@ -61,18 +61,18 @@ levels_within limit k (e ∷ rest) ends =
     both limit (below_links k (positions_of e - 1)) (flat_map levels_down (numbered_from (k + positions_of e) rest)) (level_within limit k (positions_of e) (omega arith)) (levels_within limit (k + positions_of e) rest (omega arith))
 
 -- ---- rows
-abbrev pub Ends : ℕ → Row → Type 0
+abbrev pub Ends : ℕ → Targets → Type 0
 Ends limit row = row.first + row.count ≤ limit
 
-abbrev pub EndsIn : ℕ → Option Row → Type 0
+abbrev pub EndsIn : ℕ → Option Targets → Type 0
 EndsIn limit None = Unit {0}
 EndsIn limit (Some row) = Ends limit row
 
-either : (limit : ℕ) (b : Bool) (x y : Row) → Ends limit x → Ends limit y → Ends limit (cond b x y)
+either : (limit : ℕ) (b : Bool) (x y : Targets) → Ends limit x → Ends limit y → Ends limit (cond b x y)
 either limit true x y p q = p
 either limit false x y p q = q
 
-either_in : (limit : ℕ) (b : Bool) (x y : Option Row) → EndsIn limit x → EndsIn limit y → EndsIn limit (cond b x y)
+either_in : (limit : ℕ) (b : Bool) (x y : Option Targets) → EndsIn limit x → EndsIn limit y → EndsIn limit (cond b x y)
 either_in limit true x y p q = p
 either_in limit false x y p q = q
 
@@ -80,14 +80,14 @@ deeper_by : (limit first count : ℕ) (how : Reading) → first + count ≤ limi
 deeper_by limit first zero how ends = ends
 deeper_by limit first (suc n) how ends = rw (ne_eqb (suc n) 0 (λ is. omega (arith, is))) (omega arith)
 
-deeper_ends : (limit : ℕ) (row : Row) → Ends limit row → Ends limit (deeper row)
+deeper_ends : (limit : ℕ) (row : Targets) → Ends limit row → Ends limit (deeper row)
 deeper_ends limit row ends = deeper_by limit row.first row.count row.reading ends
 
-behind_ends : (limit : ℕ) (row : Option Row) → EndsIn limit row → EndsIn limit (behind row)
+behind_ends : (limit : ℕ) (row : Option Targets) → EndsIn limit row → EndsIn limit (behind row)
 behind_ends limit None ends = tt
 behind_ends limit (Some row) ends = deeper_ends limit row ends
 
-targets_end : (limit : ℕ) (what : Role) (row : Row) → Ends limit row → Ends limit (targets_from what row)
+targets_end : (limit : ℕ) (what : Role) (row : Targets) → Ends limit row → Ends limit (targets_from what row)
 targets_end limit role.Global row ends = deeper_ends limit row ends
 targets_end limit role.Field row ends = ends
 targets_end limit role.Result row ends = ends
@@ -141,7 +141,7 @@ module _ (r : Resolution) where
   constant_ends (Character b) = no_row_ends (position_count r)
   constant_ends Null = tt
 
-  unary_ends : (o : UnaryOperator) (row : Option Row) → EndsIn (position_count r) row → EndsIn (position_count r) (unary_row o row)
+  unary_ends : (o : UnaryOperator) (row : Option Targets) → EndsIn (position_count r) row → EndsIn (position_count r) (unary_row o row)
   unary_ends Negate row ends = no_row_ends (position_count r)
   unary_ends Not row ends = no_row_ends (position_count r)
   unary_ends Complement row ends = no_row_ends (position_count r)
@@ -171,7 +171,7 @@ module _ (r : Resolution) where
       both limit (equal_links a b n) (link_of (a + n) (b + n) false ∷ link_of (b + n) (a + n) false ∷ []) (equal_within a b n (omega arith) (omega arith))
       (one limit (a + n) (b + n) false (link_of (b + n) (a + n) false ∷ []) first second (one limit (b + n) (a + n) false [] second first (nothing limit)))
 
-  rows_within : (a b : Option Row) → EndsIn (position_count r) a → EndsIn (position_count r) b → AllWithin (position_count r) (equal_rows a b)
+  rows_within : (a b : Option Targets) → EndsIn (position_count r) a → EndsIn (position_count r) b → AllWithin (position_count r) (equal_rows a b)
   rows_within None b left right = nothing (position_count r)
   rows_within (Some a) None left right = nothing (position_count r)
   rows_within (Some a) (Some b) left right = equal_within a.first b.first (min a.count b.count) (omega arith) (omega arith)

@@ -18,7 +18,7 @@ use Rattle.sharc_ctype.specs.Resolved.{Resolution, named_at, global_at, declarat
 use Rattle.sharc_ctype.specs.declared.entity.Numbered.{Numbered}
 use Rattle.sharc_ctype.specs.Entities.{entity_at}
 use Rattle.sharc_mode.specs.Moded.{Assignment, mode_at}
-use Rattle.sharc_mode.specs.Rows.{Row, modes_of, row_at}
+use Rattle.sharc_mode.specs.Rows.{Targets, modes_of, row_at}
 use Rattle.sharc_mode.specs.Sharings.{Lock, Sharing, private, readonly, locked, racy, dynamic, lock_of, is_private, is_sibling_lock}
 
 -- an object of C type mutex
@@ -75,7 +75,7 @@ abbrev pub first_of : List Sharing → Sharing
 first_of [] = private
 first_of (s ∷ rest) = s
 
-abbrev pub pointed : Assignment → Option Row → Sharing
+abbrev pub pointed : Assignment → Option Targets → Sharing
 pointed m None = private
 pointed m (Some row) = first_of (modes_of m row)
 

@@ -22,7 +22,7 @@ use Rattle.sharc_mode.specs.declared.position.Reason.{Reason}
 use Rattle.sharc_mode.specs.declared.position.Reason.TheVariants.{Touched, Spawned, From}
 use Rattle.sharc_ctype.specs.Entities.{entities_in, numbered, entity_at, positions_of}
 use Rattle.sharc_mode.specs.Moded.{Assignment, position_count, reason_at}
-use Rattle.sharc_mode.specs.Rows.{Row, written, declared_row, cast_row, row_at, behind}
+use Rattle.sharc_mode.specs.Rows.{Targets, written, declared_row, cast_row, row_at, behind}
 use Rattle.sharc_mode.specs.Settled.{settled_at}
 
 -- ---- roots: the first position of what this token declares, where its type has one
@@ -81,18 +81,18 @@ abbrev pub levels_down : Numbered → List Link
 levels_down n = below_links n.first (positions_of n.entity - 1)
 
 -- two types are equal, depth by depth
-abbrev pub equal_rows : Option Row → Option Row → List Link
+abbrev pub equal_rows : Option Targets → Option Targets → List Link
 equal_rows None b = []
 equal_rows (Some a) None = []
 equal_rows (Some a) (Some b) = equal_links a.first b.first (min a.count b.count)
 
 -- what an assignment, an initialiser, an argument and a return give, and to what; NULL and malloc agree with every type
-abbrev pub receiver_row : Resolution → Function → Receiver → Option Row
+abbrev pub receiver_row : Resolution → Function → Receiver → Option Targets
 receiver_row r f (lvalue u) = row_at r u
 receiver_row r f (variable d) = Some (declared_row r written d.name.site.token)
 receiver_row r f (result w) = Some (declared_row r written f.name.site.token)
 
-abbrev pub source_row : Resolution → Right → Option Row
+abbrev pub source_row : Resolution → Right → Option Targets
 source_row r (value e) = row_at r e
 source_row r (malloc s n w) = None
 

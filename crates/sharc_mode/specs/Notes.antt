@@ -20,8 +20,8 @@ use Rattle.sharc_names.specs.Kinds.{Kind, object, array, null, function}
 use Rattle.sharc_ctype.specs.Resolved.{Resolution, named_at, kind_at}
 use Rattle.sharc_ctype.specs.declared.entity.Numbered.{Numbered}
 use Rattle.sharc_mode.specs.declared.error.ModeError.{ModeError}
-use Rattle.sharc_mode.specs.declared.note.Note.{Note}
-use Rattle.sharc_mode.specs.declared.note.Note.TheVariants.{Wrong, Names, Takes}
+use Rattle.sharc_mode.specs.declared.finding.Finding.{Finding}
+use Rattle.sharc_mode.specs.declared.finding.Finding.TheVariants.{Wrong, Names, Takes}
 use Rattle.sharc_mode.specs.Cells.{cell_at, top_of}
 use Rattle.sharc_ctype.specs.Entities.{positions_of}
 use Rattle.sharc_mode.specs.Moded.{Assignment}
@@ -39,11 +39,11 @@ abbrev pub no_type : CType
 no_type = record { base = base.Void; levels = [] }
 
 -- a case that shows no types
-abbrev pub error : ℕ → Span → List ℕ → Note
+abbrev pub error : ℕ → Span → List ℕ → Finding
 error code s subject = Wrong (record { code = code; site = s.first; expected = no_type; found = no_type; subject = subject })
 
 -- a case that shows two
-abbrev pub mismatch : ℕ → Span → CType → CType → Note
+abbrev pub mismatch : ℕ → Span → CType → CType → Finding
 mismatch code s expected found = Wrong (record { code = code; site = s.first; expected = expected; found = found; subject = [] })
 
 -- a type with these modes of its targets, without that of its top
@@ -58,24 +58,24 @@ base_of function = base.Void
 
 -- ---- M1: in an assignment, initialiser, argument, spawn argument or return the two types differ in the mode of some target
 
-abbrev pub unless_same : Resolution → ℕ → Span → Base → List Sharing → List Sharing → List Note
+abbrev pub unless_same : Resolution → ℕ → Span → Base → List Sharing → List Sharing → List Finding
 unless_same r code s b expected found = if same_all r expected found then [] else mismatch code s (shown r b expected) (shown r b found) ∷ []
 
 -- NULL agrees with every pointer type; and nothing is expected where there is no parameter
-abbrev pub agree : Resolution → Span → Base → Option (List Sharing) → Option (List Sharing) → List Note
+abbrev pub agree : Resolution → Span → Base → Option (List Sharing) → Option (List Sharing) → List Finding
 agree r s b None found = []
 agree r s b (Some expected) None = []
 agree r s b (Some expected) (Some found) = unless_same r 1 s b expected found
 
-abbrev pub agree_notes : Assignment → Option (List Sharing) → Expression → List Note
+abbrev pub agree_notes : Assignment → Option (List Sharing) → Expression → List Finding
 agree_notes m expected e = agree m.typed (span_of e) (base_of (kind_at m.typed e)) expected (modes_at m e)
 
 -- ---- M2: an assignment writes a cell of mode readonly
 
-abbrev pub error_where : Bool → ℕ → Span → List ℕ → List Note
+abbrev pub error_where : Bool → ℕ → Span → List ℕ → List Finding
 error_where wrong code s subject = if wrong then error code s subject ∷ [] else []
 
-abbrev pub write_notes : Assignment → Expression → List Note
+abbrev pub write_notes : Assignment → Expression → List Finding
 write_notes m u = error_where (is_readonly (cell_at m u)) 2 (span_of u) (span_text m.typed (span_of u))
 
 -- ---- M3 to M6 of a type, and the variables and globals that its paths name
@@ -108,16 +108,16 @@ abbrev pub printed_type : Assignment → Numbered → CType
 printed_type m n = record { base = n.entity.written.ctype.base; levels = printed_top n.entity.role n.entity.written.ctype.levels ++ position_levels m n }
 
 -- M3: a non-private level stands directly above a private target
-abbrev pub private_notes : Assignment → Numbered → List Note
+abbrev pub private_notes : Assignment → Numbered → List Finding
 private_notes m n = if holds_private (levels_of m n) then mismatch 3 n.entity.written.span (printed_type m n) (printed_type m n) ∷ [] else []
 
 -- M4: a lock path is none of the allowed forms; the first of them in the source is told
-abbrev pub path_notes : Span → Option Path → List Note
+abbrev pub path_notes : Span → Option Path → List Finding
 path_notes s None = []
 path_notes s (Some path) = error 4 s (path_text path) ∷ []
 
 -- M5: a mode where it may not stand
-abbrev pub mode_notes : Span → Option Mode → List Note
+abbrev pub mode_notes : Span → Option Mode → List Finding
 mode_notes s None = []
 mode_notes s (Some mode) = error 5 s (mode_text mode) ∷ []
 
@@ -130,30 +130,30 @@ abbrev pub is_field_role : Role → Bool
 is_field_role role.Field = true
 is_field_role _ = false
 
-abbrev pub private_field_notes : Resolution → Numbered → List Note
+abbrev pub private_field_notes : Resolution → Numbered → List Finding
 private_field_notes r n = if is_field_role n.entity.role then error_where (list_any is_private_level n.entity.written.ctype.levels) 6 n.entity.written.span (text_at r n.entity.token) else []
 
 -- the variables and globals that paths name, whether or not they are allowed
 
-abbrev pub names_of : Option ℕ → List Note
+abbrev pub names_of : Option ℕ → List Finding
 names_of None = []
 names_of (Some x) = Names x ∷ []
 
-abbrev pub names_in : Resolution → Sharing → List Note
+abbrev pub names_in : Resolution → Sharing → List Finding
 names_in r private = []
 names_in r readonly = []
 names_in r (locked l) = names_of (object_of r l)
 names_in r racy = []
 names_in r dynamic = []
 
-abbrev pub names_in_all : Resolution → List Sharing → List Note
+abbrev pub names_in_all : Resolution → List Sharing → List Finding
 names_in_all r = flat_map (names_in r)
 
-abbrev pub names_in_level : Resolution → Option Mode → List Note
+abbrev pub names_in_level : Resolution → Option Mode → List Finding
 names_in_level r None = []
 names_in_level r (Some m) = names_in r (sharing_of m)
 
-abbrev pub type_notes : Assignment → Numbered → List Note
+abbrev pub type_notes : Assignment → Numbered → List Finding
 type_notes m n = private_notes m n
     ++ path_notes n.entity.written.span (first_unfit_path m.typed (place_of n.entity.role) n.entity.written.ctype.base n.entity.written.ctype.levels)
     ++ mode_notes n.entity.written.span (first_unfit_mode (place_of n.entity.role) n.entity.written.ctype.base n.entity.written.ctype.levels)
@@ -200,28 +200,28 @@ abbrev pub first_unmet : Assignment → List Declaration → Arguments → List 
 first_unmet m ds all [] = None
 first_unmet m ds all (d ∷ rest) = option_or (unmet_parameter m ds all d) (first_unmet m ds all rest)
 
-abbrev pub unmet_notes : Resolution → Span → Option Lock → List Note
+abbrev pub unmet_notes : Resolution → Span → Option Lock → List Finding
 unmet_notes r s None = []
 unmet_notes r s (Some l) = error 4 s (path_text (path_of r l)) ∷ []
 
 -- the variables and globals that the substituted paths name
 
-abbrev pub names_read : Resolution → Reading → Option Mode → List Note
+abbrev pub names_read : Resolution → Reading → Option Mode → List Finding
 names_read r how None = []
 names_read r how (Some mode) = names_in r (read r how (sharing_of mode))
 
-abbrev pub parameter_names : Assignment → Reading → Declaration → List Note
+abbrev pub parameter_names : Assignment → Reading → Declaration → List Finding
 parameter_names m how d = names_in_all m.typed (modes_of m (declared_row m.typed how d.name.site.token)) ++ flat_map (names_read m.typed how) d.written.ctype.levels
 
-abbrev pub names_at_call : Assignment → List Declaration → Arguments → List Declaration → List Note
+abbrev pub names_at_call : Assignment → List Declaration → Arguments → List Declaration → List Finding
 names_at_call m ds all = flat_map (parameter_names m (at_call ds all))
 
-abbrev pub call_notes : Assignment → Span → List Declaration → Arguments → List Note
+abbrev pub call_notes : Assignment → Span → List Declaration → Arguments → List Finding
 call_notes m s ds all = unmet_notes m.typed s (first_unmet m ds all ds) ++ names_at_call m ds all ds
 
 -- ---- M8: a cast's type differs from its source's in the mode of a target at depth 2 or more
 
-abbrev pub cast_notes : Resolution → Span → Base → List Sharing → Option (List Sharing) → List Note
+abbrev pub cast_notes : Resolution → Span → Base → List Sharing → Option (List Sharing) → List Finding
 cast_notes r s b to None = []
 cast_notes r s b to (Some from) = if same_all r (drop 1 to) (drop 1 from) then [] else mismatch 8 s (shown r b to) (shown r b from) ∷ []
 
@@ -231,41 +231,41 @@ abbrev pub taken_variable : Resolution → Expression → Option ℕ
 taken_variable r (identifier s i) = object_named r (named_at r i.site.token)
 taken_variable r _ = None
 
-abbrev pub takes : Span → Option ℕ → List Note
+abbrev pub takes : Span → Option ℕ → List Finding
 takes s None = []
 takes s (Some x) = Takes s x ∷ []
 
-abbrev pub source_notes : Assignment → Expression → List Note
+abbrev pub source_notes : Assignment → Expression → List Finding
 source_notes m a = error_where (is_readonly (cell_at m a)) 9 (span_of a) (span_text m.typed (span_of a))
     ++ takes (span_of a) (taken_variable m.typed (without_parentheses a))
 
 -- ---- M11: a field whose target is locked by a sibling is used in another form than `x->f` with `x` a constant variable
 
-abbrev pub sibling_notes : Resolution → Span → Option ℕ → List Note
+abbrev pub sibling_notes : Resolution → Span → Option ℕ → List Finding
 sibling_notes r s None = error 11 s (span_text r s) ∷ []
 sibling_notes r s (Some at) = names_of (variable_named (named_at r at))
 
-abbrev pub field_notes : Resolution → Span → Option ℕ → List Sharing → List Note
+abbrev pub field_notes : Resolution → Span → Option ℕ → List Sharing → List Finding
 field_notes r s base_at modes = if list_any (is_sibling r) modes then sibling_notes r s base_at else []
 
 -- ---- M10: the source of SCAST or `free` is a variable or a global that some lock path names; it is told by its name
 
-abbrev pub is_named : ℕ → List Note → Bool
+abbrev pub is_named : ℕ → List Finding → Bool
 is_named x [] = false
 is_named x (Wrong e ∷ rest) = is_named x rest
 is_named x (Names y ∷ rest) = x == y || is_named x rest
 is_named x (Takes s y ∷ rest) = is_named x rest
 
-abbrev pub error_of : Note → List ModeError
+abbrev pub error_of : Finding → List ModeError
 error_of (Wrong e) = e ∷ []
 error_of (Names x) = []
 error_of (Takes s x) = []
 
-abbrev pub errors_by : Resolution → List Note → Note → List ModeError
+abbrev pub errors_by : Resolution → List Finding → Finding → List ModeError
 errors_by r all (Wrong e) = e ∷ []
 errors_by r all (Names x) = []
 errors_by r all (Takes s x) = flat_map error_of (error_where (is_named x all) 10 s (text_at r x))
 
 -- the cases that arise, by what is said of all constructs
-abbrev pub errors_of : Resolution → List Note → List ModeError
+abbrev pub errors_of : Resolution → List Finding → List ModeError
 errors_of r notes = flat_map (errors_by r notes) notes

@@ -11,11 +11,11 @@ use Rattle.sharc_ctype.specs.Resolved.{Resolution}
 use Rattle.sharc_ctype.specs.Transfers.{Transfer, function_transfers}
 use Rattle.sharc_ctype.specs.declared.entity.Numbered.{Numbered}
 use Rattle.sharc_mode.specs.Flows.{IsRoot, receiver_row, source_row}
-use Rattle.sharc_mode.specs.Rows.{Row, cast_row, row_at, behind}
+use Rattle.sharc_mode.specs.Rows.{Targets, cast_row, row_at, behind}
 use Rattle.sharc_mode.specs.Settled.{settled_at}
 
 -- the targets of the types of what is assigned, initialised, passed, spawned with or returned and of what it is given, from depth 1 on
-pub record AreGiven (r : Resolution) (a b : Row) : Type 0 where
+pub record AreGiven (r : Resolution) (a b : Targets) : Type 0 where
   pub owner : Function
   pub stands : Contains r.program.items (function owner)
   pub transfer : Transfer
@@ -24,7 +24,7 @@ pub record AreGiven (r : Resolution) (a b : Row) : Type 0 where
   pub source : source_row r transfer.source ≡ Some b
 
 -- the targets of a cast and of its source, from depth 2 on
-pub record AreCast (r : Resolution) (a b : Row) : Type 0 where
+pub record AreCast (r : Resolution) (a b : Targets) : Type 0 where
   pub owner : Function
   pub stands : Contains r.program.items (function owner)
   pub span : Span
@@ -35,7 +35,7 @@ pub record AreCast (r : Resolution) (a b : Row) : Type 0 where
   pub source : behind (row_at r operand) ≡ Some b
 
 -- these lie at the same depth of both
-pub record AreLevel (a b : Row) (x y : ℕ) : Type 0 where
+pub record AreLevel (a b : Targets) (x y : ℕ) : Type 0 where
   pub depth : ℕ
   pub left : depth < a.count
   pub right : depth < b.count
@@ -43,8 +43,8 @@ pub record AreLevel (a b : Row) (x y : ℕ) : Type 0 where
   pub second : y ≡ b.first + depth
 
 pub record ArePaired (r : Resolution) (x y : ℕ) : Type 0 where
-  pub a : Row
-  pub b : Row
+  pub a : Targets
+  pub b : Targets
   pub types : AreGiven r a b ⊎ AreCast r a b
   pub level : AreLevel a b x y
 

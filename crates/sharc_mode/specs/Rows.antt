@@ -29,7 +29,7 @@ pub data Reading : Type 0 where
   at_call : List Declaration → Arguments → Reading
 
 -- this many positions from the first on, from the first target down
-pub record Row : Type 0 where
+pub record Targets : Type 0 where
   pub first : ℕ
   pub count : ℕ
   pub reading : Reading
@@ -90,34 +90,34 @@ read r how dynamic = dynamic
 -- The rows of declared types.
 
 -- of what has no target
-abbrev pub no_row : Row
+abbrev pub no_row : Targets
 no_row = record { first = 0; count = 0; reading = written }
 
 -- what it points to in turn
-abbrev pub deeper : Row → Row
+abbrev pub deeper : Targets → Targets
 deeper row = if row.count == 0 then row else record { first = row.first + 1; count = row.count - 1; reading = row.reading }
 
 -- the first position of a global is its top, of any other the first target
-abbrev pub targets_from : Role → Row → Row
+abbrev pub targets_from : Role → Targets → Targets
 targets_from role.Global row = deeper row
 targets_from _ row = row
 
-abbrev pub entity_row : Reading → Option Numbered → Row
+abbrev pub entity_row : Reading → Option Numbered → Targets
 entity_row how None = no_row
 entity_row how (Some n) = targets_from n.entity.role (record { first = n.first; count = positions_of n.entity; reading = how })
 
 -- of the type of what this token declares
-abbrev pub declared_row : Resolution → Reading → ℕ → Row
+abbrev pub declared_row : Resolution → Reading → ℕ → Targets
 declared_row r how token = entity_row how (entity_at r token token)
 
-abbrev pub cast_row : Resolution → Span → Row
+abbrev pub cast_row : Resolution → Span → Targets
 cast_row r s = entity_row written (entity_at r s.first.token s.last.token)
 
-abbrev pub global_row : Resolution → Reading → Option GlobalDefinition → Row
+abbrev pub global_row : Resolution → Reading → Option GlobalDefinition → Targets
 global_row r how None = no_row
 global_row r how (Some g) = declared_row r how g.declaration.name.site.token
 
-abbrev pub named_row : Resolution → Reading → Named → Row
+abbrev pub named_row : Resolution → Reading → Named → Targets
 named_row r how (named.Struct n) = no_row
 named_row r how (named.Global n) = global_row r how (global_at r n)
 named_row r how (named.Function n) = no_row
@@ -125,11 +125,11 @@ named_row r how (named.Variable token) = declared_row r how token
 named_row r how (named.Field token) = declared_row r how token
 named_row r how named.Known = no_row
 
-abbrev pub result_row : Resolution → Option Function → Row
+abbrev pub result_row : Resolution → Option Function → Targets
 result_row r None = no_row
 result_row r (Some f) = declared_row r written f.name.site.token
 
-abbrev pub called_row : Resolution → Named → Row
+abbrev pub called_row : Resolution → Named → Targets
 called_row r (named.Struct n) = no_row
 called_row r (named.Global n) = no_row
 called_row r (named.Function n) = result_row r (function_at r n)
@@ -139,11 +139,11 @@ called_row r named.Known = no_row
 
 -- The row of an expression; none of NULL, which agrees with every pointer type.
 
-abbrev pub behind : Option Row → Option Row
+abbrev pub behind : Option Targets → Option Targets
 behind None = None
 behind (Some row) = Some (deeper row)
 
-abbrev pub constant_row : Constant → Option Row
+abbrev pub constant_row : Constant → Option Targets
 constant_row (Number n) = Some no_row
 constant_row (Character b) = Some no_row
 constant_row Null = None
@@ -152,14 +152,14 @@ abbrev pub reading_through : Option ℕ → Reading
 reading_through None = written
 reading_through (Some at) = through at
 
-abbrev pub unary_row : UnaryOperator → Option Row → Option Row
+abbrev pub unary_row : UnaryOperator → Option Targets → Option Targets
 unary_row Negate row = Some no_row
 unary_row Not row = Some no_row
 unary_row Complement row = Some no_row
 unary_row Dereference row = behind row
 
 -- an element of an array has the type that is written, an element of what a pointer refers to one star less
-abbrev pub row_at : Resolution → Expression → Option Row
+abbrev pub row_at : Resolution → Expression → Option Targets
 row_at r (identifier s i) = Some (named_row r written (named_at r i.site.token))
 row_at r (constant s c) = constant_row c
 row_at r (parentheses s a) = row_at r a
@@ -175,7 +175,7 @@ row_at r (binary s o at a b) = Some no_row
 
 -- the modes of the targets, from depth 1 on
 
-abbrev pub modes_of : Assignment → Row → List Sharing
+abbrev pub modes_of : Assignment → Targets → List Sharing
 modes_of m row = map (λ mode. read m.typed row.reading (sharing_of mode)) (take row.count (drop row.first m.modes))
 
 abbrev pub modes_at : Assignment → Expression → Option (List Sharing)

@@ -8,10 +8,10 @@ use Rattle.sharc_mode.specs.declared.sharing.Sharing.{Sharing as RustSharing}
 use Rattle.sharc_mode.specs.declared.sharing.Sharing.TheVariants.{Private, Readonly, Locked, Racy, Dynamic}
 use Rattle.sharc_mode.specs.declared.row.Reading.{Reading as RustReading}
 use Rattle.sharc_mode.specs.declared.row.Reading.TheVariants.{Written, Through, Call, Spawn}
-use Rattle.sharc_mode.specs.declared.row.Row.{Row as RustRow}
+use Rattle.sharc_mode.specs.declared.row.Targets.{Targets as RustTargets}
 use Rattle.sharc_ctype.specs.Resolved.{Resolution}
 use Rattle.sharc_mode.specs.Moded.{position_count}
-use Rattle.sharc_mode.specs.Rows.{Reading, written, through, at_call, Row}
+use Rattle.sharc_mode.specs.Rows.{Reading, written, through, at_call, Targets}
 use Rattle.sharc_mode.specs.Sharings.{Lock, Sharing, private, readonly, locked, racy, dynamic}
 
 abbrev pub view_name : Option (Bor (List ℕ)) → Option (List ℕ)
@@ -34,14 +34,14 @@ view_reading (Through at) = through at
 view_reading (Call parameters all) = at_call parameters.now (view_arguments all.now)
 view_reading (Spawn parameters a) = at_call parameters.now (argument (view_expr a.now) no_arguments)
 
-abbrev pub view_row : RustRow → Row
+abbrev pub view_row : RustTargets → Targets
 view_row row = record { first = row.first; count = row.count; reading = view_reading row.reading }
 
-abbrev pub view_rows : Option RustRow → Option Row
+abbrev pub view_rows : Option RustTargets → Option Targets
 view_rows None = None
 view_rows (Some row) = Some (view_row row)
 
 -- its positions are positions of the program
-abbrev pub EndsWithin : Resolution → Option RustRow → Type 0
+abbrev pub EndsWithin : Resolution → Option RustTargets → Type 0
 EndsWithin r None = Unit {0}
 EndsWithin r (Some row) = row.first + row.count ≤ position_count r

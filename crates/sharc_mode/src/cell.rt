@@ -11,7 +11,7 @@ ghost use Rattle.sharc_mode.specs.View.{view_lock, view_sharing, view_rows};
 
 use crate::moded::Moded;
 use crate::read::read;
-use crate::row::{Row, row_of};
+use crate::row::{Targets, row_of};
 use crate::sharing::{Lock, Sharing, is_private, is_sibling_lock, lock_of};
 use sharc_ctype::typed::Typed;
 use sharc_names::fault::Named;
@@ -31,15 +31,15 @@ pub fn is_mutex_kind(kind: Kind<'_>) -> bool
 }
 
 /// The kind of what a variable, a field or a global is declared as; of anything else that of a function's name.
-pub fn named_kind(t: &Typed, named: Named) -> Kind<'_>
-    ensures { view_kind result ≡ named_kind t.now named }
+pub fn named_kind(typed: &Typed, named: Named) -> Kind<'_>
+    ensures { view_kind result ≡ named_kind typed.now named }
 {
     match named {
-        Named::Global(number) => match t.global_at(number) {
+        Named::Global(number) => match typed.global_at(number) {
             None => Kind::Function,
             Some(global) => kind_of(Meaning::Global(number, global)),
         },
-        Named::Variable(token) | Named::Field(token) => match t.declaration_at(token) {
+        Named::Variable(token) | Named::Field(token) => match typed.declaration_at(token) {
             None => Kind::Function,
             Some(declaration) => declared_kind(&declaration.written),
         },
@@ -48,15 +48,15 @@ pub fn named_kind(t: &Typed, named: Named) -> Kind<'_>
 }
 
 /// Whether a path names a sibling that points to a mutex.
-fn is_behind_pointer(t: &Typed, lock: Lock<'_>) -> bool
-    ensures { result ≡ is_behind_pointer t.now (view_lock lock.entry) }
+fn is_behind_pointer(typed: &Typed, lock: Lock<'_>) -> bool
+    ensures { result ≡ is_behind_pointer typed.now (view_lock lock.entry) }
 {
-    is_sibling_lock(t, lock) && is_pointer(named_kind(t, t.named(lock.first)))
+    is_sibling_lock(typed, lock) && is_pointer(named_kind(typed, typed.named(lock.first)))
 }
 
 /// The mode of a field's cell by its written mode, in an instance of that mode.
-fn written_cell<'a>(t: &Typed, instance: Sharing<'a>, written: Option<&'a Mode>) -> Sharing<'a>
-    ensures { view_sharing result ≡ written_cell t.now (view_sharing instance.entry) (option_copied written.entry) }
+fn written_cell<'a>(typed: &Typed, instance: Sharing<'a>, written: Option<&'a Mode>) -> Sharing<'a>
+    ensures { view_sharing result ≡ written_cell typed.now (view_sharing instance.entry) (option_copied written.entry) }
 {
     match written {
         None => instance,
@@ -69,7 +69,7 @@ fn written_cell<'a>(t: &Typed, instance: Sharing<'a>, written: Option<&'a Mode>)
         }
         Some(Mode::Locked(path)) => {
             let lock = lock_of(path);
-            if is_behind_pointer(t, lock) && is_private(instance) {
+            if is_behind_pointer(typed, lock) && is_private(instance) {
                 Sharing::Private
             } else {
                 Sharing::Locked(lock)
@@ -92,57 +92,61 @@ pub fn top_of(levels: &[Option<Mode>]) -> Option<&Mode>
 }
 
 /// The mode of a field's cell in an instance of that mode.
-pub fn field_cell<'a>(t: &Typed, instance: Sharing<'a>, field: &'a Declaration) -> Sharing<'a>
-    ensures { view_sharing result ≡ field_cell t.now (view_sharing instance.entry) field.now.written }
+pub fn field_cell<'a>(typed: &Typed, instance: Sharing<'a>, field: &'a Declaration) -> Sharing<'a>
+    ensures { view_sharing result ≡ field_cell typed.now (view_sharing instance.entry) field.now.written }
 {
     if is_mutex_kind(declared_kind(&field.written)) {
         Sharing::Racy
     } else {
-        written_cell(t, instance, top_of(field.written.ctype.levels.as_slice()))
+        written_cell(
+            typed,
+            instance,
+            top_of(field.written.ctype.levels.as_slice()),
+        )
     }
 }
 
 /// The mode of the cell of the field that a name names.
-fn field_named<'a>(t: &'a Typed, instance: Sharing<'a>, named: Named) -> Sharing<'a>
-    ensures { view_sharing result ≡ field_named t.now (view_sharing instance.entry) named }
+fn field_named<'a>(typed: &'a Typed, instance: Sharing<'a>, named: Named) -> Sharing<'a>
+    ensures { view_sharing result ≡ field_named typed.now (view_sharing instance.entry) named }
 {
     match named {
-        Named::Field(token) => match t.declaration_at(token) {
+        Named::Field(token) => match typed.declaration_at(token) {
             None => Sharing::Private,
-            Some(field) => field_cell(t, instance, field),
+            Some(field) => field_cell(typed, instance, field),
         },
         _ => Sharing::Private,
     }
 }
 
 /// The mode of a global's cells.
-fn global_cell(m: &Moded, token: u32) -> Sharing<'_>
-    ensures { view_sharing result ≡ first_mode m.now (entity_at m.now.typed token token) }
+fn global_cell(program: &Moded, token: u32) -> Sharing<'_>
+    ensures { view_sharing result ≡ first_mode program.now (entity_at program.now.typed token token) }
 {
-    let t = m.typed();
+    let t = program.typed();
     match t.entity_at(token, token) {
         None => Sharing::Private,
-        Some(numbered) => m.sharing(numbered.first),
+        Some(numbered) => program.sharing(numbered.first),
     }
 }
 
 /// The mode of the cell that a name names.
-fn named_cell(m: &Moded, named: Named) -> Sharing<'_>
-    ensures { view_sharing result ≡ named_cell m.now named }
+fn named_cell(program: &Moded, named: Named) -> Sharing<'_>
+    ensures { view_sharing result ≡ named_cell program.now named }
 {
-    let t = m.typed();
+    let t = program.typed();
     match named {
         Named::Global(number) => match t.global_at(number) {
             None => Sharing::Private,
-            Some(global) => global_cell(m, global.declaration.name.site.token),
+            Some(global) => global_cell(program, global.declaration.name.site.token),
         },
         _ => Sharing::Private,
     }
 }
 
 /// The mode of the first target.
-pub fn pointed<'a>(m: &'a Moded, row: Option<Row<'a>>) -> Sharing<'a>
-    ensures { view_sharing result ≡ pointed m.now (view_rows row.entry) }
+pub fn pointed<'a>(program: &'a Moded, row: Option<Targets<'a>>) -> Sharing<'a>
+    ensures { view_sharing result ≡ pointed program.now (view_rows row.entry) }
 {
     match row {
         None => Sharing::Private,
@@ -150,25 +154,25 @@ pub fn pointed<'a>(m: &'a Moded, row: Option<Row<'a>>) -> Sharing<'a>
             if row.count == 0 {
                 Sharing::Private
             } else {
-                read(m.typed(), row.reading, m.sharing(row.first))
+                read(program.typed(), row.reading, program.sharing(row.first))
             }
         }
     }
 }
 
 /// The mode of the cell that an expression of the program names; private where it names none. It looks at no argument of a call and no index.
-pub fn cell_of<'a>(m: &'a Moded, expr: &'a Expr) -> Sharing<'a>
-    ensures { view_sharing result ≡ cell_at m.now (view_expr expr.now) }
+pub fn cell_of<'a>(program: &'a Moded, expr: &'a Expr) -> Sharing<'a>
+    ensures { view_sharing result ≡ cell_at program.now (view_expr expr.now) }
 {
-    let t = m.typed();
+    let t = program.typed();
     match expr {
-        Expr::Identifier(_, name) => named_cell(m, t.named(name.site.token)),
-        Expr::Parentheses(_, inner) => cell_of(m, inner),
+        Expr::Identifier(_, name) => named_cell(program, t.named(name.site.token)),
+        Expr::Parentheses(_, inner) => cell_of(program, inner),
         Expr::Index(_, base, _) => {
             if is_array(t.kind_at(base)) {
-                cell_of(m, base)
+                cell_of(program, base)
             } else {
-                pointed(m, row_of(t, base))
+                pointed(program, row_of(t, base))
             }
         }
         Expr::Field {
@@ -176,14 +180,18 @@ pub fn cell_of<'a>(m: &'a Moded, expr: &'a Expr) -> Sharing<'a>
             access: Access::Dot,
             name,
             ..
-        } => field_named(t, cell_of(m, base), t.named(name.site.token)),
+        } => field_named(t, cell_of(program, base), t.named(name.site.token)),
         Expr::Field {
             base,
             access: Access::Arrow,
             name,
             ..
-        } => field_named(t, pointed(m, row_of(t, base)), t.named(name.site.token)),
-        Expr::Unary(_, UnaryOperator::Dereference, operand) => pointed(m, row_of(t, operand)),
+        } => field_named(
+            t,
+            pointed(program, row_of(t, base)),
+            t.named(name.site.token),
+        ),
+        Expr::Unary(_, UnaryOperator::Dereference, operand) => pointed(program, row_of(t, operand)),
         Expr::Unary(_, _, _) => Sharing::Private,
         Expr::Constant(_, _) => Sharing::Private,
         Expr::Call(_, _, _) => Sharing::Private,

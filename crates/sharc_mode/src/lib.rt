@@ -3,9 +3,9 @@
 
 pub mod cell;
 pub mod error;
+pub mod finding;
 pub mod laws;
 pub mod moded;
-pub mod note;
 pub mod place;
 pub mod position;
 pub mod read;

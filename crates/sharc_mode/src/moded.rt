@@ -61,13 +61,13 @@ fn copied(alloc: Global, modes: &[Mode]) -> Result<Vec<Mode>, AllocError>
 
 impl Moded {
     /// The program with these modes and reasons, by position.
-    pub fn assign(t: Typed, modes: Modes, reasons: Reasons) -> Moded
-        requires modes { length modes ≡ position_count t }
-        requires reasons { length reasons ≡ position_count t }
-        ensures { result ≡ record { typed = t; modes = modes; reasons = reasons } }
+    pub fn assign(typed: Typed, modes: Modes, reasons: Reasons) -> Moded
+        requires modes { length modes ≡ position_count typed }
+        requires reasons { length reasons ≡ position_count typed }
+        ensures { result ≡ record { typed = typed; modes = modes; reasons = reasons } }
     {
         Moded {
-            typed: t,
+            typed,
             modes,
             reasons,
         }

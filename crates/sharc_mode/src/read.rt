@@ -13,13 +13,13 @@ use sharc_ctype::typed::Typed;
 use sharc_tree::tree::{Declaration, Expr};
 
 /// A path of a field's type through `x->f`, where `x` stands at that token: a sibling's name `m` becomes `x->m`.
-fn lock_through<'a>(t: &'a Typed, at: u32, lock: Lock<'a>) -> Lock<'a>
-    ensures { view_lock result ≡ lock_through t.now at (view_lock lock.entry) }
+fn lock_through<'a>(typed: &'a Typed, at: u32, lock: Lock<'a>) -> Lock<'a>
+    ensures { view_lock result ≡ lock_through typed.now at (view_lock lock.entry) }
 {
-    if is_sibling_lock(t, lock) {
+    if is_sibling_lock(typed, lock) {
         Lock {
             first: at,
-            second: Some(text_at(t, lock.first)),
+            second: Some(text_at(typed, lock.first)),
         }
     } else {
         lock
@@ -40,29 +40,29 @@ fn with_base<'a>(base: Option<u32>, lock: Lock<'a>) -> Lock<'a>
 }
 
 /// The variable `x` of a path `x->m`, by the token that declares it.
-pub fn path_variable(t: &Typed, lock: Lock<'_>) -> Option<u32>
-    ensures { result ≡ path_variable t.now (view_lock lock.entry) }
+pub fn path_variable(typed: &Typed, lock: Lock<'_>) -> Option<u32>
+    ensures { result ≡ path_variable typed.now (view_lock lock.entry) }
 {
     match lock.second {
         None => None,
-        Some(_) => variable_of(t, lock),
+        Some(_) => variable_of(typed, lock),
     }
 }
 
 /// The argument of a spawn for the parameter that this token declares, where it is a constant variable.
 pub fn spawn_argument_use(
-    t: &Typed,
+    typed: &Typed,
     parameters: &[Declaration],
     value: &Expr,
     wanted: u32,
 ) -> Option<u32>
-    ensures { result ≡ argument_use t.now parameters.now (argument (view_expr value.now) no_arguments) wanted }
+    ensures { result ≡ argument_use typed.now parameters.now (argument (view_expr value.now) no_arguments) wanted }
 {
     match parameters {
         [] => None,
         [parameter, ..] => {
             if parameter.name.site.token == wanted {
-                constant_use(t, value)
+                constant_use(typed, value)
             } else {
                 None
             }
@@ -71,32 +71,35 @@ pub fn spawn_argument_use(
 }
 
 /// A path of a declared type as it is read there.
-pub fn read_lock<'a>(t: &'a Typed, reading: Reading<'a>, lock: Lock<'a>) -> Lock<'a>
-    ensures { view_lock result ≡ read_lock t.now (view_reading reading.entry) (view_lock lock.entry) }
+pub fn read_lock<'a>(typed: &'a Typed, reading: Reading<'a>, lock: Lock<'a>) -> Lock<'a>
+    ensures { view_lock result ≡ read_lock typed.now (view_reading reading.entry) (view_lock lock.entry) }
 {
     match reading {
         Reading::Written => lock,
-        Reading::Through(at) => lock_through(t, at, lock),
-        Reading::Call(parameters, arguments) => match path_variable(t, lock) {
+        Reading::Through(at) => lock_through(typed, at, lock),
+        Reading::Call(parameters, arguments) => match path_variable(typed, lock) {
             None => lock,
-            Some(variable) => with_base(argument_use(t, parameters, arguments, variable), lock),
+            Some(variable) => with_base(argument_use(typed, parameters, arguments, variable), lock),
         },
-        Reading::Spawn(parameters, value) => match path_variable(t, lock) {
+        Reading::Spawn(parameters, value) => match path_variable(typed, lock) {
             None => lock,
-            Some(variable) => with_base(spawn_argument_use(t, parameters, value, variable), lock),
+            Some(variable) => with_base(
+                spawn_argument_use(typed, parameters, value, variable),
+                lock,
+            ),
         },
     }
 }
 
 /// A mode of a declared type as it is read there.
-pub fn read<'a>(t: &'a Typed, reading: Reading<'a>, s: Sharing<'a>) -> Sharing<'a>
-    ensures { view_sharing result ≡ read t.now (view_reading reading.entry) (view_sharing s.entry) }
+pub fn read<'a>(typed: &'a Typed, reading: Reading<'a>, sharing: Sharing<'a>) -> Sharing<'a>
+    ensures { view_sharing result ≡ read typed.now (view_reading reading.entry) (view_sharing sharing.entry) }
 {
-    match s {
-        Sharing::Locked(lock) => Sharing::Locked(read_lock(t, reading, lock)),
-        Sharing::Private => s,
-        Sharing::Readonly => s,
-        Sharing::Racy => s,
-        Sharing::Dynamic => s,
+    match sharing {
+        Sharing::Locked(lock) => Sharing::Locked(read_lock(typed, reading, lock)),
+        Sharing::Private => sharing,
+        Sharing::Readonly => sharing,
+        Sharing::Racy => sharing,
+        Sharing::Dynamic => sharing,
     }
 }

@@ -34,30 +34,30 @@ pub enum Reading<'a> {
 
 /// This many positions from the first on: the targets of a type from the first target down.
 #[derive(Clone, Copy)]
-pub struct Row<'a> {
+pub struct Targets<'a> {
     pub first: u32,
     pub count: u32,
     pub reading: Reading<'a>,
 }
 
 /// Whether a name names a constant variable.
-fn is_constant_named(t: &Typed, named: Named) -> bool
-    ensures { result ≡ is_constant_named t.now named }
+fn is_constant_named(typed: &Typed, named: Named) -> bool
+    ensures { result ≡ is_constant_named typed.now named }
 {
     match named {
-        Named::Variable(token) => t.is_constant(token),
+        Named::Variable(token) => typed.is_constant(token),
         _ => false,
     }
 }
 
 /// The token of a constant variable, where the expression is one, without parentheses.
-pub fn constant_use(t: &Typed, expr: &Expr) -> Option<u32>
-    ensures { result ≡ constant_use t.now (view_expr expr.now) }
+pub fn constant_use(typed: &Typed, expr: &Expr) -> Option<u32>
+    ensures { result ≡ constant_use typed.now (view_expr expr.now) }
 {
     match expr {
         Expr::Identifier(_, name) => {
             let token = name.site.token;
-            if is_constant_named(t, t.named(token)) {
+            if is_constant_named(typed, typed.named(token)) {
                 Some(token)
             } else {
                 None
@@ -68,23 +68,23 @@ pub fn constant_use(t: &Typed, expr: &Expr) -> Option<u32>
 }
 
 /// The token of `x` of a use `x->f`, where `x` is a constant variable.
-pub fn base_use(t: &Typed, access: Access, base: &Expr) -> Option<u32>
-    ensures { result ≡ base_use t.now access (view_expr base.now) }
+pub fn base_use(typed: &Typed, access: Access, base: &Expr) -> Option<u32>
+    ensures { result ≡ base_use typed.now access (view_expr base.now) }
 {
     match access {
-        Access::Arrow => constant_use(t, base),
+        Access::Arrow => constant_use(typed, base),
         Access::Dot => None,
     }
 }
 
 /// The argument for the parameter that this token declares, where it is a constant variable.
 pub fn argument_use(
-    t: &Typed,
+    typed: &Typed,
     parameters: &[Declaration],
     arguments: &[Expr],
     wanted: u32,
 ) -> Option<u32>
-    ensures { result ≡ argument_use t.now parameters.now (view_arguments arguments.now) wanted }
+    ensures { result ≡ argument_use typed.now parameters.now (view_arguments arguments.now) wanted }
 {
     for i in 0..parameters.len() {
         if i >= arguments.len() {
@@ -92,18 +92,18 @@ pub fn argument_use(
         }
         let argument = &arguments[i];
         if parameters[i].name.site.token == wanted {
-            return constant_use(t, argument);
+            return constant_use(typed, argument);
         }
     }
     None
 }
 
-impl<'a> Row<'a> {
+impl<'a> Targets<'a> {
     /// Of what has no target.
     pub fn none() -> Self
         ensures { view_row result ≡ no_row }
     {
-        Row {
+        Targets {
             first: 0,
             count: 0,
             reading: Reading::Written,
@@ -118,7 +118,7 @@ impl<'a> Row<'a> {
         if self.count == 0 {
             self
         } else {
-            Row {
+            Targets {
                 first: self.first + 1,
                 count: self.count - 1,
                 reading: self.reading,
@@ -128,7 +128,7 @@ impl<'a> Row<'a> {
 }
 
 /// The row from the first target on: the first position of a global is its top.
-fn targets_from<'a>(role: Role, row: Row<'a>) -> Row<'a>
+fn targets_from<'a>(role: Role, row: Targets<'a>) -> Targets<'a>
     requires { row.first + row.count < 2 ^ 32 }
     ensures row { view_row result ≡ targets_from role (view_row row.entry) }
     ensures ends { result.first + result.count ≤ row.entry.first + row.entry.count }
@@ -140,13 +140,13 @@ fn targets_from<'a>(role: Role, row: Row<'a>) -> Row<'a>
 }
 
 /// The positions of an entity.
-fn row_of_entity<'a>(t: &Typed, reading: Reading<'a>, numbered: &Numbered) -> Row<'a>
-    requires { numbered.now.first + positions_of numbered.now.entity ≤ position_count t.now }
+fn row_of_entity<'a>(typed: &Typed, reading: Reading<'a>, numbered: &Numbered) -> Targets<'a>
+    requires { numbered.now.first + positions_of numbered.now.entity ≤ position_count typed.now }
     ensures row { view_row result ≡ entity_row (view_reading reading.entry) (Some numbered.now) }
-    ensures within { result.first + result.count ≤ position_count t.now }
+    ensures within { result.first + result.count ≤ position_count typed.now }
 {
-    let _all = t.position_count();
-    let row = Row {
+    let _all = typed.position_count();
+    let row = Targets {
         first: numbered.first,
         count: numbered.entity.positions() as u32,
         reading,
@@ -155,88 +155,88 @@ fn row_of_entity<'a>(t: &Typed, reading: Reading<'a>, numbered: &Numbered) -> Ro
 }
 
 /// The targets of the type of what this token declares, of a cast by its first and its last token.
-pub fn row_between<'a>(t: &Typed, reading: Reading<'a>, token: u32, last: u32) -> Row<'a>
-    ensures row { view_row result ≡ entity_row (view_reading reading.entry) (entity_at t.now token last) }
-    ensures within { result.first + result.count ≤ position_count t.now }
+pub fn row_between<'a>(typed: &Typed, reading: Reading<'a>, token: u32, last: u32) -> Targets<'a>
+    ensures row { view_row result ≡ entity_row (view_reading reading.entry) (entity_at typed.now token last) }
+    ensures within { result.first + result.count ≤ position_count typed.now }
 {
-    match t.entity_at(token, last) {
-        None => Row::none(),
-        Some(numbered) => row_of_entity(t, reading, numbered),
+    match typed.entity_at(token, last) {
+        None => Targets::none(),
+        Some(numbered) => row_of_entity(typed, reading, numbered),
     }
 }
 
 /// The targets of the type of what this token declares.
-pub fn declared_row<'a>(t: &Typed, reading: Reading<'a>, token: u32) -> Row<'a>
-    ensures row { view_row result ≡ declared_row t.now (view_reading reading.entry) token }
-    ensures within { result.first + result.count ≤ position_count t.now }
+pub fn declared_row<'a>(typed: &Typed, reading: Reading<'a>, token: u32) -> Targets<'a>
+    ensures row { view_row result ≡ declared_row typed.now (view_reading reading.entry) token }
+    ensures within { result.first + result.count ≤ position_count typed.now }
 {
-    row_between(t, reading, token, token)
+    row_between(typed, reading, token, token)
 }
 
 /// The targets of the type of a cast that stands at these tokens.
-pub fn cast_row<'a>(t: &Typed, span: Span) -> Row<'a>
-    ensures row { view_row result ≡ cast_row t.now span }
-    ensures within { result.first + result.count ≤ position_count t.now }
+pub fn cast_row<'a>(typed: &Typed, span: Span) -> Targets<'a>
+    ensures row { view_row result ≡ cast_row typed.now span }
+    ensures within { result.first + result.count ≤ position_count typed.now }
 {
-    row_between(t, Reading::Written, span.first.token, span.last.token)
+    row_between(typed, Reading::Written, span.first.token, span.last.token)
 }
 
 /// The targets of the type of what a name names.
-pub fn named_row<'a>(t: &Typed, reading: Reading<'a>, named: Named) -> Row<'a>
-    ensures row { view_row result ≡ named_row t.now (view_reading reading.entry) named }
-    ensures within { result.first + result.count ≤ position_count t.now }
+pub fn named_row<'a>(typed: &Typed, reading: Reading<'a>, named: Named) -> Targets<'a>
+    ensures row { view_row result ≡ named_row typed.now (view_reading reading.entry) named }
+    ensures within { result.first + result.count ≤ position_count typed.now }
 {
     match named {
-        Named::Global(number) => match t.global_at(number) {
-            None => Row::none(),
-            Some(global) => declared_row(t, reading, global.declaration.name.site.token),
+        Named::Global(number) => match typed.global_at(number) {
+            None => Targets::none(),
+            Some(global) => declared_row(typed, reading, global.declaration.name.site.token),
         },
-        Named::Variable(token) => declared_row(t, reading, token),
-        Named::Field(token) => declared_row(t, reading, token),
-        Named::Struct(_) => Row::none(),
-        Named::Function(_) => Row::none(),
-        Named::Known => Row::none(),
+        Named::Variable(token) => declared_row(typed, reading, token),
+        Named::Field(token) => declared_row(typed, reading, token),
+        Named::Struct(_) => Targets::none(),
+        Named::Function(_) => Targets::none(),
+        Named::Known => Targets::none(),
     }
 }
 
 /// The targets of what a call of a name gives.
-fn called_row<'a>(t: &Typed, named: Named) -> Row<'a>
-    ensures row { view_row result ≡ called_row t.now named }
-    ensures within { result.first + result.count ≤ position_count t.now }
+fn called_row<'a>(typed: &Typed, named: Named) -> Targets<'a>
+    ensures row { view_row result ≡ called_row typed.now named }
+    ensures within { result.first + result.count ≤ position_count typed.now }
 {
     match named {
-        Named::Function(number) => match t.function_at(number) {
-            None => Row::none(),
-            Some(function) => declared_row(t, Reading::Written, function.name.site.token),
+        Named::Function(number) => match typed.function_at(number) {
+            None => Targets::none(),
+            Some(function) => declared_row(typed, Reading::Written, function.name.site.token),
         },
-        Named::Struct(_) => Row::none(),
-        Named::Global(_) => Row::none(),
-        Named::Variable(_) => Row::none(),
-        Named::Field(_) => Row::none(),
-        Named::Known => Row::none(),
+        Named::Struct(_) => Targets::none(),
+        Named::Global(_) => Targets::none(),
+        Named::Variable(_) => Targets::none(),
+        Named::Field(_) => Targets::none(),
+        Named::Known => Targets::none(),
     }
 }
 
 /// What it points to in turn.
-pub fn behind<'a>(t: &Typed, row: Option<Row<'a>>) -> Option<Row<'a>>
-    requires { EndsWithin t.now row }
+pub fn behind<'a>(typed: &Typed, row: Option<Targets<'a>>) -> Option<Targets<'a>>
+    requires { EndsWithin typed.now row }
     ensures row { view_rows result ≡ behind (view_rows row.entry) }
-    ensures within { EndsWithin t.now result }
+    ensures within { EndsWithin typed.now result }
 {
-    let _all = t.position_count();
+    let _all = typed.position_count();
     match row {
         None => None,
         Some(row) => Some(row.deeper()),
     }
 }
 
-fn constant_row<'a>(constant: Constant) -> Option<Row<'a>>
+fn constant_row<'a>(constant: Constant) -> Option<Targets<'a>>
     ensures row { view_rows result ≡ constant_row constant }
     ensures none { IfSome result (λ row. row.first + row.count ≤ 0) }
 {
     match constant {
-        Constant::Number(_) => Some(Row::none()),
-        Constant::Character(_) => Some(Row::none()),
+        Constant::Number(_) => Some(Targets::none()),
+        Constant::Character(_) => Some(Targets::none()),
         Constant::Null => None,
     }
 }
@@ -252,25 +252,29 @@ fn reading_through<'a>(base: Option<u32>) -> Reading<'a>
 
 /// What an expression of the program points to, from its first target on; none for NULL, which agrees with every pointer type. It looks at no
 /// argument of a call and no index.
-pub fn row_of<'a>(t: &Typed, expr: &Expr) -> Option<Row<'a>>
-    ensures row { view_rows result ≡ row_at t.now (view_expr expr.now) }
-    ensures within { EndsWithin t.now result }
+pub fn row_of<'a>(typed: &Typed, expr: &Expr) -> Option<Targets<'a>>
+    ensures row { view_rows result ≡ row_at typed.now (view_expr expr.now) }
+    ensures within { EndsWithin typed.now result }
 {
     match expr {
-        Expr::Identifier(_, name) => Some(named_row(t, Reading::Written, t.named(name.site.token))),
+        Expr::Identifier(_, name) => Some(named_row(
+            typed,
+            Reading::Written,
+            typed.named(name.site.token),
+        )),
         Expr::Constant(_, constant) => constant_row(*constant),
-        Expr::Parentheses(_, inner) => row_of(t, inner),
-        Expr::Call(_, name, _) => Some(called_row(t, t.named(name.site.token))),
-        Expr::Spawn(_, _, _) => Some(Row::none()),
-        Expr::OnValue(_, _, _) => Some(Row::none()),
-        Expr::OnPlace(_, _, _) => Some(Row::none()),
-        Expr::Cast(span, _, _) => Some(cast_row(t, *span)),
+        Expr::Parentheses(_, inner) => row_of(typed, inner),
+        Expr::Call(_, name, _) => Some(called_row(typed, typed.named(name.site.token))),
+        Expr::Spawn(_, _, _) => Some(Targets::none()),
+        Expr::OnValue(_, _, _) => Some(Targets::none()),
+        Expr::OnPlace(_, _, _) => Some(Targets::none()),
+        Expr::Cast(span, _, _) => Some(cast_row(typed, *span)),
         Expr::Index(_, base, _) => {
-            let row = row_of(t, base);
-            if is_array(t.kind_at(base)) {
+            let row = row_of(typed, base);
+            if is_array(typed.kind_at(base)) {
                 row
             } else {
-                behind(t, row)
+                behind(typed, row)
             }
         }
         Expr::Field {
@@ -279,18 +283,21 @@ pub fn row_of<'a>(t: &Typed, expr: &Expr) -> Option<Row<'a>>
             name,
             ..
         } => {
-            let reading = reading_through(base_use(t, *access, base));
-            Some(named_row(t, reading, t.named(name.site.token)))
+            let reading = reading_through(base_use(typed, *access, base));
+            Some(named_row(typed, reading, typed.named(name.site.token)))
         }
-        Expr::Unary(_, UnaryOperator::Dereference, operand) => behind(t, row_of(t, operand)),
-        Expr::Unary(_, _, _) => Some(Row::none()),
-        Expr::Binary { .. } => Some(Row::none()),
+        Expr::Unary(_, UnaryOperator::Dereference, operand) => behind(
+            typed,
+            row_of(typed, operand),
+        ),
+        Expr::Unary(_, _, _) => Some(Targets::none()),
+        Expr::Binary { .. } => Some(Targets::none()),
     }
 }
 
 /// Whether the variable that the token with this number declares is constant: a parameter or an initialised local that is never assigned.
-pub fn constant_var(t: &Typed, variable: u32) -> bool
-    ensures { result ≡ is_constant t.now variable }
+pub fn constant_var(typed: &Typed, variable: u32) -> bool
+    ensures { result ≡ is_constant typed.now variable }
 {
-    t.is_constant(variable)
+    typed.is_constant(variable)
 }

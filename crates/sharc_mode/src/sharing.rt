@@ -83,11 +83,11 @@ fn same_text(named: Named, a: &[u8], b: &[u8]) -> bool
 }
 
 /// Whether the first names of two paths, which stand at these tokens, name the same.
-fn same_first(t: &Typed, a: u32, b: u32) -> bool
-    ensures { result ≡ same_first t.now a b }
+fn same_first(typed: &Typed, a: u32, b: u32) -> bool
+    ensures { result ≡ same_first typed.now a b }
 {
-    let named = t.named(a);
-    same_named(named, t.named(b)) && same_text(named, text_at(t, a), text_at(t, b))
+    let named = typed.named(a);
+    same_named(named, typed.named(b)) && same_text(named, text_at(typed, a), text_at(typed, b))
 }
 
 fn same_second(a: Option<&[u8]>, b: Option<&[u8]>) -> bool
@@ -101,44 +101,44 @@ fn same_second(a: Option<&[u8]>, b: Option<&[u8]>) -> bool
 }
 
 /// Whether two paths are equal.
-pub fn same_lock(t: &Typed, a: Lock<'_>, b: Lock<'_>) -> bool
-    ensures { result ≡ same_lock t.now (view_lock a.entry) (view_lock b.entry) }
+pub fn same_lock(typed: &Typed, a: Lock<'_>, b: Lock<'_>) -> bool
+    ensures { result ≡ same_lock typed.now (view_lock a.entry) (view_lock b.entry) }
 {
-    same_first(t, a.first, b.first) && same_second(a.second, b.second)
+    same_first(typed, a.first, b.first) && same_second(a.second, b.second)
 }
 
 /// Whether two modes are the same.
-pub fn same(t: &Typed, a: Sharing<'_>, b: Sharing<'_>) -> bool
-    ensures { result ≡ same t.now (view_sharing a.entry) (view_sharing b.entry) }
+pub fn same(typed: &Typed, a: Sharing<'_>, b: Sharing<'_>) -> bool
+    ensures { result ≡ same typed.now (view_sharing a.entry) (view_sharing b.entry) }
 {
     match (a, b) {
         (Sharing::Private, Sharing::Private) => true,
         (Sharing::Readonly, Sharing::Readonly) => true,
-        (Sharing::Locked(a), Sharing::Locked(b)) => same_lock(t, a, b),
+        (Sharing::Locked(a), Sharing::Locked(b)) => same_lock(typed, a, b),
         (Sharing::Racy, Sharing::Racy) => true,
         (Sharing::Dynamic, Sharing::Dynamic) => true,
         _ => false,
     }
 }
 
-fn same_level(t: &Typed, a: &Option<Mode>, b: &Option<Mode>) -> bool
-    ensures { result ≡ same_level t.now a.now b.now }
+fn same_level(typed: &Typed, a: &Option<Mode>, b: &Option<Mode>) -> bool
+    ensures { result ≡ same_level typed.now a.now b.now }
 {
     match (a, b) {
         (None, None) => true,
-        (Some(a), Some(b)) => same(t, sharing_of(a), sharing_of(b)),
+        (Some(a), Some(b)) => same(typed, sharing_of(a), sharing_of(b)),
         _ => false,
     }
 }
 
-fn same_levels(t: &Typed, a: &[Option<Mode>], b: &[Option<Mode>]) -> bool
-    ensures { result ≡ same_levels t.now a.now b.now }
+fn same_levels(typed: &Typed, a: &[Option<Mode>], b: &[Option<Mode>]) -> bool
+    ensures { result ≡ same_levels typed.now a.now b.now }
 {
     if a.len() != b.len() {
         return false;
     }
     for i in 0..a.len() {
-        if !same_level(t, &a[i], &b[i]) {
+        if !same_level(typed, &a[i], &b[i]) {
             return false;
         }
     }
@@ -147,27 +147,27 @@ fn same_levels(t: &Typed, a: &[Option<Mode>], b: &[Option<Mode>]) -> bool
 
 /// Whether two types have the same modes, level by level. Two paths are equal where they name the same, as the same global, or the same variable and the
 /// same field; modes that are not known are the same.
-pub fn same_modes(t: &Typed, a: &CType, b: &CType) -> bool
-    ensures { result ≡ same_levels t.now a.now.levels b.now.levels }
+pub fn same_modes(typed: &Typed, a: &CType, b: &CType) -> bool
+    ensures { result ≡ same_levels typed.now a.now.levels b.now.levels }
 {
-    same_levels(t, a.levels.as_slice(), b.levels.as_slice())
+    same_levels(typed, a.levels.as_slice(), b.levels.as_slice())
 }
 
 /// Whether it is private.
-pub fn is_private(s: Sharing<'_>) -> bool
-    ensures { result ≡ is_private (view_sharing s.entry) }
+pub fn is_private(sharing: Sharing<'_>) -> bool
+    ensures { result ≡ is_private (view_sharing sharing.entry) }
 {
-    match s {
+    match sharing {
         Sharing::Private => true,
         _ => false,
     }
 }
 
 /// Whether it is readonly.
-pub fn is_readonly(s: Sharing<'_>) -> bool
-    ensures { result ≡ is_readonly (view_sharing s.entry) }
+pub fn is_readonly(sharing: Sharing<'_>) -> bool
+    ensures { result ≡ is_readonly (view_sharing sharing.entry) }
 {
-    match s {
+    match sharing {
         Sharing::Readonly => true,
         _ => false,
     }
@@ -183,18 +183,18 @@ fn is_field(named: Named) -> bool
 }
 
 /// Whether a path is the name of a sibling of the field in whose type it stands.
-pub fn is_sibling_lock(t: &Typed, lock: Lock<'_>) -> bool
-    ensures { result ≡ is_sibling_lock t.now (view_lock lock.entry) }
+pub fn is_sibling_lock(typed: &Typed, lock: Lock<'_>) -> bool
+    ensures { result ≡ is_sibling_lock typed.now (view_lock lock.entry) }
 {
-    is_field(t.named(lock.first)) && lock.second.is_none()
+    is_field(typed.named(lock.first)) && lock.second.is_none()
 }
 
 /// Whether a mode is locked by a sibling.
-pub fn is_sibling(t: &Typed, s: Sharing<'_>) -> bool
-    ensures { result ≡ is_sibling t.now (view_sharing s.entry) }
+pub fn is_sibling(typed: &Typed, sharing: Sharing<'_>) -> bool
+    ensures { result ≡ is_sibling typed.now (view_sharing sharing.entry) }
 {
-    match s {
-        Sharing::Locked(lock) => is_sibling_lock(t, lock),
+    match sharing {
+        Sharing::Locked(lock) => is_sibling_lock(typed, lock),
         _ => false,
     }
 }
@@ -210,10 +210,10 @@ pub fn variable_named(named: Named) -> Option<u32>
 }
 
 /// The variable that the first name of a path names, by the token that declares it.
-pub fn variable_of(t: &Typed, lock: Lock<'_>) -> Option<u32>
-    ensures { result ≡ variable_of t.now (view_lock lock.entry) }
+pub fn variable_of(typed: &Typed, lock: Lock<'_>) -> Option<u32>
+    ensures { result ≡ variable_of typed.now (view_lock lock.entry) }
 {
-    variable_named(t.named(lock.first))
+    variable_named(typed.named(lock.first))
 }
 
 /// The token that declares a global.
@@ -227,19 +227,19 @@ fn global_token(global: Option<&GlobalDefinition>) -> Option<u32>
 }
 
 /// The variable or the global that a name names, by the token that declares it.
-pub fn object_named(t: &Typed, named: Named) -> Option<u32>
-    ensures { result ≡ object_named t.now named }
+pub fn object_named(typed: &Typed, named: Named) -> Option<u32>
+    ensures { result ≡ object_named typed.now named }
 {
     match named {
-        Named::Global(number) => global_token(t.global_at(number)),
+        Named::Global(number) => global_token(typed.global_at(number)),
         Named::Variable(token) => Some(token),
         Named::Struct(_) | Named::Function(_) | Named::Field(_) | Named::Known => None,
     }
 }
 
 /// The variable or the global that the first name of a path names, by the token that declares it.
-pub fn object_of(t: &Typed, lock: Lock<'_>) -> Option<u32>
-    ensures { result ≡ object_of t.now (view_lock lock.entry) }
+pub fn object_of(typed: &Typed, lock: Lock<'_>) -> Option<u32>
+    ensures { result ≡ object_of typed.now (view_lock lock.entry) }
 {
-    object_named(t, t.named(lock.first))
+    object_named(typed, typed.named(lock.first))
 }

@@ -15,7 +15,7 @@ ghost use Rattle.sharc_mode.specs.View.{view_lock, view_sharing, view_row};
 
 use crate::cell::{pointed, top_of};
 use crate::moded::Moded;
-use crate::row::Row;
+use crate::row::Targets;
 use crate::sharing::{Lock, Sharing, same};
 use crate::text::text_at;
 use sharc_ctype::entity::Numbered;
@@ -33,10 +33,10 @@ pub fn row_laws()
 {}
 
 /// A path as it is printed: the first name is what stands at its token.
-pub fn path_of(alloc: Global, t: &Typed, lock: Lock<'_>) -> Result<Path, AllocError>
-    ensures { IfOk result (λ p. p ≡ path_of t.now (view_lock lock.entry)) }
+pub fn path_of(alloc: Global, typed: &Typed, lock: Lock<'_>) -> Result<Path, AllocError>
+    ensures { IfOk result (λ p. p ≡ path_of typed.now (view_lock lock.entry)) }
 {
-    let text = Name::from_slice(alloc, text_at(t, lock.first))?;
+    let text = Name::from_slice(alloc, text_at(typed, lock.first))?;
     match lock.second {
         None => Ok(Path::One(text, lock.first)),
         Some(mutex) => {
@@ -47,13 +47,13 @@ pub fn path_of(alloc: Global, t: &Typed, lock: Lock<'_>) -> Result<Path, AllocEr
 }
 
 /// A mode as it is printed.
-pub fn mode_of(alloc: Global, t: &Typed, s: Sharing<'_>) -> Result<Mode, AllocError>
-    ensures { IfOk result (λ mode. mode ≡ mode_of t.now (view_sharing s.entry)) }
+pub fn mode_of(alloc: Global, typed: &Typed, sharing: Sharing<'_>) -> Result<Mode, AllocError>
+    ensures { IfOk result (λ mode. mode ≡ mode_of typed.now (view_sharing sharing.entry)) }
 {
-    match s {
+    match sharing {
         Sharing::Private => Ok(Mode::Private),
         Sharing::Readonly => Ok(Mode::Readonly),
-        Sharing::Locked(lock) => Ok(Mode::Locked(path_of(alloc, t, lock)?)),
+        Sharing::Locked(lock) => Ok(Mode::Locked(path_of(alloc, typed, lock)?)),
         Sharing::Racy => Ok(Mode::Racy),
         Sharing::Dynamic => Ok(Mode::Dynamic),
     }
@@ -85,17 +85,22 @@ fn base_from(alloc: Global, root: Root<'_>) -> Result<Base, AllocError>
 }
 
 /// A type with these modes of its targets, without that of its top.
-pub fn shown(alloc: Global, m: &Moded, root: Root<'_>, row: Row<'_>) -> Result<CType, AllocError>
-    requires { row.first + row.count ≤ position_count m.now.typed }
-    ensures { IfOk result (λ c. c ≡ shown m.now.typed (view_root root.entry) (modes_of m.now (view_row row.entry))) }
+pub fn shown(
+    alloc: Global,
+    program: &Moded,
+    root: Root<'_>,
+    row: Targets<'_>,
+) -> Result<CType, AllocError>
+    requires { row.first + row.count ≤ position_count program.now.typed }
+    ensures { IfOk result (λ c. c ≡ shown program.now.typed (view_root root.entry) (modes_of program.now (view_row row.entry))) }
 {
-    let t = m.typed();
-    let _all = m.position_count();
+    let t = program.typed();
+    let _all = program.position_count();
     let mut levels = Vec::new(alloc);
     levels.push(None)?;
     let mut left = row;
     while left.count > 0 {
-        let mode = mode_of(alloc, t, pointed(m, Some(left)))?;
+        let mode = mode_of(alloc, t, pointed(program, Some(left)))?;
         levels.push(Some(mode))?;
         left = left.deeper();
     }
@@ -107,17 +112,17 @@ pub fn shown(alloc: Global, m: &Moded, root: Root<'_>, row: Row<'_>) -> Result<C
 }
 
 /// Whether two rows have the same modes, level by level.
-pub fn same_rows(m: &Moded, a: Row<'_>, b: Row<'_>) -> bool
-    requires a { a.first + a.count ≤ position_count m.now.typed }
-    requires b { b.first + b.count ≤ position_count m.now.typed }
-    ensures { result ≡ same_all m.now.typed (modes_of m.now (view_row a.entry)) (modes_of m.now (view_row b.entry)) }
+pub fn same_rows(program: &Moded, a: Targets<'_>, b: Targets<'_>) -> bool
+    requires a { a.first + a.count ≤ position_count program.now.typed }
+    requires b { b.first + b.count ≤ position_count program.now.typed }
+    ensures { result ≡ same_all program.now.typed (modes_of program.now (view_row a.entry)) (modes_of program.now (view_row b.entry)) }
 {
-    let t = m.typed();
-    let _all = m.position_count();
+    let t = program.typed();
+    let _all = program.position_count();
     let mut a = a;
     let mut b = b;
     while a.count > 0 && b.count > 0 {
-        if !same(t, pointed(m, Some(a)), pointed(m, Some(b))) {
+        if !same(t, pointed(program, Some(a)), pointed(program, Some(b))) {
             return false;
         }
         a = a.deeper();
@@ -163,15 +168,19 @@ fn printed_top(
 }
 
 /// The type of an entity as it is printed: without the top of a result and of a cast.
-pub fn printed_type(alloc: Global, m: &Moded, numbered: &Numbered) -> Result<CType, AllocError>
-    requires { numbered.now.first + positions_of numbered.now.entity ≤ position_count m.now.typed }
-    ensures { IfOk result (λ c. c ≡ printed_type m.now numbered.now) }
+pub fn printed_type(
+    alloc: Global,
+    program: &Moded,
+    numbered: &Numbered,
+) -> Result<CType, AllocError>
+    requires { numbered.now.first + positions_of numbered.now.entity ≤ position_count program.now.typed }
+    ensures { IfOk result (λ c. c ≡ printed_type program.now numbered.now) }
 {
-    let _all = m.position_count();
+    let _all = program.position_count();
     let written = &numbered.entity.written.ctype;
     let mut levels = printed_top(alloc, numbered.entity.role, written.levels.as_slice())?;
     for i in 0..numbered.entity.positions() {
-        let mode = m.mode(numbered.first + i as u32).copy(alloc)?;
+        let mode = program.mode(numbered.first + i as u32).copy(alloc)?;
         levels.push(Some(mode))?;
     }
     let base = written.base.copy(alloc)?;

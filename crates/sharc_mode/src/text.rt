@@ -14,10 +14,10 @@ use sharc_tree::token::Span;
 use std::alloc::{AllocError, Global};
 
 /// What stands at a token; nothing past the last one.
-pub fn text_at(t: &Typed, token: u32) -> &[u8]
-    ensures { result.now ≡ text_at t.now token }
+pub fn text_at(typed: &Typed, token: u32) -> &[u8]
+    ensures { result.now ≡ text_at typed.now token }
 {
-    let tokens = t.program().tokens.list.as_slice();
+    let tokens = typed.program().tokens.list.as_slice();
     let token = token as usize;
     if token < tokens.len() {
         tokens[token].text.as_slice()
@@ -65,10 +65,10 @@ pub fn mode_text(alloc: Global, mode: &Mode) -> Result<Name, AllocError>
 }
 
 /// The text of the tokens of a construct, with a blank only between two tokens that are both words or numbers. Tokens past the last one have none.
-pub fn span_text(alloc: Global, t: &Typed, span: Span) -> Result<Name, AllocError>
-    ensures { IfOk result (λ n. n ≡ span_text t.now span) }
+pub fn span_text(alloc: Global, typed: &Typed, span: Span) -> Result<Name, AllocError>
+    ensures { IfOk result (λ n. n ≡ span_text typed.now span) }
 {
-    let program = t.program();
+    let program = typed.program();
     let count = program.tokens.list.len();
     let from = span.first.token;
     let last = span.last.token;

@@ -142,20 +142,20 @@ pub fn first_unfit_mode<'a>(
     }
 }
 
-fn names_global_mutex(t: &Typed, named: Named) -> bool
-    ensures { result ≡ names_global_mutex t.now named }
+fn names_global_mutex(typed: &Typed, named: Named) -> bool
+    ensures { result ≡ names_global_mutex typed.now named }
 {
     match named {
-        Named::Global(_) => is_mutex_kind(named_kind(t, named)),
+        Named::Global(_) => is_mutex_kind(named_kind(typed, named)),
         _ => false,
     }
 }
 
-fn names_sibling_mutex(t: &Typed, named: Named) -> bool
-    ensures { result ≡ names_sibling_mutex t.now named }
+fn names_sibling_mutex(typed: &Typed, named: Named) -> bool
+    ensures { result ≡ names_sibling_mutex typed.now named }
 {
     match named {
-        Named::Field(_) => is_mutex_kind(named_kind(t, named)),
+        Named::Field(_) => is_mutex_kind(named_kind(typed, named)),
         _ => false,
     }
 }
@@ -191,21 +191,21 @@ fn is_readonly_lock(declaration: Option<&Declaration>) -> bool
     }
 }
 
-fn names_sibling_pointer(t: &Typed, named: Named) -> bool
-    ensures { result ≡ names_sibling_pointer t.now named }
+fn names_sibling_pointer(typed: &Typed, named: Named) -> bool
+    ensures { result ≡ names_sibling_pointer typed.now named }
 {
     match named {
-        Named::Field(token) => is_readonly_lock(t.declaration_at(token)),
+        Named::Field(token) => is_readonly_lock(typed.declaration_at(token)),
         _ => false,
     }
 }
 
 /// The fields of the struct that a name names.
-fn fields_named(t: &Typed, named: Named) -> &[Declaration]
-    ensures { result.now ≡ fields_named t.now named }
+fn fields_named(typed: &Typed, named: Named) -> &[Declaration]
+    ensures { result.now ≡ fields_named typed.now named }
 {
     match named {
-        Named::Struct(number) => match t.struct_at(number) {
+        Named::Struct(number) => match typed.struct_at(number) {
             None => &[],
             Some(definition) => definition.fields.as_slice(),
         },
@@ -214,12 +214,12 @@ fn fields_named(t: &Typed, named: Named) -> &[Declaration]
 }
 
 /// The fields of the struct that a type has at its bottom.
-fn fields_behind<'a>(t: &'a Typed, declaration: Option<&Declaration>) -> &'a [Declaration]
-    ensures { result.now ≡ fields_behind t.now (option_copied declaration.entry) }
+fn fields_behind<'a>(typed: &'a Typed, declaration: Option<&Declaration>) -> &'a [Declaration]
+    ensures { result.now ≡ fields_behind typed.now (option_copied declaration.entry) }
 {
     match declaration {
         None => &[],
-        Some(declaration) => fields_named(t, t.named(declaration.written.base.token)),
+        Some(declaration) => fields_named(typed, typed.named(declaration.written.base.token)),
     }
 }
 
@@ -249,28 +249,32 @@ fn is_mutex_field(declaration: Option<&Declaration>) -> bool
 }
 
 /// Whether a path is `x->m` with `x` a constant variable and `m` a mutex field.
-fn is_through_constant(t: &Typed, named: Named, mutex: &[u8]) -> bool
-    ensures { result ≡ is_through_constant t.now named mutex.now }
+fn is_through_constant(typed: &Typed, named: Named, mutex: &[u8]) -> bool
+    ensures { result ≡ is_through_constant typed.now named mutex.now }
 {
     match named {
         Named::Variable(token) => {
-            t.is_constant(token)
-                && is_mutex_field(field_of(fields_behind(t, t.declaration_at(token)), mutex))
+            typed.is_constant(token)
+                && is_mutex_field(field_of(
+                    fields_behind(typed, typed.declaration_at(token)),
+                    mutex,
+                ))
         }
         _ => false,
     }
 }
 
 /// Whether a path may stand at that place, by what its first name names and its second name.
-fn allows_path(t: &Typed, place: Place, named: Named, second: Option<&[u8]>) -> bool
-    ensures { result ≡ allows_path t.now place named (view_name second.entry) }
+fn allows_path(typed: &Typed, place: Place, named: Named, second: Option<&[u8]>) -> bool
+    ensures { result ≡ allows_path typed.now place named (view_name second.entry) }
 {
     match (place, second) {
-        (Place::Field, None) => names_global_mutex(t, named) || names_sibling_mutex(t, named),
-        (Place::Local, None) => names_global_mutex(t, named),
-        (Place::Local, Some(mutex)) => is_through_constant(t, named, mutex),
-        (Place::Global, None) => names_global_mutex(t, named),
-        (Place::Result, None) => names_global_mutex(t, named),
+        (Place::Field, None) => names_global_mutex(typed, named)
+            || names_sibling_mutex(typed, named),
+        (Place::Local, None) => names_global_mutex(typed, named),
+        (Place::Local, Some(mutex)) => is_through_constant(typed, named, mutex),
+        (Place::Global, None) => names_global_mutex(typed, named),
+        (Place::Result, None) => names_global_mutex(typed, named),
         (Place::Field, Some(_)) => false,
         (Place::Global, Some(_)) => false,
         (Place::Result, Some(_)) => false,
@@ -289,46 +293,53 @@ fn leaves_open(base: &Base, levels: &[Option<Mode>]) -> bool
 }
 
 fn allows_pointer(
-    t: &Typed,
+    typed: &Typed,
     place: Place,
     base: &Base,
     below: &[Option<Mode>],
     named: Named,
     second: Option<&[u8]>,
 ) -> bool
-    ensures { result ≡ allows_pointer t.now place base.now below.now named (view_name second.entry) }
+    ensures { result ≡ allows_pointer typed.now place base.now below.now named (view_name second.entry) }
 {
     match (place, second) {
-        (Place::Field, None) => names_sibling_pointer(t, named) && !leaves_open(base, below),
+        (Place::Field, None) => names_sibling_pointer(typed, named) && !leaves_open(base, below),
         _ => false,
     }
 }
 
-fn path_fits(t: &Typed, place: Place, lock: Lock<'_>) -> bool
-    ensures { result ≡ path_fits t.now place (view_lock lock.entry) }
+fn path_fits(typed: &Typed, place: Place, lock: Lock<'_>) -> bool
+    ensures { result ≡ path_fits typed.now place (view_lock lock.entry) }
 {
-    allows_path(t, place, t.named(lock.first), lock.second)
+    allows_path(typed, place, typed.named(lock.first), lock.second)
 }
 
 fn top_path_fits(
-    t: &Typed,
+    typed: &Typed,
     place: Place,
     base: &Base,
     below: &[Option<Mode>],
     lock: Lock<'_>,
 ) -> bool
-    ensures { result ≡ top_path_fits t.now place base.now below.now (view_lock lock.entry) }
+    ensures { result ≡ top_path_fits typed.now place base.now below.now (view_lock lock.entry) }
 {
-    path_fits(t, place, lock)
-        || allows_pointer(t, place, base, below, t.named(lock.first), lock.second)
+    path_fits(typed, place, lock)
+        || allows_pointer(
+            typed,
+            place,
+            base,
+            below,
+            typed.named(lock.first),
+            lock.second,
+        )
 }
 
-fn unfit_path<'a>(t: &Typed, place: Place, level: &'a Option<Mode>) -> Option<&'a Path>
-    ensures { option_copied result ≡ unfit_path t.now place level.now }
+fn unfit_path<'a>(typed: &Typed, place: Place, level: &'a Option<Mode>) -> Option<&'a Path>
+    ensures { option_copied result ≡ unfit_path typed.now place level.now }
 {
     match level {
         Some(Mode::Locked(path)) => {
-            if path_fits(t, place, lock_of(path)) {
+            if path_fits(typed, place, lock_of(path)) {
                 None
             } else {
                 Some(path)
@@ -339,17 +350,17 @@ fn unfit_path<'a>(t: &Typed, place: Place, level: &'a Option<Mode>) -> Option<&'
 }
 
 fn unfit_top_path<'a>(
-    t: &Typed,
+    typed: &Typed,
     place: Place,
     base: &Base,
     below: &[Option<Mode>],
     level: &'a Option<Mode>,
 ) -> Option<&'a Path>
-    ensures { option_copied result ≡ unfit_top_path t.now place base.now below.now level.now }
+    ensures { option_copied result ≡ unfit_top_path typed.now place base.now below.now level.now }
 {
     match level {
         Some(Mode::Locked(path)) => {
-            if top_path_fits(t, place, base, below, lock_of(path)) {
+            if top_path_fits(typed, place, base, below, lock_of(path)) {
                 None
             } else {
                 Some(path)
@@ -359,32 +370,32 @@ fn unfit_top_path<'a>(
     }
 }
 
-fn unfit_path_in<'a>(t: &Typed, place: Place, levels: &'a [Option<Mode>]) -> Option<&'a Path>
-    ensures { option_copied result ≡ unfit_path_in t.now place levels.now }
+fn unfit_path_in<'a>(typed: &Typed, place: Place, levels: &'a [Option<Mode>]) -> Option<&'a Path>
+    ensures { option_copied result ≡ unfit_path_in typed.now place levels.now }
 {
     match levels {
         [] => None,
-        [level, below @ ..] => match unfit_path_in(t, place, below) {
+        [level, below @ ..] => match unfit_path_in(typed, place, below) {
             Some(path) => Some(path),
-            None => unfit_path(t, place, level),
+            None => unfit_path(typed, place, level),
         },
     }
 }
 
 /// M4: the first lock path of a type in the source that is none of the allowed forms.
 pub fn first_unfit_path<'a>(
-    t: &Typed,
+    typed: &Typed,
     place: Place,
     base: &Base,
     levels: &'a [Option<Mode>],
 ) -> Option<&'a Path>
-    ensures { option_copied result ≡ first_unfit_path t.now place base.now levels.now }
+    ensures { option_copied result ≡ first_unfit_path typed.now place base.now levels.now }
 {
     match levels {
         [] => None,
-        [top, below @ ..] => match unfit_path_in(t, place, below) {
+        [top, below @ ..] => match unfit_path_in(typed, place, below) {
             Some(path) => Some(path),
-            None => unfit_top_path(t, place, base, below, top),
+            None => unfit_top_path(typed, place, base, below, top),
         },
     }
 }
@@ -521,15 +532,15 @@ pub fn holds_private(place: Place, base: &Base, levels: &[Option<Mode>]) -> bool
 
 /// The lowest of 3, 4 and 5 that holds of a type at that place: M3, a level that is not private stands directly above a private target; M4, a lock
 /// path is none of the allowed forms; M5, a mode stands where it may not. None where none of them holds.
-pub fn well_formed(t: &Typed, c: &CType, place: Place) -> Option<u8>
-    ensures { result ≡ type_code t.now place c.now }
+pub fn well_formed(typed: &Typed, ctype: &CType, place: Place) -> Option<u8>
+    ensures { result ≡ type_code typed.now place ctype.now }
 {
-    let levels = c.levels.as_slice();
-    if holds_private(place, &c.base, levels) {
+    let levels = ctype.levels.as_slice();
+    if holds_private(place, &ctype.base, levels) {
         Some(3)
-    } else if first_unfit_path(t, place, &c.base, levels).is_some() {
+    } else if first_unfit_path(typed, place, &ctype.base, levels).is_some() {
         Some(4)
-    } else if first_unfit_mode(place, &c.base, levels).is_some() {
+    } else if first_unfit_mode(place, &ctype.base, levels).is_some() {
         Some(5)
     } else {
         None

@@ -9,15 +9,15 @@ use Rattle.sharc_tree.specs.declared.ctype.Path.{Path}
 use Rattle.sharc_tree.specs.declared.token.Span.{Span}
 use Rattle.sharc_ctype.specs.Resolved.{Resolution}
 use Rattle.sharc_mode.specs.declared.error.ModeError.{ModeError}
-use Rattle.sharc_mode.specs.declared.note.Note.{Note}
-use Rattle.sharc_mode.specs.declared.note.Note.TheVariants.{Wrong, Names, Takes}
+use Rattle.sharc_mode.specs.declared.finding.Finding.{Finding}
+use Rattle.sharc_mode.specs.declared.finding.Finding.TheVariants.{Wrong, Names, Takes}
 use Rattle.sharc_mode.specs.Notes.{error_where, agree, path_notes, mode_notes, names_of, names_in, names_in_all, names_in_level, names_read, takes, unmet_notes, cast_notes}
 use Rattle.sharc_mode.specs.Rows.{Reading, read_lock}
 use Rattle.sharc_mode.specs.Sharings.{Lock, Sharing, private, readonly, locked, racy, dynamic, lock_of, same_all, object_of}
 use Rattle.sharc_mode_laws.proofs.Lists.{of_each, to_each, spread, gather, same_some, none_some}
 
 -- where something is wrong, W; of what a path names, N; of what is taken, T
-abbrev pub Said : Type 0 → (ℕ → Type 0) → (ℕ → Type 0) → Note → Type 0
+abbrev pub Said : Type 0 → (ℕ → Type 0) → (ℕ → Type 0) → Finding → Type 0
 Said W N T (Wrong e) = W
 Said W N T (Names x) = N x
 Said W N T (Takes s x) = T x
@@ -38,7 +38,7 @@ dynamic_unlocked : (l : Lock) → dynamic ≡ locked l → ⊥
 dynamic_unlocked l h = cc
 
 module _ (W : Type 0) (N T : ℕ → Type 0) where
-  abbrev pub Hold : List Note → Type 0
+  abbrev pub Hold : List Finding → Type 0
   Hold notes = AllByRecursion (Said W N T) notes
 
   pub where_said : (b : Bool) (code : ℕ) (s : Span) (text : List ℕ) → Hold (error_where b code s text) → b ≡ true → W

@@ -22,7 +22,7 @@ use Rattle.sharc_ctype.specs.declared.entity.Numbered.{Numbered}
 use Rattle.sharc_ctype.specs.Entities.{entities_in, numbered}
 use Rattle.sharc_ctype.specs.Resolved.{functions_in, globals_in, named_at, kind_at, function_at, global_at}
 use Rattle.sharc_ctype.specs.Transfers.{Receiver, lvalue, variable, result, Transfer, passed, parameters_named, function_transfers}
-use Rattle.sharc_mode.specs.declared.note.Note.{Note}
+use Rattle.sharc_mode.specs.declared.finding.Finding.{Finding}
 use Rattle.sharc_mode.specs.Cells.{cell_at, top_of}
 use Rattle.sharc_mode.specs.Expressions.{expected, place_notes, items_notes}
 use Rattle.sharc_mode.specs.Moded.{Assignment}
@@ -62,13 +62,13 @@ pub record Holds (W : Type 0) (N T : ℕ → Type 0) (m : Assignment) (touched :
   pub named : (x : ℕ) → Named m x → N x
   pub taken : (a : Expression) (x : ℕ) → IsTaken m a → taken_variable m.typed (without_parentheses a) ≡ Some x → T x
 
-pub record Facts (m : Assignment) (touched : ℕ → Bool) (P : Note → Type 0) : Type 0 where
+pub record Facts (m : Assignment) (touched : ℕ → Bool) (P : Finding → Type 0) : Type 0 where
   pub types : (n : Numbered) → IsEntity m n → AllByRecursion P (type_notes m n)
   pub threads : AllByRecursion P (spawned_notes m 0 (functions_in m.typed.program.items))
   pub globals : AllByRecursion P (touched_notes touched 0 (globals_in m.typed.program.items))
   pub functions : (f : Function) → IsFunction m f → FunctionSaid m P f
 
-pub facts : (m : Assignment) (touched : ℕ → Bool) (P : Note → Type 0) → AllByRecursion P (notes_about m touched) → Facts m touched P
+pub facts : (m : Assignment) (touched : ℕ → Bool) (P : Finding → Type 0) → AllByRecursion P (notes_about m touched) → Facts m touched P
 facts m touched P h =
     let a = flat_map (type_notes m) (numbered (entities_in m.typed.program.items)) in
     let b = spawned_notes m 0 (functions_in m.typed.program.items) in
@@ -84,7 +84,7 @@ facts m touched P h =
       functions = λ f has. of_each (FunctionSaid m P) (functions_in m.typed.program.items) f functions has;
     }
 
-pub from_facts : (m : Assignment) (touched : ℕ → Bool) (P : Note → Type 0) → Facts m touched P → AllByRecursion P (notes_about m touched)
+pub from_facts : (m : Assignment) (touched : ℕ → Bool) (P : Finding → Type 0) → Facts m touched P → AllByRecursion P (notes_about m touched)
 from_facts m touched P h =
     let a = flat_map (type_notes m) (numbered (entities_in m.typed.program.items)) in
     let b = spawned_notes m 0 (functions_in m.typed.program.items) in
@@ -103,10 +103,10 @@ choose P true list h = h refl
 choose P false list h = tt
 
 module _ (W : Type 0) (N T : ℕ → Type 0) (m : Assignment) where
-  abbrev H : List Note → Type 0
+  abbrev H : List Finding → Type 0
   H notes = Hold W N T notes
 
-  abbrev S : Note → Type 0
+  abbrev S : Finding → Type 0
   S = Said W N T
 
   -- ---- types

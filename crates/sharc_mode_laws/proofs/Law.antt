@@ -13,8 +13,8 @@ use Rattle.sharc_names.specs.declared.fault.Named.{Named}
 use Rattle.sharc_names.specs.declared.fault.Named.TheVariants as named
 use Rattle.sharc_ctype.specs.Constants.{is_constant}
 use Rattle.sharc_ctype.specs.Resolved.{Resolution, named_at}
-use Rattle.sharc_mode.specs.declared.note.Note.{Note}
-use Rattle.sharc_mode.specs.declared.note.Note.TheVariants.{Wrong, Names, Takes}
+use Rattle.sharc_mode.specs.declared.finding.Finding.{Finding}
+use Rattle.sharc_mode.specs.declared.finding.Finding.TheVariants.{Wrong, Names, Takes}
 use Rattle.sharc_mode.specs.Cells.{cell_at, top_of}
 use Rattle.sharc_mode.specs.Moded.{Assignment}
 use Rattle.sharc_mode.specs.Notes.{is_private_level, error_where, is_named, error_of, errors_by, taken_variable}
@@ -55,26 +55,26 @@ of_none f (x ∷ xs) h = ap (λ z. z ++ flat_map f xs) h.0 ∙ of_none f xs h.1
 -- ---- what no error is
 
 -- no path names this one
-abbrev Unnamed : ℕ → Note → Type 0
+abbrev Unnamed : ℕ → Finding → Type 0
 Unnamed x = Said (Unit {0}) (λ y. x ≡ y → ⊥) (λ y. Unit {0})
 
-abbrev AllUnnamed : List Note → ℕ → Type 0
+abbrev AllUnnamed : List Finding → ℕ → Type 0
 AllUnnamed notes x = AllByRecursion (Unnamed x) notes
 
 -- nothing is wrong, and what is taken is named by no path
-abbrev Fine : List Note → Note → Type 0
+abbrev Fine : List Finding → Finding → Type 0
 Fine notes = Said ⊥ (λ y. Unit {0}) (AllUnnamed notes)
 
 differ : (x y : ℕ) → (x == y) ≡ false → x ≡ y → ⊥
 differ x y h is = true≢false (sym (eq-eqb x y is) ∙ h)
 
-unnamed : (x : ℕ) (list : List Note) → is_named x list ≡ false → AllByRecursion (Unnamed x) list
+unnamed : (x : ℕ) (list : List Finding) → is_named x list ≡ false → AllByRecursion (Unnamed x) list
 unnamed x [] h = tt
 unnamed x (Wrong e ∷ rest) h = (tt, unnamed x rest h)
 unnamed x (Names y ∷ rest) h = let parts = or_false (x == y) (is_named x rest) h in (differ x y parts.0, unnamed x rest parts.1)
 unnamed x (Takes s y ∷ rest) h = (tt, unnamed x rest h)
 
-not_named : (x : ℕ) (list : List Note) → AllByRecursion (Unnamed x) list → is_named x list ≡ false
+not_named : (x : ℕ) (list : List Finding) → AllByRecursion (Unnamed x) list → is_named x list ≡ false
 not_named x [] h = refl
 not_named x (Wrong e ∷ rest) h = not_named x rest h.1
 not_named x (Names y ∷ rest) h = false_or (x == y) (is_named x rest) (ne_eqb x y h.0) (not_named x rest h.1)
@@ -84,12 +84,12 @@ untold : (b : Bool) (s : Span) (text : List ℕ) → flat_map error_of (error_wh
 untold true s text h = absurd (no_head _ [] h)
 untold false s text h = refl
 
-silent_fine : (r : Resolution) (all : List Note) (n : Note) → errors_by r all n ≡ [] → Fine all n
+silent_fine : (r : Resolution) (all : List Finding) (n : Finding) → errors_by r all n ≡ [] → Fine all n
 silent_fine r all (Wrong e) h = no_head e [] h
 silent_fine r all (Names x) h = tt
 silent_fine r all (Takes s x) h = unnamed x all (untold (is_named x all) s (text_at r x) h)
 
-fine_silent : (r : Resolution) (all : List Note) (n : Note) → Fine all n → errors_by r all n ≡ []
+fine_silent : (r : Resolution) (all : List Finding) (n : Finding) → Fine all n → errors_by r all n ≡ []
 fine_silent r all (Wrong e) h = absurd h
 fine_silent r all (Names x) h = refl
 fine_silent r all (Takes s x) h = ap (λ b. flat_map error_of (error_where b 10 s (text_at r x))) (not_named x all h)

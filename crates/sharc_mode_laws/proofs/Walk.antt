@@ -10,7 +10,7 @@ use Rattle.sharc_tree.specs.Tree as tree
 use Rattle.sharc_ctype.specs.Resolved.{functions_in, named_at}
 use Rattle.sharc_ctype.specs.Transfers.{Receiver, lvalue, variable, result, Transfer, passed, parameters_named, transfers, argument_transfers, right_transfers, simple_transfers, local_transfers, first_transfers, statement_transfers, statements_transfers, function_transfers}
 use Rattle.sharc_ctype.specs.Transfers as given
-use Rattle.sharc_mode.specs.declared.note.Note.{Note}
+use Rattle.sharc_mode.specs.declared.finding.Finding.{Finding}
 use Rattle.sharc_mode.specs.Expressions.{expected, place_notes, notes_of, notes_of_all, option_notes, right_notes, simple_notes, local_notes, return_notes, first_notes, head_notes, notes_in, notes_in_all, item_notes, items_notes}
 use Rattle.sharc_mode.specs.Moded.{Assignment}
 use Rattle.sharc_mode.specs.Notes.{agree_notes, write_notes, call_notes, cast_notes, source_notes, field_notes}
@@ -21,11 +21,11 @@ use Rattle.sharc_mode_laws.proofs.Lists.{both, front, back}
 
 -- what is said of an expression itself, without those in it
 
-abbrev pub argument_notes : Assignment → List Declaration → Arguments → List Declaration → Arguments → List Note
+abbrev pub argument_notes : Assignment → List Declaration → Arguments → List Declaration → Arguments → List Finding
 argument_notes m ds all left no_arguments = []
 argument_notes m ds all left (argument a rest) = agree_notes m (expected m ds all left) a ++ argument_notes m ds all (drop 1 left) rest
 
-abbrev pub own_notes : Assignment → Expression → List Note
+abbrev pub own_notes : Assignment → Expression → List Finding
 own_notes m (tree.identifier s i) = []
 own_notes m (tree.constant s c) = []
 own_notes m (tree.parentheses s a) = []
@@ -42,11 +42,11 @@ own_notes m (tree.unary s o a) = []
 own_notes m (tree.binary s o at a b) = []
 
 -- of what stands right of `=`, given to these modes
-abbrev pub given_notes : Assignment → Option (List Sharing) → Right → List Note
+abbrev pub given_notes : Assignment → Option (List Sharing) → Right → List Finding
 given_notes m want (value e) = agree_notes m want e
 given_notes m want (malloc s n t) = []
 
-module _ (m : Assignment) (P : Note → Type 0) where
+module _ (m : Assignment) (P : Finding → Type 0) where
   abbrev pub OwnSaid : Expression → Type 0
   OwnSaid e = AllByRecursion P (own_notes m e)
 
@@ -238,7 +238,7 @@ module _ (m : Assignment) (P : Note → Type 0) where
   step_back f None h = tt
   step_back f (Some x) h = simple_back f x h
 
-  abbrev began : Declaration → Option Right → List Note
+  abbrev began : Declaration → Option Right → List Finding
   began d o = option_notes (right_notes m (Some (modes_of m (declared_row m.typed written d.name.site.token)))) o
 
   abbrev began_transfers : Declaration → Option Right → List Transfer

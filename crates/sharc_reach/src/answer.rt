@@ -90,24 +90,24 @@ fn is_source(finding: Finding) -> bool
 
 /// What is reached and touched in a program. Want of memory is the only error; more functions or calls than a number of 32 bits counts are answered
 /// so, too.
-pub fn reach(alloc: Global, t: &Typed) -> Result<Reached, AllocError>
-    ensures { IfOk result (λ reached. AreReached t.now reached) }
+pub fn reach(alloc: Global, typed: &Typed) -> Result<Reached, AllocError>
+    ensures { IfOk result (λ reached. AreReached typed.now reached) }
 {
-    let functions = t.function_count();
+    let functions = typed.function_count();
     if functions > u32::MAX as usize {
         return Err(AllocError);
     }
     let count = functions as u32;
-    let mentions = all_mentions(alloc, t, count)?;
-    let edges = edges(alloc, t, count, &mentions)?;
+    let mentions = all_mentions(alloc, typed, count)?;
+    let edges = edges(alloc, typed, count, &mentions)?;
     if edges.len() > u32::MAX as usize {
         return Err(AllocError);
     }
-    let nodes = nodes(alloc, t, count, &mentions)?;
+    let nodes = nodes(alloc, typed, count, &mentions)?;
     let findings = find(alloc, &nodes, &edges)?;
     let functions = are_found(alloc, &findings)?;
     let spawned = are_sources(alloc, &findings)?;
-    let firsts = firsts(alloc, t, &functions, t.global_count(), &mentions)?;
+    let firsts = firsts(alloc, typed, &functions, typed.global_count(), &mentions)?;
     Ok(Reached {
         functions,
         spawned,

@@ -25,13 +25,13 @@ pub(crate) fn function_named(named: Named) -> Option<u32>
 }
 
 /// The function that is called or spawned.
-fn ran(t: &Typed, mention: &Mention) -> Option<u32>
-    ensures { result ≡ ran t.now mention.now }
+fn ran(typed: &Typed, mention: &Mention) -> Option<u32>
+    ensures { result ≡ ran typed.now mention.now }
 {
     match mention.role {
         Role::Named => None,
-        Role::Called => function_named(t.named(mention.token)),
-        Role::Spawned => function_named(t.named(mention.token)),
+        Role::Called => function_named(typed.named(mention.token)),
+        Role::Spawned => function_named(typed.named(mention.token)),
     }
 }
 
@@ -51,23 +51,23 @@ fn edge_within(count: u32, from: u32, to: Option<u32>) -> Option<Edge>
     }
 }
 
-fn edge_of(t: &Typed, count: u32, mention: &Mention) -> Option<Edge>
-    ensures { result ≡ edge_of_mention t.now count mention.now }
+fn edge_of(typed: &Typed, count: u32, mention: &Mention) -> Option<Edge>
+    ensures { result ≡ edge_of_mention typed.now count mention.now }
 {
-    edge_within(count, mention.function, ran(t, mention))
+    edge_within(count, mention.function, ran(typed, mention))
 }
 
 /// The edges between so many functions.
 pub(crate) fn edges(
     alloc: Global,
-    t: &Typed,
+    typed: &Typed,
     count: u32,
     mentions: &[Mention],
 ) -> Result<Vec<Edge>, AllocError>
-    ensures { IfOk result (λ edges. edges.items ≡ filter_map (edge_of_mention t.now count) mentions.now) }
+    ensures { IfOk result (λ edges. edges.items ≡ filter_map (edge_of_mention typed.now count) mentions.now) }
 {
     mentions
         .iter()
-        .filter_map(|mention| edge_of(t, count, mention))
+        .filter_map(|mention| edge_of(typed, count, mention))
         .collect(alloc)
 }

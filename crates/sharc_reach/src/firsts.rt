@@ -58,11 +58,11 @@ fn note(global: u32, function: u32, firsts: &mut Vec<Option<u32>>)
 }
 
 /// The same where the function is a chosen one, and the name means a global.
-fn note_mention(t: &Typed, chosen: &[bool], mention: &Mention, firsts: &mut Vec<Option<u32>>)
-    ensures { firsts.new.items ≡ lowered_by t.now chosen.now firsts.old.items mention.now }
+fn note_mention(typed: &Typed, chosen: &[bool], mention: &Mention, firsts: &mut Vec<Option<u32>>)
+    ensures { firsts.new.items ≡ lowered_by typed.now chosen.now firsts.old.items mention.now }
 {
     if is_chosen(chosen, mention.function) {
-        if let Some(global) = global_named(t.named(mention.token)) {
+        if let Some(global) = global_named(typed.named(mention.token)) {
             note(global, mention.function, firsts);
         }
     }
@@ -71,16 +71,16 @@ fn note_mention(t: &Typed, chosen: &[bool], mention: &Mention, firsts: &mut Vec<
 /// For each global the first of the chosen functions that names it.
 pub(crate) fn firsts(
     alloc: Global,
-    t: &Typed,
+    typed: &Typed,
     chosen: &[bool],
     globals: usize,
     mentions: &[Mention],
 ) -> Result<Vec<Option<u32>>, AllocError>
-    ensures { IfOk result (λ firsts. firsts.items ≡ fold (lowered_by t.now chosen.now) (replicate globals Nothing) mentions.now) }
+    ensures { IfOk result (λ firsts. firsts.items ≡ fold (lowered_by typed.now chosen.now) (replicate globals Nothing) mentions.now) }
 {
     let mut firsts = vec![in alloc; None; globals]?;
     for mention in mentions {
-        note_mention(t, chosen, mention, &mut firsts);
+        note_mention(typed, chosen, mention, &mut firsts);
     }
     Ok(firsts)
 }

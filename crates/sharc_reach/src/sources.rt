@@ -10,13 +10,13 @@ use sharc_graph::Node;
 use std::alloc::{AllocError, Global};
 
 /// The function that is spawned.
-fn spawned(t: &Typed, mention: &Mention) -> Option<u32>
-    ensures { result ≡ spawned t.now mention.now }
+fn spawned(typed: &Typed, mention: &Mention) -> Option<u32>
+    ensures { result ≡ spawned typed.now mention.now }
 {
     match mention.role {
         Role::Named => None,
         Role::Called => None,
-        Role::Spawned => function_named(t.named(mention.token)),
+        Role::Spawned => function_named(typed.named(mention.token)),
     }
 }
 
@@ -39,11 +39,11 @@ fn mark(spawned: Option<u32>, nodes: &mut Vec<Node>)
 /// A node for each of so many functions.
 pub(crate) fn nodes(
     alloc: Global,
-    t: &Typed,
+    typed: &Typed,
     count: u32,
     mentions: &[Mention],
 ) -> Result<Vec<Node>, AllocError>
-    ensures { IfOk result (λ nodes. nodes.items ≡ fold (marked_by t.now) (replicate count quiet_node) mentions.now) }
+    ensures { IfOk result (λ nodes. nodes.items ≡ fold (marked_by typed.now) (replicate count quiet_node) mentions.now) }
 {
     let quiet = Node {
         source: false,
@@ -51,7 +51,7 @@ pub(crate) fn nodes(
     };
     let mut nodes = vec![in alloc; quiet; count as usize]?;
     for mention in mentions {
-        mark(spawned(t, mention), &mut nodes);
+        mark(spawned(typed, mention), &mut nodes);
     }
     Ok(nodes)
 }

@@ -213,22 +213,26 @@ fn definition(
 }
 
 /// Adds the names of the function with this number.
-fn numbered(t: &Typed, function: u32, list: &mut Vec<Mention>) -> Result<(), AllocError>
-    ensures { OnOk result (list.new.items ≡ list.old.items ++ mentions_in function (function_at t.now function)) }
+fn numbered(typed: &Typed, function: u32, list: &mut Vec<Mention>) -> Result<(), AllocError>
+    ensures { OnOk result (list.new.items ≡ list.old.items ++ mentions_in function (function_at typed.now function)) }
 {
-    match t.function_at(function) {
+    match typed.function_at(function) {
         None => Ok(()),
         Some(of) => definition(of, function, list),
     }
 }
 
 /// The names that stand in the functions of a program, in source order.
-pub(crate) fn all_mentions(alloc: Global, t: &Typed, count: u32) -> Result<Vec<Mention>, AllocError>
-    ensures { IfOk result (λ list. list.items ≡ mentions_below t.now count) }
+pub(crate) fn all_mentions(
+    alloc: Global,
+    typed: &Typed,
+    count: u32,
+) -> Result<Vec<Mention>, AllocError>
+    ensures { IfOk result (λ list. list.items ≡ mentions_below typed.now count) }
 {
     let mut list = Vec::new(alloc);
     for function in 0..count {
-        numbered(t, function, &mut list)?;
+        numbered(typed, function, &mut list)?;
     }
     Ok(list)
 }

@@ -63,12 +63,12 @@ fn counts(events: &[SourceEvent], number: u32, object: Object) -> bool
 }
 
 /// Whether the cell is a pointer that counts and refers to the object.
-fn cell_refers(t: &Typed, events: &[SourceEvent], number: u32, c: CellAt) -> bool
-    ensures { result ≡ cell_refers t.now events.now number c }
+fn cell_refers(typed: &Typed, events: &[SourceEvent], number: u32, c: CellAt) -> bool
+    ensures { result ≡ cell_refers typed.now events.now number c }
 {
-    is_pointer_of(t, events, c.object, c.cell)
+    is_pointer_of(typed, events, c.object, c.cell)
         && counts(events, number, c.object)
-        && refers(number, value_after(t, events, c))
+        && refers(number, value_after(typed, events, c))
 }
 
 fn takes_reference(parameters: &[Declaration]) -> bool
@@ -80,38 +80,38 @@ fn takes_reference(parameters: &[Declaration]) -> bool
     }
 }
 
-fn has_pointer(t: &Typed, function: u32) -> bool
-    ensures { result ≡ has_pointer (function_at t.now function) }
+fn has_pointer(typed: &Typed, function: u32) -> bool
+    ensures { result ≡ has_pointer (function_at typed.now function) }
 {
-    match t.function_at(function) {
+    match typed.function_at(function) {
         None => false,
         Some(function) => takes_reference(function.parameters.as_slice()),
     }
 }
 
 /// Whether the act is a Spawn that passes a reference to the object.
-fn passes(t: &Typed, number: u32, act: Act) -> bool
-    ensures { result ≡ passes t.now number act }
+fn passes(typed: &Typed, number: u32, act: Act) -> bool
+    ensures { result ≡ passes typed.now number act }
 {
     match act {
         Act::Spawn(function, argument) => {
-            has_pointer(t, function) && refers(number, argument as i128)
+            has_pointer(typed, function) && refers(number, argument as i128)
         }
         _ => false,
     }
 }
 
-fn is_passed(t: &Typed, number: u32, thread: u64, e: &SourceEvent) -> bool
-    ensures { result ≡ is_passed t.now number thread e.now }
+fn is_passed(typed: &Typed, number: u32, thread: u64, e: &SourceEvent) -> bool
+    ensures { result ≡ is_passed typed.now number thread e.now }
 {
-    spawns(thread, e) && passes(t, number, e.act)
+    spawns(thread, e) && passes(typed, number, e.act)
 }
 
-fn any_passed(t: &Typed, number: u32, thread: u64, events: &[SourceEvent]) -> bool
-    ensures { result ≡ list_any (is_passed t.now number thread) events.now }
+fn any_passed(typed: &Typed, number: u32, thread: u64, events: &[SourceEvent]) -> bool
+    ensures { result ≡ list_any (is_passed typed.now number thread) events.now }
 {
     for e in events {
-        if is_passed(t, number, thread, e) {
+        if is_passed(typed, number, thread, e) {
             return true;
         }
     }
@@ -131,16 +131,16 @@ fn has_events(thread: u64, events: &[SourceEvent]) -> bool
 }
 
 fn add_cell(
-    t: &Typed,
+    typed: &Typed,
     events: &[SourceEvent],
     number: u32,
     c: CellAt,
     after: &[SourceEvent],
     list: &mut Vec<Holder>,
 ) -> Result<(), AllocError>
-    ensures { OnOk result (list.new.items ≡ list.old.items ++ cell_at t.now events.now number c after.now) }
+    ensures { OnOk result (list.new.items ≡ list.old.items ++ cell_at typed.now events.now number c after.now) }
 {
-    if !any(Test::Changes(c), after) && cell_refers(t, events, number, c) {
+    if !any(Test::Changes(c), after) && cell_refers(typed, events, number, c) {
         list.push(Holder::InCell(c))?;
     }
     Ok(())
@@ -161,22 +161,22 @@ fn add_mutex(
 }
 
 fn add_argument(
-    t: &Typed,
+    typed: &Typed,
     events: &[SourceEvent],
     number: u32,
     e: &SourceEvent,
     after: &[SourceEvent],
     list: &mut Vec<Holder>,
 ) -> Result<(), AllocError>
-    ensures { OnOk result (list.new.items ≡ list.old.items ++ argument_at t.now events.now number e.now after.now e.now.answer) }
+    ensures { OnOk result (list.new.items ≡ list.old.items ++ argument_at typed.now events.now number e.now after.now e.now.answer) }
 {
     if e.answer < 0 {
         return Ok(());
     }
     let thread = e.answer.unsigned_abs();
-    if passes(t, number, e.act)
+    if passes(typed, number, e.act)
         && !has_events(thread, events)
-        && !any_passed(t, number, thread, after)
+        && !any_passed(typed, number, thread, after)
     {
         list.push(Holder::InArgument(thread))?;
     }
@@ -184,19 +184,19 @@ fn add_argument(
 }
 
 fn add_by_act(
-    t: &Typed,
+    typed: &Typed,
     events: &[SourceEvent],
     number: u32,
     e: &SourceEvent,
     after: &[SourceEvent],
     list: &mut Vec<Holder>,
 ) -> Result<(), AllocError>
-    ensures { OnOk result (list.new.items ≡ list.old.items ++ by_act t.now events.now number e.now after.now e.now.act) }
+    ensures { OnOk result (list.new.items ≡ list.old.items ++ by_act typed.now events.now number e.now after.now e.now.act) }
 {
     match e.act {
-        Act::Write(c, _, _) => add_cell(t, events, number, c, after, list),
+        Act::Write(c, _, _) => add_cell(typed, events, number, c, after, list),
         Act::Lock(c) => add_mutex(number, c, after, list),
-        Act::Spawn(_, _) => add_argument(t, events, number, e, after, list),
+        Act::Spawn(_, _) => add_argument(typed, events, number, e, after, list),
         _ => Ok(()),
     }
 }
@@ -270,24 +270,24 @@ fn add_all(
 /// of a source run; of any other list nothing is said. Want of memory is answered, too, where there are more functions than a number of 32 bits counts.
 pub fn references(
     alloc: Global,
-    m: &Moded,
+    program: &Moded,
     events: &[SourceEvent],
     number: u32,
     fuel: u64,
 ) -> Result<Vec<Holder>, AllocError>
-    ensures { IfOk result (λ all. SourceRun m.now events.now → AreReferences fuel m.now events.now number all.items) }
+    ensures { IfOk result (λ all. SourceRun program.now events.now → AreReferences fuel program.now events.now number all.items) }
 {
     meets_globals();
     one_function_of_name();
     same_laws();
-    let main = main_of(m.typed())?;
+    let main = main_of(program.typed())?;
     let threads = Threads {
         alloc,
-        m,
+        program,
         main,
         fuel,
     };
-    m.typed().program();
+    program.typed().program();
     let mut list = Vec::new(alloc);
     add_all(threads, events, number, events, &mut list)?;
     Ok(list)

@@ -32,11 +32,11 @@ fn fields_called<'a>(items: &'a [Item], name: &[u8]) -> &'a [Declaration]
     }
 }
 
-fn base_fields<'a>(t: &'a Typed, root: Root<'_>) -> &'a [Declaration]
-    ensures { result.now ≡ base_fields t.now (view_root root.entry) }
+fn base_fields<'a>(typed: &'a Typed, root: Root<'_>) -> &'a [Declaration]
+    ensures { result.now ≡ base_fields typed.now (view_root root.entry) }
 {
     match root {
-        Root::Struct(name) => fields_called(t.program().items.as_slice(), name),
+        Root::Struct(name) => fields_called(typed.program().items.as_slice(), name),
         _ => &[],
     }
 }
@@ -53,24 +53,30 @@ fn is_pointer_at(fields: &[Declaration], cell: u64) -> bool
 }
 
 /// Whether the cell of an object whose elements have this type is a pointer.
-pub(crate) fn is_pointer_in(t: &Typed, of: &WrittenType, cell: u64) -> bool
-    ensures { result ≡ is_pointer_in t.now of.now cell }
+pub(crate) fn is_pointer_in(typed: &Typed, of: &WrittenType, cell: u64) -> bool
+    ensures { result ≡ is_pointer_in typed.now of.now cell }
 {
-    is_pointer(declared_kind(of)) || is_pointer_at(base_fields(t, root_of(&of.ctype.base)), cell)
+    is_pointer(declared_kind(of))
+        || is_pointer_at(base_fields(typed, root_of(&of.ctype.base)), cell)
 }
 
 /// Whether the cell of the object is a pointer.
-pub(crate) fn is_pointer_of(t: &Typed, events: &[SourceEvent], object: Object, cell: u64) -> bool
-    ensures { result ≡ is_pointer_of t.now events.now object cell }
+pub(crate) fn is_pointer_of(
+    typed: &Typed,
+    events: &[SourceEvent],
+    object: Object,
+    cell: u64,
+) -> bool
+    ensures { result ≡ is_pointer_of typed.now events.now object cell }
 {
     match object {
-        Object::Global(number) => match t.global_at(number) {
+        Object::Global(number) => match typed.global_at(number) {
             None => false,
-            Some(global) => is_pointer_in(t, &global.declaration.written, cell),
+            Some(global) => is_pointer_in(typed, &global.declaration.written, cell),
         },
         Object::Made(_) => match latest(Test::Makes(object), events) {
             None => false,
-            Some(e) => any_makes(t, e.site.token, cell),
+            Some(e) => any_makes(typed, e.site.token, cell),
         },
     }
 }

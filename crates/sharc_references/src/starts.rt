@@ -24,11 +24,11 @@ pub(crate) fn refers(number: u32, value: i128) -> bool
 }
 
 /// The number of `main`. Want of memory is answered, too, where there are more functions than a number of 32 bits counts.
-pub(crate) fn main_of(t: &Typed) -> Result<Option<u32>, AllocError>
-    ensures { IfOk result (λ f. f ≡ main_of t.now) }
+pub(crate) fn main_of(typed: &Typed) -> Result<Option<u32>, AllocError>
+    ensures { IfOk result (λ f. f ≡ main_of typed.now) }
 {
     for n in 0..u32::MAX {
-        match t.function_at(n) {
+        match typed.function_at(n) {
             None => return Ok(None),
             Some(f) => {
                 if f.name.text.as_slice() == b"main".as_slice() {
@@ -110,15 +110,15 @@ fn count_of(number: u32, held: &[i64]) -> usize
 /// How many references to the object a thread of the function holds that has this argument and these answers.
 fn held_count(
     alloc: Global,
-    m: &Moded,
+    program: &Moded,
     fuel: u64,
     with: (u32, i64),
     answers: &[i64],
     number: u32,
 ) -> Result<usize, AllocError>
-    ensures { IfOk result (λ count. count ≡ held_count (asks m.now with.0 with.1 answers.now fuel) number) }
+    ensures { IfOk result (λ count. count ≡ held_count (asks program.now with.0 with.1 answers.now fuel) number) }
 {
-    let held = held(alloc, m, with.0, with.1, answers, fuel)?;
+    let held = held(alloc, program, with.0, with.1, answers, fuel)?;
     let count = count_of(number, held.as_slice());
     drop(held);
     Ok(count)
@@ -127,15 +127,15 @@ fn held_count(
 /// How many references to the object a thread that has begun holds with this fuel.
 pub(crate) fn thread_count(
     alloc: Global,
-    m: &Moded,
+    program: &Moded,
     main: Option<u32>,
     fuel: u64,
     events: &[SourceEvent],
     thread: u32,
     number: u32,
 ) -> Result<usize, AllocError>
-    requires { main ≡ main_of m.now.typed }
-    ensures { IfOk result (λ count. count ≡ thread_count fuel m.now events.now thread number) }
+    requires { main ≡ main_of program.now.typed }
+    ensures { IfOk result (λ count. count ≡ thread_count fuel program.now events.now thread number) }
 {
     match entry(main, events, thread) {
         None => Ok(0),
@@ -143,7 +143,7 @@ pub(crate) fn thread_count(
             let answers = answers_to(alloc, events, thread)?;
             held_count(
                 alloc,
-                m,
+                program,
                 fuel,
                 with,
                 behind_first(answers.as_slice()),

@@ -10,30 +10,34 @@ use sharc_mode::error::{Warning, Warnings};
 use sharc_mode::moded::Moded;
 use std::alloc::{AllocError, Global};
 
-fn put_since(text: &mut Vec<u8>, t: &Typed, w: &Warning) -> Result<(), AllocError>
-    ensures { Appends result (since t.now w.now) text.old.items text.new.items }
+fn put_since(text: &mut Vec<u8>, typed: &Typed, w: &Warning) -> Result<(), AllocError>
+    ensures { Appends result (since typed.now w.now) text.old.items text.new.items }
 {
     text.extend_from_slice(b" may be NULL since ")?;
-    put_place(text, t, w.nulled.file, w.nulled.line)?;
+    put_place(text, typed, w.nulled.file, w.nulled.line)?;
     text.extend_from_slice(b"\n")
 }
 
-fn put_warning(text: &mut Vec<u8>, t: &Typed, w: &Warning) -> Result<(), AllocError>
-    ensures { Appends result (warning_line t.now w.now) text.old.items text.new.items }
+fn put_warning(text: &mut Vec<u8>, typed: &Typed, w: &Warning) -> Result<(), AllocError>
+    ensures { Appends result (warning_line typed.now w.now) text.old.items text.new.items }
 {
-    put_place(text, t, w.read.file, w.read.line)?;
+    put_place(text, typed, w.read.file, w.read.line)?;
     text.extend_from_slice(b": warning ")?;
     text.extend_from_slice(w.name.as_slice())?;
-    put_since(text, t, w)
+    put_since(text, typed, w)
 }
 
 /// The warnings, a line each, and then `accepted`.
-pub fn accepted_text(alloc: Global, m: &Moded, warnings: &Warnings) -> Result<Vec<u8>, AllocError>
-    ensures { IfOk result (λ text. text.items ≡ accepted_text m.now.typed warnings.now) }
+pub fn accepted_text(
+    alloc: Global,
+    program: &Moded,
+    warnings: &Warnings,
+) -> Result<Vec<u8>, AllocError>
+    ensures { IfOk result (λ text. text.items ≡ accepted_text program.now.typed warnings.now) }
 {
     let mut text = Vec::new(alloc);
     for warning in warnings.as_slice() {
-        put_warning(&mut text, m.typed(), warning)?;
+        put_warning(&mut text, program.typed(), warning)?;
     }
     text.extend_from_slice(b"accepted\n")?;
     Ok(text)

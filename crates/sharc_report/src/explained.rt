@@ -20,31 +20,36 @@ use sharc_tree::print::print_type;
 use std::alloc::{AllocError, Global};
 
 /// The lvalue of a cast.
-fn put_source(alloc: Global, text: &mut Vec<u8>, t: &Typed, e: &Entity) -> Result<(), AllocError>
-    ensures { Appends result (source_text t.now e.now) text.old.items text.new.items }
+fn put_source(
+    alloc: Global,
+    text: &mut Vec<u8>,
+    typed: &Typed,
+    e: &Entity,
+) -> Result<(), AllocError>
+    ensures { Appends result (source_text typed.now e.now) text.old.items text.new.items }
 {
     let last = e.last;
     let from = u64::from(e.written.span.last.token) + 2;
     if from < u64::from(last) {
-        put_tokens(alloc, text, t, from as u32, last - 1)
+        put_tokens(alloc, text, typed, from as u32, last - 1)
     } else {
-        put_tokens(alloc, text, t, e.token, last)
+        put_tokens(alloc, text, typed, e.token, last)
     }
 }
 
 /// What it is, and its name.
-fn put_named(alloc: Global, text: &mut Vec<u8>, t: &Typed, e: &Entity) -> Result<(), AllocError>
-    ensures { Appends result (named_as e.now.role t.now e.now) text.old.items text.new.items }
+fn put_named(alloc: Global, text: &mut Vec<u8>, typed: &Typed, e: &Entity) -> Result<(), AllocError>
+    ensures { Appends result (named_as e.now.role typed.now e.now) text.old.items text.new.items }
 {
     match e.role {
-        Role::Field => put_two(text, b"field ", text_at(t, e.token)),
-        Role::Global => put_two(text, b"global ", text_at(t, e.token)),
-        Role::Local => put_two(text, b"local ", text_at(t, e.token)),
-        Role::Parameter => put_two(text, b"parameter ", text_at(t, e.token)),
-        Role::Result => put_two(text, b"result ", text_at(t, e.token)),
+        Role::Field => put_two(text, b"field ", text_at(typed, e.token)),
+        Role::Global => put_two(text, b"global ", text_at(typed, e.token)),
+        Role::Local => put_two(text, b"local ", text_at(typed, e.token)),
+        Role::Parameter => put_two(text, b"parameter ", text_at(typed, e.token)),
+        Role::Result => put_two(text, b"result ", text_at(typed, e.token)),
         Role::Cast => {
             text.extend_from_slice(b"cast of ")?;
-            put_source(alloc, text, t, e)
+            put_source(alloc, text, typed, e)
         }
         Role::Made => Ok(()),
     }
@@ -53,22 +58,22 @@ fn put_named(alloc: Global, text: &mut Vec<u8>, t: &Typed, e: &Entity) -> Result
 fn put_entity(
     alloc: Global,
     text: &mut Vec<u8>,
-    t: &Typed,
+    typed: &Typed,
     between: &[u8],
     e: &Entity,
 ) -> Result<(), AllocError>
-    ensures { Appends result (entity_text t.now between.now e.now) text.old.items text.new.items }
+    ensures { Appends result (entity_text typed.now between.now e.now) text.old.items text.new.items }
 {
-    put_token_place(text, t, e.token)?;
+    put_token_place(text, typed, e.token)?;
     text.extend_from_slice(between)?;
-    put_named(alloc, text, t, e)
+    put_named(alloc, text, typed, e)
 }
 
 /// The name of a function.
-fn function_name(t: &Typed, function: u32) -> &[u8]
-    ensures { result.now ≡ function_name t.now function }
+fn function_name(typed: &Typed, function: u32) -> &[u8]
+    ensures { result.now ≡ function_name typed.now function }
 {
-    match t.function_at(function) {
+    match typed.function_at(function) {
         None => &[],
         Some(definition) => definition.name.text.as_slice(),
     }
@@ -89,18 +94,18 @@ fn owner_at<'a>(owners: &[&'a Numbered], position: u32) -> Option<&'a Numbered>
 fn put_position(
     alloc: Global,
     text: &mut Vec<u8>,
-    t: &Typed,
+    typed: &Typed,
     position: u32,
     owner: Option<&Numbered>,
 ) -> Result<(), AllocError>
-    ensures { Appends result (position_text t.now position (option_copied owner.entry)) text.old.items text.new.items }
+    ensures { Appends result (position_text typed.now position (option_copied owner.entry)) text.old.items text.new.items }
 {
     match owner {
         None => Ok(()),
         Some(n) => {
             let depth = first_depth(n.entity.role) as u64
                 + u64::from(position.saturating_sub(n.first));
-            put_entity(alloc, text, t, b" ", &n.entity)?;
+            put_entity(alloc, text, typed, b" ", &n.entity)?;
             text.extend_from_slice(b" depth ")?;
             put_number(text, depth)
         }
@@ -111,21 +116,21 @@ fn put_position(
 fn put_reason(
     alloc: Global,
     text: &mut Vec<u8>,
-    t: &Typed,
+    typed: &Typed,
     all: &[&Numbered],
     reason: Reason,
 ) -> Result<(), AllocError>
-    requires { map (λ o. o.now) all.now ≡ owners (numbered (entities_in t.now.program.items)) }
-    ensures { Appends result (reason_text t.now reason) text.old.items text.new.items }
+    requires { map (λ o. o.now) all.now ≡ owners (numbered (entities_in typed.now.program.items)) }
+    ensures { Appends result (reason_text typed.now reason) text.old.items text.new.items }
 {
     match reason {
-        Reason::Touched(function) => put_two(text, b"touched in ", function_name(t, function)),
+        Reason::Touched(function) => put_two(text, b"touched in ", function_name(typed, function)),
         Reason::Spawned(function) => {
-            put_two(text, b"passed to spawned ", function_name(t, function))
+            put_two(text, b"passed to spawned ", function_name(typed, function))
         }
         Reason::From(position) => {
             text.extend_from_slice(b"from ")?;
-            put_position(alloc, text, t, position, owner_at(all, position))
+            put_position(alloc, text, typed, position, owner_at(all, position))
         }
     }
 }
@@ -134,13 +139,13 @@ fn put_reason(
 fn put_line(
     alloc: Global,
     text: &mut Vec<u8>,
-    t: &Typed,
+    typed: &Typed,
     all: &[&Numbered],
     depth: usize,
     reason: Option<Reason>,
 ) -> Result<(), AllocError>
-    requires { map (λ o. o.now) all.now ≡ owners (numbered (entities_in t.now.program.items)) }
-    ensures { Appends result (reason_line t.now depth reason) text.old.items text.new.items }
+    requires { map (λ o. o.now) all.now ≡ owners (numbered (entities_in typed.now.program.items)) }
+    ensures { Appends result (reason_line typed.now depth reason) text.old.items text.new.items }
 {
     match reason {
         None => Ok(()),
@@ -148,7 +153,7 @@ fn put_line(
             text.extend_from_slice(b"  depth ")?;
             put_number(text, depth as u64)?;
             text.extend_from_slice(b": ")?;
-            put_reason(alloc, text, t, all, reason)?;
+            put_reason(alloc, text, typed, all, reason)?;
             text.extend_from_slice(b"\n")
         }
     }
@@ -158,19 +163,19 @@ fn put_line(
 fn put_lines(
     alloc: Global,
     text: &mut Vec<u8>,
-    m: &Moded,
+    program: &Moded,
     all: &[&Numbered],
     n: &Numbered,
 ) -> Result<(), AllocError>
-    requires all { map (λ o. o.now) all.now ≡ owners (numbered (entities_in m.now.typed.program.items)) }
-    requires within { n.now.first + positions_of n.now.entity ≤ position_count m.now.typed }
-    ensures { Appends result (reason_lines m.now n.now (positions_of n.now.entity)) text.old.items text.new.items }
+    requires all { map (λ o. o.now) all.now ≡ owners (numbered (entities_in program.now.typed.program.items)) }
+    requires within { n.now.first + positions_of n.now.entity ≤ position_count program.now.typed }
+    ensures { Appends result (reason_lines program.now n.now (positions_of n.now.entity)) text.old.items text.new.items }
 {
-    let _all = m.position_count();
+    let _all = program.position_count();
     let first = first_depth(n.entity.role);
     for i in 0..n.entity.positions() {
-        let reason = m.reason(n.first + i as u32);
-        put_line(alloc, text, m.typed(), all, first + i, reason)?;
+        let reason = program.reason(n.first + i as u32);
+        put_line(alloc, text, program.typed(), all, first + i, reason)?;
     }
     Ok(())
 }
@@ -189,14 +194,14 @@ fn is_explained(role: Role, positions: usize) -> bool
 fn put_entity_line(
     alloc: Global,
     text: &mut Vec<u8>,
-    m: &Moded,
+    program: &Moded,
     n: &Numbered,
 ) -> Result<(), AllocError>
-    requires { n.now.first + positions_of n.now.entity ≤ position_count m.now.typed }
-    ensures { Appends result (entity_line m.now n.now) text.old.items text.new.items }
+    requires { n.now.first + positions_of n.now.entity ≤ position_count program.now.typed }
+    ensures { Appends result (entity_line program.now n.now) text.old.items text.new.items }
 {
-    put_entity(alloc, text, m.typed(), b": ", &n.entity)?;
-    let printed = printed_type(alloc, m, n)?;
+    put_entity(alloc, text, program.typed(), b": ", &n.entity)?;
+    let printed = printed_type(alloc, program, n)?;
     let printed = print_type(alloc, &printed)?;
     put_three(text, b": ", &printed, b"\n")
 }
@@ -204,31 +209,31 @@ fn put_entity_line(
 fn put_explanation(
     alloc: Global,
     text: &mut Vec<u8>,
-    m: &Moded,
+    program: &Moded,
     all: &[&Numbered],
     n: &Numbered,
 ) -> Result<(), AllocError>
-    requires all { map (λ o. o.now) all.now ≡ owners (numbered (entities_in m.now.typed.program.items)) }
-    requires within { n.now.first + positions_of n.now.entity ≤ position_count m.now.typed }
-    ensures { Appends result (explanation m.now n.now) text.old.items text.new.items }
+    requires all { map (λ o. o.now) all.now ≡ owners (numbered (entities_in program.now.typed.program.items)) }
+    requires within { n.now.first + positions_of n.now.entity ≤ position_count program.now.typed }
+    ensures { Appends result (explanation program.now n.now) text.old.items text.new.items }
 {
     if !is_explained(n.entity.role, n.entity.positions()) {
         return Ok(());
     }
-    put_entity_line(alloc, text, m, n)?;
-    put_lines(alloc, text, m, all, n)
+    put_entity_line(alloc, text, program, n)?;
+    put_lines(alloc, text, program, all, n)
 }
 
 /// A line for each global, parameter, local, pointer result and cast, by place, `file:line: kind name: type`, and behind it for each of its positions
 /// that was inferred to be dynamic, by depth, the reason.
-pub fn explain_text(alloc: Global, m: &Moded) -> Result<Vec<u8>, AllocError>
-    ensures { IfOk result (λ text. text.items ≡ explain_text m.now) }
+pub fn explain_text(alloc: Global, program: &Moded) -> Result<Vec<u8>, AllocError>
+    ensures { IfOk result (λ text. text.items ≡ explain_text program.now) }
 {
-    let _all = m.position_count();
-    let all = owners(alloc, m.typed().entities())?;
+    let _all = program.position_count();
+    let all = owners(alloc, program.typed().entities())?;
     let mut text = Vec::new(alloc);
-    for n in m.typed().entities() {
-        put_explanation(alloc, &mut text, m, &all, n)?;
+    for n in program.typed().entities() {
+        put_explanation(alloc, &mut text, program, &all, n)?;
     }
     Ok(text)
 }

@@ -37,10 +37,10 @@ pub(crate) fn put_three(
 }
 
 /// The name of a file; none past the last one.
-fn file_text(t: &Typed, file: u32) -> &[u8]
-    ensures { result.now ≡ file_text t.now file }
+fn file_text(typed: &Typed, file: u32) -> &[u8]
+    ensures { result.now ≡ file_text typed.now file }
 {
-    let files = t.program().tokens.files.as_slice();
+    let files = typed.program().tokens.files.as_slice();
     let file = file as usize;
     if file < files.len() {
         files[file].as_slice()
@@ -52,25 +52,29 @@ fn file_text(t: &Typed, file: u32) -> &[u8]
 /// `file:line`.
 pub(crate) fn put_place(
     text: &mut Vec<u8>,
-    t: &Typed,
+    typed: &Typed,
     file: u32,
     line: u32,
 ) -> Result<(), AllocError>
-    ensures { Appends result (place_text t.now file line) text.old.items text.new.items }
+    ensures { Appends result (place_text typed.now file line) text.old.items text.new.items }
 {
-    text.extend_from_slice(file_text(t, file))?;
+    text.extend_from_slice(file_text(typed, file))?;
     text.extend_from_slice(b":")?;
     put_number(text, u64::from(line))
 }
 
 /// The place of a token; nothing past the last one.
-pub(crate) fn put_token_place(text: &mut Vec<u8>, t: &Typed, token: u32) -> Result<(), AllocError>
-    ensures { Appends result (token_place t.now token) text.old.items text.new.items }
+pub(crate) fn put_token_place(
+    text: &mut Vec<u8>,
+    typed: &Typed,
+    token: u32,
+) -> Result<(), AllocError>
+    ensures { Appends result (token_place typed.now token) text.old.items text.new.items }
 {
-    let tokens = t.program().tokens.list.as_slice();
+    let tokens = typed.program().tokens.list.as_slice();
     let token = token as usize;
     if token < tokens.len() {
-        put_place(text, t, tokens[token].file, tokens[token].line)
+        put_place(text, typed, tokens[token].file, tokens[token].line)
     } else {
         Ok(())
     }
@@ -80,11 +84,11 @@ pub(crate) fn put_token_place(text: &mut Vec<u8>, t: &Typed, token: u32) -> Resu
 pub(crate) fn put_tokens(
     alloc: Global,
     text: &mut Vec<u8>,
-    t: &Typed,
+    typed: &Typed,
     from: u32,
     last: u32,
 ) -> Result<(), AllocError>
-    ensures { Appends result (tokens_between t.now from last) text.old.items text.new.items }
+    ensures { Appends result (tokens_between typed.now from last) text.old.items text.new.items }
 {
     let first = Site {
         file: 0,
@@ -96,6 +100,6 @@ pub(crate) fn put_tokens(
         line: 0,
         token: last,
     };
-    let tokens = span_text(alloc, t, Span { first, last })?;
+    let tokens = span_text(alloc, typed, Span { first, last })?;
     text.extend_from_slice(tokens.as_slice())
 }

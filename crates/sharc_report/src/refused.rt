@@ -96,10 +96,15 @@ fn put_message(alloc: Global, text: &mut Vec<u8>, e: &ModeError) -> Result<(), A
     }
 }
 
-fn put_error(alloc: Global, text: &mut Vec<u8>, t: &Typed, e: &ModeError) -> Result<(), AllocError>
-    ensures { Appends result (error_line t.now e.now) text.old.items text.new.items }
+fn put_error(
+    alloc: Global,
+    text: &mut Vec<u8>,
+    typed: &Typed,
+    e: &ModeError,
+) -> Result<(), AllocError>
+    ensures { Appends result (error_line typed.now e.now) text.old.items text.new.items }
 {
-    put_place(text, t, e.site.file, e.site.line)?;
+    put_place(text, typed, e.site.file, e.site.line)?;
     text.extend_from_slice(b": M")?;
     put_number(text, u64::from(e.code))?;
     text.extend_from_slice(b" ")?;
@@ -107,65 +112,65 @@ fn put_error(alloc: Global, text: &mut Vec<u8>, t: &Typed, e: &ModeError) -> Res
     text.extend_from_slice(b"\n")
 }
 
-fn put_lvalue(alloc: Global, text: &mut Vec<u8>, t: &Typed, c: &Cast) -> Result<(), AllocError>
-    ensures { Appends result (codes ", " ++ tokens_between t.now c.now.from c.now.until ++ codes ")\n") text.old.items text.new.items }
+fn put_lvalue(alloc: Global, text: &mut Vec<u8>, typed: &Typed, c: &Cast) -> Result<(), AllocError>
+    ensures { Appends result (codes ", " ++ tokens_between typed.now c.now.from c.now.until ++ codes ")\n") text.old.items text.new.items }
 {
     text.extend_from_slice(b", ")?;
-    put_tokens(alloc, text, t, c.from, c.until)?;
+    put_tokens(alloc, text, typed, c.from, c.until)?;
     text.extend_from_slice(b")\n")
 }
 
-fn put_cast(alloc: Global, text: &mut Vec<u8>, t: &Typed, c: &Cast) -> Result<(), AllocError>
-    ensures { Appends result (suggestion t.now (Some c.now)) text.old.items text.new.items }
+fn put_cast(alloc: Global, text: &mut Vec<u8>, typed: &Typed, c: &Cast) -> Result<(), AllocError>
+    ensures { Appends result (suggestion typed.now (Some c.now)) text.old.items text.new.items }
 {
-    put_place(text, t, c.site.file, c.site.line)?;
+    put_place(text, typed, c.site.file, c.site.line)?;
     text.extend_from_slice(b": suggest SCAST(")?;
     put_target(alloc, text, &c.to)?;
-    put_lvalue(alloc, text, t, c)
+    put_lvalue(alloc, text, typed, c)
 }
 
 fn put_suggestion(
     alloc: Global,
     text: &mut Vec<u8>,
-    t: &Typed,
+    typed: &Typed,
     c: Option<&Cast>,
 ) -> Result<(), AllocError>
-    ensures { Appends result (suggestion t.now (option_copied c.entry)) text.old.items text.new.items }
+    ensures { Appends result (suggestion typed.now (option_copied c.entry)) text.old.items text.new.items }
 {
     match c {
         None => Ok(()),
-        Some(c) => put_cast(alloc, text, t, c),
+        Some(c) => put_cast(alloc, text, typed, c),
     }
 }
 
 fn put_refusal(
     alloc: Global,
     text: &mut Vec<u8>,
-    t: &Typed,
+    typed: &Typed,
     e: &ModeError,
     c: Option<&Cast>,
 ) -> Result<(), AllocError>
-    ensures { Appends result (error_line t.now e.now ++ suggestion t.now (option_copied c.entry)) text.old.items text.new.items }
+    ensures { Appends result (error_line typed.now e.now ++ suggestion typed.now (option_copied c.entry)) text.old.items text.new.items }
 {
-    put_error(alloc, text, t, e)?;
-    put_suggestion(alloc, text, t, c)
+    put_error(alloc, text, typed, e)?;
+    put_suggestion(alloc, text, typed, c)
 }
 
 /// The errors of a program's modes, a line each, `file:line: code message`, and behind an M1 the cast that would repair it, where one is handed in:
 /// that at its place. Codes past 11 have no message.
 pub fn check_text(
     alloc: Global,
-    m: &Moded,
+    program: &Moded,
     errors: &ModeErrors,
     casts: &Casts,
 ) -> Result<Vec<u8>, AllocError>
-    ensures { IfOk result (λ text. text.items ≡ check_text m.now.typed errors.now casts.now) }
+    ensures { IfOk result (λ text. text.items ≡ check_text program.now.typed errors.now casts.now) }
 {
     let first = first_casts(alloc, casts)?;
     let mut text = Vec::new(alloc);
     for error in errors.as_slice() {
         let cast = cast_for(casts, &first, error);
-        put_refusal(alloc, &mut text, m.typed(), error, cast)?;
+        put_refusal(alloc, &mut text, program.typed(), error, cast)?;
     }
     Ok(text)
 }

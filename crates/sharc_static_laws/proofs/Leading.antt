@@ -39,7 +39,7 @@ use Rattle.sharc_ctype_laws.specs.Laws.{EachNameOnce, OnlyNames, EachNamesItself
 use Rattle.sharc_ctype_laws.specs.WrittenTypes.{IsNamedPath, IsNamedLevel, IsNamedType}
 use Rattle.sharc_mode.specs.declared.place.Place.TheVariants as place
 use Rattle.sharc_mode.specs.Moded.{Assignment}
-use Rattle.sharc_mode.specs.Rows.{Reading, written, through, Row, constant_use, base_use, lock_through, read, entity_row, declared_row, global_row, named_row, result_row, called_row, behind, reading_through, row_at, modes_of, modes_at}
+use Rattle.sharc_mode.specs.Rows.{Reading, written, through, Targets, constant_use, base_use, lock_through, read, entity_row, declared_row, global_row, named_row, result_row, called_row, behind, reading_through, row_at, modes_of, modes_at}
 use Rattle.sharc_mode.specs.Settled.{field_target, settled_modes}
 use Rattle.sharc_mode.specs.Sharings.{Lock, Sharing, locked, lock_of, sharing_of, text_at, is_field, is_sibling_lock}
 use Rattle.sharc_mode.specs.WellFormed.{leaves_open, place_of}
@@ -366,7 +366,7 @@ module _ (rules : RulesAreMet) (fields_placed : FieldsPlaced) (own_found : OwnAr
           (field_through d (a_member struct n.text d h).0 at u.variable u.names struct h.0 kind h.1 (found_there h.0.fields n.text d h.2))
 
   -- ---- expressions
-  abbrev RowLeads : Option Row → Type 0
+  abbrev RowLeads : Option Targets → Type 0
   RowLeads None = Unit {0}
   RowLeads (Some row) = AllLead m (modes_of m row)
 
@@ -378,11 +378,11 @@ module _ (rules : RulesAreMet) (fields_placed : FieldsPlaced) (own_found : OwnAr
   name_leads s i there (named.Field t) is = absurd (no_field_name r s i _ t (typed_at (tree.identifier s i) there) is)
   name_leads s i there named.Known is = tt
 
-  deep : (o : Option Row) → RowLeads o → RowLeads (behind o)
+  deep : (o : Option Targets) → RowLeads o → RowLeads (behind o)
   deep None h = tt
   deep (Some row) h = deeper_hold m (LeadsIfLocked r) row h
 
-  choose : (b : Bool) (s t : Option Row) → RowLeads s → RowLeads t → RowLeads (cond b s t)
+  choose : (b : Bool) (s t : Option Targets) → RowLeads s → RowLeads t → RowLeads (cond b s t)
   choose true s t h k = h
   choose false s t h k = k
 
@@ -410,7 +410,7 @@ module _ (rules : RulesAreMet) (fields_placed : FieldsPlaced) (own_found : OwnAr
   pub expression_leads : (e : Expression) (modes : List Sharing) → AllByRecursion (IsExpression m) (expressions e) → modes_at m e ≡ Some modes → AllLead m modes
   expression_leads e modes all is = by (row_at r e) (row_leads e all) is
     where
-      by : (o : Option Row) → RowLeads o → option_map (modes_of m) o ≡ Some modes → AllLead m modes
+      by : (o : Option Targets) → RowLeads o → option_map (modes_of m) o ≡ Some modes → AllLead m modes
       by None h k = absurd (none_some modes k)
       by (Some row) h k = subst (AllLead m) (same_some (modes_of m row) modes k) h
 

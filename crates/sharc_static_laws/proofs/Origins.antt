@@ -26,7 +26,7 @@ use Rattle.sharc_ctype.specs.Constants.{is_constant}
 use Rattle.sharc_ctype.specs.Resolved.{Resolution, named_at, global_at, function_at, kind_at}
 use Rattle.sharc_mode.specs.Flows.{IsLeastAssignment}
 use Rattle.sharc_mode.specs.Moded.{Assignment}
-use Rattle.sharc_mode.specs.Rows.{Reading, written, through, Row, is_constant_named, base_use, read, deeper, targets_from, entity_row, global_row, named_row, result_row, called_row, behind, reading_through, row_at, modes_of, modes_at}
+use Rattle.sharc_mode.specs.Rows.{Reading, written, through, Targets, is_constant_named, base_use, read, deeper, targets_from, entity_row, global_row, named_row, result_row, called_row, behind, reading_through, row_at, modes_of, modes_at}
 use Rattle.sharc_mode.specs.Sharings.{Lock, Sharing, private, readonly, locked, racy, dynamic, lock_of, sharing_of, text_at, is_sibling_lock, object_named}
 use Rattle.sharc_mode_laws.specs.Constructs.{IsExpression, IsEntity}
 use Rattle.sharc_mode_laws.specs.Paths.{IsThroughConstant, through as through_constant, IsSiblingUse}
@@ -64,14 +64,14 @@ row_written m least how n is =
     (to_each (LevelWritten n) n.entity.written.ctype.levels (level_written n))
 
 -- ---- rows and lists
-deeper_reading : (row : Row) → (deeper row).reading ≡ row.reading
+deeper_reading : (row : Targets) → (deeper row).reading ≡ row.reading
 deeper_reading row = by (row.count == 0)
   where
     by : (b : Bool) → (cond b row (record { first = row.first + 1; count = row.count - 1; reading = row.reading })).reading ≡ row.reading
     by true = refl
     by false = refl
 
-pub reading_kept : (where_ : Role) (row : Row) → (targets_from where_ row).reading ≡ row.reading
+pub reading_kept : (where_ : Role) (row : Targets) → (targets_from where_ row).reading ≡ row.reading
 reading_kept role.Field row = refl
 reading_kept role.Global row = deeper_reading row
 reading_kept role.Local row = refl
@@ -116,7 +116,7 @@ deeper_modes m P how list other less h = to other (less (λ mode. P (read m.type
     to (x ∷ xs) k = (k.0, to xs k.1)
 
 -- what holds of the modes of a row holds of those of what it points to in turn
-pub deeper_hold : (m : Assignment) (P : Sharing → Type 0) (row : Row) → AllByRecursion P (modes_of m row) → AllByRecursion P (modes_of m (deeper row))
+pub deeper_hold : (m : Assignment) (P : Sharing → Type 0) (row : Targets) → AllByRecursion P (modes_of m row) → AllByRecursion P (modes_of m (deeper row))
 deeper_hold m P row h =
     subst (λ z. AllByRecursion P (map (λ mode. read m.typed z (sharing_of mode)) (raw m (deeper row)))) (sym (deeper_reading row))
     (deeper_modes m P row.reading (raw m row) (raw m (deeper row)) (λ Q k. deeper_raw m Q row k) h)
@@ -183,7 +183,7 @@ module _ (m : Assignment) (Q : Lock → Type 0) (writes : (n : Numbered) → IsE
   shown how mode = read r how (sharing_of mode)
 
   -- by the modes as they are written
-  by_raw : (P : Mode → Type 0) (how : Reading) → ((mode : Mode) → P mode → Of (shown how mode)) → (row : Row) → row.reading ≡ how → AllByRecursion P (raw m row) → AllOf (modes_of m row)
+  by_raw : (P : Mode → Type 0) (how : Reading) → ((mode : Mode) → P mode → Of (shown how mode)) → (row : Targets) → row.reading ≡ how → AllByRecursion P (raw m row) → AllOf (modes_of m row)
   by_raw P how each row is h = subst (λ z. AllOf (map (shown z) (raw m row))) (sym is) (mapped (shown how) P each (raw m row) h)
 
   entity_named : IsLeastAssignment m → (o : Option Numbered) → ((n : Numbered) → o ≡ Some n → IsEntity m n) → AllOf (modes_of m (entity_row written o))
@@ -198,7 +198,7 @@ module _ (m : Assignment) (Q : Lock → Type 0) (writes : (n : Numbered) → IsE
 
   -- ---- through a constant variable
   -- a sibling's name is read through it
-  abbrev Uses : ℕ → Row → Type 0
+  abbrev Uses : ℕ → Targets → Type 0
   Uses at row = (k : Lock) → Contains (modes_of m row) (locked k) → is_sibling_lock r k ≡ true → Q record { first = at; second = Some (text_at r k.first) }
 
   one_through : (at : ℕ) (n : Numbered) → IsEntity m n → Uses at (entity_row written (Some n)) → (mode : Mode) → WrittenIn n mode × Contains (raw m (entity_row written (Some n))) mode → Of (shown (through at) mode)
@@ -231,7 +231,7 @@ module _ (m : Assignment) (Q : Lock → Type 0) (writes : (n : Numbered) → IsE
   found_through least at first last = entity_through least at (entity_at r first last) (entity_is first last)
 
   -- ---- expressions
-  abbrev RowNamed : Option Row → Type 0
+  abbrev RowNamed : Option Targets → Type 0
   RowNamed None = Unit {0}
   RowNamed (Some row) = AllOf (modes_of m row)
 
@@ -279,11 +279,11 @@ module _ (m : Assignment) (Q : Lock → Type 0) (writes : (n : Numbered) → IsE
         name_through at (named_at r name.site.token)
         (λ k has sibling. makes a w at (record { span = s; name = name; stands = stands; lock = k; target = has; sibling = sibling }) is)
 
-    deep : (o : Option Row) → RowNamed o → RowNamed (behind o)
+    deep : (o : Option Targets) → RowNamed o → RowNamed (behind o)
     deep None h = tt
     deep (Some row) h = deeper_hold m Of row h
 
-    choose : (b : Bool) (s t : Option Row) → RowNamed s → RowNamed t → RowNamed (cond b s t)
+    choose : (b : Bool) (s t : Option Targets) → RowNamed s → RowNamed t → RowNamed (cond b s t)
     choose true s t h k = h
     choose false s t h k = k
 
@@ -311,6 +311,6 @@ module _ (m : Assignment) (Q : Lock → Type 0) (writes : (n : Numbered) → IsE
     pub expression_of : (e : Expression) (modes : List Sharing) → AllByRecursion (IsExpression m) (expressions e) → modes_at m e ≡ Some modes → AllOf modes
     expression_of e modes all is = by (row_at r e) (row_named e all) is
       where
-        by : (o : Option Row) → RowNamed o → option_map (modes_of m) o ≡ Some modes → AllOf modes
+        by : (o : Option Targets) → RowNamed o → option_map (modes_of m) o ≡ Some modes → AllOf modes
         by None h k = absurd (none_some modes k)
         by (Some row) h k = subst AllOf (same_some (modes_of m row) modes k) h

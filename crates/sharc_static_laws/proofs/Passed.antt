@@ -28,7 +28,7 @@ use Rattle.sharc_ctype_laws.specs.WrittenTypes.{FirstNames, a_field, a_variable,
 use Rattle.sharc_meaning.specs.Cells.{field_place_behind}
 use Rattle.sharc_mode.specs.Moded.{Assignment}
 use Rattle.sharc_mode.specs.Notes.{base_of}
-use Rattle.sharc_mode.specs.Rows.{Reading, written, at_call, Row, is_constant_named, constant_use, argument_use, with_base, path_variable, lock_for, read, entity_row, declared_row, modes_of, modes_at}
+use Rattle.sharc_mode.specs.Rows.{Reading, written, at_call, Targets, is_constant_named, constant_use, argument_use, with_base, path_variable, lock_for, read, entity_row, declared_row, modes_of, modes_at}
 use Rattle.sharc_mode.specs.Sharings.{Lock, Sharing, private, readonly, locked, racy, dynamic, lock_of, sharing_of, variable_named, variable_of, same_all}
 use Rattle.sharc_mode_laws.specs.Constructs.{IsEntity, IsExpression, IsCall, called, spawned, an_argument}
 use Rattle.sharc_mode_laws.specs.Laws.{RulesAreMet}
@@ -450,7 +450,7 @@ module _ (found : EachTypeFound) (rules : RulesAreMet) (all_fair : AllFair) (the
     list_passes (Dynamic ∷ rest) h held = list_passes rest h.1 held.1
 
     -- a path of a parameter's type is met
-    mode_passes : (d : Declaration) → Contains ds d → (row : Row) → row ≡ declared_row r written d.name.site.token → row.reading ≡ written → (mode : Mode) → ModePoints r mode × Contains (raw m row) mode → LockPasses mode
+    mode_passes : (d : Declaration) → Contains ds d → (row : Targets) → row ≡ declared_row r written d.name.site.token → row.reading ≡ written → (mode : Mode) → ModePoints r mode × Contains (raw m row) mode → LockPasses mode
     mode_passes d among row is reading mode h path e held =
         let there : Contains (modes_of m row) (locked (lock_of path)) =
         subst (λ z. Contains (map (λ mode. read r z (sharing_of mode)) (raw m row)) (locked (lock_of path))) (sym reading)

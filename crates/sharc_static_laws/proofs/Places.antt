@@ -37,7 +37,7 @@ use Rattle.sharc_ctype_laws.specs.Places.{Placing, at}
 use Rattle.sharc_ctype_laws.specs.WrittenTypes.{IsNamedLevel, IsNamedType}
 use Rattle.sharc_mode.specs.Flows.{IsLeastAssignment}
 use Rattle.sharc_mode.specs.Moded.{Assignment}
-use Rattle.sharc_mode.specs.Rows.{Reading, written, through, Row, is_constant_named, constant_use, base_use, read, entity_row, global_row, named_row, result_row, called_row, behind, reading_through, row_at, modes_of}
+use Rattle.sharc_mode.specs.Rows.{Reading, written, through, Targets, is_constant_named, constant_use, base_use, read, entity_row, global_row, named_row, result_row, called_row, behind, reading_through, row_at, modes_of}
 use Rattle.sharc_mode.specs.Sharings.{locked, lock_of, sharing_of, text_at, is_sibling_lock}
 use Rattle.sharc_mode_laws.specs.Constructs.{IsEntity}
 use Rattle.sharc_flat.specs.Scope.{Context, slot_kind}
@@ -253,7 +253,7 @@ module _ (c : Context) (least : IsLeastAssignment c.program) (file : FileKnown c
   abbrev r2 : Resolution
   r2 = c.program.typed
 
-  abbrev RowStands : Option Row → Type 0
+  abbrev RowStands : Option Targets → Type 0
   RowStands None = Unit {0}
   RowStands (Some row) = AllStand m2 c.scope (modes_of m2 row)
 
@@ -356,11 +356,11 @@ module _ (c : Context) (least : IsLeastAssignment c.program) (file : FileKnown c
   own (tree.unary s o a) h = h.0
   own (tree.binary s o site a b) h = h.0
 
-  deep : (o : Option Row) → RowStands o → RowStands (behind o)
+  deep : (o : Option Targets) → RowStands o → RowStands (behind o)
   deep None h = tt
   deep (Some row) h = deeper_hold m2 (PathStands r2 c.scope) row h
 
-  choose : (b : Bool) (s t : Option Row) → RowStands s → RowStands t → RowStands (cond b s t)
+  choose : (b : Bool) (s t : Option Targets) → RowStands s → RowStands t → RowStands (cond b s t)
   choose true s t h k = h
   choose false s t h k = k
 
@@ -391,7 +391,7 @@ module _ (c : Context) (least : IsLeastAssignment c.program) (file : FileKnown c
   expression_stands : (e : Expression) → AllByRecursion (Seen r2 scope) (expressions e) → ExpressionStands c e
   expression_stands e h = by (row_at r2 e) (row_stands e h)
     where
-      by : (o : Option Row) → RowStands o → IfThere (AllStand m2 c.scope) (option_map (modes_of m2) o)
+      by : (o : Option Targets) → RowStands o → IfThere (AllStand m2 c.scope) (option_map (modes_of m2) o)
       by None k = tt
       by (Some row) k = k
 

@@ -36,7 +36,7 @@ use Rattle.sharc_mode.specs.declared.place.Place.TheVariants as place
 use Rattle.sharc_mode.specs.Cells.{pointed}
 use Rattle.sharc_mode.specs.Moded.{Assignment}
 use Rattle.sharc_mode.specs.RowLaws.{RowLaws}
-use Rattle.sharc_mode.specs.Rows.{Reading, written, through, Row, is_constant_named, constant_use, base_use, lock_through, path_variable, read, deeper, entity_row, declared_row, global_row, named_row, behind, reading_through, row_at, modes_of, modes_at}
+use Rattle.sharc_mode.specs.Rows.{Reading, written, through, Targets, is_constant_named, constant_use, base_use, lock_through, path_variable, read, deeper, entity_row, declared_row, global_row, named_row, behind, reading_through, row_at, modes_of, modes_at}
 use Rattle.sharc_mode.specs.Sharings.{Lock, Sharing, private, readonly, locked, racy, dynamic, lock_of, sharing_of, text_at, variable_named, is_field, is_sibling_lock}
 use Rattle.sharc_mode.specs.WellFormed.{place_of}
 use Rattle.sharc_mode_laws.specs.Constructs.{IsExpression, IsEntity}
@@ -422,7 +422,7 @@ module _ (rows : RowLaws) (expressions_found : ExpressionsFound) (one_type : One
 
   -- of the target of a pointer
   module _ (k : ℕ) where
-    below_row : (s : StaticType) (e : Expression) → IsExpression m4 e → (row : Row) → row_at r4 e ≡ Some row → s.locks ≡ locks_at c (modes_of m4 row)
+    below_row : (s : StaticType) (e : Expression) → IsExpression m4 e → (row : Targets) → row_at r4 e ≡ Some row → s.locks ≡ locks_at c (modes_of m4 row)
         → AllSame (IsFieldLock l reg k s) (locks_at c (modes_of m4 (deeper row))) (element_locks (map form_of (modes_of m4 row)))
     below_row s e there row is locks = by row.count refl
       where
@@ -445,7 +445,7 @@ module _ (rows : RowLaws) (expressions_found : ExpressionsFound) (one_type : One
         → AllSame (IsFieldLock l reg k (static_of c (kind_at r4 e) b.modes)) (locks_at c modes) (pointee_locks (modes_at m4 e))
     pointee e there b modes is = by (row_at r4 e) refl is
       where
-        by : (o : Option Row) → row_at r4 e ≡ o → option_map (modes_of m4) (behind o) ≡ Some modes → AllSame (IsFieldLock l reg k (static_of c (kind_at r4 e) b.modes)) (locks_at c modes) (pointee_locks (modes_at m4 e))
+        by : (o : Option Targets) → row_at r4 e ≡ o → option_map (modes_of m4) (behind o) ≡ Some modes → AllSame (IsFieldLock l reg k (static_of c (kind_at r4 e) b.modes)) (locks_at c modes) (pointee_locks (modes_at m4 e))
         by None row h = absurd (none_some modes h)
         by (Some row) at h =
             let same : modes_at m4 e ≡ Some (modes_of m4 row) = ap (option_map (modes_of m4)) at in

@@ -21,7 +21,7 @@ use Rattle.sharc_mode.specs.Cells.{pointed}
 use Rattle.sharc_mode.specs.Moded.{Assignment}
 use Rattle.sharc_mode.specs.Notes.{base_of}
 use Rattle.sharc_mode.specs.RowLaws.{RowLaws}
-use Rattle.sharc_mode.specs.Rows.{Row, written, deeper, cast_row, declared_row, row_at, modes_of, modes_at}
+use Rattle.sharc_mode.specs.Rows.{Targets, written, deeper, cast_row, declared_row, row_at, modes_of, modes_at}
 use Rattle.sharc_mode.specs.Sharings.{Sharing, private, readonly, locked, racy, dynamic, same_all}
 use Rattle.sharc_mode_laws.specs.Constructs.{IsExpression}
 use Rattle.sharc_mode_laws.specs.Laws.{RulesAreMet}
@@ -255,7 +255,7 @@ module _ (rows : RowLaws) (numbers_found : NumbersFound) (expressions_found : Ex
   operand = operand_by (kind_at r2 (tree.cast s t a)) (typed_at (tree.cast s t a) there)
 
   -- its row has a target
-  first_target : (e : Expression) → IsExpression m2 e → kind_at r2 e ≡ declared_kind t → (row : Row) → row_at r2 e ≡ Some row
+  first_target : (e : Expression) → IsExpression m2 e → kind_at r2 e ≡ declared_kind t → (row : Targets) → row_at r2 e ≡ Some row
       → (modes_of m2 row ≡ pointed m2 (Some row) ∷ modes_of m2 (deeper row)) × Contains (shapes m2) (row_shape m2 operand.of_base row)
   first_target e x kind row is =
       let f = expressions_found m2 accepted.resolved accepted.placed accepted.low accepted.least.modes e x row is in
@@ -278,7 +278,7 @@ module _ (rows : RowLaws) (numbers_found : NumbersFound) (expressions_found : Ex
   cast_recasts : (found : List Sharing) → modes_at m2 a ≡ Some found → (l : Label) (r : ℕ) → Recasts (targets_of m2) l r (static_of c (kind_at r2 a) found) (static_of c (declared_kind t) (modes_of m2 (cast_row r2 s)))
   cast_recasts found is l r = by (row_at r2 a) refl is
     where
-      by : (o : Option Row) → row_at r2 a ≡ o → option_map (modes_of m2) o ≡ Some found → Recasts (targets_of m2) l r (static_of c (kind_at r2 a) found) (static_of c (declared_kind t) (modes_of m2 (cast_row r2 s)))
+      by : (o : Option Targets) → row_at r2 a ≡ o → option_map (modes_of m2) o ≡ Some found → Recasts (targets_of m2) l r (static_of c (kind_at r2 a) found) (static_of c (declared_kind t) (modes_of m2 (cast_row r2 s)))
       by None row h = absurd (none_some found h)
       by (Some row) at h =
           let from = first_target a inner operand.same row at in

@@ -17,7 +17,7 @@ use Rattle.sharc_graph.specs.declared.graph.Finding.TheVariants.{Apart, Source, 
 use Rattle.sharc_graph.specs.Findings.{finding_at}
 use Rattle.sharc_mode.specs.Flows.{IsLeastAssignment, mode_found}
 use Rattle.sharc_mode.specs.Moded.{Assignment}
-use Rattle.sharc_mode.specs.Rows.{Reading, Row, deeper, targets_from, entity_row}
+use Rattle.sharc_mode.specs.Rows.{Reading, Targets, deeper, targets_from, entity_row}
 use Rattle.sharc_mode.specs.Settled.{is_mutex, settled, field_target, otherwise_of, settled_modes, settled_in, settled_at}
 use Rattle.sharc_mode.specs.WellFormed.{leaves_open}
 use Rattle.sharc_mode_laws.specs.Constructs.{IsEntity}
@@ -68,7 +68,7 @@ position_there (e ∷ rest) s n has = ⊎_elim (λ is. subst (Position (e ∷ re
     }
 
 -- ---- rows of modes
-abbrev pub raw : Assignment → Row → List Mode
+abbrev pub raw : Assignment → Targets → List Mode
 raw m row = take row.count (drop row.first m.modes)
 
 module _ {A : Type 0} (P : A → Type 0) where
@@ -93,7 +93,7 @@ module _ {A : Type 0} (P : A → Type 0) where
   taken (suc c) (suc f) (x ∷ xs) d h =
       taken (suc c) f xs d (λ k low inside. let e : suc f + k ≡ suc (f + k) = omega arith in subst (λ i. P (slice_index_or (x ∷ xs) i d)) e (h k low (omega (arith, inside))))
 
-pub deeper_raw : (m : Assignment) (P : Mode → Type 0) (row : Row) → AllByRecursion P (raw m row) → AllByRecursion P (raw m (deeper row))
+pub deeper_raw : (m : Assignment) (P : Mode → Type 0) (row : Targets) → AllByRecursion P (raw m row) → AllByRecursion P (raw m (deeper row))
 deeper_raw m P row h = by (row.count == 0) refl
   where
     by : (b : Bool) → (row.count == 0) ≡ b → AllByRecursion P (raw m (cond b row (record { first = row.first + 1; count = row.count - 1; reading = row.reading })))
@@ -167,7 +167,7 @@ module _ (Good : Mode → Type 0) (private_good : Good Private) (racy_good : Goo
   pub row_settled : (m : Assignment) → IsLeastAssignment m → (how : Reading) (n : Numbered) → IsEntity m n → AllByRecursion LevelGood (settled_modes n.entity) → AllByRecursion Good (raw m (entity_row how (Some n)))
   row_settled m least how n is good = by n.entity.role
     where
-      whole : Row
+      whole : Targets
       whole = record { first = n.first; count = positions_of n.entity; reading = how }
 
       all : AllByRecursion Good (raw m whole)

@@ -14,7 +14,7 @@ use sharc_ctype::typed::Typed;
 use sharc_mode::cell::{cell_of, pointed};
 use sharc_mode::error::Cast;
 use sharc_mode::moded::Moded;
-use sharc_mode::row::{Row, row_of};
+use sharc_mode::row::{Targets, row_of};
 use sharc_mode::sharing::{Sharing, is_readonly};
 use sharc_mode::shown::{root_of_kind, row_laws, same_rows, shown};
 use sharc_mode::text::text_at;
@@ -33,7 +33,7 @@ pub(crate) struct Known<'a> {
 }
 
 /// Whether two types differ only in the mode at depth 1.
-fn differ_first(program: &Moded, expected: Row<'_>, found: Row<'_>) -> bool
+fn differ_first(program: &Moded, expected: Targets<'_>, found: Targets<'_>) -> bool
     requires expected { expected.first + expected.count ≤ position_count program.now.typed }
     requires found { found.first + found.count ≤ position_count program.now.typed }
     ensures { result ≡ differ_first program.now.typed (modes_of program.now (view_row expected.entry)) (modes_of program.now (view_row found.entry)) }
@@ -121,7 +121,7 @@ fn keeps(typed: &Typed, scope: &Names<'_>, s: Sharing<'_>) -> bool
 }
 
 /// Whether all lock paths of a type do.
-fn keeps_all(program: &Moded, scope: &Names<'_>, row: Row<'_>) -> bool
+fn keeps_all(program: &Moded, scope: &Names<'_>, row: Targets<'_>) -> bool
     requires { row.first + row.count ≤ position_count program.now.typed }
     ensures { result ≡ keeps_all program.now.typed scope.now (modes_of program.now (view_row row.entry)) }
 {
@@ -156,8 +156,8 @@ fn is_repairable(
     known: Known<'_>,
     scope: &Names<'_>,
     expr: &Expr,
-    expected: Row<'_>,
-    found: Row<'_>,
+    expected: Targets<'_>,
+    found: Targets<'_>,
 ) -> bool
     requires expected { expected.first + expected.count ≤ position_count known.moded.now.typed }
     requires found { found.first + found.count ≤ position_count known.moded.now.typed }
@@ -174,7 +174,7 @@ fn cast_to(
     alloc: Global,
     program: &Moded,
     expr: &Expr,
-    expected: Row<'_>,
+    expected: Targets<'_>,
 ) -> Result<Cast, AllocError>
     requires { expected.first + expected.count ≤ position_count program.now.typed }
     ensures { IfOk result (λ c. c ≡ cast_to program.now (view_expr expr.now) (modes_of program.now (view_row expected.entry))) }
@@ -195,7 +195,7 @@ pub(crate) fn repair(
     alloc: Global,
     known: Known<'_>,
     scope: &Names<'_>,
-    expected: Option<Row<'_>>,
+    expected: Option<Targets<'_>>,
     expr: &Expr,
     casts: &mut Vec<Cast>,
 ) -> Result<(), AllocError>

@@ -11,7 +11,7 @@ ghost use Rattle.sharc_suggest.specs.Repairs.{entry_of, told};
 use crate::expr::expression;
 use crate::repair::{Known, repair};
 use sharc_mode::error::Cast;
-use sharc_mode::row::{Reading, Row, declared_row, row_of};
+use sharc_mode::row::{Reading, Targets, declared_row, row_of};
 use sharc_names::meaning::{Bound, Meaning};
 use sharc_names::names::Names;
 use sharc_tree::tree::{Declaration, Expr, ForFirst, ForHead, Item, Local, Right, Simple, Stmt};
@@ -48,7 +48,7 @@ fn right(
     alloc: Global,
     known: Known<'_>,
     scope: &Names<'_>,
-    want: Option<Row<'_>>,
+    want: Option<Targets<'_>>,
     right: &Right,
     casts: &mut Vec<Cast>,
 ) -> Result<(), AllocError>
@@ -87,7 +87,7 @@ fn initial(
     alloc: Global,
     known: Known<'_>,
     scope: &Names<'_>,
-    want: Option<Row<'_>>,
+    want: Option<Targets<'_>>,
     value: &Option<Right>,
     casts: &mut Vec<Cast>,
 ) -> Result<(), AllocError>

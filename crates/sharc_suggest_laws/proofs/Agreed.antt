@@ -8,7 +8,7 @@ use Rattle.sharc_names.specs.Names.{Entry}
 use Rattle.sharc_ctype.specs.Entities.{entities_in, numbered}
 use Rattle.sharc_ctype.specs.Resolved.{named_at, globals_in, functions_in}
 use Rattle.sharc_ctype.specs.Transfers.{parameters_named}
-use Rattle.sharc_mode.specs.declared.note.Note.{Note}
+use Rattle.sharc_mode.specs.declared.finding.Finding.{Finding}
 use Rattle.sharc_mode.specs.Expressions.{expected, place_notes, notes_of, notes_of_all, option_notes, right_notes, simple_notes, local_notes, return_notes, first_notes, head_notes, notes_in, notes_in_all, item_notes, items_notes}
 use Rattle.sharc_mode.specs.Moded.{Assignment}
 use Rattle.sharc_mode.specs.Notes.{agree_notes, call_notes, cast_notes, field_notes, source_notes, type_notes, write_notes}
@@ -34,19 +34,19 @@ told_append t m (g ∷ xs) ys =
     let same : told_of t m g + told_in t m (xs ++ ys) ≡ told_of t m g + told_in t m xs + told_in t m ys = omega (arith, more) in
     same
 
-both : (t : ℕ) (m : Assignment) (a b : List Note) (xs ys : List Giving) → ones t a ≡ told_in t m xs → ones t b ≡ told_in t m ys → ones t (a ++ b) ≡ told_in t m (xs ++ ys)
+both : (t : ℕ) (m : Assignment) (a b : List Finding) (xs ys : List Giving) → ones t a ≡ told_in t m xs → ones t b ≡ told_in t m ys → ones t (a ++ b) ≡ told_in t m (xs ++ ys)
 both t m a b xs ys left right =
     let sum : ones t (a ++ b) ≡ ones t a + ones t b = ones_append t a b in
     let parts : told_in t m (xs ++ ys) ≡ told_in t m xs + told_in t m ys = told_append t m xs ys in
     omega (arith, sum, parts, left, right)
 
 -- notes without a mismatch behind, and before
-quiet_behind : (t : ℕ) (a b : List Note) (n : ℕ) → ones t a ≡ n → ones t b ≡ 0 → ones t (a ++ b) ≡ n
+quiet_behind : (t : ℕ) (a b : List Finding) (n : ℕ) → ones t a ≡ n → ones t b ≡ 0 → ones t (a ++ b) ≡ n
 quiet_behind t a b n left right =
     let sum : ones t (a ++ b) ≡ ones t a + ones t b = ones_append t a b in
     omega (arith, sum, left, right)
 
-quiet_before : (t : ℕ) (a b : List Note) (n : ℕ) → ones t a ≡ 0 → ones t b ≡ n → ones t (a ++ b) ≡ n
+quiet_before : (t : ℕ) (a b : List Finding) (n : ℕ) → ones t a ≡ 0 → ones t b ≡ n → ones t (a ++ b) ≡ n
 quiet_before t a b n left right =
     let sum : ones t (a ++ b) ≡ ones t a + ones t b = ones_append t a b in
     omega (arith, sum, left, right)
@@ -170,9 +170,9 @@ in_items t m (i ∷ rest) = both t m (item_notes m i) (items_notes m rest) (item
 pub in_program : (t : ℕ) (m : Assignment) (touched : ℕ → Bool) → ones t (notes_about m touched) ≡ told_in t m (items_givings m.typed.program.items)
 in_program t m touched =
     let items : List Item = m.typed.program.items in
-    let types : List Note = flat_map (type_notes m) (numbered (entities_in items)) in
-    let spawned : List Note = spawned_notes m 0 (functions_in items) in
-    let touches : List Note = touched_notes touched 0 (globals_in items) in
+    let types : List Finding = flat_map (type_notes m) (numbered (entities_in items)) in
+    let spawned : List Finding = spawned_notes m 0 (functions_in items) in
+    let touches : List Finding = touched_notes touched 0 (globals_in items) in
     quiet_before t (types ++ spawned ++ touches) (items_notes m items) (told_in t m (items_givings items))
     (both_quiet t (types ++ spawned) touches
     (both_quiet t types spawned (types_quiet t m (numbered (entities_in items))) (spawned_quiet t m 0 (functions_in items))) (touched_quiet t touched 0 (globals_in items)))

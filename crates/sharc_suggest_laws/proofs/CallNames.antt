@@ -9,8 +9,8 @@ use Rattle.sharc_names.specs.Names.{Entry}
 use Rattle.sharc_ctype.specs.Entities.{entities_in, numbered}
 use Rattle.sharc_ctype.specs.Resolved.{named_at}
 use Rattle.sharc_ctype.specs.Transfers.{parameters_named}
-use Rattle.sharc_mode.specs.declared.note.Note.{Note}
-use Rattle.sharc_mode.specs.declared.note.Note.TheVariants.{Wrong, Names, Takes}
+use Rattle.sharc_mode.specs.declared.finding.Finding.{Finding}
+use Rattle.sharc_mode.specs.declared.finding.Finding.TheVariants.{Wrong, Names, Takes}
 use Rattle.sharc_mode.specs.Expressions.{expected, place_notes, notes_of, notes_of_all, option_notes, right_notes, simple_notes, local_notes, return_notes, first_notes, head_notes, notes_in, notes_in_all, item_notes, items_notes}
 use Rattle.sharc_mode.specs.Moded.{Assignment}
 use Rattle.sharc_mode.specs.Notes.{agree_notes, call_notes, names_at_call, first_unmet, unmet_notes, cast_notes, field_notes, source_notes, type_notes, write_notes, is_named}
@@ -23,7 +23,7 @@ use Rattle.sharc_suggest_laws.specs.Givings.{Receiver, of_declared, of_left, of_
 use Rattle.sharc_suggest_laws.proofs.Listed.{joint}
 
 -- what these say is said among those
-abbrev pub Says : List Note → List Note → Type 0
+abbrev pub Says : List Finding → List Finding → Type 0
 Says l all = (x : ℕ) → is_named x l ≡ true → is_named x all ≡ true
 
 or_left : (a b : Bool) → a ≡ true → (a || b) ≡ true
@@ -38,41 +38,41 @@ or_kept : (a b c : Bool) → (b ≡ true → c ≡ true) → (a || b) ≡ true �
 or_kept true b c more is = refl
 or_kept false b c more is = more is
 
-pub named_left : (x : ℕ) (a b : List Note) → is_named x a ≡ true → is_named x (a ++ b) ≡ true
+pub named_left : (x : ℕ) (a b : List Finding) → is_named x a ≡ true → is_named x (a ++ b) ≡ true
 named_left x [] b is = absurd (false≢true is)
 named_left x (Wrong e ∷ rest) b is = named_left x rest b is
 named_left x (Names y ∷ rest) b is = or_kept (x == y) (is_named x rest) (is_named x (rest ++ b)) (named_left x rest b) is
 named_left x (Takes s y ∷ rest) b is = named_left x rest b is
 
-pub named_right : (x : ℕ) (a b : List Note) → is_named x b ≡ true → is_named x (a ++ b) ≡ true
+pub named_right : (x : ℕ) (a b : List Finding) → is_named x b ≡ true → is_named x (a ++ b) ≡ true
 named_right x [] b is = is
 named_right x (Wrong e ∷ rest) b is = named_right x rest b is
 named_right x (Names y ∷ rest) b is = or_right (x == y) (is_named x (rest ++ b)) (named_right x rest b is)
 named_right x (Takes s y ∷ rest) b is = named_right x rest b is
 
-left : (a b all : List Note) → Says (a ++ b) all → Says a all
+left : (a b all : List Finding) → Says (a ++ b) all → Says a all
 left a b all h = λ x is. h x (named_left x a b is)
 
-right : (a b all : List Note) → Says (a ++ b) all → Says b all
+right : (a b all : List Finding) → Says (a ++ b) all → Says b all
 right a b all h = λ x is. h x (named_right x a b is)
 
 -- of a giving to a parameter: what is said of the call
-abbrev SaidTo : Assignment → List Note → Receiver → Type 0
+abbrev SaidTo : Assignment → List Finding → Receiver → Type 0
 SaidTo m all (of_declared token) = Unit {0}
 SaidTo m all (of_left u) = Unit {0}
 SaidTo m all (of_parameter f args k) = Says (names_at_call m (parameters_named m.typed (named_at m.typed f)) args (parameters_named m.typed (named_at m.typed f))) all
 
-abbrev pub IsSaid : Assignment → List Note → Giving → Type 0
+abbrev pub IsSaid : Assignment → List Finding → Giving → Type 0
 IsSaid m all g = SaidTo m all g.receiver
 
-abbrev AreSaid : Assignment → List Note → List Giving → Type 0
+abbrev AreSaid : Assignment → List Finding → List Giving → Type 0
 AreSaid m all gs = AllByRecursion (IsSaid m all) gs
 
-value_said : (m : Assignment) (all : List Note) (scope : List Entry) (r : Receiver) (e : Expression) → SaidTo m all r → AreSaid m all (givings scope e) → AreSaid m all (value_givings scope r e)
+value_said : (m : Assignment) (all : List Finding) (scope : List Entry) (r : Receiver) (e : Expression) → SaidTo m all r → AreSaid m all (givings scope e) → AreSaid m all (value_givings scope r e)
 value_said m all scope r e said inner = joint (IsSaid m all) (givings scope e) (one_giving scope r e) inner (said, tt)
 
 mutual
-  inside : (m : Assignment) (all : List Note) (scope : List Entry) (e : Expression) → Says (notes_of m e) all → AreSaid m all (givings scope e)
+  inside : (m : Assignment) (all : List Finding) (scope : List Entry) (e : Expression) → Says (notes_of m e) all → AreSaid m all (givings scope e)
   inside m all scope (identifier s i) h = tt
   inside m all scope (constant s k) h = tt
   inside m all scope (parentheses s a) h = inside m all scope a h
@@ -100,7 +100,7 @@ mutual
   inside m all scope (binary s o at a b) h =
       joint (IsSaid m all) (givings scope a) (givings scope b) (inside m all scope a (left (notes_of m a) (notes_of m b) all h)) (inside m all scope b (right (notes_of m a) (notes_of m b) all h))
 
-  inside_all : (m : Assignment) (all : List Note) (scope : List Entry) (f : ℕ) (args : Arguments) (k : ℕ) (rest : Arguments)
+  inside_all : (m : Assignment) (all : List Finding) (scope : List Entry) (f : ℕ) (args : Arguments) (k : ℕ) (rest : Arguments)
       → Says (names_at_call m (parameters_named m.typed (named_at m.typed f)) args (parameters_named m.typed (named_at m.typed f))) all
       → Says (notes_of_all m (parameters_named m.typed (named_at m.typed f)) args (beyond k (parameters_named m.typed (named_at m.typed f))) rest) all → AreSaid m all (all_givings scope f args k rest)
   inside_all m all scope f args k no_arguments said h = tt
@@ -111,38 +111,38 @@ mutual
       (value_said m all scope (of_parameter f args k) a said (inside m all scope a (left (notes_of m a) (agree_notes m (expected m ds args (beyond k ds)) a) all heads)))
       (inside_all m all scope f args (suc k) rest said (right (notes_of m a ++ agree_notes m (expected m ds args (beyond k ds)) a) (notes_of_all m ds args (drop 1 (beyond k ds)) rest) all h))
 
-in_test : (m : Assignment) (all : List Note) (scope : List Entry) (e : Option Expression) → Says (option_notes (notes_of m) e) all → AreSaid m all (option_givings (givings scope) e)
+in_test : (m : Assignment) (all : List Finding) (scope : List Entry) (e : Option Expression) → Says (option_notes (notes_of m) e) all → AreSaid m all (option_givings (givings scope) e)
 in_test m all scope None h = tt
 in_test m all scope (Some e) h = inside m all scope e h
 
-in_right : (m : Assignment) (all : List Note) (scope : List Entry) (r : Receiver) (want : Option (List Sharing)) (x : Right) → SaidTo m all r → Says (right_notes m want x) all → AreSaid m all (right_givings scope r x)
+in_right : (m : Assignment) (all : List Finding) (scope : List Entry) (r : Receiver) (want : Option (List Sharing)) (x : Right) → SaidTo m all r → Says (right_notes m want x) all → AreSaid m all (right_givings scope r x)
 in_right m all scope r want (value e) said h = value_said m all scope r e said (inside m all scope e (left (notes_of m e) (agree_notes m want e) all h))
 in_right m all scope r want (malloc s n w) said h = in_test m all scope n h
 
-in_simple : (m : Assignment) (all : List Note) (scope : List Entry) (x : Simple) → Says (simple_notes m x) all → AreSaid m all (simple_givings scope x)
+in_simple : (m : Assignment) (all : List Finding) (scope : List Entry) (x : Simple) → Says (simple_notes m x) all → AreSaid m all (simple_givings scope x)
 in_simple m all scope (assign s u x) h =
     joint (IsSaid m all) (givings scope u) (right_givings scope (of_left u) x)
     (inside m all scope u (left (notes_of m u) (write_notes m u) all (left (notes_of m u ++ write_notes m u) (right_notes m (modes_at m u) x) all h)))
     (in_right m all scope (of_left u) (modes_at m u) x tt (right (notes_of m u ++ write_notes m u) (right_notes m (modes_at m u) x) all h))
 in_simple m all scope (does_call e) h = inside m all scope e h
 
-in_initial : (m : Assignment) (all : List Note) (scope : List Entry) (token : ℕ) (want : Option (List Sharing)) (x : Option Right) → Says (option_notes (right_notes m want) x) all → AreSaid m all (option_givings (right_givings scope (of_declared token)) x)
+in_initial : (m : Assignment) (all : List Finding) (scope : List Entry) (token : ℕ) (want : Option (List Sharing)) (x : Option Right) → Says (option_notes (right_notes m want) x) all → AreSaid m all (option_givings (right_givings scope (of_declared token)) x)
 in_initial m all scope token want None h = tt
 in_initial m all scope token want (Some x) h = in_right m all scope (of_declared token) want x tt h
 
-in_local : (m : Assignment) (all : List Note) (scope : List Entry) (l : Local) → Says (local_notes m l) all → AreSaid m all (local_givings scope l)
+in_local : (m : Assignment) (all : List Finding) (scope : List Entry) (l : Local) → Says (local_notes m l) all → AreSaid m all (local_givings scope l)
 in_local m all scope l h = in_initial m all (entry_of l.declaration ∷ scope) l.declaration.name.site.token (wanted m (of_declared l.declaration.name.site.token)) l.initial h
 
-in_first : (m : Assignment) (all : List Note) (scope : List Entry) (f : First) → Says (first_notes m f) all → AreSaid m all (first_givings scope f)
+in_first : (m : Assignment) (all : List Finding) (scope : List Entry) (f : First) → Says (first_notes m f) all → AreSaid m all (first_givings scope f)
 in_first m all scope nothing h = tt
 in_first m all scope (declares l) h = in_local m all scope l h
 in_first m all scope (does x) h = in_simple m all scope x h
 
-in_step : (m : Assignment) (all : List Note) (scope : List Entry) (x : Option Simple) → Says (option_notes (simple_notes m) x) all → AreSaid m all (option_givings (simple_givings scope) x)
+in_step : (m : Assignment) (all : List Finding) (scope : List Entry) (x : Option Simple) → Says (option_notes (simple_notes m) x) all → AreSaid m all (option_givings (simple_givings scope) x)
 in_step m all scope None h = tt
 in_step m all scope (Some x) h = in_simple m all scope x h
 
-in_head : (m : Assignment) (all : List Note) (scope : List Entry) (h : Head) → Says (head_notes m h) all → AreSaid m all (head_givings scope h)
+in_head : (m : Assignment) (all : List Finding) (scope : List Entry) (h : Head) → Says (head_notes m h) all → AreSaid m all (head_givings scope h)
 in_head m all scope h says =
     let inner : List Entry = behind_first scope h.first in
     let heads = left (first_notes m h.first ++ option_notes (notes_of m) h.test) (option_notes (simple_notes m) h.step) all says in
@@ -151,12 +151,12 @@ in_head m all scope h says =
     (in_test m all inner h.test (right (first_notes m h.first) (option_notes (notes_of m) h.test) all heads)))
     (in_step m all inner h.step (right (first_notes m h.first ++ option_notes (notes_of m) h.test) (option_notes (simple_notes m) h.step) all says))
 
-in_returned : (m : Assignment) (all : List Note) (scope : List Entry) (f : ℕ) (e : Option Expression) → Says (option_notes (return_notes m f) e) all → AreSaid m all (option_givings (value_givings scope (of_declared f)) e)
+in_returned : (m : Assignment) (all : List Finding) (scope : List Entry) (f : ℕ) (e : Option Expression) → Says (option_notes (return_notes m f) e) all → AreSaid m all (option_givings (value_givings scope (of_declared f)) e)
 in_returned m all scope f None h = tt
 in_returned m all scope f (Some e) h = value_said m all scope (of_declared f) e tt (inside m all scope e (left (notes_of m e) (agree_notes m (Some (modes_of m (declared_row m.typed written f))) e) all h))
 
 mutual
-  in_statement : (m : Assignment) (all : List Note) (scope : List Entry) (f : ℕ) (s : Statement) → Says (notes_in m f s) all → AreSaid m all (givings_in scope f s)
+  in_statement : (m : Assignment) (all : List Finding) (scope : List Entry) (f : ℕ) (s : Statement) → Says (notes_in m f s) all → AreSaid m all (givings_in scope f s)
   in_statement m all scope f (tree.empty s) h = tt
   in_statement m all scope f (tree.block s inner) h = in_statements m all scope f inner h
   in_statement m all scope f (tree.declare s l) h = in_local m all scope l h
@@ -176,18 +176,18 @@ mutual
       joint (IsSaid m all) (head_givings scope x) (givings_in (behind_first scope x.first) f a) (in_head m all scope x (left (head_notes m x) (notes_in m f a) all h))
       (in_statement m all (behind_first scope x.first) f a (right (head_notes m x) (notes_in m f a) all h))
 
-  in_statements : (m : Assignment) (all : List Note) (scope : List Entry) (f : ℕ) (inner : Statements) → Says (notes_in_all m f inner) all → AreSaid m all (givings_in_all scope f inner)
+  in_statements : (m : Assignment) (all : List Finding) (scope : List Entry) (f : ℕ) (inner : Statements) → Says (notes_in_all m f inner) all → AreSaid m all (givings_in_all scope f inner)
   in_statements m all scope f no_statements h = tt
   in_statements m all scope f (statement a rest) h =
       joint (IsSaid m all) (givings_in scope f a) (givings_in_all (after scope a) f rest) (in_statement m all scope f a (left (notes_in m f a) (notes_in_all m f rest) all h))
       (in_statements m all (after scope a) f rest (right (notes_in m f a) (notes_in_all m f rest) all h))
 
-in_item : (m : Assignment) (all : List Note) (i : Item) → Says (item_notes m i) all → AreSaid m all (item_givings i)
+in_item : (m : Assignment) (all : List Finding) (i : Item) → Says (item_notes m i) all → AreSaid m all (item_givings i)
 in_item m all (structure s) h = tt
 in_item m all (global g) h = tt
 in_item m all (function f) h = in_statements m all (with_parameters [] f.parameters) f.name.site.token f.statements h
 
-in_items : (m : Assignment) (all : List Note) (items : List Item) → Says (items_notes m items) all → AreSaid m all (items_givings items)
+in_items : (m : Assignment) (all : List Finding) (items : List Item) → Says (items_notes m items) all → AreSaid m all (items_givings items)
 in_items m all [] h = tt
 in_items m all (i ∷ rest) h = joint (IsSaid m all) (item_givings i) (items_givings rest) (in_item m all i (left (item_notes m i) (items_notes m rest) all h)) (in_items m all rest (right (item_notes m i) (items_notes m rest) all h))
 

@@ -11,7 +11,7 @@ use Rattle.sharc_names.specs.declared.fault.Named.TheVariants as named
 use Rattle.sharc_ctype.specs.Resolved.{Resolution, named_at, kind_at}
 use Rattle.sharc_mode.specs.Moded.{Assignment}
 use Rattle.sharc_mode.specs.Notes.{agree, base_of}
-use Rattle.sharc_mode.specs.Rows.{Row, written, read, entity_row, cast_row, modes_of}
+use Rattle.sharc_mode.specs.Rows.{Targets, written, read, entity_row, cast_row, modes_of}
 use Rattle.sharc_mode.specs.Sharings.{Sharing, private, readonly, locked, racy, dynamic, lock_of, path_with, sharing_of, mode_of, same, same_named, same_text, same_first, same_second, same_all, text_at}
 use Rattle.sharc_suggest.specs.Applied.{written_or, targets, inserted, first_of, first_new, resolution_with, assignment_with}
 use Rattle.sharc_suggest.specs.Repairs.{cast_to}
@@ -53,7 +53,7 @@ has_expected m e expected first at t source =
     let new : List Mode = targets c.to.levels in
     let stands : first_new c m.typed ≡ first = ap first_of at.stands in
     let modes : (assignment_with c m).modes ≡ inserted first new m.modes = ap (λ (n : ℕ). inserted n new m.modes) stands in
-    ap (λ (r : Row). Some (modes_of (assignment_with c m) r)) (row_is m e expected first at)
+    ap (λ (r : Targets). Some (modes_of (assignment_with c m) r)) (row_is m e expected first at)
     ∙ ap (λ (l : List Mode). Some (map (λ mode. read (resolution_with c m.typed) written (sharing_of mode)) (take (length new) (drop first l)))) modes
     ∙ ap (λ (l : List Mode). Some (map (λ mode. read (resolution_with c m.typed) written (sharing_of mode)) l)) (stretch_added first new m.modes at.within)
     ∙ ap Some (all_read (resolution_with c m.typed) new ∙ modes_back m.typed expected)

@@ -13,7 +13,7 @@ use Rattle.sharc_rewrite.specs.declared.written.Recast.{Recast}
 use Rattle.sharc_rewrite.specs.Recast.{type_at, is_there, around, with_cast}
 use Rattle.sharc_mode.specs.declared.error.Cast.{Cast}
 use Rattle.sharc_mode.specs.declared.error.ModeError.{ModeError}
-use Rattle.sharc_mode.specs.declared.note.Note.{Note}
+use Rattle.sharc_mode.specs.declared.finding.Finding.{Finding}
 use Rattle.sharc_mode.specs.Moded.{Assignment, IsWhole}
 use Rattle.sharc_mode.specs.Notes.{agree_notes}
 use Rattle.sharc_mode.specs.Sharings.{Sharing}
@@ -113,7 +113,7 @@ gone_by m e c placed before behind g split begins quiet errors says =
     let few : met_in_items (begins_at t) m.typed.program.items ≤ 1 = values_begin_apart m.typed.program placed t in
     let many : met_in_items (begins_at t) m.typed.program.items ≡ counted (begins_at t) (before ++ g ∷ behind) = items_counted (begins_at t) m.typed.program.items ∙ ap (counted (begins_at t)) split in
     let low : counted (begins_at t) (before ++ g ∷ behind) ≤ 1 = omega (arith, few, many) in
-    let notes : List Note = notes_about now says.touched in
+    let notes : List Finding = notes_about now says.touched in
     let told : told_at t errors ≡ ones t notes = ap (told_at t) says.are ∙ told_all t now.typed notes notes in
     let sum : ones t notes ≡ told_in t now (givings_with r (before ++ g ∷ behind)) =
     in_program t now says.touched ∙ ap (told_in t now) (items_written r m.typed.program.items ∙ ap (givings_with r) split) in

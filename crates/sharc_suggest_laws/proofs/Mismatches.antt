@@ -7,8 +7,8 @@ use Rattle.sharc_tree.specs.Spans.{span_of}
 use Rattle.sharc_tree.specs.Tree.{Expression}
 use Rattle.sharc_ctype.specs.Resolved.{Resolution, kind_at}
 use Rattle.sharc_mode.specs.declared.error.ModeError.{ModeError}
-use Rattle.sharc_mode.specs.declared.note.Note.{Note}
-use Rattle.sharc_mode.specs.declared.note.Note.TheVariants.{Wrong, Names, Takes}
+use Rattle.sharc_mode.specs.declared.finding.Finding.{Finding}
+use Rattle.sharc_mode.specs.declared.finding.Finding.TheVariants.{Wrong, Names, Takes}
 use Rattle.sharc_mode.specs.Moded.{Assignment}
 use Rattle.sharc_mode.specs.Notes.{agree, agree_notes, base_of, error_where, error_of, errors_by, is_named, mismatch, shown}
 use Rattle.sharc_mode.specs.Rows.{modes_at}
@@ -77,7 +77,7 @@ taken_by : (t : ℕ) (r : Resolution) (s : Span) (x : ℕ) (b : Bool) → told_a
 taken_by t r s x true = refl
 taken_by t r s x false = refl
 
-told_note : (t : ℕ) (r : Resolution) (all : List Note) (n : Note) → told_at t (errors_by r all n) ≡ one t n
+told_note : (t : ℕ) (r : Resolution) (all : List Finding) (n : Finding) → told_at t (errors_by r all n) ≡ one t n
 told_note t r all (Wrong e) =
     let here : told_at t (e ∷ []) ≡ cond (is_mismatch_at t e) 1 0 + 0 = told_more t e [] in
     let same : told_at t (e ∷ []) ≡ cond (is_mismatch_at t e) 1 0 = omega (arith, here) in
@@ -85,7 +85,7 @@ told_note t r all (Wrong e) =
 told_note t r all (Names x) = refl
 told_note t r all (Takes s x) = taken_by t r s x (is_named x all)
 
-pub told_all : (t : ℕ) (r : Resolution) (all notes : List Note) → told_at t (flat_map (errors_by r all) notes) ≡ ones t notes
+pub told_all : (t : ℕ) (r : Resolution) (all notes : List Finding) → told_at t (flat_map (errors_by r all) notes) ≡ ones t notes
 told_all t r all [] = refl
 told_all t r all (n ∷ rest) =
     let both : told_at t (errors_by r all n ++ flat_map (errors_by r all) rest) ≡ told_at t (errors_by r all n) + told_at t (flat_map (errors_by r all) rest) = told_append t (errors_by r all n) (flat_map (errors_by r all) rest) in
@@ -96,7 +96,7 @@ told_all t r all (n ∷ rest) =
 
 pub one_mismatch : OneMismatch
 one_mismatch m errors placed says t =
-    let notes : List Note = notes_about m says.touched in
+    let notes : List Finding = notes_about m says.touched in
     let gs : List Giving = items_givings m.typed.program.items in
     let told : told_at t errors ≡ ones t notes = ap (told_at t) says.are ∙ told_all t m.typed notes notes in
     let of_all : ones t notes ≡ told_in t m gs = in_program t m says.touched in

@@ -15,8 +15,8 @@ use Rattle.sharc_tree.specs.Spans.{span_of}
 use Rattle.sharc_tree.specs.Tree.{Expression, Arguments, Function}
 use Rattle.sharc_ctype.specs.declared.entity.Numbered.{Numbered}
 use Rattle.sharc_ctype.specs.Resolved.{Resolution, named_at}
-use Rattle.sharc_mode.specs.declared.note.Note.{Note}
-use Rattle.sharc_mode.specs.declared.note.Note.TheVariants.{Wrong, Names, Takes}
+use Rattle.sharc_mode.specs.declared.finding.Finding.{Finding}
+use Rattle.sharc_mode.specs.declared.finding.Finding.TheVariants.{Wrong, Names, Takes}
 use Rattle.sharc_mode.specs.Cells.{cell_at, top_of}
 use Rattle.sharc_mode.specs.Expressions.{place_notes}
 use Rattle.sharc_mode.specs.Moded.{Assignment}
@@ -28,26 +28,26 @@ use Rattle.sharc_mode.specs.WellModed.{is_spawned, has_private_target, parameter
 use Rattle.sharc_suggest_laws.specs.Mismatches.{is_mismatch_at}
 
 -- how many mismatches at a token are said
-abbrev pub one : ℕ → Note → ℕ
+abbrev pub one : ℕ → Finding → ℕ
 one t (Wrong e) = cond (is_mismatch_at t e) 1 0
 one t (Names x) = 0
 one t (Takes s x) = 0
 
-abbrev pub ones : ℕ → List Note → ℕ
+abbrev pub ones : ℕ → List Finding → ℕ
 ones t [] = 0
 ones t (n ∷ rest) = one t n + ones t rest
 
-pub ones_append : (t : ℕ) (xs ys : List Note) → ones t (xs ++ ys) ≡ ones t xs + ones t ys
+pub ones_append : (t : ℕ) (xs ys : List Finding) → ones t (xs ++ ys) ≡ ones t xs + ones t ys
 ones_append t [] ys = let same : ones t ys ≡ 0 + ones t ys = omega arith in same
 ones_append t (n ∷ xs) ys =
     let more : ones t (xs ++ ys) ≡ ones t xs + ones t ys = ones_append t xs ys in
     let same : one t n + ones t (xs ++ ys) ≡ one t n + ones t xs + ones t ys = omega (arith, more) in
     same
 
-pub both_quiet : (t : ℕ) (xs ys : List Note) → ones t xs ≡ 0 → ones t ys ≡ 0 → ones t (xs ++ ys) ≡ 0
+pub both_quiet : (t : ℕ) (xs ys : List Finding) → ones t xs ≡ 0 → ones t ys ≡ 0 → ones t (xs ++ ys) ≡ 0
 both_quiet t xs ys left right = let sum : ones t (xs ++ ys) ≡ ones t xs + ones t ys = ones_append t xs ys in omega (arith, sum, left, right)
 
-pub all_quiet : {A : Type 0} (t : ℕ) (f : A → List Note) → ((x : A) → ones t (f x) ≡ 0) → (xs : List A) → ones t (flat_map f xs) ≡ 0
+pub all_quiet : {A : Type 0} (t : ℕ) (f : A → List Finding) → ((x : A) → ones t (f x) ≡ 0) → (xs : List A) → ones t (flat_map f xs) ≡ 0
 all_quiet t f quiet [] = refl
 all_quiet t f quiet (x ∷ xs) = both_quiet t (f x) (flat_map f xs) (quiet x) (all_quiet t f quiet xs)
 
@@ -120,7 +120,7 @@ sibling_quiet : (t : ℕ) (r : Resolution) (s : Span) (x : Option ℕ) → ones 
 sibling_quiet t r s None = refl
 sibling_quiet t r s (Some x) = names_quiet t (variable_named (named_at r x))
 
-if_quiet : (t : ℕ) (b : Bool) (notes : List Note) → ones t notes ≡ 0 → ones t (cond b notes []) ≡ 0
+if_quiet : (t : ℕ) (b : Bool) (notes : List Finding) → ones t notes ≡ 0 → ones t (cond b notes []) ≡ 0
 if_quiet t true notes quiet = quiet
 if_quiet t false notes quiet = refl
 
@@ -152,9 +152,9 @@ level_quiet t r (Some m) = names_in_quiet t r (sharing_of m)
 type_quiet : (t : ℕ) (m : Assignment) (n : Numbered) → ones t (type_notes m n) ≡ 0
 type_quiet t m n =
     let s : Span = n.entity.written.span in
-    let path : List Note = path_notes s (first_unfit_path m.typed (place_of n.entity.role) n.entity.written.ctype.base n.entity.written.ctype.levels) in
-    let mode : List Note = mode_notes s (first_unfit_mode (place_of n.entity.role) n.entity.written.ctype.base n.entity.written.ctype.levels) in
-    let names : List Note = flat_map (names_in_level m.typed) n.entity.written.ctype.levels in
+    let path : List Finding = path_notes s (first_unfit_path m.typed (place_of n.entity.role) n.entity.written.ctype.base n.entity.written.ctype.levels) in
+    let mode : List Finding = mode_notes s (first_unfit_mode (place_of n.entity.role) n.entity.written.ctype.base n.entity.written.ctype.levels) in
+    let names : List Finding = flat_map (names_in_level m.typed) n.entity.written.ctype.levels in
     both_quiet t (private_notes m n ++ path ++ mode ++ private_field_notes m.typed n) names
     (both_quiet t (private_notes m n ++ path ++ mode) (private_field_notes m.typed n)
     (both_quiet t (private_notes m n ++ path) mode
@@ -174,7 +174,7 @@ parameter_quiet t m name d = where_quiet t (has_private_target (modes_of m (decl
 pub spawned_quiet : (t : ℕ) (m : Assignment) (n : ℕ) (list : List Function) → ones t (spawned_notes m n list) ≡ 0
 spawned_quiet t m n [] = refl
 spawned_quiet t m n (f ∷ rest) =
-    let notes : List Note = flat_map (parameter_notes m f.name.text) f.parameters in
+    let notes : List Finding = flat_map (parameter_notes m f.name.text) f.parameters in
     both_quiet t (cond (is_spawned m.typed n) notes []) (spawned_notes m (n + 1) rest)
     (if_quiet t (is_spawned m.typed n) notes (all_quiet t (parameter_notes m f.name.text) (parameter_quiet t m f.name.text) f.parameters)) (spawned_quiet t m (n + 1) rest)
 

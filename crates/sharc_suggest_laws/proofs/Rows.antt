@@ -9,7 +9,7 @@ use Rattle.sharc_ctype.specs.declared.entity.Entity.{Entity}
 use Rattle.sharc_ctype.specs.declared.entity.Numbered.{Numbered}
 use Rattle.sharc_ctype.specs.Entities.{positions_of}
 use Rattle.sharc_mode.specs.Moded.{Assignment}
-use Rattle.sharc_mode.specs.Rows.{Row, written, read, targets_from, entity_row, modes_of}
+use Rattle.sharc_mode.specs.Rows.{Targets, written, read, targets_from, entity_row, modes_of}
 use Rattle.sharc_mode.specs.Sharings.{Sharing, private, readonly, locked, racy, dynamic, sharing_of}
 use Rattle.sharc_suggest.specs.Applied.{inserted}
 use Rattle.sharc_suggest_laws.proofs.Found.{IsMoved, AreMoved}
@@ -17,7 +17,7 @@ use Rattle.sharc_suggest_laws.proofs.Inserted.{stretch_before, stretch_behind}
 
 -- ---- a row that is read as it is written
 
-abbrev pub row_of : ℕ → ℕ → Row
+abbrev pub row_of : ℕ → ℕ → Targets
 row_of first count = record { first = first; count = count; reading = written }
 
 read_written : (r : Resolution) (s : Sharing) → read r written s ≡ s

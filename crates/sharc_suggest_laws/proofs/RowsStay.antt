@@ -29,7 +29,7 @@ use Rattle.sharc_ctype.specs.Expressions.{element_of, operand_need, unary_kind}
 use Rattle.sharc_ctype.specs.Resolved.{Resolution, named_at, globals_in, functions_in, declarations_in, declared_at, global_at, function_at, declaration_at, variable_kind, global_kind_of, result_kind_of, named_kind, called_kind}
 use Rattle.sharc_mode.specs.declared.error.Cast.{Cast}
 use Rattle.sharc_mode.specs.Moded.{Assignment}
-use Rattle.sharc_mode.specs.Rows.{Reading, written, Row, is_constant_named, constant_use, base_use, no_row, deeper, targets_from, entity_row, declared_row, global_row, named_row, result_row, called_row, behind, constant_row, reading_through, unary_row}
+use Rattle.sharc_mode.specs.Rows.{Reading, written, Targets, is_constant_named, constant_use, base_use, no_row, deeper, targets_from, entity_row, declared_row, global_row, named_row, result_row, called_row, behind, constant_row, reading_through, unary_row}
 use Rattle.sharc_mode.specs.Sharings.{is_field}
 use Rattle.sharc_suggest.specs.Applied.{recast_of, targets, resolution_with}
 use Rattle.sharc_suggest.specs.Repairs.{is_call_at}
@@ -59,7 +59,7 @@ many c = length (targets c.to.levels)
 
 -- ---- rows that were moved
 
-pub record IsRowMoved (first count : ℕ) (how later : Reading) (old new : Row) : Type 0 where
+pub record IsRowMoved (first count : ℕ) (how later : Reading) (old new : Targets) : Type 0 where
   pub counted : new.count ≡ old.count
   pub place : (old.count ≡ 0) ⊎ ((((old.first + old.count ≤ first) × (new.first ≡ old.first)) ⊎ ((first ≤ old.first) × (new.first ≡ old.first + count))) × (old.reading ≡ how) × (new.reading ≡ later))
 
@@ -215,8 +215,8 @@ dull_result r named.Known is = refl
 pub call_moved : (m : Assignment) (c : Cast) (frame : Frame m c) (v w : Named) → KeepsName v w → IsRowMoved (first_at m c frame) (many c) written written (called_row m.typed v) (called_row (now m c) w)
 call_moved m c frame v w (inl same) = subst (λ (x : Named). IsRowMoved (first_at m c frame) (many c) written written (called_row m.typed v) (called_row (now m c) x)) same (called_moved m c frame v)
 call_moved m c frame v w (inr p) =
-    subst (λ (x : Row). IsRowMoved (first_at m c frame) (many c) written written (called_row m.typed v) x) (sym (dull_called (now m c) w p.1))
-    (subst (λ (x : Row). IsRowMoved (first_at m c frame) (many c) written written x no_row) (sym (dull_called m.typed v p.0)) (none_moved (first_at m c frame) (many c) written written))
+    subst (λ (x : Targets). IsRowMoved (first_at m c frame) (many c) written written (called_row m.typed v) x) (sym (dull_called (now m c) w p.1))
+    (subst (λ (x : Targets). IsRowMoved (first_at m c frame) (many c) written written x no_row) (sym (dull_called m.typed v p.0)) (none_moved (first_at m c frame) (many c) written written))
 
 pub call_kind_same : (m : Assignment) (c : Cast) (v w : Named) → KeepsName v w → called_kind (now m c) w ≡ called_kind m.typed v
 call_kind_same m c v w (inl same) = ap (called_kind (now m c)) (sym same) ∙ called_kinds m c v
@@ -265,13 +265,13 @@ base_same m c kept Arrow a = use_same m c kept a
 
 -- ---- of an expression
 
-abbrev pub AreRowsMoved : ℕ → ℕ → Option Row → Option Row → Type 0
+abbrev pub AreRowsMoved : ℕ → ℕ → Option Targets → Option Targets → Type 0
 AreRowsMoved first count None None = Unit {0}
 AreRowsMoved first count None (Some n) = ⊥
 AreRowsMoved first count (Some o) None = ⊥
 AreRowsMoved first count (Some o) (Some n) = (at : Option ℕ) × IsRowMoved first count (reading_through at) (reading_through at) o n
 
-deeper_by : (first count : ℕ) (how : Reading) (o n : Row) → IsRowMoved first count how how o n → (b : Bool) → (o.count == 0) ≡ b
+deeper_by : (first count : ℕ) (how : Reading) (o n : Targets) → IsRowMoved first count how how o n → (b : Bool) → (o.count == 0) ≡ b
     → IsRowMoved first count how how (cond b o (record { first = o.first + 1; count = o.count - 1; reading = o.reading })) (cond b n (record { first = n.first + 1; count = n.count - 1; reading = n.reading }))
 deeper_by first count how o n h true is = h
 deeper_by first count how o n h false is = record { counted = ap (λ (k : ℕ). k - 1) h.counted; place = by h.place }
@@ -297,24 +297,24 @@ deeper_by first count how o n h false is = record { counted = ap (λ (k : ℕ). 
     by (inl none) = absurd (some none)
     by (inr w) = inr (shift w.0, w.1, w.2)
 
-deeper_moved : (first count : ℕ) (how : Reading) (o n : Row) → IsRowMoved first count how how o n → IsRowMoved first count how how (deeper o) (deeper n)
+deeper_moved : (first count : ℕ) (how : Reading) (o n : Targets) → IsRowMoved first count how how o n → IsRowMoved first count how how (deeper o) (deeper n)
 deeper_moved first count how o n h =
     subst (λ (b : Bool). IsRowMoved first count how how (deeper o) (cond b n (record { first = n.first + 1; count = n.count - 1; reading = n.reading }))) (ap (λ (k : ℕ). k == 0) (sym h.counted)) (deeper_by first count how o n h (o.count == 0) refl)
 
-behind_moved : (first count : ℕ) (o n : Option Row) → AreRowsMoved first count o n → AreRowsMoved first count (behind o) (behind n)
+behind_moved : (first count : ℕ) (o n : Option Targets) → AreRowsMoved first count o n → AreRowsMoved first count (behind o) (behind n)
 behind_moved first count None None h = tt
 behind_moved first count None (Some n) h = absurd h
 behind_moved first count (Some o) None h = absurd h
 behind_moved first count (Some o) (Some n) h = (h.0, deeper_moved first count (reading_through h.0) o n h.1)
 
-pub element_moved : (first count : ℕ) (o n : Option Row) (b : Bool) → AreRowsMoved first count o n → AreRowsMoved first count (cond b o (behind o)) (cond b n (behind n))
+pub element_moved : (first count : ℕ) (o n : Option Targets) (b : Bool) → AreRowsMoved first count o n → AreRowsMoved first count (cond b o (behind o)) (cond b n (behind n))
 element_moved first count o n true h = h
 element_moved first count o n false h = behind_moved first count o n h
 
 pub no_rows : (first count : ℕ) → AreRowsMoved first count (Some no_row) (Some no_row)
 no_rows first count = (None, none_moved first count written written)
 
-pub unary_moved : (first count : ℕ) (op : UnaryOperator) (o n : Option Row) → AreRowsMoved first count o n → AreRowsMoved first count (unary_row op o) (unary_row op n)
+pub unary_moved : (first count : ℕ) (op : UnaryOperator) (o n : Option Targets) → AreRowsMoved first count o n → AreRowsMoved first count (unary_row op o) (unary_row op n)
 unary_moved first count Negate o n h = no_rows first count
 unary_moved first count Not o n h = no_rows first count
 unary_moved first count Complement o n h = no_rows first count

@@ -15,12 +15,12 @@ use Rattle.sharc_tree.specs.Spans.{span_of}
 use Rattle.sharc_ctype.specs.Resolved.{Resolution, named_at, function_at, functions_in}
 use Rattle.sharc_ctype.specs.Transfers.{parameters_of, parameters_named}
 use Rattle.sharc_mode.specs.declared.error.Cast.{Cast}
-use Rattle.sharc_mode.specs.declared.note.Note.{Note}
-use Rattle.sharc_mode.specs.declared.note.Note.TheVariants.{Names}
+use Rattle.sharc_mode.specs.declared.finding.Finding.{Finding}
+use Rattle.sharc_mode.specs.declared.finding.Finding.TheVariants.{Names}
 use Rattle.sharc_mode.specs.Expressions.{expected}
 use Rattle.sharc_mode.specs.Moded.{Assignment}
 use Rattle.sharc_mode.specs.Notes.{is_named, names_of, names_in, names_in_all, names_read, parameter_names, taken_variable}
-use Rattle.sharc_mode.specs.Rows.{Reading, at_call, Row, is_constant_named, constant_use, argument_use, lock_through, with_base, lock_for, read_lock, read, reading_through, declared_row, modes_of}
+use Rattle.sharc_mode.specs.Rows.{Reading, at_call, Targets, is_constant_named, constant_use, argument_use, lock_through, with_base, lock_for, read_lock, read, reading_through, declared_row, modes_of}
 use Rattle.sharc_mode.specs.Sharings.{Lock, Sharing, private, readonly, locked, racy, dynamic, sharing_of, is_field, variable_named, object_named, text_at}
 use Rattle.sharc_suggest.specs.Applied.{recast_of, targets, inserted, assignment_with}
 use Rattle.sharc_suggest.specs.Repairs.{is_free, is_call_at, keeps_named, keeps, keeps_all}
@@ -54,7 +54,7 @@ read_all r new good how later alike (x ∷ rest) are = ap₂ (λ (s : Sharing) (
 abbrev modes_with : Resolution → Reading → ℕ → ℕ → List Mode → List Sharing
 modes_with r how first count modes = map (λ mode. read r how (sharing_of mode)) (take count (drop first modes))
 
-pub modes_moved : (m : Assignment) (c : Cast) (frame : Frame m c) → first_at m c frame ≤ length m.modes → (good : Sharing → Type 0) (how later : Reading) → ReadAlike m.typed (now m c) good how later → (old new : Row)
+pub modes_moved : (m : Assignment) (c : Cast) (frame : Frame m c) → first_at m c frame ≤ length m.modes → (good : Sharing → Type 0) (how later : Reading) → ReadAlike m.typed (now m c) good how later → (old new : Targets)
     → IsRowMoved (first_at m c frame) (many c) how later old new → AllByRecursion good (modes_of m old) → modes_of (assignment_with c m) new ≡ modes_of m old
 modes_moved m c frame fits good how later alike old new moved are = by moved.place
   where
@@ -131,7 +131,7 @@ no_modes l is = cc
 one_modes : (a b : List Sharing) → Some a ≡ Some b → a ≡ b
 one_modes a b is = cc
 
-pub left_wanted : (m : Assignment) (c : Cast) (frame : Frame m c) → first_at m c frame ≤ length m.modes → (scope : List Entry) (want : List Sharing) → keeps_all m.typed scope want ≡ true → (old new : Option Row)
+pub left_wanted : (m : Assignment) (c : Cast) (frame : Frame m c) → first_at m c frame ≤ length m.modes → (scope : List Entry) (want : List Sharing) → keeps_all m.typed scope want ≡ true → (old new : Option Targets)
     → AreRowsMoved (first_at m c frame) (many c) old new → option_map (modes_of m) old ≡ Some want → option_map (modes_of (assignment_with c m)) new ≡ Some want
 left_wanted m c frame fits scope want kept None new moved is = absurd (no_modes want is)
 left_wanted m c frame fits scope want kept (Some old) None moved is = absurd moved
@@ -195,11 +195,11 @@ beyond_clear m zero ds h = h
 beyond_clear m (suc k) ds h = dropped (λ (d : Declaration). IsClearOf m d.name.site.token) (beyond k ds) (beyond_clear m k ds h)
 
 -- what is named in what the parameters from one on expect is named at the call
-more_named : (f : Declaration → List Note) (x : ℕ) (ds : List Declaration) → is_named x (flat_map f (drop 1 ds)) ≡ true → is_named x (flat_map f ds) ≡ true
+more_named : (f : Declaration → List Finding) (x : ℕ) (ds : List Declaration) → is_named x (flat_map f (drop 1 ds)) ≡ true → is_named x (flat_map f ds) ≡ true
 more_named f x [] is = is
 more_named f x (d ∷ rest) is = named_right x (f d) (flat_map f rest) is
 
-pub beyond_named : (f : Declaration → List Note) (x k : ℕ) (ds : List Declaration) → is_named x (flat_map f (beyond k ds)) ≡ true → is_named x (flat_map f ds) ≡ true
+pub beyond_named : (f : Declaration → List Finding) (x k : ℕ) (ds : List Declaration) → is_named x (flat_map f (beyond k ds)) ≡ true → is_named x (flat_map f ds) ≡ true
 beyond_named f x zero ds is = is
 beyond_named f x (suc k) ds is = beyond_named f x k ds (more_named f x (beyond k ds) is)
 
@@ -355,7 +355,7 @@ parameter_wanted m c frame fits tells ds all e at [] clear want told is = absurd
 parameter_wanted m c frame fits tells ds all e at (d ∷ rest) clear want told is =
     let how : Reading = at_call ds all in
     let later : Reading = at_call ds (all_with_cast (recast_of m.typed c) all) in
-    let old : Row = declared_row m.typed how d.name.site.token in
+    let old : Targets = declared_row m.typed how d.name.site.token in
     let same : modes_of m old ≡ want = one_modes (modes_of m old) want is in
     let of_first : (z : ℕ) → is_named z (names_in_all m.typed want) ≡ true → tells z ≡ true =
     λ z h. told z

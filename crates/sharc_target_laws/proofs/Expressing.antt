@@ -35,7 +35,7 @@ use Rattle.sharc_ctype_laws.specs.Found.{IsFound, EachTypeFound}
 use Rattle.sharc_ctype_laws.specs.Laws.{MeetsConstraints, OneType}
 use Rattle.sharc_mode.specs.Moded.{Assignment, position_count}
 use Rattle.sharc_mode.specs.Notes.{base_of}
-use Rattle.sharc_mode.specs.Rows.{Reading, written, Row, no_row, deeper, targets_from, entity_row, declared_row, global_row, named_row, result_row, called_row, behind, constant_row, reading_through, base_use, row_at, modes_of}
+use Rattle.sharc_mode.specs.Rows.{Reading, written, Targets, no_row, deeper, targets_from, entity_row, declared_row, global_row, named_row, result_row, called_row, behind, constant_row, reading_through, base_use, row_at, modes_of}
 use Rattle.sharc_mode_laws.specs.Constructs.{IsEntity}
 use Rattle.sharc_target_laws.specs.Laws.{IsRowOf, ExpressionsFound, VariablesFound, ResultsFound}
 use Rattle.sharc_target_laws.specs.Shapes.{Form, form_of, row_shape, shapes, stars_in}
@@ -59,7 +59,7 @@ closed_at m b f [] some has = absurd (omega (arith, some))
 closed_at m b f (g ∷ below) some has = shapes_closed m b f g below has
 
 module _ (m : Assignment) where
-  abbrev made : ℕ → ℕ → Reading → Row
+  abbrev made : ℕ → ℕ → Reading → Targets
   made first count how = record { first = first; count = count; reading = how }
 
   deeper_by : (b : Base) (n first count : ℕ) (how : Reading) → count ≡ n + 1 → IsRowOf m (object b (n + 1)) (made first count how) → IsRowOf m (object b n) (made (first + 1) (count - 1) how)
@@ -83,7 +83,7 @@ module _ (m : Assignment) where
           (closed_at m b t.0 (map mode_form (take (count - 1) (drop (first + 1) m.modes))) (omega (arith, size, some))
           (subst (λ fs. Contains (shapes m) (record { base = b; forms = fs })) (row_forms m (made first count how) ∙ whole) (w.there positive)))
 
-  deeper_row : (b : Base) (n : ℕ) (row : Row) → IsRowOf m (object b (n + 1)) row → IsRowOf m (object b n) (deeper row)
+  deeper_row : (b : Base) (n : ℕ) (row : Targets) → IsRowOf m (object b (n + 1)) row → IsRowOf m (object b n) (deeper row)
   deeper_row b n row w = by (row.count == 0) refl
     where
       by : (z : Bool) → (row.count == 0) ≡ z → IsRowOf m (object b n) (cond z row (made (row.first + 1) (row.count - 1) row.reading))
@@ -93,7 +93,7 @@ module _ (m : Assignment) where
   none_of : (k : Kind) → stars_in k ≡ 0 → IsRowOf m k no_row
   none_of k none = record { ends = omega arith; count = sym none; there = λ some. absurd (omega (arith, some)) }
 
-  same_kind : (j k : Kind) (row : Row) → base_of j ≡ base_of k → stars_in j ≡ stars_in k → IsRowOf m j row → IsRowOf m k row
+  same_kind : (j k : Kind) (row : Targets) → base_of j ≡ base_of k → stars_in j ≡ stars_in k → IsRowOf m j row → IsRowOf m k row
   same_kind j k row b s w = record { ends = w.ends; count = w.count ∙ s; there = λ some. subst (λ x. Contains (shapes m) (row_shape m x row)) b (w.there some) }
 
   -- ---- entities
@@ -233,7 +233,7 @@ module _ (m : Assignment) where
     name_row _ _ _ (of_conditions {i} c names text) = subst (λ w. IsRowOf m kinds.function (named_row r written w)) (sym names) (none_of kinds.function refl)
 
     -- ---- expressions
-    from : (k : Kind) (x row : Row) → Some x ≡ Some row → IsRowOf m k x → IsRowOf m k row
+    from : (k : Kind) (x row : Targets) → Some x ≡ Some row → IsRowOf m k x → IsRowOf m k row
     from k x row is w = subst (IsRowOf m k) (same_some x row is) w
 
     common_plain : (a b t : Kind) → Common a b t → stars_in t ≡ 0
@@ -241,7 +241,7 @@ module _ (m : Assignment) where
     common_plain _ b _ left_long = refl
     common_plain a _ _ right_long = refl
 
-    constant_row_of : (c : Constant) (row : Row) → constant_row c ≡ Some row → IsRowOf m (constant_kind c) row
+    constant_row_of : (c : Constant) (row : Targets) → constant_row c ≡ Some row → IsRowOf m (constant_kind c) row
     constant_row_of (Number n) row is = from (constant_kind (Number n)) no_row row is (none_of (constant_kind (Number n)) (plain n.number_type))
       where
         plain : (t : NumberType) → stars_in (number_kind t) ≡ 0
@@ -250,12 +250,12 @@ module _ (m : Assignment) where
     constant_row_of (Character b) row is = from int no_row row is (none_of int refl)
     constant_row_of Null row is = absurd (none_some row is)
 
-    behind_of : (b : Base) (n : ℕ) (o : Option Row) → ((x : Row) → o ≡ Some x → IsRowOf m (object b (n + 1)) x) → (row : Row) → behind o ≡ Some row → IsRowOf m (object b n) row
+    behind_of : (b : Base) (n : ℕ) (o : Option Targets) → ((x : Targets) → o ≡ Some x → IsRowOf m (object b (n + 1)) x) → (row : Targets) → behind o ≡ Some row → IsRowOf m (object b n) row
     behind_of b n None all row is = absurd (none_some row is)
     behind_of b n (Some x) all row is = from (object b n) (deeper x) row is (deeper_row b n x (all x refl))
 
     module _ (kinds_are : (e : Expression) (k : Kind) → HasType r e k → kind_at r e ≡ k) where
-      expression_row : (e : Expression) (k : Kind) → HasType r e k → AllByRecursion (CastFound r) (expressions e) → (row : Row) → row_at r e ≡ Some row → IsRowOf m k row
+      expression_row : (e : Expression) (k : Kind) → HasType r e k → AllByRecursion (CastFound r) (expressions e) → (row : Targets) → row_at r e ≡ Some row → IsRowOf m k row
       expression_row _ _ (typing.a_variable {s} {i} {token} {d} names at text) casts row is =
           from (declared_kind d.written) _ row is (subst (λ w. IsRowOf m (declared_kind d.written) (named_row r written w)) (sym names) (variable_row token d at written))
       expression_row _ _ (typing.a_global {s} {i} {n} {g} names at text) casts row is =

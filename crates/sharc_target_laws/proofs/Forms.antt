@@ -9,7 +9,7 @@ use Rattle.sharc_ctype.specs.declared.entity.Numbered.{Numbered}
 use Rattle.sharc_ctype.specs.Entities.{positions_of}
 use Rattle.sharc_ctype.specs.Resolved.{Resolution}
 use Rattle.sharc_mode.specs.Moded.{Assignment}
-use Rattle.sharc_mode.specs.Rows.{Reading, written, Row, targets_from, entity_row, read, modes_of}
+use Rattle.sharc_mode.specs.Rows.{Reading, written, Targets, targets_from, entity_row, read, modes_of}
 use Rattle.sharc_mode.specs.Sharings.{Sharing, private, readonly, locked, racy, dynamic, sharing_of}
 use Rattle.sharc_target_laws.specs.Shapes.{Form, form_of}
 use Rattle.sharc_target_laws.proofs.Lists.{same_some}
@@ -33,7 +33,7 @@ forms_read r how [] = refl
 forms_read r how (x ∷ rest) = two _ _ _ _ (read_form r how (sharing_of x)) (forms_read r how rest)
 
 -- so the forms of a row are those of its positions
-pub row_forms : (m : Assignment) (row : Row) → map form_of (modes_of m row) ≡ map mode_form (take row.count (drop row.first m.modes))
+pub row_forms : (m : Assignment) (row : Targets) → map form_of (modes_of m row) ≡ map mode_form (take row.count (drop row.first m.modes))
 row_forms m row = forms_read m.typed row.reading (take row.count (drop row.first m.modes))
 
 pub same_forms : (m : Assignment) (first count : ℕ) (a b : Reading) → map form_of (modes_of m (record { first = first; count = count; reading = a })) ≡ map form_of (modes_of m (record { first = first; count = count; reading = b }))
@@ -121,7 +121,7 @@ taken_length zero zero (x ∷ rest) low = refl
 taken_length (suc c) zero (x ∷ rest) low = ap suc (taken_length c zero rest (omega (arith, low)))
 taken_length count (suc n) (x ∷ rest) low = taken_length count n rest (omega (arith, low))
 
-pub row_length : (m : Assignment) (row : Row) → row.first + row.count ≤ length m.modes → length (map form_of (modes_of m row)) ≡ row.count
+pub row_length : (m : Assignment) (row : Targets) → row.first + row.count ≤ length m.modes → length (map form_of (modes_of m row)) ≡ row.count
 row_length m row low = ap length (row_forms m row) ∙ taken_length row.count row.first m.modes low
 
 entity_length_by : (m : Assignment) (first count : ℕ) (what : Role) → first + count ≤ length m.modes → length (map form_of (modes_of m (targets_from what (record { first = first; count = count; reading = written })))) ≡ count - skipped what

@@ -31,7 +31,7 @@ use Rattle.sharc_ctype_laws.specs.Constraints as typing
 use Rattle.sharc_mode.specs.Cells.{is_mutex_kind, top_of, field_cell, first_of, pointed, named_cell, global_cell, declared_cell, field_named, cell_at}
 use Rattle.sharc_mode.specs.Moded.{Assignment}
 use Rattle.sharc_mode.specs.Notes.{base_of}
-use Rattle.sharc_mode.specs.Rows.{Reading, written, Row, constant_row, deeper, declared_row, global_row, named_row, reading_through, base_use, behind, row_at, read, modes_of, modes_at}
+use Rattle.sharc_mode.specs.Rows.{Reading, written, Targets, constant_row, deeper, declared_row, global_row, named_row, reading_through, base_use, behind, row_at, read, modes_of, modes_at}
 use Rattle.sharc_mode.specs.Sharings.{Lock, Sharing, locked, lock_of, sharing_of}
 use Rattle.sharc_mode.specs.Sharings as sharings
 use Rattle.sharc_mode_laws.specs.Constructs.{IsExpression}
@@ -75,7 +75,7 @@ tail_of f count (suc n) [] low = absurd (omega (arith, low))
 tail_of f count (suc n) (x ∷ rest) low = let w = tail_of f count n rest (omega (arith, low)) in let e : suc (n + 1) ≡ suc n + 1 = omega arith in (w.0, w.1 ∙ ap (λ k. w.0 ∷ map f (take count (drop k (x ∷ rest)))) e)
 
 -- a row with some targets begins with one
-record IsRow (m : Assignment) (row : Row) : Type 0 where
+record IsRow (m : Assignment) (row : Targets) : Type 0 where
   first : Sharing
   below : List Sharing
   modes : modes_of m row ≡ first ∷ below
@@ -94,7 +94,7 @@ row_by m first count n how many ends =
           ∙ ap (λ k. map f (take k (drop (first + 1) m.modes))) less;
     }
 
-row_is : (m : Assignment) (k : Kind) (row : Row) → IsRowOf m k row → 0 < row.count → IsRow m row
+row_is : (m : Assignment) (k : Kind) (row : Targets) → IsRowOf m k row → 0 < row.count → IsRow m row
 row_is m k row w some = let ends = w.ends in row_by m row.first row.count (row.count - 1) row.reading (omega (arith, some)) ends
 
 -- ---- kinds
@@ -142,7 +142,7 @@ mutex_not b other is = true≢false (sym (ap (λ x. is_mutex_kind (object x 0)) 
 pub record AreReady (m : Assignment) : Type 0 where
   pub types : (e : Expression) → IsExpression m e → HasType m.typed e (kind_at m.typed e)
   pub one : (e : Expression) (k : Kind) → HasType m.typed e k → kind_at m.typed e ≡ k
-  pub rows : (e : Expression) → IsExpression m e → (row : Row) → row_at m.typed e ≡ Some row → IsRowOf m (kind_at m.typed e) row
+  pub rows : (e : Expression) → IsExpression m e → (row : Targets) → row_at m.typed e ≡ Some row → IsRowOf m (kind_at m.typed e) row
   pub members : (name : List ℕ) (s : StructDefinition) → struct_named (structs_in m.typed.program.items) name ≡ Some s → (d : Declaration) → Contains s.fields d → (q : FieldMode) → IsMemberAt m name d q
   pub struct_found : (name : List ℕ) (s : StructDefinition) → struct_named (structs_in m.typed.program.items) name ≡ Some s → Contains (structs_in m.typed.program.items) s
   pub member_found : (fields : List Declaration) (name : List ℕ) (d : Declaration) → field_of fields name ≡ Some d → Contains fields d
@@ -156,13 +156,13 @@ module _ (m : Assignment) (ready : AreReady m) where
   abbrev r : Resolution
   r = m.typed
 
-  some_row : (e : Expression) (k : Kind) → HasType r e k → is_null k ≡ false → (row : Row) × (row_at r e ≡ Some row)
+  some_row : (e : Expression) (k : Kind) → HasType r e k → is_null k ≡ false → (row : Targets) × (row_at r e ≡ Some row)
   some_row _ _ (typing.a_variable {s} {i} names at text) other = (_, refl)
   some_row _ _ (typing.a_global {s} {i} names at text) other = (_, refl)
   some_row _ _ (typing.a_function {s} {i} callee) other = (_, refl)
   some_row _ _ (typing.a_constant {s} {c}) other = by c other
     where
-      by : (c : _) → is_null (constant_kind c) ≡ false → (row : Row) × (constant_row c ≡ Some row)
+      by : (c : _) → is_null (constant_kind c) ≡ false → (row : Targets) × (constant_row c ≡ Some row)
       by (Number n) other = (_, refl)
       by (Character b) other = (_, refl)
       by Null other = absurd (true≢false other)
@@ -194,7 +194,7 @@ module _ (m : Assignment) (ready : AreReady m) where
 
   -- ---- what a pointer refers to
   record IsPointee (p : Expression) (b : Base) (n : ℕ) : Type 0 where
-    row : Row
+    row : Targets
     row_found : row_at r p ≡ Some row
     some : 0 < row.count
     first : Sharing
@@ -210,7 +210,7 @@ module _ (m : Assignment) (ready : AreReady m) where
       let found = some_row p (object b (n + 1)) h refl in
       by found.0 found.1 (subst (λ k. IsRowOf m k found.0) (ready.one p (object b (n + 1)) h) (ready.rows p stands found.0 found.1))
     where
-      by : (row : Row) → row_at r p ≡ Some row → IsRowOf m (object b (n + 1)) row → IsPointee p b n
+      by : (row : Targets) → row_at r p ≡ Some row → IsRowOf m (object b (n + 1)) row → IsPointee p b n
       by row at w =
           let count = w.count in
           let positive : 0 < row.count = omega (arith, count) in
@@ -250,7 +250,7 @@ module _ (m : Assignment) (ready : AreReady m) where
         mode = λ other. subst (λ x. ModeFits r 0 modes x (single Q b).mode) (sym cell) (subst (ModeFits r 0 modes q) (sym (single_mode Q b plain (mutex_not b (sym (ap is_mutex_kind flat) ∙ other)))) fit);
       }
 
-  scalar : (e : Expression) (b : Base) (n : ℕ) (first : Sharing) (below : List Sharing) → kind_at r e ≡ object b n → (n ≡ 0 → is_struct_base b ≡ false) → length below ≡ n → (row : Row) → row_at r e ≡ Some row → modes_of m row ≡ below → cell_at m e ≡ first
+  scalar : (e : Expression) (b : Base) (n : ℕ) (first : Sharing) (below : List Sharing) → kind_at r e ≡ object b n → (n ≡ 0 → is_struct_base b ≡ false) → length below ≡ n → (row : Targets) → row_at r e ≡ Some row → modes_of m row ≡ below → cell_at m e ≡ first
       → cell_locks m e ≡ below_locks (form_of first ∷ map form_of below) → IsScalar e b first below
   scalar e b n first [] kind plain many row at modes cell told =
       let none : n ≡ 0 = sym many in

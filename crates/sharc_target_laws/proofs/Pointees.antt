@@ -14,7 +14,7 @@ use Rattle.sharc_ctype.specs.Resolved.{Resolution, named_at, structs_in}
 use Rattle.sharc_mode.specs.Cells.{first_of}
 use Rattle.sharc_mode.specs.Moded.{Assignment}
 use Rattle.sharc_mode.specs.Notes.{base_of}
-use Rattle.sharc_mode.specs.Rows.{Row, written, declared_row, modes_of}
+use Rattle.sharc_mode.specs.Rows.{Targets, written, declared_row, modes_of}
 use Rattle.sharc_mode.specs.Sharings.{Lock, Sharing, private, readonly, locked, racy, dynamic, same, same_all}
 use Rattle.sharc_mode.specs.Sharings as sharings
 use Rattle.sharc_meaning.specs.Cells.{element_cells}
@@ -54,7 +54,7 @@ starts_same : (modes : List Sharing) → 0 < length modes → starts_private (ma
 starts_same [] some = absurd (omega (arith, some))
 starts_same (q ∷ below) some = private_same q
 
-pub many_modes : (m : Assignment) (k : Kind) (row : Row) → IsRowOf m k row → length (modes_of m row) ≡ stars_in k
+pub many_modes : (m : Assignment) (k : Kind) (row : Targets) → IsRowOf m k row → length (modes_of m row) ≡ stars_in k
 many_modes m k row w = sym (map_length form_of (modes_of m row)) ∙ row_length m row w.ends ∙ w.count
 
 pub pointees_fit : PointeesFit

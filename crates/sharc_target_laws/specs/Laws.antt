@@ -23,7 +23,7 @@ use Rattle.sharc_ctype_laws.specs.Constraints.{struct_named}
 use Rattle.sharc_mode.specs.Flows.{IsLeastAssignment}
 use Rattle.sharc_mode.specs.Moded.{Assignment, position_count}
 use Rattle.sharc_mode.specs.Notes.{base_of}
-use Rattle.sharc_mode.specs.Rows.{Reading, written, Row, declared_row, row_at}
+use Rattle.sharc_mode.specs.Rows.{Reading, written, Targets, declared_row, row_at}
 use Rattle.sharc_mode.specs.WellModed.{WellModed}
 use Rattle.sharc_mode_laws.specs.Constructs.{IsExpression}
 use Rattle.sharc_meaning.specs.Cells.{element_cells, field_place}
@@ -59,7 +59,7 @@ TargetsAre = (m : Assignment) → IsResolved m.typed → IsPlaced m.typed.progra
 
 -- ---- rows of the source
 -- the row of what has this type: its positions are positions of the program, one for each star, and the shape of its first target is one of the program
-pub record IsRowOf (m : Assignment) (k : Kind) (row : Row) : Type 0 where
+pub record IsRowOf (m : Assignment) (k : Kind) (row : Targets) : Type 0 where
   pub ends : row.first + row.count ≤ length m.modes
   pub count : row.count ≡ stars_in k
   pub there : 0 < row.count → Contains (shapes m) (row_shape m (base_of k) row)
@@ -67,7 +67,7 @@ pub record IsRowOf (m : Assignment) (k : Kind) (row : Row) : Type 0 where
 -- of each expression in a function
 abbrev pub ExpressionsFound : Type 0
 ExpressionsFound = (m : Assignment) → IsResolved m.typed → IsPlaced m.typed.program → IsLow m.typed.program → length m.modes ≡ position_count m.typed
-    → (e : Expression) → IsExpression m e → (row : Row) → row_at m.typed e ≡ Some row → IsRowOf m (kind_at m.typed e) row
+    → (e : Expression) → IsExpression m e → (row : Targets) → row_at m.typed e ≡ Some row → IsRowOf m (kind_at m.typed e) row
 
 -- of each field, parameter and local, however it is read
 abbrev pub VariablesFound : Type 0

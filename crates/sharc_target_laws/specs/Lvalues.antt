@@ -13,7 +13,7 @@ use Rattle.sharc_ctype.specs.Resolved.{Resolution, IsResolved, named_at, named_k
 use Rattle.sharc_mode.specs.Cells.{is_mutex_kind, is_behind_pointer, cell_at}
 use Rattle.sharc_mode.specs.Flows.{IsLeastAssignment}
 use Rattle.sharc_mode.specs.Moded.{Assignment}
-use Rattle.sharc_mode.specs.Rows.{Reading, Row, written, declared_row, named_row, row_at, modes_of, modes_at}
+use Rattle.sharc_mode.specs.Rows.{Reading, Targets, written, declared_row, named_row, row_at, modes_of, modes_at}
 use Rattle.sharc_mode.specs.Sharings.{Lock, Sharing, private, readonly, locked, racy, dynamic}
 use Rattle.sharc_mode.specs.WellModed.{WellModed}
 use Rattle.sharc_mode_laws.specs.Constructs.{IsExpression}
@@ -70,7 +70,7 @@ cell_locks m (unary s Dereference a) = locks_below (modes_at m a)
 cell_locks m _ = []
 
 pub record PointerFits (m : Assignment) (e : Expression) (n : ℕ) (modes : List Sharing) (holds : Content) : Type 0 where
-  pub row : Row
+  pub row : Targets
   pub is : row_at m.typed e ≡ Some row
   pub locks : List FieldLock
   pub fit : LocksFit m e n modes locks
@@ -106,7 +106,7 @@ pub record IsBehindPointer (m : Assignment) (e : Expression) (n : ℕ) : Type 0 
   pub pointer : Expression
   pub leads : pointer_of m.typed e ≡ Some pointer
   pub stands : IsExpression m pointer
-  pub row : Row
+  pub row : Targets
   pub row_is : row_at m.typed pointer ≡ Some row
   pub some : 0 < row.count
   pub inside : n < cells_of (targets_of m) (number m (expression_shape m pointer row))

@@ -6,7 +6,7 @@ use Rattle.sharc_ctype.specs.Resolved.{Resolution, structs_in}
 use Rattle.sharc_mode.specs.Cells.{pointed}
 use Rattle.sharc_mode.specs.Moded.{Assignment}
 use Rattle.sharc_mode.specs.Notes.{base_of}
-use Rattle.sharc_mode.specs.Rows.{Row, modes_of}
+use Rattle.sharc_mode.specs.Rows.{Targets, modes_of}
 use Rattle.sharc_mode.specs.Sharings.{Sharing, is_private, same_all}
 use Rattle.sharc_meaning.specs.Cells.{element_cells}
 use Rattle.sharc_flat.specs.Flattened.{layout_of}
@@ -16,11 +16,11 @@ use Rattle.sharc_target_laws.specs.Shapes.{form_of, row_shape, kind_of, shapes, 
 use Rattle.sharc_target_laws.specs.Targets.{lock_count, type_locks, shape_fields, targets_of}
 
 -- the number of what a pointer of this type and row refers to
-abbrev pub pointee : Assignment → Kind → Row → ℕ
+abbrev pub pointee : Assignment → Kind → Targets → ℕ
 pointee m k row = number m (row_shape m (base_of k) row)
 
 -- its elements are those of the source: so many cells, of this layout, with these fields, and private data or not
-pub record PointeeFits (m : Assignment) (k : Kind) (row : Row) : Type 0 where
+pub record PointeeFits (m : Assignment) (k : Kind) (row : Targets) : Type 0 where
   pub shape : Contains (shapes m) (row_shape m (base_of k) row)
   pub cells : cells_of (targets_of m) (pointee m k row) ≡ element_cells m.typed (element_kind k)
   pub layout : layout_of (structs_in m.typed.program.items) (element_kind k) ≡ layout_of (structs_in m.typed.program.items) (kind_of (row_shape m (base_of k) row))
@@ -29,7 +29,7 @@ pub record PointeeFits (m : Assignment) (k : Kind) (row : Row) : Type 0 where
 
 -- of each pointer that has such a row
 abbrev pub PointeesFit : Type 0
-PointeesFit = (m : Assignment) (k : Kind) (row : Row) → IsRowOf m k row → is_pointer k ≡ true → PointeeFits m k row
+PointeesFit = (m : Assignment) (k : Kind) (row : Targets) → IsRowOf m k row → is_pointer k ≡ true → PointeeFits m k row
 
 -- ---- casts
 -- no lock of the element's own type
@@ -48,13 +48,13 @@ pub data IsRecast (a b : List Sharing) : Content → Content → Type 0 where
   of_types : (p q : Sharing) (below others : List Sharing) (target : ℕ) → a ≡ p ∷ below → b ≡ q ∷ others
       → IsRecast a b (Pointer (record { target = target; locks = type_locks (lock_count (form_of p)) (map form_of below) })) (Pointer (record { target = target; locks = type_locks (lock_count (form_of q)) (map form_of others) }))
 
-pub record RecastFits (m : Assignment) (k : Kind) (from to : Row) : Type 0 where
+pub record RecastFits (m : Assignment) (k : Kind) (from to : Targets) : Type 0 where
   pub cells : cells_of (targets_of m) (pointee m k from) ≡ cells_of (targets_of m) (pointee m k to)
   pub contents : (field : ℕ) → IsRecast (modes_of m from) (modes_of m to) (field_at (targets_of m) (pointee m k from) field).holds (field_at (targets_of m) (pointee m k to) field).holds
 
 -- a cast that keeps the kinds of the modes from depth 2 on leaves what the cells are and refer to
 abbrev pub RecastsFit : Type 0
-RecastsFit = (m : Assignment) (k : Kind) (from to : Row) → IsRowOf m k from → IsRowOf m k to → is_pointer k ≡ true → map form_of (drop 1 (modes_of m from)) ≡ map form_of (drop 1 (modes_of m to)) → RecastFits m k from to
+RecastsFit = (m : Assignment) (k : Kind) (from to : Targets) → IsRowOf m k from → IsRowOf m k to → is_pointer k ≡ true → map form_of (drop 1 (modes_of m from)) ≡ map form_of (drop 1 (modes_of m to)) → RecastFits m k from to
 
 -- modes that are the same are of one kind, whatever their paths are called
 abbrev pub SameForms : Type 0

@@ -10,7 +10,7 @@ use Rattle.sharc_ctype.specs.Entities.{entities_in, numbered}
 use Rattle.sharc_ctype.specs.Resolved.{kind_at}
 use Rattle.sharc_mode.specs.Moded.{Assignment}
 use Rattle.sharc_mode.specs.Notes.{base_of}
-use Rattle.sharc_mode.specs.Rows.{Row, written, entity_row, modes_of}
+use Rattle.sharc_mode.specs.Rows.{Targets, written, entity_row, modes_of}
 use Rattle.sharc_mode.specs.Sharings.{Sharing, private, readonly, locked, racy, dynamic}
 
 -- a mode without its lock path
@@ -38,7 +38,7 @@ abbrev pub shape_of : Base → List Sharing → Shape
 shape_of b modes = record { base = b; forms = map form_of modes }
 
 -- the shape of what a row's first target is
-abbrev pub row_shape : Assignment → Base → Row → Shape
+abbrev pub row_shape : Assignment → Base → Targets → Shape
 row_shape m b row = shape_of b (modes_of m row)
 
 -- ---- the shapes of a program
@@ -102,7 +102,7 @@ abbrev pub kind_of : Shape → Kind
 kind_of s = object s.base (length s.forms - 1)
 
 -- the shape of what the value of an expression refers to, whose type has this row
-abbrev pub expression_shape : Assignment → Expression → Row → Shape
+abbrev pub expression_shape : Assignment → Expression → Targets → Shape
 expression_shape m e row = row_shape m (base_of (kind_at m.typed e)) row
 
 -- the stars of a type: so many targets it has

@@ -81,12 +81,12 @@ fn add_levels(levels: &[Option<Mode>], text: &mut Vec<u8>) -> Result<(), AllocEr
 }
 
 /// The text of a type: the base and its mode where it is known, then for each star ` *` and its mode, with a blank before each mode.
-pub fn print_type(alloc: Global, t: &CType) -> Result<Vec<u8>, AllocError>
-    ensures { IfOk result (λ v. v.items ≡ type_text t.now) }
+pub fn print_type(alloc: Global, ctype: &CType) -> Result<Vec<u8>, AllocError>
+    ensures { IfOk result (λ v. v.items ≡ type_text ctype.now) }
 {
     let mut text = Vec::new(alloc);
-    add_base(&t.base, &mut text)?;
-    add_levels(t.levels.as_slice(), &mut text)?;
+    add_base(&ctype.base, &mut text)?;
+    add_levels(ctype.levels.as_slice(), &mut text)?;
     Ok(text)
 }
 
@@ -128,12 +128,17 @@ fn add_tokens(tokens: &[Token], text: &mut Vec<u8>) -> Result<(), AllocError>
 }
 
 /// The text of the tokens from number `from` to number `to`, both included, with a blank only between two tokens that are both words or numbers.
-pub fn print_span(alloc: Global, p: &Program, from: u32, to: u32) -> Result<Vec<u8>, AllocError>
+pub fn print_span(
+    alloc: Global,
+    program: &Program,
+    from: u32,
+    to: u32,
+) -> Result<Vec<u8>, AllocError>
     requires order { from ≤ to }
-    requires bound { to < length p.now.tokens.list }
-    ensures { IfOk result (λ v. v.items ≡ tokens_text (slice_range p.now.tokens.list from (to + 1))) }
+    requires bound { to < length program.now.tokens.list }
+    ensures { IfOk result (λ v. v.items ≡ tokens_text (slice_range program.now.tokens.list from (to + 1))) }
 {
-    let tokens = p.tokens.list.as_slice();
+    let tokens = program.tokens.list.as_slice();
     let mut text = Vec::new(alloc);
     add_tokens(&tokens[from as usize..to as usize + 1], &mut text)?;
     Ok(text)

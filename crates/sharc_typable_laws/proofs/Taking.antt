@@ -15,7 +15,7 @@ use Rattle.sharc_ctype_laws.specs.Constraints.{HasType as IsOfType}
 use Rattle.sharc_ctype_laws.specs.Laws.{MeetsConstraints, OneType}
 use Rattle.sharc_meaning.specs.Cells.{element_cells}
 use Rattle.sharc_mode.specs.Notes.{base_of}
-use Rattle.sharc_mode.specs.Rows.{Row, written, cast_row, named_row, modes_of, modes_at}
+use Rattle.sharc_mode.specs.Rows.{Targets, written, cast_row, named_row, modes_of, modes_at}
 use Rattle.sharc_mode_laws.specs.Constructs.{IsExpression}
 use Rattle.sharc_flat.specs.Flattened.{kind_of, target_of}
 use Rattle.sharc_flat.specs.Places.{variable, named_target}
@@ -84,7 +84,7 @@ module _ (constraints : MeetsConstraints) (one_type : OneType) (held : HeldLaws)
     (z : Setting) (f : ℕ) (c : Context) (a : IsAccepted c.program) (targets : z.targets ≡ targets_of c.program) where
   -- what a pointer refers to
   record Pointed (e : Expression) : Type 0 where
-    row : Row
+    row : Targets
     modes : modes_at c.program e ≡ Some (modes_of c.program row)
     entry : type_by (entry_of c e) ≡ static_of c (kind_of c e) (modes_of c.program row)
     fits : PointeeFits c.program (kind_of c e) row

@@ -34,7 +34,7 @@ use Rattle.sharc_ctype_laws.specs.Constraints.{HasType as IsOfType}
 use Rattle.sharc_ctype_laws.specs.Laws.{MeetsConstraints}
 use Rattle.sharc_meaning.specs.State.{is_reference}
 use Rattle.sharc_mode.specs.Moded.{Assignment}
-use Rattle.sharc_mode.specs.Rows.{Row, written, deeper, behind, declared_row, named_row, row_at, modes_of, modes_at}
+use Rattle.sharc_mode.specs.Rows.{Targets, written, deeper, behind, declared_row, named_row, row_at, modes_of, modes_at}
 use Rattle.sharc_mode.specs.Sharings.{Sharing}
 use Rattle.sharc_mode_laws.specs.Constructs.{IsExpression}
 use Rattle.sharc_flat.specs.Flattened.{kind_of, is_ref, operator_of}
@@ -113,7 +113,7 @@ none_some x h = cc
 
 module _ (r : Resolution) where
   abbrev pub HasRow : Expression → Type 0
-  HasRow e = (row : Row) × (row_at r e ≡ Some row)
+  HasRow e = (row : Targets) × (row_at r e ≡ Some row)
 
   no_object : (b : Base) (n : ℕ) → object b n ≡ null → ⊥
   no_object b n h = cc
@@ -121,7 +121,7 @@ module _ (r : Resolution) where
   no_array : (b : Base) (n : ℕ) → array b n ≡ null → ⊥
   no_array b n h = cc
 
-  element_row : (z : Bool) (o : Option Row) (row : Row) → o ≡ Some row → (row2 : Row) × (cond z o (behind o) ≡ Some row2)
+  element_row : (z : Bool) (o : Option Targets) (row : Targets) → o ≡ Some row → (row2 : Targets) × (cond z o (behind o) ≡ Some row2)
   element_row true o row is = (row, is)
   element_row false o row is = (deeper row, ap behind is)
 

@@ -7,4 +7,4 @@ use Rattle.sharc_ask.proofs.expressions.begin_eval.Goals as goal
 
 pub returns-in-Ok-clause-means : goal.returns-in-Ok-clause-means
 returns-in-Ok-clause-means c = λ on_call.
-    entered_plans on_call c.args.m.now (view_state c.args.st.now) (view_state c.enter.new.st) (view_state c.eval_plan.new.st) c.in-Ok.field-0 c.eval_plan.result (gives number (eval on_call c.args.m.now (view_expr c.args.e.now))) c.in-Ok.ensures.does (c.eval_plan.ensures.means on_call)
+    entered_plans on_call c.args.program.now (view_state c.args.st.now) (view_state c.enter.new.st) (view_state c.eval_plan.new.st) c.in-Ok.field-0 c.eval_plan.result (gives number (eval on_call c.args.program.now (view_expr c.args.expr.now))) c.in-Ok.ensures.does (c.eval_plan.ensures.means on_call)

@@ -14,8 +14,8 @@ use Rattle.sharc_ask.proofs.rests.freed.Goals as goal
 
 pub returns-in-Ok-clause-means : goal.returns-in-Ok-clause-means
 returns-in-Ok-clause-means c = λ on_call.
-    let m = c.args.m.now in
-    let e = view_expr c.args.e.now in
+    let m = c.args.program.now in
+    let e = view_expr c.args.expr.now in
     let site = (span_of e).first in
     let k = view_state c.args.st.now in
     let k1 = view_state c.taken.new.st in
@@ -27,8 +27,8 @@ returns-in-Ok-clause-means c = λ on_call.
 
 pub returns-in-Err-clause-means : goal.returns-in-Err-clause-means
 returns-in-Err-clause-means c = λ on_call.
-    let m = c.args.m.now in
-    let e = view_expr c.args.e.now in
+    let m = c.args.program.now in
+    let e = view_expr c.args.expr.now in
     let site = (span_of e).first in
     let k = view_state c.args.st.now in
     let k1 = view_state c.taken.new.st in

@@ -9,7 +9,7 @@ use Rattle.sharc_ask.proofs.rests.resume.Goals as goal
 
 pub returns-in-Value-clause-means : goal.returns-in-Value-clause-means
 returns-in-Value-clause-means c = λ on_call.
-    let m = c.args.m.now in
+    let m = c.args.program.now in
     let v = view_value c.args.value in
     let k = view_state c.args.st.now in
     let k1 = view_state c.with_value.new.st in
@@ -19,7 +19,7 @@ returns-in-Value-clause-means c = λ on_call.
 
 pub returns-in-Number-clause-means : goal.returns-in-Number-clause-means
 returns-in-Number-clause-means c = λ on_call.
-    let m = c.args.m.now in
+    let m = c.args.program.now in
     let v = view_value c.args.value in
     let k = view_state c.args.st.now in
     let k1 = view_state c.with_number.new.st in

@@ -12,7 +12,7 @@ use Rattle.sharc_ask.proofs.rests.with_number.Goals as goal
 
 pub returns-in-ArrayElement-clause-means : goal.returns-in-ArrayElement-clause-means
 returns-in-ArrayElement-clause-means c = λ on_call.
-    let m = c.args.m.now in
+    let m = c.args.program.now in
     let x = c.args.x in
     let k = view_state c.args.st.now in
     let k1 = k in
@@ -22,7 +22,7 @@ returns-in-ArrayElement-clause-means c = λ on_call.
 
 pub returns-in-PointerElement-clause-means : goal.returns-in-PointerElement-clause-means
 returns-in-PointerElement-clause-means c = λ on_call.
-    let m = c.args.m.now in
+    let m = c.args.program.now in
     let x = c.args.x in
     let k = view_state c.args.st.now in
     let fits = c.ranges.x in
@@ -34,7 +34,7 @@ returns-in-PointerElement-clause-means c = λ on_call.
 
 pub returns-in-Stored-clause-means : goal.returns-in-Stored-clause-means
 returns-in-Stored-clause-means c = λ on_call.
-    let m = c.args.m.now in
+    let m = c.args.program.now in
     let x = c.args.x in
     let k = view_state c.args.st.now in
     let k1 = view_state c.stored_at.new.st in
@@ -44,7 +44,7 @@ returns-in-Stored-clause-means c = λ on_call.
 
 pub returns-in-Initialised-clause-means : goal.returns-in-Initialised-clause-means
 returns-in-Initialised-clause-means c = λ on_call.
-    let m = c.args.m.now in
+    let m = c.args.program.now in
     let x = c.args.x in
     let k = view_state c.args.st.now in
     let k1 = view_state c.initialised.new.st in

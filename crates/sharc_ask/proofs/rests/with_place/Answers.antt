@@ -20,8 +20,8 @@ use Rattle.sharc_ask.proofs.rests.with_place.Goals as goal
 
 pub returns-in-Locks-clause-means : goal.returns-in-Locks-clause-means
 returns-in-Locks-clause-means c = λ on_call.
-    let m = c.args.m.now in
-    let e = view_expr c.args.e.now in
+    let m = c.args.program.now in
+    let e = view_expr c.args.expr.now in
     let p = view_place c.args.place in
     let k = view_state c.args.st.now in
     let k1 = view_state c.end_step.new.st in
@@ -31,8 +31,8 @@ returns-in-Locks-clause-means c = λ on_call.
 
 pub returns-in-Unlocks-clause-means : goal.returns-in-Unlocks-clause-means
 returns-in-Unlocks-clause-means c = λ on_call.
-    let m = c.args.m.now in
-    let e = view_expr c.args.e.now in
+    let m = c.args.program.now in
+    let e = view_expr c.args.expr.now in
     let p = view_place c.args.place in
     let k = view_state c.args.st.now in
     let k1 = view_state c.end_step-in-Unlocks.new.st in
@@ -42,8 +42,8 @@ returns-in-Unlocks-clause-means c = λ on_call.
 
 pub returns-in-Frees-clause-means : goal.returns-in-Frees-clause-means
 returns-in-Frees-clause-means c = λ on_call.
-    let m = c.args.m.now in
-    let e = view_expr c.args.e.now in
+    let m = c.args.program.now in
+    let e = view_expr c.args.expr.now in
     let p = view_place c.args.place in
     let k = view_state c.args.st.now in
     let k1 = view_state c.freed.new.st in
@@ -52,8 +52,8 @@ returns-in-Frees-clause-means c = λ on_call.
 
 pub returns-in-Casts-clause-means : goal.returns-in-Casts-clause-means
 returns-in-Casts-clause-means c = λ on_call.
-    let m = c.args.m.now in
-    let e = view_expr c.args.e.now in
+    let m = c.args.program.now in
+    let e = view_expr c.args.expr.now in
     let p = view_place c.args.place in
     let k = view_state c.args.st.now in
     let k1 = view_state c.cast.new.st in
@@ -62,8 +62,8 @@ returns-in-Casts-clause-means c = λ on_call.
 
 pub returns-in-Fetched-clause-means : goal.returns-in-Fetched-clause-means
 returns-in-Fetched-clause-means c = λ on_call.
-    let m = c.args.m.now in
-    let e = view_expr c.args.e.now in
+    let m = c.args.program.now in
+    let e = view_expr c.args.expr.now in
     let p = view_place c.args.place in
     let k = view_state c.args.st.now in
     let k1 = view_state c.end_above.new.st in
@@ -72,8 +72,8 @@ returns-in-Fetched-clause-means c = λ on_call.
 
 pub returns-in-FieldIn-clause-means : goal.returns-in-FieldIn-clause-means
 returns-in-FieldIn-clause-means c = λ on_call.
-    let m = c.args.m.now in
-    let e = view_expr c.args.e.now in
+    let m = c.args.program.now in
+    let e = view_expr c.args.expr.now in
     let p = view_place c.args.place in
     let k = view_state c.args.st.now in
     let k1 = k in
@@ -83,8 +83,8 @@ returns-in-FieldIn-clause-means c = λ on_call.
 
 pub returns-in-ArrayBase-clause-means : goal.returns-in-ArrayBase-clause-means
 returns-in-ArrayBase-clause-means c = λ on_call s is.
-    let m = c.args.m.now in
-    let e = view_expr c.args.e.now in
+    let m = c.args.program.now in
+    let e = view_expr c.args.expr.now in
     let p = view_place c.args.place in
     let w = c.in-ArrayBase in
     record {
@@ -95,8 +95,8 @@ returns-in-ArrayBase-clause-means c = λ on_call s is.
 
 pub returns-in-Assigned-clause-means : goal.returns-in-Assigned-clause-means
 returns-in-Assigned-clause-means c = λ on_call s is.
-    let m = c.args.m.now in
-    let e = view_expr c.args.e.now in
+    let m = c.args.program.now in
+    let e = view_expr c.args.expr.now in
     let p = view_place c.args.place in
     let w = c.in-Assigned in
     let right = view_right w.right.now in

@@ -20,8 +20,8 @@ use Rattle.sharc_ask.proofs.rests.with_value.Goals as goal
 
 pub returns-in-Tested-clause-means : goal.returns-in-Tested-clause-means
 returns-in-Tested-clause-means c = λ on_call.
-    let m = c.args.m.now in
-    let e = view_expr c.args.e.now in
+    let m = c.args.program.now in
+    let e = view_expr c.args.expr.now in
     let x = c.args.x in
     let k = view_state c.args.st.now in
     let k1 = view_state c.tested_value.new.st in
@@ -31,8 +31,8 @@ returns-in-Tested-clause-means c = λ on_call.
 
 pub returns-in-Passed-clause-means : goal.returns-in-Passed-clause-means
 returns-in-Passed-clause-means c = λ on_call.
-    let m = c.args.m.now in
-    let e = view_expr c.args.e.now in
+    let m = c.args.program.now in
+    let e = view_expr c.args.expr.now in
     let x = c.args.x in
     let k = view_state c.args.st.now in
     let k1 = view_state c.passed_value.new.st in
@@ -42,8 +42,8 @@ returns-in-Passed-clause-means c = λ on_call.
 
 pub returns-in-Spawned-clause-means : goal.returns-in-Spawned-clause-means
 returns-in-Spawned-clause-means c = λ on_call.
-    let m = c.args.m.now in
-    let e = view_expr c.args.e.now in
+    let m = c.args.program.now in
+    let e = view_expr c.args.expr.now in
     let x = c.args.x in
     let k = view_state c.args.st.now in
     let k1 = view_state c.spawned.new.st in
@@ -53,8 +53,8 @@ returns-in-Spawned-clause-means c = λ on_call.
 
 pub returns-in-Performs-clause-means : goal.returns-in-Performs-clause-means
 returns-in-Performs-clause-means c = λ on_call.
-    let m = c.args.m.now in
-    let e = view_expr c.args.e.now in
+    let m = c.args.program.now in
+    let e = view_expr c.args.expr.now in
     let x = c.args.x in
     let k = view_state c.args.st.now in
     let k1 = view_state c.value_called.new.st in
@@ -64,8 +64,8 @@ returns-in-Performs-clause-means c = λ on_call.
 
 pub returns-in-Inverted-clause-means : goal.returns-in-Inverted-clause-means
 returns-in-Inverted-clause-means c = λ on_call.
-    let m = c.args.m.now in
-    let e = view_expr c.args.e.now in
+    let m = c.args.program.now in
+    let e = view_expr c.args.expr.now in
     let x = c.args.x in
     let k = view_state c.args.st.now in
     let k1 = view_state c.inverted.new.st in
@@ -75,8 +75,8 @@ returns-in-Inverted-clause-means c = λ on_call.
 
 pub returns-in-TruthOf-clause-means : goal.returns-in-TruthOf-clause-means
 returns-in-TruthOf-clause-means c = λ on_call.
-    let m = c.args.m.now in
-    let e = view_expr c.args.e.now in
+    let m = c.args.program.now in
+    let e = view_expr c.args.expr.now in
     let x = c.args.x in
     let k = view_state c.args.st.now in
     let k1 = view_state c.truth_of.new.st in
@@ -86,8 +86,8 @@ returns-in-TruthOf-clause-means c = λ on_call.
 
 pub returns-in-Fitted-clause-means : goal.returns-in-Fitted-clause-means
 returns-in-Fitted-clause-means c = λ on_call.
-    let m = c.args.m.now in
-    let e = view_expr c.args.e.now in
+    let m = c.args.program.now in
+    let e = view_expr c.args.expr.now in
     let x = c.args.x in
     let k = view_state c.args.st.now in
     let k1 = k in
@@ -97,8 +97,8 @@ returns-in-Fitted-clause-means c = λ on_call.
 
 pub returns-in-Made-clause-means : goal.returns-in-Made-clause-means
 returns-in-Made-clause-means c = λ on_call.
-    let m = c.args.m.now in
-    let e = view_expr c.args.e.now in
+    let m = c.args.program.now in
+    let e = view_expr c.args.expr.now in
     let x = c.args.x in
     let k = view_state c.args.st.now in
     let k1 = view_state c.made.new.st in
@@ -108,8 +108,8 @@ returns-in-Made-clause-means c = λ on_call.
 
 pub returns-in-Based-clause-means : goal.returns-in-Based-clause-means
 returns-in-Based-clause-means c = λ on_call.
-    let m = c.args.m.now in
-    let e = view_expr c.args.e.now in
+    let m = c.args.program.now in
+    let e = view_expr c.args.expr.now in
     let x = c.args.x in
     let k = view_state c.args.st.now in
     let k1 = view_state c.first_behind.new.st in
@@ -119,8 +119,8 @@ returns-in-Based-clause-means c = λ on_call.
 
 pub returns-in-Dropped-clause-means : goal.returns-in-Dropped-clause-means
 returns-in-Dropped-clause-means c = λ on_call.
-    let m = c.args.m.now in
-    let e = view_expr c.args.e.now in
+    let m = c.args.program.now in
+    let e = view_expr c.args.expr.now in
     let x = c.args.x in
     let k = view_state c.args.st.now in
     let k1 = view_state c.let_go.new.st in
@@ -130,8 +130,8 @@ returns-in-Dropped-clause-means c = λ on_call.
 
 pub returns-in-Returns-clause-means : goal.returns-in-Returns-clause-means
 returns-in-Returns-clause-means c = λ on_call.
-    let m = c.args.m.now in
-    let e = view_expr c.args.e.now in
+    let m = c.args.program.now in
+    let e = view_expr c.args.expr.now in
     let x = c.args.x in
     let k = view_state c.args.st.now in
     let k1 = k in
@@ -141,8 +141,8 @@ returns-in-Returns-clause-means c = λ on_call.
 
 pub returns-in-Negated-clause-means : goal.returns-in-Negated-clause-means
 returns-in-Negated-clause-means c = λ on_call.
-    let m = c.args.m.now in
-    let e = view_expr c.args.e.now in
+    let m = c.args.program.now in
+    let e = view_expr c.args.expr.now in
     let x = c.args.x in
     let k = view_state c.args.st.now in
     let k1 = k in
@@ -155,8 +155,8 @@ returns-in-Negated-clause-means c = λ on_call.
 
 pub returns-in-AndLeft-clause-means : goal.returns-in-AndLeft-clause-means
 returns-in-AndLeft-clause-means c = λ on_call.
-    let m = c.args.m.now in
-    let e = view_expr c.args.e.now in
+    let m = c.args.program.now in
+    let e = view_expr c.args.expr.now in
     let x = c.args.x in
     let k = view_state c.args.st.now in
     let k1 = view_state c.tested_value-in-AndLeft.new.st in
@@ -168,8 +168,8 @@ returns-in-AndLeft-clause-means c = λ on_call.
 
 pub returns-in-OrLeft-clause-means : goal.returns-in-OrLeft-clause-means
 returns-in-OrLeft-clause-means c = λ on_call.
-    let m = c.args.m.now in
-    let e = view_expr c.args.e.now in
+    let m = c.args.program.now in
+    let e = view_expr c.args.expr.now in
     let x = c.args.x in
     let k = view_state c.args.st.now in
     let k1 = view_state c.tested_value-in-OrLeft.new.st in
@@ -181,8 +181,8 @@ returns-in-OrLeft-clause-means c = λ on_call.
 
 pub returns-in-LeftOperand-clause-means : goal.returns-in-LeftOperand-clause-means
 returns-in-LeftOperand-clause-means c = λ on_call.
-    let m = c.args.m.now in
-    let e = view_expr c.args.e.now in
+    let m = c.args.program.now in
+    let e = view_expr c.args.expr.now in
     let x = c.args.x in
     let k = view_state c.args.st.now in
     let k1 = view_state c.held.new.st in
@@ -196,8 +196,8 @@ returns-in-LeftOperand-clause-means c = λ on_call.
 
 pub returns-in-PointerBase-clause-means : goal.returns-in-PointerBase-clause-means
 returns-in-PointerBase-clause-means c = λ on_call.
-    let m = c.args.m.now in
-    let e = view_expr c.args.e.now in
+    let m = c.args.program.now in
+    let e = view_expr c.args.expr.now in
     let x = c.args.x in
     let k = view_state c.args.st.now in
     let k1 = view_state c.based.new.st in
@@ -209,8 +209,8 @@ returns-in-PointerBase-clause-means c = λ on_call.
 
 pub returns-in-RightOperand-clause-means : goal.returns-in-RightOperand-clause-means
 returns-in-RightOperand-clause-means c = λ on_call.
-    let m = c.args.m.now in
-    let e = view_expr c.args.e.now in
+    let m = c.args.program.now in
+    let e = view_expr c.args.expr.now in
     let x = c.args.x in
     let k = view_state c.args.st.now in
     let k1 = view_state c.joined.new.st in

@@ -13,7 +13,7 @@ use Rattle.sharc_ask.proofs.statements.begin_local.Goals as goal
 
 pub returns-clause-means : goal.returns-clause-means
 returns-clause-means c = λ on_call.
-    let m = c.args.m.now in
+    let m = c.args.program.now in
     let l = c.args.local.now in
     let k = view_state c.args.st.now in
     let k1 = view_state c.begin.new.st in

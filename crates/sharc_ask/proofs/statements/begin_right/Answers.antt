@@ -14,7 +14,7 @@ use Rattle.sharc_ask.proofs.statements.begin_right.Goals as goal
 
 pub returns-in-Value-clause-means : goal.returns-in-Value-clause-means
 returns-in-Value-clause-means c = λ on_call s is.
-    let m = c.args.m.now in
+    let m = c.args.program.now in
     let kind = view_kind c.args.kind in
     let e = view_expr c.in-Value.e in
     record {
@@ -25,7 +25,7 @@ returns-in-Value-clause-means c = λ on_call s is.
 
 pub returns-in-Malloc-clause-means : goal.returns-in-Malloc-clause-means
 returns-in-Malloc-clause-means c = λ on_call.
-    let m = c.args.m.now in
+    let m = c.args.program.now in
     let kind = view_kind c.args.kind in
     let target = view_sharing c.args.target in
     let w = c.in-Malloc in

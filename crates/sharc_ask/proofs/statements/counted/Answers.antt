@@ -14,7 +14,7 @@ use Rattle.sharc_ask.proofs.statements.counted.Goals as goal
 
 pub returns-in-None-clause-means : goal.returns-in-None-clause-means
 returns-in-None-clause-means c = λ on_call kind.
-    let m = c.args.m.now in
+    let m = c.args.program.now in
     let target = view_sharing c.args.target in
     let k = view_state c.args.st.now in
     let k1 = view_state c.made.new.st in
@@ -24,7 +24,7 @@ returns-in-None-clause-means c = λ on_call kind.
 
 pub returns-in-Some-clause-means : goal.returns-in-Some-clause-means
 returns-in-Some-clause-means c = λ on_call kind s is.
-    let m = c.args.m.now in
+    let m = c.args.program.now in
     let target = view_sharing c.args.target in
     record {
       state = s;

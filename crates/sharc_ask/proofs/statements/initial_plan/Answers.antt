@@ -14,11 +14,11 @@ use Rattle.sharc_ask.proofs.Stating.{initial_begins}
 use Rattle.sharc_ask.proofs.statements.initial_plan.Goals as goal
 
 pub returns-in-None-clause-means : goal.returns-in-None-clause-means
-returns-in-None-clause-means c = λ on_call s. ap (λ o. gives as_nothing (initialised on_call c.args.m.now c.args.declaration.now (view_option view_right o)) s) c.in-None.is
+returns-in-None-clause-means c = λ on_call s. ap (λ o. gives as_nothing (initialised on_call c.args.program.now c.args.declaration.now (view_option view_right o)) s) c.in-None.is
 
 pub returns-in-Some-clause-means : goal.returns-in-Some-clause-means
 returns-in-Some-clause-means c = λ on_call s.
-    let m = c.args.m.now in
+    let m = c.args.program.now in
     let d = c.args.declaration.now in
     let x = view_right c.in-Some.right in
     let rest : Value → Run Value = λ v. gives as_nothing (stored m.typed d.name.site (declared_kind d.written) private (variable d.name.site.token) (number_in v)) in

@@ -11,7 +11,7 @@ use Rattle.sharc_ask.proofs.thread.ask.Goals as goal
 
 pub returns-in-Some : goal.returns-in-Some
 returns-in-Some c =
-    let m = c.args.m.now in
+    let m = c.args.program.now in
     let st = c.run_thread.new.st in
     let k = view_state st in
     let event = c.in-Err-Wants.event in

@@ -11,7 +11,7 @@ use Rattle.sharc_ask.proofs.values.made.Goals as goal
 
 pub returns-in-Ok-clause-does : goal.returns-in-Ok-clause-does
 returns-in-Ok-clause-does c =
-    let r = c.args.m.now.typed in
+    let r = c.args.program.now.typed in
     let target = view_sharing c.args.target in
     let same = to_z-of_z c.ranges.elements in
     made_goes (view_state c.args.st.now) (view_state c.ask_event.new.st) r c.args.site target c.args.elements c.args.written.now c.is_positive.result c.in-Ok.field-0 c.element_cells-cells.result c.unsigned_abs.result c.instance_mode-mode.result c.ask_event.result

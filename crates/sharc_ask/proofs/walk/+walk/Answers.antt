@@ -44,7 +44,7 @@ use Rattle.sharc_ask.proofs.walk.+walk.Goals as goal
 
 pub run-returns-in-Calls-clause-does : goal.run-returns-in-Calls-clause-does
 run-returns-in-Calls-clause-does t c =
-    let m = c.args.m.now in
+    let m = c.args.program.now in
     let on_call = calls m c.args.frames in
     let k = view_state c.args.st.now in
     let w = c.in-Calls in
@@ -54,7 +54,7 @@ run-returns-in-Calls-clause-does t c =
 
 pub run-returns-in-Ok-resume-clause-does : goal.run-returns-in-Ok-resume-clause-does
 run-returns-in-Ok-resume-clause-does t c =
-    let m = c.args.m.now in
+    let m = c.args.program.now in
     let on_call = calls m c.args.frames in
     let k = view_state c.args.st.now in
     let w = c.in-Goes in
@@ -65,7 +65,7 @@ run-returns-in-Ok-resume-clause-does t c =
 
 pub run-returns-in-Err-resume-clause-does : goal.run-returns-in-Err-resume-clause-does
 run-returns-in-Err-resume-clause-does t c =
-    let m = c.args.m.now in
+    let m = c.args.program.now in
     let on_call = calls m c.args.frames in
     let k = view_state c.args.st.now in
     let w = c.in-Goes in
@@ -75,7 +75,7 @@ run-returns-in-Err-resume-clause-does t c =
 
 pub run-returns-in-Err-run-clause-does : goal.run-returns-in-Err-run-clause-does
 run-returns-in-Err-run-clause-does t c =
-    let m = c.args.m.now in
+    let m = c.args.program.now in
     let on_call = calls m c.args.frames in
     let k = view_state c.args.st.now in
     let w = c.in-Goes in
@@ -85,7 +85,7 @@ run-returns-in-Err-run-clause-does t c =
 
 pub run-returns-in-Err-clause-does : goal.run-returns-in-Err-clause-does
 run-returns-in-Err-clause-does t c =
-    let m = c.args.m.now in
+    let m = c.args.program.now in
     let on_call = calls m c.args.frames in
     let k = view_state c.args.st.now in
     let w = c.in-Goes in
@@ -94,44 +94,44 @@ run-returns-in-Err-clause-does t c =
 
 pub alone-returns-clause-does : goal.alone-returns-clause-does
 alone-returns-clause-does t c =
-    let m = c.args.m.now in
+    let m = c.args.program.now in
     let on_call = calls m c.args.frames in
     let k = view_state c.args.st.now in
     alone_goes on_call m c.args.task k (view_state c.run.new.st) c.run.result c.run.ensures.does
 
 pub argument-returns-clause-does : goal.argument-returns-clause-does
 argument-returns-clause-does t c =
-    let m = c.args.m.now in
+    let m = c.args.program.now in
     let on_call = calls m c.args.frames in
     let k = view_state c.args.st.now in
-    let e = view_expr c.args.e.now in
+    let e = view_expr c.args.expr.now in
     c.number_behind.ensures.does k (view_state c.alone.new.st) (passed m.typed (declared_kinds c.args.parameters.now) e (eval on_call m e)) c.alone.ensures.does
 
 pub tested-returns-clause-does : goal.tested-returns-clause-does
 tested-returns-clause-does t c =
-    let m = c.args.m.now in
+    let m = c.args.program.now in
     let on_call = calls m c.args.frames in
     let k = view_state c.args.st.now in
-    let e = view_expr c.args.e.now in
+    let e = view_expr c.args.expr.now in
     c.test_behind.ensures.does k (view_state c.alone.new.st) (tested m.typed e (eval on_call m e)) c.alone.ensures.does
 
 pub simple-returns-clause-does : goal.simple-returns-clause-does
 simple-returns-clause-does t c =
-    let m = c.args.m.now in
+    let m = c.args.program.now in
     let on_call = calls m c.args.frames in
     let k = view_state c.args.st.now in
     c.step_behind.ensures.does k (view_state c.alone.new.st) (done_simple on_call m (view_simple c.args.simple.now)) c.alone.ensures.does
 
 pub goes_on-returns-clause-does : goal.goes_on-returns-clause-does
 goes_on-returns-clause-does t c =
-    let m = c.args.m.now in
+    let m = c.args.program.now in
     let on_call = calls m c.args.frames in
     let k = view_state c.args.st.now in
     c.test_behind.ensures.does k (view_state c.alone.new.st) (loop_test on_call m c.args.l) c.alone.ensures.does
 
 pub arguments-returns-in-Some-clause-does : goal.arguments-returns-in-Some-clause-does
 arguments-returns-in-Some-clause-does t c =
-    let m = c.args.m.now in
+    let m = c.args.program.now in
     let on_call = calls m c.args.frames in
     let k = view_state c.args.st.now in
     let kinds = declared_kinds c.args.parameters.now in
@@ -152,7 +152,7 @@ arguments-returns-in-Some-clause-does t c =
 
 pub arguments-returns-in-Err-arguments-clause-does : goal.arguments-returns-in-Err-arguments-clause-does
 arguments-returns-in-Err-arguments-clause-does t c =
-    let m = c.args.m.now in
+    let m = c.args.program.now in
     let on_call = calls m c.args.frames in
     let k = view_state c.args.st.now in
     let kinds = declared_kinds c.args.parameters.now in
@@ -174,7 +174,7 @@ arguments-returns-in-Err-arguments-clause-does t c =
 
 pub called-returns-in-Function-clause-does : goal.called-returns-in-Function-clause-does
 called-returns-in-Function-clause-does t c =
-    let m = c.args.m.now in
+    let m = c.args.program.now in
     let on_call = calls m c.args.frames in
     let k = view_state c.args.st.now in
     let call = c.args.call in
@@ -182,7 +182,7 @@ called-returns-in-Function-clause-does t c =
 
 pub called-returns-in-Known-clause-does : goal.called-returns-in-Known-clause-does
 called-returns-in-Known-clause-does t c =
-    let m = c.args.m.now in
+    let m = c.args.program.now in
     let on_call = calls m c.args.frames in
     let k = view_state c.args.st.now in
     let call = c.args.call in
@@ -191,7 +191,7 @@ called-returns-in-Known-clause-does t c =
 
 pub calling-returns-in-Ok-clause-does : goal.calling-returns-in-Ok-clause-does
 calling-returns-in-Ok-clause-does t c =
-    let m = c.args.m.now in
+    let m = c.args.program.now in
     let on_call = calls m c.args.frames in
     let k = view_state c.args.st.now in
     let call = c.args.call in
@@ -210,7 +210,7 @@ calling-returns-in-Ok-clause-does t c =
 
 pub block-returns-clause-does : goal.block-returns-clause-does
 block-returns-clause-does t c =
-    let m = c.args.m.now in
+    let m = c.args.program.now in
     let on_call = calls m c.args.frames in
     let k = view_state c.args.st.now in
     let run = exec_all on_call m (view_kind c.args.kind) (view_statements c.args.all.now) in
@@ -218,7 +218,7 @@ block-returns-clause-does t c =
 
 pub for_loop-returns-in-Ok-clause-does : goal.for_loop-returns-in-Ok-clause-does
 for_loop-returns-in-Ok-clause-does t c =
-    let m = c.args.m.now in
+    let m = c.args.program.now in
     let on_call = calls m c.args.frames in
     let k = view_state c.args.st.now in
     let l = c.args.l in
@@ -234,7 +234,7 @@ for_loop-returns-in-Ok-clause-does t c =
 
 pub for_loop-returns-in-Err-clause-does : goal.for_loop-returns-in-Err-clause-does
 for_loop-returns-in-Err-clause-does t c =
-    let m = c.args.m.now in
+    let m = c.args.program.now in
     let on_call = calls m c.args.frames in
     let k = view_state c.args.st.now in
     let l = c.args.l in
@@ -247,7 +247,7 @@ for_loop-returns-in-Err-clause-does t c =
 
 pub choice-returns-then-is_true-clause-does : goal.choice-returns-then-is_true-clause-does
 choice-returns-then-is_true-clause-does t c =
-    let m = c.args.m.now in
+    let m = c.args.program.now in
     let on_call = calls m c.args.frames in
     let k = view_state c.args.st.now in
     let kind = view_kind c.args.kind in
@@ -259,7 +259,7 @@ choice-returns-then-is_true-clause-does t c =
 
 pub choice-returns-in-None-clause-does : goal.choice-returns-in-None-clause-does
 choice-returns-in-None-clause-does t c =
-    let m = c.args.m.now in
+    let m = c.args.program.now in
     let on_call = calls m c.args.frames in
     let k = view_state c.args.st.now in
     let kind = view_kind c.args.kind in
@@ -271,7 +271,7 @@ choice-returns-in-None-clause-does t c =
 
 pub choice-returns-in-Some-clause-does : goal.choice-returns-in-Some-clause-does
 choice-returns-in-Some-clause-does t c =
-    let m = c.args.m.now in
+    let m = c.args.program.now in
     let on_call = calls m c.args.frames in
     let k = view_state c.args.st.now in
     let kind = view_kind c.args.kind in
@@ -284,7 +284,7 @@ choice-returns-in-Some-clause-does t c =
 
 pub choice-returns-in-Err-clause-does : goal.choice-returns-in-Err-clause-does
 choice-returns-in-Err-clause-does t c =
-    let m = c.args.m.now in
+    let m = c.args.program.now in
     let on_call = calls m c.args.frames in
     let k = view_state c.args.st.now in
     let kind = view_kind c.args.kind in
@@ -296,7 +296,7 @@ choice-returns-in-Err-clause-does t c =
 
 pub exec-returns-in-Empty-clause-does : goal.exec-returns-in-Empty-clause-does
 exec-returns-in-Empty-clause-does t c =
-    let m = c.args.m.now in
+    let m = c.args.program.now in
     let on_call = calls m c.args.frames in
     let k = view_state c.args.st.now in
     let kind = view_kind c.args.kind in
@@ -309,7 +309,7 @@ exec-returns-in-Empty-clause-does t c =
 
 pub exec-returns-in-Block-clause-does : goal.exec-returns-in-Block-clause-does
 exec-returns-in-Block-clause-does t c =
-    let m = c.args.m.now in
+    let m = c.args.program.now in
     let on_call = calls m c.args.frames in
     let k = view_state c.args.st.now in
     let kind = view_kind c.args.kind in
@@ -322,7 +322,7 @@ exec-returns-in-Block-clause-does t c =
 
 pub exec-returns-in-Declare-clause-does : goal.exec-returns-in-Declare-clause-does
 exec-returns-in-Declare-clause-does t c =
-    let m = c.args.m.now in
+    let m = c.args.program.now in
     let on_call = calls m c.args.frames in
     let k = view_state c.args.st.now in
     let kind = view_kind c.args.kind in
@@ -335,7 +335,7 @@ exec-returns-in-Declare-clause-does t c =
 
 pub exec-returns-in-Simple-clause-does : goal.exec-returns-in-Simple-clause-does
 exec-returns-in-Simple-clause-does t c =
-    let m = c.args.m.now in
+    let m = c.args.program.now in
     let on_call = calls m c.args.frames in
     let k = view_state c.args.st.now in
     let kind = view_kind c.args.kind in
@@ -348,7 +348,7 @@ exec-returns-in-Simple-clause-does t c =
 
 pub exec-returns-in-Jump-clause-does : goal.exec-returns-in-Jump-clause-does
 exec-returns-in-Jump-clause-does t c =
-    let m = c.args.m.now in
+    let m = c.args.program.now in
     let on_call = calls m c.args.frames in
     let k = view_state c.args.st.now in
     let kind = view_kind c.args.kind in
@@ -361,7 +361,7 @@ exec-returns-in-Jump-clause-does t c =
 
 pub exec-returns-in-Return-clause-does : goal.exec-returns-in-Return-clause-does
 exec-returns-in-Return-clause-does t c =
-    let m = c.args.m.now in
+    let m = c.args.program.now in
     let on_call = calls m c.args.frames in
     let k = view_state c.args.st.now in
     let kind = view_kind c.args.kind in
@@ -374,7 +374,7 @@ exec-returns-in-Return-clause-does t c =
 
 pub exec-returns-in-If-clause-does : goal.exec-returns-in-If-clause-does
 exec-returns-in-If-clause-does t c =
-    let m = c.args.m.now in
+    let m = c.args.program.now in
     let on_call = calls m c.args.frames in
     let k = view_state c.args.st.now in
     let kind = view_kind c.args.kind in
@@ -387,7 +387,7 @@ exec-returns-in-If-clause-does t c =
 
 pub exec-returns-in-IfElse-clause-does : goal.exec-returns-in-IfElse-clause-does
 exec-returns-in-IfElse-clause-does t c =
-    let m = c.args.m.now in
+    let m = c.args.program.now in
     let on_call = calls m c.args.frames in
     let k = view_state c.args.st.now in
     let kind = view_kind c.args.kind in
@@ -400,7 +400,7 @@ exec-returns-in-IfElse-clause-does t c =
 
 pub exec-returns-in-While-clause-does : goal.exec-returns-in-While-clause-does
 exec-returns-in-While-clause-does t c =
-    let m = c.args.m.now in
+    let m = c.args.program.now in
     let on_call = calls m c.args.frames in
     let k = view_state c.args.st.now in
     let kind = view_kind c.args.kind in
@@ -413,7 +413,7 @@ exec-returns-in-While-clause-does t c =
 
 pub exec-returns-in-For-clause-does : goal.exec-returns-in-For-clause-does
 exec-returns-in-For-clause-does t c =
-    let m = c.args.m.now in
+    let m = c.args.program.now in
     let on_call = calls m c.args.frames in
     let k = view_state c.args.st.now in
     let kind = view_kind c.args.kind in
@@ -437,28 +437,28 @@ exec-returns-in-For-clause-does t c =
 
 pub exec-returns-in-Err-clause-does : goal.exec-returns-in-Err-clause-does
 exec-returns-in-Err-clause-does t c =
-    let m = c.args.m.now in
+    let m = c.args.program.now in
     let on_call = calls m c.args.frames in
     let k = view_state c.args.st.now in
     exec_stops view_flow on_call m (view_kind c.args.kind) (view_stmt c.args.statement.now) k (view_state c.enter.new.st) c.in-Err.end c.in-Err.ensures.does
 
 pub body-returns-in-Ok-clause-does : goal.body-returns-in-Ok-clause-does
 body-returns-in-Ok-clause-does t c =
-    let m = c.args.m.now in
+    let m = c.args.program.now in
     let on_call = calls m c.args.frames in
     let k = view_state c.args.st.now in
     does_then_as view_flow k (view_state c.enter.new.st) (view_state c.exec_all.new.st) c.in-Ok.field-0 c.exec_all.result enters (λ u. exec_all on_call m (view_kind c.args.kind) (view_statements c.args.all.now)) c.in-Ok.ensures.does c.exec_all.ensures.does
 
 pub body-returns-in-Err-clause-does : goal.body-returns-in-Err-clause-does
 body-returns-in-Err-clause-does t c =
-    let m = c.args.m.now in
+    let m = c.args.program.now in
     let on_call = calls m c.args.frames in
     let k = view_state c.args.st.now in
     over_then_as view_flow k (view_state c.enter.new.st) c.in-Err.end enters (λ u. exec_all on_call m (view_kind c.args.kind) (view_statements c.args.all.now)) c.in-Err.ensures.does
 
 pub body_block-returns-in-Ok-end_variables-clause-does : goal.body_block-returns-in-Ok-end_variables-clause-does
 body_block-returns-in-Ok-end_variables-clause-does t c =
-    let m = c.args.m.now in
+    let m = c.args.program.now in
     let on_call = calls m c.args.frames in
     let k = view_state c.args.st.now in
     let f = view_function c.args.function.now in
@@ -477,7 +477,7 @@ body_block-returns-in-Ok-end_variables-clause-does t c =
 
 pub body_block-returns-in-Err-body-clause-does : goal.body_block-returns-in-Err-body-clause-does
 body_block-returns-in-Err-body-clause-does t c =
-    let m = c.args.m.now in
+    let m = c.args.program.now in
     let on_call = calls m c.args.frames in
     let k = view_state c.args.st.now in
     let f = view_function c.args.function.now in
@@ -495,7 +495,7 @@ body_block-returns-in-Err-body-clause-does t c =
 
 pub run_function-returns-in-Ok-clause-does : goal.run_function-returns-in-Ok-clause-does
 run_function-returns-in-Ok-clause-does t c =
-    let m = c.args.m.now in
+    let m = c.args.program.now in
     let on_call = calls m c.args.frames in
     let k = view_state c.args.st.now in
     let f = view_function c.args.function.now in
@@ -510,7 +510,7 @@ run_function-returns-in-Ok-clause-does t c =
 
 pub run_function-returns-in-Err-clause-does : goal.run_function-returns-in-Err-clause-does
 run_function-returns-in-Err-clause-does t c =
-    let m = c.args.m.now in
+    let m = c.args.program.now in
     let on_call = calls m c.args.frames in
     let k = view_state c.args.st.now in
     let f = view_function c.args.function.now in
@@ -524,14 +524,14 @@ run_function-returns-in-Err-clause-does t c =
 
 pub function-returns-then-frames-eq0-clause-does : goal.function-returns-then-frames-eq0-clause-does
 function-returns-then-frames-eq0-clause-does t c =
-    let m = c.args.m.now in
+    let m = c.args.program.now in
     let on_call = calls m c.args.frames in
     let k = view_state c.args.st.now in
     call_stops m c.args.frames c.args.number c.args.site c.args.values.now k c.if-frames-eq0.true
 
 pub function-returns-in-None-clause-does : goal.function-returns-in-None-clause-does
 function-returns-in-None-clause-does t c =
-    let m = c.args.m.now in
+    let m = c.args.program.now in
     let on_call = calls m c.args.frames in
     let k = view_state c.args.st.now in
     let none : function_at m.typed c.args.number ≡ None = sym (c.function_at.ensures ∙ ap (λ z. function_at z c.args.number) c.typed.ensures) ∙ ap (λ o. option_map (λ f. view_function f.now) o) c.in-None.is in
@@ -539,7 +539,7 @@ function-returns-in-None-clause-does t c =
 
 pub function-returns-in-Ok-clause-does : goal.function-returns-in-Ok-clause-does
 function-returns-in-Ok-clause-does t c =
-    let m = c.args.m.now in
+    let m = c.args.program.now in
     let k = view_state c.args.st.now in
     let k1 = view_state c.run_function.new.st in
     let f = view_function c.in-Some.function.now in
@@ -549,7 +549,7 @@ function-returns-in-Ok-clause-does t c =
 
 pub function-returns-in-Err-clause-does : goal.function-returns-in-Err-clause-does
 function-returns-in-Err-clause-does t c =
-    let m = c.args.m.now in
+    let m = c.args.program.now in
     let on_call = calls m c.args.frames in
     let k = view_state c.args.st.now in
     let f = view_function c.in-Some.function.now in
@@ -571,7 +571,7 @@ for_loop-returns-in-Ok-clause-fuel t c =
 
 pub exec_all-returns-in-Ok-Continued-clause-does : goal.exec_all-returns-in-Ok-Continued-clause-does
 exec_all-returns-in-Ok-Continued-clause-does t c =
-    let m = c.args.m.now in
+    let m = c.args.program.now in
     let on_call = calls m c.args.frames in
     let kind = view_kind c.args.kind in
     let now = c.loop-statement in
@@ -584,7 +584,7 @@ exec_all-returns-in-Ok-Continued-clause-does t c =
 
 pub exec_all-returns-in-Ok-Broken-clause-does : goal.exec_all-returns-in-Ok-Broken-clause-does
 exec_all-returns-in-Ok-Broken-clause-does t c =
-    let m = c.args.m.now in
+    let m = c.args.program.now in
     let on_call = calls m c.args.frames in
     let kind = view_kind c.args.kind in
     let now = c.loop-statement in
@@ -597,7 +597,7 @@ exec_all-returns-in-Ok-Broken-clause-does t c =
 
 pub exec_all-returns-in-Ok-Returned-clause-does : goal.exec_all-returns-in-Ok-Returned-clause-does
 exec_all-returns-in-Ok-Returned-clause-does t c =
-    let m = c.args.m.now in
+    let m = c.args.program.now in
     let on_call = calls m c.args.frames in
     let kind = view_kind c.args.kind in
     let now = c.loop-statement in
@@ -613,7 +613,7 @@ exec_all-returns-in-Ok-Returned-clause-does t c =
 
 pub exec_all-returns-in-Err-clause-does : goal.exec_all-returns-in-Err-clause-does
 exec_all-returns-in-Err-clause-does t c =
-    let m = c.args.m.now in
+    let m = c.args.program.now in
     let on_call = calls m c.args.frames in
     let kind = view_kind c.args.kind in
     let now = c.loop-statement in
@@ -626,14 +626,14 @@ exec_all-returns-in-Err-clause-does t c =
 
 pub exec_all-returns-clause-does : goal.exec_all-returns-clause-does
 exec_all-returns-clause-does t c =
-    let m = c.args.m.now in
+    let m = c.args.program.now in
     let now = c.loop-statement in
     let k1 = view_state now.st in
     now.invariant.so_far (Ok flows.Next) k1 (list_ends (calls m c.args.frames) m (view_kind c.args.kind) c.args.all.now now.statement-index k1 (omega (arith, c.loop-statement-test.false)))
 
 pub turns-returns-in-Ok-Some-clause-does : goal.turns-returns-in-Ok-Some-clause-does
 turns-returns-in-Ok-Some-clause-does t c =
-    let m = c.args.m.now in
+    let m = c.args.program.now in
     let on_call = calls m c.args.frames in
     let l = c.args.l in
     let test = loop_test on_call m l in
@@ -648,7 +648,7 @@ turns-returns-in-Ok-Some-clause-does t c =
 
 pub turns-returns-in-Err-clause-does : goal.turns-returns-in-Err-clause-does
 turns-returns-in-Err-clause-does t c =
-    let m = c.args.m.now in
+    let m = c.args.program.now in
     let on_call = calls m c.args.frames in
     let l = c.args.l in
     let test = loop_test on_call m l in
@@ -662,7 +662,7 @@ turns-returns-in-Err-clause-does t c =
 
 pub turns-returns-clause-does : goal.turns-returns-clause-does
 turns-returns-clause-does t c =
-    let m = c.args.m.now in
+    let m = c.args.program.now in
     let on_call = calls m c.args.frames in
     let l = c.args.l in
     let k1 = view_state c.loop.st in
@@ -671,7 +671,7 @@ turns-returns-clause-does t c =
 
 pub exec_all-loop-statement-preserved : goal.exec_all-loop-statement-preserved
 exec_all-loop-statement-preserved t c =
-    let m = c.args.m.now in
+    let m = c.args.program.now in
     let on_call = calls m c.args.frames in
     let kind = view_kind c.args.kind in
     let now = c.loop-statement in
@@ -686,7 +686,7 @@ exec_all-loop-statement-preserved t c =
 
 pub turns-loop-preserved : goal.turns-loop-preserved
 turns-loop-preserved t c =
-    let m = c.args.m.now in
+    let m = c.args.program.now in
     let on_call = calls m c.args.frames in
     let l = c.args.l in
     let test = loop_test on_call m l in

@@ -76,12 +76,12 @@ decreases-function l = 32 * l.st.now.fuel + 21
 
 abbrev pub invariant-exec_all-loop-statement : goal.invariant-exec_all-loop-statement
 invariant-exec_all-loop-statement l = record {
-  so_far : LeadsOn (view_state l.fn.st) (of_all (calls l.m l.frames) l.m (view_kind l.kind) l.all) (view_state l.st) (of_all (calls l.m l.frames) l.m (view_kind l.kind) (drop l.statement-index l.all));
+  so_far : LeadsOn (view_state l.fn.st) (of_all (calls l.program l.frames) l.program (view_kind l.kind) l.all) (view_state l.st) (of_all (calls l.program l.frames) l.program (view_kind l.kind) (drop l.statement-index l.all));
   fuel : l.st.fuel ≤ l.fn.st.fuel;
 }
 
 abbrev pub invariant-turns-loop : goal.invariant-turns-loop
 invariant-turns-loop l = record {
-  so_far : LeadsOn (view_state l.fn.st) (turns l.n (loop_test (calls l.m l.frames) l.m l.l) (loop_step (calls l.m l.frames) l.m l.l) (loop_body (calls l.m l.frames) l.m l.l)) (view_state l.st) (turns (l.n - l.counter) (loop_test (calls l.m l.frames) l.m l.l) (loop_step (calls l.m l.frames) l.m l.l) (loop_body (calls l.m l.frames) l.m l.l));
+  so_far : LeadsOn (view_state l.fn.st) (turns l.n (loop_test (calls l.program l.frames) l.program l.l) (loop_step (calls l.program l.frames) l.program l.l) (loop_body (calls l.program l.frames) l.program l.l)) (view_state l.st) (turns (l.n - l.counter) (loop_test (calls l.program l.frames) l.program l.l) (loop_step (calls l.program l.frames) l.program l.l) (loop_body (calls l.program l.frames) l.program l.l));
   fuel : l.st.fuel ≤ l.fn.st.fuel;
 }

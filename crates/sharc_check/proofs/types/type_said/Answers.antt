@@ -1,7 +1,7 @@
 use Rattle.std.proofs.Common.{◌≡◌, ◌++◌, List, ap, ◌∙◌, OnOk, subst}
 use Rattle.std.specs.List.{flat_map}
 use Rattle.sharc_ctype.specs.Resolved.{Resolution}
-use Rattle.sharc_mode.specs.declared.note.Note.{Note}
+use Rattle.sharc_mode.specs.declared.finding.Finding.{Finding}
 use Rattle.sharc_mode.specs.Notes.{private_notes, path_notes, mode_notes, private_field_notes, names_in_level}
 use Rattle.sharc_mode.specs.WellFormed.{place_of, first_unfit_path, first_unfit_mode}
 use Rattle.sharc_check.proofs.LevelLemmas.{five}
@@ -15,9 +15,9 @@ returns c =
     let span = n.entity.written.span in
     let base = n.entity.written.ctype.base in
     let levels = n.entity.written.ctype.levels in
-    let P : Resolution → List Note = λ r. path_notes span (first_unfit_path r (place_of n.entity.role) base levels) in
-    let F : Resolution → List Note = λ r. private_field_notes r n in
-    let N : Resolution → List Note = λ r. flat_map (names_in_level r) levels in
+    let P : Resolution → List Finding = λ r. path_notes span (first_unfit_path r (place_of n.entity.role) base levels) in
+    let F : Resolution → List Finding = λ r. private_field_notes r n in
+    let N : Resolution → List Finding = λ r. flat_map (names_in_level r) levels in
     let n1 = c.private.new.notes.items in
     let n2 = c.path.new.notes.items in
     let n3 = c.mode.new.notes.items in

@@ -13,7 +13,7 @@ use Rattle.sharc_flat_walk.proofs.bodies.+statement.Goals as goal
 
 pub block-returns-clause-slots : goal.block-returns-clause-slots
 block-returns-clause-slots t c =
-    let p = c.args.p.now in
+    let p = c.args.source.now in
     let xs = c.args.slots.now.items in
     let ys = c.statements.new.slots.items in
     let con = context p xs in
@@ -26,7 +26,7 @@ block-returns-clause-slots t c =
 
 pub choice-returns-clause-code : goal.choice-returns-clause-code
 choice-returns-clause-code t c =
-    let p = c.args.p.now in
+    let p = c.args.source.now in
     let con = context p c.args.slots.now.items in
     let a = around_of c.args.around c.args.marks.now.items in
     let l2 = c.inner.new.lines.items in
@@ -40,7 +40,7 @@ choice-returns-clause-code t c =
 
 pub statement-returns-in_ok-inner-in-IfElse-2-clause-code : goal.statement-returns-in_ok-inner-in-IfElse-2-clause-code
 statement-returns-in_ok-inner-in-IfElse-2-clause-code t c =
-    let p = c.args.p.now in
+    let p = c.args.source.now in
     let xs = c.args.slots.now.items in
     let con = context p xs in
     let a = around_of c.args.around c.args.marks.now.items in
@@ -63,7 +63,7 @@ statement-returns-in_ok-inner-in-IfElse-2-clause-code t c =
 
 pub statement-returns-in-Block-clause-code : goal.statement-returns-in-Block-clause-code
 statement-returns-in-Block-clause-code t c =
-    let p = c.args.p.now in
+    let p = c.args.source.now in
     let con = context p c.args.slots.now.items in
     let a = around_of c.args.around c.args.marks.now.items in
     let l1 = c.emit.new.lines.items in
@@ -76,7 +76,7 @@ statement-returns-in-Block-clause-code t c =
 
 pub turns-returns-clause-code : goal.turns-returns-clause-code
 turns-returns-clause-code t c =
-    let p = c.args.p.now in
+    let p = c.args.source.now in
     let xs = c.args.slots.now.items in
     let con = context p xs in
     let around = c.args.around in

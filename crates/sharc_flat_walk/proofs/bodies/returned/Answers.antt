@@ -13,7 +13,7 @@ use Rattle.sharc_flat_walk.proofs.bodies.returned.Goals as goal
 
 pub returns-in_ok-zero-in-None : goal.returns-in_ok-zero-in-None
 returns-in_ok-zero-in-None c =
-    let con = context c.args.p.now c.args.scope.now in
+    let con = context c.args.source.now c.args.scope.now in
     let a = around_of c.args.around c.args.marks.now in
     let old = c.args.lines.now.items in
     let l2 = c.zero.new.lines.items in
@@ -27,7 +27,7 @@ returns-in_ok-zero-in-None c =
 
 pub returns-in_ok-give-in-Some : goal.returns-in_ok-give-in-Some
 returns-in_ok-give-in-Some c =
-    let con = context c.args.p.now c.args.scope.now in
+    let con = context c.args.source.now c.args.scope.now in
     let a = around_of c.args.around c.args.marks.now in
     let old = c.args.lines.now.items in
     let i = c.in_ok-at-in-Some.at.int in

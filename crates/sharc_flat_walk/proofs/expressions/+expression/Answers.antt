@@ -14,7 +14,7 @@ use Rattle.sharc_flat_walk.proofs.expressions.+expression.Goals as goal
 
 pub decided-returns : goal.decided-returns
 decided-returns t c =
-    let con = context c.args.p.now c.args.scope.now in
+    let con = context c.args.source.now c.args.scope.now in
     let i = c.args.at.int in
     let r = c.args.at.reference in
     let old = c.args.lines.now.items in
@@ -31,7 +31,7 @@ decided-returns t c =
 
 pub expression-returns-in_ok-arguments-in-Call : goal.expression-returns-in_ok-arguments-in-Call
 expression-returns-in_ok-arguments-in-Call t c =
-    let con = context c.args.p.now c.args.scope.now in
+    let con = context c.args.source.now c.args.scope.now in
     let i = c.args.at.int in
     let r = c.args.at.reference in
     let s = c.in-Call.span in
@@ -39,20 +39,20 @@ expression-returns-in_ok-arguments-in-Call t c =
     let list = c.in-Call.all in
     let l2 = c.arguments.new.lines.items in
     let l3 = c.called.new.lines.items in
-    let typed : c.typed-t.result.now ≡ c.args.p.now.m.now.typed = c.typed-t.ensures in
-    let named : c.named-named.result ≡ named_at c.args.p.now.m.now.typed f.site.token = c.named-named.ensures ∙ ap (λ x. named_at x f.site.token) typed in
+    let typed : c.typed-t.result.now ≡ c.args.source.now.m.now.typed = c.typed-t.ensures in
+    let named : c.named-named.result ≡ named_at c.args.source.now.m.now.typed f.site.token = c.named-named.ensures ∙ ap (λ x. named_at x f.site.token) typed in
     on_ok_weaker c.called.result
     (λ (e3 : l3 ≡ l2 ++ called_code i r c.at_site.result c.named-named.result c.as_slice-text.result.now (view_arguments c.as_slice-in-Call.result.now)).
     call_at con i r s f (view_expr c.args.expr.now) (view_arguments list.items) (view_arguments c.as_slice.result.now) (view_arguments c.as_slice-in-Call.result.now) c.parameters_named.result.now c.named-named.result
     c.as_slice-text.result.now c.at_site.result c.args.lines.now.items c.emit.new.lines.items l2 l3
     (view_call c.args.expr.now s f list c.in-Call.is) (ap view_arguments c.as_slice.ensures.value) (ap view_arguments c.as_slice-in-Call.ensures.value)
-    (c.parameters_named.ensures ∙ ap (λ x. parameters_named x c.named-named.result) typed ∙ ap (parameters_named c.args.p.now.m.now.typed) named)
+    (c.parameters_named.ensures ∙ ap (λ x. parameters_named x c.named-named.result) typed ∙ ap (parameters_named c.args.source.now.m.now.typed) named)
     named c.as_slice-text.ensures c.at_site.ensures c.in_ok-emit.ensures c.in_ok-arguments-in-Call.ensures e3)
     c.called.ensures
 
 pub expression-returns-in_ok-element-in-Index : goal.expression-returns-in_ok-element-in-Index
 expression-returns-in_ok-element-in-Index t c =
-    let con = context c.args.p.now c.args.scope.now in
+    let con = context c.args.source.now c.args.scope.now in
     let i = c.args.at.int in
     let r = c.args.at.reference in
     let s = c.in-Index.span in
@@ -70,7 +70,7 @@ expression-returns-in_ok-element-in-Index t c =
 
 pub expression-returns-in_ok-expression-in-Binary : goal.expression-returns-in_ok-expression-in-Binary
 expression-returns-in_ok-expression-in-Binary t c =
-    let con = context c.args.p.now c.args.scope.now in
+    let con = context c.args.source.now c.args.scope.now in
     let i = c.args.at.int in
     let r = c.args.at.reference in
     let s = c.in-Binary.span in

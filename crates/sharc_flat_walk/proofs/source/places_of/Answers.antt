@@ -6,7 +6,7 @@ use Rattle.sharc_flat_walk.proofs.source.places_of.Goals as goal
 
 pub loop-left-preserved : goal.loop-left-preserved
 loop-left-preserved c =
-    let all = structs_in c.args.t.now.program.items in
+    let all = structs_in c.args.typed.now.program.items in
     let some : 0 < c.loop-left.left = omega arith in
     record {
       few = omega arith;

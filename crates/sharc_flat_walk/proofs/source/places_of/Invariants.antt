@@ -8,6 +8,6 @@ decreases-loop-left l = l.left
 
 abbrev pub invariant-loop-left : goal.invariant-loop-left
 invariant-loop-left l = record {
-  few : l.left ≤ length (structs_in l.t.program.items);
-  fields : HasFields (drop l.left (structs_in l.t.program.items)) l.places;
+  few : l.left ≤ length (structs_in l.typed.program.items);
+  fields : HasFields (drop l.left (structs_in l.typed.program.items)) l.places;
 }

@@ -5,7 +5,7 @@ use Rattle.sharc_flat_walk.proofs.source.structs_of.Goals as goal
 
 pub loop-left-preserved : goal.loop-left-preserved
 loop-left-preserved c =
-    let all = structs_in c.args.t.now.program.items in
+    let all = structs_in c.args.typed.now.program.items in
     let left = c.loop-left.left in
     let some : 0 < left = omega arith in
     let new = c.enter_struct.new.structs in

@@ -8,7 +8,7 @@ decreases-loop-left l = l.left
 
 abbrev pub invariant-loop-left : goal.invariant-loop-left
 invariant-loop-left l = record {
-  few : l.left ≤ length (structs_in l.t.program.items);
-  cells : HasCells (drop l.left (structs_in l.t.program.items)) l.structs;
-  layouts : HasLayouts (l.left + 2) (length (structs_in l.t.program.items) + 2) (drop l.left (structs_in l.t.program.items)) l.structs;
+  few : l.left ≤ length (structs_in l.typed.program.items);
+  cells : HasCells (drop l.left (structs_in l.typed.program.items)) l.structs;
+  layouts : HasLayouts (l.left + 2) (length (structs_in l.typed.program.items) + 2) (drop l.left (structs_in l.typed.program.items)) l.structs;
 }

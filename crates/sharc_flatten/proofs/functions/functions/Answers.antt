@@ -8,8 +8,8 @@ use Rattle.sharc_flatten.proofs.functions.functions.Goals as goal
 
 pub loop-number-preserved : goal.loop-number-preserved
 loop-number-preserved c =
-    let m = c.args.p.now.m.now in
-    let globals = c.args.p.now.globals.items in
+    let m = c.args.source.now.m.now in
+    let globals = c.args.source.now.globals.items in
     let fs = functions_in m.typed.program.items in
     let n = c.loop-number.number in
     let f = view_function c.in-Some.of.now in

@@ -8,7 +8,7 @@ use Rattle.sharc_flatten.proofs.layouts.layouts_of.Goals as goal
 
 pub loop-number-preserved : goal.loop-number-preserved
 loop-number-preserved c =
-    let t = c.args.t.now in
+    let t = c.args.typed.now in
     let old = c.loop-number.all in
     let new = c.add.new.self in
     let of = c.in-Some.definition.now in

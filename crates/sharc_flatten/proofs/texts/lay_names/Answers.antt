@@ -14,7 +14,7 @@ use Rattle.sharc_flatten.proofs.texts.lay_names.Goals as goal
 
 pub loop-number-preserved : goal.loop-number-preserved
 loop-number-preserved c =
-    let fs = functions_in c.args.t.now.program.items in
+    let fs = functions_in c.args.typed.now.program.items in
     let f = view_function c.in-Some.of.now in
     let old = c.loop-number.bytes.items in
     let new = c.add_text.new.bytes.items in
@@ -43,7 +43,7 @@ loop-number-preserved c =
 
 pub returns-clause-named : goal.returns-clause-named
 returns-clause-named c =
-    let fs = functions_in c.args.t.now.program.items in
+    let fs = functions_in c.args.typed.now.program.items in
     let n = c.loop-number.number in
     let inv = c.loop-number.invariant in
     let told : length c.args.rows.now.items ≤ n = omega (arith, c.loop-number-test.false, c.len-number-end.ensures, c.args.rows.now.ok) in

@@ -10,5 +10,5 @@ invariant-loop-number l = record {
   grows : Grows l.initial.bytes.items l.bytes.items;
   size : length l.rows.items ≡ length l.initial.rows.items;
   left : drop l.number l.rows.items ≡ drop l.number l.initial.rows.items;
-  named : (more : List ℕ) → AreNamed (l.bytes.items ++ more) (take l.number l.initial.rows.items) (take l.number (names_of (functions_in l.t.program.items))) (take l.number l.rows.items);
+  named : (more : List ℕ) → AreNamed (l.bytes.items ++ more) (take l.number l.initial.rows.items) (take l.number (names_of (functions_in l.typed.program.items))) (take l.number l.rows.items);
 }

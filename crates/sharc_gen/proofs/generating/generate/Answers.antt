@@ -4,8 +4,8 @@ use Rattle.sharc_gen.proofs.Numbers.{numbers_fit}
 use Rattle.sharc_gen.proofs.generating.generate.Goals as goal
 
 pub returns-clause-numbers : goal.returns-clause-numbers
-returns-clause-numbers c = λ good tables. numbers_fit c.args.g _ (record {
-  instrs = c.in_ok-instrs.ensures ∙ ap (λ fs. generated fs c.deref.result.now) c.deref-2.ensures.value ∙ ap (generated c.args.g.functions.items) c.deref.ensures.value;
+returns-clause-numbers c = λ good tables. numbers_fit c.args.guarded _ (record {
+  instrs = c.in_ok-instrs.ensures ∙ ap (λ fs. generated fs c.deref.result.now) c.deref-2.ensures.value ∙ ap (generated c.args.guarded.functions.items) c.deref.ensures.value;
   functions = refl;
   main = refl;
   globals = refl;
@@ -16,4 +16,4 @@ returns-clause-numbers c = λ good tables. numbers_fit c.args.g _ (record {
   sites = refl;
   texts = refl;
   files = refl;
-}) good tables c.args.g.few_granules
+}) good tables c.args.guarded.few_granules

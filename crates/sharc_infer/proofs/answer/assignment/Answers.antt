@@ -11,20 +11,20 @@ use Rattle.sharc_infer.proofs.answer.assignment.Goals as goal
 
 pub places-requires : goal.places-requires
 places-requires c =
-    let r = c.args.t.now in
+    let r = c.args.typed.now in
     let counted = c.link_laws.ensures.counted r in
     let settled = c.in_ok-settled.settled.items in
     let roots = c.in_ok-roots.roots.items in
     ap length c.deref-2.ensures.value
-    ∙ root_count r c.args.r.now c.requires settled c.in_ok-settled.ensures counted roots c.in_ok-roots.ensures
-    ∙ sym (count r c.args.r.now c.requires settled c.in_ok-settled.ensures counted roots c.in_ok-roots.ensures)
+    ∙ root_count r c.args.reached.now c.requires settled c.in_ok-settled.ensures counted roots c.in_ok-roots.ensures
+    ∙ sym (count r c.args.reached.now c.requires settled c.in_ok-settled.ensures counted roots c.in_ok-roots.ensures)
     ∙ ap length (sym c.deref.ensures.value)
 
 pub found-requires-clause-few_places : goal.found-requires-clause-few_places
 found-requires-clause-few_places c =
-    let r = c.args.t.now in
+    let r = c.args.typed.now in
     let counted = c.link_laws.ensures.counted r in
-    let size = count r c.args.r.now c.requires c.in_ok-settled.settled.items c.in_ok-settled.ensures counted c.in_ok-roots.roots.items c.in_ok-roots.ensures in
+    let size = count r c.args.reached.now c.requires c.in_ok-settled.settled.items c.in_ok-settled.ensures counted c.in_ok-roots.roots.items c.in_ok-roots.ensures in
     let places = ap length c.deref-3.ensures.value ∙ c.in_ok-places.ensures.size ∙ ap length c.deref.ensures.value ∙ size in
     let all = c.position_count-all.ensures in
     let few = c.position_count-all.type_inv in
@@ -32,9 +32,9 @@ found-requires-clause-few_places c =
 
 pub found-requires-clause-within : goal.found-requires-clause-within
 found-requires-clause-within c =
-    let r = c.args.t.now in
+    let r = c.args.typed.now in
     let counted = c.link_laws.ensures.counted r in
-    let size = count r c.args.r.now c.requires c.in_ok-settled.settled.items c.in_ok-settled.ensures counted c.in_ok-roots.roots.items c.in_ok-roots.ensures in
+    let size = count r c.args.reached.now c.requires c.in_ok-settled.settled.items c.in_ok-settled.ensures counted c.in_ok-roots.roots.items c.in_ok-roots.ensures in
     let places : length c.deref-3.result.now ≡ position_count r = ap length c.deref-3.ensures.value ∙ c.in_ok-places.ensures.size ∙ ap length c.deref.ensures.value ∙ size in
     let links = c.deref-4.ensures.value ∙ c.in_ok-links.ensures in
     subst (λ n. All (λ (link : Link). IsWithin n link.edge) c.deref-4.result.now) (sym places)
@@ -42,18 +42,18 @@ found-requires-clause-within c =
 
 pub reasons-requires-clause-roots : goal.reasons-requires-clause-roots
 reasons-requires-clause-roots c =
-    let r = c.args.t.now in
+    let r = c.args.typed.now in
     let counted = c.link_laws.ensures.counted r in
     let settled = c.in_ok-settled.settled.items in
     let roots = c.in_ok-roots.roots.items in
     ap length c.deref-9.ensures.value
-    ∙ root_count r c.args.r.now c.requires settled c.in_ok-settled.ensures counted roots c.in_ok-roots.ensures
-    ∙ sym (count r c.args.r.now c.requires settled c.in_ok-settled.ensures counted roots c.in_ok-roots.ensures)
+    ∙ root_count r c.args.reached.now c.requires settled c.in_ok-settled.ensures counted roots c.in_ok-roots.ensures
+    ∙ sym (count r c.args.reached.now c.requires settled c.in_ok-settled.ensures counted roots c.in_ok-roots.ensures)
     ∙ ap length (sym c.deref-7.ensures.value)
 
 pub returns : goal.returns
 returns c =
-    let r = c.args.t.now in
+    let r = c.args.typed.now in
     let counted = c.link_laws.ensures.counted r in
     let settled = c.in_ok-settled.settled.items in
     let roots = c.in_ok-roots.roots.items in
@@ -72,6 +72,6 @@ returns c =
     subst (λ s. AreReasonsOf s findings roots reasons) c.deref-7.ensures.value
     (subst (λ f. AreReasonsOf c.deref-7.result.now f roots reasons) c.deref-8.ensures.value
     (subst (λ l. AreReasonsOf c.deref-7.result.now c.deref-8.result.now l reasons) c.deref-9.ensures.value c.in_ok-reasons.ensures)) in
-    let made = least r c.args.r.now c.requires settled c.in_ok-settled.ensures counted roots c.in_ok-roots.ensures places places_are findings inferred modes modes_are reasons reasons_are in
+    let made = least r c.args.reached.now c.requires settled c.in_ok-settled.ensures counted roots c.in_ok-roots.ensures places places_are findings inferred modes modes_are reasons reasons_are in
     subst (λ m. IsLeastAssignment (record { typed = r; modes = m; reasons = c.of-2.result })) (sym c.of.ensures)
     (subst (λ l. IsLeastAssignment (record { typed = r; modes = modes; reasons = l })) (sym c.of-2.ensures) made)

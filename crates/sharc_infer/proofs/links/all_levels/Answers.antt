@@ -5,7 +5,7 @@ use Rattle.sharc_infer.proofs.links.all_levels.Goals as goal
 
 pub add_levels-requires : goal.add_levels-requires
 add_levels-requires c =
-    let list = entities_in c.args.t.now.program.items in
+    let list = entities_in c.args.typed.now.program.items in
     let i = c.loop-numbered.numbered-index in
     let n = c.numbered-item.result in
     let are = c.entities-numbered-items.ensures in

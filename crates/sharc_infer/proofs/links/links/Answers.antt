@@ -8,7 +8,7 @@ use Rattle.sharc_infer.proofs.links.links.Goals as goal
 
 pub loop-item-preserved : goal.loop-item-preserved
 loop-item-preserved c =
-    let r = c.args.t.now in
+    let r = c.args.typed.now in
     let all = r.program.items in
     let old = c.loop-item.links.items in
     let i = c.loop-item.item-index in

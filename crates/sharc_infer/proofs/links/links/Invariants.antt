@@ -4,4 +4,4 @@ use Rattle.sharc_mode.specs.Flows.{item_links, links_of}
 use Rattle.sharc_infer.proofs.links.links.Given as goal
 
 abbrev pub invariant-loop-item : goal.invariant-loop-item
-invariant-loop-item l = l.links.items ++ flat_map (item_links l.t) (drop l.item-index l.t.program.items) ≡ links_of l.t
+invariant-loop-item l = l.links.items ++ flat_map (item_links l.typed) (drop l.item-index l.typed.program.items) ≡ links_of l.typed

@@ -3,4 +3,4 @@ use Rattle.sharc_infer.specs.Roots.{passed_below}
 use Rattle.sharc_infer.proofs.roots.pass_all.Given as goal
 
 abbrev pub invariant-loop-function : goal.invariant-loop-function
-invariant-loop-function l = l.roots.items ≡ passed_below l.t l.r l.function l.fn.roots.items
+invariant-loop-function l = l.roots.items ≡ passed_below l.typed l.reached l.function l.fn.roots.items

@@ -3,4 +3,4 @@ use Rattle.sharc_infer.specs.Roots.{touched_below}
 use Rattle.sharc_infer.proofs.roots.touch_globals.Given as goal
 
 abbrev pub invariant-loop-global : goal.invariant-loop-global
-invariant-loop-global l = l.roots.items ≡ touched_below l.t l.r l.global l.fn.roots.items
+invariant-loop-global l = l.roots.items ≡ touched_below l.typed l.reached l.global l.fn.roots.items

@@ -7,5 +7,5 @@ use Rattle.sharc_infer.proofs.settled.settled.Goals as goal
 
 pub loop-numbered-init : goal.loop-numbered-init
 loop-numbered-init c =
-    let list = entities_in c.args.t.now.program.items in
+    let list = entities_in c.args.typed.now.program.items in
     ap (λ l. l ++ settled_in (map (λ (n : Numbered). n.entity) (numbered list))) c.new-list.ensures.items ∙ ap settled_in (numbered_entities 0 list)

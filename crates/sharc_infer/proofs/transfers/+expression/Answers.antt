@@ -9,7 +9,7 @@ use Rattle.sharc_infer.proofs.transfers.+expression.Goals as goal
 
 pub expression-returns-in_ok-pass_all-in-Call : goal.expression-returns-in_ok-pass_all-in-Call
 expression-returns-in_ok-pass_all-in-Call t c =
-    let r = c.args.t.now in
+    let r = c.args.typed.now in
     let f = c.args.function in
     let old = c.args.links.now.items in
     let mid = c.pass_all.new.links.items in

@@ -5,4 +5,4 @@ use Rattle.sharc_infer.specs.Links.{given}
 use Rattle.sharc_infer.proofs.transfers.+expression.Given as goal
 
 abbrev pub invariant-arguments-loop-expr : goal.invariant-arguments-loop-expr
-invariant-arguments-loop-expr l = l.links.items ++ given l.t l.function (argument_transfers l.t (view_arguments (drop l.expr-index l.all))) ≡ l.fn.links.items ++ given l.t l.function (argument_transfers l.t (view_arguments l.all))
+invariant-arguments-loop-expr l = l.links.items ++ given l.typed l.function (argument_transfers l.typed (view_arguments (drop l.expr-index l.all))) ≡ l.fn.links.items ++ given l.typed l.function (argument_transfers l.typed (view_arguments l.all))

@@ -7,7 +7,7 @@ use Rattle.sharc_infer.proofs.transfers.+statement.Goals as goal
 
 pub statement-returns-in-Block : goal.statement-returns-in-Block
 statement-returns-in-Block t c =
-    let r = c.args.t.now in
+    let r = c.args.typed.now in
     let f = c.args.function in
     let w = c.args.returns.now in
     let same : given r f (statements_transfers r w (view_statements c.as_slice.result.now)) ≡ given r f (statement_transfers r w (view_stmt c.args.stmt.now)) =

@@ -6,4 +6,4 @@ use Rattle.sharc_infer.proofs.transfers.+statement.Given as goal
 
 abbrev pub invariant-statements-loop-stmt : goal.invariant-statements-loop-stmt
 invariant-statements-loop-stmt l =
-    l.links.items ++ given l.t l.function (statements_transfers l.t l.returns (view_statements (drop l.stmt-index l.all))) ≡ l.fn.links.items ++ given l.t l.function (statements_transfers l.t l.returns (view_statements l.all))
+    l.links.items ++ given l.typed l.function (statements_transfers l.typed l.returns (view_statements (drop l.stmt-index l.all))) ≡ l.fn.links.items ++ given l.typed l.function (statements_transfers l.typed l.returns (view_statements l.all))

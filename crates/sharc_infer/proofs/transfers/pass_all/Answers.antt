@@ -10,4 +10,4 @@ returns c =
     let size = c.min-i-end.ensures in
     let past = c.loop-i-test.false in
     let none = passed_end c.args.parameters.now c.args.all.now c.loop-i.i (omega arith) in
-    sym (ap (λ l. old ++ given c.args.t.now c.args.function l) none ∙ append-nil old) ∙ c.loop-i.invariant
+    sym (ap (λ l. old ++ given c.args.typed.now c.args.function l) none ∙ append-nil old) ∙ c.loop-i.invariant

@@ -5,4 +5,4 @@ use Rattle.sharc_infer.specs.Links.{given}
 use Rattle.sharc_infer.proofs.transfers.pass_all.Given as goal
 
 abbrev pub invariant-loop-i : goal.invariant-loop-i
-invariant-loop-i l = l.links.items ++ given l.t l.function (passed (drop l.i l.parameters) (view_arguments (drop l.i l.all))) ≡ l.fn.links.items ++ given l.t l.function (passed l.parameters (view_arguments l.all))
+invariant-loop-i l = l.links.items ++ given l.typed l.function (passed (drop l.i l.parameters) (view_arguments (drop l.i l.all))) ≡ l.fn.links.items ++ given l.typed l.function (passed l.parameters (view_arguments l.all))

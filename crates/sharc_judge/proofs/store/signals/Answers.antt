@@ -5,6 +5,6 @@ use Rattle.sharc_judge.proofs.store.signals.Goals as goal
 
 pub returns : goal.returns
 returns c =
-    let tells = signals_tells c.args.before.now c.args.c c.args.answer in
+    let tells = signals_tells c.args.before.now c.args.cell c.args.answer in
     let same : to_z w64 (of_z w64 c.args.answer) ≡ c.args.answer = to_z-of_z w64 c.args.answer c.ranges.answer in
     (λ t. tells.0 (sym same ∙ c.tells_waiter.ensures.0 t), λ s. c.tells_waiter.ensures.1 (same ∙ tells.1 s))

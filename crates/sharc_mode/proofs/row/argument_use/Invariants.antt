@@ -4,4 +4,4 @@ use Rattle.sharc_mode.specs.Rows.{argument_use}
 use Rattle.sharc_mode.proofs.row.argument_use.Given as goal
 
 abbrev pub invariant-loop-i : goal.invariant-loop-i
-invariant-loop-i l = argument_use l.t (drop l.i l.parameters) (view_arguments (drop l.i l.arguments)) l.wanted ≡ argument_use l.t l.parameters (view_arguments l.arguments) l.wanted
+invariant-loop-i l = argument_use l.typed (drop l.i l.parameters) (view_arguments (drop l.i l.arguments)) l.wanted ≡ argument_use l.typed l.parameters (view_arguments l.arguments) l.wanted

@@ -5,7 +5,7 @@ use Rattle.sharc_mode.proofs.shown.printed_type.Goals as goal
 
 pub loop-i-preserved : goal.loop-i-preserved
 loop-i-preserved c =
-    let m = c.args.m.now in
+    let m = c.args.program.now in
     let n = c.args.numbered.now in
     let whole = c.position_count-all.ensures.whole.modes in
     let below : n.first + c.loop-i.i < length m.modes = omega (arith, whole, c.requires, c.positions-i-end.ensures, c.loop-i-test.true) in

@@ -1,7 +1,7 @@
 use Rattle.std.proofs.Common.{◌≡◌, ◌+◌, ◌<◌, ◌≤◌, length, subst, ap, sym, ◌∙◌, arith, rules, Some, false, nat_eq}
 use Rattle.sharc_mode.specs.Cells.{pointed}
 use Rattle.sharc_mode.specs.Moded.{position_count}
-use Rattle.sharc_mode.specs.Rows.{Row, modes_of}
+use Rattle.sharc_mode.specs.Rows.{Targets, modes_of}
 use Rattle.sharc_mode.specs.Sharings.{same, same_all}
 use Rattle.sharc_mode.specs.View.{view_row, view_sharing}
 use Rattle.sharc_mode.proofs.ShownLemmas.{alike, second_ends, deeper_ends}
@@ -10,7 +10,7 @@ use Rattle.sharc_mode.proofs.shown.same_rows.Goals.{then-loop-a-test+else-b-gt0,
 
 pub loop-a-preserved : goal.loop-a-preserved
 loop-a-preserved c =
-    let m = c.args.m.now in
+    let m = c.args.program.now in
     let limit = position_count m.typed in
     let whole = c.position_count-all.ensures.whole.modes in
     let a = view_row c.loop-a.a in
@@ -20,8 +20,8 @@ loop-a-preserved c =
     let ends_a : a.first + a.count ≤ length m.modes = omega (arith, first, whole) in
     let ends_b : b.first + b.count ≤ length m.modes = omega (arith, second, whole) in
     record {
-      first = subst (λ (r : Row). r.first + r.count ≤ limit) (sym c.deeper-a.ensures) (deeper_ends limit a first);
-      second = subst (λ (r : Row). r.first + r.count ≤ limit) (sym c.deeper-b.ensures) (deeper_ends limit b second);
+      first = subst (λ (r : Targets). r.first + r.count ≤ limit) (sym c.deeper-a.ensures) (deeper_ends limit a first);
+      second = subst (λ (r : Targets). r.first + r.count ≤ limit) (sym c.deeper-b.ensures) (deeper_ends limit b second);
       same = alike m a b (view_row c.deeper-a.result) (view_row c.deeper-b.result) (same_all m.typed (modes_of m (view_row c.args.a)) (modes_of m (view_row c.args.b)))
           c.loop-a-test.true c.if-b-gt0.true ends_a ends_b
           (ap (λ s. same m.typed s (pointed m (Some b))) (sym c.pointed.ensures) ∙ ap (λ s. same m.typed (view_sharing c.pointed.result) s) (sym c.pointed-in-loop-a.ensures)
@@ -31,7 +31,7 @@ loop-a-preserved c =
 
 pub returns-else-a-eq0 : goal.returns-else-a-eq0
 returns-else-a-eq0 c =
-    let m = c.args.m.now in
+    let m = c.args.program.now in
     let whole = c.position_count-all.ensures.whole.modes in
     let a = view_row c.loop-a.a in
     let b = view_row c.loop-a.b in

@@ -7,9 +7,9 @@ use Rattle.sharc_mode.proofs.shown.same_rows.Given as goal
 
 abbrev pub invariant-loop-a : goal.invariant-loop-a
 invariant-loop-a l = record {
-  first : l.a.first + l.a.count ≤ position_count l.m.typed;
-  second : l.b.first + l.b.count ≤ position_count l.m.typed;
-  same : same_all l.m.typed (modes_of l.m (view_row l.a)) (modes_of l.m (view_row l.b)) ≡ same_all l.m.typed (modes_of l.m (view_row l.fn.a)) (modes_of l.m (view_row l.fn.b));
+  first : l.a.first + l.a.count ≤ position_count l.program.typed;
+  second : l.b.first + l.b.count ≤ position_count l.program.typed;
+  same : same_all l.program.typed (modes_of l.program (view_row l.a)) (modes_of l.program (view_row l.b)) ≡ same_all l.program.typed (modes_of l.program (view_row l.fn.a)) (modes_of l.program (view_row l.fn.b));
 }
 
 abbrev pub decreases-loop-a : goal.decreases-loop-a

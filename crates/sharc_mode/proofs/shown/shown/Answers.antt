@@ -1,7 +1,7 @@
 use Rattle.std.proofs.Common.{◌+◌, ◌≤◌, ◌∷◌, length, map, Option, Some, None, ap, sym, ◌∙◌, subst, arith}
 use Rattle.sharc_tree.specs.declared.ctype.Mode.{Mode}
 use Rattle.sharc_mode.specs.Moded.{position_count}
-use Rattle.sharc_mode.specs.Rows.{Row, modes_of}
+use Rattle.sharc_mode.specs.Rows.{Targets, modes_of}
 use Rattle.sharc_mode.specs.Sharings.{Sharing, mode_of}
 use Rattle.sharc_mode.specs.View.{view_row, view_sharing}
 use Rattle.sharc_mode.proofs.ShownLemmas.{one_shown, deeper_ends}
@@ -9,7 +9,7 @@ use Rattle.sharc_mode.proofs.shown.shown.Goals as goal
 
 pub loop-left-preserved : goal.loop-left-preserved
 loop-left-preserved c =
-    let m = c.args.m.now in
+    let m = c.args.program.now in
     let limit = position_count m.typed in
     let whole = c.position_count-all.ensures.whole.modes in
     let row = view_row c.loop-left.left in
@@ -17,7 +17,7 @@ loop-left-preserved c =
     let f : Sharing → Option Mode = λ s. Some (mode_of m.typed s) in
     let ends_row : row.first + row.count ≤ length m.modes = omega (arith, ends, whole) in
     record {
-      ends = subst (λ (r : Row). r.first + r.count ≤ limit) (sym c.deeper-left.ensures) (deeper_ends limit row ends);
+      ends = subst (λ (r : Targets). r.first + r.count ≤ limit) (sym c.deeper-left.ensures) (deeper_ends limit row ends);
       levels = one_shown m row (view_row c.deeper-left.result) c.loop-left.levels.items c.push-in-loop-left.new.self.items (None ∷ map f (modes_of m (view_row c.args.row)))
           (view_sharing c.pointed.result) c.in_ok-mode.mode c.loop-left-test.true ends_row c.deeper-left.ensures c.pointed.ensures
           (c.in_ok-mode.ensures ∙ ap (λ r. mode_of r (view_sharing c.pointed.result)) c.typed-t.ensures) c.in_ok-push-2.ensures.items c.loop-left.invariant.levels;

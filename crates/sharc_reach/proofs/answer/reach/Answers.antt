@@ -11,7 +11,7 @@ use Rattle.sharc_reach.proofs.answer.reach.Goals as goal
 
 pub find-requires-clause-few_nodes : goal.find-requires-clause-few_nodes
 find-requires-clause-few_nodes c =
-    let r = c.args.t.now in
+    let r = c.args.typed.now in
     let count = c.function_count-functions.result in
     let mentions_are = c.deref-2.ensures.value ∙ c.in_ok-mentions.ensures in
     let nodes_are : c.deref-3.result.now ≡ function_nodes r count = c.deref-3.ensures.value ∙ c.in_ok-nodes.ensures ∙ ap (fold (marked_by r) (replicate count quiet_node)) mentions_are in
@@ -21,7 +21,7 @@ find-requires-clause-few_nodes c =
 
 pub find-requires-clause-within : goal.find-requires-clause-within
 find-requires-clause-within c =
-    let r = c.args.t.now in
+    let r = c.args.typed.now in
     let count = c.function_count-functions.result in
     let nodes_are : c.deref-3.result.now ≡ function_nodes r count =
     c.deref-3.ensures.value ∙ c.in_ok-nodes.ensures ∙ ap (fold (marked_by r) (replicate count quiet_node)) (c.deref-2.ensures.value ∙ c.in_ok-mentions.ensures) in
@@ -32,7 +32,7 @@ find-requires-clause-within c =
 
 pub returns : goal.returns
 returns c =
-    let r = c.args.t.now in
+    let r = c.args.typed.now in
     let count = c.function_count-functions.result in
     let findings = c.in_ok-findings.findings.items in
     let functions = c.in_ok-functions.functions.items in

@@ -3,4 +3,4 @@ use Rattle.sharc_reach.specs.Graphs.{quiet_node, marked_by}
 use Rattle.sharc_reach.proofs.sources.nodes.Given as goal
 
 abbrev pub invariant-loop-mention : goal.invariant-loop-mention
-invariant-loop-mention l = fold (marked_by l.t) l.nodes.items (drop l.mention-index l.mentions) ≡ fold (marked_by l.t) (replicate l.count quiet_node) l.mentions
+invariant-loop-mention l = fold (marked_by l.typed) l.nodes.items (drop l.mention-index l.mentions) ≡ fold (marked_by l.typed) (replicate l.count quiet_node) l.mentions

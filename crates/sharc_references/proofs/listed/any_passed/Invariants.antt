@@ -4,4 +4,4 @@ use Rattle.sharc_references.specs.Listed.{is_passed}
 use Rattle.sharc_references.proofs.listed.any_passed.Given as goal
 
 abbrev pub invariant-loop-e : goal.invariant-loop-e
-invariant-loop-e l = list_any (is_passed l.t l.number l.thread) (drop l.e-index l.events) ≡ list_any (is_passed l.t l.number l.thread) l.events
+invariant-loop-e l = list_any (is_passed l.typed l.number l.thread) (drop l.e-index l.events) ≡ list_any (is_passed l.typed l.number l.thread) l.events

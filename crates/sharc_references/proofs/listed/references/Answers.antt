@@ -8,7 +8,7 @@ use Rattle.sharc_references.proofs.listed.references.Goals as goal
 pub returns : goal.returns
 returns c run =
     let fuel = c.args.fuel in
-    let m = c.args.m.now in
+    let m = c.args.program.now in
     let R = c.args.events.now in
     let n = c.args.number in
     let all : c.add_all.new.list.items ≡ holders fuel m R n = c.in_ok-add_all.ensures ∙ ap (λ l. l ++ holders fuel m R n) c.new-list.ensures.items in

@@ -5,4 +5,4 @@ use Rattle.sharc_references.specs.Making.{items_make}
 use Rattle.sharc_references.proofs.made.items_make.Given as goal
 
 abbrev pub invariant-loop-item : goal.invariant-loop-item
-invariant-loop-item l = items_make l.t l.token l.cell (view_items (drop l.item-index l.items)) ≡ items_make l.t l.token l.cell (view_items l.items)
+invariant-loop-item l = items_make l.typed l.token l.cell (view_items (drop l.item-index l.items)) ≡ items_make l.typed l.token l.cell (view_items l.items)

@@ -6,7 +6,7 @@ use Rattle.sharc_report.proofs.accepted.accepted_text.Goals as goal
 
 pub loop-warning-preserved : goal.loop-warning-preserved
 loop-warning-preserved c =
-    let f = warning_line c.args.m.now.typed in
+    let f = warning_line c.args.program.now.typed in
     let w = c.warning-item.result in
     let old = c.loop-warning.text.items in
     one_more f c.as_slice-warning-items.result.now c.args.warnings.now c.loop-warning.warning-index w old c.put_warning.new.text.items (flat_map f c.args.warnings.now)

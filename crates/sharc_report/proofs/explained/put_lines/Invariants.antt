@@ -3,4 +3,4 @@ use Rattle.sharc_report.specs.Explanations.{reason_lines}
 use Rattle.sharc_report.proofs.explained.put_lines.Given as goal
 
 abbrev pub invariant-loop-i : goal.invariant-loop-i
-invariant-loop-i l = l.text.items ≡ l.fn.text.items ++ reason_lines l.m l.n l.i
+invariant-loop-i l = l.text.items ≡ l.fn.text.items ++ reason_lines l.program l.n l.i

@@ -7,7 +7,7 @@ use Rattle.sharc_report.proofs.refused.check_text.Goals as goal
 
 pub loop-error-preserved : goal.loop-error-preserved
 loop-error-preserved c =
-    let r = c.args.m.now.typed in
+    let r = c.args.program.now.typed in
     let f = refusal r c.args.casts.now in
     let e = c.error-item.result in
     let old = c.loop-error.text.items in

@@ -4,4 +4,4 @@ use Rattle.sharc_report.specs.Verdicts.{refusal}
 use Rattle.sharc_report.proofs.refused.check_text.Given as goal
 
 abbrev pub invariant-loop-error : goal.invariant-loop-error
-invariant-loop-error l = l.text.items ++ flat_map (refusal l.m.typed l.casts) (drop l.error-index l.errors) ≡ flat_map (refusal l.m.typed l.casts) l.errors
+invariant-loop-error l = l.text.items ++ flat_map (refusal l.program.typed l.casts) (drop l.error-index l.errors) ≡ flat_map (refusal l.program.typed l.casts) l.errors

@@ -5,7 +5,7 @@ use sharc_tree::token::Span;
 
 /// What is to be said of a construct.
 #[derive(Drop)]
-pub enum Note {
+pub enum Finding {
     /// A case arises.
     Wrong(ModeError),
     /// A lock path names the variable or the global that this token declares.
