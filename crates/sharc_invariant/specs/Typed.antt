@@ -350,6 +350,10 @@ pub record IsLayout (x : Targets) (code : Code) (layout target : ℕ) : Type 0 w
   pub all : (field : ℕ) → is_pointer (field_at x target field).holds ≡ true → (i : ℕ) × ((layout_at code layout).from ≤ i) × (i < (layout_at code layout).until) × (slice_index code.pointers.items i ≡ field)
   pub only : (i : ℕ) → (layout_at code layout).from ≤ i → i < (layout_at code layout).until → is_pointer (field_at x target (slice_index code.pointers.items i)).holds ≡ true
 
+-- each pointer cell of an object of the target is one of an object that is made at the token of this site
+abbrev pub MakesPointers : Targets → Code → ℕ → ℕ → Type 0
+MakesPointers x code site target = (i : ℕ) → is_pointer (field_of_cell x target i).holds ≡ true → x.is_made_pointer (place_at code site).site.token i ≡ true
+
 -- a type's lock within a type's cells
 abbrev pub IsSameFieldLock : Label → ℕ → StaticType → StaticType → FieldLock → FieldLock → Type 0
 IsSameFieldLock l r s t (OfGlobals j) (OfGlobals k) = j ≡ k
@@ -467,7 +471,7 @@ Fine x code ls pc l (Raise r from) = (l.gate ≡ Closed) × IsVacant code l r ×
 Fine x code ls pc l (RaiseLoaded r) = IsVacant code l r × ((c : Cell) × (f : Field) × (s : StaticType) × (l.gate ≡ Loaded c) × HasCell x code l c f × PointsTo l c f s × (Mentions s r → ⊥) × Leads ls (pc + 1) (fill l r (Refers s) r false))
 Fine x code ls pc l (Lower r) = (l.gate ≡ Closed) × IsRef code l r × ((IsFree l r × Leads ls (pc + 1) (empty l r)) ⊎ Leads ls (pc + 1) (empty (forgets l r) r))
 Fine x code ls pc l (New r count cells site) = (l.gate ≡ Closed) × IsVacant code l r
-    × ((s : StaticType) × (s.target ≢ 0) × (s.target < length x.rows) × (cells ≡ cells_of x s.target) × (1 ≤ cells) × (Mentions s r → ⊥) × Leads ls (pc + 1) (fill l r (Refers s) r true))
+    × ((s : StaticType) × (s.target ≢ 0) × (s.target < length x.rows) × (cells ≡ cells_of x s.target) × (1 ≤ cells) × MakesPointers x code site s.target × (Mentions s r → ⊥) × Leads ls (pc + 1) (fill l r (Refers s) r true))
 Fine x code ls pc l (TakeCell r c site) = IsVacant code l r × ((f : Field) × (s : StaticType) × Accesses x code ls l true c site f × PointsTo l c f s × (Mentions s r → ⊥) × Leads ls (pc + 1) (fill l r (Refers s) r false))
 Fine x code ls pc l (TakeLocal r from site) = (l.gate ≡ Closed) × IsVacant code l r × IsRef code l from × (r ≢ from) × IsFree l from × (EntryMentions (l.env from) from → ⊥)
     × Leads ls (pc + 1) (fill (empty l from) r (l.env from) (moved_copy l r from) (l.known from))

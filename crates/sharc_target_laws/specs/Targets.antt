@@ -1,5 +1,6 @@
 -- The table of targets of a program: a row for each shape, and the cells of its globals.
 use Rattle.std.specs.Prelude.{ℕ, zero, suc, ◌+◌, ◌-◌, ◌*◌, Bool, true, false, List, [], ◌∷◌, ◌++◌, map, replicate, Option, None, Some, if◌then◌else◌}
+use Rattle.std.specs.List.{list_any}
 use Rattle.std.specs.Str.{bytes_eq}
 use Rattle.sharc_tree.specs.declared.ctype.Base.{Base}
 use Rattle.sharc_tree.specs.declared.ctype.Base.TheVariants as base
@@ -20,6 +21,7 @@ use Rattle.sharc_mode.specs.Moded.{Assignment}
 use Rattle.sharc_mode.specs.Rows.{written, declared_row, modes_of}
 use Rattle.sharc_mode.specs.Sharings.{Lock, Sharing, private, readonly, locked, racy, dynamic, lock_of}
 use Rattle.sharc_meaning.specs.Cells.{field_place, field_place_named}
+use Rattle.sharc_meaning.specs.References.{is_pointer_in, types_made}
 use Rattle.sharc_flat_form.specs.Machine.{first_cell}
 use Rattle.sharc_flat.specs.Places.{base_as_width}
 use Rattle.sharc_flat.specs.Tables.{cells_in, granules_in, globals_of}
@@ -190,4 +192,5 @@ abbrev pub targets_of : Assignment → Targets
 targets_of m = record {
   rows = no_target ∷ map (shape_row m) (shapes m);
   globals = all_global_fields m (globals_in m.typed.program.items);
+  is_made_pointer = λ token i. list_any (λ w. is_pointer_in m.typed w i) (types_made m.typed token);
 }
