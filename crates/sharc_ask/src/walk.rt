@@ -250,7 +250,7 @@ fn turns<'a>(
     ensures does { DoesAs view_flow (view_state st.old) result (view_state st.new) (turns number (loop_test (calls program.now frames) program.now l.entry) (loop_step (calls program.now frames) program.now l.entry) (loop_body (calls program.now frames) program.now l.entry)) }
     ensures fuel { IfOk result (λ _. st.new.fuel ≤ st.old.fuel) }
 {
-    for _ in 0..n {
+    for _ in 0..number {
         match turn(program, frames, l, st) {
             Ok(None) => {}
             Ok(Some(flow)) => return Ok(flow),

@@ -643,8 +643,8 @@ turns-returns-in-Ok-Some-clause-does t c =
     let k1 = view_state c.loop.st in
     let k2 = view_state c.turn.new.st in
     let f = c.in-Ok-Some.flow in
-    let some : 0 < c.args.n - i = omega (arith, c.loop-test.true) in
-    c.loop.invariant.so_far (Ok f) k2 (turns_left (c.args.n - i) test step body k1 k2 f some (subst (λ o. DoesAs view_left k1 (Ok o) k2 (turn test step body)) c.in-Ok-Some.field-0-is c.in-Ok-Some.ensures.does))
+    let some : 0 < c.args.number - i = omega (arith, c.loop-test.true) in
+    c.loop.invariant.so_far (Ok f) k2 (turns_left (c.args.number - i) test step body k1 k2 f some (subst (λ o. DoesAs view_left k1 (Ok o) k2 (turn test step body)) c.in-Ok-Some.field-0-is c.in-Ok-Some.ensures.does))
 
 pub turns-returns-in-Err-clause-does : goal.turns-returns-in-Err-clause-does
 turns-returns-in-Err-clause-does t c =
@@ -657,8 +657,8 @@ turns-returns-in-Err-clause-does t c =
     let i = c.loop.counter in
     let k1 = view_state c.loop.st in
     let k2 = view_state c.turn.new.st in
-    let some : 0 < c.args.n - i = omega (arith, c.loop-test.true) in
-    c.loop.invariant.so_far (Err c.in-Err.end) k2 (turns_over (c.args.n - i) test step body k1 k2 c.in-Err.end some c.in-Err.ensures.does)
+    let some : 0 < c.args.number - i = omega (arith, c.loop-test.true) in
+    c.loop.invariant.so_far (Err c.in-Err.end) k2 (turns_over (c.args.number - i) test step body k1 k2 c.in-Err.end some c.in-Err.ensures.does)
 
 pub turns-returns-clause-does : goal.turns-returns-clause-does
 turns-returns-clause-does t c =
@@ -666,8 +666,8 @@ turns-returns-clause-does t c =
     let on_call = calls m c.args.frames in
     let l = c.args.l in
     let k1 = view_state c.loop.st in
-    let none : c.args.n - c.loop.counter ≡ 0 = omega (arith, c.loop-test.false) in
-    c.loop.invariant.so_far (Err ends.Spent) k1 (turns_stop (c.args.n - c.loop.counter) (loop_test on_call m l) (loop_step on_call m l) (loop_body on_call m l) k1 none)
+    let none : c.args.number - c.loop.counter ≡ 0 = omega (arith, c.loop-test.false) in
+    c.loop.invariant.so_far (Err ends.Spent) k1 (turns_stop (c.args.number - c.loop.counter) (loop_test on_call m l) (loop_step on_call m l) (loop_body on_call m l) k1 none)
 
 pub exec_all-loop-statement-preserved : goal.exec_all-loop-statement-preserved
 exec_all-loop-statement-preserved t c =
@@ -696,6 +696,6 @@ turns-loop-preserved t c =
     let k2 = view_state c.turn.new.st in
     let went : DoesAs view_left k1 (Ok None) k2 (turn test step body) = subst (λ o. DoesAs view_left k1 (Ok o) k2 (turn test step body)) c.in-Ok-None.field-0-is c.in-Ok-None.ensures.does in
     record {
-      so_far = turn_leads c.args.n c.loop.counter test step body (view_state c.args.st.now) k1 k2 c.loop-test.true c.loop.invariant.so_far went;
+      so_far = turn_leads c.args.number c.loop.counter test step body (view_state c.args.st.now) k1 k2 c.loop-test.true c.loop.invariant.so_far went;
       fuel = omega (arith, c.in-Ok-None.ensures.fuel, c.loop.invariant.fuel);
     }
