@@ -82,6 +82,6 @@ invariant-exec_all-loop-statement l = record {
 
 abbrev pub invariant-turns-loop : goal.invariant-turns-loop
 invariant-turns-loop l = record {
-  so_far : LeadsOn (view_state l.fn.st) (turns l.number (loop_test (calls l.program l.frames) l.program l.l) (loop_step (calls l.program l.frames) l.program l.l) (loop_body (calls l.program l.frames) l.program l.l)) (view_state l.st) (turns (l.n - l.counter) (loop_test (calls l.program l.frames) l.program l.l) (loop_step (calls l.program l.frames) l.program l.l) (loop_body (calls l.program l.frames) l.program l.l));
+  so_far : LeadsOn (view_state l.fn.st) (turns l.number (loop_test (calls l.program l.frames) l.program l.l) (loop_step (calls l.program l.frames) l.program l.l) (loop_body (calls l.program l.frames) l.program l.l)) (view_state l.st) (turns (l.number - l.counter) (loop_test (calls l.program l.frames) l.program l.l) (loop_step (calls l.program l.frames) l.program l.l) (loop_body (calls l.program l.frames) l.program l.l));
   fuel : l.st.fuel ≤ l.fn.st.fuel;
 }
