@@ -132,12 +132,12 @@ pub fn is_array(kind: Kind<'_>) -> bool
     }
 }
 
-/// Whether it is a struct behind so many stars.
-pub fn is_struct_behind(n: usize, kind: Kind<'_>) -> bool
-    ensures { result ≡ is_struct_behind n (view_kind kind.entry) }
+/// Whether it is a struct behind this number of stars.
+pub fn is_struct_behind(depth: usize, kind: Kind<'_>) -> bool
+    ensures { result ≡ is_struct_behind depth (view_kind kind.entry) }
 {
     match kind {
-        Kind::Object(root, stars) => stars == n && is_struct_root(root),
+        Kind::Object(root, stars) => stars == depth && is_struct_root(root),
         _ => false,
     }
 }
