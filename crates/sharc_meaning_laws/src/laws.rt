@@ -1,5 +1,6 @@
 // The laws, each the contract of a function that does nothing.
 
+ghost use Rattle.sharc_meaning_laws.specs.Freeing.{FreesFollow};
 ghost use Rattle.sharc_meaning_laws.specs.Held.{HeldAreHeldOn};
 
 use sharc_ctype_laws::laws::{
@@ -16,3 +17,8 @@ pub fn held_are_held_on()
     meets_statements();
     are_plain();
 }
+
+/// What a thread takes to free it, it frees by its next event. Until then it has given up what the pointer cells of that hold. This goes for every program.
+pub fn frees_follow()
+    ensures { FreesFollow }
+{}
