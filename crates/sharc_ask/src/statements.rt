@@ -163,7 +163,7 @@ pub fn test_plan<'a>(condition: Option<&'a Expr>) -> Plan<'a>
 {
     match condition {
         None => Plan::Done(Value::Truth(true)),
-        Some(condition) => Plan::Goes(Task::Test(condition), Rest::Same),
+        Some(e) => Plan::Goes(Task::Test(e), Rest::Same),
     }
 }
 

@@ -6,7 +6,6 @@ ghost use Rattle.sharc_tree.specs.View.{view_expr, view_option, view_simple};
 ghost use Rattle.sharc_names.specs.Kinds.{declared_kinds, element_kind};
 ghost use Rattle.sharc_names.specs.View.{view_kind};
 ghost use Rattle.sharc_ctype.specs.Resolved.{named_at, kind_at};
-ghost use Rattle.sharc_ctype.specs.Transfers.{parameters_named};
 ghost use Rattle.sharc_mode.specs.Cells.{cell_at, pointed};
 ghost use Rattle.sharc_mode.specs.Rows.{cast_row};
 ghost use Rattle.sharc_mode.specs.View.{view_sharing};
@@ -70,22 +69,6 @@ pub fn number_named(named: Named) -> u32
     match named {
         Named::Function(number) => number,
         _ => 0,
-    }
-}
-
-pub fn parameters_named(program: &Moded, named: Named) -> &[Declaration]
-    ensures { result.now ≡ parameters_named program.now.typed named }
-{
-    match named {
-        Named::Function(number) => match program.typed().function_at(number) {
-            None => &[],
-            Some(function) => function.parameters.as_slice(),
-        },
-        Named::Struct(_) => &[],
-        Named::Global(_) => &[],
-        Named::Variable(_) => &[],
-        Named::Field(_) => &[],
-        Named::Known => &[],
     }
 }
 

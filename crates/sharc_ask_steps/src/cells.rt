@@ -2,7 +2,6 @@
 
 ghost use Rattle.std.specs.Prelude.{◌≡◌, ◌==◌, ◌+◌, ◌≤◌, length, IfSome, if◌then◌else◌};
 ghost use Rattle.std.specs.List.{position_or_len};
-ghost use Rattle.std.specs.Option.{option_copied};
 ghost use Rattle.std.specs.Str.{bytes_eq};
 ghost use Rattle.sharc_tree.specs.View.{view_items};
 ghost use Rattle.sharc_names.specs.View.{view_kind, view_root};
@@ -10,7 +9,6 @@ ghost use Rattle.sharc_ctype.specs.Globals.{elements_of as elements_of_form};
 ghost use Rattle.sharc_ctype.specs.Resolved.{global_at, structs_in};
 ghost use Rattle.sharc_mode.specs.Cells.{is_behind_pointer};
 ghost use Rattle.sharc_mode.specs.View.{view_lock, view_name, view_sharing};
-ghost use Rattle.sharc_mode.specs.WellFormed.{fields_named, fields_behind};
 ghost use Rattle.sharc_meaning.specs.Cells.{struct_cells, base_cells, element_cells, global_elements, field_place_in, field_place, field_place_named, field_place_behind, through, mutex_named, guard_beside, guard_by, guard_named, guard_of, instance_mode};
 ghost use Rattle.sharc_meaning.specs.Reference.{number_of, elements_of};
 ghost use Rattle.sharc_meaning.specs.State.{value_in};
@@ -21,6 +19,7 @@ use sharc_ctype::typed::Typed;
 use sharc_meaning::variable::Variable;
 use sharc_mode::cell::named_kind;
 use sharc_mode::sharing::{Lock, Sharing, is_sibling_lock};
+use sharc_mode::types::fields_behind;
 use sharc_names::fault::Named;
 use sharc_names::kind::{Kind, Root, is_pointer};
 use sharc_tree::event::{CellAt, CellMode, Object};
@@ -190,27 +189,6 @@ pub fn field_place_named(typed: &Typed, named: Named) -> u64
     match named {
         Named::Field(token) => field_place(typed, token),
         _ => 0,
-    }
-}
-
-fn fields_named(typed: &Typed, named: Named) -> &[Declaration]
-    ensures { result.now ≡ fields_named typed.now named }
-{
-    match named {
-        Named::Struct(number) => match typed.struct_at(number) {
-            None => &[],
-            Some(definition) => definition.fields.as_slice(),
-        },
-        _ => &[],
-    }
-}
-
-fn fields_behind<'a>(typed: &'a Typed, declaration: Option<&Declaration>) -> &'a [Declaration]
-    ensures { result.now ≡ fields_behind typed.now (option_copied declaration.entry) }
-{
-    match declaration {
-        None => &[],
-        Some(declaration) => fields_named(typed, typed.named(declaration.written.base.token)),
     }
 }
 

@@ -4,8 +4,9 @@ ghost use Rattle.std.specs.Prelude.{◌≡◌, ◌++◌, OnOk};
 ghost use Rattle.sharc_tree.specs.View.{view_expr, view_arguments};
 ghost use Rattle.sharc_mode.specs.Expressions.{notes_of, notes_of_all};
 
-use crate::passing::{Passed, Passing, parameters_named, without_first};
+use crate::passing::{Passed, Passing, without_first};
 use crate::rules::{agree, call, cast, expected, field, place, source};
+use sharc_ctype::typed::parameters_named;
 use sharc_mode::finding::Finding;
 use sharc_mode::moded::Moded;
 use sharc_mode::row::{Reading, base_use, named_row};

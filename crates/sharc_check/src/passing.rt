@@ -1,7 +1,6 @@
 // What is passed at a call or a spawn, and to which parameters.
 
 ghost use Rattle.std.specs.Prelude.{◌≡◌, drop};
-ghost use Rattle.sharc_ctype.specs.Transfers.{parameters_named};
 ghost use Rattle.sharc_mode.specs.Rows.{at_call, argument_use};
 ghost use Rattle.sharc_mode.specs.View.{view_reading};
 ghost use Rattle.sharc_check.specs.Passed.{view_passed};
@@ -9,7 +8,6 @@ ghost use Rattle.sharc_check.specs.Passed.{view_passed};
 use sharc_ctype::typed::Typed;
 use sharc_mode::read::spawn_argument_use;
 use sharc_mode::row::{Reading, argument_use};
-use sharc_names::fault::Named;
 use sharc_tree::tree::{Declaration, Expr};
 
 /// The arguments of a call, or the one of a spawn.
@@ -24,23 +22,6 @@ pub enum Passed<'a> {
 pub struct Passing<'a> {
     pub parameters: &'a [Declaration],
     pub passed: Passed<'a>,
-}
-
-/// The parameters of what a name names.
-pub fn parameters_named(typed: &Typed, named: Named) -> &[Declaration]
-    ensures { result.now ≡ parameters_named typed.now named }
-{
-    match named {
-        Named::Function(number) => match typed.function_at(number) {
-            None => &[],
-            Some(function) => function.parameters.as_slice(),
-        },
-        Named::Struct(_) => &[],
-        Named::Global(_) => &[],
-        Named::Variable(_) => &[],
-        Named::Field(_) => &[],
-        Named::Known => &[],
-    }
 }
 
 /// The parameters after the first that is left.

@@ -9,6 +9,7 @@ ghost use Rattle.sharc_ctype.specs.Entities.{entities_in, entity_at, numbered, p
 ghost use Rattle.sharc_ctype.specs.Items.{nothing_found, notes_about};
 ghost use Rattle.sharc_ctype.specs.Layouts.{IsLayout};
 ghost use Rattle.sharc_ctype.specs.Resolved.{IsResolved, named_at, struct_at, global_at, function_at, declaration_at, structs_in, globals_in, functions_in, declarations_in};
+ghost use Rattle.sharc_ctype.specs.Transfers.{parameters_named};
 ghost use Rattle.sharc_ctype.specs.Typings.{Types};
 
 use crate::entity::Numbered;
@@ -217,6 +218,23 @@ pub fn layout(typed: &Typed, of: u32) -> StructCells
 {
     let definition = typed.struct_at(of).unwrap();
     cells_of(definition.fields.as_slice())
+}
+
+/// The parameters of the function that a name names; none for any other name.
+pub fn parameters_named(typed: &Typed, named: Named) -> &[Declaration]
+    ensures { result.now ≡ parameters_named typed.now named }
+{
+    match named {
+        Named::Function(number) => match typed.function_at(number) {
+            None => &[],
+            Some(function) => function.parameters.as_slice(),
+        },
+        Named::Struct(_) => &[],
+        Named::Global(_) => &[],
+        Named::Variable(_) => &[],
+        Named::Field(_) => &[],
+        Named::Known => &[],
+    }
 }
 
 /// A typed program, with its tables.

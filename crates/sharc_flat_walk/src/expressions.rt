@@ -5,7 +5,6 @@ ghost use Rattle.sharc_tree.specs.Spans.{span_of};
 ghost use Rattle.sharc_tree.specs.View.{view_expr, view_arguments};
 ghost use Rattle.sharc_names.specs.Kinds.{declared_kinds};
 ghost use Rattle.sharc_ctype.specs.Resolved.{kind_at, named_at};
-ghost use Rattle.sharc_ctype.specs.Transfers.{parameters_named};
 ghost use Rattle.sharc_mode.specs.Cells.{cell_at};
 ghost use Rattle.sharc_mode.specs.View.{view_sharing};
 ghost use Rattle.sharc_flat.specs.Places.{lvalue_of, target};
@@ -31,7 +30,7 @@ use crate::source::Source;
 use crate::spots::{Access, at_site, at_words, beside_field, cell_of, object_spot, tokens_in};
 use crate::target::{Target, global_of, lvalue_of, own_field, target_of};
 use sharc_code::{Use, Width};
-use sharc_ctype::typed::Typed;
+use sharc_ctype::typed::parameters_named;
 use sharc_flat::slot::Slot;
 use sharc_flat_form::Op;
 use sharc_mode::cell::{cell_of as mode_of, pointed};
@@ -128,23 +127,6 @@ fn name(
         Named::Function(_) => Ok(()),
         Named::Field(_) => Ok(()),
         Named::Known => Ok(()),
-    }
-}
-
-/// The parameters of the function that a name names.
-fn parameters_named(typed: &Typed, named: Named) -> &[Declaration]
-    ensures { result.now ≡ parameters_named typed.now named }
-{
-    match named {
-        Named::Function(number) => match typed.function_at(number) {
-            None => &[],
-            Some(function) => function.parameters.as_slice(),
-        },
-        Named::Struct(_) => &[],
-        Named::Global(_) => &[],
-        Named::Variable(_) => &[],
-        Named::Field(_) => &[],
-        Named::Known => &[],
     }
 }
 

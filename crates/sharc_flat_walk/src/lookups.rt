@@ -1,13 +1,11 @@
 // Cells of elements and places of fields.
 
 ghost use Rattle.std.specs.Prelude.{◌≡◌, ◌+◌, length, IfOk, position, unwrap_or, if◌then◌else◌, ◌==◌};
-ghost use Rattle.std.specs.Option.{option_copied};
 ghost use Rattle.std.specs.Str.{bytes_eq};
 ghost use Rattle.sharc_names.specs.View.{view_kind, view_root};
 ghost use Rattle.sharc_ctype.specs.Resolved.{global_at, declaration_at, structs_in};
 ghost use Rattle.sharc_mode.specs.View.{view_lock};
 ghost use Rattle.sharc_mode.specs.Cells.{is_behind_pointer};
-ghost use Rattle.sharc_mode.specs.WellFormed.{fields_named, fields_behind};
 ghost use Rattle.sharc_meaning.specs.Cells.{struct_cells, base_cells, element_cells, global_elements, field_place, field_place_named, field_place_behind};
 ghost use Rattle.sharc_ctype.specs.Globals.{elements_of as elements_of_form};
 ghost use Rattle.sharc_flat.specs.Flattened.{struct_layout, base_layout, layout_of};
@@ -18,6 +16,7 @@ use crate::source::Source;
 use sharc_ctype::typed::Typed;
 use sharc_mode::cell::named_kind;
 use sharc_mode::sharing::{Lock, is_sibling_lock};
+use sharc_mode::types::fields_behind;
 use sharc_names::fault::Named;
 use sharc_names::kind::{Kind, Root, is_pointer};
 use sharc_tree::tree::{Declaration, GlobalForm};
@@ -119,27 +118,6 @@ pub(crate) fn field_named(source: &Source<'_>, named: Named) -> u32
         Named::Function(_) => 0,
         Named::Variable(_) => 0,
         Named::Known => 0,
-    }
-}
-
-fn fields_named(typed: &Typed, named: Named) -> &[Declaration]
-    ensures { result.now ≡ fields_named typed.now named }
-{
-    match named {
-        Named::Struct(number) => match typed.struct_at(number) {
-            None => &[],
-            Some(definition) => definition.fields.as_slice(),
-        },
-        _ => &[],
-    }
-}
-
-fn fields_behind<'a>(typed: &'a Typed, declaration: Option<&Declaration>) -> &'a [Declaration]
-    ensures { result.now ≡ fields_behind typed.now (option_copied declaration.entry) }
-{
-    match declaration {
-        None => &[],
-        Some(declaration) => fields_named(typed, typed.named(declaration.written.base.token)),
     }
 }
 

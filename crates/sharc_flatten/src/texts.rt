@@ -1,9 +1,7 @@
 // The texts of a program: that of all its tokens, then the lock paths of its lines, then the names of its functions.
 
 ghost use Rattle.std.specs.Prelude.{◌≡◌, ◌++◌, length, slice_get, IfOk, OnOk};
-ghost use Rattle.std.specs.Option.{option_copied};
 ghost use Rattle.sharc_ctype.specs.Resolved.{functions_in};
-ghost use Rattle.sharc_mode.specs.WellFormed.{fields_named, fields_behind};
 ghost use Rattle.sharc_flat.specs.Flattens.{names_of};
 ghost use Rattle.sharc_flat.specs.Laid.{words_of, name_of, field_behind, beside_words, lock_text_of, AreNamed};
 ghost use Rattle.sharc_flatten.specs.Places.{places_from, LiesIn, Grows};
@@ -15,32 +13,11 @@ use sharc_ctype::typed::Typed;
 use sharc_flat_form::{Op, Spot};
 use sharc_flat_walk::lookups::small;
 use sharc_mode::text::text_at;
+use sharc_mode::types::fields_behind;
 use sharc_names::fault::Named;
 use sharc_tree::print::print_span;
 use sharc_tree::tree::Declaration;
 use std::alloc::{AllocError, Global};
-
-fn fields_named(typed: &Typed, named: Named) -> &[Declaration]
-    ensures { result.now ≡ fields_named typed.now named }
-{
-    match named {
-        Named::Struct(number) => match typed.struct_at(number) {
-            None => &[],
-            Some(definition) => definition.fields.as_slice(),
-        },
-        _ => &[],
-    }
-}
-
-/// The fields of what a declared pointer leads to.
-fn fields_behind<'a>(typed: &'a Typed, declaration: Option<&Declaration>) -> &'a [Declaration]
-    ensures { result.now ≡ fields_behind typed.now (option_copied declaration.entry) }
-{
-    match declaration {
-        None => &[],
-        Some(declaration) => fields_named(typed, typed.named(declaration.written.base.token)),
-    }
-}
 
 fn name_at(fields: &[Declaration], place: u32) -> &[u8]
     ensures { result.now ≡ name_of (slice_get fields.now place) }

@@ -4,26 +4,14 @@ ghost use Rattle.std.specs.Prelude.{◌≡◌, ◌++◌, Some, if◌then◌else�
 ghost use Rattle.std.specs.Option.{option_or};
 ghost use Rattle.sharc_tree.specs.declared.ctype.Mode.TheVariants.{Racy as RacyMode};
 ghost use Rattle.sharc_ctype.specs.Entities.{entities_in};
-ghost use Rattle.sharc_mode.specs.Settled.{is_mutex, field_target, otherwise_of, settled_modes, settled_in};
+ghost use Rattle.sharc_mode.specs.Settled.{field_target, otherwise_of, settled_modes, settled_in};
 
 use sharc_ctype::entity::{Entity, first_depth};
 use sharc_ctype::typed::Typed;
+use sharc_mode::types::is_mutex;
 use sharc_names::types::Role;
 use sharc_tree::ctype::{Base, Mode};
 use std::alloc::{AllocError, Global};
-
-/// Whether a level with these below it is one of C type mutex.
-fn is_mutex(base: &Base, below: &[Option<Mode>]) -> bool
-    ensures { result ≡ is_mutex base.now below.now }
-{
-    match base {
-        Base::Mutex => match below {
-            [] => true,
-            [_, ..] => false,
-        },
-        _ => false,
-    }
-}
 
 fn copied(alloc: Global, mode: &Option<Mode>) -> Result<Option<Mode>, AllocError>
     ensures { IfOk result (λ m. m ≡ mode.now) }

@@ -11,30 +11,12 @@ ghost use Rattle.sharc_infer.specs.Links.{given};
 
 use crate::links::{equate, source_row};
 use sharc_constraints::Link;
-use sharc_ctype::typed::Typed;
+use sharc_ctype::typed::{Typed, parameters_named};
 use sharc_mode::row::{Reading, declared_row, row_of};
-use sharc_names::fault::Named;
 use sharc_tree::tree::{
     Declaration, Expr, ForFirst, ForHead, Local, Right, Simple, Stmt, WrittenType,
 };
 use std::alloc::AllocError;
-
-/// The parameters of what a name names.
-fn parameters_named(typed: &Typed, named: Named) -> &[Declaration]
-    ensures { result.now ≡ parameters_named typed.now named }
-{
-    match named {
-        Named::Function(number) => match typed.function_at(number) {
-            None => &[],
-            Some(function) => function.parameters.as_slice(),
-        },
-        Named::Struct(_) => &[],
-        Named::Global(_) => &[],
-        Named::Variable(_) => &[],
-        Named::Field(_) => &[],
-        Named::Known => &[],
-    }
-}
 
 /// Adds the links of an argument that is passed to a parameter.
 fn pass(

@@ -18,7 +18,8 @@ use sharc_names::kind::{Kind, Root, declared_kind};
 use sharc_tree::ctype::{Base, CType, Mode, Path};
 use sharc_tree::tree::Declaration;
 
-fn is_mutex(base: &Base, below: &[Option<Mode>]) -> bool
+/// Whether a level with these below it is one of C type mutex.
+pub fn is_mutex(base: &Base, below: &[Option<Mode>]) -> bool
     ensures { result ≡ is_mutex base.now below.now }
 {
     match base {
@@ -214,7 +215,7 @@ fn fields_named(typed: &Typed, named: Named) -> &[Declaration]
 }
 
 /// The fields of the struct that a type has at its bottom.
-fn fields_behind<'a>(typed: &'a Typed, declaration: Option<&Declaration>) -> &'a [Declaration]
+pub fn fields_behind<'a>(typed: &'a Typed, declaration: Option<&Declaration>) -> &'a [Declaration]
     ensures { result.now ≡ fields_behind typed.now (option_copied declaration.entry) }
 {
     match declaration {

@@ -6,8 +6,9 @@ ghost use Rattle.sharc_suggest.specs.Casts.{casts_of, casts_of_all};
 ghost use Rattle.sharc_suggest.specs.Repairs.{told};
 
 use crate::repair::{Known, repair};
-use sharc_check::passing::{Passed, Passing, parameters_named, without_first};
+use sharc_check::passing::{Passed, Passing, without_first};
 use sharc_check::rules::expected;
+use sharc_ctype::typed::parameters_named;
 use sharc_mode::error::Cast;
 use sharc_names::names::Names;
 use sharc_tree::tree::{Declaration, Expr};
