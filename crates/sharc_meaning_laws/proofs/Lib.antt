@@ -8,4 +8,5 @@ mod Runs
 mod Settled
 mod Statements
 mod Steps
+mod Taken
 mod Typed

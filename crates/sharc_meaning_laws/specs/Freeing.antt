@@ -1,15 +1,19 @@
 -- What a `free` has taken is freed next, and what its cells hold is given up before.
 use Rattle.std.specs.Prelude.{◌≡◌, ℕ, ℤ, Bool, true, false, not, ◌&&◌, List, [], ◌∷◌, ◌++◌}
 use Rattle.sharc_tree.specs.declared.event.Act.TheVariants.{Freed}
+use Rattle.sharc_tree.specs.declared.event.Object.TheVariants.{Made}
 use Rattle.sharc_tree.specs.declared.event.SourceEvent.{SourceEvent}
 use Rattle.sharc_mode.specs.Moded.{Assignment}
 use Rattle.sharc_meaning.specs.declared.given.GivenUp.{GivenUp}
 use Rattle.sharc_meaning.specs.declared.given.GivenUp.TheVariants.{Emptied}
-use Rattle.sharc_meaning.specs.Events.{Stands}
+use Rattle.sharc_meaning.specs.Events.{Stands, events_of}
 use Rattle.sharc_meaning.specs.Meaning.{Asked, asks}
 use Rattle.sharc_meaning.specs.Reference.{is_null, number_of}
-use Rattle.sharc_meaning.specs.References.{taken_to_free}
+use Rattle.sharc_meaning.specs.References.{refers, taken_to_free, is_taken_to_free, Begun, asked_with}
 use Rattle.sharc_meaning.specs.State.{wants}
+use Rattle.sharc_meaning.specs.Store.{is_live}
+
+-- ---- what a thread asks for
 
 -- it takes something to free it: NULL is nothing
 abbrev pub takes_something : SourceEvent → Bool
@@ -34,3 +38,19 @@ pub record FreesFollowIn (a : Asked) : Type 0 where
 -- of each program, function, argument, list of answers and fuel
 abbrev pub FreesFollow : Type 0
 FreesFollow = (m : Assignment) (f : ℕ) (argument : ℤ) (answers : List ℤ) (fuel : ℕ) → FreesFollowIn (asks m f argument answers fuel)
+
+-- ---- histories
+
+-- This thread has taken the object to free it. Where it follows the program, that is its last event, and it wants to free the object.
+pub record IsBeingTaken (m : Assignment) (R : List SourceEvent) (n : ℕ) : Type 0 where
+  pub thread : ℕ
+  pub has_events : events_of thread R ≡ [] → ⊥
+  pub event : SourceEvent
+  pub kind : taken_to_free event.act ≡ true
+  pub refers_there : refers n event.answer ≡ true
+  pub last : Begun m R thread → (before : List SourceEvent) × (events_of thread R ≡ before ++ event ∷ [])
+  pub empties : (b : Begun m R thread) → EmptiesAtNext (asked_with b b.fuel) n
+
+-- A live object that a `free` has taken is being taken. No more is asked of the history.
+abbrev pub TakenAreBeingTaken : Type 0
+TakenAreBeingTaken = (m : Assignment) (R : List SourceEvent) (n : ℕ) → is_live R (Made n) ≡ true → is_taken_to_free R n ≡ true → IsBeingTaken m R n
