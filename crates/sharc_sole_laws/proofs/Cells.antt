@@ -1,23 +1,35 @@
 -- A cell that refers to an object is seen among the references of the history.
-use Rattle.std.proofs.Common.{◌≡◌, ◌+◌, ◌≢◌, true, refl, sym, ap, ◌∙◌, subst, ⊎_elim}
+use Rattle.std.proofs.Common.{◌≡◌, ◌+◌, ◌≢◌, ℕ, List, Some, true, refl, sym, ap, ◌∙◌, subst, ⊎_elim}
 use Rattle.std.proofs.lemmas.Bool.{cases_eq}
 use Rattle.sharc_tree.specs.declared.event.CellAt.{CellAt}
 use Rattle.sharc_tree.specs.declared.event.Object.TheVariants as objects
+use Rattle.sharc_tree.specs.declared.event.SourceEvent.{SourceEvent}
+use Rattle.sharc_mode.specs.Moded.{Assignment}
 use Rattle.sharc_code.specs.Ranges.{IsInGlobal, first_place as first_cell_of}
 use Rattle.sharc_code.specs.Whole.{place_after}
-use Rattle.sharc_meaning.specs.References.{refers}
-use Rattle.sharc_meaning.specs.Store.{value_after}
+use Rattle.sharc_meaning.specs.Events.{latest, makes}
+use Rattle.sharc_meaning.specs.References.{is_pointer_of, is_pointer_of_made, refers}
+use Rattle.sharc_meaning.specs.Store.{is_live, value_after}
 use Rattle.sharc_history_laws.specs.History.{history_of}
+use Rattle.sharc_history_laws.specs.Made.{PointersAreMade}
 use Rattle.sharc_history_laws.specs.SeenCells.{IsBeingFreed, CellsAreSeen}
 use Rattle.sharc_target_laws.specs.Pointers.{PointersAreOfGlobals}
 use Rattle.sharc_target_laws.specs.Targets.{targets_of}
 use Rattle.sharc_sole_laws.specs.Cells.{in_global, in_made, in_freed, CellsSee}
 
-pub cells_see : CellsAreSeen → PointersAreOfGlobals → CellsSee
-cells_see seen pointers m code s ls tables wt fits few first run checked p i n some is =
+-- a pointer cell of an object that is made is one by the type of the malloc
+made_pointer : (m : Assignment) (R : List SourceEvent) (p i : ℕ) (e : SourceEvent) → latest (makes (objects.Made p)) R ≡ Some e → (targets_of m).is_made_pointer e.site.token i ≡ true
+    → is_pointer_of m.typed R (objects.Made p) i ≡ true
+made_pointer m R p i e last is = ap (λ o. is_pointer_of_made m.typed o i) last ∙ is
+
+pub cells_see : CellsAreSeen → PointersAreMade → PointersAreOfGlobals → CellsSee
+cells_see seen made pointers m code s ls tables wt fits few first run checked p i n some is =
     let k = seen (targets_of m) code s ls wt fits few m.typed first run checked p i n some is in
     let g = place_after code s run in
     let R = history_of code s run in
+    let pointer : p ≢ 0 → is_live R (objects.Made p) ≡ true → is_pointer_of m.typed R (objects.Made p) i ≡ true = λ nz live.
+    let e = made (targets_of m) code s ls wt fits few run checked p i nz live k.pointer in
+    made_pointer m R p i e.0 e.1 e.2 in
     ⊎_elim
     (λ (zero : p ≡ 0).
     let of = pointers m i (k.global zero) in
@@ -33,7 +45,7 @@ cells_see seen pointers m code s ls tables wt fits few first run checked p i n s
     let by = k.by_events (record { object = objects.Made p; cell = i }) (refl, nz, refl) in
     ⊎_elim
     (λ (e : refers n (value_after m.typed (history_of code s run) (record { object = objects.Made p; cell = i })) ≡ true).
-    in_made (record { some = nz; live = by.live; refers_there = e; among = λ pointer free. record { pointer = pointer; counts = (by.live, free); refers_there = e } }))
+    in_made (record { some = nz; live = by.live; refers_there = e; among = λ free. record { pointer = pointer nz by.live; counts = (by.live, free); refers_there = e } }))
     (λ (y : IsBeingFreed code (place_after code s run) p). in_freed y)
     by.refers_there)
     (cases_eq p 0)

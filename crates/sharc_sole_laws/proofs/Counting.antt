@@ -32,8 +32,8 @@ module _ {X : Type 0} (p : X → Bool) (d : X) (none : p d ≡ false) where
   two_there (x ∷ xs) (suc i) (suc k) apart one two = let more = two_there xs i k (λ e. apart (ap suc e)) one two in let low = no_less x xs in omega (arith, more, low)
 
 -- at a test
-pub once : (a : Asked) (at : Machine) → IsTested a at → (k n : ℕ) → slice_index at.refs k ≡ n → 0 < n → 0 < held_count a n
-once a at t k n is some = one_there (refers n) (pos 0) refl a.held k (t.registers k n is some)
+pub once : (a : Asked) (at : Machine) (register : ℕ) → IsTested a at register → (k n : ℕ) → slice_index at.refs k ≡ n → 0 < n → 0 < held_count a n
+once a at register t k n is some = one_there (refers n) (pos 0) refl a.held k (t.registers k n is some)
 
-pub twice : (a : Asked) (at : Machine) → IsTested a at → (i k n : ℕ) → (i ≡ k → ⊥) → slice_index at.refs i ≡ n → slice_index at.refs k ≡ n → 0 < n → 1 < held_count a n
-twice a at t i k n apart first second some = two_there (refers n) (pos 0) refl a.held i k apart (t.registers i n first some) (t.registers k n second some)
+pub twice : (a : Asked) (at : Machine) (register : ℕ) → IsTested a at register → (i k n : ℕ) → (i ≡ k → ⊥) → slice_index at.refs i ≡ n → slice_index at.refs k ≡ n → 0 < n → 1 < held_count a n
+twice a at register t i k n apart first second some = two_there (refers n) (pos 0) refl a.held i k apart (t.registers i n first some) (t.registers k n second some)

@@ -34,7 +34,7 @@ use Rattle.sharc_guard.specs.Counted.{AreLowered, GuardedCounts, IsReleased, IsR
 use Rattle.sharc_guard.specs.Guard.{entered_at, guarded, place}
 use Rattle.sharc_guard.specs.Level.{IsLevel}
 use Rattle.sharc_invariant.specs.Words.{is_freed, register_of}
-use Rattle.sharc_sole_laws.specs.Holding.{IsAccounted, IsTested, IsHolding, IsHoldingThere}
+use Rattle.sharc_sole_laws.specs.Holding.{IsAccounted, IsLowered, IsTested, IsHolding, IsHoldingThere}
 use Rattle.sharc_sole_laws.specs.Emptying.{IsEmptying}
 use Rattle.sharc_sole_laws.proofs.Emptying.{at_free, not_linking}
 use Rattle.sharc_sole_laws.proofs.Testing.{test_is, no_free, tested}
@@ -170,6 +170,14 @@ module _ (runs : PathsAreRuns) (counts : GuardedCounts) (m : Assignment) (flat :
           })))
           o.stays
 
+  lowers_first : (m2 final : At) (a : Thread) (x : Meaning.Asked) (w : Way flat m2 final) → x.given_up ≡ w.mid.given ++ w.extra → lowered ≡ a.lowered → AreDone m2 a → IsLowered x.given_up lowered
+  lowers_first m2 final a x w given low done = record {
+    before = m2.given;
+    later = w.more ++ w.extra;
+    is = given ∙ ap (λ gs. gs ++ w.extra) w.more_given ∙ append_assoc m2.given w.more w.extra;
+    lowers = done_resolved m2 a low done;
+  }
+
   -- ---- registers that are not freed
   chosen : (b : Bool) (v n : ℕ) → cond b 0 v ≡ n → 0 < n → (b ≡ false) × (v ≡ n)
   chosen true v n e some = absurd (let none : 0 ≡ n = e in omega (arith, none, some))
@@ -220,11 +228,12 @@ module _ (runs : PathsAreRuns) (counts : GuardedCounts) (m : Assignment) (flat :
             let number = linked_number a l k n e some in
             accounted m2 last a x w held given h.lowers c.stands.lowered k n number (c.stands.flight k (not_null (a.refs k) n number some)) (at.at.pc + 1) (inr refl) l.pc_is l.same.from_refs)
             h.stands);
-        tested = λ register site is_test. subst (λ xs. IsTested (Meaning.asks m h.function h.argument xs b.fuel) at) answers
+        lowers = subst (λ xs. IsLowered (Meaning.asks m h.function h.argument xs b.fuel).given_up lowered) answers (lowers_first m2 last a x w given h.lowers c.stands.lowered);
+        tested = λ register site is_test. subst (λ xs. IsTested (Meaning.asks m h.function h.argument xs b.fuel) at register) answers
             (let statement = statement_is register site is_test in
             let y : IsAt code s p T at a = ⊎_elim (λ (y : IsAt code s p T at a). y) (λ (l : IsLinking code s p T at a). absurd (no_free l.register l.layout l.site register site (sym l.statement ∙ statement))) h.stands in
             tested flat p m2 w.mid last a at x f.more w.turns register site (ap (statement_at p) y.pc_is ∙ statement) c.stands.tells c.stands.held w.quietly w.refs held (ap (λ (c : Came). c.outcome) (sym final_is) ∙ b.same.outcome)
-            (λ k n e. number_here a k n e (y.same.in_refs.are k)));
+            y.same.from_refs (λ k n e. number_here a k n e (y.same.in_refs.are k)));
         emptying = λ empties. subst (λ xs. IsEmptying code (Meaning.asks m h.function h.argument xs b.fuel) at) answers
             (let y : IsAt code s p T at a = ⊎_elim (λ (y : IsAt code s p T at a). y) (λ (l : IsLinking code s p T at a). absurd (not_linking l.elements at.own.stage empties l.stage)) h.stands in
             at_free code s T g.functions.items flat p m2 a at x f.more y (instr_is at.at.pc) c.stands.tells (sym b.same.given_up ∙ ap (λ (n : At). n.given) (sym final))

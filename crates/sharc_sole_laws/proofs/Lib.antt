@@ -3,11 +3,13 @@ pub mod Cause
 pub mod Beginning
 pub mod Cells
 pub mod Counting
+pub mod Given
 pub mod Emptying
 pub mod Holding
 pub mod Quiet
 pub mod Seeing
 pub mod Sole
 pub mod Silent
+pub mod Tables
 pub mod Telling
 pub mod Testing

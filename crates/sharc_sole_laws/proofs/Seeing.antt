@@ -2,31 +2,36 @@
 use Rattle.std.proofs.Common.{◌≡◌, ℕ, zero, suc, ℤ, pos, negsuc, ◌+◌, ◌-◌, ◌<◌, ◌≤◌, ◌⊎◌, inl, inr, Bool, true, false, cond, List, [], ◌∷◌, ◌++◌, refl, sym, ap, ◌∙◌, subst, arith, eq-eqb, get_or, nat_lt, ltb-true, ltb-false, Option, Some, None}
 use Rattle.std.specs.Prelude.{slice_index}
 use Rattle.std.proofs.lemmas.List.Elements.{filter-append}
-use Rattle.sharc_tree.specs.declared.event.Act.TheVariants.{Started}
+use Rattle.sharc_tree.specs.declared.event.Act.TheVariants.{Freed, Started}
 use Rattle.sharc_tree.specs.declared.event.SourceEvent.{SourceEvent}
 use Rattle.sharc_tree.specs.declared.token.Site.{Site}
 use Rattle.sharc_names.specs.declared.fault.Named.TheVariants as named
+use Rattle.sharc_tree.specs.Low.{IsLow}
+use Rattle.sharc_tree.specs.Placed.{IsPlaced}
 use Rattle.sharc_tree.specs.Tree.{Function}
-use Rattle.sharc_ctype.specs.Resolved.{Resolution, named_at, function_at}
+use Rattle.sharc_ctype.specs.Resolved.{IsResolved, Resolution, named_at, function_at}
 use Rattle.sharc_ctype_laws.specs.Declared.{NameThemselves}
 use Rattle.sharc_mode.specs.Moded.{Assignment}
 use Rattle.sharc_meaning.specs.Events.{events_of, is_of}
 use Rattle.sharc_meaning.specs.Laws.{AskLaws}
+use Rattle.sharc_meaning.specs.Meaning.{Asked}
 use Rattle.sharc_meaning.specs.State.{wants, spent}
 use Rattle.sharc_meaning.specs.Reference.{number_of}
 use Rattle.sharc_meaning.specs.References.{refers, Begun, asked_with, held_count, ThreadHolds}
 use Rattle.sharc_meaning.specs.Runs.{IsNamedAt, answers_of}
+use Rattle.sharc_meaning_laws.specs.Held.{HeldAreHeldOn}
 use Rattle.sharc_code.specs.declared.code.Code.{Code}
 use Rattle.sharc_code.specs.declared.instr.Instr.TheVariants.{TestSole}
 use Rattle.sharc_code.specs.declared.state.Stage.{Stage}
 use Rattle.sharc_code.specs.declared.state.Stage.TheVariants.{Lowers}
-use Rattle.sharc_code.specs.Machine.{Machine, instr_at}
+use Rattle.sharc_code.specs.Machine.{Machine, instr_at, ref}
 use Rattle.sharc_flat.specs.Correct.{MayStart}
 use Rattle.sharc_invariant.specs.Words.{register_of, staged_of}
 use Rattle.sharc_sole_laws.specs.Emptying.{IsEmptying, is_emptying}
-use Rattle.sharc_sole_laws.specs.Holding.{IsAccounted, IsHolding, IsHoldingIn}
+use Rattle.sharc_sole_laws.specs.Holding.{IsAccounted, IsHolding, IsHoldingIn, IsLowered}
 use Rattle.sharc_sole_laws.proofs.Counting.{one_there, twice}
-use Rattle.sharc_sole_laws.specs.InFlight.{IsInFlight, is_given, is_replaced, is_emptied, is_left}
+use Rattle.sharc_sole_laws.proofs.Given.{left_is_given}
+use Rattle.sharc_sole_laws.specs.InFlight.{IsInFlight, IsPastEvents, is_given, is_replaced, is_emptied}
 
 -- ---- one of a list
 number_refers : (n : ℕ) (v : ℤ) → number_of v ≡ n → 0 < n → refers n v ≡ true
@@ -51,6 +56,12 @@ no_first a xs h = cc
 
 same_argument : (v w : ℤ) → Started v ≡ Started w → v ≡ w
 same_argument v w h = cc
+
+no_end : (e : SourceEvent) → wants e ≡ spent → ⊥
+no_end e h = cc
+
+one_wanted : (e w : SourceEvent) → wants e ≡ wants w → e ≡ w
+one_wanted e w h = cc
 
 -- two functions with one name are one
 pub same_function : (r : Resolution) → NameThemselves r → (n k : ℕ) (site : Site) → IsNamedAt (function_at r n) site → IsNamedAt (function_at r k) site → n ≡ k
@@ -84,22 +95,36 @@ module _ (m : Assignment) (names : NameThemselves m.typed) (code : Code) (R : Li
       (subst (λ v. IsHolding m code t.function v thread (events_of thread b.own.after) at lowered) argument
       (subst (λ es. IsHolding m code t.function t.argument thread es at lowered) after (h.holds (subst (MayStart m) (sym function) may))))
 
-  -- at a test more fuel changes nothing, since it wants something
+  -- where it wants something more fuel changes nothing
+  wants_still : AskLaws → (fuel more : ℕ) (e : SourceEvent) → (asked_with b fuel).outcome ≡ wants e → asked_with b (fuel + more) ≡ asked_with b fuel
+  wants_still laws fuel more e is = laws.fuel_same m b.own.function b.own.argument (answers_of (events_of thread b.own.after)) fuel more (λ end. no_end e (sym is ∙ end))
+
+  -- so it is at a test
   pub seen_twice : AskLaws → (events_of thread R ≡ []) ⊎ IsHoldingIn m code R thread at lowered → (register site : ℕ) → instr_at code at.at.pc ≡ TestSole register site
       → (i k n : ℕ) → (i ≡ k → ⊥) → slice_index at.refs i ≡ n → slice_index at.refs k ≡ n → 0 < n → ThreadHolds m R thread 1 n
   seen_twice laws (inl nothing) register site tests i k n apart first second some = absurd (no_first b.own.begins (events_of thread b.own.after) (sym own_events ∙ nothing))
   seen_twice laws (inr h) register site tests i k n apart first second some =
       let w = holding h in
       let t = w.tested register site tests in
-      record { begun = b; from = w.fuel; holds = λ later le. subst (λ a. 1 < held_count a n) (sym (rests t.wanted t.outcome later le)) (twice (asked_with b w.fuel) at t i k n apart first second some) }
+      record { begun = b; from = w.fuel; holds = λ later le. subst (λ a. 1 < held_count a n) (sym (rests t.wanted t.outcome later le)) (twice (asked_with b w.fuel) at register t i k n apart first second some) }
     where
-      no_end : (e : SourceEvent) → wants e ≡ spent → ⊥
-      no_end e h = cc
-
       rests : (e : SourceEvent) → (asked_with b (holding h).fuel).outcome ≡ wants e → (later : ℕ) → (holding h).fuel ≤ later → asked_with b later ≡ asked_with b (holding h).fuel
-      rests e is later le =
-          let more : later ≡ (holding h).fuel + (later - (holding h).fuel) = omega (arith, le) in
-          ap (asked_with b) more ∙ laws.fuel_same m b.own.function b.own.argument (answers_of (events_of thread b.own.after)) (holding h).fuel (later - (holding h).fuel) (λ end. no_end e (sym is ∙ end))
+      rests e is later le = let more : later ≡ (holding h).fuel + (later - (holding h).fuel) = omega (arith, le) in ap (asked_with b) more ∙ wants_still laws (holding h).fuel (later - (holding h).fuel) e is
+
+  -- and what it wants to free is what it tests
+  pub frees_tested : AskLaws → (events_of thread R ≡ []) ⊎ IsHoldingIn m code R thread at lowered → (register site : ℕ) → instr_at code at.at.pc ≡ TestSole register site
+      → (fuel : ℕ) (e : SourceEvent) (v : ℤ) → (asked_with b fuel).outcome ≡ wants e → e.act ≡ Freed v → number_of v ≡ ref at register
+  frees_tested laws (inl nothing) register site tests fuel e v is act = absurd (no_first b.own.begins (events_of thread b.own.after) (sym own_events ∙ nothing))
+  frees_tested laws (inr h) register site tests fuel e v is act =
+      let w = holding h in
+      let t = w.tested register site tests in
+      let order : fuel + w.fuel ≡ w.fuel + fuel = omega arith in
+      let same : asked_with b fuel ≡ asked_with b w.fuel = sym (wants_still laws fuel w.fuel e is) ∙ ap (asked_with b) order ∙ wants_still laws w.fuel fuel t.wanted t.outcome in
+      let one : e ≡ t.wanted = one_wanted e t.wanted (sym is ∙ ap (λ (a : Asked). a.outcome) same ∙ t.outcome) in
+      t.frees v (ap (λ (e : SourceEvent). e.act) (sym one) ∙ act)
+
+  past : (h : IsHoldingIn m code R thread at lowered) → IsPastEvents b (holding h).fuel
+  past h = (holding h).events
 
   -- what it has taken out of a cell of an object that it frees is in flight
   pub in_hand : (events_of thread R ≡ []) ⊎ IsHoldingIn m code R thread at lowered → (n : ℕ) → staged_of at.own.stage ≡ n → 0 < n → IsInFlight code at lowered b n
@@ -107,31 +132,31 @@ module _ (m : Assignment) (names : NameThemselves m.typed) (code : Code) (R : Li
   in_hand (inr h) n is some = by at.own.stage refl is
     where
       by : (st : Stage) → at.own.stage ≡ st → staged_of st ≡ n → IsInFlight code at lowered b n
-      by (Lowers i elements found) stage is = let w = holding h in is_emptied w.fuel (w.emptying (ap is_emptying stage)) (ap staged_of stage ∙ is)
+      by (Lowers i elements found) stage is = let w = holding h in is_emptied w.fuel (past h) (w.emptying (ap is_emptying stage)) (ap staged_of stage ∙ is)
       by _ stage is = let zero : 0 ≡ n = is in absurd (omega (arith, zero, some))
 
-  pub frees : (events_of thread R ≡ []) ⊎ IsHoldingIn m code R thread at lowered → is_emptying at.own.stage ≡ true → (fuel : ℕ) × IsEmptying code (asked_with b fuel) at
+  pub frees : (events_of thread R ≡ []) ⊎ IsHoldingIn m code R thread at lowered → is_emptying at.own.stage ≡ true → (fuel : ℕ) × IsPastEvents b fuel × IsEmptying code (asked_with b fuel) at
   frees (inl nothing) empties = absurd (no_first b.own.begins (events_of thread b.own.after) (sym own_events ∙ nothing))
-  frees (inr h) empties = let w = holding h in (w.fuel, w.emptying empties)
+  frees (inr h) empties = let w = holding h in (w.fuel, past h, w.emptying empties)
 
-  module _ (n : ℕ) (rests : IsInFlight code at lowered b n → ⊥) where
+  module _ (laws : AskLaws) (held : HeldAreHeldOn) (resolved : IsResolved m.typed) (placed : IsPlaced m.typed.program) (low : IsLow m.typed.program) (n : ℕ) (rests : IsInFlight code at lowered b n → ⊥) where
     -- what it holds with some fuel it holds with more, since nothing is in flight
-    still_held : (fuel : ℕ) → 0 < held_count (asked_with b fuel) n → ThreadHolds m R thread 0 n
-    still_held fuel some = record { begun = b; from = fuel; holds = λ later le. by later le (nat_lt 0 (held_count (asked_with b later) n)) refl }
+    still_held : (fuel : ℕ) → IsPastEvents b fuel → IsLowered (asked_with b fuel).given_up lowered → 0 < held_count (asked_with b fuel) n → ThreadHolds m R thread 0 n
+    still_held fuel past lowers some = record { begun = b; from = fuel; holds = λ later le. by later le (nat_lt 0 (held_count (asked_with b later) n)) refl }
       where
         by : (later : ℕ) → fuel ≤ later → (t : Bool) → nat_lt 0 (held_count (asked_with b later) n) ≡ t → 0 < held_count (asked_with b later) n
         by later le true h = ltb-true 0 (held_count (asked_with b later) n) h
         by later le false h =
-            let low = ltb-false 0 (held_count (asked_with b later) n) h in
-            let none : held_count (asked_with b later) n ≡ 0 = omega (arith, low) in
+            let few = ltb-false 0 (held_count (asked_with b later) n) h in
+            let none : held_count (asked_with b later) n ≡ 0 = omega (arith, few) in
             let more : later ≡ fuel + (later - fuel) = omega (arith, le) in
-            absurd (rests (is_left fuel (later - fuel) some (subst (λ g. held_count (asked_with b g) n ≡ 0) more none)))
+            absurd (rests (left_is_given laws m R thread b fuel past (later - fuel) held resolved placed low code at lowered lowers n some (subst (λ g. held_count (asked_with b g) n ≡ 0) more none)))
 
-    accounted : (fuel k : ℕ) → register_of code at k ≡ n → 0 < n → IsAccounted code at lowered (asked_with b fuel) k n → ThreadHolds m R thread 0 n
-    accounted fuel k here some (inl held) = still_held fuel (one_there (refers n) (pos 0) refl (asked_with b fuel).held held.0 (number_refers n (get_or (asked_with b fuel).held held.0 (pos 0)) held.1 some))
-    accounted fuel k here some (inr (inl given)) = absurd (rests (is_given fuel given))
-    accounted fuel k here some (inr (inr old)) = absurd (rests (is_replaced fuel k here old))
+    accounted : (fuel k : ℕ) → IsPastEvents b fuel → IsLowered (asked_with b fuel).given_up lowered → register_of code at k ≡ n → 0 < n → IsAccounted code at lowered (asked_with b fuel) k n → ThreadHolds m R thread 0 n
+    accounted fuel k past lowers here some (inl held) = still_held fuel past lowers (one_there (refers n) (pos 0) refl (asked_with b fuel).held held.0 (number_refers n (get_or (asked_with b fuel).held held.0 (pos 0)) held.1 some))
+    accounted fuel k past lowers here some (inr (inl given)) = absurd (rests (is_given fuel past given))
+    accounted fuel k past lowers here some (inr (inr old)) = absurd (rests (is_replaced fuel k past here old))
 
     pub seen : (events_of thread R ≡ []) ⊎ IsHoldingIn m code R thread at lowered → (k : ℕ) → register_of code at k ≡ n → 0 < n → ThreadHolds m R thread 0 n
     seen (inl nothing) k here some = absurd (no_first b.own.begins (events_of thread b.own.after) (sym own_events ∙ nothing))
-    seen (inr h) k here some = let w = holding h in accounted w.fuel k here some (w.registers k n here some)
+    seen (inr h) k here some = let w = holding h in accounted w.fuel k (past h) w.lowers here some (w.registers k n here some)

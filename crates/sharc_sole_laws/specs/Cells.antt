@@ -3,7 +3,7 @@ use Rattle.std.specs.Prelude.{◌≡◌, ◌≢◌, ◌⊎◌, ℕ, true, false,
 use Rattle.sharc_tree.specs.declared.event.Object.TheVariants.{Global as GlobalNumber, Made}
 use Rattle.sharc_tree.specs.declared.event.SourceEvent.{SourceEvent}
 use Rattle.sharc_mode.specs.Moded.{Assignment}
-use Rattle.sharc_meaning.specs.References.{References, in_cell, refers, is_pointer_of, is_taken_to_free}
+use Rattle.sharc_meaning.specs.References.{References, in_cell, refers, is_taken_to_free}
 use Rattle.sharc_meaning.specs.Store.{is_live, value_after}
 use Rattle.sharc_code.specs.declared.code.Code.{Code}
 use Rattle.sharc_code.specs.declared.shape.Shape.{Shape}
@@ -23,13 +23,13 @@ use Rattle.sharc_history_laws.specs.Stores.{BeginsWith}
 use Rattle.sharc_target_laws.specs.Laws.{HasTables}
 use Rattle.sharc_target_laws.specs.Targets.{targets_of}
 
--- Cell i of object p, which is made. By the events the object is live and the cell refers to object n; that is one of the references, if the cell is a pointer in the source and no `free`
--- has taken the object.
+-- Cell i of object p, which is made. By the events the object is live and the cell refers to object n; that is one of the references, if no `free` has taken the object or it is that object
+-- itself.
 pub record RefersFromMade (m : Assignment) (R : List SourceEvent) (p i n : ℕ) : Type 0 where
   pub some : p ≢ 0
   pub live : is_live R (Made p) ≡ true
   pub refers_there : refers n (value_after m.typed R (record { object = Made p; cell = i })) ≡ true
-  pub among : is_pointer_of m.typed R (Made p) i ≡ true → (p ≡ n) ⊎ (is_taken_to_free R p ≡ false) → References m R n (in_cell (record { object = Made p; cell = i }))
+  pub among : (p ≡ n) ⊎ (is_taken_to_free R p ≡ false) → References m R n (in_cell (record { object = Made p; cell = i }))
 
 -- a cell of a global is among the references, as one of an object that is made may be, but where a thread is in the middle of a Free of its object
 pub data IsSeenInCell (m : Assignment) (code : Code) (g : Global Machine) (R : List SourceEvent) (p i n : ℕ) : Type 0 where

@@ -13,7 +13,7 @@ use Rattle.sharc_gen.specs.OfRuns.{elements_before, founds_of, told_in}
 use Rattle.sharc_invariant.specs.Words.{staged_of}
 use Rattle.sharc_sole_laws.specs.Emptying.{IsEmptying, is_emptying}
 use Rattle.sharc_sole_laws.specs.Holding.{lowered_of}
-use Rattle.sharc_sole_laws.specs.InFlight.{IsInFlight}
+use Rattle.sharc_sole_laws.specs.InFlight.{IsInFlight, IsPastEvents}
 
 -- what a thread with a function that may be started has in hand
 abbrev pub HandsFly : Assignment → Code → Type 0
@@ -27,4 +27,4 @@ abbrev pub FreesEmpty : Assignment → Code → Type 0
 FreesEmpty m code = (s : Shape) (run : List Turn) → CheckedRun code s run
     → ((thread : ℕ) → IsConsistent code s (begun code s thread) (elements_before code s thread run) (founds_of (turns_of thread run)))
     → (thread : ℕ) → let R = reverse (told_in (Erase code s run)) in let at = (place_after code s run).threads thread in
-    (b : Begun m R thread) → MayStart m b.own.function → is_emptying at.own.stage ≡ true → (fuel : ℕ) × IsEmptying code (asked_with b fuel) at
+    (b : Begun m R thread) → MayStart m b.own.function → is_emptying at.own.stage ≡ true → (fuel : ℕ) × IsPastEvents b fuel × IsEmptying code (asked_with b fuel) at

@@ -1,6 +1,6 @@
 -- What the registers of a thread refer to, by what the program holds that was asked by the answers of the thread's own events.
-use Rattle.std.specs.Prelude.{ℕ, ℤ, pos, ◌≡◌, ◌+◌, ◌⊎◌, ◌<◌, true, List, [], ◌∷◌, map, get_or, reverse, slice_index}
-use Rattle.sharc_tree.specs.declared.event.Act.TheVariants.{Started}
+use Rattle.std.specs.Prelude.{ℕ, ℤ, pos, ◌≡◌, ◌+◌, ◌⊎◌, ◌<◌, true, List, [], ◌∷◌, ◌++◌, map, get_or, reverse, slice_index}
+use Rattle.sharc_tree.specs.declared.event.Act.TheVariants.{Freed, Started}
 use Rattle.sharc_tree.specs.declared.event.CellAt.{CellAt}
 use Rattle.sharc_tree.specs.declared.event.SourceEvent.{SourceEvent}
 use Rattle.sharc_ctype.specs.Resolved.{function_at}
@@ -9,13 +9,14 @@ use Rattle.sharc_meaning.specs.declared.given.GivenUp.{GivenUp}
 use Rattle.sharc_meaning.specs.declared.given.GivenUp.TheVariants.{Replaced}
 use Rattle.sharc_meaning.specs.Events.{events_of}
 use Rattle.sharc_meaning.specs.Meaning.{Asked, asks}
+use Rattle.sharc_meaning.specs.Reference.{number_of}
 use Rattle.sharc_meaning.specs.References.{refers}
 use Rattle.sharc_meaning.specs.Runs.{IsNamedAt, answers_of, by}
 use Rattle.sharc_meaning.specs.State.{wants}
 use Rattle.sharc_code.specs.declared.code.Code.{Code}
 use Rattle.sharc_code.specs.declared.instr.Instr.TheVariants.{Lower, TestSole}
 use Rattle.sharc_code.specs.declared.shape.Shape.{Shape}
-use Rattle.sharc_code.specs.Machine.{Machine, instr_at}
+use Rattle.sharc_code.specs.Machine.{Machine, instr_at, ref}
 use Rattle.sharc_code.specs.Paced.{paced_in}
 use Rattle.sharc_code.specs.Path.{begun, machine_after, CodePath}
 use Rattle.sharc_code.specs.Runs.{Turn, turns_of}
@@ -27,6 +28,7 @@ use Rattle.sharc_gen.specs.Lowered.{lowered_in}
 use Rattle.sharc_invariant.specs.Words.{register_of}
 use Rattle.sharc_gen.specs.OfRuns.{elements_before, founds_of, told_in}
 use Rattle.sharc_compile.specs.Held.{IsAmong, IsGivenUpLater}
+use Rattle.sharc_guard.specs.Correct.{Resolved}
 use Rattle.sharc_compile_laws.specs.Threads.{TellsIn}
 use Rattle.sharc_sole_laws.specs.Emptying.{IsEmptying, is_emptying}
 
@@ -47,19 +49,29 @@ pub record IsOldValue (code : Code) (at : Machine) (given : List GivenUp) (lower
 abbrev pub IsAccounted : Code → Machine → List ℕ → Asked → ℕ → ℕ → Type 0
 IsAccounted code at lowered a k n = IsAmong a.held n ⊎ (IsGivenUpLater a.given_up lowered n ⊎ IsOldValue code at a.given_up lowered k)
 
+-- what is lowered is a first part of what is given up
+pub record IsLowered (given : List GivenUp) (lowered : List ℕ) : Type 0 where
+  pub before : List GivenUp
+  pub later : List GivenUp
+  pub is : given ≡ before ++ later
+  pub lowers : (next : List ℕ) × Resolved before (lowered ++ next)
+
 -- ---- by the place of a thread
--- where the thread looks whether a reference is the only one to its object, the program wants something, and what a register refers to, it refers to by what it holds at the same place
-pub record IsTested (a : Asked) (at : Machine) : Type 0 where
+-- Where the thread looks whether the reference in a register is the only one to its object, the program wants something, and what a register refers to, it refers to by what it holds at the
+-- same place. If what it wants is to free an object, it is the one that is tested.
+pub record IsTested (a : Asked) (at : Machine) (register : ℕ) : Type 0 where
   pub wanted : SourceEvent
   pub outcome : a.outcome ≡ wants wanted
   pub registers : (k n : ℕ) → slice_index at.refs k ≡ n → 0 < n → refers n (get_or a.held k (pos 0)) ≡ true
+  pub frees : (v : ℤ) → wanted.act ≡ Freed v → number_of v ≡ ref at register
 
 -- With some fuel a thread of the program asks for exactly these events, by their answers. What its registers refer to, it then holds, or has given up since.
 pub record IsHolding (m : Assignment) (code : Code) (f : ℕ) (argument : ℤ) (thread : ℕ) (told : List SourceEvent) (at : Machine) (lowered : List ℕ) : Type 0 where
   pub fuel : ℕ
   pub events : map (by thread) (asks m f argument (answers_of told) fuel).events ≡ told
   pub registers : (k n : ℕ) → register_of code at k ≡ n → 0 < n → IsAccounted code at lowered (asks m f argument (answers_of told) fuel) k n
-  pub tested : (register site : ℕ) → instr_at code at.at.pc ≡ TestSole register site → IsTested (asks m f argument (answers_of told) fuel) at
+  pub lowers : IsLowered (asks m f argument (answers_of told) fuel).given_up lowered
+  pub tested : (register site : ℕ) → instr_at code at.at.pc ≡ TestSole register site → IsTested (asks m f argument (answers_of told) fuel) at register
   pub emptying : is_emptying at.own.stage ≡ true → IsEmptying code (asks m f argument (answers_of told) fuel) at
 
 -- the thread begins with the Started of a function, at the name of that, and then holds what the function does, if that may be started

@@ -1,11 +1,15 @@
 -- What the registers of a thread refer to is among the references of its history, or in flight.
-use Rattle.std.specs.Prelude.{ℕ, ◌≡◌, ◌<◌, List, reverse, slice_index}
+use Rattle.std.specs.Prelude.{ℕ, ℤ, ◌≡◌, ◌<◌, List, reverse, slice_index}
+use Rattle.sharc_tree.specs.declared.event.Act.TheVariants.{Freed}
+use Rattle.sharc_tree.specs.declared.event.SourceEvent.{SourceEvent}
 use Rattle.sharc_mode.specs.Moded.{Assignment}
-use Rattle.sharc_meaning.specs.References.{Begun, References, in_thread}
+use Rattle.sharc_meaning.specs.Reference.{number_of}
+use Rattle.sharc_meaning.specs.References.{Begun, References, asked_with, in_thread}
+use Rattle.sharc_meaning.specs.State.{wants}
 use Rattle.sharc_code.specs.declared.code.Code.{Code}
 use Rattle.sharc_code.specs.declared.shape.Shape.{Shape}
 use Rattle.sharc_code.specs.declared.instr.Instr.TheVariants.{TestSole}
-use Rattle.sharc_code.specs.Machine.{instr_at}
+use Rattle.sharc_code.specs.Machine.{instr_at, ref}
 use Rattle.sharc_code.specs.Path.{begun}
 use Rattle.sharc_code.specs.Runs.{Turn, turns_of}
 use Rattle.sharc_code.specs.Whole.{CheckedRun, Erase, place_after}
@@ -30,3 +34,11 @@ CastersHold m code = (s : Shape) (run : List Turn) → CheckedRun code s run
     → (thread : ℕ) → let R = reverse (told_in (Erase code s run)) in let at = (place_after code s run).threads thread in
     (b : Begun m R thread) → MayStart m b.own.function → (register site : ℕ) → instr_at code at.at.pc ≡ TestSole register site
     → (i k n : ℕ) → (i ≡ k → ⊥) → slice_index at.refs i ≡ n → slice_index at.refs k ≡ n → 0 < n → References m R n (in_thread thread 1)
+
+-- And if it wants to free an object there, it is the one of the reference that it looks at.
+abbrev pub TestersFree : Assignment → Code → Type 0
+TestersFree m code = (s : Shape) (run : List Turn) → CheckedRun code s run
+    → ((thread : ℕ) → IsConsistent code s (begun code s thread) (elements_before code s thread run) (founds_of (turns_of thread run)))
+    → (thread : ℕ) → let R = reverse (told_in (Erase code s run)) in let at = (place_after code s run).threads thread in
+    (b : Begun m R thread) → MayStart m b.own.function → (register site : ℕ) → instr_at code at.at.pc ≡ TestSole register site
+    → (fuel : ℕ) (e : SourceEvent) (v : ℤ) → (asked_with b fuel).outcome ≡ wants e → e.act ≡ Freed v → number_of v ≡ ref at register

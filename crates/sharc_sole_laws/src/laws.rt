@@ -7,7 +7,7 @@ ghost use Rattle.sharc_sole_laws.specs.Elsewhere.{ArgumentsSee, LogsSee};
 ghost use Rattle.sharc_sole_laws.specs.Hands.{FreesEmpty, HandsFly};
 ghost use Rattle.sharc_sole_laws.specs.Cells.{CellsSee};
 ghost use Rattle.sharc_sole_laws.specs.Holding.{PathsHold, ThreadsHold};
-ghost use Rattle.sharc_sole_laws.specs.Seeing.{CastersHold, ThreadsSee};
+ghost use Rattle.sharc_sole_laws.specs.Seeing.{CastersHold, TestersFree, ThreadsSee};
 ghost use Rattle.sharc_sole_laws.specs.Silent.{SilentHaveNothing};
 ghost use Rattle.sharc_sole_laws.specs.Sole.{RegistersAreSeen};
 
@@ -21,9 +21,11 @@ use sharc_gen::{paths_law, run_paths_law};
 use sharc_guard::{counted_law, framed_law};
 use sharc_guard_laws::laws::{made_locks_stand, typed_is_level};
 use sharc_history_laws::{
-    cells_seen_law, paths_law as history_paths_law, reports_law, seen_law, starts_law,
+    cells_seen_law, paths_law as history_paths_law, pointers_made_law, reports_law, seen_law,
+    starts_law,
 };
 use sharc_meaning::laws::ask_laws;
+use sharc_meaning_laws::laws::{held_are_held_on, taken_are_being_taken};
 use sharc_target_laws::laws::global_pointers_are;
 
 /// What the registers of a thread of the code of a typed, well-moded program refer to, on each path whose results are consistent, the program holds or has given up that was
@@ -56,11 +58,22 @@ pub fn threads_see()
 {
     thread_holds();
     each_names_itself();
+    ask_laws();
+    held_are_held_on();
 }
 
 /// And where a thread looks whether a reference is the only one, and two of its registers refer to the object, it holds two references to it.
 pub fn casters_hold()
     ensures { OfTyped CastersHold }
+{
+    thread_holds();
+    each_names_itself();
+    ask_laws();
+}
+
+/// And if it wants to free an object there, it is the one of the reference that it looks at.
+pub fn testers_free()
+    ensures { OfTyped TestersFree }
 {
     thread_holds();
     each_names_itself();
@@ -83,12 +96,13 @@ pub fn frees_empty()
     each_names_itself();
 }
 
-/// What a cell refers to at a place of a checked run of code that is typed by the program's targets: a cell of a global is among the references of the history, one of an object
-/// that is made refers to it by the events, but while a Free empties the object.
+/// What a cell refers to at a place of a checked run of code that is typed by the program's targets: a cell of a global is among the references of the history, and so is one of an
+/// object that is made, if no `free` has taken that or the cell refers to it; but while a Free empties the object.
 pub fn cells_see()
     ensures { CellsSee }
 {
     cells_seen_law();
+    pointers_made_law();
     global_pointers_are();
 }
 
@@ -138,8 +152,8 @@ pub fn logs_see()
     seen_law();
 }
 
-/// What the report of a refused cast shows: the number was found where the thread tested a reference, and at that place the history shows another one, or that a cell
-/// of an object that is made has one, or a Free of the cell's object is under way; if no other thread has one in flight.
+/// What the report of a refused cast shows: the number was found where the thread tested a reference, and at that place the references of the history have another one, if
+/// no other thread has one in flight.
 pub fn reports_show_cause()
     ensures { OfTyped CastReportsShowCause }
 {
@@ -151,6 +165,8 @@ pub fn reports_show_cause()
     silent_have_nothing();
     hands_fly();
     frees_empty();
+    testers_free();
+    taken_are_being_taken();
     cells_see();
     arguments_see();
     logs_see();
