@@ -286,13 +286,9 @@ fn note_held(alloc: Global, act: Act, held: &mut Vec<CellAt>) -> Result<(), End>
         },
         Act::Unlock(cell) => {
             let mut kept = Vec::new(alloc);
-            match keep_others(held.as_slice(), cell, &mut kept) {
-                Ok(()) => {
-                    *held = kept;
-                    Ok(())
-                }
-                Err(end) => Err(end),
-            }
+            keep_others(held.as_slice(), cell, &mut kept)?;
+            *held = kept;
+            Ok(())
         }
         _ => Ok(()),
     }
@@ -345,8 +341,6 @@ pub fn perform(site: Site, act: Act, st: &mut State) -> Result<(), End>
     ensures does { Does (view_state st.old) result (view_state st.new) (performs site act) }
     ensures fuel { st.new.fuel ≤ st.old.fuel }
 {
-    match ask_event(site, act, st) {
-        Ok(_) => Ok(()),
-        Err(end) => Err(end),
-    }
+    ask_event(site, act, st)?;
+    Ok(())
 }
