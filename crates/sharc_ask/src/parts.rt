@@ -34,7 +34,7 @@ use sharc_tree::event::{Act, Object};
 use sharc_tree::token::Site;
 use sharc_tree::tree::{Declaration, Expr, ValueCall};
 
-/// The temporaries behind the mark end, where a number came.
+/// The temporaries after the mark end, where a number came.
 pub fn end_above(answer: Result<i64, End>, mark: usize, st: &mut State) -> Result<i64, End>
     ensures does { (before : Known) (run : Run ℤ) → Does before answer (view_state st.old) run → Does before result (view_state st.new) (ends_above mark run) }
     ensures fuel { st.new.fuel ≤ st.old.fuel }
@@ -106,7 +106,7 @@ pub fn inverted(program: &Moded, expr: &Expr, value: i64, st: &mut State) -> Res
     }
 }
 
-/// A value that stands in a temporary.
+/// A value that is held in a temporary.
 pub fn operand_value(program: &Moded, expr: &Expr, value: i64, st: &mut State) -> Result<i64, End>
     ensures does { Does (view_state st.old) result (view_state st.new) (operand program.now.typed (view_expr expr.now) (give value)) }
     ensures fuel { st.new.fuel ≤ st.old.fuel }
@@ -382,7 +382,7 @@ pub fn initialised(
     )
 }
 
-/// The variables behind the mark end with a block.
+/// The variables after the mark end with a block.
 pub fn end_block(answer: Result<Flow, End>, mark: usize, st: &mut State) -> Result<Flow, End>
     ensures does { (before : Known) (run : Run LeftBy) → DoesAs view_flow before answer (view_state st.old) run → DoesAs view_flow before result (view_state st.new) (ends_block mark run) }
     ensures fuel { st.new.fuel ≤ st.old.fuel }

@@ -49,8 +49,8 @@ fn run_thread(program: &Moded, number: u32, argument: i64, st: &mut State) -> Re
     }
 }
 
-/// What a thread of the function with this number asks for, given its argument and the answers of its events, with so much fuel. A thread of a function
-/// that there is not asks for nothing and is over. Its only fault is want of memory.
+/// What a thread of the function with this number asks for, given its argument and the answers of its events, with this much fuel. A thread of a function
+/// that does not exist asks for nothing and is over. Its only fault is being out of memory.
 pub fn ask(
     alloc: Global,
     program: &Moded,
@@ -127,7 +127,7 @@ fn held_in(alloc: Global, st: State) -> Result<Holds, AllocError>
 }
 
 /// The pointers that the frames and temporaries of such a thread hold as far as it comes: at the event that it wants, at its stop or its end, or where its fuel
-/// is spent. Its only fault is want of memory.
+/// is spent. Its only fault is being out of memory.
 pub fn held(
     alloc: Global,
     program: &Moded,

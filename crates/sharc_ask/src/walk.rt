@@ -283,7 +283,7 @@ fn turn<'a>(
     }
 }
 
-// The body of a loop, and what is behind it.
+// The body of a loop, and what follows it.
 #[cycle(walk)]
 fn around<'a>(
     program: &'a Moded,

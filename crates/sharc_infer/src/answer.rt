@@ -88,7 +88,7 @@ fn infer_by(alloc: Global, typed: Typed, reached: &Reached, search: Search) -> R
 }
 
 /// The program with the least assignment of modes: a position without a written mode is dynamic exactly where a path of links leads to it from a
-/// root, from a dynamic position or from below another mode that is not private, and has a reason then (own). `reached` is what `reach` answers for the
+/// root, from a dynamic position or from below another mode that is not private, and then has a reason. `reached` is what `reach` answers for the
 /// program. Being out of memory hands the program back and is the only refusal; more links, globals or functions than a number of 32 bits counts are
 /// answered so, too.
 pub fn infer(alloc: Global, typed: Typed, reached: &Reached) -> Result<Moded, Typed>
@@ -100,7 +100,7 @@ pub fn infer(alloc: Global, typed: Typed, reached: &Reached) -> Result<Moded, Ty
     infer_by(alloc, typed, reached, Search::Queue)
 }
 
-/// The same answer by a plain, slow program, for tests to compare with: rounds over all links until one finds nothing (own).
+/// The same answer by a plain, slow program, for tests to compare with: rounds over all links until one finds nothing.
 pub fn infer_by_rounds(alloc: Global, typed: Typed, reached: &Reached) -> Result<Moded, Typed>
     requires { AreReached typed reached.now }
     ensures least { IfOk result (λ m. IsLeastAssignment m) }

@@ -1,6 +1,6 @@
 //! Tables of sources, and the modes that they are inferred to have: tests alone, over the front end, what is reached, and the inference.
 //!
-//! Nothing stands on this crate, and it has no code of its own.
+//! No crate depends on this one, and it has no code of its own.
 #![tactic(auto)]
 
 #[cfg(test)]

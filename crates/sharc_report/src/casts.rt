@@ -23,7 +23,7 @@ fn note_first(first: &mut IndexMap<u32, usize>, token: u32, place: usize) -> Res
     Ok(())
 }
 
-/// Where the first cast at each token stands in the list.
+/// Where the first cast at each token is in the list.
 pub(crate) fn first_casts(alloc: Global, casts: &Casts) -> Result<IndexMap<u32, usize>, AllocError>
     ensures { IfOk result (λ first. HasFirstCasts casts.now first.entries) }
 {
