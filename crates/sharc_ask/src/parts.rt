@@ -18,14 +18,13 @@ ghost use Rattle.sharc_ask.specs.Plans.{ends_above, ends_block, zero_behind, nex
 use crate::endings::{end_temporaries, end_variables};
 use crate::plan::{Operation, Value, flow_in, number_in, test_in};
 use crate::values::{
-    Flow, based, cells_of, freed_unless_null, held, kind_of, let_go, number_named, resulting,
-    value_act,
+    Flow, based, cells_of, freed_unless_null, held, kind_of, let_go, number_named,
+    parameters_named, resulting, value_act,
 };
 use sharc_ask_steps::arithmetic::{fits, is_zero, operated, truth};
 use sharc_ask_steps::cells::{elements_of, number_of};
 use sharc_ask_steps::places::{Place, element, element_of_array, pointee, stored};
 use sharc_ask_steps::state::{End, State, ask_event, moves, perform, unless};
-use sharc_ctype::typed::parameters_named;
 use sharc_mode::cell::cell_of;
 use sharc_mode::moded::Moded;
 use sharc_mode::sharing::Sharing;
@@ -179,13 +178,7 @@ fn spawned_value(
     ensures does { Does (view_state st.old) result (view_state st.new) (spawned_with program.now.typed site named (view_expr expr.now) value) }
     ensures fuel { st.new.fuel ≤ st.old.fuel }
 {
-    let value = passed_value(
-        program,
-        parameters_named(program.typed(), named),
-        expr,
-        value,
-        st,
-    )?;
+    let value = passed_value(program, parameters_named(program, named), expr, value, st)?;
     let thread = ask_event(site, Act::Spawn(number_named(named), value), st)?;
     moves(kind_of(program, expr), st)?;
     Ok(thread)
