@@ -49,7 +49,7 @@ fn step(alloc: Global, tokens: &[Token], at: &mut usize) -> Result<Option<Simple
     Ok(Some(simple))
 }
 
-/// What stands behind the word `for`, up to the `)`.
+/// What follows the word `for`, up to the `)`.
 #[tactic(auto, using(crate::proofs::HeadSteps::for_opens, crate::proofs::HeadSteps::for_begins, crate::proofs::Steps::fixed_stuck))]
 pub(crate) fn head(alloc: Global, tokens: &[Token], at: &mut usize) -> Result<ForHead, Fault>
     requires few { length tokens.now ≤ 2 ^ 20 }

@@ -22,7 +22,7 @@ use sharc_tree::tree::{
 };
 use std::alloc::Global;
 
-/// The name of the struct whose fields begin behind the type, past their `{`.
+/// The name of the struct whose fields begin after the type, past their `{`.
 fn opens_struct(
     alloc: Global,
     tokens: &[Token],

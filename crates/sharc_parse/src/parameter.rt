@@ -14,7 +14,7 @@ use sharc_tree::token::{Punctuator, Token};
 use sharc_tree::tree::{Declaration, WrittenType};
 use std::alloc::Global;
 
-/// Goes past a `)` behind a `void` that stands for no parameters.
+/// Goes past a `)` after a `void` that stands for no parameters.
 fn closes_void(tokens: &[Token], at: &mut usize, written: &WrittenType) -> bool
     ensures { ClosesVoid result (bare_type written.now) tokens.now at.old at.new }
 {
@@ -50,7 +50,7 @@ fn first_parameter(
     }))
 }
 
-/// The parameters behind the `(` of a function, and the `)`.
+/// The parameters after the `(` of a function, and the `)`.
 #[tactic(auto, using(crate::proofs::ParameterSteps::first_given, crate::proofs::ParameterSteps::one_given_more, crate::proofs::ParameterSteps::given_stuck, crate::proofs::ParameterSteps::given_read))]
 pub(crate) fn parameters(
     alloc: Global,

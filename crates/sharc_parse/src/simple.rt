@@ -15,7 +15,7 @@ use sharc_tree::token::{Punctuator, Token};
 use sharc_tree::tree::{Expr, Simple};
 use std::alloc::Global;
 
-/// Whether the expression is a call, which alone may stand as a statement.
+/// Whether the expression is a call, which alone may be a statement.
 fn is_call(expr: &Expr) -> bool
     ensures { result ≡ grammar.is_call (phrase_of expr.now) }
 {
@@ -28,7 +28,7 @@ fn is_call(expr: &Expr) -> bool
     }
 }
 
-/// A call, as what stands before a `;`.
+/// A call, as what comes before a `;`.
 fn call_of(expr: Expr) -> Result<Simple, Fault>
     ensures { IsCallOf result (view_expr expr) }
 {

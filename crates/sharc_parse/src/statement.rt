@@ -64,7 +64,7 @@ fn for_of(alloc: Global, span: Span, head: ForHead, body: Stmt) -> Result<Stmt, 
     Ok(Stmt::For(span, head, body))
 }
 
-/// A statement, or, where declarations may stand, a declaration and its `;`.
+/// A statement, or, where declarations may be written, a declaration and its `;`.
 #[cycle(statement)]
 #[tactic(auto, using(crate::proofs::NestedSteps::block_opens, crate::proofs::NestedSteps::block_deep, crate::proofs::NestedSteps::line_anywhere, crate::proofs::WordSteps::word_goes, crate::proofs::WordSteps::word_over))]
 pub(crate) fn statement(
@@ -194,7 +194,7 @@ fn rest_of_for(alloc: Global, tokens: &[Token], at: &mut usize, room: u8) -> Res
     for_of(alloc, span(tokens, first, *at), head, body)
 }
 
-/// The statements and declarations behind a `{`, and the `}`.
+/// The statements and declarations after a `{`, and the `}`.
 #[cycle(statement)]
 #[tactic(auto, using(crate::proofs::NestedSteps::first_statements, crate::proofs::NestedSteps::one_statement_more, crate::proofs::NestedSteps::statements_read))]
 pub(crate) fn statements(
