@@ -20,10 +20,8 @@ use std::alloc::{AllocError, Global};
 fn leaves(name: Site, st: &mut State) -> Result<(), End>
     ensures { Does (view_state st.old) result (view_state st.new) (leaves name) }
 {
-    match perform(name, Act::Return, st) {
-        Ok(()) => perform(name, Act::Gone, st),
-        Err(end) => Err(end),
-    }
+    perform(name, Act::Return, st)?;
+    perform(name, Act::Gone, st)
 }
 
 /// A thread returns where it holds no mutex, and is then gone.
@@ -42,10 +40,10 @@ fn run_thread(program: &Moded, number: u32, argument: i64, st: &mut State) -> Re
 {
     match program.typed().function_at(number) {
         None => Ok(()),
-        Some(function) => match run_function(program, 255, function, &[argument], st) {
-            Ok(left) => goes_away(function.name.site, left.0, st),
-            Err(end) => Err(end),
-        },
+        Some(function) => {
+            let left = run_function(program, 255, function, &[argument], st)?;
+            goes_away(function.name.site, left.0, st)
+        }
     }
 }
 
