@@ -12,12 +12,13 @@ ghost use Rattle.sharc_parse.specs.View.{phrase_of, phrases_of};
 ghost use Rattle.sharc_parse.specs.declared.token.FrontWord.TheVariants.{Spawn, Place};
 ghost use Rattle.sharc_parse.specs.Goes.{from, Goes, ReadsFrom, ReadsBehindName, IsHigh, IsPlaced, ReadsFront, IsFrontPlaced, NoUnary, NoCall, Builds, front_tree, bare_front};
 
-use crate::held::{both, box_beside, boxes, expect_behind};
+use crate::held::{box_beside, boxes, expect_behind};
 use crate::token::{
     Fault, FrontWord, Piece, access, constant, enter, expect, front_word, is_at, name, operator,
     site, span, strength_of, take, unary_operator,
 };
 use crate::types::cast_type;
+use sharc_tree::held::both;
 use sharc_tree::token::{Punctuator, Site, Span, Token};
 use sharc_tree::tree::{
     Access, BinaryOperator, Expr, Identifier, PlaceCall, UnaryOperator, ValueCall, WrittenType,

@@ -11,17 +11,6 @@ use crate::token::{Fault, expect};
 use sharc_tree::token::{Punctuator, Token};
 use std::alloc::Global;
 
-/// The value, and what was read after it.
-pub(crate) fn both<A: Drop, B>(value: A, read: Result<B, Fault>) -> Result<(A, B), Fault>
-    ensures held { IfOk result (λ r. (r.0 ≡ value) × (read ≡ Ok r.1)) }
-    ensures fault { IfErr result (λ e. read ≡ Err e) }
-{
-    match read {
-        Ok(behind) => Ok((value, behind)),
-        Err(fault) => Err(fault),
-    }
-}
-
 /// The value, past a token that has to be that punctuator.
 pub(crate) fn expect_behind<T: Drop>(
     tokens: &[Token],

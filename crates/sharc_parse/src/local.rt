@@ -4,10 +4,10 @@ ghost use Rattle.std.specs.Prelude.{◌≤◌, ◌^◌, length};
 ghost use Rattle.sharc_parse.specs.Goes.{from};
 ghost use Rattle.sharc_parse.specs.Locals.{ReadsName, IsNamePlaced, ReadsDeclaration, IsDeclarationPlaced, ReadsInitial, EndsInitially, IsInitialPlaced, ReadsLocal, EndsLocal, IsLocalPlaced};
 
-use crate::held::both;
 use crate::right::right;
 use crate::token::{Fault, name, span, take};
 use crate::types::{Modes, written_type};
+use sharc_tree::held::both;
 use sharc_tree::token::{Punctuator, Token};
 use sharc_tree::tree::{Declaration, Identifier, Local, Right};
 use std::alloc::Global;

@@ -5,11 +5,11 @@ ghost use Rattle.sharc_parse.specs.Goes.{from};
 ghost use Rattle.sharc_parse.specs.View.{bare_type};
 ghost use Rattle.sharc_parse.specs.Parameters.{ClosesVoid, ReadsFirst, IsFirstPlaced, ReadsParameters, AreParametersPlaced};
 
-use crate::held::both;
 use crate::local::{declaration, name_there};
 use crate::token::{Fault, expect, span, take};
 use crate::types::{Modes, is_bare, written_type};
 use sharc_tree::ctype::Base;
+use sharc_tree::held::both;
 use sharc_tree::token::{Punctuator, Token};
 use sharc_tree::tree::{Declaration, WrittenType};
 use std::alloc::Global;

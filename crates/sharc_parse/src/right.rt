@@ -5,9 +5,10 @@ ghost use Rattle.sharc_parse.specs.Goes.{from};
 ghost use Rattle.sharc_parse.specs.Rights.{ReadsCount, IsCountPlaced, ReadsSized, IsSizedPlaced, ReadsRight, EndsRight, IsRightPlaced};
 
 use crate::expr::{binary, unary};
-use crate::held::{both, expect_behind};
+use crate::held::expect_behind;
 use crate::token::{Fault, expect, expect_keyword, span, take_keyword};
 use crate::types::{Modes, written_type};
+use sharc_tree::held::both;
 use sharc_tree::token::{Keyword, Punctuator, Token};
 use sharc_tree::tree::{Expr, Right, WrittenType};
 use std::alloc::Global;

@@ -8,9 +8,9 @@ ghost use Rattle.sharc_parse.specs.Goes.{from};
 ghost use Rattle.sharc_parse.specs.Simples.{IsCallOf, ReadsSimple, EndsSimple, IsSimplePlaced};
 
 use crate::expr::unary;
-use crate::held::both;
 use crate::right::right;
 use crate::token::{Fault, span, take};
+use sharc_tree::held::both;
 use sharc_tree::token::{Punctuator, Token};
 use sharc_tree::tree::{Expr, Simple};
 use std::alloc::Global;

@@ -11,11 +11,12 @@ ghost use Rattle.sharc_parse.specs.Statements.{BuildsStatement, ReadsStatement, 
 ghost use Rattle.sharc_parse.specs.Nested.{IsOpen, ReadsRest, ReadsStatements, AreStatementsPlaced};
 
 use crate::head::head;
-use crate::held::{both, box_beside, boxes};
+use crate::held::{box_beside, boxes};
 use crate::line::MayDeclare;
 use crate::plain::{line_statement, rest_of_jump, rest_of_return};
 use crate::token::{Fault, enter, span, take, take_keyword};
 use crate::word::{StatementWord, condition, statement_word};
+use sharc_tree::held::both;
 use sharc_tree::token::{Keyword, Punctuator, Span, Token};
 use sharc_tree::tree::{Expr, ForHead, Jump, Stmt};
 use std::alloc::Global;

@@ -5,9 +5,10 @@ ghost use Rattle.sharc_parse.specs.Goes.{from};
 ghost use Rattle.sharc_parse.specs.View.{bare_type};
 ghost use Rattle.sharc_parse.specs.Types.{may_stand, TakesMode, ReadsPath, IsPathPlaced, ReadsModeRest, IsModeRestPlaced, ReadsMode, IsModePlaced, ReadsLevel, TakesBase, ReadsBase, IsBasePlaced, ReadsBottom, IsBottomPlaced, EndsBottom, ReadsType, IsTypePlaced, EndsType, IsBare, ReadsCast, IsCastPlaced};
 
-use crate::held::{both, expect_behind};
+use crate::held::expect_behind;
 use crate::token::{Fault, enter, expect, name, site, span, take};
 use sharc_tree::ctype::{Base, CType, Levels, Mode, Path};
+use sharc_tree::held::both;
 use sharc_tree::token::{Keyword, Punctuator, Site, Token, TokenKind};
 use sharc_tree::tree::WrittenType;
 use std::alloc::Global;
