@@ -1,6 +1,6 @@
 // Declarations in source order, found by the tokens of their names.
 
-ghost use Rattle.std.specs.Prelude.{◌≡◌, [], ◌∷◌, ◌++◌, OnOk, OnErr};
+ghost use Rattle.std.specs.Prelude.{◌≡◌, [], ◌∷◌, ◌++◌, OnOk};
 ghost use Rattle.std.specs.Option.{option_copied};
 ghost use Rattle.sharc_ctype.specs.Resolved.{declared_at};
 ghost use Rattle.sharc_ctype.specs.FirstPlaces.{HasFirstPlaces};

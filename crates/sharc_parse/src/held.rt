@@ -2,8 +2,8 @@
 //
 // Where a function returns early, what it holds is dropped, and its proof goes through each part of that. Here this is proved once, for any value.
 
-ghost use Rattle.std.specs.Prelude.{◌≡◌, Ok, Err, IfOk, IfErr};
-ghost use Rattle.sharc_grammar.specs.Grammar.{mark, keyword};
+ghost use Rattle.std.specs.Prelude.{◌≡◌, Ok, IfOk, IfErr};
+ghost use Rattle.sharc_grammar.specs.Grammar.{mark};
 ghost use Rattle.sharc_parse.specs.declared.token.Fault.TheVariants.{Memory};
 ghost use Rattle.sharc_parse.specs.Goes.{Expects};
 
