@@ -3,7 +3,7 @@
 ghost use Rattle.std.specs.Prelude.{◌≡◌, ◌<◌, ◌≤◌, ◌/◌, ◌^◌};
 ghost use Rattle.sharc_seq.specs.Choice.{mixed, drawn, mixed_word, seeded};
 
-/// The place, among `n`, that the number draws for turn `i` (own).
+/// The place, among `n`, that the number draws for turn `i`.
 #[tactic(auto, unfolding(crate::specs::Choice::seeded))]
 pub fn seeded(number: u64, i: u64, n: u64) -> u64
     requires { 1 ≤ n }
