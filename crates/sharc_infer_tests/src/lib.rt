@@ -8,6 +8,4 @@ mod inferred;
 #[cfg(test)]
 mod long;
 #[cfg(test)]
-mod plain;
-#[cfg(test)]
 mod sources;
