@@ -135,7 +135,7 @@ module _ (laws : RunLaws) (keeps : Keeps) (cells : CellsAreThere) (pointers : Po
     live = ap (λ (y : ObjectState). y.live) at_o
 
     target_is : (then_.world.obj o).ty.target ≡ fine.2.0.target
-    target_is = ap (λ (y : ObjectState). y.ty.target) at_o ∙ filled_target ls (ls.at m.at.pc) (m.at.pc + 1) r fine.2.0 r true m' fine.2.6 pc_now
+    target_is = ap (λ (y : ObjectState). y.ty.target) at_o ∙ filled_target ls (ls.at m.at.pc) (m.at.pc + 1) r fine.2.0 r true m' fine.2.7 pc_now
 
     elements_is : then_.state.elements o ≡ v.arguments.elements
     elements_is =
