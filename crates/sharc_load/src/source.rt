@@ -20,9 +20,7 @@ pub fn make<A: Allocator>(alloc: A, functions: u32) -> Result<Vec<u8, A>, AllocE
     write_steps(&mut text, functions)?;
     text.push_str("void work(int v) {\n")?;
     write_calls(&mut text, functions)?;
-    text.push_str(
-        "lock(&m);\ntotal = total + v;\nunlock(&m);\n}\nint main(void) {\n",
-    )?;
+    text.push_str("lock(&m);\ntotal = total + v;\nunlock(&m);\n}\nint main(void) {\n")?;
     write_spawns(&mut text)?;
     write_joins(&mut text)?;
     text.push_str("lock(&m);\nprint(total);\nunlock(&m);\nreturn 0;\n}\n")?;
