@@ -1,7 +1,7 @@
 -- Assignments, and calls whose value is dropped.
-use Rattle.std.proofs.Common.{◌≡◌, ℕ, ◌<◌, Bool, true, false, List, length, refl, ap, sym, ◌∙◌, subst, option_map, Option, Some, None, Contains}
+use Rattle.std.proofs.Common.{◌≡◌, ℕ, ◌<◌, Bool, true, false, cond, List, length, refl, ap, sym, ◌∙◌, subst, option_map, Option, Some, None, Contains}
 use Rattle.std.proofs.lemmas.Bool.{false≢true}
-use Rattle.std.specs.List.{AllByRecursion}
+use Rattle.std.specs.List.{AllByRecursion, flat_map}
 use Rattle.sharc_tree.specs.declared.token.Span.{Span}
 use Rattle.sharc_tree.specs.declared.tree.declaration.WrittenType.{WrittenType}
 use Rattle.sharc_tree.specs.Forms.{is_lvalue, without_parentheses}
@@ -12,11 +12,13 @@ use Rattle.sharc_tree.specs.Tree as tree
 use Rattle.sharc_names.specs.Kinds.{Kind, is_integer, is_pointer, same_kind, declared_kind}
 use Rattle.sharc_code.specs.declared.instr.Register.{Register}
 use Rattle.sharc_code.specs.declared.instr.Register.TheVariants.{Int, Reference}
+use Rattle.sharc_code.proofs.Places.{eq_refl}
 use Rattle.sharc_ctype.specs.Resolved.{Resolution, functions_in}
 use Rattle.sharc_ctype.specs.Statements.{made}
-use Rattle.sharc_ctype.specs.Transfers.{Agrees}
+use Rattle.sharc_ctype.specs.Transfers.{Receiver, lvalue as to_lvalue, Transfer, Agrees, function_transfers}
 use Rattle.sharc_ctype_laws.specs.Rules.{IsHeld, MeetsSimple}
 use Rattle.sharc_meaning.specs.Cells.{element_cells}
+use Rattle.sharc_meaning.specs.References.{is_pointer_in, made_at, types_made}
 use Rattle.sharc_meaning.specs.State.{is_reference}
 use Rattle.sharc_mode.specs.Cells.{cell_at, pointed}
 use Rattle.sharc_mode.specs.Moded.{Assignment}
@@ -30,6 +32,7 @@ use Rattle.sharc_flat.specs.Scope.{Context, slot_kind, register_of, number_in}
 use Rattle.sharc_flat.specs.Suits.{PlaceSuits, LeftSuits, RightSuits, SimpleSuits, CountSuits, IfThere, is_cell}
 use Rattle.sharc_invariant.specs.Types.{Targets, StaticType, cells_of}
 use Rattle.sharc_invariant.specs.Labels.{Empty, Refers}
+use Rattle.sharc_typed.specs.Lines.{PointersMadeAt}
 use Rattle.sharc_labels_laws.specs.Stretches.{Setting}
 use Rattle.sharc_labels_laws.specs.Typable.{GoesTo, type_by, IsTypeIn, IsTypable, VariableTyped}
 use Rattle.sharc_labels_laws.specs.Stated.{IsMade, CountTypable, ValueGoes, RightTypable, VariableAssigned, CellAssigned, Assigned, Dropped, SimpleTypable}
@@ -40,12 +43,13 @@ use Rattle.sharc_static_laws.specs.Standing.{ExpressionStands, ExpressionsStand}
 use Rattle.sharc_static_laws.specs.Static.{static_of, entry_by, entry_of}
 use Rattle.sharc_target_laws.specs.Laws.{IsRowOf, NumbersFound, ExpressionsFound}
 use Rattle.sharc_target_laws.specs.Pointees.{pointee, PointeesFit}
+use Rattle.sharc_target_laws.specs.Pointers.{PointeesPoint}
 use Rattle.sharc_target_laws.specs.Shapes.{row_shape}
 use Rattle.sharc_target_laws.specs.Targets.{targets_of}
 use Rattle.sharc_typable_laws.specs.Laws.{IsAt, ValueLaws}
 use Rattle.sharc_typable_laws.specs.Typing.{typing}
 use Rattle.sharc_accepted_laws.specs.Statements.{IsPlaceIn, IsThere, AreExpressionsTypable}
-use Rattle.sharc_accepted_laws.proofs.Members.{front, back, each, place_there}
+use Rattle.sharc_accepted_laws.proofs.Members.{front, back, each, place_there, any_passes, flat_there, filter_there}
 use Rattle.sharc_accepted_laws.proofs.Sorts.{integer_is, reference_no_integer, integer_want, held_pointer, held_integer, no_function_held, made_pointer, made_element, element_some}
 use Rattle.sharc_accepted_laws.proofs.Wholes.{Facts, IsName, variable_named}
 
@@ -97,6 +101,15 @@ bare_there : (g : Function) (c : Context) (e : Expression) → IsThere g c e →
 bare_there g c (tree.parentheses s a) t = bare_there g c a (record { inside = t.inside.1; stands = t.stands.1 })
 bare_there g c _ t = t
 
+-- ---- what is made
+-- by a function that gives it to something
+pub made_there : (r : Resolution) (f : Function) → Contains (functions_in r.program.items) f → (receiver : Receiver) (span : Span) (count : Option Expression) (w : WrittenType)
+    → Contains (function_transfers r f) record { receiver = receiver; source = malloc span count w } → Contains (types_made r span.first.token) w
+made_there r f stands receiver span count w does =
+    let t : Transfer = record { receiver = receiver; source = malloc span count w } in
+    filter_there (λ (t : Transfer). made_at span.first.token t.source) (flat_map (function_transfers r) (functions_in r.program.items)) t w
+    (flat_there (function_transfers r) (functions_in r.program.items) f t stands does) (ap (λ b. cond b (Some w) None) (eq_refl span.first.token))
+
 -- ---- parts of a function
 module _ (z : Setting) (alone : ℕ → Bool) (n : ℕ) (g : Function) (c : Context) (here : IsPlaceIn z alone n g c) where
   pub function_there : Contains (functions_in c.program.typed.program.items) g
@@ -117,6 +130,7 @@ pub record Laws : Type 0 where
   pub numbers : NumbersFound
   pub found : ExpressionsFound
   pub pointees : PointeesFit
+  pub points : PointeesPoint
 
 module _ (laws : Laws) (z : Setting) (alone : ℕ → Bool) (n : ℕ) (g : Function) (typable : AreExpressionsTypable z alone n g) (c : Context) (here : IsPlaceIn z alone n g c) where
   abbrev m : Assignment
@@ -133,9 +147,9 @@ module _ (laws : Laws) (z : Setting) (alone : ℕ → Bool) (n : ℕ) (g : Funct
 
   -- ---- new objects
   -- of the first target of a pointer with this row
-  pub made_is : (kind : Kind) (row : ModeTargets) → IsRowOf c.program kind row → (w : WrittenType) → same_kind kind (made w) ≡ true
-      → IsMade z n typing (static_of c kind (modes_of c.program row)) (element_cells c.program.typed (declared_kind w))
-  made_is kind row is w same =
+  pub made_is : (kind : Kind) (row : ModeTargets) → IsRowOf c.program kind row → (w : WrittenType) → same_kind kind (made w) ≡ true → (token : ℕ) → Contains (types_made c.program.typed token) w
+      → IsMade z n typing (static_of c kind (modes_of c.program row)) token (element_cells c.program.typed (declared_kind w))
+  made_is kind row is w same token there =
       let fits = laws.pointees c.program kind row is (made_pointer kind w same) in
       let found = laws.numbers c.program (row_shape c.program (base_of kind) row) fits.shape in
       record {
@@ -143,6 +157,8 @@ module _ (laws : Laws) (z : Setting) (alone : ℕ → Bool) (n : ℕ) (g : Funct
         row = subst (λ (x : Targets). pointee c.program kind row < length x.rows) (sym targets_are) found.inside;
         cells = ap (element_cells c.program.typed) (sym (made_element kind w same)) ∙ sym fits.cells ∙ ap (λ x. cells_of x (pointee c.program kind row)) (sym targets_are);
         few = element_some c.program.typed here.set.accepted.low (declared_kind w);
+        pointers = subst (λ (x : Targets). PointersMadeAt x token (pointee c.program kind row)) (sym targets_are)
+            (λ i h. any_passes (λ v. is_pointer_in c.program.typed v i) (types_made c.program.typed token) w there (laws.points c.program kind row is (made_pointer kind w same) w (made_element kind w same) i h));
       }
 
   -- ---- what an expression refers to
@@ -186,7 +202,7 @@ module _ (laws : Laws) (z : Setting) (alone : ℕ → Bool) (n : ℕ) (g : Funct
     pub agrees : Agrees c.program.typed kind x
     pub type : IsTypeIn z n typing c s
     pub goes : (e : Expression) → x ≡ value e → is_reference kind ≡ true → GoesTo (entry_of c e) s
-    pub makes : (w : WrittenType) → same_kind kind (made w) ≡ true → IsMade z n typing s (element_cells c.program.typed (declared_kind w))
+    pub makes : (span : Span) (count : Option Expression) (w : WrittenType) → x ≡ malloc span count w → IsMade z n typing s span.first.token (element_cells c.program.typed (declared_kind w))
 
   count_is : (e : Option Expression) → AllByRecursion (Contains (in_function g)) (in_option expressions e) → ExpressionsStand c (in_option expressions e) → CountSuits c e → CountTypable z n typing c e
   count_is None i s h = tt
@@ -201,7 +217,7 @@ module _ (laws : Laws) (z : Setting) (alone : ℕ → Bool) (n : ℕ) (g : Funct
       by : (b : Bool) → is_reference kind ≡ b → ValueGoes z n typing c kind s e b
       by true is = (typed, suits.1.0 ∙ is, reference_no_integer kind is, given.goes e refl is, given.type)
       by false is = let number : is_integer (kind_of c e) ≡ true = suits.1.1 is in (typed, (integer_is (kind_of c e) number, number), integer_want kind (kind_of c e) given.agrees number)
-  right_is kind s mode (malloc span count w) given suits = (suits.0, given.type, given.makes w given.agrees, count_is count given.inside given.stands suits.2)
+  right_is kind s mode (malloc span count w) given suits = (suits.0, given.type, given.makes span count w refl, count_is count given.inside given.stands suits.2)
 
   -- ---- what is assigned to
   module _ (facts : Facts c.program.typed g) (u : Expression) (x : Right) (there : IsThere g c u) (placed : PlaceSuits c u) (does : IsAssigned c.program u x) (lvalue : is_lvalue u ≡ true) (holds : IsHeld (kind_of c u)) where
@@ -248,11 +264,14 @@ module _ (laws : Laws) (z : Setting) (alone : ℕ → Bool) (n : ℕ) (g : Funct
         subst (GoesTo (entry_of c e)) (sym (ap type_by p.entry))
         (laws.given.assigned c here.set.accepted u e (modes_of c.program p.row) (subst (IsAssigned c.program u) is does) p.modes pointer)
 
-    makes_is : (w : WrittenType) → same_kind (kind_of c u) (made w) ≡ true → IsMade z n typing (type_by (entry_of c u)) (element_cells c.program.typed (declared_kind w))
-    makes_is w same =
+    makes_is : Agrees c.program.typed (kind_of c u) x → (span : Span) (count : Option Expression) (w : WrittenType) → x ≡ malloc span count w → IsMade z n typing (type_by (entry_of c u)) span.first.token (element_cells c.program.typed (declared_kind w))
+    makes_is agrees span count w is =
+        let same : same_kind (kind_of c u) (made w) ≡ true = subst (Agrees c.program.typed (kind_of c u)) is agrees in
+        let given = subst (λ y. Contains (function_transfers c.program.typed does.owner) record { receiver = to_lvalue u; source = y }) is does.does in
         let p = pointed_of u there (made_pointer (kind_of c u) w same) in
         let found = laws.found c.program here.set.accepted.resolved here.set.accepted.placed here.set.accepted.low here.set.accepted.least.modes u (inside_there z alone n g c here u (first_of (Contains (in_function g)) u there.inside)) p.row p.is in
-        subst (λ t. IsMade z n typing t (element_cells c.program.typed (declared_kind w))) (sym (ap type_by p.entry)) (made_is (kind_of c u) p.row found w same)
+        subst (λ t. IsMade z n typing t span.first.token (element_cells c.program.typed (declared_kind w))) (sym (ap type_by p.entry))
+        (made_is (kind_of c u) p.row found w same span.first.token (made_there c.program.typed does.owner does.stands (to_lvalue u) span count w given))
 
   -- ---- simple statements
   pub record SimpleGiven (x : Simple) : Type 0 where
@@ -277,7 +296,7 @@ module _ (laws : Laws) (z : Setting) (alone : ℕ → Bool) (n : ℕ) (g : Funct
                 agrees = does.1;
                 type = type;
                 goes = goes_is facts u x there suits.0 does.0 meets.0 meets.1;
-                makes = makes_is facts u x there suits.0 does.0 meets.0 meets.1;
+                makes = makes_is facts u x there suits.0 does.0 meets.0 meets.1 does.1;
               })
               suits.2,
         ),

@@ -7,11 +7,12 @@ use Rattle.sharc_tree.specs.Tree.{Right, Local, Function}
 use Rattle.sharc_names.specs.declared.fault.Named.TheVariants as named
 use Rattle.sharc_names.specs.Kinds.{Kind, is_pointer, declared_kind}
 use Rattle.sharc_ctype.specs.Resolved.{declaration_at, variable_kind}
-use Rattle.sharc_ctype.specs.Transfers.{Agrees}
+use Rattle.sharc_ctype.specs.Transfers.{variable, Agrees, function_transfers}
 use Rattle.sharc_ctype_laws.specs.Declared.{IsItself}
 use Rattle.sharc_meaning.specs.Cells.{element_cells}
 use Rattle.sharc_meaning.specs.State.{is_reference}
 use Rattle.sharc_mode.specs.Cells.{pointed}
+use Rattle.sharc_mode.specs.Moded.{Assignment}
 use Rattle.sharc_mode.specs.Rows.{written, declared_row, modes_of}
 use Rattle.sharc_mode_laws.specs.Constructs.{locals_in_all}
 use Rattle.sharc_flat.specs.Flattened.{with_variable}
@@ -30,10 +31,14 @@ use Rattle.sharc_static_laws.specs.Static.{static_of, variable_type, entry_named
 use Rattle.sharc_target_laws.specs.Laws.{VariablesFound}
 use Rattle.sharc_typable_laws.specs.Typing.{typing, width_named}
 use Rattle.sharc_accepted_laws.specs.Statements.{IsPlaceIn, AreExpressionsTypable}
-use Rattle.sharc_accepted_laws.proofs.Assigned.{Laws, function_there, made_is, right_is, Gives}
+use Rattle.sharc_accepted_laws.proofs.Assigned.{Laws, function_there, made_there, made_is, right_is, Gives}
 use Rattle.sharc_accepted_laws.proofs.Fresh.{LocalFresh}
 use Rattle.sharc_accepted_laws.proofs.Slots.{pointer_kept, pointer_last, ref_more, integer_kept, integer_last, int_more}
 use Rattle.sharc_accepted_laws.proofs.Sorts.{declared_pointer}
+
+-- what a variable begins with agrees with it, and is among what the function gives
+abbrev pub IsBegun : Assignment → Function → Declaration → Right → Type 0
+IsBegun m g d x = Agrees m.typed (declared_kind d.written) x × Contains (function_transfers m.typed g) record { receiver = variable d; source = x }
 
 -- where one more stands
 pub here_with : (laws : Laws) (z : Setting) (alone : ℕ → Bool) (n : ℕ) (g : Function) (c : Context) → IsPlaceIn z alone n g c → (l : Local) → LocalStands c l → IsPlaceIn z alone n g (with_variable c l.declaration)
@@ -103,7 +108,7 @@ module _ (laws : Laws) (variables : VariablesFound) (z : Setting) (alone : ℕ �
   -- ---- what it begins with
   record Initially (x : Right) : Type 0 where
     inside : AllByRecursion (Contains (in_function g)) (in_right x)
-    agrees : Agrees c.program.typed (declared_kind l.declaration.written) x
+    given : IsBegun c.program g l.declaration x
     there : Contains (locals_in_all g.statements) l
     is : l.initial ≡ Some x
 
@@ -115,23 +120,26 @@ module _ (laws : Laws) (variables : VariablesFound) (z : Setting) (alone : ℕ �
   gives_is x given = record {
     inside = given.inside;
     stands = subst (λ o. AllByRecursion (ExpressionStands (with_variable c l.declaration)) (in_option in_right o)) given.is stands.1;
-    agrees = given.agrees;
+    agrees = given.given.0;
     type = type_with;
     goes = λ e is ref. laws.given.begun (with_variable c l.declaration) here.set.accepted g l e (function_there z alone n g c here) given.there (given.is ∙ ap Some is) (sym (declared_pointer l.declaration.written) ∙ ref);
-    makes = λ w same. subst (λ t. IsMade z n typing t (element_cells c.program.typed (declared_kind w))) (sym type_is)
+    makes = λ span count w is. subst (λ t. IsMade z n typing t span.first.token (element_cells c.program.typed (declared_kind w))) (sym type_is)
         (made_is laws z alone n g typable (with_variable c l.declaration) (here_with laws z alone n g c here l stands) (declared_kind l.declaration.written) (declared_row c.program.typed written l.declaration.name.site.token)
-        (variables c.program here.set.accepted.resolved here.set.accepted.placed here.set.accepted.low here.set.accepted.least.modes l.declaration.name.site.token l.declaration itself.1 written) w same);
+        (variables c.program here.set.accepted.resolved here.set.accepted.placed here.set.accepted.low here.set.accepted.least.modes l.declaration.name.site.token l.declaration itself.1 written) w
+        (subst (Agrees c.program.typed (declared_kind l.declaration.written)) is given.given.0) span.first.token
+        (made_there c.program.typed g (function_there z alone n g c here) (variable l.declaration) span count w
+        (subst (λ y. Contains (function_transfers c.program.typed g) record { receiver = variable l.declaration; source = y }) is given.given.1)));
   }
 
-  initial_is : (x : Option Right) → l.initial ≡ x → AllByRecursion (Contains (in_function g)) (in_option in_right x) → IfSome x (Agrees c.program.typed (declared_kind l.declaration.written)) → Contains (locals_in_all g.statements) l
+  initial_is : (x : Option Right) → l.initial ≡ x → AllByRecursion (Contains (in_function g)) (in_option in_right x) → IfSome x (IsBegun c.program g l.declaration) → Contains (locals_in_all g.statements) l
       → InitialSuits c l.declaration x → InitialTypable z n typing (with_variable c l.declaration) l.declaration (variable_type (with_variable c l.declaration) l.declaration.name.site.token) x
-  initial_is None is inside agrees there suits = tt
-  initial_is (Some x) is inside agrees there suits =
+  initial_is None is inside given there suits = tt
+  initial_is (Some x) is inside given there suits =
       right_is laws z alone n g typable (with_variable c l.declaration) (here_with laws z alone n g c here l stands) (declared_kind l.declaration.written) (variable_type (with_variable c l.declaration) l.declaration.name.site.token)
-      (pointed c.program (Some (declared_row c.program.typed written l.declaration.name.site.token))) x (gives_is x (record { inside = inside; agrees = agrees; there = there; is = is })) suits.0
+      (pointed c.program (Some (declared_row c.program.typed written l.declaration.name.site.token))) x (gives_is x (record { inside = inside; given = given; there = there; is = is })) suits.0
 
-  pub local_is : Contains (locals_in_all g.statements) l → AllByRecursion (Contains (in_function g)) (in_local l) → IfSome l.initial (Agrees c.program.typed (declared_kind l.declaration.written)) → InitialSuits c l.declaration l.initial → DeclaredTypable z n typing c l
-  local_is there inside agrees suits = (
+  pub local_is : Contains (locals_in_all g.statements) l → AllByRecursion (Contains (in_function g)) (in_local l) → IfSome l.initial (IsBegun c.program g l.declaration) → InitialSuits c l.declaration l.initial → DeclaredTypable z n typing c l
+  local_is there inside given suits = (
     variable_type (with_variable c l.declaration) l.declaration.name.site.token,
     record {
       keeps = keeps_is;
@@ -139,6 +147,6 @@ module _ (laws : Laws) (variables : VariablesFound) (z : Setting) (alone : ℕ �
       type = type_before;
       again = type_with;
       fresh = fresh;
-      initial = initial_is l.initial refl inside agrees there suits;
+      initial = initial_is l.initial refl inside given there suits;
     },
   )

@@ -1,7 +1,8 @@
 -- What holds of each element of a list, and what is an element.
-use Rattle.std.proofs.Common.{◌≡◌, ◌⊎◌, inl, inr, ⊎_elim, ℕ, zero, suc, ◌<◌, ◌||◌, Bool, true, false, List, [], ◌∷◌, ◌++◌, length, slice_index_or, slice_get, refl, ap, ◌∙◌, subst, arith, Some, None, Contains}
+use Rattle.std.proofs.Common.{◌≡◌, ◌⊎◌, inl, inr, ⊎_elim, ℕ, zero, suc, ◌<◌, ◌||◌, Bool, true, false, List, [], ◌∷◌, ◌++◌, length, slice_index_or, slice_get, refl, ap, sym, ◌∙◌, subst, arith, Option, Some, None, Contains}
 use Rattle.std.proofs.lemmas.Bool.{false≢true, or_cases}
-use Rattle.std.specs.List.{AllByRecursion, list_any}
+use Rattle.std.proofs.lemmas.List.Elements.{Contains-append_left, Contains-append_right}
+use Rattle.std.specs.List.{AllByRecursion, list_any, flat_map, filter_map}
 use Rattle.sharc_tree.specs.Measures.{expressions}
 use Rattle.sharc_tree.specs.Tree.{Expression}
 use Rattle.sharc_tree.specs.Tree as tree
@@ -45,6 +46,25 @@ of_each P (y ∷ rest) x h has = ⊎_elim (λ is. subst P is h.0) (λ later. of_
 pub to_each : {A : Type 0} (P : A → Type 0) (list : List A) → ((x : A) → Contains list x → P x) → AllByRecursion P list
 to_each P [] h = tt
 to_each P (y ∷ rest) h = (h y (head_there y rest), to_each P rest (λ x has. h x (tail_there y x rest has)))
+
+-- of what each element gives
+pub flat_there : {A B : Type 0} (f : A → List B) (list : List A) (x : A) (y : B) → Contains list x → Contains (f x) y → Contains (flat_map f list) y
+flat_there f [] x y has in_it = absurd (none_there x has)
+flat_there f (z ∷ rest) x y has in_it = ⊎_elim
+    (λ is. Contains-append_left (f z) (flat_map f rest) y (subst (λ k. Contains (f k) y) (sym is) in_it))
+    (λ later. Contains-append_right (f z) (flat_map f rest) y (flat_there f rest x y later in_it))
+    (head_or_tail z x rest has)
+
+pub filter_there : {A B : Type 0} (p : A → Option B) (list : List A) (x : A) (y : B) → Contains list x → p x ≡ Some y → Contains (filter_map p list) y
+filter_there {B = B} p [] x y has is = absurd (none_there x has)
+filter_there {B = B} p (z ∷ rest) x y has is = ⊎_elim (λ (same : z ≡ x). here (ap p same ∙ is)) (λ later. by (p z) refl (filter_there p rest x y later is)) (head_or_tail z x rest has)
+  where
+    here : p z ≡ Some y → Contains (filter_map p (z ∷ rest)) y
+    here e = rw e (head_there y (filter_map p rest))
+
+    by : (o : Option B) → p z ≡ o → Contains (filter_map p rest) y → Contains (filter_map p (z ∷ rest)) y
+    by None e more = rw e more
+    by (Some w) e more = rw e (tail_there w y (filter_map p rest) more)
 
 -- each element of a list is one of it
 pub own_elements : {A : Type 0} (list : List A) → AllByRecursion (Contains list) list

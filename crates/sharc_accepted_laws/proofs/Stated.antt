@@ -30,7 +30,7 @@ use Rattle.sharc_typable_laws.specs.Typing.{typing}
 use Rattle.sharc_accepted_laws.specs.Setting.{function_signature, signature_by}
 use Rattle.sharc_accepted_laws.specs.Statements.{IsPlaceIn, IsThere, AreExpressionsTypable}
 use Rattle.sharc_accepted_laws.proofs.Assigned.{Laws, function_there, at_there, SimpleGiven, simple_is}
-use Rattle.sharc_accepted_laws.proofs.Begun.{here_with, local_is}
+use Rattle.sharc_accepted_laws.proofs.Begun.{IsBegun, here_with, local_is}
 use Rattle.sharc_accepted_laws.proofs.Fresh.{LocalFresh, FirstFresh, StatementFresh, StatementsFresh}
 use Rattle.sharc_accepted_laws.proofs.Members.{front, back}
 use Rattle.sharc_accepted_laws.proofs.Sorts.{integer_is, integer_want, declared_pointer}
@@ -164,11 +164,11 @@ module _ (laws : Laws) (results : ResultLaws) (variables : VariablesFound) (z : 
   -- ---- locals
   declared_typable : (c : Context) → Here c → (l : Local) → Inside g c.program (in_local l) → LocalStands c l → AllByRecursion (Does g c.program) (local_transfers c.program.typed l) → Own g c.program l → LocalFresh c l → InitialSuits c l.declaration l.initial
       → DeclaredTypable z n typing c l
-  declared_typable c h l inside stands acts own fresh suits = local_is laws variables z alone n g typable c h l stands own.itself fresh own.among inside (agrees_of l.initial acts) suits
+  declared_typable c h l inside stands acts own fresh suits = local_is laws variables z alone n g typable c h l stands own.itself fresh own.among inside (begun l.initial acts) suits
     where
-      agrees_of : (x : Option Right) → AllByRecursion (Does g c.program) (option_transfers (λ y. gives (variable l.declaration) y ++ right_transfers c.program.typed y) x) → IfSome x (Agrees c.program.typed (declared_kind l.declaration.written))
-      agrees_of None all = tt
-      agrees_of (Some y) all = all.0.fair
+      begun : (x : Option Right) → AllByRecursion (Does g c.program) (option_transfers (λ y. gives (variable l.declaration) y ++ right_transfers c.program.typed y) x) → IfSome x (IsBegun c.program g l.declaration)
+      begun None all = tt
+      begun (Some y) all = (all.0.fair, all.0.among)
 
   first_typable : (c : Context) → Here c → (x : First) → Inside g c.program (in_first x) → FirstStands c x → AllByRecursion (Does g c.program) (first_transfers c.program.typed x) → AllByRecursion (Own g c.program) (locals_in_first x)
       → MeetsFirst c.program.typed x → LowFirst x → FirstFresh c x → FirstSuits c x → FirstTypable z n typing c x

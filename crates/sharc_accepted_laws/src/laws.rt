@@ -20,7 +20,7 @@ use sharc_static_laws::laws::{
 };
 use sharc_target_laws::laws::{
     arrays_fit, expressions_found, globals_are, globals_hold, granules_are_few, locks_stand_beside,
-    lvalues_fit, numbers_found, pointees_fit, targets_are, variables_found,
+    lvalues_fit, numbers_found, pointees_fit, pointees_point, targets_are, variables_found,
 };
 use sharc_typable_laws::laws::{calling_laws, taking_laws, threads_pass, value_laws};
 
@@ -83,6 +83,7 @@ pub fn programs_law()
     expressions_found();
     variables_found();
     pointees_fit();
+    pointees_point();
     typed_suits();
     meets_constraints();
     meets_statements();

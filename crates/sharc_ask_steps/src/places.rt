@@ -29,7 +29,7 @@ use sharc_names::kind::{Kind, is_pointer};
 use sharc_tree::event::{Act, CellAt, CellMode, Object, TakeKind, Taken};
 use sharc_tree::token::Site;
 
-/// What an lvalue names: a variable, or a cell of an object in the element that begins at the cell told first.
+/// What an lvalue names: a variable, or a cell of an object in the element that begins at the cell given first.
 #[derive(Clone, Copy, Drop)]
 pub enum Place {
     Variable(u32),
@@ -54,7 +54,7 @@ pub fn pointee(pointer: i64) -> Place
     Place::Cell(Object::Made(number_of(pointer)), 0, 0)
 }
 
-/// The place of the field so many cells behind the element's first. A cell that has no number of 64 bits is want of memory.
+/// The place of the field this many cells after the element's first. A cell that has no number of 64 bits is answered as out of memory.
 pub fn field_in(number: u64, place: Place, st: &State) -> Result<Place, End>
     ensures { DoesAs view_place (view_state st.now) result (view_state st.now) (give (field_in number (view_place place))) }
 {
@@ -76,7 +76,7 @@ pub fn base(site: Site, kind: Kind<'_>, pointer: i64, st: &mut State) -> Result<
     unless(!is_zero(pointer), 1, site, st)
 }
 
-/// An element with so many cells, of so many; an index outside stops.
+/// An element with this many cells, of this many elements; an index outside stops.
 pub fn element(
     site: Site,
     object: Object,

@@ -17,7 +17,7 @@ pub record ClearPath (x : ℕ) (A : Piece) (t : To) : Type 0 where
   pub is_path : A Start t acts
   pub clear : Clear x acts
 
--- a path to t on which the nulling at k stands
+-- a path to t on which the nulling at k holds
 pub record StandingPath (x : ℕ) (A : Piece) (t : To) (k : ℕ) : Type 0 where
   pub acts : List Act
   pub is_path : A Inside t acts

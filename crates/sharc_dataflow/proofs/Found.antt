@@ -16,7 +16,7 @@ use Rattle.sharc_dataflow.proofs.Named.{hit_nulls, in_code}
 use Rattle.sharc_dataflow.proofs.Summed.{summed_piece}
 use Rattle.sharc_dataflow.proofs.Told.{told_piece}
 
--- the two passes, one behind the other
+-- the two passes, one after the other
 pub heads_are : (x : ℕ) (c : Code) → (summed x (listing c) sum_start).heads ≡ heads x c
 heads_are x c = ap (λ z. (summed x z sum_start).heads) (sym (append-nil (listing c))) ∙ ap (λ (s : Summing). s.heads) (summed_piece x c [] sum_start)
 

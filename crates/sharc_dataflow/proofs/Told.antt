@@ -1,4 +1,4 @@
--- What the pass forth tells of code.
+-- What the forward pass reports of code.
 use Rattle.std.proofs.Common.{◌≡◌, ℕ, List, [], ◌∷◌, ◌++◌, Option, None, true, nat_eq, refl, ap, sym, ◌∙◌, append_assoc, append-nil}
 use Rattle.sharc_dataflow.specs.declared.step.Step.{Step}
 use Rattle.sharc_dataflow.specs.declared.step.Step.TheVariants as steps
@@ -13,7 +13,7 @@ use Rattle.sharc_dataflow.specs.Passes.{last_or, front, heads, Telling, telling,
 use Rattle.sharc_dataflow.proofs.Laws.{lower_none, lower_turned, lower_assoc, follow_assoc, follow_either}
 use Rattle.sharc_dataflow.proofs.Summed.{last_pushed, front_pushed, regroup, regroup_two}
 
--- what is done to all that stands by a piece
+-- what a piece does to all that holds
 abbrev pub passed : Ways → Standing → Standing
 passed w s = record { next = behind w.next s.next; broken = lower s.broken (behind w.broken s.next); continued = lower s.continued (behind w.continued s.next) }
 
@@ -54,7 +54,7 @@ same_telling : (s s2 : Standing) (o o2 h h2 : List (Option ℕ)) (f f2 : List Wa
 same_telling s s2 o o2 h h2 f f2 a b c d = rw (a, b, c, d) refl
 
 module _ (x : ℕ) where
-  -- the state behind a piece
+  -- the state after a piece
   abbrev pub behind_piece : Code → Standing → List (Option ℕ) → List (Option ℕ) → List Warning → Telling
   behind_piece c s o hs f = telling (passed (ways x c) s) o hs (f ++ warns x c s.next)
 

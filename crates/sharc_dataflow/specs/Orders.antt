@@ -20,7 +20,7 @@ abbrev pub is_read : Option ℕ → ℕ → Bool
 is_read None r = false
 is_read (Some q) r = q == r
 
--- those that do not warn of the same read as the one before, where one that warned of `last` stands before the first
+-- those that do not warn of the same read as the one before, where one that warned of `last` comes before the first
 abbrev pub first_each : Option ℕ → List Warning → List Warning
 first_each last [] = []
 first_each last (w ∷ rest) = if is_read last w.read then first_each last rest else w ∷ first_each (Some w.read) rest

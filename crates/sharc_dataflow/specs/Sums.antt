@@ -12,7 +12,7 @@ lower None o = o
 lower (Some a) None = Some a
 lower (Some a) (Some b) = Some (min a b)
 
--- what stands behind, where v stands before
+-- what holds after, where v holds before
 abbrev pub kept : Bool → Option ℕ → Option ℕ
 kept true v = v
 kept false v = None
@@ -85,7 +85,7 @@ ways x (one_of a b) = either_of (ways x a) (ways x b)
 ways x (catches a) = caught_of (ways x a)
 ways x (repeats a) = loop_of (ways x a)
 
--- the warnings in a piece of code, by what stands before it
+-- the warnings in a piece of code, by what holds before it
 abbrev pub Warns : Type 0
 Warns = Option ℕ → List Warning
 

@@ -1,4 +1,4 @@
-// The pass forth over the steps: what stands where the variable is read.
+// The forward pass over the steps: what holds where the variable is read.
 
 ghost use Rattle.std.specs.Prelude.{◌≡◌, ◌++◌, OnOk, IfOk, true};
 ghost use Rattle.sharc_dataflow.specs.declared.step.Step.TheVariants.{Fork, Other, Join, Catch, Caught, Head, Again};
@@ -14,11 +14,11 @@ use std::alloc::{AllocError, Global};
 /// What is known at a step when all before it are gone over.
 #[derive(Drop)]
 pub struct Tells {
-    /// The least nulling that stands here and at the exits.
+    /// The least nulling that holds here and at the exits.
     stand: Standing,
-    /// What stood at the exits and the beginnings of the open pieces, the innermost last.
+    /// What held at the exits and the beginnings of the open pieces, the innermost last.
     waiting: Vec<Option<u32>>,
-    /// What stands at the end of a turn of each loop to come, the last loop first.
+    /// What holds at the end of a turn of each loop to come, the last loop first.
     heads: Vec<Option<u32>>,
     found: Vec<Warning>,
 }
@@ -177,7 +177,7 @@ impl Tells {
     }
 }
 
-/// Adds the warnings about a variable, by what stands at the end of a turn of each loop.
+/// Adds the warnings about a variable, by what holds at the end of a turn of each loop.
 pub(crate) fn tell(
     alloc: Global,
     x: u32,

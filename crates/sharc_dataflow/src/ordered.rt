@@ -38,7 +38,7 @@ fn first_each(alloc: Global, sorted: &[Warning]) -> Result<Vec<Warning>, AllocEr
     Ok(firsts)
 }
 
-/// Of each read the warning that names the first nulling, in the order of the reads. It is refused for want of memory only.
+/// Of each read the warning that names the first nulling, in the order of the reads. It is refused only where memory runs out.
 pub fn firsts(alloc: Global, found: Vec<Warning>) -> Result<Vec<Warning>, AllocError>
     ensures { IfOk result (λ v. AreFirsts found.items v.items) }
 {

@@ -103,7 +103,7 @@ fn about_all(
 }
 
 /// Adds the reads of nulled variables in code that is written down as these steps, in any order. It goes over the steps as often as the variables that they
-/// null can be halved. It is refused for want of memory only.
+/// null can be halved. It is refused only where memory runs out.
 pub fn nulled_reads(
     alloc: Global,
     steps: &[Step],

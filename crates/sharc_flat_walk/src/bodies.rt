@@ -240,7 +240,7 @@ fn step(
     }
 }
 
-/// What decides by a test: the last of its lines leads over so many that are not known yet.
+/// What decides by a test: the last of its lines leads over a number of lines that is not known yet.
 fn turn(
     source: &Source<'_>,
     scope: &[Slot],

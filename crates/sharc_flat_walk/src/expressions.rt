@@ -512,7 +512,7 @@ fn binary(
     }
 }
 
-/// The right operand of `&&` or `||`: where the register is 0, the code leads over it, and so many operations after it.
+/// The right operand of `&&` or `||`: where the register is 0, the code leads over it, and this many operations after it.
 #[cycle(expression)]
 fn decided(
     source: &Source<'_>,

@@ -271,8 +271,8 @@ pub fn pointee(register: u32, site: Site, lines: &mut Vec<Op>) -> Result<(), All
     emit(Op::ChkNull(register, at_site(site)), lines)
 }
 
-/// How the number of an element becomes that of a cell: in an object in this register, or in a global of so many
-/// elements whose first cell is this one; each element has so many cells.
+/// How the number of an element becomes that of a cell: in an object in this register, or in a global of this many
+/// elements whose first cell is this one; each element has this many cells.
 #[derive(Clone, Copy)]
 pub enum Bound {
     Object {

@@ -327,7 +327,7 @@ module _ (x : Targets) (code : Code) (s : Shape) (ls : Labels) (wt : IsWellTyped
   arriving (Raise r from) found other f = at_raise (ref m from) (goes (set_ref m r (ref m from))) found (arrives _ calm (leads (pc + 1) _ tt f.3))
   arriving (RaiseLoaded r) found other f = at_raise m.pending (goes (accessed (set_ref m r m.pending))) found (arrives _ calm (leads (pc + 1) _ tt f.1.7))
   arriving (Lower r) found other f = at_lower (ref m r) (goes (set_ref m r 0)) found (arrives _ calm (⊎_elim (λ h. leads (pc + 1) (empty l r) tt h.1) (λ h. leads (pc + 1) (empty (forgets l r) r) tt h) f.2))
-  arriving (New r count cells site) found other f = at_new r (elements_of (int m count)) cells site m.own.stage found (leads (pc + 1) _ tt f.2.6)
+  arriving (New r count cells site) found other f = at_new r (elements_of (int m count)) cells site m.own.stage found (leads (pc + 1) _ tt f.2.7)
   arriving (TakeCell r cell site) found other f = arrives _ calm (leads (pc + 1) _ tt f.1.5)
   arriving (TakeLocal r from site) found other f = at_test (ref m from) (goes (move_ref m r from)) found (arrives _ calm (leads (pc + 1) _ tt f.6))
   arriving (TestSole r site) found other f = at_sole site found (leads (pc + 1) _ tt f.3)

@@ -116,7 +116,7 @@ module _ (laws : RunLaws) (keeps : Keeps) (cells : CellsAreThere) (pointers : Po
       | false ↦ λ e. omega arith
     ]
 
-    fine : Fine x code ls ((place_after code s earlier).threads one.thread).at.pc (ls.at ((place_after code s earlier).threads one.thread).at.pc) (instrs.New r count cells' site)
+    pub fine : Fine x code ls ((place_after code s earlier).threads one.thread).at.pc (ls.at ((place_after code s earlier).threads one.thread).at.pc) (instrs.New r count cells' site)
     fine = subst (Fine x code ls m.at.pc (ls.at m.at.pc)) is (wt.fine m.at.pc)
 
     abbrev ty : StaticType
@@ -134,8 +134,8 @@ module _ (laws : RunLaws) (keeps : Keeps) (cells : CellsAreThere) (pointers : Po
     pub live : (then_.world.obj o).live ≡ true
     live = ap (λ (y : ObjectState). y.live) at_o
 
-    target_is : (then_.world.obj o).ty.target ≡ fine.2.0.target
-    target_is = ap (λ (y : ObjectState). y.ty.target) at_o ∙ filled_target ls (ls.at m.at.pc) (m.at.pc + 1) r fine.2.0 r true m' fine.2.6 pc_now
+    pub target_is : (then_.world.obj o).ty.target ≡ fine.2.0.target
+    target_is = ap (λ (y : ObjectState). y.ty.target) at_o ∙ filled_target ls (ls.at m.at.pc) (m.at.pc + 1) r fine.2.0 r true m' fine.2.7 pc_now
 
     elements_is : then_.state.elements o ≡ v.arguments.elements
     elements_is =

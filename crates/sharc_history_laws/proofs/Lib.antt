@@ -26,6 +26,7 @@ pub mod Keeping
 pub mod Lasting
 pub mod Leaving
 pub mod Lists
+pub mod MadeOf
 pub mod Living
 pub mod LockModes
 pub mod LockShown

@@ -288,7 +288,7 @@ module _ (x : Targets) (code : Code) (s : Shape) (ls : Labels) (wt : IsWellTyped
   arriving (Raise r from) found f = at_raise (ref m from) (goes (set_ref m r (ref m from))) found (arrives _ (leads (pc + 1) _ refl f.3))
   arriving (RaiseLoaded r) found f = at_raise m.pending (goes (accessed (set_ref m r m.pending))) found (arrives _ (leads (pc + 1) _ refl f.1.7))
   arriving (Lower r) found f = at_lower (ref m r) (goes (set_ref m r 0)) found (arrives _ (⊎_elim (λ h. leads (pc + 1) (empty l r) refl h.1) (λ h. leads (pc + 1) (empty (forgets l r) r) refl h) f.2))
-  arriving (New r count cells site) found f = at_new r (elements_of (int m count)) cells site m.own.stage found (leads (pc + 1) _ refl f.2.6)
+  arriving (New r count cells site) found f = at_new r (elements_of (int m count)) cells site m.own.stage found (leads (pc + 1) _ refl f.2.7)
   arriving (TakeCell r cell site) found f = arrives _ (leads (pc + 1) _ refl f.1.5)
   arriving (TakeLocal r from site) found f = at_test (ref m from) (goes (move_ref m r from)) found (arrives _ (leads (pc + 1) _ refl f.6))
   arriving (TestSole r site) found f = at_sole site found (leads (pc + 1) _ refl f.3)

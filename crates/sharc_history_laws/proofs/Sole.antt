@@ -25,18 +25,20 @@ use Rattle.sharc_code.specs.Whole.{one_thread, bounds, place_after}
 use Rattle.sharc_invariant.specs.Granules.{one, sum_to}
 use Rattle.sharc_invariant.specs.Types.{Targets}
 use Rattle.sharc_invariant.specs.Labels.{Labels}
-use Rattle.sharc_invariant.specs.Typed.{IsWellTyped}
+use Rattle.sharc_invariant.specs.Typed.{IsWellTyped, Fine}
 use Rattle.sharc_invariant.specs.World.{ObjectState}
 use Rattle.sharc_invariant.specs.Words.{argument_of}
-use Rattle.sharc_invariant.specs.State.{IsSmall}
+use Rattle.sharc_invariant.specs.State.{IsSmall, StageStands}
 use Rattle.sharc_invariant.specs.Opened.{first_world, first_place}
 use Rattle.sharc_invariant.specs.Objects.{objects_after}
 use Rattle.sharc_invariant.specs.MachineInvariant.{register_refers, log_refers, hand_refers, cell_refers, references_to}
 use Rattle.sharc_invariant.specs.Reports.{RunsTest, TestStands}
 use Rattle.sharc_history_laws.specs.Reports.{OtherReference, InRegister, InArgument, InLog, InHand, InCell, FindsOthers}
-use Rattle.sharc_history_laws.proofs.Consists.{found_is}
+use Rattle.sharc_history_laws.proofs.Consists.{Consists, found_is}
 use Rattle.sharc_history_laws.proofs.Rules.{put_same, put_other}
 use Rattle.sharc_history_laws.proofs.Quits.{Quits, Still, Traps, is_trap, is_reporting, quits}
+use Rattle.sharc_history_laws.proofs.Single.{rests_hold}
+use Rattle.sharc_history_laws.proofs.Stands.{known_ref}
 
 yes : true ≡ false → ⊥
 yes e = cc
@@ -206,7 +208,8 @@ stop_none None h = refl
 stop_none (Some w) h = absurd (h refl)
 
 module _ (tests : RunsTest) (x : Targets) (code : Code) (s : Shape) (ls : Labels) (wt : IsWellTyped x code ls) (fits : Fits code s) (few : IsSmall code s)
-    (all : (run : List Turn) → IsRun bounds (one_thread code s) (opening_of bounds (one_thread code s) (opening_words code s)) run → Halting code s run) where
+    (all : (run : List Turn) → IsRun bounds (one_thread code s) (opening_of bounds (one_thread code s) (opening_words code s)) run → Halting code s run)
+    (each : (run : List Turn) → IsRun bounds (one_thread code s) (opening_of bounds (one_thread code s) (opening_words code s)) run → Consists x code s ls run) where
   abbrev RunOf : List Turn → Type 0
   RunOf run = IsRun bounds (one_thread code s) (opening_of bounds (one_thread code s) (opening_words code s)) run
 
@@ -240,6 +243,21 @@ module _ (tests : RunsTest) (x : Targets) (code : Code) (s : Shape) (ls : Labels
         let asked : asked_by (turn code s m) ≡ Some (test_of (count_word s (ref m stop.0))) = ap (λ j. asked_by (act code s j m)) stop.1.0 in
         sym (found_is g.words one.event (test_of (count_word s (ref m stop.0))) (may.next.asks ∙ asked) may.answered) ∙ stop.1.1
 
+    -- its register is known not to be NULL
+    some : 0 < ref ((place_after code s earlier).threads one.thread) stop.0
+    some =
+        let h = each earlier run.0 in
+        let rn = (h.state.threads one.thread).runs may.started may.next.runs in
+        let test = instrs.TestSole stop.0 site in
+        let stands = subst (λ i. StageStands code s h.state.elements h.world h.state.heap g.words one.thread m i m.own.stage) stop.1.0 rn.stage in
+        let hold = rests_hold code s h.state.elements h.world h.state.heap g.words one.thread m test m.own.stage refl stands in
+        let fine = subst (Fine x code ls m.at.pc (ls.at m.at.pc)) stop.1.0 (wt.fine m.at.pc) in
+        above (ref m stop.0) (known_ref x code s ls wt fits g h.world h.state one.thread (may.started, may.next.runs) hold stop.0 fine.2)
+      where
+        above : (k : ℕ) → (k ≡ 0 → ⊥) → 0 < k
+        above zero nz = absurd (nz refl)
+        above (suc k) nz = omega arith
+
     pub finds_others : FindsOthers x code s ls (one ∷ earlier) one.thread site count
     finds_others =
         let obj = objects_after code s ls (first_place code s) (first_world x).obj earlier in
@@ -253,6 +271,7 @@ module _ (tests : RunsTest) (x : Targets) (code : Code) (s : Shape) (ls : Labels
           thread = refl;
           register = stop.0;
           is_test = stop.1.0;
+          some = some;
           counts = record {
             word = word_is;
             number = number;
@@ -270,6 +289,7 @@ module _ (tests : RunsTest) (x : Targets) (code : Code) (s : Shape) (ls : Labels
     thread = k.thread;
     register = k.register;
     is_test = k.is_test;
+    some = k.some;
     counts = k.counts;
   }
 

@@ -95,6 +95,34 @@ module _ (laws : RunLaws) (keeps : Keeps) (cells : CellsAreThere) (pointers : Po
   at_object : (o : ℕ) → then_.world.obj o ≡ behind o
   at_object o = ap (λ (f : ℕ → ObjectState). f o) (objects_then laws keeps cells pointers x code s ls wt fits few one earlier h may)
 
+  -- ---- a Give: what the object's target was, and what it is
+  module _ (o r site : ℕ) (is : i ≡ instrs.Give r site) (object : ref ((place_after code s earlier).threads one.thread) r ≡ o) where
+    pub fine : Fine x code ls ((place_after code s earlier).threads one.thread).at.pc (ls.at ((place_after code s earlier).threads one.thread).at.pc) (instrs.Give r site)
+    fine = subst (Fine x code ls m.at.pc (ls.at m.at.pc)) is (wt.fine m.at.pc)
+
+    hold : Rattle.sharc_invariant.specs.State.OnHold ((place_after code s earlier).threads one.thread).own.stage
+    hold = rests_hold code s h.state.elements h.world h.state.heap g.words t m (instrs.Give r site) m.own.stage refl (subst (λ j. StageStands code s h.state.elements h.world h.state.heap g.words t m j m.own.stage) is ((h.state.threads t).runs may.started may.next.runs).stage)
+
+    some : ref ((place_after code s earlier).threads one.thread) r ≢ 0
+    some = sole_ref x code s ls wt fits g h.world h.state t (may.started, may.next.runs) hold r true fine.0
+
+    nz : o ≢ 0
+    nz z = some (object ∙ z)
+
+    pub old_target : (h.world.obj o).ty.target ≡ fine.2.0.target
+    old_target = ap (λ k. (h.world.obj k).ty.target) (sym object) ∙ target_ref x code s ls wt fits g h.world h.state t (may.started, may.next.runs) hold r fine.2.0 fine.2.2 some
+
+    pc_now : m'.at.pc ≡ ((place_after code s earlier).threads one.thread).at.pc + 1
+    pc_now = ap (λ (y : Machine). y.at.pc) (put_same g.threads t (state_now (one_thread code s) g one)) ∙ ap (λ j. (after (act code s j m) (result_of one.event)).at.pc) is
+
+    pub new_target : (then_.world.obj o).ty.target ≡ fine.2.1.target
+    new_target =
+        ap (λ (y : ObjectState). y.ty.target) (at_object o)
+        ∙ ap (λ j. (objects_behind ls t j m m' h.world.obj o).ty.target) is
+        ∙ ap (λ k. (Rattle.sharc_code.specs.Runs.put h.world.obj k (owned t (type_held ls m' r)) o).ty.target) object
+        ∙ ap (λ (y : ObjectState). y.ty.target) (put_same h.world.obj o (owned t (type_held ls m' r)))
+        ∙ filled_target ls (empty (ls.at m.at.pc) r) (m.at.pc + 1) r fine.2.1 r true m' fine.2.5 pc_now
+
   -- the object was there, with as many cells, and this cell's content
   pub record Kept (o j : ℕ) : Type 0 where
     pub live : (h.world.obj o).live ≡ true
@@ -137,40 +165,17 @@ module _ (laws : RunLaws) (keeps : Keeps) (cells : CellsAreThere) (pointers : Po
 
     -- a Give of it
     module _ (r site : ℕ) (is : i ≡ instrs.Give r site) (object : ref ((place_after code s earlier).threads one.thread) r ≡ o) where
-      fine : Fine x code ls ((place_after code s earlier).threads one.thread).at.pc (ls.at ((place_after code s earlier).threads one.thread).at.pc) (instrs.Give r site)
-      fine = subst (Fine x code ls m.at.pc (ls.at m.at.pc)) is (wt.fine m.at.pc)
-
-      hold : Rattle.sharc_invariant.specs.State.OnHold ((place_after code s earlier).threads one.thread).own.stage
-      hold = rests_hold code s h.state.elements h.world h.state.heap g.words t m (instrs.Give r site) m.own.stage refl (subst (λ j. StageStands code s h.state.elements h.world h.state.heap g.words t m j m.own.stage) is ((h.state.threads t).runs may.started may.next.runs).stage)
-
-      some : ref ((place_after code s earlier).threads one.thread) r ≢ 0
-      some = sole_ref x code s ls wt fits g h.world h.state t (may.started, may.next.runs) hold r true fine.0
-
-      nz : o ≢ 0
-      nz z = some (object ∙ z)
-
-      old_target : (h.world.obj o).ty.target ≡ fine.2.0.target
-      old_target = ap (λ k. (h.world.obj k).ty.target) (sym object) ∙ target_ref x code s ls wt fits g h.world h.state t (may.started, may.next.runs) hold r fine.2.0 fine.2.2 some
-
-      pc_now : m'.at.pc ≡ ((place_after code s earlier).threads one.thread).at.pc + 1
-      pc_now = ap (λ (y : Machine). y.at.pc) (put_same g.threads t (state_now (one_thread code s) g one)) ∙ ap (λ j. (after (act code s j m) (result_of one.event)).at.pc) is
-
-      new_target : (then_.world.obj o).ty.target ≡ fine.2.1.target
-      new_target =
-          ap (λ (y : ObjectState). y.ty.target) (at_object o)
-          ∙ ap (λ j. (objects_behind ls t j m m' h.world.obj o).ty.target) is
-          ∙ ap (λ k. (Rattle.sharc_code.specs.Runs.put h.world.obj k (owned t (type_held ls m' r)) o).ty.target) object
-          ∙ ap (λ (y : ObjectState). y.ty.target) (put_same h.world.obj o (owned t (type_held ls m' r)))
-          ∙ filled_target ls (empty (ls.at m.at.pc) r) (m.at.pc + 1) r fine.2.1 r true m' fine.2.5 pc_now
+      abbrev gave : Fine x code ls ((place_after code s earlier).threads one.thread).at.pc (ls.at ((place_after code s earlier).threads one.thread).at.pc) (instrs.Give r site)
+      gave = fine o r site is object
 
       same_count : cells_of x (then_.world.obj o).ty.target ≡ cells_of x (h.world.obj o).ty.target
-      same_count = ap (cells_of x) new_target ∙ sym fine.2.3.cells ∙ ap (cells_of x) (sym old_target)
+      same_count = ap (cells_of x) (new_target o r site is object) ∙ sym gave.2.3.cells ∙ ap (cells_of x) (sym (old_target o r site is object))
 
       all : then_.state.cells o ≡ h.state.cells o
-      all = same_cells nz same_count
+      all = same_cells (nz o r site is object) same_count
 
-      some_cells : (n count k : ℕ) → k < n → n ≡ count * cells_of x fine.2.0.target → cells_of x fine.2.0.target ≢ 0
-      some_cells n count k lt e z = let q : count * cells_of x fine.2.0.target ≡ 0 = ap (λ c. count * c) z ∙ times_zero count in omega arith
+      some_cells : (n count k : ℕ) → k < n → n ≡ count * cells_of x gave.2.0.target → cells_of x gave.2.0.target ≢ 0
+      some_cells n count k lt e z = let q : count * cells_of x gave.2.0.target ≡ 0 = ap (λ c. count * c) z ∙ times_zero count in omega arith
         where
           times_zero : (n : ℕ) → n * 0 ≡ 0
           times_zero n = omega arith
@@ -178,28 +183,28 @@ module _ (laws : RunLaws) (keeps : Keeps) (cells : CellsAreThere) (pointers : Po
       old_inside : j < h.state.cells o
       old_inside = subst (λ n. j < n) all inside
 
-      within : j % cells_of x fine.2.0.target < cells_of x fine.2.0.target
-      within = rest j (cells_of x fine.2.0.target) (some_cells (h.state.cells o) (h.state.elements o) j old_inside ((h.state.whole o nz was).1 ∙ ap (λ c. h.state.elements o * cells_of x c) old_target))
+      within : j % cells_of x gave.2.0.target < cells_of x gave.2.0.target
+      within = rest j (cells_of x gave.2.0.target) (some_cells (h.state.cells o) (h.state.elements o) j old_inside ((h.state.whole o (nz o r site is object) was).1 ∙ ap (λ c. h.state.elements o * cells_of x c) (old_target o r site is object)))
         where
           rest : (a b : ℕ) → b ≢ 0 → a % b < b
           rest a b ne = grind arith
 
-      old_field : (field_in x (h.world.obj o).ty j).holds ≡ (field_at x fine.2.0.target (j % cells_of x fine.2.0.target)).holds
-      old_field = ap (λ (f : Field). f.holds) (field_is x code s ls g h.world h.state o j nz was) ∙ ap (λ k. (field_of_cell x k j).holds) old_target
+      old_field : (field_in x (h.world.obj o).ty j).holds ≡ (field_at x gave.2.0.target (j % cells_of x gave.2.0.target)).holds
+      old_field = ap (λ (f : Field). f.holds) (field_is x code s ls g h.world h.state o j (nz o r site is object) was) ∙ ap (λ k. (field_of_cell x k j).holds) (old_target o r site is object)
 
-      new_field : (field_in x (then_.world.obj o).ty j).holds ≡ (field_at x fine.2.1.target (j % cells_of x fine.2.0.target)).holds
+      new_field : (field_in x (then_.world.obj o).ty j).holds ≡ (field_at x gave.2.1.target (j % cells_of x gave.2.0.target)).holds
       new_field =
-          ap (λ (f : Field). f.holds) (field_is x code s ls (place_after code s (one ∷ earlier)) then_.world then_.state o j nz live')
-          ∙ ap (λ k. (field_of_cell x k j).holds) new_target
-          ∙ ap (λ c. (field_at x fine.2.1.target (j % c)).holds) (sym fine.2.3.cells)
+          ap (λ (f : Field). f.holds) (field_is x code s ls (place_after code s (one ∷ earlier)) then_.world then_.state o j (nz o r site is object) live')
+          ∙ ap (λ k. (field_of_cell x k j).holds) (new_target o r site is object)
+          ∙ ap (λ c. (field_at x gave.2.1.target (j % c)).holds) (sym gave.2.3.cells)
 
       recasted : Kept o j
       recasted = record {
         live = was;
         inside = old_inside;
         content = subst (λ (b : Content). SameContent (field_in x (h.world.obj o).ty j).holds b) (sym new_field)
-            (subst (λ (a : Content). SameContent a (field_at x fine.2.1.target (j % cells_of x fine.2.0.target)).holds) (sym old_field)
-            (recast (ls.at m.at.pc) r fine.2.0 fine.2.1 _ _ (fine.2.3.same (j % cells_of x fine.2.0.target) within)));
+            (subst (λ (a : Content). SameContent a (field_at x gave.2.1.target (j % cells_of x gave.2.0.target)).holds) (sym old_field)
+            (recast (ls.at m.at.pc) r gave.2.0 gave.2.1 _ _ (gave.2.3.same (j % cells_of x gave.2.0.target) within)));
       }
 
     pub kept : Kept o j

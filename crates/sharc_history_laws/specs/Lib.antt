@@ -3,6 +3,7 @@ pub mod Causes
 pub mod Conflicts
 pub mod Followed
 pub mod History
+pub mod Made
 pub mod Paths
 pub mod Reports
 pub mod SeenCells

@@ -1,5 +1,5 @@
 -- What the reports of checked runs of typed code show.
-use Rattle.std.specs.Prelude.{◌≡◌, ℕ, ◌+◌, ◌≤◌, List, ◌∷◌, ◌++◌, Some, false, slice_index}
+use Rattle.std.specs.Prelude.{◌≡◌, ℕ, ◌+◌, ◌<◌, ◌≤◌, List, ◌∷◌, ◌++◌, Some, false, slice_index}
 use Rattle.sharc_tree.specs.declared.event.CellAt.{CellAt}
 use Rattle.sharc_code.specs.declared.code.Code.{Code}
 use Rattle.sharc_code.specs.declared.instr.Instr.{Instr}
@@ -68,6 +68,8 @@ pub record FindsOthers (x : Targets) (code : Code) (s : Shape) (ls : Labels) (ru
   pub thread : test.thread ≡ t
   pub register : ℕ
   pub is_test : instr_at code ((place_after code s earlier).threads t).at.pc ≡ TestSole register site
+  -- it is a reference to an object
+  pub some : 0 < ref ((place_after code s earlier).threads t) register
   pub counts : CountsOthers x code s (place_after code s earlier) (objects_after code s ls (first_place code s) (first_world x).obj earlier) t register count
 
 -- so it is of each thread that has stopped at such a test

@@ -5,6 +5,7 @@ ghost use Rattle.sharc_history_laws.specs.Causes.{AccessReportsBreakRules, Names
 ghost use Rattle.sharc_history_laws.specs.Conflicts.{AccessReportsShow, NamedAreChecked, NotesAreOfChecks};
 ghost use Rattle.sharc_history_laws.specs.Followed.{AccessesFollow, LockReportsBreakRules, LockReportsShowAccess};
 ghost use Rattle.sharc_history_laws.specs.History.{HistoriesObey};
+ghost use Rattle.sharc_history_laws.specs.Made.{PointersAreMade};
 ghost use Rattle.sharc_history_laws.specs.Paths.{PathsAreConsistent};
 ghost use Rattle.sharc_history_laws.specs.Reports.{CastReportsShow, LockReportsShow};
 ghost use Rattle.sharc_history_laws.specs.Seen.{ArgumentsAreGiven, LogsAreLocked, RunsBegin};
@@ -86,6 +87,16 @@ pub fn cells_seen_law()
     begins();
     keeps();
     state_stands();
+    cells_are_there();
+}
+
+/// A pointer cell of an object that is made and live in a checked run of typed code is one of what is made at the token of the object's last New.
+pub fn pointers_made_law()
+    ensures { PointersAreMade }
+{
+    run_laws();
+    begins();
+    keeps();
     cells_are_there();
 }
 

@@ -367,7 +367,7 @@ module _ (x : Targets) (code : Code) (s : Shape) (ls : Labels) (wt : IsWellTyped
 
   -- ---- the thread
   leads : Rattle.sharc_invariant.specs.Labels.Leads ls ((g.threads tr.thread).at.pc + 1) (fill here r (Refers f.2.0) r true)
-  leads = f.2.6
+  leads = f.2.7
 
   own : KeepsPart (g.threads tr.thread) m'
   own = record {
@@ -493,7 +493,7 @@ module _ (x : Targets) (code : Code) (s : Shape) (ls : Labels) (wt : IsWellTyped
   runs_now =
       let view' = view_of elements' w' t m' in
       let top1 = top_agrees x t view view1 base m.at.ints rn.names here (sees Always Always) tp in
-      let top2 = fill_stands x t view1 base m.at.ints rn.names here (ints_in code here.function) (refs_in code here.function) r b ty (Refers f.2.0) r true (wt.scoped m.at.pc) f.1.empty f.2.5 (λ _. refl) (inl refl) (λ _. low_b.0) top1 in
+      let top2 = fill_stands x t view1 base m.at.ints rn.names here (ints_in code here.function) (refs_in code here.function) r b ty (Refers f.2.0) r true (wt.scoped m.at.pc) f.1.empty f.2.6 (λ _. refl) (inl refl) (λ _. low_b.0) top1 in
       let below1 : FramesStand x code ls t view1 m here.function = elim here.function as (λ f. FramesStand x code ls t view m f → FramesStand x code ls t view1 m f) [
         | None ↦ λ h. h
         | Some f ↦ λ h. (callers_agree x code ls t view view1 m.frames m.at.depth m.at.refs m.at.ints f (sees (Low base) (Low m.at.ints)) h.0, h.1, h.2)

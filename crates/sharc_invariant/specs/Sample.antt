@@ -21,7 +21,7 @@ use Rattle.sharc_invariant.specs.Types.Content.{Integer, MutexWord}
 use Rattle.sharc_invariant.specs.Labels.{Empty, Refers, Anything, Exactly, Within, Closed, Checked, Holds, Sole, Label, Labels, Signature, fill, empty, gated, knows, set_number, without_base}
 use Rattle.sharc_invariant.specs.Typed.{moved_copy, unlocked_label}
 
--- ---- types: row 1 is the private struct, row 2 the dynamic one
+-- ---- types: row 1 is the private struct, row 2 the dynamic one; neither has a pointer
 abbrev pub fields_in : Field → List Field
 fields_in d = record { mode = Racy; holds = MutexWord } ∷ record { mode = Under (OfElement 1 0); holds = Integer Int } ∷ d ∷ []
 
@@ -32,6 +32,7 @@ the_targets = record {
       ∷ record { fields = fields_in record { mode = Dynamic; holds = Integer Int }; is_private = false }
       ∷ [];
   globals = [];
+  is_made_pointer = λ token i. false;
 }
 
 abbrev pub the_private : StaticType

@@ -18,7 +18,7 @@ use Rattle.sharc_code.specs.Arithmetic.{holds, int_of}
 use Rattle.sharc_code.specs.Machine.{function_of, instr_at, layout_at}
 use Rattle.sharc_code.specs.Says.{place_at, no_global}
 use Rattle.sharc_code.specs.Runs.{put}
-use Rattle.sharc_invariant.specs.Types.{Targets, AreTargets, Lock, StaticType, FieldLock, FieldMode, Content, Field, FieldType, field_at, global_field, cells_of, is_pointer, is_private, Mentions}
+use Rattle.sharc_invariant.specs.Types.{Targets, AreTargets, Lock, StaticType, FieldLock, FieldMode, Content, Field, FieldType, field_at, field_of_cell, global_field, cells_of, is_pointer, is_private, Mentions}
 use Rattle.sharc_invariant.specs.Types.Lock.{Global, Through, Self}
 use Rattle.sharc_invariant.specs.Types.FieldLock.{OfType, OfGlobals, OfElement as OfSameElement}
 use Rattle.sharc_invariant.specs.Types.FieldMode.{Private, Readonly, Racy, Dynamic, Under, Behind}

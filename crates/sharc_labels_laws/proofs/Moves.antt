@@ -11,7 +11,7 @@ use Rattle.sharc_guard.specs.Known.{Access, access, Know, know_next, is_straight
 use Rattle.sharc_invariant.specs.Types.{StaticType, Field, Mentions, cells_of}
 use Rattle.sharc_invariant.specs.Labels.{Refers, Closed, Holds, Pass, IsIn, Label, Less, EntryMentions, IsFree, fill, empty, forgets, gated, is_base, without_base}
 use Rattle.sharc_invariant.specs.Typed.{IsVacant, HasCell, IsBaseFree, IsLayout, Recasts, ints_in, refs_in, moved_copy, without_base_of, unlocked_label}
-use Rattle.sharc_typed.specs.Lines.{moved}
+use Rattle.sharc_typed.specs.Lines.{PointersMadeAt, moved}
 use Rattle.sharc_typed.specs.Passes.{with_passes}
 use Rattle.sharc_typed.proofs.Alike.{has_cell, recasts}
 use Rattle.sharc_typed.proofs.Preorder.{less_through}
@@ -91,10 +91,21 @@ module _ (around : Setting) (f : ℕ) (table : ℕ → Mark) (pc : ℕ) (s e : M
   on_pop_named r closed ref less told = goes_on (op.Pop r) (λ a z. absurd (none-some a z)) told (λ dropped passes repeats jumps on. (closed, ref, inr (lesser (empty (forgets l r) r) (without_base r (passes pc)) (passes (pc + 1)) less on)))
 
   -- ---- objects
-  pub on_new : (r count size : ℕ) (spot : Spot) (type : StaticType) → l.gate ≡ Closed → IsVacant around.code l r → type.target ≢ 0 → type.target < length around.targets.rows → size ≡ cells_of around.targets type.target → 1 ≤ size → (Mentions type r → ⊥)
+  pub on_new : (r count size : ℕ) (spot : Spot) (type : StaticType) → l.gate ≡ Closed → IsVacant around.code l r → type.target ≢ 0 → type.target < length around.targets.rows → size ≡ cells_of around.targets type.target → 1 ≤ size → PointersMadeAt around.targets spot.site.token type.target → (Mentions type r → ⊥)
       → Less (fill l r (Refers type) r true) e.label → Told (op.New r count size spot) → IsLine around f table pc s (op.New r count size spot)
-  on_new r count size spot type closed vacant some is_row cells few other less told = goes_on (op.New r count size spot) (λ a z. absurd (none-some a z)) told (λ dropped passes repeats jumps on.
-      (closed, vacant_too r (passes pc) vacant, (type, some, is_row, cells, few, other, lesser (fill l r (Refers type) r true) (passes pc) (passes (pc + 1)) less on)))
+  on_new r count size spot type closed vacant some is_row cells few pointers other less told = goes_on (op.New r count size spot) (λ a z. absurd (none-some a z)) told (λ dropped passes repeats jumps on.
+      record {
+        type = type;
+        closed = closed;
+        register = vacant_too r (passes pc) vacant;
+        some = some;
+        row = is_row;
+        size = cells;
+        few = few;
+        pointers = pointers;
+        other = other;
+        next = lesser (fill l r (Refers type) r true) (passes pc) (passes (pc + 1)) less on;
+      })
 
   pub on_free : (r layout : ℕ) (spot : Spot) (type : StaticType) → l.gate ≡ Closed → r < refs → l.known r ≡ true → IsFree l r → l.env r ≡ Refers type → IsLayout around.targets around.code layout type.target → Less (empty l r) e.label → IsLine around f table pc s (op.Free r layout spot)
   on_free r layout spot type closed ref known free is laid less = goes_on (op.Free r layout spot) (λ a z. absurd (none-some a z)) (λ z. never z) (λ dropped passes repeats jumps on. record {

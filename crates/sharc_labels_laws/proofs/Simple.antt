@@ -64,9 +64,9 @@ module _ (around : Setting) (f : ℕ) (ways : List Way) (y : Typing) (c : Contex
   joins from = then_do around f D N top low from
 
   -- ---- a new object
-  new_at : (from i r : ℕ) (l : Label) (fr : F from i r l) (n : Number) → IsPlain n → (s : StaticType) → IsTypeIn around f y c s → (size : ℕ) → IsMade around f y s size → (spot : Spot)
+  new_at : (from i r : ℕ) (l : Label) (fr : F from i r l) (n : Number) → IsPlain n → (s : StaticType) → IsTypeIn around f y c s → (size : ℕ) (spot : Spot) → IsMade around f y s spot.site.token size
       → Q from (with_number around f D N top low from l i n) (op.New r i size spot ∷ []) (mark (fill l r (Refers s) r false) from i)
-  new_at from i r l fr n plain s type size made spot =
+  new_at from i r l fr n plain s type size spot made =
       let fits = in_frame around f ways y c low from i r l fr s type in
       let k = set_number l i n in
       let t = fill l r (Refers s) r false in
@@ -75,7 +75,7 @@ module _ (around : Setting) (f : ℕ) (ways : List Way) (y : Typing) (c : Contex
       (λ in_it h. scoped_fill (ints_in around.code (Some f)) (refs_in around.code (Some f)) l r s r false in_it (λ q z. fr.at.stands.full q (fits q z).0) (inl refl)
       (scoped_frame N i r l fr.at.stands (ints_in around.code (Some f)) (refs_in around.code (Some f)) h.few (λ j ge. ⊎_elim (λ (e : j ≡ i). fr.at.stands.numbers j (omega (arith, e))) (λ (ne : j ≡ i → ⊥). sym (put_other l.ints i j n ne) ∙ h.numbers j ge) (cases_eq j i))))
       (λ table pc in_it h next. on_new around f table pc (mark k from (i + 1)) (mark t from i) next (record { owned = fr.at.owned; scoped = h }) r i size spot s refl
-      (record { is = subst (λ o. r < refs_in around.code o) (sym fr.at.owned) in_it; empty = fr.at.stands.free r (omega arith) }) made.some made.row made.cells made.few (λ z. let w = (fits r z).0 in omega (arith, w))
+      (record { is = subst (λ o. r < refs_in around.code o) (sym fr.at.owned) in_it; empty = fr.at.stands.free r (omega arith) }) made.some made.row made.cells made.few made.pointers (λ z. let w = (fits r z).0 in omega (arith, w))
       (less_by m t refl (λ q. less_entry_refl m q (put l.env r (Refers s) q)) (λ q. refl) (λ q e. known q e) (λ j. numbers j) tt fr.at.stands.nothing_passed (λ e. e))
       (λ _ know h2. told around.targets (op.New r i size spot) know (mark k from (i + 1)) (mark t from i) h2 (λ q v _ e. absurd (none_some v e)) (λ q a _. put_other l.same r q r (other_than q r a)) (λ j x _ _ a. absurd (false≢true a))
       (λ j x a b _ e. same_number around f D N top low from k t x (l.ints j) (λ q z. put_other l.env r q (Refers s) (λ w. let lt = fr.at.stands.bases j q z in omega (arith, w, lt)))
@@ -169,7 +169,7 @@ module _ (around : Setting) (f : ℕ) (ways : List Way) (y : Typing) (c : Contex
         copy = r;
         small = inl refl;
         piece = enter around f D N top low from i r l fr.at i _ end (joins from (mark l from i) middle end (elements_code c i r n) (op.ChkPositive i (at_site span.first) ∷ op.New r i size _ ∷ []) v.piece
-            (joins from middle middle end (op.ChkPositive i (at_site span.first) ∷ []) (op.New r i size _ ∷ []) (positive_at around f D N top low from (i + 1) r (set_number k i v.number) at2 (i + 1) i (at_site span.first)) (new_at from i r k fk v.number v.plain s h.1 size h.2 _)));
+            (joins from middle middle end (op.ChkPositive i (at_site span.first) ∷ []) (op.New r i size _ ∷ []) (positive_at around f D N top low from (i + 1) r (set_number k i v.number) at2 (i + 1) i (at_site span.first)) (new_at from i r k fk v.number v.plain s h.1 size _ h.2)));
       })
 
   -- ---- with the registers of an lvalue at hand

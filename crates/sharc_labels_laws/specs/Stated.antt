@@ -12,17 +12,19 @@ use Rattle.sharc_flat.specs.Scope.{Context, int_count, ref_count, register_of}
 use Rattle.sharc_flat.specs.Places.{Target, variable, width_of}
 use Rattle.sharc_flat.specs.Flattened.{kind_of, is_ref, target_of, mode_of, lvalue_in, guard_of}
 use Rattle.sharc_invariant.specs.Types.{StaticType, cells_of}
+use Rattle.sharc_typed.specs.Lines.{PointersMadeAt}
 use Rattle.sharc_labels_laws.specs.Stretches.{Setting}
 use Rattle.sharc_labels_laws.specs.Premises.{Typing, IntegerTyped, ReferenceTyped}
 use Rattle.sharc_labels_laws.specs.Typable.{GoesTo, IsTypeIn, IsNumber, ground_of, IsTypable, IsPlaceTypable}
 
 module _ (z : Setting) (f : ℕ) (y : Typing) where
-  -- a new object has a row, and cells
-  pub record IsMade (s : StaticType) (size : ℕ) : Type 0 where
+  -- a new object has a row, and cells, and its pointers are pointers of what is made at this token
+  pub record IsMade (s : StaticType) (token size : ℕ) : Type 0 where
     pub some : s.target ≢ 0
     pub row : s.target < length z.targets.rows
     pub cells : size ≡ cells_of z.targets s.target
     pub few : 1 ≤ size
+    pub pointers : PointersMadeAt z.targets token s.target
 
   abbrev pub CountTypable : Context → Option Expression → Type 0
   CountTypable c None = Unit {0}
@@ -35,7 +37,7 @@ module _ (z : Setting) (f : ℕ) (y : Typing) where
 
   abbrev pub RightTypable : Context → Kind → StaticType → Right → Type 0
   RightTypable c kind s (value e) = ValueGoes c kind s e (is_reference kind)
-  RightTypable c kind s (malloc span n w) = (is_reference kind ≡ true) × IsTypeIn z f y c s × IsMade s (element_cells c.program.typed (declared_kind w)) × CountTypable c n
+  RightTypable c kind s (malloc span n w) = (is_reference kind ≡ true) × IsTypeIn z f y c s × IsMade s span.first.token (element_cells c.program.typed (declared_kind w)) × CountTypable c n
 
   -- what is assigned to, of this kind and of this type
   abbrev pub VariableAssigned : Context → Kind → StaticType → Register → Type 0

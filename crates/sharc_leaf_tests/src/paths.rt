@@ -1,4 +1,4 @@
-//! Reads in loops, behind tests and behind a return, of one variable and of many, with ample memory.
+//! Reads in loops, after tests and after a return, of one variable and of many, with ample memory.
 
 use sharc_dataflow::step::Step;
 use sharc_dataflow::way::Warning;

@@ -1,8 +1,12 @@
 mod Calls
+mod Closed
 mod Counts
 mod Expressions
+mod Freeing
 mod Held
 mod Runs
+mod Settled
 mod Statements
 mod Steps
+mod Taken
 mod Typed

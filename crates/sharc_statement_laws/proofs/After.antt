@@ -197,7 +197,7 @@ after x code ls lines dropped type n l k (op.Store i c spot) s h = let a = same 
 after x code ls lines dropped type n l k (op.LoadRef r c spot) s h = let a = refills (op.LoadRef r c spot) (λ j v old w g. false≢true w) (behind x false l false c spot) k r (Refers h.type) r false (λ v w. w) h.next in record { full = a.full; past = a.past; given = a.given }
 after x code ls lines dropped type n l k (op.StoreRef r c spot) s h = let a = stored (op.StoreRef r c spot) (λ j v old w g. false≢true w) (behind x false l true c spot) k r type (λ v w. w) h.next in record { full = a.full; past = a.past; given = a.given }
 after x code ls lines dropped type n l k (op.LoadGuard c spot) s h = let a = same (op.LoadGuard c spot) (λ j v old w g. false≢true w) _ k h.next in record { full = a.full; past = a.past; given = a.given }
-after x code ls lines dropped type n l k (op.New r count cells spot) s h = refills (op.New r count cells spot) (λ j v old w g. false≢true w) l k r (Refers h.2.0) r true (λ v w. w) h.2.6
+after x code ls lines dropped type n l k (op.New r count cells spot) s h = refills (op.New r count cells spot) (λ j v old w g. false≢true w) l k r (Refers h.type) r true (λ v w. w) h.next
 after x code ls lines dropped type n l k (op.CondSignal c spot) s h = same (op.CondSignal c spot) (λ j v old w g. false≢true w) l k h.2
 after x code ls lines dropped type n l k (op.CondBroadcast c spot) s h = same (op.CondBroadcast c spot) (λ j v old w g. false≢true w) l k h.2
 after x code ls lines dropped type n l k (op.Print i spot) s h = same (op.Print i spot) (λ j v old w g. false≢true w) l k h.1

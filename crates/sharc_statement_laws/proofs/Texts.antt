@@ -15,7 +15,7 @@ use Rattle.sharc_guard.specs.Known.{is_straight, leads_to, Access, access, Know,
 use Rattle.sharc_invariant.specs.Types.{Targets, StaticType, Field}
 use Rattle.sharc_invariant.specs.Labels.{Refers, Within, Closed, Pass, IsIn, Label, Labels, Less, set_number, fill, empty, gated}
 use Rattle.sharc_typed.specs.Inside.{lock_of, known_behind, gate_behind, passed_behind, behind}
-use Rattle.sharc_typed.specs.Lines.{MayPass, PassesCheck, Loads, Stores, LoadsReference, StoresReference, TypedLine}
+use Rattle.sharc_typed.specs.Lines.{MayPass, PassesCheck, Loads, Stores, LoadsReference, StoresReference, Makes, TypedLine}
 use Rattle.sharc_typed.specs.Passes.{with_passes, with_all, remembered, RepeatsCheck}
 use Rattle.sharc_labels_laws.specs.Stretches.{Mark, Setting, labels_by, Tells, IsAtHand, IsLine}
 
@@ -93,6 +93,20 @@ module _ (a b : Text) (spot : Spot) where
       next = subst (λ m. Less (empty (fill (empty m r) r (Refers type) r false) r) k) (behind_same x false l true c) h.next;
     }
 
+  makes : (x : Targets) (code : Code) (l k : Label) (r cells : ℕ) → Makes x code l k r cells spot → Makes x code l k r cells told
+  makes x code l k r cells h = record {
+    type = h.type;
+    closed = h.closed;
+    register = h.register;
+    some = h.some;
+    row = h.row;
+    size = h.size;
+    few = h.few;
+    pointers = h.pointers;
+    other = h.other;
+    next = h.next;
+  }
+
 -- ---- one line
 module _ (a b : Text) where
   typed_told : (x : Targets) (code : Code) (ls : Labels) (lines : ℕ) (dropped : Bool) (type : StaticType) (n : ℕ) (l k : Label) (o : Op) → TypedLine x code ls lines dropped type n l k o → TypedLine x code ls lines dropped type n l k (with_texts a b o)
@@ -101,6 +115,7 @@ module _ (a b : Text) where
   typed_told x code ls lines dropped type n l k (op.LoadRef r c spot) h = loads_reference a b spot x code ls l k c false r h
   typed_told x code ls lines dropped type n l k (op.TakeCell r c spot) h = loads_reference a b spot x code ls l k c true r h
   typed_told x code ls lines dropped type n l k (op.StoreRef r c spot) h = stores_reference a b spot x code ls l k c type r h
+  typed_told x code ls lines dropped type n l k (op.New r count cells spot) h = makes a b spot x code l k r cells h
   typed_told x code ls lines dropped type n l k o h = h
 
   repeats_told : (x : Targets) (l : Label) (passes : List Pass) (o : Op) → RepeatsCheck x l passes (with_texts a b o) → RepeatsCheck x l passes o

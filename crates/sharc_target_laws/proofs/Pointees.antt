@@ -31,12 +31,12 @@ use Rattle.sharc_target_laws.proofs.Numbers.{numbers_found}
 
 -- ---- kinds and forms
 -- a pointer has a base and a star
-record IsPointerKind (k : Kind) : Type 0 where
-  base : Base
-  below : ℕ
-  is : k ≡ object base (suc below)
+pub record IsPointerKind (k : Kind) : Type 0 where
+  pub base : Base
+  pub below : ℕ
+  pub is : k ≡ object base (suc below)
 
-pointer_kind : (k : Kind) → is_pointer k ≡ true → IsPointerKind k
+pub pointer_kind : (k : Kind) → is_pointer k ≡ true → IsPointerKind k
 pointer_kind (object b zero) h = absurd (false≢true h)
 pointer_kind (object b (suc n)) h = record { base = b; below = n; is = refl }
 pointer_kind (array b n) h = absurd (false≢true h)

@@ -1,15 +1,16 @@
--- A pointer cell of the globals is one of a global of the source.
+-- A pointer cell of the globals, or of what a pointer refers to, is one of the source.
 use Rattle.std.proofs.Common.{◌≡◌, ℕ, zero, suc, ◌+◌, ◌-◌, ◌*◌, ◌<◌, ◌≤◌, ◌⊎◌, inl, inr, Bool, true, false, ◌||◌, cond, List, [], ◌∷◌, ◌++◌, length, replicate, slice_index_or, Some, refl, ap, sym, ◌∙◌, subst, ⊎_elim, arith, bytes_eq}
-use Rattle.std.specs.Prelude.{slice_get, ◌%◌}
-use Rattle.std.proofs.Math.Nat.{suc-mul}
-use Rattle.std.proofs.lemmas.Bool.{cases_lt}
+use Rattle.std.specs.Prelude.{slice_get, map, ◌%◌, ◌/◌}
+use Rattle.std.proofs.Math.Nat.{suc-mul, mul_comm, div-add-mod}
+use Rattle.std.proofs.lemmas.Bool.{cases_lt, lt-ltb}
 use Rattle.std.proofs.lemmas.Nat.{mod-mul-add}
 use Rattle.sharc_tree.specs.declared.ctype.Base.{Base}
 use Rattle.sharc_tree.specs.declared.ctype.Base.TheVariants as base
 use Rattle.sharc_tree.specs.declared.tree.declaration.Declaration.{Declaration}
+use Rattle.sharc_tree.specs.declared.tree.declaration.WrittenType.{WrittenType}
 use Rattle.sharc_tree.specs.declared.tree.item.GlobalDefinition.{GlobalDefinition}
 use Rattle.sharc_tree.specs.declared.tree.item.StructDefinition.{StructDefinition}
-use Rattle.sharc_names.specs.Kinds.{declared_kind}
+use Rattle.sharc_names.specs.Kinds.{Kind, object, element_kind, declared_kind}
 use Rattle.sharc_names.specs.Kinds as Kinds
 use Rattle.sharc_code.specs.Says.{no_global}
 use Rattle.sharc_ctype.specs.Globals.{elements_of}
@@ -18,14 +19,19 @@ use Rattle.sharc_ctype.specs.Resolved.{structs_in, globals_in}
 use Rattle.sharc_meaning.specs.References.{fields_called, is_pointer_in, is_pointer_of_global}
 use Rattle.sharc_meaning.specs.References as References
 use Rattle.sharc_mode.specs.Moded.{Assignment}
+use Rattle.sharc_mode.specs.Notes.{base_of}
 use Rattle.sharc_mode.specs.Rows.{written, declared_row, modes_of}
 use Rattle.sharc_flat.specs.Tables.{cells_in, granules_in, globals_from, globals_of}
-use Rattle.sharc_invariant.specs.Types.{FieldMode, Field, no_field, is_pointer}
-use Rattle.sharc_target_laws.specs.Pointers.{PointersAreOfGlobals}
-use Rattle.sharc_target_laws.specs.Targets.{base_content, pointer_content, declared_content, single, members, struct_fields, base_fields, top_mode, global_element, repeated, global_fields, all_global_fields}
+use Rattle.sharc_invariant.specs.Types.{FieldMode, Field, no_field, row_of, is_pointer}
+use Rattle.sharc_target_laws.specs.Pointees.{pointee}
+use Rattle.sharc_target_laws.specs.Pointers.{PointersAreOfGlobals, PointeesPoint}
+use Rattle.sharc_target_laws.specs.Shapes.{Form, form_of, stars_in}
+use Rattle.sharc_target_laws.specs.Targets.{base_content, pointer_content, declared_content, single, members, struct_fields, base_fields, top_mode, global_element, repeated, global_fields, all_global_fields, own_mode, shape_fields, targets_of}
 use Rattle.sharc_target_laws.proofs.Cells.{member_count}
 use Rattle.sharc_target_laws.proofs.Good.{at_left, at_right}
 use Rattle.sharc_target_laws.proofs.Laying.{globals_are, global_count}
+use Rattle.sharc_target_laws.proofs.Lists.{map_length}
+use Rattle.sharc_target_laws.proofs.Pointees.{IsPointerKind, pointer_kind, many_modes, pointees_fit}
 
 abbrev Points : List Field → ℕ → Type 0
 Points list i = is_pointer (slice_index_or list i no_field).holds ≡ true
@@ -185,3 +191,37 @@ pointers_are_of_globals m j h =
       at = omega (arith, at);
       pointer = ap (λ o. is_pointer_of_global m.typed o r.cell) r.is ∙ element_points m g r.cell el.element el.cell el.inside el.at el.points;
     }
+
+-- ---- what a pointer refers to
+points_inside : (list : List Field) (k : ℕ) → Points list k → k < length list
+points_inside [] k h = absurd (let z : false ≡ true = h in cc)
+points_inside (f ∷ list) zero h = omega arith
+points_inside (f ∷ list) (suc k) h = let more = points_inside list k h in omega (arith, more)
+
+-- cell i of elements of these fields, of which so many are one element's
+shape_points : (m : Assignment) (w : WrittenType) (b : Base) (stars : ℕ) (forms : List Form) → object b stars ≡ declared_kind w → length forms ≡ suc stars → (i : ℕ) → Points (shape_fields m b forms) (i % length (shape_fields m b forms)) → is_pointer_in m.typed w i ≡ true
+shape_points m w b stars [] same many i h = absurd (omega (arith, many))
+shape_points m w b zero (f ∷ []) same many i h =
+    let fields = base_fields m (own_mode f) b in
+    let whole = div-add-mod i (length fields) in
+    let turned : length fields * (i / length fields) ≡ i / length fields * length fields = mul_comm (length fields) (i / length fields) in
+    let p = base_points m (own_mode f) b i (i / length fields) (i % length fields) (points_inside fields (i % length fields) h) (omega (arith, whole, turned)) h in
+    subst (λ (k : Kind). (Kinds.is_pointer k || slice_index_or (pointer_cells (References.base_fields m.typed (base_of k))) (i % length (References.base_fields m.typed (base_of k))) false) ≡ true) same p
+shape_points m w b (suc stars) (f ∷ []) same many i h = absurd (omega (arith, many))
+shape_points m w b zero (f ∷ g ∷ below) same many i h = absurd (omega (arith, many))
+shape_points m w b (suc stars) (f ∷ g ∷ below) same many i h =
+    let pointer : Kinds.is_pointer (object b (suc stars)) ≡ true = lt-ltb 0 (suc stars) (omega arith) in
+    ap (λ (p : Bool). p || slice_index_or (pointer_cells (References.base_fields m.typed w.ctype.base)) (i % length (References.base_fields m.typed w.ctype.base)) false) (sym (ap Kinds.is_pointer same) ∙ pointer)
+
+pub pointees_point : PointeesPoint
+pointees_point m k row is pointer w same i h = by (pointer_kind k pointer)
+  where
+    by : IsPointerKind k → is_pointer_in m.typed w i ≡ true
+    by p =
+        let fits = pointees_fit m k row is pointer in
+        let forms = map form_of (modes_of m row) in
+        let less : suc p.below - 1 ≡ p.below = omega arith in
+        let kind : object p.base p.below ≡ declared_kind w = sym (ap element_kind p.is ∙ ap (object p.base) less) ∙ same in
+        let many : length forms ≡ suc p.below = map_length form_of (modes_of m row) ∙ many_modes m k row is ∙ ap stars_in p.is in
+        let fields : (row_of (targets_of m) (pointee m k row)).fields ≡ shape_fields m p.base forms = fits.fields ∙ ap (λ z. shape_fields m (base_of z) forms) p.is in
+        shape_points m w p.base p.below forms kind many i (subst (λ list. Points list (i % length list)) fields h)

@@ -1,12 +1,18 @@
--- The pointer cells of the globals: those that the table has are those of the source.
+-- The pointer cells of the globals and of made objects: those that the table has are those of the source.
 use Rattle.std.specs.Prelude.{◌≡◌, ℕ, ◌+◌, true, Some}
+use Rattle.sharc_tree.specs.declared.tree.declaration.WrittenType.{WrittenType}
 use Rattle.sharc_tree.specs.declared.tree.item.GlobalDefinition.{GlobalDefinition}
+use Rattle.sharc_names.specs.Kinds.{Kind, declared_kind, element_kind}
+use Rattle.sharc_names.specs.Kinds as kinds
 use Rattle.sharc_code.specs.Ranges.{IsInGlobal, first_place}
 use Rattle.sharc_ctype.specs.Resolved.{global_at}
 use Rattle.sharc_flat.specs.Tables.{globals_of}
-use Rattle.sharc_invariant.specs.Types.{is_pointer, global_field}
-use Rattle.sharc_meaning.specs.References.{is_pointer_of_global}
+use Rattle.sharc_invariant.specs.Types.{is_pointer, global_field, field_of_cell}
+use Rattle.sharc_meaning.specs.References.{is_pointer_in, is_pointer_of_global}
 use Rattle.sharc_mode.specs.Moded.{Assignment}
+use Rattle.sharc_mode.specs.Rows.{Targets}
+use Rattle.sharc_target_laws.specs.Laws.{IsRowOf}
+use Rattle.sharc_target_laws.specs.Pointees.{pointee}
 use Rattle.sharc_target_laws.specs.Targets.{targets_of}
 
 -- cell j of the globals, counted from the first of granule 1, is this cell of this global, which is a pointer in the source
@@ -22,3 +28,8 @@ pub record IsPointerOfGlobal (m : Assignment) (j : ℕ) : Type 0 where
 -- so it is of each cell that is a pointer in the table
 abbrev pub PointersAreOfGlobals : Type 0
 PointersAreOfGlobals = (m : Assignment) (j : ℕ) → is_pointer (global_field (targets_of m) j).holds ≡ true → IsPointerOfGlobal m j
+
+-- and of each cell of what a pointer refers to that is a pointer in the table: it is one in the type of its elements, however that is written
+abbrev pub PointeesPoint : Type 0
+PointeesPoint = (m : Assignment) (k : Kind) (row : Targets) → IsRowOf m k row → kinds.is_pointer k ≡ true → (w : WrittenType) → element_kind k ≡ declared_kind w
+    → (i : ℕ) → is_pointer (field_of_cell (targets_of m) (pointee m k row) i).holds ≡ true → is_pointer_in m.typed w i ≡ true

@@ -7,7 +7,7 @@ ghost use Rattle.sharc_target_laws.specs.Granules.{GranulesAreFew};
 ghost use Rattle.sharc_target_laws.specs.Laws.{NumbersFound, ShapesClosed, CellsAre, TargetsAre, ExpressionsFound, VariablesFound, ResultsFound, MembersAre, GlobalsAre, GlobalsEnd, GlobalsBegin, GlobalsHold, LayoutsAre};
 ghost use Rattle.sharc_target_laws.specs.Lvalues.{LvaluesFit, ArraysFit};
 ghost use Rattle.sharc_target_laws.specs.Own.{OwnAreFound};
-ghost use Rattle.sharc_target_laws.specs.Pointers.{PointersAreOfGlobals};
+ghost use Rattle.sharc_target_laws.specs.Pointers.{PointersAreOfGlobals, PointeesPoint};
 ghost use Rattle.sharc_target_laws.specs.Pointees.{PointeesFit, RecastsFit, SameForms};
 
 use sharc_ctype_laws::laws::{
@@ -168,6 +168,11 @@ pub fn granules_are_few()
 /// A cell of the globals that is a pointer in the table is one of a global that is a pointer in the source.
 pub fn global_pointers_are()
     ensures { PointersAreOfGlobals }
+{}
+
+/// A cell of what a pointer refers to that is a pointer in the table is one of its type in the source.
+pub fn pointees_point()
+    ensures { PointeesPoint }
 {}
 
 /// Parameters, locals and casts are found by their tokens, with the roles that they have.

@@ -4,6 +4,7 @@ use Rattle.std.specs.Prelude.{map}
 use Rattle.std.proofs.lemmas.List.{map-append}
 use Rattle.sharc_code.specs.declared.code.Code.{Code}
 use Rattle.sharc_code.specs.declared.code.PlaceMode.TheVariants.{Readonly}
+use Rattle.sharc_code.specs.declared.code.SourcePlace.{SourcePlace}
 use Rattle.sharc_code.specs.declared.instr.Cell.{Cell}
 use Rattle.sharc_code.specs.declared.instr.Instr.{Instr}
 use Rattle.sharc_code.specs.declared.instr.Instr.TheVariants as instrs
@@ -23,7 +24,7 @@ use Rattle.sharc_invariant.proofs.Scoped.{less_refl}
 use Rattle.sharc_typed.specs.Steps.{all_at, Chain}
 use Rattle.sharc_typed.specs.Inside.{known_behind, gate_behind, passed_behind, behind, before_check, tested, cleared, exchanged, inside}
 use Rattle.sharc_typed.specs.Laws.{LeadsOn}
-use Rattle.sharc_typed.specs.Lines.{PassesCheck, Loads, Stores, LoadsReference, StoresReference, LoadsGuard, Settles, Gives, Frees, TypedLine}
+use Rattle.sharc_typed.specs.Lines.{PassesCheck, Loads, Stores, LoadsReference, StoresReference, LoadsGuard, Settles, Makes, Gives, Frees, TypedLine}
 use Rattle.sharc_typed.proofs.Alike.{has_cell, less_entry, points_to, recasts}
 use Rattle.sharc_typed.proofs.Checking.{passed, chain_check, accesses, dynamic}
 
@@ -49,6 +50,11 @@ module _ (x : Targets) (code : Code) (ls : Labels) (n : ℕ) (l k : Label) where
         (h.closed, h.target, inl (h.target_free, less_refl (empty l to))),
         ((refl, inr (record { is = h.target; empty = put_same l.env to Empty }, h.source, h.apart, free_without l to from h.source_free, plain, h.next)), tt),
       )
+
+  makes : (r count cells : ℕ) (spot : Spot) → place_at code n ≡ source_of (op.New r count cells spot) → Makes x code l k r cells spot → Chain x code ls (l ∷ []) (instrs.New r count cells n ∷ []) k
+  makes r count cells spot site h =
+      let token : (place_at code n).site.token ≡ spot.site.token = ap (λ (p : SourcePlace). p.site.token) site in
+      ((h.closed, h.register, (h.type, h.some, h.row, h.size, h.few, (λ i p. subst (λ t. x.is_made_pointer t i ≡ true) (sym token) (h.pointers i p)), h.other, h.next)), tt)
 
   gives : (r cells : ℕ) → Gives x code l k r cells
       → Chain x code ls (l ∷ tested l r ∷ cleared l r ∷ []) (instrs.TestSole r n ∷ instrs.Clear r cells ∷ instrs.Give r n ∷ []) k
@@ -151,8 +157,11 @@ module _ (x : Targets) (code : Code) (ls : Labels) (n : ℕ) (l k : Label) where
             h.free.paths q ne (subst (λ e. EntryMentions e r) (put_other l.env r q Empty ne) a)
 
 -- ---- all
+mode_of : (code : Code) (n : ℕ) (p : SourcePlace) → place_at code n ≡ p → (place_at code n).mode ≡ p.mode
+mode_of code n p e = ap (λ (q : SourcePlace). q.mode) e
+
 pub pieces : (x : Targets) (code : Code) (ls : Labels) (lines : ℕ) (dropped : Bool) (type : StaticType) (n : ℕ) (l k : Label) (o : Op) (pl : ℕ → ℕ)
-    → LeadsOn o → (place_at code n).mode ≡ (source_of o).mode → TypedLine x code ls lines dropped type n l k o
+    → LeadsOn o → place_at code n ≡ source_of o → TypedLine x code ls lines dropped type n l k o
     → Chain x code ls (inside x dropped type o l) (map (instr_of code.functions.items) (expand pl dropped n o)) k
 pieces x code ls lines dropped type n l k (op.Skip over) pl on site h = absurd on
 pieces x code ls lines dropped type n l k (op.SkipIfZero i over) pl on site h = absurd on
@@ -161,12 +170,13 @@ pieces x code ls lines dropped type n l k (op.Jump to) pl on site h = absurd on
 pieces x code ls lines dropped type n l k op.Enter pl on site h = tt
 pieces x code ls lines dropped type n l k op.BlockEnd pl on site h = tt
 pieces x code ls lines dropped type n l k (op.Settle to from) pl on site h = settles x code ls n l k to from h
-pieces x code ls lines dropped type n l k (op.Load i cell spot) pl on site h = loads x code ls n l k spot site dropped i cell h
-pieces x code ls lines dropped type n l k (op.Store i cell spot) pl on site h = stores x code ls n l k spot site dropped i cell h
-pieces x code ls lines dropped type n l k (op.LoadRef r cell spot) pl on site h = loads_reference x code ls n l k spot site r cell h
-pieces x code ls lines dropped type n l k (op.TakeCell r cell spot) pl on site h = takes x code ls n l k spot site r cell h
-pieces x code ls lines dropped type n l k (op.StoreRef r cell spot) pl on site h = stores_reference x code ls n l k spot site type r cell h
-pieces x code ls lines dropped type n l k (op.LoadGuard cell spot) pl on site h = loads_guard x code ls n l k cell site h
+pieces x code ls lines dropped type n l k (op.Load i cell spot) pl on site h = loads x code ls n l k spot (mode_of code n _ site) dropped i cell h
+pieces x code ls lines dropped type n l k (op.Store i cell spot) pl on site h = stores x code ls n l k spot (mode_of code n _ site) dropped i cell h
+pieces x code ls lines dropped type n l k (op.LoadRef r cell spot) pl on site h = loads_reference x code ls n l k spot (mode_of code n _ site) r cell h
+pieces x code ls lines dropped type n l k (op.TakeCell r cell spot) pl on site h = takes x code ls n l k spot (mode_of code n _ site) r cell h
+pieces x code ls lines dropped type n l k (op.StoreRef r cell spot) pl on site h = stores_reference x code ls n l k spot (mode_of code n _ site) type r cell h
+pieces x code ls lines dropped type n l k (op.LoadGuard cell spot) pl on site h = loads_guard x code ls n l k cell (mode_of code n _ site) h
+pieces x code ls lines dropped type n l k (op.New r count cells spot) pl on site h = makes x code ls n l k r count cells spot site h
 pieces x code ls lines dropped type n l k (op.Give r cells spot) pl on site h = gives x code ls n l k r cells h
 pieces x code ls lines dropped type n l k (op.Free r layout spot) pl on site h = frees x code ls n l k r layout h
 pieces x code ls lines dropped type n l k o pl on site h = (h, tt)

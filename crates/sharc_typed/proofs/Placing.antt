@@ -229,7 +229,7 @@ module _ (x : Targets) (code : Code) (ls : Labels) (at : ℕ → Label) where
 -- ---- lines
 pub record LineStands (x : Targets) (code : Code) (dropped : ℕ → Bool) (fl : FlatLabels) (lines n : ℕ) (o : Op) : Type 0 where
   pub typed : TypedLine x code fl.lines lines (dropped n) (fl.replaced n) n (fl.lines.at n) (fl.lines.at (n + 1)) o
-  pub site : (place_at code n).mode ≡ (source_of o).mode
+  pub site : place_at code n ≡ source_of o
   pub placed : IsPlaced code (fl.lines.at n)
 
 module _ (x : Targets) (code : Code) (dropped : ℕ → Bool) (fl : FlatLabels) (lines : ℕ) where

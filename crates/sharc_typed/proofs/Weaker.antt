@@ -79,7 +79,7 @@ module _ (x : Targets) (code : Code) (ls : Labels) (k m : Label) (weaker : Less 
   steps l (Raise r from) h = (h.0, h.1, h.2, to_less _ h.3)
   steps l (RaiseLoaded r) h = (h.0, (h.1.0, h.1.1, h.1.2, h.1.3, h.1.4, h.1.5, h.1.6, to_less _ h.1.7))
   steps l (Lower r) h = (h.0, h.1, ⊎_elim (λ h. inl (h.0, to_less _ h.1)) (λ h. inr (to_less _ h)) h.2)
-  steps l (New r count size site) h = (h.0, h.1, (h.2.0, h.2.1, h.2.2, h.2.3, h.2.4, h.2.5, to_less _ h.2.6))
+  steps l (New r count size site) h = (h.0, h.1, (h.2.0, h.2.1, h.2.2, h.2.3, h.2.4, h.2.5, h.2.6, to_less _ h.2.7))
   steps l (TakeCell r c site) h = (h.0, (h.1.0, h.1.1, accesses l _ c site h.1.0 h.1.2, h.1.3, h.1.4, to_less _ h.1.5))
   steps l (TakeLocal r from site) h = (h.0, h.1, h.2, h.3, h.4, h.5, to_less _ h.6)
   steps l (TestSole r site) h = (h.0, h.1, h.2, to_less _ h.3)

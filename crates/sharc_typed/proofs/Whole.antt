@@ -4,7 +4,6 @@ use Rattle.std.specs.List.{AllByRecursion}
 use Rattle.std.specs.Prelude.{slice_get, slice_index_or}
 use Rattle.sharc_code.specs.declared.code.Code.{Code}
 use Rattle.sharc_code.specs.declared.code.Function.{Function}
-use Rattle.sharc_code.specs.declared.code.SourcePlace.{SourcePlace}
 use Rattle.sharc_code.specs.declared.instr.Instr.{Instr}
 use Rattle.sharc_code.specs.declared.instr.Instr.TheVariants.{Start, Exit}
 use Rattle.sharc_code.specs.Machine.{instr_at, function_of, no_function}
@@ -93,8 +92,8 @@ module _ (x : Targets) (flat : FlatCode) (code : Code) (fl : FlatLabels) (is : I
   instrs_are : code.instrs.items ≡ instrs
   instrs_are = is.generated.instrs ∙ ap (λ fs. generated fs is.g.statements.items) (sym functions_are) ∙ ap (generated code.functions.items) is.made.statements
 
-  site : (n : ℕ) (o : Op) → slice_get lines n ≡ Some o → (place_at code n).mode ≡ (source_of o).mode
-  site n o e = ap (λ (p : SourcePlace). p.mode) (ap (λ sites. slice_index_or sites n no_place) (sites_are ∙ is.made.sites) ∙ source_there lines n o e)
+  site : (n : ℕ) (o : Op) → slice_get lines n ≡ Some o → place_at code n ≡ source_of o
+  site n o e = ap (λ sites. slice_index_or sites n no_place) (sites_are ∙ is.made.sites) ∙ source_there lines n o e
 
   line_stands : (n : ℕ) (o : Op) → slice_get lines n ≡ Some o → LineStands x code d fl (length lines) n o
   line_stands n o e = let lt = line_within lines n o e in record { typed = t.lines n o e; site = site n o e; placed = (t.scoped n lt, t.owned n lt) }

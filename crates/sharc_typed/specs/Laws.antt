@@ -31,7 +31,7 @@ LeadsOn o = Unit {0}
 -- The statements that it becomes are typed one after the other, from what is known before its line to what may be known before the next one.
 abbrev pub PiecesAreTyped : Type 0
 PiecesAreTyped = (x : Targets) (code : Code) (ls : Labels) (lines : ℕ) (dropped : Bool) (type : StaticType) (n : ℕ) (l k : Label) (o : Op) (pl : ℕ → ℕ)
-    → LeadsOn o → (place_at code n).mode ≡ (source_of o).mode → TypedLine x code ls lines dropped type n l k o
+    → LeadsOn o → place_at code n ≡ source_of o → TypedLine x code ls lines dropped type n l k o
     → Chain x code ls (inside x dropped type o l) (map (instr_of code.functions.items) (expand pl dropped n o)) k
 
 -- and what is known at each of its places names registers of its frame that hold something

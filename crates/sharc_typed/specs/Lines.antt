@@ -10,7 +10,7 @@ use Rattle.sharc_flat_form.specs.declared.op.Spot.{Spot}
 use Rattle.sharc_flat_form.specs.Machine.{Flat, function_of as flat_function}
 use Rattle.sharc_gen.specs.Generated.{instr_of}
 use Rattle.sharc_guard.specs.Guard.{body}
-use Rattle.sharc_invariant.specs.Types.{Targets, AreTargets, StaticType, Field, FieldType, FieldLock, FieldMode, Content, cells_of, is_pointer, Mentions}
+use Rattle.sharc_invariant.specs.Types.{Targets, AreTargets, StaticType, Field, FieldType, FieldLock, FieldMode, Content, cells_of, field_of_cell, is_pointer, Mentions}
 use Rattle.sharc_invariant.specs.Types.FieldMode.{Private, Readonly, Racy, Dynamic, Under, Behind}
 use Rattle.sharc_invariant.specs.Types.Content.{Integer}
 use Rattle.sharc_invariant.specs.Labels.{Empty, Refers, Anything, Within, Closed, Loaded, Pass, IsIn, Label, Labels, Less, LessEntry, EntryMentions, IsScoped, set_number, fill, empty, gated, knows, IsFree}
@@ -122,6 +122,23 @@ pub record Settles (code : Code) (l k : Label) (to from : ℕ) : Type 0 where
   pub apart : to ≢ from
   pub next : Less (moved (empty l to) to from) k
 
+-- each pointer cell of an object of the target is one of an object that is made at this token
+abbrev pub PointersMadeAt : Targets → ℕ → ℕ → Type 0
+PointersMadeAt x token target = (i : ℕ) → is_pointer (field_of_cell x target i).holds ≡ true → x.is_made_pointer token i ≡ true
+
+-- a new object
+pub record Makes (x : Targets) (code : Code) (l k : Label) (r cells : ℕ) (spot : Spot) : Type 0 where
+  pub type : StaticType
+  pub closed : l.gate ≡ Closed
+  pub register : IsVacant code l r
+  pub some : type.target ≢ 0
+  pub row : type.target < length x.rows
+  pub size : cells ≡ cells_of x type.target
+  pub few : 1 ≤ cells
+  pub pointers : PointersMadeAt x spot.site.token type.target
+  pub other : Mentions type r → ⊥
+  pub next : Less (fill l r (Refers type) r true) k
+
 pub record Gives (x : Targets) (code : Code) (l k : Label) (r cells : ℕ) : Type 0 where
   pub before : StaticType
   pub given : StaticType
@@ -170,6 +187,7 @@ TypedLine x code ls lines dropped type n l k (op.LoadRef r cell spot) = LoadsRef
 TypedLine x code ls lines dropped type n l k (op.TakeCell r cell spot) = LoadsReference x code ls true l k r cell spot
 TypedLine x code ls lines dropped type n l k (op.StoreRef r cell spot) = StoresReference x code ls type l k r cell spot
 TypedLine x code ls lines dropped type n l k (op.LoadGuard cell spot) = LoadsGuard x code l k cell
+TypedLine x code ls lines dropped type n l k (op.New r count cells spot) = Makes x code l k r cells spot
 TypedLine x code ls lines dropped type n l k (op.Give r cells spot) = Gives x code l k r cells
 TypedLine x code ls lines dropped type n l k (op.Free r layout spot) = Frees x code l k r layout
 -- the other operations are typed as their statements are

@@ -54,7 +54,7 @@ abbrev pub the_field : Field
 the_field = record { mode = Dynamic; holds = Integer Int }
 
 abbrev pub the_targets : Targets
-the_targets = record { rows = no_target ∷ []; globals = the_field ∷ no_field ∷ [] }
+the_targets = record { rows = no_target ∷ []; globals = the_field ∷ no_field ∷ []; is_made_pointer = λ token i. false }
 
 abbrev pub the_first : Label
 the_first = record outside { function = Some 0 }

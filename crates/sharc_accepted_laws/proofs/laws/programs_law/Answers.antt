@@ -11,6 +11,7 @@ returns c = starts.programs_typable c.expressions_law.ensures c.bases_stand.ensu
       numbers = c.numbers_found.ensures;
       found = c.expressions_found.ensures;
       pointees = c.pointees_fit.ensures;
+      points = c.pointees_point.ensures;
     })
     (record {
       constraints = c.meets_constraints.ensures;

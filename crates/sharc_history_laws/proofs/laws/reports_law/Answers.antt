@@ -17,6 +17,7 @@ returns-clause-casts c = λ x code s ls wt fits few run checked.
     let there = c.cells_are_there.ensures in
     casts_show c.runs_report.ensures.tests x code s ls wt fits few
     (λ run is_run. record { halts = (lacking there.cells there.pointers there.rights laws c.begins.ensures.opens c.keeps.ensures x code s ls wt fits few run is_run).halts })
+    (λ run is_run. (lacking there.cells there.pointers there.rights laws c.begins.ensures.opens c.keeps.ensures x code s ls wt fits few run is_run).consists)
     run ((laws.checked code s run).0 checked)
 
 pub returns-clause-accesses : goal.returns-clause-accesses
