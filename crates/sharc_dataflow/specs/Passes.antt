@@ -4,7 +4,7 @@ use Rattle.sharc_dataflow.specs.declared.step.Step.{Step}
 use Rattle.sharc_dataflow.specs.declared.step.Step.TheVariants as steps
 use Rattle.sharc_dataflow.specs.declared.way.Ways.{Ways}
 use Rattle.sharc_dataflow.specs.declared.way.Standing.{Standing}
-use Rattle.sharc_dataflow.specs.declared.way.Warning.{Warning}
+use Rattle.sharc_dataflow.specs.declared.way.FlowWarning.{FlowWarning}
 use Rattle.sharc_dataflow.specs.Flow.{Broken, Continued, Ends}
 use Rattle.sharc_dataflow.specs.Code.{Code, goes_to, acts, first_then, one_of, catches, repeats}
 use Rattle.sharc_dataflow.specs.Sums.{lower, behind, free, only, goes_of, then_of, either_of, caught_of, loop_of, nulled, written, ways, warn_read}
@@ -88,9 +88,9 @@ pub record Telling : Type 0 where
   pub stand : Standing
   pub waiting : List (Option ℕ)
   pub heads : List (Option ℕ)
-  pub found : List Warning
+  pub found : List FlowWarning
 
-abbrev pub telling : Standing → List (Option ℕ) → List (Option ℕ) → List Warning → Telling
+abbrev pub telling : Standing → List (Option ℕ) → List (Option ℕ) → List FlowWarning → Telling
 telling s waiting hs found = record { stand = s; waiting = waiting; heads = hs; found = found }
 
 abbrev pub stands_at : Option ℕ → Standing → Standing
@@ -136,5 +136,5 @@ told x (a ∷ rest) t = told x rest (forth x a t)
 abbrev pub nowhere : Standing
 nowhere = record { next = None; broken = None; continued = None }
 
-abbrev pub tell_start : List (Option ℕ) → List Warning → Telling
+abbrev pub tell_start : List (Option ℕ) → List FlowWarning → Telling
 tell_start hs found = record { stand = nowhere; waiting = []; heads = hs; found = found }

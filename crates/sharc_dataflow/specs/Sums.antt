@@ -2,7 +2,7 @@
 use Rattle.std.specs.Prelude.{ℕ, List, [], ◌∷◌, ◌++◌, Option, Some, None, Bool, true, false, min, nat_eq, ◌&&◌, ◌||◌}
 use Rattle.sharc_dataflow.specs.declared.way.Way.{Way}
 use Rattle.sharc_dataflow.specs.declared.way.Ways.{Ways}
-use Rattle.sharc_dataflow.specs.declared.way.Warning.{Warning}
+use Rattle.sharc_dataflow.specs.declared.way.FlowWarning.{FlowWarning}
 use Rattle.sharc_dataflow.specs.Flow.{Act, Reads, Nulls, Writes, To, Next, Broken, Continued, Ends}
 use Rattle.sharc_dataflow.specs.Code.{Code, goes_to, acts, first_then, one_of, catches, repeats}
 
@@ -87,12 +87,12 @@ ways x (repeats a) = loop_of (ways x a)
 
 -- the warnings in a piece of code, by what holds before it
 abbrev pub Warns : Type 0
-Warns = Option ℕ → List Warning
+Warns = Option ℕ → List FlowWarning
 
 abbrev pub quiet : Warns
 quiet v = []
 
-abbrev pub warned_of : Option ℕ → ℕ → List Warning
+abbrev pub warned_of : Option ℕ → ℕ → List FlowWarning
 warned_of None r = []
 warned_of (Some k) r = record { read = r; since = k } ∷ []
 

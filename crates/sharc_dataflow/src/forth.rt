@@ -8,7 +8,7 @@ ghost use Rattle.sharc_dataflow.specs.Views.{view_tells};
 
 use crate::stack::pop_token;
 use crate::step::Step;
-use crate::way::{Standing, Warning, lower};
+use crate::way::{FlowWarning, Standing, lower};
 use std::alloc::{AllocError, Global};
 
 /// What is known at a step when all before it are gone over.
@@ -20,7 +20,7 @@ pub struct Tells {
     waiting: Vec<Option<u32>>,
     /// What holds at the end of a turn of each loop to come, the last loop first.
     heads: Vec<Option<u32>>,
-    found: Vec<Warning>,
+    found: Vec<FlowWarning>,
 }
 
 impl Standing {
@@ -65,11 +65,11 @@ impl Standing {
     }
 }
 
-fn read(token: u32, stands: Option<u32>, found: &mut Vec<Warning>) -> Result<(), AllocError>
+fn read(token: u32, stands: Option<u32>, found: &mut Vec<FlowWarning>) -> Result<(), AllocError>
     ensures { OnOk result (found.new.items ≡ found.old.items ++ warn_read true token stands) }
 {
     if let Some(since) = stands {
-        found.push(Warning { read: token, since })?;
+        found.push(FlowWarning { read: token, since })?;
     }
     Ok(())
 }
@@ -183,8 +183,8 @@ pub(crate) fn tell(
     x: u32,
     steps: &[Step],
     heads: Vec<Option<u32>>,
-    found: Vec<Warning>,
-) -> Result<Vec<Warning>, AllocError>
+    found: Vec<FlowWarning>,
+) -> Result<Vec<FlowWarning>, AllocError>
     ensures { IfOk result (λ v. v.items ≡ (told x steps.now (tell_start heads.items found.items)).found) }
 {
     let mut tells = Tells {

@@ -145,7 +145,7 @@ pub struct Standing {
 
 /// A read, and the first nulling that holds there on some path, each by its token.
 #[derive(Clone, Copy, PartialEq, Eq, Debug, Drop)]
-pub struct Warning {
+pub struct FlowWarning {
     pub read: u32,
     pub since: u32,
 }

@@ -5,7 +5,7 @@ use Rattle.sharc_flat_walk.specs.declared.bodies.Around.{Around as RustAround}
 use Rattle.sharc_tree.specs.Spans.{span_of}
 use Rattle.sharc_tree.specs.Tree as tree
 use Rattle.sharc_mode.specs.declared.sharing.Sharing.TheVariants.{Private}
-use Rattle.sharc_flat_walk.specs.declared.spots.Access.{Access}
+use Rattle.sharc_flat_walk.specs.declared.spots.SpotAccess.{SpotAccess}
 use Rattle.sharc_flat.specs.Flattened.{Around, first_cell_of, opened, looping, simple_code, ints_of, refs_of, first_code, behind_first, step_code, turn_code, if_code, loop_code, statement_code, statements_code, behind_statements}
 use Rattle.sharc_tree.specs.declared.token.Site.{Site}
 use Rattle.sharc_tree.specs.declared.tree.expression.BinaryOperator.{BinaryOperator}
@@ -98,7 +98,7 @@ outermost outer marks = reverse (take outer marks)
 abbrev pub around_of : RustAround → List ℕ → Around
 around_of a marks = record { result = view_kind a.result; broken = a.broken; continued = a.continued; inside = innermost a.outer marks; outside = outermost a.outer marks }
 
-abbrev pub own_access : Site → Access
+abbrev pub own_access : Site → SpotAccess
 own_access site = record {
   site = site;
   lvalue = record { words = record { first = site; last = site }; bare = site.token; is_simple = false };
