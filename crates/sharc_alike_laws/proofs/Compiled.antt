@@ -86,7 +86,7 @@ module _ (r : Resolution) where
   lies_lock bytes None x y are = refl
   lies_lock bytes (Some spot) x y are = are.lock
 
-  -- what a site is, by the operation whose texts are told
+  -- what a site is, by the operation whose texts are given
   record IsPlaceOf (bytes : List ℕ) (o : Op) (p : SourcePlace) : Type 0 where
     site : p.site ≡ (source_of o).site
     at : p.at ≡ (source_of o).at

@@ -1,4 +1,4 @@
--- Codes that are alike tell a run in the same words.
+-- Codes that are alike report a run in the same words.
 use Rattle.std.proofs.Common.{◌≡◌, ℕ, ◌-◌, cond, List, [], ◌++◌, codes, decimal, slice_index, flat_map, get_or, Option, Some, None, refl, ap, ◌∙◌}
 use Rattle.sharc_shadow.specs.declared.shadow_word.Kind.{Kind}
 use Rattle.sharc_code.specs.declared.code.Code.{Code}

@@ -10,7 +10,7 @@ use Rattle.sharc_run_text.specs.Places.{text_of}
 abbrev pub unnamed : Function → Function
 unnamed f = record f { name = record { from = 0; until = 0 } }
 
--- one place of the source, told in the same words
+-- one place of the source, given in the same words
 pub record IsSamePlace (a b : Code) (p q : SourcePlace) : Type 0 where
   pub site : p.site ≡ q.site
   pub at : p.at ≡ q.at

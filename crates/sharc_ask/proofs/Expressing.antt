@@ -211,7 +211,7 @@ cast_is on_call m e span t a site mark same at s many =
     ≡ then_on (gives place (place_of on_call m x a) s) (λ v. gives number (ends_above mark (taken_from m.typed span.first (span_of a).first (cell_at m a) Cast (place_in v)) >>= (λ x. if is_null x then give x else cast_to m.typed (span_of a).first (pointed m (Some (cast_row m.typed span))) x)))) (sym at)
     (cast_begins m span a (place_of on_call m (span_of a).first a) mark s many))
 
--- a form whose value is what stands in a place
+-- a form whose value is what a place holds
 pub place_is : (on_call : Calls) (m : Assignment) (e x : Expression) (of_p : Run Place) (mark : ℕ) → e ≡ x → (s : State) → inside (gives number (eval on_call m x)) s ≡ gives number (place_value m x of_p) s → length s.frame.temporaries ≡ mark
     → inside (gives number (eval on_call m e)) s ≡ then_on (gives place of_p s) (λ v. gives number (ends_above mark (place_fetched m e (place_in v))))
 place_is on_call m e x of_p mark same s form many = subst (λ z. inside (gives number (eval on_call m z)) s ≡ then_on (gives place of_p s) (λ v. gives number (ends_above mark (place_fetched m z (place_in v))))) (sym same) (form ∙ fetch_begins m x of_p mark s many)

@@ -1,4 +1,4 @@
--- Calls: a frame of their own, and as many frames as may stand.
+-- Calls: a frame of their own, and as many frames as are allowed.
 use Rattle.std.proofs.Common.{◌≡◌, ℕ, zero, suc, ◌-◌, List, [], ◌∷◌, ◌++◌, Some, None, Ok, Err, refl, sym, ap, ◌∙◌, subst, arith, length, take, append-nil}
 use Rattle.std.specs.Prelude.{ℤ, pos, reverse, flat_map}
 use Rattle.std.proofs.lemmas.List.{reverse-append}
@@ -55,7 +55,7 @@ frame_ends {A} moved before mid k variables temporaries below e m kept h = λ s 
     let here : WasKept moved (known s) mid (Some (variables, temporaries, below)) = subst (λ b. WasKept moved b mid (Some (variables, temporaries, below))) (sym is) kept in
     ends_same {A = A} {B = A} e k (m (with_frame caller s)) (in_frame moved m s) (λ o t is_over. ap (back_in caller s.callers) is_over) (h (with_frame caller s) (inside moved s mid variables temporaries below here))
 
--- ---- as many frames as may stand
+-- ---- as many frames as are allowed
 
 call_is : (m : Assignment) (n f : ℕ) (site : Site) (vs : List ℤ) → (n ≡ 0 → ⊥) → calls m n f site vs ≡ call_value (calls m (n - 1)) m (function_at m.typed f) vs
 call_is m zero f site vs some = absurd (some refl)

@@ -56,7 +56,7 @@ test_split more step body (go true s) = body_split more step (body s)
 test_split more step body (go false s) = refl
 test_split more step body (over o s) = refl
 
--- one turn, and those behind it
+-- one turn, and those after it
 turns_split : (n : ℕ) (test : Run Bool) (step : Step) (body : Run Flow) (s : State) → turns (suc n) test step body s ≡ then_on (turn test step body s) (followed (turns n test step body))
 turns_split n test step body s = test_split (turns n test step body) step body (test s)
 

@@ -46,7 +46,7 @@ plan_over_as {A} v on_call m (ends.Wants x) k a b same h = over_same (ends.Wants
 plan_over_as {A} v on_call m (ends.Stopped code site) k a b same h = over_same (ends.Stopped code site) k a A b same h
 plan_over_as {A} v on_call m ends.Spent k a b same h = over_same ends.Spent k a A b same h
 
--- a step that comes first, and a plan behind it
+-- a step that comes first, and a plan after it
 pub step_plans : {A : Type 0} (on_call : Calls) (m : Assignment) (k k1 k2 : Known) (x : A) (r : Result Plan End) (first : Run A) (f : A → Run Value) → Does k (Ok x) k1 first → Plans on_call m k1 r k2 (f x) → Plans on_call m k r k2 (first >>= f)
 step_plans on_call m k k1 k2 x r first f h later = λ s is. let w = h s is in subst (λ o. PlanEnds on_call m r k2 (then_on o f)) (sym w.is) (later w.state w.looks)
 

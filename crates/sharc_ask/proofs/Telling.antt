@@ -1,4 +1,4 @@
--- How far a thread came, as the code tells it.
+-- How far a thread came, as the code reports it.
 use Rattle.std.proofs.Common.{◌≡◌, ℕ, zero, suc, Bool, true, false, Result, List, ◌++◌, length, refl, sym, ap, ◌∙◌, subst, arith}
 use Rattle.std.proofs.lemmas.Bool.{lt-ltb, ne_eqb}
 use Rattle.std.specs.Prelude.{ℤ, ◌==◌, nat_lt, not}

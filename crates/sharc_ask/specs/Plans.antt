@@ -48,14 +48,14 @@ use Rattle.sharc_ask.specs.View.{view_test, place_fetched, calling, made}
 
 -- ---- parts of runs
 
--- the temporaries but the first so many end with a run, and so do the variables
+-- the temporaries past this number end with a run, and so do the variables
 abbrev pub ends_above : {A : Type 0} → ℕ → Run A → Run A
 ends_above n m s = ends_temporaries n (m s)
 
 abbrev pub ends_block : {A : Type 0} → ℕ → Run A → Run A
 ends_block n m s = ends_variables n (m s)
 
--- what comes behind a step or a test
+-- what comes after a step or a test
 
 abbrev pub zero_behind : Step → Run ℤ
 zero_behind step = do
@@ -119,7 +119,7 @@ or_with r a b of_b x = do
   right ← (if left then give true else tested r b of_b)
   give (truth right)
 
--- an operator with the values of both operands, and of the right one where the left one stands in a temporary
+-- an operator with the values of both operands, and of the right one where the left one is held in a temporary
 
 abbrev pub joined_with : Resolution → ℕ → Site → BinaryOperator → Expression → ℤ → Run ℤ → Run ℤ
 joined_with r bits at o b x of_b = do
@@ -254,7 +254,7 @@ inside m s = m (record s { fuel = suc s.fuel })
 
 -- ---- that the walk ends
 
--- at least so much fuel is spent by a task
+-- at least this much fuel is spent by a task
 abbrev pub cost : Task → ℕ
 cost (tasks.Declare l) = 0
 cost (tasks.First x) = 0

@@ -1,4 +1,4 @@
--- How far a thread came, as the code tells it, and parts of runs, as the code's functions have them.
+-- How far a thread came, as the code reports it, and parts of runs, as the code's functions have them.
 use Rattle.std.specs.Prelude.{◌≡◌, ℕ, ℤ, Bool, true, false, Option, Some, None, take, drop, ◌-◌, unsigned_abs, length, List, [], ◌++◌, if◌then◌else◌}
 use Rattle.std.specs.Borrow.{Bor}
 use Rattle.std.specs.Option.{option_map}
@@ -90,7 +90,7 @@ binary_by None r bits at o a b of_a of_b = joined r bits at o a b of_a of_b
 binary_by (Some true) r bits at o a b of_a of_b = binary_value r at LogicalAnd a b of_a of_b
 binary_by (Some false) r bits at o a b of_a of_b = binary_value r at LogicalOr a b of_a of_b
 
--- a new object of so many elements
+-- a new object of this many elements
 abbrev pub made : Resolution → Site → Sharing → ℤ → WrittenType → Run ℤ
 made r site target elements w = do
   unless_stop (is_positive elements) size_not_positive site
@@ -167,7 +167,7 @@ leaves name = do
   performs name acts.Return
   performs name acts.Gone
 
--- temporaries, or variables, behind the first so many end, and what they hold is given up
+-- temporaries, or variables, past this number end, and what they hold is given up
 
 abbrev pub temporaries_ended : ℕ → Known → Known
 temporaries_ended n k = record k { temporaries = take n k.temporaries; given_up = k.given_up ++ all_released (drop n k.temporaries) }
@@ -175,7 +175,7 @@ temporaries_ended n k = record k { temporaries = take n k.temporaries; given_up 
 abbrev pub variables_ended : ℕ → Known → Known
 variables_ended n k = record k { variables = take n k.variables; given_up = k.given_up ++ all_released (pointers_among (drop n k.variables)) }
 
--- a caller's variables, its temporaries but the last, and what is held below it; behind that the frame is a new one, with all that below it
+-- a caller's variables, its temporaries but the last, and what is held below it; after that the frame is a new one, with all that below it
 abbrev pub WasKept : ℕ → Known → Known → Option (List Variable × List ℤ × List ℤ) → Type 0
 WasKept moved before after None = Unit {0}
 WasKept moved before after (Some (variables, temporaries, below)) =

@@ -15,7 +15,7 @@ pub type GivesUp = Listed<GivenUp>;
 /// How far a thread came with the answers that it was given.
 #[derive(Drop)]
 pub enum Outcome {
-    /// The answers are used up, and it wants this event. What it holds there stands beside it.
+    /// The answers are used up, and it wants this event. What it holds there is given beside it.
     Wants(SourceEvent, Holds),
     /// It is gone.
     Ended,
@@ -25,7 +25,7 @@ pub enum Outcome {
     Fuel,
 }
 
-/// The events that a thread asks for behind its start, each with its answer, and how far it came.
+/// The events that a thread asks for after its start, each with its answer, and how far it came.
 #[derive(Drop)]
 pub struct Asked {
     pub events: SourceEvents,

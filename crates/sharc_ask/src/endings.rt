@@ -54,7 +54,7 @@ fn release_pointers(variables: &[Variable], given_up: &mut Vec<GivenUp>) -> Resu
     }
 }
 
-/// The temporaries behind the mark end.
+/// The temporaries after the mark end.
 pub fn end_temporaries(mark: usize, st: &mut State) -> Result<(), AllocError>
     ensures ended { OnOk result (view_state st.new ≡ temporaries_ended mark (view_state st.old)) }
     ensures fuel { st.new.fuel ≤ st.old.fuel }
@@ -69,7 +69,7 @@ pub fn end_temporaries(mark: usize, st: &mut State) -> Result<(), AllocError>
     }
 }
 
-/// The variables behind the mark end.
+/// The variables after the mark end.
 pub fn end_variables(mark: usize, st: &mut State) -> Result<(), AllocError>
     ensures ended { OnOk result (view_state st.new ≡ variables_ended mark (view_state st.old)) }
     ensures fuel { st.new.fuel ≤ st.old.fuel }

@@ -29,14 +29,14 @@ pub fn begin_parameters(
     match parameters {
         [] => Ok(()),
         [parameter, rest @ ..] => match values {
-            [] => match begin(parameter, 0, st) {
-                Ok(()) => begin_parameters(rest, &[], st),
-                Err(end) => Err(end),
-            },
-            [value, more @ ..] => match begin(parameter, *value, st) {
-                Ok(()) => begin_parameters(rest, more, st),
-                Err(end) => Err(end),
-            },
+            [] => {
+                begin(parameter, 0, st)?;
+                begin_parameters(rest, &[], st)
+            }
+            [value, more @ ..] => {
+                begin(parameter, *value, st)?;
+                begin_parameters(rest, more, st)
+            }
         },
     }
 }

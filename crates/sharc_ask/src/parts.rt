@@ -18,14 +18,13 @@ ghost use Rattle.sharc_ask.specs.Plans.{ends_above, ends_block, zero_behind, nex
 use crate::endings::{end_temporaries, end_variables};
 use crate::plan::{Operation, Value, flow_in, number_in, test_in};
 use crate::values::{
-    Flow, based, cells_of, freed_unless_null, held, kind_of, let_go, number_named, resulting,
-    value_act,
+    Flow, based, cells_of, freed_unless_null, held, kind_of, let_go, number_named,
+    parameters_named, resulting, value_act,
 };
 use sharc_ask_steps::arithmetic::{fits, is_zero, operated, truth};
 use sharc_ask_steps::cells::{elements_of, number_of};
 use sharc_ask_steps::places::{Place, element, element_of_array, pointee, stored};
 use sharc_ask_steps::state::{End, State, ask_event, moves, perform, unless};
-use sharc_ctype::typed::parameters_named;
 use sharc_mode::cell::cell_of;
 use sharc_mode::moded::Moded;
 use sharc_mode::sharing::Sharing;
@@ -35,18 +34,16 @@ use sharc_tree::event::{Act, Object};
 use sharc_tree::token::Site;
 use sharc_tree::tree::{Declaration, Expr, ValueCall};
 
-/// The temporaries behind the mark end, where a number came.
+/// The temporaries after the mark end, where a number came.
 pub fn end_above(answer: Result<i64, End>, mark: usize, st: &mut State) -> Result<i64, End>
     ensures does { (before : Known) (run : Run ℤ) → Does before answer (view_state st.old) run → Does before result (view_state st.new) (ends_above mark run) }
     ensures fuel { st.new.fuel ≤ st.old.fuel }
     ensures kept { (n m : ℕ) → IfOk answer (λ _. n ≤ m) → IfOk result (λ _. n ≤ m) }
 {
-    match answer {
-        Ok(value) => match end_temporaries(mark, st) {
-            Ok(()) => Ok(value),
-            Err(_) => Err(End::Memory),
-        },
-        Err(end) => Err(end),
+    let value = answer?;
+    match end_temporaries(mark, st) {
+        Ok(()) => Ok(value),
+        Err(_) => Err(End::Memory),
     }
 }
 
@@ -70,10 +67,8 @@ pub fn zero_behind(answer: Result<(), End>) -> Result<i64, End>
     ensures does { (before after : Known) (run : Step) → Does before answer after run → Does before result after (zero_behind run) }
     ensures kept { (n m : ℕ) → IfOk answer (λ _. n ≤ m) → IfOk result (λ _. n ≤ m) }
 {
-    match answer {
-        Ok(()) => Ok(0),
-        Err(end) => Err(end),
-    }
+    answer?;
+    Ok(0)
 }
 
 /// Whether a value is neither 0 nor NULL.
@@ -81,51 +76,41 @@ pub fn tested_value(program: &Moded, expr: &Expr, value: i64, st: &mut State) ->
     ensures does { Does (view_state st.old) result (view_state st.new) (tested program.now.typed (view_expr expr.now) (give value)) }
     ensures fuel { st.new.fuel ≤ st.old.fuel }
 {
-    match let_go(program, expr, value, st) {
-        Ok(()) => Ok(!is_zero(value)),
-        Err(end) => Err(end),
-    }
+    let_go(program, expr, value, st)?;
+    Ok(!is_zero(value))
 }
 
 pub fn truth_of(program: &Moded, expr: &Expr, value: i64, st: &mut State) -> Result<i64, End>
     ensures does { Does (view_state st.old) result (view_state st.new) (truth_with program.now.typed (view_expr expr.now) value) }
     ensures fuel { st.new.fuel ≤ st.old.fuel }
 {
-    match tested_value(program, expr, value, st) {
-        Ok(is_true) => Ok(truth(is_true)),
-        Err(end) => Err(end),
-    }
+    let is_true = tested_value(program, expr, value, st)?;
+    Ok(truth(is_true))
 }
 
 pub fn inverted(program: &Moded, expr: &Expr, value: i64, st: &mut State) -> Result<i64, End>
     ensures does { Does (view_state st.old) result (view_state st.new) (inverted_with program.now.typed (view_expr expr.now) value) }
     ensures fuel { st.new.fuel ≤ st.old.fuel }
 {
-    match tested_value(program, expr, value, st) {
-        Ok(is_true) => Ok(truth(!is_true)),
-        Err(end) => Err(end),
-    }
+    let is_true = tested_value(program, expr, value, st)?;
+    Ok(truth(!is_true))
 }
 
-/// A value that stands in a temporary.
+/// A value that is held in a temporary.
 pub fn operand_value(program: &Moded, expr: &Expr, value: i64, st: &mut State) -> Result<i64, End>
     ensures does { Does (view_state st.old) result (view_state st.new) (operand program.now.typed (view_expr expr.now) (give value)) }
     ensures fuel { st.new.fuel ≤ st.old.fuel }
 {
-    match held(program, expr, value, st) {
-        Ok(()) => Ok(value),
-        Err(end) => Err(end),
-    }
+    held(program, expr, value, st)?;
+    Ok(value)
 }
 
 /// A value that what it goes to has to hold.
 pub fn fitted(kind: Kind<'_>, expr: &Expr, value: i64, st: &State) -> Result<i64, End>
     ensures { Does (view_state st.now) result (view_state st.now) (fitting (view_kind kind.entry) (view_expr expr.now) (give value)) }
 {
-    match unless(fits(kind, value), 4, expr.span().first, st) {
-        Ok(()) => Ok(value),
-        Err(end) => Err(end),
-    }
+    unless(fits(kind, value), 4, expr.span().first, st)?;
+    Ok(value)
 }
 
 pub fn returned(
@@ -193,22 +178,10 @@ fn spawned_value(
     ensures does { Does (view_state st.old) result (view_state st.new) (spawned_with program.now.typed site named (view_expr expr.now) value) }
     ensures fuel { st.new.fuel ≤ st.old.fuel }
 {
-    match passed_value(
-        program,
-        parameters_named(program.typed(), named),
-        expr,
-        value,
-        st,
-    ) {
-        Ok(value) => match ask_event(site, Act::Spawn(number_named(named), value), st) {
-            Ok(thread) => match moves(kind_of(program, expr), st) {
-                Ok(()) => Ok(thread),
-                Err(end) => Err(end),
-            },
-            Err(end) => Err(end),
-        },
-        Err(end) => Err(end),
-    }
+    let value = passed_value(program, parameters_named(program, named), expr, value, st)?;
+    let thread = ask_event(site, Act::Spawn(number_named(named), value), st)?;
+    moves(kind_of(program, expr), st)?;
+    Ok(thread)
 }
 
 /// A new thread gets the argument.
@@ -258,14 +231,12 @@ fn joined_value(
     ensures does { Does (view_state st.old) result (view_state st.new) (joined_with program.now.typed (value_bits operation.width) operation.site operation.operator (view_expr expr.now) left (give right)) }
     ensures fuel { st.new.fuel ≤ st.old.fuel }
 {
-    match operand_value(program, expr, right, st) {
-        Ok(right) => resulting(
-            operation.site,
-            operated(operation.width, operation.operator, left, right),
-            st,
-        ),
-        Err(end) => Err(end),
-    }
+    let right = operand_value(program, expr, right, st)?;
+    resulting(
+        operation.site,
+        operated(operation.width, operation.operator, left, right),
+        st,
+    )
 }
 
 /// An operator with the values of both operands, of which the right one is that of the expression.
@@ -333,10 +304,8 @@ pub fn first_behind(
     ensures does { DoesAs view_place (view_state st.old) result (view_state st.new) (pointee_place program.now.typed site (view_expr pointed.now) (give pointer)) }
     ensures fuel { st.new.fuel ≤ st.old.fuel }
 {
-    match based(program, site, pointed, pointer, st) {
-        Ok(()) => Ok(pointee(pointer)),
-        Err(end) => Err(end),
-    }
+    based(program, site, pointed, pointer, st)?;
+    Ok(pointee(pointer))
 }
 
 /// A value goes to the place that an expression names.
@@ -389,18 +358,16 @@ pub fn initialised(
     )
 }
 
-/// The variables behind the mark end with a block.
+/// The variables after the mark end with a block.
 pub fn end_block(answer: Result<Flow, End>, mark: usize, st: &mut State) -> Result<Flow, End>
     ensures does { (before : Known) (run : Run LeftBy) → DoesAs view_flow before answer (view_state st.old) run → DoesAs view_flow before result (view_state st.new) (ends_block mark run) }
     ensures fuel { st.new.fuel ≤ st.old.fuel }
     ensures kept { (n m : ℕ) → IfOk answer (λ _. n ≤ m) → IfOk result (λ _. n ≤ m) }
 {
-    match answer {
-        Ok(flow) => match end_variables(mark, st) {
-            Ok(()) => Ok(flow),
-            Err(_) => Err(End::Memory),
-        },
-        Err(end) => Err(end),
+    let flow = answer?;
+    match end_variables(mark, st) {
+        Ok(()) => Ok(flow),
+        Err(_) => Err(End::Memory),
     }
 }
 
@@ -409,10 +376,8 @@ pub fn next_behind(answer: Result<Value, End>) -> Result<Flow, End>
     ensures does { (before after : Known) (run : Step) → DoesAs view_value before answer after (gives as_nothing run) → DoesAs view_flow before result after (next_behind run) }
     ensures kept { (n m : ℕ) → IfOk answer (λ _. n ≤ m) → IfOk result (λ _. n ≤ m) }
 {
-    match answer {
-        Ok(_) => Ok(Flow::Next),
-        Err(end) => Err(end),
-    }
+    answer?;
+    Ok(Flow::Next)
 }
 
 /// How a statement is left.
@@ -420,10 +385,8 @@ pub fn flow_behind(answer: Result<Value, End>) -> Result<Flow, End>
     ensures does { (before after : Known) (run : Run LeftBy) → DoesAs view_value before answer after (gives flow run) → DoesAs view_flow before result after run }
     ensures kept { (n m : ℕ) → IfOk answer (λ _. n ≤ m) → IfOk result (λ _. n ≤ m) }
 {
-    match answer {
-        Ok(value) => Ok(flow_in(value)),
-        Err(end) => Err(end),
-    }
+    let value = answer?;
+    Ok(flow_in(value))
 }
 
 /// The number that a task comes to.
@@ -431,10 +394,8 @@ pub fn number_behind(answer: Result<Value, End>) -> Result<i64, End>
     ensures does { (before after : Known) (run : Run ℤ) → DoesAs view_value before answer after (gives number run) → Does before result after run }
     ensures kept { (n m : ℕ) → IfOk answer (λ _. n ≤ m) → IfOk result (λ _. n ≤ m) }
 {
-    match answer {
-        Ok(value) => Ok(number_in(value)),
-        Err(end) => Err(end),
-    }
+    let value = answer?;
+    Ok(number_in(value))
 }
 
 /// The truth that a task comes to.
@@ -442,10 +403,8 @@ pub fn test_behind(answer: Result<Value, End>) -> Result<bool, End>
     ensures does { (before after : Known) (run : Run Bool) → DoesAs view_value before answer after (gives test run) → Does before result after run }
     ensures kept { (n m : ℕ) → IfOk answer (λ _. n ≤ m) → IfOk result (λ _. n ≤ m) }
 {
-    match answer {
-        Ok(value) => Ok(test_in(value)),
-        Err(end) => Err(end),
-    }
+    let value = answer?;
+    Ok(test_in(value))
 }
 
 /// A task that is a step.
@@ -453,10 +412,8 @@ pub fn step_behind(answer: Result<Value, End>) -> Result<(), End>
     ensures does { (before after : Known) (run : Step) → DoesAs view_value before answer after (gives as_nothing run) → Does before result after run }
     ensures kept { (n m : ℕ) → IfOk answer (λ _. n ≤ m) → IfOk result (λ _. n ≤ m) }
 {
-    match answer {
-        Ok(_) => Ok(()),
-        Err(end) => Err(end),
-    }
+    answer?;
+    Ok(())
 }
 
 /// A number as a value.
@@ -464,8 +421,6 @@ pub fn numbered(answer: Result<i64, End>) -> Result<Value, End>
     ensures does { (before after : Known) (run : Run ℤ) → Does before answer after run → DoesAs view_value before result after (gives number run) }
     ensures kept { (n m : ℕ) → IfOk answer (λ _. n ≤ m) → IfOk result (λ _. n ≤ m) }
 {
-    match answer {
-        Ok(number) => Ok(Value::Number(number)),
-        Err(end) => Err(end),
-    }
+    let number = answer?;
+    Ok(Value::Number(number))
 }

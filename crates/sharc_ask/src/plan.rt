@@ -101,18 +101,18 @@ pub enum Task<'a> {
     Pointee(Site, &'a Expr),
     /// `a.n` and `a->n`
     Field(Site, &'a Expr, Access, Named),
-    /// What stands right of `=`, for this type and the mode of its target.
+    /// The right side of `=`, for this type and the mode of its target.
     Right(Kind<'a>, Sharing<'a>, &'a Right),
     Simple(&'a Simple),
     Declare(&'a Local),
-    /// What stands first, and the test, in the head of a loop.
+    /// What comes first, and the test, in the head of a loop.
     First(&'a ForFirst),
     LoopTest(Option<&'a Expr>),
     /// A `return` in a function with a result of this type.
     Return(Kind<'a>, Site, &'a Option<Box<Expr>>),
 }
 
-/// An operator that looks at both operands. Temporaries behind the mark end with it.
+/// An operator that looks at both operands. Temporaries after the mark end with it.
 #[derive(Clone, Copy)]
 pub struct Operation {
     pub width: Width,

@@ -21,10 +21,8 @@ pub fn done_number<'a>(answer: Result<i64, End>) -> Result<Plan<'a>, End>
     ensures means { (on_call : Calls) (m : Assignment) (before after : Known) (run : Run ℤ) → Does before answer after run → Plans on_call m before result after (gives number run) }
     ensures fits { IfOk result (Fits 0) }
 {
-    match answer {
-        Ok(number) => Ok(Plan::Done(Value::Number(number))),
-        Err(end) => Err(end),
-    }
+    let number = answer?;
+    Ok(Plan::Done(Value::Number(number)))
 }
 
 /// A place came.
@@ -32,10 +30,8 @@ pub fn done_place<'a>(answer: Result<Place, End>) -> Result<Plan<'a>, End>
     ensures means { (on_call : Calls) (m : Assignment) (before after : Known) (run : Run NamedPlace) → DoesAs view_place before answer after run → Plans on_call m before result after (gives place run) }
     ensures fits { IfOk result (Fits 0) }
 {
-    match answer {
-        Ok(place) => Ok(Plan::Done(Value::Place(place))),
-        Err(end) => Err(end),
-    }
+    let place = answer?;
+    Ok(Plan::Done(Value::Place(place)))
 }
 
 /// A test was made.
@@ -43,10 +39,8 @@ pub fn done_test<'a>(answer: Result<bool, End>) -> Result<Plan<'a>, End>
     ensures means { (on_call : Calls) (m : Assignment) (before after : Known) (run : Run Bool) → Does before answer after run → Plans on_call m before result after (gives test run) }
     ensures fits { IfOk result (Fits 0) }
 {
-    match answer {
-        Ok(is_true) => Ok(Plan::Done(Value::Truth(is_true))),
-        Err(end) => Err(end),
-    }
+    let is_true = answer?;
+    Ok(Plan::Done(Value::Truth(is_true)))
 }
 
 /// A statement was left.
@@ -54,10 +48,8 @@ pub fn done_flow<'a>(answer: Result<Flow, End>) -> Result<Plan<'a>, End>
     ensures means { (on_call : Calls) (m : Assignment) (before after : Known) (run : Run LeftBy) → DoesAs view_flow before answer after run → Plans on_call m before result after (gives flow run) }
     ensures fits { IfOk result (Fits 0) }
 {
-    match answer {
-        Ok(flow) => Ok(Plan::Done(Value::Flow(flow))),
-        Err(end) => Err(end),
-    }
+    let flow = answer?;
+    Ok(Plan::Done(Value::Flow(flow)))
 }
 
 /// A step was done.
@@ -65,10 +57,8 @@ pub fn done_step<'a>(answer: Result<(), End>) -> Result<Plan<'a>, End>
     ensures means { (on_call : Calls) (m : Assignment) (before after : Known) (run : Step) → Does before answer after run → Plans on_call m before result after (gives as_nothing run) }
     ensures fits { IfOk result (Fits 0) }
 {
-    match answer {
-        Ok(()) => Ok(Plan::Done(Value::Nothing)),
-        Err(end) => Err(end),
-    }
+    answer?;
+    Ok(Plan::Done(Value::Nothing))
 }
 
 /// A step was done, and it goes on.
@@ -76,10 +66,8 @@ pub fn then<'a>(answer: Result<(), End>, plan: Plan<'a>) -> Result<Plan<'a>, End
     ensures means { (on_call : Calls) (m : Assignment) (before after : Known) (run : Step) → Does before answer after run → Plans on_call m before result after (step_then run (plan_means on_call m plan.entry)) }
     ensures fits { (n : ℕ) → Fits n plan.entry → IfOk result (Fits n) }
 {
-    match answer {
-        Ok(()) => Ok(plan),
-        Err(end) => Err(end),
-    }
+    answer?;
+    Ok(plan)
 }
 
 /// A test was made, and it goes on by its truth.

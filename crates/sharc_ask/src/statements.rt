@@ -64,7 +64,7 @@ fn begin_malloc<'a>(
     }
 }
 
-/// What stands right of `=`.
+/// The right side of `=`.
 pub fn begin_right<'a>(
     program: &'a Moded,
     kind: Kind<'a>,
@@ -141,7 +141,7 @@ pub fn begin_local<'a>(
     )
 }
 
-/// What stands first in the head of a `for`.
+/// What comes first in the head of a `for`.
 pub fn begin_first<'a>(first: &'a ForFirst, st: &mut State) -> Result<Plan<'a>, End>
     ensures means { (on_call : Calls) (m : Assignment) → Plans on_call m (view_state st.old) result (view_state st.new) (gives as_nothing (done_first on_call m (view_first first.now))) }
     ensures begins { IfOk result (Begins 5 0 st.old.fuel st.new.fuel) }

@@ -20,10 +20,8 @@ use std::alloc::{AllocError, Global};
 fn leaves(name: Site, st: &mut State) -> Result<(), End>
     ensures { Does (view_state st.old) result (view_state st.new) (leaves name) }
 {
-    match perform(name, Act::Return, st) {
-        Ok(()) => perform(name, Act::Gone, st),
-        Err(end) => Err(end),
-    }
+    perform(name, Act::Return, st)?;
+    perform(name, Act::Gone, st)
 }
 
 /// A thread returns where it holds no mutex, and is then gone.
@@ -42,15 +40,15 @@ fn run_thread(program: &Moded, number: u32, argument: i64, st: &mut State) -> Re
 {
     match program.typed().function_at(number) {
         None => Ok(()),
-        Some(function) => match run_function(program, 255, function, &[argument], st) {
-            Ok(left) => goes_away(function.name.site, left.0, st),
-            Err(end) => Err(end),
-        },
+        Some(function) => {
+            let left = run_function(program, 255, function, &[argument], st)?;
+            goes_away(function.name.site, left.0, st)
+        }
     }
 }
 
-/// What a thread of the function with this number asks for, given its argument and the answers of its events, with so much fuel. A thread of a function
-/// that there is not asks for nothing and is over. Its only fault is want of memory.
+/// What a thread of the function with this number asks for, given its argument and the answers of its events, with this much fuel. A thread of a function
+/// that does not exist asks for nothing and is over. Its only fault is being out of memory.
 pub fn ask(
     alloc: Global,
     program: &Moded,
@@ -127,7 +125,7 @@ fn held_in(alloc: Global, st: State) -> Result<Holds, AllocError>
 }
 
 /// The pointers that the frames and temporaries of such a thread hold as far as it comes: at the event that it wants, at its stop or its end, or where its fuel
-/// is spent. Its only fault is want of memory.
+/// is spent. Its only fault is being out of memory.
 pub fn held(
     alloc: Global,
     program: &Moded,

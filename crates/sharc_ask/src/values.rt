@@ -6,6 +6,7 @@ ghost use Rattle.sharc_tree.specs.View.{view_expr, view_option, view_simple};
 ghost use Rattle.sharc_names.specs.Kinds.{declared_kinds, element_kind};
 ghost use Rattle.sharc_names.specs.View.{view_kind};
 ghost use Rattle.sharc_ctype.specs.Resolved.{named_at, kind_at};
+ghost use Rattle.sharc_ctype.specs.Transfers.{parameters_named};
 ghost use Rattle.sharc_mode.specs.Cells.{cell_at, pointed};
 ghost use Rattle.sharc_mode.specs.Rows.{cast_row};
 ghost use Rattle.sharc_mode.specs.View.{view_sharing};
@@ -22,6 +23,7 @@ use sharc_ask_steps::arithmetic::{is_positive, is_zero};
 use sharc_ask_steps::cells::{element_cells, instance_mode};
 use sharc_ask_steps::places::{Place, base, cast_to, element, fetched, freed};
 use sharc_ask_steps::state::{End, State, ask_event, dropped, hold, unless, value_in};
+use sharc_ctype::typed;
 use sharc_mode::cell::{cell_of, pointed};
 use sharc_mode::moded::Moded;
 use sharc_mode::row::cast_row;
@@ -70,6 +72,12 @@ pub fn number_named(named: Named) -> u32
         Named::Function(number) => number,
         _ => 0,
     }
+}
+
+pub fn parameters_named(program: &Moded, named: Named) -> &[Declaration]
+    ensures { result.now ≡ parameters_named program.now.typed named }
+{
+    typed::parameters_named(program.typed(), named)
 }
 
 pub fn rest_of(parameters: &[Declaration]) -> &[Declaration]

@@ -25,10 +25,9 @@ use crate::rests::resume;
 use crate::statements::{
     begin_first, begin_local, begin_right, return_plan, simple_plan, test_plan,
 };
-use crate::values::{Flow, left_by, rest_of, step_of, test_of, with_first};
+use crate::values::{Flow, left_by, parameters_named, rest_of, step_of, test_of, with_first};
 use sharc_ask_steps::state::{End, State, enter};
 use sharc_ask_steps::waiting::condition_call;
-use sharc_ctype::typed::parameters_named;
 use sharc_mode::moded::Moded;
 use sharc_names::fault::Named;
 use sharc_names::kind::{Kind, declared_kind};
@@ -181,7 +180,7 @@ fn calling<'a>(program: &'a Moded, frames: u32, call: Call<'a>, st: &mut State) 
     match arguments(
         program,
         frames,
-        parameters_named(program.typed(), call.named),
+        parameters_named(program, call.named),
         call.arguments,
         st,
     ) {
@@ -284,7 +283,7 @@ fn turn<'a>(
     }
 }
 
-// The body of a loop, and what is behind it.
+// The body of a loop, and what follows it.
 #[cycle(walk)]
 fn around<'a>(
     program: &'a Moded,

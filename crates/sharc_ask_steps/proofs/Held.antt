@@ -1,4 +1,4 @@
--- Which mutexes are held behind one event more.
+-- Which mutexes are held after one more event.
 use Rattle.std.proofs.Common.{◌≡◌, Bool, true, false, cond, not, ◌||◌, List, [], ◌∷◌, ◌++◌, refl, ap, ◌∙◌}
 use Rattle.std.specs.Prelude.{Option, Some, None, filter}
 use Rattle.std.specs.List.{list_any}

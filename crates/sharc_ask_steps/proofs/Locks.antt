@@ -20,7 +20,7 @@ locks site p = do
   performs site (acts.Lock (cell_at_place p))
   moves_base p
 
--- where so many mutexes are held
+-- where this many mutexes are held
 abbrev locks_with : ℕ → Site → Place → Step
 locks_with n site p = do
   unless_stop (nat_lt n 16) too_many_locks site
@@ -31,7 +31,7 @@ lock_of_held k site p at e same h =
     let g : Does {A = Unit {0}} k (Err e) k (stops_where_held (cell_at_place p) site) = subst (λ a. Does {A = Unit {0}} k (Err e) k (stops_where_held a site)) same h in
     λ s is. over_then k k e (stops_where_held (cell_at_place p) site) (λ u. locks_with (length (held_mutexes s.events)) site p) g s is
 
--- what is behind the first test knows only how many mutexes are held
+-- what follows the first test knows only how many mutexes are held
 not_held : (k k1 : Known) (site : Site) (p : Place) (at : CellAt) (x : Unit {0}) (r : Result (Unit {0}) End) → at ≡ cell_at_place p → Does k (Ok x) k (stops_where_held at site)
     → ((n : ℕ) → n ≡ length k.held → Does k r k1 (locks_with n site p)) → Does k r k1 (lock_call site p)
 not_held k k1 site p at x r same h later =

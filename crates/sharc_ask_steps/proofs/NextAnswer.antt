@@ -9,12 +9,12 @@ use Rattle.sharc_meaning.specs.State.{State, answered, happens, answer_of, event
 use Rattle.sharc_ask_steps.specs.View.{Known, known, Went, held_after}
 use Rattle.sharc_ask_steps.proofs.Held.{held_behind}
 
--- what is left behind the first, as the code has it
+-- what is left after the first, as the code has it
 pub all_left : (xs : List ℤ) → drop 1 xs ≡ take (length xs - 1) (drop 1 xs)
 all_left [] = refl
 all_left (x ∷ xs) = sym (take_all (length (x ∷ xs) - 1) xs (omega arith))
 
--- the state behind the event
+-- the state after the event
 abbrev pub behind : Known → Site → Act → ℤ → List ℤ → Known
 behind k site act answer rest = record k { answers = rest; events = k.events ++ event_of site act answer ∷ []; held = held_after act k.held; given_up = [] }
 

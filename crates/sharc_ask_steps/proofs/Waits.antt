@@ -28,7 +28,7 @@ waits_go k k1 k2 k3 site c m c1 m1 at_c at_m x y r ec em ac am h1 h2 h3 =
     does_then k k1 k3 x r (performs site (acts.Enter (first_cell c))) (λ u. performs site (acts.Unlock (first_cell m)) >> awakes site c m) g1
     (does_then k1 k2 k3 y r (performs site (acts.Unlock (first_cell m))) (λ u. awakes site c m) g2 g3)
 
--- a wait behind its tests of NULL
+-- a wait after its tests of NULL
 abbrev held_waits : Site → ℤ → ℤ → Step
 held_waits site c m = do
   own ← looks_at (λ s. s.events)

@@ -43,7 +43,7 @@ known s = record { variables = s.frame.variables; temporaries = s.frame.temporar
 abbrev pub view_state : RustState → Known
 view_state s = record { variables = s.frame.variables.items; temporaries = s.frame.temporaries.items; below = s.below.items; answers = s.answers.now; events = s.events.items; held = s.held.items; fuel = s.fuel; given_up = s.given_up.items }
 
--- an end of a run is the outcome that the code tells
+-- an end of a run is the outcome that the code reports
 abbrev pub IsEnd : End → Outcome → Type 0
 IsEnd ends.Memory o = Unit {0}
 IsEnd (ends.Wants e) o = o ≡ wants e
@@ -71,13 +71,13 @@ Ends (Err e) k out = Over e k out
 abbrev pub Does : {A : Type 0} → Known → Result A End → Known → Run A → Type 0
 Does before result after m = (s : State) → known s ≡ before → Ends result after (m s)
 
--- the mutexes that are held behind one event more
+-- the mutexes that are held after one more event
 abbrev pub held_after : Act → List CellAt → List CellAt
 held_after (Lock c) held = held ++ c ∷ []
 held_after (Unlock c) held = filter (λ d. not (same_cell d c)) held
 held_after _ held = held
 
--- how many variables stand before the one of this token
+-- how many variables come before the one of this token
 abbrev pub place_of : List Variable → ℕ → ℕ
 place_of [] token = 0
 place_of (x ∷ rest) token = if x.token == token then 0 else place_of rest token + 1

@@ -122,7 +122,7 @@ pub fn global_elements(typed: &Typed, number: u32) -> u64
     }
 }
 
-// How many of the fields stand before the one that this token declares; all, where it is not among them.
+// How many of the fields come before the one that this token declares; all, where it is not among them.
 fn fields_before(fields: &[Declaration], token: u32) -> usize
     ensures place { result ≡ position_or_len (λ d. d.name.site.token == token) fields.now }
     ensures within { result ≤ length fields.now }

@@ -29,7 +29,7 @@ use sharc_names::kind::{Kind, is_pointer};
 use sharc_tree::event::{Act, CellAt, CellMode, Object, TakeKind, Taken};
 use sharc_tree::token::Site;
 
-/// What an lvalue names: a variable, or a cell of an object in the element that begins at the cell told first.
+/// What an lvalue names: a variable, or a cell of an object in the element that begins at the cell given first.
 #[derive(Clone, Copy, Drop)]
 pub enum Place {
     Variable(u32),
@@ -54,7 +54,7 @@ pub fn pointee(pointer: i64) -> Place
     Place::Cell(Object::Made(number_of(pointer)), 0, 0)
 }
 
-/// The place of the field so many cells behind the element's first. A cell that has no number of 64 bits is want of memory.
+/// The place of the field this many cells after the element's first. A cell that has no number of 64 bits is answered as out of memory.
 pub fn field_in(number: u64, place: Place, st: &State) -> Result<Place, End>
     ensures { DoesAs view_place (view_state st.now) result (view_state st.now) (give (field_in number (view_place place))) }
 {
@@ -72,13 +72,11 @@ pub fn base(site: Site, kind: Kind<'_>, pointer: i64, st: &mut State) -> Result<
     ensures does { Does (view_state st.old) result (view_state st.new) (based site (view_kind kind.entry) pointer) }
     ensures fuel { st.new.fuel ≤ st.old.fuel }
 {
-    match hold(kind, pointer, st) {
-        Ok(()) => unless(!is_zero(pointer), 1, site, st),
-        Err(end) => Err(end),
-    }
+    hold(kind, pointer, st)?;
+    unless(!is_zero(pointer), 1, site, st)
 }
 
-/// An element with so many cells, of so many; an index outside stops.
+/// An element with this many cells, of this many elements; an index outside stops.
 pub fn element(
     site: Site,
     object: Object,
@@ -134,16 +132,14 @@ pub fn guarding(site: Site, guard: Guard, st: &mut State) -> Result<CellAt, End>
 {
     match guard {
         Guard::Mutex(cell) => Ok(cell),
-        Guard::Behind(cell) => match ask_event(site, Act::Read(cell, CellMode::Readonly), st) {
-            Ok(pointer) => match unless(!is_zero(pointer), 1, site, st) {
-                Ok(()) => Ok(CellAt {
-                    object: Object::Made(number_of(pointer)),
-                    cell: 0,
-                }),
-                Err(end) => Err(end),
-            },
-            Err(end) => Err(end),
-        },
+        Guard::Behind(cell) => {
+            let pointer = ask_event(site, Act::Read(cell, CellMode::Readonly), st)?;
+            unless(!is_zero(pointer), 1, site, st)?;
+            Ok(CellAt {
+                object: Object::Made(number_of(pointer)),
+                cell: 0,
+            })
+        }
         Guard::Nothing => Err(End::Stopped(1, site)),
     }
 }
@@ -167,10 +163,10 @@ fn locked_mode(
         lock,
     ) {
         None => Err(End::Memory),
-        Some(guard) => match guarding(site, guard, st) {
-            Ok(cell) => Ok(CellMode::Locked(Some(cell))),
-            Err(end) => Err(end),
-        },
+        Some(guard) => {
+            let cell = guarding(site, guard, st)?;
+            Ok(CellMode::Locked(Some(cell)))
+        }
     }
 }
 
@@ -208,12 +204,10 @@ pub fn fetched(
 {
     match place {
         Place::Variable(token) => Ok(value_in(st.frame.variables.as_slice(), token)),
-        Place::Cell(object, first, cell) => match access_mode(
-            program, site, mode, object, first, st,
-        ) {
-            Ok(under) => ask_event(site, Act::Read(CellAt { object, cell }, under), st),
-            Err(end) => Err(end),
-        },
+        Place::Cell(object, first, cell) => {
+            let under = access_mode(program, site, mode, object, first, st)?;
+            ask_event(site, Act::Read(CellAt { object, cell }, under), st)
+        }
     }
 }
 
@@ -240,13 +234,9 @@ fn stored_in_cell(
     ensures does { Does (view_state st.old) result (view_state st.new) (stored_in_cell site (view_kind kind.entry) cell under value) }
     ensures fuel { st.new.fuel ≤ st.old.fuel }
 {
-    match perform(site, Act::Write(cell, under, value), st) {
-        Ok(()) => match moves(kind, st) {
-            Ok(()) => replaced_in(kind, cell, st),
-            Err(end) => Err(end),
-        },
-        Err(end) => Err(end),
-    }
+    perform(site, Act::Write(cell, under, value), st)?;
+    moves(kind, st)?;
+    replaced_in(kind, cell, st)
 }
 
 /// A value of this type to a place; the old one is given up, the reference moves in.
@@ -265,18 +255,14 @@ pub fn stored(
     match place {
         Place::Variable(token) => {
             let old = value_in(st.frame.variables.as_slice(), token);
-            match set(token, value, st) {
-                Ok(()) => dropped(kind, old, st),
-                Err(end) => Err(end),
-            }
+            set(token, value, st)?;
+            dropped(kind, old, st)
         }
-        Place::Cell(object, first, cell) => match hold(kind, value, st) {
-            Ok(()) => match access_mode(program, site, mode, object, first, st) {
-                Ok(under) => stored_in_cell(site, kind, CellAt { object, cell }, under, value, st),
-                Err(end) => Err(end),
-            },
-            Err(end) => Err(end),
-        },
+        Place::Cell(object, first, cell) => {
+            hold(kind, value, st)?;
+            let under = access_mode(program, site, mode, object, first, st)?;
+            stored_in_cell(site, kind, CellAt { object, cell }, under, value, st)
+        }
     }
 }
 
@@ -313,24 +299,18 @@ pub fn taken_from(
     match place {
         Place::Variable(token) => {
             let value = value_in(st.frame.variables.as_slice(), token);
-            match taken_of_local(site, kind, token, value, st) {
-                Ok(_) => match set(token, 0, st) {
-                    Ok(()) => Ok(value),
-                    Err(end) => Err(end),
-                },
-                Err(end) => Err(end),
-            }
+            taken_of_local(site, kind, token, value, st)?;
+            set(token, 0, st)?;
+            Ok(value)
         }
-        Place::Cell(object, first, cell) => match access_mode(
-            program, site, mode, object, first, st,
-        ) {
-            Ok(under) => ask_event(
+        Place::Cell(object, first, cell) => {
+            let under = access_mode(program, site, mode, object, first, st)?;
+            ask_event(
                 site,
                 Act::Take(Taken::Cell(CellAt { object, cell }, under), kind),
                 st,
-            ),
-            Err(end) => Err(end),
-        },
+            )
+        }
     }
 }
 
@@ -345,19 +325,11 @@ pub fn cast_to(
     ensures does { Does (view_state st.old) result (view_state st.new) (cast_to program.now.typed site (view_sharing mode.entry) value) }
     ensures fuel { st.new.fuel ≤ st.old.fuel }
 {
-    match hold_reference(value, st) {
-        Ok(()) => {
-            let under = instance_mode(program.typed(), st.frame.variables.as_slice(), mode);
-            match perform(site, Act::Give(value, under), st) {
-                Ok(()) => match move_on(st) {
-                    Ok(()) => Ok(value),
-                    Err(end) => Err(end),
-                },
-                Err(end) => Err(end),
-            }
-        }
-        Err(end) => Err(end),
-    }
+    hold_reference(value, st)?;
+    let under = instance_mode(program.typed(), st.frame.variables.as_slice(), mode);
+    perform(site, Act::Give(value, under), st)?;
+    move_on(st)?;
+    Ok(value)
 }
 
 /// The object ends, and what its pointer cells hold is given up on the way.
@@ -365,14 +337,8 @@ pub fn freed(site: Site, value: i64, st: &mut State) -> Result<(), End>
     ensures does { Does (view_state st.old) result (view_state st.new) (freed site value) }
     ensures fuel { st.new.fuel ≤ st.old.fuel }
 {
-    match give_up(GivenUp::Emptied(number_of(value)), st) {
-        Ok(()) => match hold_reference(value, st) {
-            Ok(()) => match perform(site, Act::Freed(value), st) {
-                Ok(()) => move_on(st),
-                Err(end) => Err(end),
-            },
-            Err(end) => Err(end),
-        },
-        Err(end) => Err(end),
-    }
+    give_up(GivenUp::Emptied(number_of(value)), st)?;
+    hold_reference(value, st)?;
+    perform(site, Act::Freed(value), st)?;
+    move_on(st)
 }

@@ -25,7 +25,7 @@ pub enum End {
     Spent,
 }
 
-/// The variables that stand in a call, and the pointers that its temporaries hold.
+/// The variables that exist in a call, and the pointers that its temporaries hold.
 #[derive(Drop)]
 pub struct Frame {
     pub variables: Vec<Variable>,
@@ -100,7 +100,7 @@ pub fn hold(kind: Kind<'_>, value: i64, st: &mut State) -> Result<(), End>
     }
 }
 
-/// A variable stands from here on.
+/// A variable exists from here on.
 pub fn begin(declaration: &Declaration, value: i64, st: &mut State) -> Result<(), End>
     ensures does { Does (view_state st.old) result (view_state st.new) (begins_with declaration.now value) }
     ensures fuel { st.new.fuel ≤ st.old.fuel }
@@ -118,7 +118,7 @@ pub fn begin(declaration: &Declaration, value: i64, st: &mut State) -> Result<()
     }
 }
 
-/// What a variable holds; 0 where it does not stand.
+/// What a variable holds; 0 where it does not exist.
 pub fn value_in(variables: &[Variable], token: u32) -> i64
     ensures { result ≡ value_in variables.now token }
 {
@@ -134,7 +134,7 @@ pub fn value_in(variables: &[Variable], token: u32) -> i64
     }
 }
 
-/// How many variables stand before the one of this token; all, where it does not stand.
+/// How many variables come before the one of this token; all, where it does not exist.
 fn place_of(variables: &[Variable], token: u32) -> usize
     ensures place { result ≡ place_of variables.now token }
     ensures within { result ≤ length variables.now }
@@ -275,7 +275,7 @@ fn keep_others(cells: &[CellAt], cell: CellAt, kept: &mut Vec<CellAt>) -> Result
     }
 }
 
-/// The mutexes that are held behind one event more.
+/// The mutexes that are held after one more event.
 fn note_held(alloc: Global, act: Act, held: &mut Vec<CellAt>) -> Result<(), End>
     ensures { OnOk result (held.new.items ≡ held_after act held.old.items) }
 {
@@ -286,13 +286,9 @@ fn note_held(alloc: Global, act: Act, held: &mut Vec<CellAt>) -> Result<(), End>
         },
         Act::Unlock(cell) => {
             let mut kept = Vec::new(alloc);
-            match keep_others(held.as_slice(), cell, &mut kept) {
-                Ok(()) => {
-                    *held = kept;
-                    Ok(())
-                }
-                Err(end) => Err(end),
-            }
+            keep_others(held.as_slice(), cell, &mut kept)?;
+            *held = kept;
+            Ok(())
         }
         _ => Ok(()),
     }
@@ -345,8 +341,6 @@ pub fn perform(site: Site, act: Act, st: &mut State) -> Result<(), End>
     ensures does { Does (view_state st.old) result (view_state st.new) (performs site act) }
     ensures fuel { st.new.fuel ≤ st.old.fuel }
 {
-    match ask_event(site, act, st) {
-        Ok(_) => Ok(()),
-        Err(end) => Err(end),
-    }
+    ask_event(site, act, st)?;
+    Ok(())
 }

@@ -35,16 +35,10 @@ fn awakes(site: Site, condition: i64, mutex: i64, st: &mut State) -> Result<(), 
     ensures does { Does (view_state st.old) result (view_state st.new) (awakes site condition mutex) }
     ensures fuel { st.new.fuel ≤ st.old.fuel }
 {
-    match hold_reference(mutex, st) {
-        Ok(()) => match perform(site, Act::Woken(first_cell(condition)), st) {
-            Ok(()) => match perform(site, Act::Lock(first_cell(mutex)), st) {
-                Ok(()) => move_on(st),
-                Err(end) => Err(end),
-            },
-            Err(end) => Err(end),
-        },
-        Err(end) => Err(end),
-    }
+    hold_reference(mutex, st)?;
+    perform(site, Act::Woken(first_cell(condition)), st)?;
+    perform(site, Act::Lock(first_cell(mutex)), st)?;
+    move_on(st)
 }
 
 // From the Enter on.
@@ -82,20 +76,16 @@ fn signal_call(site: Site, condition: i64, st: &mut State) -> Result<(), End>
     ensures does { Does (view_state st.old) result (view_state st.new) (signal_call site condition) }
     ensures fuel { st.new.fuel ≤ st.old.fuel }
 {
-    match unless(!is_zero(condition), 1, site, st) {
-        Ok(()) => perform(site, Act::Signal(first_cell(condition)), st),
-        Err(end) => Err(end),
-    }
+    unless(!is_zero(condition), 1, site, st)?;
+    perform(site, Act::Signal(first_cell(condition)), st)
 }
 
 fn broadcast_call(site: Site, condition: i64, st: &mut State) -> Result<(), End>
     ensures does { Does (view_state st.old) result (view_state st.new) (broadcast_call site condition) }
     ensures fuel { st.new.fuel ≤ st.old.fuel }
 {
-    match unless(!is_zero(condition), 1, site, st) {
-        Ok(()) => perform(site, Act::Broadcast(first_cell(condition)), st),
-        Err(end) => Err(end),
-    }
+    unless(!is_zero(condition), 1, site, st)?;
+    perform(site, Act::Broadcast(first_cell(condition)), st)
 }
 
 // The value at this place, NULL past the last one.

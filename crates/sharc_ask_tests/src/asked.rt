@@ -339,7 +339,7 @@ wait(NULL, NULL); return 0; }
 main 0 100 1:1 = new 1x1 dynamic is 1:1; X1 at line 2
 ";
 
-/// What is given up behind the last event: references by the number of their object, what a cell held by the cell.
+/// What is given up after the last event: references by the number of their object, what a cell held by the cell.
 const GIVEN: &str = "\
 struct s { int n; struct s dynamic * next; };
 int main(void) { struct s private * x = malloc(sizeof(struct s)); x->n = 4; free(x); print(x == NULL); return 0; }

@@ -1,6 +1,6 @@
 //! Tables of sources, and what their threads ask for: tests alone, over the front end and `ask`.
 //!
-//! Nothing stands on this crate, and it has no code of its own.
+//! No crate depends on this one, and it has no code of its own.
 #![tactic(auto)]
 
 #[cfg(test)]

@@ -1,5 +1,5 @@
-//! Tables of sources with what their threads ask for, as one text: a source, a line `--`, and lines of a question, ` = ` and what is wanted; a line `==` stands
-//! between two cases. What begins with `..` is the end of what is wanted, and behind `gives up` stands what is given up behind the last event.
+//! Tables of sources with what their threads ask for, as one text: a source, a line `--`, and lines of a question, ` = ` and what is wanted; a line `==` is
+//! between two cases. What begins with `..` is the end of what is wanted, and what follows `gives up` is what is given up after the last event.
 
 use crate::question::question_of;
 use crate::sources::inferred;
@@ -28,7 +28,7 @@ fn answer_to(
     )
 }
 
-/// Asserts what is asked for in one line, or what is given up behind its last event where the line begins so.
+/// Asserts what is asked for in one line, or what is given up after its last event where the line begins so.
 fn assert_line(
     rt: &(impl Abort + AllocGlobal),
     m: &Moded,

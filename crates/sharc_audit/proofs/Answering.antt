@@ -24,7 +24,7 @@ use Rattle.sharc_audit.proofs.Lists.{map_both, map_length}
 use Rattle.sharc_audit.proofs.Telling.{NextBy, comes, lacks, nothing, next_by, at_mapped}
 use Rattle.sharc_audit.proofs.Entries.{entry_by_right, right_by_entry, events_begun, own_told, follows_begun, follows_entry}
 
--- ---- what a line tells is what its event answers
+-- ---- what a line reports is what its event answers
 
 abbrev told_in : Option LineAct → ℤ
 told_in None = pos 0
@@ -205,7 +205,7 @@ module _ (laws : AskLaws) (m : Assignment) (one_main : OneMain m.typed) (fuel : 
   starts_answer : (e : SourceEvent) (s : Starts m R e) → IsAnswer e.act e.answer e.answer
   starts_answer e s = subst (λ a. IsAnswer a e.answer e.answer) (sym s.act) s.answer
 
-  -- a line tells what is answered
+  -- a line reports what is answered
   pub told_asked : (l : EventLine) (e : SourceEvent) → IsLine m.typed l e → AskedFor m fuel R e → told l ≡ e.answer
   told_asked l e line (inl s) = told_is m.typed l e e.answer line (starts_answer e s)
   told_asked l e line (inr n) = told_is m.typed l e e.answer line (answers_so e n)

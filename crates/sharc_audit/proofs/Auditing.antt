@@ -71,7 +71,7 @@ take_one [] (suc place) l h = absurd (cc)
 take_one (k ∷ lines) zero l h = let same : k ≡ l = cc in ap (λ z. z ∷ []) same
 take_one (k ∷ lines) (suc place) l h = ap (λ z. k ∷ z) (take_one lines place l h)
 
--- what stands behind a place
+-- what follows a place
 pub lines_behind : (n : ℕ) (l : List EventLine) → take (length l - n) (drop n l) ≡ drop n l
 lines_behind n l = ap (λ z. take z (drop n l)) (sym (length-drop n l)) ∙ whole (drop n l)
   where
@@ -249,7 +249,7 @@ module _ (ask : AskLaws) (store : StoreLaws) (runs : RunLaws) (rules : RuleLaws)
 
   -- ---- one verdict
 
-  -- a refused line stands at one place
+  -- a refused line is at one place
   same_place : (lines : List EventLine) (i j : ℕ) (k l : EventLine) → IsFirstRefused m fuel lines i k → IsFirstRefused m fuel lines j l → i ≡ j
   same_place lines i j k l a b = by_order (cases_order i j)
     where

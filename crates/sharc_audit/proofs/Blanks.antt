@@ -19,7 +19,7 @@ free_append : (x : ℕ) (a b : Text) → list_any (nat_eq x) a ≡ false → lis
 free_append x [] b p q = q
 free_append x (y ∷ a) b p q = let s = or_parts (nat_eq x y) (list_any (nat_eq x) a) p in or_from (nat_eq x y) (list_any (nat_eq x) (a ++ b)) s.0 (free_append x a b s.1 q)
 
--- ---- no blank stands in a cell, a value or a name
+-- ---- no cell, value or name has a blank in it
 
 pub number_blank : (n : ℕ) → n < 2 ^ 64 → list_any (nat_eq 32) (decimal n) ≡ false
 number_blank n h = decimal_free 32 n (omega arith) h

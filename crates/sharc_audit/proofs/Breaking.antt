@@ -10,7 +10,7 @@ use Rattle.sharc_judge.specs.Judged.{Holds, IsLowestBroken}
 use Rattle.sharc_judge.specs.Laws.{Unbroken, RuleLaws}
 use Rattle.sharc_audit.specs.Breaking.{IsLowestAt}
 
--- what stands in a list with one more at its end is that one, or stands in the list
+-- what is in a list with one more at its end is that one, or is in the list
 pub record InFront (R before : List SourceEvent) (e : SourceEvent) : Type 0 where
   pub after : List SourceEvent
   pub stands : Stands R before e after

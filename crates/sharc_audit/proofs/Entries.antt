@@ -1,4 +1,4 @@
--- The function and the argument of a thread, behind the events of a legal store.
+-- The function and the argument of a thread, after the events of a legal store.
 use Rattle.std.proofs.Common.{◌≡◌, ◌⊎◌, inl, inr, ℕ, zero, suc, ◌+◌, Bool, true, false, cond, List, [], ◌∷◌, ◌++◌, length, length-append, Option, Some, None, refl, ap, sym, subst, ◌∙◌, arith, append_assoc}
 use Rattle.std.specs.Prelude.{ℤ, pos, ◌≢◌, ◌==◌, ◌||◌, ◌&&◌, slice_get, find, drop, slice_index_or, negsuc, Any, codes, IsTrue, if◌then◌else◌}
 use Rattle.std.specs.List.{list_any}
@@ -35,7 +35,7 @@ find_more p x (y ∷ xs) ys h = by_case (find_more p x xs ys) (p y) refl
     by_case more true i = ap (λ z. if z then Some y else find p (xs ++ ys)) i ∙ (sym (ap (λ z. if z then Some y else find p xs) i) ∙ h)
     by_case more false i = ap (λ z. if z then Some y else find p (xs ++ ys)) i ∙ more (sym (ap (λ z. if z then Some y else find p xs) i) ∙ h)
 
--- an element with a property stands somewhere
+-- an element with a property is at some place
 pub record Placed {A : Type 0} (P : A → Type 0) (xs : List A) : Type 0 where
   pub before : List A
   pub element : A

@@ -108,7 +108,7 @@ append_none (x ∷ a) = ap (λ z. x ∷ z) (append_none a)
 pub no_plain_mark : (h : Text) → IsNoHeader (mark ++ h) → ⊥
 no_plain_mark h e = false≢true (sym e)
 
--- of two places of a header one stands before the other, and none does
+-- of two places of a header one comes before the other, and neither does
 pub one_header : (a b : List Text) (h : Text) (c d : List Text) (t : Text) → All IsNoHeader a → All IsNoHeader b → a ++ (mark ++ h) ∷ c ≡ b ++ (mark ++ t) ∷ d → c ≡ d
 one_header [] [] h c d t p q e = let z : c ≡ d = cc in z
 one_header [] (y ∷ b) h c d t p q e = let z : mark ++ h ≡ y = cc in absurd (no_plain_mark h (subst IsNoHeader (sym z) (All-head IsNoHeader y b q)))
@@ -122,7 +122,7 @@ none_there [] (y ∷ b) t d p e = absurd (let z : [] ≡ y ∷ (b ++ (mark ++ t)
 none_there (x ∷ a) [] t d p e = let z : x ≡ mark ++ t = cc in no_plain_mark t (subst IsNoHeader z (All-head IsNoHeader x a p))
 none_there (x ∷ a) (y ∷ b) t d p e = none_there a b t d (All-tail IsNoHeader x a p) (let z : a ≡ b ++ (mark ++ t) ∷ d = cc in z)
 
--- the header behind plain lines is the one of the file
+-- the header after plain lines is the one of the file
 pub same_header : (a b : List Text) (h : Text) (c d : List Text) (t : Text) → All IsNoHeader a → All IsNoHeader b → a ++ (mark ++ h) ∷ c ≡ b ++ (mark ++ t) ∷ d → mark ++ h ≡ mark ++ t
 same_header [] [] h c d t p q e = let z : mark ++ h ≡ mark ++ t = cc in z
 same_header [] (y ∷ b) h c d t p q e = let z : mark ++ h ≡ y = cc in absurd (no_plain_mark h (subst IsNoHeader (sym z) (All-head IsNoHeader y b q)))
@@ -248,7 +248,7 @@ heading_found bytes rest n line behind header source fuel h there l some e numbe
       room = (let s = l.shorter in omega (arith, s, room));
     }
 
--- ---- behind the header
+-- ---- after the header
 
 pub record Listing (texts : List Text) (rest : Text) (first n : ℕ) (events : List EventLine) : Type 0 where
   pub passed : List Text

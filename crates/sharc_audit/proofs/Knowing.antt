@@ -37,7 +37,7 @@ not_is t u h = by_case (u == t) refl
     by_case true i = let z : true ≡ false = sym (eq-eqb t u (sym (eqb-true u t i))) ∙ h in absurd (cc)
 
 module _ (m : Assignment) (fuel : ℕ) (R : List SourceEvent) (l : EventLine) (rest : List EventLine) (e : SourceEvent) (thread : l.thread ≡ e.thread) (answer : told l ≡ e.answer) where
-  -- what a thread is told in all stays
+  -- what a thread is given in all stays
   same_told : (u : ℕ) → has_begun R u ≡ true → own_answers (R ++ e ∷ []) u ++ told_to u rest ≡ own_answers R u ++ told_to u (l ∷ rest)
   same_told u h = by_case (is_of u e) refl
     where

@@ -84,7 +84,7 @@ pub place_met : (q : SourceEvent → Bool) (l : List SourceEvent) (i place p : �
     → q (slice_index_or l i d) ≡ b → p ≡ (if b then i else place) → drop p (take (i + 1) l) ≡ from_last q (take (i + 1) l)
 place_met q l i place p d b inside low h met p_is = ap (λ z. drop z (take (i + 1) l)) (p_is ∙ ap (λ z. if z then i else place) (sym met)) ∙ place_next q l i place (slice_index_or l i d) inside (same_at l i d (slice_index_or l i d) inside) low h
 
--- what stands behind a place
+-- what follows a place
 pub rest_behind : (n : ℕ) (l : List SourceEvent) → take (length l - n) (drop n l) ≡ drop n l
 rest_behind n l = ap (λ z. take z (drop n l)) (sym (length-drop n l)) ∙ whole (drop n l)
   where

@@ -53,7 +53,7 @@ minus_first ds rest p e = let z : true ≡ false = sym p ∙ ap all_ascii_digits
 pub digits_no_minus : (n : ℕ) (rest : Text) → n < 2 ^ 64 → decimal n ≡ 45 ∷ rest → ⊥
 digits_no_minus n rest h e = minus_first (decimal n) rest (all_digits n h) e
 
--- behind a minus sign
+-- after a minus sign
 pub minus_none : (rest text : Text) → ((n : ℕ) → IsNumber 1 9223372036854775808 rest n → ⊥) → text ≡ 45 ∷ rest → (v : ℤ) → IsSigned text v → ⊥
 minus_none rest text none e (pos n) h = digits_no_minus n rest (let s = held_small n h.1 in omega (arith, s)) (sym h.0 ∙ e)
 minus_none rest text none e (negsuc n) h =

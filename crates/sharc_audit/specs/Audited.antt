@@ -30,7 +30,7 @@ pub record IsFirstRefused (m : Assignment) (fuel : ℕ) (lines : List EventLine)
   pub before : Accepted m fuel (take place lines)
   pub refused : Accepted m fuel (take (suc place) lines) → ⊥
 
--- the event is asked for behind these, and it is that of the line
+-- the event is asked for after these, and it is that of the line
 pub record IsAsked (m : Assignment) (fuel : ℕ) (R : List SourceEvent) (l : EventLine) : Type 0 where
   pub event : SourceEvent
   pub asked : AskedFor m fuel R event

@@ -6,7 +6,7 @@ use Rattle.sharc_audit.specs.declared.file.FileFault.{FileFault}
 use Rattle.sharc_audit.specs.declared.file.FileFault.TheVariants as fault
 use Rattle.sharc_audit.specs.Grammar.{Text, IsNumber, mark, text_lines, AreEventLines, IsEventLine, IsFirstBad, HasMany}
 
--- a line, and what stands behind it
+-- a line, and what follows it
 pub record IsFirstLine (text line behind : Text) : Type 0 where
   pub lines : text_lines text ≡ line ∷ text_lines behind
   pub ends : 0 < length behind → text ≡ line ++ 10 ∷ behind
@@ -38,13 +38,13 @@ pub record IsBadEvent (texts : List Text) (first n : ℕ) : Type 0 where
   pub are : AreEventLines passed events
   pub bad : (l : EventLine) → IsEventLine line l → ⊥
 
--- they are events, so many at least
+-- they are events, at least this many
 pub record AreAtLeast (least : ℕ) (texts : List Text) : Type 0 where
   pub events : List EventLine
   pub are : AreEventLines texts events
   pub many : least ≤ length events
 
--- a line that is no event, or so many events at least
+-- a line that is no event, or at least this many events
 abbrev pub IsEventsFault : ℕ → List Text → ℕ → FileFault → Type 0
 IsEventsFault least texts first (fault.Line n) = IsBadEvent texts first n
 IsEventsFault least texts first fault.Many = AreAtLeast least texts

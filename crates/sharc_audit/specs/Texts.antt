@@ -29,7 +29,7 @@ bad_line n = codes "V2 not an event file at line " ++ decimal n ++ codes "\n"
 abbrev pub many_line : List ℕ
 many_line = codes "V3 over 4096 events\n"
 
--- want of memory has no line
+-- being out of memory has no line
 abbrev pub file_fault_line : FileFault → Option (List ℕ)
 file_fault_line (file.Line n) = Some (bad_line n)
 file_fault_line file.Many = Some many_line

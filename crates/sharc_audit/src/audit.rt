@@ -32,7 +32,7 @@ pub enum EventFault {
 /// What is answered of a list of event lines. Lines are counted from 1.
 #[derive(Clone, Copy, PartialEq, Eq, Debug, Drop)]
 pub enum Verdict {
-    /// They are a run at this fuel that obeys the modes: so many events.
+    /// They are a run at this fuel that obeys the modes: this many events.
     Obeys(u32),
     /// This event is the first that is not accepted.
     Fails(u32, EventFault),
@@ -53,7 +53,7 @@ fn digit(rule: Rule) -> u8
     }
 }
 
-/// Why the event, which is asked for, is not accepted behind these.
+/// Why the event, which is asked for, is not accepted after these.
 fn fault_of(program: &Moded, past: &Past, e: &SourceEvent) -> Option<EventFault>
     ensures { MatchOption result (IsPassed program.now past.now e.now) (λ fault. IsFault program.now past.now e.now fault) }
 {

@@ -12,7 +12,7 @@ use crate::words::{cut, number};
 use sharc_tree::listed::Listed;
 use std::alloc::{AllocError, Global};
 
-/// How many events are audited at most (own).
+/// How many events are audited at most.
 const MOST_EVENTS: usize = 4096;
 
 /// A source, the fuel of each thread, and the events.
@@ -143,7 +143,7 @@ fn events_of(alloc: Global, bytes: &[u8], first: u32) -> Result<Vec<EventLine>, 
 
 /// Reads an event file: its source, up to the first newline that `%%events ` follows, its fuel and its events.
 ///
-/// `Many` comes only of a file of the grammar; a line that continues no file comes first, wherever it stands. The file has at most 16,777,216 bytes.
+/// `Many` comes only of a file of the grammar; a line that continues no file comes first, wherever it is. The file has at most 16,777,216 bytes.
 pub fn read_events(alloc: Global, bytes: &[u8]) -> Result<EventFile, FileFault>
     requires { length bytes.now ≤ 16777216 }
     ensures few { IfOk result (λ f. length f.events ≤ 4096) }

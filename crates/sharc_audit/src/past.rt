@@ -34,7 +34,7 @@ impl Model for Past {
     ghost invariant = { λ p. p.counting.items ≡ counting_behind p.events.items };
 }
 
-/// Whether the access by the event `d` counts still behind the event `e`.
+/// Whether the access by the event `d` still counts after the event `e`.
 fn still_counts(e: &SourceEvent, d: &SourceEvent) -> bool
     ensures { result ≡ still_counts e.now d.now }
 {
@@ -121,7 +121,7 @@ impl Past {
         }
     }
 
-    /// The lowest rule that the event breaks behind these events.
+    /// The lowest rule that the event breaks after these events.
     pub(crate) fn broken_by(&self, e: &SourceEvent) -> Option<Rule>
         ensures { IsLowestAt self.now e.now result }
     {

@@ -1,4 +1,4 @@
-// What threads ask for: each is asked once, when it starts, with all that the lines tell it.
+// What threads ask for: each is asked once, when it starts, with all that the lines report to it.
 
 ghost use Rattle.std.specs.Prelude.{◌≡◌, ◌+◌, ◌-◌, ◌<◌, ◌==◌, ◌∷◌, ◌++◌, [], IfOk, OnOk, length, drop, find, MatchOption, IsTrue, true, false, slice_get, Some};
 ghost use Rattle.std.specs.Option.{option_copied};
@@ -36,7 +36,7 @@ pub enum Next {
     Nothing,
 }
 
-/// What a thread asks for with all that the lines tell it, and whether its fuel is spent behind that.
+/// What a thread asks for with all that the lines report to it, and whether its fuel is spent after that.
 #[derive(Drop)]
 pub struct ThreadRun {
     pub thread: u32,
@@ -44,7 +44,7 @@ pub struct ThreadRun {
     pub spent: bool,
 }
 
-/// The number of `main`. The answer of want of memory comes also where there are more functions than a number of 32 bits counts.
+/// The number of `main`. Out of memory is answered also where there are more functions than a number of 32 bits counts.
 pub(crate) fn main_of(typed: &Typed) -> Result<Option<u32>, AllocError>
     ensures main { IfOk result (λ f. f ≡ main_of typed.now) }
     ensures one { OnOk result (OneMain typed.now) }
@@ -133,7 +133,7 @@ fn event_count(thread: u32, events: &[SourceEvent]) -> usize
     count
 }
 
-/// What the lines tell the thread.
+/// What the lines report to the thread.
 fn told_to(alloc: Global, thread: u32, lines: &[EventLine]) -> Result<Vec<i64>, AllocError>
     ensures { IfOk result (λ all. all.items ≡ told_to thread lines.now) }
 {
@@ -172,7 +172,7 @@ fn run_of(thread: u32, runs: &[ThreadRun]) -> Option<&ThreadRun>
     None
 }
 
-/// What the thread of the line asks for behind these events.
+/// What the thread of the line asks for after these events.
 pub(crate) fn next_asked(
     program: &Moded,
     main: Option<u32>,
@@ -199,7 +199,7 @@ pub(crate) fn next_asked(
     }
 }
 
-/// What a thread that starts asks for, told all that the lines tell it.
+/// What a thread that starts asks for, with all that the lines report to it.
 fn begin(
     alloc: Global,
     program: &Moded,

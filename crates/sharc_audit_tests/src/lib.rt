@@ -1,6 +1,6 @@
 //! Event files and what the top call writes of them: tests alone.
 //!
-//! Nothing stands on this crate, and it has no code of its own.
+//! No crate depends on this one, and it has no code of its own.
 #![tactic(auto)]
 
 #[cfg(test)]

@@ -1,6 +1,6 @@
 //! Event files that obey, and such whose fuel is spent, with the status and the line of each, from a reference program of its own.
 
-/// Cases, parted by lines of equal signs, each of a file, a line of hyphens, and the status and the line.
+/// Cases, separated by lines of equal signs, each of a file, a line of hyphens, and the status and the line.
 pub(crate) const RUNS: &str = r##"int dynamic g2;
 struct S2 { struct S1 dynamic * locked(pm) pp; mutex racy * readonly pm; struct cond  * readonly pc; int locked(pm) pf; };
 struct S0 { int locked(gm) gf; int dynamic d; int a; char c; struct S0 dynamic * nx; struct S1 locked(m) * locked(m) lp; int racy y; int locked(m) lf; mutex m; int readonly r; long b; struct S1 dynamic * dynamic dp; };

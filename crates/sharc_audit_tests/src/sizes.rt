@@ -8,7 +8,7 @@ use std::thread::Threads;
 
 const LOOP: &str = "int racy g; int main(void) { for (;;) g = 1; return 0; }";
 
-/// A file with so many events, all of which are asked for.
+/// A file with this many events, all of which are asked for.
 fn looping(rt: &(impl AllocGlobal), count: usize) -> Result<String, Fail> {
     let mut text = String::from_str(rt.alloc(), LOOP)?;
     text.push_str("\n%%events 65536\n0 started 0\n")?;
@@ -47,7 +47,7 @@ fn a_line_that_is_no_event_comes_before_too_many(rt: HostRuntime) -> Result<(), 
     assert_audited(&rt, text.as_str(), "2 V2 not an event file at line 5003")
 }
 
-/// Spaces, so many, and a line of a header.
+/// This many spaces, and a line of a header.
 fn spaces(rt: &(impl AllocGlobal), count: usize, header: &str) -> Result<String, Fail> {
     let mut text = String::new(rt.alloc());
     for _ in 0..count {

@@ -11,7 +11,7 @@ use Rattle.sharc_compile_laws.specs.Typed.{IsTypedProgram}
 use Rattle.sharc_sound.specs.Compiled.{IsCompiled}
 use Rattle.sharc_sound.specs.Front.{IsFront}
 
--- Where the results of a path of a thread are consistent, the thread tells what the program asks for, stops where that
+-- Where the results of a path of a thread are consistent, the thread reports what the program asks for, stops where that
 -- stops, or wants what is refused, at its site, and keeps the pace; so does each thread of a checked run, in any
 -- interleaving. Where those of all threads of a run are, the events of each thread among those of all are what the program
 -- asks for. All of this is said of a function that may be started, as `main` and what is spawned are.

@@ -6,7 +6,7 @@ use sharc_compile_laws::{threads_may_start, typed_paths_tell, typed_threads_tell
 use sharc_grammar::laws::{programs_are_low, programs_are_placed};
 use sharc_mode_laws::laws::rules_are_met;
 
-/// The program that a source is stands at its tokens, is within the limits, typed and, if its modes are accepted, well-moded.
+/// The program that a source is lies at its tokens, is within the limits, typed and, if its modes are accepted, well-moded.
 pub fn fronts_are_typed()
     ensures { FrontsAreTyped }
 {

@@ -29,7 +29,7 @@ fn fault_of(rt: &(impl Abort + AllocGlobal), source: &str) -> &'static str {
     }
 }
 
-/// The first stage that has a fault tells it.
+/// The first stage that has a fault reports it.
 #[test]
 fn the_first_stage_with_a_fault(rt: HostRuntime) -> Result<(), Fail> {
     for case in SOURCES.lines() {

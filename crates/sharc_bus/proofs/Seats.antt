@@ -45,7 +45,7 @@ opening_keeps laws words ports = record {
       (r.0, refl, omega (arith, r.2), r.3)
   only words ports (suc seat) parts part there among = absurd (some-ne-none parts (sym there))
 
--- where a view stands in a list with one more
+-- where a view is in a list with one more
 at_snoc : (l : List (List Part)) (last v : List Part) (i : ℕ) → get_elem? (l ++ last ∷ []) i ≡ some v → (get_elem? l i ≡ some v) ⊎ ((i ≡ length l) × (last ≡ v))
 at_snoc [] last v zero e = inr (refl, some-injective last v e)
 at_snoc [] last v (suc i) e = absurd (some-ne-none v (sym e))

@@ -16,7 +16,7 @@ use Rattle.sharc_bus.proofs.Seats.{among_unbegun}
 abbrev St : Type 0
 St = State (Unit {0}) (List Part)
 
--- a word that is written as it stands changes nothing
+-- a word that is written as it is changes nothing
 set_same : (words : List ℕ) (i : ℕ) → slice_set words i (slice_index words i) ≡ words
 set_same [] i = refl
 set_same (w ∷ ws) zero = refl

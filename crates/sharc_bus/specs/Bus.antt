@@ -5,7 +5,7 @@ use Rattle.sharc_word.specs.declared.step.WordEvent.{WordEvent}
 use Rattle.sharc_word.specs.Words.{words_after}
 use Rattle.sharc_word.specs.History.{LegalHistory, events_of}
 
--- what tells a bus from others, its opening words, and the number of its ports
+-- what distinguishes a bus from others, its opening words, and the number of its ports
 pub record BusView : Type 0 where
   pub id : TableId
   pub opening : List ℕ
@@ -17,12 +17,12 @@ pub record SeatView : Type 0 where
   pub number : ℕ
   pub events : List WordEvent
 
--- a port stands on a bus, with a seat
+-- a port is on a bus, with a seat
 pub record PortView : Type 0 where
   pub bus : BusView
   pub seat : SeatView
 
--- the bus of a rest or of a round, the words that stand there or with which it began, and the number of ports
+-- the bus of a rest or of a round, the words that are there or with which it began, and the number of ports
 pub record RestView : Type 0 where
   pub bus : TableId
   pub words : List ℕ
@@ -51,7 +51,7 @@ pub record OneHistory (opening : List ℕ) (lists : List (List WordEvent)) (word
   pub parts : (thread : ℕ) → events_of thread history ≡ slice_index_or lists thread []
   pub words_are : words ≡ words_after opening history
 
--- what tells a port from others, as numbers
+-- what distinguishes a port from others, as numbers
 abbrev pub name_of : SeatView → List ℕ
 name_of seat = seat.number ∷ seat.bus.words ∷ seat.bus.slots ∷ seat.bus.views_name ∷ seat.bus.atom ∷ seat.bus.block ∷ seat.bus.offset ∷ seat.bus.slot_names
 

@@ -16,7 +16,7 @@ abbrev pub IsAmong : Part → List Part → Type 0
 IsAmong part [] = ⊥
 IsAmong part (p ∷ ps) = (part ≡ p) ⊎ IsAmong part ps
 
--- the parts of so many numbers from the first on, none of which has made a step in a round that began with these words
+-- the parts of this many numbers from the first on, none of which has made a step in a round that began with these words
 abbrev pub unbegun : List ℕ → ℕ → ℕ → List Part
 unbegun words first zero = []
 unbegun words first (suc more) = record { number = first; words = words; events = [] } ∷ unbegun words (suc first) more
@@ -40,7 +40,7 @@ abbrev pub with_step : List Part → WordStep → ℕ → List Part
 with_step [] step found = []
 with_step (p ∷ ps) step found = record { number = p.number; words = p.words; events = p.events ++ event_of p.number step found ∷ [] } ∷ ps
 
--- a step of this operation tells its seat that its event was appended, with the word found as its result
+-- a step of this operation reports to its seat that its event was appended, with the word found as its result
 abbrev pub Appends : (ℕ → ℕ → WordOp) → Step (Unit {0}) → Me (Unit {0}) (List Part) → ℕ → Me (Unit {0}) (List Part) → Type 0
 Appends op step before found after =
     after ≡ (with_step before.0 record { word = step.word; op = op step.first step.second } found, before.1)

@@ -7,7 +7,7 @@ use Rattle.sharc_bus.specs.declared.rule.Part.{Part}
 use Rattle.sharc_bus.specs.Rule.{IsAmong, unbegun, words_known}
 use Rattle.sharc_bus.specs.Bus.{SeatView, RestView}
 
--- a table with these words for so many ports, and with no slot
+-- a table with these words for this many ports, and with no slot
 pub record IsBusTable (id : TableId) (opening : List ℕ) (ports : ℕ) : Type 0 where
   pub words_are : id.words ≡ length opening
   pub some_word : 0 < id.words

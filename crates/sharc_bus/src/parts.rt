@@ -36,7 +36,7 @@ pub(crate) fn give_seats<A: Allocator>(
     Ok(rest)
 }
 
-// Puts the parts of all seats behind those of the first.
+// Puts the parts of all seats after those of the first.
 pub(crate) fn take_seats<A: Allocator, B: Allocator>(
     table: &Words<A>,
     first: Seat<(), Parts>,

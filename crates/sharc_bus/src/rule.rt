@@ -1,11 +1,11 @@
-//! What the seats of a bus know, the rule of its table, and what each kind of step tells.
+//! What the seats of a bus know, the rule of its table, and what each kind of step reports.
 
 use atomic_table::{Join, Play, Split, TableRule};
 use sharc_word::WordEvent;
 use std::alloc::Allocator;
 use std::collections::LinkedList;
 
-/// The events that one port has made in this round, oldest first, and the words at its beginning. No value of it is made: it stands in
+/// The events that one port has made in this round, oldest first, and the words at its beginning. No value of it is made: it occurs in
 /// proofs alone.
 pub struct Part {
     pub number: u64,

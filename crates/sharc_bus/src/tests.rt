@@ -24,7 +24,7 @@ fn at<P: Port>(port: &mut P, word: u32, op: WordOp) -> u64
     port.step(WordStep { word, op })
 }
 
-// Makes one step so many times.
+// Makes one step this many times.
 fn repeat<P: Port>(port: &mut P, word: u32, op: WordOp, times: u32)
     requires { word < P.count port.old }
     ensures count { P.count port.new ≡ P.count port.old }
@@ -35,7 +35,7 @@ fn repeat<P: Port>(port: &mut P, word: u32, op: WordOp, times: u32)
     }
 }
 
-// Waits until so many threads are here, or this one has looked long enough.
+// Waits until this many threads are here, or this one has looked long enough.
 fn meet<P: Port>(port: &mut P, all: u64)
     requires { 9 ≤ P.count port.old }
     ensures count { P.count port.new ≡ P.count port.old }

@@ -112,7 +112,7 @@ pub second_fails : (a b : Bool) → b ≡ false → (a && b) ≡ false
 second_fails true b h = h
 second_fails false b h = refl
 
--- ---- five lists behind one another
+-- ---- five lists one after another
 
 pub five : {A : Type 0} (n0 n1 n2 n3 n4 a b c d e : List A) → n1 ≡ n0 ++ a → n2 ≡ n1 ++ b → n3 ≡ n2 ++ c → n4 ≡ n3 ++ d → n4 ++ e ≡ n0 ++ (a ++ b ++ c ++ d ++ e)
 five n0 n1 n2 n3 n4 a b c d e one two three four =

@@ -1,4 +1,4 @@
--- Two lists in order, in which those that tie stand alike, are one.
+-- Two lists in order, in which those that tie are ordered alike, are one.
 use Rattle.std.proofs.Common.{◌≡◌, suc, ◌+◌, Bool, true, false, not, ◌&&◌, cond, List, [], ◌∷◌, get_or, refl, ap, sym, ◌∙◌, subst, arith}
 use Rattle.std.specs.Cmp.{IsTotalOrder}
 use Rattle.std.specs.List.{filter, AllByRecursion}

@@ -1,4 +1,4 @@
--- Which globals are touched can be told of every number, from what is answered of those that there are.
+-- Which globals are touched can be determined for every number, from what is answered of those that there are.
 use Rattle.std.proofs.Common.{◌≡◌, ◌⊎◌, inl, inr, ℕ, zero, suc, ◌+◌, ◌<◌, ◌≤◌, ◌==◌, Bool, true, false, ◌||◌, ◌&&◌, List, [], ◌∷◌, ◌++◌, length, get_or, Option, Some, None, is_some, refl, ap, sym, ◌∙◌, subst, arith}
 use Rattle.std.specs.Prelude.{IsSomeAnd, IfSome, unwrap_or}
 use Rattle.std.specs.List.{slice_get, list_any, flat_map}

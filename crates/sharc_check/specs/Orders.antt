@@ -13,7 +13,7 @@ place_and_code e = (e.site.token, e.code)
 abbrev pub by_place : ℕ × ℕ → ℕ × ℕ → Ordering
 by_place a b = ordering_then (nat_cmp a.0 b.0) (nat_cmp a.1 b.1)
 
--- the cases that were found, in order; those of one place and code stand as they were found
+-- the cases that were found, in order; those of one place and code stay as they were found
 pub record IsInOrder (found sorted : List ModeError) : Type 0 where
   pub each_once : IsPermutation found sorted
   pub in_order : IsSortedByKey place_and_code by_place sorted

@@ -9,7 +9,7 @@ use Rattle.sharc_mode.specs.declared.finding.Finding.TheVariants.{Wrong, Names, 
 use Rattle.sharc_mode.specs.Notes.{error_where, error_of}
 use Rattle.sharc_mode.specs.Sharings.{text_at}
 
--- the number behind the highest variable that is named
+-- the number after the highest variable that is named
 abbrev pub past : ℕ → Finding → ℕ
 past n (Names x) = max n (x + 1)
 past n (Wrong e) = n

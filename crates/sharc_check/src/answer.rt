@@ -95,8 +95,8 @@ fn errors(
     Ok((Listed::of(errors), named))
 }
 
-/// Accepts a program with modes exactly where it meets the rules M1 to M11; else tells all the cases that arise, each once, by place (the first token of
-/// what it is about), then by code, those of one place and code as the constructs stand. `reached` is what `reach` answers for the program.
+/// Accepts a program with modes exactly where it meets the rules M1 to M11; else reports all the cases that arise, each once, by place (the first token of
+/// what it is about), then by code, those of one place and code in the order of the constructs. `reached` is what `reach` answers for the program.
 pub fn check(alloc: Global, program: Moded, reached: &Reached) -> Result<Checked, CheckFault>
     requires { AreReached program.typed reached.now }
     ensures { Checks program result }

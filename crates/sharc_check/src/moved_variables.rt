@@ -15,7 +15,7 @@ use sharc_tree::name::Name;
 use sharc_tree::token::Span;
 use std::alloc::{AllocError, Global};
 
-/// The number behind the highest token so far that a path names.
+/// The number after the highest token so far that a path names.
 fn past(limit: usize, note: &Finding) -> usize
     ensures { result ≡ past limit note.now }
 {
@@ -26,7 +26,7 @@ fn past(limit: usize, note: &Finding) -> usize
     }
 }
 
-/// The number behind the highest token that a path names.
+/// The number after the highest token that a path names.
 fn past_all(notes: &[Finding]) -> usize
     ensures { result ≡ past_all notes.now }
 {

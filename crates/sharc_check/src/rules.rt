@@ -323,7 +323,7 @@ fn sibling(
     }
 }
 
-/// M11: a field with these targets is used through the constant variable that stands at this token, or otherwise.
+/// M11: a field with these targets is used through the constant variable at this token, or otherwise.
 pub(crate) fn field(
     alloc: Global,
     program: &Moded,
@@ -370,7 +370,7 @@ fn or_else<'a>(first: Option<Lock<'a>>, second: Option<Lock<'a>>) -> Option<Lock
     }
 }
 
-/// The first of them in the source, where the deepest target stands first.
+/// The first of them in the source, where the deepest target comes first.
 fn unmet_in<'a>(program: &'a Moded, passing: Passing<'_>, row: Targets<'a>) -> Option<Lock<'a>>
     requires { row.first + row.count ≤ position_count program.now.typed }
     ensures { view_locks result ≡ unmet_in program.now.typed passing.entry.parameters.now (view_passed passing.entry.passed) (modes_of program.now (view_row row.entry)) }

@@ -29,7 +29,7 @@ fn optional(
     }
 }
 
-/// What stands right of `=`, beside the modes that are expected there.
+/// The right side of `=`, beside the modes that are expected there.
 fn right(
     alloc: Global,
     program: &Moded,

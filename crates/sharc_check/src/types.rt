@@ -24,7 +24,7 @@ use sharc_tree::ctype::Mode;
 use sharc_tree::name::Name;
 use std::alloc::{AllocError, Global};
 
-/// Where the type of such an entity stands.
+/// Where the type of such an entity is written.
 fn place_of(role: Role) -> Place
     ensures { result ≡ place_of role }
 {
@@ -49,7 +49,7 @@ fn is_shared_top(role: Role, levels: &[Option<Mode>]) -> bool
     }
 }
 
-/// Whether a level that is not private stands directly above a private target.
+/// Whether a level that is not private is directly above a private target.
 fn holds_private(program: &Moded, numbered: &Numbered) -> bool
     requires { numbered.now.first + positions_of numbered.now.entity ≤ position_count program.now.typed }
     ensures { result ≡ holds_private (levels_of program.now numbered.now) }

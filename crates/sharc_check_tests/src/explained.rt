@@ -1,4 +1,4 @@
-//! What `explain` writes: the lines of each kind, the reasons, and the verdict behind them.
+//! What `explain` writes: the lines of each kind, the reasons, and the verdict after them.
 
 use crate::tables::assert_table;
 use crate::told::Telling;

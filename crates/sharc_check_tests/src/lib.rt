@@ -1,6 +1,6 @@
 //! What `check` and `explain` write: tables of sources as tests, over the front end, the checker and the texts as they are together.
 //!
-//! Nothing stands on this crate, and it has no code of its own.
+//! No crate depends on this one, and it has no code of its own.
 #![tactic(auto)]
 
 #[cfg(test)]

@@ -1,4 +1,4 @@
-//! Sources with suggested casts written into their trees: the mismatch is gone, and all else is told as before.
+//! Sources with suggested casts written into their trees: the mismatch is gone, and all else is reported as before.
 
 use crate::tables::{FILE, text_or_end};
 use crate::told::{Answer, Refusal, Telling, Untold, judged, moded, said, types};
@@ -31,7 +31,7 @@ fn with_a_cast(alloc: Global, m: Moded) -> Result<Moded, AllocError> {
     }
 }
 
-/// The program of a source, with so many casts applied one by one.
+/// The program of a source, with this many casts applied one by one.
 fn repaired(alloc: Global, source: &[u8], casts: u32) -> Result<Moded, Untold> {
     let mut m = moded(alloc, source)?;
     for _cast in 0..casts {
@@ -40,7 +40,7 @@ fn repaired(alloc: Global, source: &[u8], casts: u32) -> Result<Moded, Untold> {
     Ok(m)
 }
 
-/// What is told of it then.
+/// What is reported of it then.
 fn told(alloc: Global, telling: Telling, source: &[u8], casts: u32) -> Result<Vec<u8>, Untold> {
     match telling {
         Telling::Verdict => Ok(judged(alloc, repaired(alloc, source, casts)?)?),
@@ -48,7 +48,7 @@ fn told(alloc: Global, telling: Telling, source: &[u8], casts: u32) -> Result<Ve
     }
 }
 
-/// Asserts what is told of a source behind the file with so many casts applied.
+/// Asserts what is reported of a source after the file with this many casts applied.
 fn assert_case(
     rt: &(impl Abort + AllocGlobal),
     telling: Telling,
@@ -63,7 +63,7 @@ fn assert_case(
     Ok(())
 }
 
-/// Asserts what is told of each source of a table with so many casts applied.
+/// Asserts what is reported of each source of a table with this many casts applied.
 fn assert_repaired(
     rt: &(impl Abort + AllocGlobal),
     telling: Telling,
@@ -218,7 +218,7 @@ fn each_form_holds_a_cast(rt: HostRuntime) -> Result<(), Fail> {
     assert_repaired(&rt, Telling::Verdict, 31, FORMS)
 }
 
-/// The modes of what was there, with reasons before and behind the cast.
+/// The modes of what was there, with reasons before and after the cast.
 const MODES: &str = "int g;
 void t(int * p) { g = *p; }
 void r(void) {

@@ -98,7 +98,7 @@ fn shared_data_holds_no_private_target(rt: HostRuntime) -> Result<(), Fail> {
     assert_table(&rt, Telling::Verdict, FILE, HOLDERS)
 }
 
-/// M5: modes where they may not stand.
+/// M5: modes where they are not allowed.
 const PLACES: &str =
     "int racy y; char racy z; long racy * dynamic w; mutex racy n; mutex k; struct s dynamic * readonly v;
 int private * private r(int private a, mutex racy * b) { int private c = a; return NULL; }

@@ -1,11 +1,11 @@
-//! Tables of sources with what is told of them, as one text: a source, a line `--`, and what is wanted; a line `==` stands between two cases.
+//! Tables of sources with what is reported of them, as one text: a source, a line `--`, and what is wanted; a line `==` separates two cases.
 
 use crate::told::{Telling, Untold, told};
 use std::alloc::{AllocError, Global};
 use std::process::Abort;
 use std::test::Fail;
 
-/// What tables of items stand behind, on one line.
+/// What comes before tables of items, on one line.
 pub(crate) const FILE: &str =
     "struct s { int n; struct s * next; mutex m; int locked(m) * q; }; mutex m; int main(void) { return 0; }\n";
 
@@ -28,7 +28,7 @@ fn joined(alloc: Global, file: &str, items: &str) -> Result<String, AllocError> 
     format!(in alloc; "{file}{items}")
 }
 
-/// Asserts what is told of a source.
+/// Asserts what is reported of a source.
 fn assert_case(
     rt: &(impl Abort + AllocGlobal),
     telling: Telling,
@@ -40,7 +40,7 @@ fn assert_case(
     Ok(())
 }
 
-/// Asserts what is told of each source of a table, which stands behind the file.
+/// Asserts what is reported of each source of a table, which comes after the file.
 pub(crate) fn assert_table(
     rt: &(impl Abort + AllocGlobal),
     telling: Telling,

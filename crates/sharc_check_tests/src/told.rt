@@ -210,7 +210,7 @@ fn explanation(alloc: Global, source: &[u8]) -> Result<Vec<u8>, Untold> {
     Ok(text)
 }
 
-/// What is told of a source.
+/// What is reported of a source.
 #[derive(Clone, Copy)]
 pub(crate) enum Telling {
     /// What `check` writes.
@@ -219,7 +219,7 @@ pub(crate) enum Telling {
     Explanation,
 }
 
-/// What is told of a source.
+/// What is reported of a source.
 pub(crate) fn told(alloc: Global, telling: Telling, source: &[u8]) -> Result<Vec<u8>, Untold> {
     match telling {
         Telling::Verdict => verdict(alloc, source),

@@ -4,7 +4,7 @@ use crate::tables::assert_table;
 use crate::told::Telling;
 use std::test::Fail;
 
-/// A read behind a `free`.
+/// A read after a `free`.
 const WARNED: &str = "# 4 \"p.c\"
 struct s { int n; };
 int main(void) {

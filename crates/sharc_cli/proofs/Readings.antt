@@ -1,4 +1,4 @@
--- clap reads what stands behind a command as the definition does.
+-- clap reads what follows a command as the definition does.
 use Rattle.std.proofs.Common.{◌≡◌, ◌∙◌, ◌⊎◌, inl, inr, ap, ap₂, sym, refl, ℕ, ◌<◌, Bool, true, false, ◌&&◌, ◌||◌, ◌==◌, nat_lt, List, [], ◌∷◌, ◌++◌, map, Option, Some, None, length, arith}
 use Rattle.std.specs.Prelude.{if◌then◌else◌, fold, option_map}
 use Rattle.std.specs.List.{list_all}
@@ -92,7 +92,7 @@ not_plain f (Some r) (x ∷ rest) e unnamed = go (x == 45) refl r.waiting
 
 -- ---- the state between two words
 
--- how many words stand by themselves so far
+-- how many words are by themselves so far
 abbrev pub AtPosition : Form → List Entry → ℕ → Type 0
 AtPosition f entries position = f.has_number ≡ true → position ≡ (if has number entries then 2 else 1)
 

@@ -35,7 +35,7 @@ uncut (x ∷ xs) e = by_test (x == 61) e (uncut xs)
         let front : take (1 + position_or_len is_equals xs) (x ∷ xs) ≡ x ∷ take (position_or_len is_equals xs) xs = rw one-add refl in
         front ∙ ap (λ l. x ∷ l) (rest e)
 
--- the cut of a name without `=` and a value behind it
+-- the cut of a name without `=` and a value after it
 cut_at : (name value : Word) → list_any is_equals name ≡ false → ◌≡◌ {A = Word × Option Word} (name_and_value (name ++ 61 ∷ value)) (name, Some value)
 cut_at [] value e = refl
 cut_at (x ∷ xs) value e = by_test (x == 61) e (cut_at xs value)
@@ -110,7 +110,7 @@ fold_none f (w ∷ words) = fold_none f words
 ended_none : (f : Form) (words : List Word) (out : List Entry) → ended (fold (next f) None words) ≡ Some out → ⊥
 ended_none f words out e = let none = ap ended (fold_none f words) in cc
 
--- the arguments that the words are, behind the entries before them
+-- the arguments that the words are, after the entries before them
 record IsSpelled (f : Form) (before : List Entry) (words : List Word) (out : List Entry) : Type 0 where
   arguments : List Argument
   spelled : words ≡ all_words arguments

@@ -1,4 +1,4 @@
--- What clap makes of the words behind a command.
+-- What clap makes of the words after a command.
 use Rattle.std.proofs.Common.{◌≡◌, ◌∙◌, ap, ap₂, sym, subst, refl, ℕ, Bool, true, false, ◌&&◌, ◌||◌, List, [], ◌∷◌, ◌++◌, map, Option, Some, None}
 use Rattle.std.specs.Prelude.{if◌then◌else◌, fold, codes}
 use Rattle.std.specs.List.{list_any}

@@ -45,15 +45,15 @@ name_and_value text = (before_first is_equals text, if list_any is_equals text t
 abbrev pub option_of : Word → Option (Word × Option Word)
 option_of w = option_map name_and_value (option_and_then (behind 45) (behind 45 w))
 
--- ---- what stands behind a command
+-- ---- what follows a command
 
--- a command's name, its options, and whether a number stands by itself behind it
+-- a command's name, its options, and whether a number is written by itself after it
 pub record Form : Type 0 where
   pub name : Word
   pub options : List Word
   pub has_number : Bool
 
--- a value under the name of its option, or under `number` a word that stands by itself
+-- a value under the name of its option, or under `number` a word that is by itself
 abbrev pub Entry : Type 0
 Entry = Word × Word
 
@@ -82,7 +82,7 @@ with_option f (Some (name, Some value)) entries = if is_option f name then with_
 with_option f (Some (name, None)) entries =
     if is_option f name then Some (record { entries = entries; waiting = Some name }) else None
 
--- one more word: no value begins with a hyphen unless it is written behind `=`
+-- one more word: no value begins with a hyphen unless it is written after `=`
 abbrev pub next_by : Form → Option Word → Word → List Entry → Option Reading
 next_by f (Some name) w entries = if has_hyphen w then None else with_entry name w entries
 next_by f None w entries =

@@ -1,6 +1,6 @@
 //! The commands.
 
-/// A command with its numbers. What each does stands in the README of the repository.
+/// A command with its numbers. What each does is described in the README of the repository.
 #[derive(Clone, Copy, Debug, PartialEq, Eq)]
 pub enum Command {
     Check,

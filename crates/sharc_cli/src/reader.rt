@@ -244,7 +244,7 @@ fn command_in(matches: &ArgMatches) -> Option<Command>
     }
 }
 
-/// The command that the words are, or `None` where they are none: `commands` of specs/Commands.antt says which are.
+/// The command that the words are, or `None` where they are not one: `commands` of specs/Commands.antt says which are.
 pub fn read_words(alloc: Global, words: &[String]) -> Result<Option<Command>, AllocError>
     ensures { IfOk result (λ command. command ≡ commands (map string_bytes words.now)) }
 {

@@ -1,6 +1,6 @@
 //! The words of the command line, the bytes that come in and go out, and lines of refusals: tests alone.
 //!
-//! Nothing stands on this crate, and it has no code of its own, so that none of the crates under test is proved once more with its tests.
+//! No crate depends on this one, and it has no code of its own, so that none of the crates under test is proved once more with its tests.
 #![tactic(auto)]
 
 #[cfg(test)]

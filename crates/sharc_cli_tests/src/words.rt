@@ -5,7 +5,7 @@ use std::alloc::{AllocError, Global};
 use std::process::Abort;
 use std::test::Fail;
 
-/// The words of a line, which are parted by a mark.
+/// The words of a line, which are separated by a mark.
 fn words_of(alloc: Global, line: &str, mark: char) -> Result<Vec<String>, AllocError> {
     let mut words = Vec::new(alloc);
     for word in line.split(mark) {
@@ -280,7 +280,7 @@ fn refuses_odd_words(rt: HostRuntime) -> Result<(), Fail> {
     assert_none(&rt, ODD_WORDS, '|')
 }
 
-/// Asserts that words are no command, of which the last part is written so many times.
+/// Asserts that words are no command, of which the last part is written this many times.
 fn assert_none_of_many(
     rt: &(impl Abort + AllocGlobal),
     first: &str,

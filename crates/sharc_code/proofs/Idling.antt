@@ -26,7 +26,7 @@ uncounted Tries e = refl
 uncounted Stopped e = absurd (omega (arith, e))
 uncounted Ended e = absurd (omega (arith, e))
 
--- a turn that was made found what stood there
+-- a turn that was made found what the word held
 found_is : (words : List ℕ) (a : Act) (event : Option WordEvent) → step_of event ≡ asked_by a → Answered words event → after a (result_of event) ≡ after a (found_now words a)
 found_is words (Local m) event asks answered = refl
 found_is words (Asks step go) None asks answered = absurd (let f : None ≡ Some step = asks in cc)

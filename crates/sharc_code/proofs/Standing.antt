@@ -1,4 +1,4 @@
--- Where a run stands: the numbers of its threads, their stages, and who was started.
+-- Where a run is: the numbers of its threads, their stages, and who was started.
 use Rattle.std.proofs.Common.{◌≡◌, ℕ, zero, suc, ◌<◌, Bool, true, false, ◌||◌, ◌&&◌, List, [], ◌∷◌, ◌++◌, Option, Some, None, refl, sym, ap, ◌∙◌, subst, arith, ⊎_elim}
 use Rattle.std.specs.Prelude.{nat_eq, nat_lt, slice_index, slice_set}
 use Rattle.std.proofs.lemmas.Bool.{cases_eq}
@@ -159,7 +159,7 @@ module _ (code : Code) (s : Shape) where
       let m = g.threads one.thread in
       is_one g.words t is.0 (event_was m g.words (turn code s m) one.event t unbegun (touches code s m t is.0 (h.shapes one.thread)) may.next.asks is.1)
 
-  -- so who was started in a run is told by the words at its end, where only threads that were started before make turns
+  -- so who was started in a run is determined by the words at its end, where only threads that were started before make turns
   or_or : (a b c : Bool) → (b ≡ true → c ≡ false → a ≡ true) → (a || (b || c)) ≡ (a || c)
   or_or true b c h = refl
   or_or false true true h = refl

@@ -32,7 +32,7 @@ abbrev pub PlacesJoin : Type 0
 PlacesJoin = (b : Bounds) (code : Code) (s : Shape) (from : Global Machine) (later earlier : List Turn)
     → at b (one_thread code s) from (later ++ earlier) ≡ at b (one_thread code s) (at b (one_thread code s) from earlier) later
 
--- where a run stands: the words are those that its events leave, each thread is where its turns lead, and has made as many events as
+-- where a run is: the words are those that its events leave, each thread is where its turns lead, and has made as many events as
 -- there are turns of it that are no failed tries
 pub record StandsWhere (b : Bounds) (m : OneThread Machine SourceEvent) (from : Global Machine) (turns : List Turn) : Type 0 where
   pub words : (at b m from turns).words ≡ words_after from.words (word_events turns)

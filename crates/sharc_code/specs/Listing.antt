@@ -64,7 +64,7 @@ operand_text (Fits width) = width_text width
 abbrev pub line : List ℕ → List Operand → List ℕ
 line word operands = word ++ flat_map operand_text operands ++ codes "\n"
 
--- the operands stand as in the instruction
+-- the operands are written as in the instruction
 abbrev pub line_of : Instr → List ℕ
 line_of (Constant a b) = line (codes "constant") (Index a ∷ Value b ∷ [])
 line_of (Move a b) = line (codes "move") (Index a ∷ Index b ∷ [])

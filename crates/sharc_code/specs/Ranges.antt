@@ -33,7 +33,7 @@ pub record IsInGlobal (globals : List GlobalCells) (g place : ℕ) : Type 0 wher
   pub low : first_place globals g ≤ place
   pub high : place < end_place globals g
 
--- they lie from granule 1 on within so many granules, one after the other
+-- they lie from granule 1 on within this many granules, one after the other
 pub record GlobalsFit (globals : List GlobalCells) (granules : ℕ) : Type 0 where
   pub low : (g : ℕ) → g < length globals → 2 ≤ first_place globals g
   pub high : (g : ℕ) → g < length globals → end_place globals g ≤ 2 * granules + 2

@@ -1,5 +1,5 @@
 -- Runs of several threads: lists of turns, the newest first, and the machine that makes one turn at a time. S is the state of one
--- thread, and E what a turn tells of the source.
+-- thread, and E what a turn reports of the source.
 use Rattle.std.specs.Prelude.{ℕ, ◌+◌, ◌≡◌, ◌≢◌, ◌≤◌, Bool, true, ◌&&◌, ◌||◌, nat_eq, nat_lt, List, [], ◌∷◌, ◌++◌, slice_index, Option, Some, None, if◌then◌else◌}
 use Rattle.sharc_word.specs.declared.step.WordStep.{WordStep}
 use Rattle.sharc_word.specs.declared.step.WordEvent.{WordEvent}
@@ -8,7 +8,7 @@ use Rattle.sharc_word.specs.Place.{event_of}
 use Rattle.sharc_word.specs.History.{MayFollow, LegalHistory, events_of}
 use Rattle.sharc_code.specs.Layout.{state_word}
 
--- an event of the source that a thread's turn tells
+-- an event of the source that a thread's turn reports
 pub record Said (E : Type 0) : Type 0 where
   pub thread : ℕ
   pub told : E
@@ -18,7 +18,7 @@ with_told t None says = says
 with_told t (Some e) says = record { thread = t; told = e } ∷ says
 
 -- what one thread does: where it starts, whether it makes a turn, the word step that its turn asks for, where a turn with
--- this result leads (0 where it asked for no step), whether the turn that led to a state counts as an event, and what a turn tells of
+-- this result leads (0 where it asked for no step), whether the turn that led to a state counts as an event, and what a turn reports of
 -- the source. A result that is a reference is paired with a number that the earlier events of all threads give
 pub record OneThread (S E : Type 0) : Type 0 where
   pub start : ℕ → S
@@ -139,7 +139,7 @@ after_turn b m g turn = record {
   made = put g.made turn.thread (made_now m g turn);
 }
 
--- where a run stands
+-- where a run is
 abbrev pub at : {S E : Type 0} → Bounds → OneThread S E → Global S → List Turn → Global S
 at b m from [] = from
 at b m from (turn ∷ earlier) = after_turn b m (at b m from earlier) turn
@@ -162,7 +162,7 @@ IsRun b m from [] = Unit {0}
 IsRun b m from (turn ∷ earlier) = IsRun b m from earlier × MayTurn b m (at b m from earlier) turn
 
 -- ---- the source events of a run and of a path, the newest first
--- what the result of a turn is paired with, and what the turn tells
+-- what the result of a turn is paired with, and what the turn reports
 abbrev pub paired : {S E : Type 0} → OneThread S E → List (Said E) → Global S → Turn → ℕ
 paired m says g turn = m.pairs says (g.threads turn.thread) (result_of turn.event)
 

@@ -169,7 +169,7 @@ in_signal code m cell site found (Wakes seen) =
     else nobody code m cell site found
 in_signal code m cell site found _ = nobody code m cell site found
 
--- the turn of this instruction, where its step found this; the reference of which it speaks has so many elements
+-- the turn of this instruction, where its step found this; the reference of which it speaks has this many elements
 abbrev pub said : Code → Instr → Machine → ℕ → ℕ → Option SourceEvent
 said code (Load r cell site) m found elements = access code m site cell (int_of found) acts.Read
 said code (Store r cell site) m found elements = access code m site cell (pos 0) (λ at mode. acts.Write at mode (int m r))

@@ -1,4 +1,4 @@
--- Laws of the places at which a run of a code stands: whose threads were started, and what turns without events leave.
+-- Laws of the places that a run of a code reaches: whose threads were started, and what turns without events leave.
 use Rattle.std.specs.Prelude.{ℕ, ◌≡◌, ◌≢◌, ◌≤◌, ◌||◌, true, List, [], ◌∷◌, ◌++◌, Some}
 use Rattle.sharc_code.specs.declared.code.Code.{Code}
 use Rattle.sharc_code.specs.declared.shape.Shape.{Shape}
@@ -31,7 +31,7 @@ SpawnsStart = (code : Code) (s : Shape) (turns : List Turn) (turn : Turn) (t : �
     → begins_of ((place_after code s turns).threads turn.thread).own.stage ≢ Some t
     → is_started bounds (place_after code s (turn ∷ turns)).words t ≡ true → is_started bounds (place_after code s turns).words t ≡ true
 
--- where a run goes on by turns of threads that had been started, who was started since is told by the words at its end
+-- where a run goes on by turns of threads that had been started, who was started since is determined by the words at its end
 abbrev pub StartedIsTold : Type 0
 StartedIsTold = (code : Code) (s : Shape) (earlier later : List Turn) → IsRun bounds (one_thread code s) (place_after code s earlier) later
     → ((turn : Turn) (last first : List Turn) → later ≡ last ++ turn ∷ first → (place_after code s earlier).started turn.thread ≡ true)

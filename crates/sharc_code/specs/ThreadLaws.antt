@@ -17,7 +17,7 @@ abbrev pub found_now : List ℕ → Turn → ℕ
 found_now words (Local m) = 0
 found_now words (Asks step go) = slice_index words step.word
 
--- the machine behind a turn with the words as they are
+-- the machine after a turn with the words as they are
 abbrev pub behind : Code → Shape → List ℕ → Machine → Machine
 behind code s words m = after (turn code s m) (found_now words (turn code s m))
 

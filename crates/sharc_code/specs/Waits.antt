@@ -27,7 +27,7 @@ asks_for s _ m = None
 abbrev pub wait_of : Code → Shape → Machine → Option Wait
 wait_of code s m = if may_go m.at.state then asks_for s (instr_at code m.at.pc) m else None
 
--- the mutex is held, the thread is not gone, the own bit stands
+-- the mutex is held, the thread is not gone, its own bit is set
 abbrev pub is_held_up : List ℕ → ℕ → Wait → Bool
 is_held_up words number (waits.Mutex word site) = not (slice_index words word == 0)
 is_held_up words number (waits.Join n site) = slice_index words (state_word n) == 1 || slice_index words (state_word n) == 2

@@ -1,4 +1,4 @@
--- The checked runs of a code: what its threads do, what a run tells of the source, and where it is stuck.
+-- The checked runs of a code: what its threads do, what a run reports of the source, and where it is stuck.
 use Rattle.std.specs.Prelude.{ℕ, ◌≡◌, true, List, [], ◌∷◌, map, Option, Some, None}
 use Rattle.sharc_word.specs.declared.step.TheConstants.{THREADS}
 use Rattle.sharc_word.specs.declared.step.WordEvent.{WordEvent}
@@ -34,7 +34,7 @@ bounds = record { threads = THREADS; limit = 100000000 }
 abbrev pub CheckedRun : Code → Shape → List Turn → Type 0
 CheckedRun code s turns = CheckedRunOf bounds (one_thread code s) (opening_words code s) turns
 
--- where it stands
+-- where it is
 abbrev pub place_after : Code → Shape → List Turn → Global Machine
 place_after code s turns = at bounds (one_thread code s) (opening_of bounds (one_thread code s) (opening_words code s)) turns
 

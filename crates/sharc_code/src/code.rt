@@ -48,7 +48,7 @@ pub struct Layout {
     pub until: u32,
 }
 
-/// The mode of a place. A lock is named by where its mutex stands.
+/// The mode of a place. A lock is named by where its mutex lies.
 #[derive(Clone, Copy)]
 pub enum PlaceMode {
     Private,
@@ -90,7 +90,7 @@ pub struct SourcePlace {
     pub at: Use,
 }
 
-/// The code of a program. A thread begins at place 0, where there is a Start with an Exit behind it.
+/// The code of a program. A thread begins at place 0, where there is a Start followed by an Exit.
 #[derive(Drop)]
 pub struct Code {
     /// The instructions, by their places.

@@ -83,7 +83,7 @@ pub enum Instr {
     JumpIfZero(u32, u32),
     /// To the place where this reference register is NULL.
     JumpIfNull(u32, u32),
-    /// To this place, with frames that begin at these registers of the two banks: it stops with X10 where 256 frames stand.
+    /// To this place, with frames that begin at these registers of the two banks: it stops with X10 where there are 256 frames.
     Call(u32, u32, u32, u32),
     /// Back to the caller: at the thread's last return it stops with X11 where a mutex is held.
     Return(u32),
@@ -102,10 +102,10 @@ pub enum Instr {
     /// The same of the mutex in the first cell of the object whose reference was loaded last.
     ChkLockLoaded(u32),
     // ---- cells
-    /// This integer register holds an index of the object in that reference register, whose elements have so many cells; it becomes the
-    /// number of this field of the element: it stops with X2 where the index is none.
+    /// This integer register holds an index of the object in that reference register, whose elements have this many cells; it becomes the
+    /// number of this field of the element: it stops with X2 where there is no such element.
     Bounds(u32, u32, u32, u32, u32),
-    /// The same for a global of so many elements; the field is counted from the first cell of granule 0.
+    /// The same for a global of this many elements; the field is counted from the first cell of granule 0.
     GlobalBounds(u32, u32, u32, u32, u32),
     /// The check of a read of this cell.
     ChkRead(Cell, u32),
@@ -127,7 +127,7 @@ pub enum Instr {
     /// The reference of this register is counted once less, and the register is NULL.
     Lower(u32),
     // ---- objects
-    /// To this reference register, a new object of so many elements as this integer register has, each of so many cells: it stops with X9.
+    /// To this reference register, a new object of as many elements as this integer register has, each of this many cells: it stops with X9.
     New(u32, u32, u32, u32),
     /// To this reference register, the reference of the cell, which is then NULL.
     TakeCell(u32, Cell, u32),
@@ -135,7 +135,7 @@ pub enum Instr {
     TakeLocal(u32, u32, u32),
     /// Reports A4 where the object in this register has another count than 1.
     TestSole(u32, u32),
-    /// Clears the granules of the object in this register, whose elements have so many cells.
+    /// Clears the granules of the object in this register, whose elements have this many cells.
     Clear(u32, u32),
     /// The object in this register has a new mode.
     Give(u32, u32),

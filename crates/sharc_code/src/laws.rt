@@ -11,7 +11,7 @@ use crate::shape::Shape;
 use sharc_word::history_laws;
 
 /// What holds of every checked run: it is a run by turns of the whole machine, and the other way round; runs join; where a run
-/// stands is told by its parts; a turn changes no other thread, counts as an event where it is no failed try, and comes from no thread
+/// has got to is determined by its parts; a turn changes no other thread, counts as an event where it is no failed try, and comes from no thread
 /// that is stopped or gone; the source events are by thread those of the paths; and a run is that of its schedule.
 pub fn run_laws()
     ensures { RunLaws }
@@ -34,8 +34,8 @@ pub fn thread_laws()
     ensures { ThreadLaws }
 {}
 
-/// What holds wherever a run of a code stands: each thread has its number and a stage of the shape; a state word that is 1 stays so but
-/// for turns of its own thread, and becomes 1 by the last turn of a Spawn alone, so who was started since is told by the words where
+/// What holds wherever a run of a code is: each thread has its number and a stage of the shape; a state word that is 1 stays so but
+/// for turns of its own thread, and becomes 1 by the last turn of a Spawn alone, so who was started since is determined by the words where
 /// only threads that had been started go on; and where no thread makes an event the words stay, and whoever made a turn waits.
 #[inline(always)]
 pub fn standing_laws()

@@ -3,7 +3,7 @@
 use sharc_granule::NewState;
 use sharc_shadow::Kind;
 
-/// How many frames may stand (own).
+/// How many frames there may be.
 pub const FRAMES: usize = 256;
 
 /// What the last turn was, and whether another may come.
@@ -19,7 +19,7 @@ pub enum State {
     Ended,
 }
 
-/// Where a thread stands: the place in the code, the first register of its frame in each bank, and how many frames stand.
+/// Where a thread is: the place in the code, the first register of its frame in each bank, and how many frames there are.
 #[derive(Clone, Copy)]
 pub struct At {
     pub pc: usize,
@@ -42,13 +42,13 @@ pub struct Frame {
 pub enum Stage {
     /// The first.
     Rests,
-    /// Clear: the Load of the shadow word of this data granule, of so many.
+    /// Clear: the Load of the shadow word of this data granule, of this many.
     Looks(u64, u64),
     /// Clear: the Swap of it, where this was found.
     Clears(u64, u64, u64),
     /// New: what its state asks for.
     Makes(NewState),
-    /// Free: the Swap to 0 of this pointer cell, of an object with so many elements.
+    /// Free: the Swap to 0 of this pointer cell, of an object with this many elements.
     Empties(u64, u64),
     /// Free: the Lower of the reference that was found in it.
     Lowers(u64, u64, u64),

@@ -48,7 +48,7 @@ is_ended Tries = false
 is_ended Stopped = false
 is_ended Ended = true
 
--- ---- words that tell of no thread
+-- ---- words that say nothing of a thread
 pub record IsOther (word : ℕ) : Type 0 where
   pub next : word ≡ next_thread_word → ⊥
   pub states : (t : ℕ) → t < THREADS → word ≡ state_word t → ⊥

@@ -1,4 +1,4 @@
--- What the state words tell wherever a run stands.
+-- What the state words say wherever a run is.
 use Rattle.std.proofs.Common.{◌≡◌, ℕ, zero, suc, ◌+◌, ◌%◌, ◌^◌, ◌<◌, ◌≤◌, ◌⊎◌, Bool, true, false, ◌||◌, ◌&&◌, List, [], ◌∷◌, length, Option, Some, None, refl, sym, ap, ◌∙◌, subst, ⊎_elim, inl, inr, arith}
 use Rattle.std.specs.Prelude.{nat_eq, nat_lt, nat_le, ◌==◌, slice_index, slice_set}
 use Rattle.std.proofs.lemmas.Bool.{cases_eq}

@@ -1,4 +1,4 @@
--- What a turn keeps of the state words: told of their values, of the numbers that are drawn, and of who was started and who has ended.
+-- What a turn keeps of the state words: stated of their values, of the numbers that are drawn, and of who was started and who has ended.
 use Rattle.std.proofs.Common.{◌≡◌, ℕ, ◌<◌, ◌≤◌, ◌⊎◌, Bool, true, false, Option, Some, None, refl, sym, ap, ◌∙◌, ⊎_elim, arith}
 use Rattle.std.proofs.lemmas.Bool.{cases_eq}
 use Rattle.sharc_word.specs.declared.step.TheConstants.{THREADS}

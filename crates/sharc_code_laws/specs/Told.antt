@@ -1,4 +1,4 @@
--- What the state words tell at each place of a checked run: who was started, and who has ended.
+-- What the state words say at each place of a checked run: who was started, and who has ended.
 use Rattle.std.specs.Prelude.{ℕ, ◌≡◌, ◌≢◌, ◌<◌, ◌≤◌, ◌↔◌, false, List, Some, slice_index}
 use Rattle.sharc_word.specs.declared.step.TheConstants.{THREADS}
 use Rattle.sharc_code.specs.declared.code.Code.{Code}
@@ -20,7 +20,7 @@ pub record TellsState (g : Global Machine) (t : ℕ) : Type 0 where
   pub waits : state_of g t ≡ 0 ↔ (g.started t ≡ false)
   pub ended : state_of g t ≡ 3 ↔ ((g.threads t).at.state ≡ Ended)
 
--- of each thread that there may be, wherever a run stands
+-- of each thread that there may be, wherever a run is
 abbrev pub StatesAreTold : Type 0
 StatesAreTold = (code : Code) (s : Shape) (turns : List Turn) → CheckedRun code s turns → (t : ℕ) → t < THREADS → TellsState (place_after code s turns) t
 

@@ -48,11 +48,11 @@ use Rattle.sharc_compile.specs.Coded.{WantsAt, StopsFor, IsOverFor, FollowsFlat}
 use Rattle.sharc_compile.specs.Source.{WantsEventAt, IsStopOf, IsOverAs, IsToldBy, FollowsSource}
 
 -- ---- events, and what is given up
--- no event is told, and nothing is taken back of what was given up
+-- no event is reported, and nothing is taken back of what was given up
 abbrev pub IsStill : At → At → Type 0
 IsStill m m2 = (m2.events ≡ m.events) × (extra : List GivenUp) × (m2.given ≡ m.given ++ extra)
 
--- nor by a turn before it is answered; and what comes with the answer tells no other event
+-- nor by a turn before it is answered; and what comes with the answer reports no other event
 abbrev pub IsQuiet : At → Turn → Type 0
 IsQuiet m (goes m2) = IsStill m m2
 IsQuiet m (asks m2 site act held go) = IsStill m m2 × (m2.refs ≡ m.refs) × ((v : ℤ) (n : At) → (go v n).events ≡ n.events)
@@ -180,7 +180,7 @@ more_resolved (Replaced c ∷ gs) extra (k ∷ ks) h = let r = more_resolved gs 
 more_resolved (Emptied n ∷ gs) extra ks h = more_resolved gs extra ks h
 
 -- ---- a path by what its events answer
--- what a turn answers, by what it was told
+-- what a turn answers, by what it was given
 abbrev given_by : Turn → ℤ → ℤ
 given_by (goes m2) x = x
 given_by (asks m2 site act held go) x = answer_of (λ token. held) act x
@@ -214,7 +214,7 @@ given_count : (flat : Flat) (m : At) (answers : List ℤ) → length (given_in f
 given_count flat m [] = refl
 given_count flat m (x ∷ earlier) = ap suc (given_count flat m earlier)
 
--- each turn that asks tells one event, with this answer
+-- each turn that asks reports one event, with this answer
 told_one : (t : Turn) (now : At) (x : ℤ) → IsQuiet now t → answers_of (after now t x).events ≡ answers_of now.events ++ asked_by t (given_by t x)
 told_one (goes m2) now x q = ap answers_of q.0 ∙ sym (append-nil (answers_of now.events))
 told_one (asks m2 site act held go) now x q =
@@ -277,7 +277,7 @@ module _ (runs : PathsAreRuns) (flat : Flat) (st : At) (answers : List ℤ) (pat
       let e : n ≡ length h.earlier + 0 = let c = h.count in omega arith in
       ap (λ n. (exec flat n (asked flat st answers) st).outcome) e ∙ ap (λ xs. (exec flat (length h.earlier + 0) xs st).outcome) h.asked_is ∙ ap (λ (c : Came). c.outcome) (runs flat st h.earlier h.path 0 h.rest)
 
-  -- so many turns lead one turn beyond the path at least
+  -- this many turns lead one turn beyond the path at least
   pub record IsBeyond (later : ℕ) : Type 0 where
     pub more : ℕ
     pub is : exec flat later (asked flat st answers) st ≡ exec flat (suc more) [] (at_after flat st answers)

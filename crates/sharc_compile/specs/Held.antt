@@ -55,7 +55,7 @@ pub record IsOldValue (code : Code) (at : Machine) (given : List GivenUp) (lower
 abbrev pub IsAccountedFor : Code → Machine → List ℕ → Asked → ℕ → ℕ → Type 0
 IsAccountedFor code at lowered a k n = IsAmong a.held n ⊎ (IsGivenUpLater a.given_up lowered n ⊎ IsOldValue code at a.given_up lowered k)
 
--- At its next want, its stop or its end with this fuel the program has told the same; each register of the thread is accounted for, but while the block of a freed
+-- At its next want, its stop or its end with this fuel the program has reported the same; each register of the thread is accounted for, but while the block of a freed
 -- object is linked; and where the thread was refused by A1 to A4, the program wants what was refused.
 pub record HoldsBy (m : Assignment) (code : Code) (p : Program) (thread f : ℕ) (argument : ℤ) (answers : List ℤ) (at : Machine) (said : List SourceEvent) (lowered : List ℕ) : Type 0 where
   pub fuel : ℕ

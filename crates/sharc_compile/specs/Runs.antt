@@ -1,4 +1,4 @@
--- What a thread has told in a checked run of the code of a program, the program tells.
+-- What a thread has reported in a checked run of the code of a program, the program reports.
 use Rattle.std.specs.Prelude.{ℕ, ◌⊎◌, List, length, reverse}
 use Rattle.sharc_mode.specs.Moded.{Assignment}
 use Rattle.sharc_code.specs.declared.code.Code.{Code}

@@ -1,4 +1,4 @@
--- The paths of the code of a program are those of the program: what a thread of its code has told is what the source asks for by the same answers.
+-- The paths of the code of a program are those of the program: what a thread of its code has reported is what the source asks for by the same answers.
 use Rattle.std.specs.Prelude.{ℕ, ℤ, pos, ◌+◌, ◌*◌, ◌≡◌, ◌<◌, ◌⊎◌, List, ◌∷◌, ◌++◌, length, map, Option, IsSomeAnd}
 use Rattle.sharc_tree.specs.declared.event.Act.{Act}
 use Rattle.sharc_tree.specs.declared.event.SourceEvent.{SourceEvent}
@@ -47,19 +47,19 @@ IsOverAs code o Tries stop = Unit {0}
 IsOverAs code o Stopped stop = IsSomeAnd stop (IsStopOf code o)
 IsOverAs code o Ended stop = o ≡ ended
 
--- With these answers and some fuel the source has told the same, and is over where the code is over; and what the code has lowered since its last event is a first
+-- With these answers and some fuel the source has reported the same, and is over where the code is over; and what the code has lowered since its last event is a first
 -- part of what the source has given up since. With fuel for fewer statements and expressions than the code
 -- has made turns for, it is spent: so the turns that count are at most 64 for each that the source entered, and 64 more.
 pub record IsToldBy (m : Assignment) (code : Code) (p : Program) (thread f : ℕ) (argument : ℤ) (answers : List ℤ) (at : Machine) (said : List SourceEvent) (lowered : List ℕ) (paced : ℕ) : Type 0 where
   pub fuel : ℕ
   pub events : said ≡ by thread (begins p f argument) ∷ map (by thread) (asks m f argument answers fuel).events
-  -- the answers are those of the events that are told
+  -- the answers are those of the events that are reported
   pub own : answers ≡ answers_of (asks m f argument answers fuel).events
   pub over : IsOverAs code (asks m f argument answers fuel).outcome at.at.state at.own.stop
   pub given : (more : List ℕ) × Resolved (asks m f argument answers fuel).given_up (lowered ++ more)
   pub pace : (few : ℕ) → 64 * few + 64 < paced → (asks m f argument answers few).outcome ≡ spent
 
--- a thread of a function that may be started is told by the source, by what it was answered
+-- what a thread of a function that may be started reports, the source reports by the same answers
 pub record FollowsSource (m : Assignment) (code : Code) (p : Program) (functions thread : ℕ) (at : Machine) (said : List SourceEvent) (lowered : List ℕ) (paced : ℕ) : Type 0 where
   pub function : ℕ
   pub known : function < functions

@@ -30,7 +30,7 @@ pub fn made_law()
     coded_law();
 }
 
-/// Where the flat code asks for what a program asks for, a thread of its code tells what the program tells by the answers of these events,
+/// Where the flat code asks for what a program asks for, a thread of its code reports what the program reports by the answers of these events,
 /// is over as the program is, has lowered of the references that the program has given up since its last event the first ones, and makes
 /// at most 64 counted turns for each statement and expression that the program entered, and 64 more.
 pub fn source_law()
@@ -49,7 +49,7 @@ pub fn program_law()
     made_is_framed();
 }
 
-/// So what a thread has told in a checked run of that code, in any interleaving, the program tells, where the results of the thread's path
+/// So what a thread has reported in a checked run of that code, in any interleaving, the program reports, where the results of the thread's path
 /// are consistent with the objects that the run has made.
 pub fn run_law()
     ensures { RunsFollowSource }

@@ -1,4 +1,4 @@
--- What a thread of the code of a program tells is what the program asks for by the answers of the events that are told.
+-- What a thread of the code of a program reports is what the program asks for by the answers of the events that are reported.
 use Rattle.std.proofs.Common.{◌≡◌, ℕ, ◌⊎◌, inl, inr, ⊎_elim, List, ◌++◌, length, map, refl, sym, ap, ◌∙◌, subst}
 use Rattle.sharc_tree.specs.declared.event.SourceEvent.{SourceEvent}
 use Rattle.sharc_mode.specs.Moded.{Assignment}

@@ -1,4 +1,4 @@
--- What the threads of a run tell, among the events of all threads.
+-- What the threads of a run report, among the events of all threads.
 use Rattle.std.proofs.Common.{◌≡◌, ℕ, ℤ, zero, suc, ◌+◌, ◌<◌, inl, inr, ⊎_elim, Bool, true, false, cond, List, [], ◌∷◌, ◌++◌, length, map, reverse, refl, sym, ap, ◌∙◌, subst, arith, slice_get}
 use Rattle.std.specs.Prelude.{◌==◌, nat_eq, filter, slice_index_or}
 use Rattle.std.proofs.lemmas.Bool.Decides.{nat_tests}
@@ -114,7 +114,7 @@ filtered t (s ∷ says) h =
     by true = refl
     by false = refl
 
--- ---- where its first event stands
+-- ---- where its first event is
 record IsSplit (t : ℕ) (R : List SourceEvent) (e : SourceEvent) (es : List SourceEvent) : Type 0 where
   before : List SourceEvent
   after : List SourceEvent
@@ -158,7 +158,7 @@ row_site m globals pc [] n lt = absurd (omega arith)
 row_site m globals pc (f ∷ rest) zero lt = refl
 row_site m globals pc (f ∷ rest) (suc n) lt = row_site m globals (pc + length (function_code m globals pc f)) rest n (omega arith)
 
--- the Started of a function that there is stands at its name
+-- the Started of an existing function is at its name
 pub started_at_name : (m : Assignment) (flat : FlatCode) → Flattens m flat → (code : Code) → (is : IsCodeOf flat code) → (f : ℕ) (argument : ℤ) → f < length flat.functions.items
     → IsNamedAt (function_at m.typed f) (begins (program_of is.g) f argument).site
 started_at_name m flat made code is f argument known =

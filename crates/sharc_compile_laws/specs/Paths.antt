@@ -1,4 +1,4 @@
--- What a path of a thread of the code of a program tells, whatever words it finds: what the program asks for by the answers of the events that are told.
+-- What a path of a thread of the code of a program reports, whatever words it finds: what the program asks for by the answers of the events that are reported.
 use Rattle.std.specs.Prelude.{ℕ, ℤ, pos, ◌+◌, ◌*◌, ◌≡◌, ◌<◌, ◌⊎◌, List, ◌∷◌, ◌++◌, map, reverse}
 use Rattle.sharc_tree.specs.declared.event.Act.TheVariants.{Started}
 use Rattle.sharc_tree.specs.declared.event.SourceEvent.{SourceEvent}
@@ -28,7 +28,7 @@ use Rattle.sharc_compile.specs.Made.{IsCodeOf}
 use Rattle.sharc_compile.specs.Source.{IsOverAs}
 use Rattle.sharc_compile_laws.specs.Typed.{IsTypedProgram}
 
--- The thread has told exactly these events after its Started. With some fuel the program asks for just them, by their
+-- The thread has reported exactly these events after its Started. With some fuel the program asks for just them, by their
 -- answers, and is over as the code is: ended, or stopped at the same site by the same X, or, where the code was refused by
 -- X7, X8, X9 or A1 to A4, at the event that it wants next. What the code has lowered since the last event are the first of
 -- the references that the program has given up since. The turns that count are at most 64 for each statement and

@@ -1,4 +1,4 @@
--- What a thread tells in a checked run of the code of a program, in any interleaving, is what the program asks for by the answers of these events.
+-- What a thread reports in a checked run of the code of a program, in any interleaving, is what the program asks for by the answers of these events.
 use Rattle.std.specs.Prelude.{ℕ, ℤ, pos, ◌≡◌, ◌⊎◌, List, [], map, reverse}
 use Rattle.sharc_tree.specs.declared.event.Act.TheVariants.{Started}
 use Rattle.sharc_tree.specs.declared.event.SourceEvent.{SourceEvent}
@@ -37,7 +37,7 @@ pub record TellsIn (m : Assignment) (R : List SourceEvent) (thread : ℕ) : Type
   pub site : IsNamedAt (function_at m.typed function) begins.site
   pub asked : MayStart m function → (fuel : ℕ) × (map (by thread) (asks m function argument (answers_of (events_of thread after)) fuel).events ≡ events_of thread after)
 
--- a thread tells nothing, or this; where the results of the paths of all threads are consistent
+-- a thread reports nothing, or this; where the results of the paths of all threads are consistent
 abbrev pub RunsTell : Assignment → Code → Type 0
 RunsTell m code = (s : Shape) (run : List Turn) → CheckedRun code s run
     → ((thread : ℕ) → IsConsistent code s (begun code s thread) (elements_before code s thread run) (founds_of (turns_of thread run)))

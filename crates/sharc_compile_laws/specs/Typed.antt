@@ -29,7 +29,7 @@ pub record IsTypedProgram (m : Assignment) : Type 0 where
   pub least : IsLeastAssignment m
   pub well_moded : WellModed m
 
--- the threads of its runs tell what it asks for
+-- the threads of its runs report what it asks for
 abbrev pub TypedThreadsTell : Type 0
 TypedThreadsTell = (m : Assignment) → IsTypedProgram m → (flat : FlatCode) → Flattens m flat → FitsMade (flat_of flat) → (code : Code) → IsCodeOf flat code → RunsTell m code
 

@@ -25,7 +25,7 @@ pub fn made_tables_fit()
     spawns_threads();
 }
 
-/// What a thread tells in a checked run of the code of a program, in any interleaving, is what the program asks for by the answers of these
+/// What a thread reports in a checked run of the code of a program, in any interleaving, is what the program asks for by the answers of these
 /// events, after the Started of a function at its name; where the results of the paths of all threads are consistent.
 pub fn threads_tell()
     ensures { ThreadsTell }
@@ -41,7 +41,7 @@ pub fn typed_threads_tell()
     threads_tell();
 }
 
-/// And each path of a thread of that code whose results are consistent tells what the program asks for, is over as the program is, and keeps
+/// And each path of a thread of that code whose results are consistent reports what the program asks for, is over as the program is, and keeps
 /// the pace; so does each thread of a checked run whose path is such a one.
 pub fn typed_paths_tell()
     ensures paths { OfTyped PathsTell }

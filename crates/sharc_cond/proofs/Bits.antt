@@ -25,7 +25,7 @@ set_waiter word thread within k =
       | inr other ↦ ap (λ b. b == 1) (bit_at_set_other w64 word thread within k other) ∙ or_false (bit_at word k == 1) ∙ ap (λ b. bit_at word k == 1 || b) (sym (ne_eqb k thread other))
     ]
 
--- past the word no bit stands
+-- past the word no bit is set
 none_above : (word k : ℕ) → word < 2 ^ 64 → 64 ≤ k → (bit_at word k == 1) ≡ false
 none_above word k is_word above = ap (λ b. b == 1) (bit_at_above word 64 k is_word above)
 

@@ -9,7 +9,7 @@ use Rattle.sharc_cond.specs.Waiters.{waits_in, lowest_of, without_lowest, AddsWa
 abbrev pub NobodyWaits : Type 0
 NobodyWaits = (k : ℕ) → waits_in 0 k ≡ false
 
--- a word is told by its waiters
+-- a word is determined by its waiters
 abbrev pub WordIsItsWaiters : Type 0
 WordIsItsWaiters = (a b : ℕ) → ((k : ℕ) → waits_in a k ≡ waits_in b k) → a ≡ b
 

@@ -2,7 +2,7 @@
 use Rattle.std.specs.Prelude.{◌≡◌, ℕ, ◌-◌, ◌^◌, ◌<◌, ◌==◌, ◌||◌, ◌&&◌, Bool, true, false, not, Option, Some, None, bit_and, if◌then◌else◌}
 use Rattle.std.specs.Int.{bit_at, trailing_zeros, w64}
 
--- bit k stands where thread k waits
+-- bit k is set where thread k waits
 unfoldable pub waits_in : ℕ → ℕ → Bool
 waits_in word thread = bit_at word thread == 1
 

@@ -30,7 +30,7 @@ AreLeast = (f : Flow) (dynamic : ℕ → Bool) → IsClosed f (λ position. dyna
 abbrev pub EqualsAgree : Type 0
 EqualsAgree = (f : Flow) (a b : ℕ) → IsEqual f a b → IsEqual f b a → IsUnwritten f a → IsUnwritten f b → (IsDynamic f a → IsDynamic f b) × (IsDynamic f b → IsDynamic f a)
 
--- what is found tells them: a position without a written mode is dynamic where it is not apart
+-- what is found shows them: a position without a written mode is dynamic where it is not apart
 abbrev pub AreTold : Type 0
 AreTold = (f : Flow) (findings : List Finding) → AreInferred f findings → (position : ℕ) → IsUnwritten f position
     → (finding_at findings position ≡ Apart → IsDynamic f position → ⊥) × ((finding_at findings position ≡ Apart → ⊥) → IsDynamic f position)

@@ -68,7 +68,7 @@ HasRank ranks position most = (rank : ℕ) × (rank_at ranks position ≡ Some r
 abbrev pub IsServed : Flow → Ranks → Link → ℕ → Type 0
 IsServed f ranks link rank = rank_for f.places ranks link ≡ Some rank → is_unwritten (place_at f.places link.edge.to) ≡ true → HasRank ranks link.edge.to (rank + 1)
 
--- so many of the links have been gone over in this round, and all of them in those before
+-- this many of the links have been gone over in this round, and all of them in those before
 pub record AreRanks (f : Flow) (ranks : Ranks) (round links : ℕ) : Type 0 where
   pub size : length ranks ≡ length f.places
   pub roots : (position : ℕ) → place_at f.places position ≡ Root → rank_at ranks position ≡ Some 0

@@ -2,7 +2,7 @@
 //!
 //! The layer above gives the positions by number, each with what is written there, and the links: two for each pair of positions
 //! that an assignment, an argument, a return or a cast makes equal, and one from each position to the one directly below it. What
-//! is answered stands in specs/Flow.antt: the least assignment. Laws of it stand in specs/Laws.antt. The time is linear in the positions and the links.
+//! is answered is given in specs/Flow.antt: the least assignment. Laws of it are in specs/Laws.antt. The time is linear in the positions and the links.
 //! `least_by_rounds` is a plain, slow program with the same contract, for tests to compare with.
 #![tactic(auto)]
 

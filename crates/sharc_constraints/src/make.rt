@@ -26,7 +26,7 @@ pub fn make_equal(
     Ok(())
 }
 
-/// Lets each of this many positions from the first on lead to the next one, which stands directly below it.
+/// Lets each of this many positions from the first on lead to the next one, which lies directly below it.
 pub fn lead_down(links: &mut Vec<Link>, first: u32, depths: u32) -> Result<(), AllocError>
     requires first { first + depths + 1 < 2 ^ 32 }
     ensures { OnOk result (links.new.items ≡ links.old.items ++ below_links first depths) }

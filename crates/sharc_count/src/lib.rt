@@ -14,7 +14,7 @@ mod laws;
 
 pub use laws::count_laws;
 
-/// The step by which one reference more is counted; `word` is the object's count word (own).
+/// The step by which one reference more is counted; `word` is the object's count word.
 pub fn raise(word: u32) -> WordStep
     ensures step { result ≡ raise_of word }
     ensures counts { (count : ℕ) → count + 1 < 2 ^ 64 → word_after result.op count ≡ count + 1 }
@@ -25,7 +25,7 @@ pub fn raise(word: u32) -> WordStep
     }
 }
 
-/// The step by which one reference less is counted (own).
+/// The step by which one reference less is counted.
 pub fn lower(word: u32) -> WordStep
     ensures step { result ≡ lower_of word }
     ensures counts { (count : ℕ) → count + 1 < 2 ^ 64 → word_after result.op (count + 1) ≡ count }
@@ -36,7 +36,7 @@ pub fn lower(word: u32) -> WordStep
     }
 }
 
-/// The step that reads the count and leaves it (own).
+/// The step that reads the count and leaves it.
 pub fn test(word: u32) -> WordStep
     ensures step { result ≡ test_of word }
     ensures counts { (count : ℕ) → word_after result.op count ≡ count }

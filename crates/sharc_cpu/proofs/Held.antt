@@ -12,7 +12,7 @@ at_first held log word e = (zero, held, omega arith, refl, e)
 behind : (held : HeldMutex) (log : List HeldMutex) (word : ℕ) → Holds log word → Holds (held ∷ log) word
 behind held log word h = (suc h.0, h.1, omega (arith, h.2), h.3, h.4)
 
--- it is the first, or one behind it
+-- it is the first, or one after it
 first_or_behind : (held : HeldMutex) (log : List HeldMutex) (word k : ℕ) (x : HeldMutex) → k < suc (length log) → get_or (held ∷ log) k x ≡ x → x.word ≡ word → (held.word == word) ≡ false → Holds log word
 first_or_behind held log word zero x low at is off = absurd (false≢true (sym off ∙ eq-eqb held.word word (ap (λ (h : HeldMutex). h.word) at ∙ is)))
 first_or_behind held log word (suc k) x low at is off = (k, x, omega arith, at, is)

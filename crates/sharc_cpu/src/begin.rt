@@ -12,7 +12,7 @@ use sharc_locks::HeldLog;
 use sharc_shadow::AccessTable;
 use std::alloc::{AllocError, Global};
 
-// The block sizes of an arena have a head each (own), from two granules to 65,536.
+// The block sizes of an arena have a head each, from two granules to 65,536.
 const HEADS: usize = 16;
 
 // The integer registers of the largest function.

@@ -72,7 +72,7 @@ pub(crate) fn is_of_null(at: At, parts: &Parts, cell: Cell) -> bool
     }
 }
 
-/// The object in which the cell stands, 0 for a global.
+/// The object in which the cell lies, 0 for a global.
 #[inline(always)]
 pub(crate) fn object(at: At, parts: &Parts, cell: Cell) -> u64
     ensures { result ≡ object (machine_of at parts.now) cell }

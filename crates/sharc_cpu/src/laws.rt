@@ -12,7 +12,7 @@ use crate::thread::Thread;
 use sharc_code::{Code, Shape, thread_laws};
 use sharc_word::Port;
 
-/// The quanta of a thread, one behind the other, are one path.
+/// The quanta of a thread, one after the other, are one path.
 #[inline(always)]
 pub fn path_laws<P: Port>()
     ensures { PathsJoin P.leads }

@@ -1,6 +1,6 @@
 //! One thread's machine: turns over a port, and quanta of them.
 //!
-//! `Thread` is what stands between quanta, and `run_quantum` is its one step from outside. `specs/Thread.antt` says when a thread is
+//! `Thread` is what is kept between quanta, and `run_quantum` is its one step from outside. `specs/Thread.antt` says when a thread is
 //! one of a code and a shape (`IsThread`), and `specs/Quantum.antt` what a quantum does and answers (`IsQuantum`): its turns are a
 //! path of `sharc_code`. `act` makes one turn, by one small function for each kind that asks for a step. Only `Thread::new` and
 //! `Thread::reserve` take memory.

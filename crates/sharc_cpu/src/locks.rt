@@ -59,7 +59,7 @@ fn unlocked(at: At, parts: &mut Parts, register: u32, mutex: u32) -> At
     next(at)
 }
 
-// A failed try where the own bit stands.
+// A failed try where the thread's own bit is set.
 #[inline(always)]
 fn woken(at: At, parts: &Parts, found: u64) -> At
     requires thread { parts.now.number < threads }

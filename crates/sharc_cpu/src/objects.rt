@@ -27,7 +27,7 @@ fn elements_of(count: i64) -> u64
     if count < 1 { 1 } else { count.cast_unsigned() }
 }
 
-// The cells of so many elements, too many where they pass 2 ^ 32.
+// The cells of this many elements, too many where they pass 2 ^ 32.
 fn all_cells(elements: u64, cells: u32) -> u64
     ensures is { result ≡ all_cells elements cells }
     ensures least { 1 ≤ result }
@@ -46,7 +46,7 @@ fn size_of(block: u64) -> u32
     block.trailing_zeros().saturating_sub(1)
 }
 
-// A New that has not had a turn, told that.
+// A New that has not had a turn, after the first call of `next`.
 fn opened(shape: Shape, parts: &Parts, elements: u64, cells: u32) -> NewState
     requires shape { IsShape shape }
     requires some { 1 ≤ elements }
@@ -77,7 +77,7 @@ fn made(at: At, parts: &mut Parts, register: u32, state: NewState, header: u64) 
     rests(at, parts)
 }
 
-// The New behind its step.
+// The New after its step.
 fn goes_on_new(at: At, parts: &mut Parts, register: u32, site: u32, state: NewState) -> At
     requires place { at.pc + 1 < 2 ^ 64 }
     ensures turn { machine_of result parts.new ≡ goes_on_new (machine_of at parts.old) register site state }
@@ -123,7 +123,7 @@ fn asks_new<P: Port>(
 
 // ---- clearing
 
-// The data granules of so many elements.
+// The data granules of this many elements.
 fn data_granules(elements: u64, cells: u32) -> u64
     ensures { result ≡ data_granules elements cells }
 {
@@ -152,7 +152,7 @@ fn looks(at: At, parts: &mut Parts, done: u64, all: u64) -> At
     }
 }
 
-// The same behind one granule more.
+// The same after one granule more.
 fn looks_on(at: At, parts: &mut Parts, done: u64, all: u64) -> At
     requires place { at.pc + 1 < 2 ^ 64 }
     ensures turn { machine_of result parts.new ≡ looks (machine_of at parts.old) (done + 1) all }
@@ -223,7 +223,7 @@ fn free_looks(at: At, parts: &mut Parts, layout: Layout, done: u64, elements: u6
     }
 }
 
-// The same behind one granule more.
+// The same after one granule more.
 fn free_looks_on(at: At, parts: &mut Parts, layout: Layout, done: u64, elements: u64) -> At
     ensures turn { machine_of result parts.new ≡ free_looks (machine_of at parts.old) layout (done + 1) elements }
     ensures room { vec_capacity parts.new.prints ≡ vec_capacity parts.old.prints }
@@ -242,7 +242,7 @@ fn empties(at: At, parts: &mut Parts, layout: Layout, i: u64, elements: u64) -> 
     }
 }
 
-// The same behind one cell more.
+// The same after one cell more.
 fn empties_on(at: At, parts: &mut Parts, layout: Layout, i: u64, elements: u64) -> At
     ensures turn { machine_of result parts.new ≡ empties (machine_of at parts.old) layout (i + 1) elements }
     ensures room { vec_capacity parts.new.prints ≡ vec_capacity parts.old.prints }
@@ -250,7 +250,7 @@ fn empties_on(at: At, parts: &mut Parts, layout: Layout, i: u64, elements: u64) 
     empties(at, parts, layout, i.saturating_add(1), elements)
 }
 
-// Behind the Swap of a pointer cell comes the Lower of what it held.
+// After the Swap of a pointer cell comes the Lower of what it held.
 fn emptied(at: At, parts: &mut Parts, layout: Layout, i: u64, elements: u64, found: u64) -> At
     ensures turn { machine_of result parts.new ≡ emptied (machine_of at parts.old) layout i elements found }
     ensures room { vec_capacity parts.new.prints ≡ vec_capacity parts.old.prints }
@@ -281,7 +281,7 @@ fn freed(at: At, parts: &mut Parts, register: u32, layout: Layout, elements: u64
     rests(at, parts)
 }
 
-/// A new object of so many elements as this integer register has, each of so many cells.
+/// A new object of as many elements as this integer register has, each of this many cells.
 #[inline(always)]
 pub(crate) fn new<P: Port>(
     shape: Shape,
@@ -309,7 +309,7 @@ pub(crate) fn new<P: Port>(
     asks_new(shape, at, parts, port, register, site, state)
 }
 
-/// Clears the granules of the object in this register, whose elements have so many cells.
+/// Clears the granules of the object in this register, whose elements have this many cells.
 #[inline(always)]
 pub(crate) fn clear<P: Port>(
     shape: Shape,

@@ -64,7 +64,7 @@ impl Thread {
         })
     }
 
-    /// Makes room for so many prints.
+    /// Makes room for this many prints.
     ///
     /// An `Err` says that memory was not found.
     pub fn reserve(&mut self, turns: u32) -> Result<(), AllocError>

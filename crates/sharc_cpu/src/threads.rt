@@ -173,7 +173,7 @@ fn withdraws(at: At, parts: &mut Parts, row: u32) -> At
     }
 }
 
-// The same behind one row more.
+// The same after one row more.
 fn withdraws_on(at: At, parts: &mut Parts, row: u32) -> At
     ensures turn { machine_of result parts.new ≡ withdraws (machine_of at parts.old) (row + 1) }
     ensures room { vec_capacity parts.new.prints ≡ vec_capacity parts.old.prints }
@@ -451,7 +451,7 @@ pub(crate) fn exit<P: Port>(shape: Shape, at: At, parts: &mut Parts, port: &mut 
     }
 }
 
-/// The same, where the thread stands. It is not in line, so that the loop over turns stays small.
+/// The same, where the thread is. It is not in line, so that the loop over turns stays small.
 #[inline(never)]
 pub(crate) fn leave<P: Port>(shape: Shape, at: &mut At, parts: &mut Parts, port: &mut P) -> u64
     requires shape { IsShape shape }

@@ -130,7 +130,7 @@ fn holds_none(parts: &Parts) -> bool
     parts.held.is_empty()
 }
 
-/// Back to the caller; where no frame stands, behind the code.
+/// Back to the caller; where there is no frame, past the code.
 pub(crate) fn returned(code: &Code, at: At, parts: &mut Parts, site: u32) -> At
     ensures turn { machine_of result parts.new ≡ returned code.now (machine_of at parts.old) site }
     ensures room { vec_capacity parts.new.prints ≡ vec_capacity parts.old.prints }
@@ -152,7 +152,7 @@ pub(crate) fn returned(code: &Code, at: At, parts: &mut Parts, site: u32) -> At
     }
 }
 
-/// The register, which holds an index of so many elements, becomes the number of a field of that element; X2 where it is none.
+/// The register, which holds an index of this many elements, becomes the number of a field of that element; X2 where there is no such element.
 pub(crate) fn indexed(
     at: At,
     parts: &mut Parts,

@@ -45,13 +45,13 @@ pub struct Row<'a> {
 /// The number of the thread that makes the turns.
 const THREAD: u32 = 3;
 
-/// The cells that hold the registers before and behind the turns.
+/// The cells that hold the registers before and after the turns.
 const CELLS: [Cell; 3] = [Cell::Global(0, 2), Cell::Global(0, 3), Cell::Global(0, 4)];
 
-/// Where the instructions begin, behind those that fill the registers.
+/// Where the instructions begin, after those that fill the registers.
 pub const BODY: u32 = 3;
 
-// The instructions, between those that fill the registers and those that tell them.
+// The instructions, between those that fill the registers and those that show them.
 fn instrs(alloc: Global, body: &[Instr]) -> Result<Vec<Instr>, AllocError> {
     let mut instrs = Vec::new(alloc);
     instrs.push(Instr::Load(0, CELLS[0], 0))?;
@@ -64,7 +64,7 @@ fn instrs(alloc: Global, body: &[Instr]) -> Result<Vec<Instr>, AllocError> {
     Ok(instrs)
 }
 
-/// What is looked at behind the turns: whether each step was the one that was told, how many turns made the last event that they might, whether
+/// What is looked at after the turns: whether each step was the expected one, how many turns made the last event that they might, whether
 /// a thread at its limit made no turn, the last answer, the events, the stop, what is waited for, the registers, and the sites of the checks
 /// of granule 4 in epoch 0, of reads and of writes.
 #[derive(Clone, Copy)]
@@ -115,7 +115,7 @@ fn turn(
     })
 }
 
-// So many turns.
+// This many turns.
 fn turns(
     code: &Code,
     shape: &Shape,
@@ -211,7 +211,7 @@ fn is_wait(seen: Option<Wait>, wait: Wait) -> bool {
     }
 }
 
-// Whether the last turn came out as was told.
+// Whether the last turn came out as expected.
 fn came(seen: &Seen, then: Then) -> bool {
     match then {
         Then::Goes(registers) => seen.went.last == Pause::Spent && seen.registers == registers,
@@ -224,7 +224,7 @@ fn came(seen: &Seen, then: Then) -> bool {
     }
 }
 
-// How many of so many turns are answered by Spent, and how many are events.
+// How many of this many turns are answered by Spent, and how many are events.
 fn counts(turns: u32, then: Then) -> (u32, u64) {
     let others = turns.saturating_sub(1);
     match then {

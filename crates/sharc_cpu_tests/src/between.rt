@@ -13,11 +13,11 @@ use std::alloc::{AllocError, Global};
 use std::process::Abort;
 use std::test::Fail;
 
-/// Behind so many turns of the instruction another thread makes this step. How many turns the instruction has then, and what this word holds
-/// behind them.
+/// After this many turns of the instruction another thread makes this step. How many turns the instruction has then, and what this word holds
+/// after them.
 type Row = (u32, (u32, WordOp), u32, (u32, u64));
 
-// So many turns, and the last answer.
+// This many turns, and the last answer.
 fn turns(
     code: &Code,
     shape: &Shape,
@@ -50,7 +50,7 @@ fn word(shape: &Shape, port: &mut MemPort, step: (u32, WordOp)) -> u64
     }
 }
 
-/// What is looked at: the word behind the turns of the instruction, how many events they were, and the thread's state and last answer behind
+/// What is looked at: the word after the turns of the instruction, how many events they were, and the thread's state and last answer after
 /// one turn more, which is the first one of the thread's end.
 #[derive(Clone, Copy)]
 struct Seen {
@@ -60,7 +60,7 @@ struct Seen {
     state: (u64, u64),
 }
 
-// So many turns before the instruction, and then those of the row.
+// This many turns before the instruction, and then those of the row.
 fn look(
     code: &Code,
     shape: &Shape,
@@ -109,7 +109,7 @@ fn run(
     look(&code, &shape, &mut thread, &mut port, before, row)
 }
 
-// The instruction has all its turns, and no more: a turn behind them is the first of the thread's end, which changes its state from 0 to 2,
+// The instruction has all its turns, and no more: a turn after them is the first of the thread's end, which changes its state from 0 to 2,
 // or there is none.
 fn is_over(seen: &Seen) -> bool {
     match seen.last {
@@ -120,7 +120,7 @@ fn is_over(seen: &Seen) -> bool {
     }
 }
 
-// The last of these instructions comes behind so many turns.
+// The last of these instructions comes after this many turns.
 fn walk(
     rt: &impl Abort,
     alloc: Global,
@@ -144,7 +144,7 @@ const E: u64 = 4294967296;
 /// The object of granule 11 has two elements of two cells, so its data granules have the shadow words 109 and 110. A Load of its length, and
 /// of each a Load and a Swap.
 static CLEARED: [Row; 16] = [
-    // A reader's bit stands where it is set behind the Swap, and is lost between the Load and the Swap.
+    // A reader's bit stays where it is set after the Swap, and is lost between the Load and the Swap.
     (0, (109, Or(2)), 5, (109, E)),
     (1, (109, Or(2)), 5, (109, E)),
     (2, (109, Or(2)), 5, (109, E)),
@@ -154,7 +154,7 @@ static CLEARED: [Row; 16] = [
     (3, (110, Or(2)), 5, (110, E)),
     (4, (110, Or(2)), 5, (110, E)),
     (5, (110, Or(2)), 5, (110, 4294967298)),
-    // Another clears it: the epoch is the one behind that of the Load.
+    // Another clears it: the epoch is the one after that of the Load.
     (1, (109, Swap(E)), 5, (109, 8589934592)),
     (2, (109, Swap(E)), 5, (109, E)),
     (3, (110, Swap(E)), 5, (110, 8589934592)),
@@ -177,7 +177,7 @@ fn clears(rt: HostRuntime) -> Result<(), Fail> {
 
 /// A block of two granules from the top, which is 11 at first: a Load and a Cas of the top, a Swap of the count and one of the length.
 static FROM_THE_TOP: [Row; 19] = [
-    // Another takes a block of four: before the Load, between the Load and the Cas, which is tried again, and behind it.
+    // Another takes a block of four: before the Load, between the Load and the Cas, which is tried again, and after it.
     (0, (1, Add(4)), 4, (1, 17)),
     (0, (1, Add(4)), 4, (202, 1)),
     (1, (1, Add(4)), 5, (1, 17)),
@@ -215,14 +215,14 @@ static FROM_THE_LIST: [Row; 16] = [
     (0, (195, Swap(20)), 10, (212, 1)),
     (0, (195, Swap(20)), 10, (1, 13)),
     (0, (195, Swap(20)), 10, (195, 1)),
-    // It is changed behind that, and is overwritten by the length or overwrites it.
+    // It is changed after that, and is overwritten by the length or overwrites it.
     (1, (195, Swap(20)), 9, (212, 0)),
     (1, (195, Swap(20)), 9, (198, 1)),
     (1, (195, Swap(20)), 9, (195, 1)),
     (4, (195, Swap(20)), 9, (195, 1)),
     (5, (195, Swap(20)), 9, (195, 20)),
     (5, (195, Swap(20)), 9, (1, 15)),
-    // What comes to a cell stays where it comes behind the Swap.
+    // What comes to a cell stays where it comes after the Swap.
     (1, (196, Swap(9)), 9, (196, 0)),
     (2, (196, Swap(9)), 9, (196, 9)),
     (2, (197, Swap(9)), 9, (197, 0)),
@@ -252,15 +252,15 @@ static FREED: [Row; 25] = [
     // The length counts where it is loaded, at first.
     (0, (199, Swap(0)), 3, (194, 1)),
     (1, (199, Swap(0)), 10, (194, 0)),
-    // The first cell is NULL now, or is filled again behind its Swap.
+    // The first cell is NULL now, or is filled again after its Swap.
     (0, (200, Swap(0)), 9, (194, 1)),
     (1, (200, Swap(0)), 9, (194, 1)),
     (2, (200, Swap(11)), 10, (200, 11)),
     (2, (200, Swap(11)), 10, (194, 0)),
-    // Another counts the reference between the Swap and the Lower, or behind it.
+    // Another counts the reference between the Swap and the Lower, or after it.
     (2, (194, Add(1)), 10, (194, 1)),
     (3, (194, Add(1)), 10, (194, 1)),
-    // The last cell is filled before its Swap, and behind it.
+    // The last cell is filled before its Swap, and after it.
     (3, (202, Swap(20)), 11, (212, u64::MAX)),
     (3, (202, Swap(20)), 11, (202, 0)),
     (4, (202, Swap(20)), 10, (212, 0)),
@@ -298,7 +298,7 @@ fn frees(rt: HostRuntime) -> Result<(), Fail> {
 /// Thread 3 has read granule 4, with the shadow word 101, and written granule 5, with 102. A Swap of the state; of each granule a Load and a
 /// Cas; and a Swap of the state.
 static GONE: [Row; 18] = [
-    // A reader's bit stands, whenever it came; between the Load and the Cas it makes the Cas be tried again.
+    // A reader's bit stays, whenever it came; between the Load and the Cas it makes the Cas be tried again.
     (0, (101, Or(2)), 6, (101, 2)),
     (1, (101, Or(2)), 6, (101, 2)),
     (2, (101, Or(2)), 7, (101, 2)),

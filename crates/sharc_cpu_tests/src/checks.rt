@@ -21,7 +21,7 @@ static CHECKS: [Row<'static>; 16] = [
         asks: &[(101, Or(16), 0)],
         then: Then::Goes((5, 11, 12)),
     },
-    // Another has read, the thread itself has written, and a written bit stands alone.
+    // Another has read, the thread itself has written, and a written bit is set alone.
     Row {
         body: &[Instr::ChkRead(G, 7)],
         turns: 1,
@@ -456,7 +456,7 @@ static COUNTS: [Row<'static>; 14] = [
         asks: &[(180, Load, 0)],
         then: Then::Goes((5, 11, 0)),
     },
-    // Behind another access none is loaded.
+    // After another access none is loaded.
     Row {
         body: &[
             Instr::LoadRef(G, 7),

@@ -1,6 +1,6 @@
 //! Single instructions over chosen words, and a step of another thread between two turns of one: tests alone.
 //!
-//! Nothing stands on this crate, and it has no code of its own, so that the machine is not proved once more with its tests.
+//! No crate depends on this one, and it has no code of its own, so that the machine is not proved once more with its tests.
 #![tactic(auto)]
 
 #[cfg(test)]

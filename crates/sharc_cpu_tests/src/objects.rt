@@ -7,7 +7,7 @@ use sharc_word::WordOp::{Add, Cas, Load, Sub, Swap};
 use std::process::Abort;
 use std::test::Fail;
 
-/// New objects from the top, which word 1 tells.
+/// New objects from the top, which word 1 holds.
 static MADE: [Row<'static>; 10] = [
     Row {
         body: &[Instr::New(0, 0, 1, 7)],
@@ -329,7 +329,7 @@ static CLEARED: [Row<'static>; 4] = [
         asks: &[(195, Load, 0)],
         then: Then::Goes((1, 11, 12)),
     },
-    // The next epoch, behind the last of which comes 0.
+    // The next epoch, after the last of which comes 0.
     Row {
         body: &[Instr::Clear(0, 2)],
         turns: 5,
@@ -356,7 +356,7 @@ static CLEARED: [Row<'static>; 4] = [
         ],
         then: Then::Goes((1, 11, 12)),
     },
-    // Behind the last granule stands granule 0.
+    // After the last granule comes granule 0.
     Row {
         body: &[Instr::Clear(0, 2)],
         turns: 5,
@@ -425,7 +425,7 @@ static FREED: [Row<'static>; 5] = [
         asks: &[(195, Load, 0), (194, Swap(0), 1), (195, Swap(0), 0)],
         then: Then::Goes((1, 0, 12)),
     },
-    // References to the last granule, and to one behind it.
+    // References to the last granule, and to the one after it.
     Row {
         body: &[Instr::Free(0, 1, 7)],
         turns: 11,

@@ -14,7 +14,7 @@ use std::test::Fail;
 
 const SITE: u32 = 7;
 
-// What becomes of the first register in so many turns, or the X.
+// What becomes of the first register in this many turns, or the X.
 fn one(
     rt: &impl Abort,
     alloc: Global,
@@ -105,7 +105,7 @@ fn operators(rt: HostRuntime) -> Result<(), Fail> {
 static OF_ONE: [(Instr, i64, Result<i64, u8>); 42] = [
     (Instr::Constant(0, i64::MIN), 5, Ok(i64::MIN)),
     (Instr::Constant(0, i64::MAX), 5, Ok(i64::MAX)),
-    // A register behind the bank, of 2048 registers, is 0 and stays so.
+    // A register past the bank, of 2048 registers, is 0 and stays so.
     (Instr::Move(0, 2048), 5, Ok(0)),
     (Instr::Move(0, u32::MAX), 5, Ok(0)),
     (Instr::Constant(2048, 6), 5, Ok(5)),
@@ -169,7 +169,7 @@ fn integers(rt: HostRuntime) -> Result<(), Fail> {
     Ok(())
 }
 
-/// References, jumps, and calls with frames that begin at the second integer and the third reference. No frame stands at first.
+/// References, jumps, and calls with frames that begin at the second integer and the third reference. There is no frame at first.
 static MOVED: [Row; 17] = [
     Row {
         body: &[Instr::MoveReference(1, 0)],
@@ -256,7 +256,7 @@ static MOVED: [Row; 17] = [
         asks: &[],
         then: Then::Goes((6, 12, 0)),
     },
-    // It returns to the place behind the call, and to the caller's frame.
+    // It returns to the place after the call, and to the caller's frame.
     Row {
         body: &[
             Instr::Call(BODY + 2, 1, 1, SITE),
@@ -300,7 +300,7 @@ static MOVED: [Row; 17] = [
         asks: &[],
         then: Then::Stops(Stop::Trap(10, SITE)),
     },
-    // Where no frame stands a return leads behind the code, and the thread goes.
+    // Where there is no frame, a return leads past the code, and the thread goes.
     Row {
         body: &[Instr::Return(SITE)],
         turns: 3,

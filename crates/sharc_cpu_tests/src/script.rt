@@ -1,4 +1,4 @@
-//! A port that is told which steps will be asked for, and what each finds.
+//! A port that is given the steps that will be asked for, and what each finds.
 
 ghost use Rattle.std.specs.Prelude.{◌≡◌};
 
@@ -33,7 +33,7 @@ impl<'a> Script<'a> {
         }
     }
 
-    // What the next step finds, if it is the one that was told.
+    // What the next step finds, if it is the expected one.
     fn found(&mut self, step: WordStep) -> u64 {
         if let Some((word, op, found)) = self.asks.get(self.at)
             && *word == step.word

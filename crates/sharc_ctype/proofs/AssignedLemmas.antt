@@ -1,4 +1,4 @@
--- What is assigned among all that is assigned, initialised, passed and returned is what stands left of an `=`.
+-- What is assigned among all that is assigned, initialised, passed and returned is what is written left of an `=`.
 use Rattle.std.proofs.Common.{◌≡◌, ℕ, ◌||◌, ◌&&◌, not, List, [], ◌∷◌, ◌++◌, refl, ap, sym, ◌∙◌, Option, Some, None}
 use Rattle.std.proofs.Math.Bool.{or-false}
 use Rattle.std.proofs.lemmas.List.Folds.{list_any-append}
@@ -118,6 +118,6 @@ module _ (r : Resolution) (token : ℕ) where
       ∙ ap (λ c. is_among token (assigned_in_all r.named f.statements) || c) (in_items rest)
       ∙ sym (list_any-append (λ z. token == z) (assigned_in_all r.named f.statements) (all_assigned r.named rest))
 
-  -- the table tells whether a variable is constant
+  -- the table shows whether a variable is constant
   pub table_tells : (tokens : List ℕ) → HasConstants r.named r.program.items tokens → is_among token tokens ≡ is_constant r token
   table_tells tokens has = has token ∙ ap (λ c. is_among token (all_with_value r.program.items) && not c) (sym (in_items r.program.items))

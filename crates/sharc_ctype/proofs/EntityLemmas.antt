@@ -1,4 +1,4 @@
--- The place of the first entity that two tokens tell, and the numbers of first positions.
+-- The place of the first entity that two tokens determine, and the numbers of first positions.
 use Rattle.std.proofs.Common.{◌≡◌, ℕ, suc, ◌+◌, ◌<◌, ◌==◌, ◌&&◌, Bool, true, false, cond, List, [], ◌∷◌, ◌++◌, length, add-one, refl, ap, sym, subst, ◌∙◌, arith, Option, Some, None, is_some, Bor}
 use Rattle.std.proofs.lemmas.Bool.{eqb-true}
 use Rattle.std.specs.List.{position_from, slice_get, find}

@@ -69,7 +69,7 @@ items_fine scope (structure t ∷ rest) e (suc n) s at = items_fine scope rest (
 items_fine scope (global g ∷ rest) e n s at = items_fine scope rest (fine_second (global_notes scope g) (items_notes scope rest) e) n s at
 items_fine scope (function f ∷ rest) e n s at = items_fine scope rest (fine_second (function_notes scope f) (items_notes scope rest) e) n s at
 
--- what stands between the heads and the sizes
+-- what comes between the heads and the sizes
 items_among : (p : Program) → IsTyped p → faults (items_notes (file_scope p.items) p.items) ≡ []
 items_among p typed =
     let heads = heads_notes no_heads p.items in

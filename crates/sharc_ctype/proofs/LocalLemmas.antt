@@ -1,4 +1,4 @@
--- The limit on locals over two lists, one behind the other.
+-- The limit on locals over two lists, one after the other.
 use Rattle.std.proofs.Common.{◌≡◌, ℕ, ◌+◌, ◌-◌, ◌<◌, ◌==◌, drop, get_or, add-one, drop-cons, List, [], ◌∷◌, ◌++◌, length, fold, ap, sym, ◌∙◌, arith, append_assoc, length-append}
 use Rattle.std.proofs.lemmas.List.Sums.{fold-append}
 use Rattle.sharc_tree.specs.declared.tree.declaration.Declaration.{Declaration}

@@ -1,4 +1,4 @@
--- How the logic stores a program: its expressions and statements as trees of two children a node, each with what stands at the node itself.
+-- How the logic stores a program: its expressions and statements as trees of two children a node, each with what is at the node itself.
 use Rattle.std.specs.Prelude.{◌≡◌, [], Option, refl}
 use Rattle.std.specs.Coded.{Coded, code_by}
 use base.Stored.{Gv, gnil, gnum, gcons}

@@ -1,4 +1,4 @@
--- The four names of condition variables (own): `struct cond`, `wait`, `signal` and `broadcast`.
+-- The four names of condition variables: `struct cond`, `wait`, `signal` and `broadcast`.
 use Rattle.std.specs.Prelude.{Bool, ◌||◌, List, [], ◌∷◌, ◌++◌, is_some, if◌then◌else◌, codes}
 use Rattle.sharc_names.specs.declared.meaning.ConditionCall.{ConditionCall}
 use Rattle.sharc_names.specs.declared.meaning.ConditionCall.TheVariants.{Wait, Signal, Broadcast}

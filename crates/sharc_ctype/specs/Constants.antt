@@ -1,4 +1,4 @@
--- Constant variables: parameters and initialised locals that are never assigned (own).
+-- Constant variables: parameters and initialised locals that are never assigned.
 use Rattle.std.specs.Prelude.{◌≡◌, ℕ, ◌==◌, Bool, false, ◌&&◌, not, List}
 use Rattle.std.specs.List.{list_any}
 use Rattle.sharc_tree.specs.Forms.{without_parentheses}
@@ -11,7 +11,7 @@ use Rattle.sharc_ctype.specs.Variables.{variable_of, all_with_value, all_assigne
 abbrev pub is_among : ℕ → List ℕ → Bool
 is_among token = list_any (λ x. token == x)
 
--- whether the variable that this token declares stands left of the `=` of an assignment, in parentheses or not
+-- whether the variable that this token declares is on the left of the `=` of an assignment, in parentheses or not
 abbrev pub stands_left : Resolution → ℕ → Receiver → Bool
 stands_left r token (lvalue u) = is_among token (variable_of r.named (without_parentheses u))
 stands_left r token (variable d) = false

@@ -1,4 +1,4 @@
--- What has a type with modes: fields, globals, results, parameters, locals and casts, in source order; and the positions of their types (own).
+-- What has a type with modes: fields, globals, results, parameters, locals and casts, in source order; and the positions of their types.
 use Rattle.std.specs.Prelude.{ℕ, ◌+◌, ◌==◌, Bool, ◌&&◌, List, [], ◌∷◌, ◌++◌, drop, length, map, Option}
 use Rattle.std.specs.List.{find}
 use Rattle.sharc_tree.specs.declared.ctype.Mode.{Mode}
@@ -13,11 +13,11 @@ use Rattle.sharc_ctype.specs.Resolved.{Resolution}
 use Rattle.sharc_ctype.specs.declared.entity.Entity.{Entity}
 use Rattle.sharc_ctype.specs.declared.entity.Numbered.{Numbered}
 
--- what a declaration declares is told by the token of its name
+-- what a declaration declares is known by the token of its name
 abbrev pub declared : Role → Declaration → Entity
 declared role d = record { role = role; token = d.name.site.token; last = d.name.site.token; written = d.written }
 
--- a cast is told by its first token and its last, since a cast that is put around another one begins at the same
+-- a cast is known by its first token and its last, since a cast that is put around another one begins at the same
 abbrev pub cast_entity : Span → WrittenType → Entity
 cast_entity s t = record { role = role.Cast; token = s.first.token; last = s.last.token; written = t }
 
@@ -55,7 +55,7 @@ abbrev mutual
   statements_entities no_statements = []
   statements_entities (statement a rest) = statement_entities a ++ statements_entities rest
 
--- the result of a function is told by the function's name
+-- the result of a function is known by the function's name
 abbrev pub result_of : Function → Entity
 result_of f = record { role = role.Result; token = f.name.site.token; last = f.name.site.token; written = f.result }
 
@@ -71,7 +71,7 @@ abbrev pub entities_in : List Item → List Entity
 entities_in [] = []
 entities_in (i ∷ rest) = item_entities i ++ entities_in rest
 
--- A position is a target of a type, at any depth from 1 on, or the top of a global, at depth 0. The levels of a type stand from the top down.
+-- A position is a target of a type, at any depth from 1 on, or the top of a global, at depth 0. The levels of a type go from the top down.
 
 abbrev pub first_depth : Role → ℕ
 first_depth role.Global = 0

@@ -1,4 +1,4 @@
--- The types of expressions, and the faults that stand in them (C11 6.5), one clause for each form.
+-- The types of expressions, and the faults in them (C11 6.5), one clause for each form.
 use Rattle.std.specs.Prelude.{ℕ, ◌+◌, ◌==◌, Bool, true, false, not, ◌&&◌, ◌||◌, List, [], ◌∷◌, ◌++◌, length, drop, Option, Some, None, is_some, if◌then◌else◌}
 use Rattle.sharc_tree.specs.declared.token.NumberType.{NumberType}
 use Rattle.sharc_tree.specs.declared.token.NumberType.TheVariants as width
@@ -189,7 +189,7 @@ abbrev pub takes : ℕ → Option (List Kind) → Bool
 takes n None = false
 takes n (Some parameters) = length parameters == n
 
--- of what is no function nothing is said here where an lvalue is needed: it is none
+-- of what is no function nothing is said here where an lvalue is needed: it is not one
 abbrev pub uncalled_notes : Standing → ℕ → List Note
 uncalled_notes AsValue token = fault token TypeMismatch ∷ []
 uncalled_notes AsLvalue token = []
@@ -202,7 +202,7 @@ abbrev pub callee_notes : Standing → ℕ → ℕ → Option Entry → List Not
 callee_notes stands token n None = fault token UnknownName ∷ []
 callee_notes stands token n (Some e) = refers token (named_of e.meaning) ∷ (main_notes token e.meaning ++ count_notes stands token n (parameters_of e.meaning))
 
--- what so many arguments have to agree with: nothing where their number is wrong
+-- what this many arguments have to agree with: nothing where their number is wrong
 abbrev pub wanted_if : Bool → Option (List Kind) → List Kind
 wanted_if fits None = []
 wanted_if fits (Some parameters) = if fits then parameters else []
@@ -241,7 +241,7 @@ abbrev pub spawn_kind : Bool → Bool → Option Kind → Option Kind
 spawn_kind well fine None = None
 spawn_kind well fine (Some k) = if well && fine then Some int else None
 
--- the type of an expression, or none where a fault stands in it
+-- the type of an expression, or none where there is a fault in it
 abbrev mutual
   pub type_of : Scope → Expression → Option Kind
   type_of scope (identifier s i) = name_kind (look_up scope.names i.text)
@@ -262,7 +262,7 @@ abbrev mutual
   are_fine scope wanted no_arguments = true
   are_fine scope wanted (argument a rest) = (is_some (met Value (type_of scope a)) && agreed (first_wanted wanted) (met Value (type_of scope a))) && are_fine scope (drop 1 wanted) rest
 
--- the faults that stand in an expression, where its value or an lvalue is needed, and what its names name
+-- the faults that are in an expression, where its value or an lvalue is needed, and what its names name
 abbrev mutual
   pub notes_at : Standing → Scope → Expression → List Note
   notes_at stands scope (identifier s i) = name_notes i.site.token (look_up scope.names i.text)

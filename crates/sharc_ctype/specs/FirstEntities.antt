@@ -1,4 +1,4 @@
--- Where the first entity that two tokens tell stands in a list, and a table that has these places.
+-- Where the first entity that two tokens determine is in a list, and a table that has these places.
 use Rattle.std.specs.Prelude.{◌≡◌, ℕ, ◌==◌, ◌&&◌, List, Option, Some, None, map, if◌then◌else◌}
 use Rattle.std.specs.List.{position_from}
 use Rattle.std.specs.Map.{lookup}
@@ -28,7 +28,7 @@ HasFirstEntities list rows = (token last : ℕ) → row_at rows token last ≡ e
 abbrev pub entities_of : List Numbered → List Entity
 entities_of = map (λ n. n.entity)
 
--- the entities have the numbers of their first positions, and there are so many positions
+-- the entities have the numbers of their first positions, and there are this many positions
 pub record AreNumbered (list : List Numbered) (n : ℕ) : Type 0 where
   pub numbers : list ≡ numbered (entities_of list)
   pub count : n ≡ positions_in (entities_of list)

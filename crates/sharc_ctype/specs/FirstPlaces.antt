@@ -1,4 +1,4 @@
--- Where the first declaration of each token stands in a list, and a table that has these places.
+-- Where the first declaration of each token is in a list, and a table that has these places.
 use Rattle.std.specs.Prelude.{◌≡◌, ℕ, ◌==◌, List, Option, Some, None, if◌then◌else◌}
 use Rattle.std.specs.List.{position_from}
 use Rattle.std.specs.Map.{lookup}

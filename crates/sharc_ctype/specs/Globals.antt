@@ -108,7 +108,7 @@ item_size_notes structs before (structure s) = []
 item_size_notes structs before (global g) = size_notes (before + global_cells structs g) g
 item_size_notes structs before (function f) = []
 
--- the globals among items, behind others that have so many cells
+-- the globals among items, after others that have this many cells
 abbrev pub sizes_notes : StructTable → ℕ → List Item → List Note
 sizes_notes structs before [] = []
 sizes_notes structs before (i ∷ rest) = item_size_notes structs before i ++ sizes_notes structs (before + item_cells structs i) rest

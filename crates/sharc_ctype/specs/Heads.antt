@@ -1,4 +1,4 @@
--- The names of the file: structs, globals and functions, which are known everywhere in it, before their definition too (own).
+-- The names of the file: structs, globals and functions, which are known everywhere in it, before their definition too (SharC's own rule).
 use Rattle.std.specs.Prelude.{ℕ, ◌+◌, nat_lt, Bool, List, [], ◌∷◌, ◌++◌, is_some, if◌then◌else◌}
 use Rattle.sharc_tree.specs.declared.tree.item.StructDefinition.{StructDefinition}
 use Rattle.sharc_tree.specs.declared.tree.item.GlobalDefinition.{GlobalDefinition}
@@ -27,7 +27,7 @@ global_entry n g = record { name = g.declaration.name.text; block = 0; meaning =
 abbrev pub function_entry : ℕ → Function → Entry
 function_entry n f = record { name = f.name.text; block = 0; meaning = meaning.function n (signature_of f) }
 
--- what is known of the file behind an item more, with how many structs, globals and functions there were
+-- what is known of the file after one item more, with how many structs, globals and functions there were
 abbrev pub behind : Heads → Item → Heads
 behind h (structure s) = record { scope = record { structs = with_struct h.scope.structs h.structs s; names = h.scope.names }; structs = h.structs + 1; globals = h.globals; functions = h.functions }
 behind h (global g) = record { scope = with_names h.scope (with_entry (global_entry h.globals g) h.scope.names); structs = h.structs; globals = h.globals + 1; functions = h.functions }
@@ -41,7 +41,7 @@ behind_all h (i ∷ rest) = behind_all (behind h i) rest
 abbrev pub twice : Bool → ℕ → List Note
 twice known token = fault_where known token DefinedTwice
 
--- at most so many, where there are so many before
+-- at most this many, where there are that many before
 abbrev pub within : ℕ → ℕ → ℕ → List Note
 within most before token = fault_unless (nat_lt before most) token LimitPassed
 
@@ -59,6 +59,6 @@ heads_notes h (i ∷ rest) = head_notes h i ++ heads_notes (behind h i) rest
 abbrev pub no_heads : Heads
 no_heads = record { scope = record { structs = []; names = [] }; structs = 0; globals = 0; functions = 0 }
 
--- what is known of the file behind some of its items, by a name that the crates above can write
+-- what is known of the file after some of its items, by a name that the crates above can write
 abbrev pub Heading : Type 0
 Heading = Heads

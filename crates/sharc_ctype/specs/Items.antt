@@ -17,7 +17,7 @@ use Rattle.sharc_ctype.specs.Globals.{global_notes, sizes_notes}
 use Rattle.sharc_ctype.specs.Heads.{twice, within, behind_all, heads_notes, no_heads}
 use Rattle.sharc_ctype.specs.Condition.{known_in}
 
--- 6.7.2.1: a field of a struct, behind others of it: at most 256, no two of one name. Its type sees all fields of the struct
+-- 6.7.2.1: a field of a struct, after others of it: at most 256, no two of one name. Its type sees all fields of the struct
 abbrev pub field_notes : Scope → List Declaration → List Declaration → Declaration → List Note
 field_notes scope all earlier d = type_notes scope all role.Field d.written ++ refers d.name.site.token (named.Field d.name.site.token)
     ∷ (twice (is_some (field_of earlier d.name.text)) d.name.site.token ++ within 256 (length earlier) d.name.site.token)
@@ -26,7 +26,7 @@ abbrev pub fields_notes : Scope → List Declaration → List Declaration → Li
 fields_notes scope all earlier [] = []
 fields_notes scope all earlier (d ∷ rest) = field_notes scope all earlier d ++ fields_notes scope all (earlier ++ d ∷ []) rest
 
--- 6.9.1: the parameters of a function, behind so many others: at most 16. They and the locals of the outermost block are one scope
+-- 6.9.1: the parameters of a function, after this many others: at most 16. They and the locals of the outermost block are one scope
 abbrev pub parameters_notes : ℕ → ℕ → Scope → List Declaration → List Note
 parameters_notes block before scope [] = []
 parameters_notes block before scope (d ∷ rest) = type_notes scope [] role.Parameter d.written ++ declared_notes block d scope.names ++ within 16 before d.name.site.token
@@ -80,7 +80,7 @@ main_missing end names = fault_unless (has_main (look_up names (codes "main"))) 
 abbrev pub file_scope : List Item → Scope
 file_scope items = known_in (behind_all no_heads items).scope
 
--- all that is to be said of a program of so many tokens
+-- all that is to be said of a program of this many tokens
 abbrev pub program_notes : ℕ → List Item → List Note
 program_notes tokens items = heads_notes no_heads items ++ items_notes (file_scope items) items ++ sizes_notes (file_scope items).structs 0 items
     ++ main_missing tokens (file_scope items).names
@@ -91,7 +91,7 @@ nothing_found tokens = record { first = None; named = replicate tokens named.Kno
 abbrev pub notes_about : Program → List Note
 notes_about p = program_notes (length p.tokens.list) p.items
 
--- a program is typed where no fault stands in it
+-- a program is typed where there is no fault in it
 abbrev pub IsTyped : Program → Type 0
 IsTyped p = faults (notes_about p) ≡ []
 

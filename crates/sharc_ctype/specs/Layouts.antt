@@ -13,7 +13,7 @@ pointer_cells = map (λ d. is_pointer (declared_kind d.written))
 abbrev pub IsWord : List Declaration → ℕ → ℕ → Type 0
 IsWord fields from word = (b : ℕ) → b < 64 → (bit_at word b == 1) ≡ slice_index_or (pointer_cells fields) (from + b) false
 
--- bit j mod 64 of word j / 64 stands exactly where cell j is a pointer
+-- bit j mod 64 of word j / 64 is set exactly where cell j is a pointer
 pub record IsLayout (fields : List Declaration) (c : StructCells) : Type 0 where
   pub cells : c.cells ≡ length fields
   pub pointers : (i : ℕ) → i < 4 → IsWord fields (64 * i) (slice_index_or c.pointers i 0)

@@ -1,4 +1,4 @@
--- Which functions threads may run, and which globals they may touch (own).
+-- Which functions threads may run, and which globals they may touch.
 use Rattle.std.specs.Prelude.{◌≡◌, ℕ, List, [], ◌∷◌, ◌++◌, IsSomeAnd, Contains}
 use Rattle.sharc_tree.specs.Marks.{Mark, a_name, a_cast, item_marks}
 use Rattle.sharc_tree.specs.Measures.{in_function}
@@ -45,7 +45,7 @@ pub record IsReached (r : Resolution) (m : ℕ) : Type 0 where
   pub between : List ℕ
   pub leads : Leads r first between m
 
--- the tokens of the names that stand in a function, those in its types' lock paths among them
+-- the tokens of the names in a function, those in its types' lock paths among them
 abbrev pub name_tokens : List Mark → List ℕ
 name_tokens [] = []
 name_tokens (a_name n text ∷ rest) = n ∷ name_tokens rest

@@ -43,7 +43,7 @@ functions_in (structure s ∷ rest) = functions_in rest
 functions_in (global g ∷ rest) = functions_in rest
 functions_in (function f ∷ rest) = f ∷ functions_in rest
 
--- the fields, parameters and locals, in source order; each is told by the token of its name
+-- the fields, parameters and locals, in source order; each is known by the token of its name
 abbrev pub declarations_of : Item → List Declaration
 declarations_of (structure s) = s.fields
 declarations_of (global g) = []

@@ -16,7 +16,7 @@ use Rattle.sharc_names.specs.Types.{type_notes, is_fine}
 use Rattle.sharc_ctype.specs.declared.expr.Standing.TheVariants.{AsLvalue}
 use Rattle.sharc_ctype.specs.Expressions.{type_of, notes_at, notes_of, place_kind, place_notes}
 
--- where a statement stands: the function's result, whether a loop is around it, and how many names were in scope where the block begins
+-- where a statement is: the function's result, whether a loop is around it, and how many names were in scope where the block begins
 pub record Around : Type 0 where
   pub result : Kind
   pub in_loop : Bool
@@ -66,7 +66,7 @@ abbrev pub is_made : Option Kind → WrittenType → Bool
 is_made None w = true
 is_made (Some want) w = same_kind want (made w)
 
--- 6.5.16.1: what stands right of `=`, where the left side wants a kind, if it has one. What `malloc` gives is told by its type alone, whatever its count is
+-- 6.5.16.1: the right side of `=`, where the left side wants a kind, if it has one. What `malloc` gives is determined by its type alone, whatever its count is
 abbrev pub right_notes : Scope → Option Kind → Right → List Note
 right_notes scope want (value e) = notes_of scope e ++ unmet Value e (type_of scope e) ++ unagreed want e (met Value (type_of scope e))
 right_notes scope want (malloc s n w) = count_notes scope n ++ type_notes scope [] role.Made w
@@ -79,7 +79,7 @@ simple_notes scope (assign s u r) = notes_at AsLvalue scope u ++ place_notes sco
     ++ right_notes scope (met Value (place_kind scope.names u (type_of scope u))) r
 simple_notes scope (does_call e) = notes_of scope e
 
--- 6.7.9: an initialiser. A struct or a mutex has none (own)
+-- 6.7.9: an initialiser. A struct or a mutex has none (SharC's own rule)
 
 abbrev pub is_aggregate : Kind → Bool
 is_aggregate k = is_struct_behind 0 k || same_kind k mutex
@@ -92,7 +92,7 @@ initial_notes scope d None = []
 initial_notes scope d (Some r) = fault_where (is_aggregate (declared_kind d.written)) d.name.site.token BadForm
     ++ right_notes scope (wanted_by (is_fine scope.structs role.Local d.written) d.written) r
 
--- 6.2.1p7: a local is in scope behind its declarator, in its initialiser too
+-- 6.2.1p7: a local is in scope after its declarator, in its initialiser too
 abbrev pub local_notes : Around → Scope → Local → List Note
 local_notes around scope l = type_notes scope [] role.Local l.declaration.written ++ declared_notes around.block l.declaration scope.names
     ++ initial_notes (with_names scope (declared around.block l.declaration scope.names)) l.declaration l.initial
@@ -132,7 +132,7 @@ in_head around scope h = with_names scope (behind_first around scope.names h.fir
 abbrev pub head_notes : Around → Scope → Head → List Note
 head_notes around scope h = first_notes around scope h.first ++ tests_notes (in_head around scope h) h.test ++ step_notes (in_head around scope h) h.step
 
--- the names in scope behind a statement
+-- the names in scope after a statement
 abbrev pub after : Around → List Entry → Statement → List Entry
 after around scope (empty s) = scope
 after around scope (block s all) = scope
@@ -149,7 +149,7 @@ abbrev pub after_all : Around → List Entry → Statements → List Entry
 after_all around scope no_statements = scope
 after_all around scope (statement a rest) = after_all around (after around scope a) rest
 
--- 6.8.6.2 and 6.8.6.3: `break` and `continue` stand in loops
+-- 6.8.6.2 and 6.8.6.3: `break` and `continue` are in loops
 abbrev mutual
   pub notes_in : Around → Scope → Statement → List Note
   notes_in around scope (empty s) = []

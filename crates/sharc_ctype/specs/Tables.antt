@@ -1,4 +1,4 @@
--- The tables of a typed program: where its structs, globals and functions stand among its items, all other declarations, what has a type with modes,
+-- The tables of a typed program: where its structs, globals and functions are among its items, all other declarations, what has a type with modes,
 -- and the constant variables.
 use Rattle.std.specs.Prelude.{◌≡◌, ℕ, ◌+◌, Bool, true, false, List, [], ◌∷◌, Option, Some, None, if◌then◌else◌}
 use Rattle.sharc_tree.specs.declared.tree.item.StructDefinition.{StructDefinition}

@@ -46,7 +46,7 @@ pub record IsToldAt (tokens : Tokens) (fault : Fault) (at : FaultAt) : Type 0 wh
   pub offset : at.offset ≡ 0
   pub text : at.text ≡ told_of fault.code (drop fault.place tokens.list)
 
--- the first fault of a program, as it is told
+-- the first fault of a program, as it is reported
 abbrev pub IsFaultOf : Program → FaultAt → Type 0
 IsFaultOf p at = (f : Fault) × IsFirst f (faults (notes_about p)) × IsToldAt p.tokens f at
 

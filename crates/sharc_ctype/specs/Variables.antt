@@ -1,4 +1,4 @@
--- The variables of a program that begin with a value, and those that are assigned, in source order. Each is told by the token that declares it.
+-- The variables of a program that begin with a value, and those that are assigned, in source order. Each is known by the token that declares it.
 use Rattle.std.specs.Prelude.{ℕ, List, [], ◌∷◌, ◌++◌, map, slice_index_or, Option, Some, None, is_some, if◌then◌else◌}
 use Rattle.sharc_tree.specs.Forms.{without_parentheses}
 use Rattle.sharc_tree.specs.Tree.{Expression, identifier, Simple, assign, does_call, Local, First, nothing, declares, does, Statement, empty, block, declare, simple, jump, return, if_then, if_then_else, while, for, Statements, no_statements, statement, Item, structure, global, function}

@@ -1,4 +1,4 @@
--- Where a statement stands, as the definitions see it.
+-- Where a statement is, as the definitions see it.
 use Rattle.sharc_names.specs.View.{view_kind}
 use Rattle.sharc_ctype.specs.declared.statement.Around.{Around as RustAround}
 use Rattle.sharc_ctype.specs.Statements.{Around}

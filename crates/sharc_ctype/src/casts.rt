@@ -76,7 +76,7 @@ fn add_arguments(
     Ok(())
 }
 
-/// Adds the casts of what stands right of `=`.
+/// Adds the casts of the right side of `=`.
 pub(crate) fn add_right(
     right: &Right,
     alloc: Global,

@@ -1,10 +1,11 @@
 // Declarations in source order, found by the tokens of their names.
 
-ghost use Rattle.std.specs.Prelude.{◌≡◌, [], ◌∷◌, ◌++◌, OnOk, OnErr};
+ghost use Rattle.std.specs.Prelude.{◌≡◌, [], ◌∷◌, ◌++◌, OnOk};
 ghost use Rattle.std.specs.Option.{option_copied};
 ghost use Rattle.sharc_ctype.specs.Resolved.{declared_at};
-ghost use Rattle.sharc_ctype.specs.FirstPlaces.{HasPlace, HasFirstPlaces};
+ghost use Rattle.sharc_ctype.specs.FirstPlaces.{HasFirstPlaces};
 
+use crate::first_place::note_first;
 use indexmap::IndexMap;
 use sharc_tree::tree::Declaration;
 use std::alloc::{AllocError, Global};
@@ -27,18 +28,6 @@ impl Model for Declared {
     ghost view = { λ d. d.list.items };
 
     ghost invariant = { λ d. HasFirstPlaces d.list.items d.first.entries };
-}
-
-/// Writes the place of the first declaration of a token into a table.
-fn note_first(first: &mut IndexMap<u32, usize>, token: u32, place: usize) -> Result<(), AllocError>
-    ensures written { OnOk result (HasPlace token place first.old.entries first.new.entries) }
-    ensures err { OnErr result (first.new.entries ≡ first.old.entries) }
-{
-    if first.get(&token).is_some() {
-        return Ok(());
-    }
-    first.insert(token, place)?;
-    Ok(())
 }
 
 /// Writes one declaration more.

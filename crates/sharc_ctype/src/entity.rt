@@ -6,7 +6,7 @@ ghost use Rattle.sharc_ctype.specs.Entities.{first_depth, positions_of};
 use sharc_names::types::Role;
 use sharc_tree::tree::WrittenType;
 
-/// A field, a global, a result, a parameter, a local or a cast (own).
+/// A field, a global, a result, a parameter, a local or a cast.
 #[derive(Drop)]
 pub struct Entity {
     pub role: Role,

@@ -1,4 +1,4 @@
-// The types of expressions, and the faults that stand in them.
+// The types of expressions, and the faults in them.
 
 ghost use Rattle.std.specs.Prelude.{◌≡◌, ◌&&◌, fold, is_some};
 ghost use Rattle.sharc_tree.specs.View.{view_expr, view_arguments};
@@ -213,7 +213,7 @@ fn is_place(names: &Names<'_>, expr: &Expr) -> bool
     expr.is_lvalue() && !names_function(names, expr.without_parentheses())
 }
 
-/// The type of an lvalue; takes note where the expression is none.
+/// The type of an lvalue; takes note where the expression is not one.
 pub(crate) fn lvalue<'a>(
     names: &Names<'_>,
     expr: &Expr,
@@ -342,7 +342,7 @@ fn argument_count(
     }
 }
 
-/// The faults of a call's name, with so many arguments.
+/// The faults of a call's name, with this many arguments.
 fn callee(standing: Standing, token: u32, count: usize, bound: Option<Bound<'_>>, found: &mut Found)
     ensures { found.new ≡ fold noted found.old (callee_notes standing token count (view_bounds bound.entry)) }
 {
@@ -365,7 +365,7 @@ fn wanted_if(fits: bool, wanted: Option<Wanted<'_>>) -> Wanted<'_>
     }
 }
 
-/// What so many arguments have to agree with.
+/// What this many arguments have to agree with.
 fn wanted<'a>(count: usize, bound: Option<Bound<'a>>) -> Wanted<'a>
     ensures { view_wanted result ≡ wanted count (view_bounds bound.entry) }
 {
@@ -451,7 +451,7 @@ fn call_kind(kind: Option<Kind<'_>>, fine: bool) -> Option<Kind<'_>>
     if fine { kind } else { None }
 }
 
-/// The type of an expression, or none where a fault stands in it. Takes note of its faults, and of what its names name.
+/// The type of an expression, or none where there is a fault in it. Takes note of its faults, and of what its names name.
 #[cycle(expr)]
 pub(crate) fn expression<'a>(
     scope: &Scope<'a>,

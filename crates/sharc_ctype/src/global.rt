@@ -169,7 +169,7 @@ pub(crate) fn global<'a>(scope: &Scope<'a>, global: &'a GlobalDefinition, found:
     initial(global, found);
 }
 
-/// Takes note where a global passes a limit behind others with so many cells; answers the number of cells with it. In both, 65,537 stands for more
+/// Takes note where a global passes a limit after others with this many cells; answers the number of cells with it. In both, 65,537 stands for more
 /// than 65,536.
 fn size(structs: &Structs<'_>, cells: u64, global: &GlobalDefinition, found: &mut Found) -> u64
     requires { cells ≤ 65537 }

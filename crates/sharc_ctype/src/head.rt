@@ -17,7 +17,7 @@ use sharc_names::structs::StructMeaning;
 use sharc_tree::tree::{FunctionDefinition, GlobalDefinition, Item, StructDefinition};
 use std::alloc::{AllocError, Global};
 
-/// What is known of the file behind some of its items.
+/// What is known of the file after some of its items.
 #[derive(Drop)]
 pub(crate) struct Heads<'a> {
     pub(crate) scope: Scope<'a>,

@@ -12,7 +12,7 @@ use sharc_tree::tree::Declaration;
 pub struct StructCells {
     /// The number of cells.
     pub cells: u32,
-    /// Bit `j mod 64` of `pointers[j / 64]` stands exactly where cell `j` is a pointer.
+    /// Bit `j mod 64` of `pointers[j / 64]` is set exactly where cell `j` is a pointer.
     pub pointers: [u64; 4],
 }
 

@@ -16,6 +16,7 @@ mod declared;
 mod entities;
 pub mod entity;
 pub mod expr;
+pub mod first_place;
 mod gather;
 mod global;
 pub mod head;

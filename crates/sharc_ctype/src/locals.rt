@@ -10,7 +10,7 @@ ghost use Rattle.sharc_ctype.specs.Statements.{first_locals, locals_in, locals_i
 use sharc_names::fault::{FaultCode, Found};
 use sharc_tree::tree::{ForFirst, Stmt};
 
-/// One local, where there is room for so many; answers for how many there is room behind it.
+/// One local, where there is room for this many; answers for how many there is room after it.
 fn local(token: u32, room: usize, found: &mut Found) -> usize
     ensures room { result ≡ room - 1 }
     ensures found { found.new ≡ fold noted found.old (fault_where (room == 0) token LimitPassed) }
@@ -30,7 +30,7 @@ fn first_local(first: &ForFirst, room: usize, found: &mut Found) -> usize
     }
 }
 
-/// Takes note of the locals of a statement for which there is no room; answers for how many there is room behind it.
+/// Takes note of the locals of a statement for which there is no room; answers for how many there is room after it.
 #[cycle(locals)]
 #[tactic(auto, using(crate::proofs::LocalLemmas::beyond_both, crate::proofs::LocalLemmas::room_both))]
 fn locals(stmt: &Stmt, room: usize, found: &mut Found) -> usize

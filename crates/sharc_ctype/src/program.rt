@@ -84,7 +84,7 @@ fn parameters<'a>(
     Ok(())
 }
 
-/// The faults of a function, behind which the names in scope are as before.
+/// The faults of a function, after which the names in scope are as before.
 #[tactic(auto, using(crate::proofs::ScopeLemmas::left_body, crate::proofs::ScopeLemmas::longer_body))]
 fn function<'a>(
     scope: &mut Scope<'a>,
@@ -166,7 +166,7 @@ fn main_missing(end: u32, names: &Names<'_>, found: &mut Found)
     found.fault_unless(well, end, FaultCode::NoMain);
 }
 
-/// What is known of a file behind its items, and what is found at their names.
+/// What is known of a file after its items, and what is found at their names.
 fn heads<'a>(alloc: Global, items: &'a [Item], found: &mut Found) -> Result<Heads<'a>, AllocError>
     requires few { length items.now + 1 < 2 ^ 32 }
     ensures heads { IfOk result (λ h. h ≡ behind_all no_heads (view_items items.now)) }
@@ -202,7 +202,7 @@ fn behind_heads<'a>(
     Ok(())
 }
 
-/// What is found in these items, behind what was found before.
+/// What is found in these items, after what was found before.
 fn find(alloc: Global, tokens: u32, list: &[Item], found: &mut Found) -> Result<(), AllocError>
     requires few { length list.now + 1 < 2 ^ 32 }
     ensures { OnOk result (found.new ≡ fold noted found.old (program_notes tokens (view_items list.now))) }
@@ -211,7 +211,7 @@ fn find(alloc: Global, tokens: u32, list: &[Item], found: &mut Found) -> Result<
     behind_heads(alloc, tokens, &mut scope, list, found)
 }
 
-/// What is found in the items of a program of so many tokens.
+/// What is found in the items of a program of this many tokens.
 pub(crate) fn pass(alloc: Global, tokens: u32, list: &[Item]) -> Result<Found, AllocError>
     requires few { length list.now + 1 < 2 ^ 32 }
     ensures { IfOk result (λ f. f ≡ fold noted (nothing_found tokens) (program_notes tokens (view_items list.now))) }

@@ -21,7 +21,7 @@ use sharc_tree::tree::{
 };
 use std::alloc::AllocError;
 
-/// Where a statement stands.
+/// Where a statement is.
 #[derive(Clone, Copy)]
 pub struct Around<'a> {
     /// The result of the function.
@@ -101,7 +101,7 @@ fn is_made(want: Option<Kind<'_>>, written: &WrittenType) -> bool
     same_kind(want, made)
 }
 
-/// The faults of what stands right of `=`.
+/// The faults of the right side of `=`.
 fn right<'a>(scope: &Scope<'a>, want: Option<Kind<'_>>, right: &'a Right, found: &mut Found)
     ensures { found.new ≡ fold noted found.old (right_notes scope.now (view_kinds want.entry) (view_right right.now)) }
 {
@@ -219,7 +219,7 @@ fn returned<'a>(
     }
 }
 
-/// The faults of what stands first in the head of a `for`; what it declares is in scope afterwards.
+/// The faults of what comes first in the head of a `for`; what it declares is in scope afterwards.
 fn first<'a>(
     scope: &mut Scope<'a>,
     around: Around<'a>,
@@ -355,7 +355,7 @@ pub(crate) fn statement<'a>(
     }
 }
 
-/// The faults of a statement within another, behind which the names in scope are as before.
+/// The faults of a statement within another, after which the names in scope are as before.
 #[cycle(stmt)]
 #[tactic(auto, using(crate::proofs::ScopeLemmas::left_after, crate::proofs::ScopeLemmas::longer_after))]
 fn nested<'a>(

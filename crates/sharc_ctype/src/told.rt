@@ -1,4 +1,4 @@
-// How a fault is told.
+// How a fault is reported.
 
 ghost use Rattle.std.specs.Prelude.{◌≡◌, ◌<◌, All, length, drop, IfOk};
 ghost use Rattle.sharc_ctype.specs.Typings.{IsToldAt, file_of, line_of, told_of, prints_name};
@@ -8,7 +8,7 @@ use sharc_tree::name::Name;
 use sharc_tree::token::{FaultAt, Tokens};
 use std::alloc::{AllocError, Global};
 
-/// Whether the text of a fault has the name that stands at its place.
+/// Whether the text of a fault has the name that is at its place.
 fn prints_name(code: FaultCode) -> bool
     ensures { result ≡ prints_name code }
 {
@@ -61,7 +61,7 @@ fn text_at(
     token.text.copy(alloc)
 }
 
-/// A fault as it is told.
+/// A fault as it is reported.
 pub(crate) fn told(alloc: Global, tokens: &Tokens, fault: Fault) -> Result<FaultAt, AllocError>
     requires files { All (λ t. t.file < length tokens.now.files) tokens.now.list }
     requires end_file { tokens.now.end.file < length tokens.now.files }

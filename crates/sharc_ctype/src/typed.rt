@@ -259,7 +259,7 @@ fn resolved(alloc: Global, program: Program, found: Found) -> Result<Typed, Allo
     with_tables(alloc, program, found.into_named())
 }
 
-/// The program with what its names name, exactly where no fault stands in it; else its first fault, by place, then by code.
+/// The program with what its names name, exactly where there is no fault in it; else its first fault, by place, then by code.
 ///
 /// The place of C1 is the name, of C2 the later of the two, of C3 the first token of the expression that has the wrong type (of the second of two
 /// operands that disagree), of C4 the called name, of C5 the first token of the expression, of C6 the first token of the type or expression or the

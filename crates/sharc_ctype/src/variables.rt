@@ -69,7 +69,7 @@ fn add_assigned(names: &[Named], simple: &Simple, tokens: &mut Vec<u32>) -> Resu
     }
 }
 
-/// Adds the variables of what stands first in the head of a `for`.
+/// Adds the variables of what comes first in the head of a `for`.
 fn add_first(names: &[Named], first: &ForFirst, variables: &mut Variables) -> Result<(), AllocError>
     ensures initialised { OnOk result (variables.new.initialised.items ≡ variables.old.initialised.items ++ initialised_first (view_first first.now)) }
     ensures assigned { OnOk result (variables.new.assigned.items ≡ variables.old.assigned.items ++ assigned_first names.now (view_first first.now)) }

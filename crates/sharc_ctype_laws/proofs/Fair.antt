@@ -75,7 +75,7 @@ mutual
   all_fair r scope scene want no_arguments h = tt
   all_fair r scope scene want (argument a rest) h = both (IsFair r) (transfers r a) (argument_transfers r rest) (fair r scope scene a (left r _ _ (left r _ _ (left r _ _ h)))) (all_fair r scope scene (drop 1 want) rest (right r _ _ h))
 
--- what stands right of `=`
+-- the right side of `=`
 
 fair_count : (r : Resolution) (scope : Scope) → IsScene r scope → (n : Option Expression) → Held r (count_notes scope n) → AllByRecursion (IsFair r) (in_option (transfers r) n)
 fair_count r scope scene None h = tt

@@ -22,7 +22,7 @@ use Rattle.sharc_ctype_laws.proofs.Held.{Held, left, right}
 use Rattle.sharc_ctype_laws.proofs.Scenes.{IsMeant, AreMeant, IsField, IsStruct, AreStructs, IsScene, type_solid, type_result}
 use Rattle.sharc_ctype_laws.proofs.Walked.{AreDeclared, scene_with, declared_meant, JudgedAt, places_all}
 
--- what stands at the head of what is left
+-- what is at the head of what is left
 
 some_of : {A : Type 0} (x y : A) (a b : List A) → x ∷ a ≡ y ∷ b → Some x ≡ Some y
 some_of x y a b h = cc

@@ -36,7 +36,7 @@ pub head_named : (r : Resolution) (token : ℕ) (what : Named) (rest : List Note
 unfolding Held
 head_named r token what rest h = h.0
 
--- where nothing else is told of its token, the second name of a lock path is held as the name of a field
+-- where nothing else is said of its token, the second name of a lock path is held as the name of a field
 pub second_held : (r : Resolution) (token : ℕ) (o : Option (Option Declaration)) → Held r (second_notes token o) → Held r (field_notes token o)
 unfolding Held
 second_held r token None h = h

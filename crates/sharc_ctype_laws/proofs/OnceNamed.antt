@@ -48,7 +48,7 @@ module _ (x : List ℕ) where
   rest_clean : (h : Heads) (i : Item) (rest : List Item) → Clean (heads_notes h (i ∷ rest)) → Clean (heads_notes (behind h i) rest)
   rest_clean h i rest c = clean_right (head_notes h i) (heads_notes (behind h i) rest) c
 
-  -- where the name is known, no function behind has it
+  -- where the name is known, no later function has it
   none_behind : (h : Heads) (items : List Item) → Clean (heads_notes h items) → knows h.scope.names ≡ true → (k : ℕ) (g : Function) → slice_get (functions_in items) k ≡ Some g → g.name.text ≡ x → ⊥
   none_behind h [] c known zero g at is = absurd (cc)
   none_behind h [] c known (suc k) g at is = absurd (cc)

@@ -117,7 +117,7 @@ no_faults f rest h = cc
 apart_from : (n t : ℕ) (rest : List Note) → told n rest ≡ 0 → 0 < told t rest → (t ≡ n → ⊥)
 apart_from n t rest none some is = let e = ap (λ x. told x rest) is in omega (arith, none, some, e)
 
--- nothing is named where nothing is told yet
+-- nothing is named where nothing is said yet
 abbrev IsOpen : Findings → List Note → Type 0
 IsOpen f list = (t : ℕ) → 0 < told t list → get_or f.named t named.Known ≡ named.Known
 

@@ -1,4 +1,4 @@
--- The table of structs tells of each struct what its definition tells, so the cells of globals are counted by either.
+-- The table of structs says of each struct what its definition says, so the cells of globals are counted by either.
 use Rattle.std.proofs.Common.{◌≡◌, ℕ, ◌*◌, ◌==◌, ◌≤◌, Bool, true, false, cond, List, [], ◌∷◌, ◌++◌, length, refl, ap, sym, ◌∙◌, subst, Option, Some, None, is_some, bytes_eq, codes, arith, append_assoc}
 use Rattle.std.proofs.lemmas.Bool.{true≢false, false_from_ne_true}
 use Rattle.std.proofs.lemmas.Slice.Eq.{bytes_eq-Decides}
@@ -70,7 +70,7 @@ itself : (b : Bool) (n : ℕ) (s : StructDefinition) → Same (cond b (Some (def
 itself true n s = refl
 itself false n s = tt
 
--- one that is there already is told by its first definition
+-- one that is there already is determined by its first definition
 again : (a : Option StructMeaning) (c d : Option StructDefinition) → (a ≡ None → d ≡ None) → Same a c → Same a (or_else c d)
 again None None d none h = subst (Same None) (sym (none refl)) tt
 again None (Some s) d none h = absurd h

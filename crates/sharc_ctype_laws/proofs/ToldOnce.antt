@@ -60,7 +60,7 @@ record IsSplit (r : Resolution) (t : ℕ) (list : List Note) : Type 0 where
   none_after : told t after ≡ 0
   named : named_at r t ≡ what
 
--- behind a note that tells nothing of the token
+-- after a note that says nothing of the token
 further : (r : Resolution) (t : ℕ) (n : Note) (rest : List Note) → told t (n ∷ []) ≡ 0 → IsSplit r t rest → IsSplit r t (n ∷ rest)
 further r t n rest none p = record {
   what = p.what;
@@ -74,7 +74,7 @@ further r t n rest none p = record {
   named = p.named;
 }
 
--- at the first note that tells of it
+-- at the first note that says something of it
 here : (r : Resolution) (t : ℕ) (what : Named) (n : Note) (rest : List Note) → Tells n t what → told t rest ≡ 0 → named_at r t ≡ what → IsSplit r t (n ∷ rest)
 here r t what n rest tells none is = record {
   what = what;

@@ -26,7 +26,7 @@ use Rattle.sharc_ctype_laws.proofs.AllLemmas.{both, front, back}
 use Rattle.sharc_ctype_laws.proofs.Counts.{one}
 use Rattle.sharc_ctype_laws.proofs.OwnTokens.{one_same, one_other, together}
 
--- how many marks stand at a token, and how much begins there that has a type
+-- how many marks are at a token, and how much begins there that has a type
 
 marked : ℕ → List Mark → ℕ
 marked t [] = 0

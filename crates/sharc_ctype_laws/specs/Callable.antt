@@ -1,4 +1,4 @@
--- What may be called and what may be spawned (own).
+-- What may be called and what may be spawned.
 use Rattle.std.specs.Prelude.{◌≡◌, ℕ, [], ◌∷◌, Some, codes}
 use Rattle.sharc_tree.specs.declared.tree.declaration.Declaration.{Declaration}
 use Rattle.sharc_tree.specs.Tree.{Function}

@@ -15,7 +15,7 @@ use Rattle.sharc_ctype.specs.Statements.{locals_in_all}
 abbrev pub IsItself : Resolution → (ℕ → Named) → Declaration → Type 0
 IsItself r form d = (named_at r d.name.site.token ≡ form d.name.site.token) × (declaration_at r d.name.site.token ≡ Some d)
 
--- structs, globals and functions are told by their numbers; fields, parameters and locals by the tokens of their names
+-- structs, globals and functions are given by their numbers; fields, parameters and locals by the tokens of their names
 pub record NameThemselves (r : Resolution) : Type 0 where
   pub structs : (n : ℕ) (s : StructDefinition) → struct_at r n ≡ Some s → named_at r s.name.site.token ≡ named.Struct n
   pub globals : (n : ℕ) (g : GlobalDefinition) → global_at r n ≡ Some g → named_at r g.declaration.name.site.token ≡ named.Global n

@@ -25,7 +25,7 @@ value_bits (Struct name) = 0
 abbrev pub IsHeldBy : Base → Bool → ℕ → Type 0
 IsHeldBy b minus n = MatchBool minus (n ≤ 2 ^ value_bits b) (n < 2 ^ value_bits b)
 
--- the number that a constant is; NULL is none
+-- the number that a constant is; NULL is no number
 abbrev pub number_of : Constant → Option ℕ
 number_of (Number n) = Some (unsigned_abs n.value)
 number_of (Character byte) = Some byte

@@ -33,7 +33,7 @@ Tells (fault place code) token what = ⊥
 Tells (refers n named) token what = (n ≡ token) × (named ≡ what)
 Tells (yields n named) token what = (n ≡ token) × (named ≡ what)
 
--- one note refers to a token, and none before it or behind it does; the resolved program names what that note says
+-- one note refers to a token, and none before it or after it does; the resolved program names what that note says
 pub record IsToldOnce (r : Resolution) (token : ℕ) : Type 0 where
   pub what : Named
   pub note : Note

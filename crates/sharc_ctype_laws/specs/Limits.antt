@@ -1,4 +1,4 @@
--- How large a typed program may be (own), and its `main` (C11 5.1.2.2.1).
+-- How large a typed program may be (SharC's own rule), and its `main` (C11 5.1.2.2.1).
 use Rattle.std.specs.Prelude.{◌≡◌, ℕ, ◌≤◌, [], length, Some, codes}
 use Rattle.std.specs.List.{AllByRecursion}
 use Rattle.sharc_tree.specs.Tree.{Function, Program}

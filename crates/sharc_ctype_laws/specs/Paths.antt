@@ -56,12 +56,12 @@ EntryStands r names (meaning.global n g) = Unit {0}
 EntryStands r names (meaning.function n s) = Unit {0}
 EntryStands r names (meaning.condition k) = Unit {0}
 
--- the type of each variable names variables that stood before it
+-- the type of each variable names variables that come before it
 abbrev pub IsClosed : Resolution → List Entry → Type 0
 IsClosed r [] = Unit {0}
 IsClosed r (e ∷ rest) = EntryStands r rest e.meaning × IsClosed r rest
 
--- a cast is read where it stands
+-- a cast is read where it is
 abbrev pub CastStands : Resolution → List Entry → Expression → Type 0
 CastStands r names (tree.cast s t a) = TypeStands r names t
 CastStands r names _ = Unit {0}

@@ -1,4 +1,4 @@
--- Each expression of a program with what is in scope where it stands.
+-- Each expression of a program with what is in scope where it is written.
 use Rattle.std.specs.Prelude.{false, List, [], ◌∷◌, ◌++◌, length, map}
 use Rattle.sharc_tree.specs.Tree.{Expression, Local, First, nothing, declares, does, Statement, empty, block, declare, simple, jump, return, if_then, if_then_else, while, for, Statements, no_statements, statement, Function}
 use Rattle.sharc_tree.specs.Measures.{expressions, in_right, in_simple, in_option}

@@ -42,7 +42,7 @@ abbrev pub MeetsReturn : Resolution → WrittenType → Option Expression → Ty
 MeetsReturn r w None = declared_kind w ≡ void
 MeetsReturn r w (Some e) = (declared_kind w ≡ void → ⊥) × IsScalar (kind_at r e)
 
--- 6.8.6.2p1 and 6.8.6.3p1: `break` and `continue` stand in loops
+-- 6.8.6.2p1 and 6.8.6.3p1: `break` and `continue` are in loops
 abbrev mutual
   pub Meets : Resolution → WrittenType → Bool → Statement → Type 0
   Meets r w in_loop (empty s) = Unit {0}

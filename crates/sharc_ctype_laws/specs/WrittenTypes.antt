@@ -93,7 +93,7 @@ abbrev pub types_in_items : List Item → List WrittenType
 types_in_items [] = []
 types_in_items (i ∷ rest) = types_in_item i ++ types_in_items rest
 
--- 6.7.2.3: the struct of that name, told by its number, or the known `struct cond`
+-- 6.7.2.3: the struct of that name, given by its number, or the known `struct cond`
 abbrev pub NamesStruct : Resolution → ℕ → List ℕ → Type 0
 NamesStruct r token name = ((n : ℕ) × (s : StructDefinition) × (named_at r token ≡ named.Struct n) × (struct_at r n ≡ Some s) × (struct_named (structs_in r.program.items) name ≡ Some s))
     ⊎ ((named_at r token ≡ named.Known) × (name ≡ codes "cond"))
@@ -106,7 +106,7 @@ IsNamedBase r token base.Mutex = Unit {0}
 IsNamedBase r token base.Void = Unit {0}
 IsNamedBase r token (base.Struct name) = NamesStruct r token name
 
--- what the first name of a lock path may be (own), and of which type: something of that name
+-- what the first name of a lock path may be (SharC's own rule), and of which type: something of that name
 pub data FirstNames (r : Resolution) (token : ℕ) (text : List ℕ) : Kind → Type 0 where
   a_field : {t : ℕ} {d : Declaration} → named_at r token ≡ named.Field t → declaration_at r t ≡ Some d → d.name.text ≡ text → FirstNames r token text (declared_kind d.written)
   a_variable : {t : ℕ} {d : Declaration} → named_at r token ≡ named.Variable t → declaration_at r t ≡ Some d → d.name.text ≡ text → FirstNames r token text (declared_kind d.written)

@@ -124,7 +124,7 @@ leaves_clear a b Broken l h = yes_left a.broken.clear _ h
 leaves_clear a b Continued l h = yes_left a.continued.clear _ h
 leaves_clear a b Ends l h = h
 
--- from where what stands behind the two comes
+-- where what holds after the two comes from
 pub data Came (a b : Ways) (t : To) (k : ℕ) : Type 0 where
   second : (way b t).least ≡ Some k → Came a b t k
   passed : Yes (way b t).clear → a.next.least ≡ Some k → Came a b t k

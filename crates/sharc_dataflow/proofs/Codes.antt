@@ -2,7 +2,7 @@
 use Rattle.std.proofs.Common.{◌≡◌, ℕ, zero, suc, List, [], ◌∷◌, ◌⊎◌, inl, inr, ◌<◌, Option, Some, None, Bool, true, false, Contains, refl, ap, subst, eqb-true, eq-eqb, nat_eq, arith, length}
 use Rattle.std.specs.Prelude.{slice_index_or}
 use Rattle.sharc_dataflow.specs.declared.way.Way.{Way}
-use Rattle.sharc_dataflow.specs.declared.way.Warning.{Warning}
+use Rattle.sharc_dataflow.specs.declared.way.FlowWarning.{FlowWarning}
 use Rattle.sharc_dataflow.specs.Flow.{Act, Reads, Nulls, Writes, From, Start, To, Next, Broken, Continued, Ends, Goes, goes, before, Does, done, ended, before as not_yet, Spares, Clear, Stands, Shows, Hits, Reaches}
 use Rattle.sharc_dataflow.specs.Code.{Code, goes_to, acts, first_then, one_of, catches, repeats, paths}
 use Rattle.sharc_dataflow.specs.Sums.{way, goes_of, free, only, nulled, written, way_of_act, ways, Warns, quiet, warn_read, warned_of, warn_act, warns}
@@ -10,17 +10,17 @@ use Rattle.sharc_dataflow.proofs.Algebra.{Yes, AtMost, Joins}
 use Rattle.sharc_dataflow.proofs.Exact.{Exact, exact_then, ClearPath, StandingPath, ShownPath, Warned, warning}
 use Rattle.sharc_dataflow.proofs.Pieces.{exact_either, exact_caught, exact_loop}
 
-has_none : (w : Warning) → Contains [] w → ⊥
+has_none : (w : FlowWarning) → Contains [] w → ⊥
 has_none w h = omega (arith, h.1)
 
-one_at : (w v : Warning) (k : ℕ) → k < length (w ∷ []) → slice_index_or (w ∷ []) k v ≡ v → w ≡ v
+one_at : (w v : FlowWarning) (k : ℕ) → k < length (w ∷ []) → slice_index_or (w ∷ []) k v ≡ v → w ≡ v
 one_at w v zero h e = e
 one_at w v (suc k) h e = absurd (omega (arith, h))
 
-has_one : (w v : Warning) → Contains (w ∷ []) v → w ≡ v
+has_one : (w v : FlowWarning) → Contains (w ∷ []) v → w ≡ v
 has_one w v h = one_at w v h.0 h.1 h.2
 
-is_one : (w : Warning) → Contains (w ∷ []) w
+is_one : (w : FlowWarning) → Contains (w ∷ []) w
 is_one w = (0, omega arith, refl)
 
 none_stands : (t u : To) (k : ℕ) → (way (goes_of t) u).least ≡ Some k → ⊥

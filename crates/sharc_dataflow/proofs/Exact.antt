@@ -2,13 +2,13 @@
 use Rattle.std.proofs.Common.{◌≡◌, ℕ, List, ◌++◌, ◌⊎◌, inl, inr, ◌≤◌, Option, Some, Contains}
 use Rattle.std.proofs.lemmas.List.Elements.{Contains-append_left, Contains-append_right, Contains-append_cases}
 use Rattle.sharc_dataflow.specs.declared.way.Ways.{Ways}
-use Rattle.sharc_dataflow.specs.declared.way.Warning.{Warning}
+use Rattle.sharc_dataflow.specs.declared.way.FlowWarning.{FlowWarning}
 use Rattle.sharc_dataflow.specs.Flow.{Act, From, Start, Inside, To, Next, Ends, Piece, Leaves, Then, through, leaves, behind as late, Clear, Stands, Shows, Hits, Reaches}
 use Rattle.sharc_dataflow.specs.Sums.{behind, way, then_of, Warns, warn_then}
 use Rattle.sharc_dataflow.proofs.Lists.{clear_both, clear_first, clear_last, stands_on, stands_cases, shows_behind, shows_cases, hits_across, hits_cases, Split, first, across, last}
 use Rattle.sharc_dataflow.proofs.Algebra.{Yes, AtMost, Joins, most_behind, most_of, behind_is, then_clear, through_clear, leaves_clear, Came, second, passed, left as came_left, then_least, through_most, second_most, left_most}
 
-abbrev pub warning : ℕ → ℕ → Warning
+abbrev pub warning : ℕ → ℕ → FlowWarning
 warning r k = record { read = r; since = k }
 
 -- a path from the start to t with no write of x
@@ -17,7 +17,7 @@ pub record ClearPath (x : ℕ) (A : Piece) (t : To) : Type 0 where
   pub is_path : A Start t acts
   pub clear : Clear x acts
 
--- a path to t on which the nulling at k stands
+-- a path to t on which the nulling at k holds
 pub record StandingPath (x : ℕ) (A : Piece) (t : To) (k : ℕ) : Type 0 where
   pub acts : List Act
   pub is_path : A Inside t acts
@@ -30,7 +30,7 @@ pub record ShownPath (x : ℕ) (A : Piece) (r : ℕ) : Type 0 where
   pub shows : Shows x r acts
 
 -- the read at r has a warning that names a nulling no later than k
-pub record Warned (ws : List Warning) (k r : ℕ) : Type 0 where
+pub record Warned (ws : List FlowWarning) (k r : ℕ) : Type 0 where
   pub since : ℕ
   pub first : since ≤ k
   pub has : Contains ws (warning r since)
@@ -44,10 +44,10 @@ pub record Exact (x : ℕ) (A : Piece) (s : Ways) (w : Warns) : Type 0 where
   pub is_hit : (f : From) (t : To) (l : List Act) (v : Option ℕ) (k r : ℕ) → A f t l → Hits x k r l → Warned (w v) k r
   pub is_shown : (t : To) (l : List Act) (v : Option ℕ) (k r : ℕ) → A Start t l → Shows x r l → AtMost v k → Warned (w v) k r
 
-pub warned_left : (a b : List Warning) (k r : ℕ) → Warned a k r → Warned (a ++ b) k r
+pub warned_left : (a b : List FlowWarning) (k r : ℕ) → Warned a k r → Warned (a ++ b) k r
 warned_left a b k r h = record { since = h.since; first = h.first; has = Contains-append_left a b (warning r h.since) h.has }
 
-pub warned_right : (a b : List Warning) (k r : ℕ) → Warned b k r → Warned (a ++ b) k r
+pub warned_right : (a b : List FlowWarning) (k r : ℕ) → Warned b k r → Warned (a ++ b) k r
 warned_right a b k r h = record { since = h.since; first = h.first; has = Contains-append_right a b (warning r h.since) h.has }
 
 -- the one and then the other

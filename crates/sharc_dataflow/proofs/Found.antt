@@ -3,7 +3,7 @@ use Rattle.std.proofs.Common.{◌≡◌, ℕ, List, [], ◌∷◌, ◌++◌, ◌
 use Rattle.std.specs.Prelude.{slice_index_or}
 use Rattle.std.proofs.lemmas.List.Elements.{Contains-append_left, Contains-append_right, Contains-append_cases}
 use Rattle.sharc_dataflow.specs.declared.step.Step.{Step}
-use Rattle.sharc_dataflow.specs.declared.way.Warning.{Warning}
+use Rattle.sharc_dataflow.specs.declared.way.FlowWarning.{FlowWarning}
 use Rattle.sharc_dataflow.specs.Flow.{Inside, Ends, Reaches}
 use Rattle.sharc_dataflow.specs.Code.{Code, paths, listing}
 use Rattle.sharc_dataflow.specs.Sums.{warns}
@@ -16,11 +16,11 @@ use Rattle.sharc_dataflow.proofs.Named.{hit_nulls, in_code}
 use Rattle.sharc_dataflow.proofs.Summed.{summed_piece}
 use Rattle.sharc_dataflow.proofs.Told.{told_piece}
 
--- the two passes, one behind the other
+-- the two passes, one after the other
 pub heads_are : (x : ℕ) (c : Code) → (summed x (listing c) sum_start).heads ≡ heads x c
 heads_are x c = ap (λ z. (summed x z sum_start).heads) (sym (append-nil (listing c))) ∙ ap (λ (s : Summing). s.heads) (summed_piece x c [] sum_start)
 
-pub told_is : (x : ℕ) (c : Code) (list : List Step) (hs : List (Option ℕ)) (found : List Warning) → list ≡ listing c → hs ≡ (summed x list sum_start).heads → (told x list (tell_start hs found)).found ≡ found ++ warns x c None
+pub told_is : (x : ℕ) (c : Code) (list : List Step) (hs : List (Option ℕ)) (found : List FlowWarning) → list ≡ listing c → hs ≡ (summed x list sum_start).heads → (told x list (tell_start hs found)).found ≡ found ++ warns x c None
 told_is x c list hs found is heads =
     ap (λ z. (told x z (tell_start hs found)).found) (is ∙ sym (append-nil (listing c)))
     ∙ ap (λ z. (told x (listing c ++ []) (tell_start z found)).found) (heads ∙ ap (λ z. (summed x z sum_start).heads) is ∙ heads_are x c)
@@ -41,7 +41,7 @@ one_is x y h = first h.0 h.1 h.2
     first zero l e = e
     first (suc k) l e = absurd (omega (arith, l))
 
-has_all : (c : Code) (list : List ℕ) (x : ℕ) (w : Warning) → Contains list x → Contains (warns x c None) w → Contains (all_warns c list) w
+has_all : (c : Code) (list : List ℕ) (x : ℕ) (w : FlowWarning) → Contains list x → Contains (warns x c None) w → Contains (all_warns c list) w
 has_all c [] x w i h = absurd (omega (arith, i.1))
 has_all c (y ∷ list) x w i h = found (λ j. has_all c list x w j h) (Contains-append_cases (y ∷ []) list x i)
   where
@@ -53,7 +53,7 @@ use_of : (x : ℕ) (c : Code) (k r : ℕ) → Reaches (paths c) x k r ⊎ ((None
 use_of x c k r (inl h) = record { variable = x; reaches = h }
 use_of x c k r (inr h) = let e = h.0 in absurd (cc)
 
-pub adds_uses : (c : Code) (list : List ℕ) (before after : List Warning) → ((x : ℕ) → Contains (all_nulled (listing c)) x → Contains list x) → after ≡ before ++ all_warns c list → AddsUses c before after
+pub adds_uses : (c : Code) (list : List ℕ) (before after : List FlowWarning) → ((x : ℕ) → Contains (all_nulled (listing c)) x → Contains list x) → after ≡ before ++ all_warns c list → AddsUses c before after
 adds_uses c list before after every is = record {
   kept = λ w h. subst (λ l. Contains l w) (sym is) (Contains-append_left before (all_warns c list) w h);
   only = λ k r h. found k r (Contains-append_cases before (all_warns c list) (warning r k) (subst (λ l. Contains l (warning r k)) is h));
@@ -69,7 +69,7 @@ adds_uses c list before after every is = record {
     found k r (inr h) = let i = has_cases c list k r h in inr (use_of i.0 c k r ((exact_code i.0 c).warned_path None k r i.1))
 
 -- one variable more
-pub about_next : (c : Code) (list : List ℕ) (i x : ℕ) (before found after : List Warning) → i < length list → x ≡ slice_index_or list i x → after ≡ found ++ warns x c None
+pub about_next : (c : Code) (list : List ℕ) (i x : ℕ) (before found after : List FlowWarning) → i < length list → x ≡ slice_index_or list i x → after ≡ found ++ warns x c None
     → found ++ all_warns c (drop i list) ≡ before → after ++ all_warns c (drop (i + 1) list) ≡ before
 about_next c list i x before found after h is more e =
     let next : drop i list ≡ x ∷ drop (i + 1) list = rw (add-one, drop-cons list i x) (ap (λ z. z ∷ drop (suc i) list) (sym is)) in

@@ -3,7 +3,7 @@ use Rattle.std.proofs.Common.{◌≡◌, ℕ, ◌<◌, ◌+◌, List, [], ◌∷
 use Rattle.std.proofs.Math.Seq.{take-suc}
 use Rattle.std.proofs.lemmas.List.Elements.{Contains-append_left, Contains-append_right, Contains-append_cases}
 use Rattle.sharc_dataflow.specs.declared.step.Step.{Step}
-use Rattle.sharc_dataflow.specs.declared.way.Warning.{Warning}
+use Rattle.sharc_dataflow.specs.declared.way.FlowWarning.{FlowWarning}
 use Rattle.sharc_dataflow.specs.Code.{Code, listing}
 use Rattle.sharc_dataflow.specs.Sums.{warns}
 use Rattle.sharc_dataflow.specs.Gathered.{all_warns}
@@ -37,10 +37,10 @@ both_warn c [] m = refl
 both_warn c (x ∷ l) m = ap (λ z. warns x c None ++ z) (both_warn c l m) ∙ sym (append_assoc (warns x c None) (all_warns c l) (all_warns c m))
 
 -- the warnings about some variables, by the steps that matter to them
-pub about_these : (first last : ℕ) (c : Code) (steps : List Step) (list : List ℕ) (before after : List Warning) → AreBetween first last list → IsSame first last steps c
+pub about_these : (first last : ℕ) (c : Code) (steps : List Step) (list : List ℕ) (before after : List FlowWarning) → AreBetween first last list → IsSame first last steps c
     → ((d : Code) → steps ≡ listing d → after ≡ before ++ all_warns d list) → after ≡ before ++ all_warns c list
 about_these first last c steps list before after b s told = told s.code s.lists ∙ ap (λ z. before ++ z) (warns_same first last c s.code s.same list b)
 
-pub about_both : (c : Code) (list these others : List ℕ) (before found after : List Warning) → list ≡ these ++ others → found ≡ before ++ all_warns c these → after ≡ found ++ all_warns c others → after ≡ before ++ all_warns c list
+pub about_both : (c : Code) (list these others : List ℕ) (before found after : List FlowWarning) → list ≡ these ++ others → found ≡ before ++ all_warns c these → after ≡ found ++ all_warns c others → after ≡ before ++ all_warns c list
 about_both c list these others before found after parts first second =
     second ∙ ap (λ z. z ++ all_warns c others) first ∙ append_assoc before (all_warns c these) (all_warns c others) ∙ ap (λ z. before ++ z) (sym (both_warn c these others) ∙ sym (ap (all_warns c) parts))

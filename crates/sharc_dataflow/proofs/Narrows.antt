@@ -129,7 +129,7 @@ module _ (first last : ℕ) where
 
   -- ---- the pass
 
-  -- behind the steps of c, what is kept stands for what stood before and then c
+  -- after the steps of c, what is kept stands for what was there before and then c
   pub record Goes (c : Code) (rest : List Step) (k : Kept) (w : List Kept) (e : Code) : Type 0 where
     pub kept_now : Kept
     pub means : Means kept_now (first_then e c)

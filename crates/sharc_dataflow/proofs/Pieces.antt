@@ -140,7 +140,7 @@ module _ (x : ℕ) (A : Piece) (a : Ways) (wa : Warns) (ea : Exact x A a wa) whe
     is_shown = caught_is_shown;
   }
 
--- a loop: what stands at the end of one turn is all that more turns add
+-- a loop: what holds at the end of one turn is all that more turns add
 module _ (x : ℕ) (A : Piece) (a : Ways) (wa : Warns) (ea : Exact x A a wa) where
   loop_clear_path : (t : To) → Yes (way (loop_of a) t).clear → ClearPath x (Loop A) t
   loop_clear_path Next y = let p = ea.clear_path Broken y in record { acts = p.acts; is_path = left p.is_path; clear = p.clear }
@@ -192,7 +192,7 @@ module _ (x : ℕ) (A : Piece) (a : Ways) (wa : Warns) (ea : Exact x A a wa) whe
       found (inl h) = inl (record { acts = h.acts; is_path = ended h.is_path; hits = h.hits })
       found (inr h) = stood h.1 (lower_is v a.next.least k h.0)
 
-  -- what stands at the head of some turn is at most k
+  -- what holds at the head of some turn is at most k
   loop_shown : (t : To) (l : List Act) (u : Option ℕ) (k r : ℕ) → Loop A Start t l → Shows x r l → AtMost u k → Warned (wa u) k r
   loop_shown t l u k r (left p) h most = ea.is_shown Broken l u k r p h most
   loop_shown t l u k r (ended p) h most = ea.is_shown Ends l u k r p h most

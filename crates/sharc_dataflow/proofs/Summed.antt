@@ -1,4 +1,4 @@
--- What the pass back finds of code.
+-- What the backward pass finds of code.
 use Rattle.std.proofs.Common.{◌≡◌, ℕ, List, [], ◌∷◌, ◌++◌, Option, refl, ap, sym, ◌∙◌, append_assoc, append-nil}
 use Rattle.sharc_dataflow.specs.declared.step.Step.{Step}
 use Rattle.sharc_dataflow.specs.declared.step.Step.TheVariants as steps
@@ -38,7 +38,7 @@ nothing_then a = same_ways _ _ _ _ _ _ (free_follow a.next) (free_follow a.broke
 pub then_nothing : (a : Ways) → then_of a nothing ≡ a
 then_nothing a = same_ways _ _ _ _ _ _ (follow_free a.next) (ap (either a.broken) (follow_closed a.next) ∙ either_closed a.broken) (ap (either a.continued) (follow_closed a.next) ∙ either_closed a.continued)
 
--- what a piece does goes before, and what stands at the end of its turns comes behind
+-- what a piece does goes before, and what holds at the end of its turns comes after
 abbrev pub with_piece : ℕ → Code → Summing → Summing
 with_piece x c s = summing (then_of (ways x c) s.now) s.waiting (s.heads ++ heads x c)
 

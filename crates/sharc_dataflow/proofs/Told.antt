@@ -1,11 +1,11 @@
--- What the pass forth tells of code.
+-- What the forward pass reports of code.
 use Rattle.std.proofs.Common.{◌≡◌, ℕ, List, [], ◌∷◌, ◌++◌, Option, None, true, nat_eq, refl, ap, sym, ◌∙◌, append_assoc, append-nil}
 use Rattle.sharc_dataflow.specs.declared.step.Step.{Step}
 use Rattle.sharc_dataflow.specs.declared.step.Step.TheVariants as steps
 use Rattle.sharc_dataflow.specs.declared.way.Way.{Way}
 use Rattle.sharc_dataflow.specs.declared.way.Ways.{Ways}
 use Rattle.sharc_dataflow.specs.declared.way.Standing.{Standing}
-use Rattle.sharc_dataflow.specs.declared.way.Warning.{Warning}
+use Rattle.sharc_dataflow.specs.declared.way.FlowWarning.{FlowWarning}
 use Rattle.sharc_dataflow.specs.Flow.{Reads, Nulls, Writes, Next, Broken, Continued, Ends}
 use Rattle.sharc_dataflow.specs.Code.{Code, goes_to, acts, first_then, one_of, catches, repeats, listing}
 use Rattle.sharc_dataflow.specs.Sums.{lower, behind, closed, free, follow, either, only, goes_of, then_of, nulled, written, ways, warns}
@@ -13,7 +13,7 @@ use Rattle.sharc_dataflow.specs.Passes.{last_or, front, heads, Telling, telling,
 use Rattle.sharc_dataflow.proofs.Laws.{lower_none, lower_turned, lower_assoc, follow_assoc, follow_either}
 use Rattle.sharc_dataflow.proofs.Summed.{last_pushed, front_pushed, regroup, regroup_two}
 
--- what is done to all that stands by a piece
+-- what a piece does to all that holds
 abbrev pub passed : Ways → Standing → Standing
 passed w s = record { next = behind w.next s.next; broken = lower s.broken (behind w.broken s.next); continued = lower s.continued (behind w.continued s.next) }
 
@@ -50,22 +50,22 @@ passed_break s = same_standing _ _ _ _ _ _ refl refl (lower_none s.continued)
 passed_continue : (s : Standing) → passed (goes_of Continued) s ≡ standing_of None s.broken (lower s.continued s.next)
 passed_continue s = same_standing _ _ _ _ _ _ refl (lower_none s.broken) refl
 
-same_telling : (s s2 : Standing) (o o2 h h2 : List (Option ℕ)) (f f2 : List Warning) → s ≡ s2 → o ≡ o2 → h ≡ h2 → f ≡ f2 → telling s o h f ≡ telling s2 o2 h2 f2
+same_telling : (s s2 : Standing) (o o2 h h2 : List (Option ℕ)) (f f2 : List FlowWarning) → s ≡ s2 → o ≡ o2 → h ≡ h2 → f ≡ f2 → telling s o h f ≡ telling s2 o2 h2 f2
 same_telling s s2 o o2 h h2 f f2 a b c d = rw (a, b, c, d) refl
 
 module _ (x : ℕ) where
-  -- the state behind a piece
-  abbrev pub behind_piece : Code → Standing → List (Option ℕ) → List (Option ℕ) → List Warning → Telling
+  -- the state after a piece
+  abbrev pub behind_piece : Code → Standing → List (Option ℕ) → List (Option ℕ) → List FlowWarning → Telling
   behind_piece c s o hs f = telling (passed (ways x c) s) o hs (f ++ warns x c s.next)
 
-  plain : (c : Code) (s s2 : Standing) (o hs : List (Option ℕ)) (f : List Warning) → s2 ≡ passed (ways x c) s → warns x c s.next ≡ [] → telling s2 o (hs ++ []) f ≡ behind_piece c s o hs f
+  plain : (c : Code) (s s2 : Standing) (o hs : List (Option ℕ)) (f : List FlowWarning) → s2 ≡ passed (ways x c) s → warns x c s.next ≡ [] → telling s2 o (hs ++ []) f ≡ behind_piece c s o hs f
   plain c s s2 o hs f e q = same_telling _ _ _ _ _ _ _ _ e refl (append-nil hs) (sym (ap (λ z. f ++ z) q ∙ append-nil f))
 
-  after_other : (a b : Code) (s : Standing) (o hs : List (Option ℕ)) (f : List Warning)
+  after_other : (a b : Code) (s : Standing) (o hs : List (Option ℕ)) (f : List FlowWarning)
       → forth x steps.Other (behind_piece a s (o ++ s.next ∷ []) (hs ++ heads x b) f) ≡ telling (standing_of s.next (passed (ways x a) s).broken (passed (ways x a) s).continued) (o ++ (passed (ways x a) s).next ∷ []) (hs ++ heads x b) (f ++ warns x a s.next)
   after_other a b s o hs f = let s1 = passed (ways x a) s in same_telling _ _ _ _ _ _ _ _ (ap (λ z. standing_of z s1.broken s1.continued) (last_pushed None s.next o)) (ap (λ z. z ++ s1.next ∷ []) (front_pushed s.next o)) refl refl
 
-  after_join : (a b : Code) (s : Standing) (o hs : List (Option ℕ)) (f : List Warning)
+  after_join : (a b : Code) (s : Standing) (o hs : List (Option ℕ)) (f : List FlowWarning)
       → forth x steps.Join (behind_piece b (standing_of s.next (passed (ways x a) s).broken (passed (ways x a) s).continued) (o ++ (passed (ways x a) s).next ∷ []) hs (f ++ warns x a s.next)) ≡ behind_piece (one_of a b) s o hs f
   after_join a b s o hs f =
       let s1 = passed (ways x a) s in
@@ -78,7 +78,7 @@ module _ (x : ℕ) where
       (lower_assoc s.continued (behind wa.continued s.next) (behind wb.continued s.next) ∙ ap (lower s.continued) (sym (behind_either wa.continued wb.continued s.next))))
       (front_pushed s1.next o) refl (append_assoc f (warns x a s.next) (warns x b s.next))
 
-  after_caught : (a : Code) (s : Standing) (o hs : List (Option ℕ)) (f : List Warning)
+  after_caught : (a : Code) (s : Standing) (o hs : List (Option ℕ)) (f : List FlowWarning)
       → forth x steps.Caught (behind_piece a (standing_of s.next s.broken None) (o ++ s.continued ∷ []) hs f) ≡ behind_piece (catches a) s o hs f
   after_caught a s o hs f =
       let wa = ways x a in
@@ -86,7 +86,7 @@ module _ (x : ℕ) where
       (same_standing _ _ _ _ _ _ (sym (behind_either wa.next wa.continued s.next)) refl (ap (λ z. lower z (behind wa.continued s.next)) (last_pushed None s.continued o)))
       (front_pushed s.continued o) refl refl
 
-  after_again : (a : Code) (s : Standing) (o hs : List (Option ℕ)) (f : List Warning)
+  after_again : (a : Code) (s : Standing) (o hs : List (Option ℕ)) (f : List FlowWarning)
       → forth x steps.Again (behind_piece a (turning (ways x a).next.least s) ((o ++ s.broken ∷ []) ++ s.continued ∷ []) hs f) ≡ behind_piece (repeats a) s o hs f
   after_again a s o hs f =
       let wa = ways x a in
@@ -99,7 +99,7 @@ module _ (x : ℕ) where
       (last_pushed None s.continued one ∙ sym (lower_none s.continued)))
       (ap front (front_pushed s.continued one) ∙ front_pushed s.broken o) refl refl
 
-  pub told_piece : (c : Code) (rest : List Step) (s : Standing) (o hs : List (Option ℕ)) (f : List Warning) → told x (listing c ++ rest) (telling s o (hs ++ heads x c) f) ≡ told x rest (behind_piece c s o hs f)
+  pub told_piece : (c : Code) (rest : List Step) (s : Standing) (o hs : List (Option ℕ)) (f : List FlowWarning) → told x (listing c ++ rest) (telling s o (hs ++ heads x c) f) ≡ told x rest (behind_piece c s o hs f)
   told_piece (goes_to Next) rest s o hs f = ap (told x rest) (plain (goes_to Next) s s o hs f (sym (passed_nothing s)) refl)
   told_piece (goes_to Broken) rest s o hs f = ap (told x rest) (plain (goes_to Broken) s (standing_of None (lower s.broken s.next) s.continued) o hs f (sym (passed_break s)) refl)
   told_piece (goes_to Continued) rest s o hs f = ap (told x rest) (plain (goes_to Continued) s (standing_of None s.broken (lower s.continued s.next)) o hs f (sym (passed_continue s)) refl)

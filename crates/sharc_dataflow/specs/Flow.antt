@@ -12,7 +12,7 @@ pub data From : Type 0 where
   Start : From
   Inside : From
 
--- It leads to what comes next, to behind the loop, or to the loop's next turn; or it ends in the piece, by a return or anywhere.
+-- It leads to what comes next, to what follows the loop, or to the loop's next turn; or it ends in the piece, by a return or anywhere.
 pub data To : Type 0 where
   Next : To
   Broken : To
@@ -72,7 +72,7 @@ abbrev pub Clear : ℕ → List Act → Type 0
 Clear x [] = Unit {0}
 Clear x (a ∷ l) = Spares x a × Clear x l
 
--- the nulling of x at token k, with no write of x behind it
+-- the nulling of x at token k, with no write of x after it
 abbrev pub Stands : ℕ → ℕ → List Act → Type 0
 Stands x k [] = ⊥
 Stands x k (a ∷ l) = ((a ≡ Nulls x k) × Clear x l) ⊎ Stands x k l

@@ -2,7 +2,7 @@
 use Rattle.std.specs.Prelude.{ℕ, List, [], ◌∷◌, ◌++◌, None}
 use Rattle.sharc_dataflow.specs.declared.step.Step.{Step}
 use Rattle.sharc_dataflow.specs.declared.step.Step.TheVariants as steps
-use Rattle.sharc_dataflow.specs.declared.way.Warning.{Warning}
+use Rattle.sharc_dataflow.specs.declared.way.FlowWarning.{FlowWarning}
 use Rattle.sharc_dataflow.specs.Code.{Code}
 use Rattle.sharc_dataflow.specs.Sums.{warns}
 
@@ -17,6 +17,6 @@ all_nulled [] = []
 all_nulled (a ∷ rest) = nulled_at a ++ all_nulled rest
 
 -- the warnings about some variables
-abbrev pub all_warns : Code → List ℕ → List Warning
+abbrev pub all_warns : Code → List ℕ → List FlowWarning
 all_warns c [] = []
 all_warns c (x ∷ rest) = warns x c None ++ all_warns c rest

@@ -1,4 +1,4 @@
--- The steps that matter to some variables: what is left out, and what stands in its place. It retraces the code.
+-- The steps that matter to some variables: what is left out, and what takes its place. It retraces the code.
 use Rattle.std.specs.Prelude.{◌≡◌, ℕ, ◌≤◌, nat_le, List, Contains, [], ◌∷◌, ◌++◌, Option, Bool, true, false, ◌&&◌, ◌||◌}
 use Rattle.sharc_dataflow.specs.declared.step.Step.{Step}
 use Rattle.sharc_dataflow.specs.declared.step.Step.TheVariants as steps
@@ -65,7 +65,7 @@ on_or_ends false = goes_to Ends
 abbrev pub leading : Exits → Code
 leading e = first_then (may_go e.broken Broken) (first_then (may_go e.continued Continued) (on_or_ends e.next))
 
--- ---- what is kept of a piece, and where what is left out behind it leads
+-- ---- what is kept of a piece, and where what is left out after it leads
 
 pub record Kept : Type 0 where
   pub steps : List Step

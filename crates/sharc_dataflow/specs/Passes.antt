@@ -1,10 +1,10 @@
--- Two passes over the steps of code, for one variable: back over them for what stands at the end of a loop's turn, then forth for the warnings. It retraces the code.
+-- Two passes over the steps of code, for one variable: back over them for what holds at the end of a loop's turn, then forward for the warnings. It retraces the code.
 use Rattle.std.specs.Prelude.{ℕ, List, [], ◌∷◌, ◌++◌, Option, None, nat_eq}
 use Rattle.sharc_dataflow.specs.declared.step.Step.{Step}
 use Rattle.sharc_dataflow.specs.declared.step.Step.TheVariants as steps
 use Rattle.sharc_dataflow.specs.declared.way.Ways.{Ways}
 use Rattle.sharc_dataflow.specs.declared.way.Standing.{Standing}
-use Rattle.sharc_dataflow.specs.declared.way.Warning.{Warning}
+use Rattle.sharc_dataflow.specs.declared.way.FlowWarning.{FlowWarning}
 use Rattle.sharc_dataflow.specs.Flow.{Broken, Continued, Ends}
 use Rattle.sharc_dataflow.specs.Code.{Code, goes_to, acts, first_then, one_of, catches, repeats}
 use Rattle.sharc_dataflow.specs.Sums.{lower, behind, free, only, goes_of, then_of, either_of, caught_of, loop_of, nulled, written, ways, warn_read}
@@ -20,7 +20,7 @@ front [] = []
 front (a ∷ []) = []
 front (a ∷ (b ∷ l)) = a ∷ front (b ∷ l)
 
--- what stands at the end of a turn of each loop, the last loop first
+-- what holds at the end of a turn of each loop, the last loop first
 abbrev pub heads : ℕ → Code → List (Option ℕ)
 heads x (goes_to t) = []
 heads x (acts a) = []
@@ -31,7 +31,7 @@ heads x (repeats a) = heads x a ++ (ways x a).next.least ∷ []
 
 -- ---- back
 
--- what the steps from here to the end of the innermost open piece do, what those behind the open pieces do, and what stands at the end of turns
+-- what the steps from here to the end of the innermost open piece do, what those after the open pieces do, and what holds at the end of turns
 pub record Summing : Type 0 where
   pub now : Ways
   pub waiting : List Ways
@@ -82,15 +82,15 @@ sum_start = record { now = nothing; waiting = []; heads = [] }
 
 -- ---- forth
 
--- what stands here and at the exits, what stood at the exits and beginnings of the open pieces, what stands at the end of the turns of the loops to come,
+-- what holds here and at the exits, what held at the exits and beginnings of the open pieces, what holds at the end of the turns of the loops to come,
 -- and the warnings
 pub record Telling : Type 0 where
   pub stand : Standing
   pub waiting : List (Option ℕ)
   pub heads : List (Option ℕ)
-  pub found : List Warning
+  pub found : List FlowWarning
 
-abbrev pub telling : Standing → List (Option ℕ) → List (Option ℕ) → List Warning → Telling
+abbrev pub telling : Standing → List (Option ℕ) → List (Option ℕ) → List FlowWarning → Telling
 telling s waiting hs found = record { stand = s; waiting = waiting; heads = hs; found = found }
 
 abbrev pub stands_at : Option ℕ → Standing → Standing
@@ -136,5 +136,5 @@ told x (a ∷ rest) t = told x rest (forth x a t)
 abbrev pub nowhere : Standing
 nowhere = record { next = None; broken = None; continued = None }
 
-abbrev pub tell_start : List (Option ℕ) → List Warning → Telling
+abbrev pub tell_start : List (Option ℕ) → List FlowWarning → Telling
 tell_start hs found = record { stand = nowhere; waiting = []; heads = hs; found = found }

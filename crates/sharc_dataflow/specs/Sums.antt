@@ -2,7 +2,7 @@
 use Rattle.std.specs.Prelude.{ℕ, List, [], ◌∷◌, ◌++◌, Option, Some, None, Bool, true, false, min, nat_eq, ◌&&◌, ◌||◌}
 use Rattle.sharc_dataflow.specs.declared.way.Way.{Way}
 use Rattle.sharc_dataflow.specs.declared.way.Ways.{Ways}
-use Rattle.sharc_dataflow.specs.declared.way.Warning.{Warning}
+use Rattle.sharc_dataflow.specs.declared.way.FlowWarning.{FlowWarning}
 use Rattle.sharc_dataflow.specs.Flow.{Act, Reads, Nulls, Writes, To, Next, Broken, Continued, Ends}
 use Rattle.sharc_dataflow.specs.Code.{Code, goes_to, acts, first_then, one_of, catches, repeats}
 
@@ -12,7 +12,7 @@ lower None o = o
 lower (Some a) None = Some a
 lower (Some a) (Some b) = Some (min a b)
 
--- what stands behind, where v stands before
+-- what holds after, where v holds before
 abbrev pub kept : Bool → Option ℕ → Option ℕ
 kept true v = v
 kept false v = None
@@ -85,14 +85,14 @@ ways x (one_of a b) = either_of (ways x a) (ways x b)
 ways x (catches a) = caught_of (ways x a)
 ways x (repeats a) = loop_of (ways x a)
 
--- the warnings in a piece of code, by what stands before it
+-- the warnings in a piece of code, by what holds before it
 abbrev pub Warns : Type 0
-Warns = Option ℕ → List Warning
+Warns = Option ℕ → List FlowWarning
 
 abbrev pub quiet : Warns
 quiet v = []
 
-abbrev pub warned_of : Option ℕ → ℕ → List Warning
+abbrev pub warned_of : Option ℕ → ℕ → List FlowWarning
 warned_of None r = []
 warned_of (Some k) r = record { read = r; since = k } ∷ []
 

@@ -1,14 +1,14 @@
 -- What is answered of code: its reads of nulled variables.
 use Rattle.std.specs.Prelude.{ℕ, ◌<◌, ◌≤◌, List, [], ◌∷◌, Contains, ◌⊎◌}
-use Rattle.sharc_dataflow.specs.declared.way.Warning.{Warning}
+use Rattle.sharc_dataflow.specs.declared.way.FlowWarning.{FlowWarning}
 use Rattle.sharc_dataflow.specs.Flow.{Reaches}
 use Rattle.sharc_dataflow.specs.Code.{Code, paths}
 
-abbrev pub warning : ℕ → ℕ → Warning
+abbrev pub warning : ℕ → ℕ → FlowWarning
 warning r k = record { read = r; since = k }
 
 -- the read at r has a warning that names the nulling at k, or an earlier one
-pub record HasWarning (found : List Warning) (k r : ℕ) : Type 0 where
+pub record HasWarning (found : List FlowWarning) (k r : ℕ) : Type 0 where
   pub since : ℕ
   pub first : since ≤ k
   pub has : Contains found (warning r since)
@@ -20,19 +20,19 @@ pub record IsUse (c : Code) (k r : ℕ) : Type 0 where
 
 -- The warnings of the code are added to those before: each names a nulling from which a path leads to its read, with no write between; and each read to
 -- which such a path leads from some nulling has a warning that names this one or an earlier one.
-pub record AddsUses (c : Code) (before after : List Warning) : Type 0 where
-  pub kept : (w : Warning) → Contains before w → Contains after w
+pub record AddsUses (c : Code) (before after : List FlowWarning) : Type 0 where
+  pub kept : (w : FlowWarning) → Contains before w → Contains after w
   pub only : (k r : ℕ) → Contains after (warning r k) → Contains before (warning r k) ⊎ IsUse c k r
   pub all : (k r : ℕ) → IsUse c k r → HasWarning after k r
 
 -- in the order of the reads, one for each
-abbrev pub Rising : List Warning → Type 0
+abbrev pub Rising : List FlowWarning → Type 0
 Rising [] = Unit {0}
 Rising (a ∷ []) = Unit {0}
 Rising (a ∷ (b ∷ l)) = (a.read < b.read) × Rising (b ∷ l)
 
 -- of each read the warning that names the first nulling
-pub record AreFirsts (found firsts : List Warning) : Type 0 where
+pub record AreFirsts (found firsts : List FlowWarning) : Type 0 where
   pub rising : Rising firsts
-  pub only : (w : Warning) → Contains firsts w → Contains found w
+  pub only : (w : FlowWarning) → Contains firsts w → Contains found w
   pub all : (k r : ℕ) → Contains found (warning r k) → HasWarning firsts k r

@@ -1,4 +1,4 @@
-// The pass back over the steps: what stands at the end of a turn of each loop, for one variable.
+// The backward pass over the steps: what holds at the end of a turn of each loop, for one variable.
 
 ghost use Rattle.std.specs.Prelude.{◌≡◌, OnOk, IfOk, true};
 ghost use Rattle.sharc_dataflow.specs.Sums.{only, nulled};
@@ -10,14 +10,14 @@ use crate::step::Step;
 use crate::way::{Way, Ways};
 use std::alloc::{AllocError, Global};
 
-/// What is known at a step when all behind it are gone over.
+/// What is known at a step when all after it have been gone over.
 #[derive(Drop)]
 pub struct Sums {
     /// What the steps from here to the end of the innermost open piece do.
     now: Ways,
-    /// What those behind the open pieces do, the innermost last.
+    /// What those after the open pieces do, the innermost last.
     waiting: Vec<Ways>,
-    /// What stands at the end of a turn of each loop, the last loop first.
+    /// What holds at the end of a turn of each loop, the last loop first.
     heads: Vec<Option<u32>>,
 }
 
@@ -108,7 +108,7 @@ impl Sums {
     }
 }
 
-/// What stands at the end of a turn of each loop, the last loop first.
+/// What holds at the end of a turn of each loop, the last loop first.
 pub(crate) fn heads_of(
     alloc: Global,
     x: u32,

@@ -1,4 +1,4 @@
-// The pass forth over the steps: what stands where the variable is read.
+// The forward pass over the steps: what holds where the variable is read.
 
 ghost use Rattle.std.specs.Prelude.{◌≡◌, ◌++◌, OnOk, IfOk, true};
 ghost use Rattle.sharc_dataflow.specs.declared.step.Step.TheVariants.{Fork, Other, Join, Catch, Caught, Head, Again};
@@ -8,19 +8,19 @@ ghost use Rattle.sharc_dataflow.specs.Views.{view_tells};
 
 use crate::stack::pop_token;
 use crate::step::Step;
-use crate::way::{Standing, Warning, lower};
+use crate::way::{FlowWarning, Standing, lower};
 use std::alloc::{AllocError, Global};
 
 /// What is known at a step when all before it are gone over.
 #[derive(Drop)]
 pub struct Tells {
-    /// The least nulling that stands here and at the exits.
+    /// The least nulling that holds here and at the exits.
     stand: Standing,
-    /// What stood at the exits and the beginnings of the open pieces, the innermost last.
+    /// What held at the exits and the beginnings of the open pieces, the innermost last.
     waiting: Vec<Option<u32>>,
-    /// What stands at the end of a turn of each loop to come, the last loop first.
+    /// What holds at the end of a turn of each loop to come, the last loop first.
     heads: Vec<Option<u32>>,
-    found: Vec<Warning>,
+    found: Vec<FlowWarning>,
 }
 
 impl Standing {
@@ -65,11 +65,11 @@ impl Standing {
     }
 }
 
-fn read(token: u32, stands: Option<u32>, found: &mut Vec<Warning>) -> Result<(), AllocError>
+fn read(token: u32, stands: Option<u32>, found: &mut Vec<FlowWarning>) -> Result<(), AllocError>
     ensures { OnOk result (found.new.items ≡ found.old.items ++ warn_read true token stands) }
 {
     if let Some(since) = stands {
-        found.push(Warning { read: token, since })?;
+        found.push(FlowWarning { read: token, since })?;
     }
     Ok(())
 }
@@ -177,14 +177,14 @@ impl Tells {
     }
 }
 
-/// Adds the warnings about a variable, by what stands at the end of a turn of each loop.
+/// Adds the warnings about a variable, by what holds at the end of a turn of each loop.
 pub(crate) fn tell(
     alloc: Global,
     x: u32,
     steps: &[Step],
     heads: Vec<Option<u32>>,
-    found: Vec<Warning>,
-) -> Result<Vec<Warning>, AllocError>
+    found: Vec<FlowWarning>,
+) -> Result<Vec<FlowWarning>, AllocError>
     ensures { IfOk result (λ v. v.items ≡ (told x steps.now (tell_start heads.items found.items)).found) }
 {
     let mut tells = Tells {

@@ -27,7 +27,7 @@ impl Variables {
     }
 }
 
-/// What is kept of a piece of code, and where what is left out behind it leads.
+/// What is kept of a piece of code, and where what is left out after it leads.
 #[derive(Drop)]
 pub struct Piece {
     kept: Vec<Step>,

@@ -4,10 +4,10 @@ ghost use Rattle.std.specs.Prelude.{◌≡◌, None, OnOk, IfOk};
 ghost use Rattle.sharc_dataflow.specs.Orders.{IsInOrder, is_read, first_each};
 ghost use Rattle.sharc_dataflow.specs.Uses.{AreFirsts};
 
-use crate::way::Warning;
+use crate::way::FlowWarning;
 use std::alloc::{AllocError, Global};
 
-fn put_in_order(found: &mut Vec<Warning>) -> Result<(), AllocError>
+fn put_in_order(found: &mut Vec<FlowWarning>) -> Result<(), AllocError>
     ensures { OnOk result (IsInOrder found.old.items found.new.items) }
 {
     found.sort_by_key(|w| (w.read, w.since))?;
@@ -24,7 +24,7 @@ fn is_read(last: Option<u32>, read: u32) -> bool
 }
 
 /// Those that do not warn of the same read as the one before.
-fn first_each(alloc: Global, sorted: &[Warning]) -> Result<Vec<Warning>, AllocError>
+fn first_each(alloc: Global, sorted: &[FlowWarning]) -> Result<Vec<FlowWarning>, AllocError>
     ensures { IfOk result (λ v. v.items ≡ first_each None sorted.now) }
 {
     let mut firsts = Vec::new(alloc);
@@ -38,8 +38,8 @@ fn first_each(alloc: Global, sorted: &[Warning]) -> Result<Vec<Warning>, AllocEr
     Ok(firsts)
 }
 
-/// Of each read the warning that names the first nulling, in the order of the reads. It is refused for want of memory only.
-pub fn firsts(alloc: Global, found: Vec<Warning>) -> Result<Vec<Warning>, AllocError>
+/// Of each read the warning that names the first nulling, in the order of the reads. It is refused only where memory runs out.
+pub fn firsts(alloc: Global, found: Vec<FlowWarning>) -> Result<Vec<FlowWarning>, AllocError>
     ensures { IfOk result (λ v. AreFirsts found.items v.items) }
 {
     let mut sorted = found;

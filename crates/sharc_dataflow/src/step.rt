@@ -9,13 +9,13 @@ pub enum Step {
     Null(u32, u32),
     /// The variable is written.
     Write(u32),
-    /// Control goes behind the innermost loop.
+    /// Control goes to what follows the innermost loop.
     Break,
     /// Control goes to the end of the innermost piece between `Catch` and `Caught`.
     Continue,
     /// Control leaves the code.
     Return,
-    /// One of two pieces begins, which are parted by `Other` and ended by `Join`.
+    /// One of two pieces begins, which are separated by `Other` and ended by `Join`.
     Fork,
     Other,
     Join,

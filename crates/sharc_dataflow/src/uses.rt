@@ -11,7 +11,7 @@ use crate::back::heads_of;
 use crate::forth::tell;
 use crate::narrow::{Variables, narrowed};
 use crate::step::Step;
-use crate::way::Warning;
+use crate::way::FlowWarning;
 use std::alloc::{AllocError, Global};
 
 /// Adds the warnings about a variable.
@@ -19,8 +19,8 @@ fn about(
     alloc: Global,
     x: u32,
     steps: &[Step],
-    found: Vec<Warning>,
-) -> Result<Vec<Warning>, AllocError>
+    found: Vec<FlowWarning>,
+) -> Result<Vec<FlowWarning>, AllocError>
     ensures { IfOk result (λ v. (c : Code) → steps.now ≡ listing c → v.items ≡ found.items ++ warns x c None) }
 {
     let heads = heads_of(alloc, x, steps)?;
@@ -83,8 +83,8 @@ fn about_all(
     alloc: Global,
     list: &[u32],
     steps: &[Step],
-    found: Vec<Warning>,
-) -> Result<Vec<Warning>, AllocError>
+    found: Vec<FlowWarning>,
+) -> Result<Vec<FlowWarning>, AllocError>
     ensures { IfOk result (λ v. (c : Code) → steps.now ≡ listing c → v.items ≡ found.items ++ all_warns c list.now) }
 {
     match list {
@@ -103,12 +103,12 @@ fn about_all(
 }
 
 /// Adds the reads of nulled variables in code that is written down as these steps, in any order. It goes over the steps as often as the variables that they
-/// null can be halved. It is refused for want of memory only.
+/// null can be halved. It is refused only where memory runs out.
 pub fn nulled_reads(
     alloc: Global,
     steps: &[Step],
-    found: Vec<Warning>,
-) -> Result<Vec<Warning>, AllocError>
+    found: Vec<FlowWarning>,
+) -> Result<Vec<FlowWarning>, AllocError>
     ensures { IfOk result (λ v. (c : Code) → steps.now ≡ listing c → AddsUses c found.items v.items) }
 {
     let list = nulled(alloc, steps)?;

@@ -3,7 +3,7 @@
 ghost use Rattle.std.specs.Prelude.{◌≡◌};
 ghost use Rattle.sharc_dataflow.specs.Sums.{lower as lower_of, free, closed, follow as followed, either as joined, only, then_of, either_of, caught_of, loop_of};
 
-/// The paths through a piece of code to one of its exits: the least token of a nulling in it that stands there, and whether a path from the start
+/// The paths through a piece of code to one of its exits: the least token of a nulling in it that holds there, and whether a path from the start
 /// comes there with no write.
 #[derive(Clone, Copy, Drop)]
 pub struct Way {
@@ -135,7 +135,7 @@ impl Ways {
     }
 }
 
-/// The least token of a nulling that stands here, and at the exits to which breaks and continues have led.
+/// The least token of a nulling that holds here, and at the exits to which breaks and continues have led.
 #[derive(Clone, Copy, Drop)]
 pub struct Standing {
     pub next: Option<u32>,
@@ -143,9 +143,9 @@ pub struct Standing {
     pub continued: Option<u32>,
 }
 
-/// A read, and the first nulling that stands there on some path, each by its token.
+/// A read, and the first nulling that holds there on some path, each by its token.
 #[derive(Clone, Copy, PartialEq, Eq, Debug, Drop)]
-pub struct Warning {
+pub struct FlowWarning {
     pub read: u32,
     pub since: u32,
 }

@@ -87,7 +87,7 @@ module _ (m : Assignment) (z : Standing) (scope : List Slot) where
       (answers_as : (mode : CellMode) (x : ℤ) → answer_of (value_in s.frame.variables) (act mode) x ≡ answer_of (λ token. pos 0) (act mode) x)
       (f : CellMode → Run B) (k : B → State → Fin) (k' : ℤ → State → Fin)
       (f_is : (mode : CellMode) (u : State) → fin_then (f mode u) k ≡ fin_then (happens u.answers site (act mode) u) k') where
-    -- what the source goes on with behind the event
+    -- what the source goes on with after the event
     abbrev Goes : ℕ → ℕ → Type 0
     Goes pc c = (v : ℤ) (answers : List ℤ) (events : List SourceEvent) → Same z.flat s.fuel c (k' v (after_event s answers events)) answers (lands pc v (after_event s answers events))
 
@@ -174,7 +174,7 @@ module _ (m : Assignment) (z : Standing) (scope : List Slot) where
         (λ x. refl)
         (λ x rest_of. behind_read (is_null x) x (pc + 1) c rest_of (s.events ++ event_of site (acts.Read at_guard modes.Readonly) x ∷ []) refl mode at rest)))))
 
-    -- where the guard's statement stands, and that of the access behind it
+    -- where the guard's statement lies, and that of the access after it
     module _ (i r first n : ℕ) (lvalue : Lvalue) (t : Target) (cell_is : cell ≡ cell_of cell.object (first + field_of t))
         (guard : Option ℕ) (guard_is : (mutex : ℕ) (u : State) → guard ≡ Some mutex → cell_at z.flat.globals (place z 0 ints refs u) (guard_cell z.flat.globals mutex i r t) ≡ cell_of cell.object (first + mutex)) where
       abbrev ctx : Context

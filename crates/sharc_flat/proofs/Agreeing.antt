@@ -143,7 +143,7 @@ int_at (x ∷ rest) token i r h = int_here i r x rest token (x.token == token) x
 abbrev pub below : List Frame → List ℤ
 below callers = flat_map held_by_frame (reverse callers)
 
--- where a frame stands: the thread's function, the machine's callers, the frame's first registers, and the source's callers
+-- where a frame is: the thread's function, the machine's callers, the frame's first registers, and the source's callers
 pub record Standing : Type 0 where
   pub flat : Flat
   pub function : ℕ
@@ -156,7 +156,7 @@ pub record Standing : Type 0 where
 abbrev pub place : Standing → ℕ → (ℕ → ℤ) → (ℕ → ℤ) → State → At
 place z pc ints refs s = record { pc = pc; int_base = z.ints; ref_base = z.refs; ints = ints; refs = refs; frames = z.frames; pending = pos 0; function = z.function; events = s.events; given = s.given_up }
 
--- The variables are those of the scope, with these temporaries; each integer stands in its register, and the references in theirs, with some behind them that the
+-- The variables are those of the scope, with these temporaries; each integer is in its register, and the references in theirs, with some after them that the
 -- source holds in no temporary.
 pub record Agree (z : Standing) (T : List ℤ) (scope : List Slot) (loose : List ℤ) (int_bank ref_bank : ℕ → ℤ) (s : State) : Type 0 where
   pub callers : s.callers ≡ z.callers
@@ -181,7 +181,7 @@ module _ (z : Standing) where
   stack_more T vs L v = append_assoc (below z.callers) (pointers_among vs ++ (T ++ L)) (v ∷ [])
       ∙ ap (λ l. below z.callers ++ l) (append_assoc (pointers_among vs) (T ++ L) (v ∷ []) ∙ ap (λ l. pointers_among vs ++ l) (append_assoc T L (v ∷ [])))
 
-  -- one more stands behind
+  -- one more comes after them
   pub push : (T : List ℤ) (scope : List Slot) (L : List ℤ) (v : ℤ) (n : ℕ) (ints refs : ℕ → ℤ) (s : State) → n ≡ ref_count scope + length T + length L → Agree z T scope L ints refs s → Agree z T scope (L ++ v ∷ []) ints (put refs (z.refs + n) v) s
   push T scope L v n ints refs s e a = record {
     callers = a.callers;
@@ -201,7 +201,7 @@ module _ (z : Standing) where
     refs = bank_pop refs _ (z.refs + n) v (ap (λ k. z.refs + k) e ∙ sym (stack_length T scope s.frame.variables L a.shape)) (bank_is _ _ _ (sym (stack_more T s.frame.variables L v)) a.refs);
   }
 
-  -- what stands there
+  -- what is there
   pub last_is : (T : List ℤ) (scope : List Slot) (L : List ℤ) (v : ℤ) (more : List ℤ) (n : ℕ) (ints refs : ℕ → ℤ) (s : State) → n ≡ ref_count scope + length T + length L → Agree z T scope (L ++ v ∷ more) ints refs s → refs (z.refs + n) ≡ v
   last_is T scope L v more n ints refs s e a =
       let t : below z.callers ++ (pointers_among s.frame.variables ++ (T ++ (L ++ v ∷ more))) ≡ (below z.callers ++ (pointers_among s.frame.variables ++ (T ++ L))) ++ v ∷ more =
@@ -209,7 +209,7 @@ module _ (z : Standing) where
       ∙ ap (λ l. below z.callers ++ l) (append_assoc (pointers_among s.frame.variables) (T ++ L) (v ∷ more) ∙ ap (λ l. pointers_among s.frame.variables ++ l) (append_assoc T L (v ∷ more)))) in
       bank_at refs (below z.callers ++ (pointers_among s.frame.variables ++ (T ++ L))) v more (z.refs + n) (ap (λ k. z.refs + k) e ∙ sym (stack_length T scope s.frame.variables L a.shape)) (bank_is refs _ _ t a.refs)
 
-  -- a temporary holds what stands behind
+  -- a temporary holds what comes next
   pub hold : (T : List ℤ) (scope : List Slot) (v : ℤ) (ints refs : ℕ → ℤ) (s : State) → Agree z T scope (v ∷ []) ints refs s → Agree z (T ++ v ∷ []) scope [] ints refs (record s { frame = with_temporary v s.frame })
   hold T scope v ints refs s a = record {
     callers = a.callers;
@@ -219,7 +219,7 @@ module _ (z : Standing) where
     refs = bank_is refs _ _ (ap (λ l. below z.callers ++ (pointers_among s.frame.variables ++ l)) (sym (append-nil (T ++ v ∷ [])))) a.refs;
   }
 
-  -- an integer register behind the variables changes
+  -- an integer register after the variables changes
   pub with_int : (T : List ℤ) (scope : List Slot) (L : List ℤ) (i : ℕ) (v : ℤ) (ints refs : ℕ → ℤ) (s : State) → int_count scope ≤ i → Agree z T scope L ints refs s → Agree z T scope L (put ints (z.ints + i) v) refs s
   with_int T scope L i v ints refs s le a = record {
     callers = a.callers;
@@ -242,7 +242,7 @@ module _ (z : Standing) where
 abbrev pub loose_of : Bool → ℤ → List ℤ
 loose_of is_ref v = if is_ref then v ∷ [] else []
 
--- where the value of an expression of this type stands
+-- where the value of an expression of this type is
 pub record Valued (z : Standing) (kind : Kind) (T : List ℤ) (scope : List Slot) (i : ℕ) (v : ℤ) (ints ints' refs' : ℕ → ℤ) (s' : State) : Type 0 where
   pub agree : Agree z T scope (loose_of (is_reference kind) v) ints' refs' s'
   pub kept : (k : ℕ) → k < z.ints + i → ints' k ≡ ints k

@@ -1,4 +1,4 @@
--- Globals lie one behind the other.
+-- Globals lie one after the other.
 use Rattle.std.proofs.Common.{◌≡◌, ℕ, zero, suc, ◌+◌, ◌*◌, ◌/◌, ◌<◌, ◌≤◌, List, [], ◌∷◌, length, refl, ap, arith}
 use Rattle.std.specs.Prelude.{slice_index_or}
 use Rattle.sharc_tree.specs.declared.tree.item.GlobalDefinition.{GlobalDefinition}
@@ -12,7 +12,7 @@ use Rattle.sharc_flat.specs.Tables.{cells_in, granules_in, globals_from, globals
 half : (n : ℕ) → n ≤ 2 * ((n + 1) / 2)
 half n = omega arith
 
--- the cells of a global lie behind the first
+-- the cells of a global lie after the first
 behind : (r : Resolution) (at : ℕ) (gs : List GlobalDefinition) (g : ℕ) → g < length (globals_from r at gs) → at ≤ (slice_index_or (globals_from r at gs) g no_global).granule
 behind r at [] g lt = absurd (omega arith)
 behind r at (x ∷ rest) zero lt = omega arith

@@ -43,7 +43,7 @@ module _ (m : Assignment) (z : Standing) (kind : Kind) (ints0 : ℕ → ℤ) whe
   abbrev S : List Slot → List ℤ → (ℕ → ℤ) → (ℕ → ℤ) → State → Type 0
   S scope L ints refs s = Stand m z kind ints0 scope L ints refs s
 
-  -- ---- what an lvalue names is not moved by what comes behind it
+  -- ---- what an lvalue names is not moved by what comes after it
   lies_kept : (scope : List Slot) (t : Target) (guard : Option ℕ) (i : ℕ) (ints ints' : ℕ → ℤ) (bases : List ℤ) (p : Place) → ((n : ℕ) → n < z.ints + (i + index_width t guard) → ints' n ≡ ints n) → Lies m z scope t guard i ints bases p → Lies m z scope t guard i ints' bases p
   lies_kept scope (targets.variable x) guard i ints ints' bases p kept h = h
   lies_kept scope (in_global g f) guard i ints ints' bases p kept h = h
@@ -60,7 +60,7 @@ module _ (m : Assignment) (z : Standing) (kind : Kind) (ints0 : ℕ → ℤ) whe
   store_code_is scope i r vi vr site lvalue mode b (in_object f) e = refl
   store_code_is scope i r vi vr site lvalue mode b (in_object_at f) e = refl
 
-  -- what is behind the base and the index of a place
+  -- what comes after the base and the index of a place
   base_of : (b : Bool) (bases : List ℤ) → BasesOf b bases → (r n : ℕ) → r ≡ n + 0 → r + cond b 1 0 ≡ n + length bases
   base_of b bases h r n e = omega (arith, bases_count b bases h)
 

@@ -1,4 +1,4 @@
--- Banks of registers that hold a list from their first register on, and NULL behind it.
+-- Banks of registers that hold a list from their first register on, and NULL after it.
 use Rattle.std.proofs.Common.{◌≡◌, ℕ, ◌+◌, ◌<◌, ◌≤◌, true, false, List, [], ◌∷◌, ◌++◌, length, get_or, refl, sym, ap, ◌∙◌, subst, ⊎_elim, arith, length-append}
 use Rattle.std.specs.Prelude.{ℤ, pos, set, ◌==◌}
 use Rattle.std.proofs.lemmas.Bool.{cases_eq, cases_lt}
@@ -30,7 +30,7 @@ bank_set bank xs n v lt h k = ⊎_elim
     (λ (ne : k ≡ n → ⊥). put_other bank n v k ne ∙ h k ∙ sym (get_or-set_other xs n k v (pos 0) ne))
     (cases_eq k n)
 
--- the one behind all
+-- the one after all
 pub bank_push : (bank : ℕ → ℤ) (xs : List ℤ) (n : ℕ) (v : ℤ) → n ≡ length xs → Bank bank xs → Bank (put bank n v) (xs ++ v ∷ [])
 bank_push bank xs n v e h k = ⊎_elim
     (λ (is : k ≡ n). put_at bank n k v is ∙ sym (get_or_at xs v [] (pos 0) k (sym (is ∙ e))))
@@ -62,7 +62,7 @@ bank_put bank xs v w ys n e h =
     let lt : n < length (xs ++ v ∷ ys) = omega (arith, length-append xs (v ∷ ys)) in
     subst (Bank (put bank n w)) (set_at xs v ys w n (sym e)) (bank_set bank (xs ++ v ∷ ys) n w lt h)
 
--- NULL goes behind all
+-- NULL goes after all
 pub bank_null : (bank : ℕ → ℤ) (xs : List ℤ) (n : ℕ) → length xs ≤ n → Bank bank xs → Bank (put bank n (pos 0)) xs
 bank_null bank xs n le h k = ⊎_elim
     (λ (is : k ≡ n). put_at bank n k (pos 0) is ∙ sym (get_or_past xs k (pos 0) (omega arith)))

@@ -52,7 +52,7 @@ pops_length [] r = refl
 pops_length (v ∷ L) r = ap suc (pops_length L (r + 1))
 
 module _ (z : Standing) where
-  -- variables that end still stand in their registers
+  -- variables that end are still in their registers
   pub loosen_variables : (scope : List Slot) (n : ℕ) (X : List ℤ) (ints refs : ℕ → ℤ) (s : State) → Agree z [] scope X ints refs s → Agree z [] (take n scope) (pointers_among (drop n s.frame.variables) ++ X) ints refs (without_variables n s)
   loosen_variables scope n X ints refs s a =
       let V = s.frame.variables in
@@ -71,7 +71,7 @@ module _ (z : Standing) where
         refs = bank_is refs _ _ (ap (λ l. below z.callers ++ (l ++ X)) P ∙ ap (λ l. below z.callers ++ l) (append_assoc (pointers_among (take n V)) (pointers_among (drop n V)) X)) a.refs;
       }
 
-  -- the variables behind the first n end, and what is loose behind them stays
+  -- the variables after the first n end, and what is loose after them stays
   pub block_ends : {A : Type 0} (scope : List Slot) (n : ℕ) (Z X : List ℤ) (pc c : ℕ) (x : A) (ints refs : ℕ → ℤ) (s : State) (k : A → State → Fin) → AllNull Z → HasAt z.flat.lines pc (ends_from scope n) → Agree z [] scope (Z ++ X) ints refs s
       → ((refs' : ℕ → ℤ) (N : List ℤ) → AllNull N → ref_count (take n scope) + length N ≡ ref_count scope + length Z → Agree z [] (take n scope) (N ++ X) ints refs' (without_variables n s)
       → Same z.flat s.fuel (c + ref_count (take n scope)) (k x (without_variables n s)) s.answers (place z (pc + length (ends_from scope n)) ints refs' (without_variables n s)))

@@ -46,7 +46,7 @@ module _ (m : Assignment) (z : Standing) (scope : List Slot) where
       (subst (λ q. Same z.flat s.fuel (c + 1 + 0) (k [] s) s.answers (place z q ints refs s)) p
       (rest [] ints refs s refl (subst (λ t. Agree z t scope [] ints refs s) (sym (append-nil T)) a) (λ n lt. refl) (λ j lt. absurd (omega arith))))
 
-  -- what comes behind one argument more, by whether it is a reference
+  -- what comes after one argument more, by whether it is a reference
   abbrev Behind : Bool → List Kind → List ℤ → ℕ → ℕ → ℕ → (ℕ → ℤ) → (List ℤ → State → Fin) → Type 0
   Behind b kinds T i pc c ints k = (v : ℤ) (vs : List ℤ) (ints' refs' : ℕ → ℤ) (s' : State) → length vs ≡ length kinds → Agree z (T ++ cond b (v ∷ refs_of kinds vs) (refs_of kinds vs)) scope [] ints' refs' s' → ((n : ℕ) → n < z.ints + i → ints' n ≡ ints n)
       → ((j : ℕ) → j < length (cond b (ints_of kinds vs) (v ∷ ints_of kinds vs)) → ints' (z.ints + (i + j)) ≡ get_or (cond b (ints_of kinds vs) (v ∷ ints_of kinds vs)) j (pos 0))
@@ -101,7 +101,7 @@ module _ (m : Assignment) (z : Standing) (scope : List Slot) where
       values_more i v xs bank e h zero lt = let q : i + 0 ≡ i = omega arith in ap (λ n. bank (z.ints + n)) q ∙ e
       values_more i v xs bank e h (suc j) lt = let q : i + suc j ≡ i + 1 + j = omega arith in ap (λ n. bank (z.ints + n)) q ∙ h j (omega arith)
 
-  -- an argument for a parameter of this type, and those behind it
+  -- an argument for a parameter of this type, and those after it
   pub argument_runs : (kind ka : Kind) (kinds : List Kind) (e : Expression) (of_a : Run ℤ) (ca : ℕ → ℕ → List Op) (more : Run (List ℤ)) (cs : ℕ → ℕ → List Op) → ka ≡ kind_at m.typed e → is_reference ka ≡ is_pointer kind → (is_pointer kind ≡ false → is_integer ka ≡ true) → (is_integer kind ≡ true → is_integer ka ≡ true)
       → RunsAs m z scope ka 0 of_a ca → ArgumentsAs kinds more cs
       → ArgumentsAs (kind ∷ kinds) (passed m.typed (kind ∷ kinds) e of_a >>= λ v. more >>= λ vs. give (v ∷ vs))

@@ -59,7 +59,7 @@ module _ (m : Assignment) (z : Standing) (scope : List Slot) where
       weaken z.flat s.fuel c (c + 1) fin s.answers _ (omega arith)
       (subst (λ q. Same z.flat s.fuel c fin s.answers (place z q ints refs s)) q0 (rest ints a (λ n lt. refl) (e ∙ truth_same t)))
 
-  -- two references, which are given up behind the comparison
+  -- two references, which are given up after the comparison
   pub compare_runs : (b : Bool) (ka kb kind : Kind) (ea eb : Expression) (site : Site) (f : ℤ → ℤ → Result ℤ ℕ) (of_a of_b : Run ℤ) (ca cb : ℕ → ℕ → List Op) → ((x y : ℤ) → f x y ≡ Ok (truth (cond b (not (is_equal x y)) (is_equal x y))))
       → ka ≡ kind_at m.typed ea → kb ≡ kind_at m.typed eb → is_reference ka ≡ true → is_reference kb ≡ true → is_reference kind ≡ false → RunsAs m z scope ka 0 of_a ca → RunsAs m z scope kb 0 of_b cb
       → RunsAs m z scope kind 0 (temporarily (operand m.typed ea of_a >>= λ x. operand m.typed eb of_b >>= λ y. resulting site (f x y)))

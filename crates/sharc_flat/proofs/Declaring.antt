@@ -197,7 +197,7 @@ module _ (m : Assignment) (z : Standing) (kind : Kind) (ints0 : ℕ → ℤ) whe
         made = inl (i, r, refl, refl, r0, λ h. w.value (ints_same h));
       })))))
 
-  -- ---- a loop behind what its head begins with
+  -- ---- a loop after what its head begins with
   pub headed_runs : (a : Around) (scope more : List Slot) (need gain : ℕ) (first : Run (Unit {0})) (fc : List Op) (test : Run Bool) (ct : ℕ → List Op) (update : Run (Unit {0})) (cs : List Op) (body : Run Flow) (cb : ℕ → ℕ → List Op) (pc0 : ℕ)
       → StepAs m z kind ints0 scope (scope ++ more) need first fc → DecidesAs m z kind ints0 (scope ++ more) gain test ct → ((n : ℕ) → length (ct n) ≡ length (ct 0)) → StepAs m z kind ints0 (scope ++ more) (scope ++ more) 0 update cs
       → StatementAs m z kind ints0 (looping a (pc0 + length fc + 1) (pc0 + length fc + 2)) (Here m z kind ints0 (scope ++ more)) (scope ++ more) (scope ++ more) 0 body (λ at. cb pc0 at)

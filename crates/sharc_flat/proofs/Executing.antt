@@ -27,12 +27,12 @@ use Rattle.sharc_flat.specs.Scope.{ends_from, leaves}
 use Rattle.sharc_flat.specs.Flattened.{Around, result_code, zero_code}
 
 module _ (m : Assignment) (z : Standing) (kind : Kind) (ints0 : ℕ → ℤ) where
-  -- the variables of a scope stand, and the callers' integers are untouched
+  -- the variables of a scope are in place, and the callers' integers are untouched
   pub record Stand (scope : List Slot) (L : List ℤ) (int_bank ref_bank : ℕ → ℤ) (s : State) : Type 0 where
     pub agree : Agree z [] scope L int_bank ref_bank s
     pub kept : (n : ℕ) → n < z.ints → int_bank n ≡ ints0 n
 
-  -- how a function is left with a value: the blocks end, and what makes the result stands behind
+  -- how a function is left with a value: the blocks end, and what makes the result comes after
   pub record Returning (scope : List Slot) (marks : List ℕ) (site : Site) (v : ℤ) (pc : ℕ) (int_bank ref_bank : ℕ → ℤ) (s : State) : Type 0 where
     pub tail : List Op
     pub code : HasAt z.flat.lines pc (leaves scope marks ++ tail)
@@ -84,7 +84,7 @@ module _ (m : Assignment) (z : Standing) (kind : Kind) (ints0 : ℕ → ℤ) whe
       (λ f. weaken z.flat f (c + need + ref_count scope) (c + ref_count scope + 7) _ s.answers _ (omega arith)
       (of_run (pc + 1) c ints refs (record s { fuel = f }) k has.1 (stand_same scope [] ints refs s (record s { fuel = f }) refl refl st) (after_at a leaving _ _ scope' c k end rest))))
 
-  -- the line that tells the end of a block
+  -- the line that marks the end of a block
   pub closed_runs : (a : Around) (scope : List Slot) (need : ℕ) (run : Run Flow) (code : ℕ → List Op) → StatementAs a (Here scope) scope scope need run code
       → StatementAs a (Here scope) scope scope (need + 1) run (λ pc. code pc ++ op.BlockEnd ∷ [])
   closed_runs a scope need run code of_run pc c ints refs s k has st rest =

@@ -133,7 +133,7 @@ module _ (m : Assignment) (z : Standing) (scope : List Slot) where
           (rest (value_of s x) ints refs1 u (ref_valued m z scope kind T i (value_of s x) ints ints refs1 u e
           (subst (λ v. Agree z T scope (v ∷ []) ints refs1 u) w.value a1) (λ n lt. refl)))))
 
-  -- ---- what stands where a place lies
+  -- ---- what is where a place lies
   value_code_is : (i r : ℕ) (site : Site) (lvalue : Lvalue) (mode : Sharing) (b : Bool) (t : Target) → is_cell t ≡ true → value_code ctx i r site lvalue mode b t ≡ cell_value_code ctx i r site lvalue mode b t
   value_code_is i r site lvalue mode b (targets.variable x) e = absurd (cc)
   value_code_is i r site lvalue mode b (in_global g f) e = refl

@@ -1,4 +1,4 @@
--- The jumps of the code of a statement stay in it or lead directly behind it, or to the places of the loop around it.
+-- The jumps of the code of a statement stay in it or lead directly after it, or to the places of the loop around it.
 use Rattle.std.proofs.Common.{◌≡◌, ◌==◌, ℕ, ◌+◌, ◌<◌, ◌≤◌, Bool, true, false, cond, List, [], ◌∷◌, ◌++◌, length, take, drop, Option, Some, None, refl, sym, ap, ◌∙◌, subst, arith, length-append, append_assoc}
 use Rattle.sharc_tree.specs.declared.token.Site.{Site}
 use Rattle.sharc_tree.specs.declared.token.Span.{Span}
@@ -27,7 +27,7 @@ use Rattle.sharc_flat.specs.Suits.{IfThere}
 use Rattle.sharc_flat.proofs.Staying.{Knows, KnowsPlace, OpStays, Stays, joins, choose, guards, drops_base, widths_stay, truths_stay, expressions_stay, places_stay}
 use Rattle.sharc_code.specs.declared.code.GlobalCells.{GlobalCells}
 
--- ---- what is known of the calls in statements; and break and continue stand in loops
+-- ---- what is known of the calls in statements; and break and continue are in loops
 abbrev pub KnowsRight : (ℕ → Type 0) → Resolution → Right → Type 0
 KnowsRight Fn r (value e) = Knows Fn r e
 KnowsRight Fn r (malloc s n w) = IfThere (Knows Fn r) n
@@ -76,7 +76,7 @@ front_is m globals pc f =
     let R = op.Return (at_site f.body.last) ∷ [] in
     ap (λ l. op.Enter ∷ l) (sym (append_assoc code (ends ++ zero_is) R ∙ ap (λ l. code ++ l) (append_assoc ends zero_is R)))
 
--- a variable's reference stands below all that is free
+-- a variable's reference is below all that is free
 named_below : (xs : List Slot) (i r token n : ℕ) → register_from i r xs token ≡ Reference n → n < r + ref_count xs
 named_below [] i r token n e = absurd (cc)
 named_below (x ∷ rest) i r token n e = by (x.token == token) x.is_pointer (named_below rest i (r + 1) token n) (named_below rest (i + 1) r token n) e
@@ -91,7 +91,7 @@ named_below (x ∷ rest) i r token n e = by (x.token == token) x.is_pointer (nam
     by false true f g e = let q = f e in omega arith
     by false false f g e = g e
 
--- what stands behind is of the same program
+-- what comes after is of the same program
 behind_known : (P : Resolution → Type 0) (c : Context) (f : First) → P c.program.typed → P (behind_first c f).program.typed
 behind_known P c nothing h = h
 behind_known P c (declares l) h = h
@@ -179,7 +179,7 @@ module _ (A Fn : ℕ → Type 0) where
   steps c None h = tt
   steps c (Some x) h = simples c (ints_of c) (refs_of c) x (omega arith) h
 
-  -- what decides, and what stands behind it
+  -- what decides, and what comes after it
   turns : (c : Context) (e : Option Expression) (over : ℕ) (ys : List Op) → over ≤ length ys → IfThere (Knows Fn c.program.typed) e → S ys → S (turn_code c e over ++ ys)
   turns c None over ys le k h = h
   turns c (Some e) over ys le k h = subst S (sym (append_assoc (test_code c e) (op.SkipIfZero (ints_of c) over ∷ []) ys))
@@ -206,7 +206,7 @@ module _ (A Fn : ℕ → Type 0) where
   part : (from n to k : ℕ) → from ≤ to → to + k ≤ from + n → Within from n → Within to k
   part from n to k le ge w q l1 l2 = w q (omega arith) (omega arith)
 
-  -- a loop, whose body is told with its length and what it does
+  -- a loop, whose body is given with its length and what it does
   loops : (c : Context) (e : Option Expression) (pc : ℕ) (step B : List Op) → IfThere (Knows Fn c.program.typed) e → S step → S B → A (pc + 3) → S (turns_code pc step (turn_code c e (length B + length step + 1)) B)
   loops c e pc step B t h k w =
       let J = op.Jump (pc + 3) ∷ [] in

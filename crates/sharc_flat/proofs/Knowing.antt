@@ -1,4 +1,4 @@
--- What a program that suits says of its calls: each names a function. And break and continue stand in loops.
+-- What a program that suits says of its calls: each names a function. And break and continue are in loops.
 use Rattle.std.proofs.Common.{◌≡◌, ℕ, zero, suc, Bool, true, false, List, [], ◌∷◌, Option, Some, None}
 use Rattle.sharc_tree.specs.declared.tree.expression.Access.{Access}
 use Rattle.sharc_tree.specs.declared.tree.expression.Access.TheVariants.{Dot, Arrow}
@@ -110,7 +110,7 @@ module _ (F : ℕ → Type 0) where
   step_know c k None h = tt
   step_know c k (Some x) h = simple_know c k x h
 
-  -- behind what stands first in the head of a `for` the program is the same
+  -- after what comes first in the head of a `for` the program is the same
   loops_in : (c : Context) (f : First) (b : Bool) (test : Option Expression) (step : Option Simple) → Known c → IfThere (TestSuits (in_first c f)) test → IfThere (SimpleSuits (in_first c f)) step
       → IfThere (Knows F c.program.typed) test × IfThere (KnowsSimple F c.program.typed) step
   loops_in c nothing b test step k t h = (test_know c k test t, step_know c k step h)

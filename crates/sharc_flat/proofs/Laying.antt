@@ -1,4 +1,4 @@
--- The machine does not look at texts: code that is laid out does what the code does whose texts are told.
+-- The machine does not look at texts: code that is laid out does what the code does whose texts are given.
 use Rattle.std.proofs.Common.{◌≡◌, ℕ, zero, suc, ◌+◌, ◌-◌, Bool, true, false, ◌≤◌, cond, List, [], ◌∷◌, ◌++◌, length, nat_lt, Option, Some, None, inl, inr, ⊎_elim, refl, ap, sym, ◌∙◌, subst, arith}
 use Rattle.std.specs.Prelude.{ℤ, pos, negsuc, Result, Ok, Err, slice_get, slice_index_or, not}
 use Rattle.sharc_tree.specs.declared.event.Act.TheVariants as acts
@@ -138,7 +138,7 @@ rows_same of h bytes (x ∷ xs) (y ∷ ys) (n ∷ ns) a (suc f) = rows_same of h
 same_as : (c d : Came) (a : Asked) → d ≡ c → SameAs c a → SameAs d a
 same_as c d a e h = subst (λ d. SameAs d a) (sym e) h
 
--- what is said of code with told texts holds of code that is laid out
+-- what is said of code with given texts holds of code that is laid out
 pub laid_asks_the_same : (m : Assignment) (bytes : List ℕ) (names : List (List ℕ)) (told code : Flat) → Lays m.typed bytes names told code → AsksTheSame m told → AsksTheSame m code
 laid_asks_the_same m bytes names told code lays h = subst (AsksTheSame m) (sym code_is) (record { forth = forth; back = back })
   where

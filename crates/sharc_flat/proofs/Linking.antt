@@ -62,7 +62,7 @@ has_all (o ∷ os) pre =
     let rest' = subst (λ l. HasAt l (length (pre ++ o ∷ [])) os) (append_assoc pre (o ∷ []) os) rest in
     (here, subst (λ k. HasAt (pre ++ o ∷ os) k os) n rest')
 
--- where the code of a function stands
+-- where the code of a function lies
 pub record Linked (m : Assignment) (globals : List GlobalCells) (code : List Op) (f : Function) (row : Row) : Type 0 where
   pub stands : HasAt code row.entry (function_code m globals row.entry f)
   pub parameter : row.parameter ≡ parameter_of f.parameters
@@ -107,7 +107,7 @@ passed_count (d ∷ ds) (v ∷ vs) h = sum_by-cons (λ d. cond (is_pointer (decl
     by false v xs n e = omega arith
 
 module _ (m : Assignment) where
-  -- calls of functions of the program, where so many frames more may stand
+  -- calls of functions of the program, where this many more frames may be open
   abbrev pub CallsAs : Calls → ℕ → Type 0
   CallsAs call n = (z : Standing) → IsFlattened m z.flat → length z.frames + n ≡ 255 → (scope : List Slot) (T : List ℤ) (f : ℕ) (fn : Function) (vs : List ℤ) (i r pc c : ℕ) (ints refs : ℕ → ℤ) (s : State) (site : Site) (k : ℤ → State → Fin)
       → function_at m.typed f ≡ Some fn → length vs ≡ length fn.parameters → slice_get z.flat.lines pc ≡ Some (op.Call f i r (at_site site)) → int_count scope ≤ i → r ≡ ref_count scope + length T
@@ -117,7 +117,7 @@ module _ (m : Assignment) where
   abbrev pub inner_scope : Standing → Function → List Slot
   inner_scope z f = (behind_statements (in_function m z.flat.globals f) f.statements).scope
 
-  -- the bodies of the functions of the program, where so many frames more may stand
+  -- the bodies of the functions of the program, where this many more frames may be open
   abbrev pub BodiesAs : Calls → ℕ → Type 0
   BodiesAs call n = (z : Standing) → IsFlattened m z.flat → length z.frames + n ≡ 255 → (f : ℕ) (fn : Function) (ints0 : ℕ → ℤ) → function_at m.typed f ≡ Some fn
       → (Beyond m z (declared_kind fn.result) ints0 (parameters_scope fn.parameters) (inner_scope z fn))

@@ -110,7 +110,7 @@ module _ (m : Assignment) (z : Standing) (scope : List Slot) where
   chk_by true o code site pc c ints refs s k at is h rest = step z.flat o s.fuel c (k tt s) s.answers (place z pc ints refs s) (place z (pc + 1) ints refs s) at is rest
   chk_by false o code site pc c ints refs s k at is h rest = ends z.flat o (stopped code site) c s (place z pc ints refs s) h refl refl at is
 
-  -- `lock`, behind its tests
+  -- `lock`, after its tests
   lock_by : (b : Bool) (T bases : List ℤ) (t : Target) (i r pc c : ℕ) (p : Place) (site : Site) (words : Span) (ints refs : ℕ → ℤ) (s : State) (k : Unit {0} → State → Fin) → BaseAs b t i r p bases → r ≡ ref_count scope + length T
       → ((pc : ℕ) (u : State) → cell_at z.flat.globals (place z pc ints refs u) (targets.cell_of z.flat.globals i r t) ≡ cell_at_place p) → slice_get z.flat.lines pc ≡ Some (op.Lock (targets.cell_of z.flat.globals i r t) (at_words site words Other)) → Agree z (T ++ bases) scope [] ints refs s
       → ((refs' : ℕ → ℤ) (u : State) → Agree z T scope [] ints refs' u → Same z.flat u.fuel c (k tt u) u.answers (place z (pc + 1) ints refs' u))
@@ -170,7 +170,7 @@ module _ (m : Assignment) (z : Standing) (scope : List Slot) where
   null_one zero = refl
   null_one (suc n) = refl
 
-  -- `unlock`, behind its test
+  -- `unlock`, after its test
   unlock_by : (b : Bool) (T bases : List ℤ) (t : Target) (i r pc c : ℕ) (p : Place) (site : Site) (ints refs : ℕ → ℤ) (s : State) (k : Unit {0} → State → Fin) → BaseAs b t i r p bases → r ≡ ref_count scope + length T
       → ((pc : ℕ) (u : State) → cell_at z.flat.globals (place z pc ints refs u) (targets.cell_of z.flat.globals i r t) ≡ cell_at_place p)
       → HasAt z.flat.lines pc (op.Unlock (r + cond b 1 0) (targets.cell_of z.flat.globals i r t) (at_site site) ∷ cond b (op.Pop (r + 1) ∷ op.Pop r ∷ []) []) → Agree z (T ++ bases) scope [] ints refs s

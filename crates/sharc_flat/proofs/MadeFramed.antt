@@ -1,4 +1,4 @@
--- Code that is laid out stays within its frames, as the code does whose texts are told.
+-- Code that is laid out stays within its frames, as the code does whose texts are given.
 use Rattle.std.proofs.Common.{◌≡◌, ℕ, zero, suc, ◌+◌, ◌*◌, ◌^◌, ◌<◌, max, List, [], ◌∷◌, length, Option, Some, None, refl, ap, sym, ◌∙◌, subst, arith}
 use Rattle.std.specs.Prelude.{slice_get, slice_index_or, fold}
 use Rattle.sharc_code.specs.declared.code.Function.{Function as Row}
@@ -31,7 +31,7 @@ use Rattle.sharc_flat.proofs.Laying.{same_length, rows_same}
 one_line : (o p : Op) → Some o ≡ Some p → o ≡ p
 one_line o p e = cc
 
--- a line that is made is one that is told, with other texts
+-- a line that is made is one that is given, with other texts
 record Told (told : List Op) (n : ℕ) (p : Op) : Type 0 where
   told_op : Op
   at : slice_get told n ≡ Some told_op

@@ -1,4 +1,4 @@
--- References are given up in the order in which they stand.
+-- References are given up in the order in which they lie.
 use Rattle.std.proofs.Common.{◌≡◌, ℕ, zero, suc, ◌+◌, List, [], ◌∷◌, ◌++◌, length, get_or, refl, sym, ap, ◌∙◌, subst, arith, append_assoc, length-append}
 use Rattle.std.specs.Prelude.{ℤ, pos}
 use Rattle.std.proofs.lemmas.List.{append-nil}
@@ -35,7 +35,7 @@ pop_all r [] = []
 pop_all r (v ∷ vs) = op.Pop r ∷ pop_all (r + 1) vs
 
 module _ (z : Standing) (scope : List Slot) where
-  -- nothing but NULL stands behind
+  -- nothing but NULL comes after
   pub none_behind : (T L : List ℤ) (ints refs : ℕ → ℤ) (s : State) → AllNull L → Agree z T scope L ints refs s → Agree z T scope [] ints refs s
   none_behind T L ints refs s h a =
       let P = pointers_among s.frame.variables in
@@ -65,7 +65,7 @@ module _ (z : Standing) (scope : List Slot) where
         refs = bank_is _ _ _ (sym (at (pos 0)) ∙ ap (λ l. B ++ (P ++ (T ++ l))) (sym (append_assoc Z (pos 0 ∷ []) L))) (bank_put refs (B ++ (P ++ (T ++ Z))) v (pos 0) L (z.refs + n) here (bank_is refs _ _ (at v) a.refs));
       }
 
-  -- nothing but NULL stands at the end
+  -- nothing but NULL is at the end
   pub trailing : (T L N : List ℤ) (ints refs : ℕ → ℤ) (s : State) → AllNull N → Agree z T scope (L ++ N) ints refs s → Agree z T scope L ints refs s
   trailing T L N ints refs s h a =
       let P = pointers_among s.frame.variables in
@@ -80,7 +80,7 @@ module _ (z : Standing) (scope : List Slot) where
         refs = λ k. a.refs k ∙ ap (λ l. get_or l k (pos 0)) e ∙ null_behind (B ++ (P ++ (T ++ L))) N k h;
       }
 
-  -- where the first of what is loose is given up, and others stay behind
+  -- where the first of what is loose is given up, and others stay after it
   abbrev pub PoppedUnder : List ℤ → List ℤ → List ℤ → List ℤ → ℕ → ℕ → (ℕ → ℤ) → State → Fin → Type 0
   PoppedUnder L Z X T pc c ints s fin = (refs' : ℕ → ℤ) (N : List ℤ) → AllNull N → length N ≡ length Z + length L → (let u = record s { given_up = s.given_up ++ all_released L } in Agree z T scope (N ++ X) ints refs' u → Same z.flat s.fuel c fin s.answers (place z (pc + length L) ints refs' u))
 

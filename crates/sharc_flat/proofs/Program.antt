@@ -100,7 +100,7 @@ module _ (m : Assignment) (z : Standing) (result : Kind) (ints0 : ℕ → ℤ) (
   abbrev new_op : List Slot → (ℕ → ℕ → List Op) → Span → Sharing → ℕ → ℕ → ℕ → List Op
   new_op scope counts s mode cells i r = counts i r ++ (op.ChkPositive i (at_site s.first) ∷ op.New r i cells (object_spot (C scope) s.first no_text uses.Other mode) ∷ [])
 
-  -- what stands right of `=`
+  -- the right side of `=`
   record RightRuns (scope : List Slot) (kind : Kind) (mode : Sharing) (x : Right) : Type 0 where
     kr : Kind
     same : is_reference kr ≡ is_reference kind
@@ -308,7 +308,7 @@ module _ (m : Assignment) (z : Standing) (result : Kind) (ints0 : ℕ → ℤ) (
   while_runs a scope e body cb h of_body pc c ints refs s k has st rest =
       loop_runs m z result ints0 a scope pc 1 (tested m.typed e (E e)) (turn_code (C scope) (Some e)) done [] body (λ at. cb pc at) (decides_one scope e h) (turn_length scope (Some e)) (no_step scope) (of_body pc) c k has rest ints refs s st
 
-  -- and one behind what its head begins with
+  -- and one after what its head begins with
   for_runs : (a : Around) (scope more : List Slot) (first : First) (test : Option Expression) (update : Option Simple) (body : Run Flow) (cb : ℕ → ℕ → List Op) → first_more first ≡ more → FirstSuits (C scope) first → IfThere (TestSuits (C (scope ++ more))) test → IfThere (SimpleSuits (C (scope ++ more))) update
       → ((pc : ℕ) → here (looping (record a { inside = length scope ∷ a.inside }) (pc + length (first_code (C scope) first) + 1) (pc + length (first_code (C scope) first) + 2)) (scope ++ more) (scope ++ more) 0 body (λ at. cb pc at))
       → here a scope scope 1 (in_block (done_first on_call m first >> loop (done_test on_call m test) (done_step on_call m update) body))

@@ -12,7 +12,7 @@ use Rattle.sharc_flat_form.specs.declared.op.Op.TheVariants as op
 use Rattle.sharc_flat_form.specs.Machine.{Flat, At, goes, asks, halts, Came, exec, on_turn, on_answer, with_event, line_turn, op_turn}
 use Rattle.sharc_flat.proofs.Banks.{Bank}
 
--- these statements stand in the code at this place
+-- these statements are in the code at this place
 abbrev pub HasAt : List Op → ℕ → List Op → Type 0
 HasAt code pc [] = Unit {0}
 HasAt code pc (o ∷ os) = (slice_get code pc ≡ Some o) × HasAt code (pc + 1) os
@@ -42,7 +42,7 @@ abbrev pub fin_then : {A : Type 0} → Out A → (A → State → Fin) → Fin
 fin_then (go x s) k = k x s
 fin_then (over o s) k = fin_of o s
 
--- the same events, the same end, and each reference register has what stands at its place among what is held
+-- the same events, the same end, and each reference register has what lies at its place among what is held
 pub record Tells (c : Came) (fin : Fin) : Type 0 where
   pub events : c.at.events ≡ fin.events
   pub outcome : c.outcome ≡ fin.outcome
@@ -70,7 +70,7 @@ step flat o fuel c fin answers m m' at is h = record {
   high = omega (arith, h.high);
 }
 
--- what a thread holds stands in its registers
+-- what a thread holds is in its registers
 abbrev pub Holds : (ℕ → ℤ) → State → Type 0
 Holds refs s = Bank refs (held_references s)
 
@@ -135,7 +135,7 @@ enters_at flat (suc n) c a k s m m' e holds ev gi at is h =
       high = omega (arith, r.high);
     }
 
--- behind an event
+-- after an event
 abbrev pub after_event : State → List ℤ → List SourceEvent → State
 after_event s answers events = record s { answers = answers; events = events; given_up = [] }
 

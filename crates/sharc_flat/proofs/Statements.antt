@@ -85,7 +85,7 @@ module _ (m : Assignment) (z : Standing) (kind : Kind) (ints0 : ℕ → ℤ) whe
       (of_run pc (c + 1) ints refs s (λ _ u. k next u) has st (λ ints1 refs1 s1 st1. rest.next_runs ints1 refs1 s1 st1)))
 
   -- ---- tests
-  -- on to what stands behind, or over so many statements
+  -- on to what follows, or over this many statements
   abbrev pub DecidesAs : List Slot → ℕ → Run Bool → (ℕ → List Op) → Type 0
   DecidesAs scope gain run code = (n pc c : ℕ) (ints refs : ℕ → ℤ) (s : State) (k : Bool → State → Fin) → HasAt z.flat.lines pc (code n) → S scope [] ints refs s
       → ((ints' refs' : ℕ → ℤ) (s' : State) → S scope [] ints' refs' s' → Same z.flat s'.fuel (c + gain + ref_count scope) (k true s') s'.answers (place z (pc + length (code n)) ints' refs' s'))

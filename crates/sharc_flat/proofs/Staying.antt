@@ -1,4 +1,4 @@
--- Forward jumps of the code of an expression stay in it, or lead directly behind it, and it has no other jumps.
+-- Forward jumps of the code of an expression stay in it, or lead directly after it, and it has no other jumps.
 use Rattle.std.proofs.Common.{◌≡◌, ℕ, ◌+◌, ◌≤◌, Bool, true, false, cond, List, [], ◌∷◌, ◌++◌, length, drop, Option, Some, None, refl, arith, length-append}
 use Rattle.std.specs.Prelude.{codes, ◌||◌}
 use Rattle.std.specs.Str.{bytes_eq}
@@ -104,7 +104,7 @@ access_map Dot f g h = f h
 access_map Arrow f g h = g h
 
 module _ (A F : ℕ → Type 0) where
-  -- an operation with so many behind it: a jump leads over them at most, or to one of these places
+  -- an operation with this many after it: a jump leads over them at most, or to one of these places
   abbrev pub OpStays : ℕ → Op → Type 0
   OpStays rest (op.Skip k) = k ≤ rest
   OpStays rest (op.SkipIfZero i k) = k ≤ rest

@@ -108,7 +108,7 @@ module _ (m : Assignment) (z : Standing) (scope : List Slot) where
             (bank_is (put refs (z.refs + p.n) w) _ _ set_is (bank_set refs (B ++ (P ++ (T ++ L))) (z.refs + p.n) w lt a.refs));
       }
 
-  -- the last temporary is none any more, and stands in its register still
+  -- the last temporary is no longer one, and is still in its register
   let_go : (T : List ℤ) (v : ℤ) (ints refs : ℕ → ℤ) (s : State) → Agree z (T ++ v ∷ []) scope [] ints refs s → Agree z T scope (v ∷ []) ints refs (record s { frame = without_temporaries 1 s.frame })
   let_go T v ints refs s a =
       let l : length s.frame.temporaries - 1 ≡ length T = omega (arith, ap length a.temporaries, length-append T (v ∷ [])) in

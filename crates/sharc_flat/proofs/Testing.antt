@@ -54,7 +54,7 @@ not_not true = refl
 not_not false = refl
 
 module _ (m : Assignment) (z : Standing) (scope : List Slot) where
-  -- a test, and the register that tells it
+  -- a test, and the register that holds its result
   abbrev pub RestTest : List ℤ → ℕ → ℕ → ℕ → (ℕ → ℤ) → (Bool → State → Fin) → Type 0
   RestTest T i pc c ints k = (b : Bool) (ints' refs' : ℕ → ℤ) (s' : State) → Agree z T scope [] ints' refs' s' → ((n : ℕ) → n < z.ints + i → ints' n ≡ ints n) → is_zero (ints' (z.ints + i)) ≡ not b → Same z.flat s'.fuel c (k b s') s'.answers (place z pc ints' refs' s')
 

@@ -61,7 +61,7 @@ use Rattle.sharc_meaning.specs.Laws.{SpentIsNone}
 use Rattle.std.specs.Prelude.{◌≢◌}
 use Rattle.std.proofs.lemmas.Bool.{cases_lt}
 
--- one event, at a place behind the code too
+-- one event, also at a place after the code
 asks_turn : (flat : Flat) (site : Site) (act : Act) (c : ℕ) (s : State) (w : At) (k : ℤ → State → Fin) → Holds w.refs s → w.events ≡ s.events → w.given ≡ s.given_up → turn flat w ≡ asks w site act (pos 0) (λ v n. on n)
     → ((x : ℤ) → answer_of (value_in s.frame.variables) act x ≡ answer_of (λ token. pos 0) act x)
     → ((x : ℤ) (rest : List ℤ) → Same flat s.fuel c (k x (after_event s rest (s.events ++ event_of site act x ∷ []))) rest (on (with_event (event_of site act x) w)))

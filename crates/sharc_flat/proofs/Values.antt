@@ -1,4 +1,4 @@
--- Runs of values and places, and what stands in registers behind them.
+-- Runs of values and places, and what is in the registers after them.
 use Rattle.std.proofs.Common.{◌≡◌, ℕ, ◌+◌, ◌-◌, ◌<◌, ◌≤◌, Bool, true, false, cond, List, [], ◌∷◌, ◌++◌, length, take, drop, Option, Some, None, refl, sym, ap, ◌∙◌, subst, arith, append_assoc}
 use Rattle.std.specs.Prelude.{ℤ, pos, ◌&&◌, ◌||◌, nat_lt, ◌==◌}
 use Rattle.std.proofs.lemmas.Bool.Decides.{nat_tests}
@@ -65,7 +65,7 @@ variable_int z T scope L ints refs s x h a =
     record { n = w.n; register = reg ∙ ap Int e; value = a.ints w.n within ∙ sym w.value; within = within }
 
 -- ---- what ends
--- temporaries that end still stand in their registers
+-- temporaries that end are still in their registers
 pub loosen : (z : Standing) (T : List ℤ) (scope : List Slot) (bases L : List ℤ) (ints refs : ℕ → ℤ) (s : State) → Agree z (T ++ bases) scope L ints refs s → Agree z T scope (bases ++ L) ints refs (without (length T) s)
 loosen z T scope bases L ints refs s a = record {
   callers = a.callers;
@@ -166,7 +166,7 @@ module _ (m : Assignment) (z : Standing) (scope : List Slot) where
   pub ref_valued : (kind : Kind) (T : List ℤ) (i : ℕ) (v : ℤ) (ints ints' refs' : ℕ → ℤ) (s' : State) → is_reference kind ≡ true → Agree z T scope (v ∷ []) ints' refs' s' → ((k : ℕ) → k < z.ints + i → ints' k ≡ ints k) → Valued z kind T scope i v ints ints' refs' s'
   ref_valued kind T i v ints ints' refs' s' e a kept = record { agree = subst (λ b. Agree z T scope (loose_of b v) ints' refs' s') (sym e) a; kept = kept; value = λ h. absurd (apart kind e h) }
 
-  -- From the first of these statements on the run is made, with so many turns more than it leaves; the value goes to its register.
+  -- From the first of these statements on the run is made, with this many turns more than it leaves; the value goes to its register.
   abbrev pub RunsAs : Kind → ℕ → Run ℤ → (ℕ → ℕ → List Op) → Type 0
   RunsAs kind need run code = (T : List ℤ) (i r pc c : ℕ) (ints refs : ℕ → ℤ) (s : State) (k : ℤ → State → Fin) → HasAt z.flat.lines pc (code i r) → int_count scope ≤ i → r ≡ ref_count scope + length T → Agree z T scope [] ints refs s
       → Rest z kind T scope i (pc + length (code i r)) (c + 6) ints k → Same z.flat s.fuel (c + need) (fin_then (run s) k) s.answers (place z pc ints refs s)

@@ -11,8 +11,8 @@ use Rattle.sharc_flat.specs.Flattened.{in_function}
 use Rattle.sharc_flat.specs.Suits.{StatementsSuit}
 use Rattle.sharc_code.specs.declared.code.GlobalCells.{GlobalCells}
 
--- The same events and answers, the same end or want, the same references given up since the last event; and each reference register of the thread has what stands at
--- its place among what the source holds, or NULL behind all of it.
+-- The same events and answers, the same end or want, the same references given up since the last event; and each reference register of the thread has what lies at
+-- its place among what the source holds, or NULL after all of it.
 pub record SameAs (c : Came) (a : Asked) : Type 0 where
   pub events : c.at.events ≡ a.events
   pub outcome : c.outcome ≡ a.outcome
@@ -30,7 +30,7 @@ pub record MayStart (m : Assignment) (f : ℕ) : Type 0 where
   pub parameters : length function.parameters ≤ 1
   pub result : is_reference (declared_kind function.result) ≡ false
 
--- What a thread asks for with this fuel, flat code asks for after so many turns: at least one for each statement and expression that was entered, at most eight for
+-- What a thread asks for with this fuel, flat code asks for after this many turns: at least one for each statement and expression that was entered, at most eight for
 -- each, and eight more.
 pub record Forth (m : Assignment) (flat : Flat) (f : ℕ) (argument : ℤ) (answers : List ℤ) (fuel : ℕ) : Type 0 where
   pub turns : ℕ
@@ -41,7 +41,7 @@ pub record Forth (m : Assignment) (flat : Flat) (f : ℕ) (argument : ℤ) (answ
   pub low : entered ≤ turns
   pub high : turns ≤ 8 * entered + 8
 
--- What flat code has come to after so many turns lies on the way to what a thread asks for with some fuel, or is that.
+-- What flat code has come to after this many turns lies on the way to what a thread asks for with some fuel, or is that.
 pub record Back (m : Assignment) (flat : Flat) (f : ℕ) (argument : ℤ) (answers : List ℤ) (turns : ℕ) : Type 0 where
   pub fuel : ℕ
   pub later : ℕ

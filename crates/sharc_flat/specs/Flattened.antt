@@ -85,7 +85,7 @@ named_code c i r site lvalue mode is_ref (named.Variable x) = value_code c i r s
 named_code c i r site lvalue mode is_ref (named.Global g) = value_code c i r site lvalue mode is_ref (in_global g 0)
 named_code c i r site lvalue mode is_ref _ = []
 
--- what stands at the top of its bank
+-- what is at the top of its bank
 abbrev pub drop_code : Bool → ℕ → List Op
 drop_code is_ref r = if is_ref then op.Pop r ∷ [] else []
 
@@ -135,7 +135,7 @@ unary_code c i r s Complement a code = code ++ op.Complement i i ∷ []
 unary_code c i r s Dereference a code =
     pointee_code r s.first code ++ value_code c i r s.first (lvalue_in c (unary s Dereference a)) (mode_of c (unary s Dereference a)) (is_ref c (unary s Dereference a)) (target_of c (unary s Dereference a))
 
--- the registers behind a value
+-- the registers after a value
 abbrev pub behind_int : Bool → ℕ → ℕ
 behind_int is_ref i = if is_ref then i else i + 1
 
@@ -267,13 +267,13 @@ abbrev mutual
   expression_code c i r (unary s o a) = op.Enter ∷ unary_code c i r s o a (expression_code c i r a)
   expression_code c i r (binary s o at a b) = op.Enter ∷ binary_code c i r at o a b (expression_code c i r a) (λ i2 r2. expression_code c i2 r2 b)
 
-  -- each argument in the registers behind those before it
+  -- each argument in the registers after those before it
   pub arguments_code : Context → ℕ → ℕ → List Kind → Arguments → List Op
   arguments_code c i r kinds no_arguments = []
   arguments_code c i r kinds (argument a rest) = expression_code c i r a
       ++ (passed_code i kinds (span_of a).first ++ arguments_code c (behind_int (is_ref c a) i) (behind_ref (is_ref c a) r) (drop 1 kinds) rest)
 
-  -- what an lvalue names, for this field of it if one is told, and with the pointer to a mutex in that field of the same element
+  -- what an lvalue names, for this field of it if one is given, and with the pointer to a mutex in that field of the same element
   pub place_code : Context → ℕ → ℕ → Site → Option ℕ → Option ℕ → Expression → List Op
   place_code c i r site f guard (identifier s x) = op.Enter ∷ []
   place_code c i r site f guard (parentheses s a) = op.Enter ∷ place_code c i r site f guard a
@@ -299,7 +299,7 @@ simple_code c i r (assign s u x) = place_code c i r (span_of u).first None (guar
     ++ store_code c i r (i + index_width (target_of c u) (guard_of c u)) (r + base_width (target_of c u)) (span_of u).first (lvalue_in c u) (mode_of c u) (is_ref c u) (target_of c u))
 simple_code c i r (does_call e) = expression_code c i r e ++ drop_code (is_ref c e) r
 
--- a variable that begins, as the last that stands
+-- a variable that begins, as the last one in scope
 abbrev pub with_variable : Context → Declaration → Context
 with_variable c d = record c { scope = c.scope ++ slot_of d ∷ [] }
 
@@ -315,7 +315,7 @@ zero_code is_ref i r = if is_ref then op.Null r ∷ [] else op.Constant i (pos 0
 abbrev pub declared_lvalue : Declaration → Lvalue
 declared_lvalue d = record { words = record { first = d.name.site; last = d.name.site }; bare = d.name.site.token; is_simple = false }
 
--- behind its declaration
+-- after its declaration
 abbrev pub initial_code : Context → Declaration → Option Right → List Op
 initial_code c d None = []
 initial_code c d (Some x) = right_code c (ints_of c) (refs_of c) (declared_kind d.written) (pointed c.program (Some (declared_row c.program.typed written d.name.site.token))) x
@@ -342,13 +342,13 @@ step_code c (Some x) = simple_code c (ints_of c) (refs_of c) x
 abbrev pub test_code : Context → Expression → List Op
 test_code c e = expression_code c (ints_of c) (refs_of c) e ++ truth_code (is_ref c e) (ints_of c) (refs_of c)
 
--- what decides whether there is a turn more: it leads over so many statements where there is none
+-- what decides whether there is a turn more: it leads over this many statements where there is none
 abbrev pub turn_code : Context → Option Expression → ℕ → List Op
 turn_code c None over = []
 turn_code c (Some e) over = test_code c e ++ op.SkipIfZero (ints_of c) over ∷ []
 
--- Where a statement stands in its function: the type of the function's result, the places of the innermost loop to which break and continue lead, and how many
--- variables stood where each open block begins, within that loop and around it, the innermost first.
+-- Where a statement is in its function: the type of the function's result, the places of the innermost loop to which break and continue lead, and how many
+-- variables there were where each open block begins, within that loop and around it, the innermost first.
 pub record Around : Type 0 where
   pub result : Kind
   pub broken : ℕ
@@ -375,7 +375,7 @@ return_code c a site None = leaves c.scope (a.inside ++ a.outside) ++ (zero_code
 return_code c a site (Some e) = expression_code c (ints_of c) (refs_of c) e ++ (width_code (ints_of c) a.result (span_of e).first
     ++ (leaves c.scope (a.inside ++ a.outside) ++ (result_code (is_reference a.result) (ints_of c) (refs_of c) ++ op.Return (at_site site) ∷ [])))
 
--- What is done where a test is met, at this place. The parts are told by where they stand, and what decides by the number of statements that it leads over.
+-- What is done where a test is met, at this place. The parts are given by where they lie, and what decides by the number of statements that it leads over.
 abbrev pub if_code : ℕ → (ℕ → List Op) → (ℕ → List Op) → List Op
 if_code pc turn body = turn (length (body (pc + length (turn 0)))) ++ body (pc + length (turn 0))
 
@@ -386,8 +386,8 @@ sides_code pc turn first second = turn (length first + 1) ++ (first ++ (op.Skip 
 abbrev pub choice_code : ℕ → (ℕ → List Op) → (ℕ → List Op) → (ℕ → List Op) → List Op
 choice_code pc turn first second = sides_code pc turn (first (pc + length (turn 0))) second
 
--- A loop at this place: over the two ways, the way out, the way to the step, what decides, the body, the step, and back to what decides. The body is told by where it
--- stands, and what decides by the length of what it leads over.
+-- A loop at this place: over the two ways, the way out, the way to the step, what decides, the body, the step, and back to what decides. The body is given by where
+-- it lies, and what decides by the length of what it leads over.
 abbrev pub turns_code : ℕ → List Op → List Op → List Op → List Op
 turns_code pc step turn body =
     op.Skip 2 ∷ op.Skip (length turn + length body + length step + 2) ∷ op.Skip (length turn + length body)
@@ -471,7 +471,7 @@ AreRows m globals pc [] rows = rows ≡ []
 AreRows m globals pc (f ∷ rest) [] = ⊥
 AreRows m globals pc (f ∷ rest) (row ∷ rows) = IsRow m globals pc f row × AreRows m globals (pc + length (function_code m globals pc f)) rest rows
 
--- flat code is that of a program, with texts that are told by tokens
+-- flat code is that of a program, with texts that are given by tokens
 pub record IsFlattened (m : Assignment) (flat : Flat) : Type 0 where
   pub lines : flat.lines ≡ functions_code m flat.globals 0 (functions_in m.typed.program.items)
   pub functions : AreRows m flat.globals 0 (functions_in m.typed.program.items) flat.functions

@@ -133,7 +133,7 @@ field_behind r (named.Variable x) n = name_of (slice_get (fields_behind r (decla
 field_behind r _ n = []
 
 -- The path of a lock, as reports print it: its names where it is one of the global or through a variable; where it is that of a sibling, the lvalue without the
--- parentheses around it, with its last token replaced by the mutex's name; and with a `*` before, where that is a pointer to the mutex. The lock is told by the
+-- parentheses around it, with its last token replaced by the mutex's name; and with a `*` before, where that is a pointer to the mutex. The lock is given by the
 -- first token of that lvalue and by the token of the path's first name.
 abbrev pub beside_words : Resolution → Text → Text → List ℕ
 beside_words r lvalue lock = words_of r lock.from (lvalue.until - 1 - (lock.from - lvalue.from)) ++ text_at r lock.until

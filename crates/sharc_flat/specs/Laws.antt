@@ -33,7 +33,7 @@ FlattenedIsFramed = (m : Assignment) → ProgramSuits m → (flat : Flat) → Is
 abbrev pub IsThereCode : Type 0
 IsThereCode = (m : Assignment) (globals : List GlobalCells) → (flat : Flat) × IsFlattened m flat × (flat.globals ≡ globals)
 
--- what is said of code whose texts are told holds of code with its texts where they lie
+-- what is said of code whose texts are given holds of code with its texts where they lie
 abbrev pub LaidAsksTheSame : Type 0
 LaidAsksTheSame = (m : Assignment) (bytes : List ℕ) (names : List (List ℕ)) (told made : Flat) → Lays m.typed bytes names told made → AsksTheSame m told → AsksTheSame m made
 

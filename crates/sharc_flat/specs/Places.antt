@@ -1,6 +1,6 @@
--- What an lvalue names in flat code, and the accesses of what it names. The base of a cell of an object stands in the first free reference register, and the number
+-- What an lvalue names in flat code, and the accesses of what it names. The base of a cell of an object is in the first free reference register, and the number
 -- of a cell that is found by an index in the first free integer register. Where the mutex of an element is read behind a pointer, the number of that pointer's cell
--- stands in the next one.
+-- is in the next one.
 use Rattle.std.specs.Prelude.{ℕ, ◌+◌, Bool, true, false, ◌&&◌, ◌||◌, List, [], ◌∷◌, ◌++◌, Option, Some, None, if◌then◌else◌}
 use Rattle.sharc_tree.specs.declared.ctype.Base.{Base}
 use Rattle.sharc_tree.specs.declared.ctype.Base.TheVariants as base
@@ -51,7 +51,7 @@ global_of (in_global g n) = g
 global_of (in_global_at g n) = g
 global_of _ = 0
 
--- the field of an element that is told by what stands around it, else its own
+-- the field of an element that is given by what is around it, else its own
 abbrev pub own_field : Option ℕ → ℕ → ℕ
 own_field None n = n
 own_field (Some f) n = f
@@ -142,7 +142,7 @@ is_simple_element r (index s a i) = (names_variable r a || (names_global r a && 
 is_simple_element r _ = false
 
 -- A simple place is a cell that is named by `x->f`, `*x`, `x[c]` or `x[c].f` with `x` a pointer variable and `c` a number, or by a global `g`, or by `g.f`, `g[c]` or
--- `g[c].f` with `g` a global that is no pointer (own).
+-- `g[c].f` with `g` a global that is no pointer.
 abbrev pub is_simple_place : Resolution → Expression → Bool
 is_simple_place r (identifier s i) = is_global (named_at r i.site.token)
 is_simple_place r (index s a i) = is_simple_element r (index s a i)
@@ -158,7 +158,7 @@ bare_token e = (span_of e).first.token
 abbrev pub lvalue_of : Resolution → Expression → Lvalue
 lvalue_of r e = record { words = span_of e; bare = bare_token e; is_simple = is_simple_place r e }
 
--- Until it is laid out, the text of a lock is told by two tokens: that of the lvalue without the parentheses around it, and that of its first name.
+-- Until it is laid out, the text of a lock is given by two tokens: that of the lvalue without the parentheses around it, and that of its first name.
 abbrev pub lock_words : Lvalue → Sharing → Text
 lock_words lvalue (locked l) = record { from = lvalue.bare; until = l.first }
 lock_words lvalue _ = no_text
@@ -243,7 +243,7 @@ abbrev pub bounds_code : (ℕ → ℕ → Op) → ℕ → ℕ → Option ℕ →
 bounds_code bounds i n None = bounds i n ∷ []
 bounds_code bounds i n (Some mutex) = op.Move (i + 1) i ∷ bounds i n ∷ bounds (i + 1) mutex ∷ []
 
--- `a[i]`, by the code of `a` as an array and as a pointer, and that of `i` behind them
+-- `a[i]`, by the code of `a` as an array and as a pointer, and that of `i` after them
 abbrev pub index_code : Context → ℕ → ℕ → Site → Option ℕ → Option ℕ → Expression → List Op → List Op → (ℕ → List Op) → List Op
 index_code c i r site f guard a of_array of_pointer number =
     if is_array (kind_at c.program.typed a)
@@ -267,7 +267,7 @@ guard_code c i r site lvalue t (Some mutex) =
 abbrev pub drop_base : ℕ → Target → List Op
 drop_base r t = if has_base t then op.Pop r ∷ [] else []
 
--- the reference in the register behind the base takes the base's place
+-- the reference in the register after the base takes the base's place
 abbrev pub settle_base : ℕ → Target → List Op
 settle_base r t = if has_base t then op.Settle r (r + 1) ∷ [] else []
 
@@ -287,7 +287,7 @@ abbrev pub value_code : Context → ℕ → ℕ → Site → Lvalue → Sharing 
 value_code c i r site lvalue mode is_ref (variable x) = copy_code i r (register_of c.scope x)
 value_code c i r site lvalue mode is_ref t = cell_value_code c i r site lvalue mode is_ref t
 
--- The value in these registers goes to what it names, of which the registers are those told first.
+-- The value in these registers goes to what it names, whose registers are those given first.
 abbrev pub settle_code : ℕ → ℕ → Register → List Op
 settle_code i r (Int x) = op.Move x i ∷ []
 settle_code i r (Reference x) = op.Settle x r ∷ []

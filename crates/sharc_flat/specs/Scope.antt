@@ -1,4 +1,4 @@
--- Which registers hold the variables that stand: those of a frame are its first ones, in the order of their declarations, each in the bank of its type.
+-- Which registers hold the variables in scope: those of a frame are its first ones, in the order of their declarations, each in the bank of its type.
 use Rattle.std.specs.Prelude.{ℕ, ◌+◌, ◌==◌, Bool, false, List, [], ◌∷◌, ◌++◌, take, drop, Option, Some, None, if◌then◌else◌}
 use Rattle.sharc_tree.specs.declared.token.Site.{Site}
 use Rattle.sharc_tree.specs.declared.token.Span.{Span}
@@ -49,13 +49,13 @@ abbrev pub number_in : Register → ℕ
 number_in (Int i) = i
 number_in (Reference r) = r
 
--- where an expression stands: the program, its globals' places, and the variables that stand there
+-- where an expression is: the program, its globals' places, and the variables in scope there
 pub record Context : Type 0 where
   pub program : Assignment
   pub globals : List GlobalCells
   pub scope : List Slot
 
--- Until it is laid out, a text is told by tokens: those from the first number up to the second.
+-- Until it is laid out, a text is given by tokens: those from the first number up to the second.
 abbrev pub no_text : Text
 no_text = record { from = 0; until = 0 }
 
@@ -70,7 +70,7 @@ no_cell = Global 0 0
 abbrev pub at_site : Site → Spot
 at_site site = record { site = site; lvalue = no_text; lock_text = no_text; mode = Racy; at = Other; lock = no_cell; is_simple = false }
 
--- the same, of an lvalue or an expression that is told with it
+-- the same, of an lvalue or an expression that is given with it
 abbrev pub at_words : Site → Span → Use → Spot
 at_words site words use_made = record (at_site site) { lvalue = tokens_in words; at = use_made }
 
@@ -79,11 +79,11 @@ abbrev pub pops : ℕ → List Slot → List Op
 pops r [] = []
 pops r (x ∷ rest) = if x.is_pointer then op.Pop r ∷ pops (r + 1) rest else pops r rest
 
--- the variables behind the first n end
+-- the variables after the first n end
 abbrev pub ends_from : List Slot → ℕ → List Op
 ends_from scope n = pops (ref_count (take n scope)) (drop n scope)
 
--- blocks end one after the other, the innermost first; each began where so many variables stood
+-- blocks end one after the other, the innermost first; each began where there were this many variables
 abbrev pub leaves : List Slot → List ℕ → List Op
 leaves scope [] = []
 leaves scope (n ∷ outer) = ends_from scope n ++ leaves (take n scope) outer

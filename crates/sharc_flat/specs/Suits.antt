@@ -1,4 +1,4 @@
--- What the theorem asks of a program: what its parts name stands where they stand, and their types are as C11 has them.
+-- What the theorem asks of a program: what its parts name is in scope where they are, and their types are as C11 has them.
 use Rattle.std.specs.Prelude.{◌≡◌, ℕ, Bool, true, false, List, [], ◌∷◌, ◌++◌, Option, Some, None, zero, suc, codes, if◌then◌else◌}
 use Rattle.std.specs.Str.{bytes_eq}
 use Rattle.sharc_tree.specs.declared.tree.declaration.Declaration.{Declaration}
@@ -23,7 +23,7 @@ use Rattle.sharc_flat.specs.Scope.{slot_of, slot_kind, Context}
 use Rattle.sharc_flat.specs.declared.slot.Slot.{Slot}
 use Rattle.sharc_flat.specs.Places.{Target, variable, in_global, target, global_of, guard_field}
 
--- the variables of a lock path stand
+-- the variables of a lock path are in scope
 abbrev pub PathNamed : List Slot → Named → Option (List ℕ) → Type 0
 PathNamed scope (named.Variable x) (Some m) = slot_kind scope x ≡ Some true
 PathNamed scope _ m = Unit {0}
@@ -127,7 +127,7 @@ abbrev mutual
   ArgumentsSuit c (kind ∷ kinds) no_arguments = ⊥
   ArgumentsSuit c (kind ∷ kinds) (argument a rest) = Suits c a × Passes kind (kind_in c a) × ArgumentsSuit c kinds rest
 
-  -- so many references
+  -- this many references
   pub ReferencesSuit : Context → ℕ → Arguments → Type 0
   ReferencesSuit c zero no_arguments = Unit {0}
   ReferencesSuit c zero (argument a rest) = ⊥
@@ -151,7 +151,7 @@ abbrev pub RightSuits : Context → Kind → Sharing → Right → Type 0
 RightSuits c kind mode (value e) = Suits c e × Goes kind (kind_in c e)
 RightSuits c kind mode (malloc s n w) = (is_reference kind ≡ true) × PathStands c.program.typed c.scope mode × CountSuits c n
 
--- what is assigned to: a variable that stands, or a cell
+-- what is assigned to: a variable in scope, or a cell
 abbrev pub LeftSuits : Context → Kind → Sharing → Target → Type 0
 LeftSuits c kind mode (variable x) = slot_kind c.scope x ≡ Some (is_reference kind)
 LeftSuits c kind mode _ = (is_pointer kind ≡ is_reference kind) × PathStands c.program.typed c.scope mode

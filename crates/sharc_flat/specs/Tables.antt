@@ -20,7 +20,7 @@ cells_in r g = elements_of g.form * element_cells r (declared_kind g.declaration
 abbrev pub granules_in : Resolution → GlobalDefinition → ℕ
 granules_in r g = (cells_in r g + 1) / 2
 
--- one behind the other, from this granule on
+-- one after the other, from this granule on
 abbrev pub globals_from : Resolution → ℕ → List GlobalDefinition → List GlobalCells
 globals_from r at [] = []
 globals_from r at (g ∷ rest) = record { granule = at; cells = cells_in r g } ∷ globals_from r (at + granules_in r g) rest
@@ -33,7 +33,7 @@ abbrev pub all_granules : Resolution → List GlobalDefinition → ℕ
 all_granules r [] = 0
 all_granules r (g ∷ rest) = granules_in r g + all_granules r rest
 
--- the first cell has the initial value; all others, and that behind an odd number of cells, 0 or NULL
+-- the first cell has the initial value; all others, and that after an odd number of cells, 0 or NULL
 abbrev pub first_words : Resolution → GlobalDefinition → List ℕ
 first_words r g = take (2 * granules_in r g) (word_of (form_value g.form) ∷ replicate (2 * granules_in r g) 0)
 
@@ -47,7 +47,7 @@ abbrev pub pointers_among : ℕ → List Declaration → List ℕ
 pointers_among n [] = []
 pointers_among n (d ∷ rest) = if is_pointer (declared_kind d.written) then n ∷ pointers_among (n + 1) rest else pointers_among (n + 1) rest
 
--- those of structs whose pointers stand in the list of all of them from this place on, and of `struct cond` behind them
+-- those of structs whose pointers are in the list of all of them from this place on, and of `struct cond` after them
 abbrev pub layouts_from : ℕ → List StructDefinition → List Layout
 layouts_from at [] = record { cells = 1; from = at; until = at } ∷ []
 layouts_from at (s ∷ rest) =

@@ -21,7 +21,7 @@ pub fn is_there_code()
     ensures { IsThereCode }
 {}
 
-/// What is said of code whose texts are told holds of code with its texts where they lie.
+/// What is said of code whose texts are given holds of code with its texts where they lie.
 pub fn laid_asks_the_same()
     ensures { LaidAsksTheSame }
 {}

@@ -1,8 +1,8 @@
-// The variables that stand, and how lvalues are written.
+// The variables in scope, and how lvalues are written.
 
 use sharc_tree::token::Span;
 
-/// A variable that stands, told by the token that declares it.
+/// A variable in scope, given by the token that declares it.
 #[derive(Clone, Copy)]
 pub struct Slot {
     pub token: u32,

@@ -176,7 +176,7 @@ mode_of globals m c LockedLoaded = modes.Locked (through m.pending 0)
 abbrev pub instance_mode : List GlobalCells → At → PlaceMode → CellMode
 instance_mode globals m mode = mode_of globals m (cell_of (objects.Made 0) 0) mode
 
--- behind an access nothing is left of what was read for its lock
+-- after an access nothing is left of what was read for its lock
 abbrev pub accessed : At → At
 accessed m = record m { pending = pos 0 }
 
@@ -225,7 +225,7 @@ called flat f ints refs m = record m {
   frames = record { pc = m.pc + 1; ints = m.int_base; refs = m.ref_base } ∷ m.frames;
 }
 
--- Back to the caller. A thread that holds no mutex goes behind the last line: there it returns, and is then gone.
+-- Back to the caller. A thread that holds no mutex goes past the last line: there it returns, and is then gone.
 abbrev pub returned : Flat → List Caller → Spot → At → Turn
 returned flat [] spot m = if not (nat_lt 0 (length (held_mutexes m.events))) then goes (record m { pc = length flat.lines }) else stops returns_with_a_lock spot
 returned flat (c ∷ rest) spot m = goes (record m { pc = c.pc; int_base = c.ints; ref_base = c.refs; frames = rest })
@@ -289,7 +289,7 @@ op_turn flat (op.Spawn i f from spot) m = event spot (acts.Spawn f (argument m f
 op_turn flat (op.Join i spot) m = event spot (acts.Join (int m i)) (λ v n. n) m
 op_turn flat (op.Print i spot) m = event spot (acts.Print (int m i)) (λ v n. n) m
 
--- behind the last line the thread returns, then it is gone, and then that is the end
+-- past the last line the thread returns, then it is gone, and then that is the end
 abbrev pub end_turn : Flat → At → ℕ → Turn
 end_turn flat m zero = asks m (function_of flat m.function).site acts.Return (pos 0) (λ v n. next n)
 end_turn flat m (suc zero) = asks m (function_of flat m.function).site acts.Gone (pos 0) (λ v n. next n)
@@ -303,7 +303,7 @@ abbrev pub turn : Flat → At → Turn
 turn flat m = line_turn flat (slice_get flat.lines m.pc) m
 
 -- ---- what it asks for
--- how it comes to an end, and where it stands there
+-- how it comes to an end, and where it is then
 pub record Came : Type 0 where
   pub outcome : Outcome
   pub at : At
@@ -324,7 +324,7 @@ on_turn (goes m2) answers m go = go answers m2
 on_turn (asks m2 site act held f) answers m go = on_answer answers m2 site act held f go
 on_turn (halts o) answers m go = came o m
 
--- at most so many turns
+-- at most this many turns
 abbrev pub exec : Flat → ℕ → List ℤ → At → Came
 exec flat zero answers m = came spent m
 exec flat (suc n) answers m = on_turn (turn flat m) answers m (exec flat n)

@@ -1,9 +1,9 @@
--- Paths of flat code, by what each turn was answered: the last answer stands first. Of a turn that asks for nothing the answer is not looked at.
+-- Paths of flat code, by what each turn was answered: the last answer comes first. Of a turn that asks for nothing the answer is not looked at.
 use Rattle.std.specs.Prelude.{◌≡◌, ℕ, ℤ, ◌+◌, Bool, true, false, List, [], ◌∷◌, ◌++◌, length}
 use Rattle.sharc_meaning.specs.State.{event_of, answer_of}
 use Rattle.sharc_flat_form.specs.Machine.{Flat, At, Turn, goes, asks, halts, turn, with_event, exec}
 
--- where a thread stands after a turn that was answered so; an end changes nothing
+-- where a thread is after a turn that was answered so; an end changes nothing
 abbrev pub after : At → Turn → ℤ → At
 after m (goes m2) x = m2
 after m (asks m2 site act held f) x = let answer = answer_of (λ token. held) act x in f answer (with_event (event_of site act answer) m2)

@@ -1,4 +1,4 @@
--- Each expression whose names and types stand: the lock paths of its cell and of what it points to name pointers in scope.
+-- Each expression whose names are in scope and whose types hold: the lock paths of its cell and of what it points to name pointers in scope.
 use Rattle.std.proofs.Common.{◌≡◌, inl, inr, ℕ, zero, suc, ◌+◌, ◌<◌, Bool, true, false, cond, List, [], ◌∷◌, length, slice_get, refl, ap, sym, ◌∙◌, subst, arith, lt-ltb, Option, Some, None, is_some, bytes_eq}
 use Rattle.std.proofs.lemmas.Bool.{false≢true}
 use Rattle.std.specs.List.{AllByRecursion}

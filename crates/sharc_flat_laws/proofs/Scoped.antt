@@ -103,7 +103,7 @@ with_variable c block d names s o = record {
   slots = new_slots c d s.slots o;
 }
 
--- what is named stands
+-- what is named is in scope
 
 same_some : {A : Type 0} (x y : A) → Some x ≡ Some y → x ≡ y
 same_some x y h = cc

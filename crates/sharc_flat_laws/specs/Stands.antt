@@ -1,4 +1,4 @@
--- What stands where an expression stands: the variables that it names and those of the lock paths that it uses are in the flat scope.
+-- What holds where an expression is: the variables that it names and those of the lock paths that it uses are in the flat scope.
 use Rattle.std.specs.Prelude.{◌≡◌, ℕ, false, true, List, Option, Some, None}
 use Rattle.std.specs.List.{AllByRecursion}
 use Rattle.sharc_tree.specs.declared.tree.declaration.Declaration.{Declaration}

@@ -4,7 +4,7 @@ use crate::sources::flat;
 use std::alloc::{AllocError, Global};
 use std::test::Fail;
 
-/// A text so many times between two others.
+/// A text this many times between two others.
 fn repeated(
     alloc: Global,
     first: &str,

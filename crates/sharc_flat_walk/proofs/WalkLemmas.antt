@@ -15,7 +15,7 @@ set_at xs ys n k v e =
 set_between : (xs ys : List Op) (x v : Op) (n : ℕ) → n ≡ length xs → set (xs ++ x ∷ ys) n v ≡ xs ++ v ∷ ys
 set_between xs ys x v n e = set_at xs (x ∷ ys) n 0 v (omega arith)
 
--- a line that leads over the lines after it, and over so many more
+-- a line that leads over the lines after it, and over this many more
 pub filled : (old body : List Op) (h : Op) (make : ℕ → Op) (more n : ℕ) → n ≡ length old
     → set ((old ++ h ∷ []) ++ body) n (make (length ((old ++ h ∷ []) ++ body) - n - 1 + more)) ≡ old ++ make (length body + more) ∷ body
 filled old body h make more n e =

@@ -5,7 +5,7 @@ use Rattle.sharc_flat_walk.specs.declared.bodies.Around.{Around as RustAround}
 use Rattle.sharc_tree.specs.Spans.{span_of}
 use Rattle.sharc_tree.specs.Tree as tree
 use Rattle.sharc_mode.specs.declared.sharing.Sharing.TheVariants.{Private}
-use Rattle.sharc_flat_walk.specs.declared.spots.Access.{Access}
+use Rattle.sharc_flat_walk.specs.declared.spots.SpotAccess.{SpotAccess}
 use Rattle.sharc_flat.specs.Flattened.{Around, first_cell_of, opened, looping, simple_code, ints_of, refs_of, first_code, behind_first, step_code, turn_code, if_code, loop_code, statement_code, statements_code, behind_statements}
 use Rattle.sharc_tree.specs.declared.token.Site.{Site}
 use Rattle.sharc_tree.specs.declared.tree.expression.BinaryOperator.{BinaryOperator}
@@ -57,7 +57,7 @@ abbrev pub wait_begin : ℕ → Spot → List Op
 wait_begin r spot = op.ChkNull r spot ∷ op.ChkNull (r + 1) spot ∷ op.ChkHeld (first_cell_of (r + 1)) spot
     ∷ op.CondEnter (first_cell_of r) spot ∷ op.Unlock (r + 2) (first_cell_of (r + 1)) spot ∷ []
 
--- the right operand of `&&` and `||`: where the register is 0, it is led over, with so many operations after it
+-- the right operand of `&&` and `||`: where the register is 0, it is led over, with this many operations after it
 abbrev pub decided_code : ℕ → ℕ → List Op → List Op
 decided_code i more b = op.SkipIfZero i (length b + more) ∷ (b ++ (op.IsFalse i i ∷ op.IsFalse i i ∷ []))
 
@@ -98,7 +98,7 @@ outermost outer marks = reverse (take outer marks)
 abbrev pub around_of : RustAround → List ℕ → Around
 around_of a marks = record { result = view_kind a.result; broken = a.broken; continued = a.continued; inside = innermost a.outer marks; outside = outermost a.outer marks }
 
-abbrev pub own_access : Site → Access
+abbrev pub own_access : Site → SpotAccess
 own_access site = record {
   site = site;
   lvalue = record { words = record { first = site; last = site }; bare = site.token; is_simple = false };
@@ -127,7 +127,7 @@ abbrev pub for_in : Context → Around → ℕ → tree.Head → tree.Statement 
 for_in c a pc h x = (first_code c h.first
     ++ loop_in (behind_first c h.first) (opened c a) (pc + length (first_code c h.first)) h.test h.step x) ++ ends_from (behind_first c h.first).scope (length c.scope)
 
--- the last of so many lines leads over a turn, where a test is written
+-- the last of this many lines leads over a turn, where a test is written
 abbrev pub hole_at : Context → ℕ → Hole
 hole_at c n = record { line = n - 1; register = ints_of c }
 

@@ -20,7 +20,7 @@ use crate::places::{emit, store};
 use crate::registers::Registers;
 use crate::scope::{end_block, free, leave, slot_of};
 use crate::source::Source;
-use crate::spots::{Access, at_site, no_text, object_spot};
+use crate::spots::{SpotAccess, at_site, no_text, object_spot};
 use crate::target::Target;
 use sharc_code::Use;
 use sharc_flat::slot::{Lvalue, Slot};
@@ -171,10 +171,10 @@ fn initial(
 }
 
 /// A variable as what its declaration writes.
-fn own_access<'a>(site: Site) -> Access<'a>
+fn own_access<'a>(site: Site) -> SpotAccess<'a>
     ensures { result ≡ own_access site }
 {
-    Access {
+    SpotAccess {
         site,
         lvalue: Lvalue {
             words: Span {
@@ -240,7 +240,7 @@ fn step(
     }
 }
 
-/// What decides by a test: the last of its lines leads over so many that are not known yet.
+/// What decides by a test: the last of its lines leads over a number of lines that is not known yet.
 fn turn(
     source: &Source<'_>,
     scope: &[Slot],

@@ -27,7 +27,7 @@ use crate::patch::{Hole, skip_if_zero};
 use crate::places::{Bound, Taking, emit, index_bounds, pointee, take, value};
 use crate::registers::Registers;
 use crate::source::Source;
-use crate::spots::{Access, at_site, at_words, beside_field, cell_of, object_spot, tokens_in};
+use crate::spots::{SpotAccess, at_site, at_words, beside_field, cell_of, object_spot, tokens_in};
 use crate::target::{Target, global_of, lvalue_of, own_field, target_of};
 use sharc_code::{Use, Width};
 use sharc_ctype::typed::parameters_named;
@@ -39,12 +39,12 @@ use sharc_names::fault::Named;
 use sharc_names::kind::{declared_kind, element_kind, is_array, promoted};
 use sharc_tree::token::{Site, Span};
 use sharc_tree::tree::{
-    Access as Form, BinaryOperator, Declaration, Expr, Identifier, PlaceCall, UnaryOperator,
+    Access, BinaryOperator, Declaration, Expr, Identifier, PlaceCall, UnaryOperator,
 };
 use std::alloc::AllocError;
 
 /// An expression as an lvalue that is accessed.
-pub fn access_of<'a>(source: &'a Source<'_>, expr: &'a Expr) -> Access<'a>
+pub fn access_of<'a>(source: &'a Source<'_>, expr: &'a Expr) -> SpotAccess<'a>
     ensures site { result.site ≡ (span_of (view_expr expr.now)).first }
     ensures lvalue { result.lvalue ≡ lvalue_of source.now.m.now.typed (view_expr expr.now) }
     ensures mode { view_sharing result.mode ≡ cell_at source.now.m.now (view_expr expr.now) }
@@ -54,13 +54,13 @@ pub fn access_of<'a>(source: &'a Source<'_>, expr: &'a Expr) -> Access<'a>
 }
 
 /// The same, for this place of the source.
-fn access_at<'a>(source: &'a Source<'_>, site: Site, expr: &'a Expr) -> Access<'a>
+fn access_at<'a>(source: &'a Source<'_>, site: Site, expr: &'a Expr) -> SpotAccess<'a>
     ensures site { result.site ≡ site }
     ensures lvalue { result.lvalue ≡ lvalue_of source.now.m.now.typed (view_expr expr.now) }
     ensures mode { view_sharing result.mode ≡ cell_at source.now.m.now (view_expr expr.now) }
     ensures target { view_target result.target ≡ target source.now.m.now.typed None (view_expr expr.now) }
 {
-    Access {
+    SpotAccess {
         site,
         lvalue: lvalue_of(source, expr),
         mode: mode_of(source.m, expr),
@@ -512,7 +512,7 @@ fn binary(
     }
 }
 
-/// The right operand of `&&` or `||`: where the register is 0, the code leads over it, and so many operations after it.
+/// The right operand of `&&` or `||`: where the register is 0, the code leads over it, and this many operations after it.
 #[cycle(expression)]
 fn decided(
     source: &Source<'_>,
@@ -644,21 +644,21 @@ fn field(
     of: Option<u32>,
     guard: Option<u32>,
     base: &Expr,
-    access: Form,
+    access: Access,
     name: &Identifier,
     lines: &mut Vec<Op>,
 ) -> Result<(), AllocError>
     ensures { OnOk result (lines.new.items ≡ lines.old.items ++ field_code (context source.now scope.now) at.reference site of access name.now (λ f. place_code (context source.now scope.now) at.int at.reference site f guard (view_expr base.now)) (expression_code (context source.now scope.now) at.int at.reference (view_expr base.now))) }
 {
     match access {
-        Form::Dot => {
+        Access::Dot => {
             let own = own_field(
                 of,
                 field_named(source, source.m.typed().named(name.site.token)),
             );
             place(source, scope, at, site, Some(own), guard, base, lines)
         }
-        Form::Arrow => {
+        Access::Arrow => {
             expression(source, scope, at, base, lines)?;
             pointee(at.reference, site, lines)
         }

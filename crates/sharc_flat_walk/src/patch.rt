@@ -15,7 +15,7 @@ pub struct Hole {
     pub register: u32,
 }
 
-/// The number of a line so many lines later.
+/// The number of a line this many lines later.
 pub fn line_at(line: usize, more: usize) -> Result<u32, AllocError>
     ensures { IfOk result (λ n. n ≡ line + more) }
 {
@@ -25,7 +25,7 @@ pub fn line_at(line: usize, more: usize) -> Result<u32, AllocError>
     }
 }
 
-/// How many lines there are after this one, and so many more.
+/// How many lines there are after this one, and this many more.
 fn over(lines: &[Op], line: usize, more: usize) -> Result<u32, AllocError>
     requires { line < length lines.now }
     ensures { IfOk result (λ n. n ≡ length lines.now - line - 1 + more) }
@@ -33,7 +33,7 @@ fn over(lines: &[Op], line: usize, more: usize) -> Result<u32, AllocError>
     line_at(lines.len() - line - 1, more)
 }
 
-/// The operation on this line leads over those after it, and so many more, where its register is 0.
+/// The operation on this line leads over those after it, and this many more, where its register is 0.
 pub fn skip_if_zero(hole: Hole, more: usize, lines: &mut Vec<Op>) -> Result<(), AllocError>
     requires { hole.line < vec_len lines.old }
     ensures { OnOk result (lines.new.items ≡ slice_set lines.old.items hole.line (Op.SkipIfZero hole.register (length lines.old.items - hole.line - 1 + more))) }

@@ -13,7 +13,7 @@ ghost use Rattle.sharc_flat_walk.specs.View.{context, view_target, use_of, bound
 use crate::registers::Registers;
 use crate::scope::{number_in, register_of};
 use crate::source::Source;
-use crate::spots::{Access, at_site, at_words, cell_of, guard_cell, guard_field, spot_of};
+use crate::spots::{SpotAccess, at_site, at_words, cell_of, guard_cell, guard_field, spot_of};
 use crate::target::Target;
 use sharc_code::{PlaceMode, Register, Use};
 use sharc_flat::slot::Slot;
@@ -29,7 +29,7 @@ pub fn emit(op: Op, lines: &mut Vec<Op>) -> Result<(), AllocError>
     Ok(())
 }
 
-fn guard_spot(access: Access<'_>) -> Result<Spot, AllocError>
+fn guard_spot(access: SpotAccess<'_>) -> Result<Spot, AllocError>
     ensures { IfOk result (λ spot. spot ≡ record (at_words access.entry.site access.entry.lvalue.words uses.Read) { mode = PlaceMode.Readonly }) }
 {
     let mut spot = at_words(access.site, access.lvalue.words, Use::Read)?;
@@ -41,7 +41,7 @@ fn guard_spot(access: Access<'_>) -> Result<Spot, AllocError>
 fn guard(
     source: &Source<'_>,
     at: Registers,
-    access: Access<'_>,
+    access: SpotAccess<'_>,
     lines: &mut Vec<Op>,
 ) -> Result<(), AllocError>
     ensures { OnOk result (lines.new.items ≡ lines.old.items ++ guard_code (context source.now []) at.int at.reference access.entry.site access.entry.lvalue (view_target access.entry.target) (guard_field source.now.m.now.typed (view_sharing access.entry.mode))) }
@@ -91,7 +91,7 @@ fn cell_value(
     source: &Source<'_>,
     scope: &[Slot],
     at: Registers,
-    access: Access<'_>,
+    access: SpotAccess<'_>,
     is_ref: bool,
     lines: &mut Vec<Op>,
 ) -> Result<(), AllocError>
@@ -115,7 +115,7 @@ pub fn value(
     source: &Source<'_>,
     scope: &[Slot],
     at: Registers,
-    access: Access<'_>,
+    access: SpotAccess<'_>,
     is_ref: bool,
     lines: &mut Vec<Op>,
 ) -> Result<(), AllocError>
@@ -145,7 +145,7 @@ fn cell_store(
     scope: &[Slot],
     at: Registers,
     from: Registers,
-    access: Access<'_>,
+    access: SpotAccess<'_>,
     is_ref: bool,
     lines: &mut Vec<Op>,
 ) -> Result<(), AllocError>
@@ -168,7 +168,7 @@ pub fn store(
     scope: &[Slot],
     at: Registers,
     from: Registers,
-    access: Access<'_>,
+    access: SpotAccess<'_>,
     is_ref: bool,
     lines: &mut Vec<Op>,
 ) -> Result<(), AllocError>
@@ -222,7 +222,7 @@ fn cell_take(
     source: &Source<'_>,
     scope: &[Slot],
     at: Registers,
-    access: Access<'_>,
+    access: SpotAccess<'_>,
     taking: Taking,
     lines: &mut Vec<Op>,
 ) -> Result<(), AllocError>
@@ -241,7 +241,7 @@ pub fn take(
     source: &Source<'_>,
     scope: &[Slot],
     at: Registers,
-    access: Access<'_>,
+    access: SpotAccess<'_>,
     taking: Taking,
     lines: &mut Vec<Op>,
 ) -> Result<(), AllocError>
@@ -271,8 +271,8 @@ pub fn pointee(register: u32, site: Site, lines: &mut Vec<Op>) -> Result<(), All
     emit(Op::ChkNull(register, at_site(site)), lines)
 }
 
-/// How the number of an element becomes that of a cell: in an object in this register, or in a global of so many
-/// elements whose first cell is this one; each element has so many cells.
+/// How the number of an element becomes that of a cell: in an object in this register, or in a global of this many
+/// elements whose first cell is this one; each element has this many cells.
 #[derive(Clone, Copy)]
 pub enum Bound {
     Object {

@@ -96,21 +96,21 @@ pub fn free(scope: &[Slot]) -> Result<Registers, AllocError>
     Registers::of(int, reference)
 }
 
-/// The first so many variables.
+/// The first `began` variables.
 fn outer(scope: &[Slot], began: usize) -> &[Slot]
     ensures { result.now ≡ take began scope.now }
 {
     &scope[..began.min(scope.len())]
 }
 
-/// The variables after the first so many.
+/// The variables after the first `began`.
 fn inner(scope: &[Slot], began: usize) -> &[Slot]
     ensures { result.now ≡ drop began scope.now }
 {
     &scope[began.min(scope.len())..]
 }
 
-/// The variables after the first so many end.
+/// Ends the variables after the first `began`.
 pub fn end_block(scope: &[Slot], began: usize, lines: &mut Vec<Op>) -> Result<(), AllocError>
     ensures { OnOk result (lines.new.items ≡ lines.old.items ++ ends_from scope.now began) }
 {
@@ -118,7 +118,7 @@ pub fn end_block(scope: &[Slot], began: usize, lines: &mut Vec<Op>) -> Result<()
     pops(inner(scope, began), from, lines)
 }
 
-/// The blocks after the first so many end, the innermost first.
+/// Ends the blocks after the first `kept`, the innermost first.
 pub fn leave(
     scope: &[Slot],
     marks: &[usize],

@@ -321,7 +321,7 @@ pub(crate) fn object_spot(
 
 /// An lvalue that is accessed: where, how it is written, the mode of its cell, and what it names.
 #[derive(Clone, Copy)]
-pub struct Access<'a> {
+pub struct SpotAccess<'a> {
     pub site: Site,
     pub lvalue: Lvalue,
     pub mode: Sharing<'a>,
@@ -333,7 +333,7 @@ pub(crate) fn spot_of(
     source: &Source<'_>,
     scope: &[Slot],
     registers: Registers,
-    access: Access<'_>,
+    access: SpotAccess<'_>,
     at: Use,
 ) -> Result<Spot, AllocError>
     ensures { IfOk result (λ spot. spot ≡ spot_of (context source.now scope.now) registers.int registers.reference access.entry.site access.entry.lvalue at (view_sharing access.entry.mode) (view_target access.entry.target)) }

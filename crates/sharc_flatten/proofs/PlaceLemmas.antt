@@ -80,7 +80,7 @@ words (t ∷ rest) (suc i) (suc k) more h l =
     ∙ (words rest i k more (omega arith) (omega arith)
     ∙ ap (λ x. tokens_text (take x (drop i rest))) (sym n))))
 
--- ---- as the code finds them: by the first and the last of the tokens, where there are so many
+-- ---- as the code finds them: by the first and the last of the tokens, where there are that many
 within : (from until all : ℕ) → min (until - from) (all - from) ≡ min until all - from
 within from until all = omega arith
 

@@ -23,7 +23,7 @@ pub struct Globals {
     pub initial: Vec<u64>,
 }
 
-/// The granules of so many cells, two of which are one granule.
+/// The granules of this many cells, two of which are one granule.
 fn granules_of(cells: u32) -> u32
     ensures { result ≡ (cells + 1) / 2 }
 {
@@ -41,7 +41,7 @@ fn add_zeros(count: u64, words: &mut Vec<u64>) -> Result<(), AllocError>
     Ok(())
 }
 
-/// The words of so many granules, all 0 but the first.
+/// The words of this many granules, all 0 but the first.
 fn add_words(granules: u32, first: u64, words: &mut Vec<u64>) -> Result<(), AllocError>
     ensures { OnOk result (words.new.items
         ≡ words.old.items ++ take (2 * granules) (first ∷ replicate (2 * granules) 0)) }
@@ -56,7 +56,7 @@ fn add_words(granules: u32, first: u64, words: &mut Vec<u64>) -> Result<(), Allo
 impl Globals {
     ghost use Rattle.std.specs.Prelude.{◌≡◌, ◌+◌, ◌*◌, ◌/◌, [], ◌∷◌, ◌++◌, replicate, take, OnOk};
 
-    /// One global more, with so many cells, of which the first holds this word.
+    /// One global more, with this many cells, of which the first holds this word.
     fn add(&mut self, cells: u32, first: u64) -> Result<(), AllocError>
         ensures list { OnOk result (self.new.list.items
             ≡ self.old.list.items ++ record { granule = self.old.granules + 1; cells = cells } ∷ []) }

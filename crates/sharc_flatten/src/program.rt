@@ -22,7 +22,7 @@ use sharc_flat_walk::source::Source;
 use sharc_mode::moded::Moded;
 use std::alloc::{AllocError, Global};
 
-/// The lines of all functions and the table of these, whose texts are told by tokens, with the globals.
+/// The lines of all functions and the table of these, whose texts are given by tokens, with the globals.
 #[derive(Drop)]
 struct Parts {
     lines: Vec<Op>,

@@ -168,7 +168,7 @@ impl<'a> Words<'a> {
         }
     }
 
-    /// An operation whose texts are told by tokens, with where they lie.
+    /// An operation whose texts are given by tokens, with where they lie.
     fn laid(&self, alloc: Global, op: Op, bytes: &mut Vec<u8>) -> Result<Op, AllocError>
         requires { Grows (tokens_text self.now.t.now.program.tokens.list) bytes.old.items }
         ensures grows { OnOk result (Grows bytes.old.items bytes.new.items) }

@@ -64,7 +64,7 @@ fn a_bad_item_is_refused_at_its_first_bad_token(rt: HostRuntime) -> Result<(), F
     assert_faults(&rt, 1, BAD_ITEMS)
 }
 
-/// Statements, with their first bad token or the brace behind them.
+/// Statements, with their first bad token or the brace after them.
 const BAD_STATEMENTS: &str = "int n => }
 print(1 +); => )
 a + 1; => +

@@ -70,7 +70,7 @@ fn items_follow_each_other(rt: HostRuntime) -> Result<(), Fail> {
     Ok(())
 }
 
-/// What stands first in the type of a global, a mode or the base, and the text of the type.
+/// What comes first in the type of a global, a mode or the base, and the text of the type.
 fn type_text(
     rt: &(impl Abort + AllocGlobal),
     program: &Program,
@@ -100,7 +100,7 @@ fn assert_type(
     Ok(())
 }
 
-/// Types as they are written, whether a mode or the base stands first, and their texts.
+/// Types as they are written, whether a mode or the base comes first, and their texts.
 const TYPES: &str = "int => base => int
 racy int => mode => int racy
 int racy => base => int racy

@@ -6,10 +6,10 @@ use std::alloc::{AllocError, Global};
 use std::process::Abort;
 use std::test::Fail;
 
-/// What stands before a text, the text, and what stands behind it.
+/// What comes before a text, the text, and what comes after it.
 type Parts<'a> = (&'a str, &'a str, &'a str);
 
-/// A source with so many openings, a text and so many closings in its midst.
+/// A source with this many openings, a text and this many closings in its midst.
 fn wrapped(
     alloc: Global,
     before: &str,
@@ -44,7 +44,7 @@ fn assert_over(rt: &(impl Abort + AllocGlobal), source: &str) -> Result<(), Fail
     assert_fault(rt, source.as_bytes(), 2, "")
 }
 
-/// Asserts that a program with so many openings and closings is read, and that one with one more is over a limit.
+/// Asserts that a program with this many openings and closings is read, and that one with one more is over a limit.
 fn assert_most(
     rt: &(impl Abort + AllocGlobal),
     before: &str,
@@ -63,7 +63,7 @@ fn assert_most(
     )
 }
 
-/// What stands before and behind an operand that is one lower.
+/// What comes before and after an operand that is one lower.
 static HIGH: [(&str, &str); 10] = [
     ("(", ")"),
     ("- ", ""),
@@ -86,7 +86,7 @@ fn expressions_are_at_most_64_high(rt: HostRuntime) -> Result<(), Fail> {
     Ok(())
 }
 
-/// What stands before and behind a statement in another, the innermost one, and how many may stand round it.
+/// What comes before and after a statement in another, the innermost one, and how many may be around it.
 static DEEP: [(&str, &str, &str, usize); 7] = [
     ("{", "", "}", 63),
     ("{", ";", "}", 62),
@@ -106,7 +106,7 @@ fn statements_are_at_most_64_deep(rt: HostRuntime) -> Result<(), Fail> {
     Ok(())
 }
 
-/// What stands before and behind a type.
+/// What comes before and after a type.
 static STARRED: [(&str, &str); 3] = [
     ("", "p;"),
     ("int f(void) { a = SCAST(", ", p); }"),
@@ -121,7 +121,7 @@ fn types_have_at_most_8_stars(rt: HostRuntime) -> Result<(), Fail> {
     Ok(())
 }
 
-/// Asserts that a function of so many statements is read.
+/// Asserts that a function of this many statements is read.
 fn assert_statements(
     rt: &(impl Abort + AllocGlobal),
     statement: &str,

@@ -81,7 +81,7 @@ fn assert_answers(rt: &(impl Abort + AllocGlobal), table: &str) -> Result<(), Fa
     Ok(())
 }
 
-/// Asserts what is answered for each body of a spawned function, before which three globals and two functions stand.
+/// Asserts what is answered for each body of a spawned function that follows three globals and two functions.
 fn assert_bodies(rt: &(impl Abort + AllocGlobal), table: &str) -> Result<(), Fail> {
     for case in table.lines() {
         let (body, want) = two_parts(rt, case);
@@ -95,7 +95,7 @@ void f(int n) {{ {body} }} int main(void) {{ join(spawn(f, 1)); return 0; }}"
     Ok(())
 }
 
-/// A source of so many functions, each of which names one global and calls the next; `main` spawns the first.
+/// A source of this many functions, each of which names one global and calls the next; `main` spawns the first.
 fn chain(alloc: Global, functions: u32) -> Result<String, AllocError> {
     let mut source = String::new(alloc);
     source.push_str("int g; ")?;
@@ -142,7 +142,7 @@ fn reached_functions(rt: HostRuntime) -> Result<(), Fail> {
 }
 
 /// Sources, which of their functions are reached, and the first of these that touches each global. In order: two spawned functions share a global, or a
-/// reached one that stands before them names it, too; functions that are not reached name it; each global for itself; a local or a parameter of the
+/// reached one that comes before them names it, too; functions that are not reached name it; each global for itself; a local or a parameter of the
 /// name hides it; a field of the name is another thing.
 const TOUCHED: &str =
     "int g; void f(int n) { g = n; } void h(int n) { g = n; } int main(void) { spawn(h, 1); spawn(f, 1); return 0; } => 110 0

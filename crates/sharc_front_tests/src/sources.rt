@@ -38,7 +38,7 @@ pub(crate) fn last_function<'a>(
     }
 }
 
-/// Adds the text of a span, behind a bar unless it is the first.
+/// Adds the text of a span, after a bar unless it is the first.
 pub(crate) fn add_span(
     rt: &(impl Abort + AllocGlobal),
     program: &Program,

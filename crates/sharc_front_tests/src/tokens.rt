@@ -293,7 +293,7 @@ fn says_the_first_fault_with_its_place(rt: HostRuntime) -> Result<(), Fail> {
     assert_fault(&rt, b"# 7 \"b.c\"\n\n@", 1, 11, b"b.c", 8)
 }
 
-/// A source of one name of so many bytes.
+/// A source of one name of this many bytes.
 fn name(rt: &(impl Abort + AllocGlobal), len: usize) -> Result<Vec<u8>, Fail> {
     let mut source = b"int ".to_vec(rt.alloc())?;
     for _ in 0..len {
@@ -384,7 +384,7 @@ fn says_where_the_input_ends(rt: HostRuntime) -> Result<(), Fail> {
     Ok(())
 }
 
-/// Asserts that so many semicolons are as many tokens.
+/// Asserts that this many semicolons are as many tokens.
 fn assert_semicolons(rt: &(impl Abort + AllocGlobal), len: usize) -> Result<(), Fail> {
     let source = vec![in rt.alloc(); b';'; len]?;
     let tokens = tokens(rt, &source)?;

@@ -8,7 +8,7 @@ use std::alloc::{AllocError, Global};
 use std::process::Abort;
 use std::test::Fail;
 
-/// What the tables of statements and of items stand behind, on one line. `f`, `one` and `take` give nothing.
+/// What comes before the tables of statements and of items, on one line. `f`, `one` and `take` give nothing.
 const FILE: &str =
     "struct s { int n; struct s * next; mutex m; int * q; }; struct t { int n; }; int x; char c; long l; int * p; char * cp; int * * pp; struct s g; \
 struct s h; struct s * sp; struct t * tp; struct s * * spp; int a[3]; int * pa[3]; struct s sa[4]; mutex m; mutex ma[2]; mutex * mp; void f(void) { } \
@@ -31,7 +31,7 @@ fn answer(
     }
 }
 
-/// A fault as the tables write it: its line, its code, and the name that it tells, if it tells one.
+/// A fault as the tables write it: its line, its code, and the name that it reports, if it reports one.
 fn fault_text(alloc: Global, fault: &FaultAt) -> Result<Vec<u8>, AllocError> {
     let place = format!(in alloc; "{}: C{}", fault.line, fault.code)?;
     let mut text = Vec::from_slice(alloc, place.as_bytes())?;
@@ -83,7 +83,7 @@ pub(crate) fn assert_refused(
     Ok(())
 }
 
-/// A program of the file, with items behind it.
+/// A program of the file, with items after it.
 fn with_items(alloc: Global, items: &str) -> Result<String, AllocError> {
     let file = FILE;
     format!(in alloc; "{file}{items} int main(void) {{ return 0; }}")
@@ -95,7 +95,7 @@ fn with_statements(alloc: Global, statements: &str) -> Result<String, AllocError
     format!(in alloc; "{file}int main(void) {{ {statements} return 0; }}")
 }
 
-/// Asserts that the file is typed with each of these items behind it.
+/// Asserts that the file is typed with each of these items after it.
 pub(crate) fn assert_items_typed(
     rt: &(impl Abort + AllocGlobal),
     table: &[&str],
@@ -106,7 +106,7 @@ pub(crate) fn assert_items_typed(
     Ok(())
 }
 
-/// Asserts that the file is refused with each of these items behind it.
+/// Asserts that the file is refused with each of these items after it.
 pub(crate) fn assert_items_refused(
     rt: &(impl Abort + AllocGlobal),
     table: &[(&str, &str)],

@@ -182,7 +182,7 @@ static NAMED_USES: [(&str, &str); 4] = [
     ("struct cond * y;", "cond"),
 ];
 
-/// Asserts that behind a definition of the one name each other of the four is unknown.
+/// Asserts that after a definition of the one name each other of the four is unknown.
 fn assert_others_unknown(
     rt: &(impl Abort + AllocGlobal),
     definition: &str,

@@ -5,7 +5,7 @@ use std::alloc::{AllocError, Global};
 use std::process::Abort;
 use std::test::Fail;
 
-/// Adds a text for each of these numbers: what stands before the number and behind it.
+/// Adds a text for each of these numbers: what comes before the number and after it.
 pub(crate) fn add_numbered(
     alloc: Global,
     text: &mut String,
@@ -23,7 +23,7 @@ pub(crate) fn add_numbered(
     Ok(())
 }
 
-/// What stands so many times in a program, each time on a line of its own and with a number behind its name.
+/// What is in a program this many times, each time on a line of its own and with a number after its name.
 struct Counted {
     opening: &'static str,
     before: &'static str,
@@ -34,7 +34,7 @@ struct Counted {
     most: usize,
 }
 
-/// Structs, fields, globals, functions behind `main`, parameters behind a first one, and locals in every place that a statement has.
+/// Structs, fields, globals, functions after `main`, parameters after a first one, and locals in every place that a statement has.
 static COUNTED: [Counted; 13] = [
     Counted {
         opening: "",
@@ -143,7 +143,7 @@ static COUNTED: [Counted; 13] = [
 ];
 
 impl Counted {
-    /// The program with so many of them.
+    /// The program with this many of them.
     fn source(&self, alloc: Global, times: usize) -> Result<String, AllocError> {
         let mut text = String::from_str(alloc, self.opening)?;
         let before = format!(in alloc; "{}{}", self.before, self.name)?;
@@ -153,7 +153,7 @@ impl Counted {
     }
 }
 
-/// Asserts that the program with so many more than there may be is refused at the first of these.
+/// Asserts that the program with this many more than there may be is refused at the first of these.
 fn assert_over(
     rt: &(impl Abort + AllocGlobal),
     counted: &Counted,
@@ -263,7 +263,7 @@ fn globals_have_so_many_cells_at_most(rt: HostRuntime) -> Result<(), Fail> {
     Ok(())
 }
 
-/// A program with an array of so many structs of 256 cells.
+/// A program with an array of this many structs of 256 cells.
 fn with_wide_structs(alloc: Global, times: usize) -> Result<String, AllocError> {
     let mut text = String::from_str(alloc, "struct s {")?;
     add_numbered(alloc, &mut text, " int n", 0, 256, ";")?;
@@ -298,7 +298,7 @@ fn with_long_names(alloc: Global, text: &str) -> Result<String, AllocError> {
 const LONG_FILE: &str =
     "int @x; int * @y; void @f(void) { } int * @g(int k) { } struct @x { int * @x; int @y; }; struct @y { int * @y; int @x; }; ";
 
-/// Items behind them with a fault.
+/// Items after them, with a fault.
 static LONG_FAULTS: [(&str, &str); 4] = [
     ("int main(void) { @x =\nNULL; }", "2: C3"),
     ("int main(void) { struct @y * a; a->@x =\nNULL; }", "2: C3"),
@@ -310,7 +310,7 @@ static LONG_FAULTS: [(&str, &str); 4] = [
 const LONG_USES: &str =
     "int main(void) { @x = 1; @y = NULL; @f(); @y = @g(1); struct @x * a; struct @y * b; a->@x = b->@y; a->@y = b->@x; int @a; int * @b; @a = 1; @b = NULL; }";
 
-/// The file with long names, and items behind it.
+/// The file with long names, and items after it.
 fn long_source(alloc: Global, items: &str) -> Result<String, AllocError> {
     let mut source = with_long_names(alloc, LONG_FILE)?;
     source.push_str(with_long_names(alloc, items)?.as_str())?;

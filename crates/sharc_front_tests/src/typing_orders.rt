@@ -5,7 +5,7 @@ use crate::typing_limits::add_numbered;
 use std::process::Abort;
 use std::test::Fail;
 
-/// Items with one fault each, and its code and name. The pass meets names of the file and sizes at other times than what stands in the items.
+/// Items with one fault each, and its code and name. The pass meets names of the file and sizes at other times than what is in the items.
 static FAULTY: [(&str, &str); 22] = [
     ("struct nope * c1;", "C1 nope"),
     ("int locked(nope) c2;", "C1 nope"),
@@ -121,7 +121,7 @@ fn the_first_fault_of_a_statement_is_told(rt: HostRuntime) -> Result<(), Fail> {
     assert_statements_refused(&rt, &STATEMENTS)
 }
 
-/// Asserts the fault of a program with 201 locals and these statements before and behind them.
+/// Asserts the fault of a program with 201 locals and these statements before and after them.
 fn assert_with_locals(
     rt: &(impl Abort + AllocGlobal),
     before: &str,
@@ -135,7 +135,7 @@ fn assert_with_locals(
     assert_refused(rt, source.as_str(), fault)
 }
 
-/// What stands before and behind 201 locals, and the first fault.
+/// What comes before and after 201 locals, and the first fault.
 static AMONG_LOCALS: [(&str, &str, &str); 6] = [
     ("", "", "2: C9 v200"),
     ("", "nope();", "2: C9 v200"),

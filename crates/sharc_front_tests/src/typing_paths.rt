@@ -1,4 +1,4 @@
-//! Which names lock paths may have: those in scope, and behind `->` those of the struct that the first name points to.
+//! Which names lock paths may have: those in scope, and after `->` those of the struct that the first name points to.
 
 use crate::typing::{assert_items_refused, assert_items_typed};
 use std::test::Fail;

@@ -5,7 +5,7 @@ use crate::typing::{
 };
 use std::test::Fail;
 
-/// Locals that hide, and are gone behind their block.
+/// Locals that hide, and are gone after their block.
 static HIDING: [&str; 24] = [
     "int y; { int * y; y = NULL; } y = 1;",
     "int * y; { int y; y = 1; } y = NULL;",
@@ -92,7 +92,7 @@ fn jumps_stand_in_loops(rt: HostRuntime) -> Result<(), Fail> {
     assert_statements_typed(&rt, &JUMPS)
 }
 
-/// Jumps outside a loop, behind one too.
+/// Jumps outside a loop, after one too.
 static STRAY_JUMPS: [(&str, &str); 9] = [
     ("\nbreak;", "2: C7 break"),
     ("\ncontinue;", "2: C7 continue"),

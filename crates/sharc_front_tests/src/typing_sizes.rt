@@ -12,7 +12,7 @@ fn add_times(text: &mut String, part: &str, times: usize) -> Result<(), AllocErr
     Ok(())
 }
 
-/// A text with so many of another in its midst.
+/// A text with this many of another in its midst.
 fn repeated(
     alloc: Global,
     opening: &str,
@@ -26,7 +26,7 @@ fn repeated(
     Ok(text)
 }
 
-/// An opening, a part of a line that is written so many times, and that number.
+/// An opening, a part of a line that is written a number of times, and that number.
 static USES: [(&str, &str, usize); 7] = [
     ("int a; int main(void) {", "a=1;", 262_000),
     (
@@ -140,7 +140,7 @@ fn uses_of_many_names_are_typed(rt: HostRuntime) -> Result<(), Fail> {
     Ok(())
 }
 
-/// A function with 200 locals: eleven, and three names declared at 63 depths, used so many times at the deepest and at each on the way out.
+/// A function with 200 locals: eleven, and three names declared at 63 depths, used this many times at the deepest and at each on the way out.
 fn shadowing(alloc: Global, name: &str, times: usize) -> Result<String, AllocError> {
     let mut text = format!(in alloc; "int {name}(void){{")?;
     add_numbered(alloc, &mut text, "int k", 0, 11, ";")?;

@@ -1,4 +1,4 @@
-//! Which expressions are values, which agree, and where the fault stands where they do not.
+//! Which expressions are values, which agree, and where the fault is where they do not.
 
 use crate::typing::{assert_statements_refused, assert_statements_typed};
 use std::test::Fail;
@@ -278,7 +278,7 @@ fn other_arguments_are_refused(rt: HostRuntime) -> Result<(), Fail> {
     assert_statements_refused(&rt, &ARGUMENTS)
 }
 
-/// What stands where an lvalue has to.
+/// What is where an lvalue has to be.
 static NO_LVALUES: [(&str, &str); 34] = [
     ("\n1\n= x;", "2: C5"),
     ("\n'a'\n= x;", "2: C5"),

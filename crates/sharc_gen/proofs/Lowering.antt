@@ -43,7 +43,7 @@ pub lower_goes : (s : Shape) (n : ℕ) (then_ : Machine) (found : ℕ) → Code.
 lower_goes s zero then_ found = refl
 lower_goes s (suc n) then_ found = refl
 
--- ---- a turn of guarded code: it tells an event, and what was lowered is gone; or it lowers this
+-- ---- a turn of guarded code: it reports an event, and what was lowered is gone; or it lowers this
 abbrev pub Lowers : Thread → List ℕ → Turn → Type 0
 Lowers a low (Goes b) = (b.events ≡ a.events) × (b.lowered ≡ a.lowered ++ low)
 Lowers a low (Asks site act go) = (x : ℤ) → (e : SourceEvent) × ((go x).events ≡ a.events ++ e ∷ []) × ((go x).lowered ≡ [])
@@ -142,7 +142,7 @@ step_lowers p _ a = (refl, kept a)
 longer : (xs : List SourceEvent) (e : SourceEvent) → xs ≡ xs ++ e ∷ [] → ⊥
 longer xs e q = let l = ap length q in let m = length-append xs (e ∷ []) in omega arith
 
--- by the event that the turn told
+-- by the event that the turn reported
 pub lowers_next : (t : Turn) (a : Thread) (low : List ℕ) (x : ℤ) (ev : Option SourceEvent) → may_go t ≡ true → Lowers a low t → (after a t x).events ≡ a.events ++ option_to_list ev
     → (after a t x).lowered ≡ unless_told ev (a.lowered ++ low)
 lowers_next (Goes b) a low x None go h e = h.1

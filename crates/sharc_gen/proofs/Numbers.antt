@@ -14,7 +14,7 @@ use Rattle.sharc_guarded_form.specs.Form.{IsGuarded}
 use Rattle.sharc_guarded_form.specs.Tables.{TablesFit}
 use Rattle.sharc_gen.specs.Generated.{IsGenerated, instr_of, program_of}
 
--- an instruction that is no call stands where its statement does
+-- an instruction that is no call is where its statement is
 module _ (fs : List Function) where
   spawn_is : (i : Instr) (to function site : ℕ) (from : Register) → instr_of fs i ≡ Spawn to function from site → i ≡ Spawn to function from site
   spawn_is (Call f ints refs at) to function site from e = absurd (cc)

@@ -316,7 +316,7 @@ module _ (code : Code) (s : Shape) (statements : List Instr) (good : IsGuarded (
     by_kind i is k at finds quiet tried =
         single (rest_of m i tt m.own.stage at) (phase ∙ ap phase_at (rest_of m i tt m.own.stage at)) i tt is k finds quiet tried
 
-  -- ---- the Exit behind the last return
+  -- ---- the Exit after the last return
   pub at_exit : statement_at p a.pc ≡ Exit → a.phase ≡ phase_at m.own.stage → (repeats m.own.stage found ≡ true → cost ≡ 0) → IsAtStage m Exit m.own.stage → Goal Exit
   at_exit is phase rep at =
       subst (λ ph. Turned code s statements T m a cost (Form.exit p a ph) 1 (after (act code s Exit m) found) (said code Exit m found (T 0))) (sym phase)

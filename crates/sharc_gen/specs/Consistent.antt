@@ -23,7 +23,7 @@ use Rattle.sharc_code.specs.Path.{turn, after, asked_by, machine_after}
 use Rattle.sharc_code.specs.Says.{says, speaks_of, elements_after}
 use Rattle.sharc_code.specs.Ranges.{IsInGlobal}
 
--- ---- what a path tells of the source
+-- ---- what a path reports of the source
 -- The elements of the objects by their numbers, at each turn of a path: those of the last New of the number among the events of all threads before
 -- the turn.
 abbrev pub Elements : Type 0

@@ -14,7 +14,7 @@ abbrev pub lowered_by : Machine → Instr → List ℕ
 lowered_by m (Lower r) = ref m r ∷ []
 lowered_by m _ = []
 
--- a turn that tells an event begins anew
+-- a turn that reports an event begins anew
 abbrev pub unless_told : Option SourceEvent → List ℕ → List ℕ
 unless_told None lowered = lowered
 unless_told (Some e) lowered = []

@@ -34,7 +34,7 @@ AreQuiet code s m (found ∷ earlier) = AreQuiet code s m earlier × (asked_by (
 pub record IsPathIn (code : Code) (s : Shape) (t : ℕ) (run : List Turn) : Type 0 where
   pub path : CodePath code s t (founds_of (turns_of t run))
   pub machine : (place_after code s run).threads t ≡ machine_after code s (begun code s t) (founds_of (turns_of t run))
-  -- what the run tells of the thread is what its path says with the elements of the run
+  -- what the run reports of the thread is what its path says with the elements of the run
   pub said : told_in (said_by t (Erase code s run)) ≡ reverse (said_in code s (begun code s t) (elements_before code s t run) (founds_of (turns_of t run)))
   pub quiet : AreQuiet code s (begun code s t) (founds_of (turns_of t run))
 

@@ -33,7 +33,7 @@ pub whole_unary : (y : List Word) (u : UnaryOperator) (a : Phrase) (k : Cont) �
 whole_unary [] u a k h = refl
 whole_unary (t ∷ y) u a k h = ap (λ n. then_on n (λ s. reads y s) (Stuck (t ∷ y))) (role_unary (role t) t u a k h)
 
--- an operator behind an operand
+-- an operator after an operand
 pub takes : (o : BinaryOperator) (x : Phrase) (k : Cont) (y : List Word) → floor k ≤ strength o → reads_at (mark (operator_mark o) ∷ y) (Have x k) ≡ reads_at y (Want (right_of x o k))
 takes o x k y h =
     ap (λ r. then_on (have r x k (mark (operator_mark o))) (λ s. reads y s) (Stuck (mark (operator_mark o) ∷ y))) (operating o)

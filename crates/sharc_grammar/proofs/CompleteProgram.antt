@@ -18,7 +18,7 @@ abbrev pub end_word : Ender → Word
 end_word by_semicolon = mark Semicolon
 end_word by_close = mark CloseParenthesis
 
--- the word behind a value, an assignment or a call
+-- the word after a value, an assignment or a call
 abbrev pub place_end : DoingPlace → Word
 place_end (in_line p) = mark Semicolon
 place_end (as_step l test) = mark CloseParenthesis
@@ -173,7 +173,7 @@ no_else_all : (all : Sentences) → FitAllAs all → (y : List Word) → NoElse 
 no_else_all no_more w y = refl
 no_else_all (sentence s rest) w y = no_else s w.0 _
 
--- a statement in its place: a declaration stands among the items of a block
+-- a statement in its place: a declaration is among the items of a block
 abbrev pub MayStand : Outer → Bool → Type 0
 MayStand o b = b ≡ true → holds_items o ≡ true
 

@@ -14,7 +14,7 @@ use Rattle.sharc_grammar.proofs.CompleteProgram.{MayStand}
 use Rattle.sharc_grammar.specs.Operators.{floor_most}
 use Rattle.sharc_grammar.proofs.Sound.{outside, line_place_words, doing_place_words, value_place_words, around, struct_words, name_place_words, type_place_words, mode_place_words, so_far, Outside, DoingAt, ValueAt, Around, NameAt, TypeAt, ModeAt, BaseAt, Sound, program_more, is_program_more, parameters_more, declaring_more, some_field, list_more, all_more, items_more, fit_more, may, moded_sound, moded_says, fields_more, based_sound, is_statement}
 
--- what stands around is within the limits
+-- what is around it is within the limits
 
 abbrev pub LowOuter : Outer → Type 0
 LowOuter (body all r f given s) = LowProgram all × FewStars r × FewGiven given × LowAll s × (deepest s + 1 ≤ 64)

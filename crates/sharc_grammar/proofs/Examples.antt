@@ -42,12 +42,12 @@ main_opens y = keyword key.Int ∷ n 0 ∷ O ∷ keyword key.Void ∷ C ∷ mark
 abbrev main_is : Sentences → List Part
 main_is all = function (record { result = int; named = 0 ∷ []; parameters = []; body = all }) ∷ []
 
--- `+ 0` so many times
+-- `+ 0` this many times
 abbrev operands : ℕ → List Word
 operands zero = []
 operands (suc i) = mark Plus ∷ n 0 ∷ operands i
 
--- `if (1) ; else` so many times
+-- `if (1) ; else` this many times
 abbrev else_ifs : ℕ → List Word
 else_ifs zero = []
 else_ifs (suc i) = keyword key.If ∷ O ∷ n 1 ∷ C ∷ S ∷ keyword key.Else ∷ else_ifs i
@@ -83,7 +83,7 @@ count_is_unary = refl
 malloc_is_plain : reads (main_opens (n 1 ∷ mark Assign ∷ keyword key.Malloc ∷ O ∷ keyword key.Sizeof ∷ O ∷ keyword key.Int ∷ keyword key.Private ∷ [])) first_state ≡ Stuck (keyword key.Private ∷ [])
 malloc_is_plain = refl
 
--- a declaration stands in a block alone
+-- a declaration is allowed in a block only
 declaration_in_block : reads (main_opens (keyword key.If ∷ O ∷ n 1 ∷ C ∷ keyword key.Int ∷ [])) first_state ≡ Stuck (keyword key.Int ∷ [])
 declaration_in_block = refl
 
@@ -106,7 +106,7 @@ parts : reads (keyword key.Struct ∷ n 5 ∷ mark OpenBrace ∷ keyword key.Int
     function (record { result = record { mode_first = false; base = base.Void; levels = None ∷ [] }; named = 4 ∷ []; parameters = record { typing = record { mode_first = true; base = base.Int; levels = Some dynamic ∷ [] }; named = 1 ∷ [] } ∷ record { typing = record { mode_first = false; base = base.Int; levels = Some (locked_through (1 ∷ []) (2 ∷ [])) ∷ [] }; named = 2 ∷ [] } ∷ []; body = no_more }) ∷ [])
 parts = refl
 
--- a fault stands at its own word, and at the end of what there is
+-- a fault is at its own word, and at the end of what there is
 in_an_argument : reads (main_opens (keyword key.Print ∷ O ∷ one ∷ mark Plus ∷ C ∷ S ∷ [])) first_state ≡ Stuck (C ∷ S ∷ [])
 in_an_argument = refl
 
@@ -131,7 +131,7 @@ parentheses_65 = refl
 operators_65 : reads_within (main_opens (keyword key.Return ∷ n 0 ∷ (operands 64 ++ mark Plus ∷ n 0 ∷ S ∷ []))) first_state ≡ Over (mark Plus ∷ n 0 ∷ S ∷ [])
 operators_65 = refl
 
--- the body is the first of 64 blocks; a declaration still stands in the last, and a statement does not
+-- the body is the first of 64 blocks; a declaration still fits in the last, and a statement does not
 braces_65 : reads_within (main_opens (replicate 63 (mark OpenBrace) ++ mark OpenBrace ∷ [])) first_state ≡ Over (mark OpenBrace ∷ [])
 braces_65 = refl
 
@@ -144,7 +144,7 @@ statement_at_64 = refl
 call_at_64 : reads_within (main_opens (replicate 63 (mark OpenBrace) ++ n 1 ∷ O ∷ [])) first_state ≡ Over (n 1 ∷ O ∷ [])
 call_at_64 = refl
 
--- what stands under an `if` is one deeper than it
+-- what is under an `if` is one deeper than it
 if_at_63 : reads_within (main_opens (replicate 61 (mark OpenBrace) ++ keyword key.If ∷ O ∷ n 1 ∷ C ∷ S ∷ [])) first_state ≡ StuckAt []
 if_at_63 = refl
 

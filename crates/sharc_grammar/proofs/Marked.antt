@@ -50,7 +50,7 @@ of_tokens n (t ∷ rest) = joined _ _ _ _ (kind_same t.kind t.text n) (of_tokens
 abbrev pub Numbered : (ℕ → Site) → Type 0
 Numbered s = (n : ℕ) → (s n).token ≡ n
 
--- one part behind the other
+-- one part after the other
 two : (a b c d e : List Mark) → b ++ c ≡ d → a ++ d ≡ e → (a ++ b) ++ c ≡ e
 two a b c d e h k = append_assoc a b c ∙ ap (λ z. a ++ z) h ∙ k
 
@@ -92,7 +92,7 @@ base_marked n i m k base.Mutex y p q r = renumbered m (i + 1) y (omega arith)
 base_marked n i m k base.Void y p q r = renumbered m (i + 1) y (omega arith)
 base_marked n i m k (base.Struct x) y p q r = named k (i + 1) m (i + 1 + 1) x y (omega (arith, p, r)) (omega arith)
 
--- the levels below stand before the star of the level above them
+-- the levels below come before the star of the level above them
 more_level : (s : ℕ → Site) (n : ℕ) (first : Bool) (b : Base) (l : Option Mode) (all : List Mark) (k : Option Sharing) (below : List (Option Sharing)) → levels_marks first all (l ∷ levels_at s n first b (k ∷ below)) ≡ levels_marks first all (levels_at s n first b (k ∷ below)) ++ level_marks l
 more_level s n true b l all k [] = refl
 more_level s n false b l all k [] = refl
@@ -136,7 +136,7 @@ constant_marked i m (constants.Number k) y q = renumbered m (i + 1) y q
 constant_marked i m (constants.Character k) y q = renumbered m (i + 1) y q
 constant_marked i m constants.Null y q = renumbered m (i + 1) y q
 
--- what is marked behind the front of an expression
+-- what is marked after the front of an expression
 abbrev pub Behind : List Mark → ℕ → List Word → Type 0
 Behind r n z = (j : ℕ) → j ≡ n → r ≡ marked j z
 
@@ -190,7 +190,7 @@ mutual
       (rest_marked s v (at + 1) at m rest y refl (omega (arith, q)))
       (expression_marked s v n i at a (words_of_rest rest y) p refl)
 
-  -- a comma stands before the first of them
+  -- a comma comes before the first of them
   rest_marked : (s : ℕ → Site) (v : Numbered s) (n i m : ℕ) (all : Phrases) (y : List Word) → n ≡ i + 1 → m ≡ i + rest_size all → arguments_marks (arguments_at s n all) ++ marked m y ≡ marked i (words_of_rest all y)
   rest_marked s v n i m none y p q = renumbered m i y (omega (arith, q))
   rest_marked s v n i m (more a rest) y p q =
@@ -203,7 +203,7 @@ option_marked : (s : ℕ → Site) (v : Numbered s) (n i m : ℕ) (e : Option Ph
 option_marked s v n i m None y p q = renumbered m i y (omega (arith, p, q))
 option_marked s v n i m (Some e) y p q = expression_marked s v n i m e y p q
 
--- what stands right of `=`, and lines
+-- the right side of `=`, and lines
 
 count_marked : (s : ℕ → Site) (v : Numbered s) (n i m : ℕ) (e : Option Phrase) (y : List Word) → i ≡ n → m ≡ n + count_size e → option_marks marks (option_at s n e) ++ marked m y ≡ marked i (count_words e y)
 count_marked s v n i m None y p q = renumbered m i y (omega (arith, p, q))
@@ -251,7 +251,7 @@ step_marked : (s : ℕ → Site) (v : Numbered s) (n i m : ℕ) (x : Option Doin
 step_marked s v n i m None y p q = renumbered m i y (omega (arith, p, q))
 step_marked s v n i m (Some x) y p q = doing_marked s v n i m x y p q
 
--- the head of a `for`, with the `)` behind it
+-- the head of a `for`, with the `)` after it
 loop_marked : (s : ℕ → Site) (v : Numbered s) (n i m : ℕ) (x : Loop) (y : List Word) → i ≡ n → m ≡ n + opening_size (for_of x) → head_marks (head_at s n x) ++ marked m y ≡ marked i (loop_words x y)
 loop_marked s v n i m x y p q =
     let first = first_at s (n + 2) x.first in

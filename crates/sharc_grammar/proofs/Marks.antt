@@ -1,4 +1,4 @@
--- The names and casts of a tree that stands at its tokens are there, in order, and its spans can be printed.
+-- The names and casts of a tree that lies at its tokens are there, in order, and its spans can be printed.
 use Rattle.std.proofs.Common.{◌≡◌, ℕ, suc, zero, ◌+◌, ◌-◌, ◌≤◌, ◌<◌, List, [], ◌∷◌, ◌++◌, length, drop, get_or, HoldsAt, refl, sym, ap, ◌∙◌, arith, subst, length-drop, ⊎_elim, Contains}
 use Rattle.std.specs.List.{AllPairs}
 use Rattle.std.proofs.lemmas.Bool.{cases_lt}

@@ -1,4 +1,4 @@
--- The tree of an expression stands at its tokens.
+-- The tree of an expression lies at its tokens.
 use Rattle.std.proofs.Common.{◌≡◌, ℕ, ◌+◌, ◌≤◌, ◌<◌, List, [], ◌∷◌, length, Option, Some, None, IfSome, refl, arith, Bool, true, false}
 use Rattle.sharc_tree.specs.Tree as tree
 use Rattle.sharc_tree.specs.Spans.{span_of}
@@ -25,7 +25,7 @@ base_some base.Mutex n = (omega arith, omega arith)
 base_some base.Void n = (omega arith, omega arith)
 base_some (base.Struct x) n = (omega arith, omega arith)
 
--- the name of the base stands in the type
+-- the name of the base is in the type
 base_within : (first : Bool) (b : Base) (n : ℕ) (all : List (Option Sharing)) → FitsList first all → (n ≤ base_place first b all n) × (base_place first b all n + 1 ≤ n + levels_size b all)
 base_within first b n [] f = absurd f
 base_within true b n (m ∷ []) f = let e = base_some b (n + level_size m) in (omega (arith, e.0), omega (arith, e.1))
@@ -60,7 +60,7 @@ placed_declaration all s h n d f q w =
       (right all inner name w).0,
     )
 
--- declarations with one token behind each
+-- declarations with one token after each
 pub follow_declarations : (all : List Token) (s : ℕ → Site) (h : Standing all s) (from n until : ℕ) (given : List Declaring) → from ≤ n → n + fields_size given ≤ until + 1 → until ≤ length all → Row all from until (declaration_spans (declarations_at s n given))
 follow_declarations all s h from n until [] a b c = record { follow = tt }
 follow_declarations all s h from n until (d ∷ rest) a b c =

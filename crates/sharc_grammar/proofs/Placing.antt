@@ -1,4 +1,4 @@
--- The tree of a program stands at its tokens.
+-- The tree of a program lies at its tokens.
 use Rattle.std.proofs.Common.{◌≡◌, ℕ, ◌+◌, ◌≤◌, ◌<◌, List, [], ◌∷◌, ◌++◌, length, Option, Some, None, IfSome, refl, sym, ap, ◌∙◌, arith, subst, true, false}
 use Rattle.std.proofs.lemmas.List.{length-map}
 use Rattle.sharc_tree.specs.Tree as tree
@@ -17,7 +17,7 @@ use Rattle.sharc_grammar.proofs.Marks.{left, right, words_are_there}
 use Rattle.sharc_grammar.proofs.Standing.{Standing, standing, Lies, lies, lies_point, Row, part, last, whole, joined}
 use Rattle.sharc_grammar.proofs.PlacedPhrases.{lies_type, placed_type, lies_declaration, placed_declaration, follow_declarations, placed_declarations, lies_expression, placed_expression, follow_option, placed_option}
 
--- what stands right of `=`
+-- the right side of `=`
 
 lies_right : (s : ℕ → Site) (n : ℕ) (r : Value) → Lies s n (value_size r) (span_of_right (value_at s n r))
 lies_right s n (value e) = lies_expression s n e
@@ -174,7 +174,7 @@ follow_statements all s h from n until (sentence x rest) a b c =
     part all s h from n (sentence_size x) until _ _ (lies_statement s n x) a (omega (arith, b)) c
     (follow_statements all s h (n + sentence_size x) (n + sentence_size x) until rest (omega arith) (omega (arith, b)) c)
 
--- the statement behind `(`, an expression and `)`
+-- the statement after `(`, an expression and `)`
 placed_test : (all : List Token) (s : ℕ → Site) (h : Standing all s) (n k m until : ℕ) (e : Phrase) (span : Span) (rest : List Span) → Lies s k m span → n + size e + 3 ≤ k → k + m ≤ until → until ≤ length all → Row all (k + m) until rest → Row all n until (span_of (expression_at s (n + 2) e) ∷ (span ∷ rest))
 placed_test all s h n k m until e span rest l a b c f =
     part all s h n (n + 2) (size e) until _ _ (lies_expression s (n + 2) e) (omega arith) (omega (arith, a, b)) c

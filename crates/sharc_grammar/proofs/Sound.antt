@@ -16,7 +16,7 @@ use Rattle.sharc_grammar.specs.Operators.{weak, floor_most}
 use Rattle.sharc_grammar.proofs.Complete.{ModesFit, never}
 use Rattle.sharc_grammar.proofs.CompleteProgram.{MayStand}
 
--- the arguments so far, with a comma behind each
+-- the arguments so far, with a comma after each
 abbrev pub list_so_far : Phrases → List Word → List Word
 list_so_far none y = y
 list_so_far (more a rest) y = words a (words_of_rest rest (mark Comma ∷ y))
@@ -106,7 +106,7 @@ so_far (InitialWant all d) y = program_words all (declaring_words d (mark Assign
 so_far (InitialNegative all d) y = program_words all (declaring_words d (mark Assign ∷ (mark Minus ∷ y)))
 so_far (Top all) y = program_words all y
 
--- what stands around fits
+-- what is around it fits
 abbrev pub Outside : Outer → Type 0
 Outside (body all r f given s) = IsProgram all × FitsType r × FitAllDeclaring given × FitAllAs s
 Outside (items all o) = FitAllAs all × Outside o
@@ -183,7 +183,7 @@ Sound (InitialWant all d) = IsProgram all × FitsType d.typing
 Sound (InitialNegative all d) = IsProgram all × FitsType d.typing
 Sound (Top all) = IsProgram all
 
--- the next state has read one word more, and what has to come next stands in it already
+-- the next state has read one word more, and what has to come next is in it already
 abbrev pub Goes : (List Word → List Word) → Word → Option State → Type 0
 Goes f t None = Unit {0}
 Goes f t (Some (At fs n)) = Sound n × ((y : List Word) → so_far n y ≡ f (t ∷ fixed_words fs y))

@@ -51,7 +51,7 @@ span_there all s h n k some within =
 pub record Row (all : List Token) (from until : ℕ) (parts : List Span) : Type 0 where
   pub follow : Follow all from until parts
 
--- a part, and those behind it
+-- a part, and those after it
 pub part : (all : List Token) (s : ℕ → Site) (h : Standing all s) (from n k until : ℕ) (span : Span) (rest : List Span) → Lies s n k span → from ≤ n → n + k ≤ until → until ≤ length all → Row all (n + k) until rest → Row all from until (span ∷ rest)
 part all s h from n k until span rest l low high within r =
     let some = l.some in

@@ -143,7 +143,7 @@ low_option : (s : ℕ → Site) (n : ℕ) (e : Option Phrase) → FitsOption e �
 low_option s n None f l = tt
 low_option s n (Some e) f l = low_expression s n e f l
 
--- what stands right of `=`, and lines
+-- the right side of `=`, and lines
 
 low_count : (s : ℕ → Site) (n : ℕ) (e : Option Phrase) → FitsCount e → LowOption e → IfSome (option_at s n e) (λ e. (is_unary e ≡ true) × LowExpression e)
 low_count s n None f l = tt

@@ -490,7 +490,7 @@ close_block_moves (body all r f given s) = record {
 }
 close_block_moves (inside w o) = tt
 
--- room for a statement is room for one that stands under another
+-- room for a statement is room for one that is under another
 start_room : (o : Outer) → around_it o < 64 → LowStart o
 start_room (inside w o) h = omega (arith, h)
 start_room (items all o) h = tt

@@ -41,7 +41,7 @@ pub data Sharing : Type 0 where
   locked : List ℕ → Sharing
   locked_through : List ℕ → List ℕ → Sharing
 
--- the modes from the top down to the base, and whether that of the base stands before it
+-- the modes from the top down to the base, and whether that of the base comes before it
 pub record Typing : Type 0 where
   pub mode_first : Bool
   pub base : Base
@@ -71,7 +71,7 @@ base_words base.Mutex y = keyword key.Mutex ∷ y
 base_words base.Void y = keyword key.Void ∷ y
 base_words (base.Struct n) y = keyword key.Struct ∷ (name n ∷ y)
 
--- a base with its mode before it or behind it
+-- a base with its mode before it or after it
 abbrev pub bottom_words : Bool → Base → Option Sharing → List Word → List Word
 bottom_words true b m y = level_words m (base_words b y)
 bottom_words false b m y = base_words b (level_words m y)
@@ -91,7 +91,7 @@ type_words t y = list_words t.mode_first t.base t.levels y
 abbrev pub declaring_words : Declaring → List Word → List Word
 declaring_words d y = type_words d.typing (name d.named ∷ y)
 
--- the mode that stands before the base is written
+-- the mode that comes before the base is written
 abbrev pub FitsBottom : Bool → Option Sharing → Type 0
 FitsBottom true None = ⊥
 FitsBottom _ _ = Unit {0}
@@ -118,7 +118,7 @@ IsPlain first levels = (first ≡ false) × NoModes levels
 
 -- Expressions.
 
--- what stands in front of an expression that a `)` ends, as `(`, `spawn ( f ,` or `SCAST ( type ,`
+-- what comes before an expression that a `)` ends, as `(`, `spawn ( f ,` or `SCAST ( type ,`
 pub data Front : Type 0 where
   parenthesis : Front
   of_spawn : List ℕ → Front
@@ -261,7 +261,7 @@ abbrev mutual
 
 -- Statements.
 
--- what stands right of `=`
+-- the right side of `=`
 pub data Value : Type 0 where
   value : Phrase → Value
   malloc : Option Phrase → Typing → Value
@@ -297,7 +297,7 @@ mutual
     no_more : Sentences
     sentence : Sentence → Sentences → Sentences
 
-  -- what stands in front of the last statement of an `if`, a `while` or a `for`
+  -- what comes before the last statement of an `if`, a `while` or a `for`
   pub data Opening : Type 0 where
     if_of : Phrase → Opening
     else_of : Phrase → Sentence → Opening
@@ -370,12 +370,12 @@ abbrev pub is_declaring : Line → Bool
 is_declaring (declares l) = true
 is_declaring _ = false
 
--- a declaration is no statement: it stands in a block, or first in the head of a `for`
+-- a declaration is not a statement: it is in a block, or first in the head of a `for`
 abbrev pub is_declaration : Sentence → Bool
 is_declaration (line l) = is_declaring l
 is_declaration _ = false
 
--- whether an `else` behind the statement would belong to it
+-- whether an `else` after the statement would belong to it
 abbrev pub takes_else : Sentence → Bool
 takes_else (under (if_of e) s) = true
 takes_else (under (else_of e a) s) = takes_else s

@@ -156,7 +156,7 @@ pub record FirstExcess (all rest : List Word) : Type 0 where
   pub begins : BeginsWithin before
   pub exceeds : Exceeds before rest
 
--- how many levels stand above an operand
+-- how many levels are above an operand
 abbrev pub depth : Cont → ℕ
 depth (part p o) = 0
 depth (beneath u k) = depth k + 1
@@ -165,13 +165,13 @@ depth (fronted f k) = depth k + 1
 depth (indexing a k) = depth k + 1
 depth (arguments f all k) = depth k + 1
 
--- how many statements stand around
+-- how many statements are around it
 abbrev pub around_it : Outer → ℕ
 around_it (body all r f given s) = 1
 around_it (items all o) = around_it o + 1
 around_it (inside w o) = around_it o + 1
 
--- whether an expression begins a statement where none may stand
+-- whether an expression begins a statement where none may be
 abbrev pub crowded_line : LinePlace → Outer → Bool
 crowded_line as_statement o = nat_le 64 (around_it o)
 crowded_line as_first o = false

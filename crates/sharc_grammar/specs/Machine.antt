@@ -17,7 +17,7 @@ use Rattle.sharc_tree.specs.declared.tree.expression.Constant.{Constant}
 use Rattle.sharc_tree.specs.declared.tree.expression.Constant.TheVariants as constants
 use Rattle.sharc_grammar.specs.Grammar.{Word, name, keyword, mark, number, character, Sharing, private, readonly, racy, dynamic, locked, locked_through, Typing, Declaring, Front, parenthesis, of_spawn, of_value, of_place, of_cast, Phrase, identifier, constant, enclosed, call, index, field, unary, binary, Phrases, none, more, strength, front_level, Value, value, malloc, Doing, assign, invoke, Line, nothing, does, declares, Sentence, line, jump, return, block, under, Sentences, no_more, sentence, Opening, if_of, else_of, while_of, for_of, is_call, single, array, initially, Part, structure, global, function}
 
--- what stands around a statement, from the inside out
+-- what is around a statement, from the inside out
 pub data Outer : Type 0 where
   body : List Part → Typing → List ℕ → List Declaring → Sentences → Outer
   items : Sentences → Outer → Outer
@@ -31,7 +31,7 @@ pub data DoingPlace : Type 0 where
   in_line : LinePlace → DoingPlace
   as_step : Line → Option Phrase → DoingPlace
 
--- where a value stands right of `=`
+-- where a value is on the right of `=`
 pub data ValuePlace : Type 0 where
   of_doing : DoingPlace → Phrase → ValuePlace
   of_local : LinePlace → Declaring → ValuePlace
@@ -49,7 +49,7 @@ pub data Place : Type 0 where
   valued : ValuePlace → Place
   counting : ValuePlace → Place
 
--- what stands around an operand, from the inside out
+-- what is around an operand, from the inside out
 pub data Cont : Type 0 where
   part : Place → Outer → Cont
   beneath : UnaryOperator → Cont → Cont
@@ -58,7 +58,7 @@ pub data Cont : Type 0 where
   indexing : Phrase → Cont → Cont
   arguments : List ℕ → Phrases → Cont → Cont
 
--- where a type and a name stand
+-- where a type and a name are written
 pub data NamePlace : Type 0 where
   on_top : List Part → NamePlace
   field_of : List Part → List ℕ → List Declaring → NamePlace
@@ -149,7 +149,7 @@ or_else None b = b
 abbrev pub to : Core → Option State
 to c = Some (At [] c)
 
--- what a word is behind an operand
+-- what a word is after an operand
 pub data Role : Type 0 where
   Calling : Role
   Indexing : Role
@@ -182,7 +182,7 @@ role (mark Slash) = Operating op.Divide
 role (mark Percent) = Operating op.Remainder
 role _ = Ending
 
--- how tightly a word binds what stands before it
+-- how tightly a word binds what comes before it
 abbrev pub grip_of : Role → ℕ
 grip_of (Operating o) = strength o
 grip_of Ending = 0
@@ -320,12 +320,12 @@ end_at x (part p o) t = leave p x o t
 end_at x (beneath u k) t = None
 end_at x (right_of a o k) t = None
 
--- the `*` behind the count of a malloc
+-- the `*` after the count of a malloc
 abbrev pub counted : BinaryOperator → Phrase → Cont → Option State
 counted op.Multiply x (part (counting v) o) = Some (At (a_sizeof ∷ an_open ∷ []) (TypeWant (sizing v (Some x) o)))
 counted _ _ _ = None
 
--- an operator, where one may stand
+-- an operator, where one may be
 abbrev pub shift : BinaryOperator → Phrase → Cont → Option State
 shift o x k = cond (nat_le (floor k) (strength o)) (to (Want (right_of x o k))) (counted o x k)
 

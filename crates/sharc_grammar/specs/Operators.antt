@@ -1,4 +1,4 @@
--- Laws of operators: how tightly they bind, and what the machine makes of what stands around them.
+-- Laws of operators: how tightly they bind, and what the machine makes of what is around them.
 use Rattle.std.specs.Prelude.{◌≡◌, ℕ, ◌≤◌, ◌<◌, cond}
 use Rattle.std.proofs.Common.{refl, ap}
 use Rattle.std.proofs.Math.Dec.{lit<, lit≤}
@@ -31,7 +31,7 @@ weak op.Multiply = lit< tt
 weak op.Divide = lit< tt
 weak op.Remainder = lit< tt
 
--- behind an operand its mark is that operator
+-- after an operand its mark is that operator
 pub operating : (o : BinaryOperator) → role (mark (operator_mark o)) ≡ Operating o
 operating op.LogicalOr = refl
 operating op.LogicalAnd = refl
@@ -52,7 +52,7 @@ operating op.Multiply = refl
 operating op.Divide = refl
 operating op.Remainder = refl
 
--- an operator takes nothing of what stands around an operand that holds together as tightly
+-- an operator takes nothing of what is around an operand that holds together as tightly
 pub settle_stops : (l : ℕ) (x : Phrase) (k : Cont) → l < 11 → floor k ≤ l → settle l x k ≡ (x, k)
 settle_stops l x (beneath u k) w h = absurd (not-le_of_lt w h)
 settle_stops l x (right_of a o k) w h = ap (λ b. cond b (settle l (binary o a x) k) (x, right_of a o k)) (lt-leb l (strength o) h)

@@ -1,4 +1,4 @@
--- Where the tokens of a program stand, and the tree of a phrase at its tokens.
+-- Where the tokens of a program lie, and the tree of a phrase at its tokens.
 use Rattle.std.specs.Prelude.{◌≡◌, ℕ, ◌+◌, ◌-◌, Bool, true, false, List, [], ◌∷◌, map, drop, Option, Some, None}
 use Rattle.sharc_tree.specs.Tree as tree
 use Rattle.sharc_tree.specs.declared.token.Site.{Site}
@@ -36,7 +36,7 @@ word_of t = kind_word t.kind t.text
 abbrev pub words_of : List Token → List Word
 words_of = map word_of
 
--- the place of a token that stands first in what is left
+-- the place of a token that comes first in what is left
 abbrev pub site_of : List Token → ℕ → Site
 site_of [] n = record { file = 0; line = 0; token = n }
 site_of (t ∷ rest) n = record { file = t.file; line = t.line; token = n }
@@ -151,12 +151,12 @@ abbrev mutual
   opening_size (while_of e) = size e + 3
   opening_size (for_of l) = line_size l.first + option_size l.test + step_size l.step + 4
 
--- each with one token behind it
+-- each with one token after it
 abbrev pub fields_size : List Declaring → ℕ
 fields_size [] = 0
 fields_size (d ∷ rest) = declaring_size d + 1 + fields_size rest
 
--- `void`, or each with a comma or the `)` behind it, but for that
+-- `void`, or each with a comma or the `)` after it, but for that
 abbrev pub parameters_size : List Declaring → ℕ
 parameters_size [] = 1
 parameters_size (d ∷ []) = declaring_size d
@@ -173,7 +173,7 @@ part_size (structure n fields) = fields_size fields + 5
 part_size (global d form) = declaring_size d + form_size form + 1
 part_size (function f) = type_size f.result + parameters_size f.parameters + all_size f.body + 5
 
--- The tree of a phrase whose first token has the number n, where the tokens stand at s.
+-- The tree of a phrase whose first token has the number n, where the tokens lie at s.
 
 abbrev pub span_at : (ℕ → Site) → ℕ → ℕ → Span
 span_at s n length = record { first = s n; last = s (n + length - 1) }
@@ -297,7 +297,7 @@ abbrev mutual
   under_at s n (while_of e) span a = tree.while span (expression_at s (n + 2) e) a
   under_at s n (for_of l) span a = tree.for span (head_at s n l) a
 
--- each with one token behind it
+-- each with one token after it
 abbrev pub declarations_at : (ℕ → Site) → ℕ → List Declaring → List Declaration
 declarations_at s n [] = []
 declarations_at s n (d ∷ rest) = declaration_at s n d ∷ declarations_at s (n + declaring_size d + 1) rest

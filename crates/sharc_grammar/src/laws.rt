@@ -84,17 +84,17 @@ pub fn programs_are_low()
     ensures { (tokens : Tokens) → (p : Program) → Reads tokens p → IsLow p }
 {}
 
-/// A cast around an expression that is none leaves the height that is limited as it was.
+/// A cast around an expression that is not one leaves the height that is limited as it was.
 pub fn casts_add_no_height()
     ensures { (s : Span) → (t : WrittenType) → (a : Expression) → is_cast a ≡ false → low_height (cast s t a) ≡ low_height a }
 {}
 
-/// A program that is read stands at its tokens.
+/// A program that is read lies at its tokens.
 pub fn programs_are_placed()
     ensures { (tokens : Tokens) → (p : Program) → Reads tokens p → IsPlaced p }
 {}
 
-/// In a program that stands at its tokens each name and each cast is the word at its token, and their numbers rise.
+/// In a program that lies at its tokens each name and each cast is the word at its token, and their numbers rise.
 pub fn names_stand_in_order()
     ensures { (p : Program) → IsPlaced p → Stand p.tokens.list 0 (items_marks p.items) }
 {}
@@ -104,7 +104,7 @@ pub fn names_have_tokens_of_their_own()
     ensures { (p : Program) → IsPlaced p → AllPairs (λ x y. number_of x < number_of y) (items_marks p.items) }
 {}
 
-/// In a program that stands at its tokens no name is left out.
+/// In a program that lies at its tokens no name is left out.
 pub fn each_name_token_is_named()
     ensures { (p : Program) → IsPlaced p → (n : ℕ) → (t : Token) → n < length p.tokens.list → (slice_index_or p.tokens.list n t).kind ≡ IdentifierKind → Contains (items_marks p.items) (a_name n (slice_index_or p.tokens.list n t).text) }
 {}
@@ -114,7 +114,7 @@ pub fn spans_can_be_printed()
     ensures { (all : List Token) → (s : Span) → IsSpan all s → (s.first.token ≤ s.last.token) × (s.last.token < length all) }
 {}
 
-/// So is that of an expression that stands at its tokens.
+/// So is that of an expression that lies at its tokens.
 pub fn expressions_can_be_printed()
     ensures { (all : List Token) → (e : Expression) → Placed all e → ((span_of e).first.token ≤ (span_of e).last.token) × ((span_of e).last.token < length all) }
 {}

@@ -56,7 +56,7 @@ in_order opening (e ∷ es) h keeps =
     by_event opening e (slice_index (words_after opening (e ∷ es)) top_word) (handed_out es) (h.each [] es e refl) (keeps 0 e (omega arith))
     (in_order (words_after_step opening e.step) es rest (λ k d lt. keeps (suc k) d (omega arith)))
 
--- what lies in order lies behind its beginning, and apart
+-- what lies in order lies after its beginning, and apart
 behind : (from : ℕ) (gs : List Granules) (to : ℕ) → LieInOrder from gs to → All (λ (g : Granules). from ≤ g.from) gs
 behind from [] to lie = λ k d lt. absurd (omega arith)
 behind from (g ∷ gs) to lie = All-cons (λ (g : Granules). from ≤ g.from) g gs lie.0 (λ k d lt. let later = behind g.to gs to lie.2 k d lt in let a = lie.0 in let b = lie.1 in omega arith)

@@ -21,7 +21,7 @@ clearings a = map (clearing a) (range_with_len 0 a.cells)
 turn_at_place : (steps : List WordStep) (i header : ℕ) (d : WordStep) → i < length steps → turn_at (drop i steps) header ≡ Do (get_or steps i d)
 turn_at_place steps i header d within = ap (λ s. turn_at s header) (drop-cons steps i d within)
 
--- behind the link the cells are cleared in their order
+-- after the link the cells are cleared in their order
 pub turn_in_cells : (a : NewArguments) (n cell : ℕ) → n ≡ 1 + cell → cell < a.cells → turn_at (drop n (own_steps a)) a.head ≡ Do (clearing a cell)
 turn_in_cells a n cell is within =
     let count = length-map-range_with_len (clearing a) 0 a.cells in
@@ -31,7 +31,7 @@ turn_in_cells a n cell is within =
     ∙ turn_at_place (clearings a ++ last_steps a a.head) cell a.head (clearing a 0) (omega arith)
     ∙ ap (λ s. Do s) (get_or_append_left (clearings a) (last_steps a a.head) (clearing a 0) cell (omega arith) ∙ get_or-map-range_with_len (clearing a) 0 a.cells cell cell (clearing a 0) within (omega arith))
 
--- behind the cells come the last two steps
+-- after the cells come the last two steps
 pub rest_after_cells : (a : NewArguments) (n k : ℕ) → n ≡ 1 + a.cells + k → drop n (own_steps a) ≡ drop k (last_steps a a.head)
 rest_after_cells a n k is =
     let at : n ≡ suc (length (clearings a) + k) = let count = length-map-range_with_len (clearing a) 0 a.cells in omega arith in

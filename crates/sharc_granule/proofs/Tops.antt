@@ -1,4 +1,4 @@
--- Lists of tops: where the first two neighbours that are equal stand.
+-- Lists of tops: where the first two equal neighbours are.
 use Rattle.std.proofs.Common.{◌≡◌, ℕ, List, [], ◌∷◌, ◌++◌, sym, ap, ◌∙◌, append_assoc}
 use Rattle.sharc_granule.specs.Asks.{NoneTwice, AreTops, HasMoved}
 
@@ -30,7 +30,7 @@ not_twice (x ∷ xs) h since [] y none e = let t : xs ++ h ∷ h ∷ since ≡ [
     longer (x ∷ xs) h rest e = cc
 not_twice (x ∷ xs) h since (a ∷ ys) y none e = not_twice xs h since ys y (none_tail a ys y none) cc
 
--- the first two equal neighbours stand at one place
+-- the first two equal neighbours are at one place
 pub record IsSamePlace (h k : ℕ) (since after : List ℕ) : Type 0 where
   pub value : h ≡ k
   pub rest : since ≡ after

@@ -28,7 +28,7 @@ count_word a header = word_number a (a.first + 2 * header)
 abbrev pub length_word : NewArguments → ℕ → ℕ
 length_word a header = word_number a (a.first + 2 * header + 1)
 
--- the cells of the object, from the granule behind the header on
+-- the cells of the object, from the granule after the header on
 abbrev pub cell_word : NewArguments → ℕ → ℕ → ℕ
 cell_word a header cell = word_number a (a.first + 2 * header + 2 + cell)
 
@@ -89,7 +89,7 @@ pub data Asks (a : NewArguments) (results : List ℕ) (turn : NewTurn) : Type 0 
   -- the block begins where the top was, and the last two steps follow
   TakesTop : a.head ≡ 0 → (top : ℕ) (since : List ℕ) → HasMoved results top since → top + a.block ≤ a.end → turn ≡ turn_at (drop (length since) (last_steps a top)) top → Asks a results turn
 
--- the head of the own list after these results: behind a block that was taken comes its link
+-- the head of the own list after these results: after a block that was taken comes its link
 abbrev pub head_after : NewArguments → List ℕ → ℕ
 head_after a [] = a.head
 head_after a (link ∷ rest) = if nat_eq a.head 0 then 0 else granule_number a link

@@ -12,7 +12,7 @@ pub record IsBlock (cells block : ℕ) : Type 0 where
   pub room : granules_of cells ≤ block
   pub least : (k : ℕ) → granules_of cells ≤ 2 ^ k → block ≤ 2 ^ k
 
--- the power doubled until there is room for so many granules, so many times at most
+-- the power doubled until there is room for this many granules, this many times at most
 unfoldable pub doubled : ℕ → ℕ → ℕ → ℕ
 doubled zero power granules = power
 doubled (suc more) power granules = if nat_le granules power then power else doubled more (2 * power) granules

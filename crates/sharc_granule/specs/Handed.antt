@@ -46,7 +46,7 @@ handed_out (event ∷ events) = handed_by event ++ handed_out events
 abbrev pub HandsOut : WordEvent → Granules → Type 0
 HandsOut event granules = handed_by event ≡ granules ∷ []
 
--- these lie one behind the other, the first not before this granule, and none past that one
+-- these lie one after the other, the first not before this granule, and none past that one
 abbrev pub LieInOrder : ℕ → List Granules → ℕ → Type 0
 LieInOrder from [] to = from ≤ to
 LieInOrder from (g ∷ gs) to = (from ≤ g.from) × (g.from ≤ g.to) × LieInOrder g.to gs to

@@ -66,7 +66,7 @@ StepsAreOfWords =
     (a : NewArguments) (results : List ℕ) (step : WordStep) → 1 < words_of a → Asks a results (Do step) → step.word < words_of a
 
 -- ---- turn by turn
--- behind its first turn a New asks for what a New asks for before there is a result
+-- after its first turn a New asks for what a New asks for before there is a result
 abbrev pub NewBegins : Type 0
 NewBegins = (a : NewArguments) (found : ℕ) → IsAfter (told (begun a) found) []
 
@@ -137,7 +137,7 @@ abbrev pub StepsKeepTop : Type 0
 StepsKeepTop =
     (a : NewArguments) (results : List ℕ) (step : WordStep) → 1 < a.first → Asks a results (Do step) → step.word ≡ top_word → MovesOn step.op
 
--- what is handed out lies one behind the other, from the opening top up to the top that is left, and no two of them overlap
+-- what is handed out lies one after the other, from the opening top up to the top that is left, and no two of them overlap
 pub record IsHandedOut (opening : List ℕ) (events : List WordEvent) : Type 0 where
   pub in_order : LieInOrder (slice_index opening top_word) (handed_out events) (slice_index (words_after opening events) top_word)
   pub apart : AllPairs (λ one later. one.to ≤ later.from) (handed_out events)

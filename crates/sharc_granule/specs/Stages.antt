@@ -1,4 +1,4 @@
--- The stages of a New: what each asks for, which one comes next, and which results stand behind it.
+-- The stages of a New: what each asks for, which one comes next, and which results were found up to it.
 use Rattle.std.specs.Prelude.{◌≡◌, ◌≢◌, ℕ, ◌+◌, ◌<◌, ◌≤◌, [], List, length, nat_lt, nat_le, nat_eq, if◌then◌else◌}
 use Rattle.sharc_word.specs.declared.step.WordOp.TheVariants.{Load, Swap, Cas}
 use Rattle.sharc_granule.specs.declared.stage.NewTurn.{NewTurn}
@@ -24,11 +24,11 @@ turn_of_stage a Full = HeapFull
 abbrev pub try_from : NewArguments → ℕ → Stage
 try_from a top = if nat_le (top + a.block) a.end then Move top (top + a.block) else Full
 
--- the stage behind the clearing of this cell
+-- the stage after the clearing of this cell
 abbrev pub after_cell : NewArguments → ℕ → Stage
 after_cell a cell = if nat_lt (cell + 1) a.cells then Cell (cell + 1) else Count a.head
 
--- the stage behind this one, where this was found
+-- the stage after this one, where this was found
 abbrev pub next_stage : NewArguments → Stage → ℕ → Stage
 next_stage a Begins found = if nat_eq a.head 0 then Top else Link
 next_stage a Link found = Cell 0
@@ -40,7 +40,7 @@ next_stage a (Length header) found = Finished header
 next_stage a (Finished header) found = Finished header
 next_stage a Full found = Full
 
--- the head of the own list behind this stage: the link that was found
+-- the head of the own list after this stage: the link that was found
 abbrev pub next_head : NewArguments → Stage → ℕ → ℕ → ℕ
 next_head a Link head found = granule_number a found
 next_head a _ head found = head
@@ -50,7 +50,7 @@ pub data HasBlock (a : NewArguments) (results : List ℕ) (header made : ℕ) : 
   OfOwn : a.head ≢ 0 → header ≡ a.head → length results ≡ 1 + a.cells + made → HasBlock a results header made
   OfTop : a.head ≡ 0 → (since : List ℕ) → HasMoved results header since → header + a.block ≤ a.end → length since ≡ made → HasBlock a results header made
 
--- the results that stand behind a stage
+-- the results that were found up to a stage
 pub record IsInCell (a : NewArguments) (results : List ℕ) (cell : ℕ) : Type 0 where
   pub own : a.head ≢ 0
   pub counted : length results ≡ 1 + cell

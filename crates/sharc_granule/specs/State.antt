@@ -1,4 +1,4 @@
--- A New on its way, turn by turn: what it asks for, and how it goes on when it is told what its step found.
+-- A New on its way, turn by turn: what it asks for, and how it goes on when it is given what its step found.
 use Rattle.std.specs.Prelude.{◌≡◌, ℕ, List}
 use Rattle.sharc_granule.specs.declared.arguments.NewArguments.{NewArguments}
 use Rattle.sharc_granule.specs.declared.stage.NewTurn.{NewTurn}
@@ -18,7 +18,7 @@ pub record NewView : Type 0 where
 abbrev pub begun : NewArguments → NewView
 begun a = record { arguments = a; stage = Begins; head = a.head }
 
--- the New behind its next turn, where this was found; the first turn does not look at it
+-- the New after its next turn, where this was found; the first turn does not look at it
 abbrev pub told : NewView → ℕ → NewView
 told state found = record {
   arguments = state.arguments;
@@ -30,7 +30,7 @@ told state found = record {
 abbrev pub turn_of : NewView → NewTurn
 turn_of state = turn_of_stage state.arguments state.stage
 
--- the turn is a step, whose result the next call is told
+-- the turn is a step, whose result the next call is given
 abbrev pub IsStep : NewTurn → Type 0
 IsStep (Do step) = Unit {0}
 IsStep (Made header) = ⊥

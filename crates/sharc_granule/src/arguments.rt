@@ -10,13 +10,13 @@ pub struct NewArguments {
     pub elements: u64,
     /// The object's cells in all.
     pub cells: u64,
-    /// The granule behind the arena.
+    /// The granule after the arena.
     pub end: u64,
     /// The number of the word of the first cell of granule 0.
     pub first: u32,
     /// The first block of the own list, or 0.
     pub head: u64,
-    /// The granules of a block for so many cells.
+    /// The granules of a block for this many cells.
     pub block: u64,
 }
 

@@ -8,7 +8,7 @@ use crate::blocks::block;
 use crate::stage::{NewTurn, Stage};
 use std::marker::Model;
 
-/// A New on its way. It asks for steps of words, and is told what each found. Contracts see it as a `NewView`.
+/// A New on its way. It asks for steps of words, and is given what each found. Contracts see it as a `NewView`.
 #[derive(Clone, Copy)]
 pub struct NewState {
     arguments: NewArguments,
@@ -35,7 +35,7 @@ impl NewState {
 
     /// A New of this many elements with this many cells in all, in the arena that ends before granule `end`, where `first` is
     /// the number of the word of the first cell of granule 0, and `head` the first freed block of this size on the thread's
-    /// own list, or 0 (own).
+    /// own list, or 0.
     pub fn new(elements: u64, cells: u64, end: u64, first: u32, head: u64) -> Self
         requires some { 1 ≤ elements }
         requires least { 1 ≤ cells }
@@ -72,7 +72,7 @@ impl NewState {
         self.arguments.block
     }
 
-    /// What the New asked for last; before the first call of `next` nothing, which is told as a full heap.
+    /// What the New asked for last; before the first call of `next` nothing, which is reported as a full heap.
     pub fn turn(&self) -> NewTurn
         ensures { result ≡ turn_of self.now }
     {
@@ -92,7 +92,7 @@ impl NewState {
     }
 }
 
-// The head of the own list behind this stage, where `last` was found.
+// The head of the own list after this stage, where `last` was found.
 fn head_after(of: &NewArguments, stage: Stage, head: u64, last: u64) -> u64
     ensures { result ≡ next_head of.now stage head last }
 {

@@ -45,7 +45,7 @@ pub enum Stage {
 }
 
 impl Stage {
-    // The stage behind this one, where `last` was found.
+    // The stage after this one, where `last` was found.
     pub(crate) fn next(self, of: &NewArguments, last: u64) -> Stage
         ensures { result ≡ next_stage of.now self last }
     {
@@ -83,7 +83,7 @@ impl Stage {
     }
 }
 
-// The stage behind the clearing of this cell.
+// The stage after the clearing of this cell.
 fn after_cell(of: &NewArguments, cell: u64) -> Stage
     ensures { result ≡ after_cell of.now cell }
 {

@@ -1,4 +1,4 @@
--- What flat and guarded code have in common where the one stands beside the other.
+-- What flat and guarded code have in common where the one is beside the other.
 use Rattle.std.proofs.Common.{◌≡◌, ℕ, ℤ, pos, negsuc, zero, suc, Bool, List, [], ◌∷◌, length, Some, None, refl, ap}
 use Rattle.sharc_tree.specs.declared.event.CellAt.{CellAt}
 use Rattle.sharc_code.specs.declared.code.PlaceMode.{PlaceMode}

@@ -1,4 +1,4 @@
--- Each access stands behind its check.
+-- Each access comes after its check.
 use Rattle.std.proofs.Common.{◌≡◌, ℕ, zero, suc, ◌+◌, ◌-◌, ◌<◌, ◌≤◌, ◌⊎◌, inl, inr, Bool, true, false, List, [], ◌∷◌, ◌++◌, length, map, refl, sym, ap, ◌∙◌, subst, ⊎_elim, arith, Some, None, slice_get, slice_index_or, cond}
 use Rattle.std.proofs.lemmas.Bool.{cases_lt}
 use Rattle.std.proofs.lemmas.List.{append_assoc, length-map}
@@ -149,7 +149,7 @@ module _ (flat : Flat) (dropped : ℕ → Bool) where
       }
 
   -- ---- accesses
-  -- an access under a mode, behind what the mode asks for
+  -- an access under a mode, after what the mode asks for
   checked : (n pc : ℕ) (o : Op) (e : slice_get flat.lines n ≡ Some o) (drop : Bool) (spot : Spot) (mode : PlaceMode) (a : Access) (dynamic : Instr) (rest : List Instr) → a.site ≡ n → dynamic ≡ (cond a.is_write (ChkWrite a.cell a.site) (ChkRead a.cell a.site))
       → (drop ≡ true → dropped n ≡ true) → expand pl (dropped n) n o ≡ check_under drop dynamic spot n mode ++ rest → 0 < length rest → pc ≡ pl n + length (check_under drop dynamic spot n mode) → IsCheckedAt dropped p pc mode a
   checked n pc o e drop spot Private a dynamic rest s d dr x lt q = tt

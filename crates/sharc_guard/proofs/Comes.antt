@@ -44,7 +44,7 @@ module _ (dropped : ℕ → Bool) (flat : Flat) (level : IsLevel flat) where
   abbrev A : At → Thread → Type 0
   A = Ahead dropped flat level
 
-  -- behind the checks: the statement, and what both make of it
+  -- after the checks: the statement, and what both make of it
   pub record AtBody (m : At) (a : Thread) (o : Op) : Type 0 where
     pub i : Instr
     pub body_is : own (body pl m.pc o) ≡ i ∷ []
@@ -193,7 +193,7 @@ module _ (dropped : ℕ → Bool) (flat : Flat) (level : IsLevel flat) where
         (c.same_answers ∙ sym (append-nil (guarded_asked p begun earlier)) ∙ sym (ap (λ t. guarded_asked p begun earlier ++ guarded_asked_by t x) t))
         (let f = c.few in omega arith) (omega arith)
 
-    -- ---- behind the last return
+    -- ---- after the last return
     past : (n : ℕ) → length flat.lines ≤ n → slice_get flat.lines n ≡ None
     past n le = slice_get_past flat.lines n le
 

@@ -316,7 +316,7 @@ module _ (flat : Flat) (from : At) where
       (λ (e : (function_of flat f).entry ≡ 0). ap (known flat) e)
       (entered flat.functions f)
 
-  -- behind what ends a piece nothing is known
+  -- after what ends a piece nothing is known
   after_end : (n : ℕ) (o : Op) → slice_get flat.lines n ≡ Some o → is_straight o ≡ false → known flat (n + 1) ≡ nothing
   after_end n o e s = let z : n + 1 ≡ suc n = omega arith in ap (known flat) z ∙ each (is_target flat (suc n))
     where

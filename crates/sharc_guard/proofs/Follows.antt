@@ -104,7 +104,7 @@ module _ (dropped : ℕ → Bool) (flat : Flat.Flat) where
   leaving (suc zero) = Leaving
   leaving (suc (suc n)) = Left
 
-  -- behind the last return
+  -- after the last return
   pub record AtEnd (m : Flat.At) (b : Thread) : Type 0 where
     pub steps : ℕ
     pub pc_is : m.pc ≡ length flat.lines + steps
@@ -351,7 +351,7 @@ module _ (dropped : ℕ → Bool) (flat : Flat.Flat) where
 
     -- ---- each operation
     module _ (ok : IsFlat flat) where
-      -- the place behind an operation of one statement
+      -- the place after an operation of one statement
       abbrev After : Op → Type 0
       After o = q + (1 + length (tail o)) ≡ at (m.pc + 1)
 

@@ -1,4 +1,4 @@
--- What stands before a statement: checks of what it asks for.
+-- What comes before a statement: checks of what it asks for.
 use Rattle.std.proofs.Common.{◌≡◌, ℕ, ℤ, pos, ◌+◌, ◌-◌, inl, inr, Bool, true, false, List, [], ◌∷◌, Some, None, refl, sym, ap, ◌∙◌, subst, cond}
 use Rattle.sharc_tree.specs.declared.event.Act.{Act}
 use Rattle.sharc_tree.specs.declared.event.Act.TheVariants as acts
@@ -40,7 +40,7 @@ module _ (dropped : ℕ → Bool) (flat : Flat) (m : At) where
   abbrev p : Program
   p = guarded dropped flat
 
-  -- a turn that leads on where its check passes, and tells what flat code wants
+  -- a turn that leads on where its check passes, and reports what flat code wants
   abbrev pub Passes : Type 0 → Turn → Thread → Form.Turn → Type 0
   Passes rest t a (Form.Goes b) = (b ≡ Form.next a) × rest
   Passes rest t a (Form.Checks check site b) = (b ≡ Form.next a) × rest × Tells p (Form.Checks check site b) t

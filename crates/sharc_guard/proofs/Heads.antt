@@ -1,4 +1,4 @@
--- What stands before an operation's own statement: it passes, or stops where flat code stops.
+-- What comes before an operation's own statement: it passes, or stops where flat code stops.
 use Rattle.std.proofs.Common.{◌≡◌, ℕ, ℤ, pos, ◌+◌, Bool, true, false, List, [], ◌∷◌, refl, sym, ap, ◌∙◌, subst}
 use Rattle.std.specs.Prelude.{if◌then◌else◌}
 use Rattle.sharc_tree.specs.declared.event.Act.{Act}

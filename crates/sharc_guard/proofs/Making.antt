@@ -68,7 +68,7 @@ place_in d lines (suc n) k lt = each (λ below. place_in d lines n k below) (nat
         let l_is : length (places d lines n) ≡ k = length_places d lines n ∙ k_is in
         ap (λ j. get_or (places d lines n ++ place d lines n ∷ []) j 0) (sym l_is) ∙ get_or-append_seam (places d lines n) (place d lines n) [] 0 ∙ ap (place d lines) k_is
 
--- behind the last line no place is further on
+-- after the last line no place is further on
 offset_stays : (d : ℕ → Bool) (j : ℕ) (lines : List Op) (k : ℕ) → length lines ≤ k → offset d j lines k ≡ offset d j lines (length lines)
 offset_stays d j [] k le = refl
 offset_stays d j (o ∷ os) zero le = absurd (omega arith)

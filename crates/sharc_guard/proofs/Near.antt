@@ -1,4 +1,4 @@
--- Where guarded code stands behind one turn of flat code.
+-- Where guarded code is after one turn of flat code.
 use Rattle.std.proofs.Common.{◌≡◌, ℕ, ℤ, zero, suc, ◌+◌, ◌≤◌, ◌⊎◌, inl, Bool, List, [], ◌∷◌, length, refl, ap, ◌∙◌, arith}
 use Rattle.sharc_tree.specs.declared.event.CellAt.{CellAt}
 use Rattle.sharc_code.specs.declared.instr.Instr.{Instr}
@@ -76,7 +76,7 @@ module _ (dropped : ℕ → Bool) (flat : Flat) (level : IsLevel flat) where
     pub clear : ClearBy rest a
     pub replaced : IsLowering rest → (c : CellAt) × (m.given ≡ Replaced c ∷ []) × (a.lowered ≡ [])
 
-  -- behind its last return
+  -- after its last return
   pub record Ending (m : At) (a : Thread) : Type 0 where
     pub steps : ℕ
     pub few : steps ≤ 2

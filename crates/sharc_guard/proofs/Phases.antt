@@ -88,7 +88,7 @@ module _ (dropped : ℕ → Bool) (flat : Flat) (level : IsLevel flat) where
   abbrev p : Program
   p = guarded dropped flat
 
-  -- its own statement is yet to come, behind these
+  -- its own statement is yet to come, after these
   pub record Ahead (m : At) (a : Thread) : Type 0 where
     pub ready : Ready flat level m
     pub o : Op

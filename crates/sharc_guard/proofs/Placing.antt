@@ -1,4 +1,4 @@
--- Where the statements of lines stand.
+-- Where the statements of lines lie.
 use Rattle.std.proofs.Common.{◌≡◌, ℕ, zero, suc, ◌+◌, Bool, List, [], ◌∷◌, ◌++◌, length, map, refl, sym, ap, ◌∙◌, subst, arith, Some, slice_get, slice_index_or}
 use Rattle.std.proofs.lemmas.List.{length-append}
 use Rattle.sharc_code.specs.declared.instr.Instr.{Instr}
@@ -10,7 +10,7 @@ use Rattle.sharc_flat_form.specs.Machine.{Flat}
 use Rattle.sharc_guarded_form.specs.Machine.{Program, statement_at, source_at}
 use Rattle.sharc_guard.specs.Guard.{expand, width, offset, place, expanded, guarded, source_of, head, own, body, tail}
 
--- the statements stand in the list from a place on
+-- the statements lie in the list from a place on
 abbrev pub HasAt : List Instr → ℕ → List Instr → Type 0
 HasAt g pc [] = Unit {0}
 HasAt g pc (i ∷ is) = (slice_get g pc ≡ Some i) × HasAt g (pc + 1) is

@@ -122,7 +122,7 @@ module _ (flat : Flat) (level : IsLevel flat) where
         (frames_keep (owner m.pc) m.ref_base m.refs m2.refs m.frames keep fr)));
   }
 
-  -- ---- behind a turn
+  -- ---- after a turn
   module _ (m : At) (rd : Ready m) where
     abbrev pub En : Slots → ℕ → Type 0
     En = Enters flat owner level.gives slots (owner m.pc)

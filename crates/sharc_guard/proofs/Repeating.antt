@@ -459,7 +459,7 @@ module _ (flat : Flat) where
     knows_next : Knows (suc n) (know_next o k)
     knows_next = record { copies = knows_copy; numbers = knows_number; passed = knows_passed }
 
-  -- what stands in a piece to the next line
+  -- what lies in a piece up to the next line
   next_of : (m n : ℕ) → m < suc n → IsPiece flat m (suc n) → Knows n (known flat n) → Knows (suc n) (known flat (suc n))
   next_of m n lt p h =
       let t = there n (p.straight n (omega arith) (omega arith)) in

@@ -18,7 +18,7 @@ use Rattle.sharc_guard.specs.Made.{IsMade}
 use Rattle.sharc_guard.specs.Tables.{FlatTablesFit}
 use Rattle.sharc_guard.proofs.Framing.{AllIn, all_append, all_at, head_all}
 
--- what a statement spawns is one of so many functions
+-- what a statement spawns is one of this many functions
 abbrev Spawns : ℕ → Instr → Type 0
 Spawns count (Spawn to function from site) = function < count
 Spawns count _ = Unit {0}

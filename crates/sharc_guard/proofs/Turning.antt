@@ -193,7 +193,7 @@ module _ (dropped : ℕ → Bool) (flat : Flat) (level : IsLevel flat) (m : At) 
       mode : CellMode
       mode = mode_of flat.globals m c spot.mode
 
-  -- behind an event that takes and gives no mutex
+  -- after an event that takes and gives no mutex
   behind : (e : q + 1 ≡ pl (m.pc + 1)) (m2 : At) → R m2 → log ≡ held_mutexes m2.events → m2.given ≡ [] → m2.pc ≡ m.pc + 1 → N m2 (beside pl m2 (q + 1) log []) []
   behind e m2 r eh gi pc = lands dropped flat level m2 (q + 1) log [] (e ∙ ap pl (sym pc)) r eh (subst (λ g. AreLowered g []) (sym gi) tt)
 

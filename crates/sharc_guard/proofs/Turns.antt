@@ -1,4 +1,4 @@
--- Where flat code stands behind a turn.
+-- Where flat code is after a turn.
 use Rattle.std.specs.Prelude.{ℤ}
 use Rattle.sharc_flat_form.specs.Machine.{At, Turn}
 use Rattle.sharc_flat_form.specs.Path.{after}

@@ -115,7 +115,7 @@ module _ (dropped : ℕ → Bool) (flat : Flat.Flat) (ok : IsFlat flat) where
   abbrev pl : ℕ → ℕ
   pl = at dropped flat
 
-  -- the next statements are those that stand before a line's own, and that
+  -- the next statements are those that come before a line's own, and that
   record InHead (m : Flat.At) (a : Thread) : Type 0 where
     line : Op
     stands_there : slice_get flat.lines m.pc ≡ Some line
@@ -338,7 +338,7 @@ module _ (dropped : ℕ → Bool) (flat : Flat.Flat) (ok : IsFlat flat) where
       line_turn answers path h [] e count pace = own_turn answers path h e count pace
       line_turn answers path h (i ∷ rest) e count pace = head_turn answers path h i rest e count pace
 
-      -- the statement behind it
+      -- the statement after it
       trailing_turn : (answers : List ℤ) → Flow.IsPath flat m0 answers → (h : Trailing dropped flat (at_after flat m0 answers) a) → turns + 1 ≤ 4 * length answers → weighed + 1 ≤ 5 * length answers → Next
       trailing_turn answers path h count pace =
           let m = at_after flat m0 answers in
@@ -354,7 +354,7 @@ module _ (dropped : ℕ → Bool) (flat : Flat.Flat) (ok : IsFlat flat) where
             pace = omega arith;
           }
 
-      -- behind the last return
+      -- after the last return
       end_at : (answers : List ℤ) (h : AtEnd dropped flat (at_after flat m0 answers) a) → Flat.turn flat (at_after flat m0 answers) ≡ Flat.end_turn flat (at_after flat m0 answers) h.steps
       end_at answers h =
           let m = at_after flat m0 answers in

@@ -38,11 +38,11 @@ released_right (Replaced c ∷ a) b n h = released_right a b n h
 released_right (Emptied g ∷ a) b n h = released_right a b n h
 
 module _ (flat : Flat) (level : IsLevel flat) where
-  -- behind the last return, or still on its way
+  -- after the last return, or still on its way
   abbrev pub Later : At → Type 0
   Later m = Ready flat level m ⊎ (length flat.lines ≤ m.pc)
 
-  -- behind a turn that asks for nothing
+  -- after a turn that asks for nothing
   abbrev After : At → ℤ → Turn → Type 0
   After m v (goes m2) = Later m2 × OnWay v m m2
   After m v (asks m2 site act held f) = Unit {0}
@@ -317,7 +317,7 @@ module _ (flat : Flat) (level : IsLevel flat) where
       (g.0 ++ r.0, r.1 ∙ ap (λ l. l ++ r.0) g.1 ∙ append_assoc m.given g.0 r.0)
 
   -- ---- any number of turns
-  -- no turn behind the last return asks for nothing
+  -- no turn after the last return asks for nothing
   no_end : (m mid : At) (n : ℕ) → end_turn flat m n ≡ goes mid → ⊥
   no_end m mid zero e = absurd (cc)
   no_end m mid (suc zero) e = absurd (cc)

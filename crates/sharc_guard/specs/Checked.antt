@@ -63,7 +63,7 @@ IsCheckedAt dropped p pc (LockedSibling field mutex) a = IsAfterCheck p pc (Lock
 IsCheckedAt dropped p pc (LockedThrough r place) a = IsAfterCheck p pc (LockedThrough r place) a
 IsCheckedAt dropped p pc LockedLoaded a = IsAfterCheck p pc LockedLoaded a
 
--- a site is a line of flat code, so `dropped` tells of sites as well
+-- a site is a line of flat code, so `dropped` applies to sites as well
 abbrev pub AccessesAreChecked : Type 0
 AccessesAreChecked = (flat : Flat) (dropped : ℕ → Bool) (pc : ℕ) (i : Instr) (a : Access) → let p = guarded dropped flat in
     slice_get p.statements pc ≡ Some i → access_of i ≡ Some a → IsCheckedAt dropped p pc (source_at p a.site).mode a

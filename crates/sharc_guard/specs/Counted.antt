@@ -115,7 +115,7 @@ IsReleased [] n = ⊥
 IsReleased (Released g ∷ gs) n = (g ≡ n) ⊎ IsReleased gs n
 IsReleased (_ ∷ gs) n = IsReleased gs n
 
--- so many turns of flat code that ask for nothing
+-- this many turns of flat code that ask for nothing
 abbrev pub Quietly : Flat → ℕ → At → At → Type 0
 Quietly flat zero m m2 = m ≡ m2
 Quietly flat (suc n) m m2 = (mid : At) × (turn flat m ≡ goes mid) × Quietly flat n mid m2

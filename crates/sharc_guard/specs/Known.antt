@@ -154,7 +154,7 @@ abbrev pub with_element : ℕ → ℕ → Option ℕ → Option ℕ
 with_element cells field None = None
 with_element cells field (Some n) = element cells field n
 
--- the number that an operation writes, by the one that stood there
+-- the number that an operation writes, by the one that was there
 abbrev pub number_given : Op → Option ℕ → Option ℕ
 number_given (op.Constant i v) old = of_constant v
 number_given (op.Bounds i r cells field spot) old = with_element cells field old

@@ -184,7 +184,7 @@ pub record AreTargets (lines : List Op) (functions : List Function) (targets : L
   pub count : length targets ≡ length lines + 1
   pub are : (to : ℕ) → to < length targets → get_or targets to false ≡ (is_led_to lines (length lines) to || is_entry functions to)
 
--- each mark tells whether the check of its line is dropped
+-- each mark says whether the check of its line is dropped
 pub record AreMarks (flat : Flat) (marks : List Bool) : Type 0 where
   pub count : length marks ≡ length flat.lines
   pub are : (n : ℕ) → marked marks n ≡ dropped flat n

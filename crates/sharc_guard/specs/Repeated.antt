@@ -22,7 +22,7 @@ module _ (flat : Flat) where
   abbrev pub IsLine : ℕ → Op → Type 0
   IsLine n o = slice_get flat.lines n ≡ Some o
 
-  -- the lines from the first to the second stand in one straight piece
+  -- the lines from the first to the second lie in one straight piece
   pub record IsPiece (m n : ℕ) : Type 0 where
     pub straight : (j : ℕ) → m ≤ j → j < n → IsStraight (slice_get flat.lines j)
     pub no_target : (j : ℕ) → m < j → j ≤ n → is_target flat j ≡ false

@@ -15,7 +15,7 @@ use sharc_guarded_form::Guarded;
 use sharc_tree::token::Site;
 use std::alloc::{AllocError, Global};
 
-// So many lines have places of 32 bits.
+// This many lines have places of 32 bits.
 const MOST_LINES: usize = 0x2000_0000;
 
 /// The guarded code of flat code, without the checks that repeat one. It takes over the tables.
@@ -425,7 +425,7 @@ fn place_of(starts: &[u32], to: usize) -> u32
     }
 }
 
-// Where the line goes that is so many after the next one.
+// Where the line goes that is this many after the next one.
 fn over(starts: &[u32], n: u32, k: u32) -> u32
     requires { 0 < length starts.now }
     ensures { result ≡ among starts.now (n + 1 + k) }

@@ -493,5 +493,5 @@ fn element(number: Option<u64>, cells: u32, field: u32) -> Option<u64>
     }
 }
 
-/// No object has so many elements.
+/// No object has this many elements.
 const FEW: u64 = 4_294_967_296;

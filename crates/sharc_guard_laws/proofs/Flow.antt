@@ -1,4 +1,4 @@
--- Pieces of flat code with what is known at each of their lines, one after the other: knowledge of any kind, told by which fits which and by what an operation needs.
+-- Pieces of flat code with what is known at each of their lines, one after the other: knowledge of any kind, given by which fits which and by what an operation needs.
 use Rattle.std.specs.Prelude.{slice_get, slice_index_or}
 use Rattle.std.proofs.Common.{◌≡◌, ℕ, zero, suc, ◌+◌, ◌≤◌, List, [], ◌∷◌, ◌++◌, length, refl, ap, sym, ◌∙◌, subst, arith, length-append, append_assoc, Some, None}
 use Rattle.sharc_flat_form.specs.declared.op.Op.{Op}
@@ -237,7 +237,7 @@ module _ (St : Type 0) (Fit : St → St → Type 0) (same : (s : St) → Fit s s
             rest = subst (λ q. Agrees table q b) z (agrees_right table pc (a ++ s ∷ []) b (length xs + 1) (states_many a s ∙ ap (λ k. k + 1) n) h);
           }
 
-      -- the lines of a test that leads over so many, to a place where registers hold what these hold
+      -- the lines of a test that leads over this many, to a place where registers hold what these hold
       test_levels : (s : St) (pc i over : ℕ) (xs ys : List Op) (p : Q s pc xs s) (table : ℕ → St) → D table → AreOwn pc (length (tested xs i over ++ ys)) → Agrees table pc p.states → table (pc + length xs) ≡ s → over ≤ length ys
           → Fit s (table (pc + length xs + 1 + over)) → Fit s (table (pc + length xs + 1)) → Levels table (pc + length xs + 1) ys → Levels table pc (tested xs i over ++ ys)
       test_levels s pc i over xs ys p table d own a last le far next rest =

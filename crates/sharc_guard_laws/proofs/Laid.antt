@@ -1,4 +1,4 @@
--- Code that is laid out overwrites no reference and names its mutexes, as the code does whose texts are told.
+-- Code that is laid out overwrites no reference and names its mutexes, as the code does whose texts are given.
 use Rattle.std.proofs.Common.{◌≡◌, inl, inr, ℕ, zero, suc, ◌+◌, ◌-◌, ◌<◌, Bool, List, [], ◌∷◌, length, Some, None, refl, ap, sym, ◌∙◌, subst, arith}
 use Rattle.std.specs.Prelude.{slice_get, slice_index_or}
 use Rattle.sharc_code.specs.declared.code.Function.{Function as Row}
@@ -36,7 +36,7 @@ same_some x y h = cc
 none_some : {A : Type 0} (x : A) → None ≡ Some x → ⊥
 none_some x h = cc
 
--- a line that is made is one that is told, with other texts
+-- a line that is made is one that is given, with other texts
 pub record Told (told : List Op) (n : ℕ) (p : Op) : Type 0 where
   pub line : Op
   pub at : slice_get told n ≡ Some line

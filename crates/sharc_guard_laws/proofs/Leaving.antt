@@ -14,7 +14,7 @@ use Rattle.sharc_guard_laws.proofs.Parts.{P, then_do, does}
 use Rattle.sharc_guard_laws.proofs.Pieces.{nothing}
 use Rattle.sharc_guard_laws.proofs.Slots.{fits_same, fits_free, fit_same, with_same, with_other}
 
--- the variables that stand after blocks have ended, each of which began where so many stood
+-- the variables that remain after blocks have ended, each of which began with this number of them
 abbrev pub kept : List Slot → List ℕ → List Slot
 kept scope [] = scope
 kept scope (n ∷ outer) = kept (take n scope) outer

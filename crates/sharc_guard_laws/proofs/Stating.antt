@@ -130,7 +130,7 @@ nothing_declared c (for s h y) e = refl
 refs_more : (c : Context) (d : Declaration) → refs_of (with_variable c d) ≡ refs_of c + width (is_reference (declared_kind d.written))
 refs_more c d = one_more c.scope (slot_of d) ∙ ap (λ b. ref_count c.scope + width b) (sym (declared_reference d.written))
 
--- a loop around, where so many references stand; the blocks in it and around it; what the function gives
+-- a loop around, where there are this many references; the blocks in it and around it; what the function gives
 pub record IsAround (gives : Bool) (b : Bool) (n : ℕ) (a : Around) (scope : List Slot) : Type 0 where
   pub inner : b ≡ true → ref_count (kept scope a.inside) ≡ n
   pub outer : ref_count (kept scope (a.inside ++ a.outside)) ≡ 0

@@ -23,7 +23,7 @@ abbrev pub HandedWithin : ℕ → Register → Type 0
 HandedWithin refs (registers.Int r) = Unit {0}
 HandedWithin refs (registers.Reference r) = r < refs
 
--- what the statement writes is in a frame of so many registers of each bank
+-- what the statement writes is in a frame of this many registers of each bank
 abbrev pub WritesWithin : ℕ → ℕ → Instr → Type 0
 WritesWithin ints refs (Constant r v) = r < ints
 WritesWithin ints refs (Move r from) = r < ints

@@ -214,7 +214,7 @@ abbrev pub indexed : Thread → ℕ → ℤ → ℕ → ℕ → ℕ → ℕ → 
 indexed a r (pos i) cells field site elements = if nat_lt i elements then goes (set_int a r (pos (i * cells + field))) else Halts (Stopped 2 site)
 indexed a r (negsuc i) cells field site elements = Halts (Stopped 2 site)
 
--- ---- calls: at most 256 frames stand
+-- ---- calls: there are at most 256 frames
 abbrev pub called : Program → Thread → ℕ → ℕ → ℕ → ℕ → Turn
 called p a f ints refs site =
     if nat_lt (length a.frames) 256

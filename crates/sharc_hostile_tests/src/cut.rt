@@ -7,7 +7,7 @@ use std::test::Fail;
 /// The program that prints 6 * 7.
 const ANSWER: &str = "int main(void) { print(6 * 7); return 0; }";
 
-/// What cannot follow in the program that is cut off after so many bytes: a word that was cut itself, or the end.
+/// What cannot follow in the program that is cut off after this many bytes: a word that was cut itself, or the end.
 fn unexpected(length: usize) -> &'static str {
     match length {
         1 => "'i'",

@@ -5,7 +5,7 @@ use crate::texts::add_times;
 use std::alloc::{AllocError, Global};
 use std::test::Fail;
 
-/// What stands round a statement or an operand, before it and behind it, and how many of them there may be.
+/// What is around a statement or an operand, before it and after it, and how many of them there may be.
 struct Around {
     before: &'static str,
     after: &'static str,
@@ -122,7 +122,7 @@ static OPERANDS: [(Around, &str); 9] = [
     ),
 ];
 
-/// Writes what stands round a text, and the text, so many times.
+/// Writes a text, and what is around it this many times.
 fn add_around(
     text: &mut String,
     around: &Around,
@@ -184,7 +184,7 @@ fn programs_one_deeper_are_refused(rt: HostRuntime) -> Result<(), Fail> {
     Ok(())
 }
 
-/// Two frames beside so many more: `main`, and each call of a function that calls itself until 0.
+/// Two frames beside this many more: `main`, and each call of a function that calls itself until 0.
 fn recursion(alloc: Global, calls: u32) -> Result<String, AllocError> {
     format!(in alloc;
         "int f(int k) {{ if (k == 0) return 7; return f(k - 1); }} int main(void) {{ print(f({calls})); return 0; }}"

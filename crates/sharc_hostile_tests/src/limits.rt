@@ -5,7 +5,7 @@ use crate::texts::add_numbered;
 use std::alloc::{AllocError, Global};
 use std::test::Fail;
 
-/// What stands so many times in a program, each time with its number, and what uses the last of them.
+/// What is in a program this many times, each time with its number, and what uses the last of them.
 struct Counted {
     opening: &'static str,
     before: &'static str,
@@ -94,7 +94,7 @@ static COUNTED: [Counted; 8] = [
 ];
 
 impl Counted {
-    /// The program with so many of them.
+    /// The program with this many of them.
     fn source(&self, alloc: Global, times: usize) -> Result<String, AllocError> {
         let mut text = String::from_str(alloc, self.opening)?;
         add_numbered(alloc, &mut text, self.before, times, self.after)?;

@@ -9,7 +9,7 @@ use std::sync::Wait;
 use std::test::Fail;
 use std::thread::Threads;
 
-/// The status of the call with the words of this line, which are parted by single spaces.
+/// The status of the call with the words of this line, which are separated by single spaces.
 pub(crate) fn called<R: Threads + Wait + Sync, S: Source, O: Sink>(
     rt: &R,
     alloc: Global,
@@ -60,7 +60,7 @@ pub(crate) fn assert_reply(
     Ok(())
 }
 
-/// Asserts what was told.
+/// Asserts what was reported.
 pub(crate) fn assert_told(rt: &impl Abort, found: Vec<u8>, label: &str, wanted: &str) {
     match String::from_utf8(found) {
         Ok(text) => assert_eq!(rt; text.as_str(), wanted, "{label}"),

@@ -3,7 +3,7 @@
 use crate::outcome::assert_reply;
 use std::test::Fail;
 
-/// Sources, and the status and the line of the reply, parted by bars.
+/// Sources, and the status and the line of the reply, separated by bars.
 const REFUSED: &str = "|2 input:1: C8 no int main(void)
 int main(void) { print(9223372036854775808); }|2 input:1: L2 number at offset 23
 int aaaaaaaaaaaaaaaaaaaaaaaaaaaaaaaaaaaaaaaaaaaaaaaaaaaaaaaaaaaaaaaaa;|2 input:1: L4 identifier over 64 bytes at offset 4

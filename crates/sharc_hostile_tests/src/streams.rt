@@ -76,7 +76,7 @@ impl Sink for Trickling {
     }
 }
 
-/// What is told over a sink that takes one byte at each call, and nothing at this one.
+/// What is reported over a sink that takes one byte at each call, and nothing at this one.
 fn trickled<R: Threads + Wait + Sync>(
     rt: &R,
     alloc: Global,
@@ -94,7 +94,7 @@ fn trickled<R: Threads + Wait + Sync>(
     told(alloc, status, sink.sink.bytes())
 }
 
-/// What is told over a sink whose call of this number fails, counted from 0.
+/// What is reported over a sink whose call of this number fails, counted from 0.
 fn cut_short<R: Threads + Wait + Sync>(
     rt: &R,
     alloc: Global,
@@ -108,7 +108,7 @@ fn cut_short<R: Threads + Wait + Sync>(
     told(alloc, status, sink.bytes())
 }
 
-/// What is told over a source whose call of this number fails, counted from 0.
+/// What is reported over a source whose call of this number fails, counted from 0.
 fn unread<R: Threads + Wait + Sync>(
     rt: &R,
     alloc: Global,
@@ -123,7 +123,7 @@ fn unread<R: Threads + Wait + Sync>(
     told(alloc, status, sink.bytes())
 }
 
-/// What is told over a source that gives one byte at each call.
+/// What is reported over a source that gives one byte at each call.
 fn dripped<R: Threads + Wait + Sync>(
     rt: &R,
     alloc: Global,
@@ -175,7 +175,7 @@ fn a_sink_that_stalls_has_the_bytes_before(rt: HostRuntime) -> Result<(), Fail> 
     Ok(())
 }
 
-/// Words and sources, parted by bars: the first write fails, whatever was to be written.
+/// Words and sources, separated by bars: the first write fails, whatever was to be written.
 const UNWRITTEN: &str =
     "check|int main(void) { return 0; }\ncheck|@\nrun|@\nexplain|int g; int main(void) { return 0; }\naudit|%%events 0\nhelp|\nload 1|\nrun|int main(void) { print(1 / 0); return 0; }";
 

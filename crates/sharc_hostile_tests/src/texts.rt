@@ -1,8 +1,8 @@
-//! Sources in which one part stands again and again.
+//! Sources in which one part occurs again and again.
 
 use std::alloc::{AllocError, Global};
 
-/// A part that is repeated, and what stands before and behind it.
+/// A part that is repeated, and what comes before and after it.
 #[derive(Clone, Copy)]
 pub(crate) struct Repeated<'a> {
     pub(crate) opening: &'a str,
@@ -10,7 +10,7 @@ pub(crate) struct Repeated<'a> {
     pub(crate) closing: &'a str,
 }
 
-/// Writes a part so many times.
+/// Writes a part this many times.
 pub(crate) fn add_times(text: &mut String, part: &str, times: usize) -> Result<(), AllocError> {
     for _ in 0..times {
         text.push_str(part)?;
@@ -18,7 +18,7 @@ pub(crate) fn add_times(text: &mut String, part: &str, times: usize) -> Result<(
     Ok(())
 }
 
-/// Writes a part for each number below this one: what stands before the number and behind it.
+/// Writes a part for each number below this one: what comes before the number and after it.
 pub(crate) fn add_numbered(
     alloc: Global,
     text: &mut String,
@@ -36,7 +36,7 @@ pub(crate) fn add_numbered(
 }
 
 impl Repeated<'_> {
-    /// How often the part stands in a source of so many bytes.
+    /// How often the part occurs in a source of this many bytes.
     pub(crate) fn count_in(&self, bytes: usize) -> usize {
         let room = bytes
             .saturating_sub(self.opening.len())
@@ -44,7 +44,7 @@ impl Repeated<'_> {
         room.checked_div(self.part.len()).unwrap_or(0)
     }
 
-    /// The source of so many bytes: as many parts as there is room for, and spaces before the closing.
+    /// The source of this many bytes: as many parts as there is room for, and spaces before the closing.
     pub(crate) fn filling(&self, alloc: Global, bytes: usize) -> Result<String, AllocError> {
         let mut text = String::from_str(alloc, self.opening)?;
         add_times(&mut text, self.part, self.count_in(bytes))?;

@@ -43,7 +43,7 @@ given_added r function answer old mid new a b is behind = subst (λ l. OnOk answ
 pub given_first : (r : Resolution) (function : ℕ) (old mid all : List Link) (a b : List Transfer) → mid ≡ old ++ given r function a → old ++ given r function (a ++ b) ≡ all → mid ++ given r function b ≡ all
 given_first r function old mid all a b is whole = given_two r function old mid a b is ∙ whole
 
--- what stands at a place, and behind it
+-- what is at a place, and what follows it
 pub from_place : {A : Type 0} (xs : List A) (i : ℕ) (x : A) → i < length xs → x ≡ get_or xs i x → drop i xs ≡ x ∷ drop (i + 1) xs
 from_place xs i x below is = drop_more xs i x below ∙ ap (λ y. y ∷ drop (i + 1) xs) (sym is)
 

@@ -29,7 +29,7 @@ touch r None function roots = roots
 touch r (Some g) None roots = roots
 touch r (Some g) (Some f) roots = rooted r g.declaration.name.site.token (Touched f) roots
 
--- those of the first so many globals
+-- those of the globals below this number
 abbrev pub touched_below : Resolution → Reaching → ℕ → Roots → Roots
 touched_below r a zero roots = roots
 touched_below r a (suc n) roots = touch r (global_at r n) (first_of a n) (touched_below r a n roots)
@@ -44,7 +44,7 @@ pass r n f false roots = roots
 pass r n None true roots = roots
 pass r n (Some f) true roots = mark_all r n f.parameters roots
 
--- those of the first so many functions
+-- those of the functions below this number
 abbrev pub passed_below : Resolution → Reaching → ℕ → Roots → Roots
 passed_below r a zero roots = roots
 passed_below r a (suc n) roots = pass r n (function_at r n) (is_chosen a.spawned n) (passed_below r a n roots)

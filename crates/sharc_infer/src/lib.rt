@@ -1,6 +1,6 @@
 //! The inference of modes: which pointer targets and globals without a written mode are dynamic, and why.
 //!
-//! The layer above may use `infer`; `infer_by_rounds` is a plain program beside it, for tests. What is answered is the least assignment (`IsLeastAssignment` of sharc_mode/specs/Flows.antt). Roots, settled modes
+//! The layer above may use `infer`. What is answered is the least assignment (`IsLeastAssignment` of sharc_mode/specs/Flows.antt). Roots, settled modes
 //! and links of a program are listed, each by one pass, and sharc_constraints finds which positions a path of links leads to. The time is linear in the
 //! program and its positions, links among them.
 #![tactic(auto)]
@@ -14,4 +14,4 @@ mod roots;
 mod settled;
 mod transfers;
 
-pub use answer::{infer, infer_by_rounds};
+pub use answer::infer;

@@ -22,7 +22,7 @@ fn written_place(mode: &Mode) -> Place
     }
 }
 
-/// The place of a position of which this is settled, and which is a root for this reason or is none.
+/// The place of a position of which this is settled, and which is a root for this reason or is not one.
 fn place_of(settled: &Option<Mode>, root: Option<Reason>) -> Place
     ensures { result ≡ place_of settled.now root }
 {

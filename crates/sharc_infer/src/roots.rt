@@ -97,7 +97,7 @@ fn pass_all(typed: &Typed, reached: &Reached, functions: u32, roots: &mut Vec<Op
     }
 }
 
-/// Why each position is a root; none of any other. More globals or functions than a number of 32 bits counts are answered as want of memory.
+/// Why each position is a root; none of any other. More globals or functions than a number of 32 bits counts are answered as out of memory.
 pub(crate) fn roots(
     alloc: Global,
     typed: &Typed,

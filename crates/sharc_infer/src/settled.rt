@@ -4,7 +4,7 @@ ghost use Rattle.std.specs.Prelude.{◌≡◌, ◌++◌, Some, if◌then◌else�
 ghost use Rattle.std.specs.Option.{option_or};
 ghost use Rattle.sharc_tree.specs.declared.ctype.Mode.TheVariants.{Racy as RacyMode};
 ghost use Rattle.sharc_ctype.specs.Entities.{entities_in};
-ghost use Rattle.sharc_mode.specs.Settled.{field_target, otherwise_of, settled_modes, settled_in};
+ghost use Rattle.sharc_mode.specs.Settled.{is_mutex, field_target, otherwise_of, settled_modes, settled_in};
 
 use sharc_ctype::entity::{Entity, first_depth};
 use sharc_ctype::typed::Typed;

@@ -1,4 +1,4 @@
--- The name of a parameter stands in one function.
+-- The name of a parameter lies in one function.
 use Rattle.std.proofs.Common.{◌≡◌, ℕ, zero, suc, ◌+◌, ◌<◌, ◌≤◌, List, [], ◌∷◌, ◌++◌, length, get_or, Some, None, refl, ap, sym, subst, arith, Contains}
 use Rattle.std.specs.Prelude.{slice_get}
 use Rattle.sharc_tree.specs.declared.token.Span.{Span}
@@ -8,7 +8,7 @@ use Rattle.sharc_tree.specs.Placed.{Follow, declaration_spans, item_spans, Place
 use Rattle.sharc_tree.specs.Tree.{Function, Item, structure, global, function}
 use Rattle.sharc_ctype.specs.Resolved.{functions_in}
 
--- the name of a declaration stands in its span
+-- the name of a declaration lies in its span
 named_within : (all : List Token) (d : Declaration) → PlacedDeclaration all d → (d.span.first.token ≤ d.name.site.token) × (d.name.site.token ≤ d.span.last.token)
 named_within all d placed =
     let parts = placed.0.1 in
@@ -19,7 +19,7 @@ named_within all d placed =
     let until = name.2 in
     (omega (arith, order, type_from, from), omega (arith, until))
 
--- one of declarations that follow one another stands from where they begin on, and below their end
+-- one of declarations that follow one another lies from where they begin on, and below their end
 one_within : (all : List Token) (from until : ℕ) (list : List Declaration) (behind : List Span) → Follow all from until (declaration_spans list ++ behind) → PlacedDeclarations all list
     → (k : ℕ) (d : Declaration) → k < length list → get_or list k d ≡ d → (from ≤ d.name.site.token) × (d.name.site.token < until)
 one_within all from until [] behind follow placed k d low is = absurd (omega (arith, low))
@@ -38,7 +38,7 @@ one_within all from until (x ∷ rest) behind follow placed (suc k) d low is =
     let begins = follow.1 in
     (omega (arith, left, order, begins), more.1)
 
--- a parameter stands in its function
+-- a parameter lies in its function
 parameter_within : (all : List Token) (f : Function) (d : Declaration) → PlacedItem all (function f) → Contains f.parameters d → (f.span.first.token ≤ d.name.site.token) × (d.name.site.token ≤ f.span.last.token)
 parameter_within all f d placed has =
     let parts = placed.0.1 in
@@ -74,7 +74,7 @@ head_within all from until f rest d follow placed own =
 behind_head : (f : Function) (rest : List Item) (n : ℕ) (d : Declaration) → Owns (function f ∷ rest) (suc n) d → Owns rest n d
 behind_head f rest n d own = record { owner = own.owner; is = own.is; has = own.has }
 
--- what a function among them owns stands from where they begin on
+-- what a function among them owns lies from where they begin on
 owned_from : (all : List Token) (from until : ℕ) (items : List Item) → Follow all from until (item_spans items) → PlacedItems all items → (n : ℕ) (d : Declaration) → Owns items n d → from ≤ d.name.site.token
 owned_from all from until [] follow placed n d own = absurd (no_function own.owner own.is)
 owned_from all from until (structure s ∷ rest) follow placed n d own =

@@ -1,4 +1,4 @@
--- What `well_formed` says of the type of an entity is told of it.
+-- What `well_formed` says of the type of an entity is reported of it.
 use Rattle.std.proofs.Common.{◌≡◌, ℕ, zero, suc, ◌+◌, ◌<◌, ◌≤◌, ◌==◌, Bool, true, false, not, ◌&&◌, ◌||◌, cond, List, [], ◌∷◌, ◌++◌, length, map, take, drop, get_or, Option, Some, None, is_some, refl, ap, sym, ◌∙◌, subst, arith}
 use Rattle.std.specs.Prelude.{Contains, slice_index_or}
 use Rattle.std.specs.List.{AllByRecursion, flat_map, list_any}
@@ -184,7 +184,7 @@ holds_by role.Cast b (top ∷ below) ps h is = topped b top top None below ps (�
 holds_by role.Made b [] ps h is = absurd (false≢true is)
 holds_by role.Made b (top ∷ below) ps h is = topped b top top None below ps (λ x same. same) h is
 
--- ---- what is told
+-- ---- what is reported
 
 stands_front : (a b : List Finding) (x : Finding) (k : ℕ) → k < length a → get_or a k x ≡ x → Contains (a ++ b) x
 stands_front [] b x k low is = absurd (omega (arith, low))
@@ -285,7 +285,7 @@ module _ (m : Assignment) (n : Numbered) where
   told_by false false true first pathed moded code is = let x = some_mode mode moded in subst (IsTold m n) (same_code 5 code is) (fifth x.0 x.1)
   told_by false false false first pathed moded code is = absurd (no_code code is)
 
-  -- ---- where none is told, there is neither an M4 nor an M5
+  -- ---- where none is reported, there is neither an M4 nor an M5
 
   abbrev IsOther : Finding → Type 0
   IsOther (Wrong e) = (e.code ≡ 4 → ⊥) × (e.code ≡ 5 → ⊥)

@@ -1,4 +1,4 @@
--- What `well_formed` says of the type of an entity, beside what the checker tells of it.
+-- What `well_formed` says of the type of an entity, beside what the checker reports of it.
 use Rattle.std.specs.Prelude.{◌≡◌, ℕ, Option, Some, None, Contains}
 use Rattle.sharc_ctype.specs.declared.entity.Numbered.{Numbered}
 use Rattle.sharc_ctype.specs.Entities.{entities_in, numbered}
@@ -13,14 +13,14 @@ use Rattle.sharc_mode.specs.WellFormed.{place_of, type_code}
 abbrev pub code_of : Assignment → Numbered → Option ℕ
 code_of m n = type_code m.typed (place_of n.entity.role) n.entity.written.ctype
 
--- an error of this code is told of the type
+-- an error of this code is reported of the type
 pub record IsTold (m : Assignment) (n : Numbered) (code : ℕ) : Type 0 where
   pub error : ModeError
   pub stands : Contains (type_notes m n) (Wrong error)
   pub coded : error.code ≡ code
   pub placed : error.site ≡ n.entity.written.span.first
 
--- Under the least assignment the error of the code is told that `well_formed` answers. Where it answers none, no M4 and no M5 is told; an M3 may be, of a level
+-- Under the least assignment the error of the code that `well_formed` answers is reported. Where it answers none, no M4 and no M5 is; an M3 may be, of a level
 -- without a mode that was inferred to be dynamic.
 pub record IsToldOf (m : Assignment) (n : Numbered) : Type 0 where
   pub told : (code : ℕ) → code_of m n ≡ Some code → IsTold m n code

@@ -97,7 +97,7 @@ fn modes_text(alloc: Global, m: &Moded) -> Result<Vec<u8>, AllocError> {
 
 /// Sources with the modes of all their positions in source order: the name and the depth of each, and its mode or, where it was inferred to be dynamic,
 /// the reason. What is expected was worked out by hand.
-pub(crate) static INFERRED: [(&str, &str); 13] = [
+static INFERRED: [(&str, &str); 13] = [
     (
         "int g; void w(int * p) { int * q = p; g = *q; } int main(void) { int * x = malloc(sizeof(int)); int t = spawn(w, x); join(t); return 0; }",
         "g0 touched w, p1 passed w, q1 from p1, x1 from p1",
@@ -159,7 +159,7 @@ int main(void) { int * readonly * x = NULL; join(spawn(w, x)); return 0; }",
 ];
 
 /// The modes of a program, which ends here.
-pub(crate) fn text_of_program(alloc: Global, moded: Moded) -> Result<Vec<u8>, Fail> {
+fn text_of_program(alloc: Global, moded: Moded) -> Result<Vec<u8>, Fail> {
     let text = modes_text(alloc, &moded);
     drop(moded);
     Ok(text?)
@@ -173,7 +173,7 @@ fn copy_of(alloc: Global, moded: Moded) -> Result<Moded, Fail> {
 }
 
 /// The modes of a source.
-pub(crate) fn text_of(rt: &(impl Abort + AllocGlobal), source: &str) -> Result<Vec<u8>, Fail> {
+fn text_of(rt: &(impl Abort + AllocGlobal), source: &str) -> Result<Vec<u8>, Fail> {
     text_of_program(rt.alloc(), inferred(rt, source)?)
 }
 

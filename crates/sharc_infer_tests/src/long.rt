@@ -15,7 +15,7 @@ fn add_number(text: &mut String, number: u32) -> Result<(), AllocError> {
     Ok(())
 }
 
-/// So many functions of which each initialises nine locals, one by the other, and passes the last of them to the function before; the last function
+/// This many functions of which each initialises nine locals, one by the other, and passes the last of them to the function before; the last function
 /// is spawned.
 fn long_chain(alloc: Global, functions: u32) -> Result<String, AllocError> {
     let mut text = String::new(alloc);
@@ -70,7 +70,7 @@ fn a_long_chain_of_functions(rt: HostRuntime) -> Result<(), Fail> {
     Ok(())
 }
 
-/// So many functions that name one global and call the one before, the last of them spawned.
+/// This many functions that name one global and call the one before, the last of them spawned.
 fn many_names(alloc: Global, functions: u32) -> Result<String, AllocError> {
     let mut text = String::new(alloc);
     text.push_str("int g;void kaaa(int*a){g=1;}")?;

@@ -1,7 +1,7 @@
 //! A source as the inference finds it.
 
 use sharc_ctype::typed::{Typed, type_program};
-use sharc_infer::{infer, infer_by_rounds};
+use sharc_infer::infer;
 use sharc_lex::lex;
 use sharc_mode::moded::Moded;
 use sharc_parse::parse;
@@ -31,21 +31,6 @@ pub(crate) fn inferred(rt: &(impl Abort + AllocGlobal), source: &str) -> Result<
     match reach(rt.alloc(), &typed) {
         Err(_) => panic!(rt; "no memory"),
         Ok(reached) => match infer(rt.alloc(), typed, &reached) {
-            Ok(moded) => Ok(moded),
-            Err(_) => panic!(rt; "no memory"),
-        },
-    }
-}
-
-/// The same by the plain program beside the inference.
-pub(crate) fn inferred_by_rounds(
-    rt: &(impl Abort + AllocGlobal),
-    source: &str,
-) -> Result<Moded, Fail> {
-    let typed = typed(rt, source)?;
-    match reach(rt.alloc(), &typed) {
-        Err(_) => panic!(rt; "no memory"),
-        Ok(reached) => match infer_by_rounds(rt.alloc(), typed, &reached) {
             Ok(moded) => Ok(moded),
             Err(_) => panic!(rt; "no memory"),
         },

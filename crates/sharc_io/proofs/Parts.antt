@@ -5,7 +5,7 @@ use Rattle.std.specs.Io.KnownBytes.{Consumes, Appends}
 use Rattle.std.proofs.KnownBytes.{Consumes-trans, Appends-trans}
 use Rattle.sharc_io.specs.Reading.{TakesFront, TakesAtMost}
 
--- a front part of n bytes behind the bytes that were taken before
+-- a front part of n bytes after the bytes that were taken before
 pub takes_front_more : (a b c : Option (List ℕ)) (bytes : List ℕ) (n all : ℕ)
     → TakesFront b c n → Consumes a b bytes → all ≡ length bytes + n → TakesFront a c all
 takes_front_more a b c bytes n all more before joined = record {
@@ -14,7 +14,7 @@ takes_front_more a b c bytes n all more before joined = record {
   long = omega (arith, length-append bytes more.front, more.long);
 }
 
--- a front part of at most n bytes behind the bytes that were taken before
+-- a front part of at most n bytes after the bytes that were taken before
 pub takes_at_most_more : (a b c : Option (List ℕ)) (bytes : List ℕ) (n all : ℕ)
     → TakesAtMost b c n → Consumes a b bytes → length bytes + n ≤ all → TakesAtMost a c all
 takes_at_most_more a b c bytes n all more before joined = record {
@@ -23,7 +23,7 @@ takes_at_most_more a b c bytes n all more before joined = record {
   short = omega (arith, length-append bytes more.front, more.short);
 }
 
--- a front part of what was still to be written, behind the front part that was written before
+-- a front part of what was still to be written, after the front part that was written before
 pub appends_front_more : (a b c : Option (List ℕ)) (bytes : List ℕ) (m n : ℕ)
     → Appends a b (take m bytes) → Appends b c (take n (drop m bytes)) → Appends a c (take (m + n) bytes)
 appends_front_more a b c bytes m n before more =

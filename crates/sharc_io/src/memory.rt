@@ -1,4 +1,4 @@
-//! A source and a sink in memory that fail at the calls that they are told.
+//! A source and a sink in memory that fail at the calls that they are given.
 
 ghost use Rattle.std.specs.Prelude.{◌≡◌, ◌-◌, ◌≤◌, [], length, min, is_err, OnOk, OnErr, IfOk};
 ghost use Rattle.std.specs.Io.{ReadsAtMost, WritesAtMost};

@@ -10,7 +10,7 @@ use crate::Failed;
 
 /// What bytes are written to.
 pub trait Sink {
-    /// The bytes that it holds, or none where it does not tell them.
+    /// The bytes that it holds, or none where it does not show them.
     ghost held: { Self → Option (List ℕ) };
 
     /// How often it has failed. The count never falls, and stays where it reaches 2^64 - 1.

@@ -10,7 +10,7 @@ use crate::{Failed, Sink, Source};
 use std::io::{Read, Stdin, Stdout, Write};
 use std::marker::Model;
 
-/// Standard input. It does not tell its bytes.
+/// Standard input. It does not show its bytes.
 #[derive(Drop)]
 pub struct StdSource {
     input: Stdin,
@@ -56,7 +56,7 @@ impl Source for StdSource {
     }
 }
 
-/// Standard output. It does not tell its bytes.
+/// Standard output. It does not show its bytes.
 #[derive(Drop)]
 pub struct StdSink {
     output: Stdout,

@@ -11,7 +11,7 @@ use thiserror::Error;
 #[derive(Clone, Copy, Debug, PartialEq, Eq, Error)]
 #[error("writing failed after {written} bytes")]
 pub struct WriteFault {
-    /// How many bytes the sink had taken: those before them in order went out, and none behind.
+    /// How many bytes the sink had taken: those before them in order went out, and none after.
     pub written: usize,
 }
 

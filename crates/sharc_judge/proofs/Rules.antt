@@ -336,7 +336,7 @@ beside_none Readonly u before thread b h = refl
 beside_none (Locked c) u before thread b h = refl
 beside_none Racy u before thread b h = refl
 
--- of two accesses in a set, the later is at a place where the earlier stands before it
+-- of two accesses in a set, the later is at a place where the earlier comes before it
 later_breaks : (u : Until) (R : List SourceEvent) (o : Object) (granule : ℕ) (earlier later : List SourceEvent) (d e : SourceEvent) (a b : Access)
     → R ≡ earlier ++ later → (x : AccessSet earlier o granule (view_until u) d a) → (y : AccessSet earlier o granule (view_until u) e b) → d.thread ≢ e.thread
     → Behind x.before d x.after y.before e y.after → Unbroken rule.ReadSharedOrOneThread u R → a.is_write || b.is_write ≡ false

@@ -7,7 +7,7 @@ use Rattle.sharc_meaning.specs.Store.{LegalStore}
 use Rattle.sharc_judge.specs.declared.rule.Rule.{Rule}
 use Rattle.sharc_judge.specs.declared.rule.Rule.TheVariants.{Live, OneMode, Owner, NotWritten, UnderItsLock, ReadSharedOrOneThread}
 
--- the events before it are a legal store, and with it they are none
+-- the events before it are a legal store, and with it they are not
 pub record IsFirstIllegal (r : Resolution) (R : List SourceEvent) (i : ℕ) : Type 0 where
   pub inside : i < length R
   pub legal : LegalStore r (take i R)

@@ -44,7 +44,7 @@ pub enum Test {
     Ends(Until, u32),
 }
 
-/// Whether accesses count no more behind the act of their thread.
+/// Whether accesses no longer count after the act of their thread.
 fn ends(until: Until, act: Act) -> bool
     ensures { result ≡ ends_of until act }
 {

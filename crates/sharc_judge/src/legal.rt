@@ -1,4 +1,4 @@
-// Which events may come behind which, and how much of a list of events is a legal store.
+// Which events may come after which, and how much of a list of events is a legal store.
 
 ghost use Rattle.std.specs.Prelude.{◌≡◌, IsTrue, ◌↔◌, false, true, MatchOption};
 ghost use Rattle.sharc_meaning.specs.Store.{MayCome, LegalStore};
@@ -11,7 +11,7 @@ use sharc_ctype::typed::Typed;
 use sharc_meaning::laws::store_laws;
 use sharc_tree::event::{Act, SourceEvent, Taken};
 
-/// Whether the event may come behind those before it.
+/// Whether the event may come after those before it.
 pub fn may_come(typed: &Typed, before: &[SourceEvent], event: &SourceEvent) -> bool
     ensures { IsTrue result ↔ MayCome typed.now before.now event.now event.now.act }
 {
@@ -31,7 +31,7 @@ pub fn may_come(typed: &Typed, before: &[SourceEvent], event: &SourceEvent) -> b
     }
 }
 
-/// The place of the first event that may not come behind those before it; none where the list is a legal store.
+/// The place of the first event that may not come after those before it; none where the list is a legal store.
 pub fn first_illegal(typed: &Typed, events: &[SourceEvent]) -> Option<usize>
     ensures { MatchOption result (LegalStore typed.now events.now) (λ i. IsFirstIllegal typed.now events.now i) }
 {

@@ -1,4 +1,4 @@
-// Whether some event before a place meets a test that looks at what stands between them, too.
+// Whether some event before a place meets a test that looks at what lies between them, too.
 
 ghost use Rattle.std.specs.Prelude.{◌≡◌, option_map};
 ghost use Rattle.sharc_meaning.specs.Events.{access_by};
@@ -25,7 +25,7 @@ pub enum Pair {
     Holds(CellAt, u32),
     /// It is an access of the same cell under another mode, and the object was not made, given or freed since.
     OtherMode(CellAccess),
-    /// It is an access by another thread than this, which counts still and must not be made beside the one that is told.
+    /// It is an access by another thread than this, which still counts and must not be made beside the one that is given.
     Conflicts(Until, u32, CellAccess),
 }
 
@@ -77,7 +77,7 @@ impl Pair {
     }
 }
 
-/// Whether any event meets the test with those behind it.
+/// Whether any event meets the test with those after it.
 pub fn any_pair(pair: Pair, events: &[SourceEvent]) -> bool
     ensures { result ≡ any_pair (pair_of pair) events.now }
 {

@@ -49,7 +49,7 @@ pub fn is_owner(before: &[SourceEvent], object: Object, thread: u32) -> bool
     }
 }
 
-/// Whether the access breaks the rule behind the events before.
+/// Whether the access breaks the rule after the events before.
 fn breaks(rule: Rule, until: Until, before: &[SourceEvent], thread: u32, a: CellAccess) -> bool
     ensures { result ≡ breaks rule until before.now thread a }
 {

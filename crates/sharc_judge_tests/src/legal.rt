@@ -91,7 +91,7 @@ static LEGAL: [Row; 33] = [
 
 const BYTE: Row = (0, Act::Read(BYTE_CELL, CellMode::Readonly), 65);
 
-/// How many events of the legal store stand before, and an event that may not come there.
+/// How many events of the legal store come before, and an event that may not come there.
 static ILLEGAL: [(usize, Row); 24] = [
     // What was there first, and values that were written over.
     (1, (0, Act::Read(G, CellMode::Dynamic), 0)),

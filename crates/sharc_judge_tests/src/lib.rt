@@ -1,6 +1,6 @@
 //! Histories of a dozen events and more, legal and not, and each rule of the modes broken once: tests alone.
 //!
-//! Nothing stands on this crate, and it has no code of its own, so that the programs that judge are not proved once more with their tests.
+//! No crate depends on this one, and it has no code of its own, so that the programs that judge are not proved once more with their tests.
 #![tactic(auto)]
 
 #[cfg(test)]

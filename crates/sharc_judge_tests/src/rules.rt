@@ -84,7 +84,7 @@ static OBEYING: [Row; 16] = [
     (1, Act::Freed(FIRST), 0),
 ];
 
-/// How many of these events stand before, an event, and the rule that it breaks where accesses count until their thread returns.
+/// How many of these events come before, an event, and the rule that it breaks where accesses count until their thread returns.
 static BROKEN: [(usize, Row, Rule); 17] = [
     // An object that was not made, and one that was freed.
     (

@@ -42,7 +42,7 @@ fn takes_the_last_room(rt: HostRuntime) {
 
 #[test]
 fn finds_no_room(rt: HostRuntime) {
-    // Another thread takes granule 4 alone, and behind it there are three granules for a block of four.
+    // Another thread takes granule 4 alone, and after it there are three granules for a block of four.
     let mut state = NewState::new(3, 3, 8, 100, 0);
     assert_eq!(rt; state.next(0), asked(1, WordOp::Load));
     assert_eq!(rt; state.next(4), asked(1, WordOp::Cas(4, 8)));

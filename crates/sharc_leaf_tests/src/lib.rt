@@ -1,6 +1,6 @@
 //! Values made by hand, and what the crates that need no source make of them: tests alone.
 //!
-//! Nothing stands on this crate, and it has no code of its own, so that none of the crates under test is proved once more with its tests.
+//! No crate depends on this one, and it has no code of its own, so that none of the crates under test is proved once more with its tests.
 #![tactic(auto)]
 
 #[cfg(test)]

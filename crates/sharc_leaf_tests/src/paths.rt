@@ -1,7 +1,7 @@
-//! Reads in loops, behind tests and behind a return, of one variable and of many, with ample memory.
+//! Reads in loops, after tests and after a return, of one variable and of many, with ample memory.
 
 use sharc_dataflow::step::Step;
-use sharc_dataflow::way::Warning;
+use sharc_dataflow::way::FlowWarning;
 use sharc_dataflow::{firsts, nulled_reads};
 use std::alloc::AllocError;
 use std::test::Fail;
@@ -33,8 +33,8 @@ fn tells_reads_in_the_next_turn_and_behind_a_return(rt: HostRuntime) -> Result<(
     ]?;
     let found = nulled_reads(alloc, steps.as_slice(), Vec::new(alloc))?;
     let told = firsts(alloc, found)?;
-    let first = Warning { read: 3, since: 9 };
-    let second = Warning {
+    let first = FlowWarning { read: 3, since: 9 };
+    let second = FlowWarning {
         read: 14,
         since: 12,
     };
@@ -84,12 +84,12 @@ fn tells_reads_of_many_variables(rt: HostRuntime) -> Result<(), Fail> {
     let mut expected = Vec::new(alloc);
     for x in 0..1000u32 {
         let since = 2 * x + 1;
-        expected.push(Warning { read: 2 * x, since })?;
+        expected.push(FlowWarning { read: 2 * x, since })?;
     }
     for x in 0..1000u32 {
         let since = 2 * x + 1;
         let read = 2000 + x;
-        expected.push(Warning { read, since })?;
+        expected.push(FlowWarning { read, since })?;
     }
     assert_eq!(rt; told.as_slice(), expected.as_slice());
     Ok(())

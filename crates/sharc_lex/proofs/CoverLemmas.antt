@@ -22,7 +22,7 @@ use Rattle.sharc_lex.proofs.LongestLemmas.{token_longest}
 use Rattle.sharc_lex.proofs.ReadingLemmas.{lines_from, lines_from-first, lines_from-end, len_of}
 use Rattle.sharc_lex.proofs.WithinLemmas.{chosen, bind_ok, ok_injective, with_file-length, with_place-ok, behind_tokens-ok}
 
--- the bytes up to the first newline, and those behind the first of them
+-- the bytes up to the first newline, and those after the first of them
 abbrev line_of : List ℕ → List ℕ
 line_of l = take (position_or_len (λ b. b == 10) l) l
 
@@ -166,7 +166,7 @@ module _ (source : List ℕ) (at : ℕ) (inside : at ≤ length source) where
   pub end_inside : end ≤ length source
   end_inside = omega (arith, line_length, length-drop at source, prefix_len-le-length (λ b. not (b == 10)) (drop at source))
 
-  -- behind a line that is not the last one stands a newline
+  -- after a line that is not the last one comes a newline
   pub newline : end < length source → slice_index source end ≡ 10
   newline before =
       let n = len_of (drop at source) in

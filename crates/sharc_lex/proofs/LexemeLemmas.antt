@@ -33,7 +33,7 @@ run_token b bytes r found begins e =
     let lies = run_lies b bytes begins in
     record { some = omega (arith, lies.0); within = omega (arith, lies.1) }
 
--- a constant has 3 bytes, or 4 behind a backslash
+-- a constant has 3 bytes, or 4 after a backslash
 pub constant_len : (len : ℕ) (o : Option ℕ) (found : Lexeme) → option_map (constant len) o ≡ Some found → found.len ≡ len
 constant_len len None found e = cc
 constant_len len (Some b) found e = let same : found ≡ constant len b = cc in ap (λ (x : Lexeme). x.len) same

@@ -10,7 +10,7 @@ use Rattle.sharc_lex.specs.Grammar.{tokens_of, token, at_offset, behind_tokens, 
 use Rattle.sharc_lex.specs.TokenAt.{token_at}
 use Rattle.sharc_lex.proofs.LexemeLemmas.{token_lies}
 
--- behind the bytes that belong to a token
+-- after the bytes that belong to a token
 pub tokens_of-taken : (place : Place) (taken offset : ℕ) (bytes : List ℕ) → tokens_of place taken offset bytes ≡ tokens_of place 0 (offset + taken) (drop taken bytes)
 tokens_of-taken place zero offset bytes = ap (λ o. tokens_of place 0 o bytes) (sym (add-zero offset))
 tokens_of-taken place (suc taken) offset [] = refl
@@ -33,7 +33,7 @@ drop_rest : (n b : ℕ) (bytes : List ℕ) → 0 < n → drop (n - 1) bytes ≡ 
 drop_rest zero b bytes h = absurd (omega (arith, h))
 drop_rest (suc n) b bytes h = let same : suc n - 1 ≡ n = omega arith in ap (λ k. drop k bytes) same
 
--- a token, and what stands behind it
+-- a token, and what follows it
 pub tokens_of-token : (place : Place) (offset b : ℕ) (bytes : List ℕ) (found : Lexeme) → is_white_space b ≡ false → token_at b bytes ≡ Ok found → tokens_of place 0 offset (b ∷ bytes) ≡ (tokens_of place 0 (offset + found.len) (drop found.len (b ∷ bytes)) >>= λ tokens. Ok (token place offset (b ∷ bytes) found ∷ tokens))
 tokens_of-token place offset b bytes found black e =
     let lies = token_lies b bytes found e in
@@ -41,7 +41,7 @@ tokens_of-token place offset b bytes found black e =
     let rest = tokens_of-taken place (found.len - 1) (offset + 1) bytes ∙ ap (λ o. tokens_of place 0 o (drop (found.len - 1) bytes)) same ∙ ap (λ l. tokens_of place 0 (offset + found.len) l) (drop_rest found.len b bytes lies.some) in
     tokens_of-black place offset b bytes black ∙ ap (λ r. at_offset offset r >>= λ found. tokens_of place (found.len - 1) (offset + 1) bytes >>= λ tokens. Ok (token place offset (b ∷ bytes) found ∷ tokens)) e ∙ ap (λ r. r >>= λ tokens. Ok (token place offset (b ∷ bytes) found ∷ tokens)) rest
 
--- one token more stands before the rest
+-- one token more comes before the rest
 pub behind_tokens-push : (before : List Token) (t : Token) (r : Result (List Token) LineFault) → behind_tokens before (r >>= λ tokens. Ok (t ∷ tokens)) ≡ behind_tokens (before ++ t ∷ []) r
 behind_tokens-push before t (Ok tokens) = ap (λ ts. Ok ts) (sym (append_assoc before (t ∷ []) tokens))
 behind_tokens-push before t (Err found) = refl

@@ -1,4 +1,4 @@
--- The token that stands at the front of the bytes is the longest that does.
+-- The token at the front of the bytes is the longest one there.
 use Rattle.std.proofs.Common.{◌≡◌, ℕ, zero, suc, ◌+◌, ◌-◌, ◌<◌, ◌≤◌, ◌==◌, Bool, true, false, not, cond, ◌&&◌, leb, eqb, nat_eq, ◌⊎◌, List, [], ◌∷◌, length, get_or, take, Some, Result, Ok, Err, sym, refl, ap, ◌∙◌, subst, inl, inr, arith, one-add, length-take-le}
 use Rattle.std.specs.Prelude.{ok_or, option_map, All, Contains, IfOk}
 use Rattle.std.specs.List.{prefix_len, starts_with, list_all}
@@ -62,7 +62,7 @@ is_sign (b ∷ bytes) = not (is_letter b) && (not (is_digit b) && not (b == 39))
 signs : (text : List ℕ) (k : TokenKind) → Contains punctuators (text, k) → is_sign text ≡ true
 signs text k there = All-contains (λ e. is_sign e.0 ≡ true) punctuators (text, k) (AllPass-from_list_all (λ (e : List ℕ × TokenKind). is_sign e.0) punctuators refl) there
 
--- the table stands in falling order of length
+-- the table is in falling order of length
 abbrev falls : Table → Bool
 falls [] = true
 falls (e ∷ es) = list_all (λ (o : List ℕ × TokenKind). leb (length o.0) (length e.0)) es && falls es
@@ -225,7 +225,7 @@ no_longer_word b bytes n k first longer inside token =
       ]
     ]
 
--- the token that stands where a byte begins it is the longest that does
+-- the token found where a byte begins it is the longest one there
 pub token_longest : (b : ℕ) (bytes : List ℕ) (found : Lexeme) → token_at b bytes ≡ Ok found → IsLongest (b ∷ bytes) found
 token_longest b bytes found e =
     let lies = token_lies b bytes found e in

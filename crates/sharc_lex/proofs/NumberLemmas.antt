@@ -19,7 +19,7 @@ large_stays base high (d ∷ ds) positive large =
       | inr none ↦ ap small_value (value_behind-digit base high d ds false none)
     ]
 
--- where one more digit gives no number, no digits behind it do
+-- where one more digit gives no number, no digits after it do
 pub no_digit_stays : (base high d : ℕ) (ds : List ℕ) → with_digit base high d ≡ None → small_value (value_behind base high (d ∷ ds)) ≡ None
 no_digit_stays base high d ds none =
     elim (cases_Bool (ltb (digit_value d) base)) [

@@ -1,4 +1,4 @@
--- The file and the line in which an offset stands: within a line, behind a line of text, and behind a line marker.
+-- The file and the line in which an offset lies: within a line, after a line of text, and after a line marker.
 use Rattle.std.proofs.Common.{◌≡◌, ℕ, zero, suc, ◌+◌, ◌-◌, ◌<◌, ◌≤◌, ◌==◌, Bool, false, codes, List, length, get_or, take, drop, slice_index, Some, sym, ap, ◌∙◌, subst, inl, inr, arith, length-drop, get_or-drop}
 use Rattle.std.specs.List.{count_by}
 use Rattle.std.proofs.lemmas.Bool.{cases_lt, eq-eqb, false≢true}
@@ -76,7 +76,7 @@ module _ (source : List ℕ) where
       ]
     ]
 
-    -- what stands where a line begins stands in the whole line
+    -- what lies where a line begins lies in the whole line
     pub stands_within : (k : ℕ) (file : List ℕ) (line : ℕ) → at ≤ k → k ≤ end → StandsIn source at file line → StandsIn source k file line
     stands_within k file line from until (inl u) = inl (record {
       none = no_marker_further 0 k from (omega arith) (λ past _. absurd (omega arith)) u.none;
@@ -97,7 +97,7 @@ module _ (source : List ℕ) where
     newlines_next low le more =
         newlines_one low end (omega arith) more (newline source at inside more) ∙ ap (λ n. n + 1) (newlines_within low at end le inside (omega arith) (omega arith))
 
-    -- the line behind a line of text has the next number
+    -- the line after a line of text has the next number
     pub stands_behind_text : (file : List ℕ) (line : ℕ) → end < length source → is_marker_line (line_at source at) ≡ false → StandsIn source at file line → StandsIn source (end + 1) file (line + 1)
     stands_behind_text file line more text (inl u) = inl (record {
       none = no_marker_further 0 (end + 1) (omega arith) (omega arith) (λ _ _. text) u.none;
@@ -114,7 +114,7 @@ module _ (source : List ℕ) where
       counted = let next = newlines_next (m.start + length (line_at source m.start) + 1) (omega (arith, m.ends)) more in omega (arith, m.counted);
     })
 
-    -- the line behind a line marker has the number and the file that it gives
+    -- the line after a line marker has the number and the file that it gives
     pub stands_behind_marker : (file : List ℕ) (line : ℕ) → end < length source → marker_of (line_at source at) ≡ Some (line, file) → StandsIn source (end + 1) file line
     stands_behind_marker file line more gives = inr (record {
       start = at;
@@ -126,7 +126,7 @@ module _ (source : List ℕ) where
       counted = omega (arith, newlines_none (end + 1));
     })
 
--- before the first byte stands no line
+-- before the first byte there is no line
 pub stands_first : (source : List ℕ) (file : List ℕ) → file ≡ codes "input" → StandsIn source 0 file 1
 stands_first source file opening = inl (record {
   none = λ s behind begins ends. absurd (omega arith);

@@ -1,4 +1,4 @@
--- The first of a table that stands in parts.
+-- The first of a table that is given in parts.
 use Rattle.std.proofs.Common.{◌≡◌, ℕ, Bool, true, false, cond, List, [], ◌∷◌, ◌++◌, nat_eq, Option, Some, None, refl}
 use Rattle.std.specs.List.{starts_with}
 use Rattle.sharc_tree.specs.declared.token.TokenKind.{TokenKind}

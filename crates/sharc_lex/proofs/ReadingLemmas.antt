@@ -30,7 +30,7 @@ first_step b bytes false rest =
     let same : 1 + n + 1 ≡ suc (n + 1) = omega arith in
     ap (in_front b) rest ∙ rw (same, one-add) (rw leb_suc refl)
 
--- the first line, and those behind it
+-- the first line, and those after it
 pub lines_of-first : (bytes : List ℕ) → lines_of bytes ≡ take (len_of bytes) bytes ∷ lines_from (len_of bytes + 1) bytes
 lines_of-first [] = refl
 lines_of-first (b ∷ bytes) = first_step b bytes (b == 10) (lines_of-first bytes)
@@ -47,7 +47,7 @@ lines_from-behind at n source inside =
     ∙ ap (λ t. cond t (lines_of (drop n (drop at source))) []) (leb_behind at n (length source) inside)
     ∙ ap (λ l. cond (leb (at + n) (length source)) (lines_of l) []) (drop-drop _ _ source)
 
--- the next line, and those behind it
+-- the next line, and those after it
 pub lines_from-first : (at : ℕ) (source : List ℕ) → at ≤ length source → lines_from at source ≡ take (len_of (drop at source)) (drop at source) ∷ lines_from (at + (len_of (drop at source) + 1)) source
 lines_from-first at source inside =
     ap (λ t. cond t (lines_of (drop at source)) []) (le-leb at (length source) inside)

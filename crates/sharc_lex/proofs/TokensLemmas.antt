@@ -130,7 +130,7 @@ module _ (source : List ℕ) (at : ℕ) (inside : at ≤ length source) (begins 
   abbrev end : ℕ
   end = at + length line
 
-  -- a token of the line stands where the line does
+  -- a token of the line lies where the line does
   token_placed : (files : List (List ℕ)) (place : Place) (t : Token) → place.file < length files → StandsIn source at (name_in files place.file) place.line → IsOnLine place at end t → (t.file < length files) × StandsIn source t.from (name_in files t.file) t.line
   token_placed files place t known stands on =
       let there = stands_within source at inside begins t.from (name_in files place.file) place.line on.from on.until stands in (

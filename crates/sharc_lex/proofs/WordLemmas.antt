@@ -35,6 +35,6 @@ entry_at-other_length (e ∷ es) text lengths all none =
     let other : length text ≢ length e.0 = λ same. false≢true (sym none ∙ ap (λ k. list_any (λ n. k == n) lengths) same ∙ parts.0) in
     ap (λ b. cond b (Some e.1) (entry_at es text)) (false_bytes_eq text e.0 other) ∙ entry_at-other_length es text lengths parts.1 none
 
--- a number differs from the first of a list and from those behind it
+-- a number differs from the first of a list and from those after it
 pub not_among : (m n : ℕ) (ns : List ℕ) → m ≢ n → list_any (λ k. m == k) ns ≡ false → list_any (λ k. m == k) (n ∷ ns) ≡ false
 not_among m n ns differs none = ap (λ b. b || list_any (λ k. m == k) ns) (ne_eqb m n differs) ∙ none

@@ -25,6 +25,6 @@ is_word_byte b = is_letter b || is_digit b
 abbrev pub is_printable : ℕ → Bool
 is_printable b = nat_le 32 b && nat_le b 126
 
--- what is left behind the longest front that passes
+-- what is left after the longest front that passes
 abbrev pub behind : (ℕ → Bool) → List ℕ → List ℕ
 behind p bytes = drop (prefix_len p bytes) bytes

@@ -16,7 +16,7 @@ escaped b =
     else (if b == 34 then Some 34
     else None))))))
 
--- behind a backslash: what is escaped, and the quote
+-- after a backslash: what is escaped, and the quote
 abbrev pub behind_backslash : List ℕ → Option ℕ
 behind_backslash [] = None
 behind_backslash (e ∷ []) = None
@@ -28,11 +28,11 @@ plain [] = None
 plain (b ∷ []) = None
 plain (b ∷ quote ∷ bytes) = if is_printable b && not (b == 39) && (quote == 39) then Some b else None
 
--- a character constant of so many bytes, that stands for a byte
+-- a character constant of this many bytes, that stands for a byte
 abbrev pub constant : ℕ → ℕ → Lexeme
 constant len b = record { len = len; kind = kind.Character b }
 
--- what stands behind the first quote: a backslash with what is escaped, or one byte
+-- what follows the first quote: a backslash with what is escaped, or one byte
 abbrev pub character : List ℕ → Option Lexeme
 character [] = None
 character (b ∷ bytes) = if b == 92 then option_map (constant 4) (behind_backslash bytes) else option_map (constant 3) (plain (b ∷ bytes))

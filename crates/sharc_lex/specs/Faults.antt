@@ -24,7 +24,7 @@ text_of fault.Marker = []
 text_of fault.Identifier = []
 text_of fault.Character = []
 
--- A failure is the fault that the grammar says, or want of memory, of which nothing is said.
+-- A failure is the fault that the grammar says, or that memory ran out, of which nothing is said.
 abbrev pub Fails : {A : Type 0} → Failure → Result A LineFault → Type 0
 Fails (failure.At found) read = read ≡ Err found
 Fails failure.Memory read = Unit {0}
@@ -38,7 +38,7 @@ abbrev pub Tells : LexFault → FaultAt → Type 0
 Tells (lex.At found) told = found ≡ told
 Tells lex.Memory told = Unit {0}
 
--- What a call answers is what the grammar says: what it read, or the first fault. Want of memory alone is free.
+-- What a call answers is what the grammar says: what it read, or the first fault. Only running out of memory is left open.
 abbrev pub Gives : {A : Type 0} → Result A LexFault → Result A FaultAt → Type 0
 Gives (Ok made) read = read ≡ Ok made
 Gives (Err refused) read = Refuses refused read

@@ -7,6 +7,6 @@ use Rattle.std.specs.Str.{bytes_eq}
 abbrev pub with_file : List (List ℕ) → List ℕ → List (List ℕ)
 with_file files name = if list_any (bytes_eq name) files then files else files ++ name ∷ []
 
--- the place of a file, which is behind all others where it is new
+-- the place of a file, which is after all others where it is new
 abbrev pub place_of : List (List ℕ) → List ℕ → ℕ
 place_of files name = position_or_len (bytes_eq name) files

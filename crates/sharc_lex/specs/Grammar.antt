@@ -1,5 +1,5 @@
 -- The grammar of tokens. A source is lines. A line whose first byte that is no blank is a `#` is a line marker, which gives the place of
--- the next line; every other line is white space and tokens, each the longest that stands there, with their places.
+-- the next line; every other line is white space and tokens, each the longest that is there, with their places.
 use Rattle.std.specs.Prelude.{◌≡◌, ℕ, ◌+◌, ◌-◌, ◌^◌, ◌<◌, ◌≤◌, ◌==◌, List, [], ◌∷◌, ◌++◌, length, take, drop, slice_index_or, Result, Ok, Err, ok_or, if◌then◌else◌, zero, suc, codes}
 use Rattle.std.specs.List.{prefix_len}
 use Rattle.sharc_tree.specs.declared.token.FaultAt.{FaultAt}
@@ -21,7 +21,7 @@ abbrev pub ◌>>=◌ : {A B E : Type 0} → Result A E → (A → Result B E) �
 (Ok x) >>= f = f x
 (Err e) >>= f = Err e
 
--- The lines of a source, without the newlines between them. Behind the last newline is a line too, which may be empty.
+-- The lines of a source, without the newlines between them. After the last newline there is a line too, which may be empty.
 abbrev pub in_front : ℕ → List (List ℕ) → List (List ℕ)
 in_front b [] = (b ∷ []) ∷ []
 in_front b (line ∷ lines) = (b ∷ line) ∷ lines
@@ -35,7 +35,7 @@ abbrev pub at_offset : {A : Type 0} → ℕ → Result A Fault → Result A Line
 at_offset offset (Ok x) = Ok x
 at_offset offset (Err fault) = Err (record { offset = offset; fault = fault })
 
--- the token that stands at an offset, at the front of the bytes
+-- the token that lies at an offset, at the front of the bytes
 abbrev pub token : Place → ℕ → List ℕ → Lexeme → Token
 token place offset bytes found = record {
   kind = found.kind;
@@ -46,7 +46,7 @@ token place offset bytes found = record {
   line = place.line;
 }
 
--- The tokens of a line's bytes, of which the first stands at an offset. So many bytes at the front belong to the token before them.
+-- The tokens of a line's bytes, of which the first lies at an offset. This many bytes at the front belong to the token before them.
 abbrev pub tokens_of : Place → ℕ → ℕ → List ℕ → Result (List Token) LineFault
 tokens_of place taken offset [] = Ok []
 tokens_of place (suc taken) offset (b ∷ bytes) = tokens_of place taken (offset + 1) bytes
@@ -57,19 +57,19 @@ tokens_of place zero offset (b ∷ bytes) =
       tokens ← tokens_of place (found.len - 1) (offset + 1) bytes
       Ok (token place offset (b ∷ bytes) found ∷ tokens))
 
--- the tokens of a line behind those before it
+-- the tokens of a line after those before it
 abbrev pub behind_tokens : List Token → Result (List Token) LineFault → Result (List Token) LineFault
 behind_tokens before (Ok tokens) = Ok (before ++ tokens)
 behind_tokens before (Err found) = Err found
 
--- of a line's bytes at an offset so many at the front have been read, which gave the tokens that are new
+-- of a line's bytes at an offset this many at the front have been read, which gave the tokens that are new
 pub record Steps (old new : List Token) (place : Place) (offset : ℕ) (bytes : List ℕ) (len : ℕ) : Type 0 where
   pub some : 0 < len
   pub within : len ≤ length bytes
   pub read : behind_tokens old (tokens_of place 0 offset bytes) ≡ behind_tokens new (tokens_of place 0 (offset + len) (drop len bytes))
 
 -- What lines have said: their tokens, the files that they name in the order of first appearance, the place of the last of them,
--- and the place of the line behind them.
+-- and the place of the line after them.
 pub record Read : Type 0 where
   pub tokens : List Token
   pub files : List (List ℕ)
@@ -94,7 +94,7 @@ marked read found = record {
   next = record { file = place_of read.files found.1; line = found.0 };
 }
 
--- every other line gives its tokens, and stands before the next line of the same file
+-- every other line gives its tokens, and comes before the next line of the same file
 abbrev pub with_tokens : Read → List Token → Read
 with_tokens read tokens = record {
   tokens = tokens;
@@ -128,12 +128,12 @@ abbrev pub with_place : Read → Result Read LineFault → Result Read FaultAt
 with_place read (Ok more) = Ok more
 with_place read (Err found) = Err (fault_at read.files read.next found)
 
--- lines, of which the first begins at an offset, behind what was read before them
+-- lines, of which the first begins at an offset, after what was read before them
 abbrev pub lines_read : Read → ℕ → List (List ℕ) → Result Read FaultAt
 lines_read read offset [] = Ok read
 lines_read read offset (line ∷ lines) = with_place read (line_read read offset line) >>= λ more. lines_read more (offset + length line + 1) lines
 
--- the end of input stands on the last line, and has the number of tokens
+-- the end of input is on the last line, and has the number of tokens
 abbrev pub tokens_read : Read → Tokens
 tokens_read read = record {
   list = read.tokens;

@@ -1,4 +1,4 @@
--- What holds of the tokens of a source: they stand in order, each the slice of its span and the longest token there, with white space and line
+-- What holds of the tokens of a source: they are in order, each the slice of its span and the longest token there, with white space and line
 -- markers alone between them, and each is in the file and the line that line markers and newlines give it.
 use Rattle.std.specs.Prelude.{◌≡◌, ℕ, ◌+◌, ◌-◌, ◌<◌, ◌≤◌, ◌⊎◌, Bool, true, List, [], ◌∷◌, length, take, slice_index, slice_index_or, slice_range, All, Contains, Some, Result, Ok}
 use Rattle.sharc_tree.specs.declared.token.FaultAt.{FaultAt}
@@ -43,7 +43,7 @@ pub record IsInMarker (source : List ℕ) (k : ℕ) : Type 0 where
   pub from : start ≤ k
   pub until : k < start + length (line_at source start)
 
--- only white space and line markers stand from one offset up to another
+-- there are only white space and line markers from one offset up to another
 pub record IsBetween (source : List ℕ) (low high : ℕ) : Type 0 where
   pub ordered : low ≤ high
   pub each : (k : ℕ) → low ≤ k → k < high → (is_white_space (slice_index source k) ≡ true) ⊎ IsInMarker source k
@@ -54,7 +54,7 @@ pub record IsSlice (source : List ℕ) (t : Token) : Type 0 where
   pub text : t.text ≡ slice_range source t.from t.until
   pub longest : IsLongest (line_at source t.from) (record { len = t.until - t.from; kind = t.kind })
 
--- from one offset up to another stand these tokens, with white space and line markers alone between them
+-- from one offset up to another there are these tokens, with white space and line markers alone between them
 abbrev pub Covers : List ℕ → ℕ → ℕ → List Token → Type 0
 Covers source low high [] = IsBetween source low high
 Covers source low high (t ∷ ts) = IsBetween source low t.from × IsSlice source t × Covers source t.until high ts
@@ -73,12 +73,12 @@ pub record AreTokensOf (source : List ℕ) (tokens : Tokens) : Type 0 where
   pub end_token : tokens.end.token ≡ length tokens.list
   pub end_placed : StandsIn source (length source) (name_in tokens.files tokens.end.file) tokens.end.line
 
--- a fault lies in the source, and in the file and the line in which its offset stands
+-- a fault lies in the source, and in the file and the line in which its offset lies
 pub record IsFaultIn (source : List ℕ) (found : FaultAt) : Type 0 where
   pub within : found.offset ≤ length source
   pub stands : StandsIn source found.offset found.file found.line
 
--- where memory was wanting no place is told
+-- where memory ran out no place is given
 abbrev pub TellsPlace : List ℕ → LexFault → Type 0
 TellsPlace source (lex.At found) = IsFaultIn source found
 TellsPlace source lex.Memory = Unit {0}

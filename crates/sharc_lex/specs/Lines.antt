@@ -1,4 +1,4 @@
--- Lines of a source, and the file and the line in which an offset of it stands.
+-- Lines of a source, and the file and the line in which an offset of it lies.
 use Rattle.std.specs.Prelude.{◌≡◌, ℕ, ◌+◌, ◌-◌, ◌<◌, ◌≤◌, ◌==◌, ◌⊎◌, false, List, length, take, drop, slice_index, slice_range, Option, Some, None, if◌then◌else◌, codes}
 use Rattle.std.specs.List.{prefix_len, position_or_len, count_by}
 use Rattle.sharc_lex.specs.Bytes.{is_blank}
@@ -8,11 +8,11 @@ use Rattle.sharc_lex.specs.Markers.{is_marker_line, marker}
 abbrev pub line_at : List ℕ → ℕ → List ℕ
 line_at source start = take (position_or_len (λ b. b == 10) (drop start source)) (drop start source)
 
--- a line begins at the beginning, and behind each newline
+-- a line begins at the beginning, and after each newline
 abbrev pub BeginsLine : List ℕ → ℕ → Type 0
 BeginsLine source start = (start ≡ 0) ⊎ (slice_index source (start - 1) ≡ 10)
 
--- how many newlines stand from one offset up to another
+-- how many newlines there are from one offset up to another
 abbrev pub newlines : List ℕ → ℕ → ℕ → ℕ
 newlines source low high = count_by (λ b. b == 10) (slice_range source low high)
 
@@ -30,7 +30,7 @@ pub record IsUnmarked (source : List ℕ) (k : ℕ) (file : List ℕ) (line : �
   pub opening : file ≡ codes "input"
   pub counted : line ≡ 1 + newlines source 0 k
 
--- Behind a line marker the file is the one that it names. The line behind it has the number that it gives, and each newline since then counts one.
+-- After a line marker the file is the one that it names. The line after it has the number that it gives, and each newline since then counts one.
 pub record IsMarked (source : List ℕ) (k : ℕ) (file : List ℕ) (line : ℕ) : Type 0 where
   pub start : ℕ
   pub number : ℕ
@@ -40,6 +40,6 @@ pub record IsMarked (source : List ℕ) (k : ℕ) (file : List ℕ) (line : ℕ)
   pub last : NoMarker source (start + 1) k
   pub counted : line ≡ number + newlines source (start + length (line_at source start) + 1) k
 
--- the file and the line in which an offset stands, by the last line marker before it
+-- the file and the line in which an offset lies, by the last line marker before it
 abbrev pub StandsIn : List ℕ → ℕ → List ℕ → ℕ → Type 0
 StandsIn source k file line = IsUnmarked source k file line ⊎ IsMarked source k file line

@@ -16,14 +16,14 @@ is_name_byte b = is_printable b && not (b == 34) && not (b == 92)
 abbrev pub is_flag : ℕ → Bool
 is_flag b = is_blank b || (nat_le 49 b && nat_le b 52)
 
--- a decimal number of at most 2147483647, and what stands behind it
+-- a decimal number of at most 2147483647, and what follows it
 abbrev pub line_number : List ℕ → Option (ℕ × List ℕ)
 line_number bytes =
     let digits = prefix_len is_digit bytes in
     if digits == 0 then None
     else option_and_then (λ n. if nat_lt n (2 ^ 31) then Some (n, drop digits bytes) else None) (value_behind 10 0 (take digits bytes))
 
--- behind a double quote: 1 to 255 bytes of a name, the closing quote, and what stands behind it
+-- after a double quote: 1 to 255 bytes of a name, the closing quote, and what follows it
 abbrev pub closed_name : List ℕ → Option (List ℕ × List ℕ)
 closed_name bytes =
     let len = prefix_len is_name_byte bytes in
@@ -37,7 +37,7 @@ file_name (b ∷ bytes) = if b == 34 then closed_name bytes else None
 abbrev pub is_marker_line : List ℕ → Bool
 is_marker_line line = slice_index line (prefix_len is_blank line) == 35
 
--- what stands behind the `#` of a line: blanks, a number, blanks, a name in double quotes, blanks and flags; the line and the file of the next line
+-- what follows the `#` of a line: blanks, a number, blanks, a name in double quotes, blanks and flags; the line and the file of the next line
 abbrev pub marker : List ℕ → Option (ℕ × List ℕ)
 marker bytes = do
   number ← line_number (behind is_blank bytes)

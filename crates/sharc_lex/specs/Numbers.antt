@@ -4,7 +4,7 @@ use Rattle.sharc_tree.specs.declared.token.Number.{Number}
 use Rattle.sharc_tree.specs.declared.token.NumberType.TheVariants.{Int, Long}
 use Rattle.sharc_lex.specs.Bytes.{is_digit}
 
--- what a byte counts as a digit; 16 where it is none
+-- what a byte counts as a digit; 16 where it is not one
 abbrev pub digit_value : ℕ → ℕ
 digit_value b =
     if is_digit b then b - 48
@@ -12,7 +12,7 @@ digit_value b =
     else (if nat_le 65 b && nat_le b 70 then b - 55
     else 16))
 
--- the value of digits of a base that stand behind a higher part
+-- the value of digits of a base that come after a higher part
 abbrev pub value_behind : ℕ → ℕ → List ℕ → Option ℕ
 value_behind base high [] = Some high
 value_behind base high (d ∷ ds) = if nat_lt (digit_value d) base then value_behind base (high * base + digit_value d) ds else None
@@ -33,7 +33,7 @@ abbrev pub hexadecimal : List ℕ → Option ℕ
 hexadecimal [] = None
 hexadecimal (d ∷ ds) = value_behind 16 0 (d ∷ ds)
 
--- what stands behind a leading 0: octal digits, none too, or an x and hexadecimal digits
+-- what follows a leading 0: octal digits, none too, or an x and hexadecimal digits
 abbrev pub behind_zero : List ℕ → Option ℕ
 behind_zero [] = Some 0
 behind_zero (b ∷ ds) = if (b == 120) || (b == 88) then hexadecimal ds else value_behind 8 0 (b ∷ ds)

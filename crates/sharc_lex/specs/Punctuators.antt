@@ -87,7 +87,7 @@ first_begun (entry ∷ entries) bytes =
     if starts_with nat_eq bytes entry.0 then Some (record { len = length entry.0; kind = entry.1 })
     else first_begun entries bytes
 
--- all of them; the longer texts stand first, so that the first that the bytes begin with is the longest
+-- all of them; the longer texts come first, so that the first that the bytes begin with is the longest
 abbrev pub punctuators : List (List ℕ × TokenKind)
 punctuators = quadruples ++ triples ++ pairs ++ singles
 

@@ -1,4 +1,4 @@
--- What token stands where a byte begins it: the longest that is one.
+-- What token is where a byte begins it: the longest that is one.
 use Rattle.std.specs.Prelude.{ℕ, ◌==◌, ◌<◌, ◌≤◌, length, List, ◌∷◌, take, Result, Ok, Err, ok_or, option_map, if◌then◌else◌}
 use Rattle.std.specs.List.{prefix_len}
 use Rattle.sharc_tree.specs.declared.token.TokenKind.{TokenKind}
@@ -12,7 +12,7 @@ use Rattle.sharc_lex.specs.Numbers.{number}
 use Rattle.sharc_lex.specs.Punctuators.{punctuator}
 use Rattle.sharc_lex.specs.Words.{word}
 
--- a token of so many bytes, where they are one
+-- a token of this many bytes, where they are one
 abbrev pub of_len : ℕ → Result TokenKind Fault → Result Lexeme Fault
 of_len len (Ok kind) = Ok (record { len = len; kind = kind })
 of_len len (Err fault) = Err fault

@@ -23,7 +23,7 @@ fn escaped(byte: u8) -> Option<u8>
     }
 }
 
-/// What is escaped behind a backslash, where the quote follows.
+/// What is escaped after a backslash, where the quote follows.
 fn behind_backslash(bytes: &[u8]) -> Option<u8>
     ensures { result ≡ behind_backslash bytes.now }
 {
@@ -33,7 +33,7 @@ fn behind_backslash(bytes: &[u8]) -> Option<u8>
     }
 }
 
-/// The byte behind a quote, where it stands for itself and the quote follows.
+/// The byte after a quote, where it stands for itself and the quote follows.
 fn plain(bytes: &[u8]) -> Option<u8>
     ensures { result ≡ plain bytes.now }
 {
@@ -43,7 +43,7 @@ fn plain(bytes: &[u8]) -> Option<u8>
     }
 }
 
-/// The character constant whose first quote stands in front of these bytes.
+/// The character constant whose first quote comes just before these bytes.
 pub fn character(bytes: &[u8]) -> Option<Lexeme>
     ensures { result ≡ character bytes.now }
 {

@@ -8,7 +8,7 @@ use sharc_tree::name::Name;
 use sharc_tree::token::FaultAt;
 use std::alloc::{AllocError, AllocFailed, Global};
 
-/// What is wrong where a token or a line marker should stand.
+/// What is wrong where a token or a line marker should be.
 #[derive(Clone, Copy)]
 pub enum Fault {
     /// L1: this byte begins no token.
@@ -56,7 +56,7 @@ pub struct LineFault {
     pub fault: Fault,
 }
 
-/// Where a line stands.
+/// Where a line is.
 #[derive(Clone, Copy)]
 pub struct Place {
     /// The file's place in the list of files.

@@ -6,7 +6,7 @@ ghost use Rattle.sharc_lex.specs.Laws.{AreTokensOf, IsFaultIn};
 ghost use Rattle.sharc_tree.specs.declared.token.FaultAt.{FaultAt};
 ghost use Rattle.sharc_tree.specs.declared.token.Tokens.{Tokens};
 
-/// The tokens that the grammar reads stand in the source in their order, each the longest there, in its file and line.
+/// The tokens that the grammar reads lie in the source in their order, each the longest there, in its file and line.
 pub fn tokens_stand()
     ensures { (source : List ℕ) → (tokens : Tokens) → reading source ≡ Ok tokens → AreTokensOf source tokens }
 {}

@@ -1,7 +1,7 @@
 //! The lexer: reads the bytes of a preprocessed source into tokens with their places.
 //!
 //! The layer above may use `lex` and `LexFault`. What `lex` answers is `reading` of specs/Grammar.antt, the grammar of tokens: the lines of a
-//! source, line markers as GCC writes them, and on every other line white space and tokens, each the longest that stands there. What holds of
+//! source, line markers as GCC writes them, and on every other line white space and tokens, each the longest that is there. What holds of
 //! every reading is `AreTokensOf` of specs/Laws.antt: the tokens in order, each the slice of its span and the longest token there, with white space
 //! and line markers alone between them, and each in the file and the line that specs/Lines.antt gives to its first byte. `IsFaultIn` says the same of
 //! a fault. src/laws.rt has both without a call at hand.

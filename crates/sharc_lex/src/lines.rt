@@ -11,7 +11,7 @@ use sharc_tree::name::Name;
 use sharc_tree::token::Token;
 use std::alloc::{AllocError, Global};
 
-/// The token at the front of the bytes, which stand at an offset.
+/// The token at the front of the bytes, which lie at an offset.
 fn make_token(
     alloc: Global,
     place: Place,

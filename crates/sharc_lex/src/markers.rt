@@ -52,7 +52,7 @@ fn digits_len(bytes: &[u8]) -> usize
     bytes.len()
 }
 
-/// How many bytes at the front may stand in a file's name.
+/// How many bytes at the front may be in a file's name.
 fn name_len(bytes: &[u8]) -> usize
     ensures { result ≡ prefix_len is_name_byte bytes.now }
 {
@@ -64,14 +64,14 @@ fn name_len(bytes: &[u8]) -> usize
     bytes.len()
 }
 
-/// Whether only blanks and flags stand there.
+/// Whether only blanks and flags are there.
 fn are_flags(bytes: &[u8]) -> bool
     ensures { result ≡ list_all is_flag bytes.now }
 {
     bytes.iter().all(|byte| is_flag(*byte))
 }
 
-/// What is left behind the blanks at the front.
+/// What is left after the blanks at the front.
 fn behind_blanks(bytes: &[u8]) -> &[u8]
     ensures { result.now ≡ behind is_blank bytes.now }
 {
@@ -79,7 +79,7 @@ fn behind_blanks(bytes: &[u8]) -> &[u8]
     &bytes[start..]
 }
 
-/// A line's number, and what stands behind it.
+/// A line's number, and what follows it.
 fn line_number(bytes: &[u8]) -> Option<(u32, &[u8])>
     ensures { option_map (λ found. (found.0, found.1.now)) result ≡ line_number bytes.now }
 {
@@ -95,7 +95,7 @@ fn line_number(bytes: &[u8]) -> Option<(u32, &[u8])>
     }
 }
 
-/// A file's name whose opening quote stands in front of these bytes, and what stands behind it.
+/// A file's name whose opening quote comes just before these bytes, and what follows it.
 fn closed_name(bytes: &[u8]) -> Option<(&[u8], &[u8])>
     ensures { option_map (λ found. (found.0.now, found.1.now)) result ≡ closed_name bytes.now }
 {
@@ -107,7 +107,7 @@ fn closed_name(bytes: &[u8]) -> Option<(&[u8], &[u8])>
     }
 }
 
-/// A file's name in double quotes, and what stands behind it.
+/// A file's name in double quotes, and what follows it.
 fn file_name(bytes: &[u8]) -> Option<(&[u8], &[u8])>
     ensures { option_map (λ found. (found.0.now, found.1.now)) result ≡ file_name bytes.now }
 {
@@ -129,7 +129,7 @@ pub fn marker_at(line: &[u8]) -> Option<usize>
     }
 }
 
-/// What the bytes behind the `#` of a line say of the next line.
+/// What the bytes after the `#` of a line say of the next line.
 pub fn marker(bytes: &[u8]) -> Option<MarkedPlace<'_>>
     ensures { option_map (λ found. (found.line, found.file.now)) result ≡ marker bytes.now }
 {

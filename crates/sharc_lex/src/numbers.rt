@@ -8,7 +8,7 @@ use sharc_tree::token::{Number, NumberType};
 /// The largest value of a number.
 const LARGEST: u64 = 0x7fff_ffff_ffff_ffff;
 
-/// The value of a digit, 16 where the byte is none.
+/// The value of a digit, 16 where the byte is not one.
 fn digit_value(byte: u8) -> u64
     ensures { result ≡ digit_value byte }
 {
@@ -76,7 +76,7 @@ fn hexadecimal(bytes: &[u8]) -> Option<u64>
     }
 }
 
-/// The value of what stands behind a leading 0.
+/// The value of what follows a leading 0.
 fn behind_zero(bytes: &[u8]) -> Option<u64>
     ensures { result ≡ small_value (behind_zero bytes.now) }
 {

@@ -21,7 +21,7 @@ pub struct Reading<'a> {
     pub files: Files<'a>,
     /// The place of the last line that was read.
     pub here: Place,
-    /// The place of the line behind it.
+    /// The place of the line after it.
     pub next: Place,
 }
 
@@ -76,7 +76,7 @@ impl<'a> Reading<'a> {
         Ok(())
     }
 
-    /// Reads a line marker, whose `#` stands at a place of the line.
+    /// Reads a line marker, whose `#` is at a place of the line.
     fn marker_line(&mut self, offset: usize, start: usize, line: &'a [u8]) -> Result<(), Failure>
         requires fits { offset + length line.now ≤ 2 ^ 20 }
         requires starts { start ≡ prefix_len is_blank line.now }
@@ -159,7 +159,7 @@ impl<'a> Reading<'a> {
     }
 }
 
-/// How many bytes stand before the first newline.
+/// How many bytes there are before the first newline.
 fn line_len(bytes: &[u8]) -> usize
     ensures len { result ≡ position_or_len (λ b. b == 10) bytes.now }
     ensures within { result ≤ length bytes.now }
@@ -175,9 +175,9 @@ fn line_len(bytes: &[u8]) -> usize
 /// The tokens of a preprocessed source, or its first fault.
 pub fn lex(alloc: Global, source: &[u8]) -> Result<Tokens, LexFault>
     requires { length source.now ≤ 1_048_576 }
-    // The answer is the grammar's: the one reading, or the first fault. Want of memory alone is free.
+    // The answer is the grammar's: the one reading, or the first fault. Only running out of memory is left open.
     ensures exact { Gives result (reading source.now) }
-    // What the layers above ask of tokens: each is the longest that stands there, and has the file and the line of its place.
+    // What the layers above ask of tokens: each is the longest that is there, and has the file and the line of its place.
     ensures tokens { IfOk result (AreTokensOf source.now) }
     // A fault has the file and the line of its offset.
     ensures place { IfErr result (TellsPlace source.now) }

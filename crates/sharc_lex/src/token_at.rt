@@ -1,4 +1,4 @@
-//! What token stands where a byte begins it.
+//! What token is where a byte begins it.
 
 ghost use Rattle.std.specs.Prelude.{◌≡◌, ◌∷◌, IfOk};
 ghost use Rattle.sharc_lex.specs.Laws.{IsLongest};

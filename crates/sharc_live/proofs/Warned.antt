@@ -9,7 +9,7 @@ use Rattle.sharc_tree.specs.declared.tree.item.Item.{Item}
 use Rattle.sharc_tree.specs.View.{view_item, view_items}
 use Rattle.sharc_ctype.specs.Resolved.{Resolution, functions_in}
 use Rattle.sharc_mode.specs.declared.error.Warning.{Warning}
-use Rattle.sharc_dataflow.specs.declared.way.Warning.{Warning as Found}
+use Rattle.sharc_dataflow.specs.declared.way.FlowWarning.{FlowWarning}
 use Rattle.sharc_dataflow.specs.Uses.{warning, HasWarning, IsUse, AddsUses, Rising, AreFirsts}
 use Rattle.sharc_live.specs.Flows.{function_flow}
 use Rattle.sharc_live.specs.Gathers.{AddsAll}
@@ -49,13 +49,13 @@ site_of_token n (Some t) = refl
 site_token : (r : Resolution) (n : ℕ) → (site_at r n).token ≡ n
 site_token r n = site_of_token n (slice_get r.program.tokens.list n)
 
-in_order : (r : Resolution) (l : List Found) → Rising l → InOrder (map (warning_at r) l)
+in_order : (r : Resolution) (l : List FlowWarning) → Rising l → InOrder (map (warning_at r) l)
 in_order r [] h = tt
 in_order r (a ∷ []) h = tt
 in_order r (a ∷ (b ∷ l)) h = (let e = site_token r a.read in let f = site_token r b.read in omega (arith, e, f, h.0), in_order r (b ∷ l) h.1)
 
-module _ (r : Resolution) (found firsts : List Found) (adds : AddsAll r (functions_in r.program.items) [] found) (are : AreFirsts found firsts) where
-  is_use : (w : Found) → Contains found w → IsUseIn r w.since w.read
+module _ (r : Resolution) (found firsts : List FlowWarning) (adds : AddsAll r (functions_in r.program.items) [] found) (are : AreFirsts found firsts) where
+  is_use : (w : FlowWarning) → Contains found w → IsUseIn r w.since w.read
   is_use w h = cases (adds.only w.since w.read h)
     where
       cases : Contains [] (warning w.read w.since) ⊎ IsUseIn r w.since w.read → IsUseIn r w.since w.read
@@ -88,10 +88,10 @@ module _ (r : Resolution) (found firsts : List Found) (adds : AddsAll r (functio
 
 -- ---- function by function
 
-pub adds_none : (r : Resolution) (l : List Found) → AddsAll r [] l l
+pub adds_none : (r : Resolution) (l : List FlowWarning) → AddsAll r [] l l
 adds_none r l = record { kept = λ w h. h; only = λ k read h. inl h; all = λ k read u. absurd (omega (arith, u.among.1)) }
 
-pub adds_next : (r : Resolution) (f : Function) (rest : List Function) (before between after : List Found) → AddsUses (function_flow r f) before between → AddsAll r rest between after → AddsAll r (f ∷ rest) before after
+pub adds_next : (r : Resolution) (f : Function) (rest : List Function) (before between after : List FlowWarning) → AddsUses (function_flow r f) before between → AddsAll r rest between after → AddsAll r (f ∷ rest) before after
 adds_next r f rest before between after one more = record {
   kept = λ w h. more.kept w (one.kept w h);
   only = λ k read h. cases k read (more.only k read h);
@@ -115,7 +115,7 @@ functions_cons (tree.structure s) l = refl
 functions_cons (tree.global g) l = refl
 functions_cons (tree.function f) l = refl
 
-adds_append : (r : Resolution) (fs gs : List Function) (before between after : List Found) → AddsAll r fs before between → AddsAll r gs between after → AddsAll r (fs ++ gs) before after
+adds_append : (r : Resolution) (fs gs : List Function) (before between after : List FlowWarning) → AddsAll r fs before between → AddsAll r gs between after → AddsAll r (fs ++ gs) before after
 adds_append r fs gs before between after one more = record {
   kept = λ w h. more.kept w (one.kept w h);
   only = λ k read h. cases k read (more.only k read h);
@@ -134,10 +134,10 @@ adds_append r fs gs before between after one more = record {
     each k read u (inl i) = let h = one.all k read (record { function = u.function; among = i; is_use = u.is_use }) in record { since = h.since; first = h.first; has = more.kept (warning read h.since) h.has }
     each k read u (inr i) = more.all k read (record { function = u.function; among = i; is_use = u.is_use })
 
-pub adds_one : (r : Resolution) (f : Function) (before after : List Found) → AddsUses (function_flow r f) before after → AddsAll r (f ∷ []) before after
+pub adds_one : (r : Resolution) (f : Function) (before after : List FlowWarning) → AddsUses (function_flow r f) before after → AddsAll r (f ∷ []) before after
 adds_one r f before after one = adds_next r f [] before after after one (adds_none r after)
 
-pub item_next : (r : Resolution) (items : List Item) (i : ℕ) (item : Item) (before between last : List Found) → i < length items → item ≡ slice_index_or items i item → AddsAll r (functions_in (view_items (item ∷ []))) before between
+pub item_next : (r : Resolution) (items : List Item) (i : ℕ) (item : Item) (before between last : List FlowWarning) → i < length items → item ≡ slice_index_or items i item → AddsAll r (functions_in (view_items (item ∷ []))) before between
     → AddsAll r (functions_in (view_items (drop (i + 1) items))) between last → AddsAll r (functions_in (view_items (drop i items))) before last
 item_next r items i item before between last h is one more =
     let rest = drop (i + 1) items in
@@ -151,5 +151,5 @@ none_left [] (suc n) h = refl
 none_left (a ∷ l) zero h = absurd (omega (arith, h))
 none_left (a ∷ l) (suc n) h = none_left l n (omega (arith, h))
 
-pub items_end : (r : Resolution) (items : List Item) (i : ℕ) (found : List Found) → length items ≤ i → AddsAll r (functions_in (view_items (drop i items))) found found
+pub items_end : (r : Resolution) (items : List Item) (i : ℕ) (found : List FlowWarning) → length items ≤ i → AddsAll r (functions_in (view_items (drop i items))) found found
 items_end r items i found h = subst (λ l. AddsAll r (functions_in (view_items l)) found found) (sym (none_left items i h)) (adds_none r found)

@@ -18,7 +18,7 @@ use Rattle.sharc_ctype.specs.Resolved.{Resolution, named_at}
 use Rattle.sharc_dataflow.specs.Flow.{Reads, Nulls, Writes, Next, Broken, Continued, Ends}
 use Rattle.sharc_dataflow.specs.Code.{Code, goes_to, acts, first_then, one_of, catches, repeats}
 
--- ---- what is done with a local, which is told by the token that declares it
+-- ---- what is done with a local, which is given by the token that declares it
 
 abbrev pub goes_on : Code
 goes_on = goes_to Next
@@ -128,7 +128,7 @@ first_flow r nothing = goes_on
 first_flow r (declares l) = local_flow r l
 first_flow r (does x) = simple_flow r x
 
--- a turn of a loop: the test leads behind the loop, or on to the body and then the step; without a test there is no way behind but a break
+-- a turn of a loop: the test leads past the loop, or on to the body and then the step; without a test there is no way out but a break
 abbrev pub turn_flow : Option Code → Code → Code → Code
 turn_flow None body step = first_then (catches body) step
 turn_flow (Some test) body step = first_then test (one_of (goes_to Broken) (first_then (catches body) step))

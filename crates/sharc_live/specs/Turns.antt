@@ -1,4 +1,4 @@
--- The steps of a turn of a loop, before its body and behind its step. It retraces the code.
+-- The steps of a turn of a loop, before its body and after its step. It retraces the code.
 use Rattle.std.specs.Prelude.{List, [], ◌∷◌, ◌++◌, Option, Some, None}
 use Rattle.sharc_dataflow.specs.declared.step.Step.{Step}
 use Rattle.sharc_dataflow.specs.declared.step.Step.TheVariants as steps

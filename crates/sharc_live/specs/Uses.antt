@@ -7,7 +7,7 @@ use Rattle.sharc_ctype.specs.Resolved.{Resolution, functions_in}
 use Rattle.sharc_mode.specs.declared.error.Warning.{Warning}
 use Rattle.sharc_mode.specs.Sharings.{text_at}
 use Rattle.sharc_dataflow.specs.Uses.{IsUse}
-use Rattle.sharc_dataflow.specs.declared.way.Warning.{Warning as Found}
+use Rattle.sharc_dataflow.specs.declared.way.FlowWarning.{FlowWarning}
 use Rattle.sharc_live.specs.Flows.{function_flow}
 
 -- the place of a token, by its number
@@ -20,7 +20,7 @@ abbrev pub site_at : Resolution → ℕ → Site
 site_at r n = site_of n (slice_get r.program.tokens.list n)
 
 -- the warning of the read at one token, of a local that is nulled at another
-abbrev pub warning_at : Resolution → Found → Warning
+abbrev pub warning_at : Resolution → FlowWarning → Warning
 warning_at r w = record { read = site_at r w.read; nulled = site_at r w.since; name = text_at r w.read }
 
 -- in one of these functions a path leads from a nulling of a local at k to its read, with no write of it between

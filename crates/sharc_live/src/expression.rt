@@ -117,7 +117,7 @@ fn right_operand(
     }
 }
 
-/// What stands before `.` is a place, before `->` a value.
+/// What comes before `.` is a place, before `->` a value.
 #[cycle(expression)]
 fn field_base(
     typed: &Typed,

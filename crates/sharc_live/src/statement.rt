@@ -104,7 +104,7 @@ fn returned(
     Ok(())
 }
 
-/// Begins a turn: its test leads behind the loop, or on to the body.
+/// Begins a turn: its test leads past the loop, or on to the body.
 fn begins_body(steps: &mut Vec<Step>) -> Result<(), AllocError>
     ensures { OnOk result (steps.new.items ≡ steps.old.items ++ body_begins) }
 {

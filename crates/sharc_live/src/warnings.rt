@@ -11,7 +11,7 @@ ghost use Rattle.sharc_live.specs.Uses.{site_at, warning_at, AreWarnings};
 use crate::statement::function;
 use sharc_check::Checked;
 use sharc_ctype::typed::Typed;
-use sharc_dataflow::way::Warning as Found;
+use sharc_dataflow::way::FlowWarning;
 use sharc_dataflow::{firsts, nulled_reads};
 use sharc_mode::error::{Warning, Warnings};
 use sharc_mode::text::text_at;
@@ -26,8 +26,8 @@ fn with_function(
     alloc: Global,
     typed: &Typed,
     of: &FunctionDefinition,
-    found: Vec<Found>,
-) -> Result<Vec<Found>, AllocError>
+    found: Vec<FlowWarning>,
+) -> Result<Vec<FlowWarning>, AllocError>
     ensures { IfOk result (λ v. AddsUses (function_flow typed.now (view_function of.now)) found.items v.items) }
 {
     let steps = function(alloc, typed, of)?;
@@ -40,8 +40,8 @@ fn with_item(
     alloc: Global,
     typed: &Typed,
     item: &Item,
-    found: Vec<Found>,
-) -> Result<Vec<Found>, AllocError>
+    found: Vec<FlowWarning>,
+) -> Result<Vec<FlowWarning>, AllocError>
     ensures { IfOk result (λ v. AddsAll typed.now (functions_in (view_items (item.now ∷ []))) found.items v.items) }
 {
     match item {
@@ -55,7 +55,7 @@ fn with_item(
 }
 
 /// The reads of nulled locals of all functions.
-fn gathered(alloc: Global, typed: &Typed, items: &[Item]) -> Result<Vec<Found>, AllocError>
+fn gathered(alloc: Global, typed: &Typed, items: &[Item]) -> Result<Vec<FlowWarning>, AllocError>
     ensures { IfOk result (λ v. AddsAll typed.now (functions_in (view_items items.now)) [] v.items) }
 {
     let mut found = Vec::new(alloc);
@@ -86,7 +86,7 @@ fn site_at(typed: &Typed, token: u32) -> Site
     }
 }
 
-fn warning_at(alloc: Global, typed: &Typed, found: Found) -> Result<Warning, AllocError>
+fn warning_at(alloc: Global, typed: &Typed, found: FlowWarning) -> Result<Warning, AllocError>
     ensures { IfOk result (λ w. w ≡ warning_at typed.now found) }
 {
     let name = Name::from_slice(alloc, text_at(typed, found.read))?;
@@ -97,7 +97,7 @@ fn warning_at(alloc: Global, typed: &Typed, found: Found) -> Result<Warning, All
     })
 }
 
-fn told(alloc: Global, typed: &Typed, found: &[Found]) -> Result<Vec<Warning>, AllocError>
+fn told(alloc: Global, typed: &Typed, found: &[FlowWarning]) -> Result<Vec<Warning>, AllocError>
     ensures { IfOk result (λ v. v.items ≡ map (warning_at typed.now) found.now) }
 {
     let mut list = Vec::new(alloc);
@@ -109,7 +109,7 @@ fn told(alloc: Global, typed: &Typed, found: &[Found]) -> Result<Vec<Warning>, A
 
 /// A warning for each read of a local to which some path in its function leads from a sharing cast or a `free` of that local with no write of it between, in the
 /// order of the reads; it names the first such cast or `free` of the source. Both ways of each test are open, and a declaration is a write both before and
-/// after its initialiser (own). It is refused for want of memory only.
+/// after its initialiser. It is refused only when out of memory.
 pub fn nulled_uses(alloc: Global, checked: &Checked) -> Result<Warnings, AllocError>
     ensures { IfOk result (λ w. AreWarnings checked.now.typed w) }
 {

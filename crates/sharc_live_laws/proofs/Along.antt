@@ -105,7 +105,7 @@ module _ (r : Resolution) (x : ℕ) where
 
   -- ---- runs in turn
 
-  -- what is reached behind a first part
+  -- what is reached after a first part
   pub reached_behind : {B : Type 0} (a b c : Code) (to : To) (exit : B → To) (fact : B → Type 0) (s t : State) (o : Out B) → Mix a to b c → t.frame.call ≡ s.frame.call → Went a to s t → Reached b exit fact t o → Reached c exit fact s o
   reached_behind a b c to exit fact s t (go v u) mix e p h =
       (h.0 ∙ e, moved_both a b c to (exit v) s.frame.call s.calls t.calls u.calls s.trace t.trace u.trace mix p (subst (λ z. Moved b (exit v) z t.calls u.calls t.trace u.trace) e h.1), h.2)
@@ -129,7 +129,7 @@ module _ (r : Resolution) (x : ℕ) where
       → Along a onward fact m → ((v : A) → fact v → Along b exit fact2 (f v)) → Along (first_then a b) exit fact2 (m >>= f)
   binds {a = a} {b = b} hm hf = binds_by (λ t us vs p q. way_then x a b t us vs p q) (λ us p. way_leaves x a b Ends us tt p) hm hf
 
-  -- a piece, with what is not seen behind it or before it
+  -- a piece, with what is not seen after it or before it
   pub then_idle : {A B : Type 0} {a : Code} {exit : B → To} {fact : A → Type 0} {fact2 : B → Type 0} {m : Run A} {f : A → Run B}
       → Along a onward fact m → ((v : A) → fact v → Along goes_on exit fact2 (f v)) → Along a exit fact2 (m >>= f)
   then_idle {a = a} hm hf = binds_by (λ t us vs p q. idle_behind x a t us vs p q) (λ us p. p) hm hf

@@ -23,7 +23,7 @@ module _ (r : Resolution) (x : ℕ) where
   went_as : (a c : Code) (to t2 : To) (s t : State) → ((us : List Act) → Way x a to us → Way x c t2 us) → Went r x a to s t → Went r x c t2 s t
   went_as a c to t2 s t h p = moved_as r x a c to t2 s.frame.call s.calls t.calls s.trace t.trace h p
 
-  -- what the test does: it ends, it leads out of the loop, or what comes behind it makes a turn
+  -- what the test does: it ends, it leads out of the loop, or what comes after it makes a turn
   abbrev Tried : Code → Code → State → Out Bool → Type 0
   Tried turn rest s (go true t) = (t.frame.call ≡ s.frame.call) × (t.frame.call < t.calls) × ((to : To) (u : State) → Went r x rest to t u → Went r x turn to s u)
   Tried turn rest s (go false t) = (t.frame.call ≡ s.frame.call) × Went r x turn Broken s t
@@ -55,7 +55,7 @@ module _ (r : Resolution) (x : ℕ) where
       tried s ready (go false t) k = (k.0, went_as of_test (turn_flow (Some of_test) body step) Next Broken s t leads_out k.1)
       tried s ready (over o t) k = went_as of_test (turn_flow (Some of_test) body step) Ends Ends s t (λ us w. way_leaves x of_test (one_of (goes_to Broken) (first_then (catches body) step)) Ends us tt w) k
 
-  -- ---- one turn, and what comes behind it
+  -- ---- one turn, and what comes after it
 
   module _ (turn body step : Code) (test : Run Bool) (step_run : Step) (body_run : Run Flow) (ht : Trying turn (first_then (catches body) step) test) (hb : Along r x body exit_of Any body_run) (hs : Along r x step onward Any step_run) where
     abbrev Looped : State → Out Flow → Type 0

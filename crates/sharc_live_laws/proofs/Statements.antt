@@ -43,7 +43,7 @@ module _ (m : Assignment) (x : ℕ) where
   then_next : {A : Type 0} {c : Code} {n : Run A} → Runs m x c n → Left c (n >>= λ v. give next)
   then_next h = then_idle m.typed x h (λ v k. goes_next)
 
-  -- what comes behind a statement, where it goes on
+  -- what comes after a statement, where it goes on
   then_on_next : (a b : Code) (first rest : Run Flow) → Left a first → Left b rest → Left (first_then a b) (first >>= λ flow. on_next flow rest)
   then_on_next a b first rest ha hb = record { from_state = λ s ready. behind s ready (first s) (ha.from_state s ready) }
     where

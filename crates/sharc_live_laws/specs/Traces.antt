@@ -17,7 +17,7 @@ traced u x site call = record { use_made = u; variable = x; site = site; call = 
 abbrev pub Untouched : ℕ → ℕ → Traced → Type 0
 Untouched call x t = t.call ≡ call → t.variable ≡ x → t.use_made ≡ reads
 
--- In a trace stands a read of a local in some call; of the earlier writes and nullings of it in that call the last is a nulling. A variable is told by the
+-- A trace has a read of a local in some call; of the earlier writes and nullings of it in that call the last is a nulling. A variable is given by the
 -- token that declares it, which is never the first of a program.
 pub record ReadsNulled (trace : List Traced) (nulling read : ℕ) : Type 0 where
   pub variable : ℕ

@@ -78,7 +78,7 @@ pub source_of_pieces : (n : ℕ) → source_of n ≡ codes "mutex m;\nint locked
 unfolding source_of text_of globals worker main_function step_numbers thread_numbers worker_end main_end
 source_of_pieces n = parts (map step_line (range_with_len 0 n)) (map call_line (range_with_len 0 n)) (map spawn_line (range_with_len 1 8)) (map join_line (range_with_len 1 8))
 
--- one piece written behind another
+-- one piece written after another
 pub written : (a b c d e f g h s0 s1 s2 s3 s4 s5 s6 s7 s8 : List ℕ) → s0 ≡ [] → s1 ≡ s0 ++ a → s2 ≡ s1 ++ b → s3 ≡ s2 ++ c → s4 ≡ s3 ++ d → s5 ≡ s4 ++ e → s6 ≡ s5 ++ f → s7 ≡ s6 ++ g → s8 ≡ s7 ++ h → s8 ≡ a ++ (b ++ (c ++ (d ++ (e ++ (f ++ (g ++ h))))))
 written a b c d e f g h s0 s1 s2 s3 s4 s5 s6 s7 s8 p0 p1 p2 p3 p4 p5 p6 p7 p8 =
     let q1 = p1 ∙ ap (λ t. t ++ a) p0 in

@@ -6,8 +6,8 @@ ghost use Rattle.sharc_load.specs.Source.{source_of, text_of, step_line, call_li
 
 use std::alloc::{AllocError, Allocator};
 
-/// The program with this number of functions, `step0`, `step1`, .. behind its globals: each of eight threads runs its number through all
-/// of them under no lock, and adds what comes out to a total under one (own).
+/// The program with this number of functions, `step0`, `step1`, .. after its globals: each of eight threads runs its number through all
+/// of them under no lock, and adds what comes out to a total under one.
 ///
 /// An `Err` says that memory was not found.
 pub fn make<A: Allocator>(alloc: A, functions: u32) -> Result<Vec<u8, A>, AllocError>
@@ -20,9 +20,7 @@ pub fn make<A: Allocator>(alloc: A, functions: u32) -> Result<Vec<u8, A>, AllocE
     write_steps(&mut text, functions)?;
     text.push_str("void work(int v) {\n")?;
     write_calls(&mut text, functions)?;
-    text.push_str(
-        "lock(&m);\ntotal = total + v;\nunlock(&m);\n}\nint main(void) {\n",
-    )?;
+    text.push_str("lock(&m);\ntotal = total + v;\nunlock(&m);\n}\nint main(void) {\n")?;
     write_spawns(&mut text)?;
     write_joins(&mut text)?;
     text.push_str("lock(&m);\nprint(total);\nunlock(&m);\nreturn 0;\n}\n")?;

@@ -10,12 +10,12 @@ use Rattle.std.specs.Prelude.{None, []}
 use Rattle.sharc_locks.specs.HeldLog.{Holds, HoldsEachOnce, IsHeldLog, GivesUp, without, object_of}
 use Rattle.sharc_locks.specs.declared.held_log.HeldMutex.{HeldMutex}
 
--- a list is what stands before a place, the element there, and what stands behind it
+-- a list is what lies before a place, the element there, and what lies after it
 split_at : {X : Type 0} (xs : List X) (i : ℕ) (x : X) → i < length xs → x ≡ get_or xs i x → xs ≡ take i xs ++ x ∷ drop (suc i) xs
 split_at xs i x within is =
     sym (take-append-drop i xs) ∙ ap (λ rest. take i xs ++ rest) (drop-cons xs i x within ∙ ap (λ y. y ∷ drop (suc i) xs) (sym is))
 
--- what stands at the first place of a word
+-- what is at the first place of a word
 pub record IsPlaceOf (log : List HeldMutex) (word place : ℕ) : Type 0 where
   pub within : place < length log
   pub there : (d : HeldMutex) → (get_or log place d).word ≡ word

@@ -1,4 +1,4 @@
-//! A list of at most sixteen held mutexes, each with the object that it stands in.
+//! A list of at most sixteen held mutexes, each with the object that it lies in.
 
 ghost use Rattle.std.specs.Prelude.{◌≡◌, ◌<◌, ◌≤◌, ◌↔◌, ◌++◌, [], ◌∷◌, length, position, IsTrue, IfSome, IfNone, ◌==◌};
 ghost use Rattle.std.specs.Bool.{OnTrue, OnFalse};
@@ -6,10 +6,10 @@ ghost use Rattle.std.specs.Bool.{OnTrue, OnFalse};
 use arrayvec::ArrayVec;
 use std::marker::Model;
 
-/// How many mutexes one thread may hold (own).
+/// How many mutexes one thread may hold.
 pub const LIMIT: usize = 16;
 
-/// A held mutex: the number of its word, and the object that it stands in, to which holding it holds a reference.
+/// A held mutex: the number of its word, and the object that it lies in, to which holding it holds a reference.
 #[derive(Clone, Copy, Debug, Default, PartialEq, Eq)]
 pub struct HeldMutex {
     pub word: u32,
@@ -68,7 +68,7 @@ impl HeldLog {
         self.entries.iter().any(|held| held.word == word)
     }
 
-    /// Adds the mutex at this word, which stands in this object, to the log.
+    /// Adds the mutex at this word, which lies in this object, to the log.
     ///
     /// The answer is false exactly where sixteen mutexes are held, and the log is then as it was.
     pub fn take(&mut self, word: u32, object: u64) -> bool

@@ -8,7 +8,7 @@ use Rattle.sharc_meaning.specs.Statements.{Flow, next, broken, continued, return
 use Rattle.sharc_meaning.specs.Meaning.{back_in, with_frame}
 use Rattle.sharc_meaning.proofs.Closed.{Closed}
 
--- so many events and answers together
+-- the number of events and answers together
 abbrev pub both : State → ℕ
 both s = length s.events + length s.answers
 

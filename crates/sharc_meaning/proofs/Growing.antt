@@ -25,7 +25,7 @@ first_nothing : {A : Type 0} (a b : List A) → a ++ b ≡ [] → a ≡ []
 first_nothing [] b h = refl
 first_nothing (x ∷ a) b h = absurd (cc)
 
--- what stands between two that are the same is the same
+-- what lies between two that are the same is the same
 between : {A : Type 0} (a b c : List A) → IsPrefix a b → IsPrefix b c → c ≡ a → b ≡ a
 between a b c (h, e) (k, f) is =
     let none : h ++ k ≡ [] = added_nothing a (h ++ k) (sym (append_assoc a h k) ∙ ap (λ l. l ++ k) (sym e) ∙ sym f ∙ is) in

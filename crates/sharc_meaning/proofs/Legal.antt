@@ -6,7 +6,7 @@ use Rattle.sharc_meaning.specs.Events.{Stands}
 use Rattle.sharc_meaning.specs.Laws.{StoresGrow, PrefixesAreLegal}
 use Rattle.sharc_meaning.specs.Store.{MayCome}
 
--- what stands in a list with one more at its end is that one, or stands in the list
+-- what is in a list with one more at its end is that one, or is in the list
 pub record InFront (R before : List SourceEvent) (e : SourceEvent) : Type 0 where
   pub after : List SourceEvent
   pub stands : Stands R before e after

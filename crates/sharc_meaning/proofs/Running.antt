@@ -39,7 +39,7 @@ no_front : {A : Type 0} (a b : List A) → a ++ b ≡ [] → a ≡ []
 no_front [] b h = refl
 no_front (x ∷ a) b h = absurd (cc)
 
--- where an event of a list in two parts stands
+-- where an event of a list in two parts is
 pub record InFirst (R S before : List SourceEvent) (e : SourceEvent) (after : List SourceEvent) : Type 0 where
   pub rest : List SourceEvent
   pub stands : Stands R before e rest

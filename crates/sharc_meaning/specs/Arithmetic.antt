@@ -1,4 +1,4 @@
--- What operators make of integers, and where they stop (C11 6.5.3.3 and 6.5.5 to 6.5.12). What C leaves undefined stops (own).
+-- What operators make of integers, and where they stop (C11 6.5.3.3 and 6.5.5 to 6.5.12). What C leaves undefined stops (SharC's own rule).
 use Rattle.std.specs.Prelude.{ℕ, ℤ, pos, negsuc, zero, suc, ◌+◌, ◌^◌, ◌+ℤ◌, ◌-ℤ◌, ◌*ℤ◌, neg_ℤ, Bool, true, false, not, ◌&&◌, ◌||◌, Result, Ok, Err, nat_lt, int_lt, int_le, int_div, int_rem, if◌then◌else◌}
 use Rattle.std.specs.Int.{w64, int_bit_and, int_bit_or, int_bit_xor, int_bit_not, int_shr}
 use Rattle.sharc_tree.specs.declared.ctype.Base.{Base}
@@ -55,7 +55,7 @@ bits_of (array base stars) = bits_of_base base
 bits_of null = 63
 bits_of function = 63
 
--- whether two's complement of so many bits beside the sign holds the value
+-- whether two's complement of this many bits beside the sign holds the value
 abbrev pub is_held_by : ℕ → ℤ → Bool
 is_held_by bits (pos n) = nat_lt n (2 ^ bits)
 is_held_by bits (negsuc n) = nat_lt n (2 ^ bits)
@@ -90,7 +90,7 @@ shifted bits (negsuc n) by = Err out_of_range
 abbrev pub is_equal : ℤ → ℤ → Bool
 is_equal a b = int_le a b && int_le b a
 
--- An operator in a type with so many bits beside the sign. Division rounds toward zero (6.5.5p6), and `>>` of a negative number downward. `&&` and `||`
+-- An operator in a type with this many bits beside the sign. Division rounds toward zero (6.5.5p6), and `>>` of a negative number downward. `&&` and `||`
 -- are here what they make of two values that are both looked at.
 abbrev pub operated : ℕ → BinaryOperator → ℤ → ℤ → Result ℤ ℕ
 operated bits LogicalOr a b = Ok (truth (not (is_zero a) || not (is_zero b)))

@@ -1,4 +1,4 @@
--- Objects and their cells: where an element and a field lie, and which mutex a lock path names (own).
+-- Objects and their cells: where an element and a field lie, and which mutex a lock path names.
 use Rattle.std.specs.Prelude.{ℕ, ℤ, ◌+◌, ◌==◌, Bool, List, [], ◌∷◌, length, position, Option, Some, None, unwrap_or, if◌then◌else◌}
 use Rattle.std.specs.Str.{bytes_eq}
 use Rattle.sharc_tree.specs.declared.ctype.Base.{Base}
@@ -95,7 +95,7 @@ abbrev pub guard_by : Option CellAt → Guard
 guard_by None = nothing
 guard_by (Some c) = mutex c
 
--- a sibling stands in the same element
+-- a sibling is in the same element
 abbrev pub guard_beside : Bool → CellAt → Guard
 guard_beside is_pointer c = if is_pointer then behind c else mutex c
 

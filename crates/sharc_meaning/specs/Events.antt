@@ -101,7 +101,7 @@ is_of thread e = e.thread == thread
 abbrev pub events_of : ℕ → List SourceEvent → List SourceEvent
 events_of thread = filter (is_of thread)
 
--- this event stands in the list, with these before it and those behind it
+-- this event is in the list, with these before it and those after it
 abbrev pub Stands : List SourceEvent → List SourceEvent → SourceEvent → List SourceEvent → Type 0
 Stands R before e after = R ≡ before ++ e ∷ after
 
@@ -113,7 +113,7 @@ abbrev pub unless_unlocked : List SourceEvent → Option CellAt → List CellAt 
 unless_unlocked later None held = held
 unless_unlocked later (Some c) held = if list_any (unlocks c) later then held else c ∷ held
 
--- the mutexes that a thread holds behind these events of its own: those of each Lock that has no later Unlock
+-- the mutexes that a thread holds after these events of its own: those of each Lock that has no later Unlock
 abbrev pub held_mutexes : List SourceEvent → List CellAt
 held_mutexes [] = []
 held_mutexes (e ∷ later) = unless_unlocked later (locked_by e.act) (held_mutexes later)

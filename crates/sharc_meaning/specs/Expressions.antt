@@ -49,7 +49,7 @@ tested r a of_a = do
   drops (kind_at r a) v
   give (not (is_zero v))
 
--- a value that stands in a temporary
+-- a value that is held in a temporary
 abbrev pub operand : Resolution → Expression → Run ℤ → Run ℤ
 operand r a of_a = do
   v ← of_a

@@ -34,7 +34,7 @@ abbrev pub MoreFuelChangesNothing : Type 0
 MoreFuelChangesNothing = (m : Assignment) (f : ℕ) (argument : ℤ) (answers : List ℤ) (fuel more : ℕ)
     → (asks m f argument answers fuel).outcome ≢ spent → asks m f argument answers (fuel + more) ≡ asks m f argument answers fuel
 
--- with more fuel and no event more, what was given up stands in front of what is given up then
+-- with more fuel and no event more, what was given up is the front of what is given up then
 abbrev pub MoreIsGivenUp : Type 0
 MoreIsGivenUp = (m : Assignment) (f : ℕ) (argument : ℤ) (answers : List ℤ) (fuel more : ℕ)
     → (asks m f argument answers (fuel + more)).events ≡ (asks m f argument answers fuel).events → IsPrefix (asks m f argument answers fuel).given_up (asks m f argument answers (fuel + more)).given_up
@@ -85,7 +85,7 @@ OneAnswerMore = (m : Assignment) (f : ℕ) (argument : ℤ) (answers : List ℤ)
 abbrev pub PrefixesAreLegal : Type 0
 PrefixesAreLegal = (r : Resolution) (R S : List SourceEvent) → LegalStore r (R ++ S) → LegalStore r R
 
--- an event that may come behind a legal store makes it one with one event more
+-- an event that may come after a legal store makes it one with one event more
 abbrev pub StoresGrow : Type 0
 StoresGrow = (r : Resolution) (R : List SourceEvent) (e : SourceEvent) → LegalStore r R → MayCome r R e e.act → LegalStore r (R ++ e ∷ [])
 
@@ -138,7 +138,7 @@ pub record Starts (m : Assignment) (R : List SourceEvent) (e : SourceEvent) : Ty
 abbrev pub RunsStart : Type 0
 RunsStart = (m : Assignment) (R : List SourceEvent) (e : SourceEvent) → SourceRun m R → MayCome m.typed R e e.act → Starts m R e → SourceRun m (R ++ e ∷ [])
 
--- the same with a fuel that is told: the event is the next of a thread that was started
+-- the same with a given fuel: the event is the next of a thread that was started
 pub record IsNext (m : Assignment) (fuel : ℕ) (R : List SourceEvent) (e : SourceEvent) : Type 0 where
   pub own : Follows m R fuel e.thread
   pub comes : map (by e.thread) (asks m own.function own.argument (answers_of (events_of e.thread own.after) ++ e.answer ∷ []) fuel).events ≡ events_of e.thread own.after ++ e ∷ []

@@ -65,12 +65,12 @@ call_value on_call m (Some f) vs = do
   left ← run_function on_call m f vs
   give left.1
 
--- a call where so many frames more may stand
+-- a call where this many more frames are allowed
 abbrev pub calls : Assignment → ℕ → Calls
 calls m zero f site vs = stop calls_too_deep site
 calls m (suc n) f site vs = call_value (calls m n) m (function_at m.typed f) vs
 
--- A thread returns where it holds no mutex, and is then gone: both stand at the name of its function, and the stop where the body was left.
+-- A thread returns where it holds no mutex, and is then gone: both are at the name of its function, and the stop where the body was left.
 abbrev pub goes_away : Site → Site → Step
 goes_away name site = do
   own ← looks_at (λ s. s.events)
@@ -78,7 +78,7 @@ goes_away name site = do
   performs name acts.Return
   performs name acts.Gone
 
--- at most 256 frames of a thread stand, of which that of its function is one; the value is not used
+-- a thread has at most 256 frames, of which that of its function is one; the value is not used
 abbrev pub run_thread : Assignment → Option Function → ℤ → Step
 run_thread m None v = done
 run_thread m (Some f) v = do
@@ -87,7 +87,7 @@ run_thread m (Some f) v = do
 
 -- ---- what a thread asks for
 
--- its events behind Started, how far it came, what it holds there, what it gave up since its last event, and what it did with variables
+-- its events after Started, how far it came, what it holds there, what it gave up since its last event, and what it did with variables
 pub record Asked : Type 0 where
   pub events : List SourceEvent
   pub outcome : Outcome

@@ -32,8 +32,8 @@ ends until_return Return = true
 ends until_gone Gone = true
 ends _ _ = false
 
--- The access stands in the access set of a granule of an object, behind these events: it is of mode dynamic, the object had no New and no Give since,
--- and neither had its thread the end that is told.
+-- The access is in the access set of a granule of an object, after these events: it is of mode dynamic, the object had no New and no Give since,
+-- and neither had its thread the end that is given.
 pub record AccessSet (R : History) (o : Object) (granule : ℕ) (until : Until) (e : SourceEvent) (a : Access) : Type 0 where
   pub before : History
   pub after : History

@@ -27,7 +27,7 @@ use Rattle.sharc_meaning.specs.State.{nulls, Run, Step, ◌>>=◌, ◌>>◌, giv
 
 -- ---- places
 
--- what an lvalue names: a variable, or a cell of an object in the element that begins at the cell told first
+-- what an lvalue names: a variable, or a cell of an object in the element that begins at the cell given first
 pub data Place : Type 0 where
   variable : ℕ → Place
   cell : Object → ℕ → ℕ → Place
@@ -54,7 +54,7 @@ based site kind p = do
   holds kind p
   unless_stop (not (is_null p)) null_base site
 
--- an element with so many cells, of so many; an index outside stops
+-- an element with this many cells, of this many elements; an index outside stops
 abbrev pub element : Site → Object → ℕ → ℕ → ℤ → Run Place
 element site o cells elements (pos n) = if nat_lt n elements then give (cell o (n * cells) (n * cells)) else stop out_of_bounds site
 element site o cells elements (negsuc n) = stop out_of_bounds site

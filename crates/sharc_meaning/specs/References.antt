@@ -1,4 +1,4 @@
--- The references to an object: what holds one behind a list of events, by a scan of the whole state (own).
+-- The references to an object: what holds one after a list of events, by a scan of the whole state.
 use Rattle.std.specs.Prelude.{◌≡◌, ◌⊎◌, ℕ, ℤ, ◌≤◌, ◌<◌, ◌==◌, ◌%◌, Bool, true, false, not, ◌&&◌, ◌||◌, List, [], ◌∷◌, length, count_by, filter_map, flat_map, Any, slice_index_or, Option, Some, None, if◌then◌else◌}
 use Rattle.std.specs.List.{list_any}
 use Rattle.std.specs.Str.{bytes_eq}
@@ -95,7 +95,7 @@ Counts R n (Made k) = (is_live R (Made k) ≡ true) × ((k ≡ n) ⊎ (is_taken_
 
 -- ---- what threads hold
 
--- what a thread asks for that was started: this function, this argument, and the events behind its Started
+-- what a thread asks for that was started: this function, this argument, and the events after its Started
 pub record Begun (m : Assignment) (R : List SourceEvent) (thread : ℕ) : Type 0 where
   pub fuel : ℕ
   pub own : Follows m R fuel thread
@@ -107,7 +107,7 @@ asked_with {m} {R} {thread} b fuel = asks m b.own.function b.own.argument (answe
 abbrev pub held_count : Asked → ℕ → ℕ
 held_count a n = count_by (refers n) a.held
 
--- It holds one more reference to the object than so many where there is a fuel from which on it holds more than so many, at every fuel. At its next want, its
+-- It holds more than `which` references to the object where there is a fuel from which on it holds more than `which`, at every fuel. At its next want, its
 -- stop or its end more fuel changes nothing, so these are the references that it holds there; and a thread that comes to none of these holds what it never gives up.
 pub record ThreadHolds (m : Assignment) (R : List SourceEvent) (thread which n : ℕ) : Type 0 where
   pub begun : Begun m R thread
@@ -153,7 +153,7 @@ References m R n (in_argument thread) = ArgumentRefers m R n thread
 References m R n (in_mutex c) = (c.object ≡ Made n) × (is_locked R c ≡ true)
 References m R n (in_thread thread which) = ThreadHolds m R thread which n
 
--- ---- with a fuel that is told
+-- ---- with a given fuel
 
 -- what a thread holds where it has come with this fuel
 pub record ThreadHoldsWith (fuel : ℕ) (m : Assignment) (R : List SourceEvent) (thread which n : ℕ) : Type 0 where

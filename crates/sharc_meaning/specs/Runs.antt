@@ -1,4 +1,4 @@
--- Source runs: legal stores in which each thread asks for the events that are its own (own). Nothing is checked in them.
+-- Source runs: legal stores in which each thread asks for the events that are its own. Nothing is checked in them.
 use Rattle.std.specs.Prelude.{◌≡◌, ◌≢◌, ◌⊎◌, IsTrue, ℕ, ℤ, pos, Bool, false, List, [], map, Any, Option, Some, None, codes}
 use Rattle.std.specs.Str.{bytes_eq}
 use Rattle.sharc_tree.specs.declared.event.Act.TheVariants.{Spawn, Started}
@@ -37,7 +37,7 @@ abbrev pub IsNamedAt : Option Function → Site → Type 0
 IsNamedAt None site = ⊥
 IsNamedAt (Some f) site = site ≡ f.name.site
 
--- With this fuel a thread that was started asks for exactly the events that it has behind its Started, by their answers. Its Started stands at the name of
+-- With this fuel a thread that was started asks for exactly the events that it has after its Started, by their answers. Its Started is at the name of
 -- its function.
 pub record Follows (m : Assignment) (R : List SourceEvent) (fuel thread : ℕ) : Type 0 where
   pub function : ℕ

@@ -15,7 +15,7 @@ use Rattle.sharc_meaning.specs.Reference.{number_of}
 
 -- ---- what it has
 
--- the frame of a call: the number of the call, the variables that stand, in the order of their declarations, and the pointers that temporaries hold
+-- the frame of a call: the number of the call, the variables that exist, in the order of their declarations, and the pointers that temporaries hold
 pub record Frame : Type 0 where
   pub call : ℕ
   pub variables : List Variable
@@ -228,7 +228,7 @@ writes_variable site token v = do
   traces writes token site
   sets token v
 
--- a variable stands from its declaration on, first with 0 or NULL
+-- a variable exists from its declaration on, first with 0 or NULL
 
 abbrev pub new_variable : Declaration → ℤ → Variable
 new_variable d v = record { token = d.name.site.token; is_pointer = is_pointer (declared_kind d.written); value = v }

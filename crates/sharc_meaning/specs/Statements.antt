@@ -63,7 +63,7 @@ is_positive (pos zero) = false
 is_positive (pos (suc n)) = true
 is_positive (negsuc n) = false
 
--- what stands right of `=`, for something of this type, the target of which has this mode
+-- the right side of `=`, for something of this type, the target of which has this mode
 abbrev pub right_value : Calls → Assignment → Kind → Sharing → Right → Run ℤ
 right_value on_call m kind target (value e) = fitting kind e (eval on_call m e)
 right_value on_call m kind target (malloc s n w) = entered (do

@@ -1,4 +1,4 @@
--- Legal stores: lists of source events in which each event finds what those before it left (own).
+-- Legal stores: lists of source events in which each event finds what those before it left.
 use Rattle.std.specs.Prelude.{◌≡◌, ◌≢◌, ◌⊎◌, ℕ, ℤ, pos, neg_ℤ, ◌+◌, ◌^◌, ◌<◌, ◌==◌, Bool, true, false, ◌&&◌, ◌||◌, List, Option, Some, None, if◌then◌else◌}
 use Rattle.std.specs.List.{list_any}
 use Rattle.sharc_tree.specs.declared.event.Act.{Act}
@@ -169,6 +169,6 @@ MayCome r before e (Woken c) = is_waiter before c e.thread ≡ false
 MayCome r before e (Signal c) = Signals before c e.answer
 MayCome r before e (Broadcast c) = Unit {0}
 
--- each event may come behind those before it
+-- each event may come after those before it
 abbrev pub LegalStore : Resolution → List SourceEvent → Type 0
 LegalStore r R = (before : List SourceEvent) (e : SourceEvent) (after : List SourceEvent) → Stands R before e after → MayCome r before e e.act

@@ -2,7 +2,7 @@
 
 use sharc_tree::event::CellAt;
 
-/// References that are given up. An object is told by its number, NULL by 0.
+/// References that are given up. An object is given by its number, NULL by 0.
 #[derive(Clone, Copy, Drop)]
 pub enum GivenUp {
     /// By a temporary, a variable or the log of held mutexes: a reference to this object.

@@ -3,7 +3,7 @@
 ghost use Rattle.sharc_meaning.specs.Laws.{AskLaws, ModesAlone, ReferenceLaws, RunLaws, StoreLaws};
 
 /// What a thread asks for goes on where there is more fuel or there are more answers, and changes only where it ended for want of them. It ends for
-/// want of fuel only where all is used up. With more fuel and no event more, what was given up stands in front of what is given up then. Each event uses up one
+/// want of fuel only where all is used up. With more fuel and no event more, what was given up is the front of what is given up then. Each event uses up one
 /// answer. An event is wanted where they are used up, and it comes with one answer more.
 pub fn ask_laws()
     ensures { AskLaws }

@@ -1,6 +1,6 @@
 // The variables of a call.
 
-/// A parameter or a local, told by the token that declares it.
+/// A parameter or a local, given by the token that declares it.
 #[derive(Clone, Copy, Drop)]
 pub struct Variable {
     pub token: u32,

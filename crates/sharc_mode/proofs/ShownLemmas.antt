@@ -55,7 +55,7 @@ deeper_ends limit row h =
       | inr some ↦ subst (λ (r : Targets). r.first + r.count ≤ limit) (sym (deeper_some row some)) (let e : row.first + 1 + (row.count - 1) ≤ limit = omega arith in e)
     ]
 
--- the targets behind the first
+-- the targets after the first
 pub rest_of_row : (m : Assignment) (row : Targets) → row.first + row.count ≤ length m.modes → drop 1 (modes_of m row) ≡ modes_of m (deeper row)
 rest_of_row m row e =
     elim (none_or_some row.count) [

@@ -51,7 +51,7 @@ abbrev pub option_notes : {A : Type 0} → (A → List Finding) → Option A →
 option_notes f None = []
 option_notes f (Some x) = f x
 
--- what stands right of `=`; malloc agrees with every pointer type
+-- the right side of `=`; malloc agrees with every pointer type
 abbrev pub right_notes : Assignment → Option (List Sharing) → Right → List Finding
 right_notes m want (value e) = notes_of m e ++ agree_notes m want e
 right_notes m want (malloc s n t) = option_notes (notes_of m) n

@@ -133,7 +133,7 @@ IsRootReason r position (Some (Touched f)) = IsTouchedIn r position f
 IsRootReason r position (Some (Spawned f)) = IsPassedTo r position f
 IsRootReason r position (Some (From other)) = ⊥
 
--- the lowest position of the rank below that has an edge to it stands in the finding
+-- the lowest position of the rank below that has an edge to it is in the finding
 abbrev pub IsReasonBy : Resolution → ℕ → Finding → Option Reason → Type 0
 IsReasonBy r position Apart reason = reason ≡ None
 IsReasonBy r position Source reason = IsRootReason r position reason

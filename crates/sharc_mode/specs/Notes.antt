@@ -1,4 +1,4 @@
--- What is to be said of each construct: the cases M1 to M11, and which variables and globals lock paths name (own).
+-- What is to be said of each construct: the cases M1 to M11, and which variables and globals lock paths name.
 use Rattle.std.specs.Prelude.{ℕ, ◌+◌, ◌==◌, Bool, true, false, ◌||◌, List, [], ◌∷◌, ◌++◌, drop, take, map, slice_range, Option, Some, None, if◌then◌else◌}
 use Rattle.std.specs.List.{flat_map, list_any}
 use Rattle.std.specs.Option.{option_or}
@@ -29,7 +29,7 @@ use Rattle.sharc_mode.specs.Rows.{Reading, written, at_call, read, modes_of, mod
 use Rattle.sharc_mode.specs.Sharings.{Lock, Sharing, private, readonly, locked, racy, dynamic, sharing_of, path_of, mode_of, text_at, same_all, is_readonly, is_sibling, variable_named, object_named, object_of}
 use Rattle.sharc_mode.specs.WellFormed.{place_of, holds_private, first_unfit_path, first_unfit_mode, is_private_mode}
 
--- ---- what a case tells
+-- ---- what a case reports
 
 -- the tokens of a construct, as they are printed
 abbrev pub span_text : Resolution → Span → List ℕ
@@ -107,16 +107,16 @@ printed_top other levels = top_levels other levels
 abbrev pub printed_type : Assignment → Numbered → CType
 printed_type m n = record { base = n.entity.written.ctype.base; levels = printed_top n.entity.role n.entity.written.ctype.levels ++ position_levels m n }
 
--- M3: a non-private level stands directly above a private target
+-- M3: a non-private level is directly above a private target
 abbrev pub private_notes : Assignment → Numbered → List Finding
 private_notes m n = if holds_private (levels_of m n) then mismatch 3 n.entity.written.span (printed_type m n) (printed_type m n) ∷ [] else []
 
--- M4: a lock path is none of the allowed forms; the first of them in the source is told
+-- M4: a lock path is none of the allowed forms; the first of them in the source is reported
 abbrev pub path_notes : Span → Option Path → List Finding
 path_notes s None = []
 path_notes s (Some path) = error 4 s (path_text path) ∷ []
 
--- M5: a mode where it may not stand
+-- M5: a mode where it is not allowed
 abbrev pub mode_notes : Span → Option Mode → List Finding
 mode_notes s None = []
 mode_notes s (Some mode) = error 5 s (mode_text mode) ∷ []
@@ -177,7 +177,7 @@ unmet r ds all (locked l) = unmet_for r ds all (path_variable r l) l
 unmet r ds all racy = None
 unmet r ds all dynamic = None
 
--- the first in the source, where the deepest target stands first
+-- the first in the source, where the deepest target comes first
 abbrev pub unmet_in : Resolution → List Declaration → Arguments → List Sharing → Option Lock
 unmet_in r ds all [] = None
 unmet_in r ds all (s ∷ below) = option_or (unmet_in r ds all below) (unmet r ds all s)
@@ -248,7 +248,7 @@ sibling_notes r s (Some at) = names_of (variable_named (named_at r at))
 abbrev pub field_notes : Resolution → Span → Option ℕ → List Sharing → List Finding
 field_notes r s base_at modes = if list_any (is_sibling r) modes then sibling_notes r s base_at else []
 
--- ---- M10: the source of SCAST or `free` is a variable or a global that some lock path names; it is told by its name
+-- ---- M10: the source of SCAST or `free` is a variable or a global that some lock path names; it is given by its name
 
 abbrev pub is_named : ℕ → List Finding → Bool
 is_named x [] = false

@@ -52,7 +52,7 @@ pub record ArePaired (r : Resolution) (x y : ℕ) : Type 0 where
 abbrev pub AreEquated : Resolution → ℕ → ℕ → Type 0
 AreEquated r x y = ArePaired r x y ⊎ ArePaired r y x
 
--- the second stands directly below the first in the same type
+-- the second is directly below the first in the same type
 pub record IsBelow (r : Resolution) (x y : ℕ) : Type 0 where
   pub of : Numbered
   pub stands : Contains (numbered (entities_in r.program.items)) of
@@ -71,7 +71,7 @@ mode_given None false = Private
 abbrev pub mode_by : Resolution → (ℕ → Bool) → ℕ → Mode
 mode_by r dynamic position = mode_given (settled_at r position) (dynamic position)
 
--- the roots are dynamic, what is equal to a dynamic one is, and what stands directly below one that is not private
+-- the roots are dynamic, what is equal to a dynamic one is, and what is directly below one that is not private
 pub record IsEnough (r : Resolution) (dynamic : ℕ → Bool) : Type 0 where
   pub roots : (position : ℕ) → settled_at r position ≡ None → IsRoot r position → dynamic position ≡ true
   pub equal : (x y : ℕ) → AreEquated r x y → mode_by r dynamic x ≡ Dynamic → settled_at r y ≡ None → dynamic y ≡ true

@@ -22,7 +22,7 @@ use Rattle.sharc_ctype.specs.Constants.{is_constant}
 use Rattle.sharc_mode.specs.Moded.{Assignment}
 use Rattle.sharc_mode.specs.Sharings.{Lock, Sharing, private, readonly, locked, racy, dynamic, sharing_of, text_at, is_sibling_lock, variable_of}
 
--- as they are written; through `x->f` with `x` a constant variable, which stands at this token; at a call with these parameters and arguments
+-- as they are written; through `x->f` with `x` a constant variable, which is at this token; at a call with these parameters and arguments
 pub data Reading : Type 0 where
   written : Reading
   through : ℕ → Reading

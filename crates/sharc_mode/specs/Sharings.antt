@@ -1,4 +1,4 @@
--- Sharing modes with what their lock paths name, and when two are the same (own).
+-- Sharing modes with what their lock paths name, and when two are the same.
 use Rattle.std.specs.Prelude.{ℕ, ◌==◌, Bool, true, false, ◌&&◌, List, [], ◌∷◌, slice_get, Option, Some, None, is_none}
 use Rattle.std.specs.Str.{bytes_eq}
 use Rattle.sharc_tree.specs.declared.ctype.Path.{Path}
@@ -11,7 +11,7 @@ use Rattle.sharc_names.specs.declared.fault.Named.{Named}
 use Rattle.sharc_names.specs.declared.fault.Named.TheVariants as named
 use Rattle.sharc_ctype.specs.Resolved.{Resolution, named_at, global_at}
 
--- a lock path: the token of its first name, which tells what that names, and its second name, where it has one
+-- a lock path: the token of its first name, which shows what that names, and its second name, where it has one
 pub record Lock : Type 0 where
   pub first : ℕ
   pub second : Option (List ℕ)
@@ -35,7 +35,7 @@ sharing_of (Locked path) = locked (lock_of path)
 sharing_of Racy = racy
 sharing_of Dynamic = dynamic
 
--- what stands at a token; nothing past the last one
+-- what is written at a token; nothing past the last one
 abbrev pub text_of : Option Token → List ℕ
 text_of None = []
 text_of (Some t) = t.text
@@ -43,7 +43,7 @@ text_of (Some t) = t.text
 abbrev pub text_at : Resolution → ℕ → List ℕ
 text_at r token = text_of (slice_get r.program.tokens.list token)
 
--- the mode as it is printed: the first name of its path is what stands at that token
+-- the mode as it is printed: the first name of its path is what is written at that token
 
 abbrev pub path_with : ℕ → List ℕ → Option (List ℕ) → Path
 path_with token text None = One text token
@@ -61,7 +61,7 @@ mode_of r dynamic = Dynamic
 
 -- Two paths are equal where they name the same global, or the same variable and the same field; a field's own paths where they name the same sibling.
 -- A path that names what no path may name is equal to one that names the same. The fields behind one variable, and what the program does not define, are
--- told by their names.
+-- determined by their names.
 
 abbrev pub same_named : Named → Named → Bool
 same_named (named.Struct n) (named.Struct k) = n == k
@@ -142,7 +142,7 @@ abbrev pub is_field : Named → Bool
 is_field (named.Field f) = true
 is_field _ = false
 
--- a sibling of the field in whose type it stands
+-- a sibling of the field in whose type it is written
 abbrev pub is_sibling_lock : Resolution → Lock → Bool
 is_sibling_lock r l = is_field (named_at r l.first) && is_none l.second
 

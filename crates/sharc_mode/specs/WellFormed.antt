@@ -1,4 +1,4 @@
--- Types in which modes do not stand as they may: M3, M4 and M5 (own).
+-- Types in which modes are not placed as they may be: M3, M4 and M5.
 use Rattle.std.specs.Prelude.{ℕ, Bool, true, false, ◌&&◌, ◌||◌, ◌==◌, not, List, [], ◌∷◌, Option, Some, None, is_some, if◌then◌else◌}
 use Rattle.std.specs.Option.{option_or}
 use Rattle.sharc_tree.specs.declared.ctype.Base.{Base}
@@ -33,7 +33,7 @@ place_of role.Result = Result
 place_of role.Cast = Local
 place_of role.Made = Local
 
--- ---- M3: a non-private level stands directly above a private target
+-- ---- M3: a non-private level is directly above a private target
 
 abbrev pub is_private_mode : Mode → Bool
 is_private_mode Private = true
@@ -135,7 +135,7 @@ leaves_open b [] = false
 leaves_open b (None ∷ below) = not (is_mutex b below) || leaves_open b below
 leaves_open b (Some m ∷ below) = leaves_open b below
 
--- a sibling pointer may stand on the top of a field alone, where no target takes its mode from there
+-- a sibling pointer is allowed on the top of a field alone, where no target takes its mode from there
 abbrev pub allows_pointer : Resolution → Place → Base → List (Option Mode) → Named → Option (List ℕ) → Bool
 allows_pointer r Field b below what None = names_sibling_pointer r what && not (leaves_open b below)
 allows_pointer r _ b below what _ = false
@@ -157,7 +157,7 @@ abbrev pub unfit_top_path : Resolution → Place → Base → List (Option Mode)
 unfit_top_path r place b below (Some (Locked path)) = unless (top_path_fits r place b below (lock_of path)) path
 unfit_top_path r place b below _ = None
 
--- the first path at fault in the source, where the base stands first and the top last
+-- the first path at fault in the source, where the base comes first and the top last
 abbrev pub unfit_path_in : Resolution → Place → List (Option Mode) → Option Path
 unfit_path_in r place [] = None
 unfit_path_in r place (level ∷ below) = option_or (unfit_path_in r place below) (unfit_path r place level)

@@ -57,7 +57,7 @@ notes_about m touched = flat_map (type_notes m) (numbered (entities_in m.typed.p
     ++ touched_notes touched 0 (globals_in m.typed.program.items)
     ++ items_notes m m.typed.program.items
 
--- the cases that arise, as the constructs stand
+-- the cases that arise, in the order of the constructs
 abbrev pub mode_errors : Assignment → (ℕ → Bool) → List ModeError
 mode_errors m touched = errors_of m.typed (notes_about m touched)
 

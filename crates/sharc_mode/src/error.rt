@@ -8,7 +8,7 @@ use sharc_tree::token::Site;
 /// A case of M1 to M11.
 #[derive(Drop)]
 pub struct ModeError {
-    /// The number behind the M.
+    /// The number after the M.
     pub code: u8,
     pub site: Site,
     /// The types of M1 and M8, and the type of M3 twice; else `void` with no levels.

@@ -1,6 +1,6 @@
-// Where a type stands, as far as modes are concerned.
+// Where a type is written, as far as modes are concerned.
 
-/// Where a type stands.
+/// Where a type is written.
 #[derive(Clone, Copy)]
 pub enum Place {
     Global,

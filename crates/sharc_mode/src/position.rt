@@ -12,14 +12,14 @@ pub struct Position {
     pub depth: u32,
 }
 
-/// Why a position without a written mode is dynamic (own).
+/// Why a position without a written mode is dynamic.
 #[derive(Clone, Copy, PartialEq, Eq)]
 pub enum Reason {
     /// It is the top of a global that this function names, the first one that threads may run.
     Touched(u32),
     /// It is the target of a parameter of this function, which is spawned.
     Spawned(u32),
-    /// The position with this number, which is dynamic, is made equal to it or stands directly above it.
+    /// The position with this number, which is dynamic, is made equal to it or lies directly above it.
     From(u32),
 }
 

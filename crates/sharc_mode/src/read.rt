@@ -12,7 +12,7 @@ use crate::text::text_at;
 use sharc_ctype::typed::Typed;
 use sharc_tree::tree::{Declaration, Expr};
 
-/// A path of a field's type through `x->f`, where `x` stands at that token: a sibling's name `m` becomes `x->m`.
+/// A path of a field's type through `x->f`, where `x` is at that token: a sibling's name `m` becomes `x->m`.
 fn lock_through<'a>(typed: &'a Typed, at: u32, lock: Lock<'a>) -> Lock<'a>
     ensures { view_lock result ≡ lock_through typed.now at (view_lock lock.entry) }
 {

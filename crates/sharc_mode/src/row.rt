@@ -24,7 +24,7 @@ use sharc_tree::tree::{
 pub enum Reading<'a> {
     /// As they are written.
     Written,
-    /// Through `x->f` with `x` a constant variable, which stands at this token: a sibling's name `m` becomes `x->m`.
+    /// Through `x->f` with `x` a constant variable, which is at this token: a sibling's name `m` becomes `x->m`.
     Through(u32),
     /// At a call with these parameters and arguments: `x->m` becomes `y->m` where the argument for `x` is the constant variable `y`.
     Call(&'a [Declaration], &'a [Expr]),
@@ -173,7 +173,7 @@ pub fn declared_row<'a>(typed: &Typed, reading: Reading<'a>, token: u32) -> Targ
     row_between(typed, reading, token, token)
 }
 
-/// The targets of the type of a cast that stands at these tokens.
+/// The targets of the type of a cast at these tokens.
 pub fn cast_row<'a>(typed: &Typed, span: Span) -> Targets<'a>
     ensures row { view_row result ≡ cast_row typed.now span }
     ensures within { result.first + result.count ≤ position_count typed.now }

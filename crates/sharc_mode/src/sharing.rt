@@ -11,7 +11,7 @@ use sharc_names::fault::Named;
 use sharc_tree::ctype::{CType, Mode, Path};
 use sharc_tree::tree::GlobalDefinition;
 
-/// A lock path: the token of its first name, which tells what that names, and its second name, where it has one.
+/// A lock path: the token of its first name, which shows what that names, and its second name, where it has one.
 #[derive(Clone, Copy)]
 pub struct Lock<'a> {
     pub first: u32,
@@ -72,7 +72,7 @@ fn same_named(a: Named, b: Named) -> bool
     }
 }
 
-/// Whether two names are spelled alike, where what the first one names is told by its name.
+/// Whether two names are spelled alike, where what the first one names is determined by its name.
 fn same_text(named: Named, a: &[u8], b: &[u8]) -> bool
     ensures { result ≡ same_text named a.now b.now }
 {
@@ -82,7 +82,7 @@ fn same_text(named: Named, a: &[u8], b: &[u8]) -> bool
     }
 }
 
-/// Whether the first names of two paths, which stand at these tokens, name the same.
+/// Whether the first names of two paths, which are at these tokens, name the same.
 fn same_first(typed: &Typed, a: u32, b: u32) -> bool
     ensures { result ≡ same_first typed.now a b }
 {
@@ -182,7 +182,7 @@ fn is_field(named: Named) -> bool
     }
 }
 
-/// Whether a path is the name of a sibling of the field in whose type it stands.
+/// Whether a path is the name of a sibling of the field in whose type it is written.
 pub fn is_sibling_lock(typed: &Typed, lock: Lock<'_>) -> bool
     ensures { result ≡ is_sibling_lock typed.now (view_lock lock.entry) }
 {

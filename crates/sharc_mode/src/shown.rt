@@ -32,7 +32,7 @@ pub fn row_laws()
     ensures { RowLaws }
 {}
 
-/// A path as it is printed: the first name is what stands at its token.
+/// A path as it is printed: the first name is what is written at its token.
 pub fn path_of(alloc: Global, typed: &Typed, lock: Lock<'_>) -> Result<Path, AllocError>
     ensures { IfOk result (λ p. p ≡ path_of typed.now (view_lock lock.entry)) }
 {
@@ -59,7 +59,7 @@ pub fn mode_of(alloc: Global, typed: &Typed, sharing: Sharing<'_>) -> Result<Mod
     }
 }
 
-/// What stands at the bottom of the type of an expression; `void` where it has none.
+/// What is at the bottom of the type of an expression; `void` where it has none.
 pub fn root_of_kind(kind: Kind<'_>) -> Root<'_>
     ensures { view_root result ≡ base_of (view_kind kind.entry) }
 {

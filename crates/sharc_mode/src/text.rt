@@ -13,7 +13,7 @@ use sharc_tree::print::print_span;
 use sharc_tree::token::Span;
 use std::alloc::{AllocError, Global};
 
-/// What stands at a token; nothing past the last one.
+/// What is written at a token; nothing past the last one.
 pub fn text_at(typed: &Typed, token: u32) -> &[u8]
     ensures { result.now ≡ text_at typed.now token }
 {

@@ -1,4 +1,4 @@
-// Types in which modes do not stand as they may: M3, M4 and M5.
+// Types in which modes are not placed as they may be: M3, M4 and M5.
 
 ghost use Rattle.std.specs.Prelude.{◌≡◌, Some, None, is_some, if◌then◌else◌};
 ghost use Rattle.std.specs.Option.{option_copied, option_or};
@@ -126,7 +126,7 @@ fn unfit_mode_in<'a>(base: &Base, levels: &'a [Option<Mode>]) -> Option<&'a Mode
     }
 }
 
-/// M5: the first mode of a type in the source that may not stand there.
+/// M5: the first mode of a type in the source that is not allowed there.
 pub fn first_unfit_mode<'a>(
     place: Place,
     base: &Base,
@@ -265,7 +265,7 @@ fn is_through_constant(typed: &Typed, named: Named, mutex: &[u8]) -> bool
     }
 }
 
-/// Whether a path may stand at that place, by what its first name names and its second name.
+/// Whether a path is allowed at that place, by what its first name names and its second name.
 fn allows_path(typed: &Typed, place: Place, named: Named, second: Option<&[u8]>) -> bool
     ensures { result ≡ allows_path typed.now place named (view_name second.entry) }
 {
@@ -439,7 +439,7 @@ fn begins_private(
     }
 }
 
-/// Whether a level that is not private stands directly above a private one.
+/// Whether a level that is not private is directly above a private one.
 fn holds_private_in(
     base: &Base,
     racy: &Mode,
@@ -524,15 +524,15 @@ fn holds_private_with<'a>(
     holds_private_from(base, racy, otherwise, levels)
 }
 
-/// M3: whether a level that is not private stands directly above a private target.
+/// M3: whether a level that is not private is directly above a private target.
 pub fn holds_private(place: Place, base: &Base, levels: &[Option<Mode>]) -> bool
     ensures { result ≡ holds_private (meant place base.now levels.now) }
 {
     holds_private_with(place, base, &Mode::Racy, &Mode::Dynamic, levels)
 }
 
-/// The lowest of 3, 4 and 5 that holds of a type at that place: M3, a level that is not private stands directly above a private target; M4, a lock
-/// path is none of the allowed forms; M5, a mode stands where it may not. None where none of them holds.
+/// The lowest of 3, 4 and 5 that holds of a type at that place: M3, a level that is not private is directly above a private target; M4, a lock
+/// path is none of the allowed forms; M5, a mode is where it is not allowed. None where none of them holds.
 pub fn well_formed(typed: &Typed, ctype: &CType, place: Place) -> Option<u8>
     ensures { result ≡ type_code typed.now place ctype.now }
 {

@@ -1,4 +1,4 @@
--- Modes that stand where they may, there and back.
+-- Modes that are where they may be, there and back.
 use Rattle.std.proofs.Common.{◌≡◌, ℕ, zero, suc, ◌+◌, ◌<◌, true, not, ◌&&◌, List, [], ◌∷◌, length, slice_get, refl, ap, sym, ◌∙◌, arith, Option, Some, None}
 use Rattle.std.proofs.lemmas.Bool.{false≢true, and_parts, and_from}
 use Rattle.std.specs.List.{list_any}
@@ -36,7 +36,7 @@ unraced (Locked path) h = refl
 unraced Racy h = absurd (h refl)
 unraced Dynamic h = refl
 
--- ---- a level with so many below it
+-- ---- a level with this many below it
 
 record LevelRules (b : Base) (size : ℕ) (mode : Mode) : Type 0 where
   pointer : 0 < size → mode ≡ Racy → ⊥
@@ -72,7 +72,7 @@ rules_level b (x ∷ below) mode h = let some : 0 < suc (length below) = omega a
 
 -- ---- all levels
 
--- the levels below one, and that it may stand above them
+-- the levels below one, and that it may be above them
 record Below (b : Base) (levels : List (Option Mode)) (k : ℕ) (mode : Mode) : Type 0 where
   below : List (Option Mode)
   size : length below + k + 1 ≡ length levels
@@ -96,7 +96,7 @@ none_top : (p : Place) (b : Base) (rest : List (Option Mode)) (level : Option Mo
 none_top p b rest None h = refl
 none_top p b rest (Some mode) h = none_unless (level_allows b rest mode && top_allows p mode) mode (h mode refl)
 
--- each level of a list may stand where it does
+-- each level of a list may be where it is
 abbrev EachAllowed : Base → List (Option Mode) → Type 0
 EachAllowed b levels = (k : ℕ) (mode : Mode) (below : List (Option Mode)) → slice_get levels k ≡ Some (Some mode) → length below + k + 1 ≡ length levels → level_allows b below mode ≡ true
 
@@ -120,7 +120,7 @@ top_private place.Field mode h = refl
 top_private place.Local mode h = ap is_private_mode (h of_variable)
 top_private place.Result mode h = ap is_private_mode (h of_result)
 
--- what holds of a level of so many
+-- what holds of a level with this many below it
 from_below : (e : Entity) (depth size : ℕ) (mode : Mode) → size + depth + 1 ≡ length e.written.ctype.levels → LevelRules e.written.ctype.base size mode → (HasPrivateTop (place_of e.role) → depth ≡ 0 → mode ≡ Private) → IsModeAllowed e depth mode
 from_below e depth size mode whole h top = record {
   pointer = λ low. let some : 0 < size = omega (arith, low, whole) in h.pointer some;

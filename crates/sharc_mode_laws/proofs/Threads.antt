@@ -1,4 +1,4 @@
--- What threads get: which functions are spawned; and that which globals they touch can be told.
+-- What threads get: which functions are spawned; and that it can be determined which globals they touch.
 use Rattle.std.proofs.Common.{◌≡◌, ⊎_elim, ℕ, ◌==◌, Bool, true, false, List, [], ◌∷◌, refl, ap, sym, ◌∙◌, subst, eqb-true, eq-eqb, Option, Some, None, IsSomeAnd, Contains}
 use Rattle.std.proofs.lemmas.Bool.{false≢true}
 use Rattle.std.proofs.lemmas.List.Elements.{Contains-append_left, Contains-append_right, Contains-append_cases}

@@ -1,4 +1,4 @@
--- Which globals threads touch can be told: by the calls that lead only through functions below a number, as that grows.
+-- Which globals threads touch can be determined: by the calls that lead only through functions below a number, as that grows.
 use Rattle.std.proofs.Common.{◌≡◌, ◌⊎◌, ⊎_elim, ℕ, zero, suc, ◌+◌, ◌<◌, ◌==◌, Bool, true, false, ◌&&◌, ◌||◌, List, [], ◌∷◌, ◌++◌, length, slice_get, refl, ap, sym, ◌∙◌, subst, arith, eqb-true, Option, Some, None}
 use Rattle.std.proofs.lemmas.Bool.{false≢true, or_cases, and_parts, and_from}
 use Rattle.std.proofs.lemmas.Option.{slice_get_within}

@@ -41,7 +41,7 @@ own_notes m (tree.field s a w n) = field_notes m.typed s (base_use m.typed w a) 
 own_notes m (tree.unary s o a) = []
 own_notes m (tree.binary s o at a b) = []
 
--- of what stands right of `=`, given to these modes
+-- of the right side of `=`, given to these modes
 abbrev pub given_notes : Assignment → Option (List Sharing) → Right → List Finding
 given_notes m want (value e) = agree_notes m want e
 given_notes m want (malloc s n t) = []
@@ -50,7 +50,7 @@ module _ (m : Assignment) (P : Finding → Type 0) where
   abbrev pub OwnSaid : Expression → Type 0
   OwnSaid e = AllByRecursion P (own_notes m e)
 
-  -- in the function whose name is this token; what is passed and begun with is told elsewhere
+  -- in the function whose name is this token; what is passed and begun with is reported elsewhere
   abbrev pub ReceiverSaid : ℕ → Receiver → Right → Type 0
   ReceiverSaid f (lvalue u) x = AllByRecursion P (write_notes m u) × AllByRecursion P (given_notes m (modes_at m u) x)
   ReceiverSaid f (variable d) x = Unit {0}
@@ -193,7 +193,7 @@ module _ (m : Assignment) (P : Finding → Type 0) where
         (both P (notes_of m a) agree (above a (front OwnSaid (expressions a) (in_arguments rest) h)) (front P agree later k))
         (above_all ds all (drop 1 left) rest (back OwnSaid (expressions a) (in_arguments rest) h) (back P agree later k))
 
-  -- ---- what stands in statements
+  -- ---- what is in statements
 
   expression_said : (f : ℕ) (e : Expression) → AllByRecursion P (notes_of m e) → Two f (expressions e) (transfers m.typed e)
   expression_said f e h = (below e h, quiet f e)

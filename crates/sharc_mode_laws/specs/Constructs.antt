@@ -62,7 +62,7 @@ abbrev mutual
   locals_in_all no_statements = []
   locals_in_all (statement a rest) = locals_in a ++ locals_in_all rest
 
--- the left side of an assignment, and what stands right of its `=`
+-- the left side of an assignment, and the right side of its `=`
 pub record IsAssigned (m : Assignment) (to : Expression) (from : Right) : Type 0 where
   pub owner : Function
   pub stands : IsFunction m owner

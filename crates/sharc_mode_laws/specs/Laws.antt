@@ -14,6 +14,6 @@ RulesAreMet = (m : Assignment) → WellModed m ↔ MeetsRules m
 abbrev pub SpawnedAreTold : Type 0
 SpawnedAreTold = (r : Resolution) (k : ℕ) → (is_spawned r k ≡ true) ↔ ((n : ℕ) × Spawns r n k)
 
--- a test tells which functions are reached
+-- a test shows which functions are reached
 abbrev pub ReachedAreTold : Type 0
 ReachedAreTold = (r : Resolution) → (reached : ℕ → Bool) × ((k : ℕ) → (reached k ≡ true) ↔ IsReached r k)

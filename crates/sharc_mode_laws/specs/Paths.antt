@@ -1,4 +1,4 @@
--- Lock paths: which may stand where, which a call reads, and which variables and globals they name.
+-- Lock paths: which are allowed where, which a call reads, and which variables and globals they name.
 use Rattle.std.specs.Prelude.{◌≡◌, IsTrue, ℕ, ◌+◌, ◌<◌, List, length, Some, None, slice_get, Contains}
 use Rattle.sharc_tree.specs.declared.ctype.Base.TheVariants as base
 use Rattle.sharc_tree.specs.declared.ctype.Mode.TheVariants.{Readonly, Locked}
@@ -55,7 +55,7 @@ pub record IsLockPointer (r : Resolution) (f : ℕ) : Type 0 where
 abbrev pub AreTargetsWritten : Entity → Type 0
 AreTargetsWritten e = (depth : ℕ) → 0 < depth → slice_get e.written.ctype.levels depth ≡ Some None → (e.written.ctype.base ≡ base.Mutex) × IsBase e depth
 
--- the path may stand at this depth of a type
+-- the path is allowed at this depth of a type
 pub data IsAllowed (r : Resolution) (e : Entity) (depth : ℕ) : Path → Type 0 where
   -- `m`, a global mutex
   global_mutex : {text : List ℕ} {token g : ℕ} → named_at r token ≡ named.Global g → named_kind r (named.Global g) ≡ mutex → IsAllowed r e depth (One text token)

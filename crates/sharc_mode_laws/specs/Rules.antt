@@ -38,13 +38,13 @@ GivenAgree m = (to found : List Sharing) (e : Expression) → IsGiven m to e →
 abbrev pub NoneReadonlyAssigned : Assignment → Type 0
 NoneReadonlyAssigned m = (u : Expression) (x : Right) → IsAssigned m u x → cell_at m u ≡ readonly → ⊥
 
--- M3: no level that is not private stands directly above a private target. The top of a global is a position; that of any
+-- M3: no level that is not private is directly above a private target. The top of a global is a position; that of any
 -- other type counts where it is written
 pub record NoneAbovePrivate (m : Assignment) : Type 0 where
   pub positions : (x y : ℕ) (mode : Mode) → IsBelow m.typed x y → slice_get m.modes x ≡ Some mode → slice_get m.modes y ≡ Some Private → mode ≡ Private
   pub tops : (n : Numbered) (mode : Mode) → IsEntity m n → (n.entity.role ≡ role.Global → ⊥) → IsWritten n.entity 0 mode → 0 < positions_of n.entity → slice_get m.modes n.first ≡ Some Private → mode ≡ Private
 
--- M4: each lock path is of a form that may stand there; and where the type of a parameter needs another one `x` for a
+-- M4: each lock path is of a form that is allowed there; and where the type of a parameter needs another one `x` for a
 -- path `x->m`, the argument for `x` is a constant variable
 pub record ArePathsAllowed (m : Assignment) : Type 0 where
   pub forms : (n : Numbered) (depth : ℕ) (path : Path) → IsEntity m n → IsWritten n.entity depth (Locked path) → IsAllowed m.typed n.entity depth path

@@ -12,7 +12,7 @@ pub fn spawned_are_told()
     ensures { SpawnedAreTold }
 {}
 
-/// Which functions threads may run can be told.
+/// Which functions threads may run can be determined.
 pub fn reached_are_told()
     ensures { ReachedAreTold }
 {}

@@ -2,7 +2,7 @@
 //! exactly where the checker has nothing to report.
 //!
 //! The layer above may call the laws of src/laws.rt, each the contract of a function that does nothing, and cite specs/: Rules (the eleven rules), Constructs (the
-//! constructs of a program that they speak of) and Paths (which lock paths may stand where, and which a program has).
+//! constructs of a program that they speak of) and Paths (which lock paths are allowed where, and which a program has).
 #![tactic(auto)]
 
 pub mod laws;

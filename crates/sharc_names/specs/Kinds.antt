@@ -6,7 +6,7 @@ use Rattle.sharc_tree.specs.declared.ctype.Base.TheVariants.{Int, Char, Long, Mu
 use Rattle.sharc_tree.specs.declared.tree.declaration.WrittenType.{WrittenType}
 use Rattle.sharc_tree.specs.declared.tree.declaration.Declaration.{Declaration}
 
--- an object or a value of a base with so many stars, a global array of such objects, `NULL`, or the name of a function
+-- an object or a value of a base with this many stars, a global array of such objects, `NULL`, or the name of a function
 pub data Kind : Type 0 where
   object : Base → ℕ → Kind
   array : Base → ℕ → Kind
@@ -82,7 +82,7 @@ is_array (array base stars) = true
 is_array null = false
 is_array function = false
 
--- a struct behind so many stars
+-- a struct behind this many stars
 abbrev pub is_struct_behind : ℕ → Kind → Bool
 is_struct_behind n (object base stars) = stars == n && is_struct_base base
 is_struct_behind n (array base stars) = false

@@ -1,4 +1,4 @@
--- What names mean where they stand (C11 6.2.1 to 6.2.3).
+-- What names mean where they are written (C11 6.2.1 to 6.2.3).
 use Rattle.std.specs.Prelude.{ℕ, Bool, true, false, List, [], ◌∷◌, length, Option, Some, None, if◌then◌else◌, codes}
 use Rattle.std.specs.Str.{bytes_eq}
 use Rattle.std.specs.Map.{lookup}
@@ -28,7 +28,7 @@ pub data Meaning : Type 0 where
   function : ℕ → Signature → Meaning
   condition : ConditionCall → Meaning
 
--- a declared name; its block is told by how many names were in scope where the block begins, which is 0 for the file
+-- a declared name; its block is given by how many names were in scope where the block begins, which is 0 for the file
 pub record Entry : Type 0 where
   pub name : List ℕ
   pub block : ℕ
@@ -100,7 +100,7 @@ is_main (global number g) = false
 is_main (function number f) = bytes_eq f.name.text (codes "main")
 is_main (condition call) = false
 
--- `void wait(struct cond * c, mutex * m)`, `void signal(struct cond * c)`, `void broadcast(struct cond * c)` (own)
+-- `void wait(struct cond * c, mutex * m)`, `void signal(struct cond * c)`, `void broadcast(struct cond * c)`
 abbrev pub condition_parameters : ConditionCall → List Kind
 condition_parameters Wait = condition_pointer ∷ (mutex_pointer ∷ [])
 condition_parameters Signal = condition_pointer ∷ []

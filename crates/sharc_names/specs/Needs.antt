@@ -30,7 +30,7 @@ called (field s a w n) = None
 called (unary s o a) = None
 called (binary s o at a b) = None
 
--- which kinds stand there: an integer or a pointer or NULL; an integer; a pointer; a pointer or an array; a struct; a pointer to a struct
+-- which kinds fit there: an integer or a pointer or NULL; an integer; a pointer; a pointer or an array; a struct; a pointer to a struct
 abbrev pub fits : Need → Kind → Bool
 fits Value k = is_integer k || is_pointer k || is_null k
 fits Integer k = is_integer k
@@ -55,14 +55,14 @@ misfit_of base.Mutex e = mismatch e
 misfit_of base.Void e = used_call (called e)
 misfit_of (base.Struct name) e = fault (place e) TypeNotAllowed ∷ []
 
--- the fault of an expression of another kind: a void call, a struct as a value, or else the type. Of a function's name it stands at the name
+-- the fault of an expression of another kind: a void call, a struct as a value, or else the type. For a function's name it is at the name
 abbrev pub misfit : Kind → Expression → List Note
 misfit (object b stars) e = if stars == 0 then misfit_of b e else mismatch e
 misfit (array b stars) e = mismatch e
 misfit null e = mismatch e
 misfit function e = mismatch (without_parentheses e)
 
--- the expression's kind if it is one that is needed; an expression in which a fault stands has none
+-- the expression's kind if it is one that is needed; an expression in which there is a fault has none
 abbrev pub met : Need → Option Kind → Option Kind
 met need None = None
 met need (Some k) = if fits need k then Some k else None

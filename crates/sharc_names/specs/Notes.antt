@@ -7,8 +7,8 @@ use Rattle.sharc_names.specs.declared.fault.Fault.{Fault}
 use Rattle.sharc_names.specs.declared.fault.Named.{Named}
 use Rattle.sharc_names.specs.declared.fault.Named.TheVariants as named
 
--- A fault at a token; what a name token names; and what a token names as the second name of a lock path. A path may be one that stands nowhere in the source: then
--- another name stands at that token, and that one is what it names.
+-- A fault at a token; what a name token names; and what a token names as the second name of a lock path. A path may be one that is nowhere in the source: then
+-- another name is at that token, and that one is what it names.
 pub data Note : Type 0 where
   fault : ℕ → FaultCode → Note
   refers : ℕ → Named → Note
@@ -34,7 +34,7 @@ digit LimitPassed = 9
 abbrev pub is_before : Fault → Fault → Bool
 is_before a b = nat_lt a.place b.place || (a.place == b.place && nat_lt (digit a.code) (digit b.code))
 
--- the first of both, the old one where they stand alike
+-- the first of the two, the old one where neither comes first
 abbrev pub first_of : Option Fault → Fault → Option Fault
 first_of None new = Some new
 first_of (Some old) new = if is_before new old then Some new else Some old

@@ -1,4 +1,4 @@
--- Written types: which structs and locks they name, and which may stand where.
+-- Written types: which structs and locks they name, and which may be written where.
 use Rattle.std.specs.Prelude.{ℕ, ◌+◌, ◌==◌, nat_lt, Bool, true, false, ◌&&◌, ◌||◌, List, [], ◌∷◌, ◌++◌, Option, Some, None, is_some, if◌then◌else◌}
 use Rattle.sharc_tree.specs.declared.ctype.Base.{Base}
 use Rattle.sharc_tree.specs.declared.ctype.Base.TheVariants.{Int, Char, Long, Mutex, Void, Struct}
@@ -32,7 +32,7 @@ name_notes token (Some e) = refers token (named_of e.meaning) ∷ main_notes tok
 
 -- A use of a field (6.5.2.3p1).
 
--- the field of that name in the struct that a kind has at its bottom; no answer where the struct is not known, since then the fault stands elsewhere
+-- the field of that name in the struct that a kind has at its bottom; no answer where the struct is not known, since then the fault is elsewhere
 abbrev pub field_among : List ℕ → Option StructMeaning → Option (Option Declaration)
 field_among name None = None
 field_among name (Some s) = Some (field_of (fields_of s) name)
@@ -52,7 +52,7 @@ field_notes token None = []
 field_notes token (Some None) = fault token UnknownName ∷ []
 field_notes token (Some (Some d)) = refers token (named.Field d.name.site.token) ∷ []
 
--- Lock paths (own). In the type of a field a first name is looked for among the fields of the same struct, in any order, and then in the file.
+-- Lock paths (SharC's own rule). In the type of a field a first name is looked for among the fields of the same struct, in any order, and then in the file.
 
 abbrev pub first_kind : Option Declaration → Option Entry → Option Kind
 first_kind (Some sibling) entry = Some (declared_kind sibling.written)
@@ -70,13 +70,13 @@ abbrev pub second_in : StructTable → List ℕ → Option Kind → Option (Opti
 second_in structs name None = None
 second_in structs name (Some k) = second_among structs name k
 
--- a second name yields to the name that stands at its token
+-- a second name yields to the name that is at its token
 abbrev pub second_notes : ℕ → Option (Option Declaration) → List Note
 second_notes token None = []
 second_notes token (Some None) = fault token UnknownName ∷ []
 second_notes token (Some (Some d)) = yields token (named.Field d.name.site.token) ∷ []
 
--- it stands two tokens behind the first
+-- it is two tokens after the first
 abbrev pub path_notes : Scope → List Declaration → Path → List Note
 path_notes scope siblings (One m token) = first_notes token (field_of siblings m) (look_up scope.names m)
 path_notes scope siblings (Through x token m) = first_notes token (field_of siblings x) (look_up scope.names x)
@@ -116,7 +116,7 @@ base_notes structs token Mutex = []
 base_notes structs token Void = []
 base_notes structs token (Struct name) = struct_note token (struct_of structs name)
 
--- Where a struct, a mutex or `void` may stand without a star. A cast to one of them is a cast to another C type than its source has.
+-- Where a struct, a mutex or `void` may be without a star. A cast to one of them is a cast to another C type than its source has.
 
 abbrev pub holds_struct : Role → Bool
 holds_struct Field = false

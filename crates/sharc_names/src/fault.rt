@@ -30,7 +30,7 @@ pub enum FaultCode {
     LimitPassed,
 }
 
-/// A fault: the number of the token where it stands, and what it is.
+/// A fault: the number of the token where it is, and what it is.
 #[derive(Clone, Copy)]
 pub struct Fault {
     pub place: usize,
@@ -124,7 +124,7 @@ impl Model for Found {
 }
 
 impl Found {
-    /// Nothing is found yet, and none of so many tokens names anything.
+    /// Nothing is found yet, and none of this many tokens names anything.
     pub fn new(alloc: Global, tokens: usize) -> Result<Self, AllocError>
         ensures { IfOk result (λ f. f ≡ record { first = None; named = replicate tokens Known }) }
     {

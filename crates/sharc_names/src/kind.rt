@@ -7,7 +7,7 @@ ghost use Rattle.sharc_names.specs.View.{view_root, view_kind};
 use sharc_tree::ctype::Base;
 use sharc_tree::tree::WrittenType;
 
-/// What stands at the bottom of a type.
+/// What is at the bottom of a type.
 #[derive(Clone, Copy)]
 pub enum Root<'a> {
     Int,
@@ -22,7 +22,7 @@ pub enum Root<'a> {
 /// What an expression is.
 #[derive(Clone, Copy)]
 pub enum Kind<'a> {
-    /// An object or a value of a base with so many stars.
+    /// An object or a value of a base with this many stars.
     Object(Root<'a>, usize),
     /// A global array of such objects.
     Array(Root<'a>, usize),
@@ -32,7 +32,7 @@ pub enum Kind<'a> {
     Function,
 }
 
-/// What stands at the bottom of a type.
+/// What is at the bottom of a type.
 pub fn root_of(base: &Base) -> Root<'_>
     ensures { view_root result ≡ base.now }
 {

@@ -17,7 +17,7 @@ pub struct Signature<'a> {
     pub parameters: &'a [Declaration],
 }
 
-/// A call that the language knows where the program defines none of `struct cond`, `wait`, `signal` and `broadcast` (own).
+/// A call that the language knows where the program defines none of `struct cond`, `wait`, `signal` and `broadcast`.
 #[derive(Clone, Copy)]
 pub enum ConditionCall {
     /// `void wait(struct cond * c, mutex * m)`

@@ -115,7 +115,7 @@ impl<'a> Names<'a> {
         pop_name(&mut self.log, &mut self.newest)
     }
 
-    /// Takes away all names but the first so many, at the end of a block.
+    /// Takes away all names but the first `mark`, at the end of a block.
     pub fn leave(&mut self, mark: usize) -> Result<(), AllocError>
         requires { mark ≤ length self.old }
         ensures { OnOk result (self.new ≡ drop (length self.old - mark) self.old) }

@@ -1,4 +1,4 @@
-// What is known where an expression stands.
+// What is known where an expression is.
 
 use crate::names::Names;
 use crate::structs::Structs;

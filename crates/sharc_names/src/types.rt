@@ -1,4 +1,4 @@
-// Written types: which structs and locks they name, and which may stand where.
+// Written types: which structs and locks they name, and which may be written where.
 
 ghost use Rattle.std.specs.Prelude.{◌≡◌, ◌+◌, fold};
 ghost use Rattle.sharc_names.specs.Names.{look_up, field_of};
@@ -16,7 +16,7 @@ use crate::structs::{Structs, field_of, named_struct};
 use sharc_tree::ctype::{Base, Mode, Path};
 use sharc_tree::tree::{Declaration, WrittenType};
 
-/// Where a type stands.
+/// Where a type is written.
 #[derive(Clone, Copy)]
 pub enum Role {
     Field,
@@ -159,7 +159,7 @@ fn second_use(place: usize, field: Option<Option<&Declaration>>, found: &mut Fou
     }
 }
 
-/// The field of that name, where the type stands in a field.
+/// The field of that name, where the type is in a field.
 fn sibling<'a>(siblings: Option<&Fields<'a>>, name: &[u8]) -> Option<&'a Declaration>
     ensures { found_field result ≡ field_of (siblings_seen siblings.entry) name.now }
 {

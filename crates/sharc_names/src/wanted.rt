@@ -44,7 +44,7 @@ pub fn first_wanted(wanted: Wanted<'_>) -> Option<Kind<'_>>
     }
 }
 
-/// What the arguments behind the first are wanted to be.
+/// What the arguments after the first have to be.
 pub fn rest_wanted(wanted: Wanted<'_>) -> Wanted<'_>
     ensures { view_wanted result ≡ drop 1 (view_wanted wanted.entry) }
 {

@@ -33,7 +33,7 @@ no_fault tokens p fault r f =
     let all = words_of tokens.list in
     not_refused fault.code (take f.number all) (drop f.number all) r.phrases r.is_program r.within (r.spelled ∙ sym (take-append-drop f.number all)) f.is.ends
 
--- the words up to a place behind n have the word at n
+-- the words up to a place after n have the word at n
 record Split (n m : ℕ) (all : List Word) : Type 0 where
   pub rest : List Word
   pub before : take m all ≡ take n all ++ rest

@@ -49,7 +49,7 @@ pub declarations_more : (s : ℕ → Site) (n m : ℕ) (list : List Declaring) (
 declarations_more s n m [] d h = ap (λ i. declaration_at s i d ∷ []) (omega (arith, h))
 declarations_more s n m (a ∷ rest) d h = ap (λ z. declaration_at s n a ∷ z) (declarations_more s (n + declaring_size a + 1) m rest d (omega (arith, h)))
 
--- the fields that were read so far, with the `;` behind each
+-- the fields that were read so far, with the `;` after each
 pub record FieldsSoFar (tokens : List Token) (n at : ℕ) (list : List Declaration) : Type 0 where
   pub reads : (all : List Part) (s : List ℕ) → reads_within (from tokens n) (At [] (TypeWant (naming (field_of all s [])))) ≡ reads_within (from tokens at) (At [] (TypeWant (naming (field_of all s (declared list)))))
   pub placed : list ≡ declarations_at (site_in tokens) n (declared list)

@@ -51,7 +51,7 @@ pub record FitsThere (k : Cont) (all : List Word) : Type 0 where
   pub crowded_is : crowded k ≡ false
   pub no_malloc : NoMalloc k all
 
--- where the expression stands
+-- where the expression is
 pub tail_fits : (q : Tail) (o : Outer) (all : List Word) → FitsThere (part (tail_place q) o) all
 tail_fits by_return o all = record { floor_is = omega arith; depth_is = refl; crowded_is = refl; no_malloc = tt }
 tail_fits (by_test l) o all = record { floor_is = omega arith; depth_is = refl; crowded_is = refl; no_malloc = tt }

@@ -59,7 +59,7 @@ function_read see look v w given t n tokens old mid next new is r p b all =
     ∙ b (body all t n (declared (see v)) no_more) refl refl
     ∙ ap (λ l. reads_within (from tokens new) (At [] (Top (with_part all (function_of t n (declared l) (sentences_of (look w))))))) (sym is)
 
--- behind a type, where no struct begins
+-- after a type, where no struct begins
 pub item_named : (tokens : List Token) (old mid next new : ℕ) (w : WrittenType) (result : Result Item Fault) → ReadsType true (Ok w) (from tokens old) (from tokens mid) → EndsType true (Ok w) (from tokens mid) → OpensStruct (Ok None) w tokens mid next → ReadsNamed w result (from tokens next) (from tokens new) → ReadsItem result (from tokens old) (from tokens new)
 item_named tokens old mid next new w result r ends o named all =
     let there : ReadsNamed w result (from tokens mid) (from tokens new) = subst (λ i. ReadsNamed w result (from tokens i) (from tokens new)) o.0 named in

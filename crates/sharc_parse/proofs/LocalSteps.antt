@@ -25,7 +25,7 @@ name_levels : (p : NamePlace) (first : Bool) (b : Base) (levels : List (Option S
 name_levels p first b [] n y all e = absurd e
 name_levels p first b (m ∷ below) n y all e = refl
 
--- the name behind a type
+-- the name after a type
 pub named_goes : (p : NamePlace) (t : WrittenType) (n : List ℕ) (y all : List Word) → EndsType true (Ok t) all → reads_within (name n ∷ y) (typed_state (naming p) (bare_type t)) ≡ reads_within y (At [] (Named p (bare_type t) n))
 named_goes p t n y all e = name_levels p t.mode_first t.ctype.base (map bare_level t.ctype.levels) n y all e
 

@@ -1,4 +1,4 @@
--- The machine's steps over statements with others inside, and where they stand.
+-- The machine's steps over statements with others inside, and where they are.
 use Rattle.std.proofs.Common.{◌≡◌, ℕ, ◌+◌, ◌-◌, ◌≤◌, ◌<◌, List, [], ◌∷◌, ◌++◌, Some, refl, sym, ap, ◌∙◌, arith, subst, Bool, true, false, cond}
 use Rattle.std.specs.Prelude.{Result, Ok, Err}
 use Rattle.std.proofs.lemmas.Bool.{lt-leb, le-leb, false≢true, true≢false}
@@ -98,7 +98,7 @@ pub for_ends : (h : Loop) (s : Sentence) (o : Outer) (ts : List Word) → reads_
 for_ends h s o [] = refl
 for_ends h s o (t ∷ y) = refl
 
--- where they stand
+-- where they are
 
 over_statement : (s : ℕ → Site) (n : ℕ) (v w : tree.Statement) → v ≡ w → w ≡ statement_at s n (bare_statement w) → v ≡ statement_at s n (bare_statement v)
 over_statement s n v w e h = subst (λ v. v ≡ statement_at s n (bare_statement v)) (sym e) h
@@ -166,7 +166,7 @@ holding_holds (body before r f given all) s = refl
 holding_holds (items all o) s = refl
 holding_holds (inside w o) s = refl
 
--- behind a statement of a block the next may begin
+-- after a statement of a block the next may begin
 item_done : (o : Outer) (all : Sentences) (s : Sentence) (ts : List Word) → holds_items o ≡ true → reads_within ts (At [] (Done s (holding o all))) ≡ reads_within ts (At [] (Start (holding o (with_item all s))))
 item_done (body before r f given x) all s [] h = refl
 item_done (body before r f given x) all s (t ∷ y) h = refl

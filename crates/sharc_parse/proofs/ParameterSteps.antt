@@ -32,7 +32,7 @@ parameter_stuck : (all : List Part) (r : Typing) (f : List ℕ) (before : List D
 parameter_stuck all r f before d [] n m = refl
 parameter_stuck all r f before d (t ∷ y) n m = ap (λ o. next_within o (λ s. reads_within y s) (t ∷ y)) (no_parameter_end all r f before d t n m)
 
--- behind another parameter only a name may stand after the type
+-- after another parameter only a name may follow the type
 plain_parameter : (all : List Part) (r : Typing) (f : List ℕ) (before : List Declaring) (d : Declaring) → IsPlainPlace (parameter_of all r f (with_declaring before d))
 plain_parameter all r f [] d = tt
 plain_parameter all r f (a ∷ rest) d = tt

@@ -1,4 +1,4 @@
--- The machine's steps over what stands right of `=`.
+-- The machine's steps over the right side of `=`.
 use Rattle.std.proofs.Common.{◌≡◌, ◌≤◌, ◌<◌, List, [], ◌∷◌, Option, Some, None, refl, ap, arith, Bool, false}
 use Rattle.std.specs.Prelude.{map, Ok}
 use Rattle.sharc_tree.specs.declared.token.Keyword.TheVariants as key

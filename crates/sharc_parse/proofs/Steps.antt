@@ -268,7 +268,7 @@ closed_counts : (o : BinaryOperator) (x : Phrase) (k : Cont) → IsClosed k → 
 closed_counts op.Multiply x (part (counting v) o) h = absurd h
 closed_counts _ _ _ h = refl
 
--- an operator that may not stand there
+-- an operator that may not be there
 pub closed_operator : (o : BinaryOperator) (x : Phrase) (k : Cont) → IsClosed k → strength o < floor k → have (Operating o) x k (mark (operator_mark o)) ≡ None
 closed_operator o x k h f =
     ap (λ (s : Phrase × Cont). shift o s.0 s.1) (closed_settles (strength o) x k h)

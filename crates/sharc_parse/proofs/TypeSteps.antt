@@ -169,7 +169,7 @@ begin_mode p w e = ap (λ b. or_else (cond b (mode_step (before_base p) (mode_wo
 pub begin_bare : (p : TypePlace) (t : Word) → ((w : ModeWord) → t ≡ mode_word w → ⊥) → begin_type p t ≡ base_step p None t
 begin_bare p t h = ap (λ o. or_else (cond (takes_modes p) o None) (base_step p None t)) (no_mode_step (before_base p) t h) ∙ cond_none (takes_modes p) (base_step p None t)
 
--- a mode is looked for where modes may stand
+-- a mode is looked for where modes may be written
 pub begins_moded : (p : TypePlace) (ts : List Word) → takes_modes p ≡ true → HasMode ts → reads_within ts (At [] (TypeWant p)) ≡ mode_within (before_base p) ts
 begins_moded p [] e h = absurd h
 begins_moded p (t ∷ y) e h =
@@ -196,7 +196,7 @@ level_mode p first b below modes.Racy e = ap (λ c. cond c (mode_step (at_level 
 level_mode p first b below modes.Dynamic e = ap (λ c. cond c (mode_step (at_level p first b below) (keyword key.Dynamic)) None) e
 level_mode p first b below modes.Locked e = ap (λ c. cond c (mode_step (at_level p first b below) (keyword key.Locked)) None) e
 
--- a mode behind the base or a star
+-- a mode after the base or a star
 pub mode_behind : (p : TypePlace) (first : Bool) (b : Base) (below : List (Option Sharing)) (ts : List Word) → takes_modes p ≡ true → HasMode ts → reads_within ts (At [] (Typed p first b None below)) ≡ mode_within (at_level p first b below) ts
 mode_behind p first b below [] e h = absurd h
 mode_behind p first b below (t ∷ y) e h =
@@ -302,7 +302,7 @@ pub levels_deep : (modes : Bool) (tokens : List Token) (n at : ℕ) (first : Boo
 levels_deep modes tokens n at first b place [] z a h p e = absurd z.ends
 levels_deep modes tokens n at first b place (l ∷ levels) z a h p e = z.reads p e ∙ star_deep p first b (bare_level l) (map bare_level levels) (from tokens at) a (omega (arith, h, count_map levels))
 
--- the mode behind a star is none
+-- the mode after a star is not one
 pub level_wrong : (modes : Bool) (tokens : List Token) (n old mid new : ℕ) (first : Bool) (b : Base) (place : Site) (levels : List (Option Mode)) (e : Fault) → SoFar modes tokens n old first b place levels → Past (mark Star) tokens old mid → length levels < 9 → ReadsLevel modes (Err e) (from tokens mid) (from tokens new) → ReadsType modes (Err e) (from tokens n) (from tokens new)
 level_wrong true tokens n old mid new first b place levels Wrong z s h r p t =
     after_star true tokens n old mid first b place levels z s h p t

@@ -22,7 +22,7 @@ abbrev pub TakesNumber : Option Number → List Token → ℕ → ℕ → Type 0
 TakesNumber (Some n) tokens old new = Past (number n) tokens old new
 TakesNumber None tokens old new = (new ≡ old) × NoNumber (from tokens new)
 
--- a `-` may stand before it
+-- a `-` may come before it
 abbrev pub IsSigned : Constant → Type 0
 IsSigned constants.Null = ⊥
 IsSigned _ = Unit {0}
@@ -44,11 +44,11 @@ form_of (Initial s negative c) = initially negative c
 abbrev pub with_form : List Part → Declaring → Form → List Part
 with_form all d f = with_part all (global d f)
 
--- `number ]` behind a `[`
+-- `number ]` after a `[`
 abbrev pub ReadsArray : Result GlobalForm Fault → List Word → List Word → Type 0
 ReadsArray result old new = (all : List Part) (d : Declaring) → Goes form_of result (reads_within old (At [] (ArrayWant all d))) (λ f. reads_within new (At (a_semicolon ∷ []) (Top (with_form all d f)))) new
 
--- a constant behind a `=`
+-- a constant after a `=`
 abbrev pub ReadsConstant : Result GlobalForm Fault → List Word → List Word → Type 0
 ReadsConstant result old new = (all : List Part) (d : Declaring) → Goes form_of result (reads_within old (At [] (InitialWant all d))) (λ f. reads_within new (At (a_semicolon ∷ []) (Top (with_form all d f)))) new
 

@@ -40,7 +40,7 @@ abbrev pub NotAt : Word → List Word → Type 0
 NotAt w [] = Unit {0}
 NotAt w (t ∷ rest) = t ≡ w → ⊥
 
--- one token with that word stands between the two places
+-- one token with that word is between the two places
 abbrev pub Past : Word → List Token → ℕ → ℕ → Type 0
 Past w tokens old new = (from tokens old ≡ w ∷ from tokens new) × (new ≡ old + 1) × (old < length tokens)
 
@@ -103,14 +103,14 @@ EntersOperator (Ok None) least room tokens old new = (new ≡ old) × (grip (fro
 EntersOperator (Err Deep) least room tokens old new = (new ≡ old) × ((o : BinaryOperator) × IsAt (mark (operator_mark o)) (from tokens new) × (least ≤ strength o)) × (room ≡ 0)
 EntersOperator (Err _) least room tokens old new = ⊥
 
--- What the machine made of the old words: it goes on with what was read, or stands where the parser stands.
+-- What the machine made of the old words: it goes on with what was read, or is stuck where the parser is.
 abbrev pub Goes : {A V : Type 0} → (A → V) → Result A Fault → Limited → (V → Limited) → List Word → Type 0
 Goes see (Ok x) was on new = was ≡ on (see x)
 Goes see (Err Wrong) was on new = was ≡ StuckAt new
 Goes see (Err Deep) was on new = was ≡ Over new
 Goes see (Err Memory) was on new = Unit {0}
 
--- a `malloc` was looked for, where one may stand
+-- a `malloc` was looked for, where one may be written
 abbrev pub NoMalloc : Cont → List Word → Type 0
 NoMalloc (part (valued v) o) all = NotAt (keyword key.Malloc) all
 NoMalloc _ all = Unit {0}
@@ -126,14 +126,14 @@ ReadsBehindName n room result old new = (k : Cont) → depth k + room ≡ 64 →
 abbrev pub IsHigh : ℕ → Result Piece Fault → Type 0
 IsHigh room result = IfOk result (λ r. (r.height ≡ height (phrase_of r.expr)) × (r.height ≤ room))
 
--- the tree stands at its tokens, from that number on
+-- the tree lies at its tokens, from that number on
 abbrev pub Stands : Expr → List Token → ℕ → Type 0
 Stands e tokens n = view_expr e ≡ expression_at (site_in tokens) n (phrase_of e)
 
 abbrev pub IsPlaced : Result Piece Fault → List Token → ℕ → ℕ → Type 0
 IsPlaced result tokens old new = IfOk result (λ r. Stands r.expr tokens old × (new ≡ old + size (phrase_of r.expr)))
 
--- a name with a `(` behind it was taken as a call
+-- a name with a `(` after it was taken as a call
 abbrev pub NoCall : Phrase → List Word → Type 0
 NoCall (identifier n) all = NotAt (mark OpenParenthesis) all
 NoCall _ all = Unit {0}

@@ -16,7 +16,7 @@ use Rattle.sharc_parse.specs.Rights.{bare_option, option_of}
 use Rattle.sharc_parse.specs.Simples.{bare_doing}
 use Rattle.sharc_parse.specs.Lines.{bare_line}
 
--- where an expression that may be left out stands before a `;`
+-- where an expression that may be left out comes before a `;`
 pub data Tail : Type 0 where
   by_return : Tail
   by_test : Line → Tail

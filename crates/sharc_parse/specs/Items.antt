@@ -29,7 +29,7 @@ bare_item (tree.function f) = function (record { result = bare_type f.result; na
 abbrev pub part_of : Item → Part
 part_of i = bare_item (view_item i)
 
--- past the `{` behind a type that is only the name of a struct
+-- past the `{` after a type that is only the name of a struct
 abbrev pub OpensStruct : Result (Option Identifier) Fault → WrittenType → List Token → ℕ → ℕ → Type 0
 OpensStruct (Ok (Some i)) w tokens old new = (bare_type w ≡ struct_type i.text) × (i.site ≡ w.base) × Past (mark OpenBrace) tokens old new
 OpensStruct (Ok None) w tokens old new = (new ≡ old) × ((n : List ℕ) → bare_type w ≡ struct_type n → NotAt (mark OpenBrace) (from tokens new))
@@ -40,7 +40,7 @@ OpensStruct (Err _) w tokens old new = ⊥
 abbrev pub ReadsPart : (List Part → State) → Result Item Fault → List Word → List Word → Type 0
 ReadsPart before result old new = (all : List Part) → Goes part_of result (reads_within old (before all)) (λ p. reads_within new (At [] (Top (with_part all p)))) new
 
--- the tree of the item stands at its tokens, from that number on
+-- the tree of the item lies at its tokens, from that number on
 abbrev pub StandsItem : Item → List Token → ℕ → ℕ → Type 0
 StandsItem i tokens n new = (view_item i ≡ item_at (site_in tokens) n (part_of i)) × (new ≡ n + part_size (part_of i))
 

@@ -40,7 +40,7 @@ abbrev pub MeetsType : Bool → List Word → Type 0
 MeetsType true all = HasMode all ⊎ HasBase all
 MeetsType false all = NoMode all × NoBase all
 
--- whether a local begins there, where that says whether one may stand there
+-- whether a local begins there, where that says whether one may be there
 abbrev pub MeetsLocal : Bool → Bool → List Word → Type 0
 MeetsLocal true result all = MeetsType result all
 MeetsLocal false false all = Unit {0}

@@ -26,7 +26,7 @@ void_type = record { mode_first = false; base = base.Void; levels = None ∷ [] 
 abbrev pub struct_type : List ℕ → Typing
 struct_type n = record { mode_first = false; base = base.Struct n; levels = None ∷ [] }
 
--- behind the type only a name may stand there: no `)` behind a `void` for no parameters, and no `{` behind a struct
+-- after the type only a name may follow: no `)` after a `void` for no parameters, and no `{` after a struct
 abbrev pub IsPlainAt : NamePlace → Typing → List Word → Type 0
 IsPlainAt (parameter_of all r f []) t rest = t ≡ void_type → NotAt (mark CloseParenthesis) rest
 IsPlainAt (on_top all) t rest = (n : List ℕ) → t ≡ struct_type n → NotAt (mark OpenBrace) rest
@@ -38,7 +38,7 @@ ReadsName result old new = (p : NamePlace) (t : WrittenType) → EndsType true (
 abbrev pub IsNamePlaced : Result Identifier Fault → List Token → ℕ → ℕ → Type 0
 IsNamePlaced result tokens old new = IfOk result (λ i. (i.site ≡ site_in tokens old) × (new ≡ old + 1))
 
--- whatever the type, only a name may stand behind it
+-- whatever the type, only a name may follow it
 abbrev pub IsPlainPlace : NamePlace → Type 0
 IsPlainPlace (parameter_of all r f []) = ⊥
 IsPlainPlace (on_top all) = ⊥
@@ -65,7 +65,7 @@ bare_local l = record { declaring = bare_declaration l.declaration; initial = ba
 abbrev pub local_of : Local → Declared
 local_of l = bare_local (view_local l)
 
--- what stands right of `=`, if anything does, was read, and may go on
+-- the right side of `=`, if there is one, was read, and may go on
 abbrev pub initial_state : LinePlace → Outer → Typing → List ℕ → Option Value → State
 initial_state p o t n None = At [] (Named (local p o) t n)
 initial_state p o t n (Some r) = valued_state (of_local p (declaring_of t n)) o r

@@ -29,13 +29,13 @@ holding (body before r f given all) s = body before r f given s
 holding (items all o) s = items s o
 holding (inside w o) s = inside w o
 
--- the `}` behind these statements
+-- the `}` after these statements
 abbrev pub closed : Outer → Sentences → State
 closed (body before r f given all) s = At [] (Top (with_part before (function_of r f given s)))
 closed (items all o) s = At [] (Done (block s) o)
 closed (inside w o) s = At [] (Start (inside w o))
 
--- the statements behind a `{`, and the `}`, where there is room for that many inside
+-- the statements after a `{`, and the `}`, where there is room for that many inside
 abbrev pub ReadsStatements : {A : Type 0} → (A → List Stmt) → ℕ → Result A Fault → List Word → List Word → Type 0
 ReadsStatements list room result old new = (o : Outer) → holds_items o ≡ true → around_it o + room ≡ 64 → Goes (λ v. sentences_of (list v)) result (reads_within old (At [] (Start (holding o no_more)))) (λ s. reads_within new (closed o s)) new
 

@@ -48,7 +48,7 @@ sentences_of list = bare_statements (view_statements list)
 abbrev pub ReadsStatement : Bool → ℕ → Result Stmt Fault → List Word → List Word → Type 0
 ReadsStatement may room result old new = (o : Outer) → holds_items o ≡ may → around_it o + room ≡ 64 → Goes sentence_of result (reads_within old (At [] (Start o))) (λ s. reads_within new (At [] (Done s o))) new
 
--- an `else` behind it was taken
+-- an `else` after it was taken
 abbrev pub EndsSentence : Sentence → List Word → Type 0
 EndsSentence s all = takes_else s ≡ true → NotAt (keyword key.Else) all
 

@@ -51,7 +51,7 @@ abbrev pub IsOpen : ModePlace → Type 0
 IsOpen (before_base p) = Unit {0}
 IsOpen (at_level p first b below) = length below ≤ 8
 
--- the words read where a mode stands first
+-- the words read where a mode comes first
 abbrev pub mode_within : ModePlace → List Word → Limited
 mode_within p [] = StuckAt []
 mode_within p (t ∷ y) = next_within (mode_step p t) (λ n. reads_within y n) (t ∷ y)
@@ -66,7 +66,7 @@ after_mode modes.Locked p = At (an_open ∷ []) (PathWant p)
 abbrev pub ReadsPath : Result Path Fault → List Word → List Word → Type 0
 ReadsPath result old new = (p : ModePlace) → IsOpen p → Goes bare_path result (reads_within old (At (an_open ∷ []) (PathWant p))) (λ s. reads_within new (At [] (moded p s))) new
 
--- `locked` stands before it
+-- `locked` comes before it
 abbrev pub IsPathPlaced : Result Path Fault → List Token → ℕ → ℕ → Type 0
 IsPathPlaced result tokens old new = IfOk result (λ q. (n : ℕ) → n + 1 ≡ old → (mode.Locked q ≡ mode_at (site_in tokens) n (bare_path q)) × (new ≡ n + sharing_size (bare_path q)))
 
@@ -91,7 +91,7 @@ ReadsLevel true result old new = ReadsMode result old new
 ReadsLevel false (Ok None) old new = old ≡ new
 ReadsLevel false _ old new = ⊥
 
--- whether modes may stand there
+-- whether modes may be written there
 abbrev pub may_stand : Modes → Bool
 may_stand allowed.Allowed = true
 may_stand allowed.LeftOut = false
@@ -114,7 +114,7 @@ abbrev pub TakesBase : Option BaseWord → List Token → ℕ → ℕ → Type 0
 TakesBase (Some w) tokens old new = Past (base_word w) tokens old new
 TakesBase None tokens old new = (new ≡ old) × NoBase (from tokens new)
 
--- the words read where a base stands first, behind that mode
+-- the words read where a base comes first, after that mode
 abbrev pub base_within : TypePlace → Option Sharing → List Word → Limited
 base_within p m [] = StuckAt []
 base_within p m (t ∷ y) = next_within (base_step p m t) (λ n. reads_within y n) (t ∷ y)
@@ -130,7 +130,7 @@ IsBasePlaced result tokens old new = IfOk result (λ r. (r.1 ≡ site_in tokens 
 abbrev pub typed_bottom : TypePlace → Bottom → State
 typed_bottom p b = At [] (Typed p b.mode_first b.base (bare_level b.mode) [])
 
--- where modes may stand, none stands behind a level without one; and no star stands there
+-- where modes may be written, there is none after a level without one; and there is no star there
 abbrev pub EndsLevel : Bool → Option Sharing → List Word → Type 0
 EndsLevel true None all = NoMode all
 EndsLevel _ _ all = Unit {0}
@@ -176,7 +176,7 @@ abbrev pub IsBare : Bool → Typing → Type 0
 IsBare true t = (t.mode_first ≡ false) × (t.levels ≡ None ∷ [])
 IsBare false t = t.mode_first ≡ false → t.levels ≡ None ∷ [] → ⊥
 
--- the type of a cast, with the `(` before it and the `,` behind it
+-- the type of a cast, with the `(` before it and the `,` after it
 abbrev pub ReadsCast : Result WrittenType Fault → List Word → List Word → Type 0
 ReadsCast result old new = (k : Cont) → depth k < 64 → crowded k ≡ false → Goes bare_type result (reads_within old (At (an_open ∷ []) (TypeWant (casting k)))) (λ t. reads_within new (At [] (Want (fronted (of_cast t) k)))) new
 

@@ -12,19 +12,20 @@ ghost use Rattle.sharc_parse.specs.View.{phrase_of, phrases_of};
 ghost use Rattle.sharc_parse.specs.declared.token.FrontWord.TheVariants.{Spawn, Place};
 ghost use Rattle.sharc_parse.specs.Goes.{from, Goes, ReadsFrom, ReadsBehindName, IsHigh, IsPlaced, ReadsFront, IsFrontPlaced, NoUnary, NoCall, Builds, front_tree, bare_front};
 
-use crate::held::{both, box_beside, boxes, expect_behind};
+use crate::held::{box_beside, boxes, expect_behind};
 use crate::token::{
     Fault, FrontWord, Piece, access, constant, enter, expect, front_word, is_at, name, operator,
     site, span, strength_of, take, unary_operator,
 };
 use crate::types::cast_type;
+use sharc_tree::held::both;
 use sharc_tree::token::{Punctuator, Site, Span, Token};
 use sharc_tree::tree::{
     Access, BinaryOperator, Expr, Identifier, PlaceCall, UnaryOperator, ValueCall, WrittenType,
 };
 use std::alloc::Global;
 
-/// What stands in front of an expression that a `)` ends.
+/// What comes before an expression that a `)` ends.
 #[derive(Drop)]
 pub(crate) enum Front {
     Parenthesis,
@@ -34,7 +35,7 @@ pub(crate) enum Front {
     Cast(WrittenType),
 }
 
-/// `( name ,` behind `spawn`.
+/// `( name ,` after `spawn`.
 fn spawn_front(alloc: Global, tokens: &[Token], at: &mut usize) -> Result<Front, Fault>
     requires few { length tokens.now ≤ 2 ^ 20 }
     requires there { at.old ≤ length tokens.now }
@@ -51,7 +52,7 @@ fn spawn_front(alloc: Global, tokens: &[Token], at: &mut usize) -> Result<Front,
     Ok(Front::Spawn(function))
 }
 
-/// `( &` behind `lock` and `unlock`, and `(` behind `free`.
+/// `( &` after `lock` and `unlock`, and `(` after `free`.
 fn place_front(tokens: &[Token], at: &mut usize, call: PlaceCall) -> Result<Front, Fault>
     requires few { length tokens.now ≤ 2 ^ 20 }
     requires there { at.old ≤ length tokens.now }
@@ -78,7 +79,7 @@ fn place_front(tokens: &[Token], at: &mut usize, call: PlaceCall) -> Result<Fron
     }
 }
 
-/// What stands behind the first word of an expression that a `)` ends, up to the expression inside.
+/// What follows the first word of an expression that a `)` ends, up to the expression inside.
 fn rest_of_front(
     alloc: Global,
     tokens: &[Token],
@@ -195,7 +196,7 @@ fn front_of(alloc: Global, span: Span, front: Front, inner: Piece) -> Result<Pie
     Ok(Piece { expr, height })
 }
 
-/// How tightly what stands behind it has to hold together.
+/// How tightly what follows it has to hold together.
 fn least_of(front: &Front) -> u8
     ensures { result ≡ max 1 (front_level (bare_front front.now)) }
 {
@@ -266,7 +267,7 @@ pub(crate) fn unary(
     }
 }
 
-/// An operand with the indexes and fields behind it.
+/// An operand with the indexes and fields after it.
 #[cycle(expr)]
 #[tactic(auto, using(crate::proofs::Steps::index_deep, crate::proofs::Steps::access_deep, crate::proofs::Steps::no_field, crate::proofs::Steps::no_call, crate::proofs::Steps::ends_postfix))]
 fn postfix(alloc: Global, tokens: &[Token], at: &mut usize, room: u8) -> Result<Piece, Fault>
@@ -378,7 +379,7 @@ fn name_or_call(
     }
 }
 
-/// The arguments behind `name (`, and the `)`; and the height of the highest.
+/// The arguments after `name (`, and the `)`; and the height of the highest.
 #[cycle(expr)]
 fn arguments(
     alloc: Global,

@@ -10,7 +10,7 @@ use sharc_tree::token::{Punctuator, Token};
 use sharc_tree::tree::Declaration;
 use std::alloc::Global;
 
-/// The fields behind the `{` of a struct, and the `}`.
+/// The fields after the `{` of a struct, and the `}`.
 #[tactic(auto, using(crate::proofs::FieldSteps::first_fields, crate::proofs::FieldSteps::one_field_more, crate::proofs::FieldSteps::fields_go_on, crate::proofs::FieldSteps::fields_read, crate::proofs::FieldSteps::field_stuck))]
 pub(crate) fn fields(
     alloc: Global,

@@ -25,7 +25,7 @@ fn number(tokens: &[Token], at: &mut usize) -> Option<Number>
     }
 }
 
-/// Goes past a constant that a `-` may stand before.
+/// Goes past a constant that a `-` may come before.
 fn signed_constant(tokens: &[Token], at: &mut usize) -> Option<Constant>
     ensures { TakesSigned result tokens.now at.old at.new }
 {
@@ -42,7 +42,7 @@ fn signed_constant(tokens: &[Token], at: &mut usize) -> Option<Constant>
     Some(constant)
 }
 
-/// `number ]` behind a `[`.
+/// `number ]` after a `[`.
 #[tactic(auto, using(crate::proofs::FormSteps::array_number, crate::proofs::FormSteps::no_number, crate::proofs::FormSteps::array_ends, crate::proofs::Steps::fixed_stuck))]
 fn array_form(tokens: &[Token], at: &mut usize) -> Result<GlobalForm, Fault>
     requires few { length tokens.now ≤ 2 ^ 20 }
@@ -60,7 +60,7 @@ fn array_form(tokens: &[Token], at: &mut usize) -> Result<GlobalForm, Fault>
     Ok(GlobalForm::Array(place, number))
 }
 
-/// A constant behind a `=`.
+/// A constant after a `=`.
 #[tactic(auto, using(crate::proofs::FormSteps::minus_goes, crate::proofs::FormSteps::signed_goes, crate::proofs::FormSteps::no_signed, crate::proofs::FormSteps::constant_goes, crate::proofs::FormSteps::no_constant))]
 fn constant_form(tokens: &[Token], at: &mut usize) -> Result<GlobalForm, Fault>
     requires few { length tokens.now ≤ 2 ^ 20 }

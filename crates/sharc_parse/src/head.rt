@@ -5,10 +5,11 @@ ghost use Rattle.sharc_parse.specs.Goes.{from};
 ghost use Rattle.sharc_parse.specs.Heads.{ReadsTail, IsTailPlaced, ReadsStep, IsStepPlaced, ReadsHead, IsHeadPlaced};
 
 use crate::expr::binary;
-use crate::held::{both, expect_behind};
+use crate::held::expect_behind;
 use crate::line::{MayDeclare, line};
 use crate::simple::simple;
 use crate::token::{Fault, expect, take};
+use sharc_tree::held::both;
 use sharc_tree::token::{Punctuator, Token};
 use sharc_tree::tree::{Expr, ForHead, Simple};
 use std::alloc::Global;
@@ -49,7 +50,7 @@ fn step(alloc: Global, tokens: &[Token], at: &mut usize) -> Result<Option<Simple
     Ok(Some(simple))
 }
 
-/// What stands behind the word `for`, up to the `)`.
+/// What follows the word `for`, up to the `)`.
 #[tactic(auto, using(crate::proofs::HeadSteps::for_opens, crate::proofs::HeadSteps::for_begins, crate::proofs::Steps::fixed_stuck))]
 pub(crate) fn head(alloc: Global, tokens: &[Token], at: &mut usize) -> Result<ForHead, Fault>
     requires few { length tokens.now ≤ 2 ^ 20 }

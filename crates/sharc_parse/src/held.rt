@@ -2,25 +2,14 @@
 //
 // Where a function returns early, what it holds is dropped, and its proof goes through each part of that. Here this is proved once, for any value.
 
-ghost use Rattle.std.specs.Prelude.{◌≡◌, Ok, Err, IfOk, IfErr};
-ghost use Rattle.sharc_grammar.specs.Grammar.{mark, keyword};
+ghost use Rattle.std.specs.Prelude.{◌≡◌, Ok, IfOk, IfErr};
+ghost use Rattle.sharc_grammar.specs.Grammar.{mark};
 ghost use Rattle.sharc_parse.specs.declared.token.Fault.TheVariants.{Memory};
 ghost use Rattle.sharc_parse.specs.Goes.{Expects};
 
 use crate::token::{Fault, expect};
 use sharc_tree::token::{Punctuator, Token};
 use std::alloc::Global;
-
-/// The value, and what was read behind it.
-pub(crate) fn both<A: Drop, B>(value: A, read: Result<B, Fault>) -> Result<(A, B), Fault>
-    ensures held { IfOk result (λ r. (r.0 ≡ value) × (read ≡ Ok r.1)) }
-    ensures fault { IfErr result (λ e. read ≡ Err e) }
-{
-    match read {
-        Ok(behind) => Ok((value, behind)),
-        Err(fault) => Err(fault),
-    }
-}
 
 /// The value, past a token that has to be that punctuator.
 pub(crate) fn expect_behind<T: Drop>(

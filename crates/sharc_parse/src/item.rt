@@ -8,13 +8,14 @@ ghost use Rattle.sharc_parse.specs.Items.{OpensStruct, ReadsStruct, IsStructPlac
 
 use crate::field::fields;
 use crate::form::form;
-use crate::held::{both, expect_behind};
+use crate::held::expect_behind;
 use crate::local::name_there;
 use crate::parameter::parameters;
 use crate::statement::statements;
 use crate::token::{Fault, span, take};
 use crate::types::{Modes, is_bare, written_type};
 use sharc_tree::ctype::Base;
+use sharc_tree::held::both;
 use sharc_tree::token::{Punctuator, Token};
 use sharc_tree::tree::{
     Declaration, Declarations, FunctionDefinition, GlobalDefinition, Identifier, Item,
@@ -22,7 +23,7 @@ use sharc_tree::tree::{
 };
 use std::alloc::Global;
 
-/// The name of the struct whose fields begin behind the type, past their `{`.
+/// The name of the struct whose fields begin after the type, past their `{`.
 fn opens_struct(
     alloc: Global,
     tokens: &[Token],

@@ -12,7 +12,7 @@ pub fn programs_have_no_fault()
     ensures { (tokens : Tokens) → (p : Program) → (fault : FaultAt) → Reads tokens p → IsFaultOf tokens fault → ⊥ }
 {}
 
-/// Tokens have one fault at most: its code, its place and what it tells are determined.
+/// Tokens have one fault at most: its code, its place and what it reports are determined.
 pub fn one_fault()
     ensures { (tokens : Tokens) → (a : FaultAt) → (b : FaultAt) → IsFaultOf tokens a → IsFaultOf tokens b → a ≡ b }
 {}

@@ -28,7 +28,7 @@ fn begins_type(tokens: &[Token], at: usize) -> bool
     false
 }
 
-/// Whether a declaration may stand somewhere.
+/// Whether a declaration may be written somewhere.
 #[derive(Clone, Copy)]
 pub(crate) enum MayDeclare {
     Yes,
@@ -97,7 +97,7 @@ fn simple_line(alloc: Global, tokens: &[Token], at: &mut usize) -> Result<ForFir
     Ok(ForFirst::Does(simple))
 }
 
-/// A line. Where there is no room, a declaration alone may stand there.
+/// A line. Where there is no room, only a declaration may be there.
 #[tactic(auto, using(crate::proofs::LineSteps::line_declares, crate::proofs::LineSteps::line_empty, crate::proofs::LineSteps::line_simple, crate::proofs::LineSteps::line_deep, crate::proofs::LineSteps::line_wrong))]
 pub(crate) fn line(
     alloc: Global,

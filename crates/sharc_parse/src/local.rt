@@ -4,15 +4,15 @@ ghost use Rattle.std.specs.Prelude.{◌≤◌, ◌^◌, length};
 ghost use Rattle.sharc_parse.specs.Goes.{from};
 ghost use Rattle.sharc_parse.specs.Locals.{ReadsName, IsNamePlaced, ReadsDeclaration, IsDeclarationPlaced, ReadsInitial, EndsInitially, IsInitialPlaced, ReadsLocal, EndsLocal, IsLocalPlaced};
 
-use crate::held::both;
 use crate::right::right;
 use crate::token::{Fault, name, span, take};
 use crate::types::{Modes, written_type};
+use sharc_tree::held::both;
 use sharc_tree::token::{Punctuator, Token};
 use sharc_tree::tree::{Declaration, Identifier, Local, Right};
 use std::alloc::Global;
 
-/// The name behind a type.
+/// The name after a type.
 #[tactic(auto, using(crate::proofs::LocalSteps::named_goes, crate::proofs::LocalSteps::no_name_there))]
 pub(crate) fn name_there(
     alloc: Global,
@@ -32,7 +32,7 @@ pub(crate) fn name_there(
     Ok(name)
 }
 
-/// A type and a name, where nothing else may stand.
+/// A type and a name, where nothing else may be written.
 #[tactic(auto, using(crate::proofs::LocalSteps::plain_there, crate::proofs::LocalSteps::declaration_stands))]
 pub(crate) fn declaration(
     alloc: Global,
@@ -56,7 +56,7 @@ pub(crate) fn declaration(
     })
 }
 
-/// What stands right of `=`, if that is there.
+/// The right side of `=`, if there is one.
 #[tactic(auto, using(crate::proofs::LocalSteps::initial_goes))]
 fn initial_value(alloc: Global, tokens: &[Token], at: &mut usize) -> Result<Option<Right>, Fault>
     requires few { length tokens.now ≤ 2 ^ 20 }

@@ -5,16 +5,16 @@ ghost use Rattle.sharc_parse.specs.Goes.{from};
 ghost use Rattle.sharc_parse.specs.View.{bare_type};
 ghost use Rattle.sharc_parse.specs.Parameters.{ClosesVoid, ReadsFirst, IsFirstPlaced, ReadsParameters, AreParametersPlaced};
 
-use crate::held::both;
 use crate::local::{declaration, name_there};
 use crate::token::{Fault, expect, span, take};
 use crate::types::{Modes, is_bare, written_type};
 use sharc_tree::ctype::Base;
+use sharc_tree::held::both;
 use sharc_tree::token::{Punctuator, Token};
 use sharc_tree::tree::{Declaration, WrittenType};
 use std::alloc::Global;
 
-/// Goes past a `)` behind a `void` that stands for no parameters.
+/// Goes past a `)` after a `void` that stands for no parameters.
 fn closes_void(tokens: &[Token], at: &mut usize, written: &WrittenType) -> bool
     ensures { ClosesVoid result (bare_type written.now) tokens.now at.old at.new }
 {
@@ -50,7 +50,7 @@ fn first_parameter(
     }))
 }
 
-/// The parameters behind the `(` of a function, and the `)`.
+/// The parameters after the `(` of a function, and the `)`.
 #[tactic(auto, using(crate::proofs::ParameterSteps::first_given, crate::proofs::ParameterSteps::one_given_more, crate::proofs::ParameterSteps::given_stuck, crate::proofs::ParameterSteps::given_read))]
 pub(crate) fn parameters(
     alloc: Global,

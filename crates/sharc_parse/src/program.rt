@@ -142,7 +142,7 @@ fn complete(alloc: Global, tokens: Tokens, items: Vec<Item>) -> Result<Program, 
 ///
 /// Else the fault is at the first token with which the tokens begin no such program. It is P1 where they begin no program at all, or end too
 /// early, and P3 where that is so and the token is a word that C11 has and the language leaves out. It is P2 where they begin a program, but none
-/// within the limits. The tokens are handed back with it. (own)
+/// within the limits. The tokens are handed back with it.
 #[tactic(auto, using(crate::proofs::ProgramSteps::stuck_there, crate::proofs::ProgramSteps::over_there, crate::proofs::ProgramSteps::parses_refused, crate::proofs::ProgramSteps::parses_complete))]
 pub fn parse(alloc: Global, tokens: Tokens) -> Result<Program, ParseFault>
     requires few { length tokens.list ≤ 2 ^ 20 }

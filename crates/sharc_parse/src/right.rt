@@ -1,18 +1,19 @@
-// Reading what stands right of `=`.
+// Reading the right side of `=`.
 
 ghost use Rattle.std.specs.Prelude.{◌≤◌, ◌^◌, length};
 ghost use Rattle.sharc_parse.specs.Goes.{from};
 ghost use Rattle.sharc_parse.specs.Rights.{ReadsCount, IsCountPlaced, ReadsSized, IsSizedPlaced, ReadsRight, EndsRight, IsRightPlaced};
 
 use crate::expr::{binary, unary};
-use crate::held::{both, expect_behind};
+use crate::held::expect_behind;
 use crate::token::{Fault, expect, expect_keyword, span, take_keyword};
 use crate::types::{Modes, written_type};
+use sharc_tree::held::both;
 use sharc_tree::token::{Keyword, Punctuator, Token};
 use sharc_tree::tree::{Expr, Right, WrittenType};
 use std::alloc::Global;
 
-/// The count of a `malloc` with the `*` behind it, if there is one, and `sizeof`.
+/// The count of a `malloc` with the `*` after it, if there is one, and `sizeof`.
 #[tactic(auto, using(crate::proofs::RightSteps::count_begins, crate::proofs::RightSteps::count_goes, crate::proofs::RightSteps::count_stuck, crate::proofs::RightSteps::count_sizes, crate::proofs::RightSteps::sizeof_goes, crate::proofs::Steps::fixed_stuck))]
 fn count(alloc: Global, tokens: &[Token], at: &mut usize) -> Result<Option<Expr>, Fault>
     requires few { length tokens.now ≤ 2 ^ 20 }
@@ -31,7 +32,7 @@ fn count(alloc: Global, tokens: &[Token], at: &mut usize) -> Result<Option<Expr>
     Ok(Some(piece.expr))
 }
 
-/// `( plain ) )` behind `sizeof`.
+/// `( plain ) )` after `sizeof`.
 #[tactic(auto, using(crate::proofs::RightSteps::size_closes, crate::proofs::RightSteps::size_stuck, crate::proofs::RightSteps::size_opens, crate::proofs::RightSteps::malloc_closes, crate::proofs::Steps::fixed_stuck))]
 fn sized_type(alloc: Global, tokens: &[Token], at: &mut usize) -> Result<WrittenType, Fault>
     requires few { length tokens.now ≤ 2 ^ 20 }
@@ -48,7 +49,7 @@ fn sized_type(alloc: Global, tokens: &[Token], at: &mut usize) -> Result<Written
     Ok(plain)
 }
 
-/// What stands right of `=`.
+/// The right side of `=`.
 #[tactic(auto, using(crate::proofs::RightSteps::malloc_goes, crate::proofs::RightSteps::malloc_opens, crate::proofs::Steps::fixed_stuck))]
 pub(crate) fn right(alloc: Global, tokens: &[Token], at: &mut usize) -> Result<Right, Fault>
     requires few { length tokens.now ≤ 2 ^ 20 }

@@ -8,14 +8,14 @@ ghost use Rattle.sharc_parse.specs.Goes.{from};
 ghost use Rattle.sharc_parse.specs.Simples.{IsCallOf, ReadsSimple, EndsSimple, IsSimplePlaced};
 
 use crate::expr::unary;
-use crate::held::both;
 use crate::right::right;
 use crate::token::{Fault, span, take};
+use sharc_tree::held::both;
 use sharc_tree::token::{Punctuator, Token};
 use sharc_tree::tree::{Expr, Simple};
 use std::alloc::Global;
 
-/// Whether the expression is a call, which alone may stand as a statement.
+/// Whether the expression is a call, which alone may be a statement.
 fn is_call(expr: &Expr) -> bool
     ensures { result ≡ grammar.is_call (phrase_of expr.now) }
 {
@@ -28,7 +28,7 @@ fn is_call(expr: &Expr) -> bool
     }
 }
 
-/// A call, as what stands before a `;`.
+/// A call, as what comes before a `;`.
 fn call_of(expr: Expr) -> Result<Simple, Fault>
     ensures { IsCallOf result (view_expr expr) }
 {

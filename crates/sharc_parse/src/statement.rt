@@ -11,11 +11,12 @@ ghost use Rattle.sharc_parse.specs.Statements.{BuildsStatement, ReadsStatement, 
 ghost use Rattle.sharc_parse.specs.Nested.{IsOpen, ReadsRest, ReadsStatements, AreStatementsPlaced};
 
 use crate::head::head;
-use crate::held::{both, box_beside, boxes};
+use crate::held::{box_beside, boxes};
 use crate::line::MayDeclare;
 use crate::plain::{line_statement, rest_of_jump, rest_of_return};
 use crate::token::{Fault, enter, span, take, take_keyword};
 use crate::word::{StatementWord, condition, statement_word};
+use sharc_tree::held::both;
 use sharc_tree::token::{Keyword, Punctuator, Span, Token};
 use sharc_tree::tree::{Expr, ForHead, Jump, Stmt};
 use std::alloc::Global;
@@ -64,7 +65,7 @@ fn for_of(alloc: Global, span: Span, head: ForHead, body: Stmt) -> Result<Stmt, 
     Ok(Stmt::For(span, head, body))
 }
 
-/// A statement, or, where declarations may stand, a declaration and its `;`.
+/// A statement, or, where declarations may be written, a declaration and its `;`.
 #[cycle(statement)]
 #[tactic(auto, using(crate::proofs::NestedSteps::block_opens, crate::proofs::NestedSteps::block_deep, crate::proofs::NestedSteps::line_anywhere, crate::proofs::WordSteps::word_goes, crate::proofs::WordSteps::word_over))]
 pub(crate) fn statement(
@@ -194,7 +195,7 @@ fn rest_of_for(alloc: Global, tokens: &[Token], at: &mut usize, room: u8) -> Res
     for_of(alloc, span(tokens, first, *at), head, body)
 }
 
-/// The statements and declarations behind a `{`, and the `}`.
+/// The statements and declarations after a `{`, and the `}`.
 #[cycle(statement)]
 #[tactic(auto, using(crate::proofs::NestedSteps::first_statements, crate::proofs::NestedSteps::one_statement_more, crate::proofs::NestedSteps::statements_read))]
 pub(crate) fn statements(

@@ -12,7 +12,7 @@ use sharc_tree::tree::{
 };
 use std::alloc::{AllocError, AllocFailed, Global};
 
-/// Why reading ends early, at the token where it then stands.
+/// Why reading ends early, at the token where it then is.
 #[derive(Drop)]
 pub enum Fault {
     /// No memory.

@@ -5,9 +5,10 @@ ghost use Rattle.sharc_parse.specs.Goes.{from};
 ghost use Rattle.sharc_parse.specs.View.{bare_type};
 ghost use Rattle.sharc_parse.specs.Types.{may_stand, TakesMode, ReadsPath, IsPathPlaced, ReadsModeRest, IsModeRestPlaced, ReadsMode, IsModePlaced, ReadsLevel, TakesBase, ReadsBase, IsBasePlaced, ReadsBottom, IsBottomPlaced, EndsBottom, ReadsType, IsTypePlaced, EndsType, IsBare, ReadsCast, IsCastPlaced};
 
-use crate::held::{both, expect_behind};
+use crate::held::expect_behind;
 use crate::token::{Fault, enter, expect, name, site, span, take};
 use sharc_tree::ctype::{Base, CType, Levels, Mode, Path};
+use sharc_tree::held::both;
 use sharc_tree::token::{Keyword, Punctuator, Site, Token, TokenKind};
 use sharc_tree::tree::WrittenType;
 use std::alloc::Global;
@@ -42,7 +43,7 @@ pub(crate) fn mode_word(tokens: &[Token], at: &mut usize) -> Option<ModeWord>
     Some(word)
 }
 
-/// The lock path behind `locked`, with its parentheses.
+/// The lock path after `locked`, with its parentheses.
 #[tactic(auto, using(crate::proofs::TypeSteps::open_path, crate::proofs::TypeSteps::path_name, crate::proofs::TypeSteps::no_path_name, crate::proofs::TypeSteps::path_arrow, crate::proofs::TypeSteps::path_ends, crate::proofs::TypeSteps::path_ends_not, crate::proofs::TypeSteps::path_second, crate::proofs::TypeSteps::no_path_second, crate::proofs::TypeSteps::path_closes, crate::proofs::Steps::fixed_stuck))]
 fn path(alloc: Global, tokens: &[Token], at: &mut usize) -> Result<Path, Fault>
     requires few { length tokens.now ≤ 2 ^ 20 }
@@ -91,7 +92,7 @@ fn rest_of_mode(
     }
 }
 
-/// A sharing mode, if one stands there.
+/// A sharing mode, if there is one.
 #[tactic(auto, using(crate::proofs::TypeSteps::mode_goes, crate::proofs::TypeSteps::mode_meets, crate::proofs::TypeSteps::mode_read, crate::proofs::TypeSteps::mode_stands))]
 fn mode(alloc: Global, tokens: &[Token], at: &mut usize) -> Result<Option<Mode>, Fault>
     requires few { length tokens.now ≤ 2 ^ 20 }
@@ -108,14 +109,14 @@ fn mode(alloc: Global, tokens: &[Token], at: &mut usize) -> Result<Option<Mode>,
     Ok(Some(mode))
 }
 
-/// Whether sharing modes may stand in a type.
+/// Whether sharing modes may be written in a type.
 #[derive(Clone, Copy)]
 pub(crate) enum Modes {
     Allowed,
     LeftOut,
 }
 
-/// A sharing mode, if modes may stand there and one does.
+/// A sharing mode, if modes may be written there and one is.
 fn level(
     alloc: Global,
     tokens: &[Token],
@@ -205,7 +206,7 @@ pub(crate) struct Bottom {
     pub(crate) mode: Option<Mode>,
 }
 
-/// A base with its mode before it or behind it, or without.
+/// A base with its mode before it or after it, or without.
 #[tactic(auto, using(crate::proofs::TypeSteps::begins_moded, crate::proofs::TypeSteps::mode_first, crate::proofs::TypeSteps::begins_bare, crate::proofs::TypeSteps::begins_plain, crate::proofs::TypeSteps::mode_behind))]
 fn moded_base(
     alloc: Global,
@@ -291,7 +292,7 @@ pub(crate) fn is_bare(written: &WrittenType) -> bool
     !written.mode_first && levels.len() == 1 && levels.at(0).is_none()
 }
 
-/// `( type ,` behind `SCAST`.
+/// `( type ,` after `SCAST`.
 #[tactic(auto, using(crate::proofs::TypeSteps::cast_opens, crate::proofs::TypeSteps::cast_comma, crate::proofs::TypeSteps::cast_stuck, crate::proofs::Steps::fixed_stuck))]
 pub(crate) fn cast_type(
     alloc: Global,

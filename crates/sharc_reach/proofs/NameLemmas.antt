@@ -1,4 +1,4 @@
--- The names of lists of marks, one behind the other, and of the levels of a type.
+-- The names of lists of marks, one after the other, and of the levels of a type.
 use Rattle.std.proofs.Common.{◌≡◌, ℕ, ◌+◌, ◌<◌, Bool, true, false, Option, length, drop, get_or, arith, List, [], ◌∷◌, ◌++◌, refl, ap, sym, ◌∙◌, append_assoc}
 use Rattle.std.proofs.lemmas.List.{drop_more, drop_all, append-nil, length-drop}
 use Rattle.sharc_tree.specs.declared.ctype.Mode.{Mode}

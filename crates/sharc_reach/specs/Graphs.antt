@@ -38,7 +38,7 @@ ran r m = ran_as m.role (named_at r m.token)
 abbrev pub spawned : Resolution → Mention → Option ℕ
 spawned r m = spawned_as m.role (named_at r m.token)
 
--- the edge between two of so many functions
+-- the edge between two of this many functions
 abbrev pub edge_within : ℕ → ℕ → Option ℕ → Option Edge
 edge_within count from None = None
 edge_within count from (Some to) = if nat_lt from count && nat_lt to count then Some (edge_of from to) else None

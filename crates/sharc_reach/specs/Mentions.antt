@@ -1,4 +1,4 @@
--- The names that stand in a function, in the order in which they are written, each with what the function does with it.
+-- The names in a function, in the order in which they are written, each with what the function does with it.
 use Rattle.std.specs.Prelude.{ℕ, zero, suc, Bool, true, false, List, [], ◌∷◌, ◌++◌, Option, Some, None}
 use Rattle.sharc_tree.specs.declared.ctype.Mode.{Mode}
 use Rattle.sharc_tree.specs.declared.tree.declaration.WrittenType.{WrittenType}
@@ -93,7 +93,7 @@ abbrev pub mentions_in : ℕ → Option Function → List Mention
 mentions_in n None = []
 mentions_in n (Some f) = function_mentions n f
 
--- those of the first so many functions of a program
+-- those of this many functions of a program, from the first on
 abbrev pub mentions_below : Resolution → ℕ → List Mention
 mentions_below r zero = []
 mentions_below r (suc n) = mentions_below r n ++ mentions_in n (function_at r n)

@@ -29,7 +29,7 @@ abbrev pub IsFirstOf : Resolution → ℕ → Option ℕ → Type 0
 IsFirstOf r g None = ¬ IsTouched r g
 IsFirstOf r g (Some first) = IsFirst r g first
 
--- each function and each global of the program is told right
+-- each function and each global of the program is reported correctly
 pub record AreReached (r : Resolution) (a : Reaching) : Type 0 where
   pub function_count : length a.functions ≡ length (functions_in r.program.items)
   pub spawned_count : length a.spawned ≡ length (functions_in r.program.items)

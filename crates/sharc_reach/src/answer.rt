@@ -31,7 +31,7 @@ impl Model for Reached {
 }
 
 impl Reached {
-    /// Whether the function with this number is reached: it is spawned anywhere, or called or spawned in a reached function (own). It takes no memory
+    /// Whether the function with this number is reached: it is spawned anywhere, or called or spawned in a reached function. It takes no memory
     /// and one step.
     pub fn function(&self, function: u32) -> bool
         requires { function < length self.now.functions }
@@ -40,7 +40,7 @@ impl Reached {
         self.functions[function as usize]
     }
 
-    /// Whether the function with this number is spawned anywhere (own). It takes no memory and one step.
+    /// Whether the function with this number is spawned anywhere. It takes no memory and one step.
     pub fn spawned(&self, function: u32) -> bool
         requires { function < length self.now.spawned }
         ensures { result ≡ is_chosen self.now.spawned function }
@@ -48,7 +48,7 @@ impl Reached {
         self.spawned[function as usize]
     }
 
-    /// The first reached function in source order that names the global with this number, in a lock path too (own); none where no reached function
+    /// The first reached function in source order that names the global with this number, in a lock path too; none where no reached function
     /// does. It takes no memory and one step.
     pub fn touched(&self, global: u32) -> Option<u32>
         requires { global < length self.now.firsts }
@@ -88,7 +88,7 @@ fn is_source(finding: Finding) -> bool
     }
 }
 
-/// What is reached and touched in a program. Want of memory is the only error; more functions or calls than a number of 32 bits counts are answered
+/// What is reached and touched in a program. Running out of memory is the only error; more functions or calls than a number of 32 bits counts are answered
 /// so, too.
 pub fn reach(alloc: Global, typed: &Typed) -> Result<Reached, AllocError>
     ensures { IfOk result (λ reached. AreReached typed.now reached) }

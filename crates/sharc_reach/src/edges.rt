@@ -35,7 +35,7 @@ fn ran(typed: &Typed, mention: &Mention) -> Option<u32>
     }
 }
 
-/// The edge between two of so many functions.
+/// The edge between two of this many functions.
 fn edge_within(count: u32, from: u32, to: Option<u32>) -> Option<Edge>
     ensures { result ≡ edge_within count from to }
 {
@@ -57,7 +57,7 @@ fn edge_of(typed: &Typed, count: u32, mention: &Mention) -> Option<Edge>
     edge_within(count, mention.function, ran(typed, mention))
 }
 
-/// The edges between so many functions.
+/// The edges between this many functions.
 pub(crate) fn edges(
     alloc: Global,
     typed: &Typed,

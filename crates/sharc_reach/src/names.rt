@@ -1,4 +1,4 @@
-// The names that stand in types and declarations.
+// The names in types and declarations.
 
 ghost use Rattle.std.specs.Prelude.{◌≡◌, [], ◌∷◌, ◌++◌, OnOk};
 ghost use Rattle.sharc_tree.specs.Marks.{path_marks, mode_marks, level_marks, base_marks, type_marks, declaration_marks, declarations_marks};
@@ -26,7 +26,7 @@ pub(crate) fn add(
     Ok(())
 }
 
-/// Adds the names of a lock path. Tokens past the 32 bits of a number are refused as want of memory.
+/// Adds the names of a lock path. Tokens past the 32 bits of a number are refused as out of memory.
 fn path(function: u32, path: &Path, list: &mut Vec<Mention>) -> Result<(), AllocError>
     ensures { OnOk result (list.new.items ≡ list.old.items ++ names function (path_marks path.now)) }
 {

@@ -36,7 +36,7 @@ fn mark(spawned: Option<u32>, nodes: &mut Vec<Node>)
     }
 }
 
-/// A node for each of so many functions.
+/// A node for each of this many functions.
 pub(crate) fn nodes(
     alloc: Global,
     typed: &Typed,

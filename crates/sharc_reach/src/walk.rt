@@ -1,4 +1,4 @@
-// The names that stand in expressions, statements and functions: one walk over a program.
+// The names in expressions, statements and functions: one walk over a program.
 
 ghost use Rattle.std.specs.Prelude.{◌≡◌, ◌++◌, IfOk, OnOk};
 ghost use Rattle.sharc_tree.specs.View.{view_expr, view_arguments, view_option, view_right, view_simple, view_local, view_first, view_head, view_stmt, view_statements, view_function};
@@ -222,7 +222,7 @@ fn numbered(typed: &Typed, function: u32, list: &mut Vec<Mention>) -> Result<(),
     }
 }
 
-/// The names that stand in the functions of a program, in source order.
+/// The names in the functions of a program, in source order.
 pub(crate) fn all_mentions(
     alloc: Global,
     typed: &Typed,

@@ -65,7 +65,7 @@ module _ (P : Option Hand → Option Hand → Type 0) (first now next : List (Op
   left_less left m h = off_it m (λ e. omega (arith, e, h)) ∙ left m (omega (arith, h))
 
 -- ---- taking them back
--- one more element stands at its place in both lists
+-- one more element is at its place in both lists
 pub pushed : {A B : Type 0} (P : ℕ → A → B → Type 0) (xs : List A) (ys : List B) (n : ℕ) (x : A) (y : B) (more : List A) (too : List B) → length xs ≡ n → length ys ≡ n
     → more ≡ xs ++ x ∷ [] → too ≡ ys ++ y ∷ []
     → ((m : ℕ) (a : A) (b : B) → m < n → P m (get_or xs m a) (get_or ys m b)) → P n x y

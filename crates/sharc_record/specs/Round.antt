@@ -86,7 +86,7 @@ HasRoomAt (Some old) None = ⊥
 HasRoomAt None (Some new) = ⊥
 
 -- ---- between two rounds
--- a run with these word events stands there in which no thread made more events than it may
+-- at this place is a run with these word events in which no thread made more events than it may
 pub record AreRounds (code : Code) (s : Shape) (limit : ℕ) (rounds : Rounds) : Type 0 where
   pub turns : List Turn
   pub count : length rounds.port ≡ words_of s

@@ -20,7 +20,7 @@ use std::sync::Wait;
 use std::thread;
 use std::thread::Threads;
 
-/// The threads of one worker: each stands at its number, and the places of others are empty.
+/// The threads of one worker: each is at its number, and the places of others are empty.
 #[derive(Drop)]
 pub(crate) struct Worker {
     pub(crate) hands: Vec<Option<Hand>>,
@@ -83,7 +83,7 @@ impl Worker {
     }
 }
 
-// So many workers with no thread.
+// This many workers with no thread.
 fn idle(alloc: Global, count: u32) -> Result<Vec<Worker>, AllocError>
     ensures count { IfOk result (λ all. length all.items ≡ count) }
     ensures each { IfOk result (λ all. (w : ℕ) (d : Worker) → w < count → length (slice_index_or all.items w d).hands.items ≡ threads) }

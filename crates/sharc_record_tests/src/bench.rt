@@ -160,7 +160,7 @@ fn replays(alloc: Global, code: &Code, shape: &Shape, run: &Recorded, limit: u64
     }
 }
 
-/// A recorded run by so many workers.
+/// A recorded run by this many workers.
 pub fn run<R: Threads + Wait + Sync, G: Gate + Sync>(
     rt: &R,
     alloc: Global,

@@ -12,10 +12,10 @@ use std::sync::atomic::{AtomicU64, Ordering};
 use std::test::Fail;
 use std::thread::Threads;
 
-// A gate looks so many times, and then gives up.
+// A gate looks this many times, and then gives up.
 const LOOKS: u64 = 100_000_000;
 
-// Holds the first step of thread 1 until so many steps of thread 2 were asked for, and the other way round. It counts how often it gave up, and
+// Holds the first step of thread 1 until this many steps of thread 2 were asked for, and the other way round. It counts how often it gave up, and
 // how often a worker came with a thread that is not its own.
 #[derive(Drop)]
 struct Holds {
@@ -41,7 +41,7 @@ impl Holds {
         }
     }
 
-    // Counts the step, and holds it, if it is the first, until the other has asked for so many.
+    // Counts the step, and holds it, if it is the first, until the other has asked for this many.
     fn hold(&self, own: &AtomicU64, other: &AtomicU64, count: u64) {
         if own.fetch_add(1, Ordering::SeqCst) > 0 {
             return;

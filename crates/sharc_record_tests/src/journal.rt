@@ -20,7 +20,7 @@ fn at<P: Port>(port: &mut P, word: u32, op: WordOp) -> u64
     port.step(WordStep { word, op })
 }
 
-// Adds 1 so many times.
+// Adds 1 this many times.
 fn repeat<P: Port>(port: &mut P, times: u32)
     requires { 0 < P.count port.old }
     ensures count { P.count port.new ≡ P.count port.old }

@@ -28,7 +28,7 @@ place_in line = pair_of (number_in 0 30 (word_of line)) (number_in 1 4294967295 
 abbrev pub numbers_in : List ℕ → Option (ℕ × ℕ)
 numbers_in line = pair_of (number_in 16 65536 (word_of line)) (number_in 1 200000 (after_word line))
 
--- what stands after a word at the beginning of a line
+-- what follows a word at the beginning of a line
 abbrev pub rest_after : List ℕ → List ℕ → Option (List ℕ)
 rest_after [] line = Some line
 rest_after (w ∷ word) [] = None

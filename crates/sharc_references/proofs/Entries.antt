@@ -36,7 +36,7 @@ find_none p (x ∷ xs) ys h = by_case (find_none p xs ys) (p x) refl
     by_case more true i = absurd (let z : true ≡ false = sym (ap (λ z. z || list_any p xs) i) ∙ h in cc)
     by_case more false i = ap (λ z. if z then Some x else find p (xs ++ ys)) i ∙ more (sym (ap (λ z. z || list_any p xs) i) ∙ h)
 
--- an element with a property stands somewhere
+-- an element with a property is at some place
 pub record Placed {A : Type 0} (P : A → Type 0) (xs : List A) : Type 0 where
   pub before : List A
   pub element : A

@@ -1,4 +1,4 @@
--- The last event of a list that meets a test, and where it stands.
+-- The last event of a list that meets a test, and where it is.
 use Rattle.std.proofs.Common.{◌≡◌, ◌⊎◌, inl, inr, Bool, true, false, ◌||◌, List, [], ◌∷◌, ◌++◌, Option, Some, None, refl, ap, sym, ◌∙◌, append_assoc, append-nil}
 use Rattle.std.specs.Prelude.{find, if◌then◌else◌}
 use Rattle.std.specs.List.{list_any}
@@ -28,7 +28,7 @@ module _ (p : SourceEvent → Bool) where
   pub latest_none : (l : List SourceEvent) → list_any p l ≡ false → latest p l ≡ None
   latest_none l none = quiet l [] none
 
-  -- the last of them stands here
+  -- the last of them is here
   pub record LastAt (l : List SourceEvent) : Type 0 where
     pub before : List SourceEvent
     pub event : SourceEvent
@@ -55,7 +55,7 @@ module _ (p : SourceEvent → Bool) where
   pub latest_last : (l : List SourceEvent) (s : LastAt l) → latest p l ≡ Some s.event
   latest_last l s = ap (latest p) s.stands ∙ latest_is s.before s.event s.after s.is s.none
 
-  -- one of them stands here
+  -- one of them is here
   pub stands_any : (before : List SourceEvent) (e : SourceEvent) (after : List SourceEvent) → p e ≡ true → list_any p (before ++ e ∷ after) ≡ true
   stands_any [] e after h = ap (λ z. z || list_any p after) h
   stands_any (x ∷ before) e after h = or_right (p x) (list_any p (before ++ e ∷ after)) (stands_any before e after h)

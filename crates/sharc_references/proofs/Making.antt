@@ -1,4 +1,4 @@
--- What stands in a function makes what its mallocs make: the list of what is assigned and initialised has them all, and other values make nothing.
+-- What is in a function makes what its mallocs make: the list of what is assigned and initialised has them all, and other values make nothing.
 use Rattle.std.proofs.Common.{◌≡◌, ℕ, Bool, true, false, ◌||◌, ◌&&◌, List, [], ◌∷◌, ◌++◌, Option, Some, None, refl, ap, sym, subst, ◌∙◌}
 use Rattle.std.specs.Prelude.{◌==◌, filter_map, flat_map, if◌then◌else◌}
 use Rattle.std.specs.List.{list_any}

@@ -16,7 +16,7 @@ use Rattle.sharc_references.specs.declared.holder.Holder.{Holder}
 use Rattle.sharc_references.specs.declared.holder.Holder.TheVariants.{InCell, InArgument, InMutex, InThread}
 use Rattle.sharc_references.specs.Starting.{thread_count}
 
--- what is listed at each place, by the event there and those behind it
+-- what is listed at each place, by the event there and those after it
 abbrev pub at_places : (SourceEvent → List SourceEvent → List Holder) → List SourceEvent → List Holder
 at_places q [] = []
 at_places q (e ∷ after) = q e after ++ at_places q after
@@ -49,7 +49,7 @@ argument_at r R n e after (negsuc k) = []
 
 -- ---- threads, at their last event
 
--- so many, the first of them last
+-- this many, by their numbers from 0 on
 abbrev pub in_thread_all : ℕ → ℕ → List Holder
 in_thread_all thread zero = []
 in_thread_all thread (suc k) = in_thread_all thread k ++ InThread thread k ∷ []

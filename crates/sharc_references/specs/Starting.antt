@@ -37,7 +37,7 @@ spawned_by_event (Some e) = spawned_with e.act
 abbrev pub entry : Resolution → List SourceEvent → ℕ → Option (ℕ × ℤ)
 entry r R thread = if thread == 0 then with_zero (main_of r) else spawned_by_event (find (spawns thread) R)
 
--- the answers of its events behind its first
+-- the answers of its events after its first
 abbrev pub own_answers : List SourceEvent → ℕ → List ℤ
 own_answers R thread = drop 1 (answers_of (events_of thread R))
 

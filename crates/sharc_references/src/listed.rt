@@ -267,7 +267,7 @@ fn add_all(
 }
 
 /// The references to the made object of this number after the events, where threads have come as far as they do with this fuel: each once. The events are those
-/// of a source run; of any other list nothing is said. Want of memory is answered, too, where there are more functions than a number of 32 bits counts.
+/// of a source run; of any other list nothing is said. Out of memory is answered, too, where there are more functions than a number of 32 bits counts.
 pub fn references(
     alloc: Global,
     program: &Moded,

@@ -1,6 +1,6 @@
 //! Tables of sources and schedules, with the references to an object after the events: tests alone.
 //!
-//! Nothing stands on this crate, and it has no code of its own.
+//! No crate depends on this one, and it has no code of its own.
 #![tactic(auto)]
 
 #[cfg(test)]

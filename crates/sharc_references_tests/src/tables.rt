@@ -1,5 +1,5 @@
 //! Tables of sources as one text: a source, a line `--`, and lines with the digits of the threads in the order of their events, the fuel, the number of the object,
-//! ` = ` and the references; a line `==` stands between two cases.
+//! ` = ` and the references; a line `==` separates two cases.
 
 use crate::sources::inferred;
 use crate::threads::next_event;
@@ -59,7 +59,7 @@ fn number_of(word: Option<&str>) -> u32 {
     }
 }
 
-/// The events of the threads whose digits stand in the word.
+/// The events of the threads whose digits are in the word.
 fn events_of(
     rt: &(impl Abort + AllocGlobal),
     m: &Moded,

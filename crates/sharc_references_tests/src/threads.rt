@@ -1,4 +1,4 @@
-//! The events of threads, one after the other in an order that is told.
+//! The events of threads, one after the other in a given order.
 
 use sharc_ask::asked::Outcome;
 use sharc_ask::thread::ask;
@@ -94,7 +94,7 @@ fn answer_to(t: &Typed, events: &[SourceEvent], act: Act) -> i64 {
     }
 }
 
-/// The answers of the thread's events behind its first; none where it has not begun.
+/// The answers of the thread's events after its first; none where it has not begun.
 fn answers_of(
     alloc: Global,
     events: &[SourceEvent],

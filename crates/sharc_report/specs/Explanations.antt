@@ -18,8 +18,8 @@ use Rattle.sharc_report.specs.Places.{token_place, tokens_between}
 
 -- ---- KIND NAME
 
--- The lvalue of a cast: behind the comma that follows the type, and before the closing parenthesis. A cast that was put around an expression has no such tokens
--- of its own, and its type stands where it ends: then it is all of them.
+-- The lvalue of a cast: after the comma that follows the type, and before the closing parenthesis. A cast that was put around an expression has no such tokens
+-- of its own, and its type is where it ends: then it is all of them.
 abbrev pub source_text : Resolution → Entity → List ℕ
 source_text r e = if nat_lt (e.written.span.last.token + 2) e.last then tokens_between r (e.written.span.last.token + 2) (e.last - 1) else tokens_between r e.token e.last
 
@@ -69,7 +69,7 @@ abbrev pub reason_line : Resolution → ℕ → Option Reason → List ℕ
 reason_line r depth None = []
 reason_line r depth (Some reason) = codes "  depth " ++ decimal depth ++ codes ": " ++ reason_text r reason ++ codes "\n"
 
--- those of its first so many positions, by depth
+-- those of its positions below this number, by depth
 abbrev pub reason_lines : Assignment → Numbered → ℕ → List ℕ
 reason_lines m n zero = []
 reason_lines m n (suc i) = reason_lines m n i ++ reason_line m.typed (first_depth n.entity.role + i) (reason_at m (n.first + i))

@@ -40,7 +40,7 @@ error_message e =
 abbrev pub error_line : Resolution → ModeError → List ℕ
 error_line r e = site_text r e.site ++ codes ": M" ++ decimal e.code ++ codes " " ++ error_message e ++ codes "\n"
 
--- A cast belongs to the M1 at its place. At one token at most one M1 stands, since no two expressions that are given to something begin there.
+-- A cast belongs to the M1 at its place. At one token there is at most one M1, since no two expressions that are given to something begin there.
 
 abbrev pub stands_at : ℕ → Cast → Bool
 stands_at token c = c.site.token == token

@@ -1,29 +1,17 @@
 // Casts by their places.
 
-ghost use Rattle.std.specs.Prelude.{◌≡◌, IfOk, OnOk, OnErr};
+ghost use Rattle.std.specs.Prelude.{◌≡◌, IfOk};
 ghost use Rattle.std.specs.List.{find};
 ghost use Rattle.std.specs.Option.{option_copied};
-ghost use Rattle.sharc_ctype.specs.FirstPlaces.{HasPlace};
 ghost use Rattle.sharc_report.specs.FirstCasts.{HasFirstCasts};
 ghost use Rattle.sharc_report.specs.Verdicts.{cast_for, stands_at};
 
 use indexmap::IndexMap;
+use sharc_ctype::first_place::note_first;
 use sharc_mode::error::{Cast, Casts, ModeError};
 use std::alloc::{AllocError, Global};
 
-/// Writes the place of the first cast at a token into a table.
-fn note_first(first: &mut IndexMap<u32, usize>, token: u32, place: usize) -> Result<(), AllocError>
-    ensures written { OnOk result (HasPlace token place first.old.entries first.new.entries) }
-    ensures err { OnErr result (first.new.entries ≡ first.old.entries) }
-{
-    if first.get(&token).is_some() {
-        return Ok(());
-    }
-    first.insert(token, place)?;
-    Ok(())
-}
-
-/// Where the first cast at each token stands in the list.
+/// Where the first cast at each token is in the list.
 pub(crate) fn first_casts(alloc: Global, casts: &Casts) -> Result<IndexMap<u32, usize>, AllocError>
     ensures { IfOk result (λ first. HasFirstCasts casts.now first.entries) }
 {

@@ -180,7 +180,7 @@ fn put_lines(
     Ok(())
 }
 
-/// Whether an entity with so many positions has a line.
+/// Whether an entity with this many positions has a line.
 fn is_explained(role: Role, positions: usize) -> bool
     ensures { result ≡ is_explained role positions }
 {
@@ -224,7 +224,7 @@ fn put_explanation(
     put_lines(alloc, text, program, all, n)
 }
 
-/// A line for each global, parameter, local, pointer result and cast, by place, `file:line: kind name: type`, and behind it for each of its positions
+/// A line for each global, parameter, local, pointer result and cast, by place, `file:line: kind name: type`, and after it for each of its positions
 /// that was inferred to be dynamic, by depth, the reason.
 pub fn explain_text(alloc: Global, program: &Moded) -> Result<Vec<u8>, AllocError>
     ensures { IfOk result (λ text. text.items ≡ explain_text program.now) }

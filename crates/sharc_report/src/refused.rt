@@ -156,7 +156,7 @@ fn put_refusal(
     put_suggestion(alloc, text, typed, c)
 }
 
-/// The errors of a program's modes, a line each, `file:line: code message`, and behind an M1 the cast that would repair it, where one is handed in:
+/// The errors of a program's modes, a line each, `file:line: code message`, and after an M1 the cast that would repair it, where one is passed:
 /// that at its place. Codes past 11 have no message.
 pub fn check_text(
     alloc: Global,

@@ -7,7 +7,7 @@ use Rattle.sharc_tree.specs.Tree.{Expression, identifier, constant, parentheses,
 use Rattle.sharc_tree.specs.Tree as tree
 use Rattle.sharc_rewrite.specs.declared.written.Recast.{Recast}
 
--- its type stands at the tokens of the expression: no token is added
+-- its type is at the tokens of the expression: no token is added
 abbrev pub type_at : Recast → Span → WrittenType
 type_at c s = record { span = s; mode_first = false; base = c.base; ctype = c.to }
 

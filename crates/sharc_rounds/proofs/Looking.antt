@@ -17,7 +17,7 @@ use Rattle.sharc_rounds.specs.Round.{AreWords, SameWords, KeptBus, AreRounds}
 started_same : (one other : List ℕ) (t : ℕ) → slice_index one (state_word t) ≡ slice_index other (state_word t) → is_started bounds one t ≡ is_started bounds other t
 started_same one other t e = ap (λ k. nat_lt t THREADS && nat_eq k 1) e
 
--- who begins is told by the state words alone
+-- who begins is determined by the state words alone
 pub begun_same : (code : Code) (s : Shape) (one other : List ℕ) (t : ℕ) (old new : Option ThreadView) → slice_index one (state_word t) ≡ slice_index other (state_word t) → HasBegun code s one t old new → HasBegun code s other t old new
 begun_same code s one other t (Some old) new e h = h
 begun_same code s one other t None None e h = sym (started_same one other t e) ∙ h
@@ -39,7 +39,7 @@ are_same old new are same = record {
   count = ap (λ (r : RestView). length r.words) same.rest ∙ are.count ∙ sym same.count;
 }
 
--- a look leaves the run where it stands
+-- a look leaves the run where it is
 pub rounds_same : (code : Code) (s : Shape) (limit : ℕ) (old : Rounds) (words : Words) → AreRounds code s limit old → SameWords old.words words → AreRounds code s limit record { threads = old.threads; words = words }
 rounds_same code s limit old words r same = record {
   turns = r.turns;

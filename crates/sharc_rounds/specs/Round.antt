@@ -153,7 +153,7 @@ wait_word (waits.Mutex word site) = word
 wait_word (waits.Join number site) = state_word number
 wait_word (waits.Cond word site) = word
 
--- a run stands there in which no thread made more events than it may
+-- at this place is a run in which no thread made more events than it may
 pub record AreRounds (code : Code) (s : Shape) (limit : ℕ) (rounds : Rounds) : Type 0 where
   pub turns : List Turn
   pub kept : AreWords rounds.words

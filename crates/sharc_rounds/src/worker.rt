@@ -79,7 +79,7 @@ impl Worker {
     }
 }
 
-// So many workers with no thread.
+// This many workers with no thread.
 fn idle(alloc: Global, count: u32) -> Result<Vec<Worker>, AllocError>
     ensures count { IfOk result (λ all. length all.items ≡ count) }
     ensures each { IfOk result (λ all. (w : ℕ) (d : Worker) → w < count → length (slice_index_or all.items w d).hands.items ≡ threads) }

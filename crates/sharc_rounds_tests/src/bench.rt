@@ -117,7 +117,7 @@ fn seen(run: &RoundsRun, value: u32) -> Worked {
     }
 }
 
-/// A run by so many workers.
+/// A run by this many workers.
 pub fn run<R: Threads + Sync, G: Gate + Sync>(
     rt: &R,
     alloc: Global,

@@ -1,4 +1,4 @@
--- The threads that were started, in a list, and those of the place where a run stands.
+-- The threads that were started, in a list, and those of the place where a run is.
 use Rattle.std.proofs.Common.{◌≡◌, ℕ, zero, suc, ◌+◌, ◌<◌, ◌≤◌, Bool, true, false, not, List, [], ◌∷◌, length, map, filter, get_or, refl, sym, ap, ◌∙◌, subst, arith, ◌⊎◌, inl, inr}
 use Rattle.std.specs.Prelude.{nat_lt, nat_eq, ◌&&◌, ◌||◌, slice_index, if◌then◌else◌}
 use Rattle.std.specs.List.{range_with_len, All, list_any}

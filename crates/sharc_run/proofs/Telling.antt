@@ -1,4 +1,4 @@
--- The words and the threads of a run that ended tell its outcome.
+-- The words and the threads of a run that ended determine its outcome.
 use Rattle.std.proofs.Common.{◌≡◌, ℕ, suc, ◌<◌, Bool, true, false, not, List, [], ◌∷◌, length, get_or, refl, sym, ap, ◌∙◌, subst, arith}
 use Rattle.std.specs.Prelude.{◌&&◌, ◌||◌, if◌then◌else◌}
 use Rattle.std.specs.List.{All, Any, list_any}

@@ -22,7 +22,7 @@ is_on t = may_go t.machine.at.state
 abbrev pub goes_on : List ℕ → ThreadView → Bool
 goes_on words t = is_on t && not (held_up words t.machine.own.number t.wait)
 
--- the outcome that these words and threads tell
+-- the outcome that these words and threads determine
 abbrev pub outcome_told : List ℕ → List ThreadView → Outcome
 outcome_told words threads =
     if list_any has_reported threads then Reported

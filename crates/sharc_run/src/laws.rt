@@ -2,7 +2,7 @@
 
 ghost use Rattle.sharc_run.specs.Laws.{OutcomeIsTold};
 
-/// The words and the threads of a run that ended tell its outcome. So it has one.
+/// The words and the threads of a run that ended determine its outcome. So it has one.
 pub fn outcome_is_told()
     ensures { OutcomeIsTold }
 {}

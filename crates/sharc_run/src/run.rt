@@ -76,7 +76,7 @@ pub fn run_by_seed(
     told(alloc, code, &run.words, &run.threads, run.end)
 }
 
-/// Runs the code in rounds that so many workers make, no thread making more than `limit` events; the gate is asked before each step.
+/// Runs the code in rounds that this many workers make, no thread making more than `limit` events; the gate is asked before each step.
 ///
 /// An `Err` says that memory was not found.
 pub fn run_by_workers<R: Threads + Sync, G: Gate + Sync>(

@@ -1,4 +1,4 @@
--- The thread that a refused write names is the lowest other one whose bit stood.
+-- The thread that a refused write names is the lowest other one whose bit was set.
 use Rattle.std.proofs.Common.{◌≡◌, refl, ℕ, Option, Some, None}
 use Rattle.std.specs.Prelude.{is_some, if◌then◌else◌}
 use Rattle.sharc_shadow.specs.declared.shadow_word.Kind.TheVariants.{Write}

@@ -1,4 +1,4 @@
--- The text is the same where it tells the same of each thread.
+-- The text is the same where it says the same of each thread.
 use Rattle.std.proofs.Common.{◌≡◌, ℕ, ◌==◌, ◌&&◌, not, suc, Bool, true, false, List, [], ◌∷◌, ◌++◌, length, map, flat_map, find, codes, decimal, cond, is_some, Option, Some, None, refl, sym, ap, ◌∙◌, subst, arith, if◌then◌else◌}
 use Rattle.std.specs.List.Sorted.{IsStableByKey}
 use Rattle.std.specs.Ordering.{nat_cmp}
@@ -21,7 +21,7 @@ use Rattle.sharc_run_text.specs.Laws.{Shown, shown, TextIsOne}
 use Rattle.sharc_run_text.proofs.OneOrder.{one_order}
 
 -- ---- lists of threads
--- a text tells the same of each thread of both
+-- a text says the same of each thread of both
 abbrev Alike : List ThreadView → List ThreadView → Type 0
 Alike [] [] = Unit {0}
 Alike (t ∷ ts) (u ∷ us) = (shown t ≡ shown u) × Alike ts us

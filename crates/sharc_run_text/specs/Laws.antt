@@ -9,7 +9,7 @@ use Rattle.sharc_cpu.specs.Thread.{ThreadView}
 use Rattle.sharc_run_text.specs.Others.{number_of}
 use Rattle.sharc_run_text.specs.RunText.{prints_of, is_gone, IsRunText}
 
--- what a text tells of a thread: whether it is gone, its number, why it was stopped, what it waits for, how many events it has made, and
+-- what a text says of a thread: whether it is gone, its number, why it was stopped, what it waits for, how many events it has made, and
 -- what it printed and accessed
 pub record Shown : Type 0 where
   pub gone : Bool
@@ -31,7 +31,7 @@ shown t = record {
   table = t.machine.own.table;
 }
 
--- the text of these words, and of threads of which it tells the same, is one
+-- the text of these words, and of threads of which it says the same, is one
 abbrev pub TextIsOne : Type 0
 TextIsOne = (code : Code) (words : List ℕ) (threads others : List ThreadView) (text other : List ℕ) → map shown threads ≡ map shown others
     → IsRunText code words threads text → IsRunText code words others other → text ≡ other

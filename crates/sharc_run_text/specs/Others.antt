@@ -61,7 +61,7 @@ abbrev pub access_of_any : ConflictAt → Option ThreadView → Option Access
 access_of_any c None = None
 access_of_any c (Some t) = access_of c t
 
--- ---- of a refused write: the access of the lowest-numbered other thread whose bit stood
+-- ---- of a refused write: the access of the lowest-numbered other thread whose bit was set
 abbrev pub has_number : ℕ → ThreadView → Bool
 has_number n t = number_of t == n
 
@@ -72,8 +72,8 @@ access_of_number c threads (Some n) = access_of_any c (find (has_number n) threa
 abbrev pub against_write : ConflictAt → List ThreadView → ℕ → Option Access
 against_write c threads thread = access_of_number c threads (lowest_other c.old thread)
 
--- ---- of a refused read: the write of the lowest-numbered other thread whose bit stood and which has one, else the write that was
--- refused where the written bit did not stand
+-- ---- of a refused read: the write of the lowest-numbered other thread whose bit was set and which has one, else the write that was
+-- refused where the written bit was not set
 abbrev pub wrote_before : ConflictAt → ℕ → ThreadView → Bool
 wrote_before c thread t = not (number_of t == thread) && (stands c.old (number_of t) && has_written c t)
 

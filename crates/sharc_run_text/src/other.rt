@@ -96,7 +96,7 @@ fn against_write(c: ConflictAt, threads: &[Thread], thread: u32) -> Option<Acces
     }
 }
 
-// Whether this is another thread whose bit stood, and which has written there.
+// Whether this is another thread whose bit was set, and which has written there.
 fn wrote_before(c: ConflictAt, thread: u32, t: &Thread) -> bool
     requires { IsAllowed t.now }
     ensures { result ≡ wrote_before c thread t.now }
@@ -127,7 +127,7 @@ fn is_write(kind: Kind) -> bool
     }
 }
 
-// Whether the thread's write there was refused where the written bit did not stand.
+// Whether the thread's write there was refused where the written bit was not set.
 fn was_refused_first(c: ConflictAt, t: &Thread) -> bool
     ensures { result ≡ was_refused_first c t.now }
 {

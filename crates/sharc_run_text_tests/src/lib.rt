@@ -1,6 +1,6 @@
 //! Texts of runs of code written by hand: tests alone.
 //!
-//! Nothing stands on this crate, and it has no code of its own.
+//! No crate depends on this one, and it has no code of its own.
 #![tactic(auto)]
 
 #[cfg(test)]

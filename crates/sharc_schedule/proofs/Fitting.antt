@@ -61,7 +61,7 @@ small_snoc : (ps : List ℕ) (p : ℕ) → Small ps → p ≤ 30 → Small (ps +
 small_snoc [] p h low = (low, tt)
 small_snoc (q ∷ ps) p h low = (h.0, small_snoc ps p h.1 low)
 
--- counts of so many at most
+-- counts of at most this many
 abbrev pub Counted : ℕ → List (ℕ × ℕ) → Type 0
 Counted most [] = Unit {0}
 Counted most (first ∷ more) = ((first.0 ≤ 30) × (1 ≤ first.1) × (first.1 ≤ most)) × Counted most more

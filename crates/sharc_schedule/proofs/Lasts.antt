@@ -66,7 +66,7 @@ pub add_first : (xs : List (ℕ × ℕ)) (p : ℕ) → length xs ≡ 0 → xs ++
 add_first [] p none = refl
 add_first (x ∷ xs) p none = absurd (omega (arith, none))
 
--- ---- where a number stands
+-- ---- where a number is
 pub place_here : (t : ℕ) (xs : List ℕ) (d : ℕ) → place_in t xs < length xs → get_or xs (place_in t xs) d ≡ t
 place_here t [] d low = absurd (omega (arith, low))
 place_here t (x ∷ xs) d low = by (ℕ_discrete t x) (place_here t xs d) where
@@ -84,7 +84,7 @@ place_first t (x ∷ xs) i d low is = by (ℕ_discrete t x) i low is (λ k. plac
   by (no e) zero low is r = absurd (e (sym is))
   by (no e) (suc i) low is r = let h = if_no (nat_eq t x) 0 (suc (place_in t xs)) (ne_eqb t x e) in let k = r i (omega (arith, low)) is in omega (arith, h, k)
 
--- an element that is there is the same whatever stands where there is none
+-- an element that is there is the same whatever is given where there is none
 pub same_at : {A : Type 0} (xs : List A) (n : ℕ) (a b : A) → n < length xs → get_or xs n a ≡ get_or xs n b
 same_at [] n a b low = absurd (omega (arith, low))
 same_at (x ∷ xs) zero a b low = refl

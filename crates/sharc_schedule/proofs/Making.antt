@@ -85,7 +85,7 @@ module _ (laws : RunLaws) (threads : ThreadLaws) (code : Code) (s : Shape) (limi
   counts_low [] low h = h
   counts_low (x ∷ high) low h = counts_low high low h.0
 
-  -- where a run stands that was made, the one that it goes on from is one too
+  -- where a run is one that was made, the one that it goes on from is one too
   low_run : (t : ℕ) (before made : List Turn) → Stepped code s limit t before made → Run made → Run before
   low_run t before made step run = run_low laws threads code s limit step.more before (subst Run step.is run)
 

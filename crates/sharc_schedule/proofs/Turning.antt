@@ -42,7 +42,7 @@ inside code s limit g t low on =
 pub low_of : (code : Code) (s : Shape) (limit t : ℕ) (turns : List Turn) (walk : Walk) → StandsAt code s turns walk → is_enabled code s limit (place_after code s turns) t ≡ true → t < THREADS
 low_of code s limit t turns walk stands on = stands.seats.few t (both ((place_after code s turns).started t) _ on).0
 
--- it does not matter by which run it is told who is enabled
+-- it does not matter by which run it is determined who is enabled
 pub enabled_too : (laws : TableLaws) (code : Code) (s : Shape) (limit : ℕ) (one other : List Turn) (walk : Walk) (t : ℕ) → StandsAt code s one walk → StandsAt code s other walk
     → is_enabled code s limit (place_after code s one) t ≡ true → is_enabled code s limit (place_after code s other) t ≡ true
 enabled_too laws code s limit one other walk t a b on =

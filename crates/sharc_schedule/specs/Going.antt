@@ -1,4 +1,4 @@
--- What the proof of the call that makes a schedule needs: where its run stands, and by which turns it goes on.
+-- What the proof of the call that makes a schedule needs: where its run is, and by which turns it goes on.
 use Rattle.std.specs.Prelude.{ℕ, zero, suc, ◌≡◌, ◌≤◌, ◌⊎◌, Bool, true, false, List, [], ◌∷◌, ◌++◌, slice_index_or}
 use Rattle.sharc_word.specs.declared.step.WordEvent.{WordEvent}
 use Rattle.sharc_word.specs.declared.step.WordOp.TheVariants.{Load}
@@ -17,7 +17,7 @@ abbrev pub AllCount : Code → Shape → List Turn → Type 0
 AllCount code s [] = Unit {0}
 AllCount code s (one ∷ earlier) = AllCount code s earlier × (counted (state_now (one_thread code s) (place_after code s earlier) one).at.state ≡ 1)
 
--- the run stands there, and these are the places of its turns
+-- the run is there, and these are the places of its turns
 pub record GoesAt (code : Code) (s : Shape) (limit : ℕ) (turns : List Turn) (going : Going) : Type 0 where
   pub stands : StandsAt code s turns going.walk
   pub counts : AllCount code s turns
@@ -65,7 +65,7 @@ pub record Stepped (code : Code) (s : Shape) (limit t : ℕ) (before turns : Lis
   pub is : turns ≡ more ++ before
   pub ends : Loud more ⊎ (Quiet more × (is_enabled code s limit (place_after code s turns) t ≡ false))
 
--- so many times, the threads being these
+-- this many times, the threads being these
 abbrev pub Followed : Code → Shape → ℕ → (ℕ → ℕ) → List Turn → ℕ → List Turn → Type 0
 Followed code s limit pick first zero turns = turns ≡ first
 Followed code s limit pick first (suc n) turns = (before : List Turn) × Followed code s limit pick first n before × Stepped code s limit (pick n) before turns

@@ -56,7 +56,7 @@ abbrev pub scheduled_turns : Code → Shape → List Turn → List Turn
 scheduled_turns code s turns = without_tries code s (arranged turns)
 
 -- ---- places
--- where a thread stands in a list
+-- where a thread is in a list
 abbrev pub place_in : ℕ → List ℕ → ℕ
 place_in t [] = 0
 place_in t (other ∷ more) = if nat_eq t other then 0 else suc (place_in t more)

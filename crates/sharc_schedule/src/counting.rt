@@ -5,7 +5,7 @@ ghost use Rattle.sharc_schedule.specs.Schedule.{place_in, counted_together};
 
 use std::alloc::AllocError;
 
-/// Where this number stands in a list that has it.
+/// Where this number is in a list that has it.
 pub(crate) fn place_in(among: &Vec<u8>, t: u8) -> u32
     requires inside { place_in t among.now.items < length among.now.items }
     requires few { length among.now.items < 256 }

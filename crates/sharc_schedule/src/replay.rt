@@ -25,7 +25,7 @@ fn ends_of(alloc: Global, places: &[(u32, u32)]) -> Result<Vec<u64>, AllocError>
     Ok(ends)
 }
 
-// The place of a turn, if one is written for it and it is among so many, and else the first.
+// The place of a turn, if one is written for it and is below the count, and else the first.
 fn place_at(places: &[(u32, u32)], ends: &[u64], turn: u64, count: u64) -> u64
     requires count { length ends.now ≡ length places.now }
     requires each { (k : ℕ) → k < length places.now → get_or ends.now k 0 ≡ total (take (k + 1) places.now) }

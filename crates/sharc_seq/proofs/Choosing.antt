@@ -70,7 +70,7 @@ unlisted p from (suc n) h zero low = subst (λ j. p j ≡ false) (let e : from �
 unlisted p from (suc n) h (suc k) low =
     subst (λ j. p j ≡ false) (let e : from + 1 + k ≡ from + suc k = omega arith in e) (unlisted p (from + 1) n (none_of p from n (p from) refl h).1 k (omega arith))
 
--- ---- lists that are told by other functions
+-- ---- lists that are given by other functions
 passed : (b c : Bool) (x : ℕ) (xs ys : List ℕ) → b ≡ c → xs ≡ ys → (if b then x ∷ xs else xs) ≡ (if c then x ∷ ys else ys)
 passed b c x xs ys e f = cc
 

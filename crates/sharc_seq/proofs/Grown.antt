@@ -159,7 +159,7 @@ enabled_are laws code s limit g words seats fits of =
     ∙ filter_less (is_enabled code s limit g) (λ t. is_some (get_or seats t None)) (range_with_len 0 THREADS) (λ t e. laws.there code s g.threads g.made g.started seats of.are t ∙ enabled_started code s limit g t e)
     ∙ ap (λ n. filter (is_enabled code s limit g) (range_with_len 0 n)) (sym fits)
 
--- ---- the table behind the turn
+-- ---- the table after the turn
 pub record Chose (answers : ℕ → ℕ → ℕ → Type 0) (code : Code) (s : Shape) (limit : ℕ) (g : Standing) (count t : ℕ) : Type 0 where
   pub chosen : IsChosen answers count (enabled code s limit g) t
   pub low : t < s.threads
@@ -325,7 +325,7 @@ module _ (standing : StandingLaws) (laws : TableLaws) (code : Code) (s : Shape) 
   grown (Some was) None begins at made told all = absurd made
   grown (Some was) (Some now) begins at made told all = record { went = went_by was now at made.0 begins made.1 all told; less = less_by was now at made.0 begins all }
 
--- it does not matter by which run it is told who is enabled
+-- it does not matter by which run it is determined who is enabled
 pub enabled_too : (laws : TableLaws) (code : Code) (s : Shape) (limit : ℕ) (one other : List Turn) (walk : Walk) (t : ℕ) → StandsAt code s one walk → StandsAt code s other walk
     → is_enabled code s limit (place_after code s one) t ≡ true → is_enabled code s limit (place_after code s other) t ≡ true
 enabled_too laws code s limit one other walk t a b on =

@@ -37,7 +37,7 @@ turn_led : (t : ℕ) (a : Turn) (found : ℕ) (from until : Place) → Leads Lea
 turn_led t (Local m) found from until h = h
 turn_led t (Asks step go) found from until h = subst (λ place. TurnLeads LeadsInWords t (Asks step go) found from place) h.2 h.1
 
--- it found what stood there
+-- it found what the word held
 as_behind : (t : ℕ) (a : Turn) (found : ℕ) (words now : List ℕ) → TurnLeads LeadsInWords t a found (place_of_words words) (place_of_words now) → after a found ≡ after a (found_now words a)
 as_behind t (Local m) found words now h = refl
 as_behind t (Asks step go) found words now h = ap go h.may_follow.result_is

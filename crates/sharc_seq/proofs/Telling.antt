@@ -1,4 +1,4 @@
--- A quantum of one turn over a port that tells whether it made a step.
+-- A quantum of one turn over a port that reports whether it made a step.
 use Rattle.std.proofs.Common.{◌≡◌, ℕ, ◌+◌, Bool, true, false, List, [], ◌∷◌, length, refl, sym, ap, ◌∙◌, subst, arith}
 use Rattle.sharc_word.specs.declared.step.WordEvent.{WordEvent}
 use Rattle.sharc_word.specs.Place.{Place, Leads, LeadsInWords, place_of_words}
@@ -56,6 +56,6 @@ module _ (code : Code) (s : Shape) (limit : ℕ) (words now : List ℕ) (told : 
   by_founds (one ∷ other ∷ rest) e more =
       absurd (omega (arith, q.few, q.goes.turns_are ∙ ap (λ (xs : List ℕ). length xs) e))
 
-  -- it tells whether the turn asked for a step
+  -- it reports whether the turn asked for a step
   pub tells : new.made ≡ old.made + 1 → told ≡ has_step (asked_by (turn code s old.machine))
   tells more = by_founds q.goes.founds refl more

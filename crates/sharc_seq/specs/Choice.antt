@@ -16,7 +16,7 @@ mixed_word x = mixed (mixed x * 18397679294719823053 % 2 ^ 64)
 unfoldable pub seeded : ℕ → ℕ → ℕ → ℕ
 seeded number i n = mixed_word (drawn number i) / 2 ^ 32 % n
 
--- a closure may be called with the number of each turn and each number of threads, and answers a place among so many
+-- a closure may be called with the number of each turn and each number of threads, and answers a place among this many
 pub record Chooses {F : Type 0} (pre : F → ℕ → ℕ → Type 0) (post : F → ℕ → ℕ → ℕ → Type 0) (f : F) : Type 0 where
   pub may : (i n : ℕ) → i < 2 ^ 64 → 1 ≤ n → n < 2 ^ 64 → pre f i n
   pub below : (i n r : ℕ) → i < 2 ^ 64 → 1 ≤ n → n < 2 ^ 64 → post f i n r → r < n

@@ -10,7 +10,7 @@ use Rattle.sharc_seq.specs.declared.run.SeqRun.{SeqRun}
 use Rattle.sharc_seq.specs.Run.{AreChosen}
 use Rattle.sharc_seq.specs.Walk.{StandsAt}
 
--- a run whose turns were chosen stands there
+-- at this place is a run whose turns were chosen
 pub record IsTable (answers : ℕ → ℕ → ℕ → Type 0) (code : Code) (s : Shape) (limit : ℕ) (table : Table) : Type 0 where
   pub turns : List Turn
   pub stands : StandsAt code s turns table.walk

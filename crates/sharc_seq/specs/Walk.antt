@@ -1,4 +1,4 @@
--- Runs of which the caller picks each turn: where such a run stands, and what one more turn makes of it.
+-- Runs of which the caller picks each turn: where such a run is, and what one more turn makes of it.
 use Rattle.std.specs.Prelude.{ℕ, ◌≡◌, ◌<◌, ◌+◌, Bool, true, false, List, ◌∷◌, length, filter, is_some, Option, Some, None, slice_index_or}
 use Rattle.std.specs.List.{range_with_len}
 use Rattle.sharc_word.specs.Place.{LeadsInWords, place_of_words}
@@ -67,8 +67,8 @@ abbrev pub Began : Code → Shape → List ℕ → Option ℕ → List (Option T
 Began code s words None old new before started = (new ≡ old) × (started ≡ before)
 Began code s words (Some n) old new before started = HaveBegun code s words old new started
 
--- ---- where it stands
--- this run stands there
+-- ---- where it is
+-- this run is there
 pub record StandsAt (code : Code) (s : Shape) (turns : List Turn) (walk : Walk) : Type 0 where
   pub count : length walk.port.port ≡ words_of s
   pub run : IsRun bounds (one_thread code s) (opening_of bounds (one_thread code s) (opening_words code s)) turns
@@ -83,7 +83,7 @@ IsWalk code s walk = (turns : List Turn) × StandsAt code s turns walk
 abbrev pub MayGoOn : Code → Shape → ℕ → ℕ → Walk → Type 0
 MayGoOn code s limit t walk = (turns : List Turn) × StandsAt code s turns walk × (is_enabled code s limit (place_after code s turns) t ≡ true)
 
--- the run has one more turn, of this thread. It is no failed try, and it is told whether it has a word operation
+-- the run has one more turn, of this thread. It is no failed try, and it is known whether it has a word operation
 pub record WentOn (code : Code) (s : Shape) (t : ℕ) (turns : List Turn) (told : Bool) (walk : Walk) : Type 0 where
   pub one : Turn
   pub own : one.thread ≡ t

@@ -3,7 +3,7 @@
 ghost use Rattle.std.specs.Prelude.{◌≡◌, ◌<◌, ◌≤◌, ◌/◌, ◌^◌};
 ghost use Rattle.sharc_seq.specs.Choice.{mixed, drawn, mixed_word, seeded};
 
-/// The place, among `count`, that the number draws for this turn (own).
+/// The place, among `count`, that the number draws for this turn.
 #[tactic(auto, unfolding(crate::specs::Choice::seeded))]
 pub fn seeded(number: u64, turn: u64, count: u64) -> u64
     requires { 1 ≤ count }

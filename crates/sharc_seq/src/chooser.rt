@@ -18,7 +18,7 @@ impl<F: Fn(u64, u64) -> u64> Chooser<F> {
         Chooser { f }
     }
 
-    // The place, among so many threads, of the one that makes the turn of this number.
+    // The place, among this many threads, of the one that makes the turn of this number.
     pub(crate) fn place(&self, turn: u64, count: u64) -> u64
         requires chooses { Chooses F.pre F.post self.now.f }
         requires some { 1 ≤ count }

@@ -2,7 +2,7 @@
 //!
 //! `run_seq` runs a code: among the threads that are enabled the `Chooser` says who makes the next turn, until none is. `specs/Run.antt` says
 //! who is chosen, and what a run is that was chosen: a checked run of `sharc_code`, with the threads and the end of `sharc_threads`.
-//! `seeded` is the choice by a number. A `Walk` is a run of which the caller picks each turn; `specs/Walk.antt` says where it stands.
+//! `seeded` is the choice by a number. A `Walk` is a run of which the caller picks each turn; `specs/Walk.antt` says where it is.
 #![tactic(auto)]
 
 mod choice;

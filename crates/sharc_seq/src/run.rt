@@ -55,7 +55,7 @@ fn finish(alloc: Global, table: Table) -> Result<SeqRun, AllocError>
 
 /// Runs the code: each turn is made by the thread at the place that the chooser answers for the number of the turn and for how many
 /// threads are enabled, these in rising order; a thread is enabled where it was started, is neither gone nor stopped, has made fewer events
-/// than `limit`, and does not wait. The run ends where none is (own).
+/// than `limit`, and does not wait. The run ends where none is.
 ///
 /// An `Err` says that memory was not found.
 pub fn run_seq<F: Fn(u64, u64) -> u64>(

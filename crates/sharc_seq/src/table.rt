@@ -11,7 +11,7 @@ use crate::walk::Walk;
 use sharc_code::{Code, Shape, fits_law};
 use std::alloc::{AllocError, Global};
 
-/// Where the run stands, and the numbers of those that made the turns so far.
+/// Where the run is, and the numbers of those that made the turns so far.
 #[derive(Drop)]
 pub(crate) struct Table {
     pub(crate) walk: Walk,

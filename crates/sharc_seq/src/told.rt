@@ -1,4 +1,4 @@
-//! A port that tells whether it made a step.
+//! A port that reports whether it made a step.
 
 ghost use Rattle.std.specs.Prelude.{◌≡◌, ◌<◌, length};
 

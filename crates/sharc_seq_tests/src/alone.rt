@@ -220,7 +220,7 @@ fn objects(rt: HostRuntime) -> Result<(), Fail> {
     let sole = run(rt.alloc(), &object(Instr::Lower(1)), &[], 100, LIMIT)?;
     assert_eq!(rt; sole.printed, [Some(5), Some(77), Some(1)]);
     assert_eq!(rt; sole.answers.0, Pause::Ended);
-    // Six cells take three data granules and the header, so a block of four behind the globals.
+    // Six cells take three data granules and the header, so a block of four after the globals.
     assert_eq!(rt; sole.top, 15);
     let two = run(rt.alloc(), &object(Instr::Jump(16)), &[], 100, LIMIT)?;
     assert!(rt; matches!(two.stops.0, Some(Stop::NotSole(9, 2))));
@@ -228,7 +228,7 @@ fn objects(rt: HostRuntime) -> Result<(), Fail> {
     Ok(())
 }
 
-// An index behind the last element, and one below the first.
+// An index past the last element, and one below the first.
 #[test]
 fn bounds(rt: HostRuntime) -> Result<(), Fail> {
     for index in [2, -1] {

@@ -34,7 +34,7 @@ pub fn function(entry: u32, parameter: Parameter) -> Function {
     }
 }
 
-/// The code of these instructions behind a Start and an Exit, so that the first of them stands at place 2, where `main` begins. The elements
+/// The code of these instructions after a Start and an Exit, so that the first of them is at place 2, where `main` begins. The elements
 /// of layout 0 have one cell, those of layout 1 three, of which the first and the last are pointers.
 pub fn code(alloc: Global, body: &[Instr], others: &[Function]) -> Result<Code, AllocError>
     ensures { IfOk result (λ code. code.granules ≡ 10) }
@@ -156,7 +156,7 @@ fn turn(
     Ok(run_quantum(code, shape, thread, port, 1, limit))
 }
 
-/// So many turns of thread 0 and, once it is started, of thread 1, a turn of each in turn. Each makes at most `limit` events.
+/// This many turns of thread 0 and, once it is started, of thread 1, a turn of each in turn. Each makes at most `limit` events.
 pub fn run(
     alloc: Global,
     body: &[Instr],

@@ -263,7 +263,7 @@ fn one_lock(rt: HostRuntime) -> Result<(), Fail> {
     Ok(())
 }
 
-// Both threads wait; `main` wakes both at once, and they print behind one another, the last first.
+// Both threads wait; `main` wakes both at once, and they print one after the other, the last first.
 #[test]
 fn broadcast(rt: HostRuntime) -> Result<(), Fail> {
     let body = [

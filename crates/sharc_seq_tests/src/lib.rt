@@ -1,6 +1,6 @@
 //! Code written by hand, and what the machine makes of it: tests alone.
 //!
-//! Nothing stands on this crate, and it has no code of its own, so that the machine is not proved once more with its tests.
+//! No crate depends on this one, and it has no code of its own, so that the machine is not proved once more with its tests.
 #![tactic(auto)]
 
 #[cfg(test)]

@@ -6,7 +6,7 @@ use sharc_cpu::Pause;
 use std::process::Abort;
 use std::test::Fail;
 
-// So many calls stand in one another, besides that of `main`.
+// This many calls are nested, besides that of `main`.
 #[test]
 fn frames(rt: HostRuntime) -> Result<(), Fail> {
     for (calls, trap) in [(255, None), (256, Some((10, 5)))] {
@@ -27,7 +27,7 @@ fn frames(rt: HostRuntime) -> Result<(), Fail> {
     Ok(())
 }
 
-// So many mutexes are taken, and given back.
+// This many mutexes are taken, and given back.
 #[test]
 fn mutexes(rt: HostRuntime) -> Result<(), Fail> {
     for (mutexes, trap) in [(16u32, None), (17, Some((13, 7)))] {

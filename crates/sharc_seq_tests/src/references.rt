@@ -109,12 +109,12 @@ fn free_walks(rt: HostRuntime) -> Result<(), Fail> {
     let ran = after_both(rt.alloc(), &rest)?;
     assert_eq!(rt; ran.answers.0, Pause::Ended);
     assert_eq!(rt; ran.printed, [Some(0), None, None]);
-    // The first object has a block of two granules behind the globals, the second one of four, which is taken again.
+    // The first object has a block of two granules after the globals, the second one of four, which is taken again.
     assert_eq!(rt; ran.top, 17);
     Ok(())
 }
 
-// An index of a global of three elements of two cells, whose field is cell 4; and one behind its end.
+// An index of a global of three elements of two cells, whose field is cell 4; and one past its end.
 #[test]
 fn global_bounds(rt: HostRuntime) -> Result<(), Fail> {
     for (index, printed, trap) in [
@@ -152,7 +152,7 @@ fn lock_behind_a_pointer(rt: HostRuntime) -> Result<(), Fail> {
     ];
     let ran = after_both(rt.alloc(), &held)?;
     assert_eq!(rt; ran.printed, [Some(2), Some(1), None]);
-    // The cells begin behind 97 words and the shadow words of 75 granules; the object's header is granule 11.
+    // The cells begin after 97 words and the shadow words of 75 granules; the object's header is granule 11.
     assert!(rt; matches!(ran.stops.0, Some(Stop::NoLock(8, 196))));
     let null = [
         Instr::LoadRef(Cell::Object(1, 3), 5),

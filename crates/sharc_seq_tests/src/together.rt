@@ -76,7 +76,7 @@ fn one_mutex(rt: HostRuntime) -> Result<(), Fail> {
     body.push(Instr::Return(6))?;
     body.extend_from_slice(&one_more)?;
     body.push(Instr::Return(6))?;
-    // The thread begins behind the twelve of `main`, at place 14.
+    // The thread begins after the twelve of `main`, at place 14.
     let ran = run(
         rt.alloc(),
         &body,

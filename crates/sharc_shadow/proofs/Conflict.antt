@@ -31,7 +31,7 @@ are_others old left thread within is = record {
   ];
 }
 
--- a bit of the others tells of another thread
+-- a bit of the others shows another thread
 other_at : (old thread bits k : ℕ) → AreOthers old thread bits → bit_at bits (1 + k) ≡ 1 → IsOther old thread k
 other_at old thread bits k are one =
     let both = and_parts (stands old k) (not (k == thread)) (sym (are.threads k) ∙ ap (λ x. x == 1) one) in

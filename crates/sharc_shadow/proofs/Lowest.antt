@@ -33,7 +33,7 @@ test_below word thread other k first below =
       | inr apart ↦ ap (λ x. x && not (k == thread)) (first.lowest k below apart)
     ]
 
--- a bit that stands is that of a thread that there is
+-- a bit that is set is that of a thread that there is
 stands_low : (word k : ℕ) → stands word k ≡ true → k < 31
 stands_low word k stood = elim (cases_lt k 31) [ inl below ↦ below | inr above ↦ absurd (false≢true (sym (stands_above word k above) ∙ stood)) ]
 
@@ -65,7 +65,7 @@ finds_none word thread (suc more) first none =
       | inr fails ↦ if_false (test word thread first) (Some first) (lowest_from word thread (suc first) more) fails ∙ finds_none word thread more (suc first) none
     ]
 
--- where a thread that is another stands, one is found
+-- where the bit of another thread is set, one is found
 finds_some : (word thread other more first : ℕ) → IsOther word thread other → first ≤ other → other < first + more → is_some (lowest_from word thread first more) ≡ true
 unfolding lowest_from
 finds_some word thread other zero first is from before = absurd (omega arith)

@@ -26,12 +26,12 @@ unfoldable pub withdrawn_of : ℕ → ℕ → Option ℕ → ℕ
 withdrawn_of old thread wrote =
     if is_of wrote (epoch_of old) then bit_and (bit_and old (all_but (1 + thread))) (all_but 0) else bit_and old (all_but (1 + thread))
 
--- the lowest of so many threads, from this one on, whose bit stands and which is another
+-- the lowest of this many threads, from this one on, whose bit is set and which is another
 unfoldable pub lowest_from : ℕ → ℕ → ℕ → ℕ → Option ℕ
 lowest_from word thread first zero = None
 lowest_from word thread first (suc more) = if stands word first && not (first == thread) then Some first else lowest_from word thread (suc first) more
 
--- the lowest other thread whose bit stands
+-- the lowest other thread whose bit is set
 unfoldable pub lowest_other : ℕ → ℕ → Option ℕ
 lowest_other word thread = lowest_from word thread 0 THREADS
 

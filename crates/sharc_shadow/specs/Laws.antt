@@ -17,7 +17,7 @@ OrAddsAccess = (old thread : ℕ) (kind : Kind) → thread < THREADS → AddsAcc
 abbrev pub OrLeavesOthers : Type 0
 OrLeavesOthers = (old thread other : ℕ) (kind : Kind) → thread < THREADS → other ≢ thread → stands (bit_or old (bits_of thread kind)) other ≡ stands old other
 
--- and the bit of the thread stands
+-- and the bit of the thread is set
 abbrev pub OrSetsOwnBit : Type 0
 OrSetsOwnBit = (old thread : ℕ) (kind : Kind) → thread < THREADS → stands (bit_or old (bits_of thread kind)) thread ≡ true
 

@@ -1,4 +1,4 @@
--- A shadow word by what it holds: the set of the threads whose bit stands, the written bit and the epoch.
+-- A shadow word by what it holds: the set of the threads whose bit is set, the written bit and the epoch.
 use Rattle.std.specs.Prelude.{◌≡◌, ◌≢◌, ℕ, ◌+◌, ◌/◌, ◌%◌, ◌^◌, ◌<◌, ◌==◌, ◌||◌, ◌&&◌, Bool, true, false, not, nat_lt, Option, Some, None}
 use Rattle.std.specs.Int.{bit_at}
 use Rattle.sharc_word.specs.declared.step.TheConstants.{THREADS}
@@ -32,13 +32,13 @@ pub record HasBits (word thread : ℕ) (kind : Kind) : Type 0 where
   pub written : is_written word ≡ is_write kind
   pub epoch : epoch_of word ≡ 0
 
--- the bit of the thread stands as well, and for a write the written bit
+-- the bit of the thread is set as well, and for a write the written bit
 pub record AddsAccess (old new thread : ℕ) (kind : Kind) : Type 0 where
   pub threads : (k : ℕ) → stands new k ≡ (stands old k || k == thread)
   pub written : is_written new ≡ (is_written old || is_write kind)
   pub epoch : epoch_of new ≡ epoch_of old
 
--- the bit of another thread stands
+-- the bit of another thread is set
 pub record IsOther (word thread other : ℕ) : Type 0 where
   pub another : other ≢ thread
   pub stood : stands word other ≡ true
@@ -51,12 +51,12 @@ abbrev pub Conflicts : ℕ → ℕ → Kind → Option ℕ → Type 0
 Conflicts old thread Write wrote = HasOther old thread
 Conflicts old thread Read wrote = HasOther old thread × (is_written old ≡ true) × (is_of wrote (epoch_of old) ≡ false)
 
--- the lowest-numbered other thread whose bit stands
+-- the lowest-numbered other thread whose bit is set
 pub record IsFirstOther (word thread other : ℕ) : Type 0 where
   pub is : IsOther word thread other
   pub lowest : (k : ℕ) → k < other → k ≢ thread → stands word k ≡ false
 
--- no bit stands, and the epoch is the next one
+-- no bit is set, and the epoch is the next one
 pub record Clears (old new : ℕ) : Type 0 where
   pub threads : (k : ℕ) → stands new k ≡ false
   pub written : is_written new ≡ false
@@ -68,12 +68,12 @@ pub record Withdraws (old new thread : ℕ) (wrote : Option ℕ) : Type 0 where
   pub written : is_written new ≡ (is_written old && not (is_of wrote (epoch_of old)))
   pub epoch : epoch_of new ≡ epoch_of old
 
--- a word is told by its threads, its written bit and its epoch
+-- a word is determined by its threads, its written bit and its epoch
 abbrev pub WordIsItsSets : Type 0
 WordIsItsSets =
     (a b : ℕ) → ((k : ℕ) → stands a k ≡ stands b k) → is_written a ≡ is_written b → epoch_of a ≡ epoch_of b → a ≡ b
 
--- nothing stands in the word 0
+-- nothing is set in the word 0
 pub record IsBlank (word : ℕ) : Type 0 where
   pub threads : (k : ℕ) → stands word k ≡ false
   pub written : is_written word ≡ false

@@ -43,8 +43,8 @@ pub fn epoch(old: u64) -> u32
 }
 
 /// Whether a check conflicts with the accesses that the word shows, where the check found `old`, and `wrote` is the epoch of
-/// the thread's own note of kind write on the granule (the SharC paper; own in that a thread which wrote in this epoch may
-/// read, since every other bit that stands is then that of a refused check).
+/// the thread's own note of kind write on the granule (the SharC paper; SharC's own in that a thread which wrote in this epoch may
+/// read, since every other bit that is set is then that of a refused check).
 #[tactic(auto, unfolding(crate::specs::Functions::conflicts_in))]
 pub fn conflicts(old: u64, thread: u32, kind: Kind, wrote: Option<u32>) -> bool
     requires { thread < THREADS }
@@ -57,7 +57,7 @@ pub fn conflicts(old: u64, thread: u32, kind: Kind, wrote: Option<u32>) -> bool
     }
 }
 
-/// The lowest-numbered other thread whose bit stands, where the check conflicts; else `None`.
+/// The lowest-numbered other thread whose bit is set, where the check conflicts; else `None`.
 pub fn first(old: u64, thread: u32, kind: Kind, wrote: Option<u32>) -> Option<u32>
     requires { thread < THREADS }
     ensures none { IsNone result ↔ ¬ Conflicts old thread kind wrote }
@@ -94,7 +94,7 @@ pub fn withdrawn(old: u64, thread: u32, wrote: Option<u32>) -> u64
     }
 }
 
-/// Whether the bit of a thread stands.
+/// Whether the bit of a thread is set.
 pub fn stands(word: u64, thread: u32) -> bool
     requires { thread < THREADS }
     ensures { result ≡ stands word thread }
@@ -102,14 +102,14 @@ pub fn stands(word: u64, thread: u32) -> bool
     (word >> (1 + thread)) & 1 == 1
 }
 
-/// Whether the written bit stands.
+/// Whether the written bit is set.
 pub fn is_written(word: u64) -> bool
     ensures { result ≡ is_written word }
 {
     word & WRITTEN == 1
 }
 
-// Whether the bit of another thread stands.
+// Whether the bit of another thread is set.
 fn has_other(old: u64, thread: u32) -> bool
     requires { thread < THREADS }
     ensures other { IsTrue result ↔ HasOther old thread }

@@ -1,4 +1,4 @@
--- What holds of the numbers and characters among the words of a program holds of those behind a part of it; so no number at which a global begins has a sign.
+-- What holds of the numbers and characters among the words of a program holds of those after a part of it; so no number at which a global begins has a sign.
 use Rattle.std.proofs.Common.{◌≡◌, ℕ, pos, zero, suc, ◌+◌, Bool, true, false, List, [], ◌∷◌, Option, Some, None, subst}
 use Rattle.std.specs.Prelude.{slice_get}
 use Rattle.sharc_tree.specs.declared.token.Number.{Number}

@@ -111,7 +111,7 @@ lines_refuse [] tail lines read offset =
 lines_refuse (line ∷ front) tail lines read offset = later_refuses (with_place read (line_read read offset line)) _ (λ more. lines_refuse front tail lines more _)
 
 -- ---- the lines of such a source
--- behind a newline stand the lines of the rest, and before them one at least
+-- after a newline come the lines of the rest, and before them one at least
 record Behind (lines after : List (List ℕ)) : Type 0 where
   first : List ℕ
   others : List (List ℕ)
@@ -134,7 +134,7 @@ begun : (lines : List (List ℕ)) → Begun (in_front 37 (in_front 37 (in_front 
 begun [] = record { tail = []; others = []; is = refl }
 begun (line ∷ lines) = record { tail = line; others = lines; is = refl }
 
--- the bytes of the word, behind its first three
+-- the bytes of the word, after its first three
 abbrev later : List ℕ → List ℕ
 later after = drop 3 (schedule_word ++ after)
 

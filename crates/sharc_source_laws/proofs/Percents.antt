@@ -31,7 +31,7 @@ abbrev pub Apart : List Word → Type 0
 Apart [] = Unit {0}
 Apart (w ∷ y) = ((is_percent w && starts y) ≡ false) × Apart y
 
--- and the first word is none
+-- and the first word is not one
 abbrev Clear : List Word → Type 0
 Clear y = (starts y ≡ false) × Apart y
 

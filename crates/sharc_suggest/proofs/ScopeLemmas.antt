@@ -1,4 +1,4 @@
--- What a statement declares stands above the variables that were in scope before it.
+-- What a statement declares lies above the variables that were in scope before it.
 use Rattle.std.proofs.Common.{◌≡◌, ℕ, ◌-◌, ◌≤◌, List, [], ◌∷◌, ◌++◌, length, drop, refl, ap, sym, ◌∙◌, arith, append_assoc, length-append}
 use Rattle.std.proofs.lemmas.Grind.{common_steps}
 use Rattle.sharc_tree.specs.declared.tree.declaration.Declaration.{Declaration}

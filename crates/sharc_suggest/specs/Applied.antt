@@ -18,7 +18,7 @@ use Rattle.sharc_mode.specs.declared.position.Reason.{Reason}
 use Rattle.sharc_mode.specs.declared.position.Reason.TheVariants.{Touched, Spawned, From}
 use Rattle.sharc_mode.specs.Moded.{Assignment}
 
--- ---- the program: the cast stands round the expression of its tokens, wherever that is passed, assigned or returned, or initialises a local
+-- ---- the program: the cast is around the expression of its tokens, wherever that is passed, assigned or returned, or initialises a local
 
 abbrev pub names_struct : Base → Base → Bool
 names_struct (Struct a) (Struct b) = bytes_eq a b

@@ -1,4 +1,4 @@
--- The casts that are suggested in each expression and statement: one clause for each production, each cast where the M1 that it repairs is told.
+-- The casts that are suggested in each expression and statement: one clause for each production, each cast where the M1 that it repairs is reported.
 use Rattle.std.specs.Prelude.{◌≡◌, ℕ, ◌==◌, Bool, List, [], ◌∷◌, ◌++◌, drop, Option, Some, None, if◌then◌else◌}
 use Rattle.std.specs.List.{flat_map}
 use Rattle.sharc_tree.specs.declared.tree.declaration.Declaration.{Declaration}
@@ -73,7 +73,7 @@ behind_first scope (does x) = scope
 abbrev pub head_casts : Assignment → (ℕ → Bool) → List Entry → Head → List Cast
 head_casts m named scope h = first_casts m named scope h.first ++ option_casts (casts_of m named (behind_first scope h.first)) h.test ++ option_casts (simple_casts m named (behind_first scope h.first)) h.step
 
--- what is in scope behind a statement: a declaration adds its variable, and what stands in a block ends with it
+-- what is in scope after a statement: a declaration adds its variable, and what is in a block ends with it
 
 abbrev pub after : List Entry → Statement → List Entry
 after scope (tree.empty s) = scope
@@ -127,7 +127,7 @@ pub record AreCasts (m : Assignment) (casts : List Cast) : Type 0 where
   pub tells : (x : ℕ) → named x ≡ is_named x (said_of_paths m)
   pub are : casts ≡ items_casts m named m.typed.program.items
 
--- the first of them that stands at a token
+-- the first of them at a token
 abbrev pub cast_at : List Cast → ℕ → Option Cast
 cast_at [] token = None
 cast_at (c ∷ rest) token = if c.site.token == token then Some c else cast_at rest token

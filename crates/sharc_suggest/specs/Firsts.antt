@@ -1,4 +1,4 @@
--- A table of the first cast that stands at each token. It retraces the code.
+-- A table of the first cast at each token. It retraces the code.
 use Rattle.std.specs.Prelude.{◌≡◌, ℕ, ◌==◌, List, Option, Some, None, if◌then◌else◌}
 use Rattle.std.specs.Borrow.{Bor}
 use Rattle.std.specs.Map.{lookup}

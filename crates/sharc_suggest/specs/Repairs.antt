@@ -1,4 +1,4 @@
--- Which mismatch of modes a sharing cast repairs, where an expression stands beside the modes that are expected of it.
+-- Which mismatch of modes a sharing cast repairs, given an expression and the modes that are expected of it.
 use Rattle.std.specs.Prelude.{ℕ, ◌-◌, Bool, true, false, not, ◌&&◌, ◌||◌, List, [], ◌∷◌, drop, slice_get, slice_index_or, Option, Some, None, if◌then◌else◌, codes}
 use Rattle.std.specs.Str.{bytes_eq}
 use Rattle.sharc_tree.specs.declared.token.Keyword.TheVariants as keyword
@@ -42,7 +42,7 @@ told flags x = slice_index_or flags x false
 abbrev pub entry_of : Declaration → Entry
 entry_of d = record { name = d.name.text; block = 0; meaning = variable d }
 
--- A path that begins with a call of condition variables that the program does not define is told by its words: `locked`, `(` and the name of the call.
+-- A path that begins with a call of condition variables that the program does not define is determined by its words: `locked`, `(` and the name of the call.
 
 abbrev pub is_call_name : List ℕ → Bool
 is_call_name text = bytes_eq (codes "wait") text || (bytes_eq (codes "signal") text || bytes_eq (codes "broadcast") text)
@@ -74,7 +74,7 @@ keeps_named call _ _ = false
 abbrev pub keeps_first : Resolution → List Entry → ℕ → Bool
 keeps_first r scope token = keeps_named (is_call_at r token) (named_at r token) (look_up scope (text_at r token))
 
--- the second name of `x->m` is a field of the struct that `x` points to, wherever it stands
+-- the second name of `x->m` is a field of the struct that `x` points to, wherever it is
 abbrev pub keeps : Resolution → List Entry → Sharing → Bool
 keeps r scope private = true
 keeps r scope readonly = true

@@ -31,7 +31,7 @@ fn casts(alloc: Global, program: &Moded, named: &NamedVariables) -> Result<Vec<C
     Ok(casts)
 }
 
-/// The first cast that stands at each token. The last are written before the first, which replace them.
+/// The first cast at each token. The last are written before the first, which replace them.
 fn by_token<'a>(alloc: Global, casts: &'a [Cast]) -> Result<IndexMap<u32, &'a Cast>, AllocError>
     ensures { IfOk result (λ first. HasFirst casts.now first.entries) }
 {

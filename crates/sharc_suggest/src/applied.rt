@@ -53,7 +53,7 @@ fn recast_of(alloc: Global, typed: &Typed, cast: &Cast) -> Result<Recast, AllocE
     })
 }
 
-/// Whether the file of each token is one of so many.
+/// Whether the file of each token is one of this many.
 fn have_files(tokens: &[Token], files: usize) -> bool
     ensures { IsTrue result → All (λ t. t.file < files) tokens.now }
 {
@@ -224,8 +224,8 @@ fn moded_with(
 }
 
 /// The program with the cast written round the expression that has its tokens, wherever that is passed, assigned or returned, or initialises a local. The modes of all old
-/// positions are kept, and those of the new cast are the modes of its type. No token is added. Nothing is asked of the cast. Where it is none that is suggested, the program
-/// may be one that is not typed: then want of memory is the answer, too.
+/// positions are kept, and those of the new cast are the modes of its type. No token is added. Nothing is asked of the cast. Where it is not one that is suggested, the program
+/// may be one that is not typed: then out of memory is the answer, too.
 pub fn apply(alloc: Global, program: &Moded, cast: &Cast) -> Result<Moded, AllocError>
     ensures { IfOk result (λ new. new ≡ assignment_with cast.now program.now) }
 {

@@ -67,7 +67,7 @@ pub(crate) fn modes_with(
     Ok(list)
 }
 
-/// The same reason where so many positions are new from a first one on.
+/// The same reason where this many positions are new from a first one on.
 fn moved(first: u32, count: u32, reason: Option<Reason>) -> Result<Option<Reason>, AllocError>
     ensures { IfOk result (λ r. r ≡ moved first count reason) }
 {
@@ -121,7 +121,7 @@ fn add_none(count: u32, list: &mut Vec<Option<Reason>>) -> Result<(), AllocError
     Ok(())
 }
 
-/// Reasons, and from a first position on so many without one before them.
+/// Reasons, with this many positions without one put in from a first position on.
 pub(crate) fn reasons_with(
     alloc: Global,
     first: u32,

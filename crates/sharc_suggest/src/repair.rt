@@ -91,7 +91,7 @@ fn is_call_at(typed: &Typed, token: u32) -> bool
 }
 
 /// Whether the first name of a path means the same, if anything, where these variables are in scope. What names nothing that the program defines is
-/// told by its words: a path that begins with it begins with a call of condition variables.
+/// determined by its words: a path that begins with it begins with a call of condition variables.
 fn keeps_first(typed: &Typed, scope: &Names<'_>, token: u32) -> bool
     ensures { result ≡ keeps_first typed.now scope.now token }
 {

@@ -43,7 +43,7 @@ fn optional(
     }
 }
 
-/// What stands right of `=`, beside the modes that are expected there.
+/// The right side of `=`, beside the modes that are expected there.
 fn right(
     alloc: Global,
     known: Known<'_>,
@@ -117,7 +117,7 @@ fn local<'a>(
     initial(alloc, known, scope, Some(want), &local.initial, casts)
 }
 
-/// What stands first in the head of a `for`; what it declares is in scope afterwards.
+/// What comes first in the head of a `for`; what it declares is in scope afterwards.
 fn first<'a>(
     alloc: Global,
     known: Known<'_>,
@@ -240,7 +240,7 @@ fn statement<'a>(
     }
 }
 
-/// A statement within another, behind which the variables in scope are as before.
+/// A statement within another, after which the variables in scope are as before.
 #[cycle(statement)]
 #[tactic(auto, using(crate::proofs::ScopeLemmas::longer_after, crate::proofs::ScopeLemmas::left_after))]
 fn nested<'a>(

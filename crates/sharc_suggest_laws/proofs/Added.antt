@@ -27,12 +27,12 @@ none_added c n from until old (e ∷ new) zero_many (inr w) =
     let more : n ≡ w.0 + 1 = w.1 in
     absurd (omega (arith, zero_many, more))
 
--- it is added once, behind what begins before it
+-- it is added once, after what begins before it
 record IsAddedFrom (c : Recast) (from : ℕ) (old new : List Entity) : Type 0 where
   once : IsAddedOnce c old new
   low : from ≤ c.from
 
--- an old one stands before the rest
+-- an old one comes before the rest
 before_rest : (c : Recast) (from : ℕ) (e : Entity) (old rest new : List Entity) → old ≡ e ∷ rest → from ≤ e.token → IsAddedFrom c (e.token + 1) rest new → IsAddedFrom c from old (e ∷ new)
 before_rest c from e old rest new is begins more =
     let low : e.token + 1 ≤ c.from = more.low in

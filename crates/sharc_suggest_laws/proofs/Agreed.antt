@@ -1,4 +1,4 @@
--- The mismatches that are told in a program are those that are told of each giving.
+-- The mismatches reported in a program are those reported of each giving.
 use Rattle.std.proofs.Common.{◌≡◌, ℕ, ◌+◌, zero, suc, Bool, List, [], ◌∷◌, ◌++◌, drop, Option, Some, None, refl, arith}
 use Rattle.std.specs.List.{flat_map}
 use Rattle.sharc_tree.specs.declared.tree.declaration.Declaration.{Declaration}
@@ -19,7 +19,7 @@ use Rattle.sharc_suggest.specs.Repairs.{entry_of}
 use Rattle.sharc_suggest_laws.specs.Givings.{Receiver, of_declared, of_left, of_parameter, Giving, beyond, wanted, one_giving, givings, all_givings, option_givings, value_givings, right_givings, simple_givings, local_givings, first_givings, head_givings, givings_in, givings_in_all, item_givings, items_givings}
 use Rattle.sharc_suggest_laws.proofs.Quiet.{ones, ones_append, both_quiet, write_quiet, source_quiet, place_quiet, cast_quiet, call_quiet, field_quiet, types_quiet, spawned_quiet, touched_quiet}
 
--- how many mismatches at a token are told of a giving, and of these
+-- how many mismatches at a token are reported of a giving, and of these givings
 abbrev pub told_of : ℕ → Assignment → Giving → ℕ
 told_of t m g = ones t (agree_notes m (wanted m g.receiver) g.given)
 
@@ -40,7 +40,7 @@ both t m a b xs ys left right =
     let parts : told_in t m (xs ++ ys) ≡ told_in t m xs + told_in t m ys = told_append t m xs ys in
     omega (arith, sum, parts, left, right)
 
--- notes without a mismatch behind, and before
+-- notes without a mismatch that come after, and before
 quiet_behind : (t : ℕ) (a b : List Finding) (n : ℕ) → ones t a ≡ n → ones t b ≡ 0 → ones t (a ++ b) ≡ n
 quiet_behind t a b n left right =
     let sum : ones t (a ++ b) ≡ ones t a + ones t b = ones_append t a b in

@@ -1,4 +1,4 @@
--- What is given stands in the body of a function, behind its name and its parameters.
+-- What is given is in the body of a function, after its name and its parameters.
 use Rattle.std.proofs.Common.{◌≡◌, inl, inr, ℕ, ◌+◌, ◌<◌, ◌≤◌, List, [], ◌∷◌, refl, ap, eqb-true, eq-eqb, arith}
 use Rattle.std.specs.List.{AllByRecursion}
 use Rattle.sharc_tree.specs.declared.token.Token.{Token}

@@ -17,7 +17,7 @@ use Rattle.sharc_suggest_laws.proofs.Few.{AtMostOnce, Few, few_both, few_in, few
 use Rattle.sharc_suggest_laws.proofs.Follows.{split}
 use Rattle.sharc_suggest_laws.proofs.Listed.{front, joint, each}
 
--- it is named in a stretch, and so many begin there, which are none
+-- it is named in a stretch, and the number of what begins there is 0
 abbrev IsClear : ℕ → ℕ → (ℕ → ℕ) → Declaration → Type 0
 IsClear from until n d = (from ≤ d.name.site.token) × (d.name.site.token < until) × (n d.name.site.token ≡ 0)
 
@@ -170,7 +170,7 @@ pub record AreClear (items : List Item) (from until : ℕ) : Type 0 where
   pub functions : AllByRecursion (λ (f : Function). IsClearAt from until (begun_in items) f.name.site.token) (functions_in items)
   pub parameters : AllByRecursion (λ (f : Function). AllByRecursion (λ (d : Declaration). IsClearAt from until (begun_in items) d.name.site.token) f.parameters) (functions_in items)
 
--- what is clear in an item, and behind it, is clear among both
+-- what is clear in an item, and after it, is clear among both
 record Lifts (all : List Token) (i : Item) (rest : List Item) (from until : ℕ) : Type 0 where
   own : (t : ℕ) → IsClearAt (span_of_item i).first.token ((span_of_item i).last.token + 1) (λ t. met_in_item (begins_at t) i) t → IsClearAt from until (begun_in (i ∷ rest)) t
   later : (t : ℕ) → IsClearAt ((span_of_item i).last.token + 1) until (begun_in rest) t → IsClearAt from until (begun_in (i ∷ rest)) t

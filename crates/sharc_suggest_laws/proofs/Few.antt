@@ -29,7 +29,7 @@ wider c from until low high n (inr w) le ge =
     let ends : c.token < until = w.2 in
     inr (w.0, omega (arith, begins, le), omega (arith, ends, ge))
 
--- of two stretches, one behind the other
+-- of two stretches, one after the other
 side_by_side : (c : Test) (from mid until n k : ℕ) → AtMostOnce c from mid n → AtMostOnce c mid until k → from ≤ mid → mid ≤ until → AtMostOnce c from until (n + k)
 side_by_side c from mid until n k (inl a) (inl b) le ge =
     let left : n ≡ 0 = a in
@@ -71,7 +71,7 @@ whole all c s parts n placed few from until le follow =
 none : (all : List Token) (c : Test) (spans : List Span) → Few all c spans 0
 none all c spans from until le follow = inl refl
 
--- ---- in an expression: behind its first token
+-- ---- in an expression: after its first token
 
 abbrev IsInner : Test → Span → ℕ → Type 0
 IsInner c s n = AtMostOnce c (s.first.token + 1) (s.last.token + 1) n
@@ -202,7 +202,7 @@ pub few_returned : (all : List Token) (c : Test) (e : Option Expression) → IfS
 few_returned all c None placed = none all c []
 few_returned all c (Some e) placed = few_value all c e placed
 
--- none behind the rest
+-- none after the rest
 alone : (all : List Token) (c : Test) (xs ys : List Span) (n : ℕ) → Few all c xs n → Few all c (xs ++ ys) n
 alone all c xs ys n few from until le follow =
     let w = split all from until xs ys le follow in
@@ -228,7 +228,7 @@ pub few_initial : (all : List Token) (c : Test) (x : Option Right) → IfSome x 
 few_initial all c None placed = none all c []
 few_initial all c (Some r) placed = few_right all c r placed
 
--- behind a span that has none
+-- after a span that has none
 behind_span : (all : List Token) (c : Test) (s : Span) (ys : List Span) (n : ℕ) → Few all c ys n → Few all c (s ∷ ys) n
 behind_span all c s ys n few from until le follow =
     let order : s.first.token ≤ s.last.token = follow.0.order in
@@ -279,7 +279,7 @@ mutual
   few_statements all c (statement a rest) placed =
       few_both all c (span_of_statement a ∷ []) (statement_spans rest) (met_in_statement c.test a) (met_in_statements c.test rest) (few_statement all c a placed.0) (few_statements all c rest placed.1)
 
--- behind other spans
+-- after other spans
 behind_spans : (all : List Token) (c : Test) (xs ys : List Span) (n : ℕ) → Few all c ys n → Few all c (xs ++ ys) n
 behind_spans all c [] ys n few = few
 behind_spans all c (s ∷ xs) ys n few = behind_span all c s (xs ++ ys) n (behind_spans all c xs ys n few)

@@ -72,7 +72,7 @@ named_past p t past =
 
 -- ---- side by side
 
--- before it is told, and behind
+-- before it is determined, and after
 abbrev Early : Named → Named → Type 0
 Early v y = (y ≡ v) ⊎ ((is_dull y ≡ true) × (is_field v ≡ true → ((is_field y ≡ true) ⊎ (y ≡ named.Known))))
 
@@ -194,7 +194,7 @@ keeps_by v y (early known (inl same)) = inl (sym same)
 keeps_by v y (early known (inr p)) = inr (ap is_dull known, p.0, λ is. absurd (false≢true (sym (ap is_field known) ∙ is)))
 keeps_by v y (told same h) = h
 
--- the notes of a resolved program, each token of which they tell one thing, and those of another with the same tokens
+-- the notes of a resolved program, which say one thing of each token, and those of another with the same tokens
 pub keeps : (r : Resolution) (p : Program) (t : ℕ) → IsResolved r → length p.tokens.list ≡ length r.program.tokens.list → AllByRecursion (IsOwnAt t (named_at r t)) (notes_about r.program) → Noted r (notes_about r.program) (notes_about p)
     → KeepsName (named_at r t) (get_or (named_in p) t named.Known)
 keeps r p t resolved many own said = ⊎_elim inside outside (cases_lt t (length r.program.tokens.list))

@@ -1,4 +1,4 @@
--- What is told by two tokens, where one more that has a type stands in the list.
+-- What is determined by two tokens, where one more that has a type is in the list.
 use Rattle.std.proofs.Common.{◌≡◌, ℕ, ◌+◌, ◌<◌, ◌≤◌, ◌==◌, ◌&&◌, Bool, true, false, cond, ◌⊎◌, inl, inr, List, [], ◌∷◌, ◌++◌, Option, Some, None, refl, ap, sym, subst, ◌∙◌, arith}
 use Rattle.std.specs.List.{find, AllByRecursion}
 use Rattle.std.proofs.lemmas.Bool.{cond-false, and_left, ne_eqb, true≢false, false≢true}
@@ -6,7 +6,7 @@ use Rattle.sharc_ctype.specs.declared.entity.Entity.{Entity}
 use Rattle.sharc_ctype.specs.declared.entity.Numbered.{Numbered}
 use Rattle.sharc_ctype.specs.Entities.{positions_of, positions_in, numbered_from, is_told_by}
 
--- the same stands there, before the positions that were added, or behind them and so many further on
+-- the same is there, before the positions that were added, or after them and that many further on
 pub record IsMoved (first count : ℕ) (old new : Numbered) : Type 0 where
   pub entity : new.entity ≡ old.entity
   pub place : ((old.first + positions_of old.entity ≤ first) × (new.first ≡ old.first)) ⊎ ((first ≤ old.first) × (new.first ≡ old.first + count))
@@ -18,7 +18,7 @@ AreMoved first count None (Some n) = ⊥
 AreMoved first count (Some o) None = ⊥
 AreMoved first count (Some o) (Some n) = IsMoved first count o n
 
--- of tests that tell what has a type, whatever its number
+-- of tests that look at what has a type, whatever its number
 abbrev pub OfEntity : (Numbered → Bool) → Type 0
 OfEntity test = (e : Entity) (j k : ℕ) → test (record { entity = e; first = j }) ≡ test (record { entity = e; first = k })
 
@@ -28,7 +28,7 @@ either_moved first count true false o n found later same is rest = absurd (false
 either_moved first count false true o n found later same is rest = absurd (true≢false same)
 either_moved first count false false o n found later same is rest = rest
 
--- those behind
+-- those after
 all_behind : (test : Numbered → Bool) → OfEntity test → (first count j k : ℕ) (list : List Entity) → first ≤ j → k ≡ j + count → AreMoved first count (find test (numbered_from j list)) (find test (numbered_from k list))
 all_behind test of first count j k [] low far = tt
 all_behind test of first count j k (e ∷ rest) low far =
@@ -36,7 +36,7 @@ all_behind test of first count j k (e ∷ rest) low far =
     (find test (numbered_from (j + positions_of e) rest)) (find test (numbered_from (k + positions_of e) rest)) (of e k j) (record { entity = refl; place = inr (low, far) })
     (all_behind test of first count (j + positions_of e) (k + positions_of e) rest (omega (arith, low)) (omega (arith, far)))
 
--- behind one that is not told
+-- after one that is not the one determined
 pass_by : (b : Bool) (n : Numbered) (found : Option Numbered) (P : Option Numbered → Type 0) → b ≡ false → P found → P (cond b (Some n) found)
 pass_by b n found P not_so is = subst P (sym (cond-false b (Some n) found not_so)) is
 
@@ -86,7 +86,7 @@ found_itself test x is_so k (e ∷ before) behind none =
     let far : k + positions_of e + positions_in before ≡ k + (positions_of e + positions_in before) = omega arith in
     cond-false (test here) (Some here) (find test (numbered_from (k + positions_of e) (before ++ x ∷ behind))) parts.0 ∙ rest ∙ ap (λ (n : ℕ). numbered_as x n) far
 
--- of what begins before a token nothing is told by that token
+-- nothing that begins before a token is determined by that token
 pub none_told : (from until k : ℕ) (list : List Entity) → AllByRecursion (λ (e : Entity). e.token < from) list → find (is_told_by from until) (numbered_from k list) ≡ None
 none_told from until k [] all = refl
 none_told from until k (e ∷ rest) all =

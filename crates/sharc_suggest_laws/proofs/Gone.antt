@@ -1,4 +1,4 @@
--- The mismatch is gone where the same is expected of the cast as was of what stood there.
+-- The mismatch is gone where the same is expected of the cast as was of what was there.
 use Rattle.sharc_suggest.specs.Casts.{IsSuggested}
 use Rattle.std.proofs.Common.{◌≡◌, ℕ, ◌+◌, ◌≤◌, ◌==◌, ◌&&◌, Bool, true, false, cond, List, [], ◌∷◌, ◌++◌, length, Some, refl, ap, subst, ◌∙◌, eq-eqb, arith}
 use Rattle.std.specs.List.{filter}
@@ -43,7 +43,7 @@ around_by c e false = refl
 pub around_same : (c : Recast) (e : Expression) → span_of (around c (with_cast c e)) ≡ span_of e
 around_same c e = around_by c (with_cast c e) (is_there c (with_cast c e)) ∙ span_same c e
 
--- ---- so no more is told than begins there
+-- ---- so no more is reported than begins there
 
 told_few : (t : ℕ) (m : Assignment) (c : Recast) (g : Giving) → told_of t m (giving_with c g) ≤ met_by (begins_at t) g.given
 told_few t m c g =
@@ -59,7 +59,7 @@ told_few_in t m c (g ∷ rest) =
     let sum : told_of t m (giving_with c g) + told_in t m (givings_with c rest) ≤ met_by (begins_at t) g.given + counted (begins_at t) rest = omega (arith, one, more) in
     sum
 
--- nothing is told at a token where one giving begins, if nothing is told of that one
+-- nothing is reported at a token where one giving begins, if nothing is reported of that one
 alone : (t : ℕ) (m : Assignment) (c : Recast) (before behind : List Giving) (g : Giving) → counted (begins_at t) (before ++ g ∷ behind) ≤ 1 → (span_of g.given).first.token ≡ t → told_of t m (giving_with c g) ≡ 0
     → told_in t m (givings_with c (before ++ g ∷ behind)) ≡ 0
 alone t m c before behind g few begins quiet =
@@ -85,7 +85,7 @@ cast_there c e first last =
     cond-true (is_there c (with_cast c e)) (cast (span_of (with_cast c e)) (type_at c (span_of (with_cast c e))) (with_cast c e)) (with_cast c e) is_so
     ∙ ap (λ (s : Span). cast s (type_at c s) (with_cast c e)) same
 
--- nothing is told of it where the same is expected
+-- nothing is reported of it where the same is expected
 cast_quiet : (m : Assignment) (e : Expression) (expected : List Sharing) (first : ℕ) (c : Cast) → cast_to m e expected ≡ c → IsCastAt m c first → (g : Giving) → g.given ≡ e → IsExpectedAgain m c g expected
     → agree_notes (assignment_with c m) (wanted (assignment_with c m) (receiver_with (recast_of m.typed c) g.receiver)) (around (recast_of m.typed c) (with_cast (recast_of m.typed c) g.given)) ≡ []
 cast_quiet m e expected first c is at g same again =

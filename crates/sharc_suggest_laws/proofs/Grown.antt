@@ -1,4 +1,4 @@
--- What has a type in a program at its tokens with a cast written in it: what had one before, in its order, and so often the cast, which stands behind all that begins before it.
+-- What has a type in a program at its tokens with a cast written in it: what had one before, in its order, and that many times the cast, which is after all that begins before it.
 use Rattle.std.proofs.Common.{◌≡◌, ℕ, ◌+◌, ◌<◌, ◌≤◌, ◌==◌, Bool, true, false, ◌&&◌, ◌⊎◌, inl, inr, List, [], ◌∷◌, ◌++◌, map, refl, ap, sym, subst, subst₂, Option, Some, None, IfSome, option_map, if◌then◌else◌, eqb-true, arith}
 use Rattle.std.proofs.lemmas.Bool.{and_parts}
 use Rattle.sharc_tree.specs.declared.token.Span.{Span}
@@ -25,7 +25,7 @@ pub record IsCastOf (c : Recast) (e : Entity) : Type 0 where
   pub first : span.first.token ≡ c.from
   pub last : span.last.token ≡ c.until
 
--- so many casts among the old; all begin at tokens from one on, below another, and what is old begins before all that stands behind it
+-- this many casts among the old; all begin at tokens from one on, below another, and what is old begins before all that comes after it
 abbrev pub Grown : Recast → ℕ → ℕ → ℕ → List Entity → List Entity → Type 0
 Grown c n from until old [] = (old ≡ []) × (n ≡ 0)
 Grown c n from until old (e ∷ new) = ((rest : List Entity) × (old ≡ e ∷ rest) × (from ≤ e.token) × (e.token < until) × Grown c n (e.token + 1) until rest new)
@@ -76,7 +76,7 @@ whole all c s parts n old new placed inner from until le follow =
 none : (all : List Token) (c : Recast) (spans : List Span) → Grows all c spans 0 [] []
 none all c spans from until le follow = (refl, refl)
 
--- behind a span that has none
+-- after a span that has none
 behind_span : (all : List Token) (c : Recast) (s : Span) (ys : List Span) (n : ℕ) (old new : List Entity) → Grows all c ys n old new → Grows all c (s ∷ ys) n old new
 behind_span all c s ys n old new inner from until le follow =
     let order : s.first.token ≤ s.last.token = follow.0.order in
@@ -180,7 +180,7 @@ value_grows all c e inner from until le follow =
     around_with c (met_inside (is_there c) e) from until (casts (expressions e)) e (with_cast c e) (span_same c e) follow.1 below
     (inner (span_of e).first.token until (omega (arith, below)) (follow.0, omega arith, follow.2, tt))
 
--- a cast that stood there begins before its source
+-- a cast that was there begins before its source
 cast_grows : (all : List Token) (c : Recast) (s t a : Span) (n : ℕ) (e : Entity) (old new : List Entity) → e.token ≡ s.first.token → IsWhole all s (t ∷ (a ∷ [])) → Grows all c (a ∷ []) n old new → Grows all c (s ∷ []) n (e ∷ old) (e ∷ new)
 cast_grows all c s t a n e old new at placed inner from until le follow =
     let order : s.first.token ≤ s.last.token = placed.0.order in
@@ -297,7 +297,7 @@ grown_head all c h placed =
     (grown_first all c h.first placed.0) (grown_option all c h.test placed.1))
     (grown_step all c h.step placed.2)
 
--- an expression, and a statement behind it
+-- an expression, and a statement after it
 tested : (all : List Token) (c : Recast) (e : Expression) (s : Span) (k : ℕ) (old new : List Entity) → Placed all e → Grows all c (s ∷ []) k old new
     → Grows all c (span_of e ∷ (s ∷ [])) (met_inside (is_there c) e + k) (casts (expressions e) ++ old) (casts (expressions (with_cast c e)) ++ new)
 tested all c e s k old new placed inner =

@@ -1,4 +1,4 @@
--- What stands in a list with others inserted.
+-- What is in a list with others inserted.
 use Rattle.std.proofs.Common.{◌≡◌, ℕ, ◌+◌, ◌-◌, ◌<◌, ◌≤◌, nat_lt, Bool, true, false, List, ◌++◌, length, take, drop, get_or, refl, ap, sym, ◌∙◌, append_assoc, arith, if◌then◌else◌}
 use Rattle.std.proofs.lemmas.Bool.{ltb-true, ltb-false}
 use Rattle.std.proofs.lemmas.List.{length-append, length-take-le, get_or-append_right, get_or_append_left, get_or-append-add, get_or-take, get_or-drop, take_at, drop_at, take-take, take-append-le, drop-drop, drop-take}
@@ -38,7 +38,7 @@ by_side first new old p d within false less = behind first new old p d within (l
 pub renumbered_kept : {A : Type 0} (first : ℕ) (new old : List A) (p : ℕ) (d : A) → first ≤ length old → get_or (inserted first new old) (renumbered first (length new) p) d ≡ get_or old p d
 renumbered_kept first new old p d within = by_side first new old p d within (nat_lt p first) refl
 
--- ---- by stretch: those before, those behind, and those that were inserted
+-- ---- by stretch: those before, those after, and those that were inserted
 
 pub stretch_before : {A : Type 0} (first : ℕ) (new old : List A) (p n : ℕ) → first ≤ length old → p + n ≤ first → take n (drop p (inserted first new old)) ≡ take n (drop p old)
 stretch_before {A} first new old p n within ends =

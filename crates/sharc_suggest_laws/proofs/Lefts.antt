@@ -1,4 +1,4 @@
--- What receives a value stands before it, and a left side has a type by names that name what they named.
+-- What receives a value comes before it, and a left side has a type by names that name what they named.
 use Rattle.std.proofs.Common.{◌≡◌, ◌⊎◌, inl, inr, ℕ, zero, suc, ◌+◌, ◌<◌, ◌≤◌, Bool, true, false, cond, List, [], ◌∷◌, ◌++◌, length, Option, Some, None, IfSome, refl, ap, subst, ◌∙◌, arith}
 use Rattle.std.specs.List.{AllByRecursion}
 use Rattle.sharc_tree.specs.declared.token.Span.{Span}
@@ -44,7 +44,7 @@ is_function (array b n) = false
 is_function null = false
 is_function kinds.function = true
 
--- it stands before the value, and each expression in it has its type, by notes that are strong
+-- it comes before the value, and each expression in it has its type, by notes that are strong
 pub record IsLeft (r now : Resolution) (u e : Expression) : Type 0 where
   pub scope : Scope
   pub before : (span_of u).last.token < (span_of e).first.token
@@ -254,7 +254,7 @@ mutual
       (in_statements r now f around inner (casts.after scope a) rest placed.1 (back (λ (p : Placing). IsTypedIn r p.scope p.expression) (places_in around σ a) (places_in_all around inner rest) typed)
       (back (IsStrong r now) (notes_in around σ a) (notes_in_all around inner rest) strong))
 
--- ---- so in each function, where all that is given begins behind the name of the function
+-- ---- so in each function, where all that is given begins after the name of the function
 
 abbrev pub Stands : Resolution → Resolution → Receiver → Expression → Type 0
 Stands r now (of_declared token) e = token < (span_of e).first.token

@@ -1,4 +1,4 @@
--- What is said of the type of a cast that is suggested does no harm: its names name there what they name where they stand.
+-- What is said of the type of a cast that is suggested does no harm: its names name there what they name where they are written.
 use Rattle.std.proofs.Common.{◌≡◌, inl, inr, ℕ, ◌+◌, Bool, true, false, List, [], ◌∷◌, ◌++◌, map, Option, Some, None, refl, ap, sym, subst, ◌∙◌, eqb-true}
 use Rattle.std.proofs.lemmas.Bool.{false≢true, and_parts}
 use Rattle.sharc_tree.specs.declared.ctype.Base.{Base}
@@ -47,7 +47,7 @@ variable_is x (named.Variable y) is = ap named.Variable (eqb-true x y is)
 variable_is x (named.Field f) is = absurd (false≢true is)
 variable_is x named.Known is = absurd (false≢true is)
 
--- what it names where the cast stands is what it names where it stands
+-- what it names at the cast is what it names where it is written
 named_there : (r : Resolution) (file names : List Entry) (token : ℕ) → IsSpelled r file → (v : Named) → named_at r token ≡ v → (c : Option Entry) → keeps_named (is_call_at r token) v c ≡ true
     → IsFoundAs c (look_up names (text_at r token)) (look_up file (text_at r token)) → (e : Entry) → look_up names (text_at r token) ≡ Some e → named_at r token ≡ named_of e.meaning
 named_there r file names token spelled (named.Struct n) is None kept found e at = absurd (false≢true kept)

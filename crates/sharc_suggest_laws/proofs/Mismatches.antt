@@ -1,4 +1,4 @@
--- At each place one mismatch of modes at most: each is told of a giving, at its first token.
+-- At each place one mismatch of modes at most: each is reported of a giving, at its first token.
 use Rattle.std.proofs.Common.{◌≡◌, ℕ, ◌+◌, ◌≤◌, ◌==◌, Bool, true, false, cond, List, [], ◌∷◌, ◌++◌, length, Option, Some, None, refl, ap, ◌∙◌, arith}
 use Rattle.std.specs.List.{flat_map, filter}
 use Rattle.sharc_tree.specs.declared.ctype.Base.{Base}

@@ -1,4 +1,4 @@
--- In a resolved program at its tokens each token is told one thing at most.
+-- In a resolved program at its tokens at most one thing is said of each token.
 use Rattle.std.proofs.Common.{◌⊎◌, inl, inr, ⊎_elim, ℕ, suc, List, [], ◌∷◌, Contains, sym, subst, arith}
 use Rattle.std.specs.List.{AllByRecursion}
 use Rattle.std.proofs.lemmas.Bool.{cases_eq}
@@ -32,7 +32,7 @@ one_told r t once =
     (subst (AllByRecursion (IsOwnAt t once.what)) (sym once.notes)
     (joint (IsOwnAt t once.what) once.before (once.note ∷ once.after) (none_told t once.what once.before once.not_before) (told_so t once.what once.note once.tells, none_told t once.what once.after once.not_after)))
 
--- it is told, or all is well
+-- a note refers to it, or all is well
 pub told_or_not : (t : ℕ) (v : Named) (l : List Note) → Contains (referred l) t ⊎ AllByRecursion (IsOwnAt t v) l
 told_or_not t v [] = inr tt
 told_or_not t v (fault place code ∷ rest) = ⊎_elim (λ c. inl c) (λ h. inr (tt, h)) (told_or_not t v rest)

@@ -21,7 +21,7 @@ use Rattle.sharc_suggest_laws.proofs.Grown.{IsCastOf, Grown, grown_items}
 use Rattle.sharc_suggest_laws.proofs.Inserted.{among, renumbered_kept}
 use Rattle.sharc_suggest_laws.specs.Values.{met_in_items}
 
--- ---- the first that is told by the cast's tokens has a number that is not past the old ones
+-- ---- the first that is determined by the cast's tokens has a number that is not past the old ones
 
 some_here : (here x : Numbered) → Some here ≡ Some x → here ≡ x
 some_here here x is = cc

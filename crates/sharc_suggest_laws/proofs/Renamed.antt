@@ -58,7 +58,7 @@ pub each_has : (all l : List Entity) → ((b : Base) → HasStruct l b → HasSt
 each_has all [] up = tt
 each_has all (e ∷ rest) up = ((λ name is. up (base.Struct name) (inl (named_itself e.written.ctype.base name is))), each_has all rest (λ b h. up b (inr h)))
 
--- the first that has it tells where it is named
+-- the first that has it shows where it is named
 record IsSiteOf (Q : WrittenType → Type 0) (b : Base) (s : Site) : Type 0 where
   written : WrittenType
   holds : Q written

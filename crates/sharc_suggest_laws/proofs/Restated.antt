@@ -25,7 +25,7 @@ use Rattle.sharc_suggest_laws.proofs.Noted.{Clean, left, right, Noted, done, bot
 use Rattle.sharc_suggest_laws.proofs.Retyped.{Setting, IsMild, AreMild, inside, value_in, with_faults}
 use Rattle.sharc_suggest_laws.proofs.Scoped.{Scoped, scoped_with}
 
--- a value, where faults alone stand behind it
+-- a value, where only faults come after it
 value_stated : (w : Setting) (names scope : List Entry) → Scoped w.file.names names scope → (r : Receiver) (e : Expression) → AreMild w (value_givings scope r e) → (want now : Option Kind)
     → Clean (notes_of (with_names w.file names) (around w.recast (with_cast w.recast e)))
     → Noted w.resolution (notes_of (with_names w.file names) e ++ unmet Value e (type_of (with_names w.file names) e) ++ unagreed want e (met Value (type_of (with_names w.file names) e)))
@@ -109,7 +109,7 @@ in_step : (w : Setting) (names scope : List Entry) → Scoped w.file.names names
 in_step w names scope scoped None mild clean = done
 in_step w names scope scoped (Some x) mild clean = in_simple w names scope scoped x mild clean
 
--- what is in scope behind
+-- what is in scope afterwards
 
 pub first_names : (c : Recast) (surroundings : Around) (names : List Entry) (f : First) → behind_first surroundings names (first_with_cast c f) ≡ behind_first surroundings names f
 first_names c surroundings names nothing = refl

@@ -1,4 +1,4 @@
--- The modes of what stands where it stood, or so many further on.
+-- The modes of what is where it was, or that many positions further on.
 use Rattle.std.proofs.Common.{◌≡◌, ℕ, ◌+◌, ◌-◌, ◌≤◌, ◌==◌, Bool, true, false, cond, ◌⊎◌, inl, inr, List, [], ◌∷◌, map, length, take, drop, Option, Some, None, refl, ap, ap₂, sym, ◌∙◌, arith}
 use Rattle.std.proofs.lemmas.Bool.{eqb-false}
 use Rattle.sharc_tree.specs.declared.ctype.Mode.{Mode}
@@ -36,7 +36,7 @@ row_modes m first count = all_read m.typed (take count (drop first m.modes))
 
 -- ---- it has the modes that it had
 
--- so many positions from p on stand from q on now
+-- this many positions from p on now lie from q on
 abbrev pub IsShifted : ℕ → ℕ → ℕ → ℕ → ℕ → Type 0
 IsShifted first count p q n = ((p + n ≤ first) × (q ≡ p)) ⊎ ((first ≤ p) × (q ≡ p + count))
 

@@ -1,4 +1,4 @@
--- An expression that stands before the cast points to what it pointed to, with the modes that it had.
+-- An expression that comes before the cast points to what it pointed to, with the modes that it had.
 use Rattle.std.proofs.Common.{◌≡◌, ◌⊎◌, inl, inr, ℕ, zero, suc, ◌+◌, ◌-◌, ◌<◌, ◌≤◌, ◌==◌, Bool, true, false, cond, List, [], ◌∷◌, length, Option, Some, None, option_map, slice_get, refl, ap, sym, subst, ◌∙◌, eqb-true, arith}
 use Rattle.std.specs.List.{AllByRecursion}
 use Rattle.std.proofs.lemmas.Bool.{false≢true, true≢false, eqb-false}
@@ -177,7 +177,7 @@ result_kind_same : (c : Recast) (o : Option Function) → result_kind_of (option
 result_kind_same c None = refl
 result_kind_same c (Some f) = refl
 
--- of a call: what its name names is a function still, or was none and is none
+-- of a call: what its name names is still a function, or was not one and is not one
 called_kinds : (m : Assignment) (c : Cast) (v : Named) → called_kind (now m c) v ≡ called_kind m.typed v
 called_kinds m c (named.Struct n) = refl
 called_kinds m c (named.Global n) = refl

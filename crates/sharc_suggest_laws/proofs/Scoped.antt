@@ -8,7 +8,7 @@ use Rattle.sharc_ctype.specs.Statements.{is_here, declared, declared_notes}
 use Rattle.sharc_suggest.specs.Repairs.{entry_of}
 use Rattle.sharc_suggest_laws.proofs.Noted.{Clean, behind_head, not_wrong}
 
--- a variable is the same, and what is none is what the file has of that name
+-- a variable is the same, and what is not one is what the file has of that name
 abbrev pub IsFoundAs : Option Entry → Option Entry → Option Entry → Type 0
 IsFoundAs None found file = found ≡ file
 IsFoundAs (Some e) found file = (x : Entry) × (found ≡ Some x) × (x.meaning ≡ e.meaning)
@@ -32,6 +32,6 @@ scoped_by file names scope d from is true not_so text = absurd (true_no not_so)
     true_no h = cc
 scoped_by file names scope d from is false not_so text = found_behind (look_up file text) d from (bytes_eq d.name.text text) (look_up scope text) (look_up names text) (is text)
 
--- behind a declaration of which no fault is said
+-- after a declaration of which no fault is reported
 pub scoped_with : (file names scope : List Entry) (d : Declaration) (from : ℕ) → Scoped file names scope → Clean (declared_notes from d names) → Scoped file (declared from d names) (entry_of d ∷ scope)
 scoped_with file names scope d from is clean = scoped_by file names scope d from is (is_here from names d) (not_wrong (is_here from names d) d.name.site.token DefinedTwice (behind_head _ _ _ clean))

@@ -15,7 +15,7 @@ abbrev pub IsAmong : Cast → List Cast → Type 0
 IsAmong x [] = ⊥
 IsAmong x (y ∷ rest) = (y ≡ x) ⊎ IsAmong x rest
 
--- ---- the first cast at a token is one of them, and stands there
+-- ---- the first cast at a token is one of them, and lies there
 
 no_cast : (x : Cast) → None ≡ Some x → ⊥
 no_cast x is = cc

@@ -44,7 +44,7 @@ use Rattle.sharc_suggest_laws.proofs.Noted.{AreFaults, IsFault, unless_faults, u
 abbrev pub IsFiledAs : Resolution → List Entry → ℕ → Named → Type 0
 IsFiledAs r file token what = is_filed what ≡ true → (e : Entry) × (look_up file (text_at r token) ≡ Some e) × (named_of e.meaning ≡ what)
 
--- what a token is told, that is said of it: what names nothing of the program is what the file knows
+-- what a token is determined to be is said of it: what names nothing of the program is what the file knows
 abbrev pub IsSaid : Resolution → Scope → ℕ → Named → Type 0
 IsSaid r file token what = IsFiledAs r file.names token what × (what ≡ named.Known → KnowsCalls file)
 

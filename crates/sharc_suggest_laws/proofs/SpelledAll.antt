@@ -299,7 +299,7 @@ known_said r file t all told known =
     let said : IsSpelt r file told.note = (back (IsSpelt r file) told.before (told.note ∷ told.after) (subst (AreSpelt r file) told.notes all)).0 in
     known_by r file t told.note said (subst (Tells told.note t) (sym told.named ∙ known) told.tells)
 
--- a token of which nothing is told names nothing
+-- a token of which nothing is said names nothing
 none_told : (t : ℕ) (l : List Note) → AllByRecursion (IsOwnAt t named.Known) l → seen t l named.Known ≡ named.Known
 none_told t [] own = refl
 none_told t (fault place code ∷ rest) own = none_told t rest own.1

@@ -1,4 +1,4 @@
--- Where a cast that is suggested stands among what has a type.
+-- Where a cast that is suggested lies among what has a type.
 use Rattle.std.proofs.Common.{◌≡◌, ℕ, ◌+◌, ◌≤◌, ◌==◌, ◌&&◌, Bool, true, List, length, Some, refl, ap, ◌∙◌, eq-eqb, arith}
 use Rattle.std.specs.List.{find}
 use Rattle.std.proofs.lemmas.Bool.{and_from}

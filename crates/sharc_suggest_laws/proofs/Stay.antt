@@ -40,7 +40,7 @@ use Rattle.sharc_suggest_laws.proofs.Retyped.{Setting, IsMild, AreMild}
 use Rattle.sharc_suggest_laws.proofs.Site.{IsFor, HasSite, has_site}
 use Rattle.sharc_suggest_laws.proofs.SpelledAll.{spelled}
 
--- ---- the cast stands at one giving alone
+-- ---- the cast is at one giving alone
 
 none_there : (w : Setting) (gs : List Giving) → counted (is_there w.recast) gs ≡ 0 → AreMild w gs
 none_there w [] none = tt
@@ -52,7 +52,7 @@ none_there w (g ∷ rest) none =
       none_there w rest (omega (arith, sum)),
     )
 
--- what stands on both sides of it does not
+-- what lies on either side of it is not there
 record IsAlone (m : Assignment) (c : Cast) (before behind : List Giving) : Type 0 where
   before_none : counted (is_there (recast_of m.typed c)) before ≡ 0
   behind_none : counted (is_there (recast_of m.typed c)) behind ≡ 0

@@ -1,4 +1,4 @@
--- A token that is told to be a field by its own name names that field still.
+-- A token that is determined to be a field by its own name still names that field.
 use Rattle.std.proofs.Common.{◌≡◌, ◌⊎◌, inl, inr, ℕ, ◌<◌, ◌≤◌, ◌==◌, Bool, true, false, cond, List, [], ◌∷◌, length, get_or, refl, ap, sym, ◌∙◌, eqb-true, eq-eqb, arith}
 use Rattle.std.specs.List.{AllByRecursion}
 use Rattle.std.proofs.lemmas.Bool.{false≢true, cases_lt}
@@ -12,7 +12,7 @@ use Rattle.sharc_suggest_laws.specs.Names.{is_dull, KeepsName}
 use Rattle.sharc_suggest_laws.proofs.Folded.{seen, named_seen, named_past, IsOwnAt, field_taken}
 use Rattle.sharc_suggest_laws.proofs.Noted.{Clean, no_fault, behind_head, behind_yields, IsHarmless, Noted, done, kept, added, old_fault, new_fault}
 
--- behind its own name a field stays
+-- after its own name a field stays
 chosen : (b : Bool) (w y v : Named) → (b ≡ true → w ≡ v) → y ≡ v → cond b w y ≡ v
 chosen true w y v first later = first refl
 chosen false w y v first later = later
@@ -74,7 +74,7 @@ fields_at r _ _ own (added {n = n} {old = old} {new = new} harmless more) = lift
 fields_at r _ _ own (old_fault {place = place} {code = code} {old = old} {new = new} more) = (tt, fields_at r old new (λ t. (own t).1) more)
 fields_at r _ _ own (new_fault {place = place} {code = code} {old = old} {new = new} more) = lift_all (fault place code) new old (fields_at r old new own more)
 
--- ---- what is told of a token is what it names, and what it names now
+-- ---- what is said of a token is what it names, and what it names now
 
 abbrev pub IsStrong : Resolution → Resolution → Note → Type 0
 IsStrong r now (fault place code) = ⊥

@@ -26,7 +26,7 @@ not_told m c added token last other =
     let parts : ((added.span.first.token == token) ≡ true) × ((added.span.last.token == last) ≡ true) = and_parts (added.span.first.token == token) (added.span.last.token == last) told in
     other (sym (eqb-true added.span.first.token token parts.0) ∙ added.first) (sym (eqb-true added.span.last.token last parts.1) ∙ added.last))
 
--- what is told by other tokens stands where it stood, or behind the cast
+-- what is determined by other tokens is where it was, or after the cast
 pub all_others : (m : Assignment) (c : Cast) (added : IsAdded m c) (token last : ℕ) → (token ≡ c.from → last ≡ c.until → ⊥)
     → AreMoved (first_place m c added) (length (targets c.to.levels)) (entity_at m.typed token last) (entity_at (resolution_with c m.typed) token last)
 all_others m c added token last other =

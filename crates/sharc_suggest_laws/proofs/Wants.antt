@@ -1,4 +1,4 @@
--- What is expected where the cast stands is what was expected.
+-- What is expected at the cast is what was expected.
 use Rattle.std.proofs.Common.{◌≡◌, ◌⊎◌, inl, inr, ℕ, zero, suc, ◌≤◌, ◌==◌, Bool, true, false, not, ◌&&◌, ◌||◌, cond, List, [], ◌∷◌, map, length, take, drop, Option, Some, None, option_map, is_some, is_none, slice_get, refl, ap, ap₂, sym, subst, ◌∙◌, eq-eqb}
 use Rattle.std.specs.List.{AllByRecursion, flat_map}
 use Rattle.std.proofs.lemmas.Bool.{false≢true, and_parts}

@@ -1,4 +1,4 @@
--- Which tokens begin a path with a known call: the word `locked` stands two before one, and no name does.
+-- Which tokens begin a path with a known call: the word `locked` comes two before one, and no name does.
 use Rattle.std.proofs.Common.{◌≡◌, ◌⊎◌, inl, inr, ⊎_elim, ℕ, zero, suc, ◌+◌, ◌-◌, ◌≤◌, ◌&&◌, Bool, true, false, List, [], ◌∷◌, ◌++◌, Contains, Option, Some, None, slice_get, refl, ap, sym, subst, ◌∙◌, arith}
 use Rattle.std.proofs.lemmas.Bool.{false≢true, and_parts}
 use Rattle.sharc_tree.specs.declared.token.Keyword.{Keyword}

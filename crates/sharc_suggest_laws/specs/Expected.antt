@@ -24,7 +24,7 @@ pub record IsCastAt (m : Assignment) (c : Cast) (first : ℕ) : Type 0 where
   pub ctype : written.ctype ≡ c.to
   pub within : first ≤ length m.modes
 
--- a cast that is suggested stands so
+-- this holds of a cast that is suggested
 abbrev pub SuggestedStands : Type 0
 SuggestedStands = (m : Assignment) (e : ModeError) (c : Cast) → IsWhole m → IsPlaced m.typed.program → IsSuggested m e (Some c) → (first : ℕ) × IsCastAt m c first
 
@@ -33,7 +33,7 @@ abbrev pub HasExpected : Type 0
 HasExpected = (m : Assignment) (e : Expression) (expected : List Sharing) (first : ℕ) → IsCastAt m (cast_to m e expected) first
     → (t : WrittenType) (source : Expression) → modes_at (assignment_with (cast_to m e expected) m) (cast (span_of e) t source) ≡ Some expected
 
--- so no mismatch is told of it beside them
+-- so no mismatch is reported of it beside them
 abbrev pub Agrees : Type 0
 Agrees = (m : Assignment) (e : Expression) (expected : List Sharing) (first : ℕ) → IsCastAt m (cast_to m e expected) first
     → (t : WrittenType) (source : Expression) → agree_notes (assignment_with (cast_to m e expected) m) (Some expected) (cast (span_of e) t source) ≡ []

@@ -15,7 +15,7 @@ use Rattle.sharc_mode.specs.Sharings.{Sharing}
 use Rattle.sharc_suggest.specs.Casts.{behind_first, after, with_parameters}
 use Rattle.sharc_suggest.specs.Repairs.{entry_of}
 
--- what receives it: a local or the result of a function, told by the token of its name; a left side; or, at a call of the function that a token names, with these arguments, the
+-- what receives it: a local or the result of a function, given by the token of its name; a left side; or, at a call of the function that a token names, with these arguments, the
 -- parameter of this number
 pub data Receiver : Type 0 where
   of_declared : ℕ → Receiver

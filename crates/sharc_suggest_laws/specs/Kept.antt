@@ -43,7 +43,7 @@ PositionsStay = (m : Assignment) (c : Cast) → IsWhole m → IsPlaced m.typed.p
 
 -- ---- what is declared, and each other cast, has the modes that it had
 
--- the modes of the targets of what is told by these tokens
+-- the modes of the targets of what is determined by these tokens
 abbrev pub modes_told_by : Assignment → ℕ → ℕ → List Sharing
 modes_told_by m token last = modes_of m (entity_row written (entity_at m.typed token last))
 

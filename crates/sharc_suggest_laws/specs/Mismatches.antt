@@ -10,6 +10,6 @@ use Rattle.sharc_mode.specs.WellModed.{AreModeErrors}
 abbrev pub is_mismatch_at : ℕ → ModeError → Bool
 is_mismatch_at token e = e.code == 1 && e.site.token == token
 
--- of a program at its tokens: so an M1 is told by its place, and a cast is suggested for one M1 alone
+-- of a program at its tokens: so an M1 is determined by its place, and a cast is suggested for one M1 alone
 abbrev pub OneMismatch : Type 0
 OneMismatch = (m : Assignment) (errors : List ModeError) → IsPlaced m.typed.program → AreModeErrors m errors → (token : ℕ) → length (filter (is_mismatch_at token) errors) ≤ 1

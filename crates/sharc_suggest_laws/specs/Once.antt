@@ -13,7 +13,7 @@ use Rattle.sharc_mode.specs.Moded.{Assignment}
 use Rattle.sharc_suggest.specs.Applied.{recast_of, program_with}
 use Rattle.sharc_suggest.specs.Casts.{IsSuggested}
 
--- what has a type now is what had one, in its order, and among it the cast at its tokens; all that stands before it begins before it
+-- what has a type now is what had one, in its order, and among it the cast at its tokens; all that is listed before it begins before it
 pub record IsAddedOnce (c : Recast) (old new : List Entity) : Type 0 where
   pub before : List Entity
   pub behind : List Entity

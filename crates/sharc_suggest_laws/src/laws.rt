@@ -26,7 +26,7 @@ pub fn values_begin_apart()
     ensures { ValuesBeginApart }
 {}
 
-/// So at each place one M1 is told at most.
+/// So at each place at most one M1 is reported.
 pub fn one_mismatch()
     ensures { OneMismatch }
 {}
@@ -41,7 +41,7 @@ pub fn types_stay()
     ensures { TypesStay }
 {}
 
-/// The cast has the modes that are expected, so no mismatch is told of it beside them.
+/// The cast has the modes that are expected, so no mismatch is reported of it beside them.
 pub fn cast_has_expected()
     ensures { CastHasExpected }
 {}

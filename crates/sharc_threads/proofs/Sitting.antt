@@ -1,4 +1,4 @@
--- What the places of a table say of where the run stands.
+-- What the places of a table say of where the run is.
 use Rattle.std.proofs.Common.{◌≡◌, ℕ, ◌<◌, ◌≤◌, Bool, true, false, not, List, length, get_or, Option, Some, None, refl, sym, ap, ◌∙◌, subst, arith, ⊎_elim}
 use Rattle.std.specs.Prelude.{nat_lt, ◌&&◌, is_some}
 use Rattle.std.proofs.lemmas.Bool.{cases_lt}

@@ -1,4 +1,4 @@
--- Where a run stands: whose turn may be next, how it ends there, and which threads it had.
+-- Where a run is: whose turn may be next, how it ends there, and which threads it had.
 use Rattle.std.specs.Prelude.{ℕ, ◌≡◌, ◌&&◌, nat_lt, not, Bool, true, false, List, map, filter}
 use Rattle.std.specs.List.{range_with_len, All}
 use Rattle.sharc_code.specs.declared.code.Code.{Code}
@@ -12,7 +12,7 @@ use Rattle.sharc_cpu.specs.Thread.{ThreadView, IsThread}
 use Rattle.sharc_threads.specs.declared.end.End.{End}
 use Rattle.sharc_threads.specs.declared.end.End.TheVariants.{AllDone, Stuck, Budget}
 
--- where a run stands: the words, each thread, whether it was started, and how many events it has made
+-- where a run is: the words, each thread, whether it was started, and how many events it has made
 abbrev pub Standing : Type 0
 Standing = Global Machine
 
@@ -32,13 +32,13 @@ EndIs code s g Stuck = IsStuck code s g
 EndIs code s g Budget = (¬ AllAreDone g) × (¬ IsStuck code s g)
 
 -- ---- the threads
--- the thread as it stands there
+-- the thread as it is there
 pub record IsAt (code : Code) (s : Shape) (g : Standing) (t : ThreadView) : Type 0 where
   pub thread : IsThread code s t
   pub machine : t.machine ≡ g.threads t.machine.own.number
   pub made : t.made ≡ g.made t.machine.own.number
 
--- the threads that were started, in rising order, each as it stands there
+-- the threads that were started, in rising order, each as it is there
 pub record AreStarted (code : Code) (s : Shape) (g : Standing) (threads : List ThreadView) : Type 0 where
   pub numbers : map (λ (t : ThreadView). t.machine.own.number) threads ≡ filter g.started (range_with_len 0 s.threads)
   pub each : All (IsAt code s g) threads

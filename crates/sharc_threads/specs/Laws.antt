@@ -37,7 +37,7 @@ abbrev pub StartedAreThere : Type 0
 StartedAreThere = (code : Code) (s : Shape) (threads : ℕ → Machine) (made : ℕ → ℕ) (started : ℕ → Bool) (seats : List (Option ThreadView))
     → AreSeats code s threads made started seats → (t : ℕ) → is_some (slice_index_or seats t None) ≡ started t
 
--- it does not matter by which function it is told who was started
+-- it does not matter by which function it is determined who was started
 abbrev pub TablesAgree : Type 0
 TablesAgree = (code : Code) (s : Shape) (threads : ℕ → Machine) (made : ℕ → ℕ) (started other : ℕ → Bool) (seats : List (Option ThreadView))
     → ((t : ℕ) → started t ≡ other t) → AreSeats code s threads made started seats → AreSeats code s threads made other seats

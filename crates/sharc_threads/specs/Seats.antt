@@ -1,4 +1,4 @@
--- The threads of a run by their numbers, and that this is where the run stands.
+-- The threads of a run by their numbers, and that this is where the run is.
 use Rattle.std.specs.Prelude.{ℕ, ◌≡◌, ◌<◌, ◌-◌, ◌&&◌, nat_lt, not, Bool, true, false, List, [], ◌∷◌, length, Option, Some, None, slice_index_or}
 use Rattle.std.specs.List.{sum_by}
 use Rattle.sharc_word.specs.declared.step.TheConstants.{THREADS}
@@ -62,7 +62,7 @@ present [] = []
 present (None ∷ seats) = present seats
 present (Some thread ∷ seats) = thread ∷ present seats
 
--- ---- where a run stands
+-- ---- where a run is
 -- the thread of this number, where the run has these threads
 pub record Sits (code : Code) (s : Shape) (threads : ℕ → Machine) (made : ℕ → ℕ) (t : ℕ) (thread : ThreadView) : Type 0 where
   pub thread_is : IsThread code s thread

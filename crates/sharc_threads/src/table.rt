@@ -96,7 +96,7 @@ fn push_present(threads: &mut Vec<Thread>, seat: Option<Thread>) -> Result<(), A
     }
 }
 
-// So many places with no thread.
+// This many places with no thread.
 fn empty(alloc: Global) -> Result<Vec<Option<Thread>>, AllocError>
     ensures count { IfOk result (λ seats. length seats.items ≡ threads) }
     ensures none { IfOk result (λ seats. (t : ℕ) → slice_index_or seats.items t None ≡ None) }
@@ -183,7 +183,7 @@ impl ThreadTable {
         true
     }
 
-    /// How a run ended that stands there.
+    /// How a run that is at this place ended.
     pub fn end(&self, words: &[u64]) -> End
         requires { (t : ℕ) → has_number (slice_index_or self.now.seats.items t None) }
         ensures { (code : Code) (s : Shape) (g : Standing) → AreOf code s g words.now self.now.seats.items → EndIs code s g result }

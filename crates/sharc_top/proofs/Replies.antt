@@ -31,12 +31,12 @@ use Rattle.sharc_top.specs.Reply.{task_in, ReadsSource, usage_text, Replies, IsR
 use Rattle.sharc_top.specs.Reply.Replies.{loaded as of_load}
 use Rattle.sharc_top.specs.Status.{code_of, IsOfReply, IsOfSilence}
 
--- what a source has left, where it tells it
+-- what a source has left, where it reports it
 pub told_left : (left : Option (List ℕ)) → IfSome left (λ bytes. unwrap_or left [] ≡ bytes)
 told_left None = tt
 told_left (Some bytes) = refl
 
--- an input that is longer than a number, and what a source had left where it tells it
+-- an input that is longer than a number, and what a source had left where it reports it
 pub record LongInput (left : Option (List ℕ)) (limit : ℕ) : Type 0 where
   pub input : List ℕ
   pub told : IfSome left (λ bytes. input ≡ bytes)

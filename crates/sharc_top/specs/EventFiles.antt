@@ -48,7 +48,7 @@ pub data FileReplies (input : List ℕ) : Status → List ℕ → Type 0 where
   source_judged : (source : List ℕ) (fuel : ℕ) (events : List EventLine) → IsFewIn input source fuel events → length source ≤ source_limit
       → (s : Status) (text : List ℕ) → JudgesSource source fuel events s text → FileReplies input s text
 
--- of what a source of bytes had left; of one that does not tell its bytes it is the reply to some input
+-- of what a source of bytes had left; of one that does not report its bytes it is the reply to some input
 pub record IsFileReply (left : Option (List ℕ)) (s : Status) (text : List ℕ) : Type 0 where
   pub input : List ℕ
   pub told : IfSome left (λ bytes. input ≡ bytes)

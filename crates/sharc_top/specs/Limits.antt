@@ -1,4 +1,4 @@
--- How many bytes are read at most (own).
+-- How many bytes are read at most.
 use Rattle.std.specs.Prelude.{ℕ}
 
 -- of a source

@@ -31,7 +31,7 @@ pub record AreRecordNumbers (n : RecordNumbers) : Type 0 where
   pub most : n.granules ≤ 65536
   pub few_events : n.events ≤ 200000
 
--- a recorded run of the code of a source, with a heap of so many granules, in which no thread makes more events than this
+-- a recorded run of the code of a source, with a heap of this many granules, in which no thread makes more events than this
 pub record Records (source : List ℕ) (heap limit : ℕ) (code : Code) (made : Ran) : Type 0 where
   pub shape : Shape
   pub fits : Fits code shape
@@ -62,7 +62,7 @@ pub data RecordReplies (heap limit : ℕ) (input : List ℕ) : Status → List �
   long_input : source_limit < length input → RecordReplies heap limit input status.SourceRefused (line (codes "source over 1048576 bytes"))
   recorded : length input ≤ source_limit → (s : Status) (text : List ℕ) → GivesSource input (Records input heap limit) s text → RecordReplies heap limit input s text
 
--- of what a source of bytes had left; of one that does not tell its bytes it is the reply to some input
+-- of what a source of bytes had left; of one that does not report its bytes it is the reply to some input
 pub record IsRecordReply (heap limit : ℕ) (left : Option (List ℕ)) (s : Status) (text : List ℕ) : Type 0 where
   pub input : List ℕ
   pub told : IfSome left (λ bytes. input ≡ bytes)
@@ -78,7 +78,7 @@ pub record IsWithinFile (file : FileView) : Type 0 where
   pub numbers : AreNumbers file.heap file.limit
   pub few : length file.places ≤ recording_limit
 
--- of an input; what is behind the line of the text changes nothing
+-- of an input; what follows the line of the text changes nothing
 pub data ReplayReplies (input : List ℕ) : Status → List ℕ → Type 0 where
   long_recording : recording_limit < length input → ReplayReplies input status.SourceRefused (line (codes "file over 1073741824 bytes"))
   no_recording : (n : ℕ) → length input ≤ recording_limit → IsFault (lines_in input) n → ReplayReplies input status.SourceRefused (bad_file_line n)
@@ -86,7 +86,7 @@ pub data ReplayReplies (input : List ℕ) : Status → List ℕ → Type 0 where
   replayed : (file : FileView) → length input ≤ recording_limit → IsFile input file → length file.source ≤ source_limit
       → (s : Status) (text : List ℕ) → GivesSource file.source (Replays file) s text → ReplayReplies input s text
 
--- of what a source of bytes had left; of one that does not tell its bytes it is the reply to some input
+-- of what a source of bytes had left; of one that does not report its bytes it is the reply to some input
 pub record IsReplayReply (left : Option (List ℕ)) (s : Status) (text : List ℕ) : Type 0 where
   pub input : List ℕ
   pub told : IfSome left (λ bytes. input ≡ bytes)

@@ -58,7 +58,7 @@ pub data Replies (words : List (List ℕ)) (input : List ℕ) : Status → List 
   replayed : (s : Status) (text : List ℕ) → commands words ≡ Some command.Replay → ReplayReplies input s text → Replies words input s text
   audited : (s : Status) (text : List ℕ) → commands words ≡ Some command.Audit → FileReplies input s text → Replies words input s text
 
--- The reply to the words and to what the source had left. Of a source that does not tell its bytes it is the reply to some input.
+-- The reply to the words and to what the source had left. Of a source that does not report its bytes it is the reply to some input.
 pub record IsReply (words : List (List ℕ)) (left : Option (List ℕ)) (s : Status) (text : List ℕ) : Type 0 where
   pub input : List ℕ
   pub told : IfSome left (λ bytes. input ≡ bytes)

@@ -37,7 +37,7 @@ abbrev pub IsRunBy : Option ℕ → RunNumbers → Code → Shape → Ran → Ty
 IsRunBy (Some seed) n code s ran = IsSeededRun code s seed n.events ran
 IsRunBy None n code s ran = IsWorkersRun code s n.events ran
 
--- a checked run of the code, with a heap of so many granules
+-- a checked run of the code, with a heap of this many granules
 pub record IsRun (n : RunNumbers) (code : Code) (ran : Ran) : Type 0 where
   pub shape : Shape
   pub fits : Fits code shape

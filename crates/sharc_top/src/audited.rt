@@ -22,7 +22,7 @@ use sharc_reach::Reached;
 use sharc_sound::{ReachedProgram, Refusal, front};
 use std::alloc::{AllocError, Global};
 
-/// The largest event file, in bytes (own).
+/// The largest event file, in bytes.
 const FILE_LIMIT: usize = 16_777_216;
 
 /// How a call ends that writes this verdict.

@@ -10,7 +10,7 @@ use sharc_report::fault_text;
 use sharc_sound::SourceFault;
 use std::alloc::{AllocError, Global};
 
-/// The largest source, in bytes (own).
+/// The largest source, in bytes.
 pub const SOURCE_LIMIT: usize = 1_048_576;
 
 /// Why there is no reply.

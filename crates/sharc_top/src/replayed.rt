@@ -22,7 +22,7 @@ use sharc_replay::run_by_schedule;
 use sharc_run::shape_of;
 use std::alloc::{AllocError, Global};
 
-/// The largest recorded file, in bytes (own).
+/// The largest recorded file, in bytes.
 const FILE_LIMIT: usize = 1_073_741_824;
 
 /// The run of this code by the schedule of a file.

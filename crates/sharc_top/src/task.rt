@@ -11,9 +11,9 @@ use sharc_cli::Command;
 /// What is to be done with a source.
 #[derive(Clone, Copy, Debug, PartialEq, Eq)]
 pub enum Task {
-    /// Tell what is wrong with its modes, or that nothing is.
+    /// Report what is wrong with its modes, or that nothing is.
     Check,
-    /// Tell every variable's type with its modes and reasons, and then as `Check`.
+    /// Report every variable's type with its modes and reasons, and then as `Check`.
     Explain,
     /// Run it.
     Run(RunNumbers),

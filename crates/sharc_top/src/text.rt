@@ -7,7 +7,7 @@ ghost use Rattle.sharc_top.specs.Text.{line};
 
 use sharc_io::{Sink, WriteFault, write_all};
 
-/// Where the line ends that begins at an index: behind its newline, or at the end of the text.
+/// Where the line ends that begins at an index: after its newline, or at the end of the text.
 fn line_end(text: &[u8], from: usize) -> usize
     requires { from < length text.now }
     ensures later { from < result }

@@ -77,7 +77,7 @@ fn checked(alloc: Global, program: Moded, reached: &Reached) -> Result<Reply, Al
     }
 }
 
-/// What `check` writes, behind a text.
+/// What `check` writes, after a text.
 fn checked_behind(
     alloc: Global,
     program: Moded,

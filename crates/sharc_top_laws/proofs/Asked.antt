@@ -1,4 +1,4 @@
--- Where the source is a program the reply is the full text, or tells that its modes are refused.
+-- Where the source is a program the reply is the full text, or says that its modes are refused.
 use Rattle.std.proofs.Common.{◌≡◌, ℕ, List, Option, Some, refl, ap, ◌∙◌, subst}
 use Rattle.std.specs.Io.KnownBytes.{Appends}
 use Rattle.sharc_mode.specs.Moded.{Assignment}

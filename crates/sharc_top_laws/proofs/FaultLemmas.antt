@@ -61,7 +61,7 @@ one_first f g list a b =
     let digits : digit f.code ≡ digit g.code = omega (arith, high, low) in
     same_fault f g place (sym (code_back f.code) ∙ ap code_of digits ∙ code_back g.code)
 
--- and so is what is told of it
+-- and so is what is reported of it
 pub one_told : (tokens : Tokens) (f : Fault) (x y : FaultAt) → IsToldAt tokens f x → IsToldAt tokens f y → x ≡ y
 one_told tokens f x y a b =
     let code = a.code ∙ sym b.code in

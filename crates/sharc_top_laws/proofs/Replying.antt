@@ -162,7 +162,7 @@ module _ (answers : AnswersAreOne) (files : FileRepliesAreOne) (words : List (Li
   one_reply s z text other (answered t s' text' asked short is) more =
       answers t (runs_nothing (commands words) t nothing asked) input s' z text' other is (is_answer words input t z other asked short more)
 
--- of a source that tells its bytes
+-- of a source that reports its bytes
 pub one_told : AnswersAreOne → FileRepliesAreOne → (words : List (List ℕ)) → ¬ (MakesRun (commands words)) → (bytes : List ℕ) (s z : Status) (text other : List ℕ) → IsReply words (Some bytes) s text → IsReply words (Some bytes) z other → (s ≡ z) × (text ≡ other)
 one_told answers files words nothing bytes s z text other a b =
     one_reply answers files words nothing bytes s z text other

@@ -37,7 +37,7 @@ cases a l w has = split a l w has.0 has.1 has.2
 none_in : (w : Warning) → Contains [] w → ⊥
 none_in w has = let low = has.1 in omega (arith, low)
 
--- a read stands in such a list once
+-- a read is in such a list once
 pub one_read : (l : List Warning) → InOrder l → (x y : Warning) → Contains l x → Contains l y → x.read.token ≡ y.read.token → x ≡ y
 one_read [] order x y left right same = absurd (none_in x left)
 one_read (a ∷ l) order x y left right same =

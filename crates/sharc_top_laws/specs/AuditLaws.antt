@@ -36,7 +36,7 @@ abbrev pub AuditsAreOnly : Type 0
 AuditsAreOnly =
     (words : List (List ℕ)) (input : List ℕ) (m : Assignment) (fuel : ℕ) (events : List EventLine) → IsAudited words input m fuel events → (s : Status) (text : List ℕ) → IsReply words (Some input) s text → IsVerdict m fuel events s text
 
--- the verdict of its events is told by its line and its status
+-- the verdict of its events is shown by its line and its status
 abbrev pub AuditsAreTold : Type 0
 AuditsAreTold =
     (words : List (List ℕ)) (input : List ℕ) (m : Assignment) (fuel : ℕ) (events : List EventLine) → IsAudited words input m fuel events → (v : Verdict) → Audits m fuel events v

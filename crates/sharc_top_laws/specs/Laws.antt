@@ -74,7 +74,7 @@ AnswersAreOne = (t : Task) → RunsNothing t → (source : List ℕ) (s z : Stat
 abbrev pub RepliesAreOne : Type 0
 RepliesAreOne = (words : List (List ℕ)) → ¬ (MakesRun (commands words)) → (input : List ℕ) (s z : Status) (text other : List ℕ) → Replies words input s text → Replies words input z other → (s ≡ z) × (text ≡ other)
 
--- and for a source that tells its bytes
+-- and for a source that reports its bytes
 abbrev pub ReplyIsOne : Type 0
 ReplyIsOne = (words : List (List ℕ)) → ¬ (MakesRun (commands words)) → (bytes : List ℕ) (s z : Status) (text other : List ℕ) → IsReply words (Some bytes) s text → IsReply words (Some bytes) z other → (s ≡ z) × (text ≡ other)
 

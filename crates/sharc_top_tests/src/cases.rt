@@ -7,7 +7,7 @@ use std::sync::Wait;
 use std::test::Fail;
 use std::thread::Threads;
 
-/// Cases, parted by tildes, each of words, a source, and the status and the text that answer it, parted by bars.
+/// Cases, separated by tildes, each of words, a source, and the status and the text that answer it, separated by bars.
 const CASES: &str = "run|int main(void) { return 0; }|0 \
 ~run|# 7 \"a.c\"\nint\tmain ( void ) {\r\nprint(0x10 + 010 * 1);\nprint(2147483646 + 1);return 00;}|0 24\n2147483647\n\
 ~run|int main(void) { print(1); print(2 + 3 * 4); return 0; }|0 1\n14\n\
@@ -268,7 +268,7 @@ int main(void) {
 }
 ";
 
-/// What stands in the place left out, with the words and the reply.
+/// What is put in the place left out, with the words and the reply.
 const HANDED: &str = "check|SCAST(struct buf locked(s->m) *, p)|0 accepted\n\
 ~run|SCAST(struct buf locked(s->m) *, p)|0 42\n\
 ~check|p|1 pipe.c:18: M1 mode mismatch: expected struct buf locked(s->m) *, found struct buf private *\npipe.c:18: suggest SCAST(struct buf locked(s->m) *, p)\n\

@@ -9,10 +9,10 @@ use std::sync::atomic::{AtomicU64, Ordering};
 use std::test::Fail;
 use std::thread::Threads;
 
-/// A gate looks so many times, and then gives up.
+/// A gate looks this many times, and then gives up.
 const LOOKS: u64 = 100_000_000;
 
-/// Holds the first step of thread 1 until so many steps of thread 2 were asked for, and the other way round, and counts how often it gave up.
+/// Holds the first step of thread 1 until this many steps of thread 2 were asked for, and the other way round, and counts how often it gave up.
 #[derive(Drop)]
 pub(crate) struct Holds {
     for_1: u64,
@@ -38,7 +38,7 @@ impl Holds {
         self.given_up.load(Ordering::SeqCst)
     }
 
-    /// Counts the step, and holds it, if it is the first, until the other has asked for so many.
+    /// Counts the step, and holds it, if it is the first, until the other has asked for that many.
     fn hold(&self, own: &AtomicU64, other: &AtomicU64, count: u64) {
         if own.fetch_add(1, Ordering::SeqCst) > 0 {
             return;

@@ -1,6 +1,6 @@
 //! Whole replies of the top call: tests alone, over sources and sinks in memory.
 //!
-//! Nothing stands on this crate, and it has no code of its own.
+//! No crate depends on this one, and it has no code of its own.
 #![tactic(auto)]
 
 #[cfg(test)]

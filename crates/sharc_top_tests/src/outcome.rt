@@ -29,7 +29,7 @@ fn words_of(alloc: Global, words: &[&str]) -> Result<Vec<String>, AllocError> {
     Ok(all)
 }
 
-/// The outcome of the call over an input that never fails, and a sink with so much room.
+/// The outcome of the call over an input that never fails, and a sink with this much room.
 pub(crate) fn answered<R: Threads + Wait + Sync>(
     rt: &R,
     alloc: Global,
@@ -41,7 +41,7 @@ pub(crate) fn answered<R: Threads + Wait + Sync>(
     outcome_of(rt, alloc, &words, input, room)
 }
 
-/// The outcome of the call under a gate, over an input that never fails, and a sink with so much room.
+/// The outcome of the call under a gate, over an input that never fails, and a sink with this much room.
 pub(crate) fn gated<R: Threads + Wait + Sync, G: Gate + Sync>(
     rt: &R,
     gate: &G,
@@ -72,7 +72,7 @@ fn outcome_of<R: Threads + Wait + Sync>(
     Ok(Outcome { status, text })
 }
 
-/// The outcome for the words of a line, which are parted by single spaces, over the program that prints 42.
+/// The outcome for the words of a line, which are separated by single spaces, over the program that prints 42.
 pub(crate) fn answered_line<R: Threads + Wait + Sync>(
     rt: &R,
     alloc: Global,
@@ -101,7 +101,7 @@ pub(crate) fn failing<R: Threads + Wait + Sync>(
     Ok(Outcome { status, text })
 }
 
-/// Writes the status and the text behind what was written.
+/// Writes the status and the text after what was written.
 pub(crate) fn add_outcome(
     alloc: Global,
     all: &mut Vec<u8>,

@@ -12,7 +12,7 @@ use std::thread::Threads;
 /// Room for a file or a text.
 const ROOM: usize = 100_000;
 
-/// What `record` answers with these options, which are parted by blanks.
+/// What `record` answers with these options, which are separated by blanks.
 fn record_with<R: Threads + Wait + Sync>(
     rt: &R,
     alloc: Global,
@@ -77,7 +77,7 @@ fn each_case_is_recorded_and_replayed(rt: HostRuntime) -> Result<(), Fail> {
     Ok(())
 }
 
-/// What stands behind the program that prints 42, parted by tildes, and what `replay` answers to it.
+/// What follows the program that prints 42, separated by tildes, and what `replay` answers to it.
 const FILES: &str = "
 %%schedule 4096 1000
 0 5

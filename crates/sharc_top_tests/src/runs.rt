@@ -7,7 +7,7 @@ use std::sync::Wait;
 use std::test::Fail;
 use std::thread::Threads;
 
-/// Cases, parted by tildes, each of options of `run`, a source, and the status and the text that answer it, parted by bars.
+/// Cases, separated by tildes, each of options of `run`, a source, and the status and the text that answer it, separated by bars.
 pub(crate) const RUNS: &str = "|int main(void) { print(6 * 7); return 0; }|0 42
 ~|int main(void) { print(2147483647 + 1); return 0; }|4 thread 0: X4 out of range at input:1
 ~|int main(void) { print(1); print(2147483647 * 2); return 0; }|4 1
@@ -336,7 +336,7 @@ int main(void) {
 const CHOICES: &str =
     "--seed=1|--seed=2|--seed=77|--seed=18446744073709551615|--workers=1|--workers=4|--workers=16";
 
-/// What `run` answers with these options, which are parted by blanks.
+/// What `run` answers with these options, which are separated by blanks.
 fn run_with<R: Threads + Wait + Sync>(
     rt: &R,
     alloc: Global,

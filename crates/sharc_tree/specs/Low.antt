@@ -20,13 +20,13 @@ is_call (on_value s w a) = true
 is_call (on_place s w a) = true
 is_call _ = false
 
--- what stands where the grammar has a `unary`: anything but a binary operator without parentheses around it
+-- what is written where the grammar has a `unary`: anything but a binary operator without parentheses around it
 abbrev pub is_unary : Expression → Bool
 is_unary (binary s o at a b) = false
 is_unary _ = true
 
 -- The height that is limited. It is that of specs/Measures, but a cast counts only where its source is itself a cast: so where a cast is written
--- around an expression that is none, the tree is as high as before.
+-- around an expression that is not one, the tree is as high as before.
 abbrev mutual
   pub low_height : Expression → ℕ
   low_height (identifier s i) = 0
@@ -103,7 +103,7 @@ LowFirst (does x) = LowSimple x
 abbrev pub LowHead : Head → Type 0
 LowHead h = LowFirst h.first × IfSome h.test LowExpression × IfSome h.step LowSimple
 
--- a declaration stands in a block alone
+-- a declaration is in a block only
 abbrev pub is_statement : Statement → Bool
 is_statement (declare s l) = false
 is_statement _ = true
@@ -129,7 +129,7 @@ abbrev pub LowDeclarations : List Declaration → Type 0
 LowDeclarations [] = Unit {0}
 LowDeclarations (d ∷ rest) = LowType d.written × LowDeclarations rest
 
--- no `-` stands before NULL
+-- no `-` comes before NULL
 abbrev pub LowForm : GlobalForm → Type 0
 LowForm (Initial s true constants.Null) = ⊥
 LowForm _ = Unit {0}

@@ -45,7 +45,7 @@ marks_from n (t ∷ rest) = kind_marks t.kind t.text n ++ marks_from (n + 1) res
 abbrev pub name_marks : Identifier → List Mark
 name_marks i = a_name i.site.token i.text ∷ []
 
--- the second name of a lock path stands two tokens behind its first
+-- the second name of a lock path is two tokens after its first
 abbrev pub path_marks : Path → List Mark
 path_marks (One m n) = a_name n m ∷ []
 path_marks (Through x n m) = a_name n x ∷ (a_name (n + 2) m ∷ [])
@@ -62,7 +62,7 @@ abbrev pub base_marks : Base → ℕ → List Mark
 base_marks (Struct x) n = a_name n x ∷ []
 base_marks _ n = []
 
--- the levels stand from the top down, and are written from the base up; the mode of the base stands before it or behind it
+-- the levels go from the top down, and are written from the base up; the mode of the base comes before it or after it
 abbrev pub levels_marks : Bool → List Mark → List (Option Mode) → List Mark
 levels_marks first base [] = []
 levels_marks true base (m ∷ []) = level_marks m ++ base

@@ -22,7 +22,7 @@ abbrev mutual
   highest no_arguments = 0
   highest (argument a rest) = max (height a) (highest rest)
 
--- statements on the longest way in; a declaration is none
+-- statements on the longest way in; a declaration is not one
 abbrev mutual
   pub nesting : Statement → ℕ
   nesting (declare s l) = 0

@@ -1,4 +1,4 @@
--- A tree that stands at its tokens.
+-- A tree that lies at its tokens.
 use Rattle.std.specs.Prelude.{◌≡◌, ℕ, ◌+◌, ◌<◌, ◌≤◌, List, [], ◌∷◌, ◌++◌, length, slice_index_or, Option, Some, None, IfSome}
 use Rattle.sharc_tree.specs.declared.token.Site.{Site}
 use Rattle.sharc_tree.specs.declared.token.Span.{Span}
@@ -151,7 +151,7 @@ PlacedItems all [] = Unit {0}
 PlacedItems all (i ∷ rest) = PlacedItem all i × PlacedItems all rest
 
 -- Each place in the tree is that of a token, and the parts of each whole follow one another in it. The names and the casts of the tree, in the order in
--- which it is written, are those among the tokens: so no two stand at one token, and none is left out. The files are those of the tokens.
+-- which it is written, are those among the tokens: so no two lie at one token, and none is left out. The files are those of the tokens.
 pub record IsPlaced (p : Program) : Type 0 where
   pub follow : Follow p.tokens.list 0 (length p.tokens.list) (item_spans p.items)
   pub items : PlacedItems p.tokens.list p.items

@@ -1,4 +1,4 @@
--- Where things stand: the tokens of each node.
+-- Where things are: the tokens of each node.
 use Rattle.sharc_tree.specs.declared.token.Span.{Span}
 use Rattle.sharc_tree.specs.Tree.{Expression, identifier, constant, parentheses, call, spawn, on_value, on_place, cast, index, field, unary, binary, Right, value, malloc, Simple, assign, does_call, Item, structure, global, function, Statement, empty, block, declare, simple, jump, return, if_then, if_then_else, while, for}
 

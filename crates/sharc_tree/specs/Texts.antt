@@ -38,7 +38,7 @@ abbrev pub star_above : List (Option Mode) → List ℕ
 star_above [] = []
 star_above (_ ∷ _) = codes " *"
 
--- the levels stand from the top down, and are written from the base up
+-- the levels go from the top down, and are written from the base up
 abbrev pub levels_text : List (Option Mode) → List ℕ
 levels_text [] = []
 levels_text (level ∷ below) = levels_text below ++ star_above below ++ level_text level
@@ -62,6 +62,6 @@ abbrev pub tokens_text : List Token → List ℕ
 tokens_text [] = []
 tokens_text (t ∷ rest) = t.text ++ blank_between t rest ++ tokens_text rest
 
--- this text came behind the old one
+-- this text came after the old one
 abbrev pub Appends : {A E : Type 0} → Result A E → List ℕ → List ℕ → List ℕ → Type 0
 Appends result more old new = OnOk result (new ≡ old ++ more)

@@ -41,7 +41,7 @@ abbrev pub with_argument : Arguments → Expression → Arguments
 with_argument no_arguments e = argument e no_arguments
 with_argument (argument a rest) e = argument a (with_argument rest e)
 
--- what stands right of `=`; the count of a malloc may be left out
+-- the right side of `=`; the count of a malloc may be left out
 pub data Right : Type 0 where
   value : Expression → Right
   malloc : Span → Option Expression → WrittenType → Right
@@ -66,7 +66,7 @@ pub record Head : Type 0 where
   pub step : Option Simple
 
 mutual
-  -- `declare` is no statement of the grammar: it stands among the statements of a block alone
+  -- `declare` is not a statement of the grammar: it is among the statements of a block only
   pub data Statement : Type 0 where
     empty : Span → Statement
     block : Span → Statements → Statement

@@ -106,7 +106,7 @@ impl Mode {
     }
 }
 
-/// What stands at the bottom of a type.
+/// What is at the bottom of a type.
 pub enum Base {
     Int,
     Char,
@@ -127,7 +127,7 @@ impl Drop for Base {
 }
 
 impl Base {
-    /// Whether the bases are the same: a struct is told by its name.
+    /// Whether the bases are the same: a struct is known by its name.
     pub fn equals(&self, other: &Base) -> bool
         ensures { IsTrue result ↔ (self.now ≡ other.now) }
     {

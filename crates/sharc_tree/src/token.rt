@@ -166,7 +166,7 @@ pub struct Token {
     pub text: Name,
     /// The offset of the first byte.
     pub from: u32,
-    /// The offset behind the last byte.
+    /// The offset after the last byte.
     pub until: u32,
     /// The place of the file in the list of files.
     pub file: u32,

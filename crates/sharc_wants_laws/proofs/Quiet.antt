@@ -28,8 +28,8 @@ use Rattle.sharc_flat_form.specs.declared.op.Spot.{Spot}
 use Rattle.sharc_flat_form.specs.Machine.{Flat, At, Caller, Turn, goes, asks, halts, int, ref, goes_on, next, over_lines, stops, asserts, with_result, set_int, set_ref, gives_up, kind_of, cell_at, mode_of, accessed, accesses, lock_is_null, indexed, takes_local, returned, called, op_turn, end_turn, line_turn, turn, on_turn, exec, start, begun, first_at, function_of, handed, with_event, without_base}
 use Rattle.sharc_flat_form.specs.Path.{after, at_after, may_go, asked, asked_by, IsPath, PathsAreRuns}
 
--- ---- what tells no event
--- a turn before it is answered; and what comes with the answer tells none besides
+-- ---- what reports no event
+-- a turn before it is answered; and what comes with the answer reports none besides
 abbrev pub IsQuiet : At → Turn → Type 0
 IsQuiet m (goes m2) = m2.events ≡ m.events
 IsQuiet m (asks m2 site act held go) = (m2.events ≡ m.events) × ((v : ℤ) (n : At) → (go v n).events ≡ n.events)
@@ -138,7 +138,7 @@ still flat (suc k) m = by_turn (turn flat m) (turn_quiet flat m) (still flat k)
     by_turn (halts o) q rec = refl
 
 -- ---- a path by what its events answer
--- what a turn answers, by what it was told
+-- what a turn answers, by what it was given
 abbrev given_by : Turn → ℤ → ℤ
 given_by (goes m2) x = x
 given_by (asks m2 site act held go) x = answer_of (λ token. held) act x
@@ -168,7 +168,7 @@ pub given_path : (flat : Flat) (m : At) (answers : List ℤ) → IsPath flat m a
 given_path flat m [] path = tt
 given_path flat m (x ∷ earlier) path = (given_path flat m earlier path.0, subst (λ n. may_go (turn flat n) ≡ true) (sym (given_same flat m earlier)) path.1)
 
--- each turn that asks tells one event, with this answer
+-- each turn that asks reports one event, with this answer
 told_one : (t : Turn) (now : At) (x : ℤ) → IsQuiet now t → answers_of (after now t x).events ≡ answers_of now.events ++ asked_by t (given_by t x)
 told_one (goes m2) now x q = ap answers_of q ∙ sym (append-nil (answers_of now.events))
 told_one (asks m2 site act held go) now x q =
@@ -206,7 +206,7 @@ module _ (runs : PathsAreRuns) (flat : Flat) (st : At) (answers : List ℤ) (pat
   goes_beyond : (k : ℕ) → exec flat (length answers + k) (asked flat st answers) st ≡ exec flat k [] (at_after flat st answers)
   goes_beyond k = ap (λ xs. exec flat (length answers + k) xs st) (sym (append-nil (asked flat st answers))) ∙ runs flat st answers path k []
 
-  -- so many turns lead one turn beyond it at least
+  -- this many turns lead one turn beyond it at least
   pub record IsBeyond (later : ℕ) : Type 0 where
     pub more : ℕ
     pub is : exec flat later (asked flat st answers) st ≡ exec flat (suc more) [] (at_after flat st answers)

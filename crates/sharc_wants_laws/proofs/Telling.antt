@@ -101,7 +101,7 @@ filtered t (s ∷ says) h =
     by_test true = refl
     by_test false = refl
 
--- ---- where its first event stands
+-- ---- where its first event is
 record IsSplit (t : ℕ) (R : List SourceEvent) (e : SourceEvent) (es : List SourceEvent) : Type 0 where
   before : List SourceEvent
   after : List SourceEvent

@@ -120,7 +120,7 @@ words_stay opening (e ∷ es) all ops =
     let left : IsWord (word_after e.step.op (slice_index opening e.step.word)) = word_left e.step.op (slice_index opening e.step.word) (ops 0 e (omega arith)) (word_of opening e.step.word all) in
     words_stay (words_after_step opening e.step) es (All-set IsWord opening e.step.word (word_after e.step.op (slice_index opening e.step.word)) left all) (λ k d lt. ops (suc k) d (omega arith))
 
--- each result is a word that stood there
+-- each result is a word that was there
 pub results_are_words : (opening : List ℕ) (events : List WordEvent) → All IsWord opening → All (λ (e : WordEvent). IsOfWords e.step.op) events → LegalHistory opening events → All (λ (e : WordEvent). IsWord e.result) events
 results_are_words opening events all ops h = λ k d lt.
     let e : WordEvent = get_or events k d in

@@ -3,7 +3,7 @@ use Rattle.std.specs.Prelude.{ℕ, ◌≡◌, ◌<◌, ◌==◌, List, ◌∷◌
 use Rattle.sharc_word.specs.declared.step.WordEvent.{WordEvent}
 use Rattle.sharc_word.specs.Words.{words_after}
 
--- the event can come next where the words are these: it is on one of them, and its result is what stands there
+-- the event can come next where the words are these: it is on one of them, and its result is what is there
 pub record MayFollow (words : List ℕ) (event : WordEvent) : Type 0 where
   pub on_a_word : event.step.word < length words
   pub result_is : event.result ≡ slice_index words event.step.word

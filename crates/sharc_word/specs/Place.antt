@@ -5,7 +5,7 @@ use Rattle.sharc_word.specs.declared.step.WordEvent.{WordEvent}
 use Rattle.sharc_word.specs.Words.{words_after_step}
 use Rattle.sharc_word.specs.History.{MayFollow}
 
--- where a port stands: the words that it has for itself, and the events that it has made
+-- where a port is: the words that it has for itself, and the events that it has made
 pub record Place : Type 0 where
   pub words : List ℕ
   pub events : List WordEvent

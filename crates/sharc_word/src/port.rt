@@ -12,13 +12,13 @@ pub trait Port {
     // The number of its words, which no step changes.
     ghost count: { Self → ℕ };
 
-    // What tells it from other ports of its type, which no step changes.
+    // What distinguishes it from other ports of its type, which no step changes.
     ghost name: { Self → List ℕ };
 
     // The threads for which it makes steps, by their numbers.
     ghost serves: { Self → ℕ → Type 0 };
 
-    // Where it stands.
+    // Where it is.
     ghost place: { Self → Place };
 
     // Which events lead from one place to another.

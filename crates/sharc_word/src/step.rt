@@ -3,7 +3,7 @@
 ghost use Rattle.std.specs.Prelude.{◌≡◌};
 ghost use Rattle.sharc_word.specs.Words.{word_after};
 
-/// The number of threads that a checked program may have (own): their numbers are from 0 to 30.
+/// The number of threads that a checked program may have: their numbers are from 0 to 30.
 pub const THREADS: u32 = 31;
 
 /// An atomic operation on a 64-bit word. Each answers the word that it found.

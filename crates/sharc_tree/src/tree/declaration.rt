@@ -8,7 +8,7 @@ use crate::name::Name;
 use crate::token::{Site, Span};
 use std::alloc::{AllocError, Global};
 
-/// A name where it stands.
+/// A name where it is written.
 #[derive(Drop)]
 pub struct Identifier {
     pub site: Site,
@@ -31,12 +31,12 @@ impl Identifier {
 /// A type as it is written. `type = (mode base | base [mode]) { "*" [mode] }`, and without modes what `sizeof` takes.
 pub struct WrittenType {
     pub span: Span,
-    /// Whether the mode of the base stands before the base.
+    /// Whether the mode of the base comes before the base.
     pub mode_first: bool,
     /// The token that names the base: its keyword, or the name of the struct.
     pub base: Site,
     /// The type, each level with the mode that is written there or none. A lock path has the number of the token of its first name, and its second
-    /// name is told by its text alone; a struct is told by its name.
+    /// name is known by its text alone; a struct is known by its name.
     pub ctype: CType,
 }
 

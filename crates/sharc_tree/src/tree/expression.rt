@@ -127,7 +127,7 @@ pub enum Expr {
     },
     /// An operator and its operand.
     Unary(Span, UnaryOperator, Box<Expr>),
-    /// An operator, where it stands, and its operands.
+    /// An operator, where it is written, and its operands.
     Binary {
         span: Span,
         operator: BinaryOperator,

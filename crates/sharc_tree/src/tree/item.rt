@@ -51,7 +51,7 @@ pub enum GlobalForm {
     Plain,
     /// `[ number ]`, with the place of the number.
     Array(Site, Number),
-    /// `= const`, with the tokens of the constant and whether `-` stands before it (never before `NULL`).
+    /// `= const`, with the tokens of the constant and whether `-` comes before it (never before `NULL`).
     Initial(Span, bool, Constant),
 }
 

@@ -4,7 +4,7 @@ use crate::token::Span;
 use crate::tree::declaration::{Declaration, WrittenType};
 use crate::tree::expression::Expr;
 
-/// What stands right of `=`.
+/// The right side of `=`.
 pub enum Right {
     /// `expr`
     Value(Expr),
@@ -29,7 +29,7 @@ impl Right {
     ghost use Rattle.sharc_tree.specs.Spans.{span_of_right};
     ghost use Rattle.sharc_tree.specs.View.{view_right};
 
-    /// The tokens of what stands there.
+    /// The tokens of what is there.
     pub fn span(&self) -> Span
         ensures { result ≡ span_of_right (view_right self.now) }
     {
@@ -95,7 +95,7 @@ impl Drop for Local {
     }
 }
 
-/// What stands first in the head of a `for`.
+/// What comes first in the head of a `for`.
 #[derive(Drop)]
 pub enum ForFirst {
     Nothing,
@@ -133,7 +133,7 @@ pub enum Stmt {
     Empty(Span),
     /// `{ { stmt | decl ; } }`
     Block(Span, Vec<Stmt>),
-    /// `decl ;`, which is no statement, and stands in a block alone
+    /// `decl ;`, which is not a statement, and is in a block only
     Declare(Span, Box<Local>),
     /// `simple ;`
     Simple(Span, Box<Simple>),

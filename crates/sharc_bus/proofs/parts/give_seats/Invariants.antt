@@ -3,7 +3,7 @@ use Rattle.sharc_bus.specs.Rule.{unbegun, words_known}
 use Rattle.sharc_bus.specs.Table.{seats_with}
 use Rattle.sharc_bus.proofs.parts.give_seats.Given as goal
 
--- the rest has the parts of the ports from the counter on, and one more, and the others' seats stand in the list
+-- the rest has the parts of the ports from the counter on, and one more, and the others' seats are in the list
 abbrev pub invariant-loop : goal.invariant-loop
 invariant-loop g l = record {
   own : l.rest.table_id ≡ l.table.shared.table_id;

@@ -4,7 +4,7 @@ use Rattle.sharc_bus.specs.Bus.{SeatView}
 use Rattle.sharc_bus.specs.Table.{HasAll}
 use Rattle.sharc_bus.proofs.parts.take_seats.Given as goal
 
--- the parts of the seats that were taken are together, behind those of the first
+-- the parts of the seats that were taken are together, after those of the first
 abbrev pub invariant-loop-seat : goal.invariant-loop-seat
 invariant-loop-seat g l = record {
   own : l.all.table_id ≡ l.table.shared.table_id;

@@ -20,8 +20,8 @@ places-requires c =
     ∙ sym (count r c.args.reached.now c.requires settled c.in_ok-settled.ensures counted roots c.in_ok-roots.ensures)
     ∙ ap length (sym c.deref.ensures.value)
 
-pub found-requires-clause-few_places : goal.found-requires-clause-few_places
-found-requires-clause-few_places c =
+pub least_assignment-requires-clause-few_places : goal.least_assignment-requires-clause-few_places
+least_assignment-requires-clause-few_places c =
     let r = c.args.typed.now in
     let counted = c.link_laws.ensures.counted r in
     let size = count r c.args.reached.now c.requires c.in_ok-settled.settled.items c.in_ok-settled.ensures counted c.in_ok-roots.roots.items c.in_ok-roots.ensures in
@@ -30,8 +30,8 @@ found-requires-clause-few_places c =
     let few = c.position_count-all.type_inv in
     omega arith
 
-pub found-requires-clause-within : goal.found-requires-clause-within
-found-requires-clause-within c =
+pub least_assignment-requires-clause-within : goal.least_assignment-requires-clause-within
+least_assignment-requires-clause-within c =
     let r = c.args.typed.now in
     let counted = c.link_laws.ensures.counted r in
     let size = count r c.args.reached.now c.requires c.in_ok-settled.settled.items c.in_ok-settled.ensures counted c.in_ok-roots.roots.items c.in_ok-roots.ensures in

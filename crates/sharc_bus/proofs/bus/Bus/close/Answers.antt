@@ -1,4 +1,4 @@
--- No part has begun, so the words of the closed table are those that stand.
+-- No part has begun, so the words of the closed table are those that are there.
 use Rattle.std.proofs.Common.{◌≡◌, suc, List, sym, ap, ◌∙◌}
 use Rattle.sharc_bus.specs.declared.rule.Part.{Part}
 use Rattle.sharc_bus.specs.Rule.{unbegun, words_known}
