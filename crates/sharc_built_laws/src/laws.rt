@@ -1,7 +1,7 @@
 // The laws, each the contract of a function with calls of other laws alone.
 
 ghost use Rattle.sharc_built_laws.specs.Deadlock.{BuiltStuckIsDeadlock};
-ghost use Rattle.sharc_built_laws.specs.Reports.{BuiltObeyingIsUnreported, BuiltReportsShow};
+ghost use Rattle.sharc_built_laws.specs.Reports.{BuiltCastsShow, BuiltObeyingIsUnreported, BuiltReportsShow};
 ghost use Rattle.sharc_built_laws.specs.Sound.{BuiltIsSound};
 ghost use Rattle.sharc_built_laws.specs.Stands.{BuiltRunsStand};
 ghost use Rattle.sharc_built_laws.specs.Typed.{BuiltIsTyped};
@@ -9,9 +9,10 @@ ghost use Rattle.sharc_built_laws.specs.Typed.{BuiltIsTyped};
 use sharc_accepted_laws::laws::accepted_law;
 use sharc_build::fronts_are_typed;
 use sharc_code::range_laws;
+use sharc_sole_laws::laws::reports_show_cause;
 use sharc_sound_laws::{
     built_is_sound_if_typed, built_obeying_is_unreported_if_typed, built_reports_show_if_typed,
-    built_stuck_is_deadlock_if_typed,
+    built_stuck_is_deadlock_if_typed, made_code_begins,
 };
 use sharc_source_laws::laws::{each_constant_is_held, numbers_have_no_sign};
 use sharc_stand_laws::laws::typed_runs_stand;
@@ -57,6 +58,18 @@ pub fn built_reports_show()
 {
     built_is_typed();
     built_reports_show_if_typed();
+}
+
+/// Where a cast or `free` was refused, and no other thread has a reference to its object in flight, the references of the history have another one than that which was tested.
+pub fn built_casts_show()
+    ensures { BuiltCastsShow }
+{
+    built_is_typed();
+    fronts_are_typed();
+    numbers_have_no_sign();
+    range_laws();
+    made_code_begins();
+    reports_show_cause();
 }
 
 /// And what stands of each such run beside: its threads tell what the program asks for and keep the pace, the machine invariant holds at each of its places, and
