@@ -283,7 +283,7 @@ pub fn references(
     let main = main_of(program.typed())?;
     let threads = Threads {
         alloc,
-        program,
+        m: program,
         main,
         fuel,
     };
