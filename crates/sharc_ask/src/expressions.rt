@@ -178,10 +178,8 @@ pub fn begin_eval<'a>(program: &'a Moded, expr: &'a Expr, st: &mut State) -> Res
     ensures means { (on_call : Calls) → Plans on_call program.now (view_state st.old) result (view_state st.new) (gives number (eval on_call program.now (view_expr expr.now))) }
     ensures begins { IfOk result (Begins 1 1 st.old.fuel st.new.fuel) }
 {
-    match enter(st) {
-        Ok(()) => eval_plan(program, expr, st),
-        Err(end) => Err(end),
-    }
+    enter(st)?;
+    eval_plan(program, expr, st)
 }
 
 fn unary_place_plan<'a>(site: Site, operator: UnaryOperator, operand: &'a Expr) -> Plan<'a>
@@ -236,10 +234,8 @@ pub fn begin_place<'a>(
     ensures means { (on_call : Calls) → Plans on_call program.now (view_state st.old) result (view_state st.new) (gives place (place_of on_call program.now site (view_expr expr.now))) }
     ensures begins { IfOk result (Begins 1 1 st.old.fuel st.new.fuel) }
 {
-    match enter(st) {
-        Ok(()) => Ok(place_plan(program, site, expr)),
-        Err(end) => Err(end),
-    }
+    enter(st)?;
+    Ok(place_plan(program, site, expr))
 }
 
 /// `a[i]`

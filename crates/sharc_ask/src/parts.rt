@@ -53,12 +53,10 @@ pub fn end_step(answer: Result<(), End>, mark: usize, st: &mut State) -> Result<
     ensures fuel { st.new.fuel ≤ st.old.fuel }
     ensures kept { (n m : ℕ) → IfOk answer (λ _. n ≤ m) → IfOk result (λ _. n ≤ m) }
 {
-    match answer {
-        Ok(()) => match end_temporaries(mark, st) {
-            Ok(()) => Ok(()),
-            Err(_) => Err(End::Memory),
-        },
-        Err(end) => Err(end),
+    answer?;
+    match end_temporaries(mark, st) {
+        Ok(()) => Ok(()),
+        Err(_) => Err(End::Memory),
     }
 }
 
@@ -122,10 +120,8 @@ pub fn returned(
 ) -> Result<Flow, End>
     ensures { DoesAs view_flow (view_state st.now) result (view_state st.now) (returned_with (view_kind kind.entry) site (view_expr expr.now) value) }
 {
-    match unless(fits(kind, value), 4, expr.span().first, st) {
-        Ok(()) => Ok(Flow::Returned(site, value)),
-        Err(end) => Err(end),
-    }
+    unless(fits(kind, value), 4, expr.span().first, st)?;
+    Ok(Flow::Returned(site, value))
 }
 
 fn fitted_operand(
@@ -138,10 +134,8 @@ fn fitted_operand(
     ensures does { Does (view_state st.old) result (view_state st.new) (operand program.now.typed (view_expr expr.now) (fitting (view_kind kind.entry) (view_expr expr.now) (give value))) }
     ensures fuel { st.new.fuel ≤ st.old.fuel }
 {
-    match unless(fits(kind, value), 4, expr.span().first, st) {
-        Ok(()) => operand_value(program, expr, value, st),
-        Err(end) => Err(end),
-    }
+    unless(fits(kind, value), 4, expr.span().first, st)?;
+    operand_value(program, expr, value, st)
 }
 
 /// An argument for the first of these parameters.

@@ -75,8 +75,6 @@ pub fn by_truth<'a>(answer: Result<bool, End>, yes: Plan<'a>, no: Plan<'a>) -> R
     ensures means { (on_call : Calls) (m : Assignment) (before after : Known) (run : Run Bool) → Does before answer after run → Plans on_call m before result after (test_then run (plan_means on_call m yes.entry) (plan_means on_call m no.entry)) }
     ensures fits { (n : ℕ) → Fits n yes.entry → Fits n no.entry → IfOk result (Fits n) }
 {
-    match answer {
-        Ok(is_true) => { if is_true { Ok(yes) } else { Ok(no) } }
-        Err(end) => Err(end),
-    }
+    let is_true = answer?;
+    if is_true { Ok(yes) } else { Ok(no) }
 }

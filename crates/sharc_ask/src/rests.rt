@@ -164,10 +164,8 @@ fn freed<'a>(
     ensures fits { IfOk result (Fits 15) }
     ensures fuel { st.new.fuel ≤ st.old.fuel }
 {
-    match taken(program, span, TakeKind::Free, expr, place, mark, st) {
-        Ok(value) => done_number(freed_with(expr.span().first, value, st)),
-        Err(end) => Err(end),
-    }
+    let value = taken(program, span, TakeKind::Free, expr, place, mark, st)?;
+    done_number(freed_with(expr.span().first, value, st))
 }
 
 fn cast<'a>(
@@ -182,10 +180,8 @@ fn cast<'a>(
     ensures fits { IfOk result (Fits 15) }
     ensures fuel { st.new.fuel ≤ st.old.fuel }
 {
-    match taken(program, span, TakeKind::Cast, expr, place, mark, st) {
-        Ok(value) => done_number(cast_unless_null(program, span, expr, value, st)),
-        Err(end) => Err(end),
-    }
+    let value = taken(program, span, TakeKind::Cast, expr, place, mark, st)?;
+    done_number(cast_unless_null(program, span, expr, value, st))
 }
 
 fn with_place<'a>(

@@ -58,10 +58,8 @@ fn begin_malloc<'a>(
     ensures means { (on_call : Calls) (kind : KindMeant) → Plans on_call program.now (view_state st.old) result (view_state st.new) (gives number (right_value on_call program.now kind (view_sharing target.entry) (malloc span (view_option view_expr count.now) written.now))) }
     ensures begins { IfOk result (Begins 2 1 st.old.fuel st.new.fuel) }
 {
-    match enter(st) {
-        Ok(()) => counted(program, target, span, count, written, st),
-        Err(end) => Err(end),
-    }
+    enter(st)?;
+    counted(program, target, span, count, written, st)
 }
 
 /// The right side of `=`.
@@ -148,10 +146,10 @@ pub fn begin_first<'a>(first: &'a ForFirst, st: &mut State) -> Result<Plan<'a>, 
 {
     match first {
         ForFirst::Nothing => Ok(Plan::Done(Value::Nothing)),
-        ForFirst::Declares(local) => match enter(st) {
-            Ok(()) => Ok(Plan::Goes(Task::Declare(local), Rest::Same)),
-            Err(end) => Err(end),
-        },
+        ForFirst::Declares(local) => {
+            enter(st)?;
+            Ok(Plan::Goes(Task::Declare(local), Rest::Same))
+        }
         ForFirst::Does(simple) => Ok(Plan::Goes(Task::Simple(simple), Rest::Same)),
     }
 }

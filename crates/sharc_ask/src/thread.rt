@@ -29,10 +29,8 @@ fn goes_away(name: Site, site: Site, st: &mut State) -> Result<(), End>
     ensures { Does (view_state st.old) result (view_state st.new) (goes_away name site) }
 {
     let free = st.held.is_empty();
-    match unless(free, 11, site, st) {
-        Ok(()) => leaves(name, st),
-        Err(end) => Err(end),
-    }
+    unless(free, 11, site, st)?;
+    leaves(name, st)
 }
 
 fn run_thread(program: &Moded, number: u32, argument: i64, st: &mut State) -> Result<(), End>

@@ -265,14 +265,10 @@ pub fn made(
     ensures does { Does (view_state st.old) result (view_state st.new) (made program.now.typed site (view_sharing target.entry) elements written.now) }
     ensures fuel { st.new.fuel ≤ st.old.fuel }
 {
-    match unless(is_positive(elements), 12, site, st) {
-        Ok(()) => {
-            let cells = element_cells(program.typed(), declared_kind(written));
-            let mode = instance_mode(program.typed(), st.frame.variables.as_slice(), target);
-            ask_event(site, Act::New(cells, elements.unsigned_abs(), mode), st)
-        }
-        Err(end) => Err(end),
-    }
+    unless(is_positive(elements), 12, site, st)?;
+    let cells = element_cells(program.typed(), declared_kind(written));
+    let mode = instance_mode(program.typed(), st.frame.variables.as_slice(), target);
+    ask_event(site, Act::New(cells, elements.unsigned_abs(), mode), st)
 }
 
 pub fn test_of(head: &ForHead) -> Option<&Expr>

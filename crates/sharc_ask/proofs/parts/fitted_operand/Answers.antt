@@ -1,19 +1,25 @@
-use Rattle.std.proofs.Common.{ap, ◌∙◌, to_z-of_z}
+use Rattle.std.proofs.Common.{◌≡◌, Err, ap, sym, ◌∙◌, subst, to_z-of_z, rules}
 use Rattle.sharc_tree.specs.View.{view_expr}
 use Rattle.sharc_names.specs.View.{view_kind}
 use Rattle.sharc_meaning.specs.Arithmetic.{fits}
-use Rattle.sharc_ask_steps.specs.View.{view_state}
+use Rattle.sharc_meaning.specs.Expressions.{fitting, operand}
+use Rattle.sharc_meaning.specs.State.{give}
+use Rattle.sharc_ask_steps.specs.View.{view_state, Does}
 use Rattle.sharc_ask.proofs.Fitting.{fitted_goes, fitted_over}
 use Rattle.sharc_ask.proofs.parts.fitted_operand.Goals as goal
 
-pub returns-in-Ok-clause-does : goal.returns-in-Ok-clause-does
-returns-in-Ok-clause-does c =
+pub returns-clause-does : goal.returns-clause-does
+returns-clause-does c =
     let kind = view_kind c.args.kind in
     let same = to_z-of_z c.ranges.value in
-    fitted_goes (view_state c.args.st.now) (view_state c.operand_value.new.st) c.args.program.now.typed kind (view_expr c.args.expr.now) c.args.value _ c.fits.result c.span.result.first c.in-Ok.field-0 c.operand_value.result
-    (c.fits.ensures ∙ ap (fits kind) same) (ap (λ s. s.first) c.span.ensures) same c.in-Ok.ensures c.operand_value.ensures.does
+    fitted_goes (view_state c.args.st.now) (view_state c.operand_value.new.st) c.args.program.now.typed kind (view_expr c.args.expr.now) c.args.value _ c.fits.result c.span.result.first c.in_ok-unless.field-0 c.operand_value.result
+    (c.fits.ensures ∙ ap (fits kind) same) (ap (λ s. s.first) c.span.ensures) same c.in_ok-unless.ensures c.operand_value.ensures.does
 
-pub returns-in-Err-clause-does : goal.returns-in-Err-clause-does
-returns-in-Err-clause-does c =
+pub returns-in_err-unless-clause-does : goal.returns-in_err-unless-clause-does
+returns-in_err-unless-clause-does c =
     let kind = view_kind c.args.kind in
-    fitted_over (view_state c.args.st.now) c.args.program.now.typed kind (view_expr c.args.expr.now) c.args.value c.fits.result c.span.result.first c.in-Err.end (c.fits.ensures ∙ ap (fits kind) (to_z-of_z c.ranges.value)) (ap (λ s. s.first) c.span.ensures) c.in-Err.ensures
+    let e = view_expr c.args.expr.now in
+    let k = view_state c.args.st.now in
+    let is : c.from_residual.result ≡ Err c.in_err-unless.field-0.0 = search rules in
+    subst (λ r. Does k r k (operand c.args.program.now.typed e (fitting kind e (give c.args.value)))) (sym is)
+    (fitted_over k c.args.program.now.typed kind e c.args.value c.fits.result c.span.result.first c.in_err-unless.field-0.0 (c.fits.ensures ∙ ap (fits kind) (to_z-of_z c.ranges.value)) (ap (λ s. s.first) c.span.ensures) c.in_err-unless.ensures)

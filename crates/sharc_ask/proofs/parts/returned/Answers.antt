@@ -1,21 +1,27 @@
-use Rattle.std.proofs.Common.{ap, ◌∙◌, to_z-of_z}
+use Rattle.std.proofs.Common.{◌≡◌, Err, ap, sym, ◌∙◌, subst, to_z-of_z, rules}
 use Rattle.sharc_tree.specs.View.{view_expr}
 use Rattle.sharc_names.specs.View.{view_kind}
 use Rattle.sharc_meaning.specs.Arithmetic.{fits}
 use Rattle.sharc_meaning.specs.Statements.{returned}
-use Rattle.sharc_ask_steps.specs.View.{view_state}
+use Rattle.sharc_ask_steps.specs.View.{view_state, DoesAs}
+use Rattle.sharc_ask.specs.Plans.{returned_with}
+use Rattle.sharc_ask.specs.View.{view_flow}
 use Rattle.sharc_ask.specs.declared.values.Flow.TheVariants as flows
 use Rattle.sharc_ask.proofs.Fitting.{returned_goes, returned_over}
 use Rattle.sharc_ask.proofs.parts.returned.Goals as goal
 
-pub returns-in-Ok : goal.returns-in-Ok
-returns-in-Ok c =
+pub returns : goal.returns
+returns c =
     let kind = view_kind c.args.kind in
     let same = to_z-of_z c.ranges.value in
-    returned_goes (view_state c.args.st.now) kind c.args.site (view_expr c.args.expr.now) c.args.value c.fits.result c.span.result.first c.in-Ok.field-0 (flows.Returned c.args.site _)
-    (c.fits.ensures ∙ ap (fits kind) same) (ap (λ s. s.first) c.span.ensures) (ap (returned c.args.site) same) c.in-Ok.ensures
+    returned_goes (view_state c.args.st.now) kind c.args.site (view_expr c.args.expr.now) c.args.value c.fits.result c.span.result.first c.in_ok-unless.field-0 (flows.Returned c.args.site _)
+    (c.fits.ensures ∙ ap (fits kind) same) (ap (λ s. s.first) c.span.ensures) (ap (returned c.args.site) same) c.in_ok-unless.ensures
 
-pub returns-in-Err : goal.returns-in-Err
-returns-in-Err c =
+pub returns-in_err-unless : goal.returns-in_err-unless
+returns-in_err-unless c =
     let kind = view_kind c.args.kind in
-    returned_over (view_state c.args.st.now) kind c.args.site (view_expr c.args.expr.now) c.args.value c.fits.result c.span.result.first c.in-Err.end (c.fits.ensures ∙ ap (fits kind) (to_z-of_z c.ranges.value)) (ap (λ s. s.first) c.span.ensures) c.in-Err.ensures
+    let e = view_expr c.args.expr.now in
+    let k = view_state c.args.st.now in
+    let is : c.from_residual.result ≡ Err c.in_err-unless.field-0.0 = search rules in
+    subst (λ r. DoesAs view_flow k r k (returned_with kind c.args.site e c.args.value)) (sym is)
+    (returned_over k kind c.args.site e c.args.value c.fits.result c.span.result.first c.in_err-unless.field-0.0 (c.fits.ensures ∙ ap (fits kind) (to_z-of_z c.ranges.value)) (ap (λ s. s.first) c.span.ensures) c.in_err-unless.ensures)

@@ -1,10 +1,12 @@
-use Rattle.std.proofs.Common.{◌≡◌, ap, subst, to_z, of_z, w64, rules}
+use Rattle.std.proofs.Common.{◌≡◌, Err, sym, ap, subst, to_z, of_z, w64, rules}
 use Rattle.std.specs.Prelude.{ℤ}
 use Rattle.sharc_tree.specs.View.{view_expr}
 use Rattle.sharc_mode.specs.Cells.{cell_at}
 use Rattle.sharc_meaning.specs.State.{Run}
 use Rattle.sharc_ask_steps.specs.View.{view_state, view_place, Does}
-use Rattle.sharc_ask.specs.Plans.{ends_above}
+use Rattle.sharc_ask.specs.Values.{gives, number}
+use Rattle.sharc_meaning.specs.State.{◌>>=◌}
+use Rattle.sharc_ask.specs.Plans.{ends_above, Plans}
 use Rattle.sharc_tree.specs.declared.event.TakeKind.TheVariants.{Free as ToFree}
 use Rattle.sharc_tree.specs.Spans.{span_of}
 use Rattle.sharc_meaning.specs.Places.{taken_from}
@@ -12,8 +14,8 @@ use Rattle.sharc_ask.specs.Plans.{free_unless_null}
 use Rattle.sharc_ask.proofs.Outs.{number_then, number_over}
 use Rattle.sharc_ask.proofs.rests.freed.Goals as goal
 
-pub returns-in-Ok-clause-means : goal.returns-in-Ok-clause-means
-returns-in-Ok-clause-means c = λ on_call.
+pub returns-clause-means : goal.returns-clause-means
+returns-clause-means c = λ on_call.
     let m = c.args.program.now in
     let e = view_expr c.args.expr.now in
     let site = (span_of e).first in
@@ -22,11 +24,11 @@ returns-in-Ok-clause-means c = λ on_call.
     let first = ends_above c.args.mark (taken_from m.typed c.args.span.first site (cell_at m e) ToFree (view_place c.args.place)) in
     let rest : ℤ → Run ℤ = λ x. free_unless_null site x in
     let k2 = view_state c.freed_with.new.st in
-    let same : to_z w64 (of_z w64 c.in-Ok.value) ≡ c.in-Ok.value = search rules in
-    number_then on_call m k k1 k2 c.in-Ok.value c.done_number.result first rest c.in-Ok.ensures.does (c.done_number.ensures.means on_call m k1 k2 (rest c.in-Ok.value) (subst (λ z. Does k1 c.freed_with.result k2 (free_unless_null z c.in-Ok.value)) (ap (λ z. z.first) c.span.ensures) (subst (λ z. Does k1 c.freed_with.result k2 (free_unless_null c.span.result.first z)) same c.freed_with.ensures.does)))
+    let same : to_z w64 (of_z w64 c.in_ok-value.value) ≡ c.in_ok-value.value = search rules in
+    number_then on_call m k k1 k2 c.in_ok-value.value c.done_number.result first rest c.in_ok-value.ensures.does (c.done_number.ensures.means on_call m k1 k2 (rest c.in_ok-value.value) (subst (λ z. Does k1 c.freed_with.result k2 (free_unless_null z c.in_ok-value.value)) (ap (λ z. z.first) c.span.ensures) (subst (λ z. Does k1 c.freed_with.result k2 (free_unless_null c.span.result.first z)) same c.freed_with.ensures.does)))
 
-pub returns-in-Err-clause-means : goal.returns-in-Err-clause-means
-returns-in-Err-clause-means c = λ on_call.
+pub returns-in_err-value-clause-means : goal.returns-in_err-value-clause-means
+returns-in_err-value-clause-means c = λ on_call.
     let m = c.args.program.now in
     let e = view_expr c.args.expr.now in
     let site = (span_of e).first in
@@ -34,4 +36,5 @@ returns-in-Err-clause-means c = λ on_call.
     let k1 = view_state c.taken.new.st in
     let first = ends_above c.args.mark (taken_from m.typed c.args.span.first site (cell_at m e) ToFree (view_place c.args.place)) in
     let rest : ℤ → Run ℤ = λ x. free_unless_null site x in
-    number_over on_call m k k1 c.in-Err.end first rest c.in-Err.ensures.does
+    let is : c.from_residual.result ≡ Err c.in_err-value.field-0.0 = search rules in
+    subst (λ r. Plans on_call m k r k1 (gives number (first >>= rest))) (sym is) (number_over on_call m k k1 c.in_err-value.field-0.0 first rest c.in_err-value.ensures.does)

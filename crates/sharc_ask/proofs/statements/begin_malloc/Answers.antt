@@ -7,8 +7,8 @@ use Rattle.sharc_ask.specs.Values.{gives, number}
 use Rattle.sharc_ask.proofs.Outs.{entered_plans}
 use Rattle.sharc_ask.proofs.statements.begin_malloc.Goals as goal
 
-pub returns-in-Ok-clause-means : goal.returns-in-Ok-clause-means
-returns-in-Ok-clause-means c = λ on_call kind.
+pub returns-clause-means : goal.returns-clause-means
+returns-clause-means c = λ on_call kind.
     let m = c.args.program.now in
     let run = gives number (right_value on_call m kind (view_sharing c.args.target) (malloc c.args.span (view_option view_expr c.args.count.now) c.args.written.now)) in
-    entered_plans on_call m (view_state c.args.st.now) (view_state c.enter.new.st) (view_state c.counted.new.st) c.in-Ok.field-0 c.counted.result run c.in-Ok.ensures.does (c.counted.ensures.means on_call kind)
+    entered_plans on_call m (view_state c.args.st.now) (view_state c.enter.new.st) (view_state c.counted.new.st) c.in_ok-enter.field-0 c.counted.result run c.in_ok-enter.ensures.does (c.counted.ensures.means on_call kind)

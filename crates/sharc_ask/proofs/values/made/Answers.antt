@@ -9,11 +9,11 @@ use Rattle.sharc_ask_steps.specs.View.{view_state}
 use Rattle.sharc_ask.proofs.Fitting.{made_goes}
 use Rattle.sharc_ask.proofs.values.made.Goals as goal
 
-pub returns-in-Ok-clause-does : goal.returns-in-Ok-clause-does
-returns-in-Ok-clause-does c =
+pub returns-clause-does : goal.returns-clause-does
+returns-clause-does c =
     let r = c.args.program.now.typed in
     let target = view_sharing c.args.target in
     let same = to_z-of_z c.ranges.elements in
-    made_goes (view_state c.args.st.now) (view_state c.ask_event.new.st) r c.args.site target c.args.elements c.args.written.now c.is_positive.result c.in-Ok.field-0 c.element_cells-cells.result c.unsigned_abs.result c.instance_mode-mode.result c.ask_event.result
+    made_goes (view_state c.args.st.now) (view_state c.ask_event.new.st) r c.args.site target c.args.elements c.args.written.now c.is_positive.result c.in_ok-unless.field-0 c.element_cells-cells.result c.unsigned_abs.result c.instance_mode-mode.result c.ask_event.result
     (c.is_positive.ensures ∙ ap is_positive same) (c.element_cells-cells.ensures ∙ ap (λ z. element_cells z (view_kind c.declared_kind.result)) c.typed.ensures ∙ ap (element_cells r) c.declared_kind.ensures) (c.unsigned_abs.ensures.value ∙ ap unsigned_abs same)
-    (c.instance_mode-mode.ensures ∙ ap (λ z. instance_mode z (value_in c.as_slice.result.now) target) c.typed-in-Ok.ensures ∙ ap (λ z. instance_mode r (value_in z) target) c.as_slice.ensures.value) c.in-Ok.ensures c.ask_event.ensures.does
+    (c.instance_mode-mode.ensures ∙ ap (λ z. instance_mode z (value_in c.as_slice.result.now) target) c.typed-2.ensures ∙ ap (λ z. instance_mode r (value_in z) target) c.as_slice.ensures.value) c.in_ok-unless.ensures c.ask_event.ensures.does
