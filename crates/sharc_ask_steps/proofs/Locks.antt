@@ -1,4 +1,4 @@
--- Locks and unlocks, put together.
+-- Locks, put together.
 use Rattle.std.proofs.Common.{◌≡◌, ℕ, length, nat_lt, Result, Ok, Err, sym, ap, ◌∙◌, subst}
 use Rattle.sharc_tree.specs.declared.event.Act.TheVariants as acts
 use Rattle.sharc_tree.specs.declared.event.CellAt.{CellAt}
@@ -7,13 +7,11 @@ use Rattle.sharc_meaning.specs.Arithmetic.{too_many_locks}
 use Rattle.sharc_meaning.specs.Events.{held_mutexes}
 use Rattle.sharc_meaning.specs.Places.{Place}
 use Rattle.sharc_meaning.specs.State.{Step, ◌>>◌, performs, unless_stop}
-use Rattle.sharc_meaning.specs.Waiting.{cell_at_place, moves_base, gives_up_base, lock_call, unlock_call}
+use Rattle.sharc_meaning.specs.Waiting.{cell_at_place, moves_base, lock_call}
 use Rattle.sharc_ask_steps.specs.declared.state.End.{End}
 use Rattle.sharc_ask_steps.specs.View.{Known, Does}
-use Rattle.sharc_ask_steps.specs.Waking.{stops_unless_held, stops_where_held}
+use Rattle.sharc_ask_steps.specs.Waking.{stops_where_held}
 use Rattle.sharc_ask_steps.proofs.Steps.{does_then, over_then}
-
--- ---- a lock
 
 abbrev locks : Site → Place → Step
 locks site p = do
@@ -25,11 +23,6 @@ abbrev locks_with : ℕ → Site → Place → Step
 locks_with n site p = do
   unless_stop (nat_lt n 16) too_many_locks site
   locks site p
-
-pub lock_of_held : (k : Known) (site : Site) (p : Place) (at : CellAt) (e : End) → at ≡ cell_at_place p → Does {A = Unit {0}} k (Err e) k (stops_where_held at site) → Does {A = Unit {0}} k (Err e) k (lock_call site p)
-lock_of_held k site p at e same h =
-    let g : Does {A = Unit {0}} k (Err e) k (stops_where_held (cell_at_place p) site) = subst (λ a. Does {A = Unit {0}} k (Err e) k (stops_where_held a site)) same h in
-    λ s is. over_then k k e (stops_where_held (cell_at_place p) site) (λ u. locks_with (length (held_mutexes s.events)) site p) g s is
 
 -- what follows the first test knows only how many mutexes are held
 not_held : (k k1 : Known) (site : Site) (p : Place) (at : CellAt) (x : Unit {0}) (r : Result (Unit {0}) End) → at ≡ cell_at_place p → Does k (Ok x) k (stops_where_held at site)
@@ -63,30 +56,3 @@ pub lock_goes : (k k1 k2 : Known) (site : Site) (p : Place) (at : CellAt) (n : �
 lock_goes k k1 k2 site p at n x y z r same all h1 h2 h3 h4 =
     let g : Does k (Ok z) k1 (performs site (acts.Lock (cell_at_place p))) = subst (λ a. Does k (Ok z) k1 (performs site (acts.Lock a))) same h3 in
     few_held k k2 site p at n x y r same all h1 h2 (does_then k k1 k2 z r (performs site (acts.Lock (cell_at_place p))) (λ u. moves_base p) g h4)
-
--- ---- an unlock
-
-abbrev unlocks_at : Site → Place → Step
-unlocks_at site p = do
-  performs site (acts.Unlock (cell_at_place p))
-  gives_up_base p
-
-pub unlock_of_none : (k : Known) (site : Site) (p : Place) (at : CellAt) (e : End) → at ≡ cell_at_place p → Does {A = Unit {0}} k (Err e) k (stops_unless_held at site) → Does {A = Unit {0}} k (Err e) k (unlock_call site p)
-unlock_of_none k site p at e same h =
-    let g : Does {A = Unit {0}} k (Err e) k (stops_unless_held (cell_at_place p) site) = subst (λ a. Does {A = Unit {0}} k (Err e) k (stops_unless_held a site)) same h in
-    over_then k k e (stops_unless_held (cell_at_place p) site) (λ u. unlocks_at site p) g
-
-is_held : (k k1 : Known) (site : Site) (p : Place) (at : CellAt) (x : Unit {0}) (r : Result (Unit {0}) End) → at ≡ cell_at_place p → Does k (Ok x) k (stops_unless_held at site) → Does k r k1 (unlocks_at site p) → Does k r k1 (unlock_call site p)
-is_held k k1 site p at x r same h later =
-    let g : Does k (Ok x) k (stops_unless_held (cell_at_place p) site) = subst (λ a. Does k (Ok x) k (stops_unless_held a site)) same h in
-    does_then k k k1 x r (stops_unless_held (cell_at_place p) site) (λ u. unlocks_at site p) g later
-
-pub unlock_not_done : (k k1 : Known) (site : Site) (p : Place) (at : CellAt) (x : Unit {0}) (e : End) → at ≡ cell_at_place p → Does k (Ok x) k (stops_unless_held at site) → Does {A = Unit {0}} k (Err e) k1 (performs site (acts.Unlock at)) → Does {A = Unit {0}} k (Err e) k1 (unlock_call site p)
-unlock_not_done k k1 site p at x e same h1 h2 =
-    let g : Does {A = Unit {0}} k (Err e) k1 (performs site (acts.Unlock (cell_at_place p))) = subst (λ a. Does {A = Unit {0}} k (Err e) k1 (performs site (acts.Unlock a))) same h2 in
-    is_held k k1 site p at x (Err e) same h1 (over_then k k1 e (performs site (acts.Unlock (cell_at_place p))) (λ u. gives_up_base p) g)
-
-pub unlock_goes : (k k1 k2 : Known) (site : Site) (p : Place) (at : CellAt) (x y : Unit {0}) (r : Result (Unit {0}) End) → at ≡ cell_at_place p → Does k (Ok x) k (stops_unless_held at site) → Does k (Ok y) k1 (performs site (acts.Unlock at)) → Does k1 r k2 (gives_up_base p) → Does k r k2 (unlock_call site p)
-unlock_goes k k1 k2 site p at x y r same h1 h2 h3 =
-    let g : Does k (Ok y) k1 (performs site (acts.Unlock (cell_at_place p))) = subst (λ a. Does k (Ok y) k1 (performs site (acts.Unlock a))) same h2 in
-    is_held k k2 site p at x r same h1 (does_then k k1 k2 y r (performs site (acts.Unlock (cell_at_place p))) (λ u. gives_up_base p) g h3)

@@ -1,32 +1,22 @@
 -- Waits, put together.
 use Rattle.std.proofs.Common.{◌≡◌, ℤ, Bool, true, not, List, ℕ, codes, bytes_eq, slice_index_or, if◌then◌else◌, Result, Ok, Err, sym, ap, ◌∙◌, subst}
-use Rattle.sharc_tree.specs.declared.event.Act.TheVariants as acts
 use Rattle.sharc_tree.specs.declared.event.CellAt.{CellAt}
 use Rattle.sharc_tree.specs.declared.token.Site.{Site}
 use Rattle.sharc_meaning.specs.Arithmetic.{null_base, mutex_not_held}
 use Rattle.sharc_meaning.specs.Events.{holds_mutex}
 use Rattle.sharc_meaning.specs.Places.{pointee}
 use Rattle.sharc_meaning.specs.Reference.{NULL, is_null}
-use Rattle.sharc_meaning.specs.State.{Step, ◌>>=◌, ◌>>◌, performs, unless_stop, looks_at}
+use Rattle.sharc_meaning.specs.State.{Step, ◌>>=◌, ◌>>◌, unless_stop, looks_at}
 use Rattle.sharc_meaning.specs.Waiting.{cell_at_place, wait_call, signal_call, broadcast_call, condition_call}
 use Rattle.sharc_ask_steps.specs.declared.state.End.{End}
 use Rattle.sharc_ask_steps.specs.View.{Known, Does}
-use Rattle.sharc_ask_steps.specs.Waking.{stops_unless_held, waits, awakes}
+use Rattle.sharc_ask_steps.specs.Waking.{stops_unless_held, waits}
 use Rattle.sharc_ask_steps.proofs.Steps.{does_then, over_then}
 
 abbrev first_cell : ℤ → CellAt
 first_cell p = cell_at_place (pointee p)
 
 -- the values c1 and m1 that a call is given are c and m
-
-pub waits_go : (k k1 k2 k3 : Known) (site : Site) (c m c1 m1 : ℤ) (at_c at_m : CellAt) (x y : Unit {0}) (r : Result (Unit {0}) End) → c1 ≡ c → m1 ≡ m → at_c ≡ first_cell c1 → at_m ≡ first_cell m1
-    → Does k (Ok x) k1 (performs site (acts.Enter at_c)) → Does k1 (Ok y) k2 (performs site (acts.Unlock at_m)) → Does k2 r k3 (awakes site c1 m1) → Does k r k3 (waits site c m)
-waits_go k k1 k2 k3 site c m c1 m1 at_c at_m x y r ec em ac am h1 h2 h3 =
-    let g1 : Does k (Ok x) k1 (performs site (acts.Enter (first_cell c))) = subst (λ z. Does k (Ok x) k1 (performs site (acts.Enter z))) (ac ∙ ap first_cell ec) h1 in
-    let g2 : Does k1 (Ok y) k2 (performs site (acts.Unlock (first_cell m))) = subst (λ z. Does k1 (Ok y) k2 (performs site (acts.Unlock z))) (am ∙ ap first_cell em) h2 in
-    let g3 : Does k2 r k3 (awakes site c m) = subst (λ z. Does k2 r k3 (awakes site z m)) ec (subst (λ z. Does k2 r k3 (awakes site c1 z)) em h3) in
-    does_then k k1 k3 x r (performs site (acts.Enter (first_cell c))) (λ u. performs site (acts.Unlock (first_cell m)) >> awakes site c m) g1
-    (does_then k1 k2 k3 y r (performs site (acts.Unlock (first_cell m))) (λ u. awakes site c m) g2 g3)
 
 -- a wait after its tests of NULL
 abbrev held_waits : Site → ℤ → ℤ → Step

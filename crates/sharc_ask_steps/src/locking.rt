@@ -59,16 +59,10 @@ pub fn lock_call(site: Site, place: Place, st: &mut State) -> Result<(), End>
     ensures fuel { st.new.fuel ≤ st.old.fuel }
 {
     let cell = cell_at_place(place);
-    match unless_held_already(cell, site, st) {
-        Ok(()) => match unless(st.held.len() < 16, 13, site, st) {
-            Ok(()) => match perform(site, Act::Lock(cell), st) {
-                Ok(()) => moves_base(place, st),
-                Err(end) => Err(end),
-            },
-            Err(end) => Err(end),
-        },
-        Err(end) => Err(end),
-    }
+    unless_held_already(cell, site, st)?;
+    unless(st.held.len() < 16, 13, site, st)?;
+    perform(site, Act::Lock(cell), st)?;
+    moves_base(place, st)
 }
 
 /// A mutex that it does not hold stops.
@@ -77,11 +71,7 @@ pub fn unlock_call(site: Site, place: Place, st: &mut State) -> Result<(), End>
     ensures fuel { st.new.fuel ≤ st.old.fuel }
 {
     let cell = cell_at_place(place);
-    match unless_held(cell, site, st) {
-        Ok(()) => match perform(site, Act::Unlock(cell), st) {
-            Ok(()) => gives_up_base(place, st),
-            Err(end) => Err(end),
-        },
-        Err(end) => Err(end),
-    }
+    unless_held(cell, site, st)?;
+    perform(site, Act::Unlock(cell), st)?;
+    gives_up_base(place, st)
 }

@@ -46,13 +46,9 @@ fn waits(site: Site, condition: i64, mutex: i64, st: &mut State) -> Result<(), E
     ensures does { Does (view_state st.old) result (view_state st.new) (waits site condition mutex) }
     ensures fuel { st.new.fuel ≤ st.old.fuel }
 {
-    match perform(site, Act::Enter(first_cell(condition)), st) {
-        Ok(()) => match perform(site, Act::Unlock(first_cell(mutex)), st) {
-            Ok(()) => awakes(site, condition, mutex, st),
-            Err(end) => Err(end),
-        },
-        Err(end) => Err(end),
-    }
+    perform(site, Act::Enter(first_cell(condition)), st)?;
+    perform(site, Act::Unlock(first_cell(mutex)), st)?;
+    awakes(site, condition, mutex, st)
 }
 
 /// `wait(c, m)`
@@ -60,16 +56,10 @@ pub fn wait_call(site: Site, condition: i64, mutex: i64, st: &mut State) -> Resu
     ensures does { Does (view_state st.old) result (view_state st.new) (wait_call site condition mutex) }
     ensures fuel { st.new.fuel ≤ st.old.fuel }
 {
-    match unless(!is_zero(condition), 1, site, st) {
-        Ok(()) => match unless(!is_zero(mutex), 1, site, st) {
-            Ok(()) => match unless_held(first_cell(mutex), site, st) {
-                Ok(()) => waits(site, condition, mutex, st),
-                Err(end) => Err(end),
-            },
-            Err(end) => Err(end),
-        },
-        Err(end) => Err(end),
-    }
+    unless(!is_zero(condition), 1, site, st)?;
+    unless(!is_zero(mutex), 1, site, st)?;
+    unless_held(first_cell(mutex), site, st)?;
+    waits(site, condition, mutex, st)
 }
 
 fn signal_call(site: Site, condition: i64, st: &mut State) -> Result<(), End>

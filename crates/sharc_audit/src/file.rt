@@ -153,13 +153,13 @@ pub fn read_events(alloc: Global, bytes: &[u8]) -> Result<EventFile, FileFault>
 {
     match head(bytes) {
         Err(n) => Err(FileFault::Line(n)),
-        Ok((source, fuel, behind, n)) => match events_of(alloc, behind, n) {
-            Err(fault) => Err(fault),
-            Ok(events) => Ok(EventFile {
+        Ok((source, fuel, behind, n)) => {
+            let events = events_of(alloc, behind, n)?;
+            Ok(EventFile {
                 source: Vec::from_slice(alloc, source)?,
                 fuel,
                 events: Listed::of(events),
-            }),
-        },
+            })
+        }
     }
 }

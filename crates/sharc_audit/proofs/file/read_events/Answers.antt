@@ -1,5 +1,8 @@
+use Rattle.std.proofs.lemmas.Result.{err_from_is_err_and}
 use Rattle.sharc_audit.proofs.Filing.{fault_of}
 use Rattle.sharc_audit.proofs.file.read_events.Goals as goal
 
-pub returns-in-Err-events_of-clause-bad : goal.returns-in-Err-events_of-clause-bad
-returns-in-Err-events_of-clause-bad c = fault_of c.args.bytes.now c.in-Ok.source.now c.in-Ok.fuel c.in-Ok.behind.now c.in-Ok.n c.in-Err-events_of.fault c.in-Ok.ensures.found c.in-Err-events_of.ensures.bad
+pub returns-in_err-events-in-Ok-clause-bad : goal.returns-in_err-events-in-Ok-clause-bad
+returns-in_err-events-in-Ok-clause-bad c =
+    let p = err_from_is_err_and c.from_residual.result c.from_residual.ensures.1 in
+    rw (p.1, p.2) (fault_of c.args.bytes.now c.in-Ok.source.now c.in-Ok.fuel c.in-Ok.behind.now c.in-Ok.n c.in_err-events-in-Ok.field-0.0 c.in-Ok.ensures.found c.in_err-events-in-Ok.ensures.bad)
