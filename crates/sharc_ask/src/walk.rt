@@ -67,16 +67,12 @@ fn run<'a>(program: &'a Moded, frames: u32, plan: Plan<'a>, st: &mut State) -> R
     match plan {
         Plan::Done(value) => Ok(value),
         Plan::Calls(call) => numbered(calling(program, frames, call, st)),
-        Plan::Goes(task, rest) => match begin(program, task, st) {
-            Ok(first) => match run(program, frames, first, st) {
-                Ok(value) => match resume(program, rest, value, st) {
-                    Ok(later) => run(program, frames, later, st),
-                    Err(end) => Err(end),
-                },
-                Err(end) => Err(end),
-            },
-            Err(end) => Err(end),
-        },
+        Plan::Goes(task, rest) => {
+            let first = begin(program, task, st)?;
+            let value = run(program, frames, first, st)?;
+            let later = resume(program, rest, value, st)?;
+            run(program, frames, later, st)
+        }
     }
 }
 
@@ -137,16 +133,14 @@ fn arguments<'a>(
 {
     match all {
         [] => Ok(Vec::new(st.alloc)),
-        [first, rest @ ..] => match argument(program, frames, parameters, first, st) {
-            Ok(value) => match arguments(program, frames, rest_of(parameters), rest, st) {
-                Ok(values) => match with_first(value, values) {
-                    Some(all) => Ok(all),
-                    None => Err(End::Memory),
-                },
-                Err(end) => Err(end),
-            },
-            Err(end) => Err(end),
-        },
+        [first, rest @ ..] => {
+            let value = argument(program, frames, parameters, first, st)?;
+            let values = arguments(program, frames, rest_of(parameters), rest, st)?;
+            match with_first(value, values) {
+                Some(all) => Ok(all),
+                None => Err(End::Memory),
+            }
+        }
     }
 }
 
@@ -177,20 +171,18 @@ fn calling<'a>(program: &'a Moded, frames: u32, call: Call<'a>, st: &mut State) 
     ensures fuel { IfOk result (λ _. st.new.fuel ≤ st.old.fuel) }
 {
     let mark = st.frame.temporaries.len();
-    match arguments(
+    let values = arguments(
         program,
         frames,
         parameters_named(program, call.named),
         call.arguments,
         st,
-    ) {
-        Ok(values) => end_above(
-            called(program, frames, call, values.as_slice(), st),
-            mark,
-            st,
-        ),
-        Err(end) => Err(end),
-    }
+    )?;
+    end_above(
+        called(program, frames, call, values.as_slice(), st),
+        mark,
+        st,
+    )
 }
 
 #[cycle(walk)]
@@ -271,15 +263,11 @@ fn turn<'a>(
     ensures does { DoesAs view_left (view_state st.old) result (view_state st.new) (turn (loop_test (calls program.now frames) program.now l.entry) (loop_step (calls program.now frames) program.now l.entry) (loop_body (calls program.now frames) program.now l.entry)) }
     ensures fuel { IfOk result (λ _. st.new.fuel ≤ st.old.fuel) }
 {
-    match goes_on(program, frames, l, st) {
-        Ok(goes_on) => {
-            if goes_on {
-                around(program, frames, l, st)
-            } else {
-                Ok(Some(Flow::Next))
-            }
-        }
-        Err(end) => Err(end),
+    let goes_on = goes_on(program, frames, l, st)?;
+    if goes_on {
+        around(program, frames, l, st)
+    } else {
+        Ok(Some(Flow::Next))
     }
 }
 
@@ -294,12 +282,12 @@ fn around<'a>(
     ensures does { DoesAs view_left (view_state st.old) result (view_state st.new) (around (loop_step (calls program.now frames) program.now l.entry) (loop_body (calls program.now frames) program.now l.entry)) }
     ensures fuel { IfOk result (λ _. st.new.fuel ≤ st.old.fuel) }
 {
-    match exec(program, frames, l.kind, l.body, st) {
-        Ok(Flow::Next) => another(program, frames, l, st),
-        Ok(Flow::Continued) => another(program, frames, l, st),
-        Ok(Flow::Broken) => Ok(Some(Flow::Next)),
-        Ok(Flow::Returned(site, value)) => Ok(Some(Flow::Returned(site, value))),
-        Err(end) => Err(end),
+    let flow = exec(program, frames, l.kind, l.body, st)?;
+    match flow {
+        Flow::Next => another(program, frames, l, st),
+        Flow::Continued => another(program, frames, l, st),
+        Flow::Broken => Ok(Some(Flow::Next)),
+        Flow::Returned(site, value) => Ok(Some(Flow::Returned(site, value))),
     }
 }
 
@@ -315,10 +303,10 @@ fn another<'a>(
 {
     match l.step {
         None => Ok(None),
-        Some(step) => match simple(program, frames, step, st) {
-            Ok(()) => Ok(None),
-            Err(end) => Err(end),
-        },
+        Some(step) => {
+            simple(program, frames, step, st)?;
+            Ok(None)
+        }
     }
 }
 
@@ -334,10 +322,8 @@ fn for_loop<'a>(
     ensures fuel { IfOk result (λ _. st.new.fuel ≤ st.old.fuel) }
 {
     let mark = st.frame.variables.len();
-    match step_behind(alone(program, frames, Task::First(first), st)) {
-        Ok(()) => end_block(turns(program, frames, st.fuel, l, st), mark, st),
-        Err(end) => Err(end),
-    }
+    step_behind(alone(program, frames, Task::First(first), st))?;
+    end_block(turns(program, frames, st.fuel, l, st), mark, st)
 }
 
 #[cycle(walk)]
@@ -353,18 +339,14 @@ fn choice<'a>(
     ensures does { DoesAs view_flow (view_state st.old) result (view_state st.new) (choice (calls program.now frames) program.now (view_kind kind.entry) (view_expr test.now) (view_stmt body.now) (view_otherwise otherwise.entry)) }
     ensures fuel { IfOk result (λ _. st.new.fuel ≤ st.old.fuel) }
 {
-    match tested(program, frames, test, st) {
-        Ok(is_true) => {
-            if is_true {
-                exec(program, frames, kind, body, st)
-            } else {
-                match otherwise {
-                    None => Ok(Flow::Next),
-                    Some(otherwise) => exec(program, frames, kind, otherwise, st),
-                }
-            }
+    let is_true = tested(program, frames, test, st)?;
+    if is_true {
+        exec(program, frames, kind, body, st)
+    } else {
+        match otherwise {
+            None => Ok(Flow::Next),
+            Some(otherwise) => exec(program, frames, kind, otherwise, st),
         }
-        Err(end) => Err(end),
     }
 }
 
@@ -379,53 +361,41 @@ fn exec<'a>(
     ensures does { DoesAs view_flow (view_state st.old) result (view_state st.new) (exec (calls program.now frames) program.now (view_kind kind.entry) (view_stmt statement.now)) }
     ensures fuel { IfOk result (λ _. st.new.fuel + 1 ≤ st.old.fuel) }
 {
-    match enter(st) {
-        Ok(()) => match statement {
-            Stmt::Empty(_) => Ok(Flow::Next),
-            Stmt::Block(_, all) => block(program, frames, kind, all.as_slice(), st),
-            Stmt::Declare(_, local) => next_behind(alone(
-                program,
-                frames,
-                Task::Declare(local),
-                st,
-            )),
-            Stmt::Simple(_, simple) => next_behind(alone(
-                program,
-                frames,
-                Task::Simple(simple),
-                st,
-            )),
-            Stmt::Jump(_, jump) => Ok(left_by(*jump)),
-            Stmt::Return(span, value) => {
-                flow_behind(alone(program, frames, Task::Return(kind, span.first, value), st))
-            }
-            Stmt::If(_, test, body) => choice(program, frames, kind, test, body, None, st),
-            Stmt::IfElse {
-                test,
-                then,
-                otherwise,
-                ..
-            } => choice(program, frames, kind, test, then, Some(otherwise), st),
-            Stmt::While(_, test, body) => {
-                let l = Loop {
-                    kind,
-                    test: Some(test),
-                    step: None,
-                    body,
-                };
-                turns(program, frames, st.fuel, l, st)
-            }
-            Stmt::For(_, head, body) => {
-                let l = Loop {
-                    kind,
-                    test: test_of(head),
-                    step: step_of(head),
-                    body,
-                };
-                for_loop(program, frames, &head.first, l, st)
-            }
-        },
-        Err(end) => Err(end),
+    enter(st)?;
+    match statement {
+        Stmt::Empty(_) => Ok(Flow::Next),
+        Stmt::Block(_, all) => block(program, frames, kind, all.as_slice(), st),
+        Stmt::Declare(_, local) => next_behind(alone(program, frames, Task::Declare(local), st)),
+        Stmt::Simple(_, simple) => next_behind(alone(program, frames, Task::Simple(simple), st)),
+        Stmt::Jump(_, jump) => Ok(left_by(*jump)),
+        Stmt::Return(span, value) => {
+            flow_behind(alone(program, frames, Task::Return(kind, span.first, value), st))
+        }
+        Stmt::If(_, test, body) => choice(program, frames, kind, test, body, None, st),
+        Stmt::IfElse {
+            test,
+            then,
+            otherwise,
+            ..
+        } => choice(program, frames, kind, test, then, Some(otherwise), st),
+        Stmt::While(_, test, body) => {
+            let l = Loop {
+                kind,
+                test: Some(test),
+                step: None,
+                body,
+            };
+            turns(program, frames, st.fuel, l, st)
+        }
+        Stmt::For(_, head, body) => {
+            let l = Loop {
+                kind,
+                test: test_of(head),
+                step: step_of(head),
+                body,
+            };
+            for_loop(program, frames, &head.first, l, st)
+        }
     }
 }
 
@@ -440,10 +410,8 @@ fn body<'a>(
     ensures does { DoesAs view_flow (view_state st.old) result (view_state st.new) (entered (exec_all (calls program.now frames) program.now (view_kind kind.entry) (view_statements all.now))) }
     ensures fuel { IfOk result (λ _. st.new.fuel ≤ st.old.fuel) }
 {
-    match enter(st) {
-        Ok(()) => exec_all(program, frames, kind, all, st),
-        Err(end) => Err(end),
-    }
+    enter(st)?;
+    exec_all(program, frames, kind, all, st)
 }
 
 #[cycle(walk)]
@@ -458,21 +426,17 @@ fn body_block<'a>(
     ensures fuel { IfOk result (λ _. st.new.fuel ≤ st.old.fuel) }
 {
     let mark = st.frame.variables.len();
-    match begin_parameters(function.parameters.as_slice(), values, st) {
-        Ok(()) => match body(
-            program,
-            frames,
-            declared_kind(&function.result),
-            function.statements.as_slice(),
-            st,
-        ) {
-            Ok(flow) => match end_variables(mark, st) {
-                Ok(()) => Ok(left_at(function, flow)),
-                Err(_) => Err(End::Memory),
-            },
-            Err(end) => Err(end),
-        },
-        Err(end) => Err(end),
+    begin_parameters(function.parameters.as_slice(), values, st)?;
+    let flow = body(
+        program,
+        frames,
+        declared_kind(&function.result),
+        function.statements.as_slice(),
+        st,
+    )?;
+    match end_variables(mark, st) {
+        Ok(()) => Ok(left_at(function, flow)),
+        Err(_) => Err(End::Memory),
     }
 }
 
@@ -489,14 +453,12 @@ pub fn run_function<'a>(
     ensures fuel { IfOk result (λ _. st.new.fuel ≤ st.old.fuel) }
 {
     match push_frame(pointers_passed(function.parameters.as_slice()), st) {
-        Some(kept) => match body_block(program, frames, function, values, st) {
-            Ok(left) => {
-                st.frame = kept.frame;
-                st.below = kept.below;
-                Ok(left)
-            }
-            Err(end) => Err(end),
-        },
+        Some(kept) => {
+            let left = body_block(program, frames, function, values, st)?;
+            st.frame = kept.frame;
+            st.below = kept.below;
+            Ok(left)
+        }
         None => Err(End::Memory),
     }
 }
@@ -518,9 +480,9 @@ fn function<'a>(
     }
     match program.typed().function_at(number) {
         None => Ok(0),
-        Some(function) => match run_function(program, frames - 1, function, values, st) {
-            Ok(left) => Ok(left.1),
-            Err(end) => Err(end),
-        },
+        Some(function) => {
+            let left = run_function(program, frames - 1, function, values, st)?;
+            Ok(left.1)
+        }
     }
 }
