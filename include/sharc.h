@@ -1,11 +1,11 @@
 /*
- * Lets gcc compile a program of the language that SharC checks:
+ * Lets gcc and clang compile a program of the language that SharC checks:
  *
  *     gcc -include include/sharc.h -pthread program.c
  *
- * The modes are removed (`racy` becomes `volatile`, so that a flag is read each time), and the built-in calls become
- * calls of the pthread library. Nothing is checked: a program that SharC would stop or report behaves here as C does.
- * docs/USING.md says what else differs, and which further options of gcc bring it closer.
+ * The modes are removed (`racy` becomes `_Atomic`, so that a race that is meant is one that C defines), and the built-in
+ * calls become calls of the pthread library. Nothing is checked: a program that SharC would stop or report behaves here
+ * as C does. docs/USING.md says what else differs, and which further options bring the compilers closer.
  *
  * The program is one source, so the state of its threads is static here. Include system headers before this one.
  * If the program defines `struct cond`, `wait`, `signal` or `broadcast` itself, give gcc -DSHARC_OWN_CONDITIONS.
@@ -26,7 +26,11 @@
 #define readonly
 #define dynamic
 #define locked(path)
+#ifdef __STDC_NO_ATOMICS__
 #define racy volatile
+#else
+#define racy _Atomic
+#endif
 
 /* ---- memory: malloc gives zeroed memory; SCAST and free null what they take */
 
@@ -35,7 +39,7 @@
 static inline void *sharc_zeroed(__SIZE_TYPE__ size) {
     void *made = __builtin_calloc(1, size);
     if (made == NULL) {
-        __builtin_puts("sharc.h: out of memory");
+        __builtin_printf("sharc.h: out of memory\n");
         __builtin_abort();
     }
     return made;
@@ -44,7 +48,7 @@ static inline void *sharc_zeroed(__SIZE_TYPE__ size) {
 #define SCAST(type, lvalue) \
     (__extension__({ \
         __typeof__(lvalue) *sharc_place = &(lvalue); \
-        type sharc_taken = *sharc_place; \
+        type sharc_taken = (type) *sharc_place; \
         *sharc_place = NULL; \
         sharc_taken; \
     }))
@@ -57,19 +61,14 @@ static inline void *sharc_zeroed(__SIZE_TYPE__ size) {
         __builtin_free(sharc_taken); \
     }))
 
-/* ---- mutexes: a mutex is racy, so the type has it */
+/* ---- mutexes: each is racy, so the type has it; macros, so that a tool such as ThreadSanitizer names the user's line */
 
-typedef volatile struct {
+typedef struct {
     pthread_mutex_t is;
-} mutex;
+} racy mutex;
 
-static inline void lock(mutex *m) {
-    pthread_mutex_lock((pthread_mutex_t *) &m->is);
-}
-
-static inline void unlock(mutex *m) {
-    pthread_mutex_unlock((pthread_mutex_t *) &m->is);
-}
+#define lock(m) ((void) pthread_mutex_lock((pthread_mutex_t *) (m)))
+#define unlock(m) ((void) pthread_mutex_unlock((pthread_mutex_t *) (m)))
 
 /* ---- threads: main is 0, and the others are numbered from 1 in the order in which they are started */
 
@@ -132,7 +131,7 @@ static inline int sharc_spawn(void (*start)(void (*)(void), long), void (*functi
     pthread_mutex_unlock(&sharc_threads.guard);
     *thread = (sharc_thread){number, start, function, argument};
     if (number >= SHARC_THREADS || pthread_create(&made, NULL, sharc_run, thread) != 0) {
-        __builtin_puts("sharc.h: no more threads");
+        __builtin_printf("sharc.h: no more threads\n");
         __builtin_abort();
     }
     pthread_detach(made);
@@ -149,7 +148,7 @@ static inline int sharc_spawn(void (*start)(void (*)(void), long), void (*functi
 static inline void join(int number) {
     pthread_mutex_lock(&sharc_threads.guard);
     if (number < 0 || number > sharc_threads.started) {
-        __builtin_puts("sharc.h: no such thread");
+        __builtin_printf("sharc.h: no such thread\n");
         __builtin_abort();
     }
     while (!sharc_threads.gone[number]) pthread_cond_wait(&sharc_threads.ended, &sharc_threads.guard);
