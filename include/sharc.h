@@ -3,9 +3,9 @@
  *
  *     gcc -include include/sharc.h -pthread program.c
  *
- * The modes are removed (`racy` becomes `_Atomic`, so that a race that is meant is one that C defines), and the built-in
- * calls become calls of the pthread library. Nothing is checked: a program that SharC would stop or report behaves here
- * as C does. docs/USING.md says what else differs, and which further options bring the compilers closer.
+ * The modes are removed (`racy` becomes `_Atomic`, so that a race that is meant is one that C defines), and the
+ * built-in calls become calls of the pthread library. Nothing is checked: a program that SharC would stop or report
+ * behaves here as C does. docs/USING.md says what else differs, and which further options bring the compilers closer.
  *
  * The program is one source, so the state of its threads is static here. Include system headers before this one.
  * If the program defines `struct cond`, `wait`, `signal` or `broadcast` itself, give gcc -DSHARC_OWN_CONDITIONS.
@@ -61,7 +61,7 @@ static inline void *sharc_zeroed(__SIZE_TYPE__ size) {
         __builtin_free(sharc_taken); \
     }))
 
-/* ---- mutexes: each is racy, so the type has it; macros, so that a tool such as ThreadSanitizer names the user's line */
+/* ---- mutexes: each is racy, so the type has it; macros, so that a tool like ThreadSanitizer names the user's line */
 
 typedef struct {
     pthread_mutex_t is;
