@@ -1,37 +1,39 @@
 /* deadlock
-   Two kinds of waiters share one condition variable, and a release wakes only one of them: perhaps the wrong one. */
-struct pool { mutex racy * readonly m; struct cond dynamic * readonly changed; int racy units; };
-void take(struct pool * p, int n) {
-  lock(&*p->m);
-  while (p->units < n) wait(p->changed, p->m);
-  p->units = p->units - n;
-  unlock(&*p->m);
+   Makers and takers wait for one condition variable, and each wakes one waiter: it may be one of its own kind. */
+struct shelf { mutex racy * readonly m; struct cond dynamic * readonly changed; int racy full; };
+void put(struct shelf * s) {
+  lock(&*s->m);
+  while (s->full == 1) wait(s->changed, s->m);
+  s->full = 1;
+  signal(s->changed);
+  unlock(&*s->m);
 }
-void give(struct pool * p, int n) {
-  lock(&*p->m);
-  p->units = p->units + n;
-  signal(p->changed);
-  unlock(&*p->m);
+void get(struct shelf * s) {
+  lock(&*s->m);
+  while (s->full == 0) wait(s->changed, s->m);
+  s->full = 0;
+  signal(s->changed);
+  unlock(&*s->m);
 }
-void large(struct pool * p) { take(p, 3); give(p, 3); }
-void small(struct pool * p) { take(p, 1); give(p, 1); }
-void owner(struct pool * p) {
-  take(p, 2);
-  for (int i = 0; i < 30; i = i + 1) ;
-  give(p, 1);
-  give(p, 1);
+void taker(struct shelf * s) { for (int i = 0; i < 2; i = i + 1) get(s); }
+void maker(struct shelf * s) {
+  for (int i = 0; i < 2; i = i + 1) {
+    for (int work = 0; work < 8; work = work + 1) ;
+    put(s);
+  }
 }
 int main(void) {
-  struct pool * own = malloc(sizeof(struct pool));
+  struct shelf * own = malloc(sizeof(struct shelf));
   own->m = malloc(sizeof(mutex));
   own->changed = malloc(sizeof(struct cond));
-  own->units = 3;
-  struct pool dynamic * p = SCAST(struct pool dynamic *, own);
-  int a = spawn(large, p);
-  int b = spawn(small, p);
-  int c = spawn(owner, p);
+  struct shelf dynamic * s = SCAST(struct shelf dynamic *, own);
+  int a = spawn(taker, s);
+  int b = spawn(taker, s);
+  int c = spawn(maker, s);
+  int d = spawn(maker, s);
   join(a);
   join(b);
   join(c);
+  join(d);
   return 0;
 }

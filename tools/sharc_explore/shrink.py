@@ -1,0 +1,98 @@
+"""Makes schedules short: as few switches as tries find, and then as few turns before each."""
+import random
+
+from .findings import findings
+from .program import in_turns
+
+
+def joined(schedule):
+    """The same schedule, one line where the same place goes on."""
+    out = []
+    for place, turns in schedule:
+        if out and out[-1][0] == place:
+            out[-1] = (place, out[-1][1] + turns)
+        elif turns:
+            out.append((place, turns))
+    return out
+
+
+class Shrinker:
+    """Makes schedules of one program shorter, each of which has to show one finding."""
+
+    def __init__(self, program, key, budget=400):
+        self.program, self.key, self.budget = program, key, budget
+
+    def shows(self, schedule):
+        self.budget -= 1
+        return self.budget >= 0 and any(found.key == self.key for found in findings(self.program.replay(schedule)))
+
+    def shrunk(self, schedule):
+        tail = in_turns(self.program.threads)
+        if schedule[-len(tail):] == tail and self.shows(schedule[:-len(tail)]):
+            schedule = schedule[:-len(tail)]
+        return self._fewer_turns(self._low_places(self._fewer_lines(joined(schedule))))
+
+    def _fewer_lines(self, schedule):
+        step = max(1, len(schedule) // 2)
+        while step and self.budget > 0:
+            shorter = self._without(schedule, step)
+            step = step if step == 1 and len(shorter) < len(schedule) else step // 2
+            schedule = shorter
+        return schedule
+
+    def _without(self, schedule, step):
+        """Leaves out each run of so many lines that is not needed: its turns are dropped, or given to the line before."""
+        first = 0
+        while first < len(schedule) and self.budget > 0:
+            before, out, behind = schedule[:first], schedule[first:first + step], schedule[first + step:]
+            turns = sum(turns for _, turns in out)
+            given = [joined(before[:-1] + [(before[-1][0], before[-1][1] + turns)] + behind)] if before else []
+            shorter = next((lines for lines in [joined(before + behind)] + given if self.shows(lines)), None)
+            schedule, first = (schedule, first + step) if shorter is None else (shorter, first)
+        return schedule
+
+    def _low_places(self, schedule):
+        for at, (place, turns) in enumerate(schedule):
+            tried = (joined(schedule[:at] + [(low, turns)] + schedule[at + 1:]) for low in range(place))
+            schedule = next((lines for lines in tried if len(lines) == len(schedule) and self.shows(lines)), schedule)
+        return schedule
+
+    def _fewer_turns(self, schedule):
+        """Halves the turns of each line as often as the finding stays, and then looks for the least."""
+        for at, (place, turns) in enumerate(schedule):
+            low, high = 0, turns
+            while high - low > 1 and self.budget > 0:
+                middle = (low + high) // 2
+                shows = self.shows(schedule[:at] + [(place, middle)] + schedule[at + 1:])
+                low, high = (low, middle) if shows else (middle, high)
+            schedule = schedule[:at] + [(place, high)] + schedule[at + 1:]
+        return schedule
+
+
+def without_pauses(program, key, schedule, tries=150):
+    """A schedule of the program itself, made of one that shows the finding with pauses: before a thread's first pause
+    both count alike, behind it the program needs fewer turns."""
+    shrinker, draw = Shrinker(program, key, tries), random.Random(str(schedule))
+    lines = schedule
+    while not shrinker.shows(lines):
+        if shrinker.budget < 0:
+            return None
+        lines = [(place, draw.randint(1, turns) if draw.random() < 0.5 else turns) for place, turns in schedule]
+    return lines
+
+
+def shortest(ways, finding, tries=200):
+    """A program, as it is if that is found, else with pauses, and a short schedule of it that shows the finding."""
+    numbers = [finding.number] if finding.number is not None else []
+    best = None
+    for number in numbers + list(range(tries)):
+        if ways.way(number)[0] == "seeds" or not any(one.key == finding.key for one in findings(ways.run(number))):
+            continue
+        program, schedule, paused = ways.prepared(number)
+        schedule = Shrinker(program, finding.key).shrunk(schedule)
+        best = best or (program, schedule, paused)
+        if paused:
+            schedule = without_pauses(ways.program, finding.key, schedule)
+        if schedule is not None:
+            return ways.program, Shrinker(ways.program, finding.key).shrunk(schedule), []
+    return best
