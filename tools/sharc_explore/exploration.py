@@ -49,7 +49,7 @@ class Exploration:
                 self.statuses["cut" if self.ways.is_cut(run) else run.status] += 1
                 for shown in findings(run) if not self.ways.is_cut(run) else []:
                     self.found.setdefault(shown.key, shown).note(run, self.ways.rank(run.number), shown)
-                progress(sum(self.statuses.values()), count, len(self.findings()))
+                progress(self.total(), count, len(self.findings()))
             if self.has_twin:
                 self.reach(pool, first)
 
@@ -70,7 +70,11 @@ class Exploration:
 
     def outputs(self):
         """What the runs that ended print."""
-        return sorted((one for one in self.found.values() if one.kind == "output"), key=lambda one: (-one.count, one.title))
+        ended = [one for one in self.found.values() if one.kind == "output"]
+        return sorted(ended, key=lambda one: (-one.count, one.title))
+
+    def total(self):
+        return sum(self.statuses.values())
 
     def worst(self):
         return next(status for status in [*MEANING, 0] if self.statuses[status] or status == 0)
@@ -87,7 +91,7 @@ class Exploration:
     def shown(self, finding):
         """The events and the text of a short run of the traced twin that shows a finding, or None."""
         paused = self.ways.prepared(finding.number)[2] if self.ways.way(finding.number)[0] != "seeds" else []
-        for pauses, way in ((paused, "walk"), ((), "walk"), ((), "window"), ((), "sweep")):
+        for pauses, way in ((paused, "walk"), ((), "walk"), ((), "few")):
             twin, program = self.twin(pauses)
             ways = Ways(program, self.source, way)
             for number in range(60):

@@ -3,11 +3,6 @@ import re
 from collections import namedtuple
 
 MEANING = {3: "a report", 4: "a stop", 5: "a deadlock", 6: "the limit of events", 0: "ended"}   # the worst first
-TITLES = {"A1": "conflicting read", "A2": "conflicting write", "A3": "access without its lock",
-          "A4": "cast or free with another reference", "X1": "NULL used", "X2": "index out of bounds",
-          "X3": "zero divisor", "X4": "value out of range", "X5": "mutex not held", "X6": "mutex already held",
-          "X7": "no such thread", "X8": "thread limit", "X9": "heap full", "X10": "call depth",
-          "X11": "return with a lock held", "X12": "size not positive", "X13": "too many locks"}
 AT = r" at (?P<file>.+):(?P<line>\d+)"
 FORMS = [re.compile("^" + form + "$") for form in (
     r"(?P<code>A[12]) (?P<act>read|write) of (?P<what>.+)" + AT + r" conflicts with (?P<act2>read|write) of"
@@ -38,7 +33,8 @@ class Left:
         self.place, self.place2 = self._place(""), self._place("2")
 
     def _place(self, which):
-        return Place(self.part["file" + which], int(self.part["line" + which])) if "line" + which in self.part else None
+        line = self.part.get("line" + which)
+        return Place(self.part["file" + which], int(line)) if line else None
 
     def wanted(self):
         """What a thread waits for, without the numbers of threads."""
@@ -60,14 +56,19 @@ class Finding:
     def __init__(self, kind, title, places, steps=(), key=None):
         self.kind, self.title, self.places, self.steps = kind, title, places, list(steps)
         self.key = (kind, title if key is None else key)
-        self.count, self.status, self.number, self.rank, self.text = 0, 0, None, None, ""
-        self.schedule, self.pauses, self.file = None, [], None       # when it was shrunk, and saved
+        self.status, self.number, self.rank, self.text, self.numbers = 0, None, None, "", []
+        self.schedule, self.pauses, self.file = None, [], None          # when it was shrunk, and saved
+
+    @property
+    def count(self):
+        return len(self.numbers)
 
     def note(self, run, rank, shown):
         """One more run, and the finding as this run shows it."""
-        self.count += 1
+        self.numbers.append(run.number)
         if self.rank is None or rank < self.rank:
-            self.number, self.rank, self.status, self.text, self.steps = run.number, rank, run.status, run.text, shown.steps
+            self.number, self.status, self.text = run.number, run.status, run.text
+            self.rank, self.steps = rank, shown.steps
 
 
 def conflict(left):
@@ -114,7 +115,7 @@ def deadlock(threads):
 
 
 def findings(run):
-    """What a run shows, each with a count of 0. What it printed is a finding too, if it ended."""
+    """What a run shows, each with no run noted. What it printed is a finding too, if it ended."""
     prints, threads = parse(run.text)
     found = [conflict(left) for left in threads if left.code in ("A1", "A2")]
     for left in threads:

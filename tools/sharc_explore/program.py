@@ -76,7 +76,7 @@ class Program:
 
     def file_of(self, schedule, text="", limit=None):
         """A file for replay: the source, the schedule and the text of its run."""
-        lines = "".join(f"{place} {turns}\n" for place, turns in schedule)
+        lines = "".join(f"{place} {turns}\n" for place, turns in schedule if turns)
         head = f"\n%%schedule {self.granules} {min(limit or self.events, LONGEST)}\n"
         return self.source + (head + lines + "%%text\n" + text).encode("latin-1")
 

@@ -3,7 +3,7 @@ import os
 import re
 from collections import namedtuple
 
-from .findings import TITLES, Place
+from .findings import Place
 
 CHECKED = re.compile(r"(?P<file>.+?):(?P<line>\d+): (?P<code>suggest|warning|[LPCM]\d+) (?P<text>.*)$")
 Fault = namedtuple("Fault", "code place text cast")
@@ -79,8 +79,7 @@ def of_finding(finding, again, path):
 
 
 def document(results):
-    rules = [{"id": rule, "shortDescription": {"text": TITLES.get(rule, rule)},
-              "help": {"text": f"See docs/codes/{rule}.md of SharC"}}
+    rules = [{"id": rule, "shortDescription": {"text": f"{rule}: see docs/codes of SharC"}}
              for rule in sorted({result["ruleId"] for result in results})]
     return {"$schema": "https://json.schemastore.org/sarif-2.1.0.json", "version": "2.1.0",
             "runs": [{"tool": {"driver": {"name": "SharC", "rules": rules}}, "columnKind": "unicodeCodePoints",

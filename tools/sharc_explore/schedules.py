@@ -2,11 +2,10 @@
 import random
 
 from . import pauses
-from .program import LONGEST, in_turns
+from .program import LONGEST, Refused, in_turns
 
-WAYS = ("walk", "pauses", "window", "sweep", "seeds", "pct")
-CYCLE = ("walk", "pauses", "window", "pauses", "walk", "pct", "pauses", "sweep", "seeds", "window")
-SIMPLE = ("sweep", "pct", "walk", "window", "pauses", "seeds")    # what is kept of a finding's runs: few switches
+CYCLE = ("walk", "pauses", "few", "pauses", "walk", "pauses", "sweep", "pauses", "walk", "seeds")
+SIMPLE = ("sweep", "few", "walk", "pauses", "seeds")    # what is kept of a finding's runs: few switches
 
 
 class Ways:
@@ -28,15 +27,20 @@ class Ways:
     def prepared(self, number):
         """The program that a run is made of, with pauses or as it is, its schedule, and the pauses."""
         way, index = self.way(number)
+        if way == "seeds":
+            raise Refused(f"run {number} is that of sharc run --seed {index}", 8)
         draw, turns, threads = random.Random(f"{way} {index}"), self.program.turns, self.program.threads
         if way == "pauses":
             chosen = pauses.drawn(draw, self.source, turns, self.program.events)
-            twin = self.program.twin(pauses.paused(self.source, chosen).encode("latin-1"))
-            twin.events = LONGEST
-            return twin, stretches(draw, turns, threads, turns // 4) + in_turns(threads), chosen
-        lines = {"walk": walk, "window": window, "pct": points}.get(way)
+            return self.paused(chosen), stretches(draw, turns, threads, turns // 4) + in_turns(threads), chosen
+        lines = {"walk": walk, "few": few}.get(way)
         lines = lines(draw, turns, threads) if lines else one_switch(index, turns, threads)
         return self.program, lines + in_turns(threads), []
+
+    def paused(self, chosen):
+        twin = self.program.twin(pauses.paused(self.source, chosen).encode("latin-1"))
+        twin.events = LONGEST
+        return twin
 
     def run(self, number):
         way, index = self.way(number)
@@ -48,11 +52,6 @@ class Ways:
     def is_cut(self, run):
         """Whether pauses have used up the steps of a thread: such a run says nothing."""
         return run.status == 6 and self.way(run.number)[0] == "pauses"
-
-    def sweeps(self, count):
-        """Whether all schedules with at most one switch are among the first runs."""
-        program, cycle = self.program, self.cycle
-        return count // len(cycle) * cycle.count("sweep") >= one_switches(program.turns, program.threads)
 
 
 def stretches(draw, turns, threads, longest):
@@ -68,21 +67,10 @@ def walk(draw, turns, threads):
     return stretches(draw, 2 * turns, threads, turns)
 
 
-def window(draw, turns, threads):
-    """Many switches in one short window at a place drawn from the whole run, and none before and behind it."""
-    before = [(draw.randrange(threads), draw.randint(1, turns))]
-    left = 2 ** draw.randint(3, 8)
-    while left > 0:
-        before.append((draw.randrange(threads), 1 + int(draw.expovariate(1 / 6))))
-        left -= before[-1][1]
-    return before + [(draw.randrange(threads), turns)]
-
-
-def points(draw, turns, threads):
+def few(draw, turns, threads):
     """One to five switches at places drawn evenly from the whole run, after PCT (Burckhardt and others, 2010)."""
     cuts = sorted(draw.randint(1, turns) for _ in range(draw.randint(1, 5)))
-    lengths = [after - before for before, after in zip([0] + cuts, cuts + [2 * turns])]
-    return [(draw.randrange(threads), length) for length in lengths if length]
+    return [(draw.randrange(threads), after - before) for before, after in zip([0, *cuts], [*cuts, 2 * turns])]
 
 
 def one_switch(number, turns, threads):
@@ -94,8 +82,3 @@ def one_switch(number, turns, threads):
     stride = next(step for step in (7919, 7907, 7901) if turns % step)
     first, second = pairs[pair]
     return [(first, 1 + at * stride % turns), (second, turns)]
-
-
-def one_switches(turns, threads):
-    """How many of them there are."""
-    return threads + threads * (threads - 1) * turns

@@ -30,7 +30,7 @@ class Shrinker:
         tail = in_turns(self.program.threads)
         if schedule[-len(tail):] == tail and self.shows(schedule[:-len(tail)]):
             schedule = schedule[:-len(tail)]
-        return self._fewer_turns(self._low_places(self._fewer_lines(joined(schedule))))
+        return self._fewer_turns(self._fewer_lines(joined(schedule)))
 
     def _fewer_lines(self, schedule):
         step = max(1, len(schedule) // 2)
@@ -41,7 +41,7 @@ class Shrinker:
         return schedule
 
     def _without(self, schedule, step):
-        """Leaves out each run of so many lines that is not needed: its turns are dropped, or given to the line before."""
+        """Leaves out so many lines wherever they are not needed: their turns are dropped, or go to the line before."""
         first = 0
         while first < len(schedule) and self.budget > 0:
             before, out, behind = schedule[:first], schedule[first:first + step], schedule[first + step:]
@@ -49,12 +49,6 @@ class Shrinker:
             given = [joined(before[:-1] + [(before[-1][0], before[-1][1] + turns)] + behind)] if before else []
             shorter = next((lines for lines in [joined(before + behind)] + given if self.shows(lines)), None)
             schedule, first = (schedule, first + step) if shorter is None else (shorter, first)
-        return schedule
-
-    def _low_places(self, schedule):
-        for at, (place, turns) in enumerate(schedule):
-            tried = (joined(schedule[:at] + [(low, turns)] + schedule[at + 1:]) for low in range(place))
-            schedule = next((lines for lines in tried if len(lines) == len(schedule) and self.shows(lines)), schedule)
         return schedule
 
     def _fewer_turns(self, schedule):
@@ -69,11 +63,18 @@ class Shrinker:
         return schedule
 
 
+def needed(ways, key, schedule, pauses):
+    """The pauses without those that the finding does not need."""
+    for pause in list(pauses):
+        fewer = [one for one in pauses if one is not pause]
+        pauses = fewer if Shrinker(ways.paused(fewer), key).shows(schedule) else pauses
+    return pauses
+
+
 def without_pauses(program, key, schedule, tries=150):
     """A schedule of the program itself, made of one that shows the finding with pauses: before a thread's first pause
     both count alike, behind it the program needs fewer turns."""
-    shrinker, draw = Shrinker(program, key, tries), random.Random(str(schedule))
-    lines = schedule
+    shrinker, draw, lines = Shrinker(program, key, tries), random.Random(str(schedule)), schedule
     while not shrinker.shows(lines):
         if shrinker.budget < 0:
             return None
@@ -81,17 +82,19 @@ def without_pauses(program, key, schedule, tries=150):
     return lines
 
 
-def shortest(ways, finding, tries=200):
-    """A program, as it is if that is found, else with pauses, and a short schedule of it that shows the finding."""
-    numbers = [finding.number] if finding.number is not None else []
-    best = None
-    for number in numbers + list(range(tries)):
-        if ways.way(number)[0] == "seeds" or not any(one.key == finding.key for one in findings(ways.run(number))):
-            continue
-        program, schedule, paused = ways.prepared(number)
+def shortest(ways, finding, tries=20):
+    """A program, as it is if a schedule of it is found, else with pauses; a short schedule that shows the finding; and
+    the pauses. From the runs that showed it, or new ones if only seeds did."""
+    shown, best = [number for number in finding.numbers if ways.way(number)[0] != "seeds"], None
+    more = (number for number in range(300) if ways.way(number)[0] != "seeds"
+            and any(one.key == finding.key for one in findings(ways.run(number))))
+    for number in sorted(shown, key=ways.rank)[:tries] or more:
+        program, schedule, pauses = ways.prepared(number)
+        pauses = needed(ways, finding.key, schedule, pauses)
+        program = ways.paused(pauses) if pauses else ways.program
         schedule = Shrinker(program, finding.key).shrunk(schedule)
-        best = best or (program, schedule, paused)
-        if paused:
+        best = best or (program, schedule, pauses)
+        if pauses:
             schedule = without_pauses(ways.program, finding.key, schedule)
         if schedule is not None:
             return ways.program, Shrinker(ways.program, finding.key).shrunk(schedule), []

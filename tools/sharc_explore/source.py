@@ -38,9 +38,6 @@ class Source:
             number = self._note("end", (function.last, function.last), function.last, False)
             self.ends[self.function] = self.statements[number]
 
-    def files(self):
-        return list(dict.fromkeys(token.place.file for token in self.tokens))
-
     def text_of(self, first, behind):
         """Tokens as one line."""
         return re.sub(r"\s+", " ", re.sub(r"(?m)^[ \t]*#.*$", "", self.text[self.tokens[first].start:
@@ -56,7 +53,7 @@ class Source:
                 return at
 
     def written(self, changes, start=0, end=None):
-        """The text between two offsets with changes: (start, end, text). Of several at one offset the first is first."""
+        """The text between two offsets with changes: (start, end, text); those at one offset in their order."""
         out, at, end = [], start, len(self.text) if end is None else end
         for low, high, text in sorted(changes, key=lambda change: change[:2]):
             if start <= low and high <= end:
@@ -111,7 +108,7 @@ class Source:
             head = at
             while self.tokens[head].text != ";":
                 head = self.close(head) if self.tokens[head].text in "([" else head + 1
-            words = {self.tokens[i].text for i in range(at, head) if self.tokens[i + 1].text in "(;"}
+            words = {self.tokens[i].text for i in range(at, head) if self.tokens[i + 1].text == "("} | {word}
             kind = next((kind for kind in KINDS if kind in words), "step")
             behind = head + 1
         self.statements[number] = self.statements[number]._replace(kind=kind, text=self.text_of(at, max(head, at + 1)),

@@ -85,7 +85,8 @@ class Twin:
         yield [(first.start, first.end if none else first.start, "long me_sharc" + ("" if none else ", "))]
         for which, at in enumerate(self.spawns):
             if tokens[at + 2].text == function.name:
-                self.sites.append(Site("start", self.source.ends[function.name], which))
+                begin = self.source.ends[function.name]._replace(kind="start", place=tokens[function.named].place)
+                self.sites.append(Site("start", begin, which))
                 named = tokens[function.named].end
                 yield [(named, named, f"_sharc_{which}"), (body, body, BEGIN % (len(self.sites) - 1))]
 
@@ -105,8 +106,3 @@ class Twin:
                 kind, statement, spawn = self.sites[site]
                 out.append(Event(lane, kind, statement, spawn))
         return out
-
-
-def told(text):
-    """What the program itself prints, and the lines about threads, of a run of its twin."""
-    return "".join(line + "\n" for line in text.splitlines() if not (re.match(r"\d+$", line) and int(line) >= BASE))
