@@ -73,7 +73,8 @@ class Texts(unittest.TestCase):
                 for order in pairs}
         found = findings.findings(run_of(5, DEADLOCK[0].format(0, 1), DEADLOCK[1].format(1, 0)))[0]
         self.assertEqual(len(keys), 1)
-        self.assertEqual(found.steps, ["A waits at a.c:5 for mutex a, which B holds", "B waits at a.c:9 for mutex b, which A holds"])
+        self.assertEqual(found.steps, ["A waits at a.c:5 for mutex a, which B holds",
+                                       "B waits at a.c:9 for mutex b, which A holds"])
 
     def test_the_place_of_a_suggested_cast_is_certain_or_none(self):
         for line, lvalue, span in [("  s->b = p;", "p", (9, 10)), ("  p->n = p;", "p", (9, 10)),
@@ -95,7 +96,8 @@ class Schedules(unittest.TestCase):
 
     def test_threads_that_wait_in_loops_are_not_starved(self):
         with tempfile.NamedTemporaryFile("w", suffix=".i") as file:
-            file.write("int racy f; void w(int k) { f = 1; } int main(void) { int t = spawn(w, 0); while (f == 0) ; return 0; }")
+            file.write("int racy f;\nvoid w(int k) { f = 1; }\n"
+                       "int main(void) { int t = spawn(w, 0); while (f == 0) ; return 0; }\n")
             file.flush()
             self.assertEqual({explored(file.name).ways.run(number).status for number in range(40)}, {0})
 
@@ -114,19 +116,23 @@ class Twins(unittest.TestCase):
             self.assertEqual(one.status, three.status, path)
 
     def test_events_are_in_order_and_hold_prints(self):
-        source = Source("void w(int k) { print(k); }\nint main(void) {\n if (1) join(spawn(w, 5)); else ;\n return 0; }")
+        source = Source("void w(int k) { print(k); }\n"
+                        "int main(void) {\n if (1) join(spawn(w, 5)); else ;\n return 0; }")
         traced = twin.Twin(source)
         run = program.Program(traced.text().encode()).replay([(0, 1000)])
         self.assertEqual([(event.lane, event.kind, event.value) for event in traced.events(run.text)],
-                         [(0, "if", None), (0, "join", None), (0, "spawned", (0, 1)), (1, "start", 0), (1, "print", None),
-                          (1, "printed", 5), (1, "end", None), (0, "passed", None), (0, "return", None)])
+                         [(0, "if", None), (0, "join", None), (0, "spawned", (0, 1)), (1, "start", 0),
+                          (1, "print", None), (1, "printed", 5), (1, "end", None), (0, "passed", None),
+                          (0, "return", None)])
 
     def test_lanes_know_what_is_held_and_waited_for(self):
         exploration = explored(f"{HERE}/programs/two_tellers.c", 100)
         shown = lanes.Lanes(*exploration.shown(exploration.findings()[0]))
         ends = " ".join(map(shown.end, shown.lanes))
-        self.assertEqual([shown.title(lane) for lane in shown.lanes], ["thread 0: main", "thread 1: teller", "thread 2: teller"])
-        self.assertEqual(len(re.findall(r"waits for mutex to->m at \S+:8 held by thread \d; holds from->m since line 6", ends)), 2)
+        self.assertEqual([shown.title(lane) for lane in shown.lanes],
+                         ["thread 0: main", "thread 1: teller", "thread 2: teller"])
+        waits = r"waits for mutex to->m at \S+:8 held by thread \d; holds from->m since line 6"
+        self.assertEqual(len(re.findall(waits, ends)), 2)
 
 
 class Found(unittest.TestCase):
@@ -142,14 +148,15 @@ class Found(unittest.TestCase):
                     file = exploration.shrink(finding)
                     self.assertEqual((finding.pauses, len(finding.schedule) < 6), ([], True), finding.schedule)
                     with ThreadPool(JOBS) as pool:
-                        answers = pool.map(lambda _, file=file: exploration.program.call("replay", data=file), range(100))
+                        answers = pool.map(lambda file: exploration.program.call("replay", data=file), [file] * 100)
                     self.assertEqual(set(answers), {(finding.status, finding.text)})
                     self.assertIn(finding.key, [one.key for one in findings.findings(program.Run(0, *answers[0]))])
 
     @staticmethod
     def shows(exploration, path):
         kind = kind_of(path)
-        return len(exploration.outputs()) > 1 if kind == "output" else kind in {one.kind for one in exploration.findings()}
+        kinds = {one.kind for one in exploration.findings()}
+        return len(exploration.outputs()) > 1 if kind == "output" else kind in kinds
 
     def test_nothing_is_found_in_the_examples(self):
         for path in EXAMPLES:
@@ -167,17 +174,35 @@ class Found(unittest.TestCase):
 class Tools(unittest.TestCase):
     def test_texts_files_and_statuses(self):
         with tempfile.TemporaryDirectory() as folder:
-            done = tool("sharc-explore", "-n", "100", "--save", folder, "--json", f"{folder}/j", "--sarif", f"{folder}/s",
-                        "programs/hand_over.c")
+            done = tool("sharc-explore", "-n", "100", "--save", folder, "--json", f"{folder}/j", "--sarif",
+                        f"{folder}/s", "programs/hand_over.c")
             self.assertEqual((done.returncode, done.stderr), (3, ""))
             with open(f"{folder}/j", encoding="utf-8") as file, open(f"{folder}/s", encoding="utf-8") as other:
                 found, result = json.load(file)["findings"][0], json.load(other)
-            self.assertIn(f"1. {found['title']}\n   in {found['count']} of 100 runs; again: {found['again']}", done.stdout)
-            self.assertEqual(subprocess.run(found["again"], shell=True, stdout=subprocess.PIPE, check=False).stdout.decode(), found["text"])
+            self.assertIn(f"   in {found['count']} of 100 runs; again: {found['again']}\n", done.stdout)
+            again = subprocess.run(found["again"], shell=True, stdout=subprocess.PIPE, check=False)
+            self.assertEqual(again.stdout.decode(), found["text"])
             self.valid(result)
-            self.assertEqual(result["runs"][0]["results"][0]["relatedLocations"][0]["physicalLocation"]["region"]["startLine"], 18)
+            other = result["runs"][0]["results"][0]["relatedLocations"][0]
+            self.assertEqual(other["physicalLocation"]["region"]["startLine"], 18)
         self.assertEqual(tool("sharc-explore", "--nothing").returncode, 8)
         self.assertEqual(tool("sharc-explore", "none.c").returncode, 2)
+
+    def test_the_session_of_the_document(self):
+        with open(f"{TOP}/docs/EXPLORE.md", encoding="utf-8") as file:
+            page = file.read()
+        name, source = re.search(r"```c name=(\S+)\n(.*?)```", page, re.S).groups()
+        console = re.search(r"```console\n(.*?)```", page, re.S)[1]
+        with tempfile.TemporaryDirectory() as folder:
+            with open(f"{folder}/{name}", "w", encoding="ascii") as file:
+                file.write(source)
+            os.symlink(f"{TOP}/tools", f"{folder}/tools")
+            os.symlink(program.Program(b"").sharc, f"{folder}/sharc")
+            for command, told in re.findall(r"^\$ (.*)\n((?:(?!\$ ).*\n)*)", console, re.M):
+                done = subprocess.run(command, shell=True, cwd=folder, env=os.environ | {"SHARC": "./sharc"},
+                                      stdout=subprocess.PIPE, text=True, check=False)
+                self.assertEqual(re.sub(r"[\d.]+ s$", "T s", done.stdout, flags=re.M),
+                                 re.sub(r"[\d.]+ s$", "T s", told, flags=re.M))
 
     def test_a_run_is_written_by_its_number(self):
         done = tool("sharc-explore", "-n", "20", "programs/hand_over.c")
@@ -203,7 +228,7 @@ class Tools(unittest.TestCase):
             self.assertEqual((type(run["tool"]["driver"]["name"]), len(rules)), (str, len(set(rules))))
             self.assertIn(run["columnKind"], ("utf16CodeUnits", "unicodeCodePoints"))
             for result in run["results"]:
-                self.assertLessEqual(set(result), {"ruleId", "level", "message", "locations", "relatedLocations", "fixes"})
+                self.assertLessEqual({"ruleId", "message", "locations"}, set(result))
                 self.assertIn(result["level"], ("none", "note", "warning", "error"))
                 self.assertTrue(result["ruleId"] in rules and result["message"]["text"])
                 for at in result["locations"] + result.get("relatedLocations", []):
@@ -217,7 +242,8 @@ class Tools(unittest.TestCase):
                     self.assertTrue(1 <= region["startColumn"] <= region["endColumn"])
 
     def test_the_page_has_what_the_texts_have(self):
-        for path, count in [("programs/two_tellers.c", "100"), (f"{TOP}/examples/pipe/broken.c", "1"), ("programs/lost_join.c", "200")]:
+        for path, count in [("programs/two_tellers.c", "100"), (f"{TOP}/examples/pipe/broken.c", "1"),
+                            ("programs/lost_join.c", "200")]:
             with tempfile.NamedTemporaryFile("w", suffix=".html") as file:
                 done = tool("sharc-show", "-n", count, "-o", file.name, path)
                 with open(file.name, encoding="utf-8") as written:
@@ -226,9 +252,9 @@ class Tools(unittest.TestCase):
             self.assertNotRegex(page, r"https?:|src=|@import|url\(")
             words = html.unescape(re.sub(r"<[^>]*>", "", page))
             exploration = explored(os.path.join(HERE, path), int(count) if path.startswith("programs") else 0)
-            told = [step for one in exploration.findings() for step in [one.title, *one.steps, f"In {one.count} of {count}"]]
-            told += [fault.text for fault in sarif.faults(exploration.checked)]
-            told += [fault.cast for fault in sarif.faults(exploration.checked) if fault.cast]
+            told = [text for one in exploration.findings()
+                    for text in [one.title, *one.steps, f"In {one.count} of {count}"]]
+            told += [text for fault in sarif.faults(exploration.checked) for text in fault[2:] if text]
             told += [line.split(": ", 1)[1] for line in exploration.program.call("explain")[1].splitlines()
                      if re.match(r".*: (global|local|parameter|result) |  depth", line)]
             with open(os.path.join(HERE, path), encoding="ascii") as source:
