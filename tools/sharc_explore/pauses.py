@@ -2,7 +2,16 @@
 
 The loop touches nothing of the program, so what its threads do between the pauses the program's own threads can do."""
 BLOCKING = ("lock", "wait", "join")
-ROUND = 10                          # turns of one time round the loop, about
+ROUND, FRAME = 10, 18               # turns of one time round the loop, and of what stands around it
+
+
+def rounds(turns):
+    return max(1, turns // ROUND)
+
+
+def cost(pause):
+    """How many turns one pause takes."""
+    return rounds(pause[2]) * ROUND + FRAME
 
 
 def loops(pauses):
@@ -10,7 +19,7 @@ def loops(pauses):
     parts, counters = {}, []
     for statement, times, turns in pauses:
         name = f"paused_{statement.number}_sharc"
-        loop = f"for (int i_sharc = 0; i_sharc < {max(1, turns // ROUND)}; i_sharc = i_sharc + 1) ;"
+        loop = f"for (int i_sharc = 0; i_sharc < {rounds(turns)}; i_sharc = i_sharc + 1) ;"
         parts[statement.number] = f"if ({name} < {times}) {{ {name} = {name} + 1; {loop} }} "
         counters.append(f"int racy {name};\n")
     return parts, "\n" + "".join(counters)

@@ -1,7 +1,8 @@
 """Makes schedules short: as few switches as tries find, and then as few turns before each."""
-import random
+import itertools
 
 from .findings import findings
+from .pauses import cost
 from .program import in_turns
 
 
@@ -71,15 +72,14 @@ def needed(ways, key, schedule, pauses):
     return pauses
 
 
-def without_pauses(program, key, schedule, tries=150):
-    """A schedule of the program itself, made of one that shows the finding with pauses: before a thread's first pause
-    both count alike, behind it the program needs fewer turns."""
-    shrinker, draw, lines = Shrinker(program, key, tries), random.Random(str(schedule)), schedule
-    while not shrinker.shows(lines):
-        if shrinker.budget < 0:
-            return None
-        lines = [(place, draw.randint(1, turns) if draw.random() < 0.5 else turns) for place, turns in schedule]
-    return lines
+def without_pauses(program, key, schedule, pauses, tries=150):
+    """A schedule of the program itself, made of one that shows the finding with pauses: it needs fewer turns, by those
+    of the pauses that a line went through."""
+    shrinker = Shrinker(program, key, tries)
+    less = sorted({times * cost(pause) for pause in pauses for times in range(pause[1] + 1)})[:5]
+    cuts = sorted(itertools.product(less, repeat=len(schedule)), key=sum) if len(schedule) < 6 else [[0] * len(schedule)]
+    tried = ([(place, turns - cut) for (place, turns), cut in zip(schedule, each)] for each in cuts)
+    return next((lines for lines in tried if all(turns > 0 for _, turns in lines) and shrinker.shows(lines)), None)
 
 
 def shortest(ways, finding, tries=20):
@@ -95,7 +95,7 @@ def shortest(ways, finding, tries=20):
         schedule = Shrinker(program, finding.key).shrunk(schedule)
         best = best or (program, schedule, pauses)
         if pauses:
-            schedule = without_pauses(ways.program, finding.key, schedule)
+            schedule = without_pauses(ways.program, finding.key, schedule, pauses)
         if schedule is not None:
             return ways.program, Shrinker(ways.program, finding.key).shrunk(schedule), []
     return best
