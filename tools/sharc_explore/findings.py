@@ -3,6 +3,7 @@ import re
 from collections import namedtuple
 
 MEANING = {3: "a report", 4: "a stop", 5: "a deadlock", 6: "the limit of events", 0: "ended"}   # the worst first
+BASE = 1 << 62                     # numbers from here on are printed by traced twins, and by no sensible program
 AT = r" at (?P<file>.+):(?P<line>\d+)"
 FORMS = [re.compile("^" + form + "$") for form in (
     r"(?P<code>A[12]) (?P<act>read|write) of (?P<what>.+)" + AT + r" conflicts with (?P<act2>read|write) of"
@@ -127,5 +128,5 @@ def findings(run):
     if run.status == 6:
         found.append(Finding("limit", "a thread made as many steps as --events allows: a loop without end?", []))
     if run.status == 0:
-        found.append(Finding("output", " ".join(map(str, prints)), []))
+        found.append(Finding("output", " ".join(str(value) for value in prints if value < BASE), []))
     return found

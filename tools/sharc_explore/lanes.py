@@ -110,8 +110,8 @@ class Lanes:
         yield from stack
 
     def waits(self, lane):
-        """Rows at which the thread waits while others go on: from, and to. One that is about to lock when nobody holds
-        a mutex is only not chosen."""
+        """Rows at which the thread stays at a lock, join or wait while others go on: from, and to. One that is about to
+        lock when nobody holds a mutex is only not chosen."""
         others = [one for other in self.lanes if other != lane for one in self.held[other]]
         for at in self.own[lane]:
             kind, until = self.rows[at].kind, self.passed.get(at, len(self.rows))
@@ -159,10 +159,10 @@ def steps(lanes):
     yield f'<table class="lanes"><thead><tr>{titles}<tbody>'
     yield f'<tr><td colspan="{len(lanes.lanes)}">{lanes.gone} steps are left out' if lanes.gone else ""
     for at, row in enumerate(lanes.rows):
-        notes = row.notes + (f"{row.times} times",) * (row.times > 1) + ("waits",) * (at in waits)
         bad, line = [f"conflicts with {others[at]}"] if at in others else [], lanes.lines.get(row.lane)
         if line and at == lanes.own[row.lane][-1]:
-            bad.append("for ever" if line.code == "waits" else f"{line.code} here")
+            bad.append("waits for ever" if line.code == "waits" else f"{line.code} here")
+        notes = row.notes + (f"{row.times} times",) * (row.times > 1) + ("stays",) * (at in waits and not bad)
         cells = (f'<td class="{lanes.state(lane, at)}">' + step(row, notes, bad) * (lane == row.lane)
                  for lane in lanes.lanes)
         yield ('<tr class="switch">' if at and lanes.rows[at - 1].lane != row.lane else "<tr>") + "".join(cells)

@@ -18,9 +18,9 @@ DECLARED = re.compile(r"(?P<at>.+:\d+): (?P<name>(?:global|parameter|local|resul
 REASON = re.compile(r"  depth (?P<depth>\d+): (?P<why>.*)$")
 FROM = re.compile(r"from (.+:\d+) (.+) depth (\d+)$")
 LEGEND = """Each picture is one run with few switches: time goes down, a column for each thread. A thick bar: the thread
-holds a lock. A dashed bar: it waits. The pictures are of the program with a print before each statement, which tells
-thread and line: that adds steps, and changes nothing that threads may do. A number with ? is a guess among threads of
-one spawn. The keys n and p go to the next and the previous finding."""
+holds a lock. A dashed bar: it stays at a lock, join or wait, since it has to or is not chosen. The pictures are of the
+program with a print before each statement, which tells thread and line: that adds steps, and changes nothing that
+threads may do. A number with ? is a guess among threads of one spawn. The keys n and p go from finding to finding."""
 
 
 def esc(text):
@@ -180,6 +180,7 @@ def html_page(page):
     said = {0: "accepted", 1: "refused: the modes do not agree"}.get(page.exploration.status, "refused")
     if page.exploration.status == 0:
         said += f"; {len(page.found) or 'no'} finding{'s' * (len(page.found) != 1)} in {page.options.n} runs"
+        said += f"; {len(page.outputs)} different outputs" * (len(page.outputs) > 1)
     name, files = esc(os.path.basename(page.options.program)), []
     for beside in ("show.css", "show.js"):
         with open(os.path.join(HERE, beside), encoding="utf-8") as file:

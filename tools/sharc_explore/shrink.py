@@ -77,7 +77,8 @@ def without_pauses(program, key, schedule, pauses, tries=150):
     of the pauses that a line went through."""
     shrinker = Shrinker(program, key, tries)
     less = sorted({times * cost(pause) for pause in pauses for times in range(pause[1] + 1)})[:5]
-    cuts = sorted(itertools.product(less, repeat=len(schedule)), key=sum) if len(schedule) < 6 else [[0] * len(schedule)]
+    cuts = sorted(itertools.product(less, repeat=len(schedule)), key=sum) if len(schedule) < 6 else []
+    cuts = cuts or [[0] * len(schedule)]
     tried = ([(place, turns - cut) for (place, turns), cut in zip(schedule, each)] for each in cuts)
     return next((lines for lines in tried if all(turns > 0 for _, turns in lines) and shrinker.shows(lines)), None)
 

@@ -7,9 +7,8 @@ import re
 from collections import namedtuple
 
 from . import pauses
-from .findings import parse
+from .findings import BASE, parse
 
-BASE = 1 << 62                        # no sensible program prints numbers from here on
 LANE = 1 << 24                        # numbers of one thread: first those of sites, then of spawns
 SPAWNED, PRINTED = 1 << 23, LANE - 1
 PASSED = ("lock", "wait", "join")
