@@ -98,7 +98,7 @@ def lines_of(exploration, number, finding, options):
 def report(exploration, options, seconds):
     """The lines for people."""
     yield f"{options.program}: {exploration.total()} runs in {seconds:.1f} s"
-    for status, meaning in [*MEANING.items(), ("cut", "with pauses, not looked at: the limit of events")]:
+    for status, meaning in [*MEANING.items(), ("cut", "with pauses that led to a limit, not looked at")]:
         if exploration.statuses[status]:
             yield f"  {exploration.statuses[status]:6}  {meaning}" + f" (status {status})" * (status != "cut")
     for number, finding in enumerate(exploration.findings(), 1):

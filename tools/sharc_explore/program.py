@@ -71,7 +71,7 @@ class Program:
         """Status and text of check. The script ./sharc builds; the program that it built answers quicker than it."""
         answer = self.call("check")
         built = os.path.join(os.path.dirname(self.sharc), "crates", "sharc", "out", "sharc")
-        self.sharc = built if os.access(built, os.X_OK) else self.sharc
+        self.sharc = built if os.path.dirname(self.sharc) and os.access(built, os.X_OK) else self.sharc
         return answer
 
     def file_of(self, schedule, text="", limit=None):

@@ -50,8 +50,8 @@ class Ways:
         return program.replay(schedule, number)
 
     def is_cut(self, run):
-        """Whether pauses have used up the steps of a thread: such a run says nothing."""
-        return run.status == 6 and self.way(run.number)[0] == "pauses"
+        """Whether pauses have led to a limit, of events or of the language: such a run says nothing."""
+        return run.status in (1, 2, 6) and self.way(run.number)[0] == "pauses"
 
 
 def stretches(draw, turns, threads, longest):

@@ -16,6 +16,7 @@ WORDS = MODES | set("int char long void struct if else while for break continue 
                     " unlock print malloc free SCAST NULL wait signal broadcast".split())
 DECLARED = re.compile(r"(?P<at>.+:\d+): (?P<name>(?:global|parameter|local|result) \w+|cast of .+?): (?P<type>.+)$")
 REASON = re.compile(r"  depth (?P<depth>\d+): (?P<why>.*)$")
+MARKER = re.compile(r'[ \t]*#[ \t]*(\d+)[ \t]*"([^"]*)"')
 FROM = re.compile(r"from (.+:\d+) (.+) depth (\d+)$")
 LEGEND = """Each picture is one run with few switches: time goes down, a column for each thread. A thick bar: the thread
 holds a lock. A dashed bar: it stays at a lock, join or wait, since it has to or is not chosen. The pictures are of the
@@ -94,10 +95,16 @@ class Page:
 
     def lines(self, name):
         """A file of the program: from the disk, else as the source has it."""
-        beside = os.path.join(os.path.dirname(self.options.program), name)
-        path = next(path for path in (name, beside, self.options.program) if os.path.isfile(path))
-        with open(path, encoding="utf-8", errors="replace") as file:
-            return coloured(file.read().rstrip("\n")).split("\n")
+        beside, file, number, parts = os.path.join(os.path.dirname(self.options.program), name), "input", 0, {}
+        path = next((path for path in (name, beside) if name != "input" and os.path.isfile(path)), None)
+        if path:
+            with open(path, encoding="utf-8", errors="replace") as opened:
+                return coloured(opened.read().rstrip("\n")).split("\n")
+        for line in self.text.splitlines():
+            marker = MARKER.match(line)
+            file, number = (marker[2], int(marker[1]) - 1) if marker else (file, number + 1)
+            parts |= {number: line} if file == name and not marker else {}
+        return coloured("\n".join(parts.get(at, "") for at in range(1, max(parts, default=0) + 1))).split("\n")
 
 
 def mode_html(page, one):
