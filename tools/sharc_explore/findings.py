@@ -116,7 +116,7 @@ def deadlock(threads):
 
 
 def findings(run):
-    """What a run shows, each with no run noted. What it printed is a finding too, if it ended."""
+    """What a run shows, each once, with no run noted. What it printed is a finding too, if it ended."""
     prints, threads = parse(run.text)
     found = [conflict(left) for left in threads if left.code in ("A1", "A2")]
     for left in threads:
@@ -129,4 +129,4 @@ def findings(run):
         found.append(Finding("limit", "a thread made as many steps as --events allows: a loop without end?", []))
     if run.status == 0:
         found.append(Finding("output", " ".join(str(value) for value in prints if value < BASE), []))
-    return found
+    return list({one.key: one for one in reversed(found)}.values())[::-1]

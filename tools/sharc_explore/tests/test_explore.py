@@ -67,6 +67,11 @@ class Texts(unittest.TestCase):
         two = run_of(3, "thread 2: A1 read of g at f:6 conflicts with write of g at f:3 by thread 1")
         self.assertEqual(findings.findings(one)[0].key, findings.findings(two)[0].key)
 
+    def test_a_run_in_which_two_threads_show_it_is_one_run(self):
+        shown = findings.findings(run_of(3, "thread 1: A3 read of g at f:6 without lock m",
+                                         "thread 2: A3 read of g at f:6 without lock m", "thread 3: X1 null at f:9"))
+        self.assertEqual([one.title for one in shown], ["A3 read of g at f:6 without lock m", "X1 null at f:9"])
+
     def test_a_deadlock_is_a_cycle_without_numbers(self):
         pairs = [((0, 1), (1, 0)), ((3, 2), (2, 3))]
         keys = {findings.findings(run_of(5, *(line.format(*pair) for line, pair in zip(DEADLOCK, order))))[0].key
