@@ -8,7 +8,7 @@ from .twin import PASSED
 
 ROWS = 420                            # of a longer run the beginning is left out
 Row = namedtuple("Row", "lane statement kind notes times")
-Held = namedtuple("Held", "lock start end")
+Held = namedtuple("Held", "lock line start end")
 
 
 def rows_of(events):
@@ -106,7 +106,8 @@ class Lanes:
                 stack.remove(same)
                 yield same._replace(end=at)
             if kind in ("lock", "wait") and at in self.passed:
-                stack.append(Held(lock, max(at, self.passed[at] - 1), len(self.rows)))
+                line = self.rows[at].statement.place.line
+                stack.append(Held(lock, line, max(at, self.passed[at] - 1), len(self.rows)))
         yield from stack
 
     def waits(self, lane):
@@ -130,8 +131,7 @@ class Lanes:
 
     def end(self, lane):
         """How the run ended for a thread, and what it still held."""
-        held = ", ".join(f"{one.lock} since line {self.rows[one.start].statement.place.line}"
-                         for one in self.held[lane] if one.end == len(self.rows))
+        held = ", ".join(f"{one.lock} since line {one.line}" for one in self.held[lane] if one.end == len(self.rows))
         return (self.lines[lane].text if lane in self.lines else "returned") + f"; holds {held}" * bool(held)
 
     def others(self):
