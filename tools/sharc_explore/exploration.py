@@ -3,6 +3,7 @@ import collections
 from multiprocessing.pool import ThreadPool
 
 from .findings import MEANING, findings
+from .lanes import Lanes
 from .program import Program, Refused, in_turns, read_source
 from .schedules import Ways
 from .shrink import Shrinker, shortest
@@ -52,6 +53,16 @@ class Exploration:
                 progress(self.total(), count, len(self.findings()))
             if self.has_twin:
                 self.reach(pool, first)
+        for finding in self.found.values():
+            told = finding.kind != "deadlock" or any(step.startswith("in a traced run") for step in finding.steps)
+            finding.steps = finding.steps if told else finding.steps + self.holders(finding)
+
+    def holders(self, finding):
+        """Which locks the threads of a deadlock hold, and since where, as a traced run that shows it tells."""
+        shown = self.shown(finding) if self.has_twin else None
+        lanes = Lanes(*shown) if shown else None
+        return [f"in a traced run {lanes.title(lane)} holds {lanes.holds(lane)}"
+                for lane in (lanes.lanes if lanes else []) if lanes.holds(lane)]
 
     def reach(self, pool, first):
         """Which lines no run of the traced twin reaches."""

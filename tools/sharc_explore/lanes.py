@@ -8,7 +8,7 @@ from .twin import PASSED
 
 ROWS = 420                            # of a longer run the beginning is left out
 Row = namedtuple("Row", "lane statement kind notes times")
-Held = namedtuple("Held", "lock line start end")
+Held = namedtuple("Held", "lock place start end")
 
 
 def rows_of(events):
@@ -106,8 +106,8 @@ class Lanes:
                 stack.remove(same)
                 yield same._replace(end=at)
             if kind in ("lock", "wait") and at in self.passed:
-                line = self.rows[at].statement.place.line
-                stack.append(Held(lock, line, max(at, self.passed[at] - 1), len(self.rows)))
+                place = self.rows[at].statement.place
+                stack.append(Held(lock, place, max(at, self.passed[at] - 1), len(self.rows)))
         yield from stack
 
     def waits(self, lane):
@@ -129,10 +129,14 @@ class Lanes:
         holds = any(one.start <= at <= one.end for one in self.held[lane])
         return ("waits" if waits else "lives") + " holds" * holds + " runs" * (self.rows[at].lane == lane)
 
+    def holds(self, lane):
+        """What a thread held when the run ended, and since where."""
+        return ", ".join(f"{one.lock} since {one.place}" for one in self.held[lane] if one.end == len(self.rows))
+
     def end(self, lane):
-        """How the run ended for a thread, and what it still held."""
-        held = ", ".join(f"{one.lock} since line {one.line}" for one in self.held[lane] if one.end == len(self.rows))
-        return (self.lines[lane].text if lane in self.lines else "returned") + f"; holds {held}" * bool(held)
+        """How the run ended for a thread."""
+        ended = self.lines[lane].text if lane in self.lines else "returned"
+        return ended + f"; holds {self.holds(lane)}" * bool(self.holds(lane))
 
     def others(self):
         """For each conflict the row of the other access, and the thread that reported."""

@@ -136,7 +136,7 @@ class Twins(unittest.TestCase):
         ends = " ".join(map(shown.end, shown.lanes))
         self.assertEqual([shown.title(lane) for lane in shown.lanes],
                          ["thread 0: main", "thread 1: teller", "thread 2: teller"])
-        waits = r"waits for mutex to->m at \S+:8 held by thread \d; holds from->m since line 6"
+        waits = r"waits for mutex to->m at \S+:8 held by thread \d; holds from->m since \S+:6"
         self.assertEqual(len(re.findall(waits, ends)), 2)
 
 
