@@ -1,0 +1,1 @@
+typedef struct __sharc_va_list va_list;

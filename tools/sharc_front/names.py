@@ -1,0 +1,50 @@
+"""Puts the user's names back into what the program says of the lowered text."""
+
+import re
+
+from pycparser import c_generator
+
+BLANKS = re.compile(r"\s+")
+STOPPED = re.compile(r"(thread \d+: )X3 zero divisor at (.*?): (exit\([^)]*\)|abort\(\)|assert|call through NULL):(\d+)$")
+
+
+def packed(text):
+    """An lvalue as it is compared: without blanks and parentheses."""
+    return re.sub(r"[\s()]", "", text)
+
+
+class Names:
+    def __init__(self):
+        self.words, self.lvalues, self.generator = {}, {}, c_generator.CGenerator()
+
+    def lvalue(self, expr, text):
+        """The lowering wrote `text` for this lvalue of C."""
+        self.lvalues[(expr.place, packed(text))] = expr.source
+
+    def of_lvalue(self, text, file, line):
+        """An lvalue of the lowered text as in C."""
+        node = self.lvalues.get(((file, int(line)), packed(text)))
+        if node is not None and type(node).__name__ in ("ID", "ArrayRef", "StructRef", "UnaryOp"):
+            return BLANKS.sub(" ", self.generator.visit(node))
+        return self.of_words(text)
+
+    def of_words(self, text):
+        return re.sub(r"[A-Za-z_]\w*", lambda found: self.words.get(found[0], found[0]), text)
+
+    def line(self, line):
+        """One line of the program's output."""
+        stopped = STOPPED.match(line)
+        if stopped:
+            said = {"assert": "an assertion failed"}.get(stopped[3], stopped[3])
+            return f"{stopped[1]}{said} at {stopped[2]}:{stopped[4]}"
+        line = re.sub(r"\b(read of|write of|cast of|free of) (.*?) at (\S+):(\d+)",
+                      lambda f: f"{f[1]} {self.of_lvalue(f[2], f[3], f[4])} at {f[3]}:{f[4]}", line)
+        found = re.match(r"(\S+):(\d+): (M\d+ (?:write to readonly|null of readonly)) (.*)$", line)
+        if found:
+            return f"{found[1]}:{found[2]}: {found[3]} {self.of_lvalue(found[4], found[1], found[2])}"
+        found = re.match(r"(\S+):(\d+): warning (.*?) may be NULL since (.*)$", line)
+        if found:
+            return f"{found[1]}:{found[2]}: warning {self.of_lvalue(found[3], found[1], found[2])} may be NULL since {found[4]}"
+        if re.match(r"-?\d+$", line):
+            return line
+        return self.of_words(line)
