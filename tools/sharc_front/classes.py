@@ -109,10 +109,12 @@ class Classes:
                 unite(root, root.element)
                 return True
             if root.heap and not root.element.find().heap:
-                root.element.find().heap = changed = root.heap
+                root.element.find().heap, changed = root.heap, True
         for (struct, field), node in list(root.members.items()):
             node = node.find()
             for (symbol, path), place in list(root.globals.items()):
+                if self.struct_at(symbol, path) != struct:
+                    continue
                 changed |= (symbol, path + (field,)) not in node.globals
                 node.globals.setdefault((symbol, path + (field,)), place)
             if root.heap and not root.globals:
@@ -121,6 +123,13 @@ class Classes:
                 node.heap = node.heap or root.heap
                 unite(made, node)
         return bool(changed)
+
+    def struct_at(self, symbol, path):
+        """The struct that a part of a global, or an element of it, is."""
+        kind = symbol.type.base()
+        for step in path:
+            kind = self.structs[kind.name].fields[step].type.base()
+        return kind.name if kind.kind == "struct" else None
 
     def merge(self, group):
         """Globals that one pointer may point to become elements of one array, which `group` makes."""

@@ -11,7 +11,7 @@ from .source import Refusal
 from .tree import Expr, Field, Struct, Symbol
 
 # types of pthread and of this folder's headers: how they are lowered, and their sizes in glibc on a 64-bit machine
-OPAQUE = {"pthread_mutex_t": (MUTEX, 40), "pthread_cond_t": (COND, 48), "pthread_attr_t": (Type("attr"), 56)}
+OPAQUE = {"pthread_mutex_t": (MUTEX, 40), "pthread_spinlock_t": (MUTEX, 4), "pthread_cond_t": (COND, 48), "pthread_attr_t": (Type("attr"), 56)}
 SIZES = {"mutex": 40, "cond": 48, "attr": 56, "sem_t": 32, "pthread_barrier_t": 32, "pthread_rwlock_t": 56}
 
 

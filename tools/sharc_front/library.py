@@ -95,10 +95,7 @@ class LibraryTypes:
         while isinstance(arg, A.Cast):
             arg = arg.expr
         if isinstance(arg, A.UnaryOp) and arg.op == "&":
-            made = self.expr(arg.expr)
-            if made.kind in ("at", "index") and made.type.kind != "array":
-                return self.address(made)
-            return made
+            return self.expr(arg.expr)
         made = self.expr(arg)
         return made if made.type.kind == "array" else self.value(made)
 
@@ -299,7 +296,8 @@ class LibraryLowering:
                     self.zero(self.place(target), expr.place)
                     return None
         length = self.length_for(target, count, kind, size, expr.place)
-        value = self.converted(byte, self.element_type(target))
+        value = None if byte.number == 0 else self.stable(self.converted(byte, self.element_type(target)), expr.place)
+
         def fill(at):
             place = self.item(target, at, expr.place)
             if byte.number == 0:

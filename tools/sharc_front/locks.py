@@ -8,7 +8,7 @@ from pycparser import c_generator
 
 from .classes import representation
 from .source import Refusal
-from .threads import OWN
+from .threads import LOCKING, OWN
 
 JUMPS = ("exit", "abort", "_exit", "pthread_exit")
 
@@ -117,9 +117,9 @@ class Held:
         return last.kind in ("return", "break", "continue") or last.kind == "block" and self.leaves(last)
 
     def expression(self, expr, held, seen, written=False):
-        if expr.kind == "library" and expr.name in ("pthread_mutex_lock", "pthread_mutex_unlock"):
+        if expr.kind == "library" and expr.name in LOCKING:
             text = self.text(expr.args[0])
-            (held.add if expr.name == "pthread_mutex_lock" else held.discard)(text)
+            (held.add if LOCKING[expr.name] == "lock" else held.discard)(text)
             return
         if expr.kind in ("assign", "step"):
             if expr.kind == "assign":

@@ -331,7 +331,9 @@ class Lowering(Places, LibraryLowering, ThreadLowering):
 
     # ---- calls
 
-    def function_name(self, symbol):
+    def function_name(self, symbol, place=None):
+        if symbol.body is None:
+            self.refuse(place or symbol.place, f"function {symbol.name}, which is not defined here")
         return self.piece_name(symbol, ())
 
     def arguments(self, kinds, contents, args, texts=()):
@@ -391,8 +393,7 @@ class Lowering(Places, LibraryLowering, ThreadLowering):
         return self.called(symbol, values)
 
     def called(self, symbol, values):
-        text = ", ".join(value.text for value in values) or ("0" if not values and False else "")
-        return f"{self.function_name(symbol)}({text})"
+        return f"{self.function_name(symbol)}({', '.join(value.text for value in values)})"
 
     def through(self, expr):
         """A call by a pointer: a function of its own tries the numbers of all functions that it may be."""

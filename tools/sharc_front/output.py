@@ -15,7 +15,7 @@ class Output(Statements):
     def everything(self):
         """All lines, in the order of the text."""
         self.global_names = {symbol.name for symbol in self.program.globals} | set(self.program.functions)
-        self.later, self.own_names, parts = [], set(), []
+        self.later, self.own_names, parts, self.defined = [], set(), [], set(self.program.globals)
         groups = list(dict.fromkeys(group for group, _ in self.program.groups.values()))
         for symbol in self.program.globals + groups:
             parts += self.guarded(symbol.place, lambda symbol=symbol: self.declare_global(symbol, groups))

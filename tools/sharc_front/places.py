@@ -92,6 +92,8 @@ class Places:
         if getattr(expr, "literal", False):
             self.declare(symbol, expr.place)
         if symbol.kind == "global":
+            if symbol not in self.defined:
+                self.refuse(expr.place, f"variable {symbol.name}, which is not defined here")
             return self.global_place(symbol, (), symbol.type)
         if symbol.kind == "param" and symbol.text:
             self.refuse(expr.place, "string that is only shown")
@@ -119,8 +121,11 @@ class Places:
         """The class of pointers to a part of a variable."""
         kind, node = symbol.type, symbol.address
         for step in path:
+            content = self.program.structs[kind.name].fields[step].content
             node = node.member((kind.name, step))
             kind = self.program.step_type(kind, step)
+            self.program.holds(kind, content, node)
+            node.find().heap = node.find().heap or symbol.place
         return node
 
     def global_place(self, symbol, path, kind):
@@ -303,7 +308,14 @@ class Places:
         if expr.kind in ("var", "member", "index", "at") and expr.type.kind == "array":
             base = self.place(expr)
             return self.element_at(base, summed(base.start, index), base.type.base())
-        if expr.kind in ("var", "member", "index", "at"):
+        if expr.kind == "index":
+            base = self.place(expr.a)
+            first = summed(base.start, scaled(self.index(expr.b, True), expr.type.cells()))
+            return self.element_at(base, summed(first, index), expr.type)
+        if expr.kind == "at":
+            first = self.index(expr.b, True)
+            return self.place(Expr("at", at, expr.type, a=expr.a, b=Expr("lowered", at, INT, value=summed(first, index))))
+        if expr.kind in ("var", "member"):
             return self.place(expr)
         if expr.kind == "decay":
             base = self.place(expr.a)

@@ -20,11 +20,14 @@ SIGNATURES = {
     "sem_destroy": ("p", INT), "pthread_barrier_init": ("pnv", INT), "pthread_barrier_wait": ("p", INT),
     "pthread_barrier_destroy": ("p", INT), "pthread_rwlock_init": ("pn", INT), "pthread_rwlock_rdlock": ("p", INT),
     "pthread_rwlock_wrlock": ("p", INT), "pthread_rwlock_unlock": ("p", INT), "pthread_rwlock_destroy": ("p", INT),
-    "pthread_setconcurrency": ("v", INT)}
+    "pthread_setconcurrency": ("v", INT), "pthread_spin_init": ("pv", INT), "pthread_spin_lock": ("p", INT),
+    "pthread_spin_unlock": ("p", INT), "pthread_spin_destroy": ("p", INT)}
+LOCKING = {"pthread_mutex_lock": "lock", "pthread_mutex_unlock": "unlock", "pthread_spin_lock": "lock",
+           "pthread_spin_unlock": "unlock"}
 NOTHING = ("pthread_mutex_destroy", "pthread_cond_destroy", "pthread_attr_init", "pthread_attr_destroy",
            "pthread_attr_setdetachstate", "pthread_attr_setstacksize", "pthread_attr_setscope", "pthread_detach",
            "sem_destroy", "pthread_barrier_destroy", "pthread_rwlock_init", "pthread_rwlock_destroy",
-           "pthread_setconcurrency")
+           "pthread_setconcurrency", "pthread_spin_init", "pthread_spin_destroy")
 # what is written for synchronisation that the language does not have: $x is member x of the object, $1 an argument,
 # WAIT waits for its condition variable, WAKE wakes all that do
 TEMPLATES = {
@@ -155,9 +158,9 @@ class ThreadLowering:
         return place.text
 
     def l_pthread_mutex_lock(self, expr, _):
-        self.emit(f"{'un' * expr.name.endswith('unlock')}lock(&{self.lock_text(expr.args[0])});", expr.place)
+        self.emit(f"{LOCKING[expr.name]}(&{self.lock_text(expr.args[0])});", expr.place)
 
-    l_pthread_mutex_unlock = l_pthread_mutex_lock
+    l_pthread_mutex_unlock = l_pthread_spin_lock = l_pthread_spin_unlock = l_pthread_mutex_lock
 
     def l_pthread_mutex_init(self, expr, _):
         return None
@@ -360,8 +363,8 @@ class ThreadLowering:
         if "compare_and_swap" in name:
             self.emit(f"if ({old} == {values[0].at_level(7)}) {place.text} = {values[1].text};", expr.place)
         else:
-            found = re.search(r"add|sub|xor|or|and(?!_)", name)
-            operator = OPERATORS[found[0]] if found else None
+            found = re.search(r"fetch_(?:and_)?(add|sub|xor|or|and)$|(add|sub)_and_fetch", name)
+            operator = OPERATORS[found[1] or found[2]] if found else None
             made = values[0] if operator is None else self.arithmetic.convert(self.arithmetic.binary(
                 operator, self.wrapping(result, kind.name), values[0], "ulong" if kind.name == "long" else self.wider(kind.name)), kind.name)
             self.emit(f"{place.text} = {made.text};", expr.place)

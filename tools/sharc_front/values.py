@@ -178,7 +178,7 @@ class Arithmetic:
         if op == "-" and name == "ulong" and value.low == LONG_RANGE[0]:
             return self.binary("-", number(0), value, name)
         low, high = (-value.high, -value.low) if op == "-" else (~value.high, ~value.low)
-        if not INT_RANGE[0] <= low <= high <= INT_RANGE[1]:
+        if name != "int" and not INT_RANGE[0] <= low <= high <= INT_RANGE[1]:
             value = self.widened(value)
         made = value.derived(f"{op}{value.at_level(PRIMARY if value.text[0] == '-' else UNARY)}", UNARY, low, high)
         return self.fitted(made, name)
@@ -195,7 +195,7 @@ class Arithmetic:
 
     def plain(self, op, a, b, name):
         low, high = spread(op, a, b)
-        if op in ("+", "-", "*", "<<", "/") and not INT_RANGE[0] <= low <= high <= INT_RANGE[1]:
+        if name != "int" and op in ("+", "-", "*", "<<", "/") and not INT_RANGE[0] <= low <= high <= INT_RANGE[1]:
             if op == "<<" or not b.wide:
                 a = self.widened(a)
         wide = a.wide if op in ("<<", ">>") else a.wide or b.wide
