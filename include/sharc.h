@@ -35,7 +35,7 @@
 static inline void *sharc_zeroed(__SIZE_TYPE__ size) {
     void *made = __builtin_calloc(1, size);
     if (made == NULL) {
-        __builtin_puts("sharc.h: out of memory");
+        __builtin_printf("sharc.h: out of memory\n");
         __builtin_abort();
     }
     return made;
@@ -132,7 +132,7 @@ static inline int sharc_spawn(void (*start)(void (*)(void), long), void (*functi
     pthread_mutex_unlock(&sharc_threads.guard);
     *thread = (sharc_thread){number, start, function, argument};
     if (number >= SHARC_THREADS || pthread_create(&made, NULL, sharc_run, thread) != 0) {
-        __builtin_puts("sharc.h: no more threads");
+        __builtin_printf("sharc.h: no more threads\n");
         __builtin_abort();
     }
     pthread_detach(made);
@@ -149,7 +149,7 @@ static inline int sharc_spawn(void (*start)(void (*)(void), long), void (*functi
 static inline void join(int number) {
     pthread_mutex_lock(&sharc_threads.guard);
     if (number < 0 || number > sharc_threads.started) {
-        __builtin_puts("sharc.h: no such thread");
+        __builtin_printf("sharc.h: no such thread\n");
         __builtin_abort();
     }
     while (!sharc_threads.gone[number]) pthread_cond_wait(&sharc_threads.ended, &sharc_threads.guard);

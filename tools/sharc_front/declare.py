@@ -69,7 +69,9 @@ class Declarations:
             return kind
         elif isinstance(node, A.FuncDecl):
             return self.function_type(node)
-        elif isinstance(node, (A.TypeDecl, A.Typename)):
+        elif isinstance(node, A.Typename):
+            return self.type(node.type)
+        elif isinstance(node, A.TypeDecl):
             kind = self.type(node.type)
         else:
             return self.specified(node)
@@ -268,8 +270,6 @@ class Declarations:
         type, storage = self.type(decl.type), decl.storage or []
         if type.kind == "func" or decl.name is None:
             return None
-        if "_Atomic" in self.unmarked(decl.quals or []):
-            type = replace(type, atomic=True)
         known = self.scopes[-1].get(decl.name)
         if "extern" in storage and decl.init is None or kind == "global" and isinstance(known, Symbol):
             if not isinstance(known, Symbol):

@@ -52,9 +52,15 @@ class Lowering(Places, LibraryLowering, ThreadLowering):
             self.lines = kept
 
     def temporary(self, type, text, place):
-        made = self.program.fresh("t")
-        self.locals += 1
+        made = self.new_name("t")
         self.emit(f"{type} {made}{' = ' + text if text is not None else ''};", place)
+        return made
+
+    def new_name(self, name):
+        """The name of a variable of the front's own."""
+        made = self.program.fresh(name)
+        self.names.own.add(made)
+        self.locals += 1
         return made
 
     def spilled(self, value, type, place):
@@ -632,8 +638,7 @@ class Lowering(Places, LibraryLowering, ThreadLowering):
 
     def counting(self, length, act, at):
         """act(i) for each i below length."""
-        name = self.program.fresh("i")
-        self.locals += 1
+        name = self.new_name("i")
         self.emit(f"for (int {name} = 0; {name} < {length.at_level(8)}; {name} = {name} + 1) {{", at)
         index = cell(name, "int")
         index.low, index.high = 0, 65536

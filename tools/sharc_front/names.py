@@ -16,6 +16,7 @@ def packed(text):
 class Names:
     def __init__(self):
         self.words, self.lvalues, self.generator = {}, {}, c_generator.CGenerator()
+        self.own, self.hidden = set(), False  # variables of the front; whether the line before told of one
 
     def lvalue(self, expr, text):
         """The lowering wrote `text` for this lvalue of C."""
@@ -29,7 +30,7 @@ class Names:
         return self.of_words(text)
 
     def of_words(self, text):
-        return re.sub(r"[A-Za-z_]\w*", lambda found: self.words.get(found[0], found[0]), text)
+        return re.sub(r"[A-Za-z_]\w*", lambda f: "(temporary)" if f[0] in self.own else self.words.get(f[0], f[0]), text)
 
     def line(self, line):
         """One line of the program's output."""
@@ -47,4 +48,8 @@ class Names:
             return f"{found[1]}:{found[2]}: warning {self.of_lvalue(found[3], found[1], found[2])} may be NULL since {found[4]}"
         if re.match(r"-?\d+$", line):
             return line
-        return self.of_words(line)
+        told = re.match(r"(.*?): (?:local|global|parameter|result|cast of) ?(\w*)", line)
+        if self.hidden and line.startswith("  "):
+            return None
+        self.hidden = bool(told) and (told[2] in self.own or told[1].startswith("what C does that the language"))
+        return None if self.hidden else self.of_words(line)

@@ -196,7 +196,7 @@ class Statements(Lowering):
 
     def falling(self, chosen, groups, kind, place):
         """Cases in order, from the number of the one that is chosen on; a loop takes the breaks."""
-        at, again = self.program.fresh("case_"), self.program.fresh("again")
+        at, again = self.new_name("case_"), self.new_name("again")
         default = next((index for index, group in enumerate(groups) if None in group[0]), len(groups))
         self.emit(f"int {at} = {default};", place)
         for index, (labels, _, _) in enumerate(groups):
@@ -333,7 +333,7 @@ class Statements(Lowering):
             target = declared[2]
         self.emit("{", place)
         self.depth += 1
-        own = self.program.fresh("own")
+        own = self.new_name("own")
         length = self.stable(length, place) if length.low != length.high else length
         size = f"sizeof({plain})" if length.text == "1" else f"{length.at_level(11)} * sizeof({plain})"
         self.emit(f"{plain} private * {own} = malloc({size});", place)
@@ -357,7 +357,7 @@ class Statements(Lowering):
 
     def fill(self, prefix, arrays, place):
         for name, field in arrays:
-            kind, own = field.type, self.program.fresh("own")
+            kind, own = field.type, self.new_name("own")
             base, content = kind.base(), field.content
             plain = self.plain_type(base, content, place)
             if base.kind == "mutex":
@@ -379,7 +379,7 @@ class Statements(Lowering):
 
     def stop(self, what, place):
         """Stops the thread, by a division by 0 in a file whose name says what it stands for."""
-        zero = self.program.fresh("zero")
+        zero = self.new_name("zero")
         self.emit("{", place)
         self.inside(lambda: self.emit(f"int {zero} = 0; {zero} = 1 / {zero};", (f"{place[0]}: {what}", place[1])))
         self.emit("}", place)

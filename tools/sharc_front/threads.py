@@ -175,7 +175,7 @@ class ThreadLowering:
 
     def wait_text(self, place, mutex):
         c, m = place.text, place.companion
-        own, guard = self.program.fresh("changed"), self.program.fresh("guard")
+        own, guard = self.new_name("changed"), self.new_name("guard")
         return (f"if ({c} == NULL) {{ {c} = malloc(sizeof(struct cond)); {m} = malloc(sizeof(mutex)); }} "
                 f"{{ struct cond dynamic * {own} = {c}; mutex racy * {guard} = {m}; lock(&*{guard}); unlock(&{mutex}); "
                 f"wait({own}, {guard}); unlock(&*{guard}); lock(&{mutex}); }}")
@@ -193,7 +193,7 @@ class ThreadLowering:
             self.emit(self.wait_text(place, mutex), expr.place)
             return
         self.note(expr.place, "pthread_cond_wait returns at once here (a spurious wake-up): a lost signal is not found")
-        at = self.program.fresh("pause")
+        at = self.new_name("pause")
         self.emit(f"unlock(&{mutex});", expr.place)
         self.emit(f"for (int {at} = 0; {at} < 200; {at} = {at} + 1) ;", expr.place)
         self.emit(f"lock(&{mutex});", expr.place)
@@ -225,7 +225,7 @@ class ThreadLowering:
         wait, result = self.member(place, struct, "changed"), None
         if "RESULT" in text:
             result = self.temporary("int", "0", expr.place)
-            text = text.replace("RESULT", result).replace("ROUND", self.program.fresh("round"))
+            text = text.replace("RESULT", result).replace("ROUND", self.new_name("round"))
         guard = self.member(place, struct, "guard").text
         text = text.replace("WAIT", self.wait_text(wait, guard)).replace("WAKE", self.wake_text(wait, "broadcast"))
         text = re.sub(r"\$(\w+)", lambda found: self.member(place, struct, found[1]).text, text)
@@ -276,7 +276,7 @@ class ThreadLowering:
         if symbol not in self.program.giving:
             self.emit(f"{place.text} = spawn({function}, {value});", at)
             return
-        own, start, record = self.program.fresh("own"), self.program.fresh("start"), symbol.record
+        own, start, record = self.new_name("own"), self.new_name("start"), symbol.record
         self.emit(f"struct {record} private * {own} = malloc(sizeof(struct {record}));", at)
         self.emit(f"{own}->arg = {value};", at)
         self.emit(f"struct {record} dynamic * {start} = SCAST(struct {record} dynamic *, {own});", at)
