@@ -224,7 +224,28 @@ class Statements(Lowering):
     # ---- locals
 
     def s_declare(self, stmt):
-        self.declare(stmt.symbol, stmt.place)
+        if stmt.symbol in self.merged.values():
+            self.visible[stmt.symbol.name] = stmt.symbol
+        else:
+            self.declare(stmt.symbol, stmt.place)
+
+    def merging(self, symbol):
+        """Parameters that are only used in a first declaration `T *x = p`: x takes the place of p, so that what they
+        point to has one reference and not two."""
+        found = {}
+        for stmt in symbol.body.parts:
+            if stmt.kind != "declare":
+                break
+            local, initial = stmt.symbol, stmt.symbol.initial
+            value = initial[0][1] if initial else None
+            while value is not None and value.kind == "cast":
+                value = value.a
+            if value is None or value.kind != "value" or value.a.kind != "var" or local.boxed or local.type.kind != "ptr":
+                continue
+            param = value.a.symbol
+            if param in symbol.params and param.uses == 1 and not param.boxed and param.type.kind == "ptr":
+                found[param] = local
+        return {} if symbol.name == "main" else found
 
     def declare(self, symbol, place):
         """Declares a local and gives it the values of its initialiser."""
@@ -414,6 +435,7 @@ class Statements(Lowering):
 
     def function_text(self, symbol):
         self.function, self.loops, self.locals, self.own_names, self.visible = symbol, [], 0, set(), {}
+        self.merged = self.merging(symbol)
         self.emit_heading(symbol)
         self.block(symbol.body)
         self.emit("}", None)
@@ -451,6 +473,7 @@ class Statements(Lowering):
 
     def parameter(self, param, texts, boxed):
         """The text of a parameter, of a struct those of its parts."""
+        param = self.merged.get(param, param)
         kind = param.type
         self.visible[param.name] = param
         param.out = self.local_name(param)

@@ -173,9 +173,10 @@ class ThreadLowering:
         c, m = place.text, place.companion
         return f"if ({c} != NULL) {{ lock(&*{m}); {call}({c}); unlock(&*{m}); }}"
 
-    def wait_text(self, place, mutex):
+    def wait_text(self, place, mutex, arg):
         c, m = place.text, place.companion
-        own, guard = self.new_name("changed"), self.new_name("guard")
+        own, guard = self.program.fresh("changed"), self.new_name("guard")
+        self.names.words[own] = self.names.text(arg.source)
         return (f"if ({c} == NULL) {{ {c} = malloc(sizeof(struct cond)); {m} = malloc(sizeof(mutex)); }} "
                 f"{{ struct cond dynamic * {own} = {c}; mutex racy * {guard} = {m}; lock(&*{guard}); unlock(&{mutex}); "
                 f"wait({own}, {guard}); unlock(&*{guard}); lock(&{mutex}); }}")
@@ -190,7 +191,7 @@ class ThreadLowering:
     def l_pthread_cond_wait(self, expr, _):
         place, mutex = self.cond_place(expr.args[0]), self.lock_text(expr.args[1])
         if place is not None:
-            self.emit(self.wait_text(place, mutex), expr.place)
+            self.emit(self.wait_text(place, mutex, expr.args[0]), expr.place)
             return
         self.note(expr.place, "pthread_cond_wait returns at once here (a spurious wake-up): a lost signal is not found")
         at = self.new_name("pause")
@@ -227,7 +228,7 @@ class ThreadLowering:
             result = self.temporary("int", "0", expr.place)
             text = text.replace("RESULT", result).replace("ROUND", self.new_name("round"))
         guard = self.member(place, struct, "guard").text
-        text = text.replace("WAIT", self.wait_text(wait, guard)).replace("WAKE", self.wake_text(wait, "broadcast"))
+        text = text.replace("WAIT", self.wait_text(wait, guard, expr.args[0])).replace("WAKE", self.wake_text(wait, "broadcast"))
         text = re.sub(r"\$(\w+)", lambda found: self.member(place, struct, found[1]).text, text)
         self.emit(text, expr.place)
         return self.cell_value(result, "int") if result else None
