@@ -77,14 +77,15 @@ class Shown:
 class Analysis(ThreadTypes, LibraryTypes, Expressions):
     """Reads the whole program."""
 
-    def __init__(self, source, path, arguments):
-        super().__init__(source)
+    def __init__(self, source, path, arguments, alone=frozenset()):
+        super().__init__(source, alone)
         self.here, self.path = (path, 1), path
         self.strings = Symbol("strings", "global", array(CHAR, 1), self.here, self.classes)
         self.strings.address.globals[(self.strings, ())] = self.here
         self.strings.address.point_to(CHAR, self.here)
         self.strings.out = self.fresh("strings")
         self.arguments, self.joins, self.started, self.groups = arguments, [], [], {}
+        self.wanted_alone = set()
         self.shown_params = Shown(source.tree).shown
         for item in source.tree.ext:
             self.guarded(item, self.outside)

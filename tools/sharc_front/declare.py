@@ -21,7 +21,8 @@ def place_of(node, otherwise=("", 0)):
 
 
 class Declarations:
-    def __init__(self, source):
+    def __init__(self, source, alone):
+        self.alone = alone  # members whose address is taken in objects of the heap: objects of their own, of one element
         self.source, self.here = source, ("", 0)
         self.structs, self.globals, self.functions, self.refusals = {}, [], {}, []
         self.classes = Classes(self.structs)
@@ -196,7 +197,10 @@ class Declarations:
         except Refusal as refusal:
             self.report(refusal)
             kind = BAD
+        alone = (struct.name, decl.name) in self.alone and kind.kind in ("int", "ptr", "struct")
+        kind = array(kind, 1) if alone else kind
         struct.fields[decl.name or ""] = field = Field(kind, place_of(decl, self.here), self.classes)
+        field.alone = alone
         self.holds(kind, field.content, field.made)
 
     def holds(self, kind, content, address):

@@ -187,7 +187,10 @@ class Expressions(Declarations):
         kind = struct.fields[node.field.name].type
         if kind.kind == "bad":
             self.refuse(node, None)
-        return self.make("member", kind, a=base, struct=struct.name, field=node.field.name)
+        made = self.make("member", kind, a=base, struct=struct.name, field=node.field.name)
+        if struct.fields[node.field.name].alone:
+            return self.make("index", kind.to, a=made, b=self.constant(0, INT, self.here))
+        return made
 
     def deref(self, pointer_value, index=None):
         """Element `index` of what a pointer points to."""

@@ -54,14 +54,18 @@ def lowered(words):
     from .locks import Monitors, Proposals
     from .names import Names
     from .output import Output, text_of
-    program = Analysis(Source(words.file, words.options), words.file, words.arguments)
-    if program.refusals:
-        raise Several([Refusal(place, what) for place, what in program.refusals])
-    if words.locks:
-        return "\n".join([*Proposals(program).lines(), ""]), None, []
-    names = Names()
-    writer = Output(program, names, Monitors(program))
-    lines = writer.everything()
+    source, alone = Source(words.file, words.options), set()
+    while True:
+        program = Analysis(source, words.file, words.arguments, frozenset(alone))
+        if words.locks and not program.refusals:
+            return "\n".join([*Proposals(program).lines(), ""]), None, []
+        names = Names()
+        if not program.refusals:
+            writer = Output(program, names, Monitors(program))
+            lines = writer.everything()
+        if program.wanted_alone <= alone:
+            break
+        alone |= program.wanted_alone
     if program.refusals:
         raise Several([Refusal(place, what) for place, what in program.refusals])
     text = text_of(lines)

@@ -26,7 +26,7 @@ class Place:
     def __init__(self, kind, text, type, **parts):
         self.kind, self.text, self.type = kind, text, type
         self.content = self.pointer = self.symbol = self.flat = self.number = self.companion = self.top = None
-        self.path, self.boxes, self.start, self.reads = (), False, number(0), True
+        self.path, self.boxes, self.start, self.reads, self.member = (), False, number(0), True, None
         self.__dict__.update(parts)
 
 
@@ -158,7 +158,7 @@ class Places:
         path = base.path + (name,)
         if kind.kind == "struct":
             return Place("fields", base.text, kind, top=base.top, path=path, flat=base.flat, number=base.number,
-                         pointer=base.pointer if base.flat else None)
+                         pointer=base.pointer if base.flat else None, member=(struct, name))
         if kind.kind == "array" and base.flat:
             symbol, outer = base.flat[0], base.flat[1] + path
             start = scaled(base.number, kind.cells())
@@ -166,7 +166,8 @@ class Places:
         text = base.text + self.leaf(base.top, path)
         if kind.kind == "array":
             return Place("cells", text, kind, content=field.content, boxes=self.boxed_field(field))
-        made = Place("cell", text, kind, content=field.content, pointer=base.pointer if base.flat else None)
+        made = Place("cell", text, kind, content=field.content, pointer=base.pointer if base.flat else None,
+                     member=(struct, name))
         if kind.kind == "cond":
             made.companion = base.text + self.leaf(base.top, path + ("m",))
         return made
@@ -293,6 +294,8 @@ class Places:
 
     def pointer_to(self, place, at):
         if place.pointer is None:
+            if place.member:
+                self.program.wanted_alone.add(place.member)
             self.refuse(at, "address of this form (a member or element of an object of the heap)")
         return place.pointer
 
