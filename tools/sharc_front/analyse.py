@@ -1,6 +1,7 @@
 """Statements and functions: the whole program as a typed tree, with the classes of its pointers."""
 
 import os
+from dataclasses import replace
 
 from pycparser import c_ast as A
 
@@ -373,21 +374,22 @@ class Analysis(ThreadTypes, LibraryTypes, Expressions):
     def group(self, keys):
         """An array in which several globals become elements, or None where they cannot."""
         kinds = [self.part(symbol.type, path) for symbol, path in keys]
-        bases = {(kind.to if kind.kind == "array" else kind).key() for kind in kinds}
-        if len(bases) != 1 or any(symbol in (self.strings,) or symbol.name == "argv" for symbol, _ in keys):
-            return None
-        if any(self.part(symbol.type, path[:at]).kind == "array" for symbol, path in keys for at in range(len(path) + 1)
-               if at < len(path)) or any(kind.kind == "array" for kind in kinds):
+        bases = [kind.base() for kind in kinds]
+        inside = [self.part(symbol.type, path[:at]) for symbol, path in keys for at in range(len(path))]
+        if any(symbol is self.strings or symbol.name == "argv" for symbol, _ in keys) or \
+                len({base.key() for base in bases}) != 1 or len({base.mode for base in bases}) != 1 or \
+                any(kind.kind == "array" for kind in inside):
             return None
         old = [found for found, _ in self.groups.values()]
         members = [key for key in keys if key[0] not in old] + \
             [key for key, (found, _) in self.groups.items() if (found, ()) in keys]
-        symbol = Symbol("_".join(sorted({key[0].name for key in members}))[:40], "global",
-                        array(kinds[0].base(), len(members)), members[0][0].place, self.classes)
-        symbol.out, symbol.members = self.fresh(symbol.name), members
-        symbol.content = self.path_content(*members[0])
+        base = replace(bases[0], const=all(base.const for base in bases))
+        lengths = [self.part(*(key[0].type, key[1])).cells() for key in members]
+        symbol = Symbol("_".join(sorted({key[0].name for key in members}))[:40], "global", array(base, sum(lengths)),
+                        members[0][0].place, self.classes)
+        symbol.out = self.fresh(symbol.name)
         self.groups = {key: found for key, found in self.groups.items() if (found[0], ()) not in keys}
         for at, key in enumerate(members):
             unite(symbol.content, self.path_content(*key))
-            self.groups[key] = (symbol, at)
+            self.groups[key] = (symbol, sum(lengths[:at]))
         return symbol

@@ -281,6 +281,8 @@ class Declarations:
             if kind != "global" and known.kind != "global":
                 self.refuse(decl, f"extern {decl.name} below a local of this name")
             self.scopes[-1][decl.name] = symbol = known
+            if "extern" not in storage and symbol not in self.globals:
+                self.globals.append(symbol)
             if symbol.type.kind == "array" and symbol.type.length is None:
                 symbol.type = type
         else:

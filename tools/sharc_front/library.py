@@ -420,11 +420,12 @@ class LibraryLowering:
     def l_strchr(self, expr, wanted):
         text, wanted_byte = self.held(expr.args[0], expr.place), self.converted(expr.args[1], CHAR)
         wanted_byte = self.stable(wanted_byte, expr.place)
-        at, found = self.temporary("int", "0", expr.place), self.temporary("int", "0", expr.place)
+        at = self.temporary("int", "0", expr.place)
+        found = self.temporary(self.type_text(expr.type, expr.node, expr.place), None, expr.place)
         item = self.item(text, self.index_value(at), expr.place)
         self.emit(f"while ({item.text} != {wanted_byte.at_level(7)} && {item.text} != 0) {at} = {at} + 1;", expr.place)
         self.emit(f"if ({item.text} == {wanted_byte.at_level(7)}) {found} = {self.pointer_to(item, expr.place).text};", expr.place)
-        return cell(found, "int")
+        return self.read(self.pointer_cell(found, expr.type, expr.node), expr)
 
     def l_atoi(self, expr, _):
         if len(expr.args) == 3 and expr.args[2].number != 10:

@@ -586,12 +586,19 @@ class Lowering(Places, LibraryLowering, ThreadLowering):
                 self.effect(part)
             return self.struct_place(expr.parts[-1])
         if expr.kind == "choose":
-            name = f"struct {self.struct_name(expr.type.name)}"
-            made = self.temporary(name + " *", f"malloc(sizeof({name}))", expr.place)
-            place = Place("fields", made + "->", expr.type, top=expr.type.name)
+            place = self.struct_object(expr.type, expr.place)
             self.choose(place, expr)
             return place
         return self.refuse(expr.place, "struct of this form")
+
+    def struct_object(self, kind, at):
+        """A new object for a struct that is returned or chosen."""
+        node = self.program.classes.new(at)
+        node.heap = at
+        node.point_to(kind, at)
+        made = self.new_name("t")
+        self.make_object(f"struct {self.struct_name(kind.name)} * {made}", kind, number(1), node, at)
+        return Place("fields", made + "->", kind, top=kind.name)
 
     def p_value(self, expr, stable):
         return self.place(expr.a, stable)

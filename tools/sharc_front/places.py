@@ -131,6 +131,8 @@ class Places:
     def global_place(self, symbol, path, kind):
         if (symbol, path) in self.program.groups:
             group, at = self.program.groups[(symbol, path)]
+            if kind.kind == "array":
+                return Place("cells", self.piece_name(group, ()), kind, content=group.content, flat=(group, ()), start=number(at))
             return self.element(self.global_place(group, (), group.type), number(at))
         content = self.program.path_content(symbol, path)
         if kind.kind == "array":

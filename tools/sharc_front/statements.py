@@ -65,10 +65,10 @@ class Statements(Lowering):
     def s_loop(self, stmt):
         kept = dict(self.visible)
         lines, _ = self.captured(lambda: [self.statement(part) for part in stmt.first])
-        simple = len(lines) == 1 and re.match(r"(?!if|while|for|\{)[^{}]*;$", lines[0][2])
+        simple = len(lines) == 1 and re.match(r"(?!if|while|for|\{)[^{};]*;$", lines[0][2])
         before, test = self.captured(lambda: self.condition(stmt.cond) if stmt.cond is not None else number(1))
         steps, _ = self.captured(lambda: self.effect(stmt.step) if stmt.step is not None else None)
-        one_step = len(steps) <= 1 and all(re.fullmatch(r"[^{}]*;", text) and not re.match(r"[a-z]+ \w+ =|if|while|lock|unlock|print|free", text) for _, _, text in steps)
+        one_step = len(steps) <= 1 and all(re.fullmatch(r"[^{};]*;", text) and not re.match(r"[a-z]+ \w+ =|if|while|lock|unlock|print|free", text) for _, _, text in steps)
         if lines and not simple:
             self.emit("{", stmt.place)
             self.lines += [(place, depth + 1, text) for place, depth, text in lines]
@@ -426,10 +426,9 @@ class Statements(Lowering):
 
     def return_struct(self, stmt, kind):
         """A struct is returned in an object that the caller frees."""
-        name = f"struct {self.struct_name(kind.name)}"
-        made = self.temporary(name + " *", f"malloc(sizeof({name}))", stmt.place)
-        self.copy(Place("fields", made + "->", kind, top=kind.name), self.struct_place(stmt.value), kind, stmt.place)
-        self.emit(f"return {made};", stmt.place)
+        made = self.struct_object(kind, stmt.place)
+        self.copy(made, self.struct_place(stmt.value), kind, stmt.place)
+        self.emit(f"return {made.text[:-2]};", stmt.place)
 
     # ---- functions
 

@@ -184,8 +184,9 @@ class Arithmetic:
         return self.fitted(made, name)
 
     def fitted(self, value, name):
-        """A result in the type `name`: unsigned types wrap, and signed ones stop where C defines nothing."""
-        if name in UNSIGNED and name != "ulong":
+        """A result in the type `name`: unsigned types wrap, and signed ones stop where C defines nothing. (An int in text
+        of type long would not stop: it wraps.)"""
+        if name in UNSIGNED and name != "ulong" or name == "int" and value.wide:
             return self.convert(value, name)
         low, high = limits(name)
         value.low, value.high = max(value.low, low), min(value.high, high)
