@@ -14,7 +14,8 @@ class Node:
     def __init__(self, place=None):
         self.parent, self.place = self, place
         self.globals, self.functions, self.types = {}, {}, {}  # {(symbol, path of fields): place}, ..
-        self.heap = self.integer = self.order = None  # a place where that was seen
+        # places where that was seen; indexed: another element than the one that is pointed to is used
+        self.heap = self.integer = self.order = self.indexed = None
         self.target = self.element = None  # the class of what is pointed to; of pointers to other elements
         self.mixed = False  # whether it points to globals that cannot be elements of one array
         self.members, self.signature = {}, {}  # by (struct, field); by the number of an argument, or "result"
@@ -56,7 +57,7 @@ def unite(one, other):
     other.parent = one
     for name in ("globals", "functions", "types"):
         getattr(one, name).update(getattr(other, name))
-    for name in ("heap", "integer", "order"):
+    for name in ("heap", "integer", "order", "indexed"):
         setattr(one, name, getattr(one, name) or getattr(other, name))
     for name in ("target", "element"):
         left, right = getattr(one, name), getattr(other, name)
@@ -106,6 +107,9 @@ class Classes:
         root, changed = root.find(), False
         if root.element is not None and root.element.find() is not root:
             if root.globals and not root.heap:
+                unite(root, root.element)
+                return True
+            if root.element.find().indexed or root.element.find().element is not None:
                 unite(root, root.element)
                 return True
             if root.heap and not root.element.find().heap:

@@ -207,6 +207,8 @@ class Expressions(Declarations):
         if pointer_value.kind == "address" and index.number == 0:
             return pointer_value.a
         self.points(pointer_value.node, pointer_value.type)
+        if index.number != 0:
+            pointer_value.node.find().indexed = self.here
         return self.make("at", to, a=pointer_value, b=index)
 
     def x_ArrayRef(self, node):

@@ -19,7 +19,7 @@ SIGNATURES = {
     "fputc": ("vs", INT), "putc": ("vs", INT), "perror": ("s", VOID), "fflush": ("s", INT), "strerror": ("v", pointer(CHAR)),
     "setbuf": ("sn", VOID), "snprintf": ("vvf*", INT), "sprintf": ("vf*", INT),
     "malloc": ("v", pointer(VOID)), "calloc": ("vv", pointer(VOID)), "free": ("v", VOID), "strdup": ("v", pointer(CHAR)),
-    "exit": ("v", VOID), "_exit": ("v", VOID), "abort": ("", VOID), "__sharc_assert": ("v", VOID),
+    "exit": ("v", VOID), "_exit": ("v", VOID), "_Exit": ("v", VOID), "abort": ("", VOID), "__sharc_assert": ("v", VOID),
     "memset": ("ovv", pointer(VOID)), "memcpy": ("oov", pointer(VOID)), "memmove": ("oov", pointer(VOID)),
     "strlen": ("v", ULONG), "strcmp": ("vv", INT), "strncmp": ("vvv", INT), "strcpy": ("vv", pointer(CHAR)),
     "strncpy": ("vvv", pointer(CHAR)), "strcat": ("vv", pointer(CHAR)), "strchr": ("vv", pointer(CHAR)),
@@ -65,11 +65,21 @@ class LibraryTypes:
             if len(found) != len(rest) or any("*" in part[1] + part[2] for part in found):
                 self.refuse(node, "format that has other values, or a width of *")
             shows = name in ("printf", "fprintf")
-            values += [self.shown(arg) if part[4] == "s" and shows else self.rvalue(arg) for part, arg in zip(found, rest)]
+            values += [self.shown(arg) if part[4] == "s" and shows else self.argument_v(arg, name)
+                       for part, arg in zip(found, rest)]
         return values
 
-    def argument_v(self, arg, _):
-        return self.rvalue(arg)
+    def argument_v(self, arg, name):
+        value = self.rvalue(arg)
+        if name.startswith("str") or name in ("atoi", "atol", "snprintf", "sprintf"):
+            self.whole(value)
+        return value
+
+    @staticmethod
+    def whole(value):
+        """What a call uses more than one element of."""
+        if value.node is not None:
+            value.node.find().indexed = value.place
 
     def argument_s(self, arg, _):
         return self.make("nothing", VOID) if getattr(arg, "name", "") in ("__sharc_stdout", "__sharc_stderr") \
@@ -97,7 +107,11 @@ class LibraryTypes:
         if isinstance(arg, A.UnaryOp) and arg.op == "&":
             return self.expr(arg.expr)
         made = self.expr(arg)
-        return made if made.type.kind == "array" else self.value(made)
+        if made.type.kind == "array":
+            return made
+        made = self.value(made)
+        self.whole(made)
+        return made
 
     def argument_c(self, arg, _):
         return self.make("nothing", self.type(arg.to_type))
@@ -538,7 +552,7 @@ class LibraryLowering:
         shown = code.number if code is not None and code.number is not None else ".."
         self.stop("abort()" if code is None else f"exit({shown})", expr.place)
 
-    l_abort = l__exit = l_exit
+    l_abort = l_Exit = l_exit
 
     def l_sharc_assert(self, expr, _):
         self.emit(f"if (!{self.condition(expr.args[0]).at_level(11)}) {{", expr.place)

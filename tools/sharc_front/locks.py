@@ -10,7 +10,7 @@ from .classes import representation
 from .source import Refusal
 from .threads import LOCKING, OWN
 
-JUMPS = ("exit", "abort", "_exit", "pthread_exit")
+JUMPS = ("exit", "abort", "_exit", "_Exit", "pthread_exit")
 
 
 def children(expr):

@@ -4,6 +4,7 @@ import re
 
 from .classes import representation
 from .ctype import INT, pointer
+from .locks import JUMPS
 from .lower import Lowering
 from .places import Place
 from .source import Refusal
@@ -152,7 +153,7 @@ class Statements(Lowering):
         if last.kind == "block":
             return self.ends(last.parts)
         if last.kind == "express":
-            return last.expr.kind == "library" and last.expr.name in ("exit", "abort", "_exit", "pthread_exit")
+            return last.expr.kind == "library" and last.expr.name in JUMPS
         return last.kind in ("break", "return", "continue")
 
     def without_end(self, parts):
