@@ -544,13 +544,12 @@ class LibraryLowering:
 
     def l_exit(self, expr, _):
         code = expr.args[0] if expr.args else None
-        if code is not None and code.number is None:
-            self.effect(code)
-        if self.function.name == "main" and code is not None and code.number == 0:
-            self.emit("return 0;", expr.place)
-            return
-        shown = code.number if code is not None and code.number is not None else ".."
-        self.stop("abort()" if code is None else f"exit({shown})", expr.place)
+        if code is None or code.number:
+            self.stop("abort()" if code is None else f"exit({code.number})", expr.place)
+        elif self.function.name == "main":
+            self.emit(f"return {self.converted(code, INT).text};", expr.place)
+        else:
+            self.refuse(expr.place, "exit outside main that may be no failure")
 
     l_abort = l_Exit = l_exit
 
