@@ -1,0 +1,89 @@
+"""The types of C, their sizes and ranges on a 64-bit machine, and the conversions of C11 6.3.1."""
+
+from dataclasses import dataclass, replace
+
+BITS = {"bool": 1, "char": 8, "uchar": 8, "short": 16, "ushort": 16, "int": 32, "uint": 32, "long": 64, "ulong": 64}
+UNSIGNED = {"bool", "uchar", "ushort", "uint", "ulong"}
+# the type of the cell that holds each: SharC has only signed types; an unsigned long is held by its 64 bits
+CELL = {"bool": "int", "char": "char", "uchar": "int", "short": "int", "ushort": "int", "int": "int", "uint": "long",
+        "long": "long", "ulong": "long"}
+INT_RANGE, LONG_RANGE = (-(1 << 31), (1 << 31) - 1), (-(1 << 63), (1 << 63) - 1)
+
+
+@dataclass(frozen=True)
+class Type:
+    kind: str  # int, void, ptr, array, struct, func, mutex, cond, or bad where the type was refused
+    name: str = ""  # of an int: a key of BITS; of a struct: its name
+    to: "Type" = None  # what a pointer points to, the element of an array, the result of a function
+    length: int = None  # of an array; None where it is not known
+    params: tuple = None  # of a function; None for `()`
+    mode: str = None  # the mark, as it is written in SharC
+    atomic: bool = False
+    const: bool = False
+
+    def key(self):
+        """What is equal for compatible types: the type without its marks."""
+        return (self.kind, self.name, self.length, self.to and self.to.key())
+
+    def marked(self, mode):
+        return replace(self, mode=mode)
+
+    def bare(self):
+        return replace(self, mode=None, to=self.to and self.to.bare())
+
+    def base(self):
+        """The element of an array, of whatever dimensions."""
+        return self.to.base() if self.kind == "array" else self
+
+    def cells(self):
+        """How many elements of its base an array has."""
+        return self.length * self.to.cells() if self.kind == "array" else 1
+
+    def shown(self):
+        if self.kind == "ptr":
+            return self.to.shown() + " *"
+        if self.kind == "array":
+            return f"{self.to.shown()} [{self.length}]"
+        return "struct " + self.name if self.kind == "struct" else self.name or self.kind
+
+
+def integer(name):
+    return Type("int", name)
+
+
+INT, UINT, LONG, ULONG, CHAR, VOID = (*map(integer, ("int", "uint", "long", "ulong", "char")), Type("void"))
+MUTEX, COND, BAD = Type("mutex"), Type("cond"), Type("bad")
+
+
+def pointer(to):
+    return Type("ptr", to=to)
+
+
+def array(to, length):
+    return Type("array", to=to, length=length)
+
+
+def limits(name):
+    """The least and greatest number that a cell of this C type holds."""
+    if name in ("ulong", "long"):
+        return LONG_RANGE
+    return (0, (1 << BITS[name]) - 1) if name in UNSIGNED else (-(1 << BITS[name] - 1), (1 << BITS[name] - 1) - 1)
+
+
+def wrapped(value, name):
+    """A number converted to a C type, as its cell holds it (C11 6.3.1.3; gcc and clang wrap signed types)."""
+    if name == "bool":
+        return int(value != 0)
+    value &= (1 << BITS[name]) - 1
+    signed = name not in UNSIGNED or name == "ulong"
+    return value - (1 << BITS[name]) if signed and value >> BITS[name] - 1 else value
+
+
+def promoted(name):
+    return name if name in ("int", "uint", "long", "ulong") else "int"
+
+
+def usual(left, right):
+    """The common type of two operands (C11 6.3.1.8)."""
+    names = (promoted(left), promoted(right))
+    return next(name for name in ("ulong", "long", "uint", "int") if name in names)

@@ -1,0 +1,2 @@
+#include <stddef.h>
+typedef int sig_atomic_t;

@@ -1,0 +1,7 @@
+#ifndef SHARC_FRONT_STDDEF_H
+#define SHARC_FRONT_STDDEF_H
+#define NULL ((void *)0)
+typedef unsigned long size_t;
+typedef long ptrdiff_t;
+typedef int wchar_t;
+#endif
