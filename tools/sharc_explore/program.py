@@ -29,7 +29,7 @@ def preprocessor(path):
     front = os.path.join(TOOLS, "sharc-c")
     with open(path, "rb") as file:
         threads = re.search(rb"#[ \t]*include[ \t]*<pthread\.h>", file.read())
-    return [front] if threads and os.access(front, os.X_OK) else ["gcc", "-E", "-DSHARC"]
+    return [front] if threads and os.path.isfile(front) else ["gcc", "-E", "-DSHARC"]
 
 
 def read_source(path):
