@@ -15,7 +15,7 @@ mod seat;
 mod shared;
 mod step;
 
-pub use journal::Journal;
+pub use journal::{Journal, QUANTUM};
 pub use laws::{journal_laws, turn_law};
 pub use port::JournalPort;
 pub use seat::JournalSeat;

@@ -1,22 +1,22 @@
 -- What a quantum over a port of a journal makes of a thread and of its seat.
-use Rattle.std.proofs.Common.{◌≡◌, ℕ, ◌+◌, ◌<◌, ◌≤◌, ◌==◌, Bool, true, false, List, [], ◌++◌, length, Some, None, refl, sym, ap, ◌∙◌, subst, arith}
+use Rattle.std.proofs.Common.{◌≡◌, ℕ, ◌+◌, ◌<◌, ◌≤◌, ◌==◌, Bool, true, false, List, [], ◌∷◌, ◌++◌, length, Some, None, refl, sym, ap, ◌∙◌, subst, arith}
 use Rattle.std.specs.Prelude.{if◌then◌else◌}
 use Rattle.std.proofs.lemmas.Bool.Decides.{nat_tests}
-use Rattle.std.proofs.lemmas.List.{append-nil}
+use Rattle.std.proofs.lemmas.List.{append-nil, length-append}
 use Rattle.sharc_word.specs.Place.{Place, LeadsInEvents, place_of_events}
 use Rattle.sharc_word.specs.Laws.{PlaceLaws}
 use Rattle.sharc_code.specs.declared.code.Code.{Code}
 use Rattle.sharc_code.specs.declared.shape.Shape.{Shape}
 use Rattle.sharc_code.specs.declared.state.State.{State}
 use Rattle.sharc_code.specs.declared.state.State.TheVariants.{Runs, Tries, Stopped, Ended}
-use Rattle.sharc_code.specs.Machine.{Machine}
-use Rattle.sharc_code.specs.Path.{may_go, machine_after, events_of_path, made_in}
+use Rattle.sharc_code.specs.Machine.{Machine, Turn, Local, Asks}
+use Rattle.sharc_code.specs.Path.{may_go, turn, machine_after, events_of_turn, events_of_path, made_in}
 use Rattle.sharc_cpu.specs.Thread.{ThreadView, IsThread}
 use Rattle.sharc_cpu.specs.Quantum.{IsQuantum, pause_of}
 use Rattle.sharc_cpu.specs.declared.quantum.Pause.{Pause}
 use Rattle.sharc_cpu.specs.declared.quantum.Pause.TheVariants.{Ran, Spent}
 use Rattle.sharc_journal.specs.Shared.{SeatView}
-use Rattle.sharc_record.specs.declared.hand.TheConstants.{QUANTUM}
+use Rattle.sharc_journal.specs.declared.journal.TheConstants.{QUANTUM}
 use Rattle.sharc_rounds.specs.Round.{Seat}
 use Rattle.sharc_record.specs.Round.{HasRun}
 
@@ -33,6 +33,18 @@ none_ran Ended made limit may h = cc
 none_ran Stopped made limit may h = cc
 none_ran Runs made limit may h = ran_or_spent (made == limit) (below made limit h)
 none_ran Tries made limit may h = ran_or_spent (made == limit) (below made limit h)
+
+-- a turn has one word event at most
+turn_few : (thread : ℕ) (turn : Turn) (found : ℕ) → length (events_of_turn thread turn found) ≤ 1
+turn_few thread (Local m) found = omega arith
+turn_few thread (Asks step go) found = omega arith
+
+-- and a path no more of them than turns
+events_few : (code : Code) (s : Shape) (m : Machine) (founds : List ℕ) → length (events_of_path code s m founds) ≤ length founds
+events_few code s m [] = omega arith
+events_few code s m (found ∷ earlier) =
+    let now = machine_after code s m earlier in
+    omega (arith, length-append (events_of_path code s m earlier) (events_of_turn m.own.number (turn code s now) found), events_few code s m earlier, turn_few m.own.number (turn code s now) found)
 
 module _ (code : Code) (s : Shape) (limit : ℕ) where
   -- a thread that is gone or stopped stays as it is
@@ -55,6 +67,7 @@ module _ (code : Code) (s : Shape) (limit : ℕ) where
     count_is = refl;
     number = refl;
     events_are = sym (append-nil port.events);
+    few = omega arith;
   }
 
   -- and so does a place with none
@@ -66,6 +79,7 @@ module _ (code : Code) (s : Shape) (limit : ℕ) where
     count_is = refl;
     number = refl;
     events_are = sym (append-nil port.events);
+    few = omega arith;
   }
 
   module _ (laws : PlaceLaws) (serves : ℕ → Type 0) (old new : ThreadView) (port after : SeatView) (pause : Pause)
@@ -105,4 +119,5 @@ module _ (code : Code) (s : Shape) (limit : ℕ) where
       count_is = port_count;
       number = port_number;
       events_are = events_after serves;
+      few = omega (arith, events_few code s old.machine q.goes.founds, q.goes.turns_are, q.few);
     }

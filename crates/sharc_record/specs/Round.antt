@@ -12,7 +12,7 @@ use Rattle.sharc_cpu.specs.Thread.{ThreadView, IsThread}
 use Rattle.sharc_journal.specs.Shared.{SharedView}
 use Rattle.sharc_threads.specs.Seats.{AreSeats}
 use Rattle.sharc_rounds.specs.Round.{Seat, MadeQuantumAt, MadeRound}
-use Rattle.sharc_record.specs.declared.hand.TheConstants.{QUANTUM}
+use Rattle.sharc_journal.specs.declared.journal.TheConstants.{QUANTUM}
 use Rattle.sharc_record.specs.declared.hand.Hand.{Hand}
 use Rattle.sharc_record.specs.declared.worker.Worker.{Worker}
 use Rattle.sharc_record.specs.declared.round.Rounds.{Rounds}
@@ -35,7 +35,7 @@ pub record MayRun (code : Code) (s : Shape) (limit : ℕ) (shared : SharedView) 
   pub count_is : hand.port.count ≡ length shared.opened.words
   pub may : MayQuantumAt code s limit hand.seat hand.port.number
 
--- its thread made a quantum, and its port the events of that
+-- its thread made a quantum, and its port the events of that, for which a journal has room
 pub record HasRun (code : Code) (s : Shape) (limit : ℕ) (old new : Hand) : Type 0 where
   pub events : List WordEvent
   pub made : MadeQuantumAt code s limit old.seat new.seat events
@@ -43,6 +43,7 @@ pub record HasRun (code : Code) (s : Shape) (limit : ℕ) (old new : Hand) : Typ
   pub count_is : new.port.count ≡ old.port.count
   pub number : new.port.number ≡ old.port.number
   pub events_are : new.port.events ≡ old.port.events ++ events
+  pub few : length events ≤ QUANTUM
 
 -- ---- workers
 -- so it is of the hand at a place, if there is one

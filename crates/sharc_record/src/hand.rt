@@ -7,14 +7,11 @@ ghost use Rattle.sharc_record.specs.Round.{MayQuantum, HasRun, MayRun};
 
 use sharc_code::{Code, Shape};
 use sharc_cpu::{Thread, run_quantum};
-use sharc_journal::{JournalPort, JournalSeat, SharedJournal, journal_laws};
+use sharc_journal::{JournalPort, JournalSeat, QUANTUM, SharedJournal, journal_laws};
 use sharc_rounds::{Gate, GatedPort};
 use sharc_threads::is_on;
 use sharc_word::place_laws;
 use std::sync::Wait;
-
-/// The turns of a quantum.
-pub const QUANTUM: u32 = 5_000;
 
 /// A place of the table of threads, and its seat at the journal of the round.
 #[derive(Drop)]

@@ -12,7 +12,6 @@ mod round;
 mod run;
 mod worker;
 
-pub use hand::QUANTUM;
 pub use laws::record_laws;
 pub use run::{Recorded, record_run};
 pub use sharc_rounds::Gate;

@@ -6,20 +6,16 @@ ghost use Rattle.sharc_code.specs.Layout.{Fits, words_of};
 ghost use Rattle.sharc_rounds.specs.Round.{MayBegin};
 ghost use Rattle.sharc_record.specs.Round.{HasRoom, HasRoomAt, RecordedRound};
 
-use crate::hand::QUANTUM;
 use crate::worker::{deal, gather, run_all};
 use sharc_code::{Code, Shape};
 use sharc_cpu::Thread;
-use sharc_journal::{Journal, SharedJournal};
+use sharc_journal::{Journal, QUANTUM, SharedJournal};
 use sharc_rounds::Gate;
 use sharc_threads::{ThreadTable, is_on};
 use sharc_word::{MemPort, THREADS, WordEvent};
 use std::alloc::{AllocError, Global};
 use std::sync::Wait;
 use std::thread::Threads;
-
-// The events for which room is made before a round: a quantum of each thread.
-const ROOM: usize = 155_000;
 
 /// The threads, the words and the events so far, between two rounds.
 #[derive(Drop)]
@@ -82,15 +78,15 @@ impl Rounds {
         let Rounds {
             threads,
             port,
-            mut events,
+            events,
         } = self;
         let ThreadTable { mut seats } = threads;
         reserve(&mut seats)?;
-        events.reserve(ROOM)?;
-        let journal = Journal {
+        let mut journal = Journal {
             words: port,
             events,
         };
+        journal.make_room()?;
         let (shared, ports) = SharedJournal::open(alloc, journal, THREADS)?;
         let mut workers = deal(alloc, workers.min(THREADS), seats, ports)?;
         run_all(rt, code, shape, &shared, gate, limit, &mut workers);

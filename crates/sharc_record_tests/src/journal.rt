@@ -79,11 +79,13 @@ fn journal_after<R: Threads + Wait + Sync>(
 ) -> Result<Journal, AllocError>
     requires words { 1 ≤ vec_len words }
     requires ports { 0 < ports }
+    requires few { ports ≤ 31 }
 {
-    let journal = Journal {
+    let mut journal = Journal {
         words: MemPort::new(words),
-        events: Vec::with_capacity(alloc, 1000)?,
+        events: Vec::new(alloc),
     };
+    journal.make_room()?;
     let (shared, seats) = SharedJournal::open(alloc, journal, ports)?;
     let seats = work_in_threads(rt, &shared, seats)?;
     Ok(shared.close(seats))

@@ -15,6 +15,7 @@ const CASES: &str = "run|int main(void) { return 0; }|0 \
 ~run|# 5 \"t.c\"\nint main(void) { print(1 +); return 0; }|2 t.c:5: P1 unexpected ')'\n\
 ~run||2 input:1: C8 no int main(void)\n\
 ~run|# 5 \"t.c\"\nint main(void) { int x = 1;\nprint(y); return 0; }|2 t.c:6: C1 unknown name y\n\
+~run|int main(void) { int x = 1; print(y); return 0; }|2 input:1: C1 unknown name y\n\
 ~run|int f(int a) { return a; } int main(void) { print(f()); return 0; }|2 input:1: C4 wrong number of arguments for f\n\
 ~run|int main(void) { print(1); return 0; } int main(void) { return 0; }|2 input:1: C2 main defined twice\n\
 ~run|int f(void) { nope(); } )\n@|2 input:2: L1 byte 64 at offset 26\n\
@@ -44,7 +45,6 @@ const CASES: &str = "run|int main(void) { return 0; }|0 \
 ~check|void wait(int k) { } int main(void) { wait(1); return 0; }|0 accepted\n\
 ~explain|int main(void) { int * p = malloc(sizeof(int)); *p = 1; print(*p); return 0; }|0 input:1: local p: int private * private\naccepted\n\
 ~check|struct c { mutex racy * readonly m; int locked(m) * readonly b; }; int main(void) { return 0; }|1 input:1: M4 lock path m is not constant\n\
-~check|struct cfg { int readonly k; };\nint main(void) {\n  struct cfg dynamic * c = NULL;\n  c->k = 1;\n  return 0;\n}|1 input:4: M2 write to readonly c->k\n\
 ~explain|int main(void) { int private * p = NULL; int dynamic * d = p; return 0; }|1 input:1: local p: int private * private\ninput:1: local d: int dynamic * private\n\
 input:1: M1 mode mismatch: expected int dynamic *, found int private *\ninput:1: suggest SCAST(int dynamic *, p)\n\
 ~run|int main(void) { int private * p = NULL; int dynamic * d = p; return 0; }|1 input:1: M1 mode mismatch: expected int dynamic *, found int private *\n\
@@ -167,15 +167,44 @@ int main(void) {
   p->m = l;
   p->n = 4;
   struct c dynamic * d = SCAST(struct c dynamic *, p);
+  lock(&*l);
+  d->n = d->n + 1;
+  print(d->n);
+  unlock(&*l);
   d->m = l;
   return 0;
 }
-|1 input:8: M2 write to readonly d->m
+|1 input:12: M2 write to readonly d->m
+~check|struct cfg { int readonly k; };
+void r(struct cfg dynamic * c) {
+  print(c->k);
+}
+int main(void) {
+  struct cfg private * p = malloc(sizeof(struct cfg));
+  p->k = 9;
+  struct cfg dynamic * c = SCAST(struct cfg dynamic *, p);
+  int a = spawn(r, c);
+  int b = spawn(r, c);
+  join(a);
+  join(b);
+  c->k = 1;
+  return 0;
+}
+|1 input:13: M2 write to readonly c->k
 ~check|int main(void) {
   int * x = malloc(sizeof(int));
   int dynamic * y = NULL;
   y = SCAST(int dynamic *, x);
   print(*x);
+  return 0;
+}
+|0 input:5: warning x may be NULL since input:4
+accepted
+~check|struct s { int n; };
+int main(void) {
+  struct s private * x = malloc(sizeof(struct s));
+  struct s dynamic * y = SCAST(struct s dynamic *, x);
+  print(x->n);
   return 0;
 }
 |0 input:5: warning x may be NULL since input:4

@@ -237,6 +237,45 @@ int main(void) {
   return 0;
 }
 |0 42
+~|struct s { int n; };
+int main(void) {
+  struct s private * q = malloc(sizeof(struct s)); struct s private * p = q; p->n = 20;
+  int k = p->n + 1;
+  p->n = k * 2;
+  print(p->n);
+  return 0;
+}
+|0 42
+~|# 1 \"pipe.c\"
+struct buf { int n; };
+struct stage {
+  mutex m;
+  struct buf locked(m) * locked(m) b;
+};
+void twice(struct stage dynamic * s) {
+  lock(&s->m);
+  struct buf private * p = SCAST(struct buf private *, s->b);
+  p->n = p->n * 2;
+  s->b = SCAST(struct buf locked(s->m) *, p);
+  unlock(&s->m);
+}
+int main(void) {
+  struct stage dynamic * s = malloc(sizeof(struct stage));
+  struct buf private * p = malloc(sizeof(struct buf));
+  p->n = 21;
+  lock(&s->m);
+  s->b = SCAST(struct buf locked(s->m) *, p);
+  unlock(&s->m);
+  int t = spawn(twice, s);
+  join(t);
+  lock(&s->m);
+  p = SCAST(struct buf private *, s->b);
+  unlock(&s->m);
+  print(p->n);
+  free(p);
+  return 0;
+}
+|0 42
 ~|int dynamic g; int main(void) { g = 1; g = g + 1; print(g); return 0; }|0 2
 ~|struct c { mutex racy * readonly m; int locked(m) n; };
 int main(void) {

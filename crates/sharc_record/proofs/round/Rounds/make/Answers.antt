@@ -48,7 +48,7 @@ returns g c =
     let lists = lists_of c.in_ok-seats.ports.items in
     let one = c.close-port.ensures in
     let opened = c.in_ok-shared.ensures.shared.0 in
-    let first : c.in_ok-shared.shared.opened.words ≡ c.args.self.port = ap (λ (j : Journal). j.words) opened in
+    let first : c.in_ok-shared.shared.opened.words ≡ c.args.self.port = ap (λ (j : Journal). j.words) opened ∙ c.make_room.ensures.words in
     let now : List ℕ = c.close-port.result.words in
     let both : (h : OneHistory c.args.self.port lists now) × (h.history ≡ one.history) =
     subst (λ (xs : List ℕ). (h : OneHistory xs lists now) × (h.history ≡ one.history)) first (record { history = one.history; legal = one.legal; parts = one.parts; words_are = one.words_are }, refl) in
@@ -58,5 +58,5 @@ returns g c =
           c.args.self.port now both.0;
       appended = one.events_are
           ∙ (ap (λ (j : Journal). j.events.items ++ one.history) opened
-          ∙ (ap (λ (es : List WordEvent). es ++ one.history) c.reserve-2.ensures.items ∙ ap (λ (h : List WordEvent). c.args.self.events.items ++ h) (sym both.1)));
+          ∙ (ap (λ (es : List WordEvent). es ++ one.history) c.make_room.ensures.events ∙ ap (λ (h : List WordEvent). c.args.self.events.items ++ h) (sym both.1)));
     }
