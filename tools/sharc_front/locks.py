@@ -46,7 +46,8 @@ class Held:
                 if symbol in self.entry:
                     self.function = symbol
                     self.block(symbol.body, set(self.entry[symbol]), lambda *_: None)
-            new = {symbol: frozenset.intersection(*sets) for symbol, sets in self.calls.items() if symbol not in self.fixed}
+            new = {symbol: frozenset.intersection(*sets) for symbol, sets in self.calls.items()
+                   if symbol not in self.fixed}
             if all(self.entry.get(symbol) == held for symbol, held in new.items()):
                 break
             self.entry.update(new)
@@ -77,7 +78,9 @@ class Held:
         return None
 
     def pointer(self, expr):
-        return self.text(expr.a) if expr.kind == "value" else self.generator.visit(expr.source) if expr.source is not None else "?"
+        if expr.kind == "value":
+            return self.text(expr.a)
+        return self.generator.visit(expr.source) if expr.source is not None else "?"
 
     def block(self, stmt, held, seen):
         for part in stmt.parts:
