@@ -171,7 +171,8 @@ class Analysis(ThreadTypes, LibraryTypes, Expressions):
             kind = self.adjusted(self.type(node.type))
             if kind.kind == "void":
                 continue
-            param = Symbol(getattr(node, "name", None) or "unnamed", "param", kind, place_of(node, self.here), self.classes)
+            param = Symbol(getattr(node, "name", None) or "unnamed", "param", kind, place_of(node, self.here),
+                           self.classes)
             self.complete(kind, node)
             self.holds(kind, param.content, param.address)
             param.address.heap = param.place

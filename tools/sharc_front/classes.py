@@ -169,7 +169,8 @@ def representation(node, place):
     if len(root.globals) > 1:
         raise Refusal(place, "pointer to different globals (" + ", ".join(sorted(map(named, root.globals))) + ")")
     if len(kinds) > 1:
-        words = {"heap": "to an object of the heap or a local", "function": "to a function", "integer": "that is a number"}
+        words = {"heap": "to an object of the heap or a local", "function": "to a function",
+                 "integer": "that is a number"}
         words["global"] = "to global " + "".join(map(named, root.globals))
         raise Refusal(place, "pointer " + " and ".join(words[kind] for kind in kinds))
     if kinds == ["heap"] or (not kinds and root.types):

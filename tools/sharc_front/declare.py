@@ -11,7 +11,8 @@ from .source import Refusal
 from .tree import Expr, Field, Struct, Symbol
 
 # types of pthread and of this folder's headers: how they are lowered, and their sizes in glibc on a 64-bit machine
-OPAQUE = {"pthread_mutex_t": (MUTEX, 40), "pthread_spinlock_t": (MUTEX, 4), "pthread_cond_t": (COND, 48), "pthread_attr_t": (Type("attr"), 56)}
+OPAQUE = {"pthread_mutex_t": (MUTEX, 40), "pthread_spinlock_t": (MUTEX, 4), "pthread_cond_t": (COND, 48),
+          "pthread_attr_t": (Type("attr"), 56)}
 SIZES = {"mutex": 40, "cond": 48, "attr": 56, "sem_t": 32, "pthread_barrier_t": 32, "pthread_rwlock_t": 56}
 
 
@@ -22,12 +23,12 @@ def place_of(node, otherwise=("", 0)):
 
 class Declarations:
     def __init__(self, source, alone):
-        self.alone = alone  # members whose address is taken in objects of the heap: objects of their own, of one element
+        self.alone = alone  # members whose address is taken in objects of the heap: they are arrays of one element
         self.source, self.here = source, ("", 0)
         self.structs, self.globals, self.functions, self.refusals = {}, [], {}, []
         self.classes = Classes(self.structs)
         self.scopes, self.tags, self.anonymous = [{}], [{}], {}
-        self.names = set(source.words)
+        self.names, self.unions = set(source.words), set()
         self.function = None
 
     def refuse(self, node, what):
@@ -119,7 +120,9 @@ class Declarations:
 
     def specified(self, node):
         if isinstance(node, A.Union):
-            self.refuse(node, "union")
+            known = node.decls is None and node.name in self.unions
+            self.unions.add(node.name)
+            self.refuse(node, None if known else "union")
         if isinstance(node, A.Enum):
             return self.enum(node)
         if isinstance(node, A.Struct):

@@ -16,9 +16,11 @@ from .values import cell, number
 # p place that a pointer points to, n NULL; then the type of the result
 SIGNATURES = {
     "printf": ("f*", INT), "fprintf": ("sf*", INT), "puts": ("s", INT), "fputs": ("ss", INT), "putchar": ("v", INT),
-    "fputc": ("vs", INT), "putc": ("vs", INT), "perror": ("s", VOID), "fflush": ("s", INT), "strerror": ("v", pointer(CHAR)),
+    "fputc": ("vs", INT), "putc": ("vs", INT), "perror": ("s", VOID), "fflush": ("s", INT), "strerror": ("v",
+                                                                                                         pointer(CHAR)),
     "setbuf": ("sn", VOID), "snprintf": ("vvf*", INT), "sprintf": ("vf*", INT),
-    "malloc": ("v", pointer(VOID)), "calloc": ("vv", pointer(VOID)), "free": ("v", VOID), "strdup": ("v", pointer(CHAR)),
+    "malloc": ("v", pointer(VOID)), "calloc": ("vv", pointer(VOID)), "free": ("v", VOID), "strdup": ("v",
+                                                                                                     pointer(CHAR)),
     "exit": ("v", VOID), "_exit": ("v", VOID), "_Exit": ("v", VOID), "abort": ("", VOID), "__sharc_assert": ("v", VOID),
     "memset": ("ovv", pointer(VOID)), "memcpy": ("oov", pointer(VOID)), "memmove": ("oov", pointer(VOID)),
     "strlen": ("v", ULONG), "strcmp": ("vv", INT), "strncmp": ("vvv", INT), "strcpy": ("vv", pointer(CHAR)),
@@ -141,7 +143,8 @@ class LibraryTypes:
         one, two = made.args[0], made.args[1]
         kinds = [arg.type.to if arg.type.kind == "ptr" and arg.kind != "at" else arg.type for arg in (one, two)]
         if kinds[0].base().kind == "ptr":
-            contents = [self.content_of_array(arg) if arg.kind in ("var", "member", "index", "at") else arg.node.pointee()
+            contents = [self.content_of_array(arg) if arg.kind in ("var", "member", "index", "at")
+                        else arg.node.pointee()
                         for arg in (one, two)]
             unite(*contents)
 
@@ -323,7 +326,8 @@ class LibraryLowering:
 
     def element_type(self, target):
         kind = target.type
-        return kind.base() if kind.kind in ("array", "struct", "int") or target.kind in ("member", "index", "at", "var") \
+        return kind.base() if kind.kind in ("array", "struct", "int") or target.kind in ("member", "index", "at",
+                                                                                         "var") \
             and kind.kind != "ptr" else kind.to.base()
 
     def element_size(self, target):
@@ -438,7 +442,8 @@ class LibraryLowering:
         found = self.temporary(self.type_text(expr.type, expr.node, expr.place), None, expr.place)
         item = self.item(text, self.index_value(at), expr.place)
         self.emit(f"while ({item.text} != {wanted_byte.at_level(7)} && {item.text} != 0) {at} = {at} + 1;", expr.place)
-        self.emit(f"if ({item.text} == {wanted_byte.at_level(7)}) {found} = {self.pointer_to(item, expr.place).text};", expr.place)
+        pointer_to = self.pointer_to(item, expr.place).text
+        self.emit(f"if ({item.text} == {wanted_byte.at_level(7)}) {found} = {pointer_to};", expr.place)
         return self.read(self.pointer_cell(found, expr.type, expr.node), expr)
 
     def l_atoi(self, expr, _):
@@ -451,7 +456,8 @@ class LibraryLowering:
         self.emit(f"while ({byte} == 32 || {byte} >= 9 && {byte} <= 13) {at} = {at} + 1;", expr.place)
         self.emit(f"if ({byte} == 45) {sign} = -1;", expr.place)
         self.emit(f"if ({byte} == 45 || {byte} == 43) {at} = {at} + 1;", expr.place)
-        self.emit(f"while ({byte} >= 48 && {byte} <= 57) {{ {made} = {made} * 10 + ({byte} - 48); {at} = {at} + 1; }}", expr.place)
+        self.emit(f"while ({byte} >= 48 && {byte} <= 57) {{ {made} = {made} * 10 + ({byte} - 48); "
+                  f"{at} = {at} + 1; }}", expr.place)
         self.emit(f"{made} = {made} * {sign};", expr.place)
         value = cell(made, "long")
         return self.arithmetic.convert(value, "int") if expr.name == "atoi" else value
@@ -466,7 +472,8 @@ class LibraryLowering:
         target, text, args = self.held(expr.args[0], expr.place), expr.args[skip], list(expr.args[skip + 1 :])
         at = self.temporary("int", "0", expr.place)
         self.room = most.at_level(10) if most else None
-        pieces = [(part, self.ready(part, args.pop(0), expr.place)) for part in CONVERSION.findall(text) if part[4] != "%"]
+        pieces = [(part, self.ready(part, args.pop(0), expr.place)) for part in CONVERSION.findall(text)
+                  if part[4] != "%"]
         ends = [(found.start(), found.end(), found[5]) for found in CONVERSION.finditer(text)]
         last = 0
         for start, end, letter in ends:
@@ -481,7 +488,8 @@ class LibraryLowering:
         else:
             last = self.temporary("int", at, expr.place)
             self.emit(f"if ({last} >= {self.room}) {last} = {self.room} - 1;", expr.place)
-            self.emit(f"if ({self.room} > 0) {self.item(target, self.index_value(last), expr.place).text} = 0;", expr.place)
+            self.emit(f"if ({self.room} > 0) {self.item(target, self.index_value(last), expr.place).text} = 0;",
+                      expr.place)
         return self.index_value(at)
 
     l_snprintf = l_sprintf

@@ -46,7 +46,8 @@ class Held:
                 if symbol in self.entry:
                     self.function = symbol
                     self.block(symbol.body, set(self.entry[symbol]), lambda *_: None)
-            new = {symbol: frozenset.intersection(*sets) for symbol, sets in self.calls.items() if symbol not in self.fixed}
+            new = {symbol: frozenset.intersection(*sets) for symbol, sets in self.calls.items()
+                   if symbol not in self.fixed}
             if all(self.entry.get(symbol) == held for symbol, held in new.items()):
                 break
             self.entry.update(new)
@@ -61,14 +62,25 @@ class Held:
         if place.kind == "member":
             base = place.a
             if base.kind == "at" and base.b.number == 0:
-                return f"{self.pointer(base.a)}->{place.field}"
+                known = self.one_global(base.a.node)
+                return f"{known}.{place.field}" if known else f"{self.pointer(base.a)}->{place.field}"
             return f"{self.text(base)}.{place.field}"
         if place.kind == "at" and place.b.number == 0:
             return "*" + self.pointer(place.a)
         return self.generator.visit(place.source) if place.source is not None else "?"
 
+    @staticmethod
+    def one_global(node):
+        """The one global struct that pointers of a class point to."""
+        keys = list(node.find().globals)
+        if len(keys) == 1 and not node.find().heap and keys[0][0].type.kind == "struct" and not keys[0][1]:
+            return keys[0][0].name
+        return None
+
     def pointer(self, expr):
-        return self.text(expr.a) if expr.kind == "value" else self.generator.visit(expr.source) if expr.source is not None else "?"
+        if expr.kind == "value":
+            return self.text(expr.a)
+        return self.generator.visit(expr.source) if expr.source is not None else "?"
 
     def block(self, stmt, held, seen):
         for part in stmt.parts:
@@ -277,7 +289,12 @@ class Proposals:
             for access in threads:
                 for lock in access[2]:
                     counts[lock] = counts.get(lock, 0) + 1
-            if not threads or not any(access[1] for access in threads) or not counts:
+            if threads and not any(access[1] for access in threads):
+                written = sorted({access[3][1] for access in accesses if access[1]})
+                if written:
+                    yield f"{name}: written by main alone (line {', '.join(map(str, written))}), read by threads"
+                continue
+            if not threads or not counts:
                 continue
             best = max(counts, key=lambda lock: (counts[lock], lock))
             if counts[best] < 0.6 * len(threads) and not (counts[best] == len(threads) - 1 and len(threads) > 1):

@@ -83,7 +83,8 @@ class Lowering(Places, LibraryLowering, ThreadLowering):
             return expr
         value = self.value(expr)
         name = self.temporary(self.type_text(expr.type.bare(), expr.node, place), value.text, place)
-        return self.program.make("lowered", expr.type, expr.node, value=Value(name, PRIMARY, value.low, value.high, value.wide))
+        return self.program.make("lowered", expr.type, expr.node, value=Value(name, PRIMARY, value.low, value.high,
+                                                                              value.wide))
 
     @staticmethod
     def sum_of(left, right):
@@ -244,7 +245,8 @@ class Lowering(Places, LibraryLowering, ThreadLowering):
         return made if size == 1 else self.arithmetic.binary("/", made, number(size), "long")
 
     def operands(self, left, right):
-        return self.in_order([(lambda: self.value(left), self.kind_of(left)), (lambda: self.value(right), self.kind_of(right))])
+        return self.in_order([(lambda: self.value(left), self.kind_of(left)), (lambda: self.value(right),
+                                                                               self.kind_of(right))])
 
     def v_unary(self, expr):
         return self.arithmetic.unary(expr.op, self.value(expr.a), expr.type.name)
@@ -268,7 +270,8 @@ class Lowering(Places, LibraryLowering, ThreadLowering):
             if null(one):
                 return Value("NULL") if how in ("heap", "boxes") else number(0)
             return self.value(one)
-        left, right = self.in_order([(lambda: side(expr.a), self.kind_of(expr.a)), (lambda: side(expr.b), self.kind_of(expr.b))])
+        left, right = self.in_order([(lambda: side(expr.a), self.kind_of(expr.a)), (lambda: side(expr.b),
+                                                                                    self.kind_of(expr.b))])
         if left.text == right.text == "NULL":
             return number(int(expr.op == "=="))
         level = 6 if expr.op in ("==", "!=") else 7
@@ -279,7 +282,8 @@ class Lowering(Places, LibraryLowering, ThreadLowering):
         lines, right = self.captured(lambda: self.condition(expr.b))
         level = 1 if expr.op == "||" else 2
         if not lines:
-            return left.derived(f"{left.at_level(level)} {expr.op} {right.at_level(level + 1)}", level, 0, 1, False, right)
+            return left.derived(f"{left.at_level(level)} {expr.op} {right.at_level(level + 1)}", level, 0, 1, False,
+                                right)
         made = self.temporary("int", "0" if expr.op == "&&" else "1", expr.place)
         self.emit(f"if ({left.text if expr.op == '&&' else '!' + left.at_level(PRIMARY)}) {{", expr.place)
         self.lines += [(place, depth + 1, text) for place, depth, text in lines]
@@ -313,7 +317,8 @@ class Lowering(Places, LibraryLowering, ThreadLowering):
             if target is None:
                 self.effect(part)
             elif target.type.kind == "int" and part.type.kind == "int" and expr.type.kind == "int":
-                value = self.arithmetic.convert(self.arithmetic.convert(self.value(part), expr.type.name), target.type.name)
+                value = self.arithmetic.convert(self.arithmetic.convert(self.value(part), expr.type.name),
+                                                target.type.name)
                 self.emit(f"{target.text} = {value.text};", expr.place)
             else:
                 self.store(target, part, expr.place)
@@ -517,7 +522,8 @@ class Lowering(Places, LibraryLowering, ThreadLowering):
         self.lines += lines
         if kind.atomic:
             return self.atomic_change(expr, place, None, value, False)
-        if wanted and place.reads and not (value.low == value.high and value.text.lstrip("-").isdigit() or value.text == "NULL"):
+        if wanted and place.reads and not (value.low == value.high and value.text.lstrip("-").isdigit()
+                                           or value.text == "NULL"):
             value = self.spilled(value, self.type_text(kind.bare(), expr.node, expr.place), expr.place)
         self.emit(f"{place.text} = {value.text};", expr.place)
         if not wanted or place.reads:

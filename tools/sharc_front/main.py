@@ -86,7 +86,8 @@ def guarded(words):
     except Exception as error:  # no program of C may end in a traceback
         if os.environ.get("SHARC_FRONT_DEBUG"):
             raise
-        raise Refusal((words.file, 1), f"program that the front does not understand ({type(error).__name__}: {error})") from None
+        raise Refusal((words.file, 1),
+                      f"program that the front does not understand ({type(error).__name__}: {error})") from None
 
 
 def told(refusals):
@@ -107,7 +108,8 @@ def answered(words, text, names, notes):
     if words.command in ("run", "record") and not any(word.startswith("--granules") for word in rest):
         rest = [*rest, "--granules", "65536"]
     try:
-        done = subprocess.run([program_path(), words.command, *rest], input=text.encode(), stdout=subprocess.PIPE, check=False)
+        done = subprocess.run([program_path(), words.command, *rest], input=text.encode(), stdout=subprocess.PIPE,
+                              check=False)
     except OSError as error:
         sys.stderr.write(f"sharc-c: {program_path()}: {error.strerror} (set SHARC to the built program)\n")
         return 2

@@ -5,7 +5,8 @@ import re
 from pycparser import c_generator
 
 BLANKS = re.compile(r"\s+")
-STOPPED = re.compile(r"(thread \d+: )X3 zero divisor at (.*?): (exit\([^)]*\)|abort\(\)|assert|call through NULL):(\d+)$")
+STOPPED = re.compile(r"(thread \d+: )X3 zero divisor at (.*?): (exit\([^)]*\)|abort\(\)|assert|call through NULL)"
+                     r":(\d+)$")
 
 
 def packed(text):
@@ -40,7 +41,8 @@ class Names:
         return self.of_words(lock)
 
     def of_words(self, text):
-        return re.sub(r"[A-Za-z_]\w*", lambda f: "(temporary)" if f[0] in self.own else self.words.get(f[0], f[0]), text)
+        return re.sub(r"[A-Za-z_]\w*", lambda f: "(temporary)" if f[0] in self.own else self.words.get(f[0], f[0]),
+                      text)
 
     def line(self, line):
         """One line of the program's output."""
@@ -62,7 +64,8 @@ class Names:
             return f"{found[1]}:{found[2]}: {found[3]} {self.of_lvalue(found[4], found[1], found[2])}"
         found = re.match(r"(\S+):(\d+): warning (.*?) may be NULL since (.*)$", line)
         if found:
-            return f"{found[1]}:{found[2]}: warning {self.of_lvalue(found[3], found[1], found[2])} may be NULL since {found[4]}"
+            shown = self.of_lvalue(found[3], found[1], found[2])
+            return f"{found[1]}:{found[2]}: warning {shown} may be NULL since {found[4]}"
         if re.match(r"-?\d+$", line):
             return line
         told = re.match(r"(.*?): (?:local|global|parameter|result|cast of) ?(\w*)", line)

@@ -106,7 +106,8 @@ class Output(Statements):
         value = getattr(symbol, "constants", {}).get(path)
         if self.globals_cells(1) > 60000:
             self.refuse(place, "globals of over 60000 cells")
-        self.emit(f"{self.type_text(kind, content, place, context, False)} {name}{' = ' + value if value else ''};", place)
+        self.emit(f"{self.type_text(kind, content, place, context, False)} {name}{' = ' + value if value else ''};",
+                  place)
 
     def globals_cells(self, more):
         self.cells = getattr(self, "cells", 0) + more
@@ -122,7 +123,8 @@ class Output(Statements):
             base = base.marked(kind.mode)
         if self.globals_cells(length * (8 if base.kind == "struct" else 1)) > 60000 or length > 65536:
             self.refuse(place, f"array of {length} elements")
-        self.emit(f"{self.type_text(base, content, place, context, False)} {self.piece_name(symbol, path)}[{length}];", place)
+        text = self.type_text(base, content, place, context, False)
+        self.emit(f"{text} {self.piece_name(symbol, path)}[{length}];", place)
 
     def inner_arrays(self, symbol, path, struct, length, inner):
         """The arrays in the structs of an array: all of them after one another, in a global array."""
@@ -156,7 +158,8 @@ class Output(Statements):
         if data and self.reads_strings():
             places = [(symbol.place) for symbol in [self.program.functions["main"]]]
             for at in range(0, len(data), 16):
-                text = " ".join(f"{self.program.strings.out}[{at + k}] = {byte};" for k, byte in enumerate(data[at : at + 16]) if byte)
+                text = " ".join(f"{self.program.strings.out}[{at + k}] = {byte};" for k,
+                                byte in enumerate(data[at : at + 16]) if byte)
                 if text:
                     self.emit(text, places[0])
         self.lines += lines
@@ -213,7 +216,8 @@ class Output(Statements):
             if kind.base().kind in ("cond", "attr", "bad"):
                 continue
             if kind.kind != "array":
-                self.emit(f"{self.type_text(kind, field.content, field.place, context, False)} {self.leaf(top, path)};", field.place)
+                text = self.type_text(kind, field.content, field.place, context, False)
+                self.emit(f"{text} {self.leaf(top, path)};", field.place)
                 continue
             base = kind.base()
             if representation(field.made, field.place) == "none" or not field.made.find().heap:

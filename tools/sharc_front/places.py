@@ -132,7 +132,8 @@ class Places:
         if (symbol, path) in self.program.groups:
             group, at = self.program.groups[(symbol, path)]
             if kind.kind == "array":
-                return Place("cells", self.piece_name(group, ()), kind, content=group.content, flat=(group, ()), start=number(at))
+                return Place("cells", self.piece_name(group, ()), kind, content=group.content, flat=(group, ()),
+                             start=number(at))
             return self.element(self.global_place(group, (), group.type), number(at))
         content = self.program.path_content(symbol, path)
         if kind.kind == "array":
@@ -164,7 +165,8 @@ class Places:
         if kind.kind == "array" and base.flat:
             symbol, outer = base.flat[0], base.flat[1] + path
             start = scaled(base.number, kind.cells())
-            return Place("cells", self.piece_name(symbol, outer), kind, content=field.content, flat=(symbol, outer), start=start)
+            return Place("cells", self.piece_name(symbol, outer), kind, content=field.content, flat=(symbol, outer),
+                         start=start)
         text = base.text + self.leaf(base.top, path)
         if kind.kind == "array":
             return Place("cells", text, kind, content=field.content, boxes=self.boxed_field(field))
@@ -214,7 +216,8 @@ class Places:
         if how == "global":
             return self.element_of_global(expr, index, stable)
         if how not in ("heap", "boxes"):
-            self.refuse(expr.place, "use of a pointer that is always NULL" if how == "none" else "dereference of a number")
+            self.refuse(expr.place, "use of a pointer that is always NULL" if how == "none"
+                        else "dereference of a number")
         self.pointee(node, expr.place)
         text = self.held_pointer(expr.a)
         content = node.pointee() if kind.base().kind == "ptr" else None
@@ -222,7 +225,8 @@ class Places:
             return Place("cells", text.at_level(PRIMARY), kind, content=content, boxes=how == "boxes",
                          start=scaled(index, kind.cells()))
         if how == "boxes":
-            return self.element_at(Place("cells", text.at_level(PRIMARY), None, content=content, boxes=True), index, kind)
+            return self.element_at(Place("cells", text.at_level(PRIMARY), None, content=content, boxes=True), index,
+                                   kind)
         if index.text != "0":
             return self.element_at(Place("cells", text.at_level(PRIMARY), None, content=content), index, kind)
         if kind.kind == "struct":
@@ -319,7 +323,8 @@ class Places:
             return self.element_at(base, summed(first, index), expr.type)
         if expr.kind == "at":
             first = self.index(expr.b, True)
-            return self.place(Expr("at", at, expr.type, a=expr.a, b=Expr("lowered", at, INT, value=summed(first, index))))
+            return self.place(Expr("at", at, expr.type, a=expr.a, b=Expr("lowered", at, INT, value=summed(first,
+                                                                                                          index))))
         if expr.kind in ("var", "member"):
             return self.place(expr)
         if expr.kind == "decay":
@@ -364,7 +369,58 @@ class Places:
         if symbol is None:
             self.refuse(at, f"lock {path}, which is not known")
         if symbol.kind == "global":
-            if any((symbol, tuple(steps[:n])) in self.program.groups for n in range(len(steps) + 1)) or symbol.type.kind == "array":
+            if any((symbol, tuple(steps[:n])) in self.program.groups for n in range(len(steps)
+
+
+
+
+
+
+
+
+
+
+
+
+
+
+
+
+
+
+
+
+
+
+
+
+
+
+
+
+
+
+
+
+
+
+
+
+
+
+
+
+
+
+
+
+
+
+
+
+
+
+                                                                                    + 1)) or symbol.type.kind == "array":
                 self.refuse(at, f"lock {path}, which is an element of an array")
             return self.piece_name(symbol, tuple(steps))
         if symbol.type.kind == "ptr" and representation(symbol.content, at) == "global":

@@ -20,12 +20,13 @@ DROPPED = {"__extension__", "restrict", "__restrict", "__restrict__", "_Noreturn
 SPELT = {"__inline": "inline", "__inline__": "inline", "__signed__": "signed", "__const": "const", "__const__": "const",
          "__volatile__": "volatile", "__volatile": "volatile", "__alignof__": "_Alignof", "__func__": '""',
          "__FUNCTION__": '""'}
-HARMLESS = set("unused noreturn format const pure noinline always_inline cold hot malloc nonnull warn_unused_result used "
-               "deprecated returns_nonnull flatten leaf nothrow fallthrough may_alias unused noclone alloc_size".split())
+HARMLESS = set("unused noreturn format const pure noinline always_inline cold hot malloc nonnull "
+               "warn_unused_result used deprecated returns_nonnull flatten leaf nothrow fallthrough may_alias unused noclone alloc_size".split())
 REFUSED = {"typeof": "typeof", "__typeof__": "typeof", "__typeof": "typeof", "__thread": "variable of each thread",
            "_Thread_local": "variable of each thread", "_Generic": "_Generic", "asm": "inline assembler",
            "__asm__": "inline assembler", "__asm": "inline assembler", "_Complex": "complex number",
-           "__complex__": "complex number", "__int128": "__int128", "__auto_type": "__auto_type", "_Alignas": "_Alignas",
+           "__complex__": "complex number", "__int128": "__int128", "__auto_type": "__auto_type",
+           "_Alignas": "_Alignas",
            "__label__": "local label", "_Float128": "floating point", "__float128": "floating point",
            "__builtin_va_arg": "variable arguments", "__builtin_offsetof": "offsetof", "_Alignof": "_Alignof"}
 
@@ -93,7 +94,8 @@ class Tokens:
 
     def attribute(self):
         if self.next() == "(":
-            names = re.findall(r"[A-Za-z_]\w*(?=\s*(?:\(|,|\)|$))", re.sub(r"\([^()]*\)", "", "".join(self.parenthesised()[1:-1])))
+            names = re.findall(r"[A-Za-z_]\w*(?=\s*(?:\(|,|\)|$))", re.sub(r"\([^()]*\)", "",
+                                                                           "".join(self.parenthesised()[1:-1])))
             for name in names:
                 if name.strip("_") not in HARMLESS:
                     self.refuse(f"attribute {name}")

@@ -69,7 +69,9 @@ class Statements(Lowering):
         simple = len(lines) == 1 and re.match(r"(?!if|while|for|\{)[^{};]*;$", lines[0][2])
         before, test = self.captured(lambda: self.condition(stmt.cond) if stmt.cond is not None else number(1))
         steps, _ = self.captured(lambda: self.effect(stmt.step) if stmt.step is not None else None)
-        one_step = len(steps) <= 1 and all(re.fullmatch(r"[^{};]*;", text) and not re.match(r"[a-z]+ \w+ =|if|while|lock|unlock|print|free", text) for _, _, text in steps)
+        one_step = len(steps) <= 1 and all(re.fullmatch(r"[^{};]*;", text)
+                                           and not re.match(r"[a-z]+ \w+ =|if|while|lock|unlock|print|free", text)
+                                           for _, _, text in steps)
         if lines and not simple:
             self.emit("{", stmt.place)
             self.lines += [(place, depth + 1, text) for place, depth, text in lines]
@@ -77,7 +79,8 @@ class Statements(Lowering):
         first = lines[0][2][:-1] if simple else ""
         if not before and one_step and not stmt.late:
             step = steps[0][2][:-1] if steps else ""
-            head = f"for ({first}; {test.text if stmt.cond is not None else ''}; {step})" if first or step else f"while ({test.text})"
+            until = test.text if stmt.cond is not None else ""
+            head = f"for ({first}; {until}; {step})" if first or step else f"while ({test.text})"
             self.emit(head + " {", stmt.place)
             self.loop_body(stmt, [])
             self.emit("}", None)
@@ -94,7 +97,7 @@ class Statements(Lowering):
         self.loops.pop()
 
     def long_loop(self, stmt, first, before, test, steps):
-        """A loop whose condition or step takes statements: what follows the body is written before each continue too."""
+        """A loop whose condition or step takes statements: these are written before each continue too."""
         self.emit(f"for ({first}; ; ) {{" if first else "while (1) {", stmt.place)
         self.depth += 1
         place = stmt.cond.place if stmt.cond is not None else stmt.place
@@ -241,7 +244,9 @@ class Statements(Lowering):
             value = initial[0][1] if initial else None
             while value is not None and value.kind == "cast":
                 value = value.a
-            if value is None or value.kind != "value" or value.a.kind != "var" or local.boxed or local.type.kind != "ptr":
+            if value is None or value.kind != "value" or value.a.kind != "var":
+                continue
+            if local.boxed or local.type.kind != "ptr":
                 continue
             param = value.a.symbol
             if param in symbol.params and param.uses == 1 and not param.boxed and param.type.kind == "ptr":
@@ -267,7 +272,8 @@ class Statements(Lowering):
 
     def walk(self, base, path):
         for step in path:
-            base = self.element(base, number(step)) if isinstance(step, int) else self.member(base, base.type.name, step)
+            base = self.element(base, number(step)) if isinstance(step, int) else self.member(base, base.type.name,
+                                                                                              step)
         return base
 
     def local_name(self, symbol):
@@ -288,7 +294,8 @@ class Statements(Lowering):
         text = self.type_text(kind, symbol.content, place)
         self.locals += 1
         if self.allocation(expr):
-            lines, _ = self.captured(lambda: self.allocate(f"{text} {name}", self.allocation(expr), kind, symbol.content, place))
+            lines, _ = self.captured(lambda: self.allocate(f"{text} {name}", self.allocation(expr), kind,
+                                                           symbol.content, place))
             if len(lines) != 1:
                 self.emit(f"{text} {name};", place)
                 self.in_block(lambda: self.allocate(name, self.allocation(expr), kind, symbol.content, place), place)
@@ -342,7 +349,8 @@ class Statements(Lowering):
             element = self.program.classes.new(place)
             element.heap = place
             element.point_to(kind, place)
-            self.counting(length, lambda at: self.make_object(f"{name}[{at.text}]", kind, number(1), element, place), place)
+            self.counting(length, lambda at: self.make_object(f"{name}[{at.text}]", kind, number(1), element, place),
+                          place)
             return
         size = f"sizeof({plain})" if length.text == "1" else f"{length.at_level(11)} * sizeof({plain})"
         arrays = kind.kind == "struct" and self.arrays_in(kind.name, (), kind.name)

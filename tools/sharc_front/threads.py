@@ -35,15 +35,16 @@ TEMPLATES = {
     "sem_wait": "lock(&$guard); while ($count == 0) { WAIT } $count = $count - 1; unlock(&$guard);",
     "sem_post": "lock(&$guard); $count = $count + 1; WAKE unlock(&$guard);",
     "pthread_barrier_init": "lock(&$guard); $needed = $2; $waiting = 0; unlock(&$guard);",
-    "pthread_barrier_wait": "RESULT = 0; lock(&$guard); $waiting = $waiting + 1; if ($waiting == $needed) { RESULT = -1; "
-                            "$waiting = 0; $round = $round + 1; WAKE } else { long ROUND = $round; "
+    "pthread_barrier_wait": "RESULT = 0; lock(&$guard); $waiting = $waiting + 1; if ($waiting == $needed) { "
+                            "RESULT = -1; $waiting = 0; $round = $round + 1; WAKE } else { long ROUND = $round; "
                             "while ($round == ROUND) { WAIT } } unlock(&$guard);",
     "pthread_rwlock_rdlock": "lock(&$guard); while ($writer != 0) { WAIT } $readers = $readers + 1; unlock(&$guard);",
     "pthread_rwlock_wrlock": "lock(&$guard); while ($writer + $readers != 0) { WAIT } $writer = 1; unlock(&$guard);",
     "pthread_rwlock_unlock": "lock(&$guard); if ($writer != 0) { $writer = 0; } else { $readers = $readers - 1; } WAKE "
                              "unlock(&$guard);"}
 OWN = ("sem_t", "pthread_barrier_t", "pthread_rwlock_t", "pthread_once_t")
-ATOMIC = re.compile(r"(?:__sharc_)?(?:atomic_(fetch_(?:add|sub|or|and|xor)|load|store|init|exchange|compare_exchange_(?:strong|weak))"
+ATOMIC = re.compile(r"(?:__sharc_)?(?:atomic_(fetch_(?:add|sub|or|and|xor)|load|store|init|exchange|"
+                    r"compare_exchange_(?:strong|weak))"
                     r"(?:_explicit)?|__sync_(fetch_and_(?:add|sub|or|and|xor)|(?:add|sub)_and_fetch|"
                     r"(?:bool|val)_compare_and_swap|synchronize))")
 OPERATORS = {"add": "+", "sub": "-", "or": "|", "and": "&", "xor": "^"}
@@ -141,7 +142,8 @@ class ThreadTypes:
             values = [place] + [self.rvalue(arg) for arg in args[1:3 if "compare" in name else 2]]
         self.written(place)
         self.integer_only(*values)
-        kind = VOID if name in ("store", "init") else INT if "compare_exchange" in name or "bool" in name else place.type.bare()
+        kind = VOID if name in ("store",
+                                "init") else INT if "compare_exchange" in name or "bool" in name else place.type.bare()
         return self.make("library", kind, name="atomic", operation=name, args=values)
 
 
@@ -228,7 +230,8 @@ class ThreadLowering:
             result = self.temporary("int", "0", expr.place)
             text = text.replace("RESULT", result).replace("ROUND", self.new_name("round"))
         guard = self.member(place, struct, "guard").text
-        text = text.replace("WAIT", self.wait_text(wait, guard, expr.args[0])).replace("WAKE", self.wake_text(wait, "broadcast"))
+        text = text.replace("WAIT", self.wait_text(wait, guard, expr.args[0])).replace("WAKE", self.wake_text(wait,
+                                                                                                              "broadcast"))
         text = re.sub(r"\$(\w+)", lambda found: self.member(place, struct, found[1]).text, text)
         self.emit(text, expr.place)
         return self.cell_value(result, "int") if result else None
@@ -236,8 +239,8 @@ class ThreadLowering:
     def l_pthread_once(self, expr, _):
         place, symbol = self.place(expr.args[0]), expr.args[1].symbol
         guard, done = (self.member(place, "pthread_once_t", name).text for name in ("guard", "done"))
-        self.emit(f"lock(&{guard}); if ({done} == 0) {{ {done} = 1; {self.function_name(symbol)}(); }} unlock(&{guard});",
-                  expr.place)
+        self.emit(f"lock(&{guard}); if ({done} == 0) {{ {done} = 1; {self.function_name(symbol)}(); }} "
+                  f"unlock(&{guard});", expr.place)
 
     # ---- threads
 
@@ -285,7 +288,7 @@ class ThreadLowering:
         self.emit(f"{symbol.table}[{place.text}] = {start};", at)
 
     def handed(self, arg):
-        """Whether the argument of a thread is the address of an object that this thread alone has: it is handed over."""
+        """Whether the argument of a thread is the address of an object of this thread alone: it is handed over."""
         if arg.kind == "add" and arg.a.kind in ("decay", "value") and arg.a.a.kind == "var":
             return representation(arg.a.node, arg.place) == "boxes" and arg.a.a.symbol.kind == "local"
         if arg.kind != "address" or arg.a.kind != "var" or arg.a.symbol.kind != "local":
@@ -339,7 +342,8 @@ class ThreadLowering:
         if self.function not in self.program.giving:
             self.effect(value)
             return
-        self.store(self.pointer_cell(f"{self.function.given}->result", self.function.type.to, self.function.content), value,
+        self.store(self.pointer_cell(f"{self.function.given}->result", self.function.type.to, self.function.content),
+                   value,
                    place)
 
     # ---- atomic operations: all of them under one mutex
@@ -367,7 +371,8 @@ class ThreadLowering:
             found = re.search(r"fetch_(?:and_)?(add|sub|xor|or|and)$|(add|sub)_and_fetch", name)
             operator = OPERATORS[found[1] or found[2]] if found else None
             made = values[0] if operator is None else self.arithmetic.convert(self.arithmetic.binary(
-                operator, self.wrapping(result, kind.name), values[0], "ulong" if kind.name == "long" else self.wider(kind.name)), kind.name)
+                operator, self.wrapping(result, kind.name), values[0], "ulong" if kind.name == "long"
+                else self.wider(kind.name)), kind.name)
             self.emit(f"{place.text} = {made.text};", expr.place)
             if name.endswith("_and_fetch"):
                 self.emit(f"{old} = {place.text};", expr.place)

@@ -12,7 +12,8 @@ HELPERS = {
     "as_char": "int {as_char}(long v) {{ return (v & 255 ^ 128) - 128; }}",
     "as_short": "int {as_short}(long v) {{ return (v & 65535 ^ 32768) - 32768; }}",
     "as_int": "int {as_int}(long v) {{ return (v & 4294967295L ^ 2147483648L) - 2147483648L; }}",
-    "product32": "long {product32}(long a, long b) {{ return ((a * (b >> 16) & 65535) << 16) + a * (b & 65535) & 4294967295L; }}",
+    "product32": "long {product32}(long a, long b) {{ return ((a * (b >> 16) & 65535) << 16) + "
+                 "a * (b & 65535) & 4294967295L; }}",
     "sum64": "long {sum64}(long a, long b) {{ long low = (a & 4294967295L) + (b & 4294967295L); return "
              "{as_int}((a >> 32) + (b >> 32) + (low >> 32)) * 4294967296L + (low & 4294967295L); }}",
     "difference64": "long {difference64}(long a, long b) {{ long low = (a & 4294967295L) - (b & 4294967295L); return "
@@ -26,10 +27,12 @@ HELPERS = {
     "quotient64": "long {quotient64}(long a, long b) {{ if (b < 0) return !{below64}(a, b); "
                   "if (a >= 0 || b == 1) return a / b; long q = (a >> 1 & 9223372036854775807L) / b * 2; "
                   "if ({below64}({difference64}(a, {product64}(q, b)), b)) return q; return q + 1; }}",
-    "remainder64": "long {remainder64}(long a, long b) {{ return {difference64}(a, {product64}({quotient64}(a, b), b)); }}",
+    "remainder64": "long {remainder64}(long a, long b) {{ return "
+                   "{difference64}(a, {product64}({quotient64}(a, b), b)); }}",
     "left64": "long {left64}(long a, long n) {{ long low = (a & 9223372036854775807L >> n) << n; "
               "if ((a >> 63 - n & 1) == 0) return low; return low - 9223372036854775807L - 1; }}",
-    "right64": "long {right64}(long a, long n) {{ if (n == 0) return a; return a >> n & 9223372036854775807L >> n - 1; }}",
+    "right64": "long {right64}(long a, long n) {{ if (n == 0) return a; "
+               "return a >> n & 9223372036854775807L >> n - 1; }}",
     "shown64": "long {shown64}(long v) {{ if (v < 0) {{ int zero = 0; zero = 1 / zero; }} return v; }}",
 }
 

@@ -7,7 +7,8 @@ expression reads a variable that it changes elsewhere. `python3 generate.py SEED
 import random
 import sys
 
-BITS = {"char": 8, "signed char": 8, "unsigned char": 8, "short": 16, "unsigned short": 16, "int": 32, "unsigned int": 32,
+BITS = {"char": 8, "signed char": 8, "unsigned char": 8, "short": 16, "unsigned short": 16, "int": 32,
+        "unsigned int": 32,
         "long": 64, "unsigned long": 64, "_Bool": 1, "enum mood": 32}
 FORMATS = {"int": "%d", "unsigned int": "%u", "long": "%ld", "unsigned long": "%ld"}
 
@@ -55,7 +56,8 @@ class Generator:
 
     def constant(self):
         kind = self.pick("int", "int", "int", "unsigned int", "long", "unsigned long")
-        value = self.pick(0, 1, 2, 3, 7, 10, 31, 100, 255, 256, 1000, 32767, 65535, 65536, 2147483647, self.random.randrange(1 << 31))
+        value = self.pick(0, 1, 2, 3, 7, 10, 31, 100, 255, 256, 1000, 32767, 65535, 65536, 2147483647,
+                          self.random.randrange(1 << 31))
         if self.random.random() < 0.15 and BITS[kind] == 64:
             value = self.random.randrange(1 << 63)
         if self.random.random() < 0.2 and kind == "unsigned int":
@@ -102,7 +104,8 @@ class Generator:
             cond, left, right = self.expression(depth - 2), self.expression(depth - 1), self.expression(depth - 1)
             kind = usual(left.kind, right.kind)
             left, right = self.converted(left, kind), self.converted(right, kind)
-            return Expression(f"({cond.text} ? {left.text} : {right.text})", kind, min(left.low, right.low), max(left.high, right.high))
+            return Expression(f"({cond.text} ? {left.text} : {right.text})", kind, min(left.low, right.low),
+                              max(left.high, right.high))
         if roll < 0.93:
             left, right = self.expression(depth - 1), self.expression(depth - 1)
             return Expression(f"({left.text} {self.pick('&&', '||')} {right.text})", "int", 0, 1)
@@ -110,7 +113,8 @@ class Generator:
 
     def binary(self, depth):
         left, right = self.expression(depth - 1), self.expression(depth - 1)
-        op = self.pick("+", "-", "*", "/", "%", "&", "|", "^", "<<", ">>", "<", ">", "<=", ">=", "==", "!=", "+", "-", "&", "^")
+        op = self.pick("+", "-", "*", "/", "%", "&", "|", "^", "<<", ">>", "<", ">", "<=", ">=", "==", "!=", "+",
+                       "-", "&", "^")
         if op in ("<<", ">>"):
             kind = promoted(left.kind)
             right = Expression(f"({right.text} & {BITS[kind] - 1})", promoted(right.kind), 0, BITS[kind] - 1)
@@ -136,7 +140,8 @@ class Generator:
             left, right = self.converted(left, kind), self.converted(right, kind)
             if unsigned(kind):
                 return Expression(f"({left.text} {op} {right.text})", kind)
-            ends = [{"+": x + y, "-": x - y, "*": x * y}[op] for x in (left.low, left.high) for y in (right.low, right.high)]
+            ends = [{"+": x + y, "-": x - y, "*": x * y}[op] for x in (left.low, left.high) for y in (right.low,
+                                                                                                      right.high)]
             return Expression(f"({left.text} {op} {right.text})", kind, min(ends), max(ends))
         return Expression(f"({left.text} {op} {right.text})", kind)
 
@@ -153,7 +158,8 @@ class Generator:
             return Expression(f"(- {inner.text})", kind, -inner.high, -inner.low)
         kind = promoted(inner.kind)
         if op == "+":
-            return Expression(f"(+{inner.text})", kind, *((inner.low, inner.high) if limits(kind)[0] <= inner.low and inner.high <= limits(kind)[1] else limits(kind)))
+            return Expression(f"(+{inner.text})", kind, *((inner.low, inner.high) if limits(kind)[0] <= inner.low
+                                                          and inner.high <= limits(kind)[1] else limits(kind)))
         return Expression(f"({op}{inner.text})", kind)
 
     def cast(self, depth):
@@ -286,7 +292,8 @@ class Generator:
 
     def program(self, count):
         kinds = [kind for kind in BITS if kind != "_Bool"] + ["_Bool"]
-        heads = ["#include <stdio.h>", "#include <stdlib.h>", "enum mood { CALM = 1, WILD = 7 };", "struct pair { short x; unsigned int y; };",
+        heads = ["#include <stdio.h>", "#include <stdlib.h>", "enum mood { CALM = 1, WILD = 7 };",
+                 "struct pair { short x; unsigned int y; };",
                  "struct all { long z; struct pair in; unsigned char row[4]; signed char grid[2][3]; };",
                  "static struct all whole; static struct pair pairs[3]; static struct all many[2];",
                  "static long twice(int n) { return n * 2L; }",
@@ -296,7 +303,8 @@ class Generator:
                  "static unsigned int k0;"]
         self.fixed = set()
         for number, kind in enumerate(kinds):
-            heads.append(f"static {kind} g{number} = {self.pick(0, 1, 2, 100)};" if kind != "enum mood" else f"static enum mood g{number} = WILD;")
+            heads.append(f"static {kind} g{number} = {self.pick(0, 1, 2, 100)};" if kind != "enum mood"
+                         else f"static enum mood g{number} = WILD;")
             self.variables.append((f"g{number}", kind, *limits(kind)))
         functions = []
         for number in range(count):
@@ -319,12 +327,15 @@ class Generator:
         self.emit("struct pair *pp = &pairs[n % 3]; struct all *pa = &many[n % 2];")
         self.emit("static unsigned long calls = 3;")
         self.variables += [("p.x", "short", *limits("short")), ("q.y", "unsigned int", *limits("unsigned int")),
-                           ("a.row[n & 3]", "unsigned char", 0, 255), ("a.grid[n & 1][n % 3]", "signed char", -128, 127),
+                           ("a.row[n & 3]", "unsigned char", 0, 255), ("a.grid[n & 1][n % 3]", "signed char", -128,
+                                                                       127),
                            ("arr[n & 3]", "int", *limits("int")), ("pp->x", "short", *limits("short")),
-                           ("pp->y", "unsigned int", *limits("unsigned int")), ("pa->row[n & 3]", "unsigned char", 0, 255),
+                           ("pp->y", "unsigned int", *limits("unsigned int")), ("pa->row[n & 3]", "unsigned char", 0,
+                                                                                255),
                            ("whole.in.x", "short", *limits("short")), ("whole.row[n & 3]", "unsigned char", 0, 255),
                            ("whole.z", "long", *limits("long")), ("calls", "unsigned long", *limits("unsigned long")),
-                           ("pa->in.y", "unsigned int", *limits("unsigned int")), ("pa->grid[1][n % 3]", "signed char", -128, 127)]
+                           ("pa->in.y", "unsigned int", *limits("unsigned int")), ("pa->grid[1][n % 3]",
+                                                                                   "signed char", -128, 127)]
         for _ in range(5):
             self.statement(3)
         self.emit("q = swapped(p); *pp = q; whole.in = *pp; bump(&u16, n * 200); k0 += turn(u16) + (unsigned int) twice(q.x);")
