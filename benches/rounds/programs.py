@@ -3,7 +3,7 @@
 
 Usage: programs.py [PROGRAM [PART..]]     (default: crates/sharc/out/sharc, which ./sharc builds)
 
-Parts: loops, rounds, neighbours, examples, load; all, if none is named. Each prints rows of a table. A time is the
+Parts: instructions, loops, rounds, neighbours, examples, load; all, if none is named. Each prints rows of a table. A time is the
 least of some runs (RUNS of the environment, else 5), in milliseconds by the clock on the wall, with the processor time
 (user and system) of that run in brackets. The load of the machine is printed with each part. Turns are told by the
 least number for `--events` with which a run of a small loop ends. C is compiled by gcc with include/sharc.h: plain at
@@ -146,6 +146,49 @@ def loops(program):
         row(f"{name}, {n:,} rounds each of {each:g} turns", *runs, *as_c(source))
 
 
+POINTER = "struct s {mode} * p = malloc(sizeof(struct s)); while (i < {n}) {{ p->n = p->n + 1; i = i + 1; }}"
+# name, what stands before `main`, the loop in it with so many rounds
+SINGLE = [
+    ("count a local", "", "while (i < {n}) {{ i = i + 1; }}"),
+    ("`for`, `s = s + i % 7`", "", "int s = 0; for (int j = 0; j < {n}; j = j + 1) {{ s = s + j % 7; }}"),
+    ("a call, `i = f(i)`", "int f(int i) { return i + 1; }\n", "while (i < {n}) {{ i = f(i); }}"),
+    ("add to a dynamic global", "int dynamic g;\n", "while (i < {n}) {{ g = g + 1; i = i + 1; }}"),
+    ("add to a dynamic element", "int dynamic a[8];\n", "int k = 1; while (i < {n}) {{ a[k] = a[k] + 1; i = i + 1; }}"),
+    ("`p->n = p->n + 1`, private", "struct s { int n; };\n", POINTER.replace("{mode} ", "")),
+    ("`p->n = p->n + 1`, dynamic", "struct s { int n; };\n", POINTER.replace("{mode}", "dynamic")),
+    (
+        "add to a locked global",
+        "mutex m;\nint locked(m) g;\n",
+        "while (i < {n}) {{ lock(&m); g = g + 1; unlock(&m); i = i + 1; }}",
+    ),
+]
+
+
+def counted(program, source):
+    """The instructions of a run by one worker, as callgrind counts them."""
+    words = ["valgrind", "--tool=callgrind", "--callgrind-out-file=/dev/null", program, "run", "--workers", "1"]
+    done = subprocess.run(
+        [*words, "--events", EVENTS],
+        input=source.encode(),
+        stdout=subprocess.PIPE,
+        stderr=subprocess.PIPE,
+        timeout=600,
+        check=False,
+    )
+    found = re.search(rb"Collected : (\d+)", done.stderr)
+    if done.returncode != 0 or not found:
+        sys.exit(f"callgrind: status {done.returncode}, {done.stdout[-200:]!r}")
+    return int(found[1])
+
+
+def instructions(program):
+    heading("Instructions of a round of a loop of one thread, as callgrind counts them; its turns")
+    for name, before, loop in SINGLE:
+        made = lambda n: f"{before}int main(void) {{ int i = 0; {loop.format(n=n)} return 0; }}\n"
+        each = (counted(program, made(22_000)) - counted(program, made(2_000))) / 20_000
+        row(name, f"{each:.0f}", f"{per_round(program, made):g}")
+
+
 HEAPS = (16, 1024, 4096, 8192, 16384, 32768, 65536)
 
 
@@ -256,7 +299,14 @@ def load_source():
     return scope["load"](10_000)
 
 
-PARTS = {"loops": loops, "rounds": rounds, "neighbours": neighbours, "examples": examples, "load": load}
+PARTS = {
+    "instructions": instructions,
+    "loops": loops,
+    "rounds": rounds,
+    "neighbours": neighbours,
+    "examples": examples,
+    "load": load,
+}
 
 
 def main():

@@ -1,9 +1,18 @@
 -- The seats that are given out, one for each port.
-use Rattle.std.proofs.Common.{◌≡◌, ℕ, zero, suc, ◌+◌, ◌-◌, ◌<◌, List, [], ◌∷◌, ◌++◌, length, refl, sym, ap, ◌∙◌, subst, arith, append_assoc, All, slice_index_or}
+use Rattle.std.proofs.Common.{◌≡◌, ℕ, zero, suc, ◌+◌, ◌-◌, ◌%◌, ◌^◌, ◌<◌, List, [], ◌∷◌, ◌++◌, length, refl, sym, ap, ◌∙◌, subst, arith, append_assoc, All, slice_index_or}
+use Rattle.std.proofs.Math.Nat.{two-pow-succ, mod-add-mod, add-mod-mod}
 use Rattle.atomic_table.specs.Seated.{TableId}
-use Rattle.sharc_bus.specs.Rule.{unbegun}
+use Rattle.sharc_bus.specs.Rule.{unbegun, own_bit}
 use Rattle.sharc_bus.specs.Bus.{BusView, SeatView, AreSeatsOf}
 use Rattle.sharc_bus.specs.Table.{seats_with}
+
+-- the bit of the next port
+pub next_bit : (b n : ℕ) → b ≡ own_bit n → (b + b) % 2 ^ 64 ≡ own_bit (n + 1)
+next_bit b n e =
+    let x : ℕ = 2 ^ suc n in
+    let m : ℕ = 2 ^ 64 in
+    let one_on : suc n ≡ n + 1 = omega arith in
+    ap (λ (k : ℕ). (k + k) % m) e ∙ (mod-add-mod x m (x % m) ∙ (add-mod-mod x x m ∙ (ap (λ (k : ℕ). k % m) (sym (two-pow-succ (suc n))) ∙ ap own_bit one_on)))
 
 -- the parts of the rest, one port later
 pub rest_is : (words : List ℕ) (n e : ℕ) → n < e → unbegun words (suc n) (e - n) ≡ unbegun words (n + 1) (suc (e - (n + 1)))

@@ -17,7 +17,7 @@ abbrev St : Type 0
 St = State (Unit {0}) (List Part)
 
 -- a word that is written as it is changes nothing
-set_same : (words : List ℕ) (i : ℕ) → slice_set words i (slice_index words i) ≡ words
+pub set_same : (words : List ℕ) (i : ℕ) → slice_set words i (slice_index words i) ≡ words
 set_same [] i = refl
 set_same (w ∷ ws) zero = refl
 set_same (w ∷ ws) (suc i) = ap (λ xs. w ∷ xs) (set_same ws i)

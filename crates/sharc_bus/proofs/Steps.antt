@@ -1,11 +1,13 @@
 -- A step of any operation keeps the rule: its event goes to the end of the history, and of its seat's part.
-use Rattle.std.proofs.Common.{◌≡◌, ◌≢◌, ℕ, ◌<◌, ◌≤◌, ⊎_elim, inl, List, [], ◌∷◌, ◌++◌, length, slice_index, slice_set, refl, sym, ap, ◌∙◌, subst, arith, eq-eqb, ne_eqb}
+use Rattle.std.proofs.Common.{◌≡◌, ◌≢◌, ℕ, ◌<◌, ◌≤◌, ◌==◌, Bool, true, false, bit_or, if◌then◌else◌, ⊎_elim, inl, List, [], ◌∷◌, ◌++◌, length, slice_index, slice_set, refl, sym, ap, ◌∙◌, subst, arith, eq-eqb, ne_eqb}
+use Rattle.std.proofs.lemmas.Bool.{eqb-true}
 use Rattle.std.proofs.lemmas.List.{append-nil}
 use Rattle.std.proofs.lemmas.List.Elements.{filter-append}
 use mathlib.Core.Option.{some}
 use lib.ListN.{get_elem?}
 use Rattle.atomic_table.specs.Table.{State, Me, Allows, keeps}
-use Rattle.atomic_table.proofs.Lists.{at_set}
+use Rattle.atomic_table.proofs.Lists.{at_set, set_again}
+use Rattle.sharc_word.specs.declared.step.WordOp.TheVariants.{Or}
 use Rattle.sharc_word.specs.declared.step.WordStep.{WordStep}
 use Rattle.sharc_word.specs.declared.step.WordEvent.{WordEvent}
 use Rattle.sharc_word.specs.Words.{word_after, words_after_step, words_after}
@@ -15,6 +17,7 @@ use Rattle.sharc_word.specs.Laws.{HistoryLaws}
 use Rattle.sharc_bus.specs.declared.rule.Part.{Part}
 use Rattle.sharc_bus.specs.Rule.{IsAmong, BusRule, with_step}
 use Rattle.sharc_bus.proofs.Members.{among_one}
+use Rattle.sharc_bus.proofs.Settling.{set_same}
 
 pub events_push_same : (thread : ℕ) (history : List WordEvent) (e : WordEvent) → e.thread ≡ thread → events_of thread (history ++ e ∷ []) ≡ events_of thread history ++ e ∷ []
 events_push_same thread history e is = rw (filter-append, eq-eqb e.thread thread is)
@@ -89,3 +92,35 @@ step_allowed laws opening numbers slots id me step f one same inside s kept _ at
     let R : ℕ → List Part → Type 0 = λ m v. BusRule opening numbers record { words = slice_set s.words step.word m; homes = s.homes; views = slice_set s.views id (with_step v step n) } in
     let k : R (word_after step.op n) (one.0 ∷ []) = step_keeps laws opening numbers s kept id one.0 at' step inside in
     (with_step me.0 step n, keeps, tt, subst (λ v. R (f n) v) (sym one.1) (subst (λ m. R m (one.0 ∷ [])) (sym (same n)) k), refl)
+
+-- a seat whose load did not find the bits is as it was
+pub not_standing : (me new : Me (Unit {0}) (List Part)) (stepped : List Part) (n own bits : ℕ) → new ≡ (if bit_or n own == n then stepped else me.0, me.1) → bits ≡ own → (bit_or n bits ≡ n → ⊥) → new ≡ me
+not_standing me new stepped n own bits told is not =
+    let off : (bit_or n own == n) ≡ false = ne_eqb (bit_or n own) n (λ e. not (ap (λ (b : ℕ). bit_or n b) is ∙ e)) in
+    told ∙ ap (λ (b : Bool). let m : Me (Unit {0}) (List Part) = (if b then stepped else me.0, me.1) in m) off
+
+-- an Or of bits that stand leaves the words as they are, and where they do not stand nothing is done
+module _ (laws : HistoryLaws) (opening : List ℕ) (numbers slots id : ℕ) (me : Me (Unit {0}) (List Part)) (word bits : ℕ) (one : (part : Part) × (me.0 ≡ part ∷ [])) (inside : word < length opening) where
+  abbrev or_step : WordStep
+  or_step = record { word = word; op = Or bits }
+
+  -- what is kept where the seat's parts are these
+  abbrev Stands : State (Unit {0}) (List Part) → List Part → Type 0
+  Stands s parts = BusRule opening numbers record { words = slice_set s.words word (slice_index s.words word); homes = s.homes; views = slice_set s.views id parts }
+
+  stands_by : (s : State (Unit {0}) (List Part)) → BusRule opening numbers s → get_elem? s.views id ≡ some me.0 → (b : Bool) → (bit_or (slice_index s.words word) bits == slice_index s.words word) ≡ b → Stands s (if b then with_step me.0 or_step (slice_index s.words word) else me.0)
+  stands_by s kept at true e =
+      let n : ℕ = slice_index s.words word in
+      let at' : get_elem? s.views id ≡ some (one.0 ∷ []) = subst (λ v. get_elem? s.views id ≡ some v) one.1 at in
+      let R : ℕ → List Part → Type 0 = λ m v. BusRule opening numbers record { words = slice_set s.words word m; homes = s.homes; views = slice_set s.views id (with_step v or_step n) } in
+      let k : R (bit_or n bits) (one.0 ∷ []) = step_keeps laws opening numbers s kept id one.0 at' or_step inside in
+      subst (λ v. R n v) (sym one.1) (subst (λ m. R m (one.0 ∷ [])) (eqb-true (bit_or n bits) n e) k)
+  stands_by s kept at false e =
+      let R : List ℕ → List (List Part) → Type 0 = λ ws vs. BusRule opening numbers record { words = ws; homes = s.homes; views = vs } in
+      subst (λ ws. R ws (slice_set s.views id me.0)) (sym (set_same s.words word)) (subst (λ vs. R s.words vs) (sym (set_again s.views id me.0 at)) kept)
+
+  -- the table allows a load that reports the one or the other
+  pub standing_allowed : Allows (BusRule opening numbers) slots id me word (λ n. n) (λ n after. after ≡ (if bit_or n bits == n then with_step me.0 or_step n else me.0, me.1))
+  standing_allowed s kept _ at _ =
+      let n : ℕ = slice_index s.words word in
+      (if bit_or n bits == n then with_step me.0 or_step n else me.0, keeps, tt, stands_by s kept at (bit_or n bits == n) refl, refl)

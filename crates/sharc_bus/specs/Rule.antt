@@ -1,9 +1,10 @@
 -- The rule of a bus, over the words and over what each seat knows: its parts of the history of this round.
-use Rattle.std.specs.Prelude.{ℕ, zero, suc, ◌≡◌, ◌<◌, ◌≤◌, ◌⊎◌, List, [], ◌∷◌, ◌++◌, length, slice_index}
+use Rattle.std.specs.Prelude.{ℕ, zero, suc, ◌+◌, ◌%◌, ◌^◌, ◌≡◌, ◌<◌, ◌≤◌, ◌==◌, ◌⊎◌, List, [], ◌∷◌, ◌++◌, length, slice_index, bit_or, if◌then◌else◌}
 use mathlib.Core.Option.{some}
 use lib.ListN.{get_elem?}
 use Rattle.atomic_table.specs.Table.{State, Me, Step}
 use Rattle.sharc_word.specs.declared.step.WordOp.{WordOp}
+use Rattle.sharc_word.specs.declared.step.WordOp.TheVariants.{Or}
 use Rattle.sharc_word.specs.declared.step.WordStep.{WordStep}
 use Rattle.sharc_word.specs.declared.step.WordEvent.{WordEvent}
 use Rattle.sharc_word.specs.Words.{words_after}
@@ -44,6 +45,24 @@ with_step (p ∷ ps) step found = record { number = p.number; words = p.words; e
 abbrev pub Appends : (ℕ → ℕ → WordOp) → Step (Unit {0}) → Me (Unit {0}) (List Part) → ℕ → Me (Unit {0}) (List Part) → Type 0
 Appends op step before found after =
     after ≡ (with_step before.0 record { word = step.word; op = op step.first step.second } found, before.1)
+
+-- ---- an Or of bits that stand
+-- the bit of a port in a word of 64: the one behind the lowest for port 0, and so on
+abbrev pub own_bit : ℕ → ℕ
+own_bit number = 2 ^ suc number % 2 ^ 64
+
+-- it and the lowest
+abbrev pub own_bits : ℕ → ℕ
+own_bits number = (own_bit number + 1) % 2 ^ 64
+
+abbrev pub first_number : List Part → ℕ
+first_number [] = 0
+first_number (p ∷ ps) = p.number
+
+-- a load reports to its seat that an Or of its bits was appended where the word found has them, and else that nothing was
+abbrev pub AppendsStanding : (ℕ → ℕ) → Step (Unit {0}) → Me (Unit {0}) (List Part) → ℕ → Me (Unit {0}) (List Part) → Type 0
+AppendsStanding bits step before found after =
+    after ≡ (if bit_or found (bits (first_number before.0)) == found then with_step before.0 record { word = step.word; op = Or (bits (first_number before.0)) } found else before.0, before.1)
 
 -- ---- between two rounds
 -- the words at the beginning of the round, of which parts know

@@ -28,10 +28,12 @@ pub(crate) fn give_seats<A: Allocator>(
     ensures rest { IfOk result (λ rest. rest.me ≡ (unbegun (words_known first.me.0) ports 1, [])) }
 {
     let mut rest = first;
+    let mut bit = 2u64;
     for _ in 0..ports {
         let others = table.shared.split_seat::<FirstPart>(&mut rest);
-        seats.push(BusSeat::new(rest))?;
+        seats.push(BusSeat::new(rest, bit))?;
         rest = others;
+        bit = bit.wrapping_add(bit);
     }
     Ok(rest)
 }

@@ -102,6 +102,24 @@ impl Play<(), Parts> for Ors {
     ghost then = { Appends (λ bits _. Or bits) };
 }
 
+/// An Or of the bit of the seat's port, where that stands already: the word stays as it is, so it is only read.
+pub(crate) struct OrsOwnBit;
+
+impl Play<(), Parts> for OrsOwnBit {
+    ghost use Rattle.sharc_bus.specs.Rule.{AppendsStanding, own_bit};
+
+    ghost then = { AppendsStanding own_bit };
+}
+
+/// The same of that bit and the lowest one.
+pub(crate) struct OrsOwnBits;
+
+impl Play<(), Parts> for OrsOwnBits {
+    ghost use Rattle.sharc_bus.specs.Rule.{AppendsStanding, own_bits};
+
+    ghost then = { AppendsStanding own_bits };
+}
+
 pub(crate) struct Ands;
 
 impl Play<(), Parts> for Ands {

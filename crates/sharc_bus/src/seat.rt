@@ -16,32 +16,36 @@ use std::marker::Model;
 #[derive(Drop)]
 pub struct BusSeat {
     pub(crate) seat: Seat<(), Parts>,
+    pub(crate) bit: u64,
 }
 
 impl Model for BusSeat {
     ghost use Rattle.std.specs.Prelude.{◌≡◌, [], ◌∷◌};
     ghost use Rattle.sharc_bus.specs.declared.rule.Part.{Part};
     ghost use Rattle.sharc_bus.specs.Bus.{SeatView};
+    ghost use Rattle.sharc_bus.specs.Rule.{own_bit, first_number};
     ghost use Rattle.sharc_bus.specs.Table.{seat_view};
 
     ghost Value = { SeatView };
 
     ghost view = { λ s. seat_view s.seat.table_id s.seat.me.0 };
 
-    ghost invariant = { λ s. ((part : Part) × (s.seat.me.0 ≡ part ∷ [])) × (s.seat.me.1 ≡ []) };
+    ghost invariant = { λ s. ((part : Part) × (s.seat.me.0 ≡ part ∷ [])) × (s.seat.me.1 ≡ []) × (s.bit ≡ own_bit (first_number s.seat.me.0)) };
 }
 
 impl BusSeat {
     ghost use Rattle.sharc_word.specs.Place.{event_of};
     ghost use Rattle.sharc_bus.specs.declared.rule.Part.{Part};
+    ghost use Rattle.sharc_bus.specs.Rule.{own_bit, first_number};
     ghost use Rattle.sharc_bus.specs.Table.{HasPart, seat_view};
 
-    // The seat of one port.
-    pub(crate) fn new(seat: Seat<(), Parts>) -> BusSeat
-        requires { ((part : Part) × (seat.me.0 ≡ part ∷ [])) × (seat.me.1 ≡ []) }
+    // The seat of one port, with the bit that its checks set.
+    pub(crate) fn new(seat: Seat<(), Parts>, bit: u64) -> BusSeat
+        requires part { ((part : Part) × (seat.me.0 ≡ part ∷ [])) × (seat.me.1 ≡ []) }
+        requires bit { bit ≡ own_bit (first_number seat.me.0) }
         ensures { result ≡ seat_view seat.table_id seat.me.0 }
     {
-        BusSeat { seat }
+        BusSeat { seat, bit }
     }
 
     // The seat at the table.
@@ -51,7 +55,7 @@ impl BusSeat {
         ensures one { length result.me.0 ≡ 1 }
         ensures none { result.me.1 ≡ [] }
     {
-        let BusSeat { seat } = self;
+        let BusSeat { seat, bit: _ } = self;
         seat
     }
 
@@ -62,6 +66,6 @@ impl BusSeat {
         requires word { step.word < length bus.now.opening }
         ensures { self.new ≡ record self.old { events = self.old.events ++ event_of self.old.number step result ∷ [] } }
     {
-        make_step(&bus.table.shared, &mut self.seat, step)
+        make_step(&bus.table.shared, &mut self.seat, step, self.bit)
     }
 }

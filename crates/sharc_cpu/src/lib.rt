@@ -1,8 +1,8 @@
 //! One thread's machine: turns over a port, and quanta of them.
 //!
-//! `Thread` is what is kept between quanta, and `run_quantum` is its one step from outside. `specs/Thread.antt` says when a thread is
-//! one of a code and a shape (`IsThread`), and `specs/Quantum.antt` what a quantum does and answers (`IsQuantum`): its turns are a
-//! path of `sharc_code`. `act` makes one turn, by one small function for each kind that asks for a step. Only `Thread::new` and
+//! `Thread` is what is kept between quanta, and `run_quantum` is its one step from outside; `run_trying` is the same, but goes on behind
+//! failed tries. `specs/Thread.antt` says when a thread is one of a code and a shape (`IsThread`), and `specs/Quantum.antt` what a quantum
+//! does and answers (`IsQuantum`): its turns are a path of `sharc_code`. `act` makes one turn, by one small function for each kind that asks for a step. Only `Thread::new` and
 //! `Thread::reserve` take memory.
 #![tactic(auto)]
 
@@ -24,6 +24,6 @@ mod turns;
 mod waits;
 
 pub use laws::{path_laws, thread_law};
-pub use quantum::{Pause, run_quantum};
+pub use quantum::{Pause, run_quantum, run_trying};
 pub use sharc_code::{ConflictAt, Stop, Wait};
 pub use thread::Thread;

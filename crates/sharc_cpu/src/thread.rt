@@ -12,7 +12,7 @@ use std::marker::Model;
 #[derive(Drop)]
 pub struct Thread {
     pub(crate) at: At,
-    pub(crate) parts: Parts,
+    pub(crate) parts: Box<Parts>,
     pub(crate) made: u64,
     pub(crate) wait: Option<Wait>,
 }
@@ -24,7 +24,7 @@ impl Model for Thread {
 
     ghost Value = { ThreadView };
 
-    ghost view = { λ t. record { machine = machine_of t.at t.parts; made = t.made; wait = t.wait; room = vec_capacity t.parts.prints - vec_len t.parts.prints } };
+    ghost view = { λ t. record { machine = machine_of t.at t.parts.value; made = t.made; wait = t.wait; room = vec_capacity t.parts.value.prints - vec_len t.parts.value.prints } };
 }
 
 impl Thread {
@@ -54,7 +54,7 @@ impl Thread {
             depth: 0,
             state: State::Runs,
         };
-        let parts = begun(alloc, code, *shape, number)?;
+        let parts = Box::new(alloc, begun(alloc, code, *shape, number)?)?;
         let wait = wait_of(code, *shape, at, &parts);
         Ok(Thread {
             at,

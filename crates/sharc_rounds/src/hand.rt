@@ -8,7 +8,7 @@ ghost use Rattle.sharc_rounds.specs.Round.{MayQuantum, HasRun, MayRun};
 use crate::gate::{Gate, GatedPort};
 use sharc_bus::{Bus, BusPort, BusSeat, name_laws};
 use sharc_code::{Code, Shape};
-use sharc_cpu::{Thread, run_quantum};
+use sharc_cpu::{Thread, run_trying};
 use sharc_threads::is_on;
 use sharc_word::place_laws;
 
@@ -32,6 +32,7 @@ fn run_thread<G: Gate>(
     gate: &G,
     worker: u32,
     limit: u64,
+    tries: u32,
 ) -> Hand
     requires fits { Fits code.now shape.now }
     requires words { length bus.now.opening ≡ words_of shape.now }
@@ -53,7 +54,7 @@ fn run_thread<G: Gate>(
         worker,
         thread: thread.number(),
     };
-    run_quantum(code, shape, &mut thread, &mut port, QUANTUM, limit);
+    run_trying(code, shape, &mut thread, &mut port, QUANTUM, limit, tries);
     let GatedPort { port, .. } = port;
     Hand {
         seat: Some(thread),
@@ -71,6 +72,7 @@ impl Hand {
         gate: &G,
         worker: u32,
         limit: u64,
+        tries: u32,
     ) -> Hand
         requires fits { Fits code.now shape.now }
         requires words { length bus.now.opening ≡ words_of shape.now }
@@ -80,7 +82,7 @@ impl Hand {
         let Hand { seat, port } = self;
         match seat {
             None => Hand { seat: None, port },
-            Some(thread) => run_thread(thread, port, code, shape, bus, gate, worker, limit),
+            Some(thread) => run_thread(thread, port, code, shape, bus, gate, worker, limit, tries),
         }
     }
 }

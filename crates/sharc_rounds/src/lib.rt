@@ -5,6 +5,7 @@
 //! `Gate` is asked before each step of a port. Memory is taken between rounds alone.
 #![tactic(auto)]
 
+mod busy;
 mod gate;
 mod hand;
 mod laws;

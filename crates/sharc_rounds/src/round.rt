@@ -5,6 +5,7 @@ ghost use Rattle.sharc_word.specs.declared.step.TheConstants.{THREADS as threads
 ghost use Rattle.sharc_code.specs.Layout.{Fits, words_of};
 ghost use Rattle.sharc_rounds.specs.Round.{MayBegin, HasRoom, HasRoomAt, MadeRound, AreWords, KeptBus};
 
+use crate::busy::Busy;
 use crate::gate::Gate;
 use crate::hand::QUANTUM;
 use crate::words::Words;
@@ -66,6 +67,7 @@ impl Rounds {
         workers: u32,
         limit: u64,
         gate: &G,
+        busy: Busy,
     ) -> Result<Rounds, AllocError>
         requires fits { Fits code.now shape.now }
         requires workers { 0 < workers }
@@ -81,7 +83,7 @@ impl Rounds {
         reserve(&mut seats)?;
         let (ports, round) = bus.begin(alloc, rest)?;
         let mut workers = deal(alloc, workers.min(THREADS), seats, ports)?;
-        run_all(rt, code, shape, &bus, gate, limit, &mut workers);
+        run_all(rt, code, shape, &bus, gate, limit, &mut workers, busy);
         let (seats, ports) = gather(alloc, workers)?;
         let rest = bus.end(round, ports);
         Ok(Rounds {

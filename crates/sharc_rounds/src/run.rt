@@ -6,6 +6,7 @@ ghost use Rattle.sharc_threads.specs.Seats.{left, may_turn_at};
 ghost use Rattle.sharc_rounds.specs.Round.{AreRounds};
 ghost use Rattle.sharc_rounds.specs.Run.{IsRoundsRun};
 
+use crate::busy::Busy;
 use crate::gate::Gate;
 use crate::laws::round_laws;
 use crate::round::Rounds;
@@ -45,6 +46,7 @@ impl Rounds {
         workers: u32,
         limit: u64,
         gate: &G,
+        busy: Busy,
     ) -> Result<Rounds, AllocError>
         requires fits { Fits code.now shape.now }
         requires workers { 0 < workers }
@@ -59,7 +61,7 @@ impl Rounds {
         let Rounds {
             mut threads,
             mut words,
-        } = self.make(rt, alloc, code, shape, workers, limit, gate)?;
+        } = self.make(rt, alloc, code, shape, workers, limit, gate, busy)?;
         words.look_at_states();
         threads.begin(alloc, code, shape, words.seen.as_slice())?;
         Ok(Rounds { threads, words })
@@ -114,9 +116,10 @@ pub fn run_rounds<R: Threads + Sync, G: Gate + Sync>(
     table_laws();
     let mut rounds = Rounds::new(alloc, code, shape, limit)?;
     'rounds: loop {
-        if !rounds.words.any_may_turn(&rounds.threads, limit) {
+        let busy = rounds.words.busy(&rounds.threads, workers, limit);
+        if busy.is_nobody() {
             return rounds.finish(alloc, code, shape, limit);
         }
-        rounds = rounds.next(rt, alloc, code, shape, workers, limit, gate)?;
+        rounds = rounds.next(rt, alloc, code, shape, workers, limit, gate, busy)?;
     }
 }

@@ -7,6 +7,7 @@ ghost use Rattle.sharc_code.specs.Waits.{held_up};
 ghost use Rattle.sharc_threads.specs.Seats.{has_number, may_turn_at};
 ghost use Rattle.sharc_rounds.specs.Round.{AreWords, SameWords, wait_word};
 
+use crate::busy::Busy;
 use sharc_bus::{Bus, BusRest, Opening};
 use sharc_cpu::{Thread, Wait};
 use sharc_threads::{ThreadTable, may_turn_at};
@@ -105,20 +106,33 @@ impl Words {
         may_turn_at(seat, self.seen.as_slice(), limit)
     }
 
-    /// Whether some thread is enabled.
-    pub(crate) fn any_may_turn(&mut self, threads: &ThreadTable, limit: u64) -> bool
+    /// How many workers have a thread that is enabled.
+    pub(crate) fn busy(&mut self, threads: &ThreadTable, workers: u32, limit: u64) -> Busy
         requires words { AreWords self.old }
+        requires workers { 0 < workers }
         requires numbers { (t : ℕ) → has_number (slice_index_or threads.now.seats.items t None) }
         ensures same { SameWords self.old self.new }
-        ensures none { result ≡ false → (t : ℕ) → may_turn_at self.old.rest.words limit (slice_index_or threads.now.seats.items t None) ≡ false }
-        ensures one { result ≡ true → (t : ℕ) × (may_turn_at self.old.rest.words limit (slice_index_or threads.now.seats.items t None) ≡ true) }
+        ensures none { result ≡ Busy.Nobody → (t : ℕ) → may_turn_at self.old.rest.words limit (slice_index_or threads.now.seats.items t None) ≡ false }
+        ensures some { result ≢ Busy.Nobody → (t : ℕ) × (may_turn_at self.old.rest.words limit (slice_index_or threads.now.seats.items t None) ≡ true) }
     {
-        for seat in &threads.seats {
-            if self.may_turn(seat, limit) {
-                return true;
+        let mut first = None;
+        for n in 0..threads.seats.len() {
+            if self.may_turn(&threads.seats[n], limit) {
+                let worker = n % workers as usize;
+                match first {
+                    None => first = Some(worker),
+                    Some(other) => {
+                        if other != worker {
+                            return Busy::Several;
+                        }
+                    }
+                }
             }
         }
-        false
+        match first {
+            None => Busy::Nobody,
+            Some(_) => Busy::One,
+        }
     }
 
     /// All words as they are.

@@ -8,6 +8,7 @@ ghost use Rattle.sharc_rounds.specs.declared.hand.Hand.{Hand};
 ghost use Rattle.sharc_rounds.specs.declared.worker.Worker.{Worker};
 ghost use Rattle.sharc_rounds.specs.Round.{MayRunAt, HasRunAt, MayAllRun, HaveAllRun, Seat, hand_at};
 
+use crate::busy::Busy;
 use crate::gate::Gate;
 use crate::hand::Hand;
 use sharc_bus::{Bus, BusSeat};
@@ -33,6 +34,7 @@ fn run_at<G: Gate>(
     gate: &G,
     number: u32,
     limit: u64,
+    tries: u32,
 ) -> Option<Hand>
     requires fits { Fits code.now shape.now }
     requires words { length bus.now.opening ≡ words_of shape.now }
@@ -41,7 +43,7 @@ fn run_at<G: Gate>(
 {
     match hand {
         None => None,
-        Some(hand) => Some(hand.run(code, shape, bus, gate, number, limit)),
+        Some(hand) => Some(hand.run(code, shape, bus, gate, number, limit, tries)),
     }
 }
 
@@ -66,6 +68,7 @@ impl Worker {
         gate: &G,
         number: u32,
         limit: u64,
+        tries: u32,
     )
         requires fits { Fits code.now shape.now }
         requires words { length bus.now.opening ≡ words_of shape.now }
@@ -74,7 +77,7 @@ impl Worker {
     {
         for n in 0..self.hands.len() {
             let hand = self.hands[n].take();
-            self.hands[n] = run_at(hand, code, shape, bus, gate, number, limit);
+            self.hands[n] = run_at(hand, code, shape, bus, gate, number, limit, tries);
         }
     }
 }
@@ -117,7 +120,7 @@ pub(crate) fn deal(
     Ok(workers)
 }
 
-/// Every worker gives each of its threads one quantum. A worker that cannot be started has its work done by another.
+/// Every worker gives each of its threads one quantum. A worker that cannot be started, or need not be, has its work done by another.
 pub(crate) fn run_all<R: Threads + Sync, G: Gate + Sync>(
     rt: &R,
     code: &Code,
@@ -126,6 +129,7 @@ pub(crate) fn run_all<R: Threads + Sync, G: Gate + Sync>(
     gate: &G,
     limit: u64,
     workers: &mut Vec<Worker>,
+    busy: Busy,
 )
     requires fits { Fits code.now shape.now }
     requires words { length bus.now.opening ≡ words_of shape.now }
@@ -135,7 +139,8 @@ pub(crate) fn run_all<R: Threads + Sync, G: Gate + Sync>(
     ensures count { length workers.new.items ≡ length workers.old.items }
     ensures each { (w : ℕ) (d : Worker) → w < length workers.old.items → HaveAllRun code.now shape.now limit (slice_index_or workers.old.items w d) (slice_index_or workers.new.items w d) }
 {
-    let count = workers.len();
+    let count = busy.threads(workers.len());
+    let tries = busy.tries();
     thread::for_each_mut(
         rt,
         workers.as_mut_slice(),
@@ -146,7 +151,7 @@ pub(crate) fn run_all<R: Threads + Sync, G: Gate + Sync>(
             requires number { w < 2 ^ 32 }
             requires may { MayAllRun code.now shape.now limit bus.now worker.old }
             ensures { HaveAllRun code.entry.now shape.entry.now limit worker.old worker.new }
-        { worker.run(code, shape, bus, gate, w as u32, limit) },
+        { worker.run(code, shape, bus, gate, w as u32, limit, tries) },
     );
 }
 

@@ -1,12 +1,12 @@
 -- Each turn leaves the seat of one port, and the rest has the parts of the later ones.
-use Rattle.std.proofs.Common.{◌≡◌, ◌≢◌, ℕ, suc, ◌+◌, ◌-◌, ◌<◌, List, [], ◌∷◌, ◌++◌, take, drop, sym, ap, ◌∙◌, arith}
+use Rattle.std.proofs.Common.{◌≡◌, ◌≢◌, ℕ, suc, ◌+◌, ◌-◌, ◌<◌, List, [], ◌∷◌, ◌++◌, take, drop, refl, sym, ap, ◌∙◌, arith}
 use Rattle.atomic_table.specs.Table.{Me}
 use Rattle.sharc_bus.specs.declared.rule.Part.{Part}
-use Rattle.sharc_bus.specs.Rule.{IsAmong, unbegun, words_known}
+use Rattle.sharc_bus.specs.Rule.{IsAmong, unbegun, words_known, own_bit, first_number}
 use Rattle.sharc_bus.specs.Bus.{SeatView}
 use Rattle.sharc_bus.specs.Table.{seat_view, seats_with}
 use Rattle.sharc_bus.proofs.Seats.{among_unbegun, split_allowed}
-use Rattle.sharc_bus.proofs.Giving.{rest_is, given_more}
+use Rattle.sharc_bus.proofs.Giving.{rest_is, given_more, next_bit}
 use Rattle.sharc_bus.proofs.parts.give_seats.Goals as goal
 
 abbrev M : Type 0
@@ -22,6 +22,7 @@ loop-init g c =
     let all : c.args.ports ≡ c.args.ports - 0 = omega arith in record {
       own = c.requires.own;
       parts = c.requires.parts ∙ ap (λ n. let m : M = (unbegun words 0 (suc n), []) in m) all;
+      bit = refl;
       given = ap (λ ss. ss ++ seats_with id (unbegun words 0 (c.args.ports - 0))) c.requires.none ∙ ap (λ n. seats_with id (unbegun words 0 n)) (sym all);
     }
 
@@ -35,8 +36,16 @@ split_seat-others-requires g c =
     let others : (q : Part) → IsAmong q (unbegun words (suc n) more) → q.number ≢ n = (λ q among e. let r = among_unbegun words (suc n) more q among in omega (arith, r.1, e)) in
     (c.loop.invariant.own, c.requires.words, split_allowed w.key.words.items (suc w.key.ports) c.loop.rest.id c.loop.rest.me.0 (new_part words n) (unbegun words (suc n) more) is others)
 
-pub new-requires : goal.new-requires
-new-requires g c =
+pub new-requires-clause-bit : goal.new-requires-clause-bit
+new-requires-clause-bit g c =
+    let words : List ℕ = words_known c.args.first.me.0 in
+    let n : ℕ = c.loop.counter in
+    let told = c.split_seat-others.ensures.2 in
+    let is : c.split_seat-others.new.seat.me ≡ (new_part words n ∷ [], []) = told ∙ ap (λ (m : M). let k : M = (take 1 m.0, m.1) in k) c.loop.invariant.parts in
+    c.loop.invariant.bit ∙ ap (λ (m : M). own_bit (first_number m.0)) (sym is)
+
+pub new-requires-clause-part : goal.new-requires-clause-part
+new-requires-clause-part g c =
     let words : List ℕ = words_known c.args.first.me.0 in
     let n : ℕ = c.loop.counter in
     let told = c.split_seat-others.ensures.2 in
@@ -64,5 +73,6 @@ loop-preserved g c =
     ap (λ k. c.loop.seats.items ++ seats_with id (unbegun words n k)) (sym is) ∙ c.loop.invariant.given in record {
       own = told.3 ∙ c.loop.invariant.own;
       parts = told.4 ∙ (ap (λ (m : M). let k : M = (drop 1 m.0, []) in k) c.loop.invariant.parts ∙ ap (λ ps. let k : M = (ps, []) in k) rest);
+      bit = next_bit c.loop.bit n c.loop.invariant.bit;
       given = rw c.in_ok-push.ensures.items (given_more c.loop.seats.items c.new.result seat (seats_with id (unbegun words (n + 1) m)) (seats_with id (unbegun words (suc n) m)) (seats_with id (unbegun words 0 end)) one later given);
     }

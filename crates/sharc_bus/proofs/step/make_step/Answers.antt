@@ -39,14 +39,6 @@ fetch_sub-requires g c =
     let op : WordOp = Sub c.in-Sub.number in
     (c.requires.own, c.requires.word, step_allowed c.history_laws.ensures w.key.words.items (suc w.key.ports) w.table_id.slots seat.id seat.me record { word = c.args.step.word; op = op } (word_after op) c.requires.part (λ n. refl) inside)
 
-pub fetch_or-requires : goal.fetch_or-requires
-fetch_or-requires g c =
-    let w = c.args.words.now in
-    let seat = c.args.seat.now in
-    let inside : c.args.step.word < length w.key.words.items = omega (arith, c.requires.opening, c.requires.word) in
-    let op : WordOp = Or c.in-Or.bits in
-    (c.requires.own, c.requires.word, step_allowed c.history_laws.ensures w.key.words.items (suc w.key.ports) w.table_id.slots seat.id seat.me record { word = c.args.step.word; op = op } (word_after op) c.requires.part (λ n. refl) inside)
-
 pub fetch_and-requires : goal.fetch_and-requires
 fetch_and-requires g c =
     let w = c.args.words.now in
