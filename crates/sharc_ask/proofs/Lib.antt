@@ -1,10 +1,13 @@
+mod Calling
 mod Expressing
 mod Fitting
+mod Flowing
 mod Framing
-mod Loops
 mod Outs
 mod Resuming
+mod Returning
+mod Stacking
 mod Stating
 mod Steps
 mod Telling
-mod Walking
+mod Weighing

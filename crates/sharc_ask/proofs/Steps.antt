@@ -40,7 +40,7 @@ place_over : (on_call : Calls) (m : Assignment) (site : Site) (e : Expression) (
 place_over on_call m site (identifier a i) s t o h = rw h refl
 place_over on_call m site _ s t o h = rw h refl
 
-exec_over : (on_call : Calls) (m : Assignment) (kind : Kind) (a : Statement) (s t : State) (o : Outcome) → enters s ≡ over o t → exec on_call m kind a s ≡ over o t
+pub exec_over : (on_call : Calls) (m : Assignment) (kind : Kind) (a : Statement) (s t : State) (o : Outcome) → enters s ≡ over o t → exec on_call m kind a s ≡ over o t
 exec_over on_call m kind (empty x) s t o h = rw h refl
 exec_over on_call m kind _ s t o h = rw h refl
 

@@ -1,4 +1,5 @@
 pub mod Held
 pub mod Plans
+pub mod Stack
 pub mod Values
 pub mod View

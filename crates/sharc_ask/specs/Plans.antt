@@ -1,13 +1,14 @@
 -- The walk in steps: what tasks mean, and what goes on with their values.
-use Rattle.std.specs.Prelude.{◌≡◌, ℕ, suc, ℤ, pos, not, ◌+◌, ◌*◌, ◌<◌, ◌≤◌, Bool, true, false, Some, Result, Ok, Err, if◌then◌else◌}
+use Rattle.std.specs.Prelude.{◌≡◌, ℕ, suc, ℤ, pos, not, ◌+◌, ◌*◌, ◌<◌, ◌≤◌, Bool, true, false, List, Option, Some, Result, Ok, Err, if◌then◌else◌}
 use Rattle.sharc_tree.specs.declared.event.Act.TheVariants as acts
 use Rattle.sharc_tree.specs.declared.event.Object.TheVariants.{Made}
 use Rattle.sharc_tree.specs.declared.event.TakeKind.TheVariants.{Cast, Free as ToFree}
 use Rattle.sharc_tree.specs.declared.token.Site.{Site}
 use Rattle.sharc_tree.specs.declared.tree.expression.BinaryOperator.{BinaryOperator}
 use Rattle.sharc_tree.specs.Spans.{span_of}
-use Rattle.sharc_tree.specs.Tree.{Expression}
-use Rattle.sharc_tree.specs.View.{view_expr, view_arguments, view_option, view_right, view_simple, view_local, view_first}
+use Rattle.sharc_tree.specs.declared.tree.statement.Stmt.{Stmt}
+use Rattle.sharc_tree.specs.Tree.{Expression, Statement}
+use Rattle.sharc_tree.specs.View.{view_expr, view_arguments, view_option, view_right, view_simple, view_local, view_first, view_stmt, view_statements}
 use Rattle.sharc_names.specs.declared.fault.Named.{Named}
 use Rattle.sharc_names.specs.Kinds.{Kind, declared_kind, declared_kinds, element_kind, promoted}
 use Rattle.sharc_names.specs.View.{view_kind}
@@ -25,12 +26,15 @@ use Rattle.sharc_meaning.specs.Places.{Place, variable, field_in, based, element
 use Rattle.sharc_meaning.specs.Cells.{field_place_named}
 use Rattle.sharc_meaning.specs.Reference.{is_null, number_of, elements_of}
 use Rattle.sharc_meaning.specs.State.{State, Out, Run, Step, ◌>>=◌, ◌>>◌, give, done, answered, drops, moves, ends_temporaries, ends_variables}
-use Rattle.sharc_meaning.specs.Statements.{Flow, next, returned, right_value, done_simple, declared, done_first, done_test, return_with}
+use Rattle.sharc_meaning.specs.Statements.{Flow, next, returned, on_next, on_turn, turns, loop, exec, exec_all, right_value, done_simple, declared, done_first, done_test, return_with}
 use Rattle.sharc_meaning.specs.Waiting.{lock_call, unlock_call}
 use Rattle.sharc_ask_steps.specs.declared.state.End.{End}
 use Rattle.sharc_ask_steps.specs.declared.state.End.TheVariants as ends
 use Rattle.sharc_ask_steps.specs.View.{Known, known, view_place, Over}
 use Rattle.sharc_ask_steps.specs.Width.{value_bits}
+use Rattle.sharc_ask.specs.declared.plan.After.{After}
+use Rattle.sharc_ask.specs.declared.plan.After.TheVariants as afters
+use Rattle.sharc_ask.specs.declared.plan.Loop.{Loop}
 use Rattle.sharc_ask.specs.declared.plan.Plan.{Plan}
 use Rattle.sharc_ask.specs.declared.plan.Plan.TheVariants as plans
 use Rattle.sharc_ask.specs.declared.plan.Rest.{Rest}
@@ -43,8 +47,8 @@ use Rattle.sharc_ask.specs.declared.plan.WithValue.{WithValue}
 use Rattle.sharc_ask.specs.declared.plan.WithValue.TheVariants as with_values
 use Rattle.sharc_ask.specs.declared.plan.WithPlace.{WithPlace}
 use Rattle.sharc_ask.specs.declared.plan.WithPlace.TheVariants as with_places
-use Rattle.sharc_ask.specs.Values.{Value, number, test, place, flow, number_in, place_in, view_value, gives, as_nothing}
-use Rattle.sharc_ask.specs.View.{view_test, place_fetched, calling, made}
+use Rattle.sharc_ask.specs.Values.{Value, number, test, place, flow, number_in, test_in, place_in, flow_in, view_value, gives, as_nothing}
+use Rattle.sharc_ask.specs.View.{view_test, view_otherwise, loop_test, loop_step, loop_body, other_done, number_left, place_fetched, calling, made}
 
 -- ---- parts of runs
 
@@ -61,11 +65,6 @@ abbrev pub zero_behind : Step → Run ℤ
 zero_behind step = do
   step
   give (pos 0)
-
-abbrev pub next_behind : Step → Run Flow
-next_behind step = do
-  step
-  give next
 
 abbrev pub step_then : Step → Run Value → Run Value
 step_then step run = do
@@ -143,6 +142,34 @@ behind_pointer r site a p i = do
 abbrev pub element_in : Resolution → Site → Expression → Place → ℤ → Run Place
 element_in r site a base n = element_of_array r site (element_cells r (element_kind (kind_at r a))) base n
 
+-- behind parts of statements
+
+abbrev pub turns_of : Calls → Assignment → Loop → ℕ → Run Flow
+turns_of on_call m l n = turns n (loop_test on_call m l) (loop_step on_call m l) (loop_body on_call m l)
+
+-- the step of a loop, and its other turns
+abbrev pub next_turn : Calls → Assignment → Loop → ℕ → Run Flow
+next_turn on_call m l n = do
+  loop_step on_call m l
+  turns_of on_call m l n
+
+abbrev pub left_body : Calls → Assignment → Loop → ℕ → Flow → Run Flow
+left_body on_call m l n f = on_turn f (next_turn on_call m l n)
+
+abbrev pub tested_done : Calls → Assignment → Loop → ℕ → Bool → Run Flow
+tested_done on_call m l n goes_on = if goes_on then (loop_body on_call m l >>= left_body on_call m l n) else give next
+
+abbrev pub chosen_done : Calls → Assignment → Kind → Statement → Option Statement → Bool → Run Flow
+chosen_done on_call m kind a b is_true = if is_true then exec on_call m kind a else other_done on_call m kind b
+
+-- the other statements of a list, of which the first was left so
+abbrev pub others_done : Calls → Assignment → Kind → List Stmt → Flow → Run Flow
+others_done on_call m kind l f = on_next f (exec_all on_call m kind (view_statements l))
+
+-- a run that is entered already
+abbrev pub inside : {A : Type 0} → Run A → Run A
+inside m s = m (record s { fuel = suc s.fuel })
+
 -- ---- what tasks mean
 
 abbrev pub task_means : Calls → Assignment → Task → Run Value
@@ -156,9 +183,12 @@ task_means on_call m (tasks.Field site a w n) = gives place (field_place m.typed
 task_means on_call m (tasks.Right kind target x) = gives number (right_value on_call m (view_kind kind) (view_sharing target) (view_right x.now))
 task_means on_call m (tasks.Simple x) = gives as_nothing (done_simple on_call m (view_simple x.now))
 task_means on_call m (tasks.Declare l) = gives as_nothing (declared on_call m (view_local l.now))
-task_means on_call m (tasks.First x) = gives as_nothing (done_first on_call m (view_first x.now))
+task_means on_call m (tasks.First h) = gives as_nothing (done_first on_call m (view_first h.now.value.first))
 task_means on_call m (tasks.LoopTest e) = gives test (done_test on_call m (view_test e))
 task_means on_call m (tasks.Return kind site e) = gives flow (return_with on_call m (view_kind kind) site (view_option (λ b. view_expr b.value) e.now))
+task_means on_call m (tasks.Entered kind a) = inside (gives flow (exec on_call m (view_kind kind) (view_stmt a.now)))
+task_means on_call m (tasks.All kind l) = gives flow (exec_all on_call m (view_kind kind) (view_statements l.now))
+task_means on_call m (tasks.Turns n l) = gives flow (turns_of on_call m l n)
 
 -- ---- what goes on with their values
 
@@ -212,16 +242,33 @@ number_means m (numbers.PointerElement site a p) n = gives place (element_behind
 number_means m (numbers.Stored u p mark) x = gives as_nothing (ends_above mark (assigned_to m (view_expr u.now) (view_place p) (give x)))
 number_means m (numbers.Initialised d) x = gives as_nothing (stored m.typed d.now.name.site (declared_kind d.now.written) private (variable d.now.name.site.token) x)
 
+-- behind a part of a statement, or of a call, with what it came to
+abbrev pub after_means : Calls → Assignment → After → Value → Run Value
+after_means on_call m afters.Simple v = give (flow next)
+after_means on_call m (afters.Block mark) v = gives flow (ends_block mark (give (flow_in v)))
+after_means on_call m (afters.Listed kind l) v = gives flow (others_done on_call m (view_kind kind) l.now (flow_in v))
+after_means on_call m (afters.Choice kind a b) v = gives flow (chosen_done on_call m (view_kind kind) (view_stmt a.now) (view_otherwise b) (test_in v))
+after_means on_call m (afters.Head l mark) v = gives flow (ends_block mark (loop (loop_test on_call m l) (loop_step on_call m l) (loop_body on_call m l)))
+after_means on_call m (afters.Test n l) v = gives flow (tested_done on_call m l n (test_in v))
+after_means on_call m (afters.Body n l) v = gives flow (left_body on_call m l n (flow_in v))
+after_means on_call m (afters.Step n l) v = gives flow (turns_of on_call m l n)
+after_means on_call m (afters.Call mark) v = gives number (ends_above mark (give (number_left (flow_in v))))
+
 abbrev pub rest_means : Calls → Assignment → Rest → Value → Run Value
 rest_means on_call m rests.Same v = give v
 rest_means on_call m (rests.Value e w) v = value_means on_call m (view_expr e.now) w (number_in v)
 rest_means on_call m (rests.Place e w) v = place_means on_call m (view_expr e.now) w (place_in v)
 rest_means on_call m (rests.Number w) v = number_means m w (number_in v)
+rest_means on_call m (rests.After w) v = after_means on_call m w v
 
 abbrev pub plan_means : Calls → Assignment → Plan → Run Value
 plan_means on_call m (plans.Done v) = give (view_value v)
 plan_means on_call m (plans.Goes t w) = task_means on_call m t >>= rest_means on_call m w
 plan_means on_call m (plans.Calls c) = gives number (calling on_call m c.site c.named c.name.now (view_arguments c.arguments.now))
+
+-- a run, and what goes on with its value
+abbrev pub goes_on : Calls → Assignment → Run Value → Rest → Run Value
+goes_on on_call m run w = run >>= rest_means on_call m w
 
 -- ---- what the code's functions do with plans
 
@@ -248,72 +295,68 @@ Leads on_call m run p = (s : State) → run s ≡ plan_means on_call m p s
 abbrev pub LeadsFrom : Calls → Assignment → Known → Run Value → Plan → Type 0
 LeadsFrom on_call m k run p = (s : State) → known s ≡ k → run s ≡ plan_means on_call m p s
 
--- a run that is entered already
-abbrev pub inside : {A : Type 0} → Run A → Run A
-inside m s = m (record s { fuel = suc s.fuel })
-
 -- ---- that the walk ends
 
--- at least this much fuel is spent by a task
-abbrev pub cost : Task → ℕ
-cost (tasks.Declare l) = 0
-cost (tasks.First x) = 0
-cost (tasks.LoopTest e) = 0
-cost (tasks.Return kind site e) = 0
-cost _ = 1
+-- What goes on with a value weighs more than the plan that it comes to, where that is come to without fuel.
 
-abbrev pub plan_cost : Plan → ℕ
-plan_cost (plans.Goes t w) = cost t
-plan_cost _ = 0
+abbrev pub value_weight : WithValue → ℕ
+value_weight (with_values.AndLeft b) = 3
+value_weight (with_values.OrLeft b) = 3
+value_weight (with_values.LeftOperand o b) = 3
+value_weight (with_values.PointerBase site i) = 3
+value_weight _ = 1
 
--- of tasks that are begun without fuel the later are above the earlier
+abbrev pub place_weight : WithPlace → ℕ
+place_weight (with_places.ArrayBase site i) = 3
+place_weight (with_places.Assigned x mark) = 5
+place_weight _ = 1
+
+abbrev pub after_weight : After → ℕ
+after_weight (afters.Listed kind l) = 3
+after_weight (afters.Head l mark) = 9
+after_weight (afters.Body n l) = 17
+after_weight (afters.Step n l) = 9
+after_weight _ = 1
+
+abbrev pub weight : Rest → ℕ
+weight rests.Same = 1
+weight (rests.Value e w) = value_weight w
+weight (rests.Place e w) = place_weight w
+weight (rests.Number w) = 1
+weight (rests.After w) = after_weight w
+
+-- so does a task
 abbrev pub rank : Task → ℕ
 rank (tasks.Eval e) = 1
 rank (tasks.PlaceOf site e) = 1
-rank (tasks.Test e) = 2
-rank (tasks.Argument parameters e) = 2
-rank (tasks.Pointee site a) = 2
-rank (tasks.Index site a i) = 2
-rank (tasks.Right kind target x) = 2
-rank (tasks.Simple x) = 2
-rank (tasks.Return kind site e) = 2
-rank (tasks.Field site a w n) = 3
-rank (tasks.LoopTest e) = 3
-rank (tasks.Declare l) = 4
-rank (tasks.First x) = 5
+rank (tasks.Test e) = 3
+rank (tasks.Argument parameters e) = 3
+rank (tasks.Pointee site a) = 3
+rank (tasks.Index site a i) = 5
+rank (tasks.Field site a w n) = 5
+rank (tasks.Right kind target x) = 3
+rank (tasks.Simple x) = 7
+rank (tasks.Return kind site e) = 3
+rank (tasks.LoopTest e) = 5
+rank (tasks.Declare l) = 5
+rank (tasks.First x) = 9
+rank (tasks.Entered kind a) = 19
+rank (tasks.All kind l) = 1
+rank (tasks.Turns n l) = 7
 
 abbrev pub size : Plan → ℕ
 size (plans.Done v) = 0
-size (plans.Goes t w) = rank t
-size (plans.Calls c) = 12
-
--- what goes on with a value needs that fuel was spent for it, but where it is that value
-abbrev pub need : Rest → ℕ
-need rests.Same = 0
-need _ = 1
-
-abbrev pub Sound : Plan → Type 0
-Sound (plans.Goes t w) = need w ≤ cost t
-Sound _ = Unit {0}
+size (plans.Goes t w) = rank t + weight w
+size (plans.Calls c) = 1
 
 -- a plan of at most this size
 pub record Fits (n : ℕ) (p : Plan) : Type 0 where
-  pub sound : Sound p
   pub within : size p ≤ n
 
--- a task of this rank and cost is begun by a plan
+-- a plan that is less than what it is come to from
+pub record Starts (weight_of : ℕ) (p : Plan) : Type 0 where
+  pub falls : size p < weight_of
 
-pub record Starts (rank_of cost_of : ℕ) (p : Plan) : Type 0 where
-  pub sound : Sound p
-  pub spends : cost_of ≤ plan_cost p
-  pub falls : size p < rank_of
-
-pub record Begins (rank_of cost_of before after : ℕ) (p : Plan) : Type 0 where
-  pub sound : Sound p
-  pub spends : after + cost_of ≤ before + plan_cost p
-  pub falls : 16 * after + size p < 16 * before + rank_of
-
--- the size of what goes on
-abbrev pub limit : Rest → ℕ
-limit rests.Same = 0
-limit _ = 15
+-- likewise, or fuel was spent for it, of which one weighs more than each plan
+pub record Begins (weight_of before after : ℕ) (p : Plan) : Type 0 where
+  pub falls : 64 * after + size p < 64 * before + weight_of

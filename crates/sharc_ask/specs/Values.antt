@@ -1,8 +1,9 @@
 -- What a task of the walk comes to.
 use Rattle.std.specs.Prelude.{ℤ, pos, Bool, false}
+use Rattle.sharc_tree.specs.declared.token.Site.{Site}
 use Rattle.sharc_meaning.specs.Places.{Place, no_place}
 use Rattle.sharc_meaning.specs.State.{Run, ◌>>=◌, give}
-use Rattle.sharc_meaning.specs.Statements.{Flow, next}
+use Rattle.sharc_meaning.specs.Statements.{Flow, next, returned}
 use Rattle.sharc_ask_steps.specs.View.{view_place}
 use Rattle.sharc_ask.specs.declared.plan.Value.{Value as RustValue}
 use Rattle.sharc_ask.specs.declared.plan.Value.TheVariants as values
@@ -46,3 +47,11 @@ gives f m = do
 
 abbrev pub as_nothing : Unit {0} → Value
 as_nothing u = nothing
+
+-- where a function is left, and its result
+abbrev pub as_left : Site × ℤ → Value
+as_left left = flow (returned left.0 left.1)
+
+abbrev pub left_of : Flow → Site × ℤ
+left_of (returned site v) = (site, v)
+left_of _ = (record { file = 0; line = 0; token = 0 }, pos 0)

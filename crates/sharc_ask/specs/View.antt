@@ -1,5 +1,5 @@
 -- How far a thread came, as the code reports it, and parts of runs, as the code's functions have them.
-use Rattle.std.specs.Prelude.{◌≡◌, ℕ, ℤ, Bool, true, false, Option, Some, None, take, drop, ◌-◌, unsigned_abs, length, List, [], ◌++◌, if◌then◌else◌}
+use Rattle.std.specs.Prelude.{◌≡◌, ℕ, ℤ, pos, Bool, true, false, Option, Some, None, take, drop, ◌-◌, unsigned_abs, length, List, [], ◌++◌, if◌then◌else◌}
 use Rattle.std.specs.Borrow.{Bor}
 use Rattle.std.specs.Option.{option_map}
 use Rattle.sharc_tree.specs.declared.event.Act.TheVariants as acts
@@ -10,7 +10,7 @@ use Rattle.sharc_tree.specs.declared.tree.expression.BinaryOperator.TheVariants.
 use Rattle.sharc_tree.specs.declared.tree.expression.Expr.{Expr}
 use Rattle.sharc_tree.specs.declared.tree.statement.Simple.{Simple as RustSimple}
 use Rattle.sharc_tree.specs.Spans.{span_of}
-use Rattle.sharc_tree.specs.Tree.{Expression, Arguments, Simple, First, Statement, Function}
+use Rattle.sharc_tree.specs.Tree.{Expression, Arguments, Simple, Statement, while, for}
 use Rattle.sharc_tree.specs.declared.tree.statement.Stmt.{Stmt}
 use Rattle.sharc_tree.specs.View.{view_expr, view_simple, view_stmt}
 use Rattle.sharc_names.specs.View.{view_kind}
@@ -54,6 +54,11 @@ view_flow flows.Next = next
 view_flow flows.Broken = broken
 view_flow flows.Continued = continued
 view_flow (flows.Returned site v) = returned site v
+
+-- the result of a function that is left so
+abbrev pub number_left : Flow → ℤ
+number_left (returned site v) = v
+number_left _ = pos 0
 
 abbrev pub view_test : Option (Bor Expr) → Option Expression
 view_test None = None
@@ -99,45 +104,28 @@ made r site target elements w = do
 
 -- what a loop is made of
 
+abbrev pub test_of_loop : Statement → Option Expression
+test_of_loop (while s e a) = Some e
+test_of_loop (for s h a) = h.test
+test_of_loop _ = None
+
+abbrev pub step_of_loop : Statement → Option Simple
+step_of_loop (for s h a) = h.step
+step_of_loop _ = None
+
+abbrev pub body_of_loop : Statement → Statement
+body_of_loop (while s e a) = a
+body_of_loop (for s h a) = a
+body_of_loop a = a
+
 abbrev pub loop_test : Calls → Assignment → Loop → Run Bool
-loop_test on_call m l = done_test on_call m (view_test l.test)
+loop_test on_call m l = done_test on_call m (test_of_loop (view_stmt l.statement.now))
 
 abbrev pub loop_step : Calls → Assignment → Loop → Step
-loop_step on_call m l = done_step on_call m (view_step l.step)
+loop_step on_call m l = done_step on_call m (step_of_loop (view_stmt l.statement.now))
 
 abbrev pub loop_body : Calls → Assignment → Loop → Run Flow
-loop_body on_call m l = exec on_call m (view_kind l.kind) (view_stmt l.body.now)
-
--- one turn of a loop: how the loop is left by it, none where another turn follows
-
-abbrev pub another : Step → Run (Option Flow)
-another step = do
-  step
-  give None
-
-abbrev pub left_turn : Flow → Step → Run (Option Flow)
-left_turn next step = another step
-left_turn continued step = another step
-left_turn broken step = give (Some next)
-left_turn (returned site v) step = give (Some (returned site v))
-
-abbrev pub around : Step → Run Flow → Run (Option Flow)
-around step body = do
-  f ← body
-  left_turn f step
-
-abbrev pub turn : Run Bool → Step → Run Flow → Run (Option Flow)
-turn test step body = do
-  goes_on ← test
-  if goes_on then around step body else give (Some next)
-
-abbrev pub view_left : Option RustFlow → Option Flow
-view_left = option_map view_flow
-
-abbrev pub for_loop : Calls → Assignment → First → Loop → Run Flow
-for_loop on_call m first l = in_block (do
-  done_first on_call m first
-  loop (loop_test on_call m l) (loop_step on_call m l) (loop_body on_call m l))
+loop_body on_call m l = exec on_call m (view_kind l.kind) (body_of_loop (view_stmt l.statement.now))
 
 -- one of two statements
 
@@ -148,18 +136,6 @@ view_otherwise (Some a) = Some (view_stmt a.now)
 abbrev pub other_done : Calls → Assignment → Kind → Option Statement → Run Flow
 other_done on_call m kind None = give next
 other_done on_call m kind (Some b) = exec on_call m kind b
-
-abbrev pub choice : Calls → Assignment → Kind → Expression → Statement → Option Statement → Run Flow
-choice on_call m kind e a b = do
-  is_true ← tested m.typed e (eval on_call m e)
-  if is_true then exec on_call m kind a else other_done on_call m kind b
-
--- the body of a function, in a frame of its own
-abbrev pub body_block : Calls → Assignment → Function → List ℤ → Run (Site × ℤ)
-body_block on_call m f vs = in_block (do
-  parameters_begin f.parameters vs
-  flow ← entered (exec_all on_call m (declared_kind f.result) f.statements)
-  give (left_at f flow))
 
 -- a thread that holds no mutex goes away
 abbrev pub leaves : Site → Step

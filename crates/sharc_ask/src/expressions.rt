@@ -1,6 +1,6 @@
 // Expressions are begun: what comes first, and what goes on with its value.
 
-ghost use Rattle.std.specs.Prelude.{◌≡◌, ◌≤◌, IfOk};
+ghost use Rattle.std.specs.Prelude.{◌≡◌, ◌≤◌, ◌+◌, ◌*◌, IfOk};
 ghost use Rattle.sharc_tree.specs.declared.token.Span.{Span};
 ghost use Rattle.sharc_tree.specs.Tree.{on_place, unary, binary};
 ghost use Rattle.sharc_tree.specs.View.{view_expr};
@@ -9,7 +9,7 @@ ghost use Rattle.sharc_meaning.specs.Expressions.{Calls, eval, place_of};
 ghost use Rattle.sharc_meaning.specs.Places.{index_place, pointee_place, field_place, unary_place};
 ghost use Rattle.sharc_ask_steps.specs.View.{view_state};
 ghost use Rattle.sharc_ask.specs.Values.{number, place, gives};
-ghost use Rattle.sharc_ask.specs.Plans.{inside, Leads, LeadsFrom, Plans, Fits, Starts, Begins};
+ghost use Rattle.sharc_ask.specs.Plans.{inside, Leads, LeadsFrom, Plans, Fits, Starts, Begins, size};
 
 use crate::plan::{Call, Operation, Plan, Rest, Task, Value, WithPlace, WithValue};
 use crate::plans::done_number;
@@ -176,7 +176,8 @@ fn eval_plan<'a>(program: &'a Moded, expr: &'a Expr, st: &mut State) -> Result<P
 /// The value of an expression.
 pub fn begin_eval<'a>(program: &'a Moded, expr: &'a Expr, st: &mut State) -> Result<Plan<'a>, End>
     ensures means { (on_call : Calls) → Plans on_call program.now (view_state st.old) result (view_state st.new) (gives number (eval on_call program.now (view_expr expr.now))) }
-    ensures begins { IfOk result (Begins 1 1 st.old.fuel st.new.fuel) }
+    ensures begins { IfOk result (Begins 1 st.old.fuel st.new.fuel) }
+    ensures spends { IfOk result (λ p. 64 * st.new.fuel + size p + 49 ≤ 64 * st.old.fuel) }
 {
     enter(st)?;
     eval_plan(program, expr, st)
@@ -232,7 +233,7 @@ pub fn begin_place<'a>(
     st: &mut State,
 ) -> Result<Plan<'a>, End>
     ensures means { (on_call : Calls) → Plans on_call program.now (view_state st.old) result (view_state st.new) (gives place (place_of on_call program.now site (view_expr expr.now))) }
-    ensures begins { IfOk result (Begins 1 1 st.old.fuel st.new.fuel) }
+    ensures begins { IfOk result (Begins 1 st.old.fuel st.new.fuel) }
 {
     enter(st)?;
     Ok(place_plan(program, site, expr))
@@ -241,7 +242,7 @@ pub fn begin_place<'a>(
 /// `a[i]`
 pub fn index_plan<'a>(program: &'a Moded, site: Site, base: &'a Expr, index: &'a Expr) -> Plan<'a>
     ensures means { (on_call : Calls) → Leads on_call program.now (gives place (index_place program.now.typed site (view_expr base.now) (place_of on_call program.now site (view_expr base.now)) (eval on_call program.now (view_expr base.now)) (eval on_call program.now (view_expr index.now)))) result }
-    ensures starts { Starts 2 1 result }
+    ensures starts { Starts 5 result }
 {
     if is_array(kind_of(program, base)) {
         Plan::Goes(
@@ -259,7 +260,7 @@ pub fn index_plan<'a>(program: &'a Moded, site: Site, base: &'a Expr, index: &'a
 /// `a.n` and `a->n`
 pub fn field_plan<'a>(site: Site, base: &'a Expr, access: Access, named: Named) -> Plan<'a>
     ensures means { (on_call : Calls) (m : Assignment) → Leads on_call m (gives place (field_place m.typed site (view_expr base.now) access named (place_of on_call m site (view_expr base.now)) (eval on_call m (view_expr base.now)))) result }
-    ensures starts { Starts 3 1 result }
+    ensures starts { Starts 5 result }
 {
     let rest = Rest::Place(base, WithPlace::FieldIn(named));
     match access {
@@ -271,7 +272,7 @@ pub fn field_plan<'a>(site: Site, base: &'a Expr, access: Access, named: Named) 
 /// `*a`
 pub fn pointee_plan<'a>(site: Site, base: &'a Expr) -> Plan<'a>
     ensures means { (on_call : Calls) (m : Assignment) → Leads on_call m (gives place (pointee_place m.typed site (view_expr base.now) (eval on_call m (view_expr base.now)))) result }
-    ensures starts { Starts 2 1 result }
+    ensures starts { Starts 3 result }
 {
     Plan::Goes(Task::Eval(base), Rest::Value(base, WithValue::Based(site)))
 }

@@ -6,13 +6,16 @@
 #![tactic(auto)]
 
 pub mod asked;
+mod calls;
 mod endings;
 mod expressions;
+mod flows;
 mod frames;
 mod parts;
 mod plan;
 mod plans;
 mod rests;
+mod stack;
 mod statements;
 pub mod thread;
 mod values;

@@ -12,11 +12,12 @@ ghost use Rattle.sharc_meaning.specs.Statements.{Flow as LeftBy};
 ghost use Rattle.sharc_ask_steps.specs.View.{Known, view_state, view_place, Does, DoesAs};
 ghost use Rattle.sharc_ask_steps.specs.Width.{value_bits};
 ghost use Rattle.sharc_ask.specs.View.{view_flow};
-ghost use Rattle.sharc_ask.specs.Values.{number, test, flow, view_value, as_nothing, gives};
-ghost use Rattle.sharc_ask.specs.Plans.{ends_above, ends_block, zero_behind, next_behind, truth_with, inverted_with, returned_with, spawned_with, free_unless_null, joined_with, element_behind, element_in, assigned_to};
+ghost use Rattle.sharc_tree.specs.declared.token.Site.{Site as Where};
+ghost use Rattle.sharc_ask.specs.Values.{view_value, as_left, left_of, gives};
+ghost use Rattle.sharc_ask.specs.Plans.{ends_above, ends_block, zero_behind, truth_with, inverted_with, returned_with, spawned_with, free_unless_null, joined_with, element_behind, element_in, assigned_to};
 
 use crate::endings::{end_temporaries, end_variables};
-use crate::plan::{Operation, Value, flow_in, number_in, test_in};
+use crate::plan::{Operation, Value, flow_in};
 use crate::values::{
     Flow, based, cells_of, freed_unless_null, held, kind_of, let_go, number_named,
     parameters_named, resulting, value_act,
@@ -365,56 +366,26 @@ pub fn end_block(answer: Result<Flow, End>, mark: usize, st: &mut State) -> Resu
     }
 }
 
-/// A statement is done, and the next one follows.
-pub fn next_behind(answer: Result<Value, End>) -> Result<Flow, End>
-    ensures does { (before after : Known) (run : Step) → DoesAs view_value before answer after (gives as_nothing run) → DoesAs view_flow before result after (next_behind run) }
-    ensures kept { (n m : ℕ) → IfOk answer (λ _. n ≤ m) → IfOk result (λ _. n ≤ m) }
+fn left_of(flow: Flow) -> (Site, i64)
+    ensures { result ≡ left_of (view_flow flow) }
 {
-    answer?;
-    Ok(Flow::Next)
+    let nowhere = Site {
+        file: 0,
+        line: 0,
+        token: 0,
+    };
+    match flow {
+        Flow::Returned(site, value) => (site, value),
+        Flow::Next => (nowhere, 0),
+        Flow::Broken => (nowhere, 0),
+        Flow::Continued => (nowhere, 0),
+    }
 }
 
-/// How a statement is left.
-pub fn flow_behind(answer: Result<Value, End>) -> Result<Flow, End>
-    ensures does { (before after : Known) (run : Run LeftBy) → DoesAs view_value before answer after (gives flow run) → DoesAs view_flow before result after run }
-    ensures kept { (n m : ℕ) → IfOk answer (λ _. n ≤ m) → IfOk result (λ _. n ≤ m) }
+/// Where a function is left, and its result.
+pub fn left_behind(answer: Result<Value, End>) -> Result<(Site, i64), End>
+    ensures does { (before after : Known) (run : Run (Where × ℤ)) → DoesAs view_value before answer after (gives as_left run) → Does before result after run }
 {
     let value = answer?;
-    Ok(flow_in(value))
-}
-
-/// The number that a task comes to.
-pub fn number_behind(answer: Result<Value, End>) -> Result<i64, End>
-    ensures does { (before after : Known) (run : Run ℤ) → DoesAs view_value before answer after (gives number run) → Does before result after run }
-    ensures kept { (n m : ℕ) → IfOk answer (λ _. n ≤ m) → IfOk result (λ _. n ≤ m) }
-{
-    let value = answer?;
-    Ok(number_in(value))
-}
-
-/// The truth that a task comes to.
-pub fn test_behind(answer: Result<Value, End>) -> Result<bool, End>
-    ensures does { (before after : Known) (run : Run Bool) → DoesAs view_value before answer after (gives test run) → Does before result after run }
-    ensures kept { (n m : ℕ) → IfOk answer (λ _. n ≤ m) → IfOk result (λ _. n ≤ m) }
-{
-    let value = answer?;
-    Ok(test_in(value))
-}
-
-/// A task that is a step.
-pub fn step_behind(answer: Result<Value, End>) -> Result<(), End>
-    ensures does { (before after : Known) (run : Step) → DoesAs view_value before answer after (gives as_nothing run) → Does before result after run }
-    ensures kept { (n m : ℕ) → IfOk answer (λ _. n ≤ m) → IfOk result (λ _. n ≤ m) }
-{
-    answer?;
-    Ok(())
-}
-
-/// A number as a value.
-pub fn numbered(answer: Result<i64, End>) -> Result<Value, End>
-    ensures does { (before after : Known) (run : Run ℤ) → Does before answer after run → DoesAs view_value before result after (gives number run) }
-    ensures kept { (n m : ℕ) → IfOk answer (λ _. n ≤ m) → IfOk result (λ _. n ≤ m) }
-{
-    let number = answer?;
-    Ok(Value::Number(number))
+    Ok(left_of(flow_in(value)))
 }

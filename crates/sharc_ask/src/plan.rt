@@ -13,7 +13,7 @@ use sharc_names::fault::Named;
 use sharc_names::kind::Kind;
 use sharc_tree::token::{Site, Span};
 use sharc_tree::tree::{
-    Access, BinaryOperator, Declaration, Expr, ForFirst, Local, Right, Simple, Stmt, ValueCall,
+    Access, BinaryOperator, Declaration, Expr, ForHead, Local, Right, Simple, Stmt, ValueCall,
     WrittenType,
 };
 
@@ -75,13 +75,11 @@ pub fn flow_in(value: Value) -> Flow
     }
 }
 
-/// A loop in a function with a result of this type.
+/// A `while` or a `for` in a function with a result of this type.
 #[derive(Clone, Copy)]
 pub struct Loop<'a> {
     pub kind: Kind<'a>,
-    pub test: Option<&'a Expr>,
-    pub step: Option<&'a Simple>,
-    pub body: &'a Stmt,
+    pub statement: &'a Stmt,
 }
 
 /// What is to be done.
@@ -106,10 +104,15 @@ pub enum Task<'a> {
     Simple(&'a Simple),
     Declare(&'a Local),
     /// What comes first, and the test, in the head of a loop.
-    First(&'a ForFirst),
+    First(&'a Box<ForHead>),
     LoopTest(Option<&'a Expr>),
     /// A `return` in a function with a result of this type.
     Return(Kind<'a>, Site, &'a Option<Box<Expr>>),
+    /// A statement that is entered already, and the statements of a list.
+    Entered(Kind<'a>, &'a Stmt),
+    All(Kind<'a>, &'a [Stmt]),
+    /// At most so many turns of a loop.
+    Turns(u64, Loop<'a>),
 }
 
 /// An operator that looks at both operands. Temporaries after the mark end with it.
@@ -166,6 +169,27 @@ pub enum WithNumber<'a> {
     Initialised(&'a Declaration),
 }
 
+/// What goes on behind a part of a statement.
+#[derive(Clone, Copy)]
+pub enum After<'a> {
+    /// Behind a declaration, an assignment or a call: the next statement follows.
+    Simple,
+    /// Variables after the mark end with a block.
+    Block(usize),
+    /// The other statements of a list.
+    Listed(Kind<'a>, &'a [Stmt]),
+    /// One of two statements, by a test.
+    Choice(Kind<'a>, &'a Stmt, Option<&'a Stmt>),
+    /// Behind what comes first in the head of a `for`. Variables after the mark end with it.
+    Head(Loop<'a>, usize),
+    /// Behind the test, the body and the step of a loop, of which so many turns are left.
+    Test(u64, Loop<'a>),
+    Body(u64, Loop<'a>),
+    Step(u64, Loop<'a>),
+    /// Behind the body of a function that was called. Temporaries after the mark end with the call.
+    Call(usize),
+}
+
 /// What goes on with the value of a task.
 #[derive(Clone, Copy)]
 pub enum Rest<'a> {
@@ -174,6 +198,7 @@ pub enum Rest<'a> {
     Value(&'a Expr, WithValue<'a>),
     Place(&'a Expr, WithPlace<'a>),
     Number(WithNumber<'a>),
+    After(After<'a>),
 }
 
 /// A call of what a name names.

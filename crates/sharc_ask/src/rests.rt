@@ -10,8 +10,9 @@ ghost use Rattle.sharc_ask_steps.specs.View.{view_state, view_place, Does};
 ghost use Rattle.sharc_ask.specs.View.{view_flow};
 ghost use Rattle.sharc_ask.specs.declared.plan.WithPlace.TheVariants.{Frees, Casts};
 ghost use Rattle.sharc_ask.specs.Values.{view_value};
-ghost use Rattle.sharc_ask.specs.Plans.{ends_above, value_means, number_means, place_means, rest_means, Plans, Fits, limit};
+ghost use Rattle.sharc_ask.specs.Plans.{ends_above, value_means, number_means, place_means, rest_means, Plans, Fits, Starts, Begins, value_weight, place_weight, weight};
 
+use crate::flows::with_after;
 use crate::parts::{
     element_behind, element_in, end_above, end_step, first_behind, fitted, freed_with, initialised,
     inverted, joined, passed_value, returned, spawned, stored_at, tested_value, truth_of,
@@ -43,7 +44,7 @@ fn with_value<'a>(
     st: &mut State,
 ) -> Result<Plan<'a>, End>
     ensures means { (on_call : Calls) → Plans on_call program.now (view_state st.old) result (view_state st.new) (value_means on_call program.now (view_expr expr.now) rest.entry x) }
-    ensures fits { IfOk result (Fits 15) }
+    ensures fits { IfOk result (Starts (value_weight rest.entry)) }
     ensures fuel { st.new.fuel ≤ st.old.fuel }
 {
     match rest {
@@ -107,7 +108,7 @@ fn with_number<'a>(
     st: &mut State,
 ) -> Result<Plan<'a>, End>
     ensures means { (on_call : Calls) → Plans on_call program.now (view_state st.old) result (view_state st.new) (number_means program.now rest.entry x) }
-    ensures fits { IfOk result (Fits 15) }
+    ensures fits { IfOk result (Fits 0) }
     ensures fuel { st.new.fuel ≤ st.old.fuel }
 {
     match rest {
@@ -161,7 +162,7 @@ fn freed<'a>(
     st: &mut State,
 ) -> Result<Plan<'a>, End>
     ensures means { (on_call : Calls) → Plans on_call program.now (view_state st.old) result (view_state st.new) (place_means on_call program.now (view_expr expr.now) (Frees span mark) (view_place place)) }
-    ensures fits { IfOk result (Fits 15) }
+    ensures fits { IfOk result (Fits 0) }
     ensures fuel { st.new.fuel ≤ st.old.fuel }
 {
     let value = taken(program, span, TakeKind::Free, expr, place, mark, st)?;
@@ -177,7 +178,7 @@ fn cast<'a>(
     st: &mut State,
 ) -> Result<Plan<'a>, End>
     ensures means { (on_call : Calls) → Plans on_call program.now (view_state st.old) result (view_state st.new) (place_means on_call program.now (view_expr expr.now) (Casts span mark) (view_place place)) }
-    ensures fits { IfOk result (Fits 15) }
+    ensures fits { IfOk result (Fits 0) }
     ensures fuel { st.new.fuel ≤ st.old.fuel }
 {
     let value = taken(program, span, TakeKind::Cast, expr, place, mark, st)?;
@@ -192,7 +193,7 @@ fn with_place<'a>(
     st: &mut State,
 ) -> Result<Plan<'a>, End>
     ensures means { (on_call : Calls) → Plans on_call program.now (view_state st.old) result (view_state st.new) (place_means on_call program.now (view_expr expr.now) rest.entry (view_place place)) }
-    ensures fits { IfOk result (Fits 15) }
+    ensures fits { IfOk result (Starts (place_weight rest.entry)) }
     ensures fuel { st.new.fuel ≤ st.old.fuel }
 {
     match rest {
@@ -233,13 +234,13 @@ pub fn resume<'a>(
     st: &mut State,
 ) -> Result<Plan<'a>, End>
     ensures means { (on_call : Calls) → Plans on_call program.now (view_state st.old) result (view_state st.new) (rest_means on_call program.now rest.entry (view_value value)) }
-    ensures fits { IfOk result (Fits (limit rest.entry)) }
-    ensures fuel { st.new.fuel ≤ st.old.fuel }
+    ensures begins { IfOk result (Begins (weight rest.entry) st.old.fuel st.new.fuel) }
 {
     match rest {
         Rest::Same => Ok(Plan::Done(value)),
         Rest::Value(e, rest) => with_value(program, e, rest, number_in(value), st),
         Rest::Place(e, rest) => with_place(program, e, rest, place_in(value), st),
         Rest::Number(rest) => with_number(program, rest, number_in(value), st),
+        Rest::After(after) => with_after(after, value, st),
     }
 }

@@ -56,7 +56,7 @@ fn begin_malloc<'a>(
     st: &mut State,
 ) -> Result<Plan<'a>, End>
     ensures means { (on_call : Calls) (kind : KindMeant) → Plans on_call program.now (view_state st.old) result (view_state st.new) (gives number (right_value on_call program.now kind (view_sharing target.entry) (malloc span (view_option view_expr count.now) written.now))) }
-    ensures begins { IfOk result (Begins 2 1 st.old.fuel st.new.fuel) }
+    ensures begins { IfOk result (Begins 3 st.old.fuel st.new.fuel) }
 {
     enter(st)?;
     counted(program, target, span, count, written, st)
@@ -71,7 +71,7 @@ pub fn begin_right<'a>(
     st: &mut State,
 ) -> Result<Plan<'a>, End>
     ensures means { (on_call : Calls) → Plans on_call program.now (view_state st.old) result (view_state st.new) (gives number (right_value on_call program.now (view_kind kind.entry) (view_sharing target.entry) (view_right right.now))) }
-    ensures begins { IfOk result (Begins 2 1 st.old.fuel st.new.fuel) }
+    ensures begins { IfOk result (Begins 3 st.old.fuel st.new.fuel) }
 {
     match right {
         Right::Value(e) => Ok(Plan::Goes(Task::Eval(e), Rest::Value(e, WithValue::Fitted(kind)))),
@@ -84,7 +84,7 @@ pub fn begin_right<'a>(
 /// An assignment or a call.
 pub fn simple_plan<'a>(simple: &'a Simple, st: &State) -> Plan<'a>
     ensures means { (on_call : Calls) (m : Assignment) → LeadsFrom on_call m (view_state st.now) (gives as_nothing (done_simple on_call m (view_simple simple.now))) result }
-    ensures starts { Starts 2 1 result }
+    ensures starts { Starts 7 result }
 {
     let mark = st.frame.temporaries.len();
     match simple {
@@ -102,7 +102,7 @@ fn initial_plan<'a>(
     initial: &'a Option<Right>,
 ) -> Plan<'a>
     ensures means { (on_call : Calls) → Leads on_call program.now (gives as_nothing (initialised on_call program.now declaration.now (view_option view_right initial.now))) result }
-    ensures fits { Fits 2 result }
+    ensures fits { Fits 4 result }
 {
     match initial {
         None => Plan::Done(Value::Nothing),
@@ -131,7 +131,7 @@ pub fn begin_local<'a>(
     st: &mut State,
 ) -> Result<Plan<'a>, End>
     ensures means { (on_call : Calls) → Plans on_call program.now (view_state st.old) result (view_state st.new) (gives as_nothing (declared on_call program.now (view_local local.now))) }
-    ensures begins { IfOk result (Begins 4 0 st.old.fuel st.new.fuel) }
+    ensures begins { IfOk result (Begins 5 st.old.fuel st.new.fuel) }
 {
     then(
         begin(&local.declaration, 0, st),
@@ -142,7 +142,7 @@ pub fn begin_local<'a>(
 /// What comes first in the head of a `for`.
 pub fn begin_first<'a>(first: &'a ForFirst, st: &mut State) -> Result<Plan<'a>, End>
     ensures means { (on_call : Calls) (m : Assignment) → Plans on_call m (view_state st.old) result (view_state st.new) (gives as_nothing (done_first on_call m (view_first first.now))) }
-    ensures begins { IfOk result (Begins 5 0 st.old.fuel st.new.fuel) }
+    ensures begins { IfOk result (Begins 9 st.old.fuel st.new.fuel) }
 {
     match first {
         ForFirst::Nothing => Ok(Plan::Done(Value::Nothing)),
@@ -157,7 +157,7 @@ pub fn begin_first<'a>(first: &'a ForFirst, st: &mut State) -> Result<Plan<'a>, 
 /// The test of a loop.
 pub fn test_plan<'a>(condition: Option<&'a Expr>) -> Plan<'a>
     ensures means { (on_call : Calls) (m : Assignment) → Leads on_call m (gives test (done_test on_call m (view_test condition.entry))) result }
-    ensures starts { Starts 3 0 result }
+    ensures starts { Starts 5 result }
 {
     match condition {
         None => Plan::Done(Value::Truth(true)),
@@ -168,7 +168,7 @@ pub fn test_plan<'a>(condition: Option<&'a Expr>) -> Plan<'a>
 /// A `return`.
 pub fn return_plan<'a>(kind: Kind<'a>, site: Site, value: &'a Option<Box<Expr>>) -> Plan<'a>
     ensures means { (on_call : Calls) (m : Assignment) → Leads on_call m (gives flow (return_with on_call m (view_kind kind.entry) site (view_option (λ b. view_expr b.value) value.now))) result }
-    ensures starts { Starts 2 0 result }
+    ensures starts { Starts 3 result }
 {
     match value {
         None => Plan::Done(Value::Flow(Flow::Returned(site, 0))),

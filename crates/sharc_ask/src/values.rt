@@ -1,8 +1,8 @@
 // What is done with values beside the walk: nothing here looks at an expression or a statement within another.
 
-ghost use Rattle.std.specs.Prelude.{◌≡◌, ◌≤◌, ◌<◌, ◌-◌, drop, [], ◌∷◌, IfSome, Some, if◌then◌else◌};
+ghost use Rattle.std.specs.Prelude.{◌≡◌, ◌≤◌, ◌<◌, ◌-◌, drop, Some, if◌then◌else◌};
 ghost use Rattle.sharc_tree.specs.Spans.{span_of};
-ghost use Rattle.sharc_tree.specs.View.{view_expr, view_option, view_simple};
+ghost use Rattle.sharc_tree.specs.View.{view_expr, view_option, view_simple, view_stmt};
 ghost use Rattle.sharc_names.specs.Kinds.{declared_kinds, element_kind};
 ghost use Rattle.sharc_names.specs.View.{view_kind};
 ghost use Rattle.sharc_ctype.specs.Resolved.{named_at, kind_at};
@@ -17,7 +17,7 @@ ghost use Rattle.sharc_meaning.specs.Reference.{is_null, constant_value};
 ghost use Rattle.sharc_meaning.specs.State.{give, done, drops, holds};
 ghost use Rattle.sharc_meaning.specs.Statements.{left_by};
 ghost use Rattle.sharc_ask_steps.specs.View.{view_state, view_place, Does};
-ghost use Rattle.sharc_ask.specs.View.{view_flow, view_test, view_step, logic_of, made, place_fetched};
+ghost use Rattle.sharc_ask.specs.View.{view_flow, view_test, view_step, test_of_loop, step_of_loop, body_of_loop, number_left, logic_of, made, place_fetched};
 
 use sharc_ask_steps::arithmetic::{is_positive, is_zero};
 use sharc_ask_steps::cells::{element_cells, instance_mode};
@@ -33,9 +33,9 @@ use sharc_names::kind::{Kind, declared_kind, element_kind};
 use sharc_tree::event::{Act, Object};
 use sharc_tree::token::{Site, Span};
 use sharc_tree::tree::{
-    BinaryOperator, Constant, Declaration, Expr, ForHead, Jump, Simple, ValueCall, WrittenType,
+    BinaryOperator, Constant, Declaration, Expr, ForHead, Jump, Simple, Stmt, ValueCall,
+    WrittenType,
 };
-use std::alloc::Global;
 
 /// How a statement is left.
 #[derive(Clone, Copy, Drop)]
@@ -176,13 +176,14 @@ pub fn constant_value(constant: &Constant) -> i64
     }
 }
 
-pub fn with_first(value: i64, values: Vec<i64>) -> Option<Vec<i64>>
-    ensures { IfSome result (λ v. v.items ≡ value ∷ values.items) }
+pub fn number_left(flow: Flow) -> i64
+    ensures { result ≡ number_left (view_flow flow) }
 {
-    let mut all = values;
-    match all.insert(0, value) {
-        Ok(()) => Some(all),
-        Err(_) => None,
+    match flow {
+        Flow::Returned(_, value) => value,
+        Flow::Next => 0,
+        Flow::Broken => 0,
+        Flow::Continued => 0,
     }
 }
 
@@ -271,7 +272,18 @@ pub fn made(
     ask_event(site, Act::New(cells, elements.unsigned_abs(), mode), st)
 }
 
-pub fn test_of(head: &ForHead) -> Option<&Expr>
+/// The test of a loop.
+pub fn test_of(statement: &Stmt) -> Option<&Expr>
+    ensures { view_test result ≡ test_of_loop (view_stmt statement.now) }
+{
+    match statement {
+        Stmt::While(_, test, _) => Some(test),
+        Stmt::For(_, head, _) => test_in(head),
+        _ => None,
+    }
+}
+
+fn test_in(head: &ForHead) -> Option<&Expr>
     ensures { view_test result ≡ view_option view_expr head.now.test }
 {
     match &head.test {
@@ -280,12 +292,33 @@ pub fn test_of(head: &ForHead) -> Option<&Expr>
     }
 }
 
-pub fn step_of(head: &ForHead) -> Option<&Simple>
+/// What is done behind each turn of a loop.
+pub fn step_of(statement: &Stmt) -> Option<&Simple>
+    ensures { view_step result ≡ step_of_loop (view_stmt statement.now) }
+{
+    match statement {
+        Stmt::For(_, head, _) => step_in(head),
+        _ => None,
+    }
+}
+
+fn step_in(head: &ForHead) -> Option<&Simple>
     ensures { view_step result ≡ view_option view_simple head.now.step }
 {
     match &head.step {
         None => None,
         Some(step) => Some(step),
+    }
+}
+
+/// What is done in each turn of a loop.
+pub fn body_of(statement: &Stmt) -> &Stmt
+    ensures { view_stmt result.now ≡ body_of_loop (view_stmt statement.now) }
+{
+    match statement {
+        Stmt::While(_, _, body) => body,
+        Stmt::For(_, _, body) => body,
+        _ => statement,
     }
 }
 

@@ -1,5 +1,5 @@
 -- What is known of threads, one event more.
-use Rattle.std.proofs.Common.{◌≡◌, ◌⊎◌, inl, inr, ℕ, ◌-◌, Bool, true, false, ◌||◌, cond, List, [], ◌∷◌, ◌++◌, length, map, drop, Some, None, refl, ap, sym, subst, ◌∙◌, arith, append_assoc}
+use Rattle.std.proofs.Common.{◌≡◌, ◌⊎◌, inl, inr, ℕ, ◌-◌, ◌<◌, ◌+◌, Bool, true, false, ◌||◌, cond, List, [], ◌∷◌, ◌++◌, length, map, drop, Some, None, refl, ap, sym, subst, ◌∙◌, arith, append_assoc}
 use Rattle.std.specs.Prelude.{ℤ, ◌==◌, find, slice_get, if◌then◌else◌}
 use Rattle.std.specs.List.{list_any}
 use Rattle.std.proofs.lemmas.Bool.{eq-eqb, eqb-true, or_cases, or_left, or_right}
@@ -36,6 +36,9 @@ not_is t u h = by_case (u == t) refl
     by_case false i = i
     by_case true i = let z : true ≡ false = sym (eq-eqb t u (sym (eqb-true u t i))) ∙ h in absurd (cc)
 
+some_told : (x : ℤ) (xs : List ℤ) → 0 < length (x ∷ xs)
+some_told x xs = omega arith
+
 module _ (m : Assignment) (fuel : ℕ) (R : List SourceEvent) (l : EventLine) (rest : List EventLine) (e : SourceEvent) (thread : l.thread ≡ e.thread) (answer : told l ≡ e.answer) where
   -- what a thread is given in all stays
   same_told : (u : ℕ) → has_begun R u ≡ true → own_answers (R ++ e ∷ []) u ++ told_to u rest ≡ own_answers R u ++ told_to u (l ∷ rest)
@@ -56,6 +59,14 @@ module _ (m : Assignment) (fuel : ℕ) (R : List SourceEvent) (l : EventLine) (r
           ap (λ z. answers_of (drop 1 z) ++ told_to u rest) (one_other e u i R)
           ∙ ap (λ z. own_answers R u ++ map told z) (sym (lines_so false i))
 
+  -- a thread that a line to come is of has one where this line is to come too
+  told_before : (u : ℕ) → 0 < length (told_to u rest) → 0 < length (told_to u (l ∷ rest))
+  told_before u h = by_case (l.thread == u) refl
+    where
+      by_case : (b : Bool) → (l.thread == u) ≡ b → 0 < length (told_to u (l ∷ rest))
+      by_case true i = subst (λ z. 0 < length (map told (cond z (l ∷ lines_of u rest) (lines_of u rest)))) (sym i) (some_told (told l) (told_to u rest))
+      by_case false i = subst (λ z. 0 < length (map told (cond z (l ∷ lines_of u rest) (lines_of u rest)))) (sym i) h
+
   begun_more : (u : ℕ) → has_begun R u ≡ true → has_begun (R ++ e ∷ []) u ≡ true
   begun_more u h = list_any-append (is_of u) R (e ∷ []) ∙ or_left (has_begun R u) (list_any (is_of u) (e ∷ [])) h
 
@@ -65,8 +76,8 @@ module _ (m : Assignment) (fuel : ℕ) (R : List SourceEvent) (l : EventLine) (r
     function = k.function;
     argument = k.argument;
     entry_is = entry_more m.typed R (e ∷ []) run.thread k.function k.argument k.entry_is;
-    events = k.events ∙ ap (λ z. (asks m k.function k.argument z fuel).events) (sym (same_told run.thread k.begun));
-    spent = k.spent ∙ ap (λ z. is_spent (asks m k.function k.argument z fuel).outcome) (sym (same_told run.thread k.begun));
+    events = λ h. k.events (told_before run.thread h) ∙ ap (λ z. (asks m k.function k.argument z fuel).events) (sym (same_told run.thread k.begun));
+    spent = λ h. k.spent (told_before run.thread h) ∙ ap (λ z. is_spent (asks m k.function k.argument z fuel).outcome) (sym (same_told run.thread k.begun));
   }
 
   each_more : (runs : List ThreadRun) → EachKnown m fuel R (l ∷ rest) runs → EachKnown m fuel (R ++ e ∷ []) rest runs
@@ -98,7 +109,7 @@ module _ (m : Assignment) (fuel : ℕ) (R : List SourceEvent) (l : EventLine) (r
 
   -- the first event of a thread, with what it asks for
   pub known_start : (runs : List ThreadRun) (run : ThreadRun) (f : ℕ) (v : ℤ) → AreKnown m fuel R (l ∷ rest) runs → has_begun R l.thread ≡ false → entry m.typed R l.thread ≡ Some (f, v)
-      → run.thread ≡ l.thread → run.events ≡ (asks m f v (told_to l.thread rest) fuel).events → run.spent ≡ is_spent (asks m f v (told_to l.thread rest) fuel).outcome
+      → run.thread ≡ l.thread → (0 < length (told_to l.thread rest) → run.events ≡ (asks m f v (told_to l.thread rest) fuel).events) → (0 < length (told_to l.thread rest) → run.spent ≡ is_spent (asks m f v (told_to l.thread rest) fuel).outcome)
       → AreKnown m fuel (R ++ e ∷ []) rest (runs ++ run ∷ [])
   known_start runs run f v k none is own events spent = record { each = each_with runs run (each_more runs k.each) known; all = λ t h. list_any-append (λ (x : ThreadRun). x.thread == t) runs (run ∷ []) ∙ by_case t (begun_before t h) }
     where
@@ -117,8 +128,8 @@ module _ (m : Assignment) (fuel : ℕ) (R : List SourceEvent) (l : EventLine) (r
         function = f;
         argument = v;
         entry_is = ap (entry m.typed (R ++ e ∷ [])) own ∙ entry_more m.typed R (e ∷ []) l.thread f v is;
-        events = events ∙ ap (λ z. (asks m f v z fuel).events) (sym all_told);
-        spent = spent ∙ ap (λ z. is_spent (asks m f v z fuel).outcome) (sym all_told);
+        events = λ h. events (subst (λ z. 0 < length (told_to z rest)) own h) ∙ ap (λ z. (asks m f v z fuel).events) (sym all_told);
+        spent = λ h. spent (subst (λ z. 0 < length (told_to z rest)) own h) ∙ ap (λ z. is_spent (asks m f v z fuel).outcome) (sym all_told);
       }
 
       by_case : (t : ℕ) → (has_begun R t ≡ true) ⊎ (e.thread ≡ t) → (list_any (λ (x : ThreadRun). x.thread == t) runs || ((run.thread == t) || false)) ≡ true
@@ -181,11 +192,12 @@ module _ (m : Assignment) (fuel : ℕ) (R : List SourceEvent) (l : EventLine) (r
         let q = p.0 in
         let A = own_answers R l.thread in
         let line : told_to l.thread (l ∷ rest) ≡ told l ∷ told_to l.thread rest = ap (λ z. map told (cond z (l ∷ lines_of l.thread rest) (lines_of l.thread rest))) (eq-eqb l.thread l.thread refl) in
+        let some : 0 < length (told_to run.thread (l ∷ rest)) = subst (λ z. 0 < length z) (sym (ap (λ z. told_to z (l ∷ rest)) p.1 ∙ line)) (some_told (told l) (told_to l.thread rest)) in
         let all : own_answers R run.thread ++ told_to run.thread (l ∷ rest) ≡ A ++ told l ∷ told_to l.thread rest = ap (λ z. own_answers R z ++ told_to z (l ∷ rest)) p.1 ∙ ap (λ z. A ++ z) line in
         let entered : entry m.typed R l.thread ≡ Some (q.function, q.argument) = ap (entry m.typed R) (sym p.1) ∙ q.entry_is in
         ap (λ z. event_at z run.spent (slice_get run.events (length (events_of l.thread R) - 1))) p.1
-        ∙ ap (λ z. event_at l.thread z (slice_get run.events (length (events_of l.thread R) - 1))) (q.spent ∙ ap (λ z. is_spent (asks m q.function q.argument z fuel).outcome) all)
-        ∙ ap (λ z. event_at l.thread (is_spent (asks m q.function q.argument (A ++ told l ∷ told_to l.thread rest) fuel).outcome) (slice_get z (length (events_of l.thread R) - 1))) (q.events ∙ ap (λ z. (asks m q.function q.argument z fuel).events) all)
+        ∙ ap (λ z. event_at l.thread z (slice_get run.events (length (events_of l.thread R) - 1))) (q.spent some ∙ ap (λ z. is_spent (asks m q.function q.argument z fuel).outcome) all)
+        ∙ ap (λ z. event_at l.thread (is_spent (asks m q.function q.argument (A ++ told l ∷ told_to l.thread rest) fuel).outcome) (slice_get z (length (events_of l.thread R) - 1))) (q.events some ∙ ap (λ z. (asks m q.function q.argument z fuel).events) all)
         ∙ ap (λ n. next_in l.thread n (asks m q.function q.argument (A ++ told l ∷ told_to l.thread rest) fuel)) (sym answer_count)
         ∙ ask_once laws m q.function q.argument fuel l.thread A (told l) (told_to l.thread rest)
         ∙ sym (ap (λ z. next_of m fuel l.thread A (told l) z) entered)

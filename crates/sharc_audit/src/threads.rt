@@ -23,6 +23,7 @@ use sharc_judge::access::spawns;
 use sharc_meaning::laws::ask_laws;
 use sharc_mode::moded::Moded;
 use sharc_tree::event::{Act, SourceEvent, SourceEvents};
+use sharc_tree::listed::Listed;
 use std::alloc::{AllocError, Global};
 
 /// What a thread asks for.
@@ -199,7 +200,7 @@ pub(crate) fn next_asked(
     }
 }
 
-/// What a thread that starts asks for, with all that the lines report to it.
+/// What a thread that starts asks for, with all that the lines report to it. Where none does, nothing is asked.
 fn begin(
     alloc: Global,
     program: &Moded,
@@ -209,10 +210,17 @@ fn begin(
     rest: &[EventLine],
 ) -> Result<ThreadRun, AllocError>
     ensures thread { IfOk result (λ run. run.thread ≡ thread) }
-    ensures events { IfOk result (λ run. run.events ≡ (asks program.now with.0 with.1 (told_to thread rest.now) fuel).events) }
-    ensures spent { IfOk result (λ run. run.spent ≡ is_spent (asks program.now with.0 with.1 (told_to thread rest.now) fuel).outcome) }
+    ensures events { IfOk result (λ run. 0 < length (told_to thread rest.now) → run.events ≡ (asks program.now with.0 with.1 (told_to thread rest.now) fuel).events) }
+    ensures spent { IfOk result (λ run. 0 < length (told_to thread rest.now) → run.spent ≡ is_spent (asks program.now with.0 with.1 (told_to thread rest.now) fuel).outcome) }
 {
     let answers = told_to(alloc, thread, rest)?;
+    if answers.is_empty() {
+        return Ok(ThreadRun {
+            thread,
+            events: Listed::of(Vec::new(alloc)),
+            spent: false,
+        });
+    }
     let asked = ask(alloc, program, with.0, with.1, answers.as_slice(), fuel)?;
     let spent = match &asked.outcome {
         Outcome::Fuel => true,

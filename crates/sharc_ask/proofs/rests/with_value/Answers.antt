@@ -1,4 +1,4 @@
-use Rattle.std.proofs.Common.{◌≡◌, ap, sym, ◌∙◌, subst, to_z, of_z, w64, rules, to_z-of_z}
+use Rattle.std.proofs.Common.{◌≡◌, ap, sym, ◌∙◌, subst, to_z, of_z, w64, rules, to_z-of_z, IfOk, ◌+◌, ◌<◌, ◌≤◌, arith}
 use Rattle.std.specs.Prelude.{ℤ, pos}
 use Rattle.sharc_tree.specs.View.{view_expr}
 use Rattle.sharc_names.specs.Kinds.{declared_kinds, promoted}
@@ -13,9 +13,10 @@ use Rattle.sharc_ask_steps.specs.View.{view_state, Does}
 use Rattle.sharc_ask_steps.specs.Width.{value_bits}
 use Rattle.sharc_ask.specs.View.{made}
 use Rattle.sharc_ask.specs.Values.{number, place, number_in, gives}
-use Rattle.sharc_ask.specs.Plans.{Plans, value_means, ends_above, test_then, step_then, spawned_with, inverted_with, truth_with, returned_with, and_with, or_with, left_with, joined_with, element_behind, behind_pointer}
+use Rattle.sharc_ask.specs.Plans.{Fits, Starts, size, value_weight, Plans, value_means, ends_above, test_then, step_then, spawned_with, inverted_with, truth_with, returned_with, and_with, or_with, left_with, joined_with, element_behind, behind_pointer}
 use Rattle.sharc_ask.proofs.Outs.{same_plans}
 use Rattle.sharc_ask.proofs.Resuming.{and_goes, or_goes, left_goes, pointer_goes}
+use Rattle.sharc_ask.proofs.Weighing.{fits_start}
 use Rattle.sharc_ask.proofs.rests.with_value.Goals as goal
 
 pub returns-in-Tested-clause-means : goal.returns-in-Tested-clause-means
@@ -221,3 +222,23 @@ returns-in-RightOperand-clause-means c = λ on_call.
     let run : ℤ → ℤ → Run ℤ = λ y z. ends_above o.mark (joined_with m.typed (value_bits o.width) o.site o.operator e y (give z)) in
     let done : Does k c.joined.result k1 (run w.left x) = subst (λ z. Does k c.joined.result k1 (run z x)) same (subst (λ z. Does k c.joined.result k1 (run (to_z w64 (of_z w64 w.left)) z)) (to_z-of_z fits) c.joined.ensures.does) in
     subst (λ z. Plans on_call m k c.done_number-in-RightOperand.result k1 (value_means on_call m e z x)) (sym w.is) (c.done_number-in-RightOperand.ensures.means on_call m k k1 (run w.left x) done)
+
+pub returns-in-AndLeft-clause-fits : goal.returns-in-AndLeft-clause-fits
+returns-in-AndLeft-clause-fits c =
+    let r = c.by_truth.result in
+    subst (λ w. IfOk r (Starts (value_weight w))) (sym c.in-AndLeft.is) (fits_start 2 3 r (omega arith) (c.by_truth.ensures.fits 2 (record { within = omega arith }) (record { within = omega arith })))
+
+pub returns-in-OrLeft-clause-fits : goal.returns-in-OrLeft-clause-fits
+returns-in-OrLeft-clause-fits c =
+    let r = c.by_truth-in-OrLeft.result in
+    subst (λ w. IfOk r (Starts (value_weight w))) (sym c.in-OrLeft.is) (fits_start 2 3 r (omega arith) (c.by_truth-in-OrLeft.ensures.fits 2 (record { within = omega arith }) (record { within = omega arith })))
+
+pub returns-in-LeftOperand-clause-fits : goal.returns-in-LeftOperand-clause-fits
+returns-in-LeftOperand-clause-fits c =
+    let r = c.then.result in
+    subst (λ w. IfOk r (Starts (value_weight w))) (sym c.in-LeftOperand.is) (fits_start 2 3 r (omega arith) (c.then.ensures.fits 2 (record { within = omega arith })))
+
+pub returns-in-PointerBase-clause-fits : goal.returns-in-PointerBase-clause-fits
+returns-in-PointerBase-clause-fits c =
+    let r = c.then-in-PointerBase.result in
+    subst (λ w. IfOk r (Starts (value_weight w))) (sym c.in-PointerBase.is) (fits_start 2 3 r (omega arith) (c.then-in-PointerBase.ensures.fits 2 (record { within = omega arith })))

@@ -1,12 +1,12 @@
 use Rattle.sharc_tree.specs.View.{view_option, view_right, view_local}
-use Rattle.std.proofs.Common.{arith}
+use Rattle.std.proofs.Common.{◌+◌, ◌*◌, ◌<◌, ◌≤◌, arith}
 use Rattle.sharc_ask_steps.specs.View.{view_state}
 use Rattle.std.specs.Prelude.{pos}
 use Rattle.std.proofs.lemmas.Result.{IfOk-weaker}
 use Rattle.sharc_meaning.specs.State.{begins_with}
 use Rattle.sharc_meaning.specs.Statements.{declared, initialised}
 use Rattle.sharc_ask.specs.Values.{gives, as_nothing}
-use Rattle.sharc_ask.specs.Plans.{Fits, Begins, step_then, plan_means}
+use Rattle.sharc_ask.specs.Plans.{Fits, Begins, size, step_then, plan_means}
 use Rattle.sharc_ask.proofs.Outs.{same_plans}
 use Rattle.sharc_ask.proofs.Stating.{step_begins}
 use Rattle.sharc_ask.proofs.statements.begin_local.Goals as goal
@@ -25,4 +25,4 @@ returns-clause-means c = λ on_call.
 pub returns-clause-begins : goal.returns-clause-begins
 returns-clause-begins c =
     let fuel = c.begin.ensures.fuel in
-    IfOk-weaker c.then.result (Fits 2) (Begins 4 0 c.args.st.now.fuel c.begin.new.st.fuel) (λ p h. record { sound = h.sound; spends = omega arith; falls = omega (arith, h.within) }) (c.then.ensures.fits 2 c.initial_plan.ensures.fits)
+    IfOk-weaker c.then.result (Fits 4) (Begins 5 c.args.st.now.fuel c.begin.new.st.fuel) (λ p h. record { falls = omega (arith, fuel, h.within) }) (c.then.ensures.fits 4 c.initial_plan.ensures.fits)

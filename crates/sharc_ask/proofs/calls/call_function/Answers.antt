@@ -1,0 +1,33 @@
+use Rattle.std.proofs.Common.{◌≡◌, None, Some, sym, ap, ◌∙◌, subst}
+use Rattle.std.specs.Option.{option_map}
+use Rattle.std.specs.Prelude.{ℤ}
+use Rattle.sharc_tree.specs.View.{view_function}
+use Rattle.sharc_ctype.specs.Resolved.{function_at}
+use Rattle.sharc_meaning.specs.Meaning.{calls}
+use Rattle.sharc_meaning.specs.State.{Run}
+use Rattle.sharc_ask_steps.specs.View.{view_state}
+use Rattle.sharc_ask.specs.Values.{number, gives}
+use Rattle.sharc_ask.specs.Plans.{ends_above}
+use Rattle.sharc_ask.specs.Stack.{stack_of, Moves}
+use Rattle.sharc_ask.proofs.Calling.{call_moves, call_none_is, call_stops_moves}
+use Rattle.sharc_ask.proofs.calls.call_function.Goals as goal
+
+pub returns-then-frames-eq0-clause-moves : goal.returns-then-frames-eq0-clause-moves
+returns-then-frames-eq0-clause-moves c = call_stops_moves c.args.program.now c.args.frames c.args.called c.args.site c.args.values.now c.args.mark (view_state c.args.st.now) (stack_of c.args.stack.now) (stack_of c.args.stack.now) c.if-frames-eq0.true
+
+pub returns-in-None-clause-moves : goal.returns-in-None-clause-moves
+returns-in-None-clause-moves c =
+    let m = c.args.program.now in
+    let n = c.args.frames in
+    let none : function_at m.typed c.args.called ≡ None = sym (c.function_at.ensures ∙ ap (λ z. function_at z c.args.called) c.typed.ensures) ∙ ap (λ o. option_map (λ f. view_function f.now) o) c.in-None.is in
+    subst (λ (z : Run ℤ). Moves m (view_state c.args.st.now) (stack_of c.args.stack.now) c.no_call.result (view_state c.no_call.new.st) (stack_of c.args.stack.now) (gives number (ends_above c.args.mark z))) (sym (call_none_is m n c.args.called c.args.site c.args.values.now c.if-frames-eq0.false none))
+    (c.no_call.ensures.moves m (stack_of c.args.stack.now))
+
+pub returns-in_ok-push-in-Some-clause-moves : goal.returns-in_ok-push-in-Some-clause-moves
+returns-in_ok-push-in-Some-clause-moves c =
+    let m = c.args.program.now in
+    let n = c.args.frames in
+    let g = view_function c.in-Some.function.now in
+    let there : function_at m.typed c.args.called ≡ Some g = sym (c.function_at.ensures ∙ ap (λ z. function_at z c.args.called) c.typed.ensures) ∙ ap (λ o. option_map (λ f. view_function f.now) o) c.in-Some.is in
+    call_moves m n c.args.called c.args.site c.args.values.now c.args.mark g (view_state c.args.st.now) (view_state c.enter_function.new.st) (stack_of c.args.stack.now) (stack_of c.push.new.stack) (stack_of c.enter_function.new.stack) c.enter_function.result
+    c.if-frames-eq0.false there c.in_ok-push-in-Some.ensures.pushed (c.enter_function.ensures.moves m)

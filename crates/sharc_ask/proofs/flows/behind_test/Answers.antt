@@ -1,0 +1,24 @@
+use Rattle.std.proofs.Common.{◌≡◌, ◌+◌, ◌*◌, ◌≤◌, arith, sym, ap, ◌∙◌}
+use Rattle.std.proofs.lemmas.Result.{IfOk-weaker}
+use Rattle.sharc_names.specs.View.{view_kind}
+use Rattle.sharc_meaning.specs.State.{then_on}
+use Rattle.sharc_meaning.specs.Statements.{exec}
+use Rattle.sharc_ask_steps.specs.View.{view_state}
+use Rattle.sharc_ask.specs.Values.{flow, flow_in, gives}
+use Rattle.sharc_ask.specs.Plans.{tested_done, left_body, Begins, size}
+use Rattle.sharc_ask.proofs.Flowing.{turn_begins}
+use Rattle.sharc_ask.proofs.Outs.{same_plans}
+use Rattle.sharc_ask.proofs.flows.behind_test.Goals as goal
+
+pub returns-then-goes_on-clause-means : goal.returns-then-goes_on-clause-means
+returns-then-goes_on-clause-means c = λ on_call m.
+    let l = c.args.l in
+    let n = c.args.number in
+    same_plans on_call m (view_state c.args.st.now) (view_state c.begin_statement.new.st) c.begin_statement.result (gives flow (tested_done on_call m l n c.args.goes_on)) _
+    (λ s is. turn_begins on_call m l n c.args.goes_on s c.if-goes_on.true ∙ ap (λ a. then_on (gives flow (exec on_call m (view_kind l.kind) a) s) (λ v. gives flow (left_body on_call m l n (flow_in v)))) (sym c.body_of.ensures)) (c.begin_statement.ensures.means on_call m)
+
+pub returns-then-goes_on-clause-begins : goal.returns-then-goes_on-clause-begins
+returns-then-goes_on-clause-begins c =
+    let after = c.begin_statement.new.st.fuel in
+    let before = c.args.st.now.fuel in
+    IfOk-weaker c.begin_statement.result (λ p. 64 * after + size p + 45 ≤ 64 * before + 17) (Begins 1 before after) (λ p h. record { falls = omega (arith, h) }) c.begin_statement.ensures.begins

@@ -1,0 +1,20 @@
+use Rattle.std.proofs.Common.{◌≡◌, sym, ap, ◌∙◌}
+use Rattle.sharc_tree.specs.View.{view_simple}
+use Rattle.sharc_meaning.specs.State.{◌>>◌}
+use Rattle.sharc_meaning.specs.Statements.{done_simple, done_step}
+use Rattle.sharc_ask.specs.View.{view_step}
+use Rattle.sharc_ask.specs.Values.{flow, gives}
+use Rattle.sharc_ask.specs.Plans.{turns_of}
+use Rattle.sharc_ask.proofs.Flowing.{step_then}
+use Rattle.sharc_ask.proofs.Stating.{out_given}
+use Rattle.sharc_ask.proofs.flows.next_turn.Goals as goal
+
+pub returns-in-None-clause-means : goal.returns-in-None-clause-means
+returns-in-None-clause-means c = λ on_call m s.
+    let turns = turns_of on_call m c.args.l c.args.number in
+    ap (λ o. gives flow (done_step on_call m o >> turns) s) (sym c.step_of.ensures ∙ ap view_step c.in-None.is) ∙ out_given (gives flow turns s)
+
+pub returns-in-Some-clause-means : goal.returns-in-Some-clause-means
+returns-in-Some-clause-means c = λ on_call m s.
+    let turns = turns_of on_call m c.args.l c.args.number in
+    ap (λ o. gives flow (done_step on_call m o >> turns) s) (sym c.step_of.ensures ∙ ap view_step c.in-Some.is) ∙ step_then (done_simple on_call m (view_simple c.in-Some.step.now)) turns s

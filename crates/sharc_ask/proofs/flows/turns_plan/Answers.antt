@@ -1,0 +1,21 @@
+use Rattle.std.proofs.Common.{◌≡◌, ◌-◌, sym, ap, ◌∙◌}
+use Rattle.sharc_meaning.specs.State.{then_on}
+use Rattle.sharc_meaning.specs.Statements.{done_test}
+use Rattle.sharc_ask_steps.specs.View.{view_state}
+use Rattle.sharc_ask.specs.Values.{test, flow, test_in, gives}
+use Rattle.sharc_ask.specs.Plans.{tested_done}
+use Rattle.sharc_ask.proofs.Flowing.{turns_none, turns_begin}
+use Rattle.sharc_ask.proofs.flows.turns_plan.Goals as goal
+
+pub returns-then-number-eq0-clause-means : goal.returns-then-number-eq0-clause-means
+returns-then-number-eq0-clause-means c = λ on_call m. turns_none on_call m c.args.l c.args.number (view_state c.args.st.now) c.if-number-eq0.true
+
+pub returns-clause-means : goal.returns-clause-means
+returns-clause-means c = λ on_call m s is.
+    let l = c.args.l in
+    let n = c.args.number in
+    record {
+      state = s;
+      is = turns_begin on_call m l n s c.if-number-eq0.false ∙ ap (λ o. then_on (gives test (done_test on_call m o) s) (λ v. gives flow (tested_done on_call m l (n - 1) (test_in v)))) (sym c.test_of.ensures);
+      looks = is;
+    }

@@ -1,0 +1,15 @@
+use Rattle.std.proofs.Common.{◌≡◌, Ok, sym, subst}
+use Rattle.sharc_ask_steps.specs.View.{view_state}
+use Rattle.sharc_ask.specs.declared.plan.Task.TheVariants as tasks
+use Rattle.sharc_ask.specs.Plans.{task_means, Plans}
+use Rattle.sharc_ask.proofs.Outs.{lead_plans}
+use Rattle.sharc_ask.proofs.walk.begin.Goals as goal
+
+pub returns-in-Entered-clause-means : goal.returns-in-Entered-clause-means
+returns-in-Entered-clause-means c = λ on_call.
+    let m = c.args.program.now in
+    let k = view_state c.args.st.now in
+    let w = c.in-Entered in
+    let p = c.entered_plan.result in
+    subst (λ z. Plans on_call m k (Ok p) k (task_means on_call m z)) (sym w.is)
+    (lead_plans on_call m k p (task_means on_call m (tasks.Entered w.kind w.statement)) (c.entered_plan.ensures.means on_call m))
