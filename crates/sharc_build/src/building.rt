@@ -19,7 +19,8 @@ use sharc_flatten::flatten;
 use sharc_mode::error::ModeErrors;
 use sharc_mode::moded::Moded;
 use sharc_reach::Reached;
-use sharc_sound::{ReachedProgram, Refusal, SourceFault, front};
+use sharc_report::SourceFault;
+use sharc_sound::{ReachedProgram, Refusal, front};
 use std::alloc::{AllocError, Global};
 
 /// A program whose modes are accepted, and its checked code.

@@ -12,3 +12,4 @@ pub mod Sharings
 pub mod View
 pub mod WellFormed
 pub mod WellModed
+pub mod Errors

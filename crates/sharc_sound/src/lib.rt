@@ -8,4 +8,4 @@ mod compiled;
 mod program;
 
 pub use compiled::compile;
-pub use program::{ReachedProgram, Refusal, SourceFault, front};
+pub use program::{ReachedProgram, Refusal, front};

@@ -1,18 +1,13 @@
-use Rattle.std.proofs.Common.{◌∙◌, ap, sym, subst, IsSome}
+use Rattle.std.proofs.Common.{◌∙◌, ap}
 use Rattle.std.proofs.lemmas.Result.{IfOk-weaker}
-use Rattle.sharc_report.specs.Refusals.{message_of, refusal_line}
+use Rattle.sharc_report.specs.Refusals.{refusal_line}
 use Rattle.sharc_top.proofs.Verdicts.{answers_faulty, answers_program}
 use Rattle.sharc_top.proofs.words.verdict_on.Goals as goal
 
 pub returns-in-Ok : goal.returns-in-Ok
 returns-in-Ok c = IfOk-weaker c.done.result _ _ (λ reply is. answers_program _ _ _ _ _ c.in-Ok.ensures.0 is) c.done.ensures
 
-pub refusal-requires : goal.refusal-requires
-refusal-requires c =
-    let told = rw c.in-Err-Source.field-0-is at c.in-Err-Source.ensures in
-    subst (λ fault. IsSome (message_of fault.stage fault.at)) (sym c.in-Err-Source.fault-is) told.told
-
 pub returns-in-Err-Source : goal.returns-in-Err-Source
 returns-in-Err-Source c =
     let told = rw c.in-Err-Source.field-0-is at c.in-Err-Source.ensures in
-    IfOk-weaker c.refusal.result _ _ (λ reply is. answers_faulty _ _ _ _ _ _ told.fault is.0 (is.1 ∙ ap (λ fault. refusal_line fault.stage fault.at) c.in-Err-Source.fault-is)) c.refusal.ensures
+    IfOk-weaker c.refusal.result _ _ (λ reply is. answers_faulty _ _ _ _ _ told is.0 (is.1 ∙ ap refusal_line c.in-Err-Source.fault-is)) c.refusal.ensures
