@@ -96,7 +96,6 @@ pub fn build(alloc: Global, source: &[u8]) -> Result<Built, BuildFault>
     match front(alloc, source) {
         Ok(ReachedProgram { program, reached }) => accepted(alloc, program, &reached),
         Err(Refusal::Source(fault)) => Err(BuildFault::Source(fault)),
-        Err(Refusal::Modes(..)) => unreachable!(),
         Err(Refusal::Memory) => Err(BuildFault::Memory),
     }
 }

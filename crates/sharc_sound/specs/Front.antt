@@ -17,7 +17,7 @@ use Rattle.sharc_report.specs.declared.refusal.SourceFault.{SourceFault}
 use Rattle.sharc_report.specs.declared.refusal.SourceFault.TheVariants.{Lexer, Parser, Typing}
 use Rattle.sharc_sound.specs.declared.program.ReachedProgram.{ReachedProgram}
 use Rattle.sharc_sound.specs.declared.program.Refusal.{Refusal}
-use Rattle.sharc_sound.specs.declared.program.Refusal.TheVariants.{Source, Modes, Memory}
+use Rattle.sharc_sound.specs.declared.program.Refusal.TheVariants.{Source, Memory}
 
 -- its tokens are those of the source, and the grammar reads them as the program, which is typed
 pub record IsTypedFrom (source : List ℕ) (r : Resolution) : Type 0 where
@@ -50,10 +50,9 @@ IsSourceFault source (Lexer at) = reading source ≡ Err at
 IsSourceFault source (Parser at) = IsMisread source at
 IsSourceFault source (Typing at) = IsMistyped source at
 
--- modes are not looked at here
+-- whether the modes are accepted is not looked at here
 abbrev pub IsRefusal : List ℕ → Refusal → Type 0
 IsRefusal source (Source fault) = IsSourceFault source fault
-IsRefusal source (Modes m errors) = ⊥
 IsRefusal source Memory = Unit {0}
 
 abbrev pub Types : List ℕ → Result Resolution Refusal → Type 0

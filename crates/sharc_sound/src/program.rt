@@ -7,20 +7,17 @@ use sharc_ctype::typed::{TypeFault, Typed, type_program};
 use sharc_grammar::laws::programs_are_placed;
 use sharc_infer::infer;
 use sharc_lex::{LexFault, lex};
-use sharc_mode::error::ModeErrors;
 use sharc_mode::moded::Moded;
 use sharc_parse::{ParseFault, parse};
 use sharc_reach::{Reached, reach};
 use sharc_report::SourceFault;
 use std::alloc::{AllocError, Global};
 
-/// Why a source is refused.
+/// Why a source is no program with its modes. Whether these are accepted is not looked at.
 #[derive(Drop)]
 pub enum Refusal {
     /// The first fault of the first stage that has one.
     Source(SourceFault),
-    /// All cases of M1 to M11 that arise, and the program, which is handed back. `front` does not look for them.
-    Modes(Moded, ModeErrors),
     /// Memory was wanting.
     Memory,
 }
