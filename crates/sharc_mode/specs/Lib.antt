@@ -1,4 +1,5 @@
 pub mod Cells
+pub mod Errors
 pub mod Expressions
 pub mod Flows
 pub mod Laws
@@ -12,4 +13,3 @@ pub mod Sharings
 pub mod View
 pub mod WellFormed
 pub mod WellModed
-pub mod Errors
