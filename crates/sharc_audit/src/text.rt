@@ -50,9 +50,7 @@ fn put_fault(text: &mut Vec<u8>, fault: EventFault) -> Result<(), AllocError>
     match fault {
         EventFault::NotAsked => text.extend_from_slice(b"E1 not asked for"),
         EventFault::NotLegal => text.extend_from_slice(b"E2 not legal"),
-        EventFault::Rule(rule) => {
-            put_numbered(text, b"E3 rule ", u64::from(number(rule)), b"")
-        }
+        EventFault::Rule(rule) => { put_numbered(text, b"E3 rule ", u64::from(number(rule)), b"") }
     }
 }
 
