@@ -1,5 +1,5 @@
 -- What every turn keeps: the number of the thread, the rows of its table, a stage of the shape, and the prints but for one more.
-use Rattle.std.proofs.Common.{◌≡◌, ℕ, ℤ, pos, negsuc, zero, suc, ◌+◌, ◌*◌, min, Bool, true, false, not, ◌&&◌, ◌||◌, ◌==◌, nat_lt, length, is_some, if◌then◌else◌, refl, ◌∙◌, ◌<◌, ◌≤◌, [], ◌∷◌, length-append, subst, arith}
+use Rattle.std.proofs.Common.{◌≡◌, ℕ, ℤ, pos, negsuc, zero, suc, ◌+◌, ◌*◌, min, Bool, true, false, not, ◌&&◌, ◌||◌, ◌==◌, nat_lt, length, is_some, if◌then◌else◌, refl, ◌<◌, [], ◌∷◌, length-append, subst, arith}
 use Rattle.std.specs.Prelude.{Result, Ok, Err}
 use Rattle.std.proofs.lemmas.Bool.Decides.{Decides-ltb}
 use Rattle.std.proofs.lemmas.List.{length-set}

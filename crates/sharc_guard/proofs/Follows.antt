@@ -469,7 +469,7 @@ module _ (dropped : ℕ → Bool) (flat : Flat.Flat) where
       follows (op.Complement i a) s lead e has un = plain (omega arith) lead (Flat.next (Flat.set_int i _ m)) refl refl refl calls
       follows (op.IsFalse i a) s lead e has un = plain (omega arith) lead (Flat.next (Flat.set_int i _ m)) refl refl refl calls
       follows (op.SameReference i a b) s lead e has un = plain (omega arith) lead (Flat.next (Flat.set_int i _ m)) refl refl refl calls
-      follows (op.ChkWidth width i spot) s lead e has un = asserted (omega arith) lead _ 4 m.pc spot (site_of (op.ChkWidth width i spot) spot s refl)
+      follows (op.ChkWidth width i spot) s lead e has un = asserted (omega arith) lead _ traps.OutOfRange m.pc spot (site_of (op.ChkWidth width i spot) spot s refl)
       follows (op.Skip k) s lead e has un = jumped (m.pc + 1 + k) lead
       follows (op.SkipIfZero i k) s lead e has un = chosen _ (Flat.over_lines k m) (Flat.next m) (Form.to me (at (m.pc + 1 + k))) (Form.next me) (jumped (m.pc + 1 + k) lead.0) (plain (omega arith) lead.1 (Flat.next m) refl refl refl calls)
       follows (op.SkipIfNull r k) s lead e has un = chosen _ (Flat.over_lines k m) (Flat.next m) (Form.to me (at (m.pc + 1 + k))) (Form.next me) (jumped (m.pc + 1 + k) lead.0) (plain (omega arith) lead.1 (Flat.next m) refl refl refl calls)
@@ -481,13 +481,13 @@ module _ (dropped : ℕ → Bool) (flat : Flat.Flat) where
       follows (op.MoveReference r from) s lead e has un = plain (omega arith) lead (Flat.next (Flat.moved r from m)) refl refl refl calls
       follows (op.Pop r) s lead e has un = near (omega arith) lead (Flat.next (Flat.popped r m)) (L ++ number_of (Flat.ref m r) ∷ []) (held_mutexes m.events) refl refl (resolved_push m.given L (number_of (Flat.ref m r)) res) calls
       follows (op.Settle x from) s lead e has un = settles (omega arith) lead.1 x from lead.0 has
-      follows (op.ChkNull r spot) s lead e has un = asserted (omega arith) lead _ 1 m.pc spot (site_of (op.ChkNull r spot) spot s refl)
+      follows (op.ChkNull r spot) s lead e has un = asserted (omega arith) lead _ traps.NullPointer m.pc spot (site_of (op.ChkNull r spot) spot s refl)
       follows (op.ChkPositive i spot) s lead e has un =
           subst (λ b. Follow (Flat.asserts b traps.SizeNotPositive spot m) (Form.asserts me (is_positive (Flat.int m i)) traps.SizeNotPositive m.pc)) (positive_same (Flat.int m i))
-          (asserted (omega arith) lead (is_positive (Flat.int m i)) 12 m.pc spot (site_of (op.ChkPositive i spot) spot s refl))
-      follows (op.ChkHeld cell spot) s lead e has un = asserted (omega arith) lead _ 5 m.pc spot (site_of (op.ChkHeld cell spot) spot s refl)
-      follows (op.ChkNotHeld cell spot) s lead e has un = asserted (omega arith) lead _ 6 m.pc spot (site_of (op.ChkNotHeld cell spot) spot s refl)
-      follows (op.ChkRoom spot) s lead e has un = asserted (omega arith) lead _ 13 m.pc spot (site_of (op.ChkRoom spot) spot s refl)
+          (asserted (omega arith) lead (is_positive (Flat.int m i)) traps.SizeNotPositive m.pc spot (site_of (op.ChkPositive i spot) spot s refl))
+      follows (op.ChkHeld cell spot) s lead e has un = asserted (omega arith) lead _ traps.MutexNotHeld m.pc spot (site_of (op.ChkHeld cell spot) spot s refl)
+      follows (op.ChkNotHeld cell spot) s lead e has un = asserted (omega arith) lead _ traps.MutexAlreadyHeld m.pc spot (site_of (op.ChkNotHeld cell spot) spot s refl)
+      follows (op.ChkRoom spot) s lead e has un = asserted (omega arith) lead _ traps.TooManyLocks m.pc spot (site_of (op.ChkRoom spot) spot s refl)
       follows (op.Bounds i r cells field spot) s lead e has un = indexes (omega arith) lead i cells field m.pc (Flat.int m i) _ spot (site_of (op.Bounds i r cells field spot) spot s refl)
       follows (op.GlobalBounds i elements cells field spot) s lead e has un = indexes (omega arith) lead i cells field m.pc (Flat.int m i) elements spot (site_of (op.GlobalBounds i elements cells field spot) spot s refl)
       follows (op.Load i cell spot) s lead e has un =

@@ -582,7 +582,7 @@ module _ (dropped : ℕ → Bool) (flat : Flat.Flat) (ok : IsFlat flat) where
           → (b : Bool) → kk.blocked ≡ b → Wants flat p m (Form.turn p a)
       head_wants m a h i rest kk uu t true f =
           let site : (source_of h.line).site ≡ (source_at p m.pc).site = sym (ap (λ (sp : SourcePlace). sp.site) (source_is dropped flat m.pc h.line h.stands_there)) in
-          stopping_wants m (Form.turn p a) 1 m.pc (uu ∙ kk.stops a.pc h.lowered f) (t ∙ kk.flat_stops f ∙ ap (λ s. halts (stopped traps.NullPointer s)) site)
+          stopping_wants m (Form.turn p a) traps.NullPointer m.pc (uu ∙ kk.stops a.pc h.lowered f) (t ∙ kk.flat_stops f ∙ ap (λ s. halts (stopped traps.NullPointer s)) site)
       head_wants m a h i rest kk uu t false f =
           subst (Wants flat p m) (sym uu) (asking_wants m (step p i (image pl m a.pc h.lowered)) (image pl m (a.pc + 1) h.lowered) h.line h.stands_there (kk.wants f) t (kk.passes a.pc h.lowered f))
 
