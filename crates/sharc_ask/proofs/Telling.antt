@@ -18,6 +18,7 @@ use Rattle.sharc_ask_steps.specs.declared.state.End.TheVariants as ends
 use Rattle.sharc_meaning.specs.Meaning.{asked_by}
 use Rattle.sharc_meaning.specs.State.{Out, held_references, pointers_among}
 use Rattle.sharc_ask_steps.specs.View.{Known, Went, Over}
+use Rattle.sharc_ask.specs.Held.{all_held}
 use Rattle.sharc_ask.specs.View.{leaves, told, Tells}
 
 abbrev pub held_of : Known → List ℤ
@@ -37,6 +38,10 @@ tells_spent k out a w ev oc gu = tells_over ends.Spent k out a w ev (oc ∙ ap (
 
 pub tells_ended : (k : Known) (out : Out (Unit {0})) (a : RustAsked) → Went tt k out → a.events ≡ k.events → a.outcome ≡ Ended → a.given_up ≡ k.given_up → Tells a (asked_by out)
 tells_ended k out a w ev oc gu = (ev ∙ sym (ap (λ (z : Known). z.events) w.looks) ∙ ap (λ z. (asked_by z).events) (sym w.is), oc ∙ ap (λ z. told (asked_by z).outcome (asked_by z).held) (sym w.is), gu ∙ sym (ap (λ (z : Known). z.given_up) w.looks) ∙ ap (λ z. (asked_by z).given_up) (sym w.is))
+
+-- what a thread holds where its run is over
+pub held_over : (e : End) (k : Known) (out : Out (Unit {0})) → Over e k out → all_held k ≡ (asked_by out).held
+held_over e k out w = sym (ap all_held w.looks) ∙ ap (λ z. (asked_by z).held) (sym w.is)
 
 -- ---- a thread goes away
 
