@@ -75,7 +75,8 @@ pub fn audit(
         let n = i as u32 + 1;
         let line = &all[i];
         let rest = &all[i + 1..];
-        match next_asked(m, main, fuel, past.as_slice(), line, rest, runs.as_slice()) {
+        let next = next_asked(alloc, m, main, fuel, past.as_slice(), line, rest, &mut runs)?;
+        match next {
             Next::Spent => return Ok(Verdict::Fuel(n)),
             Next::Nothing => return Ok(Verdict::Fails(n, EventFault::NotAsked)),
             Next::Wants(e) => {
