@@ -35,7 +35,7 @@ class Ways:
         pauses = drawn(draw, self.source, turns, self.program.events) if way == "pauses" else []
         schedule = {"walk": lambda: stretches(draw, 2 * turns, threads, turns),
                     "pauses": lambda: stretches(draw, turns, threads, max(1, turns // 4)),
-                    "even": lambda: stretches(draw, min(2 * turns, LONGEST // 10), threads, 1),
+                    "even": lambda: [(place, 1) for place in draw.choices(range(threads), k=min(2 * turns, 20000))],
                     "few": lambda: few(draw, turns, threads),
                     "sweep": lambda: one_switch(index, turns, threads)}[way]()
         return self.paused(pauses) if pauses else self.program, schedule + in_turns(threads), pauses
