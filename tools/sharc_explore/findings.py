@@ -107,7 +107,7 @@ def findings(run):
     if run.status == 5:
         found.append(deadlock(threads))
     if run.status == 6:
-        found.append(Finding("limit", "a thread made as many steps as --events allows: a loop without end?", []))
+        found.append(Finding("limit", "a thread made all steps that --events allows: a loop without end?", []))
     if run.status == 0:
         found.append(Finding("output", " ".join(str(value) for value in prints if value < BASE), []))
     return list({one.key: one for one in reversed(found)}.values())[::-1]
