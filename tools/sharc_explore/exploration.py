@@ -1,10 +1,15 @@
 """Many runs of one program, and what they show together."""
 import collections
+import os
+import shlex
+import subprocess
+import sys
 from multiprocessing.pool import ThreadPool
 
 from .findings import MEANING, findings
 from .lanes import Lanes
-from .program import Program, Refused, in_turns, read_source
+from .orders import both_orders
+from .program import Program, in_turns, read_source, sharc_path
 from .schedules import Ways
 from .shrink import Shrinker, shortest
 from .source import Source
@@ -16,9 +21,9 @@ TRACED = 40                         # runs of the traced twin
 class Exploration:
     """What is known of a program: first what check says, then what runs show."""
 
-    def __init__(self, path, options):
-        self.path, self.jobs = path, options.jobs
-        self.program = Program(read_source(path), options.sharc, options.granules, options.events)
+    def __init__(self, options):
+        self.path, self.jobs = options.program, options.jobs
+        self.program = Program(read_source(self.path), options.granules, options.events)
         self.status, self.checked = self.program.check()
         self.statuses, self.found, self.unreached, self.traced = collections.Counter(), {}, [], 0
         if self.status == 0:
@@ -45,34 +50,35 @@ class Exploration:
         """Makes the runs of these numbers, and tells the progress."""
         with ThreadPool(self.jobs) as pool:
             for run in pool.imap_unordered(self.ways.run, range(first, first + count)):
-                if run.status not in MEANING:
-                    raise Refused(f"sharc ended with {run.status}: {run.text.strip()}", run.status)
-                self.statuses["cut" if self.ways.is_cut(run) else run.status] += 1
-                for shown in findings(run) if not self.ways.is_cut(run) else []:
-                    self.found.setdefault(shown.key, shown).note(run, self.ways.rank(run.number), shown)
+                status = "cut" if self.ways.is_cut(run) else run.status
+                if status not in (*MEANING, "cut"):
+                    raise subprocess.CalledProcessError(run.status, f"{self.program.sharc} replay")
+                self.statuses[status] += 1
+                self._note(run, findings(run) if status in MEANING else [])
                 progress(self.total(), count, len(self.findings()))
             if self.has_twin:
-                self.reach(pool, first)
-        for finding in self.found.values():
-            told = finding.kind != "deadlock" or any(step.startswith("in a traced run") for step in finding.steps)
-            finding.steps = finding.steps if told else finding.steps + self.holders(finding)
+                self._trace(pool, first)
 
-    def holders(self, finding):
-        """Which locks the threads of a deadlock hold, and since where, as a traced run that shows it tells."""
-        shown = self.shown(finding) if self.has_twin else None
-        lanes = Lanes(*shown) if shown else None
-        return [f"in a traced run {lanes.title(lane)} holds {lanes.holds(lane)}"
-                for lane in (lanes.lanes if lanes else []) if lanes.holds(lane)]
+    def _note(self, run, shown):
+        for one in shown:
+            self.found.setdefault(one.key, one).note(run, self.ways.rank(run.number), one)
 
-    def reach(self, pool, first):
-        """Which lines no run of the traced twin reaches."""
+    def _trace(self, pool, first):
+        """What runs of the traced twin tell: lines that none reaches, orders of mutexes that are not met as a deadlock,
+        and of each deadlock which locks its threads hold, and since where."""
         twin, program = self.twin()
-        walks = Ways(program, self.source, "walk")
-        reached = set()
-        for run in pool.imap_unordered(walks.run, range(first, first + TRACED)):
-            reached |= {event.statement.place for event in twin.events(run.text) if event.statement}
+        deadlocks, reached = [one for one in self.found.values() if one.kind == "deadlock"], set()
+        for run in pool.imap_unordered(Ways(program, self.source, "walk").run, range(first, first + TRACED)):
+            events = twin.events(run.text)
+            reached |= {event.statement.place for event in events if event.statement}
+            orders = {one.key: one for one in both_orders(events)
+                      if not any(set(one.places) <= set(deadlock.places) for deadlock in deadlocks)}
+            self._note(run._replace(status=0), orders.values())
         places = {one.place for one in self.source.statements if one.kind != "end"}
         self.unreached, self.traced = sorted(places - reached), TRACED
+        for deadlock in deadlocks:
+            lanes = None if deadlock.steps[-1].startswith("in a traced run") else self.shown(deadlock)
+            deadlock.steps += lanes.holders() if lanes else []
 
     def findings(self):
         """The worst first, and of these the ones that most runs show."""
@@ -87,21 +93,35 @@ class Exploration:
     def total(self):
         return sum(self.statuses.values())
 
-    def worst(self):
-        return next(status for status in [*MEANING, 0] if self.statuses[status] or status == 0)
+    def seen(self, finding):
+        """How many runs show a finding, and a command that shows it again if one does."""
+        if finding.kind == "order":
+            return f"in {finding.count} of {self.traced} traced runs"
+        again = f"{shlex.quote(sharc_path())} replay < {shlex.quote(finding.file or '')}"
+        if not finding.file:
+            limits = f" --granules {self.program.granules}" * (self.program.granules != 4096)
+            limits += f" --events {self.program.events}" * (self.program.events != 100000)
+            tool = os.path.join(os.path.dirname(sys.argv[0]), "sharc-explore")
+            again = f"{tool} --from {finding.number} -n 1{limits} {shlex.quote(self.path)}"
+        return f"in {finding.count} of {self.total()} runs; again: {again}"
 
-    def shrink(self, finding):
-        """Gives a finding the shortest schedule that tries find, and the bytes of a file for replay, or None."""
-        best = shortest(self.ways, finding)
-        if best is None:
-            return None
-        program, finding.schedule, finding.pauses = best
-        finding.text = program.replay(finding.schedule).text
-        return program.file_of(finding.schedule, finding.text)
+    def save(self, finding, name):
+        """Writes a file for replay with the shortest schedule that tries find; if none, with that of a run."""
+        finding.schedule, finding.file = shortest(self.ways, finding), name
+        program, schedule, _ = self.ways.prepared(finding.number)
+        if finding.schedule is not None:
+            program, schedule = self.program, finding.schedule
+            finding.text = program.replay(schedule).text
+        with open(name, "wb") as file:
+            file.write(program.file_of(schedule, finding.text))
 
     def shown(self, finding):
-        """The events and the text of a short run of the traced twin that shows a finding, or None."""
-        paused = self.ways.prepared(finding.number)[2] if self.ways.way(finding.number)[0] != "seeds" else []
+        """A short run of the traced twin that shows a finding, as lanes, or None."""
+        if not self.has_twin:
+            return None
+        if finding.kind == "order":
+            return Lanes(self.twin()[0].events(finding.text), finding.text)
+        paused = self.ways.prepared(finding.number)[2]
         for pauses, way in ((paused, "walk"), ((), "walk"), ((), "few")):
             twin, program = self.twin(pauses)
             ways = Ways(program, self.source, way)
@@ -109,5 +129,5 @@ class Exploration:
                 schedule = ways.prepared(number)[1]
                 if any(one.key == finding.key for one in findings(program.replay(schedule))):
                     text = program.replay(Shrinker(program, finding.key).shrunk(schedule)).text
-                    return twin.events(text), text
+                    return Lanes(twin.events(text), text)
         return None

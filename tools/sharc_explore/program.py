@@ -10,48 +10,31 @@ LONGEST = 200000                    # events of a thread, the most that replay t
 Run = namedtuple("Run", "number status text")
 
 
-class Refused(Exception):
-    """What ends a tool: a line for standard error and the status."""
-
-    def __init__(self, line, status):
-        super().__init__(line)
-        self.status = status
-
-
-def sharc_path(given=None):
-    """The program named, else that of SHARC, else ./sharc of the repository, else the one on the path."""
-    beside = os.path.join(os.path.dirname(TOOLS), "sharc")
-    return given or os.environ.get("SHARC") or (beside if os.access(beside, os.X_OK) else "sharc")
-
-
-def preprocessor(path):
-    """What makes a source for sharc of a file .c: the front for pthread C if it is there and wanted, else gcc."""
-    front = os.path.join(TOOLS, "sharc-c")
-    with open(path, "rb") as file:
-        threads = re.search(rb"#[ \t]*include[ \t]*<pthread\.h>", file.read())
-    return [front] if threads and os.path.isfile(front) else ["gcc", "-E", "-DSHARC"]
+def sharc_path():
+    """The program that SHARC names, else ./sharc of the repository, else the one on the path."""
+    beside = os.path.join(".", os.path.relpath(os.path.join(os.path.dirname(TOOLS), "sharc")))
+    return os.environ.get("SHARC") or (beside if os.access(beside, os.X_OK) else "sharc")
 
 
 def read_source(path):
+    """A file .c goes through the front for pthread C if it is there and wanted, else through gcc."""
+    with open(path, "rb") as file:
+        source = file.read()
     if not path.endswith(".c"):
-        with open(path, "rb") as file:
-            return file.read()
-    try:
-        done = subprocess.run([*preprocessor(path), path], stdout=subprocess.PIPE, check=False)
-    except FileNotFoundError as error:
-        raise Refused(f"{error.filename} is needed for a file .c", 2) from error
-    if done.returncode:
-        raise Refused(f"{path} could not be preprocessed", 2)
-    return done.stdout
+        return source
+    front = os.path.join(TOOLS, "sharc-c")
+    wanted = re.search(rb"#[ \t]*include[ \t]*<pthread\.h>", source) and os.path.isfile(front)
+    words = [front, path] if wanted else ["gcc", "-E", "-DSHARC", path]
+    return subprocess.run(words, stdout=subprocess.PIPE, check=True).stdout
 
 
 class Program:
     """A source, and how it is run. A schedule is a list of pairs: a place among the threads that can go on, and for
     how many turns the thread at that place goes on."""
 
-    def __init__(self, source, sharc=None, granules=4096, events=100000):
+    def __init__(self, source, granules=4096, events=100000):
         self.source, self.granules, self.events = source, granules, events
-        self.sharc, self.turns, self.threads = sharc_path(sharc), 1000, 3
+        self.sharc, self.turns, self.threads = sharc_path(), 1000, 3
 
     def twin(self, source):
         """Another source that is run in the same way."""
@@ -60,11 +43,8 @@ class Program:
         return other
 
     def call(self, *words, data=None):
-        try:
-            done = subprocess.run([self.sharc, *map(str, words)], input=self.source if data is None else data,
-                                  stdout=subprocess.PIPE, check=False)
-        except OSError as error:
-            raise Refused(f"{self.sharc}: {error.strerror}", 2) from error
+        done = subprocess.run([self.sharc, *map(str, words)], input=self.source if data is None else data,
+                              stdout=subprocess.PIPE, check=False)
         return done.returncode, done.stdout.decode("latin-1")
 
     def check(self):
@@ -83,28 +63,18 @@ class Program:
     def replay(self, schedule, number=None, limit=None):
         return Run(number, *self.call("replay", data=self.file_of(schedule, limit=limit)))
 
-    def run_seed(self, seed, number):
-        words = ("--seed", seed, "--granules", self.granules, "--events", self.events)
-        return Run(number, *self.call("run", *words))
-
     def measure(self, threads):
         """Finds about how many turns a run has, the same each time. A run of a thread that waits in a loop has too
-        many, so the steps of the longest thread count as well."""
-        self.threads = threads
-        _, text = self.call("record", "--workers", 1, "--granules", self.granules,
-                            "--events", min(self.events, LONGEST))
+        many, so the steps of the longest thread count as well: the least limit that no thread reaches when all take
+        turns."""
+        self.threads, low, high = threads, 1, min(self.events, LONGEST)
+        _, text = self.call("record", "--workers", 1, "--granules", self.granules, "--events", high)
         recorded = text[text.rfind("\n%%schedule"):text.rfind("%%text\n")].splitlines()[2:]
-        turns = sum(int(line.split()[1]) for line in recorded)
-        self.turns = max(10, min(turns, threads * self._longest()))
-
-    def _longest(self):
-        """The least limit of events that no thread reaches when all take turns."""
-        low, high = 1, min(self.events, LONGEST)
         while low < high:
             middle = (low + high) // 2
-            reached = re.search(r"^thread \d+: made ", self.replay(in_turns(self.threads), limit=middle).text, re.M)
+            reached = re.search(r"^thread \d+: made ", self.replay(in_turns(threads), limit=middle).text, re.M)
             low, high = (middle + 1, high) if reached else (low, middle)
-        return low
+        self.turns = max(10, min(sum(int(line.split()[1]) for line in recorded), threads * low))
 
 
 def in_turns(threads):

@@ -31,56 +31,55 @@ def span_of(line, lvalue):
     return matches[0].span() if len(matches) == 1 else None
 
 
-def fix(fault, path):
-    """The suggested cast as a change of the file, if the file is there and the place in the line is certain."""
-    lvalue = fault.cast[len("SCAST("):-1].split(", ", 1)[1]
-    try:
-        with open(path(fault.place.file), encoding="utf-8", errors="replace") as file:
-            span = span_of(file.read().splitlines()[fault.place.line - 1], lvalue)
-    except (OSError, IndexError):
-        return []
-    if span is None:
-        return []
-    region = {"startLine": fault.place.line, "startColumn": span[0] + 1, "endColumn": span[1] + 1}
-    change = {"artifactLocation": {"uri": uri(path(fault.place.file))},
-              "replacements": [{"deletedRegion": region, "insertedContent": {"text": fault.cast}}]}
-    return [{"description": {"text": f"hand over by {fault.cast}"}, "artifactChanges": [change]}]
+class Report:
+    """Faults and findings of a program as SARIF."""
 
+    def __init__(self, exploration):
+        self.exploration = exploration
 
-def uri(path):
-    return os.path.relpath(path).replace(os.sep, "/") if not path.startswith("<") else path.strip("<>")
+    def artifact(self, place):
+        path = self.exploration.path if place.file == "input" else place.file
+        return {"uri": path.strip("<>") if path.startswith("<") else os.path.relpath(path).replace(os.sep, "/")}
 
+    def location(self, place):
+        region = {"startLine": max(1, place.line)}
+        return {"physicalLocation": {"artifactLocation": self.artifact(place), "region": region}}
 
-def location(place, path, number=None, text=None):
-    at = {"physicalLocation": {"artifactLocation": {"uri": uri(path(place.file))},
-                               "region": {"startLine": max(1, place.line)}}}
-    at |= {"id": number} if number is not None else {}
-    return at | ({"message": {"text": text}} if text else {})
+    def fixes(self, fault):
+        """The suggested cast as a change of the file, if the file is there and the place in the line is certain."""
+        try:
+            with open(self.artifact(fault.place)["uri"], encoding="utf-8", errors="replace") as file:
+                line = file.read().splitlines()[fault.place.line - 1]
+        except (OSError, IndexError):
+            line = ""
+        span = span_of(line, fault.cast[len("SCAST("):-1].split(", ", 1)[1]) if fault.cast else None
+        if span is None:
+            return []
+        region = {"startLine": fault.place.line, "startColumn": span[0] + 1, "endColumn": span[1] + 1}
+        change = {"artifactLocation": self.artifact(fault.place),
+                  "replacements": [{"deletedRegion": region, "insertedContent": {"text": fault.cast}}]}
+        return [{"description": {"text": f"hand over by {fault.cast}"}, "artifactChanges": [change]}]
 
+    def fault(self, fault):
+        return {"ruleId": fault.code, "level": "warning" if fault.code == "warning" else "error",
+                "message": {"text": fault.text + (f". Suggested: {fault.cast}" if fault.cast else "")},
+                "locations": [self.location(fault.place)], "relatedLocations": [], "fixes": self.fixes(fault)}
 
-def of_fault(fault, path):
-    text = fault.text + (f". Suggested: {fault.cast}" if fault.cast else "")
-    result = {"ruleId": fault.code, "level": "warning" if fault.code == "warning" else "error",
-              "message": {"text": text}, "locations": [location(fault.place, path)]}
-    fixes = fix(fault, path) if fault.cast else []
-    return result | ({"fixes": fixes} if fixes else {})
+    def finding(self, finding):
+        code, others = re.match(r"[AX]\d+", finding.title), list(enumerate(finding.places))[1:]
+        text = ". ".join([finding.title, *finding.steps, f"Seen {self.exploration.seen(finding)}"])
+        text += "".join(f" [{place}]({number})" for number, place in others)
+        other = {"race": "the other access", "order": "the other order"}.get(finding.kind, "waits here too")
+        return {"ruleId": code[0] if code else finding.kind, "level": "warning" if finding.kind == "order" else "error",
+                "message": {"text": text}, "locations": [self.location(place) for place in finding.places[:1]],
+                "relatedLocations": [self.location(place) | {"id": number, "message": {"text": other}}
+                                     for number, place in others], "fixes": []}
 
-
-def of_finding(finding, again, path):
-    rule = finding.title.split()[0] if re.match(r"[AX]\d", finding.title) else finding.kind
-    text = ". ".join([finding.title, *finding.steps, f"Seen in {finding.count} runs; again: {again}"])
-    others = finding.places[1:]
-    text += "".join(f" [{place}]({number})" for number, place in enumerate(others, 1))
-    result = {"ruleId": rule, "level": "error", "message": {"text": text},
-              "locations": [location(place, path) for place in finding.places[:1]]}
-    related = [location(place, path, number, "the other access" if finding.kind == "race" else "waits here too")
-               for number, place in enumerate(others, 1)]
-    return result | ({"relatedLocations": related} if related else {})
-
-
-def document(results):
-    rules = [{"id": rule, "shortDescription": {"text": f"{rule}: see docs/codes of SharC"}}
-             for rule in sorted({result["ruleId"] for result in results})]
-    return {"$schema": "https://json.schemastore.org/sarif-2.1.0.json", "version": "2.1.0",
-            "runs": [{"tool": {"driver": {"name": "SharC", "rules": rules}}, "columnKind": "unicodeCodePoints",
-                      "results": results}]}
+    def document(self):
+        results = [self.fault(fault) for fault in faults(self.exploration.checked)]
+        results += [self.finding(finding) for finding in self.exploration.findings()]
+        rules = [{"id": rule, "shortDescription": {"text": f"{rule}: see docs/codes of SharC"}}
+                 for rule in sorted({result["ruleId"] for result in results})]
+        return {"$schema": "https://json.schemastore.org/sarif-2.1.0.json", "version": "2.1.0",
+                "runs": [{"tool": {"driver": {"name": "SharC", "rules": rules}}, "columnKind": "unicodeCodePoints",
+                          "results": results}]}

@@ -1,11 +1,15 @@
-"""The interleavings that are tried: which way chooses run number N, and its schedule, the same each time."""
+"""The interleavings that are tried: which way chooses run number N, and its schedule, the same each time.
+
+In one of the ways a program has pauses: at some statements a thread goes round in an empty loop before it goes on. The
+loop touches nothing of the program, so what its threads do between the pauses the program's own threads can do."""
 import random
 
-from . import pauses
-from .program import LONGEST, Refused, in_turns
+from .program import LONGEST, in_turns
 
-CYCLE = ("walk", "pauses", "few", "pauses", "walk", "pauses", "sweep", "pauses", "walk", "seeds")
-SIMPLE = ("sweep", "few", "walk", "pauses", "seeds")    # what is kept of a finding's runs: few switches
+CYCLE = ("walk", "pauses", "few", "pauses", "walk", "pauses", "sweep", "pauses", "walk", "even")
+SIMPLE = ("sweep", "few", "walk", "pauses", "even")     # what is kept of a finding's runs: few switches
+BLOCKING = ("lock", "wait", "join")
+ROUND, FRAME = 10, 18               # turns of one time round the loop of a pause, and of what stands around it
 
 
 class Ways:
@@ -27,25 +31,24 @@ class Ways:
     def prepared(self, number):
         """The program that a run is made of, with pauses or as it is, its schedule, and the pauses."""
         way, index = self.way(number)
-        if way == "seeds":
-            raise Refused(f"run {number} is that of sharc run --seed {index}", 8)
         draw, turns, threads = random.Random(f"{way} {index}"), self.program.turns, self.program.threads
-        if way == "pauses":
-            chosen = pauses.drawn(draw, self.source, turns, self.program.events)
-            return self.paused(chosen), stretches(draw, turns, threads, turns // 4) + in_turns(threads), chosen
-        lines = {"walk": walk, "few": few}.get(way)
-        lines = lines(draw, turns, threads) if lines else one_switch(index, turns, threads)
-        return self.program, lines + in_turns(threads), []
+        pauses = drawn(draw, self.source, turns, self.program.events) if way == "pauses" else []
+        schedule = {"walk": lambda: stretches(draw, 2 * turns, threads, turns),
+                    "pauses": lambda: stretches(draw, turns, threads, max(1, turns // 4)),
+                    "even": lambda: [(place, 1) for place in draw.choices(range(threads), k=min(2 * turns, 20000))],
+                    "few": lambda: few(draw, turns, threads),
+                    "sweep": lambda: one_switch(index, turns, threads)}[way]()
+        return self.paused(pauses) if pauses else self.program, schedule + in_turns(threads), pauses
 
-    def paused(self, chosen):
-        twin = self.program.twin(pauses.paused(self.source, chosen).encode("latin-1"))
+    def paused(self, pauses):
+        """The program with pauses."""
+        parts, counters = loops(pauses)
+        text = self.source.written(self.source.around({number: (part, "") for number, part in parts.items()}))
+        twin = self.program.twin((text + counters).encode("latin-1"))
         twin.events = LONGEST
         return twin
 
     def run(self, number):
-        way, index = self.way(number)
-        if way == "seeds":
-            return self.program.run_seed(index, number)
         program, schedule, _ = self.prepared(number)
         return program.replay(schedule, number)
 
@@ -63,10 +66,6 @@ def stretches(draw, turns, threads, longest):
     return schedule
 
 
-def walk(draw, turns, threads):
-    return stretches(draw, 2 * turns, threads, turns)
-
-
 def few(draw, turns, threads):
     """One to five switches at places drawn evenly from the whole run, after PCT (Burckhardt and others, 2010)."""
     cuts = sorted(draw.randint(1, turns) for _ in range(draw.randint(1, 5)))
@@ -82,3 +81,27 @@ def one_switch(number, turns, threads):
     stride = next(step for step in (7919, 7907, 7901) if turns % step)
     first, second = pairs[pair]
     return [(first, 1 + at * stride % turns), (second, turns)]
+
+
+def drawn(draw, source, turns, limit):
+    """Pauses for a run, each of (statement, how many times, how often round): at some places where threads wait, or at
+    one to three statements of any kind."""
+    statements = [one for one in source.statements if one.text != ";"]
+    blocking = [one for one in statements if one.kind in BLOCKING]
+    if blocking and draw.random() < 0.4:
+        chosen, times = [one for one in blocking if draw.random() < 0.5], 4
+    else:
+        chosen, times = draw.sample(statements, min(draw.randint(1, 3), len(statements))), draw.choice([1, 1, 2, 8])
+    longest = min(2 * turns, limit // 4 // (times * max(1, len(chosen))))
+    return [(one, times, max(1, int(longest * 2 ** -draw.choice([0, 0, 1, 3])) // ROUND)) for one in chosen]
+
+
+def loops(pauses):
+    """What stands before each statement with a pause, by its number, and the counters."""
+    parts, counters = {}, "\n"
+    for statement, times, rounds in pauses:
+        name = f"paused_{statement.number}_sharc"
+        loop = f"for (int i_sharc = 0; i_sharc < {rounds}; i_sharc = i_sharc + 1) ;"
+        parts[statement.number] = f"if ({name} < {times}) {{ {name} = {name} + 1; {loop} }} "
+        counters += f"int racy {name};\n"
+    return parts, counters

@@ -2,19 +2,21 @@
 import itertools
 
 from .findings import findings
-from .pauses import cost
-from .program import in_turns
+from .schedules import FRAME, ROUND
 
 
 def joined(schedule):
     """The same schedule, one line where the same place goes on."""
-    out = []
-    for place, turns in schedule:
-        if out and out[-1][0] == place:
-            out[-1] = (place, out[-1][1] + turns)
-        elif turns:
-            out.append((place, turns))
-    return out
+    lines = itertools.groupby((line for line in schedule if line[1]), key=lambda line: line[0])
+    return [(place, sum(turns for _, turns in same)) for place, same in lines]
+
+
+def without(schedule, first, size):
+    """A schedule without some lines: their turns are dropped, or go to the line before."""
+    before, out, behind = schedule[:first], schedule[first:first + size], schedule[first + size:]
+    yield joined(before + behind)
+    if before:
+        yield joined(before + [(before[-1][0], turns) for _, turns in out] + behind)
 
 
 class Shrinker:
@@ -28,39 +30,27 @@ class Shrinker:
         return self.budget >= 0 and any(found.key == self.key for found in findings(self.program.replay(schedule)))
 
     def shrunk(self, schedule):
-        tail = in_turns(self.program.threads)
-        if schedule[-len(tail):] == tail and self.shows(schedule[:-len(tail)]):
-            schedule = schedule[:-len(tail)]
         return self._fewer_turns(self._fewer_lines(joined(schedule)))
 
     def _fewer_lines(self, schedule):
-        step = max(1, len(schedule) // 2)
-        while step and self.budget > 0:
-            shorter = self._without(schedule, step)
-            step = step if step == 1 and len(shorter) < len(schedule) else step // 2
-            schedule = shorter
-        return schedule
-
-    def _without(self, schedule, step):
-        """Leaves out so many lines wherever they are not needed: their turns are dropped, or go to the line before."""
-        first = 0
-        while first < len(schedule) and self.budget > 0:
-            before, out, behind = schedule[:first], schedule[first:first + step], schedule[first + step:]
-            turns = sum(turns for _, turns in out)
-            given = [joined(before[:-1] + [(before[-1][0], before[-1][1] + turns)] + behind)] if before else []
-            shorter = next((lines for lines in [joined(before + behind)] + given if self.shows(lines)), None)
-            schedule, first = (schedule, first + step) if shorter is None else (shorter, first)
+        """Leaves out lines wherever they are not needed, first many at once, and single ones until all are needed."""
+        size, first, length = max(1, len(schedule) // 2), 0, len(schedule)
+        while size and self.budget > 0:
+            shorter = next(filter(self.shows, without(schedule, first, size)), None)
+            schedule, first = (schedule, first + size) if shorter is None else (shorter, first)
+            if first >= len(schedule):
+                again = size == 1 and len(schedule) < length
+                size, first, length = size if again else size // 2, 0, len(schedule)
         return schedule
 
     def _fewer_turns(self, schedule):
         """Halves the turns of each line as often as the finding stays, and then looks for the least."""
         for at, (place, turns) in enumerate(schedule):
-            low, high = 0, turns
-            while high - low > 1 and self.budget > 0:
-                middle = (low + high) // 2
-                shows = self.shows(schedule[:at] + [(place, middle)] + schedule[at + 1:])
-                low, high = (low, middle) if shows else (middle, high)
-            schedule = schedule[:at] + [(place, high)] + schedule[at + 1:]
+            low = 0
+            while turns - low > 1 and self.budget > 0:
+                middle = (low + turns) // 2
+                shorter = schedule[:at] + [(place, middle)] + schedule[at + 1:]
+                schedule, low, turns = (shorter, low, middle) if self.shows(shorter) else (schedule, middle, turns)
         return schedule
 
 
@@ -72,31 +62,26 @@ def needed(ways, key, schedule, pauses):
     return pauses
 
 
-def without_pauses(program, key, schedule, pauses, tries=150):
+def without_pauses(shrinker, schedule, pauses):
     """A schedule of the program itself, made of one that shows the finding with pauses: it needs fewer turns, by those
     of the pauses that a line went through."""
-    shrinker = Shrinker(program, key, tries)
-    less = sorted({times * cost(pause) for pause in pauses for times in range(pause[1] + 1)})[:5]
-    cuts = sorted(itertools.product(less, repeat=len(schedule)), key=sum) if len(schedule) < 6 else []
-    cuts = cuts or [[0] * len(schedule)]
+    less = {times * (rounds * ROUND + FRAME) for _, most, rounds in pauses for times in range(most + 1)}
+    less = sorted(less)[:5] if len(schedule) < 6 else [0]
+    cuts = sorted(itertools.product(less, repeat=len(schedule)), key=sum)
     tried = ([(place, turns - cut) for (place, turns), cut in zip(schedule, each)] for each in cuts)
     return next((lines for lines in tried if all(turns > 0 for _, turns in lines) and shrinker.shows(lines)), None)
 
 
 def shortest(ways, finding, tries=20):
-    """A program, as it is if a schedule of it is found, else with pauses; a short schedule that shows the finding; and
-    the pauses. From the runs that showed it, or new ones if only seeds did."""
-    shown, best = [number for number in finding.numbers if ways.way(number)[0] != "seeds"], None
-    more = (number for number in range(300) if ways.way(number)[0] != "seeds"
-            and any(one.key == finding.key for one in findings(ways.run(number))))
-    for number in sorted(shown, key=ways.rank)[:tries] or more:
+    """A short schedule of the program itself that shows the finding, or None. It is made of the simplest runs that
+    showed it: those with pauses are tried with fewer, and then without."""
+    for number in sorted(finding.numbers, key=ways.rank)[:tries]:
         program, schedule, pauses = ways.prepared(number)
         pauses = needed(ways, finding.key, schedule, pauses)
         program = ways.paused(pauses) if pauses else ways.program
         schedule = Shrinker(program, finding.key).shrunk(schedule)
-        best = best or (program, schedule, pauses)
         if pauses:
-            schedule = without_pauses(ways.program, finding.key, schedule, pauses)
+            schedule = without_pauses(Shrinker(ways.program, finding.key, 150), schedule, pauses)
         if schedule is not None:
-            return ways.program, Shrinker(ways.program, finding.key).shrunk(schedule), []
-    return best
+            return Shrinker(ways.program, finding.key).shrunk(schedule)
+    return None

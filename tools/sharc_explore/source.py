@@ -4,26 +4,38 @@ from collections import namedtuple
 
 from .findings import Place
 
-TOKEN = re.compile(r"^[ \t]*#[ \t]*(?P<at>\d+)[ \t]*\"(?P<name>[^\"\n]*)\".*$|(?P<end>\n)|[ \t\r\f\v]+"
-                   r"|(?P<word>'(?:\\.|[^'])'|\w+|->|&&|\|\||[=!<>]=|<<|>>|.)", re.M)
+MARKER = re.compile(r'[ \t]*#[ \t]*(\d+)[ \t]*"([^"]*)"')
+TOKEN = re.compile(r"'(?:\\.|[^'])'|\w+|->|&&|\|\||[=!<>]=|<<|>>|\S")
 KINDS = ("lock", "unlock", "wait", "join", "signal", "broadcast", "spawn", "SCAST", "free", "print", "return")
 DEPTH = {"(": 1, "{": 1, "[": 1, ")": -1, "}": -1, "]": -1}
 Token = namedtuple("Token", "text start end place")
 Function = namedtuple("Function", "name first named body last")           # numbers of tokens; last is the brace
-# head: the tokens of a statement, or of what stands before its parts; alone: it is in no block, so needs braces
-Statement = namedtuple("Statement", "number kind function place text head last alone")
+# first, last: its tokens, by number; alone: it is in no block, so a text beside it needs braces
+Statement = namedtuple("Statement", "number kind function place text first last alone")
+
+
+def lines_of(text):
+    """Each line but for markers: its place, where it starts, and its text."""
+    file, number, start = "input", 1, 0
+    for line in text.split("\n"):
+        marker = MARKER.match(line)
+        if marker:
+            file, number = marker[2], int(marker[1])
+        else:
+            yield Place(file, number), start, line
+            number += 1
+        start += len(line) + 1
 
 
 def tokens_of(text):
-    file, line, out = "input", 1, []
-    for match in TOKEN.finditer(text):
-        if match["at"]:
-            file, line = match["name"], int(match["at"]) - 1
-        elif match["end"]:
-            line += 1
-        elif match["word"]:
-            out.append(Token(match["word"], match.start(), match.end(), Place(file, line)))
-    return out
+    return [Token(match[0], start + match.start(), start + match.end(), place)
+            for place, start, line in lines_of(text) for match in TOKEN.finditer(line)]
+
+
+def lock_of(statement):
+    """The mutex that a statement locks, unlocks or waits with, as written."""
+    match = re.search(r"lock\s*\(\s*&\s*(.*)\)|wait\s*\(.*,\s*(.*)\)", statement.text)
+    return (match[1] or f"*{match[2]}") if match else statement.text
 
 
 class Source:
@@ -31,17 +43,11 @@ class Source:
 
     def __init__(self, text):
         self.text, self.tokens, self.statements = text, tokens_of(text), []
-        self.ends, self.function = {}, ""                    # of each function the statement of its last brace
         self.functions = {function.name: function for function in self._functions()}
-        for self.function, function in self.functions.items():
-            self._block(function.body)
-            number = self._note("end", (function.last, function.last), function.last, False)
-            self.ends[self.function] = self.statements[number]
-
-    def text_of(self, first, behind):
-        """Tokens as one line."""
-        return re.sub(r"\s+", " ", re.sub(r"(?m)^[ \t]*#.*$", "", self.text[self.tokens[first].start:
-                                                                            self.tokens[behind - 1].end]))
+        for name, function in self.functions.items():
+            self._block(function.body, name)
+            number, last, place = len(self.statements), function.last, self.tokens[function.last].place
+            self.statements.append(Statement(number, "end", name, place, "", last, last, False))
 
     def close(self, at):
         """Behind the bracket that closes the one at this token."""
@@ -66,7 +72,7 @@ class Source:
         starts, ends = [], []
         for number in sorted(parts):
             statement, (before, behind) = self.statements[number], parts[number]
-            start, end = self.tokens[statement.head[0]].start, self.tokens[statement.last].end
+            start, end = self.tokens[statement.first].start, self.tokens[statement.last].end
             starts.append((start, start, "{ " * statement.alone + before))
             if behind or statement.alone:
                 ends.insert(0, (end, end, behind + " }" * statement.alone))
@@ -85,37 +91,32 @@ class Source:
                 first = behind
             at = behind
 
-    def _block(self, at):
+    def _block(self, at, function):
         """The statements of a block; behind it."""
         last = self.close(at) - 1
         at += 1
         while at < last:
-            at = self._statement(at, False)
+            at = self._statement(at, function, False)
         return last + 1
 
-    def _statement(self, at, alone):
+    def _statement(self, at, function, alone):
         """Notes the statement at this token and its parts; behind it."""
-        word = self.tokens[at].text
+        word, number, head = self.tokens[at].text, len(self.statements), at
         if word == "{":
-            return self._block(at)
-        number = self._note(word, (at, at), at, alone)
+            return self._block(at, function)
+        self.statements.append(None)
         if word in ("if", "while", "for"):
             kind, head = word, self.close(at + 1)
-            behind = self._statement(head, True)
+            behind = self._statement(head, function, True)
             if word == "if" and self.tokens[behind].text == "else":
-                behind = self._statement(behind + 1, True)
+                behind = self._statement(behind + 1, function, True)
         else:
-            head = at
             while self.tokens[head].text != ";":
                 head = self.close(head) if self.tokens[head].text in "([" else head + 1
-            words = {self.tokens[i].text for i in range(at, head) if self.tokens[i + 1].text == "("} | {word}
-            kind = next((kind for kind in KINDS if kind in words), "step")
+            called = {self.tokens[i].text for i in range(at, head) if self.tokens[i + 1].text == "("}
+            kind = next((kind for kind in KINDS if kind in called | {word}), "step")
             behind = head + 1
-        self.statements[number] = self.statements[number]._replace(kind=kind, text=self.text_of(at, max(head, at + 1)),
-                                                                   head=(at, head), last=behind - 1)
+        text = self.text[self.tokens[at].start:self.tokens[max(head - 1, at)].end]
+        text, place = re.sub(r"\s+(#.*\s+)*", " ", text), self.tokens[at].place
+        self.statements[number] = Statement(number, kind, function, place, text, at, behind - 1, alone)
         return behind
-
-    def _note(self, kind, head, last, alone):
-        number, place = len(self.statements), self.tokens[head[0]].place
-        self.statements.append(Statement(number, kind, self.function, place, "", head, last, alone))
-        return number

@@ -2,16 +2,15 @@
 
 sharc writes no trace of a run, so pictures, the lines that were reached and the number of threads come from what the
 twin prints. The prints touch nothing of the program: what the twin's threads do between them, in that order, the
-program's own threads can do. A program that tells the events of a recorded run would take the place of this module."""
-import re
+program's own threads can do."""
 from collections import namedtuple
 
-from . import pauses
 from .findings import BASE, parse
+from .schedules import BLOCKING, loops
+from .source import Statement
 
 LANE = 1 << 24                        # numbers of one thread: first those of sites, then of spawns
 SPAWNED, PRINTED = 1 << 23, LANE - 1
-PASSED = ("lock", "wait", "join")
 Site = namedtuple("Site", "kind statement spawn")           # kind: that of the statement, or start, passed
 Event = namedtuple("Event", "lane kind statement value")    # value: what was printed; of spawned and start, see below
 HELPERS = f"""
@@ -32,7 +31,7 @@ class Twin:
     def __init__(self, source, paused=()):
         self.source, self.sites = source, []
         self.spawns = [at for at, token in enumerate(source.tokens) if token.text == "spawn"]
-        self.loops, self.counters = pauses.loops(paused)
+        self.loops, self.counters = loops(paused)
 
     def text(self):
         source = self.source
@@ -57,7 +56,7 @@ class Twin:
 
     def _traces(self, statement):
         before = self.loops.get(statement.number, "") + self._print(statement.kind, statement)
-        return before, " " + self._print("passed", statement) if statement.kind in PASSED else ""
+        return before, " " + self._print("passed", statement) if statement.kind in BLOCKING else ""
 
     def _calls(self):
         """Calls hand the thread's mark on, spawns start the copy that is theirs, prints are told."""
@@ -84,7 +83,7 @@ class Twin:
         yield [(first.start, first.end if none else first.start, "long me_sharc" + ("" if none else ", "))]
         for which, at in enumerate(self.spawns):
             if tokens[at + 2].text == function.name:
-                begin = self.source.ends[function.name]._replace(kind="start", place=tokens[function.named].place)
+                begin = Statement(None, "start", function.name, tokens[function.named].place, "", None, None, False)
                 self.sites.append(Site("start", begin, which))
                 named = tokens[function.named].end
                 yield [(named, named, f"_sharc_{which}"), (body, body, BEGIN % (len(self.sites) - 1))]
