@@ -17,6 +17,7 @@ use sharc_code::{At, Cell, Shape, Stage};
 use sharc_word::{Port, WordOp, WordStep};
 
 /// Whether one mutex more may be held.
+#[inline(always)]
 pub(crate) fn has_room(parts: &Parts) -> bool
     ensures { result ≡ nat_lt (length parts.now.held) 16 }
 {
