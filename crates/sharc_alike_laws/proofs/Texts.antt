@@ -1,5 +1,6 @@
 -- Codes that are alike report a run in the same words.
 use Rattle.std.proofs.Common.{◌≡◌, ℕ, ◌-◌, cond, List, [], ◌++◌, codes, decimal, slice_index, flat_map, get_or, Option, Some, None, refl, ap, ◌∙◌}
+use Rattle.sharc_tree.specs.Traps.{trap_number}
 use Rattle.sharc_shadow.specs.declared.shadow_word.Kind.{Kind}
 use Rattle.sharc_code.specs.declared.code.Code.{Code}
 use Rattle.sharc_code.specs.declared.code.Use.{Use}
@@ -39,7 +40,7 @@ module _ (a b : Code) (alike : AreAlike a b) where
       ap2 (λ (u : Use) x. codes "A3 " ++ of_use u ++ x ++ codes " without lock " ++ lock_path a site) (alike.sites site).at (lvalue_same site)
       ∙ ap (λ x. codes "A3 " ++ of_use (place_at b site).at ++ lvalue_at b site ++ codes " without lock " ++ x) (alike.sites site).lock
   stop_same threads thread (NotSole site count) = ap2 (λ (u : Use) x. of_taking u ++ x ++ codes " with " ++ decimal count ++ codes " references") (alike.sites site).at (lvalue_same site)
-  stop_same threads thread (Trap number site) = ap (λ x. codes "X" ++ decimal number ++ codes " " ++ trap_words number ++ x) (at_same site)
+  stop_same threads thread (Trap trap site) = ap (λ x. codes "X" ++ decimal (trap_number trap) ++ codes " " ++ trap_words trap ++ x) (at_same site)
 
   -- ---- threads
   wait_text_same : (words : List ℕ) (wait : Wait) → wait_text a words wait ≡ wait_text b words wait

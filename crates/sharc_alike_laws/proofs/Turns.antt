@@ -1,6 +1,7 @@
 -- The turns of one machine by codes that are alike, and its path.
 use Rattle.std.proofs.Common.{◌≡◌, ℕ, ◌*◌, ◌+◌, ◌-◌, ◌/◌, ◌%◌, ◌&&◌, ◌==◌, not, pos, max, true, cond, List, [], ◌∷◌, length, get_or, replicate, nat_lt, nat_le, slice_index, ℤ, Some, None, refl, sym, ap, ◌∙◌, subst}
 use Rattle.std.specs.List.{range_with_len}
+use Rattle.sharc_tree.specs.declared.trap.Trap.TheVariants as traps
 use Rattle.sharc_word.specs.declared.step.WordOp.TheVariants as ops
 use Rattle.sharc_code.specs.declared.code.Code.{Code}
 use Rattle.sharc_code.specs.declared.code.Function.{Function}
@@ -42,7 +43,7 @@ module _ (a b : Code) (alike : AreAlike a b) where
   module _ (s : Shape) where
     returned_same : (m : Machine) (site : ℕ) → returned a m site ≡ returned b m site
     returned_same m site = ap (λ (is : List Instr). cond (m.at.depth == 0) (goes_to m (length is))
-        (cond (m.at.depth == 1 && not (holds_none m.own.held)) (trapped m 11 site) (back_to m (m.at.depth - 1) (get_or m.frames (m.at.depth - 1) no_frame)))) alike.instrs
+        (cond (m.at.depth == 1 && not (holds_none m.own.held)) (trapped m traps.ReturnWithLockHeld site) (back_to m (m.at.depth - 1) (get_or m.frames (m.at.depth - 1) no_frame)))) alike.instrs
 
     pointer_same : (l : Layout) (i : ℕ) → pointer_cell a l i ≡ pointer_cell b l i
     pointer_same l i = ap (λ (ps : List ℕ). field_of (i / fields l) l.cells (slice_index ps (l.from + i % fields l))) alike.pointers

@@ -6,6 +6,7 @@ use Rattle.std.specs.Borrow.{Bor}
 use Rattle.sharc_tree.specs.declared.token.Site.{Site}
 use Rattle.sharc_tree.specs.declared.tree.declaration.Declaration.{Declaration}
 use Rattle.sharc_tree.specs.declared.tree.expression.Expr.{Expr}
+use Rattle.sharc_tree.specs.declared.trap.Trap.TheVariants as traps
 use Rattle.sharc_tree.specs.Tree.{Function, Expression, Arguments, no_arguments, argument}
 use Rattle.sharc_tree.specs.View.{view_expr, view_arguments, view_function}
 use Rattle.sharc_names.specs.Kinds.{Kind, declared_kind, declared_kinds}
@@ -148,9 +149,9 @@ call_moves m n f site vs mark g k k1 stack stack0 stack1 r some there top h = λ
 pub call_none_is : (m : Assignment) (n f : ℕ) (site : Site) (vs : List ℤ) → (n ≡ 0 → ⊥) → function_at m.typed f ≡ None → calls m n f site vs ≡ give (pos 0)
 call_none_is m n f site vs some none = call_is m n f site vs some ∙ ap (λ o. call_value (calls m (n - 1)) m o vs) none
 
-pub call_stops_moves : (m : Assignment) (n f : ℕ) (site : Site) (vs : List ℤ) (mark : ℕ) (k : Known) (stack stack1 : List Left) → n ≡ 0 → Moves m k stack (Err (ends.Stopped 10 site)) k stack1 (gives number (ends_above mark (calls m n f site vs)))
+pub call_stops_moves : (m : Assignment) (n f : ℕ) (site : Site) (vs : List ℤ) (mark : ℕ) (k : Known) (stack stack1 : List Left) → n ≡ 0 → Moves m k stack (Err (ends.Stopped traps.CallDepth site)) k stack1 (gives number (ends_above mark (calls m n f site vs)))
 call_stops_moves m n f site vs mark k stack stack1 none =
-    subst (λ z. Moves m k stack (Err (ends.Stopped 10 site)) k stack1 (gives number (ends_above mark (calls m z f site vs)))) (sym none) (λ s behind is stands. record { outcome = _; state = s; is = refl; ends_so = refl; looks = is })
+    subst (λ z. Moves m k stack (Err (ends.Stopped traps.CallDepth site)) k stack1 (gives number (ends_above mark (calls m z f site vs)))) (sym none) (λ s behind is stands. record { outcome = _; state = s; is = refl; ends_so = refl; looks = is })
 
 -- ---- arguments
 

@@ -10,9 +10,10 @@ use Rattle.sharc_meaning.specs.Cells.{element_cells, instance_mode}
 use Rattle.sharc_tree.specs.Spans.{span_of}
 use Rattle.sharc_tree.specs.Tree.{Expression}
 use Rattle.sharc_tree.specs.declared.token.Site.{Site}
+use Rattle.sharc_tree.specs.declared.trap.Trap.TheVariants as traps
 use Rattle.sharc_names.specs.Kinds.{Kind, declared_kind}
 use Rattle.sharc_ctype.specs.Resolved.{Resolution, kind_at}
-use Rattle.sharc_meaning.specs.Arithmetic.{fits, out_of_range, size_not_positive}
+use Rattle.sharc_meaning.specs.Arithmetic.{fits}
 use Rattle.sharc_meaning.specs.Expressions.{fitting, operand}
 use Rattle.sharc_meaning.specs.State.{Run, Step, then_on, ◌>>=◌, ◌>>◌, give, unless_stop, holds, answered, looks_at, value_of, value_in}
 use Rattle.sharc_meaning.specs.Statements.{returned, is_positive}
@@ -24,7 +25,7 @@ use Rattle.sharc_ask.specs.Plans.{returned_with}
 use Rattle.sharc_ask.proofs.Steps.{over_then, over_then_as}
 
 abbrev test_of : Site → Bool → Step
-test_of at b = unless_stop b out_of_range at
+test_of at b = unless_stop b traps.OutOfRange at
 
 pub fitted_goes : (k k1 : Known) (r : Resolution) (kind : Kind) (e : Expression) (x x1 : ℤ) (b : Bool) (at : Site) (u : Unit {0}) (result : Result ℤ End) → b ≡ fits kind x → at ≡ (span_of e).first → x1 ≡ x → Does k (Ok u) k (test_of at b) → Does k result k1 (operand r e (give x1))
     → Does k result k1 (operand r e (fitting kind e (give x)))
@@ -56,10 +57,10 @@ returned_over k kind site e x b at end eb ea h =
 
 -- a new object
 pub made_goes : (k k1 : Known) (r : Resolution) (site : Site) (target : Sharing) (x : ℤ) (w : WrittenType) (b : Bool) (u : Unit {0}) (cells n : ℕ) (mode : CellMode) (result : Result ℤ End)
-    → b ≡ is_positive x → cells ≡ element_cells r (declared_kind w) → n ≡ unsigned_abs x → mode ≡ instance_mode r (value_in k.variables) target → Does k (Ok u) k (unless_stop b size_not_positive site) → Does k result k1 (answered site (acts.New cells n mode))
+    → b ≡ is_positive x → cells ≡ element_cells r (declared_kind w) → n ≡ unsigned_abs x → mode ≡ instance_mode r (value_in k.variables) target → Does k (Ok u) k (unless_stop b traps.SizeNotPositive site) → Does k result k1 (answered site (acts.New cells n mode))
     → Does k result k1 (made r site target x w)
 made_goes k k1 r site target x w b u cells n mode result eb ec en em h later = λ s is.
-    let g : Does k (Ok u) k (unless_stop (is_positive x) size_not_positive site) = subst (λ z. Does k (Ok u) k (unless_stop z size_not_positive site)) eb h in
+    let g : Does k (Ok u) k (unless_stop (is_positive x) traps.SizeNotPositive site) = subst (λ z. Does k (Ok u) k (unless_stop z traps.SizeNotPositive site)) eb h in
     let a = g s is in
     let rest : Run ℤ = looks_at value_of >>= (λ held. answered site (acts.New (element_cells r (declared_kind w)) (unsigned_abs x) (instance_mode r held target))) in
     let same : mode ≡ instance_mode r (value_of a.state) target = em ∙ ap (λ (z : Known). instance_mode r (value_in z.variables) target) (sym a.looks) in

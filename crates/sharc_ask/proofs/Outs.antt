@@ -37,13 +37,13 @@ over_same e k a A b same w = record { outcome = w.outcome; state = w.state; is =
 pub plan_over : {A : Type 0} (on_call : Calls) (m : Assignment) (e : End) (k : Known) (a : Out Value) (b : Out A) → ((o : Outcome) (t : State) → b ≡ over o t → a ≡ over o t) → Ends {A = A} (Err e) k b → PlanEnds on_call m (Err e) k a
 plan_over {A} on_call m ends.Memory k a b same h = tt
 plan_over {A} on_call m (ends.Wants x) k a b same h = over_same (ends.Wants x) k a A b same h
-plan_over {A} on_call m (ends.Stopped code site) k a b same h = over_same (ends.Stopped code site) k a A b same h
+plan_over {A} on_call m (ends.Stopped trap site) k a b same h = over_same (ends.Stopped trap site) k a A b same h
 plan_over {A} on_call m ends.Spent k a b same h = over_same ends.Spent k a A b same h
 
 pub plan_over_as : {A C : Type 0} (v : C → A) (on_call : Calls) (m : Assignment) (e : End) (k : Known) (a : Out Value) (b : Out A) → ((o : Outcome) (t : State) → b ≡ over o t → a ≡ over o t) → EndsAs v (Err e) k b → PlanEnds on_call m (Err e) k a
 plan_over_as {A} v on_call m ends.Memory k a b same h = tt
 plan_over_as {A} v on_call m (ends.Wants x) k a b same h = over_same (ends.Wants x) k a A b same h
-plan_over_as {A} v on_call m (ends.Stopped code site) k a b same h = over_same (ends.Stopped code site) k a A b same h
+plan_over_as {A} v on_call m (ends.Stopped trap site) k a b same h = over_same (ends.Stopped trap site) k a A b same h
 plan_over_as {A} v on_call m ends.Spent k a b same h = over_same ends.Spent k a A b same h
 
 -- a step that comes first, and a plan after it

@@ -43,7 +43,7 @@ over_from e k out G same w = record { outcome = w.outcome; state = w.state; is =
 pub reached_from : {A : Type 0} (m : Assignment) (e : End) (k : Known) (stack : List Left) (out : Out A) (G : Out A → Out Value) → ((o : Outcome) (t : State) → G (over o t) ≡ over o t) → Ends {A = A} (Err e) k out → Reached m (Err e) stack k (G out)
 reached_from m ends.Memory k stack out G same h = tt
 reached_from m (ends.Wants x) k stack out G same h = over_from (ends.Wants x) k out G same h
-reached_from m (ends.Stopped code site) k stack out G same h = over_from (ends.Stopped code site) k out G same h
+reached_from m (ends.Stopped trap site) k stack out G same h = over_from (ends.Stopped trap site) k out G same h
 reached_from m ends.Spent k stack out G same h = over_from ends.Spent k out G same h
 
 -- ---- plans
@@ -56,7 +56,7 @@ plan_moves m n k k1 p stack run h = λ s behind is stands.
 pub plan_reached : (on_call : Calls) (m : Assignment) (e : End) (k : Known) (stack : List Left) (out : Out Value) (f : Behind) → PlanEnds on_call m (Err e) k out → Reached m (Err e) stack k (then_on out f)
 plan_reached on_call m ends.Memory k stack out f h = tt
 plan_reached on_call m (ends.Wants x) k stack out f h = over_bound (ends.Wants x) k out f h
-plan_reached on_call m (ends.Stopped code site) k stack out f h = over_bound (ends.Stopped code site) k out f h
+plan_reached on_call m (ends.Stopped trap site) k stack out f h = over_bound (ends.Stopped trap site) k out f h
 plan_reached on_call m ends.Spent k stack out f h = over_bound ends.Spent k out f h
 
 pub plan_ends : (on_call : Calls) (m : Assignment) (k k1 : Known) (e : End) (stack stack1 : List Left) (run : Run Value) → Plans on_call m k (Err e) k1 run → Moves m k stack (Err e) k1 stack1 run
@@ -131,7 +131,7 @@ whole_steps m at v k stack stack1 done empty =
 step_over : (m : Assignment) (e : End) (k : Known) (stack : List Left) (out : Out Value) → Reached m (Err e) stack k out → StepEnds m (Err e) stack k out
 step_over m ends.Memory k stack out h = tt
 step_over m (ends.Wants x) k stack out h = h
-step_over m (ends.Stopped code site) k stack out h = h
+step_over m (ends.Stopped trap site) k stack out h = h
 step_over m ends.Spent k stack out h = h
 
 pub step_ends : (m : Assignment) (k k1 : Known) (e : End) (stack stack1 : List Left) (run : Run Value) → Moves m k stack (Err e) k1 stack1 run → Steps m k stack (Err e) k1 stack1 run
@@ -145,7 +145,7 @@ step_on m at next k k1 k2 stack stack1 r h later = λ s behind is stands.
 come_over : (m : Assignment) (e : End) (k : Known) (stack : List Left) (out : Out Value) → StepEnds m (Err e) stack k out → EndsAs view_value (Err e) k out
 come_over m ends.Memory k stack out h = tt
 come_over m (ends.Wants x) k stack out h = h
-come_over m (ends.Stopped code site) k stack out h = h
+come_over m (ends.Stopped trap site) k stack out h = h
 come_over m ends.Spent k stack out h = h
 
 pub comes_whole : (m : Assignment) (at : At) (k k1 : Known) (stack stack1 : List Left) (v : RustValue) → Steps m k stack (Ok (stepped.Whole v)) k1 stack1 (at_means m at) → Comes m at stack k (Ok v) k1
@@ -164,7 +164,7 @@ whole_does m at k k1 k2 stack r run h later = λ s is.
 reached_as : (m : Assignment) (e : End) (k : Known) (stack : List Left) (out : Out Value) → Reached m (Err e) stack k (then_on out (λ v. give v)) → EndsAs view_value (Err e) k out
 reached_as m ends.Memory k stack out h = tt
 reached_as m (ends.Wants x) k stack out h = subst (EndsAs view_value (Err (ends.Wants x)) k) (sym (out_given out)) h
-reached_as m (ends.Stopped code site) k stack out h = subst (EndsAs view_value (Err (ends.Stopped code site)) k) (sym (out_given out)) h
+reached_as m (ends.Stopped trap site) k stack out h = subst (EndsAs view_value (Err (ends.Stopped trap site)) k) (sym (out_given out)) h
 reached_as m ends.Spent k stack out h = subst (EndsAs view_value (Err ends.Spent) k) (sym (out_given out)) h
 
 pub whole_over : (m : Assignment) (k k1 : Known) (stack : List Left) (e : End) (run : Run Value) → Moves m k [] (Err e) k1 stack run → DoesAs view_value k (Err e) k1 run

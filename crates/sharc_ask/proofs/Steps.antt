@@ -50,13 +50,13 @@ over_same e k a b same w = record { outcome = w.outcome; state = w.state; is = s
 pub ends_same : {A B : Type 0} (e : End) (k : Known) (a : Out A) (b : Out B) → ((o : Outcome) (t : State) → a ≡ over o t → b ≡ over o t) → Ends {A = A} (Err e) k a → Ends {A = B} (Err e) k b
 ends_same ends.Memory k a b same h = tt
 ends_same (ends.Wants x) k a b same h = over_same (ends.Wants x) k a b same h
-ends_same (ends.Stopped code site) k a b same h = over_same (ends.Stopped code site) k a b same h
+ends_same (ends.Stopped trap site) k a b same h = over_same (ends.Stopped trap site) k a b same h
 ends_same ends.Spent k a b same h = over_same ends.Spent k a b same h
 
 pub ends_as_same : {A B C : Type 0} (v : B → C) (e : End) (k : Known) (a : Out A) (b : Out C) → ((o : Outcome) (t : State) → a ≡ over o t → b ≡ over o t) → Ends {A = A} (Err e) k a → EndsAs v (Err e) k b
 ends_as_same v ends.Memory k a b same h = tt
 ends_as_same v (ends.Wants x) k a b same h = over_same (ends.Wants x) k a b same h
-ends_as_same v (ends.Stopped code site) k a b same h = over_same (ends.Stopped code site) k a b same h
+ends_as_same v (ends.Stopped trap site) k a b same h = over_same (ends.Stopped trap site) k a b same h
 ends_as_same v ends.Spent k a b same h = over_same ends.Spent k a b same h
 
 -- a step that is over, and with it what it begins
@@ -70,7 +70,7 @@ over_then_as u k k1 e m f h = λ s is. ends_as_same u e k1 (m s) (then_on (m s) 
 pub plainly_over : {B C : Type 0} (u : C → B) (k k1 : Known) (e : End) (m : Run B) → DoesAs u k (Err e) k1 m → Does {A = B} k (Err e) k1 m
 plainly_over u k k1 ends.Memory m h = λ s is. tt
 plainly_over u k k1 (ends.Wants x) m h = λ s is. h s is
-plainly_over u k k1 (ends.Stopped code site) m h = λ s is. h s is
+plainly_over u k k1 (ends.Stopped trap site) m h = λ s is. h s is
 plainly_over u k k1 ends.Spent m h = λ s is. h s is
 
 -- ---- variables that end with a run

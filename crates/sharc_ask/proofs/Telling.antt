@@ -2,13 +2,15 @@
 use Rattle.std.proofs.Common.{◌≡◌, ℕ, zero, suc, Bool, true, false, Result, List, ◌++◌, length, refl, sym, ap, ◌∙◌, subst, arith}
 use Rattle.std.proofs.lemmas.Bool.{lt-ltb, ne_eqb}
 use Rattle.std.specs.Prelude.{ℤ, ◌==◌, nat_lt, not}
-use Rattle.sharc_meaning.specs.Arithmetic.{returns_with_a_lock}
 use Rattle.sharc_meaning.specs.Events.{held_mutexes}
 use Rattle.sharc_meaning.specs.Meaning.{goes_away}
 use Rattle.sharc_meaning.specs.State.{then_on, ◌>>◌, unless_stop}
 use Rattle.sharc_ask_steps.specs.View.{Ends, Does}
 use Rattle.sharc_tree.specs.declared.event.SourceEvent.{SourceEvent}
 use Rattle.sharc_tree.specs.declared.token.Site.{Site}
+use Rattle.sharc_tree.specs.declared.trap.Trap.{Trap}
+use Rattle.sharc_tree.specs.declared.trap.Trap.TheVariants as traps
+use Rattle.sharc_tree.specs.Traps.{trap_number}
 use Rattle.sharc_ask.specs.declared.asked.Asked.{Asked as RustAsked}
 use Rattle.sharc_ask.specs.declared.asked.Outcome.TheVariants.{Wants, Ended, StoppedX, Fuel}
 use Rattle.sharc_ask_steps.specs.declared.state.End.{End}
@@ -16,6 +18,7 @@ use Rattle.sharc_ask_steps.specs.declared.state.End.TheVariants as ends
 use Rattle.sharc_meaning.specs.Meaning.{asked_by}
 use Rattle.sharc_meaning.specs.State.{Out, held_references, pointers_among}
 use Rattle.sharc_ask_steps.specs.View.{Known, Went, Over}
+use Rattle.sharc_ask.specs.Held.{all_held}
 use Rattle.sharc_ask.specs.View.{leaves, told, Tells}
 
 abbrev pub held_of : Known → List ℤ
@@ -27,14 +30,18 @@ tells_over e k out a w ev oc gu = (ev ∙ sym (ap (λ (z : Known). z.events) w.l
 pub tells_wants : (x : SourceEvent) (k : Known) (out : Out (Unit {0})) (a : RustAsked) → Over (ends.Wants x) k out → a.events ≡ k.events → a.outcome ≡ Wants x (held_of k) → a.given_up ≡ k.given_up → Tells a (asked_by out)
 tells_wants x k out a w ev oc gu = tells_over (ends.Wants x) k out a w ev (oc ∙ ap (Wants x) (sym (ap held_of w.looks)) ∙ ap (λ o. told o (held_references w.state)) (sym w.ends_so)) gu
 
-pub tells_stopped : (code : _) (site : Site) (k : Known) (out : Out (Unit {0})) (a : RustAsked) → Over (ends.Stopped code site) k out → a.events ≡ k.events → a.outcome ≡ StoppedX code site → a.given_up ≡ k.given_up → Tells a (asked_by out)
-tells_stopped code site k out a w ev oc gu = tells_over (ends.Stopped code site) k out a w ev (oc ∙ ap (λ o. told o (held_references w.state)) (sym w.ends_so)) gu
+pub tells_stopped : (trap : Trap) (site : Site) (k : Known) (out : Out (Unit {0})) (a : RustAsked) → Over (ends.Stopped trap site) k out → a.events ≡ k.events → a.outcome ≡ StoppedX (trap_number trap) site → a.given_up ≡ k.given_up → Tells a (asked_by out)
+tells_stopped trap site k out a w ev oc gu = tells_over (ends.Stopped trap site) k out a w ev (oc ∙ ap (λ o. told o (held_references w.state)) (sym w.ends_so)) gu
 
 pub tells_spent : (k : Known) (out : Out (Unit {0})) (a : RustAsked) → Over ends.Spent k out → a.events ≡ k.events → a.outcome ≡ Fuel → a.given_up ≡ k.given_up → Tells a (asked_by out)
 tells_spent k out a w ev oc gu = tells_over ends.Spent k out a w ev (oc ∙ ap (λ o. told o (held_references w.state)) (sym w.ends_so)) gu
 
 pub tells_ended : (k : Known) (out : Out (Unit {0})) (a : RustAsked) → Went tt k out → a.events ≡ k.events → a.outcome ≡ Ended → a.given_up ≡ k.given_up → Tells a (asked_by out)
 tells_ended k out a w ev oc gu = (ev ∙ sym (ap (λ (z : Known). z.events) w.looks) ∙ ap (λ z. (asked_by z).events) (sym w.is), oc ∙ ap (λ z. told (asked_by z).outcome (asked_by z).held) (sym w.is), gu ∙ sym (ap (λ (z : Known). z.given_up) w.looks) ∙ ap (λ z. (asked_by z).given_up) (sym w.is))
+
+-- what a thread holds where its run is over
+pub held_over : (e : End) (k : Known) (out : Out (Unit {0})) → Over e k out → all_held k ≡ (asked_by out).held
+held_over e k out w = sym (ap all_held w.looks) ∙ ap (λ z. (asked_by z).held) (sym w.is)
 
 -- ---- a thread goes away
 
@@ -45,8 +52,8 @@ is_none (suc n) =
     let some : (suc n == 0) ≡ false = ne_eqb (suc n) 0 (λ e. omega (arith, e)) in
     ap not less ∙ sym some
 
-pub goes_when_free : (k k1 : Known) (name site : Site) (free : Bool) (r : Result (Unit {0}) End) → free ≡ (length k.held == 0) → Does k r k1 (unless_stop free returns_with_a_lock site >> leaves name) → Does k r k1 (goes_away name site)
+pub goes_when_free : (k k1 : Known) (name site : Site) (free : Bool) (r : Result (Unit {0}) End) → free ≡ (length k.held == 0) → Does k r k1 (unless_stop free traps.ReturnWithLockHeld site >> leaves name) → Does k r k1 (goes_away name site)
 goes_when_free k k1 name site free r is_free h = λ s is.
     let held : length (held_mutexes s.events) ≡ length k.held = ap (λ (z : Known). length z.held) is in
     let same : not (nat_lt 0 (length (held_mutexes s.events))) ≡ free = is_none (length (held_mutexes s.events)) ∙ ap (λ n. n == 0) held ∙ sym is_free in
-    subst (λ z. Ends r k1 (then_on (unless_stop z returns_with_a_lock site s) (λ x. leaves name))) (sym same) (h s is)
+    subst (λ z. Ends r k1 (then_on (unless_stop z traps.ReturnWithLockHeld site s) (λ x. leaves name))) (sym same) (h s is)

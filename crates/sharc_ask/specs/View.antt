@@ -12,6 +12,8 @@ use Rattle.sharc_tree.specs.declared.tree.statement.Simple.{Simple as RustSimple
 use Rattle.sharc_tree.specs.Spans.{span_of}
 use Rattle.sharc_tree.specs.Tree.{Expression, Arguments, Simple, Statement, while, for}
 use Rattle.sharc_tree.specs.declared.tree.statement.Stmt.{Stmt}
+use Rattle.sharc_tree.specs.declared.trap.Trap.TheVariants as traps
+use Rattle.sharc_tree.specs.Traps.{trap_number}
 use Rattle.sharc_tree.specs.View.{view_expr, view_simple, view_stmt}
 use Rattle.sharc_names.specs.View.{view_kind}
 use Rattle.sharc_ask.specs.declared.plan.Loop.{Loop}
@@ -23,7 +25,7 @@ use Rattle.sharc_mode.specs.Cells.{cell_at}
 use Rattle.sharc_mode.specs.Moded.{Assignment}
 use Rattle.sharc_mode.specs.Sharings.{Sharing}
 use Rattle.sharc_meaning.specs.declared.variable.Variable.{Variable}
-use Rattle.sharc_meaning.specs.Arithmetic.{operated, size_not_positive}
+use Rattle.sharc_meaning.specs.Arithmetic.{operated}
 use Rattle.sharc_meaning.specs.Cells.{element_cells, instance_mode}
 use Rattle.sharc_meaning.specs.Expressions.{Calls, called, resulting, tested, operand, binary_value, eval, eval_all}
 use Rattle.sharc_meaning.specs.Meaning.{Asked, parameters_begin, left_at}
@@ -41,7 +43,7 @@ use Rattle.sharc_ask.specs.declared.values.Flow.TheVariants as flows
 abbrev pub told : Outcome → List ℤ → RustOutcome
 told (wants e) held = Wants e held
 told ended held = Ended
-told (stopped code site) held = StoppedX code site
+told (stopped trap site) held = StoppedX (trap_number trap) site
 told spent held = Fuel
 
 abbrev pub Tells : RustAsked → Asked → Type 0
@@ -98,7 +100,7 @@ binary_by (Some false) r bits at o a b of_a of_b = binary_value r at LogicalOr a
 -- a new object of this many elements
 abbrev pub made : Resolution → Site → Sharing → ℤ → WrittenType → Run ℤ
 made r site target elements w = do
-  unless_stop (is_positive elements) size_not_positive site
+  unless_stop (is_positive elements) traps.SizeNotPositive site
   held ← looks_at value_of
   answered site (acts.New (element_cells r (declared_kind w)) (unsigned_abs elements) (instance_mode r held target))
 

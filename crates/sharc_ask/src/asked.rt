@@ -19,7 +19,7 @@ pub enum Outcome {
     Wants(SourceEvent, Holds),
     /// It is gone.
     Ended,
-    /// It is stopped: the digits of the X, and where.
+    /// It is stopped: the number of the trap, and where.
     StoppedX(u8, Site),
     /// More statements and expressions were to be entered than there was fuel.
     Fuel,

@@ -28,6 +28,7 @@ use sharc_mode::moded::Moded;
 use sharc_names::fault::Named;
 use sharc_names::kind::declared_kind;
 use sharc_tree::token::Site;
+use sharc_tree::trap::Trap;
 use sharc_tree::tree::FunctionDefinition;
 
 /// A function is entered, in a frame of its own; a call in it may have so many more frames.
@@ -99,7 +100,7 @@ fn call_function<'a>(
     ensures ends { IfOk result (λ at. 64 * st.new.fuel + size at.plan + load (stack_of stack.new) < 64 * st.old.fuel + 1 + load (stack_of stack.old)) }
 {
     if frames == 0 {
-        return Err(End::Stopped(10, site));
+        return Err(End::Stopped(Trap::CallDepth, site));
     }
     match program.typed().function_at(called) {
         None => no_call(frames, mark, st),

@@ -33,6 +33,7 @@ use sharc_names::fault::Named;
 use sharc_names::kind::{Kind, declared_kind};
 use sharc_tree::event::{Act, Object};
 use sharc_tree::token::Site;
+use sharc_tree::trap::Trap;
 use sharc_tree::tree::{Declaration, Expr, ValueCall};
 
 /// The temporaries after the mark end, where a number came.
@@ -108,7 +109,7 @@ pub fn operand_value(program: &Moded, expr: &Expr, value: i64, st: &mut State) -
 pub fn fitted(kind: Kind<'_>, expr: &Expr, value: i64, st: &State) -> Result<i64, End>
     ensures { Does (view_state st.now) result (view_state st.now) (fitting (view_kind kind.entry) (view_expr expr.now) (give value)) }
 {
-    unless(fits(kind, value), 4, expr.span().first, st)?;
+    unless(fits(kind, value), Trap::OutOfRange, expr.span().first, st)?;
     Ok(value)
 }
 
@@ -121,7 +122,7 @@ pub fn returned(
 ) -> Result<Flow, End>
     ensures { DoesAs view_flow (view_state st.now) result (view_state st.now) (returned_with (view_kind kind.entry) site (view_expr expr.now) value) }
 {
-    unless(fits(kind, value), 4, expr.span().first, st)?;
+    unless(fits(kind, value), Trap::OutOfRange, expr.span().first, st)?;
     Ok(Flow::Returned(site, value))
 }
 
@@ -135,7 +136,7 @@ fn fitted_operand(
     ensures does { Does (view_state st.old) result (view_state st.new) (operand program.now.typed (view_expr expr.now) (fitting (view_kind kind.entry) (view_expr expr.now) (give value))) }
     ensures fuel { st.new.fuel ≤ st.old.fuel }
 {
-    unless(fits(kind, value), 4, expr.span().first, st)?;
+    unless(fits(kind, value), Trap::OutOfRange, expr.span().first, st)?;
     operand_value(program, expr, value, st)
 }
 

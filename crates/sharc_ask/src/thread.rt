@@ -15,6 +15,7 @@ use sharc_mode::moded::Moded;
 use sharc_tree::event::Act;
 use sharc_tree::listed::Listed;
 use sharc_tree::token::Site;
+use sharc_tree::trap::Trap;
 use std::alloc::{AllocError, Global};
 
 fn leaves(name: Site, st: &mut State) -> Result<(), End>
@@ -29,7 +30,7 @@ fn goes_away(name: Site, site: Site, st: &mut State) -> Result<(), End>
     ensures { Does (view_state st.old) result (view_state st.new) (goes_away name site) }
 {
     let free = st.held.is_empty();
-    unless(free, 11, site, st)?;
+    unless(free, Trap::ReturnWithLockHeld, site, st)?;
     leaves(name, st)
 }
 
@@ -74,7 +75,7 @@ pub fn ask(
     match run_thread(program, function, argument, &mut st) {
         Ok(()) => Ok(told(st, Outcome::Ended)),
         Err(End::Memory) => Err(AllocError),
-        Err(End::Stopped(code, site)) => Ok(told(st, Outcome::StoppedX(code, site))),
+        Err(End::Stopped(trap, site)) => Ok(told(st, Outcome::StoppedX(trap.number(), site))),
         Err(End::Spent) => Ok(told(st, Outcome::Fuel)),
         Err(End::Wants(event)) => match held_by(alloc, st.below.as_slice(), &st.frame) {
             None => Err(AllocError),

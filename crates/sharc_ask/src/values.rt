@@ -32,6 +32,7 @@ use sharc_names::fault::Named;
 use sharc_names::kind::{Kind, declared_kind, element_kind};
 use sharc_tree::event::{Act, Object};
 use sharc_tree::token::{Site, Span};
+use sharc_tree::trap::Trap;
 use sharc_tree::tree::{
     BinaryOperator, Constant, Declaration, Expr, ForHead, Jump, Simple, Stmt, ValueCall,
     WrittenType,
@@ -117,12 +118,12 @@ pub fn based(
     base(site, kind_of(program, expr), pointer, st)
 }
 
-pub fn resulting(site: Site, value: Result<i64, u8>, st: &State) -> Result<i64, End>
+pub fn resulting(site: Site, value: Result<i64, Trap>, st: &State) -> Result<i64, End>
     ensures { Does (view_state st.now) result (view_state st.now) (resulting site value) }
 {
     match value {
         Ok(value) => Ok(value),
-        Err(code) => Err(End::Stopped(code, site)),
+        Err(trap) => Err(End::Stopped(trap, site)),
     }
 }
 
@@ -266,7 +267,7 @@ pub fn made(
     ensures does { Does (view_state st.old) result (view_state st.new) (made program.now.typed site (view_sharing target.entry) elements written.now) }
     ensures fuel { st.new.fuel ≤ st.old.fuel }
 {
-    unless(is_positive(elements), 12, site, st)?;
+    unless(is_positive(elements), Trap::SizeNotPositive, site, st)?;
     let cells = element_cells(program.typed(), declared_kind(written));
     let mode = instance_mode(program.typed(), st.frame.variables.as_slice(), target);
     ask_event(site, Act::New(cells, elements.unsigned_abs(), mode), st)

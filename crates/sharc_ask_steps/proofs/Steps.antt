@@ -15,7 +15,7 @@ over_same e k a b same w = record { outcome = w.outcome; state = w.state; is = s
 ends_same : {A B : Type 0} (e : End) (k : Known) (a : Out A) (b : Out B) → ((o : Outcome) (t : State) → a ≡ over o t → b ≡ over o t) → Ends {A = A} (Err e) k a → Ends {A = B} (Err e) k b
 ends_same ends.Memory k a b same h = tt
 ends_same (ends.Wants x) k a b same h = over_same (ends.Wants x) k a b same h
-ends_same (ends.Stopped code site) k a b same h = over_same (ends.Stopped code site) k a b same h
+ends_same (ends.Stopped trap site) k a b same h = over_same (ends.Stopped trap site) k a b same h
 ends_same ends.Spent k a b same h = over_same ends.Spent k a b same h
 
 -- a step that is over, and with it what it begins

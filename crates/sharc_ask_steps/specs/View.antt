@@ -47,7 +47,7 @@ view_state s = record { variables = s.frame.variables.items; temporaries = s.fra
 abbrev pub IsEnd : End → Outcome → Type 0
 IsEnd ends.Memory o = Unit {0}
 IsEnd (ends.Wants e) o = o ≡ wants e
-IsEnd (ends.Stopped code site) o = o ≡ stopped code site
+IsEnd (ends.Stopped trap site) o = o ≡ stopped trap site
 IsEnd ends.Spent o = o ≡ spent
 
 pub record Went {A : Type 0} (v : A) (k : Known) (out : Out A) : Type 0 where

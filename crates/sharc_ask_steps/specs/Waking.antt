@@ -3,7 +3,7 @@ use Rattle.std.specs.Prelude.{ℤ, not}
 use Rattle.sharc_tree.specs.declared.event.Act.TheVariants as acts
 use Rattle.sharc_tree.specs.declared.event.CellAt.{CellAt}
 use Rattle.sharc_tree.specs.declared.token.Site.{Site}
-use Rattle.sharc_meaning.specs.Arithmetic.{mutex_not_held, mutex_already_held}
+use Rattle.sharc_tree.specs.declared.trap.Trap.TheVariants as traps
 use Rattle.sharc_meaning.specs.Events.{holds_mutex}
 use Rattle.sharc_meaning.specs.Places.{pointee}
 use Rattle.sharc_meaning.specs.State.{Step, ◌>>=◌, ◌>>◌, performs, holds_reference, moves_on, unless_stop, looks_at}
@@ -13,13 +13,13 @@ use Rattle.sharc_meaning.specs.Waiting.{cell_at_place}
 abbrev pub stops_unless_held : CellAt → Site → Step
 stops_unless_held c site = do
   own ← looks_at (λ s. s.events)
-  unless_stop (holds_mutex own c) mutex_not_held site
+  unless_stop (holds_mutex own c) traps.MutexNotHeld site
 
 -- a mutex that is held stops
 abbrev pub stops_where_held : CellAt → Site → Step
 stops_where_held c site = do
   own ← looks_at (λ s. s.events)
-  unless_stop (not (holds_mutex own c)) mutex_already_held site
+  unless_stop (not (holds_mutex own c)) traps.MutexAlreadyHeld site
 
 -- from the Unlock of a wait on the thread holds one more reference to the object of the mutex, until it has locked it again
 abbrev pub awakes : Site → ℤ → ℤ → Step

@@ -8,6 +8,7 @@ ghost use Rattle.sharc_meaning.specs.Statements.{is_positive};
 ghost use Rattle.sharc_ask_steps.specs.Width.{value_bits, is_count};
 
 use sharc_names::kind::{Kind, Root, is_integer};
+use sharc_tree::trap::Trap;
 use sharc_tree::tree::BinaryOperator;
 
 /// The integer types: signed, of 8, 32 and 64 bits.
@@ -89,63 +90,63 @@ pub fn complement(value: i64) -> i64
 }
 
 /// The negative, or the stop.
-pub fn negated(width: Width, value: i64) -> Result<i64, u8>
+pub fn negated(width: Width, value: i64) -> Result<i64, Trap>
     ensures { result ≡ negated (value_bits width) value }
 {
     match value.checked_neg() {
         Some(negative) if is_held_by(width, negative) => Ok(negative),
-        _ => Err(4),
+        _ => Err(Trap::OutOfRange),
     }
 }
 
-fn sum(width: Width, left: i64, right: i64) -> Result<i64, u8>
+fn sum(width: Width, left: i64, right: i64) -> Result<i64, Trap>
     ensures { result ≡ operated (value_bits width) operators.Add left right }
 {
     match left.checked_add(right) {
         Some(sum) if is_held_by(width, sum) => Ok(sum),
-        _ => Err(4),
+        _ => Err(Trap::OutOfRange),
     }
 }
 
-fn difference(width: Width, left: i64, right: i64) -> Result<i64, u8>
+fn difference(width: Width, left: i64, right: i64) -> Result<i64, Trap>
     ensures { result ≡ operated (value_bits width) operators.Subtract left right }
 {
     match left.checked_sub(right) {
         Some(difference) if is_held_by(width, difference) => Ok(difference),
-        _ => Err(4),
+        _ => Err(Trap::OutOfRange),
     }
 }
 
-fn product(width: Width, left: i64, right: i64) -> Result<i64, u8>
+fn product(width: Width, left: i64, right: i64) -> Result<i64, Trap>
     ensures { result ≡ operated (value_bits width) operators.Multiply left right }
 {
     match left.checked_mul(right) {
         Some(product) if is_held_by(width, product) => Ok(product),
-        _ => Err(4),
+        _ => Err(Trap::OutOfRange),
     }
 }
 
-fn quotient(width: Width, left: i64, right: i64) -> Result<i64, u8>
+fn quotient(width: Width, left: i64, right: i64) -> Result<i64, Trap>
     ensures { result ≡ operated (value_bits width) operators.Divide left right }
 {
     if right == 0 {
-        return Err(3);
+        return Err(Trap::DivisionByZero);
     }
     match left.checked_div(right) {
         Some(quotient) if is_held_by(width, quotient) => Ok(quotient),
-        _ => Err(4),
+        _ => Err(Trap::OutOfRange),
     }
 }
 
-fn remainder(width: Width, left: i64, right: i64) -> Result<i64, u8>
+fn remainder(width: Width, left: i64, right: i64) -> Result<i64, Trap>
     ensures { result ≡ operated (value_bits width) operators.Remainder left right }
 {
     if right == 0 {
-        return Err(3);
+        return Err(Trap::DivisionByZero);
     }
     match left.checked_div(right) {
         Some(quotient) if is_held_by(width, quotient) => Ok(left % right),
-        _ => Err(4),
+        _ => Err(Trap::OutOfRange),
     }
 }
 
@@ -167,25 +168,25 @@ fn is_count(width: Width, by: i64) -> bool
     0 <= by && by < i64::from(bits(width))
 }
 
-fn shifted_left(width: Width, left: i64, right: i64) -> Result<i64, u8>
+fn shifted_left(width: Width, left: i64, right: i64) -> Result<i64, Trap>
     ensures { result ≡ operated (value_bits width) operators.ShiftLeft left right }
 {
     if is_count(width, right) {
         doubled(width, left, right as u32)
     } else {
-        Err(4)
+        Err(Trap::OutOfRange)
     }
 }
 
 // So often doubled, in two halves, since 2 to the power of 63 is no integer.
-fn doubled(width: Width, value: i64, by: u32) -> Result<i64, u8>
+fn doubled(width: Width, value: i64, by: u32) -> Result<i64, Trap>
     requires { by < 64 }
     ensures { result ≡ in_range (value_bits width) (value *ℤ pos (2 ^ by)) }
 {
     let half = by / 2;
     match value.checked_mul(power(half)) {
         Some(product_so_far) => product(width, product_so_far, power(by - half)),
-        None => Err(4),
+        None => Err(Trap::OutOfRange),
     }
 }
 
@@ -197,18 +198,18 @@ fn power(by: u32) -> i64
     1 << by
 }
 
-fn shifted_right(width: Width, left: i64, right: i64) -> Result<i64, u8>
+fn shifted_right(width: Width, left: i64, right: i64) -> Result<i64, Trap>
     ensures { result ≡ operated (value_bits width) operators.ShiftRight left right }
 {
     if is_count(width, right) {
         Ok(left >> right)
     } else {
-        Err(4)
+        Err(Trap::OutOfRange)
     }
 }
 
 /// An operator in a type of this width.
-pub fn operated(width: Width, operator: BinaryOperator, left: i64, right: i64) -> Result<i64, u8>
+pub fn operated(width: Width, operator: BinaryOperator, left: i64, right: i64) -> Result<i64, Trap>
     ensures { result ≡ operated (value_bits width) operator left right }
 {
     match operator {

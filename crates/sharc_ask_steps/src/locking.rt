@@ -11,6 +11,7 @@ use crate::waiting::unless_held;
 use sharc_meaning::given::GivenUp;
 use sharc_tree::event::{Act, CellAt, Object};
 use sharc_tree::token::Site;
+use sharc_tree::trap::Trap;
 
 fn cell_at_place(place: Place) -> CellAt
     ensures { result ≡ cell_at_place (view_place place) }
@@ -28,7 +29,12 @@ fn cell_at_place(place: Place) -> CellAt
 fn unless_held_already(cell: CellAt, site: Site, st: &State) -> Result<(), End>
     ensures { Does (view_state st.now) result (view_state st.now) (stops_where_held cell site) }
 {
-    unless(!is_among(st.held.as_slice(), cell), 6, site, st)
+    unless(
+        !is_among(st.held.as_slice(), cell),
+        Trap::MutexAlreadyHeld,
+        site,
+        st,
+    )
 }
 
 fn moves_base(place: Place, st: &mut State) -> Result<(), End>
@@ -60,7 +66,7 @@ pub fn lock_call(site: Site, place: Place, st: &mut State) -> Result<(), End>
 {
     let cell = cell_at_place(place);
     unless_held_already(cell, site, st)?;
-    unless(st.held.len() < 16, 13, site, st)?;
+    unless(st.held.len() < 16, Trap::TooManyLocks, site, st)?;
     perform(site, Act::Lock(cell), st)?;
     moves_base(place, st)
 }

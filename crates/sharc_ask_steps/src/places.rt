@@ -28,6 +28,7 @@ use sharc_names::fault::Named;
 use sharc_names::kind::{Kind, is_pointer};
 use sharc_tree::event::{Act, CellAt, CellMode, Object, TakeKind, Taken};
 use sharc_tree::token::Site;
+use sharc_tree::trap::Trap;
 
 /// What an lvalue names: a variable, or a cell of an object in the element that begins at the cell given first.
 #[derive(Clone, Copy, Drop)]
@@ -73,7 +74,7 @@ pub fn base(site: Site, kind: Kind<'_>, pointer: i64, st: &mut State) -> Result<
     ensures fuel { st.new.fuel ≤ st.old.fuel }
 {
     hold(kind, pointer, st)?;
-    unless(!is_zero(pointer), 1, site, st)
+    unless(!is_zero(pointer), Trap::NullPointer, site, st)
 }
 
 /// An element with this many cells, of this many elements; an index outside stops.
@@ -88,11 +89,11 @@ pub fn element(
     ensures { DoesAs view_place (view_state st.now) result (view_state st.now) (element site object cells elements index) }
 {
     if index < 0 {
-        return Err(End::Stopped(2, site));
+        return Err(End::Stopped(Trap::IndexOutOfBounds, site));
     }
     let n = index.unsigned_abs();
     if n >= elements {
-        return Err(End::Stopped(2, site));
+        return Err(End::Stopped(Trap::IndexOutOfBounds, site));
     }
     match n.checked_mul(cells) {
         Some(first) => Ok(Place::Cell(object, first, first)),
@@ -134,13 +135,13 @@ pub fn guarding(site: Site, guard: Guard, st: &mut State) -> Result<CellAt, End>
         Guard::Mutex(cell) => Ok(cell),
         Guard::Behind(cell) => {
             let pointer = ask_event(site, Act::Read(cell, CellMode::Readonly), st)?;
-            unless(!is_zero(pointer), 1, site, st)?;
+            unless(!is_zero(pointer), Trap::NullPointer, site, st)?;
             Ok(CellAt {
                 object: Object::Made(number_of(pointer)),
                 cell: 0,
             })
         }
-        Guard::Nothing => Err(End::Stopped(1, site)),
+        Guard::Nothing => Err(End::Stopped(Trap::NullPointer, site)),
     }
 }
 

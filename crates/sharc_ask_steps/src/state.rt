@@ -13,6 +13,7 @@ use sharc_meaning::variable::Variable;
 use sharc_names::kind::{Kind, declared_kind, is_null, is_pointer};
 use sharc_tree::event::{Act, CellAt, Object, SourceEvent, Taken};
 use sharc_tree::token::Site;
+use sharc_tree::trap::Trap;
 use sharc_tree::tree::Declaration;
 use std::alloc::Global;
 
@@ -21,7 +22,7 @@ use std::alloc::Global;
 pub enum End {
     Memory,
     Wants(SourceEvent),
-    Stopped(u8, Site),
+    Stopped(Trap, Site),
     Spent,
 }
 
@@ -55,13 +56,13 @@ pub fn is_reference(kind: Kind<'_>) -> bool
 }
 
 /// The run stops unless the test is met.
-pub fn unless(well: bool, code: u8, site: Site, st: &State) -> Result<(), End>
-    ensures { Does (view_state st.now) result (view_state st.now) (unless_stop well code site) }
+pub fn unless(well: bool, trap: Trap, site: Site, st: &State) -> Result<(), End>
+    ensures { Does (view_state st.now) result (view_state st.now) (unless_stop well trap site) }
 {
     if well {
         Ok(())
     } else {
-        Err(End::Stopped(code, site))
+        Err(End::Stopped(trap, site))
     }
 }
 

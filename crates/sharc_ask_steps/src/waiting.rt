@@ -12,6 +12,7 @@ use crate::cells::number_of;
 use crate::state::{End, State, hold_reference, is_among, move_on, perform, unless};
 use sharc_tree::event::{Act, CellAt, Object};
 use sharc_tree::token::Site;
+use sharc_tree::trap::Trap;
 
 // The first cell of what a pointer refers to.
 fn first_cell(pointer: i64) -> CellAt
@@ -27,7 +28,12 @@ fn first_cell(pointer: i64) -> CellAt
 pub fn unless_held(cell: CellAt, site: Site, st: &State) -> Result<(), End>
     ensures { Does (view_state st.now) result (view_state st.now) (stops_unless_held cell site) }
 {
-    unless(is_among(st.held.as_slice(), cell), 5, site, st)
+    unless(
+        is_among(st.held.as_slice(), cell),
+        Trap::MutexNotHeld,
+        site,
+        st,
+    )
 }
 
 // From the Unlock on.
@@ -56,8 +62,8 @@ pub fn wait_call(site: Site, condition: i64, mutex: i64, st: &mut State) -> Resu
     ensures does { Does (view_state st.old) result (view_state st.new) (wait_call site condition mutex) }
     ensures fuel { st.new.fuel ≤ st.old.fuel }
 {
-    unless(!is_zero(condition), 1, site, st)?;
-    unless(!is_zero(mutex), 1, site, st)?;
+    unless(!is_zero(condition), Trap::NullPointer, site, st)?;
+    unless(!is_zero(mutex), Trap::NullPointer, site, st)?;
     unless_held(first_cell(mutex), site, st)?;
     waits(site, condition, mutex, st)
 }
@@ -66,7 +72,7 @@ fn signal_call(site: Site, condition: i64, st: &mut State) -> Result<(), End>
     ensures does { Does (view_state st.old) result (view_state st.new) (signal_call site condition) }
     ensures fuel { st.new.fuel ≤ st.old.fuel }
 {
-    unless(!is_zero(condition), 1, site, st)?;
+    unless(!is_zero(condition), Trap::NullPointer, site, st)?;
     perform(site, Act::Signal(first_cell(condition)), st)
 }
 
@@ -74,7 +80,7 @@ fn broadcast_call(site: Site, condition: i64, st: &mut State) -> Result<(), End>
     ensures does { Does (view_state st.old) result (view_state st.new) (broadcast_call site condition) }
     ensures fuel { st.new.fuel ≤ st.old.fuel }
 {
-    unless(!is_zero(condition), 1, site, st)?;
+    unless(!is_zero(condition), Trap::NullPointer, site, st)?;
     perform(site, Act::Broadcast(first_cell(condition)), st)
 }
 

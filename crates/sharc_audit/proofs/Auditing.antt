@@ -1,5 +1,5 @@
 -- Verdicts.
-use Rattle.std.proofs.Common.{◌≡◌, ◌⊎◌, inl, inr, ℕ, zero, suc, ◌-◌, ◌<◌, ◌≤◌, List, [], ◌∷◌, ◌++◌, length, length-drop, take, drop, Option, Some, None, refl, ap, sym, subst, ◌∙◌, arith, append_assoc}
+use Rattle.std.proofs.Common.{◌≡◌, ◌⊎◌, inl, inr, ℕ, zero, suc, ◌-◌, ◌<◌, ◌≤◌, ◌==◌, cond, List, [], ◌∷◌, ◌++◌, length, length-drop, take, drop, Option, Some, None, refl, ap, sym, subst, ◌∙◌, arith, append_assoc}
 use Rattle.std.specs.Prelude.{slice_get, slice_index_or}
 use Rattle.std.proofs.lemmas.Bool.{cases_order}
 use Rattle.sharc_tree.specs.declared.event.SourceEvent.{SourceEvent}
@@ -10,6 +10,7 @@ use Rattle.sharc_meaning.specs.Obeys.{Obeys, until_return}
 use Rattle.sharc_meaning.specs.Runs.{SourceRunWith}
 use Rattle.sharc_meaning.specs.Store.{MayCome, LegalStore}
 use Rattle.sharc_judge.specs.declared.rule.Rule.{Rule}
+use Rattle.sharc_judge.specs.declared.rule.Rule.TheVariants.{Live, OneMode, Owner, NotWritten, UnderItsLock, ReadSharedOrOneThread}
 use Rattle.sharc_judge.specs.Judged.{Holds, number}
 use Rattle.sharc_audit.specs.declared.audit.EventFault.{EventFault}
 use Rattle.sharc_audit.specs.declared.audit.EventFault.TheVariants as fault
@@ -27,6 +28,21 @@ use Rattle.sharc_audit.specs.Mains.{OneMain}
 use Rattle.sharc_audit.proofs.Answering.{told_asked, asked_is, computed_asked, spent_is, is_spent_at}
 use Rattle.sharc_audit.proofs.Breaking.{obeys_more, lowest_broken_last, broken_is}
 use Rattle.sharc_judge.specs.Laws.{RuleLaws}
+
+-- ---- rules
+
+-- the rule with this number
+rule_of : ℕ → Rule
+rule_of n = cond (n == 1) Live (cond (n == 2) OneMode (cond (n == 3) Owner (cond (n == 4) NotWritten (cond (n == 5) UnderItsLock ReadSharedOrOneThread))))
+
+rule_back : (r : Rule) → rule_of (number r) ≡ r
+unfolding rule_of
+rule_back Live = refl
+rule_back OneMode = refl
+rule_back Owner = refl
+rule_back NotWritten = refl
+rule_back UnderItsLock = refl
+rule_back ReadSharedOrOneThread = refl
 
 -- ---- lines
 
@@ -228,21 +244,21 @@ module _ (ask : AskLaws) (store : StoreLaws) (runs : RunLaws) (rules : RuleLaws)
       record { asked = is_asked_by e next line; illegal = illegal },
     )
 
-    pub says_against : (n : ℕ) (e : SourceEvent) (rule : Rule) (digit : ℕ) → n ≡ suc place → Next_is (Wants e) → IsLine m.typed l e → MayCome m.typed R e e.act → IsLowestAt R e (Some rule) → digit ≡ number rule → Audits m fuel lines (verdict.Fails n (fault.Rule digit))
-    says_against n e rule digit count next line may lowest d = (
+    pub says_against : (n : ℕ) (e : SourceEvent) (rule : Rule) → n ≡ suc place → Next_is (Wants e) → IsLine m.typed l e → MayCome m.typed R e e.act → IsLowestAt R e (Some rule) → Audits m fuel lines (verdict.Fails n (fault.Rule rule))
+    says_against n e rule count next line may lowest = (
       record {
         place = place;
         line_at = l;
         first = first_refused (λ d line2 asked may obeys. broken_is rules R e rule lowest (subst (λ z. Obeys (R ++ z ∷ []) until_return) (sym (same_next e d next line2 asked)) obeys));
         counted = count;
       },
-      record { asked = is_asked_by e next line; legal = may; rule = rule; lowest = lowest_broken_last rules R e rule s.obeys lowest; digit_is = d },
+      record { asked = is_asked_by e next line; legal = may; lowest = lowest_broken_last rules R e rule s.obeys lowest },
     )
 
     pub says_fault : (n : ℕ) (e : SourceEvent) (why : EventFault) → n ≡ suc place → Next_is (Wants e) → IsLine m.typed l e → IsFault m R e why → Audits m fuel lines (verdict.Fails n why)
     says_fault n e fault.NotAsked count next line f = absurd (f)
     says_fault n e fault.NotLegal count next line f = says_illegal n e count next line f
-    says_fault n e (fault.Rule digit) count next line f = says_against n e f.rule digit count next line f.legal f.lowest f.digit_is
+    says_fault n e (fault.Rule rule) count next line f = says_against n e rule count next line f.legal f.lowest
 
     pub told_so : (e : SourceEvent) → Next_is (Wants e) → IsLine m.typed l e → told l ≡ e.answer
     told_so e next line = told_asked ask m one fuel R s.run.legal l e line (computed_asked ask m one fuel R s.run.legal s.run l e next line)
@@ -280,19 +296,19 @@ module _ (ask : AskLaws) (store : StoreLaws) (runs : RunLaws) (rules : RuleLaws)
     spent_or_asked : IsSpent m fuel R l.thread → IsAsked m fuel R l → ⊥
     spent_or_asked s a = let z : Spent ≡ Wants a.event = sym (spent_is ask m one fuel R run.legal l.thread (told l) s) ∙ asked_is ask m one fuel R run.legal l a.event a.line_is a.asked in absurd (cc)
 
-    illegal_or_not : IsNotLegal m fuel R l → (digit : ℕ) → IsAgainst m fuel R l digit → ⊥
-    illegal_or_not a digit b = a.illegal (subst (λ (z : SourceEvent). MayCome m.typed R z z.act) (sym (same_asked a.asked b.asked)) b.legal)
+    illegal_or_not : IsNotLegal m fuel R l → (rule : Rule) → IsAgainst m fuel R l rule → ⊥
+    illegal_or_not a rule b = a.illegal (subst (λ (z : SourceEvent). MayCome m.typed R z z.act) (sym (same_asked a.asked b.asked)) b.legal)
 
-    one_digit : (c d : ℕ) → IsAgainst m fuel R l c → IsAgainst m fuel R l d → c ≡ d
-    one_digit c d a b = a.digit_is ∙ by_order (cases_order (number a.rule) (number b.rule)) ∙ sym b.digit_is
+    one_rule : (c d : Rule) → IsAgainst m fuel R l c → IsAgainst m fuel R l d → c ≡ d
+    one_rule c d a b = sym (rule_back c) ∙ ap rule_of (by_order (cases_order (number c) (number d))) ∙ rule_back d
       where
         same : a.asked.event ≡ b.asked.event
         same = same_asked a.asked b.asked
 
-        by_order : (number a.rule ≡ number b.rule) ⊎ ((number a.rule < number b.rule) ⊎ (number b.rule < number a.rule)) → number a.rule ≡ number b.rule
+        by_order : (number c ≡ number d) ⊎ ((number c < number d) ⊎ (number d < number c)) → number c ≡ number d
         by_order (inl e) = e
-        by_order (inr (inl less)) = absurd (a.lowest.broken (subst (λ z. Holds (R ++ z ∷ []) until_return a.rule) (sym same) (b.lowest.lower a.rule less)))
-        by_order (inr (inr less)) = absurd (b.lowest.broken (subst (λ z. Holds (R ++ z ∷ []) until_return b.rule) same (a.lowest.lower b.rule less)))
+        by_order (inr (inl less)) = absurd (a.lowest.broken (subst (λ z. Holds (R ++ z ∷ []) until_return c) (sym same) (b.lowest.lower c less)))
+        by_order (inr (inr less)) = absurd (b.lowest.broken (subst (λ z. Holds (R ++ z ∷ []) until_return d) same (a.lowest.lower d less)))
 
     one_reason : (v w : Option EventFault) → Said R l v → Said R l w → v ≡ w
     one_reason None None a b = refl
@@ -310,7 +326,7 @@ module _ (ask : AskLaws) (store : StoreLaws) (runs : RunLaws) (rules : RuleLaws)
     one_reason (Some (fault.Rule c)) None a b = absurd (spent_or_asked b a.asked)
     one_reason (Some (fault.Rule c)) (Some fault.NotAsked) a b = absurd (b.none a.asked)
     one_reason (Some (fault.Rule c)) (Some fault.NotLegal) a b = absurd (illegal_or_not b c a)
-    one_reason (Some (fault.Rule c)) (Some (fault.Rule d)) a b = ap (λ z. Some (fault.Rule z)) (one_digit c d a b)
+    one_reason (Some (fault.Rule c)) (Some (fault.Rule d)) a b = ap (λ z. Some (fault.Rule z)) (one_rule c d a b)
 
   said_there : (lines : List EventLine) (i j : ℕ) (k l : EventLine) (R S : List SourceEvent) (v w : Option EventFault) → i ≡ j → Here lines i k R → Here lines j l S → Said R k v → Said S l w → v ≡ w
   said_there lines i j k l R S v w same a b p q =

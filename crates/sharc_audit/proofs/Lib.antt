@@ -6,6 +6,7 @@ pub mod Breaking
 pub mod Auditing
 pub mod Opening
 pub mod Mains
+pub mod Walking
 pub mod Knowing
 pub mod Numerals
 pub mod Parts

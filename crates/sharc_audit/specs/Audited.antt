@@ -47,17 +47,15 @@ pub record IsNotLegal (m : Assignment) (fuel : ℕ) (R : List SourceEvent) (l : 
   pub illegal : MayCome m.typed R asked.event asked.event.act → ⊥
 
 -- it is asked for and legal, and this is the lowest rule that fails
-pub record IsAgainst (m : Assignment) (fuel : ℕ) (R : List SourceEvent) (l : EventLine) (digit : ℕ) : Type 0 where
+pub record IsAgainst (m : Assignment) (fuel : ℕ) (R : List SourceEvent) (l : EventLine) (rule : Rule) : Type 0 where
   pub asked : IsAsked m fuel R l
   pub legal : MayCome m.typed R asked.event asked.event.act
-  pub rule : Rule
   pub lowest : IsLowestBroken (R ++ asked.event ∷ []) until_return rule
-  pub digit_is : digit ≡ number rule
 
 abbrev pub FailsBy : Assignment → ℕ → List SourceEvent → EventLine → EventFault → Type 0
 FailsBy m fuel R l fault.NotAsked = IsNotAsked m fuel R l
 FailsBy m fuel R l fault.NotLegal = IsNotLegal m fuel R l
-FailsBy m fuel R l (fault.Rule digit) = IsAgainst m fuel R l digit
+FailsBy m fuel R l (fault.Rule rule) = IsAgainst m fuel R l rule
 
 pub record Refused (m : Assignment) (fuel : ℕ) (lines : List EventLine) (n : ℕ) : Type 0 where
   pub place : ℕ

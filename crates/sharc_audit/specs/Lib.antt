@@ -10,3 +10,4 @@ pub mod Lines
 pub mod Mains
 pub mod Open
 pub mod Texts
+pub mod Walks

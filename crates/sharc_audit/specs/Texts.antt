@@ -1,5 +1,6 @@
 -- The line that is written of a verdict, and of a text that is no event file that can be audited.
 use Rattle.std.specs.Prelude.{ℕ, List, ◌++◌, codes, decimal, Option, Some, None}
+use Rattle.sharc_judge.specs.Judged.{number}
 use Rattle.sharc_audit.specs.declared.audit.EventFault.{EventFault}
 use Rattle.sharc_audit.specs.declared.audit.EventFault.TheVariants as fault
 use Rattle.sharc_audit.specs.declared.audit.Verdict.{Verdict}
@@ -11,7 +12,7 @@ use Rattle.sharc_audit.specs.declared.file.FileFault.TheVariants as file
 abbrev pub fault_words : EventFault → List ℕ
 fault_words fault.NotAsked = codes "E1 not asked for"
 fault_words fault.NotLegal = codes "E2 not legal"
-fault_words (fault.Rule digit) = codes "E3 rule " ++ decimal digit
+fault_words (fault.Rule rule) = codes "E3 rule " ++ decimal (number rule)
 
 -- of a verdict at this fuel
 abbrev pub verdict_words : ℕ → Verdict → List ℕ

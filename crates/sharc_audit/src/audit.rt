@@ -1,7 +1,6 @@
 // The auditor.
 
 ghost use Rattle.std.specs.Prelude.{◌≡◌, ◌<◌, ◌^◌, IfOk, length, MatchOption};
-ghost use Rattle.sharc_judge.specs.Judged.{number};
 ghost use Rattle.sharc_audit.specs.Audited.{Audits};
 ghost use Rattle.sharc_audit.specs.Breaking.{IsPassed, IsFault};
 
@@ -25,8 +24,8 @@ pub enum EventFault {
     NotAsked,
     /// What the events before left refuses it.
     NotLegal,
-    /// It breaks a rule of the modes: the lowest, by its number from 1.
-    Rule(u8),
+    /// It breaks a rule of the modes: the lowest.
+    Rule(Rule),
 }
 
 /// What is answered of a list of event lines. Lines are counted from 1.
@@ -40,19 +39,6 @@ pub enum Verdict {
     Fuel(u32),
 }
 
-fn digit(rule: Rule) -> u8
-    ensures { result ≡ number rule }
-{
-    match rule {
-        Rule::Live => 1,
-        Rule::OneMode => 2,
-        Rule::Owner => 3,
-        Rule::NotWritten => 4,
-        Rule::UnderItsLock => 5,
-        Rule::ReadSharedOrOneThread => 6,
-    }
-}
-
 /// Why the event, which is asked for, is not accepted after these.
 fn fault_of(program: &Moded, past: &Past, e: &SourceEvent) -> Option<EventFault>
     ensures { MatchOption result (IsPassed program.now past.now e.now) (λ fault. IsFault program.now past.now e.now fault) }
@@ -62,7 +48,7 @@ fn fault_of(program: &Moded, past: &Past, e: &SourceEvent) -> Option<EventFault>
     }
     match past.broken_by(e) {
         None => None,
-        Some(rule) => Some(EventFault::Rule(digit(rule))),
+        Some(rule) => Some(EventFault::Rule(rule)),
     }
 }
 
@@ -89,7 +75,8 @@ pub fn audit(
         let n = i as u32 + 1;
         let line = &all[i];
         let rest = &all[i + 1..];
-        match next_asked(m, main, fuel, past.as_slice(), line, rest, runs.as_slice()) {
+        let next = next_asked(alloc, m, main, fuel, past.as_slice(), line, rest, &mut runs)?;
+        match next {
             Next::Spent => return Ok(Verdict::Fuel(n)),
             Next::Nothing => return Ok(Verdict::Fails(n, EventFault::NotAsked)),
             Next::Wants(e) => {

@@ -11,6 +11,7 @@ pub mod line;
 mod matching;
 mod past;
 mod reading;
+mod run;
 mod since;
 pub mod text;
 mod threads;

@@ -1,11 +1,13 @@
 //! The lines that are written of verdicts and of faults of event files.
 
 ghost use Rattle.std.specs.Prelude.{◌≡◌, ◌++◌, codes, decimal, Some, IfOk, OnOk};
+ghost use Rattle.sharc_judge.specs.Judged.{number};
 ghost use Rattle.sharc_audit.specs.Texts.{fault_words, verdict_words, verdict_line, file_fault_line};
 
 use crate::audit::{EventFault, Verdict};
 use crate::file::FileFault;
 use itoa::Buffer;
+use sharc_judge::rule::Rule;
 use std::alloc::{AllocError, Global};
 
 fn put_number(text: &mut Vec<u8>, number: u64) -> Result<(), AllocError>
@@ -28,13 +30,27 @@ fn put_numbered(
     text.extend_from_slice(after)
 }
 
+/// The number of a rule, from 1.
+fn number(rule: Rule) -> u8
+    ensures { result ≡ number rule }
+{
+    match rule {
+        Rule::Live => 1,
+        Rule::OneMode => 2,
+        Rule::Owner => 3,
+        Rule::NotWritten => 4,
+        Rule::UnderItsLock => 5,
+        Rule::ReadSharedOrOneThread => 6,
+    }
+}
+
 fn put_fault(text: &mut Vec<u8>, fault: EventFault) -> Result<(), AllocError>
     ensures { OnOk result (text.new.items ≡ text.old.items ++ fault_words fault) }
 {
     match fault {
         EventFault::NotAsked => text.extend_from_slice(b"E1 not asked for"),
         EventFault::NotLegal => text.extend_from_slice(b"E2 not legal"),
-        EventFault::Rule(digit) => put_numbered(text, b"E3 rule ", u64::from(digit), b""),
+        EventFault::Rule(rule) => { put_numbered(text, b"E3 rule ", u64::from(number(rule)), b"") }
     }
 }
 

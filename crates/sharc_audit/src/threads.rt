@@ -1,13 +1,14 @@
-// What threads ask for: each is asked once, when it starts, with all that the lines report to it.
+// What threads ask for: each is asked with all that the lines report to it, and walked no further than its lines need.
 
-ghost use Rattle.std.specs.Prelude.{◌≡◌, ◌+◌, ◌-◌, ◌<◌, ◌==◌, ◌∷◌, ◌++◌, [], IfOk, OnOk, length, drop, find, MatchOption, IsTrue, true, false, slice_get, Some};
-ghost use Rattle.std.specs.Option.{option_copied};
+ghost use Rattle.std.specs.Prelude.{◌≡◌, ◌+◌, ◌-◌, ◌<◌, ◌≤◌, ◌==◌, ◌∷◌, ◌++◌, [], IfOk, OnOk, length, drop, find, MatchOption, IsTrue, true, false, slice_get, Some};
+ghost use Rattle.std.specs.List.{list_any};
 ghost use Rattle.sharc_meaning.specs.Events.{is_of, events_of};
 ghost use Rattle.sharc_meaning.specs.Meaning.{asks};
 ghost use Rattle.sharc_meaning.specs.Store.{spawns};
 ghost use Rattle.sharc_ctype.specs.Resolved.{Resolution, function_at};
-ghost use Rattle.sharc_audit.specs.Judging.{main_of, entry, has_begun, start_of, start_at, next_asked, own_answers, event_at, is_spent};
-ghost use Rattle.sharc_audit.specs.Known.{IsKnown, AreKnown};
+ghost use Rattle.sharc_audit.specs.Judging.{main_of, entry, has_begun, start_of, start_at, next_asked, next_in, own_answers, event_at};
+ghost use Rattle.sharc_audit.specs.Known.{IsKnown, AreKnown, IsPlaceOf};
+ghost use Rattle.sharc_audit.specs.Walks.{IsWalk};
 ghost use Rattle.sharc_audit.specs.Mains.{OneMain};
 ghost use Rattle.sharc_audit.specs.Lines.{told, told_to, IsLine};
 ghost use Rattle.sharc_audit.specs.declared.threads.Next.TheVariants.{Wants};
@@ -15,15 +16,13 @@ ghost use Rattle.sharc_tree.specs.declared.event.SourceEvent.{SourceEvent};
 
 use crate::line::EventLine;
 use crate::matching::told;
-use sharc_ask::asked::Outcome;
-use sharc_ask::thread::ask;
+use crate::run::{ThreadRun, first_fuel, walk_to, walked};
 use sharc_ctype::typed::Typed;
 use sharc_ctype_laws::laws::one_function_of_name;
 use sharc_judge::access::spawns;
 use sharc_meaning::laws::ask_laws;
 use sharc_mode::moded::Moded;
-use sharc_tree::event::{Act, SourceEvent, SourceEvents};
-use sharc_tree::listed::Listed;
+use sharc_tree::event::{Act, SourceEvent};
 use std::alloc::{AllocError, Global};
 
 /// What a thread asks for.
@@ -35,14 +34,6 @@ pub enum Next {
     Spent,
     /// Nothing.
     Nothing,
-}
-
-/// What a thread asks for with all that the lines report to it, and whether its fuel is spent after that.
-#[derive(Drop)]
-pub struct ThreadRun {
-    pub thread: u32,
-    pub events: SourceEvents,
-    pub spent: bool,
 }
 
 /// The number of `main`. Out of memory is answered also where there are more functions than a number of 32 bits counts.
@@ -148,26 +139,46 @@ fn told_to(alloc: Global, thread: u32, lines: &[EventLine]) -> Result<Vec<i64>, 
 }
 
 fn event_at(run: &ThreadRun, place: usize) -> Next
-    ensures { result ≡ event_at run.now.thread run.now.spent (slice_get run.now.events place) }
+    ensures { result ≡ event_at run.now.thread run.now.walk.spent (slice_get run.now.walk.events place) }
 {
-    if place < run.events.len() {
-        let mut e = *run.events.at(place);
+    if place < run.walk.events.len() {
+        let mut e = *run.walk.events.at(place);
         e.thread = run.thread;
         Next::Wants(e)
-    } else if run.spent {
+    } else if run.walk.spent {
         Next::Spent
     } else {
         Next::Nothing
     }
 }
 
-/// The run of the thread, where it has begun.
-fn run_of(thread: u32, runs: &[ThreadRun]) -> Option<&ThreadRun>
-    ensures { option_copied result ≡ find (λ run. run.thread == thread) runs.now }
+/// What the thread asks for at this place behind its start.
+fn next_of(
+    alloc: Global,
+    program: &Moded,
+    place: usize,
+    fuel: u64,
+    run: &mut ThreadRun,
+) -> Result<Next, AllocError>
+    requires walk { IsWalk program.now run.old.function run.old.argument run.old.answers.items run.old.walk }
+    requires within { run.old.walk.fuel ≤ fuel }
+    ensures same { run.new ≡ record run.old { walk = run.new.walk } }
+    ensures walk { OnOk result (IsWalk program.now run.old.function run.old.argument run.old.answers.items run.new.walk) }
+    ensures within { OnOk result (run.new.walk.fuel ≤ fuel) }
+    ensures next { IfOk result (λ next. next ≡ next_in run.old.thread place (asks program.now run.old.function run.old.argument run.old.answers.items fuel)) }
 {
-    for run in runs {
-        if run.thread == thread {
-            return Some(run);
+    ask_laws();
+    walk_to(alloc, program, place, fuel, run)?;
+    Ok(event_at(run, place))
+}
+
+/// The place of the run of the thread, where it has begun.
+fn place_of(thread: u32, runs: &[ThreadRun]) -> Option<usize>
+    ensures { MatchOption result (list_any (λ run. run.thread == thread) runs.now ≡ false) (IsPlaceOf thread runs.now) }
+{
+    for i in 0..runs.len() {
+        if runs[i].thread == thread {
+            return Some(i);
         }
     }
     None
@@ -175,32 +186,34 @@ fn run_of(thread: u32, runs: &[ThreadRun]) -> Option<&ThreadRun>
 
 /// What the thread of the line asks for after these events.
 pub(crate) fn next_asked(
+    alloc: Global,
     program: &Moded,
     main: Option<u32>,
     fuel: u64,
     before: &[SourceEvent],
     line: &EventLine,
     rest: &[EventLine],
-    runs: &[ThreadRun],
-) -> Next
+    runs: &mut Vec<ThreadRun>,
+) -> Result<Next, AllocError>
     requires main { main ≡ main_of program.now.typed }
-    requires known { AreKnown program.now fuel before.now (line.now ∷ rest.now) runs.now }
-    ensures { result ≡ next_asked program.now fuel before.now line.now }
+    requires known { AreKnown program.now fuel before.now (line.now ∷ rest.now) runs.old.items }
+    ensures next { IfOk result (λ next. next ≡ next_asked program.now fuel before.now line.now) }
+    ensures known { OnOk result (AreKnown program.now fuel before.now (line.now ∷ rest.now) runs.new.items) }
 {
     ask_laws();
-    match run_of(line.thread, runs) {
-        None => start_of(program.typed(), main, before, line.thread),
-        Some(run) => {
+    match place_of(line.thread, runs.as_slice()) {
+        None => Ok(start_of(program.typed(), main, before, line.thread)),
+        Some(i) => {
             let count = event_count(line.thread, before);
             if count == 0 {
-                return Next::Nothing;
+                return Ok(Next::Nothing);
             }
-            event_at(run, count - 1)
+            next_of(alloc, program, count - 1, fuel, &mut runs[i])
         }
     }
 }
 
-/// What a thread that starts asks for, with all that the lines report to it. Where none does, nothing is asked.
+/// The run of a thread that starts, with all that the lines report to it.
 fn begin(
     alloc: Global,
     program: &Moded,
@@ -210,26 +223,27 @@ fn begin(
     rest: &[EventLine],
 ) -> Result<ThreadRun, AllocError>
     ensures thread { IfOk result (λ run. run.thread ≡ thread) }
-    ensures events { IfOk result (λ run. 0 < length (told_to thread rest.now) → run.events ≡ (asks program.now with.0 with.1 (told_to thread rest.now) fuel).events) }
-    ensures spent { IfOk result (λ run. 0 < length (told_to thread rest.now) → run.spent ≡ is_spent (asks program.now with.0 with.1 (told_to thread rest.now) fuel).outcome) }
+    ensures function { IfOk result (λ run. run.function ≡ with.0) }
+    ensures argument { IfOk result (λ run. run.argument ≡ with.1) }
+    ensures answers { IfOk result (λ run. run.answers.items ≡ told_to thread rest.now) }
+    ensures walk { IfOk result (λ run. IsWalk program.now with.0 with.1 (told_to thread rest.now) run.walk) }
+    ensures within { IfOk result (λ run. run.walk.fuel ≤ fuel) }
 {
     let answers = told_to(alloc, thread, rest)?;
-    if answers.is_empty() {
-        return Ok(ThreadRun {
-            thread,
-            events: Listed::of(Vec::new(alloc)),
-            spent: false,
-        });
-    }
-    let asked = ask(alloc, program, with.0, with.1, answers.as_slice(), fuel)?;
-    let spent = match &asked.outcome {
-        Outcome::Fuel => true,
-        _ => false,
-    };
+    let walk = walked(
+        alloc,
+        program,
+        with.0,
+        with.1,
+        answers.as_slice(),
+        first_fuel(fuel),
+    )?;
     Ok(ThreadRun {
         thread,
-        events: asked.events,
-        spent,
+        function: with.0,
+        argument: with.1,
+        answers,
+        walk,
     })
 }
 
@@ -248,7 +262,7 @@ pub(crate) fn accept(
     requires known { AreKnown program.now fuel before.now (line.now ∷ rest.now) runs.old.items }
     ensures { OnOk result ((e : SourceEvent) → next_asked program.now fuel before.now line.now ≡ Wants e → line.now.thread ≡ e.thread → told line.now ≡ e.answer → AreKnown program.now fuel (before.now ++ e ∷ []) rest.now runs.new.items) }
 {
-    match run_of(line.thread, runs.as_slice()) {
+    match place_of(line.thread, runs.as_slice()) {
         Some(_) => Ok(()),
         None => match entry(main, before, line.thread) {
             None => Ok(()),

@@ -72,3 +72,59 @@ fn the_longest_file(rt: HostRuntime) -> Result<(), Fail> {
     let longer = spaces(&rt, 16_777_217, "")?;
     assert_audited(&rt, longer.as_str(), "2 file over 16777216 bytes")
 }
+
+const SPAWNS: &str =
+    " int main(void) { for (;;) spawn(w, 0); return 0; }\n%%events 65536\n0 started 0\n";
+
+/// The function `w`, and the events of this many threads of it: each is spawned, starts, and then has this line.
+fn threads(
+    rt: &(impl AllocGlobal),
+    function: &str,
+    count: u32,
+    line: &str,
+) -> Result<String, Fail> {
+    let alloc = rt.alloc();
+    let mut text = String::from_str(alloc, function)?;
+    text.push_str(SPAWNS)?;
+    for n in 1..=count {
+        let begins = format!(in alloc; "0 spawn w 0 {n}\n{n} started 0\n")?;
+        text.push_str(begins.as_str())?;
+        if !line.is_empty() {
+            let own = format!(in alloc; "{n} {line}\n")?;
+            text.push_str(own.as_str())?;
+        }
+    }
+    Ok(text)
+}
+
+#[test]
+fn threads_that_loop_behind_their_start(rt: HostRuntime) -> Result<(), Fail> {
+    let text = threads(&rt, "void w(int k) { for (;;) ; }", 2000, "")?;
+    assert_audited(&rt, text.as_str(), "0 obeys 4001 events")
+}
+
+#[test]
+fn threads_that_loop_behind_a_print(rt: HostRuntime) -> Result<(), Fail> {
+    let text = threads(
+        &rt,
+        "void w(int k) { print(7); for (;;) ; }",
+        1333,
+        "print 7",
+    )?;
+    assert_audited(&rt, text.as_str(), "0 obeys 4000 events")
+}
+
+#[test]
+fn threads_that_never_come_to_their_last_line(rt: HostRuntime) -> Result<(), Fail> {
+    let mut text = threads(
+        &rt,
+        "void w(int k) { print(7); for (;;) ; }",
+        1000,
+        "print 7",
+    )?;
+    for n in 1..=1000 {
+        let own = format!(in rt.alloc(); "{n} print 8\n")?;
+        text.push_str(own.as_str())?;
+    }
+    assert_audited(&rt, text.as_str(), "13 event 3002: U1 fuel 65536 spent")
+}

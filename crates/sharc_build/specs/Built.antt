@@ -7,7 +7,7 @@ use Rattle.sharc_check.specs.Checks.{IsRefused}
 use Rattle.sharc_check.specs.Named.{TellNamed}
 use Rattle.sharc_code.specs.Ranges.{NumbersFit}
 use Rattle.sharc_sound.specs.Compiled.{IsCompiled}
-use Rattle.sharc_sound.specs.Front.{IsFront, IsRefusedAt}
+use Rattle.sharc_sound.specs.Front.{IsFront, IsSourceFault}
 use Rattle.sharc_build.specs.declared.building.Built.{Built}
 use Rattle.sharc_build.specs.declared.building.BuildFault.{BuildFault}
 use Rattle.sharc_build.specs.declared.building.BuildFault.TheVariants.{Source, Modes, Memory}
@@ -30,7 +30,7 @@ pub record IsIllModed (source : List ℕ) (m : Assignment) (errors : List ModeEr
 
 -- the first fault of the first stage that has one, or all the cases of M1 to M11
 abbrev pub IsUnbuilt : List ℕ → BuildFault → Type 0
-IsUnbuilt source (Source fault) = IsRefusedAt source fault.stage fault.at
+IsUnbuilt source (Source fault) = IsSourceFault source fault
 IsUnbuilt source (Modes m errors named) = IsIllModed source m errors named
 IsUnbuilt source Memory = Unit {0}
 

@@ -19,7 +19,8 @@ use sharc_flatten::flatten;
 use sharc_mode::error::ModeErrors;
 use sharc_mode::moded::Moded;
 use sharc_reach::Reached;
-use sharc_sound::{ReachedProgram, Refusal, SourceFault, front};
+use sharc_report::SourceFault;
+use sharc_sound::{ReachedProgram, Refusal, front};
 use std::alloc::{AllocError, Global};
 
 /// A program whose modes are accepted, and its checked code.
@@ -95,7 +96,6 @@ pub fn build(alloc: Global, source: &[u8]) -> Result<Built, BuildFault>
     match front(alloc, source) {
         Ok(ReachedProgram { program, reached }) => accepted(alloc, program, &reached),
         Err(Refusal::Source(fault)) => Err(BuildFault::Source(fault)),
-        Err(Refusal::Modes(..)) => unreachable!(),
         Err(Refusal::Memory) => Err(BuildFault::Memory),
     }
 }

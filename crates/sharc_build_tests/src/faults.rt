@@ -1,7 +1,7 @@
 //! What is built of a source with a fault.
 
 use sharc_build::{BuildFault, build};
-use sharc_report::Stage;
+use sharc_report::SourceFault;
 use std::process::Abort;
 use std::test::Fail;
 
@@ -19,11 +19,9 @@ fn fault_of(rt: &(impl Abort + AllocGlobal), source: &str) -> &'static str {
     assert!(rt; source.len() <= 1_048_576);
     match build(rt.alloc(), source.as_bytes()) {
         Ok(_) => "nothing",
-        Err(BuildFault::Source(fault)) => match fault.stage {
-            Stage::Lexer => "lexer",
-            Stage::Parser => "parser",
-            Stage::Typing => "typing",
-        },
+        Err(BuildFault::Source(SourceFault::Lexer(_))) => "lexer",
+        Err(BuildFault::Source(SourceFault::Parser(_))) => "parser",
+        Err(BuildFault::Source(SourceFault::Typing(_))) => "typing",
         Err(BuildFault::Modes(..)) => "modes",
         Err(BuildFault::Memory) => "memory",
     }

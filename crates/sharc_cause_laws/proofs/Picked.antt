@@ -152,7 +152,7 @@ refused_back : (c d : ConflictAt) (o : Option Stop) → refused_by c o ≡ Some 
 refused_back c d None e = absurd (let f : None ≡ Some d = e in cc)
 refused_back c d (Some (NoLock site word)) e = absurd (let f : None ≡ Some d = e in cc)
 refused_back c d (Some (NotSole site count)) e = absurd (let f : None ≡ Some d = e in cc)
-refused_back c d (Some (Trap number site)) e = absurd (let f : None ≡ Some d = e in cc)
+refused_back c d (Some (Trap trap site)) e = absurd (let f : None ≡ Some d = e in cc)
 refused_back c d (Some (Conflict b)) e = elim (is_same_place c b) as (λ y. is_same_place c b ≡ y → (if y then Some b else None) ≡ Some d → (Some (Conflict b) ≡ Some (Conflict d)) × (d.granule ≡ c.granule) × (d.epoch ≡ c.epoch)) [
   | true ↦ λ q z. let same : b ≡ d = cc in let k = places b.granule c.granule b.epoch c.epoch q in (ap (λ d. Some (Conflict d)) same, ap (λ (d : ConflictAt). d.granule) (sym same) ∙ k.0, ap (λ (d : ConflictAt). d.epoch) (sym same) ∙ k.1)
   | false ↦ λ _ z. absurd (let f : None ≡ Some d = z in cc)

@@ -8,6 +8,8 @@ use Rattle.sharc_tree.specs.declared.tree.item.GlobalDefinition.{GlobalDefinitio
 use Rattle.sharc_tree.specs.Tree.{Function}
 use Rattle.sharc_ctype.specs.Entities.{entities_in, numbered}
 use Rattle.sharc_ctype.specs.Resolved.{functions_in, globals_in}
+use Rattle.sharc_mode.specs.declared.error.ErrorCode.{ErrorCode}
+use Rattle.sharc_mode.specs.declared.error.ErrorCode.TheVariants.{PrivateReachesThread}
 use Rattle.sharc_mode.specs.declared.finding.Finding.{Finding}
 use Rattle.sharc_mode.specs.declared.finding.Finding.TheVariants.{Wrong, Names, Takes}
 use Rattle.sharc_mode.specs.Cells.{top_of}
@@ -36,7 +38,7 @@ NamesNone x l = is_named x l ≡ false
 none_in_both : (x : ℕ) (a b : List Finding) → NamesNone x a → NamesNone x b → NamesNone x (a ++ b)
 none_in_both x a b in_a in_b = named_in_both x a b ∙ ap (λ t. t || is_named x b) in_a ∙ in_b
 
-none_where : (x : ℕ) (test : Bool) (code : ℕ) (s : Span) (text : List ℕ) → NamesNone x (error_where test code s text)
+none_where : (x : ℕ) (test : Bool) (code : ErrorCode) (s : Span) (text : List ℕ) → NamesNone x (error_where test code s text)
 none_where x true code s text = refl
 none_where x false code s text = refl
 
@@ -44,7 +46,7 @@ none_of_parameters : (m : Assignment) (x : ℕ) (name : List ℕ) (all : List De
 none_of_parameters m x name [] = refl
 none_of_parameters m x name (d ∷ rest) =
     none_in_both x (parameter_notes m name d) (flat_map (parameter_notes m name) rest)
-    (none_where x (has_private_target (modes_of m (declared_row m.typed written d.name.site.token))) 7 d.written.span name)
+    (none_where x (has_private_target (modes_of m (declared_row m.typed written d.name.site.token))) PrivateReachesThread d.written.span name)
     (none_of_parameters m x name rest)
 
 none_if : (x : ℕ) (test : Bool) (l : List Finding) → NamesNone x l → NamesNone x (cond test l [])
@@ -61,8 +63,8 @@ none_of_spawned m x n (f ∷ rest) =
 none_of_touched : (touched : ℕ → Bool) (x n : ℕ) (gs : List GlobalDefinition) → NamesNone x (touched_notes touched n gs)
 none_of_touched touched x n [] = refl
 none_of_touched touched x n (g ∷ rest) =
-    none_in_both x (error_where (touched n && is_private_level (top_of g.declaration.written.ctype.levels)) 7 g.declaration.written.span g.declaration.name.text) (touched_notes touched (n + 1) rest)
-    (none_where x (touched n && is_private_level (top_of g.declaration.written.ctype.levels)) 7 g.declaration.written.span g.declaration.name.text)
+    none_in_both x (error_where (touched n && is_private_level (top_of g.declaration.written.ctype.levels)) PrivateReachesThread g.declaration.written.span g.declaration.name.text) (touched_notes touched (n + 1) rest)
+    (none_where x (touched n && is_private_level (top_of g.declaration.written.ctype.levels)) PrivateReachesThread g.declaration.written.span g.declaration.name.text)
     (none_of_touched touched x (n + 1) rest)
 
 or_none : (b : Bool) → (b || false) ≡ b

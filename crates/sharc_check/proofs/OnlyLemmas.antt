@@ -3,11 +3,12 @@ use Rattle.std.proofs.Common.{◌≡◌, List}
 use Rattle.std.specs.Cmp.{IsTotalOrder}
 use Rattle.std.proofs.lemmas.Cmp.{on_total, then_total, nat_cmp_total}
 use Rattle.sharc_mode.specs.declared.error.ModeError.{ModeError}
+use Rattle.sharc_mode.specs.Errors.{number_of}
 use Rattle.sharc_check.specs.Orders.{IsInOrder, place_and_code, by_place}
 use Rattle.sharc_check.proofs.OnceLemmas.{one_order}
 
 total : IsTotalOrder (λ (x y : ModeError). by_place (place_and_code x) (place_and_code y))
-total = then_total (on_total (λ (x : ModeError). x.site.token) nat_cmp_total) (on_total (λ (x : ModeError). x.code) nat_cmp_total)
+total = then_total (on_total (λ (x : ModeError). x.site.token) nat_cmp_total) (on_total (λ (x : ModeError). number_of x.code) nat_cmp_total)
 
 pub only : (found a b : List ModeError) → IsInOrder found a → IsInOrder found b → a ≡ b
 only found a b first second =

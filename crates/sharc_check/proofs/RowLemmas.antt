@@ -7,6 +7,7 @@ use Rattle.sharc_tree.specs.declared.token.Span.{Span}
 use Rattle.sharc_tree.specs.declared.tree.declaration.Declaration.{Declaration}
 use Rattle.sharc_tree.specs.Tree.{Arguments}
 use Rattle.sharc_ctype.specs.Resolved.{Resolution}
+use Rattle.sharc_mode.specs.declared.error.ErrorCode.TheVariants.{CastChangesInnerMode}
 use Rattle.sharc_mode.specs.Cells.{pointed}
 use Rattle.sharc_mode.specs.Moded.{Assignment}
 use Rattle.sharc_mode.specs.Notes.{cast_notes, mismatch, shown, unmet, unmet_in}
@@ -41,9 +42,9 @@ unmet_one r ds args all rest s found next whole all_is next_is were =
 
 pub cast_said : (laws : RowLaws) (m : Assignment) (s : Span) (b : Base) (to from below_to below_from : Targets) (row : Option Targets) (same : Bool) → row ≡ Some from
     → to.first + to.count ≤ length m.modes → from.first + from.count ≤ length m.modes → below_to ≡ deeper to → below_from ≡ deeper from → same ≡ same_all m.typed (modes_of m below_to) (modes_of m below_from)
-    → cast_notes m.typed s b (modes_of m to) (option_map (modes_of m) row) ≡ cond same [] (mismatch 8 s (shown m.typed b (modes_of m to)) (shown m.typed b (modes_of m from)) ∷ [])
+    → cast_notes m.typed s b (modes_of m to) (option_map (modes_of m) row) ≡ cond same [] (mismatch CastChangesInnerMode s (shown m.typed b (modes_of m to)) (shown m.typed b (modes_of m from)) ∷ [])
 cast_said laws m s b to from below_to below_from row same row_is ends_to ends_from to_is from_is same_is =
     ap (λ x. cast_notes m.typed s b (modes_of m to) (option_map (modes_of m) x)) row_is
-    ∙ ap (λ x. cond x [] (mismatch 8 s (shown m.typed b (modes_of m to)) (shown m.typed b (modes_of m from)) ∷ []))
+    ∙ ap (λ x. cond x [] (mismatch CastChangesInnerMode s (shown m.typed b (modes_of m to)) (shown m.typed b (modes_of m from)) ∷ []))
     (ap (λ l. same_all m.typed l (drop 1 (modes_of m from))) (laws.drops m to ends_to ∙ ap (modes_of m) (sym to_is))
     ∙ ap (same_all m.typed (modes_of m below_to)) (laws.drops m from ends_from ∙ ap (modes_of m) (sym from_is)) ∙ sym same_is)

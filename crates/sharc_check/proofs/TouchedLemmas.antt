@@ -12,6 +12,7 @@ use Rattle.sharc_names.specs.declared.fault.Named.TheVariants as named
 use Rattle.sharc_ctype.specs.Reaches.{Names, tokens_of, IsTouched}
 use Rattle.sharc_ctype.specs.Resolved.{Resolution, named_at, functions_in, globals_in, function_at}
 use Rattle.sharc_reach.specs.Reaching.{Reaching, AreReached, IsFirstOf, is_chosen, first_of}
+use Rattle.sharc_mode.specs.declared.error.ErrorCode.TheVariants.{PrivateReachesThread}
 use Rattle.sharc_mode.specs.Cells.{top_of}
 use Rattle.sharc_ctype.specs.Entities.{entities_in, numbered}
 use Rattle.sharc_mode.specs.Expressions.{items_notes}
@@ -175,8 +176,8 @@ module _ (r : Resolution) (a : Reaching) (reached : AreReached r a) where
 same_notes : (s t : ℕ → Bool) (limit : ℕ) → ((g : ℕ) → g < limit → s g ≡ t g) → (n : ℕ) (list : List GlobalDefinition) → n + length list ≤ limit → touched_notes s n list ≡ touched_notes t n list
 same_notes s t limit same n [] ends = refl
 same_notes s t limit same n (g ∷ rest) ends =
-    ap (λ b. error_where (b && is_private_level (top_of g.declaration.written.ctype.levels)) 7 g.declaration.written.span g.declaration.name.text ++ touched_notes s (n + 1) rest) (same n (omega (arith, ends)))
-    ∙ ap (λ x. error_where (t n && is_private_level (top_of g.declaration.written.ctype.levels)) 7 g.declaration.written.span g.declaration.name.text ++ x) (same_notes s t limit same (n + 1) rest (omega (arith, ends)))
+    ap (λ b. error_where (b && is_private_level (top_of g.declaration.written.ctype.levels)) PrivateReachesThread g.declaration.written.span g.declaration.name.text ++ touched_notes s (n + 1) rest) (same n (omega (arith, ends)))
+    ∙ ap (λ x. error_where (t n && is_private_level (top_of g.declaration.written.ctype.levels)) PrivateReachesThread g.declaration.written.span g.declaration.name.text ++ x) (same_notes s t limit same (n + 1) rest (omega (arith, ends)))
 
 -- the cases that arise by what is reached
 pub all_arise : (m : Assignment) (a : Reaching) → AreReached m.typed a → AreModeErrors m (errors_of m.typed (notes_about m (touched_by a)))

@@ -4,10 +4,11 @@ use Rattle.std.specs.Ordering.{nat_cmp, ordering_then}
 use Rattle.std.specs.declared.cmp.Ordering.{Ordering}
 use Rattle.std.specs.List.Sorted.{IsPermutation, IsSortedByKey, IsStableByKey}
 use Rattle.sharc_mode.specs.declared.error.ModeError.{ModeError}
+use Rattle.sharc_mode.specs.Errors.{number_of}
 
 -- its place, and its code
 abbrev pub place_and_code : ModeError → ℕ × ℕ
-place_and_code e = (e.site.token, e.code)
+place_and_code e = (e.site.token, number_of e.code)
 
 -- by place, then by code
 abbrev pub by_place : ℕ × ℕ → ℕ × ℕ → Ordering

@@ -3,6 +3,7 @@ use Rattle.std.specs.Prelude.{ℕ, ◌+◌, Bool, true, false, List, [], ◌∷�
 use Rattle.std.specs.List.{flat_map}
 use Rattle.sharc_tree.specs.declared.token.Span.{Span}
 use Rattle.sharc_ctype.specs.Resolved.{Resolution}
+use Rattle.sharc_mode.specs.declared.error.ErrorCode.TheVariants.{NamedByLockPath}
 use Rattle.sharc_mode.specs.declared.error.ModeError.{ModeError}
 use Rattle.sharc_mode.specs.declared.finding.Finding.{Finding}
 use Rattle.sharc_mode.specs.declared.finding.Finding.TheVariants.{Wrong, Names, Takes}
@@ -28,7 +29,7 @@ abbrev pub marks : List Finding → List Bool
 marks notes = fold marked (replicate (past_all notes) false) notes
 
 abbrev pub taken_errors : Resolution → Bool → Span → ℕ → List ModeError
-taken_errors r named s x = flat_map error_of (error_where named 10 s (text_at r x))
+taken_errors r named s x = flat_map error_of (error_where named NamedByLockPath s (text_at r x))
 
 abbrev pub settled : Resolution → List Bool → Finding → List ModeError
 settled r flags (Wrong e) = e ∷ []

@@ -4,6 +4,7 @@ use Rattle.std.specs.List.{flat_map}
 use Rattle.sharc_tree.specs.declared.tree.item.GlobalDefinition.{GlobalDefinition}
 use Rattle.sharc_tree.specs.Tree.{Function}
 use Rattle.sharc_reach.specs.Reaching.{Reaching, first_of}
+use Rattle.sharc_mode.specs.declared.error.ErrorCode.TheVariants.{PrivateReachesThread}
 use Rattle.sharc_mode.specs.declared.finding.Finding.{Finding}
 use Rattle.sharc_mode.specs.Cells.{top_of}
 use Rattle.sharc_mode.specs.Moded.{Assignment}
@@ -16,7 +17,7 @@ function_notes m spawned (Some f) = if spawned then flat_map (parameter_notes m 
 
 abbrev pub global_notes : Bool → Option GlobalDefinition → List Finding
 global_notes touched None = []
-global_notes touched (Some g) = error_where (touched && is_private_level (top_of g.declaration.written.ctype.levels)) 7 g.declaration.written.span g.declaration.name.text
+global_notes touched (Some g) = error_where (touched && is_private_level (top_of g.declaration.written.ctype.levels)) PrivateReachesThread g.declaration.written.span g.declaration.name.text
 
 abbrev pub touched_by : Reaching → ℕ → Bool
 touched_by a g = is_some (first_of a g)

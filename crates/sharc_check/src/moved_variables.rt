@@ -8,7 +8,7 @@ ghost use Rattle.sharc_check.specs.Settles.{taken_errors, settled, marked, marks
 use crate::named::NamedVariables;
 use crate::rules::error;
 use sharc_ctype::typed::Typed;
-use sharc_mode::error::ModeError;
+use sharc_mode::error::{ErrorCode, ModeError};
 use sharc_mode::finding::Finding;
 use sharc_mode::text::text_at;
 use sharc_tree::name::Name;
@@ -76,7 +76,7 @@ fn taken(
 {
     if named {
         let subject = Name::from_slice(alloc, text_at(typed, taken.1))?;
-        if let Finding::Wrong(case) = error(alloc, 10, taken.0, subject) {
+        if let Finding::Wrong(case) = error(alloc, ErrorCode::NamedByLockPath, taken.0, subject) {
             errors.push(case)?;
         }
     }

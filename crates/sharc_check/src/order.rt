@@ -10,6 +10,6 @@ use std::alloc::AllocError;
 pub(crate) fn put_in_order(errors: &mut Vec<ModeError>) -> Result<(), AllocError>
     ensures { OnOk result (IsInOrder errors.old.items errors.new.items) }
 {
-    errors.sort_by_key(|e| (e.site.token, e.code))?;
+    errors.sort_by_key(|e| (e.site.token, e.code.number()))?;
     Ok(())
 }

@@ -18,7 +18,7 @@ ghost use Rattle.sharc_check.specs.Passed.{view_passed, view_locks};
 use crate::passing::Passing;
 use sharc_ctype::typed::Typed;
 use sharc_mode::cell::{cell_of, pointed};
-use sharc_mode::error::ModeError;
+use sharc_mode::error::{ErrorCode, ModeError};
 use sharc_mode::finding::Finding;
 use sharc_mode::moded::Moded;
 use sharc_mode::read::{path_variable, read};
@@ -47,7 +47,7 @@ fn no_type(alloc: Global) -> CType
 }
 
 /// A case that shows no types.
-pub(crate) fn error(alloc: Global, code: u8, span: Span, subject: Name) -> Finding
+pub(crate) fn error(alloc: Global, code: ErrorCode, span: Span, subject: Name) -> Finding
     ensures { result ≡ error code span subject }
 {
     Finding::Wrong(ModeError {
@@ -62,7 +62,7 @@ pub(crate) fn error(alloc: Global, code: u8, span: Span, subject: Name) -> Findi
 /// A case that shows two types.
 pub(crate) fn mismatch(
     alloc: Global,
-    code: u8,
+    code: ErrorCode,
     span: Span,
     expected: CType,
     found: CType,
@@ -82,7 +82,7 @@ pub(crate) fn mismatch(
 fn differ(
     alloc: Global,
     program: &Moded,
-    code: u8,
+    code: ErrorCode,
     span: Span,
     root: Root<'_>,
     rows: (Targets<'_>, Targets<'_>),
@@ -120,7 +120,7 @@ pub(crate) fn agree(
                 differ(
                     alloc,
                     program,
-                    1,
+                    ErrorCode::ModeMismatch,
                     expr.span(),
                     root,
                     (expected, found),
@@ -136,7 +136,7 @@ pub(crate) fn agree(
 fn readonly(
     alloc: Global,
     program: &Moded,
-    code: u8,
+    code: ErrorCode,
     place: &Expr,
     notes: &mut Vec<Finding>,
 ) -> Result<(), AllocError>
@@ -159,7 +159,7 @@ pub(crate) fn write(
 ) -> Result<(), AllocError>
     ensures { OnOk result (notes.new.items ≡ notes.old.items ++ write_notes program.now (view_expr place.now)) }
 {
-    readonly(alloc, program, 2, place, notes)
+    readonly(alloc, program, ErrorCode::ReadonlyWrite, place, notes)
 }
 
 /// M8: the modes of the targets from depth 2 on are those of the source.
@@ -184,7 +184,15 @@ pub(crate) fn cast(
                 Ok(())
             } else {
                 let root = root_of(&to.ctype.base);
-                differ(alloc, program, 8, to.span, root, (expected, found), notes)
+                differ(
+                    alloc,
+                    program,
+                    ErrorCode::CastChangesInnerMode,
+                    to.span,
+                    root,
+                    (expected, found),
+                    notes,
+                )
             }
         }
     }
@@ -218,7 +226,7 @@ pub(crate) fn source(
 ) -> Result<(), AllocError>
     ensures { OnOk result (notes.new.items ≡ notes.old.items ++ source_notes program.now (view_expr place.now)) }
 {
-    readonly(alloc, program, 9, place, notes)?;
+    readonly(alloc, program, ErrorCode::ReadonlySource, place, notes)?;
     let variable = taken_variable(program.typed(), place.without_parentheses());
     takes(place.span(), variable, notes)
 }
@@ -316,7 +324,7 @@ fn sibling(
     match base {
         None => {
             let text = span_text(alloc, typed, span)?;
-            notes.push(error(alloc, 11, span, text))?;
+            notes.push(error(alloc, ErrorCode::NeedsConstantBase, span, text))?;
             Ok(())
         }
         Some(at) => name(variable_named(typed.named(at)), notes),
@@ -454,7 +462,7 @@ fn said_unmet(
     if let Some(lock) = lock {
         let path = path_of(alloc, typed, lock)?;
         let text = path_text(alloc, &path)?;
-        notes.push(error(alloc, 4, span, text))?;
+        notes.push(error(alloc, ErrorCode::LockPathNotConstant, span, text))?;
     }
     Ok(())
 }

@@ -15,6 +15,7 @@ ghost use Rattle.sharc_check.specs.Threads.{function_notes, global_notes, touche
 use crate::rules::error;
 use crate::types::is_private_level;
 use sharc_mode::cell::pointed;
+use sharc_mode::error::ErrorCode;
 use sharc_mode::finding::Finding;
 use sharc_mode::moded::Moded;
 use sharc_mode::row::{Reading, declared_row};
@@ -48,7 +49,12 @@ fn parameter(
     ensures { OnOk result (notes.new.items ≡ notes.old.items ++ parameter_notes program.now name.now of.now) }
 {
     if has_private_target(program, of.name.site.token) {
-        notes.push(error(alloc, 7, of.written.span, name.copy(alloc)?))?;
+        notes.push(error(
+            alloc,
+            ErrorCode::PrivateReachesThread,
+            of.written.span,
+            name.copy(alloc)?,
+        ))?;
     }
     Ok(())
 }
@@ -137,7 +143,7 @@ fn global(
             let written = &of.declaration.written;
             if touched && begins_private(written.ctype.levels.as_slice()) {
                 let name = of.declaration.name.text.copy(alloc)?;
-                notes.push(error(alloc, 7, written.span, name))?;
+                notes.push(error(alloc, ErrorCode::PrivateReachesThread, written.span, name))?;
             }
             Ok(())
         }

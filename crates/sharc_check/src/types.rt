@@ -12,6 +12,7 @@ use crate::rules::{error, mismatch, name_in};
 use sharc_ctype::entity::Numbered;
 use sharc_ctype::typed::Typed;
 use sharc_mode::cell::top_of;
+use sharc_mode::error::ErrorCode;
 use sharc_mode::finding::Finding;
 use sharc_mode::moded::Moded;
 use sharc_mode::place::Place;
@@ -81,7 +82,7 @@ fn private(
         let expected = printed_type(alloc, program, numbered)?;
         let found = printed_type(alloc, program, numbered)?;
         let span = numbered.entity.written.span;
-        notes.push(mismatch(alloc, 3, span, expected, found))?;
+        notes.push(mismatch(alloc, ErrorCode::PrivateTarget, span, expected, found))?;
     }
     Ok(())
 }
@@ -102,7 +103,7 @@ fn path(
         None => Ok(()),
         Some(path) => {
             let text = path_text(alloc, path)?;
-            notes.push(error(alloc, 4, written.span, text))?;
+            notes.push(error(alloc, ErrorCode::LockPathNotConstant, written.span, text))?;
             Ok(())
         }
     }
@@ -119,7 +120,7 @@ fn mode(alloc: Global, numbered: &Numbered, notes: &mut Vec<Finding>) -> Result<
         None => Ok(()),
         Some(mode) => {
             let text = mode_text(alloc, mode)?;
-            notes.push(error(alloc, 5, written.span, text))?;
+            notes.push(error(alloc, ErrorCode::ModeNotAllowed, written.span, text))?;
             Ok(())
         }
     }
@@ -167,7 +168,7 @@ fn private_field(
     let entity = &numbered.entity;
     if is_field(entity.role) && any_private(entity.written.ctype.levels.as_slice()) {
         let name = Name::from_slice(alloc, text_at(typed, entity.token))?;
-        notes.push(error(alloc, 6, entity.written.span, name))?;
+        notes.push(error(alloc, ErrorCode::PrivateField, entity.written.span, name))?;
     }
     Ok(())
 }

@@ -1,6 +1,7 @@
 //! Tables of sources with what is reported of them, as one text: a source, a line `--`, and what is wanted; a line `==` separates two cases.
 
 use crate::told::{Telling, Untold, told};
+use sharc_report::fault_text;
 use std::alloc::{AllocError, Global};
 use std::process::Abort;
 use std::test::Fail;
@@ -18,9 +19,10 @@ pub(crate) fn text_or_end(
     match told {
         Ok(text) => text,
         Err(Untold::Large) => panic!(rt; "no memory: {source}"),
-        Err(Untold::Faulty(fault)) => {
-            panic!(rt; "fault {} at line {}: {source}", fault.code, fault.line)
-        }
+        Err(Untold::Faulty(fault)) => match fault_text(rt.alloc(), &fault) {
+            Ok(line) => panic!(rt; "{line:?}: {source}"),
+            Err(_) => panic!(rt; "no memory: {source}"),
+        },
     }
 }
 

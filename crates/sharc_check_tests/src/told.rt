@@ -15,16 +15,15 @@ use sharc_mode::error::{Casts, ModeErrors};
 use sharc_mode::moded::Moded;
 use sharc_parse::{ParseFault, parse};
 use sharc_reach::{Reached, reach};
-use sharc_report::{accepted_text, check_text, explain_text};
+use sharc_report::{SourceFault, accepted_text, check_text, explain_text};
 use sharc_suggest::suggest_all;
-use sharc_tree::token::FaultAt;
 use std::alloc::{AllocError, Global};
 
 /// Why nothing is said of the modes of a source.
 #[derive(Drop)]
 pub(crate) enum Untold {
     /// It is no program; this is its first fault.
-    Faulty(FaultAt),
+    Faulty(SourceFault),
     /// It is too large, or memory was wanting.
     Large,
 }
@@ -38,7 +37,7 @@ impl From<AllocError> for Untold {
 impl From<LexFault> for Untold {
     fn from(fault: LexFault) -> Untold {
         match fault {
-            LexFault::At(fault) => Untold::Faulty(fault),
+            LexFault::At(fault) => Untold::Faulty(SourceFault::Lexer(fault)),
             LexFault::Memory => Untold::Large,
         }
     }
@@ -47,7 +46,7 @@ impl From<LexFault> for Untold {
 impl From<TypeFault> for Untold {
     fn from(fault: TypeFault) -> Untold {
         match fault {
-            TypeFault::At(fault) => Untold::Faulty(fault),
+            TypeFault::At(fault) => Untold::Faulty(SourceFault::Typing(fault)),
             TypeFault::Memory => Untold::Large,
         }
     }
@@ -62,7 +61,7 @@ fn typed(alloc: Global, source: &[u8]) -> Result<Typed, Untold> {
     match parse(alloc, tokens) {
         Err(ParseFault::At(fault, tokens)) => {
             drop(tokens);
-            Err(Untold::Faulty(fault))
+            Err(Untold::Faulty(SourceFault::Parser(fault)))
         }
         Err(ParseFault::Memory) => Err(Untold::Large),
         Ok(program) => {

@@ -1,8 +1,10 @@
 -- What every turn keeps: the number of the thread, the rows of its table, a stage of the shape, and the prints but for one more.
-use Rattle.std.proofs.Common.{◌≡◌, ℕ, ℤ, pos, negsuc, zero, suc, ◌+◌, ◌*◌, min, Bool, true, false, not, ◌&&◌, ◌||◌, ◌==◌, nat_lt, length, is_some, if◌then◌else◌, refl, ◌∙◌, ◌<◌, ◌≤◌, [], ◌∷◌, length-append, subst, arith}
+use Rattle.std.proofs.Common.{◌≡◌, ℕ, ℤ, pos, negsuc, zero, suc, ◌+◌, ◌*◌, min, Bool, true, false, not, ◌&&◌, ◌||◌, ◌==◌, nat_lt, length, is_some, if◌then◌else◌, refl, ◌<◌, [], ◌∷◌, length-append, subst, arith}
 use Rattle.std.specs.Prelude.{Result, Ok, Err}
 use Rattle.std.proofs.lemmas.Bool.Decides.{Decides-ltb}
 use Rattle.std.proofs.lemmas.List.{length-set}
+use Rattle.sharc_tree.specs.declared.trap.Trap.{Trap}
+use Rattle.sharc_tree.specs.declared.trap.Trap.TheVariants as traps
 use Rattle.sharc_word.specs.declared.step.TheConstants.{THREADS}
 use Rattle.sharc_word.specs.declared.step.WordOp.TheVariants as ops
 use Rattle.sharc_cond.specs.Waiters.{waits_in}
@@ -64,11 +66,11 @@ module _ (code : Code) (s : Shape) (allowed : ℕ → Type 0) (m : Machine) wher
   plain : (new : Own) → length new.table.notes ≡ length m.own.table.notes → new.number ≡ m.own.number → length new.prints ≡ length m.own.prints → (P m.own.stage → P new.stage) → Keeps P m.own new
   plain new rows number prints stage = changed P m.own new rows number prints stage
 
-  at_result : (r site : ℕ) (z : Result ℤ ℕ) → Keeps P m.own (with_result m r site z).own
+  at_result : (r site : ℕ) (z : Result ℤ Trap) → Keeps P m.own (with_result m r site z).own
   at_result r site (Ok z) = plain _ refl refl refl (λ h. h)
   at_result r site (Err c) = plain _ refl refl refl (λ h. h)
 
-  at_assert : (b : Bool) (c site : ℕ) → Keeps P m.own (asserts m b c site).own
+  at_assert : (b : Bool) (c : Trap) (site : ℕ) → Keeps P m.own (asserts m b c site).own
   at_assert true c site = plain _ refl refl refl (λ h. h)
   at_assert false c site = plain _ refl refl refl (λ h. h)
 
@@ -153,7 +155,7 @@ module _ (code : Code) (s : Shape) (allowed : ℕ → Type 0) (m : Machine) wher
   at_numbered : (site n : ℕ) → (n < THREADS → allowed n) → Keeps P m.own (numbered m site n).own
   at_numbered site n draw = by (nat_lt n THREADS) refl
     where
-      by : (b : Bool) → nat_lt n THREADS ≡ b → Keeps P m.own (if b then at_stage m (Names n) else trapped m 8 site).own
+      by : (b : Bool) → nat_lt n THREADS ≡ b → Keeps P m.own (if b then at_stage m (Names n) else trapped m traps.ThreadLimit site).own
       by true e = plain _ refl refl refl (λ h. draw ((Decides-ltb n THREADS).0 e))
       by false e = plain _ refl refl refl (λ h. h)
 
@@ -170,7 +172,7 @@ module _ (code : Code) (s : Shape) (allowed : ℕ → Type 0) (m : Machine) wher
 
   at_join : (z : ℤ) (site found : ℕ) → Keeps P m.own (after (join m z site) found).own
   at_join (pos n) site found =
-      elim (nat_lt n THREADS) as (λ b. Keeps P m.own (after (if b then Asks (step_of (state_word n) ops.Load) (joined m site) else Local (trapped m 7 site)) found).own) [
+      elim (nat_lt n THREADS) as (λ b. Keeps P m.own (after (if b then Asks (step_of (state_word n) ops.Load) (joined m site) else Local (trapped m traps.NoSuchThread site)) found).own) [
         | true ↦ at_joined site found
         | false ↦ plain _ refl refl refl (λ h. h)
       ]
@@ -237,17 +239,17 @@ module _ (code : Code) (s : Shape) (allowed : ℕ → Type 0) (m : Machine) wher
   keeps (Complement r a) found draw = same P m.own
   keeps (Not r a) found draw = same P m.own
   keeps (SameReference r a b) found draw = same P m.own
-  keeps (ChkWidth width r site) found draw = at_assert (holds width (int m r)) 4 site
+  keeps (ChkWidth width r site) found draw = at_assert (holds width (int m r)) traps.OutOfRange site
   keeps (Jump pc) found draw = same P m.own
   keeps (JumpIfZero r pc) found draw = at_jump (is_zero (int m r)) pc
   keeps (JumpIfNull r pc) found draw = at_jump (ref m r == 0) pc
   keeps (Call pc ints refs site) found draw = at_call P m pc ints refs site
   keeps (Return site) found draw = at_return site
-  keeps (ChkNull r site) found draw = at_assert (not (ref m r == 0)) 1 site
-  keeps (ChkHeld cell site) found draw = at_assert (is_held m (word s m cell)) 5 site
-  keeps (ChkNotHeld cell site) found draw = at_assert (not (is_held m (word s m cell))) 6 site
-  keeps (ChkPositive r site) found draw = at_assert (is_positive (int m r)) 12 site
-  keeps (ChkRoom site) found draw = at_assert (nat_lt (length m.own.held) 16) 13 site
+  keeps (ChkNull r site) found draw = at_assert (not (ref m r == 0)) traps.NullPointer site
+  keeps (ChkHeld cell site) found draw = at_assert (is_held m (word s m cell)) traps.MutexNotHeld site
+  keeps (ChkNotHeld cell site) found draw = at_assert (not (is_held m (word s m cell))) traps.MutexAlreadyHeld site
+  keeps (ChkPositive r site) found draw = at_assert (is_positive (int m r)) traps.SizeNotPositive site
+  keeps (ChkRoom site) found draw = at_assert (nat_lt (length m.own.held) 16) traps.TooManyLocks site
   keeps (ChkLock cell site) found draw = at_lock_check (is_of_null m cell) (word s m cell) site
   keeps (ChkLockLoaded site) found draw = at_lock_check (m.pending == 0) (cell_word s (cell_of m.pending 0)) site
   keeps (Bounds r base cells field site) found draw = at_index r (int m r) cells field site found

@@ -1,6 +1,8 @@
 -- Each turn keeps the thread's number, and none but that of Lock, Join and CondWait is a failed try.
 use Rattle.std.proofs.Common.{◌≡◌, ℕ, ℤ, pos, negsuc, zero, suc, ◌+◌, ◌*◌, min, Bool, true, false, not, ◌&&◌, ◌==◌, nat_lt, None, length, is_some, if◌then◌else◌, refl, ◌∙◌}
 use Rattle.std.specs.Prelude.{Result, Ok, Err}
+use Rattle.sharc_tree.specs.declared.trap.Trap.{Trap}
+use Rattle.sharc_tree.specs.declared.trap.Trap.TheVariants as traps
 use Rattle.sharc_word.specs.declared.step.TheConstants.{THREADS}
 use Rattle.sharc_shadow.specs.declared.shadow_word.Kind.{Kind}
 use Rattle.sharc_shadow.specs.declared.shadow_word.Kind.TheVariants.{Read, Write}
@@ -57,11 +59,11 @@ module _ (code : Code) (s : Shape) (m : Machine) where
   plain : (x : Machine) → x.own.number ≡ m.own.number → is_try x.at.state ≡ false → Moves m x
   plain x number untried = record { number = number; untried = untried }
 
-  at_result : (r site : ℕ) (z : Result ℤ ℕ) → Moves m (with_result m r site z)
+  at_result : (r site : ℕ) (z : Result ℤ Trap) → Moves m (with_result m r site z)
   at_result r site (Ok z) = plain _ refl refl
   at_result r site (Err c) = plain _ refl refl
 
-  at_assert : (b : Bool) (c site : ℕ) → Moves m (asserts m b c site)
+  at_assert : (b : Bool) (c : Trap) (site : ℕ) → Moves m (asserts m b c site)
   at_assert true c site = plain _ refl refl
   at_assert false c site = plain _ refl refl
 
@@ -199,17 +201,17 @@ module _ (code : Code) (s : Shape) (m : Machine) where
   sorted (Complement r a) = Other refl (λ found. plain _ refl refl)
   sorted (Not r a) = Other refl (λ found. plain _ refl refl)
   sorted (SameReference r a b) = Other refl (λ found. plain _ refl refl)
-  sorted (ChkWidth width r site) = Other refl (λ found. at_assert (holds width (int m r)) 4 site)
+  sorted (ChkWidth width r site) = Other refl (λ found. at_assert (holds width (int m r)) traps.OutOfRange site)
   sorted (Jump pc) = Other refl (λ found. plain _ refl refl)
   sorted (JumpIfZero r pc) = Other refl (λ found. at_jump (is_zero (int m r)) pc)
   sorted (JumpIfNull r pc) = Other refl (λ found. at_jump (ref m r == 0) pc)
   sorted (Call pc ints refs site) = Other refl (λ found. at_call m pc ints refs site)
   sorted (Return site) = Other refl (λ found. at_return site)
-  sorted (ChkNull r site) = Other refl (λ found. at_assert (not (ref m r == 0)) 1 site)
-  sorted (ChkHeld cell site) = Other refl (λ found. at_assert (is_held m (word s m cell)) 5 site)
-  sorted (ChkNotHeld cell site) = Other refl (λ found. at_assert (not (is_held m (word s m cell))) 6 site)
-  sorted (ChkPositive r site) = Other refl (λ found. at_assert (is_positive (int m r)) 12 site)
-  sorted (ChkRoom site) = Other refl (λ found. at_assert (nat_lt (length m.own.held) 16) 13 site)
+  sorted (ChkNull r site) = Other refl (λ found. at_assert (not (ref m r == 0)) traps.NullPointer site)
+  sorted (ChkHeld cell site) = Other refl (λ found. at_assert (is_held m (word s m cell)) traps.MutexNotHeld site)
+  sorted (ChkNotHeld cell site) = Other refl (λ found. at_assert (not (is_held m (word s m cell))) traps.MutexAlreadyHeld site)
+  sorted (ChkPositive r site) = Other refl (λ found. at_assert (is_positive (int m r)) traps.SizeNotPositive site)
+  sorted (ChkRoom site) = Other refl (λ found. at_assert (nat_lt (length m.own.held) 16) traps.TooManyLocks site)
   sorted (ChkLock cell site) = Other refl (λ found. at_lock_check (is_of_null m cell) (word s m cell) site)
   sorted (ChkLockLoaded site) = Other refl (λ found. at_lock_check (m.pending == 0) (cell_word s (cell_of m.pending 0)) site)
   sorted (Bounds r base cells field site) = Other refl (λ found. at_index r (int m r) cells field site found)

@@ -19,7 +19,6 @@ use Rattle.sharc_code.specs.Whole.{one_thread, bounds, place_after}
 use Rattle.sharc_code.specs.Stages.{IsStageOf, begins_of}
 use Rattle.sharc_code.proofs.Places.{put_same, put_other}
 use Rattle.sharc_word.specs.declared.step.WordOp.{WordOp}
-use Rattle.sharc_word.specs.declared.step.WordOp.TheVariants as ops
 use Rattle.sharc_code.specs.Runs.{Global}
 use Rattle.sharc_code.proofs.Keeps.{keeps_turn}
 use Rattle.sharc_code.proofs.Touching.{OnState, Leaves_it, Starts_it, Ends_it, Leaves_for_good, Touches, touches}

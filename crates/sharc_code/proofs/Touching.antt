@@ -1,5 +1,6 @@
 -- What a turn does to the state word of a thread: it leaves the word, starts the thread, or is a turn of the thread itself.
-use Rattle.std.proofs.Common.{◌≡◌, ℕ, ℤ, pos, negsuc, zero, suc, ◌+◌, ◌*◌, ◌<◌, ◌≤◌, Bool, true, false, nat_lt, Option, Some, if◌then◌else◌, refl, sym, ap, ◌∙◌, arith}
+use Rattle.std.proofs.Common.{◌≡◌, ℕ, ℤ, pos, negsuc, zero, suc, ◌+◌, ◌*◌, ◌<◌, ◌≤◌, Bool, true, false, nat_lt, Some, if◌then◌else◌, refl, ap, ◌∙◌, arith}
+use Rattle.sharc_tree.specs.declared.trap.Trap.TheVariants as traps
 use Rattle.sharc_word.specs.declared.step.TheConstants.{THREADS}
 use Rattle.sharc_word.specs.declared.step.WordOp.{WordOp}
 use Rattle.sharc_word.specs.declared.step.WordOp.TheVariants as ops
@@ -125,7 +126,7 @@ module _ (code : Code) (s : Shape) (m : Machine) (t : ℕ) (low : t < THREADS) w
   at_spawn r function from site _ is = λ e. absurd (omega (arith, e))
 
   at_join : (z : ℤ) (site : ℕ) → Touches m t (join m z site)
-  at_join (pos n) site = elim (nat_lt n THREADS) as (λ b. Touches m t (if b then Asks (step_of (state_word n) ops.Load) (joined m site) else Local (trapped m 7 site))) [
+  at_join (pos n) site = elim (nat_lt n THREADS) as (λ b. Touches m t (if b then Asks (step_of (state_word n) ops.Load) (joined m site) else Local (trapped m traps.NoSuchThread site))) [
     | true ↦ λ e. Leaves_it (λ v. refl)
     | false ↦ tt
   ]

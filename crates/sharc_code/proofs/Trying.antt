@@ -1,6 +1,7 @@
 -- A thread waits where its next turn would be a failed try, and a failed try changes nothing else.
 use Rattle.std.proofs.Common.{◌≡◌, ℕ, ℤ, pos, negsuc, Bool, true, false, not, ◌||◌, ◌==◌, nat_lt, Some, None, List, if◌then◌else◌, refl, sym, ap, ◌∙◌, subst, eqb-true}
 use Rattle.std.specs.Prelude.{◌↔◌, slice_index}
+use Rattle.sharc_tree.specs.declared.trap.Trap.TheVariants as traps
 use Rattle.sharc_word.specs.declared.step.WordOp.TheVariants as ops
 use Rattle.sharc_word.specs.declared.step.TheConstants.{THREADS}
 use Rattle.sharc_cond.specs.Waiters.{waits_in}
@@ -40,7 +41,7 @@ at_joined m site found = either m (found == 0) _ _ (moved m _ (record { number =
 
 at_join : (m : Machine) (z : ℤ) (site found : ℕ) → Trying m (after (join m z site) found)
 at_join m (pos n) site found =
-    elim (nat_lt n THREADS) as (λ b. Trying m (after (if b then Asks (step_of (state_word n) ops.Load) (joined m site) else Local (trapped m 7 site)) found)) [
+    elim (nat_lt n THREADS) as (λ b. Trying m (after (if b then Asks (step_of (state_word n) ops.Load) (joined m site) else Local (trapped m traps.NoSuchThread site)) found)) [
       | true ↦ at_joined m site found
       | false ↦ moved m _ (record { number = refl; untried = refl })
     ]
@@ -71,10 +72,10 @@ provided m false x off = no_wait m x false refl off
 
 join_waits : (m : Machine) (site found : ℕ) → ((found == 1 || found == 2) ≡ true) ↔ ((joined m site found).at.state ≡ Tries)
 join_waits m site found =
-    elim (found == 0) as (λ b. (found == 0) ≡ b → ((found == 1 || found == 2) ≡ true) ↔ ((if b then trapped m 7 site else (if found == 1 || found == 2 then fails m else goes m)).at.state ≡ Tries)) [
+    elim (found == 0) as (λ b. (found == 0) ≡ b → ((found == 1 || found == 2) ≡ true) ↔ ((if b then trapped m traps.NoSuchThread site else (if found == 1 || found == 2 then fails m else goes m)).at.state ≡ Tries)) [
       | true ↦ λ e.
           let zero : found ≡ 0 = eqb-true found 0 e in
-          no_wait m (trapped m 7 site) (found == 1 || found == 2) (ap (λ f. f == 1 || f == 2) zero) refl
+          no_wait m (trapped m traps.NoSuchThread site) (found == 1 || found == 2) (ap (λ f. f == 1 || f == 2) zero) refl
       | false ↦ λ e. provided m (found == 1 || found == 2) (goes m) refl
     ] refl
 
@@ -83,12 +84,12 @@ module _ (code : Code) (s : Shape) (words : List ℕ) (m : Machine) where
   at_join_waits (pos n) site =
       elim (nat_lt n THREADS) as (λ b.
       (held_up words m.own.number (if b then Some (waits.Join n site) else None) ≡ true)
-      ↔ ((after (if b then Asks (step_of (state_word n) ops.Load) (joined m site) else Local (trapped m 7 site))
-      (found_now words (if b then Asks (step_of (state_word n) ops.Load) (joined m site) else Local (trapped m 7 site)))).at.state ≡ Tries)) [
+      ↔ ((after (if b then Asks (step_of (state_word n) ops.Load) (joined m site) else Local (trapped m traps.NoSuchThread site))
+      (found_now words (if b then Asks (step_of (state_word n) ops.Load) (joined m site) else Local (trapped m traps.NoSuchThread site)))).at.state ≡ Tries)) [
         | true ↦ join_waits m site (slice_index words (state_word n))
-        | false ↦ no_wait m (trapped m 7 site) false refl refl
+        | false ↦ no_wait m (trapped m traps.NoSuchThread site) false refl refl
       ]
-  at_join_waits (negsuc n) site = no_wait m (trapped m 7 site) false refl refl
+  at_join_waits (negsuc n) site = no_wait m (trapped m traps.NoSuchThread site) false refl refl
 
   asks_waits : (i : Instr) → Sorted code s m i → (held_up words m.own.number (asks_for s i m) ≡ true) ↔ ((after (act code s i m) (found_now words (act code s i m))).at.state ≡ Tries)
   asks_waits i (Other none moves) = no_wait m (after (act code s i m) (found_now words (act code s i m))) (held_up words m.own.number (asks_for s i m)) (ap (held_up words m.own.number) none) (moves (found_now words (act code s i m))).untried

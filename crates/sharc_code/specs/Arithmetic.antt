@@ -1,6 +1,8 @@
 -- What operators make of integers, and where they stop.
 use Rattle.std.specs.Prelude.{ℕ, ℤ, pos, negsuc, zero, suc, ◌+◌, ◌^◌, ◌+ℤ◌, ◌-ℤ◌, ◌*ℤ◌, neg_ℤ, Bool, true, false, not, ◌&&◌, Result, Ok, Err, nat_lt, int_lt, int_le, int_div, int_rem, if◌then◌else◌}
 use Rattle.std.specs.Int.{w64, cast_unsigned, cast_signed, int_bit_and, int_bit_or, int_bit_xor, int_bit_not, int_shr}
+use Rattle.sharc_tree.specs.declared.trap.Trap.{Trap}
+use Rattle.sharc_tree.specs.declared.trap.Trap.TheVariants as traps
 use Rattle.sharc_code.specs.declared.instr.Width.{Width}
 use Rattle.sharc_code.specs.declared.instr.Width.TheVariants.{Char, Int, Long}
 use Rattle.sharc_code.specs.declared.instr.Operator.{Operator}
@@ -34,21 +36,21 @@ abbrev pub truth : Bool → ℤ
 truth true = pos 1
 truth false = pos 0
 
--- X4, where the type does not hold the value
-abbrev pub in_range : Width → ℤ → Result ℤ ℕ
-in_range width z = if holds width z then Ok z else Err 4
+-- a trap where the type does not hold the value
+abbrev pub in_range : Width → ℤ → Result ℤ Trap
+in_range width z = if holds width z then Ok z else Err traps.OutOfRange
 
--- X3, where the divisor is 0; X4, where the type does not hold the quotient
-abbrev pub divided : Width → ℤ → ℤ → ℤ → Result ℤ ℕ
-divided width a b result = if is_zero b then Err 3 else (if holds width (int_div a b) then Ok result else Err 4)
+-- a trap where the divisor is 0, or the type does not hold the quotient
+abbrev pub divided : Width → ℤ → ℤ → ℤ → Result ℤ Trap
+divided width a b result = if is_zero b then Err traps.DivisionByZero else (if holds width (int_div a b) then Ok result else Err traps.OutOfRange)
 
--- X4, where the count is none of the bits of the type
-abbrev pub shifted : Width → ℤ → (ℕ → Result ℤ ℕ) → Result ℤ ℕ
-shifted width (pos n) by = if nat_lt n (value_bits width + 1) then by n else Err 4
-shifted width (negsuc n) by = Err 4
+-- a trap where the count is none of the bits of the type
+abbrev pub shifted : Width → ℤ → (ℕ → Result ℤ Trap) → Result ℤ Trap
+shifted width (pos n) by = if nat_lt n (value_bits width + 1) then by n else Err traps.OutOfRange
+shifted width (negsuc n) by = Err traps.OutOfRange
 
--- the value, or the number of the stop
-abbrev pub computed : Width → Operator → ℤ → ℤ → Result ℤ ℕ
+-- the value, or the trap
+abbrev pub computed : Width → Operator → ℤ → ℤ → Result ℤ Trap
 computed width Add a b = in_range width (a +ℤ b)
 computed width Subtract a b = in_range width (a -ℤ b)
 computed width Multiply a b = in_range width (a *ℤ b)
@@ -66,8 +68,8 @@ computed width Greater a b = Ok (truth (int_lt b a))
 computed width AtMost a b = Ok (truth (int_le a b))
 computed width AtLeast a b = Ok (truth (int_le b a))
 
--- the negative, or X4
-abbrev pub negated : Width → ℤ → Result ℤ ℕ
+-- the negative, or the trap
+abbrev pub negated : Width → ℤ → Result ℤ Trap
 negated width a = in_range width (neg_ℤ a)
 
 -- all bits turned

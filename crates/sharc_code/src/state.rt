@@ -2,6 +2,7 @@
 
 use sharc_granule::NewState;
 use sharc_shadow::Kind;
+use sharc_tree::trap::Trap;
 
 /// How many frames there may be.
 pub const FRAMES: usize = 256;
@@ -97,8 +98,8 @@ pub enum Stop {
     NoLock(u32, u32),
     /// A4: the site, and the count.
     NotSole(u32, u64),
-    /// The number of an X, and its site.
-    Trap(u8, u32),
+    /// X1 to X13: the trap, and its site.
+    Trap(Trap, u32),
 }
 
 /// What a thread's next turn asks for that it may have to wait for, with the site.

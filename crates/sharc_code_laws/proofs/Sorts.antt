@@ -2,6 +2,8 @@
 use Rattle.std.proofs.Common.{◌≡◌, ℕ, ℤ, pos, negsuc, zero, suc, ◌+◌, ◌*◌, ◌<◌, ◌≤◌, min, Bool, true, false, not, ◌&&◌, ◌||◌, ◌==◌, nat_lt, length, is_some, Option, Some, None, if◌then◌else◌, refl, sym, ap, ◌∙◌, arith}
 use Rattle.std.specs.Prelude.{Result, Ok, Err}
 use Rattle.std.proofs.lemmas.Bool.Decides.{Decides-ltb}
+use Rattle.sharc_tree.specs.declared.trap.Trap.{Trap}
+use Rattle.sharc_tree.specs.declared.trap.Trap.TheVariants as traps
 use Rattle.sharc_word.specs.declared.step.TheConstants.{THREADS}
 use Rattle.sharc_word.specs.declared.step.WordOp.{WordOp}
 use Rattle.sharc_word.specs.declared.step.WordOp.TheVariants as ops
@@ -138,11 +140,11 @@ module _ (code : Code) (s : Shape) (m : Machine) where
   plain : (x : Machine) → drawn_of x.own.stage ≡ None → is_ended x.at.state ≡ false → Plain m x
   plain x stage on = record { drawn = λ n e. absurd (let f : None ≡ Some n = sym stage ∙ e in cc); on = on }
 
-  at_result : (r site : ℕ) (z : Result ℤ ℕ) → Plain m (with_result m r site z)
+  at_result : (r site : ℕ) (z : Result ℤ Trap) → Plain m (with_result m r site z)
   at_result r site (Ok z) = same _ refl refl
   at_result r site (Err c) = same _ refl refl
 
-  at_assert : (b : Bool) (c site : ℕ) → Plain m (asserts m b c site)
+  at_assert : (b : Bool) (c : Trap) (site : ℕ) → Plain m (asserts m b c site)
   at_assert true c site = same _ refl refl
   at_assert false c site = same _ refl refl
 
@@ -255,7 +257,7 @@ module _ (code : Code) (s : Shape) (m : Machine) where
   at_numbered : (site n : ℕ) → drawn_of m.own.stage ≡ None → Drew n (numbered m site n)
   at_numbered site n undrawn = by (nat_lt n THREADS) refl
     where
-      by : (b : Bool) → nat_lt n THREADS ≡ b → Drew n (if b then at_stage m (Names n) else trapped m 8 site)
+      by : (b : Bool) → nat_lt n THREADS ≡ b → Drew n (if b then at_stage m (Names n) else trapped m traps.ThreadLimit site)
       by true e = record { drawn = λ k is. let same : n ≡ k = cc in (sym same, let low = (Decides-ltb n THREADS).0 e in omega arith); on = refl; counts = refl }
       by false e = record { drawn = λ k is. absurd (let f : None ≡ Some k = sym undrawn ∙ is in cc); on = refl; counts = refl }
 
@@ -277,7 +279,7 @@ module _ (code : Code) (s : Shape) (m : Machine) where
 
   at_join : (z : ℤ) (site : ℕ) → Sort m (join m z site)
   at_join (pos n) site =
-      elim (nat_lt n THREADS) as (λ b. Sort m (if b then Asks (step_of (state_word n) ops.Load) (joined m site) else Local (trapped m 7 site))) [
+      elim (nat_lt n THREADS) as (λ b. Sort m (if b then Asks (step_of (state_word n) ops.Load) (joined m site) else Local (trapped m traps.NoSuchThread site))) [
         | true ↦ Ordinary (loads _) (λ found. at_joined site found)
         | false ↦ Ordinary tt (λ found. same _ refl refl)
       ]
@@ -348,17 +350,17 @@ module _ (code : Code) (s : Shape) (m : Machine) where
   at_instr (Complement r a) is = quiet _ (same _ refl refl)
   at_instr (Not r a) is = quiet _ (same _ refl refl)
   at_instr (SameReference r a b) is = quiet _ (same _ refl refl)
-  at_instr (ChkWidth width r site) is = quiet _ (at_assert (holds width (int m r)) 4 site)
+  at_instr (ChkWidth width r site) is = quiet _ (at_assert (holds width (int m r)) traps.OutOfRange site)
   at_instr (Jump pc) is = quiet _ (same _ refl refl)
   at_instr (JumpIfZero r pc) is = quiet _ (at_jump (is_zero (int m r)) pc)
   at_instr (JumpIfNull r pc) is = quiet _ (at_jump (ref m r == 0) pc)
   at_instr (Call pc ints refs site) is = quiet _ (at_call m m pc ints refs site (λ n e. e))
   at_instr (Return site) is = quiet _ (at_return site)
-  at_instr (ChkNull r site) is = quiet _ (at_assert (not (ref m r == 0)) 1 site)
-  at_instr (ChkHeld cell site) is = quiet _ (at_assert (is_held m (word s m cell)) 5 site)
-  at_instr (ChkNotHeld cell site) is = quiet _ (at_assert (not (is_held m (word s m cell))) 6 site)
-  at_instr (ChkPositive r site) is = quiet _ (at_assert (is_positive (int m r)) 12 site)
-  at_instr (ChkRoom site) is = quiet _ (at_assert (nat_lt (length m.own.held) 16) 13 site)
+  at_instr (ChkNull r site) is = quiet _ (at_assert (not (ref m r == 0)) traps.NullPointer site)
+  at_instr (ChkHeld cell site) is = quiet _ (at_assert (is_held m (word s m cell)) traps.MutexNotHeld site)
+  at_instr (ChkNotHeld cell site) is = quiet _ (at_assert (not (is_held m (word s m cell))) traps.MutexAlreadyHeld site)
+  at_instr (ChkPositive r site) is = quiet _ (at_assert (is_positive (int m r)) traps.SizeNotPositive site)
+  at_instr (ChkRoom site) is = quiet _ (at_assert (nat_lt (length m.own.held) 16) traps.TooManyLocks site)
   at_instr (ChkLock cell site) is = quiet _ (at_lock_check (is_of_null m cell) (word s m cell) site)
   at_instr (ChkLockLoaded site) is = quiet _ (at_lock_check (m.pending == 0) (cell_word s (cell_of m.pending 0)) site)
   at_instr (Bounds r base cells field site) is = Ordinary (loads _) (λ found. at_index r (int m r) cells field site found)

@@ -180,7 +180,7 @@ module _ (runs : PathsAreRuns) (counts : GuardedCounts) (logs : LogsAreHeld) (m 
       by (Conflict c) r h = let w = wanted (Accesses c.kind h.0) c.site h.1 in (w.0, w.1, (h.0, w.2))
       by (NoLock n mutex) r h = let w = wanted (Locks h.0) n h.1 in (w.0, w.1, (h.0, w.2, sym (ap (λ log. is_held log h.0) log) ∙ h.2))
       by (NotSole n count) r h = let w = wanted (IsSole h.0) n h.1 in (w.0, w.1, (h.0, w.2))
-      by (Trap code n) r h = absurd r
+      by (Trap trap n) r h = absurd r
 
   -- a guarded path beside one of flat code
   abbrev answers_beside : List ℤ

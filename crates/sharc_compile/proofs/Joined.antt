@@ -4,6 +4,7 @@ use Rattle.std.specs.Prelude.{slice_index_or}
 use Rattle.std.proofs.lemmas.List.{length-map}
 use Rattle.sharc_tree.specs.declared.event.Act.{Act}
 use Rattle.sharc_tree.specs.declared.event.SourceEvent.{SourceEvent}
+use Rattle.sharc_tree.specs.declared.trap.Trap.{Trap}
 use Rattle.sharc_code.specs.declared.code.Code.{Code}
 use Rattle.sharc_code.specs.declared.shape.Shape.{Shape}
 use Rattle.sharc_code.specs.declared.instr.Instr.{Instr}
@@ -15,7 +16,7 @@ use Rattle.sharc_granule.specs.declared.stage.Stage.TheVariants.{Cell}
 use Rattle.sharc_code.specs.declared.state.Stage.{Stage}
 use Rattle.sharc_code.specs.declared.state.Stage.TheVariants.{Makes}
 use Rattle.sharc_code.specs.declared.state.Stop.{Stop}
-use Rattle.sharc_code.specs.declared.state.Stop.TheVariants.{Conflict, NoLock, NotSole, Trap}
+use Rattle.sharc_code.specs.declared.state.Stop.TheVariants.{Conflict, NoLock, NotSole, Trap as Trapped}
 use Rattle.sharc_code.specs.Machine.{Machine}
 use Rattle.sharc_code.specs.Says.{place_at, no_place}
 use Rattle.sharc_meaning.specs.State.{stopped}
@@ -55,7 +56,7 @@ module _ (flat : Flat.Flat) (p : Program) (code : Code) (sites : (n : ℕ) → (
     go : ℤ → Thread
     asks : turn p a ≡ Form.Asks (source_at p site).site act go
 
-  refused : (a : Thread) (i : Instr) (x site : ℕ) → statement_at p a.pc ≡ i → Refuses i x site → Asking a site × IsRefusal x
+  refused : (a : Thread) (i : Instr) (x : Trap) (site : ℕ) → statement_at p a.pc ≡ i → Refuses i x site → Asking a site × IsRefusal x
   refused a (Join r at) x site e h = (record { act = _; go = _; asks = ap (λ i. step p i a) e ∙ ap (λ n. step p (Join r n) a) (sym h.1) }, inl h.0)
   refused a (Spawn r f from at) x site e h = (record { act = _; go = _; asks = ap (λ i. step p i a) e ∙ ap (λ n. step p (Spawn r f from n) a) (sym h.1) }, inr (inl h.0))
   refused a (New r count cells at) x site e h = (record { act = _; go = _; asks = ap (λ i. step p i a) e ∙ ap (λ n. step p (New r count cells n) a) (sym h.1) }, inr (inr h.0))
@@ -73,8 +74,8 @@ module _ (flat : Flat.Flat) (p : Program) (code : Code) (sites : (n : ℕ) → (
         record { from = k.0; act = k.1; held = k.2; go = k.3; wants = k.4 ∙ ap (λ s. Flat.asks k.0 s k.1 k.2 k.3) (sym (sites n)) }
 
     stops : (stop : Stop) → StopsAt p a stop → StopsFor code flat m stop
-    stops (Trap x n) (inl e) = inl (w.halts x n e ∙ ap (λ s. Flat.halts (stopped x s)) (sym (sites n)))
-    stops (Trap x n) (inr h) = let k = refused a (statement_at p a.pc) x n refl h in inr (k.1, asked n k.0.act k.0.go k.0.asks)
+    stops (Trapped x n) (inl e) = inl (w.halts x n e ∙ ap (λ s. Flat.halts (stopped x s)) (sym (sites n)))
+    stops (Trapped x n) (inr h) = let k = refused a (statement_at p a.pc) x n refl h in inr (k.1, asked n k.0.act k.0.go k.0.asks)
     stops (Conflict c) h = looked _ c.site h.1.next h.1.checks
     stops (NoLock n mutex) h = looked _ n h.1.next h.1.checks
     stops (NotSole n count) h = looked _ n h.1.next h.1.checks

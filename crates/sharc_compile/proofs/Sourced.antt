@@ -8,11 +8,13 @@ use Rattle.sharc_tree.specs.declared.event.CellMode.{CellMode}
 use Rattle.sharc_tree.specs.declared.event.SourceEvent.{SourceEvent}
 use Rattle.sharc_tree.specs.declared.event.Taken.TheVariants as taken
 use Rattle.sharc_tree.specs.declared.token.Site.{Site}
+use Rattle.sharc_tree.specs.declared.trap.Trap.{Trap}
+use Rattle.sharc_tree.specs.declared.trap.Trap.TheVariants as traps
 use Rattle.sharc_mode.specs.Moded.{Assignment}
 use Rattle.sharc_meaning.specs.declared.given.GivenUp.{GivenUp}
 use Rattle.sharc_meaning.specs.declared.given.GivenUp.TheVariants.{Emptied, Released, Replaced}
 use Rattle.sharc_meaning.specs.Meaning as Meaning
-use Rattle.sharc_meaning.specs.Arithmetic.{is_zero, null_base, out_of_bounds, out_of_range, mutex_not_held, mutex_already_held, calls_too_deep, returns_with_a_lock, size_not_positive, too_many_locks}
+use Rattle.sharc_meaning.specs.Arithmetic.{is_zero}
 use Rattle.sharc_meaning.specs.Events.{held_mutexes, holds_mutex}
 use Rattle.sharc_meaning.specs.Reference.{is_null, elements_of, number_of}
 use Rattle.sharc_meaning.specs.State.{Outcome, answer_of, ended, event_of, stopped, spent}
@@ -24,7 +26,7 @@ use Rattle.sharc_code.specs.declared.instr.Cell.{Cell}
 use Rattle.sharc_code.specs.declared.state.State.{State}
 use Rattle.sharc_code.specs.declared.state.State.TheVariants.{Runs, Tries, Stopped, Ended}
 use Rattle.sharc_code.specs.declared.state.Stop.{Stop}
-use Rattle.sharc_code.specs.declared.state.Stop.TheVariants.{Conflict, NoLock, NotSole, Trap}
+use Rattle.sharc_code.specs.declared.state.Stop.TheVariants.{Conflict, NoLock, NotSole, Trap as Trapped}
 use Rattle.sharc_code.specs.Machine.{Machine}
 use Rattle.sharc_code.specs.Says.{place_at}
 use Rattle.sharc_flat_form.specs.declared.op.Op.{Op}
@@ -66,15 +68,15 @@ cond_quiet : (b : Bool) (x y : Turn) (m : At) → IsQuiet m x → IsQuiet m y �
 cond_quiet true x y m p q = p
 cond_quiet false x y m p q = q
 
-asserts_quiet : (b : Bool) (code : ℕ) (spot : Spot) (m : At) → IsQuiet m (asserts b code spot m)
-asserts_quiet b code spot m = cond_quiet b (goes_on m) (stops code spot) m (refl, [], same_given m) tt
+asserts_quiet : (b : Bool) (trap : Trap) (spot : Spot) (m : At) → IsQuiet m (asserts b trap spot m)
+asserts_quiet b trap spot m = cond_quiet b (goes_on m) (stops trap spot) m (refl, [], same_given m) tt
 
-result_quiet : (i : ℕ) (spot : Spot) (m : At) (r : Result ℤ ℕ) → IsQuiet m (with_result i spot m r)
+result_quiet : (i : ℕ) (spot : Spot) (m : At) (r : Result ℤ Trap) → IsQuiet m (with_result i spot m r)
 result_quiet i spot m (Ok v) = (refl, [], same_given m)
 result_quiet i spot m (Err code) = tt
 
 indexed_quiet : (i cells field : ℕ) (v : ℤ) (elements : ℕ) (spot : Spot) (m : At) → IsQuiet m (indexed i cells field v elements spot m)
-indexed_quiet i cells field (pos n) elements spot m = cond_quiet (nat_lt n elements) (goes_on (set_int i (pos (n * cells + field)) m)) (stops out_of_bounds spot) m (refl, [], same_given m) tt
+indexed_quiet i cells field (pos n) elements spot m = cond_quiet (nat_lt n elements) (goes_on (set_int i (pos (n * cells + field)) m)) (stops traps.IndexOutOfBounds spot) m (refl, [], same_given m) tt
 indexed_quiet i cells field (negsuc n) elements spot m = tt
 
 skip_quiet : (b : Bool) (n : ℕ) (m : At) → IsStill m (cond b (over_lines n m) (next m))
@@ -84,12 +86,12 @@ skip_quiet false n m = (refl, [], same_given m)
 accesses_quiet : (globals : List GlobalCells) (cell : Cell) (spot : Spot) (act : CellAt → CellMode → Act) (then_ : CellAt → ℤ → At → At) (m : At) → ((c : CellAt) (v : ℤ) (n : At) → (then_ c v n).events ≡ n.events)
     → IsQuiet m (accesses globals cell spot act then_ m)
 accesses_quiet globals cell spot act then_ m k =
-    cond_quiet (lock_is_null m spot spot.mode) (stops null_base spot)
+    cond_quiet (lock_is_null m spot spot.mode) (stops traps.NullPointer spot)
     (asks m spot.site (act (cell_at globals m cell) (mode_of globals m (cell_at globals m cell) spot.mode)) (pos 0) (λ v n. accessed (next (then_ (cell_at globals m cell) v n)))) m tt
     ((refl, [], same_given m), refl, k (cell_at globals m cell))
 
 returned_quiet : (flat : Flat) (frames : List Caller) (spot : Spot) (m : At) → IsQuiet m (returned flat frames spot m)
-returned_quiet flat [] spot m = cond_quiet (not (nat_lt 0 (length (held_mutexes m.events)))) (goes (record m { pc = length flat.lines })) (stops returns_with_a_lock spot) m (refl, [], same_given m) tt
+returned_quiet flat [] spot m = cond_quiet (not (nat_lt 0 (length (held_mutexes m.events)))) (goes (record m { pc = length flat.lines })) (stops traps.ReturnWithLockHeld spot) m (refl, [], same_given m) tt
 returned_quiet flat (c ∷ rest) spot m = (refl, [], same_given m)
 
 takes_quiet : (r x : ℕ) (spot : Spot) (m : At) (b : Bool) → IsQuiet m (takes_local r x spot m b)
@@ -109,16 +111,16 @@ handed_events (registers.Reference r) n = refl
 op_quiet : (flat : Flat) (o : Op) (m : At) → IsQuiet m (op_turn flat o m)
 op_quiet flat (op.Compute width o i a b spot) m = result_quiet i spot m (computed width o (int m a) (int m b))
 op_quiet flat (op.Negate width i a spot) m = result_quiet i spot m (negated width (int m a))
-op_quiet flat (op.ChkWidth width i spot) m = asserts_quiet (holds width (int m i)) out_of_range spot m
+op_quiet flat (op.ChkWidth width i spot) m = asserts_quiet (holds width (int m i)) traps.OutOfRange spot m
 op_quiet flat (op.SkipIfZero i n) m = skip_quiet (is_zero (int m i)) n m
 op_quiet flat (op.SkipIfNull r n) m = skip_quiet (is_null (ref m r)) n m
-op_quiet flat (op.Call f ints refs spot) m = cond_quiet (nat_lt (length m.frames) 255) (goes (called flat f ints refs m)) (stops calls_too_deep spot) m (refl, [], same_given m) tt
+op_quiet flat (op.Call f ints refs spot) m = cond_quiet (nat_lt (length m.frames) 255) (goes (called flat f ints refs m)) (stops traps.CallDepth spot) m (refl, [], same_given m) tt
 op_quiet flat (op.Return spot) m = returned_quiet flat m.frames spot m
-op_quiet flat (op.ChkNull r spot) m = asserts_quiet (not (is_null (ref m r))) null_base spot m
-op_quiet flat (op.ChkPositive i spot) m = asserts_quiet (is_positive (int m i)) size_not_positive spot m
-op_quiet flat (op.ChkHeld cell spot) m = asserts_quiet (holds_mutex m.events (cell_at flat.globals m cell)) mutex_not_held spot m
-op_quiet flat (op.ChkNotHeld cell spot) m = asserts_quiet (not (holds_mutex m.events (cell_at flat.globals m cell))) mutex_already_held spot m
-op_quiet flat (op.ChkRoom spot) m = asserts_quiet (nat_lt (length (held_mutexes m.events)) 16) too_many_locks spot m
+op_quiet flat (op.ChkNull r spot) m = asserts_quiet (not (is_null (ref m r))) traps.NullPointer spot m
+op_quiet flat (op.ChkPositive i spot) m = asserts_quiet (is_positive (int m i)) traps.SizeNotPositive spot m
+op_quiet flat (op.ChkHeld cell spot) m = asserts_quiet (holds_mutex m.events (cell_at flat.globals m cell)) traps.MutexNotHeld spot m
+op_quiet flat (op.ChkNotHeld cell spot) m = asserts_quiet (not (holds_mutex m.events (cell_at flat.globals m cell))) traps.MutexAlreadyHeld spot m
+op_quiet flat (op.ChkRoom spot) m = asserts_quiet (nat_lt (length (held_mutexes m.events)) 16) traps.TooManyLocks spot m
 op_quiet flat (op.Bounds i r cells field spot) m = indexed_quiet i cells field (int m i) (elements_of (ref m r)) spot m
 op_quiet flat (op.GlobalBounds i elements cells field spot) m = indexed_quiet i cells field (int m i) elements spot m
 op_quiet flat (op.Load i cell spot) m = accesses_quiet flat.globals cell spot acts.Read (λ c v. set_int i v) m (λ c v n. refl)
@@ -300,8 +302,8 @@ module _ (code : Code) (flat : Flat) (m : At) (k : ℕ) where
   halted x e = ap (λ (t : Turn). (on_turn t [] m (exec flat k)).outcome) e
 
   stop_is : (stop : Stop) → StopsFor code flat m stop → IsStopOf code o stop
-  stop_is (Trap x site) (inl e) = inl (halted (stopped x (place_at code site).site) e)
-  stop_is (Trap x site) (inr h) = inr (h.0, wanted (place_at code site).site h.1)
+  stop_is (Trapped x site) (inl e) = inl (halted (stopped x (place_at code site).site) e)
+  stop_is (Trapped x site) (inr h) = inr (h.0, wanted (place_at code site).site h.1)
   stop_is (Conflict c) h = wanted (place_at code c.site).site h
   stop_is (NoLock site mutex) h = wanted (place_at code site).site h
   stop_is (NotSole site count) h = wanted (place_at code site).site h

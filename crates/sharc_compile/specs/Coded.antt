@@ -3,12 +3,14 @@ use Rattle.std.specs.Prelude.{ℕ, ℤ, ◌+◌, ◌*◌, ◌≡◌, ◌≤◌, 
 use Rattle.sharc_tree.specs.declared.event.Act.{Act}
 use Rattle.sharc_tree.specs.declared.event.SourceEvent.{SourceEvent}
 use Rattle.sharc_tree.specs.declared.token.Site.{Site}
+use Rattle.sharc_tree.specs.declared.trap.Trap.{Trap}
+use Rattle.sharc_tree.specs.declared.trap.Trap.TheVariants as traps
 use Rattle.sharc_code.specs.declared.code.Code.{Code}
 use Rattle.sharc_code.specs.declared.shape.Shape.{Shape}
 use Rattle.sharc_code.specs.declared.state.State.{State}
 use Rattle.sharc_code.specs.declared.state.State.TheVariants.{Runs, Tries, Stopped, Ended}
 use Rattle.sharc_code.specs.declared.state.Stop.{Stop}
-use Rattle.sharc_code.specs.declared.state.Stop.TheVariants.{Conflict, NoLock, NotSole, Trap}
+use Rattle.sharc_code.specs.declared.state.Stop.TheVariants.{Conflict, NoLock, NotSole, Trap as Trapped}
 use Rattle.sharc_code.specs.Machine.{Machine}
 use Rattle.sharc_code.specs.Path.{begun, machine_after, CodePath}
 use Rattle.sharc_code.specs.Paced.{paced_in}
@@ -34,13 +36,13 @@ pub record WantsAt (flat : Flat.Flat) (m : Flat.At) (site : Site) : Type 0 where
   pub go : ℤ → Flat.At → Flat.At
   pub wants : Flat.turn flat m ≡ Flat.asks from site act held go
 
--- X7, X8 and X9 are not flat code's
-abbrev pub IsRefusal : ℕ → Type 0
-IsRefusal code = (code ≡ 7) ⊎ ((code ≡ 8) ⊎ (code ≡ 9))
+-- these traps are not flat code's: what the world has or has not decides them
+abbrev pub IsRefusal : Trap → Type 0
+IsRefusal trap = (trap ≡ traps.NoSuchThread) ⊎ ((trap ≡ traps.ThreadLimit) ⊎ (trap ≡ traps.HeapFull))
 
 -- why a thread of code stopped is a stop of flat code, or comes at the event that flat code wants
 abbrev pub StopsFor : Code → Flat.Flat → Flat.At → Stop → Type 0
-StopsFor code flat m (Trap x site) = (Flat.turn flat m ≡ Flat.halts (stopped x (place_at code site).site)) ⊎ (IsRefusal x × WantsAt flat m (place_at code site).site)
+StopsFor code flat m (Trapped trap site) = (Flat.turn flat m ≡ Flat.halts (stopped trap (place_at code site).site)) ⊎ (IsRefusal trap × WantsAt flat m (place_at code site).site)
 StopsFor code flat m (Conflict c) = WantsAt flat m (place_at code c.site).site
 StopsFor code flat m (NoLock site mutex) = WantsAt flat m (place_at code site).site
 StopsFor code flat m (NotSole site count) = WantsAt flat m (place_at code site).site

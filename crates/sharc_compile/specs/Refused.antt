@@ -19,16 +19,16 @@ abbrev pub IsRefused : Stop → Act → List SourceEvent → Type 0
 IsRefused (Conflict c) act events = (cell : CellAt) × IsAccess c.kind cell act
 IsRefused (NoLock site mutex) act events = (cell : CellAt) × IsUnder cell act × (holds_mutex events cell ≡ false)
 IsRefused (NotSole site count) act events = (v : ℤ) × IsGivenAway v act
-IsRefused (Trap code site) act events = ⊥
+IsRefused (Trap trap site) act events = ⊥
 
 abbrev pub site_of : Stop → ℕ
 site_of (Conflict c) = c.site
 site_of (NoLock site mutex) = site
 site_of (NotSole site count) = site
-site_of (Trap code site) = site
+site_of (Trap trap site) = site
 
 abbrev pub IsReport : Stop → Type 0
-IsReport (Trap code site) = ⊥
+IsReport (Trap trap site) = ⊥
 IsReport _ = Unit {0}
 
 -- after these events the program wants what was refused, at the site of the report

@@ -36,7 +36,7 @@ WantsEventAt o site = (act : Act) × (o ≡ wants (event_of site act (pos 0)))
 
 -- why a thread of code stopped is a stop of the source, or comes at the event that the source wants
 abbrev pub IsStopOf : Code → Outcome → Stop → Type 0
-IsStopOf code o (Trap x site) = (o ≡ stopped x (place_at code site).site) ⊎ (IsRefusal x × WantsEventAt o (place_at code site).site)
+IsStopOf code o (Trap trap site) = (o ≡ stopped trap (place_at code site).site) ⊎ (IsRefusal trap × WantsEventAt o (place_at code site).site)
 IsStopOf code o (Conflict c) = WantsEventAt o (place_at code c.site).site
 IsStopOf code o (NoLock site mutex) = WantsEventAt o (place_at code site).site
 IsStopOf code o (NotSole site count) = WantsEventAt o (place_at code site).site

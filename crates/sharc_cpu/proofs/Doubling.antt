@@ -8,6 +8,8 @@ use Rattle.std.proofs.lemmas.Bool.Decides.{nat_tests}
 use Rattle.std.proofs.Math.Pow.{pow-lt}
 use Rattle.std.proofs.lemmas.Nat.{pow-add, pow_pos}
 use Rattle.std.proofs.lemmas.Int.{to_z-of_z}
+use Rattle.sharc_tree.specs.declared.trap.Trap.{Trap}
+use Rattle.sharc_tree.specs.declared.trap.Trap.TheVariants as traps
 use Rattle.sharc_code.specs.declared.instr.Width.{Width}
 use Rattle.sharc_code.specs.declared.instr.Width.TheVariants.{Char, Int, Long}
 use Rattle.sharc_code.specs.Arithmetic.{in_range}
@@ -21,16 +23,16 @@ times (pos a) m n = ap (λ z. z *ℤ pos n) (pos-*ℤ-pos a m) ∙ pos-*ℤ-pos 
 times (negsuc a) m n = ap (λ z. z *ℤ pos n) (negsuc-*ℤ-pos a m) ∙ neg_times (suc a * m) n ∙ ap (λ (k : ℕ). neg_ℤ (pos k)) (mul_assoc (suc a) m n) ∙ sym (negsuc-*ℤ-pos a (m * n))
 
 -- what does not fit does not fit when it is made larger
-too_many : (width : Width) (k : ℕ) → 2 ^ 63 ≤ k → Err 4 ≡ in_range width (pos k)
-too_many Char k h = let e : nat_lt k 128 ≡ false = search (nat_tests, arith) in ap (λ b. if b then Ok (pos k) else Err 4) (sym e)
-too_many Int k h = let e : nat_lt k 2147483648 ≡ false = search (nat_tests, arith) in ap (λ b. if b then Ok (pos k) else Err 4) (sym e)
-too_many Long k h = let e : nat_lt k 9223372036854775808 ≡ false = search (nat_tests, arith) in ap (λ b. if b then Ok (pos k) else Err 4) (sym e)
+too_many : (width : Width) (k : ℕ) → 2 ^ 63 ≤ k → Err traps.OutOfRange ≡ in_range width (pos k)
+too_many Char k h = let e : nat_lt k 128 ≡ false = search (nat_tests, arith) in ap (λ b. if b then Ok (pos k) else Err traps.OutOfRange) (sym e)
+too_many Int k h = let e : nat_lt k 2147483648 ≡ false = search (nat_tests, arith) in ap (λ b. if b then Ok (pos k) else Err traps.OutOfRange) (sym e)
+too_many Long k h = let e : nat_lt k 9223372036854775808 ≡ false = search (nat_tests, arith) in ap (λ b. if b then Ok (pos k) else Err traps.OutOfRange) (sym e)
 
-too_few : (width : Width) (k : ℕ) → 2 ^ 63 < k → Err 4 ≡ in_range width (neg_ℤ (pos k))
+too_few : (width : Width) (k : ℕ) → 2 ^ 63 < k → Err traps.OutOfRange ≡ in_range width (neg_ℤ (pos k))
 too_few width zero h = absurd (omega arith)
-too_few Char (suc k) h = let e : nat_lt k 128 ≡ false = search (nat_tests, arith) in ap (λ b. if b then Ok (negsuc k) else Err 4) (sym e)
-too_few Int (suc k) h = let e : nat_lt k 2147483648 ≡ false = search (nat_tests, arith) in ap (λ b. if b then Ok (negsuc k) else Err 4) (sym e)
-too_few Long (suc k) h = let e : nat_lt k 9223372036854775808 ≡ false = search (nat_tests, arith) in ap (λ b. if b then Ok (negsuc k) else Err 4) (sym e)
+too_few Char (suc k) h = let e : nat_lt k 128 ≡ false = search (nat_tests, arith) in ap (λ b. if b then Ok (negsuc k) else Err traps.OutOfRange) (sym e)
+too_few Int (suc k) h = let e : nat_lt k 2147483648 ≡ false = search (nat_tests, arith) in ap (λ b. if b then Ok (negsuc k) else Err traps.OutOfRange) (sym e)
+too_few Long (suc k) h = let e : nat_lt k 9223372036854775808 ≡ false = search (nat_tests, arith) in ap (λ b. if b then Ok (negsuc k) else Err traps.OutOfRange) (sym e)
 
 not_below : (a b : ℕ) → (a < b → ⊥) → b ≤ a
 not_below a b out = elim (cases_lt a b) [ inl lt ↦ absurd (out lt) | inr le ↦ le ]
@@ -38,7 +40,7 @@ not_below a b out = elim (cases_lt a b) [ inl lt ↦ absurd (out lt) | inr le �
 grown : (a n : ℕ) → 0 < n → a ≤ a * n
 grown a n some = omega (arith, mul-le-mul_left a some)
 
-pub outgrown : (width : Width) (z : ℤ) (n : ℕ) → 0 < n → (FitsSigned w64 z → ⊥) → Err 4 ≡ in_range width (z *ℤ pos n)
+pub outgrown : (width : Width) (z : ℤ) (n : ℕ) → 0 < n → (FitsSigned w64 z → ⊥) → Err traps.OutOfRange ≡ in_range width (z *ℤ pos n)
 outgrown width (pos a) n some out =
     let low : 2 ^ 63 ≤ a = not_below a (2 ^ 63) (λ h. out (record { sfits = h })) in
     too_many width (a * n) (omega (arith, low, grown a n some)) ∙ ap (in_range width) (sym (pos-*ℤ-pos a n))
@@ -55,7 +57,7 @@ backed z k low is =
     let fits : FitsSigned w64 (pos (2 ^ k)) = record { sfits = pow-lt {i = k} {j = 63} low } in
     ap back is ∙ to_z-of_z w64 (pos (2 ^ k)) fits
 
-pub in_halves : (width : Width) (v p q so_far : ℤ) (r : Result ℤ ℕ) (by half rest : ℕ) → FitsSigned w64 v → FitsSigned w64 so_far → p ≡ pos (2 ^ half) → q ≡ pos (2 ^ rest) → half + rest ≡ by → half < 63 → rest < 63 → so_far ≡ back v *ℤ back p → r ≡ in_range width (back so_far *ℤ back q) → r ≡ in_range width (v *ℤ pos (2 ^ by))
+pub in_halves : (width : Width) (v p q so_far : ℤ) (r : Result ℤ Trap) (by half rest : ℕ) → FitsSigned w64 v → FitsSigned w64 so_far → p ≡ pos (2 ^ half) → q ≡ pos (2 ^ rest) → half + rest ≡ by → half < 63 → rest < 63 → so_far ≡ back v *ℤ back p → r ≡ in_range width (back so_far *ℤ back q) → r ≡ in_range width (v *ℤ pos (2 ^ by))
 in_halves width v p q so_far r by half rest fv fs ep eq sum lh lr es er =
     let s : so_far ≡ v *ℤ pos (2 ^ half) = es ∙ ap (λ z. z *ℤ back p) (to_z-of_z w64 v fv) ∙ ap (λ z. v *ℤ z) (backed p half lh ep) in
     let pw : 2 ^ half * 2 ^ rest ≡ 2 ^ by = sym (pow-add 2 half rest) ∙ ap (λ n. 2 ^ n) sum in
@@ -64,7 +66,7 @@ in_halves width v p q so_far r by half rest fv fs ep eq sum lh lr es er =
     ∙ ap (λ z. in_range width ((v *ℤ pos (2 ^ half)) *ℤ z)) (backed q rest lr eq)
     ∙ ap (in_range width) (times v (2 ^ half) (2 ^ rest) ∙ ap (λ n. v *ℤ pos n) pw)
 
-pub past_half : (width : Width) (v p : ℤ) (by half rest : ℕ) → FitsSigned w64 v → p ≡ pos (2 ^ half) → half + rest ≡ by → half < 63 → (FitsSigned w64 (back v *ℤ back p) → ⊥) → Err 4 ≡ in_range width (v *ℤ pos (2 ^ by))
+pub past_half : (width : Width) (v p : ℤ) (by half rest : ℕ) → FitsSigned w64 v → p ≡ pos (2 ^ half) → half + rest ≡ by → half < 63 → (FitsSigned w64 (back v *ℤ back p) → ⊥) → Err traps.OutOfRange ≡ in_range width (v *ℤ pos (2 ^ by))
 past_half width v p by half rest fv ep sum lh out =
     let e : back v *ℤ back p ≡ v *ℤ pos (2 ^ half) = ap (λ z. z *ℤ back p) (to_z-of_z w64 v fv) ∙ ap (λ z. v *ℤ z) (backed p half lh ep) in
     let pw : 2 ^ half * 2 ^ rest ≡ 2 ^ by = sym (pow-add 2 half rest) ∙ ap (λ n. 2 ^ n) sum in

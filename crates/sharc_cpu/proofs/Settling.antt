@@ -1,6 +1,8 @@
 -- A thread has a stop exactly where its state is Stopped.
 use Rattle.std.proofs.Common.{◌≡◌, ℕ, ℤ, pos, negsuc, zero, suc, ◌+◌, ◌*◌, min, Bool, false, not, ◌&&◌, ◌==◌, nat_lt, length, is_some, if◌then◌else◌, refl, ap, ◌∙◌, ◌||◌, true, List, [], ◌∷◌}
 use Rattle.std.specs.Prelude.{Result, Ok, Err}
+use Rattle.sharc_tree.specs.declared.trap.Trap.{Trap}
+use Rattle.sharc_tree.specs.declared.trap.Trap.TheVariants as traps
 use Rattle.sharc_word.specs.declared.step.TheConstants.{THREADS}
 use Rattle.sharc_word.specs.declared.step.WordOp.TheVariants as ops
 use Rattle.sharc_cond.specs.Waiters.{waits_in}
@@ -48,11 +50,11 @@ at_call : (m : Machine) (pc ints refs site : ℕ) → is_some m.own.stop ≡ fal
 at_call m pc ints refs site none = either (has_room m ints refs) _ _ none refl
 
 module _ (code : Code) (s : Shape) (m : Machine) (none : is_some m.own.stop ≡ false) where
-  at_result : (r site : ℕ) (z : Result ℤ ℕ) → Settled (with_result m r site z)
+  at_result : (r site : ℕ) (z : Result ℤ Trap) → Settled (with_result m r site z)
   at_result r site (Ok z) = none
   at_result r site (Err c) = refl
 
-  at_assert : (b : Bool) (c site : ℕ) → Settled (asserts m b c site)
+  at_assert : (b : Bool) (c : Trap) (site : ℕ) → Settled (asserts m b c site)
   at_assert true c site = none
   at_assert false c site = refl
 
@@ -143,7 +145,7 @@ module _ (code : Code) (s : Shape) (m : Machine) (none : is_some m.own.stop ≡ 
 
   at_join : (z : ℤ) (site found : ℕ) → Settled (after (join m z site) found)
   at_join (pos n) site found =
-      elim (nat_lt n THREADS) as (λ b. Settled (after (if b then Asks (step_of (state_word n) ops.Load) (joined m site) else Local (trapped m 7 site)) found)) [
+      elim (nat_lt n THREADS) as (λ b. Settled (after (if b then Asks (step_of (state_word n) ops.Load) (joined m site) else Local (trapped m traps.NoSuchThread site)) found)) [
         | true ↦ at_joined site found
         | false ↦ refl
       ]
@@ -199,17 +201,17 @@ module _ (code : Code) (s : Shape) (m : Machine) (none : is_some m.own.stop ≡ 
   settles (Complement r a) found = none
   settles (Not r a) found = none
   settles (SameReference r a b) found = none
-  settles (ChkWidth width r site) found = at_assert (holds width (int m r)) 4 site
+  settles (ChkWidth width r site) found = at_assert (holds width (int m r)) traps.OutOfRange site
   settles (Jump pc) found = none
   settles (JumpIfZero r pc) found = at_jump (is_zero (int m r)) pc
   settles (JumpIfNull r pc) found = at_jump (ref m r == 0) pc
   settles (Call pc ints refs site) found = at_call m pc ints refs site none
   settles (Return site) found = at_return site
-  settles (ChkNull r site) found = at_assert (not (ref m r == 0)) 1 site
-  settles (ChkHeld cell site) found = at_assert (is_held m (word s m cell)) 5 site
-  settles (ChkNotHeld cell site) found = at_assert (not (is_held m (word s m cell))) 6 site
-  settles (ChkPositive r site) found = at_assert (is_positive (int m r)) 12 site
-  settles (ChkRoom site) found = at_assert (nat_lt (length m.own.held) 16) 13 site
+  settles (ChkNull r site) found = at_assert (not (ref m r == 0)) traps.NullPointer site
+  settles (ChkHeld cell site) found = at_assert (is_held m (word s m cell)) traps.MutexNotHeld site
+  settles (ChkNotHeld cell site) found = at_assert (not (is_held m (word s m cell))) traps.MutexAlreadyHeld site
+  settles (ChkPositive r site) found = at_assert (is_positive (int m r)) traps.SizeNotPositive site
+  settles (ChkRoom site) found = at_assert (nat_lt (length m.own.held) 16) traps.TooManyLocks site
   settles (ChkLock cell site) found = at_lock_check (is_of_null m cell) (word s m cell) site
   settles (ChkLockLoaded site) found = at_lock_check (m.pending == 0) (cell_word s (cell_of m.pending 0)) site
   settles (Bounds r base cells field site) found = at_index r (int m r) cells field site found

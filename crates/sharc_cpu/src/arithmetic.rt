@@ -6,6 +6,7 @@ ghost use Rattle.sharc_code.specs.declared.instr.Operator.TheVariants as operato
 ghost use Rattle.sharc_code.specs.Arithmetic.{word_of, int_of, holds, is_zero, truth, in_range, computed, negated, complement, value_bits};
 
 use sharc_code::{Operator, Width};
+use sharc_tree::trap::Trap;
 
 /// An integer as a word.
 #[inline(always)]
@@ -58,70 +59,70 @@ pub(crate) fn holds(width: Width, value: i64) -> bool
     }
 }
 
-/// The negative, or X4.
+/// The negative, or the trap.
 #[inline(always)]
-pub(crate) fn negated(width: Width, value: i64) -> Result<i64, u8>
+pub(crate) fn negated(width: Width, value: i64) -> Result<i64, Trap>
     ensures { result ≡ negated width value }
 {
     match value.checked_neg() {
         Some(negative) if holds(width, negative) => Ok(negative),
-        _ => Err(4),
+        _ => Err(Trap::OutOfRange),
     }
 }
 
 #[inline(always)]
-fn sum(width: Width, left: i64, right: i64) -> Result<i64, u8>
+fn sum(width: Width, left: i64, right: i64) -> Result<i64, Trap>
     ensures { result ≡ computed width operators.Add left right }
 {
     match left.checked_add(right) {
         Some(sum) if holds(width, sum) => Ok(sum),
-        _ => Err(4),
+        _ => Err(Trap::OutOfRange),
     }
 }
 
 #[inline(always)]
-fn difference(width: Width, left: i64, right: i64) -> Result<i64, u8>
+fn difference(width: Width, left: i64, right: i64) -> Result<i64, Trap>
     ensures { result ≡ computed width operators.Subtract left right }
 {
     match left.checked_sub(right) {
         Some(difference) if holds(width, difference) => Ok(difference),
-        _ => Err(4),
+        _ => Err(Trap::OutOfRange),
     }
 }
 
 #[inline(always)]
-fn product(width: Width, left: i64, right: i64) -> Result<i64, u8>
+fn product(width: Width, left: i64, right: i64) -> Result<i64, Trap>
     ensures { result ≡ computed width operators.Multiply left right }
 {
     match left.checked_mul(right) {
         Some(product) if holds(width, product) => Ok(product),
-        _ => Err(4),
+        _ => Err(Trap::OutOfRange),
     }
 }
 
 #[inline(always)]
-fn quotient(width: Width, left: i64, right: i64) -> Result<i64, u8>
+fn quotient(width: Width, left: i64, right: i64) -> Result<i64, Trap>
     ensures { result ≡ computed width operators.Divide left right }
 {
     if right == 0 {
-        return Err(3);
+        return Err(Trap::DivisionByZero);
     }
     match left.checked_div(right) {
         Some(quotient) if holds(width, quotient) => Ok(quotient),
-        _ => Err(4),
+        _ => Err(Trap::OutOfRange),
     }
 }
 
 #[inline(always)]
-fn remainder(width: Width, left: i64, right: i64) -> Result<i64, u8>
+fn remainder(width: Width, left: i64, right: i64) -> Result<i64, Trap>
     ensures { result ≡ computed width operators.Remainder left right }
 {
     if right == 0 {
-        return Err(3);
+        return Err(Trap::DivisionByZero);
     }
     match left.checked_div(right) {
         Some(quotient) if holds(width, quotient) => Ok(left % right),
-        _ => Err(4),
+        _ => Err(Trap::OutOfRange),
     }
 }
 
@@ -146,25 +147,25 @@ fn is_count(width: Width, by: i64) -> bool
 }
 
 #[inline(always)]
-fn shifted_left(width: Width, left: i64, right: i64) -> Result<i64, u8>
+fn shifted_left(width: Width, left: i64, right: i64) -> Result<i64, Trap>
     ensures { result ≡ computed width operators.ShiftLeft left right }
 {
     if is_count(width, right) {
         doubled(width, left, right as u32)
     } else {
-        Err(4)
+        Err(Trap::OutOfRange)
     }
 }
 
 // So often doubled, in two halves, since 2 to the power of 63 is no integer.
-fn doubled(width: Width, value: i64, by: u32) -> Result<i64, u8>
+fn doubled(width: Width, value: i64, by: u32) -> Result<i64, Trap>
     requires { by < 64 }
     ensures { result ≡ in_range width (value *ℤ pos (2 ^ by)) }
 {
     let half = by / 2;
     match value.checked_mul(power(half)) {
         Some(product_so_far) => product(width, product_so_far, power(by - half)),
-        None => Err(4),
+        None => Err(Trap::OutOfRange),
     }
 }
 
@@ -178,19 +179,19 @@ fn power(by: u32) -> i64
 }
 
 #[inline(always)]
-fn shifted_right(width: Width, left: i64, right: i64) -> Result<i64, u8>
+fn shifted_right(width: Width, left: i64, right: i64) -> Result<i64, Trap>
     ensures { result ≡ computed width operators.ShiftRight left right }
 {
     if is_count(width, right) {
         Ok(left >> right)
     } else {
-        Err(4)
+        Err(Trap::OutOfRange)
     }
 }
 
-/// The value, or the number of the stop.
+/// The value, or the trap.
 #[inline(always)]
-pub(crate) fn computed(width: Width, operator: Operator, left: i64, right: i64) -> Result<i64, u8>
+pub(crate) fn computed(width: Width, operator: Operator, left: i64, right: i64) -> Result<i64, Trap>
     ensures { result ≡ computed width operator left right }
 {
     match operator {

@@ -15,6 +15,7 @@ use crate::turns::{at_stage, field_of, rests, trapped};
 use sharc_code::{At, Code, Layout, Shape, Stage, cell_of};
 use sharc_granule::{NewState, NewTurn, block};
 use sharc_shadow::cleared;
+use sharc_tree::trap::Trap;
 use sharc_word::{Port, WordOp, WordStep};
 
 // ---- new objects
@@ -86,7 +87,7 @@ fn goes_on_new(at: At, parts: &mut Parts, register: u32, site: u32, state: NewSt
     match state.turn() {
         NewTurn::Do(_) => at_stage(at, parts, Stage::Makes(state)),
         NewTurn::Made(header) => made(at, parts, register, state, header),
-        NewTurn::HeapFull => trapped(at, parts, 9, site),
+        NewTurn::HeapFull => trapped(at, parts, Trap::HeapFull, site),
     }
 }
 
@@ -117,7 +118,7 @@ fn asks_new<P: Port>(
             Done { at, found }
         }
         NewTurn::Made(header) => local(made(at, parts, register, state, header)),
-        NewTurn::HeapFull => local(trapped(at, parts, 9, site)),
+        NewTurn::HeapFull => local(trapped(at, parts, Trap::HeapFull, site)),
     }
 }
 

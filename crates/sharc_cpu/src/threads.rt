@@ -19,6 +19,7 @@ use sharc_code::{
     state_word,
 };
 use sharc_shadow::withdrawn;
+use sharc_tree::trap::Trap;
 use sharc_word::{Port, THREADS, WordOp, WordStep};
 
 // ---- spawn
@@ -52,7 +53,7 @@ fn numbered(at: At, parts: &mut Parts, site: u32, found: u64) -> At
     if found < u64::from(THREADS) {
         at_stage(at, parts, Stage::Names(found as u32))
     } else {
-        trapped(at, parts, 8, site)
+        trapped(at, parts, Trap::ThreadLimit, site)
     }
 }
 
@@ -64,7 +65,7 @@ fn joined(at: At, parts: &mut Parts, site: u32, found: u64) -> At
     ensures room { vec_capacity parts.new.prints ≡ vec_capacity parts.old.prints }
 {
     if found == 0 {
-        trapped(at, parts, 7, site)
+        trapped(at, parts, Trap::NoSuchThread, site)
     } else if found == 1 || found == 2 {
         tries(at)
     } else {
@@ -297,7 +298,7 @@ pub(crate) fn join<P: Port>(
 {
     let number = parts.int(at, register);
     if number < 0 || number >= i64::from(THREADS) {
-        return local(trapped(at, parts, 7, site));
+        return local(trapped(at, parts, Trap::NoSuchThread, site));
     }
     let word = state_word(number as u32);
     let found = ask(

@@ -8,6 +8,7 @@ use crate::arithmetic::int_of;
 use crate::parts::Parts;
 use crate::places::{jumps, next, stays, stops};
 use sharc_code::{At, Code, Frame, Stage, State, Stop};
+use sharc_tree::trap::Trap;
 
 /// Stops.
 #[inline(always)]
@@ -19,37 +20,37 @@ pub(crate) fn stopped(at: At, parts: &mut Parts, stop: Stop) -> At
     stops(at)
 }
 
-/// Stops with the X of this number.
+/// Stops with this trap.
 #[inline(always)]
-pub(crate) fn trapped(at: At, parts: &mut Parts, number: u8, site: u32) -> At
-    ensures turn { machine_of result parts.new ≡ trapped (machine_of at parts.old) number site }
+pub(crate) fn trapped(at: At, parts: &mut Parts, trap: Trap, site: u32) -> At
+    ensures turn { machine_of result parts.new ≡ trapped (machine_of at parts.old) trap site }
     ensures room { vec_capacity parts.new.prints ≡ vec_capacity parts.old.prints }
 {
-    stopped(at, parts, Stop::Trap(number, site))
+    stopped(at, parts, Stop::Trap(trap, site))
 }
 
-/// Stops with this X where this does not hold.
+/// Stops with this trap where this does not hold.
 #[inline(always)]
-pub(crate) fn asserts(at: At, parts: &mut Parts, holds: bool, number: u8, site: u32) -> At
+pub(crate) fn asserts(at: At, parts: &mut Parts, holds: bool, trap: Trap, site: u32) -> At
     requires place { at.pc + 1 < 2 ^ 64 }
-    ensures turn { machine_of result parts.new ≡ asserts (machine_of at parts.old) holds number site }
+    ensures turn { machine_of result parts.new ≡ asserts (machine_of at parts.old) holds trap site }
     ensures room { vec_capacity parts.new.prints ≡ vec_capacity parts.old.prints }
 {
     if holds {
         next(at)
     } else {
-        trapped(at, parts, number, site)
+        trapped(at, parts, trap, site)
     }
 }
 
-/// Keeps the value, or stops with the number of an X.
+/// Keeps the value, or stops with the trap.
 #[inline(always)]
 pub(crate) fn keep(
     at: At,
     parts: &mut Parts,
     register: u32,
     site: u32,
-    value: Result<i64, u8>,
+    value: Result<i64, Trap>,
 ) -> At
     requires place { at.pc + 1 < 2 ^ 64 }
     ensures turn { machine_of result parts.new ≡ with_result (machine_of at parts.old) register site value }
@@ -60,7 +61,7 @@ pub(crate) fn keep(
             parts.set_int(at, register, value);
             next(at)
         }
-        Err(number) => trapped(at, parts, number, site),
+        Err(trap) => trapped(at, parts, trap, site),
     }
 }
 
@@ -120,7 +121,7 @@ pub(crate) fn called(at: At, parts: &mut Parts, pc: u32, ints: u32, refs: u32, s
             state: State::Runs,
         }
     } else {
-        trapped(at, parts, 10, site)
+        trapped(at, parts, Trap::CallDepth, site)
     }
 }
 
@@ -142,7 +143,7 @@ pub(crate) fn returned(code: &Code, at: At, parts: &mut Parts, site: u32) -> At
         return jumps(at, code.instrs.len());
     }
     if at.depth == 1 && !holds_none(parts) {
-        return trapped(at, parts, 11, site);
+        return trapped(at, parts, Trap::ReturnWithLockHeld, site);
     }
     let depth = at.depth - 1;
     let frame = parts.frame(depth as usize);
@@ -172,7 +173,7 @@ pub(crate) fn indexed(
 {
     let index = parts.int(at, register);
     if index < 0 || index.cast_unsigned() >= elements {
-        return trapped(at, parts, 2, site);
+        return trapped(at, parts, Trap::IndexOutOfBounds, site);
     }
     let field = field_of(index.cast_unsigned(), cells, field);
     parts.set_int(at, register, int_of(field));

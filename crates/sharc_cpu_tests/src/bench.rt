@@ -184,7 +184,7 @@ fn is_stop(seen: Option<Stop>, stop: Stop) -> bool {
     match (seen, stop) {
         (Some(Stop::NoLock(a, mutex)), Stop::NoLock(b, other)) => a == b && mutex == other,
         (Some(Stop::NotSole(a, count)), Stop::NotSole(b, other)) => a == b && count == other,
-        (Some(Stop::Trap(number, a)), Stop::Trap(other, b)) => a == b && number == other,
+        (Some(Stop::Trap(trap, a)), Stop::Trap(other, b)) => a == b && trap == other,
         _ => false,
     }
 }

@@ -5,6 +5,7 @@ use crate::script::Ask;
 use sharc_code::{Cell, Instr};
 use sharc_cpu::{Stop, Wait};
 use sharc_shadow::Kind;
+use sharc_tree::trap::Trap;
 use sharc_word::WordOp::{Add, Cas, Load, Or, Sub, Swap};
 use std::process::Abort;
 use std::test::Fail;
@@ -247,7 +248,7 @@ static MUTEXES: [Row<'static>; 22] = [
         turns: 1,
         before: (5, 11, 12),
         asks: &[],
-        then: Then::Stops(Stop::Trap(5, 7)),
+        then: Then::Stops(Stop::Trap(Trap::MutexNotHeld, 7)),
     },
     Row {
         body: &[Instr::Lock(G, 7), Instr::ChkHeld(G, 8)],
@@ -265,7 +266,7 @@ static MUTEXES: [Row<'static>; 22] = [
         turns: 3,
         before: (5, 11, 12),
         asks: &[(180, Cas(0, 4), 0), (180, Swap(0), 4)],
-        then: Then::Stops(Stop::Trap(5, 8)),
+        then: Then::Stops(Stop::Trap(Trap::MutexNotHeld, 8)),
     },
     Row {
         body: &[Instr::ChkNotHeld(G, 7)],
@@ -279,7 +280,7 @@ static MUTEXES: [Row<'static>; 22] = [
         turns: 2,
         before: (5, 11, 12),
         asks: &[(180, Cas(0, 4), 0)],
-        then: Then::Stops(Stop::Trap(6, 8)),
+        then: Then::Stops(Stop::Trap(Trap::MutexAlreadyHeld, 8)),
     },
     Row {
         body: &[Instr::ChkLock(G, 7)],
@@ -307,14 +308,14 @@ static MUTEXES: [Row<'static>; 22] = [
         turns: 1,
         before: (5, 0, 12),
         asks: &[],
-        then: Then::Stops(Stop::Trap(1, 7)),
+        then: Then::Stops(Stop::Trap(Trap::NullPointer, 7)),
     },
     Row {
         body: &[Instr::ChkLock(Cell::ObjectAt(0, 0), 7)],
         turns: 1,
         before: (5, 0, 12),
         asks: &[],
-        then: Then::Stops(Stop::Trap(1, 7)),
+        then: Then::Stops(Stop::Trap(Trap::NullPointer, 7)),
     },
     // The mutex in the first cell of the object that was loaded.
     Row {
@@ -329,7 +330,7 @@ static MUTEXES: [Row<'static>; 22] = [
         turns: 2,
         before: (5, 11, 12),
         asks: &[(180, Load, 0)],
-        then: Then::Stops(Stop::Trap(1, 8)),
+        then: Then::Stops(Stop::Trap(Trap::NullPointer, 8)),
     },
     Row {
         body: &[
@@ -352,7 +353,7 @@ static MUTEXES: [Row<'static>; 22] = [
         turns: 3,
         before: (5, 11, 12),
         asks: &[(180, Cas(0, 4), 0)],
-        then: Then::Stops(Stop::Trap(11, 7)),
+        then: Then::Stops(Stop::Trap(Trap::ReturnWithLockHeld, 7)),
     },
 ];
 

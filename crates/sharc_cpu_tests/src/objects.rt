@@ -3,6 +3,7 @@
 use crate::bench::{Row, Then, walk};
 use sharc_code::Instr;
 use sharc_cpu::Stop;
+use sharc_tree::trap::Trap;
 use sharc_word::WordOp::{Add, Cas, Load, Sub, Swap};
 use std::process::Abort;
 use std::test::Fail;
@@ -39,14 +40,14 @@ static MADE: [Row<'static>; 10] = [
         turns: 1,
         before: (1, 11, 12),
         asks: &[(1, Load, 74)],
-        then: Then::Stops(Stop::Trap(9, 7)),
+        then: Then::Stops(Stop::Trap(Trap::HeapFull, 7)),
     },
     Row {
         body: &[Instr::New(0, 0, 1, 7)],
         turns: 1,
         before: (1, 11, 12),
         asks: &[(1, Load, u64::MAX)],
-        then: Then::Stops(Stop::Trap(9, 7)),
+        then: Then::Stops(Stop::Trap(Trap::HeapFull, 7)),
     },
     // Another took the block that was seen.
     Row {
@@ -67,7 +68,7 @@ static MADE: [Row<'static>; 10] = [
         turns: 2,
         before: (1, 11, 12),
         asks: &[(1, Load, 11), (1, Cas(11, 13), 74)],
-        then: Then::Stops(Stop::Trap(9, 7)),
+        then: Then::Stops(Stop::Trap(Trap::HeapFull, 7)),
     },
     // An object has at least one element, and at least one cell.
     Row {
@@ -111,7 +112,7 @@ static MADE: [Row<'static>; 10] = [
         turns: 1,
         before: (i64::MAX, 11, 12),
         asks: &[(1, Load, 11)],
-        then: Then::Stops(Stop::Trap(9, 7)),
+        then: Then::Stops(Stop::Trap(Trap::HeapFull, 7)),
     },
 ];
 
@@ -481,28 +482,28 @@ static BOUNDED: [Row<'static>; 10] = [
         turns: 1,
         before: (2, 11, 12),
         asks: &[(195, Load, 2)],
-        then: Then::Stops(Stop::Trap(2, 7)),
+        then: Then::Stops(Stop::Trap(Trap::IndexOutOfBounds, 7)),
     },
     Row {
         body: &[Instr::Bounds(0, 0, 3, 2, 7)],
         turns: 1,
         before: (0, 11, 12),
         asks: &[(195, Load, 0)],
-        then: Then::Stops(Stop::Trap(2, 7)),
+        then: Then::Stops(Stop::Trap(Trap::IndexOutOfBounds, 7)),
     },
     Row {
         body: &[Instr::Bounds(0, 0, 3, 2, 7)],
         turns: 1,
         before: (-1, 11, 12),
         asks: &[(195, Load, u64::MAX)],
-        then: Then::Stops(Stop::Trap(2, 7)),
+        then: Then::Stops(Stop::Trap(Trap::IndexOutOfBounds, 7)),
     },
     Row {
         body: &[Instr::Bounds(0, 0, 3, 2, 7)],
         turns: 1,
         before: (i64::MIN, 11, 12),
         asks: &[(195, Load, u64::MAX)],
-        then: Then::Stops(Stop::Trap(2, 7)),
+        then: Then::Stops(Stop::Trap(Trap::IndexOutOfBounds, 7)),
     },
     Row {
         body: &[Instr::Bounds(0, 0, 3, 2, 7)],
@@ -531,7 +532,7 @@ static BOUNDED: [Row<'static>; 10] = [
         turns: 1,
         before: (i64::MAX, 11, 12),
         asks: &[(195, Load, 9223372036854775807)],
-        then: Then::Stops(Stop::Trap(2, 7)),
+        then: Then::Stops(Stop::Trap(Trap::IndexOutOfBounds, 7)),
     },
 ];
 

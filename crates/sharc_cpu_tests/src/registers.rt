@@ -7,6 +7,10 @@ use sharc_code::Operator::{
 };
 use sharc_code::{Instr, Operator, Width};
 use sharc_cpu::Stop;
+use sharc_tree::trap::Trap;
+use sharc_tree::trap::Trap::{
+    CallDepth, DivisionByZero, IndexOutOfBounds, NullPointer, OutOfRange, SizeNotPositive,
+};
 use sharc_word::WordOp;
 use std::alloc::Global;
 use std::process::Abort;
@@ -14,18 +18,18 @@ use std::test::Fail;
 
 const SITE: u32 = 7;
 
-// What becomes of the first register in this many turns, or the X.
+// What becomes of the first register in this many turns, or the trap.
 fn one(
     rt: &impl Abort,
     alloc: Global,
     body: &[Instr],
     turns: u32,
     from: i64,
-    made: Result<i64, u8>,
+    made: Result<i64, Trap>,
 ) -> Result<(), Fail> {
     let then = match made {
         Ok(value) => Then::Goes((value, 11, 12)),
-        Err(number) => Then::Stops(Stop::Trap(number, SITE)),
+        Err(trap) => Then::Stops(Stop::Trap(trap, SITE)),
     };
     let row = Row {
         body,
@@ -38,44 +42,62 @@ fn one(
 }
 
 /// What each operator makes of two numbers, as an `int` and as a `long`.
-static COMPUTED: [(Operator, i64, i64, Result<i64, u8>, Result<i64, u8>); 48] = [
+static COMPUTED: [(Operator, i64, i64, Result<i64, Trap>, Result<i64, Trap>); 48] = [
     (Add, 2147483646, 1, Ok(2147483647), Ok(2147483647)),
-    (Add, 2147483647, 1, Err(4), Ok(2147483648)),
-    (Add, -2147483648, -1, Err(4), Ok(-2147483649)),
-    (Add, i64::MAX, 1, Err(4), Err(4)),
-    (Add, i64::MIN, -1, Err(4), Err(4)),
+    (Add, 2147483647, 1, Err(OutOfRange), Ok(2147483648)),
+    (Add, -2147483648, -1, Err(OutOfRange), Ok(-2147483649)),
+    (Add, i64::MAX, 1, Err(OutOfRange), Err(OutOfRange)),
+    (Add, i64::MIN, -1, Err(OutOfRange), Err(OutOfRange)),
     (Subtract, -2147483647, 1, Ok(-2147483648), Ok(-2147483648)),
-    (Subtract, 0, -2147483648, Err(4), Ok(2147483648)),
-    (Subtract, 0, i64::MIN, Err(4), Err(4)),
-    (Subtract, -1, i64::MIN, Err(4), Ok(i64::MAX)),
-    (Multiply, 46341, 46341, Err(4), Ok(2147488281)),
+    (Subtract, 0, -2147483648, Err(OutOfRange), Ok(2147483648)),
+    (Subtract, 0, i64::MIN, Err(OutOfRange), Err(OutOfRange)),
+    (Subtract, -1, i64::MIN, Err(OutOfRange), Ok(i64::MAX)),
+    (Multiply, 46341, 46341, Err(OutOfRange), Ok(2147488281)),
     (Multiply, -65536, 32768, Ok(-2147483648), Ok(-2147483648)),
-    (Multiply, i64::MIN, -1, Err(4), Err(4)),
-    (Multiply, 3037000500, 3037000500, Err(4), Err(4)),
+    (Multiply, i64::MIN, -1, Err(OutOfRange), Err(OutOfRange)),
+    (
+        Multiply,
+        3037000500,
+        3037000500,
+        Err(OutOfRange),
+        Err(OutOfRange),
+    ),
     (Multiply, i64::MIN, 0, Ok(0), Ok(0)),
     (Divide, 7, -2, Ok(-3), Ok(-3)),
     (Divide, -1, 2, Ok(0), Ok(0)),
     (Divide, -2147483648, 1, Ok(-2147483648), Ok(-2147483648)),
-    (Divide, i64::MAX, 0, Err(3), Err(3)),
+    (
+        Divide,
+        i64::MAX,
+        0,
+        Err(DivisionByZero),
+        Err(DivisionByZero),
+    ),
     (Divide, i64::MIN, i64::MIN, Ok(1), Ok(1)),
     (Remainder, 7, -2, Ok(1), Ok(1)),
-    (Remainder, -2147483648, -1, Err(4), Ok(0)),
-    (Remainder, i64::MIN, 0, Err(3), Err(3)),
+    (Remainder, -2147483648, -1, Err(OutOfRange), Ok(0)),
+    (
+        Remainder,
+        i64::MIN,
+        0,
+        Err(DivisionByZero),
+        Err(DivisionByZero),
+    ),
     (Remainder, i64::MIN, i64::MAX, Ok(-1), Ok(-1)),
     (ShiftLeft, 1, 30, Ok(1073741824), Ok(1073741824)),
     (ShiftLeft, 0, 31, Ok(0), Ok(0)),
-    (ShiftLeft, 0, 32, Err(4), Ok(0)),
-    (ShiftLeft, 0, 63, Err(4), Ok(0)),
-    (ShiftLeft, 0, 64, Err(4), Err(4)),
-    (ShiftLeft, 0, i64::MIN, Err(4), Err(4)),
-    (ShiftLeft, 1, 62, Err(4), Ok(4611686018427387904)),
-    (ShiftLeft, -2, 63, Err(4), Err(4)),
+    (ShiftLeft, 0, 32, Err(OutOfRange), Ok(0)),
+    (ShiftLeft, 0, 63, Err(OutOfRange), Ok(0)),
+    (ShiftLeft, 0, 64, Err(OutOfRange), Err(OutOfRange)),
+    (ShiftLeft, 0, i64::MIN, Err(OutOfRange), Err(OutOfRange)),
+    (ShiftLeft, 1, 62, Err(OutOfRange), Ok(4611686018427387904)),
+    (ShiftLeft, -2, 63, Err(OutOfRange), Err(OutOfRange)),
     (ShiftRight, -1, 31, Ok(-1), Ok(-1)),
     (ShiftRight, 2147483647, 31, Ok(0), Ok(0)),
-    (ShiftRight, 1, 32, Err(4), Ok(0)),
-    (ShiftRight, i64::MIN, 63, Err(4), Ok(-1)),
-    (ShiftRight, 1, -1, Err(4), Err(4)),
-    (ShiftRight, 1, i64::MAX, Err(4), Err(4)),
+    (ShiftRight, 1, 32, Err(OutOfRange), Ok(0)),
+    (ShiftRight, i64::MIN, 63, Err(OutOfRange), Ok(-1)),
+    (ShiftRight, 1, -1, Err(OutOfRange), Err(OutOfRange)),
+    (ShiftRight, 1, i64::MAX, Err(OutOfRange), Err(OutOfRange)),
     (And, -1, i64::MIN, Ok(i64::MIN), Ok(i64::MIN)),
     (Or, i64::MIN, i64::MAX, Ok(-1), Ok(-1)),
     (Xor, -1, -1, Ok(0), Ok(0)),
@@ -102,7 +124,7 @@ fn operators(rt: HostRuntime) -> Result<(), Fail> {
 }
 
 /// What one instruction makes of one number.
-static OF_ONE: [(Instr, i64, Result<i64, u8>); 42] = [
+static OF_ONE: [(Instr, i64, Result<i64, Trap>); 42] = [
     (Instr::Constant(0, i64::MIN), 5, Ok(i64::MIN)),
     (Instr::Constant(0, i64::MAX), 5, Ok(i64::MAX)),
     // A register past the bank, of 2048 registers, is 0 and stays so.
@@ -111,7 +133,7 @@ static OF_ONE: [(Instr, i64, Result<i64, u8>); 42] = [
     (Instr::Constant(2048, 6), 5, Ok(5)),
     (Instr::NegateInt(0, 0, 7), 2147483647, Ok(-2147483647)),
     (Instr::NegateInt(0, 0, 7), -2147483647, Ok(2147483647)),
-    (Instr::NegateInt(0, 0, 7), -2147483648, Err(4)),
+    (Instr::NegateInt(0, 0, 7), -2147483648, Err(OutOfRange)),
     (Instr::NegateInt(0, 0, 7), 0, Ok(0)),
     (Instr::NegateLong(0, 0, 7), -2147483648, Ok(2147483648)),
     (
@@ -119,45 +141,61 @@ static OF_ONE: [(Instr, i64, Result<i64, u8>); 42] = [
         i64::MAX,
         Ok(-9223372036854775807),
     ),
-    (Instr::NegateLong(0, 0, 7), i64::MIN, Err(4)),
+    (Instr::NegateLong(0, 0, 7), i64::MIN, Err(OutOfRange)),
     (Instr::Complement(0, 0), 0, Ok(-1)),
     (Instr::Complement(0, 0), i64::MIN, Ok(i64::MAX)),
     (Instr::Not(0, 0), 0, Ok(1)),
     (Instr::Not(0, 0), i64::MIN, Ok(0)),
     (Instr::Not(0, 0), 1, Ok(0)),
     (Instr::ChkWidth(Width::Char, 0, 7), 127, Ok(127)),
-    (Instr::ChkWidth(Width::Char, 0, 7), 128, Err(4)),
+    (Instr::ChkWidth(Width::Char, 0, 7), 128, Err(OutOfRange)),
     (Instr::ChkWidth(Width::Char, 0, 7), -128, Ok(-128)),
-    (Instr::ChkWidth(Width::Char, 0, 7), -129, Err(4)),
+    (Instr::ChkWidth(Width::Char, 0, 7), -129, Err(OutOfRange)),
     (
         Instr::ChkWidth(Width::Int, 0, 7),
         2147483647,
         Ok(2147483647),
     ),
-    (Instr::ChkWidth(Width::Int, 0, 7), 2147483648, Err(4)),
+    (
+        Instr::ChkWidth(Width::Int, 0, 7),
+        2147483648,
+        Err(OutOfRange),
+    ),
     (
         Instr::ChkWidth(Width::Int, 0, 7),
         -2147483648,
         Ok(-2147483648),
     ),
-    (Instr::ChkWidth(Width::Int, 0, 7), -2147483649, Err(4)),
+    (
+        Instr::ChkWidth(Width::Int, 0, 7),
+        -2147483649,
+        Err(OutOfRange),
+    ),
     (Instr::ChkWidth(Width::Long, 0, 7), i64::MAX, Ok(i64::MAX)),
     (Instr::ChkWidth(Width::Long, 0, 7), i64::MIN, Ok(i64::MIN)),
     (Instr::ChkPositive(0, 7), 1, Ok(1)),
     (Instr::ChkPositive(0, 7), i64::MAX, Ok(i64::MAX)),
-    (Instr::ChkPositive(0, 7), 0, Err(12)),
-    (Instr::ChkPositive(0, 7), -1, Err(12)),
-    (Instr::ChkPositive(0, 7), i64::MIN, Err(12)),
+    (Instr::ChkPositive(0, 7), 0, Err(SizeNotPositive)),
+    (Instr::ChkPositive(0, 7), -1, Err(SizeNotPositive)),
+    (Instr::ChkPositive(0, 7), i64::MIN, Err(SizeNotPositive)),
     // Three elements of two cells from cell 8 on, and the second field.
     (Instr::GlobalBounds(0, 3, 2, 9, 7), 0, Ok(9)),
     (Instr::GlobalBounds(0, 3, 2, 9, 7), 2, Ok(13)),
-    (Instr::GlobalBounds(0, 3, 2, 9, 7), 3, Err(2)),
-    (Instr::GlobalBounds(0, 3, 2, 9, 7), -1, Err(2)),
-    (Instr::GlobalBounds(0, 3, 2, 9, 7), i64::MIN, Err(2)),
-    (Instr::GlobalBounds(0, 0, 2, 9, 7), 0, Err(2)),
+    (Instr::GlobalBounds(0, 3, 2, 9, 7), 3, Err(IndexOutOfBounds)),
+    (
+        Instr::GlobalBounds(0, 3, 2, 9, 7),
+        -1,
+        Err(IndexOutOfBounds),
+    ),
+    (
+        Instr::GlobalBounds(0, 3, 2, 9, 7),
+        i64::MIN,
+        Err(IndexOutOfBounds),
+    ),
+    (Instr::GlobalBounds(0, 0, 2, 9, 7), 0, Err(IndexOutOfBounds)),
     (Instr::ChkNull(0, 7), 5, Ok(5)),
-    (Instr::ChkNull(2, 7), 5, Err(1)),
-    (Instr::ChkNull(2048, 7), 5, Err(1)),
+    (Instr::ChkNull(2, 7), 5, Err(NullPointer)),
+    (Instr::ChkNull(2048, 7), 5, Err(NullPointer)),
     (Instr::ChkRoom(7), 5, Ok(5)),
 ];
 
@@ -288,7 +326,7 @@ static MOVED: [Row; 17] = [
         turns: 2,
         before: (5, 11, 12),
         asks: &[],
-        then: Then::Stops(Stop::Trap(10, SITE)),
+        then: Then::Stops(Stop::Trap(CallDepth, SITE)),
     },
     Row {
         body: &[
@@ -298,7 +336,7 @@ static MOVED: [Row; 17] = [
         turns: 2,
         before: (5, 11, 12),
         asks: &[],
-        then: Then::Stops(Stop::Trap(10, SITE)),
+        then: Then::Stops(Stop::Trap(CallDepth, SITE)),
     },
     // Where there is no frame, a return leads past the code, and the thread goes.
     Row {

@@ -3,6 +3,7 @@
 use crate::bench::{Row, Then, walk};
 use sharc_code::{Cell, Instr, Register};
 use sharc_cpu::{Stop, Wait};
+use sharc_tree::trap::Trap;
 use sharc_word::WordOp::{Add, Cas, Load, Or, Swap};
 use std::process::Abort;
 use std::test::Fail;
@@ -30,14 +31,14 @@ static SPAWNED: [Row<'static>; 5] = [
         turns: 1,
         before: (5, 11, 12),
         asks: &[(2, Add(1), 31)],
-        then: Then::Stops(Stop::Trap(8, 7)),
+        then: Then::Stops(Stop::Trap(Trap::ThreadLimit, 7)),
     },
     Row {
         body: &[Instr::Spawn(0, 2, Register::Int(0), 7)],
         turns: 1,
         before: (5, 11, 12),
         asks: &[(2, Add(1), u64::MAX)],
-        then: Then::Stops(Stop::Trap(8, 7)),
+        then: Then::Stops(Stop::Trap(Trap::ThreadLimit, 7)),
     },
     Row {
         body: &[Instr::Spawn(0, 2, Register::Int(0), 7)],
@@ -92,7 +93,7 @@ static JOINED: [Row<'static>; 10] = [
         turns: 1,
         before: (30, 11, 12),
         asks: &[(94, Load, 0)],
-        then: Then::Stops(Stop::Trap(7, 7)),
+        then: Then::Stops(Stop::Trap(Trap::NoSuchThread, 7)),
     },
     Row {
         body: &[Instr::Join(0, 7)],
@@ -113,28 +114,28 @@ static JOINED: [Row<'static>; 10] = [
         turns: 1,
         before: (31, 11, 12),
         asks: &[],
-        then: Then::Stops(Stop::Trap(7, 7)),
+        then: Then::Stops(Stop::Trap(Trap::NoSuchThread, 7)),
     },
     Row {
         body: &[Instr::Join(0, 7)],
         turns: 1,
         before: (-1, 11, 12),
         asks: &[],
-        then: Then::Stops(Stop::Trap(7, 7)),
+        then: Then::Stops(Stop::Trap(Trap::NoSuchThread, 7)),
     },
     Row {
         body: &[Instr::Join(0, 7)],
         turns: 1,
         before: (4294967296, 11, 12),
         asks: &[],
-        then: Then::Stops(Stop::Trap(7, 7)),
+        then: Then::Stops(Stop::Trap(Trap::NoSuchThread, 7)),
     },
     Row {
         body: &[Instr::Join(0, 7)],
         turns: 1,
         before: (i64::MIN, 11, 12),
         asks: &[],
-        then: Then::Stops(Stop::Trap(7, 7)),
+        then: Then::Stops(Stop::Trap(Trap::NoSuchThread, 7)),
     },
     // A print has the next place in the order of all.
     Row {

@@ -8,7 +8,7 @@ use Rattle.sharc_tree.specs.Tree.{Program}
 use Rattle.sharc_names.specs.declared.fault.FaultCode.{FaultCode}
 use Rattle.sharc_names.specs.declared.fault.FaultCode.TheVariants.{UnknownName, DefinedTwice, TypeMismatch, ArgumentCount, NoLvalue, TypeNotAllowed, BadForm, NoMain, LimitPassed}
 use Rattle.sharc_names.specs.declared.fault.Fault.{Fault}
-use Rattle.sharc_names.specs.Notes.{digit, faults, IsFirst}
+use Rattle.sharc_names.specs.Notes.{faults, IsFirst}
 use Rattle.sharc_ctype.specs.declared.typed.Typed.{Typed}
 use Rattle.sharc_ctype.specs.declared.typed.TypeFault.{TypeFault}
 use Rattle.sharc_ctype.specs.declared.typed.TypeFault.TheVariants.{At, Memory}
@@ -39,15 +39,15 @@ abbrev pub told_of : FaultCode → List Token → List ℕ
 told_of code [] = []
 told_of code (t ∷ rest) = if prints_name code then t.text else []
 
-pub record IsToldAt (tokens : Tokens) (fault : Fault) (at : FaultAt) : Type 0 where
-  pub code : at.code ≡ digit fault.code
+pub record IsToldAt (tokens : Tokens) (fault : Fault) (at : FaultAt FaultCode) : Type 0 where
+  pub code : at.code ≡ fault.code
   pub file : at.file ≡ slice_index_or tokens.files (file_of (drop fault.place tokens.list) tokens.end) []
   pub line : at.line ≡ line_of (drop fault.place tokens.list) tokens.end
   pub offset : at.offset ≡ 0
   pub text : at.text ≡ told_of fault.code (drop fault.place tokens.list)
 
 -- the first fault of a program, as it is reported
-abbrev pub IsFaultOf : Program → FaultAt → Type 0
+abbrev pub IsFaultOf : Program → FaultAt FaultCode → Type 0
 IsFaultOf p at = (f : Fault) × IsFirst f (faults (notes_about p)) × IsToldAt p.tokens f at
 
 -- the program with what its names name, which it has where it is typed (a `Typed` is typed), or its first fault

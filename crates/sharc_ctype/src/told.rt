@@ -3,7 +3,7 @@
 ghost use Rattle.std.specs.Prelude.{◌≡◌, ◌<◌, All, length, drop, IfOk};
 ghost use Rattle.sharc_ctype.specs.Typings.{IsToldAt, file_of, line_of, told_of, prints_name};
 
-use sharc_names::fault::{Fault, FaultCode, digit};
+use sharc_names::fault::{Fault, FaultCode};
 use sharc_tree::name::Name;
 use sharc_tree::token::{FaultAt, Tokens};
 use std::alloc::{AllocError, Global};
@@ -62,7 +62,11 @@ fn text_at(
 }
 
 /// A fault as it is reported.
-pub(crate) fn told(alloc: Global, tokens: &Tokens, fault: Fault) -> Result<FaultAt, AllocError>
+pub(crate) fn told(
+    alloc: Global,
+    tokens: &Tokens,
+    fault: Fault,
+) -> Result<FaultAt<FaultCode>, AllocError>
     requires files { All (λ t. t.file < length tokens.now.files) tokens.now.list }
     requires end_file { tokens.now.end.file < length tokens.now.files }
     ensures { IfOk result (λ at. IsToldAt tokens.now fault at) }
@@ -72,7 +76,7 @@ pub(crate) fn told(alloc: Global, tokens: &Tokens, fault: Fault) -> Result<Fault
     let file = file_at(tokens, place) as usize;
     let file = tokens.files.at(file).copy(alloc)?;
     Ok(FaultAt {
-        code: digit(fault.code),
+        code: fault.code,
         file,
         line: line_at(tokens, place),
         offset: 0,

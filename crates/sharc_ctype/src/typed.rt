@@ -17,7 +17,7 @@ use crate::layout::{StructCells, cells_of};
 use crate::program::{first_fault, pass};
 use crate::tables::{Tables, as_function, as_global, as_struct, item_at};
 use crate::told::told;
-use sharc_names::fault::{Found, Named};
+use sharc_names::fault::{FaultCode, Found, Named};
 use sharc_tree::token::FaultAt;
 use sharc_tree::tree::{
     Declaration, FunctionDefinition, GlobalDefinition, Program, StructDefinition,
@@ -66,7 +66,7 @@ impl Model for Typed {
 #[derive(Drop)]
 pub enum TypeFault {
     /// The first fault.
-    At(FaultAt),
+    At(FaultAt<FaultCode>),
     /// There was not enough memory. It is the answer, too, where the program has so many positions that their numbers pass 2^32 - 1, since a list of
     /// that many could not be kept.
     Memory,

@@ -11,6 +11,7 @@ use Rattle.sharc_tree.specs.declared.event.Object.TheVariants.{Global, Made}
 use Rattle.sharc_tree.specs.declared.event.SourceEvent.{SourceEvent}
 use Rattle.sharc_tree.specs.declared.token.Site.{Site}
 use Rattle.sharc_tree.specs.declared.token.Span.{Span}
+use Rattle.sharc_tree.specs.declared.trap.Trap.TheVariants as traps
 use Rattle.sharc_names.specs.declared.fault.Named.{Named}
 use Rattle.sharc_names.specs.declared.fault.Named.TheVariants as named
 use Rattle.sharc_code.specs.declared.code.PlaceMode.{PlaceMode}
@@ -22,7 +23,6 @@ use Rattle.sharc_mode.specs.Cells.{is_behind_pointer}
 use Rattle.sharc_mode.specs.Moded.{Assignment}
 use Rattle.sharc_meaning.specs.declared.given.GivenUp.{GivenUp}
 use Rattle.sharc_mode.specs.Sharings.{Lock, Sharing, private, readonly, locked, racy, dynamic}
-use Rattle.sharc_meaning.specs.Arithmetic.{null_base}
 use Rattle.sharc_meaning.specs.Cells.{cell_of, through, guard_named, guard_beside, guard_by, mutex_named, field_place, field_place_behind, behind}
 use Rattle.sharc_meaning.specs.Places.{guarding, access_mode}
 use Rattle.sharc_meaning.specs.Reference.{is_null, number_of}
@@ -107,11 +107,11 @@ module _ (m : Assignment) (z : Standing) (scope : List Slot) where
 
     -- where its path leads through NULL
     stops_access : (pc c : ℕ) (p : ℤ) (ys : List ℤ) (es : List SourceEvent) (gs : List GivenUp) → slice_get z.flat.lines pc ≡ Some o
-        → (let u = record s { answers = ys; events = es; given_up = gs } in op_turn z.flat o (pending_place z pc ints refs u p) ≡ halts (stopped null_base spot.site))
-        → (let u = record s { answers = ys; events = es; given_up = gs } in Same z.flat s.fuel (c + 1) (fin_of (stopped null_base site) u) ys (pending_place z pc ints refs u p))
+        → (let u = record s { answers = ys; events = es; given_up = gs } in op_turn z.flat o (pending_place z pc ints refs u p) ≡ halts (stopped traps.NullPointer spot.site))
+        → (let u = record s { answers = ys; events = es; given_up = gs } in Same z.flat s.fuel (c + 1) (fin_of (stopped traps.NullPointer site) u) ys (pending_place z pc ints refs u p))
     stops_access pc c p ys es gs at is =
         let u : State = record s { answers = ys; events = es; given_up = gs } in
-        ends z.flat o (stopped null_base site) c u (pending_place z pc ints refs u p) (holding z T scope ints refs u (same_frame z T scope [] ints refs s u refl refl agree)) refl refl at (is ∙ ap (λ w. halts (stopped null_base w)) site_is)
+        ends z.flat o (stopped traps.NullPointer site) c u (pending_place z pc ints refs u p) (holding z T scope ints refs u (same_frame z T scope [] ints refs s u refl refl agree)) refl refl at (is ∙ ap (λ w. halts (stopped traps.NullPointer w)) site_is)
 
     -- a mutex behind a variable
     by_variable : (b : Bool) (x n field pc c : ℕ) → is_null (value_of s x) ≡ b → refs (z.refs + n) ≡ value_of s x → spot.mode ≡ places.LockedThrough n field → slice_get z.flat.lines pc ≡ Some o → Goes pc c
@@ -140,21 +140,21 @@ module _ (m : Assignment) (z : Standing) (scope : List Slot) where
         (turn_is pc (pos 0) s ∙ ap (λ w. under w (mutex_of z.flat.globals (place z pc ints refs s) cell w) spot (λ mode. asks (place z pc ints refs s) spot.site (act mode) (pos 0) (λ v n. accessed (on (then_ v n))))) is ∙ turn s) rest
 
     -- no mutex at all
-    by_none : (pc c : ℕ) → spot.mode ≡ places.LockedLoaded → slice_get z.flat.lines pc ≡ Some o → Same z.flat s.fuel (c + 1) (fin_of (stopped null_base site) s) s.answers (place z pc ints refs s)
+    by_none : (pc c : ℕ) → spot.mode ≡ places.LockedLoaded → slice_get z.flat.lines pc ≡ Some o → Same z.flat s.fuel (c + 1) (fin_of (stopped traps.NullPointer site) s) s.answers (place z pc ints refs s)
     by_none pc c mode at =
         stops_access pc c (pos 0) s.answers s.events s.given_up at
         (turn_is pc (pos 0) s ∙ ap (λ w. under w (mutex_of z.flat.globals (place z pc ints refs s) cell w) spot (λ mode. asks (place z pc ints refs s) spot.site (act mode) (pos 0) (λ v n. accessed (on (then_ v n))))) mode)
 
     -- a mutex behind a pointer, which has been read
     behind_read : (b : Bool) (p : ℤ) (pc c : ℕ) (ys : List ℤ) (es : List SourceEvent) → is_null p ≡ b → spot.mode ≡ places.LockedLoaded → slice_get z.flat.lines pc ≡ Some o → Goes pc c
-        → Same z.flat s.fuel (c + 1) (fin_then (then_on (unless_stop (not (is_null p)) null_base site (after_event s ys es)) (λ _. give (cell_of (Made (number_of p)) 0))) (λ mutex u. fin_then (f (modes.Locked (Some mutex)) u) k)) ys (pending_place z pc ints refs (after_event s ys es) p)
+        → Same z.flat s.fuel (c + 1) (fin_then (then_on (unless_stop (not (is_null p)) traps.NullPointer site (after_event s ys es)) (λ _. give (cell_of (Made (number_of p)) 0))) (λ mutex u. fin_then (f (modes.Locked (Some mutex)) u) k)) ys (pending_place z pc ints refs (after_event s ys es) p)
     behind_read true p pc c ys es e mode at rest =
-        subst (λ b. Same z.flat s.fuel (c + 1) (fin_then (then_on (unless_stop (not b) null_base site (after_event s ys es)) (λ _. give (cell_of (Made (number_of p)) 0))) (λ mutex u. fin_then (f (modes.Locked (Some mutex)) u) k)) ys (pending_place z pc ints refs (after_event s ys es) p)) (sym e)
+        subst (λ b. Same z.flat s.fuel (c + 1) (fin_then (then_on (unless_stop (not b) traps.NullPointer site (after_event s ys es)) (λ _. give (cell_of (Made (number_of p)) 0))) (λ mutex u. fin_then (f (modes.Locked (Some mutex)) u) k)) ys (pending_place z pc ints refs (after_event s ys es) p)) (sym e)
         (stops_access pc c p ys es [] at
         (turn_is pc p (after_event s ys es) ∙ ap (λ w. under w (mutex_of z.flat.globals (pending_place z pc ints refs (after_event s ys es) p) cell w) spot (λ mode. asks (pending_place z pc ints refs (after_event s ys es) p) spot.site (act mode) (pos 0) (λ v n. accessed (on (then_ v n))))) mode
         ∙ ap (λ t. under_lock t spot (λ mode. asks (pending_place z pc ints refs (after_event s ys es) p) spot.site (act mode) (pos 0) (λ v n. accessed (on (then_ v n))))) (null_mutex p 0 e)))
     behind_read false p pc c ys es e mode at rest =
-        subst (λ b. Same z.flat s.fuel (c + 1) (fin_then (then_on (unless_stop (not b) null_base site (after_event s ys es)) (λ _. give (cell_of (Made (number_of p)) 0))) (λ mutex u. fin_then (f (modes.Locked (Some mutex)) u) k)) ys (pending_place z pc ints refs (after_event s ys es) p)) (sym e)
+        subst (λ b. Same z.flat s.fuel (c + 1) (fin_then (then_on (unless_stop (not b) traps.NullPointer site (after_event s ys es)) (λ _. give (cell_of (Made (number_of p)) 0))) (λ mutex u. fin_then (f (modes.Locked (Some mutex)) u) k)) ys (pending_place z pc ints refs (after_event s ys es) p)) (sym e)
         (asks_access (modes.Locked (Some (cell_of (Made (number_of p)) 0))) pc c p ys es [] at
         (turn_is pc p (after_event s ys es) ∙ ap (λ w. under w (mutex_of z.flat.globals (pending_place z pc ints refs (after_event s ys es) p) cell w) spot (λ mode. asks (pending_place z pc ints refs (after_event s ys es) p) spot.site (act mode) (pos 0) (λ v n. accessed (on (then_ v n))))) mode
         ∙ ap (λ t. under_lock t spot (λ mode. asks (pending_place z pc ints refs (after_event s ys es) p) spot.site (act mode) (pos 0) (λ v n. accessed (on (then_ v n))))) (some_mutex p 0 e)) rest)
@@ -167,8 +167,8 @@ module _ (m : Assignment) (z : Standing) (scope : List Slot) where
         let two : c + 1 + 1 ≡ c + 2 = omega arith in
         bind z.flat s.fuel (c + 2) s.answers (then_on (guarding site (behind at_guard) s) (λ mutex. give (modes.Locked (Some mutex)))) f k m0
         (bind z.flat s.fuel (c + 2) s.answers (guarding site (behind at_guard) s) (λ mutex. give (modes.Locked (Some mutex))) (λ mode u. fin_then (f mode u) k) m0
-        (bind z.flat s.fuel (c + 2) s.answers (answered site (acts.Read at_guard modes.Readonly) s) (λ p. unless_stop (not (is_null p)) null_base site >> give (cell_of (Made (number_of p)) 0)) (λ mutex u. fin_then (give (modes.Locked (Some mutex)) u) (λ mode u. fin_then (f mode u) k)) m0
-        (subst (λ n. Same z.flat s.fuel n (fin_then (happens s.answers site (acts.Read at_guard modes.Readonly) s) (λ p u. fin_then ((unless_stop (not (is_null p)) null_base site >> give (cell_of (Made (number_of p)) 0)) u) (λ mutex u. fin_then (give (modes.Locked (Some mutex)) u) (λ mode u. fin_then (f mode u) k)))) s.answers m0) two
+        (bind z.flat s.fuel (c + 2) s.answers (answered site (acts.Read at_guard modes.Readonly) s) (λ p. unless_stop (not (is_null p)) traps.NullPointer site >> give (cell_of (Made (number_of p)) 0)) (λ mutex u. fin_then (give (modes.Locked (Some mutex)) u) (λ mode u. fin_then (f mode u) k)) m0
+        (subst (λ n. Same z.flat s.fuel n (fin_then (happens s.answers site (acts.Read at_guard modes.Readonly) s) (λ p u. fin_then ((unless_stop (not (is_null p)) traps.NullPointer site >> give (cell_of (Made (number_of p)) 0)) u) (λ mutex u. fin_then (give (modes.Locked (Some mutex)) u) (λ mode u. fin_then (f mode u) k)))) s.answers m0) two
         (asks_at z.flat guard site (acts.Read at_guard modes.Readonly) (pos 0) (λ v n. on (record n { pending = v })) (c + 1) s.answers s m0 m0 _ (holding z T scope ints refs s agree) refl refl at_g
         (ap (λ q. op_turn z.flat q m0) g ∙ ap (λ w. asks m0 gspot.site (acts.Read w modes.Readonly) (pos 0) (λ v n. on (record n { pending = v }))) (cell_is s) ∙ ap (λ w. asks m0 w (acts.Read at_guard modes.Readonly) (pos 0) (λ v n. on (record n { pending = v }))) gsite)
         (λ x. refl)

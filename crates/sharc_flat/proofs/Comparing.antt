@@ -3,6 +3,7 @@ use Rattle.std.proofs.Common.{◌≡◌, ℕ, ◌+◌, ◌<◌, ◌≤◌, Bool,
 use Rattle.std.specs.Prelude.{ℤ, not}
 use Rattle.std.proofs.lemmas.List.{append-nil}
 use Rattle.sharc_tree.specs.declared.token.Site.{Site}
+use Rattle.sharc_tree.specs.declared.trap.Trap.{Trap}
 use Rattle.sharc_names.specs.Kinds.{Kind}
 use Rattle.sharc_mode.specs.Moded.{Assignment}
 use Rattle.sharc_meaning.specs.State.{State, Run, ◌>>=◌, ◌>>◌, give, is_reference, all_released, temporarily, done, holds_reference, with_temporary}
@@ -60,7 +61,7 @@ module _ (m : Assignment) (z : Standing) (scope : List Slot) where
       (subst (λ q. Same z.flat s.fuel c fin s.answers (place z q ints refs s)) q0 (rest ints a (λ n lt. refl) (e ∙ truth_same t)))
 
   -- two references, which are given up after the comparison
-  pub compare_runs : (b : Bool) (ka kb kind : Kind) (ea eb : Expression) (site : Site) (f : ℤ → ℤ → Result ℤ ℕ) (of_a of_b : Run ℤ) (ca cb : ℕ → ℕ → List Op) → ((x y : ℤ) → f x y ≡ Ok (truth (cond b (not (is_equal x y)) (is_equal x y))))
+  pub compare_runs : (b : Bool) (ka kb kind : Kind) (ea eb : Expression) (site : Site) (f : ℤ → ℤ → Result ℤ Trap) (of_a of_b : Run ℤ) (ca cb : ℕ → ℕ → List Op) → ((x y : ℤ) → f x y ≡ Ok (truth (cond b (not (is_equal x y)) (is_equal x y))))
       → ka ≡ kind_at m.typed ea → kb ≡ kind_at m.typed eb → is_reference ka ≡ true → is_reference kb ≡ true → is_reference kind ≡ false → RunsAs m z scope ka 0 of_a ca → RunsAs m z scope kb 0 of_b cb
       → RunsAs m z scope kind 0 (temporarily (operand m.typed ea of_a >>= λ x. operand m.typed eb of_b >>= λ y. resulting site (f x y)))
       (λ i r. ca i r ++ (cb i (r + 1) ++ (op.SameReference i r (r + 1) ∷ (cond b (op.IsFalse i i ∷ []) [] ++ (op.Pop r ∷ op.Pop (r + 1) ∷ [])))))

@@ -21,9 +21,11 @@ use Rattle.sharc_flat.proofs.Agreeing.{Standing, place, Agree, holding, with_int
 use Rattle.sharc_flat.proofs.Values.{integer_is, loosen, released, given_place, int_valued, RunsAs, RestAt, PlaceAs, temporarily_runs}
 use Rattle.sharc_flat.proofs.Runs.{ends}
 use Rattle.sharc_meaning.specs.State.{stopped, holds}
-use Rattle.sharc_meaning.specs.Arithmetic.{bits_of, bits_of_base, is_zero, is_equal, truth, operated, in_range, is_held_by, divided, shifted, out_of_range}
+use Rattle.sharc_meaning.specs.Arithmetic.{bits_of, bits_of_base, is_zero, is_equal, truth, operated, in_range, is_held_by, divided, shifted}
 use Rattle.sharc_tree.specs.declared.tree.expression.BinaryOperator.{BinaryOperator}
 use Rattle.sharc_tree.specs.declared.tree.expression.BinaryOperator.TheVariants.{LogicalOr, LogicalAnd, BitOr, BitXor, BitAnd, Equal, NotEqual, Less, Greater, LessOrEqual, GreaterOrEqual, ShiftLeft, ShiftRight, Add, Subtract, Multiply, Divide, Remainder}
+use Rattle.sharc_tree.specs.declared.trap.Trap.{Trap}
+use Rattle.sharc_tree.specs.declared.trap.Trap.TheVariants as traps
 use Rattle.sharc_code.specs.declared.instr.Width.{Width}
 use Rattle.sharc_code.specs.Arithmetic as code
 use Rattle.std.specs.Prelude.{Result, Ok, Err, int_div, int_lt, int_le}
@@ -41,7 +43,7 @@ holds_same w (pos n) = refl
 holds_same w (negsuc n) = refl
 
 pub range_same : (w : Width) (v : ℤ) → code.in_range w v ≡ in_range (code.value_bits w) v
-range_same w v = ap (λ b. cond b (Ok v) (Err out_of_range)) (holds_same w v)
+range_same w v = ap (λ b. cond b (Ok v) (Err traps.OutOfRange)) (holds_same w v)
 
 pub zero_same : (v : ℤ) → code.is_zero v ≡ is_zero v
 zero_same (pos zero) = refl
@@ -53,10 +55,10 @@ truth_same true = refl
 truth_same false = refl
 
 divided_same : (w : Width) (a b v : ℤ) → code.divided w a b v ≡ divided (code.value_bits w) a b v
-divided_same w a b v = ap (λ x. cond x (Err 3) (cond (code.holds w (int_div a b)) (Ok v) (Err 4))) (zero_same b) ∙ ap (λ x. cond (is_zero b) (Err 3) (cond x (Ok v) (Err 4))) (holds_same w (int_div a b))
+divided_same w a b v = ap (λ x. cond x (Err traps.DivisionByZero) (cond (code.holds w (int_div a b)) (Ok v) (Err traps.OutOfRange))) (zero_same b) ∙ ap (λ x. cond (is_zero b) (Err traps.DivisionByZero) (cond x (Ok v) (Err traps.OutOfRange))) (holds_same w (int_div a b))
 
-shifted_same : (w : Width) (b : ℤ) (f g : ℕ → Result ℤ ℕ) → ((n : ℕ) → f n ≡ g n) → code.shifted w b f ≡ shifted (code.value_bits w) b g
-shifted_same w (pos n) f g h = ap (λ x. cond (nat_lt n (code.value_bits w + 1)) x (Err 4)) (h n)
+shifted_same : (w : Width) (b : ℤ) (f g : ℕ → Result ℤ Trap) → ((n : ℕ) → f n ≡ g n) → code.shifted w b f ≡ shifted (code.value_bits w) b g
+shifted_same w (pos n) f g h = ap (λ x. cond (nat_lt n (code.value_bits w + 1)) x (Err traps.OutOfRange)) (h n)
 shifted_same w (negsuc n) f g h = refl
 
 -- an operator that looks at both of its operands
@@ -127,7 +129,7 @@ module _ (m : Assignment) (z : Standing) (scope : List Slot) where
       (subst (λ q. RestAt m z scope t f guard T i q (c + 6) ints k) (sym end) rest))))
 
   -- what an operation makes goes to the register
-  pub result_runs : (kind : Kind) (o : Op) (spot : Spot) (res : Result ℤ ℕ) (T : List ℤ) (i pc c : ℕ) (ints0 ints refs : ℕ → ℤ) (s : State) (k : ℤ → State → Fin) → is_reference kind ≡ false → slice_get z.flat.lines pc ≡ Some o
+  pub result_runs : (kind : Kind) (o : Op) (spot : Spot) (res : Result ℤ Trap) (T : List ℤ) (i pc c : ℕ) (ints0 ints refs : ℕ → ℤ) (s : State) (k : ℤ → State → Fin) → is_reference kind ≡ false → slice_get z.flat.lines pc ≡ Some o
       → op_turn z.flat o (place z pc ints refs s) ≡ with_result i spot (place z pc ints refs s) res → int_count scope ≤ i → Agree z T scope [] ints refs s → ((n : ℕ) → n < z.ints + i → ints n ≡ ints0 n) → Rest z kind T scope i (pc + 1) c ints0 k
       → Same z.flat s.fuel (c + 1) (fin_then (resulting spot.site res s) k) s.answers (place z pc ints refs s)
   result_runs kind o spot (Ok v) T i pc c ints0 ints refs s k e at is le a kept rest =
@@ -138,7 +140,7 @@ module _ (m : Assignment) (z : Standing) (scope : List Slot) where
       ends z.flat o (stopped x spot.site) c s (place z pc ints refs s) (holding z T scope ints refs s a) refl refl at is
 
   -- an operation on one integer
-  pub unary_runs : (ka kind : Kind) (run : Run ℤ) (code : ℕ → ℕ → List Op) (o : ℕ → Op) (spot : Spot) (f : ℤ → Result ℤ ℕ) → is_integer ka ≡ true → is_reference kind ≡ false
+  pub unary_runs : (ka kind : Kind) (run : Run ℤ) (code : ℕ → ℕ → List Op) (o : ℕ → Op) (spot : Spot) (f : ℤ → Result ℤ Trap) → is_integer ka ≡ true → is_reference kind ≡ false
       → ((i pc : ℕ) (ints refs : ℕ → ℤ) (s : State) → op_turn z.flat (o i) (place z pc ints refs s) ≡ with_result i spot (place z pc ints refs s) (f (ints (z.ints + i))))
       → RunsAs m z scope ka 0 run code → RunsAs m z scope kind 1 (run >>= λ v. resulting spot.site (f v)) (λ i r. code i r ++ o i ∷ [])
   unary_runs ka kind run code o spot f ea e turn_is of_run T i r pc c ints refs s k has le re a rest =
@@ -159,7 +161,7 @@ module _ (m : Assignment) (z : Standing) (scope : List Slot) where
       (loosen z T scope [] L ints refs s a1, sym (given_place z pc ints refs (without (length T) s) s.given_up (released z T scope [] L ints refs s a1 ∙ append-nil s.given_up)))
 
   -- an operation on two integers, in a scope of temporaries that holds none
-  pub binary_runs : (ka kb kind : Kind) (ea eb : Expression) (of_a of_b : Run ℤ) (ca cb : ℕ → ℕ → List Op) (o : ℕ → Op) (spot : Spot) (f : ℤ → ℤ → Result ℤ ℕ) → ka ≡ kind_at m.typed ea → kb ≡ kind_at m.typed eb → is_integer ka ≡ true → is_integer kb ≡ true → is_reference kind ≡ false
+  pub binary_runs : (ka kb kind : Kind) (ea eb : Expression) (of_a of_b : Run ℤ) (ca cb : ℕ → ℕ → List Op) (o : ℕ → Op) (spot : Spot) (f : ℤ → ℤ → Result ℤ Trap) → ka ≡ kind_at m.typed ea → kb ≡ kind_at m.typed eb → is_integer ka ≡ true → is_integer kb ≡ true → is_reference kind ≡ false
       → ((i pc : ℕ) (ints refs : ℕ → ℤ) (s : State) → op_turn z.flat (o i) (place z pc ints refs s) ≡ with_result i spot (place z pc ints refs s) (f (ints (z.ints + i)) (ints (z.ints + (i + 1)))))
       → RunsAs m z scope ka 0 of_a ca → RunsAs m z scope kb 0 of_b cb
       → RunsAs m z scope kind 0 (temporarily (operand m.typed ea of_a >>= λ x. operand m.typed eb of_b >>= λ y. resulting spot.site (f x y))) (λ i r. ca i r ++ (cb (i + 1) r ++ o i ∷ []))

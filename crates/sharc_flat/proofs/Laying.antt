@@ -2,12 +2,13 @@
 use Rattle.std.proofs.Common.{◌≡◌, ℕ, zero, suc, ◌+◌, ◌-◌, Bool, true, false, ◌≤◌, cond, List, [], ◌∷◌, ◌++◌, length, nat_lt, Option, Some, None, inl, inr, ⊎_elim, refl, ap, sym, ◌∙◌, subst, arith}
 use Rattle.std.specs.Prelude.{ℤ, pos, negsuc, Result, Ok, Err, slice_get, slice_index_or, not}
 use Rattle.sharc_tree.specs.declared.event.Act.TheVariants as acts
+use Rattle.sharc_tree.specs.declared.trap.Trap.{Trap}
+use Rattle.sharc_tree.specs.declared.trap.Trap.TheVariants as traps
 use Rattle.sharc_code.specs.declared.code.Function.{Function as Row}
 use Rattle.sharc_code.specs.declared.code.Text.{Text}
 use Rattle.sharc_code.specs.Machine.{no_function}
 use Rattle.sharc_ctype.specs.Resolved.{Resolution}
 use Rattle.sharc_mode.specs.Moded.{Assignment}
-use Rattle.sharc_meaning.specs.Arithmetic.{calls_too_deep, returns_with_a_lock}
 use Rattle.sharc_meaning.specs.Events.{held_mutexes}
 use Rattle.sharc_meaning.specs.Meaning.{Asked, asks as source_asks}
 use Rattle.sharc_flat_form.specs.declared.op.Op.{Op}
@@ -29,10 +30,10 @@ module _ (flat : Flat) (lines : List Op) (functions : List Row) (count : length 
   made = record { lines = lines; functions = functions; globals = flat.globals }
 
   same_return : (lv lk : Text) (spot : Spot) (m : At) (frames : List Caller) → returned made frames (told_by lv lk spot) m ≡ returned flat frames spot m
-  same_return lv lk spot m [] = ap (λ n. cond (not (nat_lt 0 (length (held_mutexes m.events)))) (goes (record m { pc = n })) (stops returns_with_a_lock spot)) count
+  same_return lv lk spot m [] = ap (λ n. cond (not (nat_lt 0 (length (held_mutexes m.events)))) (goes (record m { pc = n })) (stops traps.ReturnWithLockHeld spot)) count
   same_return lv lk spot m (c ∷ rest) = refl
 
-  same_result : (lv lk : Text) (i : ℕ) (spot : Spot) (m : At) (q : Result ℤ ℕ) → with_result i (told_by lv lk spot) m q ≡ with_result i spot m q
+  same_result : (lv lk : Text) (i : ℕ) (spot : Spot) (m : At) (q : Result ℤ Trap) → with_result i (told_by lv lk spot) m q ≡ with_result i spot m q
   same_result lv lk i spot m (Ok v) = refl
   same_result lv lk i spot m (Err code) = refl
 
@@ -58,7 +59,7 @@ module _ (flat : Flat) (lines : List Op) (functions : List Row) (count : length 
   same_op lv lk (op.SkipIfZero i n) m = refl
   same_op lv lk (op.SkipIfNull r n) m = refl
   same_op lv lk (op.Jump to) m = refl
-  same_op lv lk (op.Call f ints refs spot) m = ap (λ pc. cond (nat_lt (length m.frames) 255) (goes (record m { pc = pc; int_base = m.int_base + ints; ref_base = m.ref_base + refs; frames = record { pc = m.pc + 1; ints = m.int_base; refs = m.ref_base } ∷ m.frames })) (stops calls_too_deep spot)) (entries f)
+  same_op lv lk (op.Call f ints refs spot) m = ap (λ pc. cond (nat_lt (length m.frames) 255) (goes (record m { pc = pc; int_base = m.int_base + ints; ref_base = m.ref_base + refs; frames = record { pc = m.pc + 1; ints = m.int_base; refs = m.ref_base } ∷ m.frames })) (stops traps.CallDepth spot)) (entries f)
   same_op lv lk (op.Return spot) m = same_return lv lk spot m m.frames
   same_op lv lk op.BlockEnd m = refl
   same_op lv lk (op.Null r) m = refl

@@ -24,6 +24,7 @@ use Rattle.sharc_flat.proofs.Executing.{Beyond, StatementAs}
 use Rattle.sharc_meaning.specs.declared.variable.Variable.{Variable}
 use Rattle.sharc_meaning.specs.State.{ends_variables}
 use Rattle.sharc_tree.specs.declared.tree.declaration.Declaration.{Declaration}
+use Rattle.sharc_tree.specs.declared.trap.Trap.TheVariants as traps
 use Rattle.sharc_names.specs.Kinds.{declared_kind}
 use Rattle.sharc_meaning.specs.Expressions.{Calls}
 use Rattle.sharc_tree.specs.Tree.{Function}
@@ -44,7 +45,6 @@ use Rattle.std.proofs.lemmas.Option.{slice_get-get_or}
 use Rattle.std.proofs.Math.Seq.{get_or-append_seam}
 use Rattle.sharc_meaning.specs.Meaning.{run_function, call_value, calls}
 use Rattle.sharc_meaning.specs.Statements.{exec_all}
-use Rattle.sharc_meaning.specs.Arithmetic.{calls_too_deep}
 use Rattle.sharc_meaning.specs.declared.variable.Variable.{Variable}
 use Rattle.sharc_meaning.specs.State.{ends_variables}
 use mathlib.Core.List.{reverse-cons}
@@ -128,8 +128,8 @@ module _ (m : Assignment) where
   no_room z is room scope T f fn vs i r pc c ints refs s site k fn_at len at le re a values rest =
       let full : nat_lt (length z.frames) 255 ≡ false = grind (arith, nat_tests, room) in
       weaken z.flat s.fuel (c + 1) (c + 1 + length (refs_of (declared_kinds fn.parameters) vs)) _ s.answers _ (omega arith)
-      (ends z.flat (op.Call f i r (at_site site)) (stopped calls_too_deep site) c s (place z pc ints refs s) (holding z (T ++ refs_of (declared_kinds fn.parameters) vs) scope ints refs s a) refl refl at
-      (ap (λ b. cond b (goes (called_at z.flat f i r (place z pc ints refs s))) (halts (stopped calls_too_deep site))) full))
+      (ends z.flat (op.Call f i r (at_site site)) (stopped traps.CallDepth site) c s (place z pc ints refs s) (holding z (T ++ refs_of (declared_kinds fn.parameters) vs) scope ints refs s a) refl refl at
+      (ap (λ b. cond b (goes (called_at z.flat f i r (place z pc ints refs s))) (halts (stopped traps.CallDepth site))) full))
 
   pub one_call : (n : ℕ) → BodiesAs (calls m n) n → CallsAs (calls m (suc n)) (suc n)
   one_call n bodies z is room scope T f fn vs i r pc c ints refs s site k fn_at len at le re a values rest =
@@ -175,7 +175,7 @@ module _ (m : Assignment) where
       (unframe z.flat s.fuel (c + 1 + length P) s.answers caller s.callers (ends_variables 0 ((parameters_begin ds vs >> (entered (exec_all (calls m n) m (declared_kind fn.result) fn.statements) >>= λ flow. give (left_at fn flow))) s1)) (λ x u. k x.1 u) (place z pc ints refs s)
       (subst (λ q. Same z.flat s.fuel q (fin_then (ends_variables 0 ((parameters_begin ds vs >> (entered (exec_all (calls m n) m (declared_kind fn.result) fn.statements) >>= λ flow. give (left_at fn flow))) s1)) K1) s.answers (place z pc ints refs s)) (let q : c + length P + 1 ≡ c + 1 + length P = omega arith in q)
       (step z.flat (op.Call f i r (at_site site)) s.fuel (c + length P) _ s.answers (place z pc ints refs s) (place z1 entry ints refs s1) at
-      (ap (λ b. cond b (goes (called_at z.flat f i r (place z pc ints refs s))) (halts (stopped calls_too_deep site))) lt_is)
+      (ap (λ b. cond b (goes (called_at z.flat f i r (place z pc ints refs s))) (halts (stopped traps.CallDepth site))) lt_is)
       (subst (λ q. Same z.flat s.fuel (c + q) (fin_then (ends_variables 0 ((parameters_begin ds vs >> (entered (exec_all (calls m n) m (declared_kind fn.result) fn.statements) >>= λ flow. give (left_at fn flow))) s1)) K1) s.answers (place z1 entry ints refs s1)) count
       (function_runs m z1 fn ints vs entry c refs (exec_all (calls m n) m (declared_kind fn.result) fn.statements) (inner_scope z1 fn) (λ q. statements_code (in_function m z.flat.globals fn) (around_body fn) q fn.statements) body.0 body.1 link.stands s1 K1 refl a1 values1
       (λ left v pc1 ints1 refs1 u at1 st value.

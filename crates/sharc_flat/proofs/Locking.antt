@@ -16,6 +16,8 @@ use Rattle.sharc_flat_form.specs.declared.op.Spot.{Spot}
 use Rattle.sharc_flat_form.specs.declared.op.Op.TheVariants as op
 use Rattle.sharc_flat_form.specs.Machine.{At, goes, asks, put, cell_at, next as on, set_ref, op_turn}
 use Rattle.sharc_tree.specs.declared.token.Span.{Span}
+use Rattle.sharc_tree.specs.declared.trap.Trap.{Trap}
+use Rattle.sharc_tree.specs.declared.trap.Trap.TheVariants as traps
 use Rattle.sharc_code.specs.declared.code.Use.TheVariants.{Other}
 use Rattle.sharc_flat.specs.Scope.{at_words}
 use Rattle.sharc_flat.specs.Scope.{Context, ref_count}
@@ -50,7 +52,6 @@ use Rattle.sharc_flat.specs.Places.{object_mode, object_mode_named, object_spot}
 use Rattle.sharc_flat_form.specs.Machine.{without_base, base_of}
 use Rattle.sharc_meaning.specs.Waiting.{lock_call, unlock_call, moves_base, gives_up_base, cell_at_place}
 use Rattle.sharc_meaning.specs.Events.{holds_mutex, held_mutexes}
-use Rattle.sharc_meaning.specs.Arithmetic.{mutex_already_held, mutex_not_held, too_many_locks}
 use Rattle.sharc_flat.specs.Flattened.{unlocked_code}
 
 module _ (m : Assignment) (z : Standing) (scope : List Slot) where
@@ -105,10 +106,10 @@ module _ (m : Assignment) (z : Standing) (scope : List Slot) where
   }
 
   -- a test of the mutexes that are held
-  pub chk_by : (b : Bool) (o : Op) (code : ℕ) (site : Site) (pc c : ℕ) (ints refs : ℕ → ℤ) (s : State) (k : Unit {0} → State → Fin) → slice_get z.flat.lines pc ≡ Some o → op_turn z.flat o (place z pc ints refs s) ≡ asserts b code (at_site site) (place z pc ints refs s) → Holds refs s
-      → Same z.flat s.fuel c (k tt s) s.answers (place z (pc + 1) ints refs s) → Same z.flat s.fuel (c + 1) (fin_then (unless_stop b code site s) k) s.answers (place z pc ints refs s)
-  chk_by true o code site pc c ints refs s k at is h rest = step z.flat o s.fuel c (k tt s) s.answers (place z pc ints refs s) (place z (pc + 1) ints refs s) at is rest
-  chk_by false o code site pc c ints refs s k at is h rest = ends z.flat o (stopped code site) c s (place z pc ints refs s) h refl refl at is
+  pub chk_by : (b : Bool) (o : Op) (trap : Trap) (site : Site) (pc c : ℕ) (ints refs : ℕ → ℤ) (s : State) (k : Unit {0} → State → Fin) → slice_get z.flat.lines pc ≡ Some o → op_turn z.flat o (place z pc ints refs s) ≡ asserts b trap (at_site site) (place z pc ints refs s) → Holds refs s
+      → Same z.flat s.fuel c (k tt s) s.answers (place z (pc + 1) ints refs s) → Same z.flat s.fuel (c + 1) (fin_then (unless_stop b trap site s) k) s.answers (place z pc ints refs s)
+  chk_by true o trap site pc c ints refs s k at is h rest = step z.flat o s.fuel c (k tt s) s.answers (place z pc ints refs s) (place z (pc + 1) ints refs s) at is rest
+  chk_by false o trap site pc c ints refs s k at is h rest = ends z.flat o (stopped trap site) c s (place z pc ints refs s) h refl refl at is
 
   -- `lock`, after its tests
   lock_by : (b : Bool) (T bases : List ℤ) (t : Target) (i r pc c : ℕ) (p : Place) (site : Site) (words : Span) (ints refs : ℕ → ℤ) (s : State) (k : Unit {0} → State → Fin) → BaseAs b t i r p bases → r ≡ ref_count scope + length T
@@ -155,10 +156,10 @@ module _ (m : Assignment) (z : Standing) (scope : List Slot) where
       let held = holding z (T ++ bases) scope ints1 refs1 s1 w.agree in
       let three : c + 6 + 1 + 1 + 1 ≡ c + 3 + 6 = omega arith in
       subst (λ q. Same z.flat s1.fuel q (fin_then (lock_call site p s1) K) s1.answers (place z pc1 ints1 refs1 s1)) three
-      (bind z.flat s1.fuel (c + 6 + 1 + 1 + 1) s1.answers (unless_stop (not (holds_mutex s1.events (cell_at_place p))) mutex_already_held site s1) (λ _. unless_stop (nat_lt (length (held_mutexes s1.events)) 16) too_many_locks site >> (performs site (acts.Lock (cell_at_place p)) >> moves_base p)) K (place z pc1 ints1 refs1 s1)
-      (chk_by (not (holds_mutex s1.events (cell_at_place p))) (op.ChkNotHeld C (at_site site)) mutex_already_held site pc1 (c + 6 + 1 + 1) ints1 refs1 s1 _ has_t.0 (ap (λ q. asserts (not (holds_mutex s1.events q)) mutex_already_held (at_site site) (place z pc1 ints1 refs1 s1)) (cell_is pc1 s1)) held
-      (bind z.flat s1.fuel (c + 6 + 1 + 1) s1.answers (unless_stop (nat_lt (length (held_mutexes s1.events)) 16) too_many_locks site s1) (λ _. performs site (acts.Lock (cell_at_place p)) >> moves_base p) K (place z (pc1 + 1) ints1 refs1 s1)
-      (chk_by (nat_lt (length (held_mutexes s1.events)) 16) (op.ChkRoom (at_site site)) too_many_locks site (pc1 + 1) (c + 6 + 1) ints1 refs1 s1 _ has_t.1.0 refl held
+      (bind z.flat s1.fuel (c + 6 + 1 + 1 + 1) s1.answers (unless_stop (not (holds_mutex s1.events (cell_at_place p))) traps.MutexAlreadyHeld site s1) (λ _. unless_stop (nat_lt (length (held_mutexes s1.events)) 16) traps.TooManyLocks site >> (performs site (acts.Lock (cell_at_place p)) >> moves_base p)) K (place z pc1 ints1 refs1 s1)
+      (chk_by (not (holds_mutex s1.events (cell_at_place p))) (op.ChkNotHeld C (at_site site)) traps.MutexAlreadyHeld site pc1 (c + 6 + 1 + 1) ints1 refs1 s1 _ has_t.0 (ap (λ q. asserts (not (holds_mutex s1.events q)) traps.MutexAlreadyHeld (at_site site) (place z pc1 ints1 refs1 s1)) (cell_is pc1 s1)) held
+      (bind z.flat s1.fuel (c + 6 + 1 + 1) s1.answers (unless_stop (nat_lt (length (held_mutexes s1.events)) 16) traps.TooManyLocks site s1) (λ _. performs site (acts.Lock (cell_at_place p)) >> moves_base p) K (place z (pc1 + 1) ints1 refs1 s1)
+      (chk_by (nat_lt (length (held_mutexes s1.events)) 16) (op.ChkRoom (at_site site)) traps.TooManyLocks site (pc1 + 1) (c + 6 + 1) ints1 refs1 s1 _ has_t.1.0 refl held
       (lock_by (has_base t) T bases t i r (pc1 + 1 + 1) (c + 6) p site words ints1 refs1 s1 K ba re cell_is has_t.1.1.0 w.agree
       (λ refs2 u a2.
       let n3 = none_end m z scope T [] (pc1 + 1 + 1 + 1) ints1 refs2 u a2 in
@@ -251,8 +252,8 @@ module _ (m : Assignment) (z : Standing) (scope : List Slot) where
       let held = holding z (T ++ bases) scope ints1 refs1 s1 w.agree in
       let four : c + 6 + 3 + 1 ≡ c + 4 + 6 = omega arith in
       subst (λ q. Same z.flat s1.fuel q (fin_then (unlock_call site p s1) K) s1.answers (place z pc1 ints1 refs1 s1)) four
-      (bind z.flat s1.fuel (c + 6 + 3 + 1) s1.answers (unless_stop (holds_mutex s1.events (cell_at_place p)) mutex_not_held site s1) (λ _. performs site (acts.Unlock (cell_at_place p)) >> gives_up_base p) K (place z pc1 ints1 refs1 s1)
-      (chk_by (holds_mutex s1.events (cell_at_place p)) (op.ChkHeld C (at_site site)) mutex_not_held site pc1 (c + 6 + 3) ints1 refs1 s1 _ has_t.0 (ap (λ q. asserts (holds_mutex s1.events q) mutex_not_held (at_site site) (place z pc1 ints1 refs1 s1)) (cell_is pc1 s1)) held
+      (bind z.flat s1.fuel (c + 6 + 3 + 1) s1.answers (unless_stop (holds_mutex s1.events (cell_at_place p)) traps.MutexNotHeld site s1) (λ _. performs site (acts.Unlock (cell_at_place p)) >> gives_up_base p) K (place z pc1 ints1 refs1 s1)
+      (chk_by (holds_mutex s1.events (cell_at_place p)) (op.ChkHeld C (at_site site)) traps.MutexNotHeld site pc1 (c + 6 + 3) ints1 refs1 s1 _ has_t.0 (ap (λ q. asserts (holds_mutex s1.events q) traps.MutexNotHeld (at_site site) (place z pc1 ints1 refs1 s1)) (cell_is pc1 s1)) held
       (unlock_by (has_base t) T bases t i r (pc1 + 1) (c + 6) p site ints1 refs1 s1 K ba re cell_is has_t.1 w.agree
       (λ refs2 u a2.
       subst (λ q. Same z.flat u.fuel (c + 6) (k (pos 0) (without (length T) u)) u.answers (place z q ints1 refs2 (without (length T) u))) (sym end)

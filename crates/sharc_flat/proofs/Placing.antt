@@ -5,6 +5,7 @@ use Rattle.std.proofs.lemmas.List.{append-nil}
 use Rattle.sharc_tree.specs.declared.event.Object.{Object}
 use Rattle.sharc_tree.specs.declared.event.Object.TheVariants.{Global, Made}
 use Rattle.sharc_tree.specs.declared.token.Site.{Site}
+use Rattle.sharc_tree.specs.declared.trap.Trap.TheVariants as traps
 use Rattle.sharc_names.specs.Kinds.{Kind, is_integer}
 use Rattle.sharc_mode.specs.Moded.{Assignment}
 use Rattle.sharc_meaning.specs.Cells.{global_elements}
@@ -27,7 +28,6 @@ use Rattle.sharc_flat.proofs.Values.{integer_is, loosen, RunsAs, within, Lies, P
 use Rattle.sharc_flat.proofs.Runs.{ends}
 use Rattle.sharc_meaning.specs.State.{stop, stopped, unless_stop}
 use Rattle.sharc_meaning.specs.Reference.{is_null, elements_of}
-use Rattle.sharc_meaning.specs.Arithmetic.{null_base, out_of_bounds}
 use Rattle.sharc_flat_form.specs.Machine.{indexed, halts, asserts, goes_on}
 use Rattle.sharc_flat.specs.Scope.{at_site}
 use Rattle.sharc_flat.specs.Places.{own_field, bounds_code, pointee_code}
@@ -46,13 +46,13 @@ module _ (m : Assignment) (z : Standing) (scope : List Slot) where
       let a1 : Agree z (T ++ p ∷ []) scope [] ints refs u = hold z T scope p ints refs s a in
       let r0 : r ≡ ref_count scope + length T + 0 = omega arith in
       let v : refs (z.refs + r) ≡ p = last_is z T scope [] p [] r ints refs s r0 a in
-      subst (λ b. Same z.flat s.fuel (c + 1) (fin_then (then_on ((cond b (holds_reference p) done) s) (λ _. unless_stop (not (is_null p)) null_base site)) k) s.answers (place z pc ints refs s)) (sym e)
-      (by (is_null p) refl (ap (λ q. asserts (not (is_null q)) null_base (at_site site) (place z pc ints refs s)) v) a1)
+      subst (λ b. Same z.flat s.fuel (c + 1) (fin_then (then_on ((cond b (holds_reference p) done) s) (λ _. unless_stop (not (is_null p)) traps.NullPointer site)) k) s.answers (place z pc ints refs s)) (sym e)
+      (by (is_null p) refl (ap (λ q. asserts (not (is_null q)) traps.NullPointer (at_site site) (place z pc ints refs s)) v) a1)
     where
-      by : (b : Bool) → is_null p ≡ b → (let u = record s { frame = with_temporary p s.frame } in op_turn z.flat (op.ChkNull r (at_site site)) (place z pc ints refs s) ≡ asserts (not b) null_base (at_site site) (place z pc ints refs s)
-          → Agree z (T ++ p ∷ []) scope [] ints refs u → Same z.flat s.fuel (c + 1) (fin_then (unless_stop (not b) null_base site u) k) s.answers (place z pc ints refs s))
+      by : (b : Bool) → is_null p ≡ b → (let u = record s { frame = with_temporary p s.frame } in op_turn z.flat (op.ChkNull r (at_site site)) (place z pc ints refs s) ≡ asserts (not b) traps.NullPointer (at_site site) (place z pc ints refs s)
+          → Agree z (T ++ p ∷ []) scope [] ints refs u → Same z.flat s.fuel (c + 1) (fin_then (unless_stop (not b) traps.NullPointer site u) k) s.answers (place z pc ints refs s))
       by false e0 is a1 = step z.flat (op.ChkNull r (at_site site)) s.fuel c (k tt (record s { frame = with_temporary p s.frame })) s.answers (place z pc ints refs s) _ has.0 is (rest a1 e0)
-      by true e0 is a1 = ends z.flat (op.ChkNull r (at_site site)) (stopped null_base site) c (record s { frame = with_temporary p s.frame }) (place z pc ints refs s)
+      by true e0 is a1 = ends z.flat (op.ChkNull r (at_site site)) (stopped traps.NullPointer site) c (record s { frame = with_temporary p s.frame }) (place z pc ints refs s)
           (holding z (T ++ p ∷ []) scope ints refs (record s { frame = with_temporary p s.frame }) a1) refl refl has.0 is
 
   -- an index becomes the number of a cell
@@ -63,16 +63,16 @@ module _ (m : Assignment) (z : Standing) (scope : List Slot) where
         → ((mutex : ℕ) → guard ≡ Some mutex → ints' (z.ints + (i + 1)) ≡ pos (n * cells + off mutex)) → Same z.flat s.fuel c (k (cell o (n * cells) (n * cells)) s) s.answers (place z pc ints' refs s)
 
     goes_index : (j f n pc : ℕ) (ints : ℕ → ℤ) (u : State) → nat_lt n elements ≡ true → ints (z.ints + j) ≡ pos n → op_turn z.flat (bounds j f) (place z pc ints refs u) ≡ goes (place z (pc + 1) (put ints (z.ints + j) (pos (n * cells + off f))) refs u)
-    goes_index j f n pc ints u e v = turn_is j f pc ints u ∙ ap (λ x. indexed j cells (off f) x elements (at_site site) (place z pc ints refs u)) v ∙ ap (λ b. cond b (goes_on (set_int j (pos (n * cells + off f)) (place z pc ints refs u))) (halts (stopped out_of_bounds site))) e
+    goes_index j f n pc ints u e v = turn_is j f pc ints u ∙ ap (λ x. indexed j cells (off f) x elements (at_site site) (place z pc ints refs u)) v ∙ ap (λ b. cond b (goes_on (set_int j (pos (n * cells + off f)) (place z pc ints refs u))) (halts (stopped traps.IndexOutOfBounds site))) e
 
-    stops_index : (j f n pc : ℕ) (ints : ℕ → ℤ) (u : State) → nat_lt n elements ≡ false → ints (z.ints + j) ≡ pos n → op_turn z.flat (bounds j f) (place z pc ints refs u) ≡ halts (stopped out_of_bounds site)
-    stops_index j f n pc ints u e v = turn_is j f pc ints u ∙ ap (λ x. indexed j cells (off f) x elements (at_site site) (place z pc ints refs u)) v ∙ ap (λ b. cond b (goes_on (set_int j (pos (n * cells + off f)) (place z pc ints refs u))) (halts (stopped out_of_bounds site))) e
+    stops_index : (j f n pc : ℕ) (ints : ℕ → ℤ) (u : State) → nat_lt n elements ≡ false → ints (z.ints + j) ≡ pos n → op_turn z.flat (bounds j f) (place z pc ints refs u) ≡ halts (stopped traps.IndexOutOfBounds site)
+    stops_index j f n pc ints u e v = turn_is j f pc ints u ∙ ap (λ x. indexed j cells (off f) x elements (at_site site) (place z pc ints refs u)) v ∙ ap (λ b. cond b (goes_on (set_int j (pos (n * cells + off f)) (place z pc ints refs u))) (halts (stopped traps.IndexOutOfBounds site))) e
 
-    stops_below : (j f n pc : ℕ) (ints : ℕ → ℤ) (u : State) → ints (z.ints + j) ≡ negsuc n → op_turn z.flat (bounds j f) (place z pc ints refs u) ≡ halts (stopped out_of_bounds site)
+    stops_below : (j f n pc : ℕ) (ints : ℕ → ℤ) (u : State) → ints (z.ints + j) ≡ negsuc n → op_turn z.flat (bounds j f) (place z pc ints refs u) ≡ halts (stopped traps.IndexOutOfBounds site)
     stops_below j f n pc ints u v = turn_is j f pc ints u ∙ ap (λ x. indexed j cells (off f) x elements (at_site site) (place z pc ints refs u)) v
 
     element_by : (b : Bool) (n i f : ℕ) (guard : Option ℕ) (pc c : ℕ) (ints : ℕ → ℤ) (s : State) (k : Place → State → Fin) → nat_lt n elements ≡ b → int_count scope ≤ i → HasAt z.flat.lines pc (bounds_code bounds i f guard) → Agree z (T ++ bases) scope [] ints refs s → ints (z.ints + i) ≡ pos n
-        → Found i f guard (pc + length (bounds_code bounds i f guard)) c ints s k → Same z.flat s.fuel (c + 3) (fin_then ((cond b (give (cell o (n * cells) (n * cells))) (stop out_of_bounds site)) s) k) s.answers (place z pc ints refs s)
+        → Found i f guard (pc + length (bounds_code bounds i f guard)) c ints s k → Same z.flat s.fuel (c + 3) (fin_then ((cond b (give (cell o (n * cells) (n * cells))) (stop traps.IndexOutOfBounds site)) s) k) s.answers (place z pc ints refs s)
     element_by true n i f None pc c ints s k e le has a v rest =
         weaken z.flat s.fuel (c + 1) (c + 3) _ s.answers _ (omega arith)
         (step z.flat (bounds i f) s.fuel c _ s.answers (place z pc ints refs s) (place z (pc + 1) (put ints (z.ints + i) (pos (n * cells + off f))) refs s) has.0 (goes_index i f n pc ints s e v)
@@ -102,25 +102,25 @@ module _ (m : Assignment) (z : Standing) (scope : List Slot) where
         same_mutex a b h = cc
     element_by false n i f None pc c ints s k e le has a v rest =
         weaken z.flat s.fuel (c + 1) (c + 3) _ s.answers _ (omega arith)
-        (ends z.flat (bounds i f) (stopped out_of_bounds site) c s (place z pc ints refs s) (holding z (T ++ bases) scope ints refs s a) refl refl has.0 (stops_index i f n pc ints s e v))
+        (ends z.flat (bounds i f) (stopped traps.IndexOutOfBounds site) c s (place z pc ints refs s) (holding z (T ++ bases) scope ints refs s a) refl refl has.0 (stops_index i f n pc ints s e v))
     element_by false n i f (Some mutex) pc c ints s k e le has a v rest =
         let ints1 = put ints (z.ints + (i + 1)) (ints (z.ints + i)) in
         let v1 : ints1 (z.ints + i) ≡ pos n = put_other ints (z.ints + (i + 1)) (ints (z.ints + i)) (z.ints + i) (λ h. omega arith) ∙ v in
         weaken z.flat s.fuel (c + 1 + 1) (c + 3) _ s.answers _ (omega arith)
         (step z.flat (op.Move (i + 1) i) s.fuel (c + 1) _ s.answers (place z pc ints refs s) (place z (pc + 1) ints1 refs s) has.0 refl
-        (ends z.flat (bounds i f) (stopped out_of_bounds site) c s (place z (pc + 1) ints1 refs s) (holding z (T ++ bases) scope ints refs s a) refl refl has.1.0 (stops_index i f n (pc + 1) ints1 s e v1)))
+        (ends z.flat (bounds i f) (stopped traps.IndexOutOfBounds site) c s (place z (pc + 1) ints1 refs s) (holding z (T ++ bases) scope ints refs s a) refl refl has.1.0 (stops_index i f n (pc + 1) ints1 s e v1)))
 
     below_by : (n i f : ℕ) (guard : Option ℕ) (pc c : ℕ) (ints : ℕ → ℤ) (s : State) → HasAt z.flat.lines pc (bounds_code bounds i f guard) → Agree z (T ++ bases) scope [] ints refs s → ints (z.ints + i) ≡ negsuc n
-        → Same z.flat s.fuel (c + 3) (fin_of (stopped out_of_bounds site) s) s.answers (place z pc ints refs s)
+        → Same z.flat s.fuel (c + 3) (fin_of (stopped traps.IndexOutOfBounds site) s) s.answers (place z pc ints refs s)
     below_by n i f None pc c ints s has a v =
         weaken z.flat s.fuel (c + 1) (c + 3) _ s.answers _ (omega arith)
-        (ends z.flat (bounds i f) (stopped out_of_bounds site) c s (place z pc ints refs s) (holding z (T ++ bases) scope ints refs s a) refl refl has.0 (stops_below i f n pc ints s v))
+        (ends z.flat (bounds i f) (stopped traps.IndexOutOfBounds site) c s (place z pc ints refs s) (holding z (T ++ bases) scope ints refs s a) refl refl has.0 (stops_below i f n pc ints s v))
     below_by n i f (Some mutex) pc c ints s has a v =
         let ints1 = put ints (z.ints + (i + 1)) (ints (z.ints + i)) in
         let v1 : ints1 (z.ints + i) ≡ negsuc n = put_other ints (z.ints + (i + 1)) (ints (z.ints + i)) (z.ints + i) (λ h. omega arith) ∙ v in
         weaken z.flat s.fuel (c + 1 + 1) (c + 3) _ s.answers _ (omega arith)
         (step z.flat (op.Move (i + 1) i) s.fuel (c + 1) _ s.answers (place z pc ints refs s) (place z (pc + 1) ints1 refs s) has.0 refl
-        (ends z.flat (bounds i f) (stopped out_of_bounds site) c s (place z (pc + 1) ints1 refs s) (holding z (T ++ bases) scope ints refs s a) refl refl has.1.0 (stops_below i f n (pc + 1) ints1 s v1)))
+        (ends z.flat (bounds i f) (stopped traps.IndexOutOfBounds site) c s (place z (pc + 1) ints1 refs s) (holding z (T ++ bases) scope ints refs s a) refl refl has.1.0 (stops_below i f n (pc + 1) ints1 s v1)))
 
     pub element_runs : (v : ℤ) (i f : ℕ) (guard : Option ℕ) (pc c : ℕ) (ints : ℕ → ℤ) (s : State) (k : Place → State → Fin) → int_count scope ≤ i → HasAt z.flat.lines pc (bounds_code bounds i f guard) → Agree z (T ++ bases) scope [] ints refs s → ints (z.ints + i) ≡ v
         → Found i f guard (pc + length (bounds_code bounds i f guard)) c ints s k → Same z.flat s.fuel (c + 3) (fin_then (element site o cells elements v s) k) s.answers (place z pc ints refs s)

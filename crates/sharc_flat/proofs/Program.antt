@@ -47,6 +47,7 @@ use Rattle.sharc_flat.specs.Places.{guard_width, index_width, store_code, cell_s
 use Rattle.sharc_flat.specs.Scope.{slot_of}
 use Rattle.sharc_meaning.specs.State.{begins_with}
 use Rattle.sharc_tree.specs.declared.tree.declaration.Declaration.{Declaration}
+use Rattle.sharc_tree.specs.declared.trap.Trap.TheVariants as traps
 use Rattle.sharc_names.specs.Kinds.{declared_kind}
 use Rattle.sharc_flat.proofs.Statements.{DecidesAs, loop_runs}
 use Rattle.sharc_meaning.specs.Expressions.{Calls}
@@ -64,7 +65,6 @@ use Rattle.sharc_meaning.specs.Cells.{element_cells}
 use Rattle.sharc_flat.proofs.Taking.{need_more, entered_more, new_runs}
 use Rattle.sharc_flat.proofs.Expressing.{give_int}
 use Rattle.sharc_meaning.specs.Statements.{is_positive}
-use Rattle.sharc_meaning.specs.Arithmetic.{size_not_positive}
 use Rattle.sharc_meaning.specs.Cells.{instance_mode}
 use Rattle.std.specs.Prelude.{unsigned_abs}
 use Rattle.sharc_flat.specs.Places.{object_spot}
@@ -95,7 +95,7 @@ module _ (m : Assignment) (z : Standing) (result : Kind) (ints0 : ℕ → ℤ) (
   K e = kind_at m.typed e
 
   abbrev New : Run ℤ → Span → Sharing → ℕ → Run ℤ
-  New count s mode cells = count >>= λ v. unless_stop (is_positive v) size_not_positive s.first >> (λ u. answered s.first (acts.New cells (unsigned_abs v) (instance_mode m.typed (value_of u) mode)) u)
+  New count s mode cells = count >>= λ v. unless_stop (is_positive v) traps.SizeNotPositive s.first >> (λ u. answered s.first (acts.New cells (unsigned_abs v) (instance_mode m.typed (value_of u) mode)) u)
 
   abbrev new_op : List Slot → (ℕ → ℕ → List Op) → Span → Sharing → ℕ → ℕ → ℕ → List Op
   new_op scope counts s mode cells i r = counts i r ++ (op.ChkPositive i (at_site s.first) ∷ op.New r i cells (object_spot (C scope) s.first no_text uses.Other mode) ∷ [])

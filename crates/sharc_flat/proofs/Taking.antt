@@ -64,13 +64,13 @@ use Rattle.sharc_meaning.specs.Places.{cast_to, freed}
 use Rattle.sharc_meaning.specs.Reference.{NULL}
 use Rattle.sharc_meaning.specs.declared.given.GivenUp.TheVariants.{Emptied}
 use Rattle.sharc_meaning.specs.Statements.{is_positive}
-use Rattle.sharc_meaning.specs.Arithmetic.{size_not_positive}
 use Rattle.sharc_flat.specs.Places.{object_mode, object_mode_named, object_spot}
 use Rattle.sharc_flat.specs.Suits.{PathNamed}
 use Rattle.std.specs.Prelude.{unsigned_abs}
 use Rattle.sharc_code.specs.Machine.{elements_of as elements_made}
 use Rattle.sharc_flat.proofs.Under.{positive_elements}
 use Rattle.sharc_tree.specs.declared.event.CellMode.TheVariants as modes
+use Rattle.sharc_tree.specs.declared.trap.Trap.TheVariants as traps
 
 null_is : (v : ℤ) → is_null v ≡ true → v ≡ pos 0
 null_is (pos zero) h = refl
@@ -347,10 +347,10 @@ module _ (m : Assignment) (z : Standing) (scope : List Slot) where
   positive_by : (b : Bool) (T : List ℤ) (v : ℤ) (site : Site) (words : Text) (use_made : Use) (mode : Sharing) (cells i r pc c : ℕ) (ints refs : ℕ → ℤ) (s : State) (k : ℤ → State → Fin) → is_positive v ≡ b → PathStands m.typed scope mode → r ≡ ref_count scope + length T → ints (z.ints + i) ≡ v
       → HasAt z.flat.lines pc (op.ChkPositive i (at_site site) ∷ op.New r i cells (object_spot ctx site words use_made mode) ∷ []) → Agree z T scope [] ints refs s
       → ((x : ℤ) (refs' : ℕ → ℤ) (u : State) → Agree z T scope (x ∷ []) ints refs' u → Same z.flat u.fuel c (k x u) u.answers (place z (pc + 2) ints refs' u))
-      → Same z.flat s.fuel (c + 2) (fin_then ((unless_stop b size_not_positive site >> (λ u. answered site (acts.New cells (unsigned_abs v) (instance_mode m.typed (value_of u) mode)) u)) s) k) s.answers (place z pc ints refs s)
+      → Same z.flat s.fuel (c + 2) (fin_then ((unless_stop b traps.SizeNotPositive site >> (λ u. answered site (acts.New cells (unsigned_abs v) (instance_mode m.typed (value_of u) mode)) u)) s) k) s.answers (place z pc ints refs s)
   positive_by false T v site words use_made mode cells i r pc c ints refs s k e path re v_is has a rest =
       weaken z.flat s.fuel (c + 1) (c + 2) _ s.answers _ (omega arith)
-      (ends z.flat (op.ChkPositive i (at_site site)) (stopped size_not_positive site) c s (place z pc ints refs s) (holding z T scope ints refs s a) refl refl has.0 (ap (λ q. asserts (is_positive q) size_not_positive (at_site site) (place z pc ints refs s)) v_is ∙ ap (λ b. asserts b size_not_positive (at_site site) (place z pc ints refs s)) e))
+      (ends z.flat (op.ChkPositive i (at_site site)) (stopped traps.SizeNotPositive site) c s (place z pc ints refs s) (holding z T scope ints refs s a) refl refl has.0 (ap (λ q. asserts (is_positive q) traps.SizeNotPositive (at_site site) (place z pc ints refs s)) v_is ∙ ap (λ b. asserts b traps.SizeNotPositive (at_site site) (place z pc ints refs s)) e))
   positive_by true T v site words use_made mode cells i r pc c ints refs s k e path re v_is has a rest =
       let m1 = place z (pc + 1) ints refs s in
       let M = instance_mode m.typed (value_of s) mode in
@@ -358,7 +358,7 @@ module _ (m : Assignment) (z : Standing) (scope : List Slot) where
       let credit : c + 1 + 1 ≡ c + 2 = omega arith in
       let r0 : r ≡ ref_count scope + length T + 0 = omega arith in
       subst (λ q. Same z.flat s.fuel q (fin_then (happens s.answers site (acts.New cells (unsigned_abs v) M) s) k) s.answers (place z pc ints refs s)) credit
-      (step z.flat (op.ChkPositive i (at_site site)) s.fuel (c + 1) _ s.answers (place z pc ints refs s) m1 has.0 (ap (λ q. asserts (is_positive q) size_not_positive (at_site site) (place z pc ints refs s)) v_is ∙ ap (λ b. asserts b size_not_positive (at_site site) (place z pc ints refs s)) e)
+      (step z.flat (op.ChkPositive i (at_site site)) s.fuel (c + 1) _ s.answers (place z pc ints refs s) m1 has.0 (ap (λ q. asserts (is_positive q) traps.SizeNotPositive (at_site site) (place z pc ints refs s)) v_is ∙ ap (λ b. asserts b traps.SizeNotPositive (at_site site) (place z pc ints refs s)) e)
       (asks_at z.flat (op.New r i cells (object_spot ctx site words use_made mode)) site (acts.New cells (unsigned_abs v) M) (pos 0) (λ x w. on (set_ref r x w)) c s.answers s m1 m1 k (holding z T scope ints refs s a) refl refl has.1.0
       (ap (λ q. asks m1 site (acts.New cells (elements_made q) (mode_of_object z.flat.globals m1 (object_mode ctx mode))) (pos 0) (λ x w. on (set_ref r x w))) v_is ∙ ap (λ q. asks m1 site (acts.New cells q (mode_of_object z.flat.globals m1 (object_mode ctx mode))) (pos 0) (λ x w. on (set_ref r x w))) (positive_elements v e) ∙ ap (λ q. asks m1 site (acts.New cells (unsigned_abs v) q) (pos 0) (λ x w. on (set_ref r x w))) (object_mode_is T [] mode (pc + 1) ints refs s path a))
       (λ x. refl)
@@ -368,13 +368,13 @@ module _ (m : Assignment) (z : Standing) (scope : List Slot) where
       (rest x (put refs (z.refs + r) x) u (push z T scope [] x r ints refs u r0 (same_frame z T scope [] ints refs s u refl refl a))))))
 
   pub new_runs : (ke kn : Kind) (need : ℕ) (count : Run ℤ) (counts : ℕ → ℕ → List Op) (site : Site) (words : Text) (use_made : Use) (mode : Sharing) (cells : ℕ) → is_integer ke ≡ true → is_reference kn ≡ true → PathStands m.typed scope mode → RunsAs m z scope ke need count counts
-      → RunsAs m z scope kn (need + 2) (count >>= λ v. unless_stop (is_positive v) size_not_positive site >> (λ u. answered site (acts.New cells (unsigned_abs v) (instance_mode m.typed (value_of u) mode)) u))
+      → RunsAs m z scope kn (need + 2) (count >>= λ v. unless_stop (is_positive v) traps.SizeNotPositive site >> (λ u. answered site (acts.New cells (unsigned_abs v) (instance_mode m.typed (value_of u) mode)) u))
       (λ i r. counts i r ++ (op.ChkPositive i (at_site site) ∷ op.New r i cells (object_spot ctx site words use_made mode) ∷ []))
   new_runs ke kn need count counts site words use_made mode cells ie rn path of_count T i r pc c ints refs s k has le re a rest =
       let C = counts i r in
       let tail = op.ChkPositive i (at_site site) ∷ op.New r i cells (object_spot ctx site words use_made mode) ∷ [] in
       let end : pc + length C + 2 ≡ pc + length (C ++ tail) = omega (arith, length-append C tail) in
-      let then_run : ℤ → Run ℤ = λ v. unless_stop (is_positive v) size_not_positive site >> (λ u. answered site (acts.New cells (unsigned_abs v) (instance_mode m.typed (value_of u) mode)) u) in
+      let then_run : ℤ → Run ℤ = λ v. unless_stop (is_positive v) traps.SizeNotPositive site >> (λ u. answered site (acts.New cells (unsigned_abs v) (instance_mode m.typed (value_of u) mode)) u) in
       bind z.flat s.fuel (c + (need + 2)) s.answers (count s) then_run k (place z pc ints refs s)
       (weaken z.flat s.fuel (c + 2 + need) (c + (need + 2)) _ s.answers _ (omega arith)
       (of_count T i r pc (c + 2) ints refs s (λ v u. fin_then (then_run v u) k) (has_front z.flat.lines pc C tail has) le re a (λ v ints1 refs1 s1 w.

@@ -4,6 +4,7 @@ use Rattle.std.specs.Prelude.{nat_le, ℤ, pos, negsuc, slice_get, not, ◌&&◌
 use Rattle.std.proofs.lemmas.Bool.Decides.{nat_tests}
 use Rattle.std.proofs.lemmas.List.{append-nil}
 use Rattle.sharc_tree.specs.declared.token.Site.{Site}
+use Rattle.sharc_tree.specs.declared.trap.Trap.TheVariants as traps
 use Rattle.sharc_names.specs.Kinds.{Kind, is_integer}
 use Rattle.sharc_mode.specs.Moded.{Assignment}
 use Rattle.sharc_meaning.specs.declared.given.GivenUp.TheVariants.{Released}
@@ -21,7 +22,7 @@ use Rattle.sharc_flat.proofs.Agreeing.{Standing, place, Agree, holding, push, dr
 use Rattle.sharc_flat.proofs.Values.{integer_is, RunsAs}
 use Rattle.sharc_flat.proofs.Runs.{ends}
 use Rattle.sharc_meaning.specs.State.{stopped, unless_stop, holds}
-use Rattle.sharc_meaning.specs.Arithmetic.{bits_of, is_zero, is_equal, is_held_by, fits, out_of_range}
+use Rattle.sharc_meaning.specs.Arithmetic.{bits_of, is_zero, is_equal, is_held_by, fits}
 use Rattle.sharc_flat_form.specs.Machine.{asserts}
 use Rattle.sharc_flat.specs.Scope.{at_site}
 use Rattle.sharc_flat.proofs.Popping.{AllNull, trailing}
@@ -130,31 +131,31 @@ module _ (m : Assignment) (z : Standing) (scope : List Slot) where
       → RunsAs m z scope ka 1 (fitting kind e run) (λ i r. ce i r ++ cond b (op.ChkWidth (width_of kind) i (at_site (span_of e).first) ∷ []) [])
   fitting_by false kind ka e run ce eb ints of_run T i r pc c ints0 refs s k has le re a rest =
       let end : pc + length (ce i r) ≡ pc + length (ce i r ++ []) = ap (λ l. pc + length l) (sym (append-nil (ce i r))) in
-      bind z.flat s.fuel (c + 1) s.answers (run s) (λ v. unless_stop (fits kind v) out_of_range (span_of e).first >> give v) k (place z pc ints0 refs s)
+      bind z.flat s.fuel (c + 1) s.answers (run s) (λ v. unless_stop (fits kind v) traps.OutOfRange (span_of e).first >> give v) k (place z pc ints0 refs s)
       (weaken z.flat s.fuel (c + 0) (c + 1) _ s.answers _ (omega arith)
       (of_run T i r pc c ints0 refs s _ (has_front z.flat.lines pc (ce i r) [] has) le re a (λ v ints1 refs1 s1 w.
-      subst (λ b. Same z.flat s1.fuel (c + 6) (fin_then ((unless_stop b out_of_range (span_of e).first >> give v) s1) k) s1.answers (place z (pc + length (ce i r)) ints1 refs1 s1)) (sym (fits_by false kind v eb))
+      subst (λ b. Same z.flat s1.fuel (c + 6) (fin_then ((unless_stop b traps.OutOfRange (span_of e).first >> give v) s1) k) s1.answers (place z (pc + length (ce i r)) ints1 refs1 s1)) (sym (fits_by false kind v eb))
       (subst (λ q. Same z.flat s1.fuel (c + 6) (k v s1) s1.answers (place z q ints1 refs1 s1)) (sym end) (rest v ints1 refs1 s1 w)))))
   fitting_by true kind ka e run ce eb ints of_run T i r pc c ints0 refs s k has le re a rest =
       let site = (span_of e).first in
       let o = op.ChkWidth (width_of kind) i (at_site site) in
       let end : pc + length (ce i r) + 1 ≡ pc + length (ce i r ++ o ∷ []) = omega (arith, length-append (ce i r) (o ∷ [])) in
       let has_o = (has_back z.flat.lines pc (ce i r) (o ∷ []) has).0 in
-      bind z.flat s.fuel (c + 1) s.answers (run s) (λ v. unless_stop (fits kind v) out_of_range site >> give v) k (place z pc ints0 refs s)
+      bind z.flat s.fuel (c + 1) s.answers (run s) (λ v. unless_stop (fits kind v) traps.OutOfRange site >> give v) k (place z pc ints0 refs s)
       (weaken z.flat s.fuel (c + 1 + 0) (c + 1) _ s.answers _ (omega arith)
       (of_run T i r pc (c + 1) ints0 refs s _ (has_front z.flat.lines pc (ce i r) (o ∷ []) has) le re a (λ v ints1 refs1 s1 w.
       let pc1 = pc + length (ce i r) in
       let a1 : Agree z T scope [] ints1 refs1 s1 = subst (λ b. Agree z T scope (loose_of b v) ints1 refs1 s1) (integer_is ka (ints refl)) w.agree in
       let held_same : code.holds (width_of kind) (ints1 (z.ints + i)) ≡ is_held_by (bits_of kind) v = ap (code.holds (width_of kind)) (w.value (ints refl)) ∙ holds_same (width_of kind) v ∙ ap (λ n. is_held_by n v) (bits_same kind) in
-      subst (λ b. Same z.flat s1.fuel (c + 1 + 6) (fin_then ((unless_stop b out_of_range site >> give v) s1) k) s1.answers (place z pc1 ints1 refs1 s1)) (sym (fits_by true kind v eb))
-      (by (is_held_by (bits_of kind) v) v pc1 c o site ints1 refs1 s1 k has_o (ap (λ b. asserts b out_of_range (at_site site) (place z pc1 ints1 refs1 s1)) held_same) (holding z T scope ints1 refs1 s1 a1)
+      subst (λ b. Same z.flat s1.fuel (c + 1 + 6) (fin_then ((unless_stop b traps.OutOfRange site >> give v) s1) k) s1.answers (place z pc1 ints1 refs1 s1)) (sym (fits_by true kind v eb))
+      (by (is_held_by (bits_of kind) v) v pc1 c o site ints1 refs1 s1 k has_o (ap (λ b. asserts b traps.OutOfRange (at_site site) (place z pc1 ints1 refs1 s1)) held_same) (holding z T scope ints1 refs1 s1 a1)
       (subst (λ q. Same z.flat s1.fuel (c + 6) (k v s1) s1.answers (place z q ints1 refs1 s1)) (sym end) (rest v ints1 refs1 s1 w))))))
     where
-      by : (b : Bool) (v : ℤ) (pc c : ℕ) (o : Op) (site : Site) (ints refs : ℕ → ℤ) (s : State) (k : ℤ → State → Fin) → slice_get z.flat.lines pc ≡ Some o → op_turn z.flat o (place z pc ints refs s) ≡ asserts b out_of_range (at_site site) (place z pc ints refs s) → Holds refs s
+      by : (b : Bool) (v : ℤ) (pc c : ℕ) (o : Op) (site : Site) (ints refs : ℕ → ℤ) (s : State) (k : ℤ → State → Fin) → slice_get z.flat.lines pc ≡ Some o → op_turn z.flat o (place z pc ints refs s) ≡ asserts b traps.OutOfRange (at_site site) (place z pc ints refs s) → Holds refs s
           → Same z.flat s.fuel (c + 6) (k v s) s.answers (place z (pc + 1) ints refs s)
-          → Same z.flat s.fuel (c + 1 + 6) (fin_then ((unless_stop b out_of_range site >> give v) s) k) s.answers (place z pc ints refs s)
+          → Same z.flat s.fuel (c + 1 + 6) (fin_then ((unless_stop b traps.OutOfRange site >> give v) s) k) s.answers (place z pc ints refs s)
       by true v pc c o site ints refs s k at is holds rest = weaken z.flat s.fuel (c + 6 + 1) (c + 1 + 6) _ s.answers _ (omega arith) (step z.flat o s.fuel (c + 6) (k v s) s.answers _ _ at is rest)
-      by false v pc c o site ints refs s k at is holds rest = weaken z.flat s.fuel (c + 6 + 1) (c + 1 + 6) _ s.answers _ (omega arith) (ends z.flat o (stopped out_of_range site) (c + 6) s _ holds refl refl at is)
+      by false v pc c o site ints refs s k at is holds rest = weaken z.flat s.fuel (c + 6 + 1) (c + 1 + 6) _ s.answers _ (omega arith) (ends z.flat o (stopped traps.OutOfRange site) (c + 6) s _ holds refl refl at is)
 
   pub fitting_runs : (kind ka : Kind) (e : Expression) (run : Run ℤ) (ce : ℕ → ℕ → List Op) → (is_integer kind ≡ true → is_integer ka ≡ true) → RunsAs m z scope ka 0 run ce
       → RunsAs m z scope ka 1 (fitting kind e run) (λ i r. ce i r ++ width_code i kind (span_of e).first)

@@ -29,6 +29,7 @@ use Rattle.sharc_flat.specs.Scope.{slot_of}
 use Rattle.sharc_meaning.specs.declared.variable.Variable.{Variable}
 use Rattle.sharc_meaning.specs.State.{ends_variables}
 use Rattle.sharc_tree.specs.declared.tree.declaration.Declaration.{Declaration}
+use Rattle.sharc_tree.specs.declared.trap.Trap.TheVariants as traps
 use Rattle.sharc_names.specs.Kinds.{declared_kind}
 use Rattle.sharc_flat.proofs.Declaring.{declared_reference}
 use Rattle.sharc_meaning.specs.Meaning.{parameters_begin, left_at, pointers_passed, with_frame}
@@ -54,7 +55,6 @@ use Rattle.sharc_flat.specs.Correct.{SameAs, ProgramSuits, MayStart, Forth, Back
 use Rattle.sharc_flat_form.specs.Machine.{Turn, Came, exec, on_turn, on_answer, turn, line_turn, end_turn, start as start_at, first_at, begun as begun_at, with_event}
 use Rattle.sharc_code.specs.declared.code.Parameter.TheVariants as parameters
 use Rattle.sharc_meaning.specs.Meaning.{run_thread, goes_away, asked_by, asks as source_asks, start as source_start, no_frame}
-use Rattle.sharc_meaning.specs.Arithmetic.{returns_with_a_lock}
 use Rattle.sharc_meaning.specs.Events.{held_mutexes}
 use Rattle.sharc_meaning.specs.State.{Outcome, wants, ended, held_references}
 use Rattle.sharc_meaning.specs.Laws.{SpentIsNone}
@@ -137,16 +137,16 @@ module _ (m : Assignment) (suits : ProgramSuits m) where
         ap (λ o. line_turn flat o (place z0 pc ints refs s)) none ∙ ap (end_turn flat (place z0 pc ints refs s)) diff
 
     goes_by : (b : Bool) (pc c : ℕ) (ints refs : ℕ → ℤ) (s : State) → not (nat_lt 0 (length (held_mutexes s.events))) ≡ b → Holds refs s → slice_get flat.lines pc ≡ Some (op.Return (at_site site))
-        → Same flat s.fuel (c + 4) (fin_then ((unless_stop b returns_with_a_lock site >> (performs name acts.Return >> performs name acts.Gone)) s) (λ _ u. fin_of ended u)) s.answers (place z0 pc ints refs s)
+        → Same flat s.fuel (c + 4) (fin_then ((unless_stop b traps.ReturnWithLockHeld site >> (performs name acts.Return >> performs name acts.Gone)) s) (λ _ u. fin_of ended u)) s.answers (place z0 pc ints refs s)
     goes_by false pc c ints refs s e h at =
         weaken flat s.fuel (c + 1) (c + 4) _ s.answers _ (omega arith)
-        (ends flat (op.Return (at_site site)) (stopped returns_with_a_lock site) c s (place z0 pc ints refs s) h refl refl at (ap (λ b. cond b (goes (record (place z0 pc ints refs s) { pc = length flat.lines })) (halts (stopped returns_with_a_lock site))) e))
+        (ends flat (op.Return (at_site site)) (stopped traps.ReturnWithLockHeld site) c s (place z0 pc ints refs s) h refl refl at (ap (λ b. cond b (goes (record (place z0 pc ints refs s) { pc = length flat.lines })) (halts (stopped traps.ReturnWithLockHeld site))) e))
     goes_by true pc c ints refs s e h at =
         let n = length flat.lines in
         let four : c + 1 + 1 + 1 + 1 ≡ c + 4 = omega arith in
         let n0 : n ≡ n + 0 = omega arith in
         subst (λ q. Same flat s.fuel q (fin_then ((performs name acts.Return >> performs name acts.Gone) s) (λ _ u. fin_of ended u)) s.answers (place z0 pc ints refs s)) four
-        (step flat (op.Return (at_site site)) s.fuel (c + 1 + 1 + 1) _ s.answers (place z0 pc ints refs s) (place z0 n ints refs s) at (ap (λ b. cond b (goes (place z0 n ints refs s)) (halts (stopped returns_with_a_lock site))) e)
+        (step flat (op.Return (at_site site)) s.fuel (c + 1 + 1 + 1) _ s.answers (place z0 pc ints refs s) (place z0 n ints refs s) at (ap (λ b. cond b (goes (place z0 n ints refs s)) (halts (stopped traps.ReturnWithLockHeld site))) e)
         (subst (λ q. Same flat s.fuel (c + 1 + 1 + 1) q s.answers (place z0 n ints refs s)) (sym (performs_then (happens s.answers name acts.Return s) (performs name acts.Gone) (λ _ u. fin_of ended u)))
         (asks_turn flat name acts.Return (c + 1 + 1) s (place z0 n ints refs s) (λ x u. fin_then (performs name acts.Gone u) (λ _ u. fin_of ended u)) h refl refl
         (gone_at n 0 ints refs s n0 ∙ ap (λ q. asks (place z0 n ints refs s) q acts.Return (pos 0) (λ v n. on n)) name_is) (λ x. refl)

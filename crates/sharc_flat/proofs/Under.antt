@@ -6,12 +6,12 @@ use Rattle.sharc_tree.specs.declared.event.CellAt.{CellAt}
 use Rattle.sharc_tree.specs.declared.event.CellMode.{CellMode}
 use Rattle.sharc_tree.specs.declared.event.CellMode.TheVariants as modes
 use Rattle.sharc_tree.specs.declared.event.Object.TheVariants as objects
+use Rattle.sharc_tree.specs.declared.trap.Trap.TheVariants as traps
 use Rattle.sharc_code.specs.declared.code.GlobalCells.{GlobalCells}
 use Rattle.sharc_code.specs.declared.code.PlaceMode.{PlaceMode}
 use Rattle.sharc_code.specs.declared.code.PlaceMode.TheVariants.{Private, Readonly, Racy, Dynamic, LockedGlobal, LockedSibling, LockedThrough, LockedLoaded}
 use Rattle.sharc_code.specs.declared.instr.Cell.{Cell}
 use Rattle.sharc_code.specs.Machine.{elements_of as elements_made}
-use Rattle.sharc_meaning.specs.Arithmetic.{null_base}
 use Rattle.sharc_meaning.specs.Cells.{cell_of, through}
 use Rattle.sharc_meaning.specs.Reference.{is_null, number_of}
 use Rattle.sharc_meaning.specs.Statements.{is_positive}
@@ -31,7 +31,7 @@ mutex_of globals m c Dynamic = None
 
 -- under a lock, or X1 where the path leads through NULL
 abbrev pub under_lock : Option CellAt → Spot → (CellMode → Turn) → Turn
-under_lock None spot f = stops null_base spot
+under_lock None spot f = stops traps.NullPointer spot
 under_lock (Some c) spot f = f (modes.Locked (Some c))
 
 abbrev pub under : PlaceMode → Option CellAt → Spot → (CellMode → Turn) → Turn
@@ -44,18 +44,18 @@ under (LockedSibling field mutex) c spot f = under_lock c spot f
 under (LockedThrough r place) c spot f = under_lock c spot f
 under LockedLoaded c spot f = under_lock c spot f
 
-through_by : (b : Bool) (c : CellAt) (spot : Spot) (f : CellMode → Turn) → cond b (stops null_base spot) (f (modes.Locked (cond b None (Some c)))) ≡ under_lock (cond b None (Some c)) spot f
+through_by : (b : Bool) (c : CellAt) (spot : Spot) (f : CellMode → Turn) → cond b (stops traps.NullPointer spot) (f (modes.Locked (cond b None (Some c)))) ≡ under_lock (cond b None (Some c)) spot f
 through_by true c spot f = refl
 through_by false c spot f = refl
 
 under_by : (globals : List GlobalCells) (m : At) (c : CellAt) (spot : Spot) (f : CellMode → Turn) (mode : PlaceMode) → is_of_null m spot.lock ≡ false
-    → cond (lock_is_null m spot mode) (stops null_base spot) (f (mode_of globals m c mode)) ≡ under mode (mutex_of globals m c mode) spot f
+    → cond (lock_is_null m spot mode) (stops traps.NullPointer spot) (f (mode_of globals m c mode)) ≡ under mode (mutex_of globals m c mode) spot f
 under_by globals m c spot f Private e = refl
 under_by globals m c spot f Readonly e = refl
 under_by globals m c spot f Racy e = refl
 under_by globals m c spot f Dynamic e = refl
 under_by globals m c spot f (LockedGlobal g place) e = refl
-under_by globals m c spot f (LockedSibling field mutex) e = ap (λ b. cond b (stops null_base spot) (f (mode_of globals m c (LockedSibling field mutex)))) e
+under_by globals m c spot f (LockedSibling field mutex) e = ap (λ b. cond b (stops traps.NullPointer spot) (f (mode_of globals m c (LockedSibling field mutex)))) e
 under_by globals m c spot f (LockedThrough r place) e = through_by (is_null (ref m r)) (cell_of (objects.Made (number_of (ref m r))) place) spot f
 under_by globals m c spot f LockedLoaded e = through_by (is_null m.pending) (cell_of (objects.Made (number_of m.pending)) 0) spot f
 

@@ -8,6 +8,7 @@ use Rattle.sharc_tree.specs.declared.event.Object.TheVariants.{Made}
 use Rattle.sharc_tree.specs.declared.token.Site.{Site}
 use Rattle.sharc_names.specs.Kinds.{Kind, is_integer}
 use Rattle.sharc_tree.specs.declared.event.Act.{Act}
+use Rattle.sharc_tree.specs.declared.trap.Trap.TheVariants as traps
 use Rattle.sharc_mode.specs.Moded.{Assignment}
 use Rattle.sharc_meaning.specs.Cells.{cell_of}
 use Rattle.sharc_meaning.specs.Places.{pointee}
@@ -25,7 +26,6 @@ use Rattle.sharc_flat.proofs.Agreeing.{Standing, place, Agree, holding, push, la
 use Rattle.sharc_flat.proofs.Values.{loosen, base_ends, RunsAs, temporarily_runs}
 use Rattle.sharc_meaning.specs.State.{unless_stop, holds}
 use Rattle.sharc_meaning.specs.Reference.{is_null}
-use Rattle.sharc_meaning.specs.Arithmetic.{null_base}
 use Rattle.sharc_flat_form.specs.Machine.{asserts}
 use Rattle.sharc_flat.specs.Scope.{at_site}
 use Rattle.sharc_tree.specs.Tree.{Expression}
@@ -45,7 +45,6 @@ use Rattle.sharc_meaning.specs.Reference.{NULL}
 use Rattle.sharc_flat_form.specs.Machine.{base_of}
 use Rattle.sharc_meaning.specs.Waiting.{cell_at_place}
 use Rattle.sharc_meaning.specs.Events.{holds_mutex}
-use Rattle.sharc_meaning.specs.Arithmetic.{mutex_not_held}
 use Rattle.sharc_flat.proofs.Locking.{chk_by}
 use Rattle.sharc_meaning.specs.State.{looks_at}
 use Rattle.sharc_flat.proofs.Comparing.{all_end}
@@ -121,7 +120,7 @@ module _ (m : Assignment) (z : Standing) (scope : List Slot) where
   -- ---- `signal` and `broadcast`
   tell_by : (o : Op) (mk : CellAt → Act) (T : List ℤ) (v : ℤ) (kind : Kind) (site : Site) (i r pc c : ℕ) (ints0 ints refs : ℕ → ℤ) (s : State) (k : ℤ → State → Fin) → ((c : CellAt) → Plain (mk c)) → ((w : At) → op_turn z.flat o w ≡ asks w site (mk (cell_at z.flat.globals w (first_cell_of r))) (pos 0) (λ v n. on n))
       → is_reference kind ≡ false → is_integer kind ≡ false → HasAt z.flat.lines pc (op.ChkNull r (at_site site) ∷ o ∷ op.Pop r ∷ []) → r ≡ ref_count scope + length T → Agree z (T ++ v ∷ []) scope [] ints refs s → ((n : ℕ) → n < z.ints + i → ints n ≡ ints0 n) → Rest z kind T scope i (pc + 3) (c + 6) ints0 k
-      → Same z.flat s.fuel (c + 6 + 1 + 1 + 1) (fin_then ((unless_stop (not (is_null v)) null_base site >> (performs site (mk (cell_at_place (pointee v))) >> done)) s) (λ x u. k (pos 0) (without (length T) u))) s.answers (place z pc ints refs s)
+      → Same z.flat s.fuel (c + 6 + 1 + 1 + 1) (fin_then ((unless_stop (not (is_null v)) traps.NullPointer site >> (performs site (mk (cell_at_place (pointee v))) >> done)) s) (λ x u. k (pos 0) (without (length T) u))) s.answers (place z pc ints refs s)
   tell_by o mk T v kind site i r pc c ints0 ints refs s k plain is er ei has re a kept rest =
       let r0 : r ≡ ref_count scope + length T + 0 = omega arith in
       let al : Agree z T scope (v ∷ []) ints refs (without (length T) s) = loosen z T scope (v ∷ []) [] ints refs s a in
@@ -130,8 +129,8 @@ module _ (m : Assignment) (z : Standing) (scope : List Slot) where
       let m0 = place z pc ints refs s in
       let held = holding z (T ++ v ∷ []) scope ints refs s a in
       let three : pc + 1 + 1 + 1 ≡ pc + 3 = omega arith in
-      bind z.flat s.fuel (c + 6 + 1 + 1 + 1) s.answers (unless_stop (not (is_null v)) null_base site s) (λ _. performs site (mk (cell_at_place (pointee v))) >> done) K m0
-      (chk_by m z scope (not (is_null v)) (op.ChkNull r (at_site site)) null_base site pc (c + 6 + 1 + 1) ints refs s _ has.0 (ap (λ q. asserts (not (is_null q)) null_base (at_site site) m0) v_is) held
+      bind z.flat s.fuel (c + 6 + 1 + 1 + 1) s.answers (unless_stop (not (is_null v)) traps.NullPointer site s) (λ _. performs site (mk (cell_at_place (pointee v))) >> done) K m0
+      (chk_by m z scope (not (is_null v)) (op.ChkNull r (at_site site)) traps.NullPointer site pc (c + 6 + 1 + 1) ints refs s _ has.0 (ap (λ q. asserts (not (is_null q)) traps.NullPointer (at_site site) m0) v_is) held
       (event_step o site (mk (cell_at_place (pointee v))) (λ w. w) (pc + 1) (c + 6 + 1) ints refs s done K (plain (cell_at_place (pointee v))) has.1.0
       (is (place z (pc + 1) ints refs s) ∙ ap (λ q. asks (place z (pc + 1) ints refs s) site (mk (cell_of (Made (number_of q)) 0)) (pos 0) (λ v n. on n)) v_is) held
       (λ answers x.
@@ -167,7 +166,7 @@ module _ (m : Assignment) (z : Standing) (scope : List Slot) where
       let g3 : Step = holds_reference b >> (performs site (acts.Woken ca) >> g4) in
       let g2 : Step = performs site (acts.Unlock cb) >> g3 in
       let g1 : Step = performs site (acts.Enter ca) >> g2 in
-      let test : Step = looks_at (λ v. v.events) >>= λ own. unless_stop (holds_mutex own cb) mutex_not_held site >> g1 in
+      let test : Step = looks_at (λ v. v.events) >>= λ own. unless_stop (holds_mutex own cb) traps.MutexNotHeld site >> g1 in
       let p1 = pc + 1 in
       let p2 = p1 + 1 in
       let p3 = p2 + 1 in
@@ -176,12 +175,12 @@ module _ (m : Assignment) (z : Standing) (scope : List Slot) where
       let p6 = p5 + 1 in
       let p7 = p6 + 1 in
       let nine : p7 + 2 ≡ pc + 9 = omega arith in
-      bind z.flat s.fuel (c + 6 + 2 + 1 + 1 + 1 + 1 + 1 + 1 + 1) s.answers (unless_stop (not (is_null a)) null_base site s) (λ _. unless_stop (not (is_null b)) null_base site >> test) K m0
-      (chk_by m z scope (not (is_null a)) (op.ChkNull r spot) null_base site pc (c + 6 + 2 + 1 + 1 + 1 + 1 + 1 + 1) ints refs s _ has.0 (ap (λ q. asserts (not (is_null q)) null_base spot m0) a_is) held
-      (bind z.flat s.fuel (c + 6 + 2 + 1 + 1 + 1 + 1 + 1 + 1) s.answers (unless_stop (not (is_null b)) null_base site s) (λ _. test) K (place z p1 ints refs s)
-      (chk_by m z scope (not (is_null b)) (op.ChkNull (r + 1) spot) null_base site p1 (c + 6 + 2 + 1 + 1 + 1 + 1 + 1) ints refs s _ has.1.0 (ap (λ q. asserts (not (is_null q)) null_base spot (place z p1 ints refs s)) b_is) held
-      (bind z.flat s.fuel (c + 6 + 2 + 1 + 1 + 1 + 1 + 1) s.answers (unless_stop (holds_mutex s.events cb) mutex_not_held site s) (λ _. g1) K (place z p2 ints refs s)
-      (chk_by m z scope (holds_mutex s.events cb) (op.ChkHeld (first_cell_of (r + 1)) spot) mutex_not_held site p2 (c + 6 + 2 + 1 + 1 + 1 + 1) ints refs s _ has.1.1.0 (ap (λ q. asserts (holds_mutex s.events (cell_of (Made (number_of q)) 0)) mutex_not_held spot (place z p2 ints refs s)) b_is) held
+      bind z.flat s.fuel (c + 6 + 2 + 1 + 1 + 1 + 1 + 1 + 1 + 1) s.answers (unless_stop (not (is_null a)) traps.NullPointer site s) (λ _. unless_stop (not (is_null b)) traps.NullPointer site >> test) K m0
+      (chk_by m z scope (not (is_null a)) (op.ChkNull r spot) traps.NullPointer site pc (c + 6 + 2 + 1 + 1 + 1 + 1 + 1 + 1) ints refs s _ has.0 (ap (λ q. asserts (not (is_null q)) traps.NullPointer spot m0) a_is) held
+      (bind z.flat s.fuel (c + 6 + 2 + 1 + 1 + 1 + 1 + 1 + 1) s.answers (unless_stop (not (is_null b)) traps.NullPointer site s) (λ _. test) K (place z p1 ints refs s)
+      (chk_by m z scope (not (is_null b)) (op.ChkNull (r + 1) spot) traps.NullPointer site p1 (c + 6 + 2 + 1 + 1 + 1 + 1 + 1) ints refs s _ has.1.0 (ap (λ q. asserts (not (is_null q)) traps.NullPointer spot (place z p1 ints refs s)) b_is) held
+      (bind z.flat s.fuel (c + 6 + 2 + 1 + 1 + 1 + 1 + 1) s.answers (unless_stop (holds_mutex s.events cb) traps.MutexNotHeld site s) (λ _. g1) K (place z p2 ints refs s)
+      (chk_by m z scope (holds_mutex s.events cb) (op.ChkHeld (first_cell_of (r + 1)) spot) traps.MutexNotHeld site p2 (c + 6 + 2 + 1 + 1 + 1 + 1) ints refs s _ has.1.1.0 (ap (λ q. asserts (holds_mutex s.events (cell_of (Made (number_of q)) 0)) traps.MutexNotHeld spot (place z p2 ints refs s)) b_is) held
       (event_step (op.CondEnter (first_cell_of r) spot) site (acts.Enter ca) (λ w. w) p3 (c + 6 + 2 + 1 + 1 + 1) ints refs s g2 K (λ f g x. refl) has.1.1.1.0 (ap (λ q. asks (place z p3 ints refs s) site (acts.Enter (cell_of (Made (number_of q)) 0)) (pos 0) (λ v n. on n)) a_is) held
       (λ answers4 x4.
       let s4 = after_event s answers4 (s.events ++ event_of site (acts.Enter ca) x4 ∷ []) in
@@ -233,7 +232,7 @@ module _ (m : Assignment) (z : Standing) (scope : List Slot) where
   by_out (go x s) k = refl
   by_out (over o s) k = refl
 
-  tell_done : (mk : CellAt → Act) (b : Bool) (site : Site) (v : ℤ) (s : State) (k : Unit {0} → State → Fin) → fin_then ((unless_stop b null_base site >> performs site (mk (cell_at_place (pointee v)))) s) k ≡ fin_then ((unless_stop b null_base site >> (performs site (mk (cell_at_place (pointee v))) >> done)) s) k
+  tell_done : (mk : CellAt → Act) (b : Bool) (site : Site) (v : ℤ) (s : State) (k : Unit {0} → State → Fin) → fin_then ((unless_stop b traps.NullPointer site >> performs site (mk (cell_at_place (pointee v)))) s) k ≡ fin_then ((unless_stop b traps.NullPointer site >> (performs site (mk (cell_at_place (pointee v))) >> done)) s) k
   tell_done mk true site v s k = by_out (happens s.answers site (mk (cell_at_place (pointee v))) s) k
   tell_done mk false site v s k = refl
 

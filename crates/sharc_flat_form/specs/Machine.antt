@@ -11,6 +11,8 @@ use Rattle.sharc_tree.specs.declared.event.Taken.TheVariants as taken
 use Rattle.sharc_tree.specs.declared.event.TakeKind.{TakeKind}
 use Rattle.sharc_tree.specs.declared.event.TakeKind.TheVariants as kinds
 use Rattle.sharc_tree.specs.declared.token.Site.{Site}
+use Rattle.sharc_tree.specs.declared.trap.Trap.{Trap}
+use Rattle.sharc_tree.specs.declared.trap.Trap.TheVariants as traps
 use Rattle.sharc_code.specs.declared.code.Function.{Function}
 use Rattle.sharc_code.specs.declared.code.GlobalCells.{GlobalCells}
 use Rattle.sharc_code.specs.declared.code.PlaceMode.{PlaceMode}
@@ -28,7 +30,7 @@ use Rattle.sharc_code.specs.Says.{no_global}
 use Rattle.sharc_code.specs.Machine.{no_function, elements_of as elements_made}
 use Rattle.sharc_meaning.specs.declared.given.GivenUp.{GivenUp}
 use Rattle.sharc_meaning.specs.declared.given.GivenUp.TheVariants.{Released, Replaced, Emptied}
-use Rattle.sharc_meaning.specs.Arithmetic.{is_zero, is_equal, null_base, out_of_bounds, out_of_range, mutex_not_held, mutex_already_held, calls_too_deep, returns_with_a_lock, size_not_positive, too_many_locks}
+use Rattle.sharc_meaning.specs.Arithmetic.{is_zero, is_equal}
 use Rattle.sharc_meaning.specs.Cells.{cell_of, through}
 use Rattle.sharc_meaning.specs.Events.{held_mutexes, holds_mutex}
 use Rattle.sharc_meaning.specs.Reference.{is_null, number_of, elements_of}
@@ -110,15 +112,15 @@ over_lines n m = record m { pc = m.pc + 1 + n }
 abbrev pub goes_on : At → Turn
 goes_on m = goes (next m)
 
-abbrev pub stops : ℕ → Spot → Turn
-stops code spot = halts (stopped code spot.site)
+abbrev pub stops : Trap → Spot → Turn
+stops trap spot = halts (stopped trap spot.site)
 
-abbrev pub asserts : Bool → ℕ → Spot → At → Turn
-asserts b code spot m = if b then goes_on m else stops code spot
+abbrev pub asserts : Bool → Trap → Spot → At → Turn
+asserts b trap spot m = if b then goes_on m else stops trap spot
 
-abbrev pub with_result : ℕ → Spot → At → Result ℤ ℕ → Turn
+abbrev pub with_result : ℕ → Spot → At → Result ℤ Trap → Turn
 with_result i spot m (Ok v) = goes_on (set_int i v m)
-with_result i spot m (Err code) = stops code spot
+with_result i spot m (Err trap) = stops trap spot
 
 -- ---- cells and their modes
 -- the first cell of a global, counted from the first cell of granule 0
@@ -183,7 +185,7 @@ accessed m = record m { pending = pos 0 }
 -- an access of a cell: what is asked for, and what comes with the answer
 abbrev pub accesses : List GlobalCells → Cell → Spot → (CellAt → CellMode → Act) → (CellAt → ℤ → At → At) → At → Turn
 accesses globals cell spot act then_ m =
-    if lock_is_null m spot spot.mode then stops null_base spot
+    if lock_is_null m spot spot.mode then stops traps.NullPointer spot
     else asks m spot.site (act (cell_at globals m cell) (mode_of globals m (cell_at globals m cell) spot.mode)) (pos 0) (λ v n. accessed (next (then_ (cell_at globals m cell) v n)))
 
 -- what asks for an event of no cell's access
@@ -192,8 +194,8 @@ event spot act then_ m = asks m spot.site act (pos 0) (λ v n. next (then_ v n))
 
 -- ---- indexes
 abbrev pub indexed : ℕ → ℕ → ℕ → ℤ → ℕ → Spot → At → Turn
-indexed i cells field (pos n) elements spot m = if nat_lt n elements then goes_on (set_int i (pos (n * cells + field)) m) else stops out_of_bounds spot
-indexed i cells field (negsuc n) elements spot m = stops out_of_bounds spot
+indexed i cells field (pos n) elements spot m = if nat_lt n elements then goes_on (set_int i (pos (n * cells + field)) m) else stops traps.IndexOutOfBounds spot
+indexed i cells field (negsuc n) elements spot m = stops traps.IndexOutOfBounds spot
 
 -- ---- what is taken
 abbrev pub kind_of : Use → TakeKind
@@ -227,7 +229,7 @@ called flat f ints refs m = record m {
 
 -- Back to the caller. A thread that holds no mutex goes past the last line: there it returns, and is then gone.
 abbrev pub returned : Flat → List Caller → Spot → At → Turn
-returned flat [] spot m = if not (nat_lt 0 (length (held_mutexes m.events))) then goes (record m { pc = length flat.lines }) else stops returns_with_a_lock spot
+returned flat [] spot m = if not (nat_lt 0 (length (held_mutexes m.events))) then goes (record m { pc = length flat.lines }) else stops traps.ReturnWithLockHeld spot
 returned flat (c ∷ rest) spot m = goes (record m { pc = c.pc; int_base = c.ints; ref_base = c.refs; frames = rest })
 
 -- ---- threads
@@ -249,12 +251,12 @@ op_turn flat (op.Negate width i a spot) m = with_result i spot m (negated width 
 op_turn flat (op.Complement i a) m = goes_on (set_int i (complement (int m a)) m)
 op_turn flat (op.IsFalse i a) m = goes_on (set_int i (truth (is_zero (int m a))) m)
 op_turn flat (op.SameReference i a b) m = goes_on (set_int i (truth (is_equal (ref m a) (ref m b))) m)
-op_turn flat (op.ChkWidth width i spot) m = asserts (holds width (int m i)) out_of_range spot m
+op_turn flat (op.ChkWidth width i spot) m = asserts (holds width (int m i)) traps.OutOfRange spot m
 op_turn flat (op.Skip n) m = goes (over_lines n m)
 op_turn flat (op.SkipIfZero i n) m = goes (if is_zero (int m i) then over_lines n m else next m)
 op_turn flat (op.SkipIfNull r n) m = goes (if is_null (ref m r) then over_lines n m else next m)
 op_turn flat (op.Jump to) m = goes (record m { pc = to })
-op_turn flat (op.Call f ints refs spot) m = if nat_lt (length m.frames) 255 then goes (called flat f ints refs m) else stops calls_too_deep spot
+op_turn flat (op.Call f ints refs spot) m = if nat_lt (length m.frames) 255 then goes (called flat f ints refs m) else stops traps.CallDepth spot
 op_turn flat (op.Return spot) m = returned flat m.frames spot m
 op_turn flat op.BlockEnd m = goes_on m
 op_turn flat (op.Null r) m = goes_on (set_ref r (pos 0) m)
@@ -262,11 +264,11 @@ op_turn flat (op.Local r x) m = goes_on (set_ref r (ref m x) m)
 op_turn flat (op.MoveReference r from) m = goes_on (moved r from m)
 op_turn flat (op.Pop r) m = goes_on (popped r m)
 op_turn flat (op.Settle x from) m = goes_on (settled x from m)
-op_turn flat (op.ChkNull r spot) m = asserts (not (is_null (ref m r))) null_base spot m
-op_turn flat (op.ChkPositive i spot) m = asserts (is_positive (int m i)) size_not_positive spot m
-op_turn flat (op.ChkHeld cell spot) m = asserts (holds_mutex m.events (cell_at flat.globals m cell)) mutex_not_held spot m
-op_turn flat (op.ChkNotHeld cell spot) m = asserts (not (holds_mutex m.events (cell_at flat.globals m cell))) mutex_already_held spot m
-op_turn flat (op.ChkRoom spot) m = asserts (nat_lt (length (held_mutexes m.events)) 16) too_many_locks spot m
+op_turn flat (op.ChkNull r spot) m = asserts (not (is_null (ref m r))) traps.NullPointer spot m
+op_turn flat (op.ChkPositive i spot) m = asserts (is_positive (int m i)) traps.SizeNotPositive spot m
+op_turn flat (op.ChkHeld cell spot) m = asserts (holds_mutex m.events (cell_at flat.globals m cell)) traps.MutexNotHeld spot m
+op_turn flat (op.ChkNotHeld cell spot) m = asserts (not (holds_mutex m.events (cell_at flat.globals m cell))) traps.MutexAlreadyHeld spot m
+op_turn flat (op.ChkRoom spot) m = asserts (nat_lt (length (held_mutexes m.events)) 16) traps.TooManyLocks spot m
 op_turn flat (op.Bounds i r cells field spot) m = indexed i cells field (int m i) (elements_of (ref m r)) spot m
 op_turn flat (op.GlobalBounds i elements cells field spot) m = indexed i cells field (int m i) elements spot m
 op_turn flat (op.Load i cell spot) m = accesses flat.globals cell spot acts.Read (λ c v. set_int i v) m

@@ -17,7 +17,7 @@ pub(crate) fn assert_fault(
         Ok(_) => panic!(rt; "read: {source:?}"),
         Err(ParseFault::Memory) => panic!(rt; "no memory"),
         Err(ParseFault::At(fault, tokens)) => {
-            assert_eq!(rt; fault.code, code, "{source:?}");
+            assert_eq!(rt; fault.code.digit(), code, "{source:?}");
             assert_eq!(rt; fault.text.as_slice(), text.as_bytes(), "{source:?}");
             assert_eq!(rt; fault.line, 1);
             assert_eq!(rt; fault.offset, 0);

@@ -22,7 +22,9 @@ pub(crate) fn read(
 pub(crate) fn program(rt: &(impl Abort + AllocGlobal), source: &[u8]) -> Result<Program, Fail> {
     match read(rt, source)? {
         Ok(program) => Ok(program),
-        Err(ParseFault::At(fault, _)) => panic!(rt; "P{} at line {}", fault.code, fault.line),
+        Err(ParseFault::At(fault, _)) => {
+            panic!(rt; "P{} at line {}", fault.code.digit(), fault.line)
+        }
         Err(ParseFault::Memory) => panic!(rt; "no memory"),
     }
 }

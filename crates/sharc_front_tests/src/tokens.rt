@@ -41,7 +41,7 @@ fn assert_fault(
         Ok(_) => panic!(rt; "read: {source:?}"),
         Err(LexFault::Memory) => panic!(rt; "no memory"),
         Err(LexFault::At(fault)) => {
-            assert_eq!(rt; fault.code, code, "{source:?}");
+            assert_eq!(rt; fault.code.digit(), code, "{source:?}");
             assert_eq!(rt; fault.offset, offset, "{source:?}");
             assert_eq!(rt; fault.file.as_slice(), file);
             assert_eq!(rt; fault.line, line);

@@ -2,6 +2,7 @@
 
 use sharc_ctype::typed::{TypeFault, Typed, type_program};
 use sharc_lex::lex;
+use sharc_names::fault::FaultCode;
 use sharc_parse::{ParseFault, parse};
 use sharc_tree::token::FaultAt;
 use std::alloc::{AllocError, Global};
@@ -26,14 +27,16 @@ fn answer(
             assert!(rt; program.items.len() <= 1_048_576);
             Ok(type_program(rt.alloc(), program))
         }
-        Err(ParseFault::At(fault, _)) => panic!(rt; "P{} at line {}", fault.code, fault.line),
+        Err(ParseFault::At(fault, _)) => {
+            panic!(rt; "P{} at line {}", fault.code.digit(), fault.line)
+        }
         Err(ParseFault::Memory) => panic!(rt; "no memory"),
     }
 }
 
 /// A fault as the tables write it: its line, its code, and the name that it reports, if it reports one.
-fn fault_text(alloc: Global, fault: &FaultAt) -> Result<Vec<u8>, AllocError> {
-    let place = format!(in alloc; "{}: C{}", fault.line, fault.code)?;
+fn fault_text(alloc: Global, fault: &FaultAt<FaultCode>) -> Result<Vec<u8>, AllocError> {
+    let place = format!(in alloc; "{}: C{}", fault.line, fault.code.digit())?;
     let mut text = Vec::from_slice(alloc, place.as_bytes())?;
     if !fault.text.is_empty() {
         text.push(b' ')?;
@@ -61,7 +64,10 @@ pub(crate) fn assert_typed(rt: &(impl Abort + AllocGlobal), source: &str) -> Res
 }
 
 /// The first fault of a source.
-pub(crate) fn refused(rt: &(impl Abort + AllocGlobal), source: &str) -> Result<FaultAt, Fail> {
+pub(crate) fn refused(
+    rt: &(impl Abort + AllocGlobal),
+    source: &str,
+) -> Result<FaultAt<FaultCode>, Fail> {
     match answer(rt, source.as_bytes())? {
         Ok(_) => panic!(rt; "typed: {source}"),
         Err(TypeFault::Memory) => panic!(rt; "no memory"),

@@ -3,6 +3,8 @@ use Rattle.std.proofs.Common.{◌≡◌, ℕ, ℤ, pos, negsuc, zero, suc, ◌+�
 use Rattle.std.specs.Option.{option_to_list}
 use Rattle.std.proofs.lemmas.List.{append-nil, length-append}
 use Rattle.sharc_tree.specs.declared.event.SourceEvent.{SourceEvent}
+use Rattle.sharc_tree.specs.declared.trap.Trap.{Trap}
+use Rattle.sharc_tree.specs.declared.trap.Trap.TheVariants as traps
 use Rattle.sharc_code.specs.declared.code.Function.{Function}
 use Rattle.sharc_code.specs.declared.instr.Cell.{Cell}
 use Rattle.sharc_code.specs.declared.instr.Cell.TheVariants.{Global, GlobalAt, Object as InObject, ObjectAt}
@@ -57,21 +59,21 @@ choice : (a : Thread) (low : List ℕ) (b : Bool) (t u : Turn) → Lowers a low 
 choice a low true t u h k = h
 choice a low false t u h k = k
 
-asserted : (a : Thread) (b : Bool) (code site : ℕ) → Lowers a [] (Form.asserts a b code site)
-asserted a true code site = (refl, kept a)
-asserted a false code site = tt
+asserted : (a : Thread) (b : Bool) (trap : Trap) (site : ℕ) → Lowers a [] (Form.asserts a b trap site)
+asserted a true trap site = (refl, kept a)
+asserted a false trap site = tt
 
-resulted : (a : Thread) (r site : ℕ) (q : Result ℤ ℕ) → Lowers a [] (Form.with_result a r site q)
+resulted : (a : Thread) (r site : ℕ) (q : Result ℤ Trap) → Lowers a [] (Form.with_result a r site q)
 resulted a r site (Ok z) = (refl, kept a)
 resulted a r site (Err code) = tt
 
 indexes : (a : Thread) (r : ℕ) (v : ℤ) (cells field site elements : ℕ) → Lowers a [] (Form.indexed a r v cells field site elements)
-indexes a r (pos i) cells field site elements = choice a [] (nat_lt i elements) (Form.goes (Form.set_int a r (pos (i * cells + field)))) (Halts (Form.Stopped 2 site)) (refl, kept a) tt
+indexes a r (pos i) cells field site elements = choice a [] (nat_lt i elements) (Form.goes (Form.set_int a r (pos (i * cells + field)))) (Halts (Form.Stopped traps.IndexOutOfBounds site)) (refl, kept a) tt
 indexes a r (negsuc i) cells field site elements = tt
 
 returns : (p : Program) (a : Thread) (site : ℕ) (frames : List Frame) → Lowers a [] (Form.returned p a site frames)
 returns p a site [] = (refl, kept a)
-returns p a site (f ∷ []) = choice a [] (nat_lt 0 (length a.held)) (Halts (Form.Stopped 11 site)) (Goes (Form.back_to a f [])) tt (refl, kept a)
+returns p a site (f ∷ []) = choice a [] (nat_lt 0 (length a.held)) (Halts (Form.Stopped traps.ReturnWithLockHeld site)) (Goes (Form.back_to a f [])) tt (refl, kept a)
 returns p a site (f ∷ g ∷ frames) = (refl, kept a)
 
 locks : (a : Thread) (b : Bool) (site : ℕ) (cell : Cell) (p : Program) → Lowers a [] (Form.lock_checked a b (cell_at p a cell) site)
@@ -102,16 +104,16 @@ step_lowers p (ComputeInt operator r x y site) a = resulted a r site (computed I
 step_lowers p (ComputeLong operator r x y site) a = resulted a r site (computed Long operator (int a x) (int a y))
 step_lowers p (NegateInt r x site) a = resulted a r site (negated Int (int a x))
 step_lowers p (NegateLong r x site) a = resulted a r site (negated Long (int a x))
-step_lowers p (ChkWidth width r site) a = asserted a (holds width (int a r)) 4 site
+step_lowers p (ChkWidth width r site) a = asserted a (holds width (int a r)) traps.OutOfRange site
 step_lowers p (JumpIfZero r pc) a = choice a [] (is_zero (int a r)) (Goes (Form.to a pc)) (Form.goes a) (refl, kept a) (refl, kept a)
 step_lowers p (JumpIfNull r pc) a = choice a [] (is_null (Form.ref a r)) (Goes (Form.to a pc)) (Form.goes a) (refl, kept a) (refl, kept a)
-step_lowers p (Call f ints refs site) a = choice a [] (nat_lt (length a.frames) 256) _ (Halts (Form.Stopped 10 site)) (refl, kept a) tt
+step_lowers p (Call f ints refs site) a = choice a [] (nat_lt (length a.frames) 256) _ (Halts (Form.Stopped traps.CallDepth site)) (refl, kept a) tt
 step_lowers p (Return site) a = returns p a site a.frames
-step_lowers p (ChkNull r site) a = asserted a (not (is_null (Form.ref a r))) 1 site
-step_lowers p (ChkHeld cell site) a = asserted a (is_held a.held (cell_at p a cell)) 5 site
-step_lowers p (ChkNotHeld cell site) a = asserted a (not (is_held a.held (cell_at p a cell))) 6 site
-step_lowers p (ChkPositive r site) a = asserted a (is_positive (int a r)) 12 site
-step_lowers p (ChkRoom site) a = asserted a (nat_lt (length a.held) 16) 13 site
+step_lowers p (ChkNull r site) a = asserted a (not (is_null (Form.ref a r))) traps.NullPointer site
+step_lowers p (ChkHeld cell site) a = asserted a (is_held a.held (cell_at p a cell)) traps.MutexNotHeld site
+step_lowers p (ChkNotHeld cell site) a = asserted a (not (is_held a.held (cell_at p a cell))) traps.MutexAlreadyHeld site
+step_lowers p (ChkPositive r site) a = asserted a (is_positive (int a r)) traps.SizeNotPositive site
+step_lowers p (ChkRoom site) a = asserted a (nat_lt (length a.held) 16) traps.TooManyLocks site
 step_lowers p (ChkLock cell site) a = locks a (is_of_null a cell) site cell p
 step_lowers p (ChkLockLoaded site) a = locks_loaded a (is_null a.pending) site
 step_lowers p (Bounds r base cells field site) a = indexes a r (int a r) cells field site (elements_of (Form.ref a base))

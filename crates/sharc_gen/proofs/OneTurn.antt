@@ -1,6 +1,7 @@
 -- One turn of code beside guarded code, whatever the statement is.
 use Rattle.std.proofs.Common.{◌≡◌, ℕ, zero, suc, ◌+◌, ◌^◌, ◌<◌, ◌≤◌, true, false, not, ◌==◌, List, length, refl, sym, ap, ◌∙◌, subst, arith, nat_lt, None}
 use Rattle.sharc_tree.specs.declared.event.Act.TheVariants as acts
+use Rattle.sharc_tree.specs.declared.trap.Trap.TheVariants as traps
 use Rattle.sharc_shadow.specs.declared.shadow_word.Kind.TheVariants as kinds
 use Rattle.sharc_granule.specs.State.{NewView}
 use Rattle.sharc_code.specs.declared.code.Code.{Code}
@@ -224,7 +225,7 @@ module _ (code : Code) (s : Shape) (statements : List Instr) (good : IsGuarded (
           Single.writes_int code s statements T m a cost one rest same pc running fi fr int_ok ref_ok r (truth (ref m x == ref m y)) _
           (Single.same_reference code s statements T m a cost one rest same pc running fi fr int_ok ref_ok x y) k.writes
       single (ChkWidth width r site) one_turn is k finds quiet tried =
-          Single.is_asserted code s statements T m a cost one rest same pc running fi fr int_ok ref_ok (holds width (int m r)) (holds width (Form.int a r)) 4 site (ap (holds width) (int_is code s T m a same r)) (ap (λ i. step p i a) is)
+          Single.is_asserted code s statements T m a cost one rest same pc running fi fr int_ok ref_ok (holds width (int m r)) (holds width (Form.int a r)) traps.OutOfRange site (ap (holds width) (int_is code s T m a same r)) (ap (λ i. step p i a) is)
       single (Jump to) one_turn is k finds quiet tried = Single.jumps code s statements T m a cost one rest same pc running fi fr int_ok ref_ok to
       single (JumpIfZero r to) one_turn is k finds quiet tried = Single.jumps_if code s statements T m a cost one rest same pc running fi fr int_ok ref_ok (is_zero (int m r)) (is_zero (Form.int a r)) to (ap is_zero (int_is code s T m a same r))
       single (JumpIfNull r to) one_turn is k finds quiet tried = Single.jumps_if code s statements T m a cost one rest same pc running fi fr int_ok ref_ok (ref m r == 0) (is_null (Form.ref a r)) to (null_at code s T m a same r)
@@ -232,17 +233,17 @@ module _ (code : Code) (s : Shape) (statements : List Instr) (good : IsGuarded (
           Calling.calls code s statements T m a cost one rest same pc running f ints refs site w.few (call_ints ints k.writes.0) (call_refs refs k.writes.1) (ap (λ i. step p i a) is)
       single (Return site) one_turn is k finds quiet tried = Calling.returns code s statements T m a cost one rest same pc running site w.some (ap (λ i. step p i a) is)
       single (ChkNull r site) one_turn is k finds quiet tried =
-          Single.is_asserted code s statements T m a cost one rest same pc running fi fr int_ok ref_ok (not (ref m r == 0)) (not (is_null (Form.ref a r))) 1 site (ap not (null_at code s T m a same r)) (ap (λ i. step p i a) is)
+          Single.is_asserted code s statements T m a cost one rest same pc running fi fr int_ok ref_ok (not (ref m r == 0)) (not (is_null (Form.ref a r))) traps.NullPointer site (ap not (null_at code s T m a same r)) (ap (λ i. step p i a) is)
       single (ChkHeld cell site) one_turn is k finds quiet tried =
-          Single.is_asserted code s statements T m a cost one rest same pc running fi fr int_ok ref_ok _ (Form.is_held a.held (Form.cell_at p a cell)) 5 site
+          Single.is_asserted code s statements T m a cost one rest same pc running fi fr int_ok ref_ok _ (Form.is_held a.held (Form.cell_at p a cell)) traps.MutexNotHeld site
           (Single.mutex_held code s statements T m a cost one rest same pc running fi fr int_ok ref_ok good.apart cell finds) (ap (λ i. step p i a) is)
       single (ChkNotHeld cell site) one_turn is k finds quiet tried =
-          Single.is_asserted code s statements T m a cost one rest same pc running fi fr int_ok ref_ok _ (not (Form.is_held a.held (Form.cell_at p a cell))) 6 site
+          Single.is_asserted code s statements T m a cost one rest same pc running fi fr int_ok ref_ok _ (not (Form.is_held a.held (Form.cell_at p a cell))) traps.MutexAlreadyHeld site
           (ap not (Single.mutex_held code s statements T m a cost one rest same pc running fi fr int_ok ref_ok good.apart cell finds)) (ap (λ i. step p i a) is)
       single (ChkPositive r site) one_turn is k finds quiet tried =
-          Single.is_asserted code s statements T m a cost one rest same pc running fi fr int_ok ref_ok (is_positive (int m r)) (is_positive (Form.int a r)) 12 site (ap is_positive (int_is code s T m a same r)) (ap (λ i. step p i a) is)
+          Single.is_asserted code s statements T m a cost one rest same pc running fi fr int_ok ref_ok (is_positive (int m r)) (is_positive (Form.int a r)) traps.SizeNotPositive site (ap is_positive (int_is code s T m a same r)) (ap (λ i. step p i a) is)
       single (ChkRoom site) one_turn is k finds quiet tried =
-          Single.is_asserted code s statements T m a cost one rest same pc running fi fr int_ok ref_ok (nat_lt (length m.own.held) 16) (nat_lt (length a.held) 16) 13 site
+          Single.is_asserted code s statements T m a cost one rest same pc running fi fr int_ok ref_ok (nat_lt (length m.own.held) 16) (nat_lt (length a.held) 16) traps.TooManyLocks site
           (ap (λ n. nat_lt n 16) (log_length _ _ a.held m.own.held same.in_log)) (ap (λ i. step p i a) is)
       single (ChkLock cell site) one_turn is k finds quiet tried =
           Single.locks_checked code s statements T m a cost one rest same pc running fi fr int_ok ref_ok good.apart (is_of_null m cell) (Form.is_of_null a cell) (object m cell) (place m cell) (Form.cell_at p a cell) site (null_cell code s T m a same cell)

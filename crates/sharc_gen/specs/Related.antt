@@ -3,6 +3,8 @@ use Rattle.std.specs.Prelude.{ℕ, ℤ, pos, ◌≡◌, ◌+◌, ◌*◌, ◌<�
 use Rattle.sharc_tree.specs.declared.event.Object.{Object}
 use Rattle.sharc_tree.specs.declared.event.Object.TheVariants as objects
 use Rattle.sharc_tree.specs.declared.event.CellAt.{CellAt}
+use Rattle.sharc_tree.specs.declared.trap.Trap.{Trap}
+use Rattle.sharc_tree.specs.declared.trap.Trap.TheVariants as traps
 use Rattle.sharc_granule.specs.declared.stage.Stage.{Stage as NewStage}
 use Rattle.sharc_granule.specs.declared.stage.Stage.TheVariants.{Cell, Move as Moves, Count, Length, Made}
 use Rattle.sharc_locks.specs.declared.held_log.HeldMutex.{HeldMutex}
@@ -17,7 +19,7 @@ use Rattle.sharc_code.specs.declared.state.State.TheVariants.{Runs, Tries, Stopp
 use Rattle.sharc_code.specs.declared.state.Stage.{Stage}
 use Rattle.sharc_code.specs.declared.state.Stage.TheVariants.{Rests, Looks, Clears, Makes, Empties, Lowers, FreeLooks, FreeClears, Uncounts, Links, Names, Hands, Begins, Enters, Withdraws, WithdrawsFrom, Leaves, Wakes}
 use Rattle.sharc_code.specs.declared.state.Stop.{Stop}
-use Rattle.sharc_code.specs.declared.state.Stop.TheVariants.{Conflict, NoLock, NotSole, Trap}
+use Rattle.sharc_code.specs.declared.state.Stop.TheVariants.{Conflict, NoLock, NotSole, Trap as Trapped}
 use Rattle.sharc_code.specs.declared.state.TheConstants.{FRAMES}
 use Rattle.sharc_code.specs.Layout.{first_cell, cell_of}
 use Rattle.sharc_code.specs.Machine.{Machine, int, no_frame, elements_of, freed, layout_at}
@@ -161,12 +163,12 @@ phase_of Tries stage = phase_at stage
 phase_of Stopped stage = phase_at stage
 
 -- ---- stops
--- the statement asks for an event that the world may refuse by this X: a Join, a Spawn, a New
-abbrev pub Refuses : Instr → ℕ → ℕ → Type 0
-Refuses (Join r at) code site = (code ≡ 7) × (site ≡ at)
-Refuses (Spawn r function from at) code site = (code ≡ 8) × (site ≡ at)
-Refuses (New r count cells at) code site = (code ≡ 9) × (site ≡ at)
-Refuses _ code site = ⊥
+-- the statement asks for an event that the world may refuse by this trap: a Join, a Spawn, a New
+abbrev pub Refuses : Instr → Trap → ℕ → Type 0
+Refuses (Join r at) trap site = (trap ≡ traps.NoSuchThread) × (site ≡ at)
+Refuses (Spawn r function from at) trap site = (trap ≡ traps.ThreadLimit) × (site ≡ at)
+Refuses (New r count cells at) trap site = (trap ≡ traps.HeapFull) × (site ≡ at)
+Refuses _ trap site = ⊥
 
 -- the next statement checks this, at this site
 pub record ChecksNext (p : Program) (a : Thread) (check : Check) (site : ℕ) : Type 0 where
@@ -177,7 +179,7 @@ abbrev pub StopsAt : Program → Thread → Stop → Type 0
 StopsAt p a (Conflict c) = (cell : CellAt) × ChecksNext p a (Accesses c.kind cell) c.site
 StopsAt p a (NoLock site mutex) = (cell : CellAt) × ChecksNext p a (Locks cell) site × (is_held a.held cell ≡ false)
 StopsAt p a (NotSole site count) = (v : ℤ) × ChecksNext p a (IsSole v) site
-StopsAt p a (Trap code site) = (turn p a ≡ Form.Halts (Form.Stopped code site)) ⊎ Refuses (statement_at p a.pc) code site
+StopsAt p a (Trapped trap site) = (turn p a ≡ Form.Halts (Form.Stopped trap site)) ⊎ Refuses (statement_at p a.pc) trap site
 
 -- where the machine is over, guarded code is
 abbrev pub IsOver : Program → Thread → State → Option Stop → Type 0

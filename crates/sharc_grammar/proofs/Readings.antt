@@ -11,6 +11,7 @@ use Rattle.sharc_grammar.specs.Limits.{height, highest, line_nesting, nesting, d
 use Rattle.sharc_grammar.specs.Machine.{Read, reads, first_state}
 use Rattle.sharc_grammar.specs.Places.{Reads, site_in, items_at, size, sentence_size, expression_at, arguments_at, front_at, statement_at, statements_at, under_at, line_at, function_at}
 use Rattle.sharc_grammar.specs.Faults.{IsFault, wrong_code}
+use Rattle.sharc_grammar.specs.declared.fault.GrammarFault.TheVariants.{Deep}
 use Rattle.sharc_grammar.proofs.Whole.{only}
 use Rattle.sharc_grammar.proofs.WithinLaws.{first_wrong, first_excess}
 
@@ -99,7 +100,7 @@ wrong_at all rest n is e =
     let p = in_front all f.before rest n is f.whole in
     record { there = p.3; begins = subst BeginsWithin (sym p.1) f.begins; ends = inl (ap wrong_code (sym p.2), rw (p.1, p.2) f.ends) }
 
-pub excess_at : (all rest : List Word) (n : ℕ) → n ≡ length all - length rest → reads_within all first_state ≡ Over rest → IsFault all 2 n
+pub excess_at : (all rest : List Word) (n : ℕ) → n ≡ length all - length rest → reads_within all first_state ≡ Over rest → IsFault all Deep n
 excess_at all rest n is e =
     let f = first_excess all rest e in
     let p = in_front all f.before rest n is f.whole in

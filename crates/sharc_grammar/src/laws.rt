@@ -18,6 +18,7 @@ ghost use Rattle.sharc_grammar.specs.Limits.{height, deepest, LowProgram, ReadWi
 ghost use Rattle.sharc_grammar.specs.Machine.{Read, Stuck, reads, first_state};
 ghost use Rattle.sharc_grammar.specs.Places.{Reads, expression_at, function_at};
 ghost use Rattle.sharc_grammar.specs.Faults.{IsFault, wrong_code};
+ghost use Rattle.sharc_grammar.specs.declared.fault.GrammarFault.TheVariants.{Deep};
 
 /// The machine reads each program of the grammar: so no two programs have the same words.
 pub fn reads_each_program()
@@ -76,7 +77,7 @@ pub fn stuck_at_fault()
 
 /// Where it is over a limit after n words, n is the first fault, and P2.
 pub fn over_at_fault()
-    ensures { (all : List Word) → (rest : List Word) → (n : ℕ) → n ≡ length all - length rest → reads_within all first_state ≡ Over rest → IsFault all 2 n }
+    ensures { (all : List Word) → (rest : List Word) → (n : ℕ) → n ≡ length all - length rest → reads_within all first_state ≡ Over rest → IsFault all Deep n }
 {}
 
 /// A program that is read is within the limits, and in the forms of the grammar.

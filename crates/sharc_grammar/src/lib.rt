@@ -5,4 +5,5 @@
 // reads_within a parser follows. The laws of src/laws say that the machine reads exactly the programs, and where it stops.
 #![tactic(auto)]
 
+pub mod fault;
 pub mod laws;

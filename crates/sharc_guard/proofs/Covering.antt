@@ -11,6 +11,8 @@ use Rattle.sharc_tree.specs.declared.event.CellMode.TheVariants as modes
 use Rattle.sharc_tree.specs.declared.event.Object.TheVariants as objects
 use Rattle.sharc_tree.specs.declared.event.SourceEvent.{SourceEvent}
 use Rattle.sharc_tree.specs.declared.event.Taken.TheVariants as taken
+use Rattle.sharc_tree.specs.declared.trap.Trap.{Trap}
+use Rattle.sharc_tree.specs.declared.trap.Trap.TheVariants as traps
 use Rattle.sharc_shadow.specs.declared.shadow_word.Kind.{Kind}
 use Rattle.sharc_shadow.specs.declared.shadow_word.Kind.TheVariants.{Read, Write}
 use Rattle.sharc_code.specs.declared.code.Function.{Function}
@@ -364,18 +366,18 @@ module _ (flat : Flat) (from : At) where
     self n = eq_same n n refl
 
     -- ---- what a turn leads to, where it may go on
-    of_result : (i : ℕ) (spot : Spot) (z : Result ℤ ℕ) → may_go (with_result i spot m z) ≡ true → (v : ℤ) × (after m (with_result i spot m z) x ≡ next (set_int i v m))
+    of_result : (i : ℕ) (spot : Spot) (z : Result ℤ Trap) → may_go (with_result i spot m z) ≡ true → (v : ℤ) × (after m (with_result i spot m z) x ≡ next (set_int i v m))
     of_result i spot (Ok v) e = (v, refl)
     of_result i spot (Err c) e = false_true e
 
-    of_assert : (b : Bool) (code : ℕ) (spot : Spot) → may_go (asserts b code spot m) ≡ true → after m (asserts b code spot m) x ≡ next m
-    of_assert true code spot e = refl
-    of_assert false code spot e = false_true e
+    of_assert : (b : Bool) (trap : Trap) (spot : Spot) → may_go (asserts b trap spot m) ≡ true → after m (asserts b trap spot m) x ≡ next m
+    of_assert true trap spot e = refl
+    of_assert false trap spot e = false_true e
 
     of_index : (i cells field elements : ℕ) (spot : Spot) (z : ℤ) → may_go (indexed i cells field z elements spot m) ≡ true → (n : ℕ) × (z ≡ pos n) × (after m (indexed i cells field z elements spot m) x ≡ next (set_int i (pos (n * cells + field)) m))
     of_index i cells field elements spot (pos n) e = by (nat_lt n elements) e
       where
-        by : (b : Bool) → may_go (cond b (goes_on (set_int i (pos (n * cells + field)) m)) (stops 2 spot)) ≡ true → (j : ℕ) × (pos n ≡ pos j) × (after m (cond b (goes_on (set_int i (pos (n * cells + field)) m)) (stops 2 spot)) x ≡ next (set_int i (pos (j * cells + field)) m))
+        by : (b : Bool) → may_go (cond b (goes_on (set_int i (pos (n * cells + field)) m)) (stops traps.IndexOutOfBounds spot)) ≡ true → (j : ℕ) × (pos n ≡ pos j) × (after m (cond b (goes_on (set_int i (pos (n * cells + field)) m)) (stops traps.IndexOutOfBounds spot)) x ≡ next (set_int i (pos (j * cells + field)) m))
         by true e = (n, refl, refl)
         by false e = false_true e
     of_index i cells field elements spot (negsuc n) e = false_true e
@@ -390,7 +392,7 @@ module _ (flat : Flat) (from : At) where
         wants : Turn
         wants = asks m spot.site (act c (mode_of flat.globals m c spot.mode)) (pos 0) (λ v n. accessed (next (next_of c v n)))
 
-        by : (b : Bool) → may_go (cond b (stops 1 spot) wants) ≡ true → (v : ℤ) × (e : SourceEvent) × (after m (cond b (stops 1 spot) wants) x ≡ accessed (next (next_of c v (with_event e m))))
+        by : (b : Bool) → may_go (cond b (stops traps.NullPointer spot) wants) ≡ true → (v : ℤ) × (e : SourceEvent) × (after m (cond b (stops traps.NullPointer spot) wants) x ≡ accessed (next (next_of c v (with_event e m))))
         by true e = false_true e
         by false e = (_, _, refl)
 
@@ -399,7 +401,7 @@ module _ (flat : Flat) (from : At) where
     makes_access cell spot act next_of kind a d other h =
         let c = cell_at flat.globals m cell in
         let e = dynamic_is spot.mode d in
-        subst (λ b. Makes (cond b (stops 1 spot) (asks m spot.site (act c (mode_of flat.globals m c spot.mode)) (pos 0) (λ v n. accessed (next (next_of c v n))))) other c) (sym (ap (lock_is_null m spot) e))
+        subst (λ b. Makes (cond b (stops traps.NullPointer spot) (asks m spot.site (act c (mode_of flat.globals m c spot.mode)) (pos 0) (λ v n. accessed (next (next_of c v n))))) other c) (sym (ap (lock_is_null m spot) e))
         (kind, h, subst (λ z. IsAccess kind c (act c z)) (sym (ap (mode_of flat.globals m c) e)) a)
 
     -- the same of the access that an operation has
@@ -469,8 +471,8 @@ module _ (flat : Flat) (from : At) where
         o : Op
         o = op.Call f i r spot
 
-        by : (b : Bool) → nat_lt (length m.frames) 255 ≡ b → may_go (cond b (goes (called flat f i r m)) (stops 10 spot)) ≡ true → Stepped x earlier o
-        by true e g = goes_away o a (called flat f i r m) (ap (λ b. after m (cond b (goes (called flat f i r m)) (stops 10 spot)) x) e) (inl (entry_blank f)) (after_end m.pc o a refl, fr)
+        by : (b : Bool) → nat_lt (length m.frames) 255 ≡ b → may_go (cond b (goes (called flat f i r m)) (stops traps.CallDepth spot)) ≡ true → Stepped x earlier o
+        by true e g = goes_away o a (called flat f i r m) (ap (λ b. after m (cond b (goes (called flat f i r m)) (stops traps.CallDepth spot)) x) e) (inl (entry_blank f)) (after_end m.pc o a refl, fr)
         by false e g = false_true g
     steps (op.Return spot) a go = by m.frames refl fr go
       where
@@ -480,10 +482,10 @@ module _ (flat : Flat) (from : At) where
         by : (cs : List Caller) → m.frames ≡ cs → Blank cs → may_go (returned flat cs spot m) ≡ true → Stepped x earlier o
         by [] e f g = end (nat_lt 0 (length (held_mutexes m.events))) refl g
           where
-            end : (b : Bool) → nat_lt 0 (length (held_mutexes m.events)) ≡ b → may_go (cond (not b) (goes (record m { pc = length flat.lines })) (stops 11 spot)) ≡ true → Stepped x earlier o
+            end : (b : Bool) → nat_lt 0 (length (held_mutexes m.events)) ≡ b → may_go (cond (not b) (goes (record m { pc = length flat.lines })) (stops traps.ReturnWithLockHeld spot)) ≡ true → Stepped x earlier o
             end true eb g = false_true g
             end false eb g = goes_away o a (record m { pc = length flat.lines })
-                (ap (λ cs. after m (returned flat cs spot m) x) e ∙ ap (λ b. after m (cond (not b) (goes (record m { pc = length flat.lines })) (stops 11 spot)) x) eb) (inr (omega arith)) fr
+                (ap (λ cs. after m (returned flat cs spot m) x) e ∙ ap (λ b. after m (cond (not b) (goes (record m { pc = length flat.lines })) (stops traps.ReturnWithLockHeld spot)) x) eb) (inr (omega arith)) fr
         by (c ∷ rest) e f g = goes_away o a (record m { pc = c.pc; int_base = c.ints; ref_base = c.refs; frames = rest }) (ap (λ cs. after m (returned flat cs spot m) x) e) (inl f.0) f.1
     steps (op.Null r) a go = ref_at (op.Null r) a (next (set_ref r (pos 0) m)) refl refl refl refl refl refl refl r (pos 0) refl refl (λ k. refl) (λ k. refl) (λ y c. no_some y c)
     steps (op.Local r y) a go = ref_at (op.Local r y) a (next (set_ref r (ref m y) m)) refl refl refl refl refl refl refl r (ref m y) refl refl (λ k. refl) (λ k. refl)

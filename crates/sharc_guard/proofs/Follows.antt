@@ -10,6 +10,8 @@ use Rattle.sharc_tree.specs.declared.event.Taken.TheVariants as takens
 use Rattle.sharc_tree.specs.declared.event.CellAt.{CellAt}
 use Rattle.sharc_tree.specs.declared.event.CellMode.{CellMode}
 use Rattle.sharc_tree.specs.declared.event.SourceEvent.{SourceEvent}
+use Rattle.sharc_tree.specs.declared.trap.Trap.{Trap}
+use Rattle.sharc_tree.specs.declared.trap.Trap.TheVariants as traps
 use Rattle.sharc_code.specs.declared.code.Function.{Function}
 use Rattle.sharc_code.specs.declared.code.SourcePlace.{SourcePlace}
 use Rattle.sharc_code.specs.declared.instr.Width.{Width}
@@ -121,7 +123,7 @@ module _ (dropped : ℕ → Bool) (flat : Flat.Flat) where
   abbrev pub Follow : Flat.Turn → Turn → Type 0
   Follow (goes m2) (Goes b) = Near m2 b
   Follow (asks m2 site act held f) (Asks site' act' go) = (site' ≡ site) × (act' ≡ act) × ((x : ℤ) → (y : ℤ) × Near (after m2 (asks m2 site act held f) y) (go x))
-  Follow (halts o) (Halts (Stopped code site)) = o ≡ stopped code (source_at g site).site
+  Follow (halts o) (Halts (Stopped trap site)) = o ≡ stopped trap (source_at g site).site
   Follow (halts o) (Halts Form.Ended) = o ≡ ended
   Follow _ _ = ⊥
 
@@ -141,7 +143,7 @@ module _ (dropped : ℕ → Bool) (flat : Flat.Flat) where
           ((x : ℤ) → (y : ℤ) × Near (Flat.accessed (Flat.next (then_ (Flat.cell_at flat.globals m cell) (answer_of (λ token. pos 0) act y) (Flat.with_event (event_of spot.site act (answer_of (λ token. pos 0) act y)) m)))) (go x (Form.told me spot.site act (answering x))))
           → Follow (Flat.accesses flat.globals cell spot of then_ m) (Form.access g me n cell of answering go)
       accessed cell of then_ answering go free k =
-          subst (λ b. Follow (if b then Flat.stops 1 spot else asks m spot.site (of (Flat.cell_at flat.globals m cell) (Flat.mode_of flat.globals m (Flat.cell_at flat.globals m cell) spot.mode)) (pos 0) (λ v n. Flat.accessed (Flat.next (then_ (Flat.cell_at flat.globals m cell) v n)))) (Form.access g me n cell of answering go)) (sym free)
+          subst (λ b. Follow (if b then Flat.stops traps.NullPointer spot else asks m spot.site (of (Flat.cell_at flat.globals m cell) (Flat.mode_of flat.globals m (Flat.cell_at flat.globals m cell) spot.mode)) (pos 0) (λ v n. Flat.accessed (Flat.next (then_ (Flat.cell_at flat.globals m cell) v n)))) (Form.access g me n cell of answering go)) (sym free)
           (subst (λ sp. Follow (asks m spot.site (of (Flat.cell_at flat.globals m cell) (Flat.mode_of flat.globals m (Flat.cell_at flat.globals m cell) spot.mode)) (pos 0) (λ v n. Flat.accessed (Flat.next (then_ (Flat.cell_at flat.globals m cell) v n))))
           (Form.asks me sp.site (of (Form.cell_at g me cell) (Form.mode_of g me (Form.cell_at g me cell) sp.mode)) answering go)) (sym s) (refl, act_is, λ x. (k x)))
         where
@@ -166,21 +168,21 @@ module _ (dropped : ℕ → Bool) (flat : Flat.Flat) where
       quiet : (m2 : Flat.At) (ev : SourceEvent) → m2.events ≡ m.events ++ ev ∷ [] → locked_by ev.act ≡ None → unlocked_by ev.act ≡ None → m2.pc ≡ m.pc + 1 → m2.given ≡ [] → Callers m2.frames → Near m2 (record (image at m2 (q + 1) []) { held = held_mutexes m.events })
       quiet m2 ev ee l u epc eg cs = near m2 [] (held_mutexes m.events) (sym (ap held_mutexes ee ∙ quiet_held m.events ev l u)) epc (subst (λ gs. Resolved gs []) (sym eg) tt) cs
 
-      asserted : (b : Bool) (c n : ℕ) (spot : Spot) → spot.site ≡ (source_at g n).site → Follow (Flat.asserts b c spot m) (Form.asserts me b c n)
+      asserted : (b : Bool) (c : Trap) (n : ℕ) (spot : Spot) → spot.site ≡ (source_at g n).site → Follow (Flat.asserts b c spot m) (Form.asserts me b c n)
       asserted true c n spot s = plain (Flat.next m) refl refl refl calls
       asserted false c n spot s = ap (stopped c) s
 
-      results : (i n : ℕ) (spot : Spot) (z : Result ℤ ℕ) → spot.site ≡ (source_at g n).site → Follow (Flat.with_result i spot m z) (Form.with_result me i n z)
+      results : (i n : ℕ) (spot : Spot) (z : Result ℤ Trap) → spot.site ≡ (source_at g n).site → Follow (Flat.with_result i spot m z) (Form.with_result me i n z)
       results i n spot (Ok v) s = plain (Flat.next (Flat.set_int i v m)) refl refl refl calls
       results i n spot (Err c) s = ap (stopped c) s
 
       indexes : (i cells field n : ℕ) (z : ℤ) (elements : ℕ) (spot : Spot) → spot.site ≡ (source_at g n).site → Follow (Flat.indexed i cells field z elements spot m) (Form.indexed me i z cells field n elements)
       indexes i cells field n (pos k) elements spot s = each (nat_lt k elements)
         where
-          each : (b : Bool) → Follow (if b then Flat.goes_on (Flat.set_int i (pos (k * cells + field)) m) else Flat.stops 2 spot) (if b then Form.goes (Form.set_int me i (pos (k * cells + field))) else Halts (Stopped 2 n))
+          each : (b : Bool) → Follow (if b then Flat.goes_on (Flat.set_int i (pos (k * cells + field)) m) else Flat.stops traps.IndexOutOfBounds spot) (if b then Form.goes (Form.set_int me i (pos (k * cells + field))) else Halts (Stopped traps.IndexOutOfBounds n))
           each true = plain (Flat.next (Flat.set_int i (pos (k * cells + field)) m)) refl refl refl calls
-          each false = ap (stopped 2) s
-      indexes i cells field n (negsuc k) elements spot s = ap (stopped 2) s
+          each false = ap (stopped traps.IndexOutOfBounds) s
+      indexes i cells field n (negsuc k) elements spot s = ap (stopped traps.IndexOutOfBounds) s
 
     -- ---- what the operations of one statement and of two do
     abbrev pub Bodied : Op → Option Instr → Type 0
@@ -213,9 +215,9 @@ module _ (dropped : ℕ → Bool) (flat : Flat.Flat) where
         one_less n = grind (arith, nat_tests)
 
     called : (ok : IsFlat flat) (f ints refs : ℕ) (spot : Spot) → f < length flat.functions → q + 1 ≡ at (m.pc + 1) → m.pc + 1 < length flat.lines → spot.site ≡ (source_at g m.pc).site
-        → Follow (if nat_lt (length m.frames) 255 then goes (Flat.called flat f ints refs m) else Flat.stops 10 spot) (Form.called g me f ints refs m.pc)
+        → Follow (if nat_lt (length m.frames) 255 then goes (Flat.called flat f ints refs m) else Flat.stops traps.CallDepth spot) (Form.called g me f ints refs m.pc)
     called ok f ints refs spot lf e lt s =
-        subst (λ b. Follow (if nat_lt (length m.frames) 255 then goes (Flat.called flat f ints refs m) else Flat.stops 10 spot) (if b then Goes inner else Halts (Stopped 10 m.pc))) (sym depth_is) (each (nat_lt (length m.frames) 255))
+        subst (λ b. Follow (if nat_lt (length m.frames) 255 then goes (Flat.called flat f ints refs m) else Flat.stops traps.CallDepth spot) (if b then Goes inner else Halts (Stopped traps.CallDepth m.pc))) (sym depth_is) (each (nat_lt (length m.frames) 255))
       where
         inner : Thread
         inner = record me {
@@ -233,7 +235,7 @@ module _ (dropped : ℕ → Bool) (flat : Flat.Flat) where
           frames = record { pc = y; ints = m.int_base; refs = m.ref_base } ∷ me.frames;
         }
 
-        each : (b : Bool) → Follow (if b then goes (Flat.called flat f ints refs m) else Flat.stops 10 spot) (if b then Goes inner else Halts (Stopped 10 m.pc))
+        each : (b : Bool) → Follow (if b then goes (Flat.called flat f ints refs m) else Flat.stops traps.CallDepth spot) (if b then Goes inner else Halts (Stopped traps.CallDepth m.pc))
         each true = inl (record {
           lowered = L;
           is = ap (λ x. placed x (q + 1)) (entry_is f lf) ∙ ap (placed (at (Flat.function_of flat f).entry)) e;
@@ -241,13 +243,13 @@ module _ (dropped : ℕ → Bool) (flat : Flat.Flat) where
           inside = ok.entries f lf;
           callers = (lt, calls);
         })
-        each false = ap (stopped 10) s
+        each false = ap (stopped traps.CallDepth) s
 
     returns : (spot : Spot) (fs : List Flat.Caller) → m.frames ≡ fs → Callers fs → spot.site ≡ (source_at g m.pc).site → Follow (Flat.returned flat fs spot m) (Form.returned g me m.pc (map (moved at) fs ++ bottom ∷ []))
     returns spot [] e cs s = each (nat_lt 0 (length (held_mutexes m.events)))
       where
-        each : (b : Bool) → Follow (if not b then goes (record m { pc = length flat.lines }) else Flat.stops 11 spot) (if b then Halts (Stopped 11 m.pc) else Goes (Form.back_to me bottom []))
-        each true = ap (stopped 11) s
+        each : (b : Bool) → Follow (if not b then goes (record m { pc = length flat.lines }) else Flat.stops traps.ReturnWithLockHeld spot) (if b then Halts (Stopped traps.ReturnWithLockHeld m.pc) else Goes (Form.back_to me bottom []))
+        each true = ap (stopped traps.ReturnWithLockHeld) s
         each false = inr (inr (record { steps = 0; pc_is = omega arith; statement = refl; phase_is = refl; function_is = refl; events = refl; resolved = res }))
     returns spot (c ∷ []) e cs s = inl (record { lowered = L; is = refl; resolved = res; inside = cs.0; callers = tt })
     returns spot (c ∷ d ∷ ds) e cs s = inl (record { lowered = L; is = refl; resolved = res; inside = cs.0; callers = cs.1 })
@@ -467,7 +469,7 @@ module _ (dropped : ℕ → Bool) (flat : Flat.Flat) where
       follows (op.Complement i a) s lead e has un = plain (omega arith) lead (Flat.next (Flat.set_int i _ m)) refl refl refl calls
       follows (op.IsFalse i a) s lead e has un = plain (omega arith) lead (Flat.next (Flat.set_int i _ m)) refl refl refl calls
       follows (op.SameReference i a b) s lead e has un = plain (omega arith) lead (Flat.next (Flat.set_int i _ m)) refl refl refl calls
-      follows (op.ChkWidth width i spot) s lead e has un = asserted (omega arith) lead _ 4 m.pc spot (site_of (op.ChkWidth width i spot) spot s refl)
+      follows (op.ChkWidth width i spot) s lead e has un = asserted (omega arith) lead _ traps.OutOfRange m.pc spot (site_of (op.ChkWidth width i spot) spot s refl)
       follows (op.Skip k) s lead e has un = jumped (m.pc + 1 + k) lead
       follows (op.SkipIfZero i k) s lead e has un = chosen _ (Flat.over_lines k m) (Flat.next m) (Form.to me (at (m.pc + 1 + k))) (Form.next me) (jumped (m.pc + 1 + k) lead.0) (plain (omega arith) lead.1 (Flat.next m) refl refl refl calls)
       follows (op.SkipIfNull r k) s lead e has un = chosen _ (Flat.over_lines k m) (Flat.next m) (Form.to me (at (m.pc + 1 + k))) (Form.next me) (jumped (m.pc + 1 + k) lead.0) (plain (omega arith) lead.1 (Flat.next m) refl refl refl calls)
@@ -479,13 +481,13 @@ module _ (dropped : ℕ → Bool) (flat : Flat.Flat) where
       follows (op.MoveReference r from) s lead e has un = plain (omega arith) lead (Flat.next (Flat.moved r from m)) refl refl refl calls
       follows (op.Pop r) s lead e has un = near (omega arith) lead (Flat.next (Flat.popped r m)) (L ++ number_of (Flat.ref m r) ∷ []) (held_mutexes m.events) refl refl (resolved_push m.given L (number_of (Flat.ref m r)) res) calls
       follows (op.Settle x from) s lead e has un = settles (omega arith) lead.1 x from lead.0 has
-      follows (op.ChkNull r spot) s lead e has un = asserted (omega arith) lead _ 1 m.pc spot (site_of (op.ChkNull r spot) spot s refl)
+      follows (op.ChkNull r spot) s lead e has un = asserted (omega arith) lead _ traps.NullPointer m.pc spot (site_of (op.ChkNull r spot) spot s refl)
       follows (op.ChkPositive i spot) s lead e has un =
-          subst (λ b. Follow (Flat.asserts b 12 spot m) (Form.asserts me (is_positive (Flat.int m i)) 12 m.pc)) (positive_same (Flat.int m i))
-          (asserted (omega arith) lead (is_positive (Flat.int m i)) 12 m.pc spot (site_of (op.ChkPositive i spot) spot s refl))
-      follows (op.ChkHeld cell spot) s lead e has un = asserted (omega arith) lead _ 5 m.pc spot (site_of (op.ChkHeld cell spot) spot s refl)
-      follows (op.ChkNotHeld cell spot) s lead e has un = asserted (omega arith) lead _ 6 m.pc spot (site_of (op.ChkNotHeld cell spot) spot s refl)
-      follows (op.ChkRoom spot) s lead e has un = asserted (omega arith) lead _ 13 m.pc spot (site_of (op.ChkRoom spot) spot s refl)
+          subst (λ b. Follow (Flat.asserts b traps.SizeNotPositive spot m) (Form.asserts me (is_positive (Flat.int m i)) traps.SizeNotPositive m.pc)) (positive_same (Flat.int m i))
+          (asserted (omega arith) lead (is_positive (Flat.int m i)) traps.SizeNotPositive m.pc spot (site_of (op.ChkPositive i spot) spot s refl))
+      follows (op.ChkHeld cell spot) s lead e has un = asserted (omega arith) lead _ traps.MutexNotHeld m.pc spot (site_of (op.ChkHeld cell spot) spot s refl)
+      follows (op.ChkNotHeld cell spot) s lead e has un = asserted (omega arith) lead _ traps.MutexAlreadyHeld m.pc spot (site_of (op.ChkNotHeld cell spot) spot s refl)
+      follows (op.ChkRoom spot) s lead e has un = asserted (omega arith) lead _ traps.TooManyLocks m.pc spot (site_of (op.ChkRoom spot) spot s refl)
       follows (op.Bounds i r cells field spot) s lead e has un = indexes (omega arith) lead i cells field m.pc (Flat.int m i) _ spot (site_of (op.Bounds i r cells field spot) spot s refl)
       follows (op.GlobalBounds i elements cells field spot) s lead e has un = indexes (omega arith) lead i cells field m.pc (Flat.int m i) elements spot (site_of (op.GlobalBounds i elements cells field spot) spot s refl)
       follows (op.Load i cell spot) s lead e has un =

@@ -7,6 +7,7 @@ use Rattle.sharc_tree.specs.declared.event.CellMode.{CellMode}
 use Rattle.sharc_tree.specs.declared.event.CellMode.TheVariants as modes
 use Rattle.sharc_tree.specs.declared.event.Object.TheVariants as objects
 use Rattle.sharc_tree.specs.declared.event.Taken.TheVariants as taken
+use Rattle.sharc_tree.specs.declared.trap.Trap.TheVariants as traps
 use Rattle.sharc_shadow.specs.declared.shadow_word.Kind.{Kind}
 use Rattle.sharc_shadow.specs.declared.shadow_word.Kind.TheVariants as kinds
 use Rattle.sharc_code.specs.declared.code.PlaceMode.{PlaceMode}
@@ -76,10 +77,10 @@ module _ (dropped : ℕ → Bool) (flat : Flat) (m : At) where
     Way = lock_is_null m spot spot.mode ≡ false
 
     opens : Way → turn_of ≡ wants
-    opens way = ap (λ b. cond b (stops 1 spot) wants) way
+    opens way = ap (λ b. cond b (stops traps.NullPointer spot) wants) way
 
-    shut : lock_is_null m spot spot.mode ≡ true → turn_of ≡ halts (stopped 1 spot.site)
-    shut way = ap (λ b. cond b (stops 1 spot) wants) way
+    shut : lock_is_null m spot spot.mode ≡ true → turn_of ≡ halts (stopped traps.NullPointer spot.site)
+    shut way = ap (λ b. cond b (stops traps.NullPointer spot) wants) way
 
     lock_loud : {A : Type 0} (a : Thread) (b : Bool) (mutex : CellAt) (c : Thread) → Form.lock_checked a b mutex s ≡ Form.Goes c → A
     lock_loud a true mutex c e = absurd (cc)
@@ -87,7 +88,7 @@ module _ (dropped : ℕ → Bool) (flat : Flat) (m : At) where
 
     -- the check of a lock
     locks : (a : Thread) (mutex : CellAt) (b : Bool) → lock_is_null m spot spot.mode ≡ b → (b ≡ false → IsUnder mutex (act c mode)) → Passes Way turn_of a (Form.lock_checked a b mutex s)
-    locks a mutex true e under = subst (λ t. Passes Way t a (Form.Halts (Form.Stopped 1 s))) (sym (shut e)) (ap (stopped 1) (sym k.site))
+    locks a mutex true e under = subst (λ t. Passes Way t a (Form.Halts (Form.Stopped traps.NullPointer s))) (sym (shut e)) (ap (stopped traps.NullPointer) (sym k.site))
     locks a mutex false e under = subst (λ t. Passes Way t a (Form.Checks (Form.Locks mutex) s (Form.next a))) (sym (opens e)) (refl, e, (k.site, under refl))
 
     through_open : (v : ℤ) (n : ℕ) → is_null v ≡ false → through v n ≡ Some (cell_of (objects.Made (number_of v)) n)

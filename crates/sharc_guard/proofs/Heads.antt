@@ -6,6 +6,7 @@ use Rattle.sharc_tree.specs.declared.event.Act.TheVariants as acts
 use Rattle.sharc_tree.specs.declared.event.Taken.TheVariants as takens
 use Rattle.sharc_tree.specs.declared.event.CellAt.{CellAt}
 use Rattle.sharc_tree.specs.declared.event.CellMode.{CellMode}
+use Rattle.sharc_tree.specs.declared.trap.Trap.TheVariants as traps
 use Rattle.sharc_code.specs.declared.code.PlaceMode.{PlaceMode}
 use Rattle.sharc_code.specs.declared.code.PlaceMode.TheVariants.{Private, Readonly, Racy, Dynamic, LockedGlobal, LockedSibling, LockedThrough, LockedLoaded}
 use Rattle.sharc_code.specs.declared.instr.Cell.{Cell}
@@ -45,8 +46,8 @@ module _ (dropped : ℕ → Bool) (flat : Flat.Flat) (m : Flat.At) where
   pub record IsHead (o : Op) (h : Instr) (rest : Type 0) : Type 0 where
     pub blocked : Bool
     pub passes : (q : ℕ) (L : List ℕ) → blocked ≡ false → IsPass m.pc (step (g dropped flat) h (image (at dropped flat) m q L)) (image (at dropped flat) m (q + 1) L)
-    pub stops : (q : ℕ) (L : List ℕ) → blocked ≡ true → step (g dropped flat) h (image (at dropped flat) m q L) ≡ Halts (Stopped 1 m.pc)
-    pub flat_stops : blocked ≡ true → op_turn flat o m ≡ halts (stopped 1 (source_of o).site)
+    pub stops : (q : ℕ) (L : List ℕ) → blocked ≡ true → step (g dropped flat) h (image (at dropped flat) m q L) ≡ Halts (Stopped traps.NullPointer m.pc)
+    pub flat_stops : blocked ≡ true → op_turn flat o m ≡ halts (stopped traps.NullPointer (source_of o).site)
     pub wants : blocked ≡ false → Asking o
     pub then_ : blocked ≡ false → rest
     pub light : weight h ≡ 1
@@ -59,7 +60,7 @@ module _ (dropped : ℕ → Bool) (flat : Flat.Flat) (m : Flat.At) where
   -- an operation that accesses a cell at this spot
   record IsAccess (o : Op) (spot : Spot) : Type 0 where
     unlocked : Flat.lock_is_null m spot spot.mode ≡ false → Unlocked m o
-    stops_at : Flat.lock_is_null m spot spot.mode ≡ true → op_turn flat o m ≡ halts (stopped 1 (source_of o).site)
+    stops_at : Flat.lock_is_null m spot spot.mode ≡ true → op_turn flat o m ≡ halts (stopped traps.NullPointer (source_of o).site)
     asks_for : Flat.lock_is_null m spot spot.mode ≡ false → Asking o
 
   -- a check that passes or reports
@@ -103,8 +104,8 @@ module _ (dropped : ℕ → Bool) (flat : Flat.Flat) (m : Flat.At) where
       → (Flat.lock_is_null m spot spot.mode ≡ false → Unlocked m o) → IsAccess o spot
   access o cell spot of then_ e s un = record {
     unlocked = un;
-    stops_at = λ f. e ∙ ap (λ b. if b then Flat.stops 1 spot else asking) f ∙ ap (λ site. halts (stopped 1 site)) (sym s);
-    asks_for = λ f. record { from = m; act = of (Flat.cell_at flat.globals m cell) (Flat.mode_of flat.globals m (Flat.cell_at flat.globals m cell) spot.mode); held = pos 0; go = λ v n. Flat.accessed (Flat.next (then_ (Flat.cell_at flat.globals m cell) v n)); asks_it = e ∙ ap (λ b. if b then Flat.stops 1 spot else asking) f ∙ ap (λ site. asks m site (of (Flat.cell_at flat.globals m cell) (Flat.mode_of flat.globals m (Flat.cell_at flat.globals m cell) spot.mode)) (pos 0) (λ v n. Flat.accessed (Flat.next (then_ (Flat.cell_at flat.globals m cell) v n)))) (sym s) };
+    stops_at = λ f. e ∙ ap (λ b. if b then Flat.stops traps.NullPointer spot else asking) f ∙ ap (λ site. halts (stopped traps.NullPointer site)) (sym s);
+    asks_for = λ f. record { from = m; act = of (Flat.cell_at flat.globals m cell) (Flat.mode_of flat.globals m (Flat.cell_at flat.globals m cell) spot.mode); held = pos 0; go = λ v n. Flat.accessed (Flat.next (then_ (Flat.cell_at flat.globals m cell) v n)); asks_it = e ∙ ap (λ b. if b then Flat.stops traps.NullPointer spot else asking) f ∙ ap (λ site. asks m site (of (Flat.cell_at flat.globals m cell) (Flat.mode_of flat.globals m (Flat.cell_at flat.globals m cell) spot.mode)) (pos 0) (λ v n. Flat.accessed (Flat.next (then_ (Flat.cell_at flat.globals m cell) v n)))) (sym s) };
   }
     where
       asking : Flat.Turn

@@ -4,6 +4,8 @@ use Rattle.sharc_tree.specs.declared.event.Act.{Act}
 use Rattle.sharc_tree.specs.declared.event.Act.TheVariants as acts
 use Rattle.sharc_tree.specs.declared.event.CellAt.{CellAt}
 use Rattle.sharc_tree.specs.declared.event.SourceEvent.{SourceEvent}
+use Rattle.sharc_tree.specs.declared.trap.Trap.{Trap}
+use Rattle.sharc_tree.specs.declared.trap.Trap.TheVariants as traps
 use Rattle.sharc_code.specs.declared.code.Parameter.{Parameter}
 use Rattle.sharc_code.specs.declared.code.Parameter.TheVariants as parameters
 use Rattle.sharc_code.specs.declared.instr.Cell.{Cell}
@@ -47,21 +49,21 @@ choice : (a : Thread) (b : Bool) (t u : Turn) → Logs a t → Logs a u → Logs
 choice a true t u h k = h
 choice a false t u h k = k
 
-asserted : (a : Thread) (b : Bool) (code site : ℕ) → Logs a (Form.asserts a b code site)
-asserted a true code site = (refl, refl)
-asserted a false code site = tt
+asserted : (a : Thread) (b : Bool) (trap : Trap) (site : ℕ) → Logs a (Form.asserts a b trap site)
+asserted a true trap site = (refl, refl)
+asserted a false trap site = tt
 
-resulted : (a : Thread) (r site : ℕ) (q : Result ℤ ℕ) → Logs a (Form.with_result a r site q)
+resulted : (a : Thread) (r site : ℕ) (q : Result ℤ Trap) → Logs a (Form.with_result a r site q)
 resulted a r site (Ok z) = (refl, refl)
 resulted a r site (Err code) = tt
 
 indexes : (a : Thread) (r : ℕ) (v : ℤ) (cells field site elements : ℕ) → Logs a (Form.indexed a r v cells field site elements)
-indexes a r (pos i) cells field site elements = choice a (nat_lt i elements) (Form.goes (Form.set_int a r (pos (i * cells + field)))) (Halts (Form.Stopped 2 site)) (refl, refl) tt
+indexes a r (pos i) cells field site elements = choice a (nat_lt i elements) (Form.goes (Form.set_int a r (pos (i * cells + field)))) (Halts (Form.Stopped traps.IndexOutOfBounds site)) (refl, refl) tt
 indexes a r (negsuc i) cells field site elements = tt
 
 returns : (p : Program) (a : Thread) (site : ℕ) (frames : List Frame) → Logs a (Form.returned p a site frames)
 returns p a site [] = (refl, refl)
-returns p a site (f ∷ []) = choice a (nat_lt 0 (length a.held)) (Halts (Form.Stopped 11 site)) (Goes (Form.back_to a f [])) tt (refl, refl)
+returns p a site (f ∷ []) = choice a (nat_lt 0 (length a.held)) (Halts (Form.Stopped traps.ReturnWithLockHeld site)) (Goes (Form.back_to a f [])) tt (refl, refl)
 returns p a site (f ∷ g ∷ frames) = (refl, refl)
 
 locks : (a : Thread) (b : Bool) (mutex : CellAt) (site : ℕ) → Logs a (Form.lock_checked a b mutex site)
@@ -88,16 +90,16 @@ step_logs p (ComputeInt operator r x y site) a = resulted a r site (computed Int
 step_logs p (ComputeLong operator r x y site) a = resulted a r site (computed Long operator (int a x) (int a y))
 step_logs p (NegateInt r x site) a = resulted a r site (negated Int (int a x))
 step_logs p (NegateLong r x site) a = resulted a r site (negated Long (int a x))
-step_logs p (ChkWidth width r site) a = asserted a (holds width (int a r)) 4 site
+step_logs p (ChkWidth width r site) a = asserted a (holds width (int a r)) traps.OutOfRange site
 step_logs p (JumpIfZero r pc) a = choice a (is_zero (int a r)) (Goes (Form.to a pc)) (Form.goes a) (refl, refl) (refl, refl)
 step_logs p (JumpIfNull r pc) a = choice a (is_null (Form.ref a r)) (Goes (Form.to a pc)) (Form.goes a) (refl, refl) (refl, refl)
-step_logs p (Call f ints refs site) a = choice a (nat_lt (length a.frames) 256) _ (Halts (Form.Stopped 10 site)) (refl, refl) tt
+step_logs p (Call f ints refs site) a = choice a (nat_lt (length a.frames) 256) _ (Halts (Form.Stopped traps.CallDepth site)) (refl, refl) tt
 step_logs p (Return site) a = returns p a site a.frames
-step_logs p (ChkNull r site) a = asserted a (not (is_null (Form.ref a r))) 1 site
-step_logs p (ChkHeld cell site) a = asserted a (is_held a.held (cell_at p a cell)) 5 site
-step_logs p (ChkNotHeld cell site) a = asserted a (not (is_held a.held (cell_at p a cell))) 6 site
-step_logs p (ChkPositive r site) a = asserted a (is_positive (int a r)) 12 site
-step_logs p (ChkRoom site) a = asserted a (nat_lt (length a.held) 16) 13 site
+step_logs p (ChkNull r site) a = asserted a (not (is_null (Form.ref a r))) traps.NullPointer site
+step_logs p (ChkHeld cell site) a = asserted a (is_held a.held (cell_at p a cell)) traps.MutexNotHeld site
+step_logs p (ChkNotHeld cell site) a = asserted a (not (is_held a.held (cell_at p a cell))) traps.MutexAlreadyHeld site
+step_logs p (ChkPositive r site) a = asserted a (is_positive (int a r)) traps.SizeNotPositive site
+step_logs p (ChkRoom site) a = asserted a (nat_lt (length a.held) 16) traps.TooManyLocks site
 step_logs p (ChkLock cell site) a = locks a (is_of_null a cell) (cell_at p a cell) site
 step_logs p (ChkLockLoaded site) a = locks a (is_null a.pending) (made_cell (number_of a.pending) 0) site
 step_logs p (Bounds r base cells field site) a = indexes a r (int a r) cells field site (elements_of (Form.ref a base))

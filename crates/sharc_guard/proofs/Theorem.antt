@@ -26,6 +26,8 @@ use Rattle.sharc_code.specs.declared.instr.Instr.TheVariants.{RaiseLoaded, Lower
 use Rattle.sharc_code.specs.declared.instr.Width.TheVariants.{Char, Int, Long}
 use Rattle.sharc_code.specs.Machine as CodeMachine
 use Rattle.sharc_tree.specs.declared.event.CellAt.{CellAt}
+use Rattle.sharc_tree.specs.declared.trap.Trap.{Trap}
+use Rattle.sharc_tree.specs.declared.trap.Trap.TheVariants as traps
 use Rattle.sharc_meaning.specs.declared.given.GivenUp.TheVariants.{Replaced}
 use Rattle.sharc_meaning.specs.Events.{held_mutexes, holds_mutex}
 use Rattle.sharc_flat_form.specs.declared.op.Op.{Op}
@@ -169,19 +171,19 @@ module _ (dropped : ℕ → Bool) (flat : Flat) (level : IsLevel flat) where
   needs_cond true t t2 f g h = f h
   needs_cond false t t2 f g h = g h
 
-  needs_result : (m : At) (i : ℕ) (spot : Spot) (z : Result ℤ ℕ) → NeedsTurn (with_result i spot m z) → ⊥
+  needs_result : (m : At) (i : ℕ) (spot : Spot) (z : Result ℤ Trap) → NeedsTurn (with_result i spot m z) → ⊥
   needs_result m i spot (Ok v) h = h
   needs_result m i spot (Err c) h = h
 
   needs_index : (m : At) (i cells field elements : ℕ) (spot : Spot) (z : ℤ) → NeedsTurn (indexed i cells field z elements spot m) → ⊥
-  needs_index m i cells field elements spot (pos n) h = needs_cond (nat_lt n elements) (goes_on (set_int i (pos (n * cells + field)) m)) (stops 2 spot) (λ z. z) (λ z. z) h
+  needs_index m i cells field elements spot (pos n) h = needs_cond (nat_lt n elements) (goes_on (set_int i (pos (n * cells + field)) m)) (stops traps.IndexOutOfBounds spot) (λ z. z) (λ z. z) h
   needs_index m i cells field elements spot (negsuc n) h = h
 
-  needs_assert : (m : At) (b : Bool) (code : ℕ) (spot : Spot) → NeedsTurn (asserts b code spot m) → ⊥
-  needs_assert m b code spot h = needs_cond b (goes_on m) (stops code spot) (λ z. z) (λ z. z) h
+  needs_assert : (m : At) (b : Bool) (trap : Trap) (spot : Spot) → NeedsTurn (asserts b trap spot m) → ⊥
+  needs_assert m b trap spot h = needs_cond b (goes_on m) (stops trap spot) (λ z. z) (λ z. z) h
 
   needs_return : (m : At) (spot : Spot) (cs : List Caller) → NeedsTurn (returned flat cs spot m) → ⊥
-  needs_return m spot [] h = needs_cond (not (nat_lt 0 (length (held_mutexes m.events)))) (goes (record m { pc = length flat.lines })) (stops 11 spot) (λ z. z) (λ z. z) h
+  needs_return m spot [] h = needs_cond (not (nat_lt 0 (length (held_mutexes m.events)))) (goes (record m { pc = length flat.lines })) (stops traps.ReturnWithLockHeld spot) (λ z. z) (λ z. z) h
   needs_return m spot (c ∷ rest) h = h
 
   needs_take : (m : At) (r x : ℕ) (spot : Spot) (b : Bool) → NeedsTurn (takes_local r x spot m b) → ⊥
@@ -200,7 +202,7 @@ module _ (dropped : ℕ → Bool) (flat : Flat) (level : IsLevel flat) where
       mode : CellMode
       mode = mode_of flat.globals m c spot.mode
 
-      wanted : (b : Bool) → NeedsTurn (cond b (stops 1 spot) (asks m spot.site (act c mode) (pos 0) (λ v n. accessed (next (then_ c v n))))) → NeedsCheck (act c mode)
+      wanted : (b : Bool) → NeedsTurn (cond b (stops traps.NullPointer spot) (asks m spot.site (act c mode) (pos 0) (λ v n. accessed (next (then_ c v n))))) → NeedsCheck (act c mode)
       wanted true h = absurd h
       wanted false h = h
 
@@ -225,7 +227,7 @@ module _ (dropped : ℕ → Bool) (flat : Flat) (level : IsLevel flat) where
   no_head m d s (op.Compute w o i a b spot) e h = absurd (needs_result m i spot _ h)
   no_head m d s (op.Negate w i a spot) e h = absurd (needs_result m i spot _ h)
   no_head m d s (op.ChkWidth w i spot) e h = absurd (needs_assert m (holds w (int m i)) _ spot h)
-  no_head m d s (op.Call f i r spot) e h = absurd (needs_cond (nat_lt (length m.frames) 255) (goes (called flat f i r m)) (stops 10 spot) (λ z. z) (λ z. z) h)
+  no_head m d s (op.Call f i r spot) e h = absurd (needs_cond (nat_lt (length m.frames) 255) (goes (called flat f i r m)) (stops traps.CallDepth spot) (λ z. z) (λ z. z) h)
   no_head m d s (op.Return spot) e h = absurd (needs_return m spot m.frames h)
   no_head m d s (op.ChkNull r spot) e h = absurd (needs_assert m (not (is_zero (ref m r))) _ spot h)
   no_head m d s (op.ChkPositive i spot) e h = absurd (needs_assert m (is_positive (int m i)) _ spot h)

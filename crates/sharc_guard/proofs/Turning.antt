@@ -12,6 +12,8 @@ use Rattle.sharc_tree.specs.declared.event.CellMode.TheVariants as modes
 use Rattle.sharc_tree.specs.declared.event.Taken.TheVariants as taken
 use Rattle.sharc_tree.specs.declared.event.SourceEvent.{SourceEvent}
 use Rattle.sharc_tree.specs.declared.token.Site.{Site}
+use Rattle.sharc_tree.specs.declared.trap.Trap.{Trap}
+use Rattle.sharc_tree.specs.declared.trap.Trap.TheVariants as traps
 use Rattle.sharc_code.specs.declared.code.Function.{Function}
 use Rattle.sharc_code.specs.declared.code.PlaceMode.TheVariants.{Readonly}
 use Rattle.sharc_code.specs.declared.code.Use.{Use}
@@ -142,27 +144,27 @@ module _ (dropped : ℕ → Bool) (flat : Flat) (level : IsLevel flat) (m : At) 
       each true h = inl (f h)
       each false h = inl (g h)
 
-  stops_so : (code : ℕ) (spot : Spot) → IsPlaceOf spot (source_at p s) → IsEnd p (Form.Stopped code s) (stopped code spot.site)
-  stops_so code spot k = ap (stopped code) (sym k.site)
+  stops_so : (trap : Trap) (spot : Spot) → IsPlaceOf spot (source_at p s) → IsEnd p (Form.Stopped trap s) (stopped trap spot.site)
+  stops_so trap spot k = ap (stopped trap) (sym k.site)
 
-  asserted : (b b2 : Bool) (code : ℕ) (spot : Spot) → IsPlaceOf spot (source_at p s) → b2 ≡ b → (b ≡ true → N (next m) (Form.next me) []) → F [] (asserts b code spot m) (Form.asserts me b2 code s)
-  asserted b b2 code spot k e f = subst (λ b2. F [] (asserts b code spot m) (Form.asserts me b2 code s)) (sym e) (each b refl)
+  asserted : (b b2 : Bool) (trap : Trap) (spot : Spot) → IsPlaceOf spot (source_at p s) → b2 ≡ b → (b ≡ true → N (next m) (Form.next me) []) → F [] (asserts b trap spot m) (Form.asserts me b2 trap s)
+  asserted b b2 trap spot k e f = subst (λ b2. F [] (asserts b trap spot m) (Form.asserts me b2 trap s)) (sym e) (each b refl)
     where
-      each : (c : Bool) → b ≡ c → F [] (asserts c code spot m) (Form.asserts me c code s)
+      each : (c : Bool) → b ≡ c → F [] (asserts c trap spot m) (Form.asserts me c trap s)
       each true h = inl (f h)
-      each false h = stops_so code spot k
+      each false h = stops_so trap spot k
 
-  resulted : (e : q + 1 ≡ pl (m.pc + 1)) (i : ℕ) (spot : Spot) → IsPlaceOf spot (source_at p s) → En here (m.pc + 1) → (z : Result ℤ ℕ) → F [] (with_result i spot m z) (Form.with_result me i s z)
+  resulted : (e : q + 1 ≡ pl (m.pc + 1)) (i : ℕ) (spot : Spot) → IsPlaceOf spot (source_at p s) → En here (m.pc + 1) → (z : Result ℤ Trap) → F [] (with_result i spot m z) (Form.with_result me i s z)
   resulted e i spot k en (Ok v) = inl (ints e i v en)
-  resulted e i spot k en (Err code) = stops_so code spot k
+  resulted e i spot k en (Err trap) = stops_so trap spot k
 
   index_follows : (e : q + 1 ≡ pl (m.pc + 1)) (i cells field elements : ℕ) (spot : Spot) → IsPlaceOf spot (source_at p s) → En here (m.pc + 1) → (z : ℤ) → F [] (indexed i cells field z elements spot m) (Form.indexed me i z cells field s elements)
   index_follows e i cells field elements spot k en (pos n) = each (nat_lt n elements)
     where
-      each : (b : Bool) → F [] (cond b (goes_on (set_int i (pos (n * cells + field)) m)) (stops 2 spot)) (cond b (Form.goes (Form.set_int me i (pos (n * cells + field)))) (Form.Halts (Form.Stopped 2 s)))
+      each : (b : Bool) → F [] (cond b (goes_on (set_int i (pos (n * cells + field)) m)) (stops traps.IndexOutOfBounds spot)) (cond b (Form.goes (Form.set_int me i (pos (n * cells + field)))) (Form.Halts (Form.Stopped traps.IndexOutOfBounds s)))
       each true = inl (ints e i (pos (n * cells + field)) en)
-      each false = stops_so 2 spot k
-  index_follows e i cells field elements spot k en (negsuc n) = stops_so 2 spot k
+      each false = stops_so traps.IndexOutOfBounds spot k
+  index_follows e i cells field elements spot k en (negsuc n) = stops_so traps.IndexOutOfBounds spot k
 
   -- ---- asks
   asked : (rest : List Instr) (site site2 : Site) (act act2 : Act) (held : ℤ) (f : ℤ → At → At) (answer : ℤ → ℤ) (go : ℤ → Thread → Thread) (m2 : At) → site2 ≡ site → act2 ≡ act
@@ -182,7 +184,7 @@ module _ (dropped : ℕ → Bool) (flat : Flat) (level : IsLevel flat) (m : At) 
       N (accessed (next (then_ c v (with_event (event_of spot.site (act c mode) v) m)))) (go x (Form.told me spot.site (act c mode) (answer x))) rest)
       → F rest (accesses flat.globals cell spot act then_ m) (Form.access p me s cell act answer go)
   accessing rest cell spot act then_ answer go k way h =
-      subst (λ b. F rest (cond b (stops 1 spot) (asks m spot.site (act c mode) (pos 0) (λ v n. accessed (next (then_ c v n))))) (Form.access p me s cell act answer go)) (sym way)
+      subst (λ b. F rest (cond b (stops traps.NullPointer spot) (asks m spot.site (act c mode) (pos 0) (λ v n. accessed (next (then_ c v n))))) (Form.access p me s cell act answer go)) (sym way)
       (asked rest spot.site (source_at p s).site (act c mode) (act (Form.cell_at p me cell) (Form.mode_of p me (Form.cell_at p me cell) (source_at p s).mode)) (pos 0) (λ v n. accessed (next (then_ c v n))) answer go m
       k.site (ap (λ z. act z (Form.mode_of p me z (source_at p s).mode)) (cell_same dropped flat m q log low cell) ∙ ap (λ z. act c (Form.mode_of p me c z)) k.mode ∙ ap (act c) (mode_same dropped flat m q log low c spot.mode))
       (h mode))
@@ -216,8 +218,8 @@ module _ (dropped : ℕ → Bool) (flat : Flat) (level : IsLevel flat) (m : At) 
           (cases_lt n 255)
 
   calls : (e : q + 1 ≡ pl (m.pc + 1)) (f i r : ℕ) (spot : Spot) → IsPlaceOf spot (source_at p s) → Calls flat level.owner level.gives level.slots f here r → Resumes flat level.owner level.gives level.slots (level.owner m.pc) here r (m.pc + 1) f
-      → F [] (cond (nat_lt (length m.frames) 255) (goes (called flat f i r m)) (stops 10 spot)) (Form.called p me f i r s)
-  calls e f i r spot k c back = subst (λ b. F [] (cond (nat_lt (length m.frames) 255) (goes (called flat f i r m)) (stops 10 spot)) (cond b (Form.Goes there) (Form.Halts (Form.Stopped 10 s)))) (sym few_frames) (each (nat_lt (length m.frames) 255))
+      → F [] (cond (nat_lt (length m.frames) 255) (goes (called flat f i r m)) (stops traps.CallDepth spot)) (Form.called p me f i r s)
+  calls e f i r spot k c back = subst (λ b. F [] (cond (nat_lt (length m.frames) 255) (goes (called flat f i r m)) (stops traps.CallDepth spot)) (cond b (Form.Goes there) (Form.Halts (Form.Stopped traps.CallDepth s)))) (sym few_frames) (each (nat_lt (length m.frames) 255))
     where
       there : Thread
       there = record me {
@@ -235,9 +237,9 @@ module _ (dropped : ℕ → Bool) (flat : Flat) (level : IsLevel flat) (m : At) 
           ap (λ z. record me { pc = z; ints_from = m.int_base + i; refs_from = m.ref_base + r; frames = record { pc = q + 1; ints = m.int_base; refs = m.ref_base } ∷ callers pl m.frames }) (function_same flat.functions f c.known)
           ∙ ap (λ z. record me { pc = pl m2.pc; ints_from = m.int_base + i; refs_from = m.ref_base + r; frames = record { pc = z; ints = m.int_base; refs = m.ref_base } ∷ callers pl m.frames }) e
 
-      each : (b : Bool) → F [] (cond b (goes m2) (stops 10 spot)) (cond b (Form.Goes there) (Form.Halts (Form.Stopped 10 s)))
+      each : (b : Bool) → F [] (cond b (goes m2) (stops traps.CallDepth spot)) (cond b (Form.Goes there) (Form.Halts (Form.Stopped traps.CallDepth s)))
       each true = inl (subst (λ a. N m2 a []) (sym is_there) (lands dropped flat level m2 (pl m2.pc) log low refl (call_ready f i r c back) refl lows))
-      each false = stops_so 10 spot k
+      each false = stops_so traps.CallDepth spot k
 
   -- back in a caller's frame
 
@@ -245,8 +247,8 @@ module _ (dropped : ℕ → Bool) (flat : Flat) (level : IsLevel flat) (m : At) 
       → F [] (returned flat cs spot m) (Form.returned p me s (callers pl cs))
   returns spot k lv [] fr = each (nat_lt 0 (length log))
     where
-      each : (b : Bool) → F [] (cond (not b) (goes (record m { pc = length flat.lines })) (stops 11 spot)) (cond b (Form.Halts (Form.Stopped 11 s)) (Form.Goes (Form.back_to me (record { pc = 1; ints = 0; refs = 0 }) [])))
-      each true = stops_so 11 spot k
+      each : (b : Bool) → F [] (cond (not b) (goes (record m { pc = length flat.lines })) (stops traps.ReturnWithLockHeld spot)) (cond b (Form.Halts (Form.Stopped traps.ReturnWithLockHeld s)) (Form.Goes (Form.back_to me (record { pc = 1; ints = 0; refs = 0 }) [])))
+      each true = stops_so traps.ReturnWithLockHeld spot k
       each false = inr (record { steps = 0; few = omega arith; pc_is = omega arith; at_exit = refl; phase_is = refl; refs = refl; events = refl; function = refl; lows = lows })
   returns spot k lv (c ∷ []) fr = inl (lands dropped flat level (record m { pc = c.pc; int_base = c.ints; ref_base = c.refs; frames = [] }) (pl c.pc) log low refl (return_ready c [] fr lv) refl lows)
   returns spot k lv (c ∷ d ∷ rest) fr = inl (lands dropped flat level (record m { pc = c.pc; int_base = c.ints; ref_base = c.refs; frames = d ∷ rest }) (pl c.pc) log low refl (return_ready c (d ∷ rest) fr lv) refl lows)
@@ -495,7 +497,7 @@ module _ (dropped : ℕ → Bool) (flat : Flat) (level : IsLevel flat) (m : At) 
   follows (op.IsFalse i a) lv k way e =
       subst (λ b. F [] (goes (next (set_int i (truth (is_zero (int m a))) m))) (Form.goes (Form.set_int me i (truth b)))) (sym (zero_same (int m a))) (inl (ints (omega arith) i (truth (is_zero (int m a))) lv))
   follows (op.SameReference i a b) lv k way e = inl (ints (omega arith) i (truth (is_equal (ref m a) (ref m b))) lv)
-  follows (op.ChkWidth width i spot) lv k way e = asserted (holds width (int m i)) (holds width (int m i)) 4 spot (k spot refl) refl (λ t. on (omega arith) lv)
+  follows (op.ChkWidth width i spot) lv k way e = asserted (holds width (int m i)) (holds width (int m i)) traps.OutOfRange spot (k spot refl) refl (λ t. on (omega arith) lv)
   follows (op.Skip n) lv k way e = inl (jumps (m.pc + 1 + n) here lv rd.hold)
   follows (op.SkipIfZero i n) lv k way e =
       chooses (is_zero (int m i)) (Code.is_zero (int m i)) (over_lines n m) (next m) _ _ (zero_same (int m i)) (λ t. jumps (m.pc + 1 + n) here lv.0 rd.hold) (λ t. on (omega arith) lv.1)
@@ -525,14 +527,14 @@ module _ (dropped : ℕ → Bool) (flat : Flat) (level : IsLevel flat) (m : At) 
       inl (lands dropped flat level m2 (q + 1) log (low ++ number_of (ref m r) ∷ []) (omega arith) (puts m2 r free (pos 0) refl lv refl refl refl) refl (lowered_more m.given low (number_of (ref m r)) lows))
   follows (op.Settle x from) lv k way e = inl (settles (omega arith) x from lv.0 lv.1)
   follows (op.ChkNull r spot) lv k way e =
-      asserted (not (is_zero (ref m r))) (not (is_zero (ref m r))) 1 spot (k spot refl) refl
+      asserted (not (is_zero (ref m r))) (not (is_zero (ref m r))) traps.NullPointer spot (k spot refl) refl
       (λ t. stays (omega arith) (next m) (enters flat level m (next m) here rd.frames lv rd.hold (λ j lt. refl) refl refl) refl refl refl)
-  follows (op.ChkPositive i spot) lv k way e = asserted (is_positive (int m i)) (CodeMachine.is_positive (int m i)) 12 spot (k spot refl) (positive_same (int m i)) (λ t. on (omega arith) lv)
+  follows (op.ChkPositive i spot) lv k way e = asserted (is_positive (int m i)) (CodeMachine.is_positive (int m i)) traps.SizeNotPositive spot (k spot refl) (positive_same (int m i)) (λ t. on (omega arith) lv)
   follows (op.ChkHeld cell spot) lv k way e =
-      asserted (holds_mutex m.events (cell_at flat.globals m cell)) (Form.is_held log (Form.cell_at p me cell)) 5 spot (k spot refl) (ap (Form.is_held log) (same_cells cell)) (λ t. on (omega arith) lv)
+      asserted (holds_mutex m.events (cell_at flat.globals m cell)) (Form.is_held log (Form.cell_at p me cell)) traps.MutexNotHeld spot (k spot refl) (ap (Form.is_held log) (same_cells cell)) (λ t. on (omega arith) lv)
   follows (op.ChkNotHeld cell spot) lv k way e =
-      asserted (not (holds_mutex m.events (cell_at flat.globals m cell))) (not (Form.is_held log (Form.cell_at p me cell))) 6 spot (k spot refl) (ap (λ c. not (Form.is_held log c)) (same_cells cell)) (λ t. on (omega arith) lv)
-  follows (op.ChkRoom spot) lv k way e = asserted (nat_lt (length log) 16) (nat_lt (length log) 16) 13 spot (k spot refl) refl (λ t. on (omega arith) lv)
+      asserted (not (holds_mutex m.events (cell_at flat.globals m cell))) (not (Form.is_held log (Form.cell_at p me cell))) traps.MutexAlreadyHeld spot (k spot refl) (ap (λ c. not (Form.is_held log c)) (same_cells cell)) (λ t. on (omega arith) lv)
+  follows (op.ChkRoom spot) lv k way e = asserted (nat_lt (length log) 16) (nat_lt (length log) 16) traps.TooManyLocks spot (k spot refl) refl (λ t. on (omega arith) lv)
   follows (op.Bounds i r cells field spot) lv k way e = index_follows (omega arith) i cells field (elements_of (ref m r)) spot (k spot refl) lv (int m i)
   follows (op.GlobalBounds i elements cells field spot) lv k way e = index_follows (omega arith) i cells field elements spot (k spot refl) lv (int m i)
   follows (op.Load i cell spot) lv k way e =

@@ -4,6 +4,8 @@ use Rattle.std.proofs.lemmas.List.{append-nil, append_assoc, length-append}
 use Rattle.sharc_tree.specs.declared.event.Act.{Act}
 use Rattle.sharc_tree.specs.declared.event.Act.TheVariants as acts
 use Rattle.sharc_tree.specs.declared.token.Site.{Site}
+use Rattle.sharc_tree.specs.declared.trap.Trap.{Trap}
+use Rattle.sharc_tree.specs.declared.trap.Trap.TheVariants as traps
 use Rattle.sharc_code.specs.declared.code.Function.{Function}
 use Rattle.sharc_code.specs.declared.code.Parameter.{Parameter}
 use Rattle.sharc_code.specs.declared.code.Parameter.TheVariants as parameters
@@ -543,7 +545,7 @@ module _ (dropped : ℕ → Bool) (flat : Flat.Flat) (ok : IsFlat flat) where
   asking_wants m (Asks site act go) b o s k t h = absurd h
   asking_wants m (Halts x) b o s k t h = absurd h
 
-  stopping_wants : (m : Flat.At) (u : Turn) (c n : ℕ) → u ≡ Halts (Stopped c n) → Flat.turn flat m ≡ halts (stopped c (source_at p n).site) → Wants flat p m u
+  stopping_wants : (m : Flat.At) (u : Turn) (c : Trap) (n : ℕ) → u ≡ Halts (Stopped c n) → Flat.turn flat m ≡ halts (stopped c (source_at p n).site) → Wants flat p m u
   stopping_wants m u c n e t = record {
     halts = λ c2 s2 q.
         let e0 : Halts (Stopped c n) ≡ Halts (Stopped c2 s2) = sym e ∙ q in
@@ -580,7 +582,7 @@ module _ (dropped : ℕ → Bool) (flat : Flat.Flat) (ok : IsFlat flat) where
           → (b : Bool) → kk.blocked ≡ b → Wants flat p m (Form.turn p a)
       head_wants m a h i rest kk uu t true f =
           let site : (source_of h.line).site ≡ (source_at p m.pc).site = sym (ap (λ (sp : SourcePlace). sp.site) (source_is dropped flat m.pc h.line h.stands_there)) in
-          stopping_wants m (Form.turn p a) 1 m.pc (uu ∙ kk.stops a.pc h.lowered f) (t ∙ kk.flat_stops f ∙ ap (λ s. halts (stopped 1 s)) site)
+          stopping_wants m (Form.turn p a) traps.NullPointer m.pc (uu ∙ kk.stops a.pc h.lowered f) (t ∙ kk.flat_stops f ∙ ap (λ s. halts (stopped traps.NullPointer s)) site)
       head_wants m a h i rest kk uu t false f =
           subst (Wants flat p m) (sym uu) (asking_wants m (step p i (image pl m a.pc h.lowered)) (image pl m (a.pc + 1) h.lowered) h.line h.stands_there (kk.wants f) t (kk.passes a.pc h.lowered f))
 

@@ -9,6 +9,8 @@ use Rattle.sharc_tree.specs.declared.event.Act.TheVariants as acts
 use Rattle.sharc_tree.specs.declared.event.Taken.TheVariants as taken
 use Rattle.sharc_tree.specs.declared.event.CellAt.{CellAt}
 use Rattle.sharc_tree.specs.declared.event.CellMode.{CellMode}
+use Rattle.sharc_tree.specs.declared.trap.Trap.{Trap}
+use Rattle.sharc_tree.specs.declared.trap.Trap.TheVariants as traps
 use Rattle.sharc_code.specs.declared.instr.Cell.{Cell}
 use Rattle.sharc_code.specs.Arithmetic.{computed, negated, holds}
 use Rattle.sharc_meaning.specs.declared.given.GivenUp.{GivenUp}
@@ -77,9 +79,9 @@ module _ (flat : Flat) (level : IsLevel flat) where
     goes_if true m1 m2 f g = f refl
     goes_if false m1 m2 f g = g refl
 
-    asserts_way : (b : Bool) (code : ℕ) (spot : Spot) → (b ≡ true → Later (next m) × OnWay v m (next m)) → After m v (asserts b code spot m)
-    asserts_way true code spot f = f refl
-    asserts_way false code spot f = tt
+    asserts_way : (b : Bool) (trap : Trap) (spot : Spot) → (b ≡ true → Later (next m) × OnWay v m (next m)) → After m v (asserts b trap spot m)
+    asserts_way true trap spot f = f refl
+    asserts_way false trap spot f = tt
 
     on : En2 s (m.pc + 1) → Later (next m) × OnWay v m (next m)
     on en = stays (next m) en refl refl refl refl
@@ -87,14 +89,14 @@ module _ (flat : Flat) (level : IsLevel flat) where
     int_way : (i : ℕ) (x : ℤ) → En2 s (m.pc + 1) → Later (next (set_int i x m)) × OnWay v m (next (set_int i x m))
     int_way i x en = stays (next (set_int i x m)) en refl refl refl refl
 
-    result_way : (i : ℕ) (spot : Spot) (z : Result ℤ ℕ) → En2 s (m.pc + 1) → After m v (with_result i spot m z)
+    result_way : (i : ℕ) (spot : Spot) (z : Result ℤ Trap) → En2 s (m.pc + 1) → After m v (with_result i spot m z)
     result_way i spot (Ok x) en = int_way i x en
     result_way i spot (Err c) en = tt
 
     index_way : (i cells field elements : ℕ) (spot : Spot) (z : ℤ) → En2 s (m.pc + 1) → After m v (indexed i cells field z elements spot m)
     index_way i cells field elements spot (pos n) en = each (nat_lt n elements)
       where
-        each : (b : Bool) → After m v (cond b (goes_on (set_int i (pos (n * cells + field)) m)) (stops 2 spot))
+        each : (b : Bool) → After m v (cond b (goes_on (set_int i (pos (n * cells + field)) m)) (stops traps.IndexOutOfBounds spot))
         each true = int_way i (pos (n * cells + field)) en
         each false = tt
     index_way i cells field elements spot (negsuc n) en = tt
@@ -105,7 +107,7 @@ module _ (flat : Flat) (level : IsLevel flat) where
         c : CellAt
         c = cell_at flat.globals m cell
 
-        each : (b : Bool) → After m v (cond b (stops 1 spot) (asks m spot.site (act c (mode_of flat.globals m c spot.mode)) (pos 0) (λ v n. accessed (next (then_ c v n)))))
+        each : (b : Bool) → After m v (cond b (stops traps.NullPointer spot) (asks m spot.site (act c (mode_of flat.globals m c spot.mode)) (pos 0) (λ v n. accessed (next (then_ c v n)))))
         each true = tt
         each false = tt
 
@@ -137,7 +139,7 @@ module _ (flat : Flat) (level : IsLevel flat) where
     return_way : (spot : Spot) (cs : List Caller) → Frames flat level (level.owner m.pc) m.ref_base m.refs cs → Leaves flat level.owner level.gives level.slots (level.owner m.pc) s → After m v (returned flat cs spot m)
     return_way spot [] fr lv = each (nat_lt 0 (length (held_mutexes m.events)))
       where
-        each : (b : Bool) → After m v (cond (not b) (goes (record m { pc = length flat.lines })) (stops 11 spot))
+        each : (b : Bool) → After m v (cond (not b) (goes (record m { pc = length flat.lines })) (stops traps.ReturnWithLockHeld spot))
         each true = tt
         each false = (inr (omega arith), same (record m { pc = length flat.lines }) refl refl)
     return_way spot (c ∷ rest) fr lv = let m2 = record m { pc = c.pc; int_base = c.ints; ref_base = c.refs; frames = rest } in (inl (return_ready flat level m rd c rest fr lv), same m2 refl refl)
@@ -161,7 +163,7 @@ module _ (flat : Flat) (level : IsLevel flat) where
     way (op.Jump to) lv = stays (record m { pc = to }) lv refl refl refl refl
     way (op.Call f i r spot) lv = each (nat_lt (length m.frames) 255)
       where
-        each : (b : Bool) → After m v (cond b (goes (called flat f i r m)) (stops 10 spot))
+        each : (b : Bool) → After m v (cond b (goes (called flat f i r m)) (stops traps.CallDepth spot))
         each true = (inl (call_ready flat level m rd f i r lv.0 lv.1), same (called flat f i r m) refl refl)
         each false = tt
     way (op.Return spot) lv = return_way spot m.frames rd.frames lv
@@ -220,18 +222,18 @@ module _ (flat : Flat) (level : IsLevel flat) where
     grows_if true m1 m2 e1 e2 = ([], e1 ∙ sym (append-nil m.given))
     grows_if false m1 m2 e1 e2 = ([], e2 ∙ sym (append-nil m.given))
 
-    grows_asserts : (b : Bool) (code : ℕ) (spot : Spot) → Grows m (asserts b code spot m)
-    grows_asserts true code spot = none
-    grows_asserts false code spot = tt
+    grows_asserts : (b : Bool) (trap : Trap) (spot : Spot) → Grows m (asserts b trap spot m)
+    grows_asserts true trap spot = none
+    grows_asserts false trap spot = tt
 
-    grows_result : (i : ℕ) (spot : Spot) (z : Result ℤ ℕ) → Grows m (with_result i spot m z)
+    grows_result : (i : ℕ) (spot : Spot) (z : Result ℤ Trap) → Grows m (with_result i spot m z)
     grows_result i spot (Ok x) = none
     grows_result i spot (Err c) = tt
 
     grows_index : (i cells field elements : ℕ) (spot : Spot) (z : ℤ) → Grows m (indexed i cells field z elements spot m)
     grows_index i cells field elements spot (pos n) = each (nat_lt n elements)
       where
-        each : (b : Bool) → Grows m (cond b (goes_on (set_int i (pos (n * cells + field)) m)) (stops 2 spot))
+        each : (b : Bool) → Grows m (cond b (goes_on (set_int i (pos (n * cells + field)) m)) (stops traps.IndexOutOfBounds spot))
         each true = none
         each false = tt
     grows_index i cells field elements spot (negsuc n) = tt
@@ -242,7 +244,7 @@ module _ (flat : Flat) (level : IsLevel flat) where
         c : CellAt
         c = cell_at flat.globals m cell
 
-        each : (b : Bool) → Grows m (cond b (stops 1 spot) (asks m spot.site (act c (mode_of flat.globals m c spot.mode)) (pos 0) (λ v n. accessed (next (then_ c v n)))))
+        each : (b : Bool) → Grows m (cond b (stops traps.NullPointer spot) (asks m spot.site (act c (mode_of flat.globals m c spot.mode)) (pos 0) (λ v n. accessed (next (then_ c v n)))))
         each true = tt
         each false = tt
 
@@ -253,7 +255,7 @@ module _ (flat : Flat) (level : IsLevel flat) where
     grows_return : (spot : Spot) (cs : List Caller) → Grows m (returned flat cs spot m)
     grows_return spot [] = each (nat_lt 0 (length (held_mutexes m.events)))
       where
-        each : (b : Bool) → Grows m (cond (not b) (goes (record m { pc = length flat.lines })) (stops 11 spot))
+        each : (b : Bool) → Grows m (cond (not b) (goes (record m { pc = length flat.lines })) (stops traps.ReturnWithLockHeld spot))
         each true = tt
         each false = none
     grows_return spot (c ∷ rest) = none
@@ -275,7 +277,7 @@ module _ (flat : Flat) (level : IsLevel flat) where
     grows (op.Jump to) = none
     grows (op.Call f i r spot) = each (nat_lt (length m.frames) 255)
       where
-        each : (b : Bool) → Grows m (cond b (goes (called flat f i r m)) (stops 10 spot))
+        each : (b : Bool) → Grows m (cond b (goes (called flat f i r m)) (stops traps.CallDepth spot))
         each true = none
         each false = tt
     grows (op.Return spot) = grows_return spot m.frames

@@ -2,6 +2,7 @@
 use Rattle.std.specs.Prelude.{Bool, ℕ, ℤ, ◌+◌, ◌*◌, ◌≡◌, ◌<◌, ◌≤◌, ◌⊎◌, List, [], ◌∷◌, ◌++◌, length, map}
 use Rattle.sharc_tree.specs.declared.event.Act.{Act}
 use Rattle.sharc_tree.specs.declared.token.Site.{Site}
+use Rattle.sharc_tree.specs.declared.trap.Trap.{Trap}
 use Rattle.sharc_code.specs.declared.state.Frame.{Frame}
 use Rattle.sharc_meaning.specs.declared.given.GivenUp.{GivenUp}
 use Rattle.sharc_meaning.specs.declared.given.GivenUp.TheVariants.{Released, Replaced, Emptied}
@@ -49,7 +50,7 @@ image pl m q lowered = record {
 
 -- what guarded code is about to do, flat code is
 pub record Wants (flat : Flat.Flat) (p : Program) (m : Flat.At) (t : Turn) : Type 0 where
-  pub halts : (code site : ℕ) → t ≡ Halts (Stopped code site) → Flat.turn flat m ≡ Flat.halts (stopped code (source_at p site).site)
+  pub halts : (trap : Trap) (site : ℕ) → t ≡ Halts (Stopped trap site) → Flat.turn flat m ≡ Flat.halts (stopped trap (source_at p site).site)
   pub ends : t ≡ Halts Ended → Flat.turn flat m ≡ Flat.halts ended
   pub asks : (site : Site) (act : Act) (go : ℤ → Thread) → t ≡ Asks site act go → (m2 : Flat.At) × (held : ℤ) × (f : ℤ → Flat.At → Flat.At) × (Flat.turn flat m ≡ Flat.asks m2 site act held f)
   pub checks : (check : Check) (site : ℕ) (b : Thread) → t ≡ Checks check site b → (m2 : Flat.At) × (act : Act) × (held : ℤ) × (f : ℤ → Flat.At → Flat.At) × (Flat.turn flat m ≡ Flat.asks m2 (source_at p site).site act held f)

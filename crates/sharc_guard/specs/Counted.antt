@@ -59,7 +59,7 @@ IsOf (IsSole v) act = IsGivenAway v act
 
 abbrev pub IsEnd : Program → Form.Outcome → Outcome → Type 0
 IsEnd p Ended o = o ≡ ended
-IsEnd p (Stopped code site) o = o ≡ stopped code (source_at p site).site
+IsEnd p (Stopped trap site) o = o ≡ stopped trap (source_at p site).site
 
 -- What guarded code asks for or checks is what flat code wants, and where it ends or is stopped, flat code ends or is stopped so.
 abbrev pub Tells : Program → Form.Turn → Turn → Type 0

@@ -4,12 +4,14 @@ use Rattle.std.proofs.Common.{◌≡◌, ◌⊎◌, inl, inr, ⊎_elim, ℕ, zer
 use Rattle.std.proofs.lemmas.Bool.{false≢true}
 use Rattle.sharc_tree.specs.declared.event.Act.{Act}
 use Rattle.sharc_tree.specs.declared.token.Site.{Site}
+use Rattle.sharc_tree.specs.declared.trap.Trap.{Trap}
+use Rattle.sharc_tree.specs.declared.trap.Trap.TheVariants as traps
 use Rattle.sharc_code.specs.declared.code.Parameter.{Parameter}
 use Rattle.sharc_code.specs.declared.code.Parameter.TheVariants as parameters
 use Rattle.sharc_code.specs.declared.instr.Cell.TheVariants as cells
 use Rattle.sharc_code.specs.declared.instr.Register.TheVariants as registers
 use Rattle.sharc_meaning.specs.Reference.{is_null, elements_of}
-use Rattle.sharc_meaning.specs.Arithmetic.{is_zero, null_base, out_of_bounds, calls_too_deep, returns_with_a_lock}
+use Rattle.sharc_meaning.specs.Arithmetic.{is_zero}
 use Rattle.sharc_meaning.specs.Events.{held_mutexes}
 use Rattle.sharc_flat_form.specs.declared.op.Op.{Op}
 use Rattle.sharc_flat_form.specs.declared.op.Op.TheVariants as op
@@ -82,18 +84,18 @@ module _ (flat : Flat) (table : ℕ → Ties) (last : (q : ℕ) → length flat.
   abbrev Tied : At → Turn → ℤ → Type 0
   Tied m t x = may_go t ≡ true → IsTied (after m t x)
 
-  tried : (b : Bool) (m m2 : At) (x : ℤ) (code : ℕ) (spot : Spot) → IsTied m2 → Tied m (cond b (goes m2) (stops code spot)) x
-  tried true m m2 x code spot h go = h
-  tried false m m2 x code spot h go = absurd (false≢true go)
+  tried : (b : Bool) (m m2 : At) (x : ℤ) (trap : Trap) (spot : Spot) → IsTied m2 → Tied m (cond b (goes m2) (stops trap spot)) x
+  tried true m m2 x trap spot h go = h
+  tried false m m2 x trap spot h go = absurd (false≢true go)
 
-  asked : (b : Bool) (m : At) (x : ℤ) (code : ℕ) (spot : Spot) (m2 : At) (site : Site) (act : Act) (held : ℤ) (f : ℤ → At → At) → IsTied (after m (asks m2 site act held f) x) → Tied m (cond b (stops code spot) (asks m2 site act held f)) x
-  asked true m x code spot m2 site act held f h go = absurd (false≢true go)
-  asked false m x code spot m2 site act held f h go = h
+  asked : (b : Bool) (m : At) (x : ℤ) (trap : Trap) (spot : Spot) (m2 : At) (site : Site) (act : Act) (held : ℤ) (f : ℤ → At → At) → IsTied (after m (asks m2 site act held f) x) → Tied m (cond b (stops trap spot) (asks m2 site act held f)) x
+  asked true m x trap spot m2 site act held f h go = absurd (false≢true go)
+  asked false m x trap spot m2 site act held f h go = h
 
-  asserted : (b : Bool) (code : ℕ) (spot : Spot) (m : At) (x : ℤ) → Fit (table m.pc) (table (m.pc + 1)) → IsTied m → Tied m (asserts b code spot m) x
-  asserted b code spot m x fit h = tried b m (next m) x code spot (leaves m (next m) refl refl (λ k. refl) fit h)
+  asserted : (b : Bool) (trap : Trap) (spot : Spot) (m : At) (x : ℤ) → Fit (table m.pc) (table (m.pc + 1)) → IsTied m → Tied m (asserts b trap spot m) x
+  asserted b trap spot m x fit h = tried b m (next m) x trap spot (leaves m (next m) refl refl (λ k. refl) fit h)
 
-  resulted : (i : ℕ) (spot : Spot) (m : At) (r : Result ℤ ℕ) (x : ℤ) → Kept (table m.pc) i (table (m.pc + 1)) → IsTied m → Tied m (with_result i spot m r) x
+  resulted : (i : ℕ) (spot : Spot) (m : At) (r : Result ℤ Trap) (x : ℤ) → Kept (table m.pc) i (table (m.pc + 1)) → IsTied m → Tied m (with_result i spot m r) x
   resulted i spot m (Ok v) x known h go = keeps m (next (set_int i v m)) i refl refl (λ k other. put_other m.ints (m.int_base + i) v k other) known h
   resulted i spot m (Err code) x known h go = absurd (false≢true go)
 
@@ -139,7 +141,7 @@ module _ (flat : Flat) (table : ℕ → Ties) (last : (q : ℕ) → length flat.
 
   bounded : (i cells n elements : ℕ) (spot : Spot) (m : At) (x : ℤ) (v : ℤ) → int m i ≡ v → Bounded (table m.pc) i cells n (table (m.pc + 1)) → IsTied m → Tied m (indexed i cells n v elements spot m) x
   bounded i cells n elements spot m x (negsuc k) is known h go = absurd (false≢true go)
-  bounded i cells n elements spot m x (pos k) is known h go = tried (nat_lt k elements) m (next (set_int i (pos (k * cells + n)) m)) x out_of_bounds spot (indexed_to i cells n m k is known h) go
+  bounded i cells n elements spot m x (pos k) is known h go = tried (nat_lt k elements) m (next (set_int i (pos (k * cells + n)) m)) x traps.IndexOutOfBounds spot (indexed_to i cells n m k is known h) go
 
   taken : (b : Bool) (r y : ℕ) (spot : Spot) (m : At) (x : ℤ) → Fit (table m.pc) (table (m.pc + 1)) → IsTied m → Tied m (takes_local r y spot m b) x
   taken true r y spot m x fit h go = leaves m (next (moved r y m)) refl refl (λ k. refl) fit h
@@ -148,7 +150,7 @@ module _ (flat : Flat) (table : ℕ → Ties) (last : (q : ℕ) → length flat.
   back : (frames : List Caller) (spot : Spot) (m : At) (x : ℤ) → Below m.int_base m.ints frames → IsTied m → Tied m (returned flat frames spot m) x
   unfolding Below
   back [] spot m x b h go =
-      tried (not (nat_lt 0 (length (held_mutexes m.events)))) m (record m { pc = length flat.lines }) x returns_with_a_lock spot
+      tried (not (nat_lt 0 (length (held_mutexes m.events)))) m (record m { pc = length flat.lines }) x traps.ReturnWithLockHeld spot
       (record { holds = λ t y. absurd (subst (λ z. In z t) (last (length flat.lines) (omega arith)) y); below = h.below }) go
   back (c ∷ rest) spot m x b h go = record { holds = λ t y. (b.0 t y).1; below = b.2 }
 
@@ -181,7 +183,7 @@ module _ (flat : Flat) (table : ℕ → Ties) (last : (q : ℕ) → length flat.
       by true = leaves m (over_lines k m) refl refl (λ k. refl) n.0 h
       by false = leaves m (next m) refl refl (λ k. refl) n.1 h
   op_tied (op.Jump to) m n h x go = leaves m (record m { pc = to }) refl refl (λ k. refl) n h
-  op_tied (op.Call f ints refs spot) m n h x go = tried (nat_lt (length m.frames) 255) m (called flat f ints refs m) x calls_too_deep spot (called_to f ints refs m n.0 n.1 h) go
+  op_tied (op.Call f ints refs spot) m n h x go = tried (nat_lt (length m.frames) 255) m (called flat f ints refs m) x traps.CallDepth spot (called_to f ints refs m n.0 n.1 h) go
   op_tied (op.Return spot) m n h x go = back m.frames spot m x h.below h go
   op_tied op.BlockEnd m n h x go = leaves m (next m) refl refl (λ k. refl) n h
   op_tied (op.Null r) m n h x go = leaves m (after m (op_turn flat (op.Null r) m) x) refl refl (λ k. refl) n h
@@ -196,13 +198,13 @@ module _ (flat : Flat) (table : ℕ → Ties) (last : (q : ℕ) → length flat.
   op_tied (op.ChkRoom spot) m n h x go = asserted _ _ spot m x n h go
   op_tied (op.Bounds i r cells k spot) m n h x go = bounded i cells k (elements_of (ref m r)) spot m x (int m i) refl n h go
   op_tied (op.GlobalBounds i elements cells k spot) m n h x go = bounded i cells k elements spot m x (int m i) refl n h go
-  op_tied (op.Load i cell spot) m n h x go = asked (lock_is_null m spot spot.mode) m x null_base spot m spot.site _ (pos 0) _ (keeps m _ i refl refl (λ k other. put_other m.ints (m.int_base + i) _ k other) n h) go
-  op_tied (op.Store i cell spot) m n h x go = asked (lock_is_null m spot spot.mode) m x null_base spot m spot.site _ (pos 0) _ (leaves m _ refl refl (λ k. refl) n h) go
-  op_tied (op.LoadRef r cell spot) m n h x go = asked (lock_is_null m spot spot.mode) m x null_base spot m spot.site _ (pos 0) _ (leaves m _ refl refl (λ k. refl) n h) go
-  op_tied (op.StoreRef r cell spot) m n h x go = asked (lock_is_null m spot spot.mode) m x null_base spot m spot.site _ (pos 0) _ (leaves m _ refl refl (λ k. refl) n h) go
+  op_tied (op.Load i cell spot) m n h x go = asked (lock_is_null m spot spot.mode) m x traps.NullPointer spot m spot.site _ (pos 0) _ (keeps m _ i refl refl (λ k other. put_other m.ints (m.int_base + i) _ k other) n h) go
+  op_tied (op.Store i cell spot) m n h x go = asked (lock_is_null m spot spot.mode) m x traps.NullPointer spot m spot.site _ (pos 0) _ (leaves m _ refl refl (λ k. refl) n h) go
+  op_tied (op.LoadRef r cell spot) m n h x go = asked (lock_is_null m spot spot.mode) m x traps.NullPointer spot m spot.site _ (pos 0) _ (leaves m _ refl refl (λ k. refl) n h) go
+  op_tied (op.StoreRef r cell spot) m n h x go = asked (lock_is_null m spot spot.mode) m x traps.NullPointer spot m spot.site _ (pos 0) _ (leaves m _ refl refl (λ k. refl) n h) go
   op_tied (op.LoadGuard cell spot) m n h x go = leaves m (after m (op_turn flat (op.LoadGuard cell spot) m) x) refl refl (λ k. refl) n h
   op_tied (op.New r count cells spot) m n h x go = leaves m (after m (op_turn flat (op.New r count cells spot) m) x) refl refl (λ k. refl) n h
-  op_tied (op.TakeCell r cell spot) m n h x go = asked (lock_is_null m spot spot.mode) m x null_base spot m spot.site _ (pos 0) _ (leaves m _ refl refl (λ k. refl) n h) go
+  op_tied (op.TakeCell r cell spot) m n h x go = asked (lock_is_null m spot spot.mode) m x traps.NullPointer spot m spot.site _ (pos 0) _ (leaves m _ refl refl (λ k. refl) n h) go
   op_tied (op.TakeLocal r y spot) m n h x go = taken (is_null (ref m y)) r y spot m x n h go
   op_tied (op.Give r cells spot) m n h x go = leaves m (after m (op_turn flat (op.Give r cells spot) m) x) refl refl (λ k. refl) n h
   op_tied (op.Free r layout spot) m n h x go = leaves m (after m (op_turn flat (op.Free r layout spot) m) x) refl refl (λ k. refl) n h

@@ -10,6 +10,8 @@ use Rattle.sharc_tree.specs.declared.event.Taken.TheVariants as takens
 use Rattle.sharc_tree.specs.declared.event.Act.{Act}
 use Rattle.sharc_tree.specs.declared.event.Act.TheVariants as acts
 use Rattle.sharc_tree.specs.declared.event.SourceEvent.{SourceEvent}
+use Rattle.sharc_tree.specs.declared.trap.Trap.{Trap}
+use Rattle.sharc_tree.specs.declared.trap.Trap.TheVariants as traps
 use Rattle.sharc_shadow.specs.declared.shadow_word.Kind.{Kind}
 use Rattle.sharc_shadow.specs.declared.shadow_word.Kind.TheVariants as kinds
 use Rattle.sharc_code.specs.declared.code.Function.{Function}
@@ -69,10 +71,10 @@ pub data Check : Type 0 where
   Locks : CellAt → Check
   IsSole : ℤ → Check
 
--- it is gone, or it is stopped by this X at this site
+-- it is gone, or it is stopped by this trap at this site
 pub data Outcome : Type 0 where
   Ended : Outcome
-  Stopped : ℕ → ℕ → Outcome
+  Stopped : Trap → ℕ → Outcome
 
 -- a turn goes on; asks for an event and goes on with what it is answered; checks, at this site, and goes on where nothing is reported; or halts
 pub data Turn : Type 0 where
@@ -108,13 +110,13 @@ to a pc = record a { pc = pc }
 abbrev pub goes : Thread → Turn
 goes a = Goes (next a)
 
-abbrev pub asserts : Thread → Bool → ℕ → ℕ → Turn
-asserts a true code site = goes a
-asserts a false code site = Halts (Stopped code site)
+abbrev pub asserts : Thread → Bool → Trap → ℕ → Turn
+asserts a true trap site = goes a
+asserts a false trap site = Halts (Stopped trap site)
 
-abbrev pub with_result : Thread → ℕ → ℕ → Result ℤ ℕ → Turn
+abbrev pub with_result : Thread → ℕ → ℕ → Result ℤ Trap → Turn
 with_result a r site (Ok z) = goes (set_int a r z)
-with_result a r site (Err code) = Halts (Stopped code site)
+with_result a r site (Err trap) = Halts (Stopped trap site)
 
 -- after an access nothing is left of what was loaded
 abbrev pub accessed : Thread → Thread
@@ -211,8 +213,8 @@ tells p a site act = asks_at p a site act nothing (λ x b. next b)
 
 -- ---- indexes: the number of a field of an element
 abbrev pub indexed : Thread → ℕ → ℤ → ℕ → ℕ → ℕ → ℕ → Turn
-indexed a r (pos i) cells field site elements = if nat_lt i elements then goes (set_int a r (pos (i * cells + field))) else Halts (Stopped 2 site)
-indexed a r (negsuc i) cells field site elements = Halts (Stopped 2 site)
+indexed a r (pos i) cells field site elements = if nat_lt i elements then goes (set_int a r (pos (i * cells + field))) else Halts (Stopped traps.IndexOutOfBounds site)
+indexed a r (negsuc i) cells field site elements = Halts (Stopped traps.IndexOutOfBounds site)
 
 -- ---- calls: there are at most 256 frames
 abbrev pub called : Program → Thread → ℕ → ℕ → ℕ → ℕ → Turn
@@ -224,7 +226,7 @@ called p a f ints refs site =
       refs_from = a.refs_from + refs;
       frames = record { pc = a.pc + 1; ints = a.ints_from; refs = a.refs_from } ∷ a.frames;
     })
-    else Halts (Stopped 10 site)
+    else Halts (Stopped traps.CallDepth site)
 
 abbrev pub back_to : Thread → Frame → List Frame → Thread
 back_to a f frames = record a { pc = f.pc; ints_from = f.ints; refs_from = f.refs; frames = frames }
@@ -232,12 +234,12 @@ back_to a f frames = record a { pc = f.pc; ints_from = f.ints; refs_from = f.ref
 -- where there is no frame, past the statements
 abbrev pub returned : Program → Thread → ℕ → List Frame → Turn
 returned p a site [] = Goes (to a (length p.statements))
-returned p a site (f ∷ []) = if nat_lt 0 (length a.held) then Halts (Stopped 11 site) else Goes (back_to a f [])
+returned p a site (f ∷ []) = if nat_lt 0 (length a.held) then Halts (Stopped traps.ReturnWithLockHeld site) else Goes (back_to a f [])
 returned p a site (f ∷ g ∷ frames) = Goes (back_to a f (g ∷ frames))
 
 -- ---- checks
 abbrev pub lock_checked : Thread → Bool → CellAt → ℕ → Turn
-lock_checked a true mutex site = Halts (Stopped 1 site)
+lock_checked a true mutex site = Halts (Stopped traps.NullPointer site)
 lock_checked a false mutex site = Checks (Locks mutex) site (next a)
 
 -- ---- casts
@@ -264,7 +266,7 @@ exit p a Running = own_event p a acts.Return Leaving
 exit p a Leaving = own_event p a acts.Gone Left
 exit p a Left = Halts Ended
 
--- ---- one statement
+-- ---- one statement; a Start stands in front of all functions, and no thread comes to it
 abbrev pub step : Program → Instr → Thread → Turn
 step p (Constant r v) a = goes (set_int a r v)
 step p (Move r from) a = goes (set_int a r (int a from))
@@ -277,17 +279,17 @@ step p (NegateLong r x site) a = with_result a r site (negated Long (int a x))
 step p (Complement r x) a = goes (set_int a r (complement (int a x)))
 step p (Not r x) a = goes (set_int a r (truth (is_zero (int a x))))
 step p (SameReference r x y) a = goes (set_int a r (truth (int_le (ref a x) (ref a y) && int_le (ref a y) (ref a x))))
-step p (ChkWidth width r site) a = asserts a (holds width (int a r)) 4 site
+step p (ChkWidth width r site) a = asserts a (holds width (int a r)) traps.OutOfRange site
 step p (Jump pc) a = Goes (to a pc)
 step p (JumpIfZero r pc) a = if is_zero (int a r) then Goes (to a pc) else goes a
 step p (JumpIfNull r pc) a = if is_null (ref a r) then Goes (to a pc) else goes a
 step p (Call f ints refs site) a = called p a f ints refs site
 step p (Return site) a = returned p a site a.frames
-step p (ChkNull r site) a = asserts a (not (is_null (ref a r))) 1 site
-step p (ChkHeld cell site) a = asserts a (is_held a.held (cell_at p a cell)) 5 site
-step p (ChkNotHeld cell site) a = asserts a (not (is_held a.held (cell_at p a cell))) 6 site
-step p (ChkPositive r site) a = asserts a (is_positive (int a r)) 12 site
-step p (ChkRoom site) a = asserts a (nat_lt (length a.held) 16) 13 site
+step p (ChkNull r site) a = asserts a (not (is_null (ref a r))) traps.NullPointer site
+step p (ChkHeld cell site) a = asserts a (is_held a.held (cell_at p a cell)) traps.MutexNotHeld site
+step p (ChkNotHeld cell site) a = asserts a (not (is_held a.held (cell_at p a cell))) traps.MutexAlreadyHeld site
+step p (ChkPositive r site) a = asserts a (is_positive (int a r)) traps.SizeNotPositive site
+step p (ChkRoom site) a = asserts a (nat_lt (length a.held) 16) traps.TooManyLocks site
 step p (ChkLock cell site) a = lock_checked a (is_of_null a cell) (cell_at p a cell) site
 step p (ChkLockLoaded site) a = lock_checked a (is_null a.pending) (made_cell (number_of a.pending) 0) site
 step p (Bounds r base cells field site) a = indexed a r (int a r) cells field site (elements_of (ref a base))
@@ -315,7 +317,7 @@ step p (Unlock r cell site) a =
 step p (Spawn r function from site) a = asks_at p a site (acts.Spawn function (argument a from)) given (λ x b. next (set_int (handed b from) r x))
 step p (Join r site) a = tells p a site (acts.Join (int a r))
 step p (Print r site) a = tells p a site (acts.Print (int a r))
-step p (Start site) a = Halts (Stopped 0 site)
+step p (Start site) a = Halts Ended
 step p Exit a = exit p a a.phase
 step p (CondEnter cell site) a = tells p a site (acts.Enter (cell_at p a cell))
 step p (CondWait cell site) a = tells p a site (acts.Woken (cell_at p a cell))

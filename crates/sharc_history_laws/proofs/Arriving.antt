@@ -2,6 +2,8 @@
 use Rattle.std.proofs.Common.{◌≡◌, ℕ, ℤ, pos, negsuc, zero, suc, ◌+◌, ◌-◌, ◌<◌, ◌≤◌, ◌⊎◌, inl, inr, Bool, true, false, not, ◌&&◌, ◌||◌, ◌==◌, nat_lt, length, List, [], ◌∷◌, Some, is_some, if◌then◌else◌, refl, sym, ap, ◌∙◌, subst, ⊎_elim, arith}
 use Rattle.std.specs.Prelude.{Result, Ok, Err, slice_index_or}
 use Rattle.std.proofs.lemmas.Bool.{cases_lt}
+use Rattle.sharc_tree.specs.declared.trap.Trap.{Trap}
+use Rattle.sharc_tree.specs.declared.trap.Trap.TheVariants as traps
 use Rattle.sharc_word.specs.declared.step.TheConstants.{THREADS}
 use Rattle.sharc_word.specs.declared.step.WordOp.TheVariants as ops
 use Rattle.sharc_cond.specs.Waiters.{waits_in}
@@ -134,11 +136,11 @@ module _ (x : Targets) (code : Code) (s : Shape) (ls : Labels) (wt : IsWellTyped
   either true y z h k = h
   either false y z h k = k
 
-  at_result : (r site : ℕ) (z : Result ℤ ℕ) → U (pc + 1) → Arrives ls m (with_result m r site z)
+  at_result : (r site : ℕ) (z : Result ℤ Trap) → U (pc + 1) → Arrives ls m (with_result m r site z)
   at_result r site (Ok z) u = arrives _ calm u
   at_result r site (Err c) u = halts _ calm refl
 
-  at_assert : (b : Bool) (c site : ℕ) → U (pc + 1) → Arrives ls m (asserts m b c site)
+  at_assert : (b : Bool) (c : Trap) (site : ℕ) → U (pc + 1) → Arrives ls m (asserts m b c site)
   at_assert true c site u = arrives _ calm u
   at_assert false c site u = halts _ calm refl
 
@@ -221,7 +223,7 @@ module _ (x : Targets) (code : Code) (s : Shape) (ls : Labels) (wt : IsWellTyped
 
   at_join : (z : ℤ) (site found : ℕ) → U (pc + 1) → Arrives ls m (after (join m z site) found)
   at_join (pos n) site found u =
-      elim (nat_lt n THREADS) as (λ b. Arrives ls m (after (if b then Asks (step_of (state_word n) ops.Load) (joined m site) else Local (trapped m 7 site)) found)) [
+      elim (nat_lt n THREADS) as (λ b. Arrives ls m (after (if b then Asks (step_of (state_word n) ops.Load) (joined m site) else Local (trapped m traps.NoSuchThread site)) found)) [
         | true ↦ at_joined site found u
         | false ↦ halts _ calm refl
       ]
@@ -302,18 +304,18 @@ module _ (x : Targets) (code : Code) (s : Shape) (ls : Labels) (wt : IsWellTyped
   arriving (Complement r a) found other f = arrives _ calm (numbers r _ f.2)
   arriving (Not r a) found other f = arrives _ calm (numbers r _ f)
   arriving (SameReference r a b) found other f = arrives _ calm (numbers r _ f)
-  arriving (ChkWidth width r site) found other f = at_assert (holds width (int m r)) 4 site (⊎_elim (λ h. passes h) (λ h. numbers r _ h) f)
+  arriving (ChkWidth width r site) found other f = at_assert (holds width (int m r)) traps.OutOfRange site (⊎_elim (λ h. passes h) (λ h. numbers r _ h) f)
   arriving (Jump to) found other f = arrives _ calm (closed to l f.0 f.1)
   arriving (JumpIfZero r to) found other f = either (is_zero (int m r)) _ _ (arrives _ calm (closed to l f.0 f.1)) (arrives _ calm (closed (pc + 1) l f.0 f.2))
   arriving (JumpIfNull r to) found other f = either (ref m r == 0) _ _
       (arrives _ calm (⊎_elim (λ h. closed to l f.0 h) (λ h. leads to (empty l r) tt h.1) f.1)) (arrives _ calm (closed (pc + 1) (knows l r) f.0 f.2))
   arriving (Call to ints refs site) found other f = at_call m to ints refs site calm (subst U f.1.1.entry (entry_closed f.1.0))
   arriving (Return site) found other f = at_return site f.1.0 f.1.1
-  arriving (ChkNull r site) found other f = at_assert (not (ref m r == 0)) 1 site (closed (pc + 1) (knows l r) f.0 f.1)
-  arriving (ChkHeld cell site) found other f = at_assert (is_held m (word s m cell)) 5 site (leads (pc + 1) (gated l (Holds cell)) tt f.2)
-  arriving (ChkNotHeld cell site) found other f = at_assert (not (is_held m (word s m cell))) 6 site (closed (pc + 1) l f.0 f.2)
-  arriving (ChkPositive r site) found other f = at_assert (is_positive (int m r)) 12 site (passes f)
-  arriving (ChkRoom site) found other f = at_assert (nat_lt (length m.own.held) 16) 13 site (closed (pc + 1) (record l { room = true }) f.0 f.1)
+  arriving (ChkNull r site) found other f = at_assert (not (ref m r == 0)) traps.NullPointer site (closed (pc + 1) (knows l r) f.0 f.1)
+  arriving (ChkHeld cell site) found other f = at_assert (is_held m (word s m cell)) traps.MutexNotHeld site (leads (pc + 1) (gated l (Holds cell)) tt f.2)
+  arriving (ChkNotHeld cell site) found other f = at_assert (not (is_held m (word s m cell))) traps.MutexAlreadyHeld site (closed (pc + 1) l f.0 f.2)
+  arriving (ChkPositive r site) found other f = at_assert (is_positive (int m r)) traps.SizeNotPositive site (passes f)
+  arriving (ChkRoom site) found other f = at_assert (nat_lt (length m.own.held) 16) traps.TooManyLocks site (closed (pc + 1) (record l { room = true }) f.0 f.1)
   arriving (ChkLock cell site) found other f = at_lock_check (is_of_null m cell) (word s m cell) site (leads (pc + 1) _ tt f.2)
   arriving (ChkLockLoaded site) found other f = at_lock_check (m.pending == 0) (cell_word s (cell_of m.pending 0)) site (leads (pc + 1) _ tt f.5)
   arriving (Bounds r base cells field site) found other f = at_index r (int m r) cells field site found (leads (pc + 1) _ tt f.5.2)

@@ -200,7 +200,7 @@ is_conflict None = inr (λ d e. let f : None ≡ Some (Conflict d) = e in cc)
 is_conflict (Some (Conflict d)) = inl (d, refl)
 is_conflict (Some (NoLock site word)) = inr (λ d e. let f : Some (NoLock site word) ≡ Some (Conflict d) = e in cc)
 is_conflict (Some (NotSole site count)) = inr (λ d e. let f : Some (NotSole site count) ≡ Some (Conflict d) = e in cc)
-is_conflict (Some (Trap number site)) = inr (λ d e. let f : Some (Trap number site) ≡ Some (Conflict d) = e in cc)
+is_conflict (Some (Trap trap site)) = inr (λ d e. let f : Some (Trap trap site) ≡ Some (Conflict d) = e in cc)
 
 first_report : (code : Code) (s : Shape) (run : List Turn) → NoReport code s run ⊎ FirstReport code s run
 first_report code s [] = inl (λ u d e. let f : None ≡ Some (Conflict d) = e in cc)

@@ -1,6 +1,8 @@
 -- What each turn makes of the reference that was loaded last, and of the stage of a Free.
 use Rattle.std.proofs.Common.{◌≡◌, ℕ, ℤ, pos, negsuc, zero, suc, ◌+◌, ◌*◌, ◌⊎◌, inl, inr, min, Bool, true, false, not, ◌&&◌, ◌||◌, ◌==◌, nat_lt, length, is_some, if◌then◌else◌, refl, sym, ap, ◌∙◌}
 use Rattle.std.specs.Prelude.{Result, Ok, Err}
+use Rattle.sharc_tree.specs.declared.trap.Trap.{Trap}
+use Rattle.sharc_tree.specs.declared.trap.Trap.TheVariants as traps
 use Rattle.sharc_word.specs.declared.step.TheConstants.{THREADS}
 use Rattle.sharc_word.specs.declared.step.WordOp.TheVariants as ops
 use Rattle.sharc_cond.specs.Waiters.{waits_in}
@@ -68,11 +70,11 @@ module _ (code : Code) (s : Shape) (m : Machine) where
   at_call : (x : Machine) (pc ints refs site : ℕ) → x.pending ≡ m.pending → ((e : ℕ) → x.own.stage ≡ Links e → m.own.stage ≡ Links e) → Calm m (called x pc ints refs site)
   at_call x pc ints refs site p h = either m (has_room x ints refs) _ _ (record { pending = inl p; linked = λ e q. inl (h e q) }) (record { pending = inl p; linked = λ e q. inl (h e q) })
 
-  at_result : (r site : ℕ) (z : Result ℤ ℕ) → Calm m (with_result m r site z)
+  at_result : (r site : ℕ) (z : Result ℤ Trap) → Calm m (with_result m r site z)
   at_result r site (Ok z) = same _ refl refl
   at_result r site (Err c) = same _ refl refl
 
-  at_assert : (b : Bool) (c site : ℕ) → Calm m (asserts m b c site)
+  at_assert : (b : Bool) (c : Trap) (site : ℕ) → Calm m (asserts m b c site)
   at_assert true c site = same _ refl refl
   at_assert false c site = same _ refl refl
 
@@ -163,7 +165,7 @@ module _ (code : Code) (s : Shape) (m : Machine) where
 
   at_join : (z : ℤ) (site found : ℕ) → Calm m (after (join m z site) found)
   at_join (pos n) site found =
-      elim (nat_lt n THREADS) as (λ b. Calm m (after (if b then Asks (step_of (state_word n) ops.Load) (joined m site) else Local (trapped m 7 site)) found)) [
+      elim (nat_lt n THREADS) as (λ b. Calm m (after (if b then Asks (step_of (state_word n) ops.Load) (joined m site) else Local (trapped m traps.NoSuchThread site)) found)) [
         | true ↦ at_joined site found
         | false ↦ same _ refl refl
       ]
@@ -230,17 +232,17 @@ module _ (code : Code) (s : Shape) (m : Machine) where
   calm (Complement r a) found other = same _ refl refl
   calm (Not r a) found other = same _ refl refl
   calm (SameReference r a b) found other = same _ refl refl
-  calm (ChkWidth width r site) found other = at_assert (holds width (int m r)) 4 site
+  calm (ChkWidth width r site) found other = at_assert (holds width (int m r)) traps.OutOfRange site
   calm (Jump pc) found other = same _ refl refl
   calm (JumpIfZero r pc) found other = at_jump (is_zero (int m r)) pc
   calm (JumpIfNull r pc) found other = at_jump (ref m r == 0) pc
   calm (Call pc ints refs site) found other = at_call m pc ints refs site refl (λ e q. q)
   calm (Return site) found other = at_return site
-  calm (ChkNull r site) found other = at_assert (not (ref m r == 0)) 1 site
-  calm (ChkHeld cell site) found other = at_assert (is_held m (word s m cell)) 5 site
-  calm (ChkNotHeld cell site) found other = at_assert (not (is_held m (word s m cell))) 6 site
-  calm (ChkPositive r site) found other = at_assert (is_positive (int m r)) 12 site
-  calm (ChkRoom site) found other = at_assert (nat_lt (length m.own.held) 16) 13 site
+  calm (ChkNull r site) found other = at_assert (not (ref m r == 0)) traps.NullPointer site
+  calm (ChkHeld cell site) found other = at_assert (is_held m (word s m cell)) traps.MutexNotHeld site
+  calm (ChkNotHeld cell site) found other = at_assert (not (is_held m (word s m cell))) traps.MutexAlreadyHeld site
+  calm (ChkPositive r site) found other = at_assert (is_positive (int m r)) traps.SizeNotPositive site
+  calm (ChkRoom site) found other = at_assert (nat_lt (length m.own.held) 16) traps.TooManyLocks site
   calm (ChkLock cell site) found other = at_lock_check (is_of_null m cell) (word s m cell) site
   calm (ChkLockLoaded site) found other = at_lock_check (m.pending == 0) (cell_word s (cell_of m.pending 0)) site
   calm (Bounds r base cells field site) found other = at_index r (int m r) cells field site found

@@ -3,6 +3,7 @@ use Rattle.std.proofs.Common.{◌≡◌, ℕ, ◌+◌, ◌<◌, inl, inr, Bool, 
 use Rattle.std.specs.Prelude.{slice_index, ◌==◌}
 use Rattle.std.proofs.lemmas.Bool.{cases_eq}
 use Rattle.std.proofs.lemmas.Bool.Decides.{nat_tests}
+use Rattle.sharc_tree.specs.declared.trap.Trap.TheVariants as traps
 use Rattle.sharc_shadow.specs.declared.shadow_word.Kind.{Kind}
 use Rattle.sharc_shadow.specs.declared.shadow_word.Kind.TheVariants.{Read, Write}
 use Rattle.sharc_shadow.specs.Accesses.{note_of, site_at}
@@ -184,7 +185,7 @@ module _ (code : Code) (s : Shape) (m : Machine) (fresh : m.own.stop ≡ None) (
   not_none y e is = let f : None ≡ Some (Conflict c) = sym e ∙ is in cc
 
   lock_check : (b : Bool) (mutex at : ℕ) → IsThat (lock_checked m b mutex at) → ⊥
-  lock_check true mutex at is = let f : Some (Trap 1 at) ≡ Some (Conflict c) = is in cc
+  lock_check true mutex at is = let f : Some (Trap traps.NullPointer at) ≡ Some (Conflict c) = is in cc
   lock_check false mutex at is = elim (is_held m mutex) as (λ b. IsThat (if b then goes m else stopped m (NoLock at mutex)) → ⊥) [
     | true ↦ λ z. not_none (goes m) fresh z
     | false ↦ λ z. let f : Some (NoLock at mutex) ≡ Some (Conflict c) = z in cc

@@ -2,6 +2,7 @@
 use Rattle.std.proofs.Common.{◌≡◌, ℕ, ℤ, pos, negsuc, zero, suc, ◌+◌, ◌*◌, ◌<◌, ◌≤◌, ◌≢◌, true, false, nat_lt, List, Option, Some, None, if◌then◌else◌, refl, sym, ap, ◌∙◌, subst, arith}
 use Rattle.std.specs.Prelude.{slice_index}
 use Rattle.std.proofs.lemmas.List.{get_or-set_other}
+use Rattle.sharc_tree.specs.declared.trap.Trap.TheVariants as traps
 use Rattle.sharc_word.specs.declared.step.TheConstants.{THREADS}
 use Rattle.sharc_word.specs.declared.step.WordOp.{WordOp}
 use Rattle.sharc_word.specs.declared.step.WordOp.TheVariants as ops
@@ -88,7 +89,7 @@ module _ (s : Shape) (n : ℕ) (few : n < THREADS) where
   to_clear m h cells _ = Leaves (λ v. refl)
 
   to_join : (m : Machine) (z : ℤ) (site : ℕ) → K (join m z site)
-  to_join m (pos k) site = elim (nat_lt k THREADS) as (λ b. K (if b then Asks (step_of (state_word k) ops.Load) (joined m site) else Local (trapped m 7 site))) [
+  to_join m (pos k) site = elim (nat_lt k THREADS) as (λ b. K (if b then Asks (step_of (state_word k) ops.Load) (joined m site) else Local (trapped m traps.NoSuchThread site))) [
     | true ↦ Leaves (λ v. refl)
     | false ↦ tt
   ]

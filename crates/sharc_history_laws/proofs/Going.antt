@@ -1,6 +1,8 @@
 -- A thread that does not make a turn of Exit says neither that it returns nor that it is gone, and never wakes somebody in a word without waiters.
 use Rattle.std.proofs.Common.{◌≡◌, ℕ, ℤ, pos, negsuc, zero, suc, ◌+◌, ◌*◌, min, Bool, true, false, not, ◌&&◌, ◌||◌, ◌==◌, nat_lt, length, is_some, if◌then◌else◌, refl, sym, ap, ◌∙◌}
 use Rattle.std.specs.Prelude.{Result, Ok, Err}
+use Rattle.sharc_tree.specs.declared.trap.Trap.{Trap}
+use Rattle.sharc_tree.specs.declared.trap.Trap.TheVariants as traps
 use Rattle.sharc_word.specs.declared.step.TheConstants.{THREADS}
 use Rattle.sharc_word.specs.declared.step.WordOp.TheVariants as ops
 use Rattle.sharc_cond.specs.Waiters.{waits_in}
@@ -66,11 +68,11 @@ module _ (code : Code) (s : Shape) (m : Machine) where
   at_call : (x : Machine) (pc ints refs site : ℕ) → (is_withdrawing x.own.stage ≡ true → is_withdrawing m.own.stage ≡ true) → (wakes_nobody x.own.stage ≡ true → wakes_nobody m.own.stage ≡ true) → Going m (called x pc ints refs site)
   at_call x pc ints refs site h k = either m (has_room x ints refs) _ _ (record { on = refl; withdraws = h; wakes = k }) (record { on = refl; withdraws = h; wakes = k })
 
-  at_result : (r site : ℕ) (z : Result ℤ ℕ) → Going m (with_result m r site z)
+  at_result : (r site : ℕ) (z : Result ℤ Trap) → Going m (with_result m r site z)
   at_result r site (Ok z) = same _ refl refl
   at_result r site (Err c) = same _ refl refl
 
-  at_assert : (b : Bool) (c site : ℕ) → Going m (asserts m b c site)
+  at_assert : (b : Bool) (c : Trap) (site : ℕ) → Going m (asserts m b c site)
   at_assert true c site = same _ refl refl
   at_assert false c site = same _ refl refl
 
@@ -161,7 +163,7 @@ module _ (code : Code) (s : Shape) (m : Machine) where
 
   at_join : (z : ℤ) (site found : ℕ) → Going m (after (join m z site) found)
   at_join (pos n) site found =
-      elim (nat_lt n THREADS) as (λ b. Going m (after (if b then Asks (step_of (state_word n) ops.Load) (joined m site) else Local (trapped m 7 site)) found)) [
+      elim (nat_lt n THREADS) as (λ b. Going m (after (if b then Asks (step_of (state_word n) ops.Load) (joined m site) else Local (trapped m traps.NoSuchThread site)) found)) [
         | true ↦ at_joined site found
         | false ↦ same _ refl refl
       ]
@@ -211,17 +213,17 @@ module _ (code : Code) (s : Shape) (m : Machine) where
   going (Complement r a) found other = same _ refl refl
   going (Not r a) found other = same _ refl refl
   going (SameReference r a b) found other = same _ refl refl
-  going (ChkWidth width r site) found other = at_assert (holds width (int m r)) 4 site
+  going (ChkWidth width r site) found other = at_assert (holds width (int m r)) traps.OutOfRange site
   going (Jump pc) found other = same _ refl refl
   going (JumpIfZero r pc) found other = at_jump (is_zero (int m r)) pc
   going (JumpIfNull r pc) found other = at_jump (ref m r == 0) pc
   going (Call pc ints refs site) found other = at_call m pc ints refs site (λ q. q) (λ q. q)
   going (Return site) found other = at_return site
-  going (ChkNull r site) found other = at_assert (not (ref m r == 0)) 1 site
-  going (ChkHeld cell site) found other = at_assert (is_held m (word s m cell)) 5 site
-  going (ChkNotHeld cell site) found other = at_assert (not (is_held m (word s m cell))) 6 site
-  going (ChkPositive r site) found other = at_assert (is_positive (int m r)) 12 site
-  going (ChkRoom site) found other = at_assert (nat_lt (length m.own.held) 16) 13 site
+  going (ChkNull r site) found other = at_assert (not (ref m r == 0)) traps.NullPointer site
+  going (ChkHeld cell site) found other = at_assert (is_held m (word s m cell)) traps.MutexNotHeld site
+  going (ChkNotHeld cell site) found other = at_assert (not (is_held m (word s m cell))) traps.MutexAlreadyHeld site
+  going (ChkPositive r site) found other = at_assert (is_positive (int m r)) traps.SizeNotPositive site
+  going (ChkRoom site) found other = at_assert (nat_lt (length m.own.held) 16) traps.TooManyLocks site
   going (ChkLock cell site) found other = at_lock_check (is_of_null m cell) (word s m cell) site
   going (ChkLockLoaded site) found other = at_lock_check (m.pending == 0) (cell_word s (cell_of m.pending 0)) site
   going (Bounds r base cells field site) found other = at_index r (int m r) cells field site found

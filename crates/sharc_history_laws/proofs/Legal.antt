@@ -7,6 +7,7 @@ use Rattle.sharc_word.specs.declared.step.WordStep.{WordStep}
 use Rattle.sharc_word.specs.declared.step.WordOp.TheVariants as ops
 use Rattle.sharc_tree.specs.declared.event.Act.TheVariants as acts
 use Rattle.sharc_tree.specs.declared.event.SourceEvent.{SourceEvent}
+use Rattle.sharc_tree.specs.declared.trap.Trap.TheVariants as traps
 use Rattle.sharc_granule.specs.declared.stage.Stage.{Stage as NewStage}
 use Rattle.sharc_granule.specs.declared.stage.Stage.TheVariants as news
 use Rattle.sharc_cond.specs.Waiters.{waits_in}
@@ -332,13 +333,13 @@ module _ (state_law : StateStands) (cell_laws : CellsAreThere) (pointers : Point
         by_word : (n : ℕ) (b : Bool) → int ((place_after code s earlier).threads one.thread) q ≡ pos n → nat_lt n THREADS ≡ b → went (reverse L) (pos n) ≡ true
         by_word n true z lt =
             let asked : asked_by (turn code s m) ≡ Some (step_of (state_word n) ops.Load) =
-            ap (λ j. asked_by (act code s j m)) is ∙ ap (λ z. asked_by (join m z site)) z ∙ ap (λ b. asked_by (if b then Asks (step_of (state_word n) ops.Load) (joined m site) else Local (trapped m 7 site))) lt in
+            ap (λ j. asked_by (act code s j m)) is ∙ ap (λ z. asked_by (join m z site)) z ∙ ap (λ b. asked_by (if b then Asks (step_of (state_word n) ops.Load) (joined m site) else Local (trapped m traps.NoSuchThread site))) lt in
             told.threads.gone n (ended n (below n lt) (found_at (step_of (state_word n) ops.Load) asked))
           where
             below : (n : ℕ) → nat_lt n THREADS ≡ true → n < THREADS
             below n e = ltb-true n THREADS e
         by_word n false z lt = absurd (none_found (ap (λ j. asked_by (act code s j m)) is ∙ ap (λ z. asked_by (join m z site)) z
-            ∙ ap (λ b. asked_by (if b then Asks (step_of (state_word n) ops.Load) (joined m site) else Local (trapped m 7 site))) lt))
+            ∙ ap (λ b. asked_by (if b then Asks (step_of (state_word n) ops.Load) (joined m site) else Local (trapped m traps.NoSuchThread site))) lt))
 
         by : (z : ℤ) → int ((place_after code s earlier).threads one.thread) q ≡ z → went (reverse L) (int ((place_after code s earlier).threads one.thread) q) ≡ true
         by (pos n) z = ap (went (reverse L)) z ∙ by_word n (nat_lt n THREADS) z refl

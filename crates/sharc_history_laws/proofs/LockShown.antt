@@ -5,6 +5,7 @@ use Rattle.std.proofs.lemmas.Bool.{cases_eq}
 use Rattle.sharc_tree.specs.declared.event.CellAt.{CellAt}
 use Rattle.sharc_tree.specs.declared.event.CellMode.TheVariants as modes
 use Rattle.sharc_tree.specs.declared.event.SourceEvent.{SourceEvent}
+use Rattle.sharc_tree.specs.declared.trap.Trap.TheVariants as traps
 use Rattle.sharc_shadow.specs.declared.shadow_word.Kind.{Kind}
 use Rattle.sharc_shadow.specs.declared.shadow_word.Kind.TheVariants.{Read, Write}
 use Rattle.sharc_shadow.specs.Accesses.{note_of, site_at}
@@ -68,7 +69,7 @@ module _ (code : Code) (s : Shape) (m : Machine) (fresh : m.own.stop ≡ None) (
     pub is : y ≡ stopped m (NoLock site mutex)
 
   lock_check : (b : Bool) (own at : ℕ) → IsThat (lock_checked m b own at) → Refused b at (lock_checked m b own at)
-  lock_check true own at is = absurd (let f : Some (Trap 1 at) ≡ Some (NoLock site mutex) = is in cc)
+  lock_check true own at is = absurd (let f : Some (Trap traps.NullPointer at) ≡ Some (NoLock site mutex) = is in cc)
   lock_check false own at is = elim (is_held m own) as (λ b. IsThat (if b then goes m else stopped m (NoLock at own)) → Refused false at (if b then goes m else stopped m (NoLock at own))) [
     | true ↦ λ z. absurd (not_none (goes m) fresh z)
     | false ↦ λ z.

@@ -6,6 +6,7 @@ use Rattle.std.proofs.lemmas.Bool.Decides.{nat_tests}
 use Rattle.sharc_tree.specs.declared.event.Act.TheVariants as acts
 use Rattle.sharc_tree.specs.declared.event.SourceEvent.{SourceEvent}
 use Rattle.sharc_tree.specs.declared.event.CellAt.{CellAt}
+use Rattle.sharc_tree.specs.declared.trap.Trap.TheVariants as traps
 use Rattle.sharc_locks.specs.declared.held_log.HeldMutex.{HeldMutex}
 use Rattle.sharc_locks.specs.HeldLog.{with_mutex, without, object_of}
 use Rattle.sharc_code.specs.declared.code.Code.{Code}
@@ -309,7 +310,7 @@ module _ (cell_laws : CellsAreThere) (pointers : PointersAreThere) (rights : Acc
 
     at_lock_check : (b : Bool) (mutex at : ℕ) → (b ≡ false → is_held ((place_after code s earlier).threads one.thread) mutex ≡ false → LacksLock code (reverse (pushed event L)) one.thread (stopped ((place_after code s earlier).threads one.thread) (NoLock at mutex)) at)
         → Shows (lock_checked ((place_after code s earlier).threads one.thread) b mutex at) × Halts (lock_checked ((place_after code s earlier).threads one.thread) b mutex at)
-    at_lock_check true mutex at lacks = (λ site word is. absurd (let f : Some (Trap 1 at) ≡ Some (NoLock site word) = is in cc), λ _. refl)
+    at_lock_check true mutex at lacks = (λ site word is. absurd (let f : Some (Trap traps.NullPointer at) ≡ Some (NoLock site word) = is in cc), λ _. refl)
     at_lock_check false mutex at lacks = elim (is_held m mutex) as (λ b. is_held m mutex ≡ b → Shows (if b then goes m else stopped m (NoLock at mutex)) × Halts (if b then goes m else stopped m (NoLock at mutex))) [
       | true ↦ λ e. (shows_none (goes m) fresh, halts_none (goes m) fresh)
       | false ↦ λ e. (λ site word is. let same : at ≡ site = let f : Some (NoLock at mutex) ≡ Some (NoLock site word) = is in cc in subst (LacksLock code (reverse (pushed event L)) t (stopped m (NoLock at mutex))) same (lacks refl e), λ _. refl)

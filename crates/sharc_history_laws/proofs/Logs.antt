@@ -1,6 +1,8 @@
 -- A turn that is none of Lock or Unlock leaves the held log of its thread.
 use Rattle.std.proofs.Common.{◌≡◌, ℕ, ℤ, pos, negsuc, zero, suc, ◌+◌, ◌*◌, min, Bool, true, false, not, ◌&&◌, ◌||◌, ◌==◌, nat_lt, length, is_some, if◌then◌else◌, refl}
 use Rattle.std.specs.Prelude.{Result, Ok, Err}
+use Rattle.sharc_tree.specs.declared.trap.Trap.{Trap}
+use Rattle.sharc_tree.specs.declared.trap.Trap.TheVariants as traps
 use Rattle.sharc_word.specs.declared.step.TheConstants.{THREADS}
 use Rattle.sharc_word.specs.declared.step.WordOp.TheVariants as ops
 use Rattle.sharc_cond.specs.Waiters.{waits_in}
@@ -53,11 +55,11 @@ module _ (code : Code) (s : Shape) (m : Machine) where
   at_call : (x : Machine) (pc ints refs site : ℕ) → x.own.held ≡ m.own.held → Logs m (called x pc ints refs site)
   at_call x pc ints refs site h = either m (has_room x ints refs) _ _ (record { held = h }) (record { held = h })
 
-  at_result : (r site : ℕ) (z : Result ℤ ℕ) → Logs m (with_result m r site z)
+  at_result : (r site : ℕ) (z : Result ℤ Trap) → Logs m (with_result m r site z)
   at_result r site (Ok z) = same _ refl
   at_result r site (Err c) = same _ refl
 
-  at_assert : (b : Bool) (c site : ℕ) → Logs m (asserts m b c site)
+  at_assert : (b : Bool) (c : Trap) (site : ℕ) → Logs m (asserts m b c site)
   at_assert true c site = same _ refl
   at_assert false c site = same _ refl
 
@@ -148,7 +150,7 @@ module _ (code : Code) (s : Shape) (m : Machine) where
 
   at_join : (z : ℤ) (site found : ℕ) → Logs m (after (join m z site) found)
   at_join (pos n) site found =
-      elim (nat_lt n THREADS) as (λ b. Logs m (after (if b then Asks (step_of (state_word n) ops.Load) (joined m site) else Local (trapped m 7 site)) found)) [
+      elim (nat_lt n THREADS) as (λ b. Logs m (after (if b then Asks (step_of (state_word n) ops.Load) (joined m site) else Local (trapped m traps.NoSuchThread site)) found)) [
         | true ↦ at_joined site found
         | false ↦ same _ refl
       ]
@@ -200,17 +202,17 @@ module _ (code : Code) (s : Shape) (m : Machine) where
   logs (Complement r a) found other = same _ refl
   logs (Not r a) found other = same _ refl
   logs (SameReference r a b) found other = same _ refl
-  logs (ChkWidth width r site) found other = at_assert (holds width (int m r)) 4 site
+  logs (ChkWidth width r site) found other = at_assert (holds width (int m r)) traps.OutOfRange site
   logs (Jump pc) found other = same _ refl
   logs (JumpIfZero r pc) found other = at_jump (is_zero (int m r)) pc
   logs (JumpIfNull r pc) found other = at_jump (ref m r == 0) pc
   logs (Call pc ints refs site) found other = at_call m pc ints refs site refl
   logs (Return site) found other = at_return site
-  logs (ChkNull r site) found other = at_assert (not (ref m r == 0)) 1 site
-  logs (ChkHeld cell site) found other = at_assert (is_held m (word s m cell)) 5 site
-  logs (ChkNotHeld cell site) found other = at_assert (not (is_held m (word s m cell))) 6 site
-  logs (ChkPositive r site) found other = at_assert (is_positive (int m r)) 12 site
-  logs (ChkRoom site) found other = at_assert (nat_lt (length m.own.held) 16) 13 site
+  logs (ChkNull r site) found other = at_assert (not (ref m r == 0)) traps.NullPointer site
+  logs (ChkHeld cell site) found other = at_assert (is_held m (word s m cell)) traps.MutexNotHeld site
+  logs (ChkNotHeld cell site) found other = at_assert (not (is_held m (word s m cell))) traps.MutexAlreadyHeld site
+  logs (ChkPositive r site) found other = at_assert (is_positive (int m r)) traps.SizeNotPositive site
+  logs (ChkRoom site) found other = at_assert (nat_lt (length m.own.held) 16) traps.TooManyLocks site
   logs (ChkLock cell site) found other = at_lock_check (is_of_null m cell) (word s m cell) site
   logs (ChkLockLoaded site) found other = at_lock_check (m.pending == 0) (cell_word s (cell_of m.pending 0)) site
   logs (Bounds r base cells field site) found other = at_index r (int m r) cells field site found

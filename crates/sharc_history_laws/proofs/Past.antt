@@ -1,6 +1,8 @@
 -- No turn but that of a Start leads to the place where threads begin.
 use Rattle.std.proofs.Common.{◌≡◌, ℕ, ◌*◌, ◌≢◌, ℤ, pos, negsuc, zero, suc, ◌+◌, ◌-◌, ◌<◌, ◌⊎◌, inl, inr, Bool, true, false, not, ◌&&◌, ◌||◌, ◌==◌, nat_lt, length, List, [], ◌∷◌, Some, None, if◌then◌else◌, refl, sym, ap, ◌∙◌, subst, ⊎_elim, arith}
 use Rattle.std.specs.Prelude.{Result, Ok, Err, slice_index_or, min}
+use Rattle.sharc_tree.specs.declared.trap.Trap.{Trap}
+use Rattle.sharc_tree.specs.declared.trap.Trap.TheVariants as traps
 use Rattle.sharc_word.specs.declared.step.TheConstants.{THREADS}
 use Rattle.sharc_word.specs.declared.step.WordOp.TheVariants as ops
 use Rattle.sharc_cond.specs.Waiters.{waits_in}
@@ -81,11 +83,11 @@ module _ (x : Targets) (code : Code) (s : Shape) (ls : Labels) (wt : IsWellTyped
   either true y z h k = h
   either false y z h k = k
 
-  at_result : (r site : ℕ) (z : Result ℤ ℕ) → U (pc + 1) → Departs m (with_result m r site z)
+  at_result : (r site : ℕ) (z : Result ℤ Trap) → U (pc + 1) → Departs m (with_result m r site z)
   at_result r site (Ok z) u = arrives _ u
   at_result r site (Err c) u = remains _ refl
 
-  at_assert : (b : Bool) (c site : ℕ) → U (pc + 1) → Departs m (asserts m b c site)
+  at_assert : (b : Bool) (c : Trap) (site : ℕ) → U (pc + 1) → Departs m (asserts m b c site)
   at_assert true c site u = arrives _ u
   at_assert false c site u = remains _ refl
 
@@ -174,7 +176,7 @@ module _ (x : Targets) (code : Code) (s : Shape) (ls : Labels) (wt : IsWellTyped
 
   at_join : (z : ℤ) (site found : ℕ) → U (pc + 1) → Departs m (after (join m z site) found)
   at_join (pos n) site found u =
-      elim (nat_lt n THREADS) as (λ b. Departs m (after (if b then Asks (step_of (state_word n) ops.Load) (joined m site) else Local (trapped m 7 site)) found)) [
+      elim (nat_lt n THREADS) as (λ b. Departs m (after (if b then Asks (step_of (state_word n) ops.Load) (joined m site) else Local (trapped m traps.NoSuchThread site)) found)) [
         | true ↦ at_joined site found u
         | false ↦ remains _ refl
       ]
@@ -263,18 +265,18 @@ module _ (x : Targets) (code : Code) (s : Shape) (ls : Labels) (wt : IsWellTyped
   arriving (Complement r a) found f = arrives _ (numbers r _ f.2)
   arriving (Not r a) found f = arrives _ (numbers r _ f)
   arriving (SameReference r a b) found f = arrives _ (numbers r _ f)
-  arriving (ChkWidth width r site) found f = at_assert (holds width (int m r)) 4 site (⊎_elim (λ h. passes h) (λ h. numbers r _ h) f)
+  arriving (ChkWidth width r site) found f = at_assert (holds width (int m r)) traps.OutOfRange site (⊎_elim (λ h. passes h) (λ h. numbers r _ h) f)
   arriving (Jump to) found f = arrives _ (leads to l refl f.1)
   arriving (JumpIfZero r to) found f = either (is_zero (int m r)) _ _ (arrives _ (leads to l refl f.1)) (arrives _ (leads (pc + 1) l refl f.2))
   arriving (JumpIfNull r to) found f = either (ref m r == 0) _ _
       (arrives _ (⊎_elim (λ h. leads to l refl h) (λ h. leads to (empty l r) refl h.1) f.1)) (arrives _ (leads (pc + 1) (knows l r) refl f.2))
   arriving (Call to ints refs site) found f = at_call m to ints refs site refl (subst U f.1.1.entry (entry_closed f.1.0 f.1.1.is))
   arriving (Return site) found f = at_return site f.1.0 f.1.1
-  arriving (ChkNull r site) found f = at_assert (not (ref m r == 0)) 1 site (leads (pc + 1) (knows l r) refl f.1)
-  arriving (ChkHeld cell site) found f = at_assert (is_held m (word s m cell)) 5 site (leads (pc + 1) (gated l (Holds cell)) refl f.2)
-  arriving (ChkNotHeld cell site) found f = at_assert (not (is_held m (word s m cell))) 6 site (leads (pc + 1) l refl f.2)
-  arriving (ChkPositive r site) found f = at_assert (is_positive (int m r)) 12 site (passes f)
-  arriving (ChkRoom site) found f = at_assert (nat_lt (length m.own.held) 16) 13 site (leads (pc + 1) (record l { room = true }) refl f.1)
+  arriving (ChkNull r site) found f = at_assert (not (ref m r == 0)) traps.NullPointer site (leads (pc + 1) (knows l r) refl f.1)
+  arriving (ChkHeld cell site) found f = at_assert (is_held m (word s m cell)) traps.MutexNotHeld site (leads (pc + 1) (gated l (Holds cell)) refl f.2)
+  arriving (ChkNotHeld cell site) found f = at_assert (not (is_held m (word s m cell))) traps.MutexAlreadyHeld site (leads (pc + 1) l refl f.2)
+  arriving (ChkPositive r site) found f = at_assert (is_positive (int m r)) traps.SizeNotPositive site (passes f)
+  arriving (ChkRoom site) found f = at_assert (nat_lt (length m.own.held) 16) traps.TooManyLocks site (leads (pc + 1) (record l { room = true }) refl f.1)
   arriving (ChkLock cell site) found f = at_lock_check (is_of_null m cell) (word s m cell) site (bases cell (Holds cell) f.2)
   arriving (ChkLockLoaded site) found f = at_lock_check (m.pending == 0) (cell_word s (cell_of m.pending 0)) site (leads (pc + 1) _ refl f.5)
   arriving (Bounds r base cells field site) found f = at_index r (int m r) cells field site found (leads (pc + 1) _ refl f.5.2)

@@ -1,6 +1,8 @@
 -- A turn that is no check of an access, a lock or a sole reference stops its thread with no report.
 use Rattle.std.proofs.Common.{◌≡◌, Some, Option, ℕ, ℤ, pos, negsuc, zero, suc, ◌+◌, ◌*◌, min, Bool, true, false, not, ◌&&◌, ◌||◌, ◌==◌, nat_lt, length, if◌then◌else◌, refl}
 use Rattle.std.specs.Prelude.{Result, Ok, Err}
+use Rattle.sharc_tree.specs.declared.trap.Trap.{Trap}
+use Rattle.sharc_tree.specs.declared.trap.Trap.TheVariants as traps
 use Rattle.sharc_word.specs.declared.step.TheConstants.{THREADS}
 use Rattle.sharc_word.specs.declared.step.WordOp.TheVariants as ops
 use Rattle.sharc_cond.specs.Waiters.{waits_in}
@@ -23,11 +25,11 @@ use Rattle.sharc_code.specs.Arithmetic.{computed, negated, is_zero, holds}
 use Rattle.sharc_code.specs.Layout.{state_word}
 use Rattle.sharc_code.specs.Machine.{Machine, act, int, ref, goes, goes_to, asserts, with_result, has_room, called, returned, holds_none, is_held, indexed, raise, lower, test, after_new, asks_new, new, new_state, elements_of, looks, clear, data_granules, free_looks, empties, emptied, free, layout_at, spawn, with_parameter, entered, start, function_of, withdraws, exit, wakes, signal, is_positive, fields, largest, at_stage, set_ref, accessed, move_ref, trapped, joined, join, woken, word, Local, Asks, step_of}
 use Rattle.sharc_code.specs.declared.state.Stop.{Stop}
-use Rattle.sharc_code.specs.declared.state.Stop.TheVariants.{Trap}
+use Rattle.sharc_code.specs.declared.state.Stop.TheVariants.{Trap as Trapped}
 use Rattle.sharc_code.specs.Path.{after, may_go}
 
 abbrev pub is_trap : Option Stop → Bool
-is_trap (Some (Trap number site)) = true
+is_trap (Some (Trapped why site)) = true
 is_trap _ = false
 
 -- the thread has no other stop than before, or one that is no report, and then it does not go on
@@ -57,11 +59,11 @@ module _ (code : Code) (s : Shape) (m : Machine) where
   at_call : (x : Machine) (pc ints refs site : ℕ) → x.own.stop ≡ m.own.stop → Quits m (called x pc ints refs site)
   at_call x pc ints refs site h = either m (has_room x ints refs) _ _ (Still h) (trap _ refl refl)
 
-  at_result : (r site : ℕ) (z : Result ℤ ℕ) → Quits m (with_result m r site z)
+  at_result : (r site : ℕ) (z : Result ℤ Trap) → Quits m (with_result m r site z)
   at_result r site (Ok z) = same _ refl
   at_result r site (Err c) = trap _ refl refl
 
-  at_assert : (b : Bool) (c site : ℕ) → Quits m (asserts m b c site)
+  at_assert : (b : Bool) (c : Trap) (site : ℕ) → Quits m (asserts m b c site)
   at_assert true c site = same _ refl
   at_assert false c site = trap _ refl refl
 
@@ -141,7 +143,7 @@ module _ (code : Code) (s : Shape) (m : Machine) where
 
   at_join : (z : ℤ) (site found : ℕ) → Quits m (after (join m z site) found)
   at_join (pos n) site found =
-      elim (nat_lt n THREADS) as (λ b. Quits m (after (if b then Asks (step_of (state_word n) ops.Load) (joined m site) else Local (trapped m 7 site)) found)) [
+      elim (nat_lt n THREADS) as (λ b. Quits m (after (if b then Asks (step_of (state_word n) ops.Load) (joined m site) else Local (trapped m traps.NoSuchThread site)) found)) [
         | true ↦ at_joined site found
         | false ↦ trap _ refl refl
       ]
@@ -193,17 +195,17 @@ module _ (code : Code) (s : Shape) (m : Machine) where
   quits (Complement r a) found other = same _ refl
   quits (Not r a) found other = same _ refl
   quits (SameReference r a b) found other = same _ refl
-  quits (ChkWidth width r site) found other = at_assert (holds width (int m r)) 4 site
+  quits (ChkWidth width r site) found other = at_assert (holds width (int m r)) traps.OutOfRange site
   quits (Jump pc) found other = same _ refl
   quits (JumpIfZero r pc) found other = at_jump (is_zero (int m r)) pc
   quits (JumpIfNull r pc) found other = at_jump (ref m r == 0) pc
   quits (Call pc ints refs site) found other = at_call m pc ints refs site refl
   quits (Return site) found other = at_return site
-  quits (ChkNull r site) found other = at_assert (not (ref m r == 0)) 1 site
-  quits (ChkHeld cell site) found other = at_assert (is_held m (word s m cell)) 5 site
-  quits (ChkNotHeld cell site) found other = at_assert (not (is_held m (word s m cell))) 6 site
-  quits (ChkPositive r site) found other = at_assert (is_positive (int m r)) 12 site
-  quits (ChkRoom site) found other = at_assert (nat_lt (length m.own.held) 16) 13 site
+  quits (ChkNull r site) found other = at_assert (not (ref m r == 0)) traps.NullPointer site
+  quits (ChkHeld cell site) found other = at_assert (is_held m (word s m cell)) traps.MutexNotHeld site
+  quits (ChkNotHeld cell site) found other = at_assert (not (is_held m (word s m cell))) traps.MutexAlreadyHeld site
+  quits (ChkPositive r site) found other = at_assert (is_positive (int m r)) traps.SizeNotPositive site
+  quits (ChkRoom site) found other = at_assert (nat_lt (length m.own.held) 16) traps.TooManyLocks site
   quits (ChkLock cell site) found other = absurd (let e : true ≡ false = other in cc)
   quits (ChkLockLoaded site) found other = absurd (let e : true ≡ false = other in cc)
   quits (Bounds r base cells field site) found other = at_index r (int m r) cells field site found

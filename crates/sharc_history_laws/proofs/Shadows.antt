@@ -4,6 +4,7 @@ use Rattle.std.specs.Prelude.{slice_index, slice_index_or, slice_set, nat_lt, bi
 use Rattle.std.proofs.lemmas.Bool.{cases_eq, cases_lt}
 use Rattle.std.proofs.lemmas.Bool.Decides.{nat_tests}
 use Rattle.std.proofs.lemmas.List.{get_or-set_other}
+use Rattle.sharc_tree.specs.declared.trap.Trap.TheVariants as traps
 use Rattle.sharc_word.specs.declared.step.TheConstants.{THREADS}
 use Rattle.sharc_word.specs.declared.step.WordEvent.{WordEvent}
 use Rattle.sharc_word.specs.declared.step.WordOp.{WordOp}
@@ -102,7 +103,7 @@ module _ (s : Shape) where
   to_test (suc h) x = of_count (suc h) _
 
   to_join : (m : Machine) (z : ℤ) (site : ℕ) → A (join m z site)
-  to_join m (pos n) site = elim (nat_lt n THREADS) as (λ b. A (if b then Asks (step_of (state_word n) ops.Load) (joined m site) else Local (trapped m 7 site))) [
+  to_join m (pos n) site = elim (nat_lt n THREADS) as (λ b. A (if b then Asks (step_of (state_word n) ops.Load) (joined m site) else Local (trapped m traps.NoSuchThread site))) [
     | true ↦ Leaves (λ v. refl)
     | false ↦ tt
   ]

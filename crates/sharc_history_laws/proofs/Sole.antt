@@ -2,6 +2,7 @@
 use Rattle.std.proofs.Common.{◌≡◌, ℕ, zero, suc, ◌+◌, ◌*◌, ◌<◌, ◌≤◌, ◌⊎◌, inl, inr, Bool, true, false, List, [], ◌∷◌, Option, Some, None, is_some, if◌then◌else◌, refl, sym, ap, ◌∙◌, subst, ⊎_elim, arith, eqb-true}
 use Rattle.std.specs.Prelude.{nat_eq, slice_index, ◌==◌}
 use Rattle.std.proofs.lemmas.Bool.{cases_eq}
+use Rattle.sharc_tree.specs.declared.trap.Trap.TheVariants as traps
 use Rattle.sharc_word.specs.declared.step.TheConstants.{THREADS}
 use Rattle.sharc_count.specs.Count.{test_of}
 use Rattle.sharc_shadow.specs.declared.shadow_word.Kind.{Kind}
@@ -162,7 +163,7 @@ module _ (code : Code) (s : Shape) (m : Machine) (fresh : m.own.stop ≡ None) (
   not_none y e is = let f : None ≡ Some (NotSole site count) = sym e ∙ is in cc
 
   lock_check : (b : Bool) (mutex at : ℕ) → IsThat (lock_checked m b mutex at) → ⊥
-  lock_check true mutex at is = let f : Some (Trap 1 at) ≡ Some (NotSole site count) = is in cc
+  lock_check true mutex at is = let f : Some (Trap traps.NullPointer at) ≡ Some (NotSole site count) = is in cc
   lock_check false mutex at is = elim (is_held m mutex) as (λ b. IsThat (if b then goes m else stopped m (NoLock at mutex)) → ⊥) [
     | true ↦ λ z. not_none (goes m) fresh z
     | false ↦ λ z. let f : Some (NoLock at mutex) ≡ Some (NotSole site count) = z in cc

@@ -2,6 +2,7 @@
 use Rattle.std.proofs.Common.{◌≡◌, ℕ, ℤ, pos, negsuc, zero, suc, ◌+◌, ◌*◌, ◌/◌, ◌<◌, ◌≤◌, ◌≢◌, Bool, true, false, nat_lt, List, if◌then◌else◌, refl, sym, ap, ◌∙◌, subst, arith}
 use Rattle.std.specs.Prelude.{◌==◌}
 use Rattle.std.proofs.lemmas.Bool.Decides.{nat_tests}
+use Rattle.sharc_tree.specs.declared.trap.Trap.TheVariants as traps
 use Rattle.sharc_word.specs.declared.step.TheConstants.{THREADS}
 use Rattle.sharc_word.specs.declared.step.WordOp.{WordOp}
 use Rattle.sharc_word.specs.declared.step.WordOp.TheVariants as ops
@@ -87,7 +88,7 @@ module _ (s : Shape) (obj : ℕ → ObjectState) (cells : ℕ → ℕ) (heap : H
   to_clear m h cells _ = Leaves (λ v. refl)
 
   to_join : (m : Machine) (z : ℤ) (site : ℕ) → W (join m z site)
-  to_join m (pos n) site = elim (nat_lt n THREADS) as (λ b. W (if b then Asks (step_of (state_word n) ops.Load) (joined m site) else Local (trapped m 7 site))) [
+  to_join m (pos n) site = elim (nat_lt n THREADS) as (λ b. W (if b then Asks (step_of (state_word n) ops.Load) (joined m site) else Local (trapped m traps.NoSuchThread site))) [
     | true ↦ Leaves (λ v. refl)
     | false ↦ tt
   ]

@@ -19,6 +19,8 @@ use Rattle.sharc_ctype.specs.declared.entity.Entity.{Entity}
 use Rattle.sharc_ctype.specs.declared.entity.Numbered.{Numbered}
 use Rattle.sharc_ctype.specs.Entities.{entities_in, first_depth, numbered, numbered_from, positions_of, written_modes}
 use Rattle.sharc_ctype.specs.Resolved.{Resolution}
+use Rattle.sharc_mode.specs.declared.error.ErrorCode.{ErrorCode}
+use Rattle.sharc_mode.specs.declared.error.ErrorCode.TheVariants.{PrivateTarget, LockPathNotConstant, ModeNotAllowed, PrivateField}
 use Rattle.sharc_mode.specs.declared.error.ModeError.{ModeError}
 use Rattle.sharc_mode.specs.declared.finding.Finding.{Finding}
 use Rattle.sharc_mode.specs.declared.finding.Finding.TheVariants.{Wrong, Names, Takes}
@@ -229,46 +231,46 @@ module _ (m : Assignment) (n : Numbered) where
   abbrev fields : List Finding
   fields = private_field_notes m.typed n
 
-  third : holds_private (levels_of m n) ≡ true → IsTold m n 3
+  third : holds_private (levels_of m n) ≡ true → IsTold m n PrivateTarget
   third is =
-      let x : Finding = mismatch 3 span (printed_type m n) (printed_type m n) in
+      let x : Finding = mismatch PrivateTarget span (printed_type m n) (printed_type m n) in
       let here : Contains (private_notes m n) x = subst (λ (b : Bool). Contains (cond b (x ∷ []) []) x) (sym is) (alone x) in
       record {
-        error = record { code = 3; site = span.first; expected = printed_type m n; found = printed_type m n; subject = [] };
+        error = record { code = PrivateTarget; site = span.first; expected = printed_type m n; found = printed_type m n; subject = [] };
         stands = before (private_notes m n ++ path_notes span path ++ mode_notes span mode ++ fields) names x
             (before (private_notes m n ++ path_notes span path ++ mode_notes span mode) fields x (before (private_notes m n ++ path_notes span path) (mode_notes span mode) x (before (private_notes m n) (path_notes span path) x here)));
         coded = refl;
         placed = refl;
       }
 
-  fourth : (p : Path) → path ≡ Some p → IsTold m n 4
+  fourth : (p : Path) → path ≡ Some p → IsTold m n LockPathNotConstant
   fourth p is =
-      let x : Finding = error 4 span (path_text p) in
+      let x : Finding = error LockPathNotConstant span (path_text p) in
       let here : Contains (path_notes span path) x = subst (λ (o : Option Path). Contains (path_notes span o) x) (sym is) (alone x) in
       record {
-        error = record { code = 4; site = span.first; expected = no_type; found = no_type; subject = path_text p };
+        error = record { code = LockPathNotConstant; site = span.first; expected = no_type; found = no_type; subject = path_text p };
         stands = before (private_notes m n ++ path_notes span path ++ mode_notes span mode ++ fields) names x
             (before (private_notes m n ++ path_notes span path ++ mode_notes span mode) fields x (before (private_notes m n ++ path_notes span path) (mode_notes span mode) x (behind (private_notes m n) (path_notes span path) x here)));
         coded = refl;
         placed = refl;
       }
 
-  fifth : (x : Mode) → mode ≡ Some x → IsTold m n 5
+  fifth : (x : Mode) → mode ≡ Some x → IsTold m n ModeNotAllowed
   fifth w is =
-      let x : Finding = error 5 span (mode_text w) in
+      let x : Finding = error ModeNotAllowed span (mode_text w) in
       let here : Contains (mode_notes span mode) x = subst (λ (o : Option Mode). Contains (mode_notes span o) x) (sym is) (alone x) in
       record {
-        error = record { code = 5; site = span.first; expected = no_type; found = no_type; subject = mode_text w };
+        error = record { code = ModeNotAllowed; site = span.first; expected = no_type; found = no_type; subject = mode_text w };
         stands = before (private_notes m n ++ path_notes span path ++ mode_notes span mode ++ fields) names x
             (before (private_notes m n ++ path_notes span path ++ mode_notes span mode) fields x (behind (private_notes m n ++ path_notes span path) (mode_notes span mode) x here));
         coded = refl;
         placed = refl;
       }
 
-  same_code : (a b : ℕ) → Some a ≡ Some b → a ≡ b
+  same_code : (a b : ErrorCode) → Some a ≡ Some b → a ≡ b
   same_code a b is = cc
 
-  no_code : (b : ℕ) → None ≡ Some b → ⊥
+  no_code : (b : ErrorCode) → None ≡ Some b → ⊥
   no_code b is = cc
 
   some_path : (o : Option Path) → is_some o ≡ true → (p : Path) × (o ≡ Some p)
@@ -279,16 +281,16 @@ module _ (m : Assignment) (n : Numbered) where
   some_mode None is = absurd (false≢true is)
   some_mode (Some x) is = (x, refl)
 
-  told_by : (a b c : Bool) → (a ≡ true → IsTold m n 3) → is_some path ≡ b → is_some mode ≡ c → (code : ℕ) → lowest a b c ≡ Some code → IsTold m n code
-  told_by true b c first pathed moded code is = subst (IsTold m n) (same_code 3 code is) (first refl)
-  told_by false true c first pathed moded code is = let p = some_path path pathed in subst (IsTold m n) (same_code 4 code is) (fourth p.0 p.1)
-  told_by false false true first pathed moded code is = let x = some_mode mode moded in subst (IsTold m n) (same_code 5 code is) (fifth x.0 x.1)
+  told_by : (a b c : Bool) → (a ≡ true → IsTold m n PrivateTarget) → is_some path ≡ b → is_some mode ≡ c → (code : ErrorCode) → lowest a b c ≡ Some code → IsTold m n code
+  told_by true b c first pathed moded code is = subst (IsTold m n) (same_code PrivateTarget code is) (first refl)
+  told_by false true c first pathed moded code is = let p = some_path path pathed in subst (IsTold m n) (same_code LockPathNotConstant code is) (fourth p.0 p.1)
+  told_by false false true first pathed moded code is = let x = some_mode mode moded in subst (IsTold m n) (same_code ModeNotAllowed code is) (fifth x.0 x.1)
   told_by false false false first pathed moded code is = absurd (no_code code is)
 
   -- ---- where none is reported, there is neither an M4 nor an M5
 
   abbrev IsOther : Finding → Type 0
-  IsOther (Wrong e) = (e.code ≡ 4 → ⊥) × (e.code ≡ 5 → ⊥)
+  IsOther (Wrong e) = (e.code ≡ LockPathNotConstant → ⊥) × (e.code ≡ ModeNotAllowed → ⊥)
   IsOther (Names x) = Unit {0}
   IsOther (Takes s x) = Unit {0}
 
@@ -301,8 +303,8 @@ module _ (m : Assignment) (n : Numbered) where
   both [] b first second = second
   both (x ∷ a) b first second = (first.0, both a b first.1 second)
 
-  private_other : (b : Bool) → AllByRecursion IsOther (cond b (mismatch 3 span (printed_type m n) (printed_type m n) ∷ []) [])
-  private_other true = ((λ is. omega (arith, is), λ is. omega (arith, is)), tt)
+  private_other : (b : Bool) → AllByRecursion IsOther (cond b (mismatch PrivateTarget span (printed_type m n) (printed_type m n) ∷ []) [])
+  private_other true = ((λ is. absurd (cc), λ is. absurd (cc)), tt)
   private_other false = tt
 
   path_other : (o : Option Path) → is_some o ≡ false → AllByRecursion IsOther (path_notes span o)
@@ -313,11 +315,11 @@ module _ (m : Assignment) (n : Numbered) where
   mode_other None is = tt
   mode_other (Some x) is = absurd (false≢true (sym is))
 
-  where_other : (b : Bool) (subject : List ℕ) → AllByRecursion IsOther (error_where b 6 span subject)
-  where_other true subject = ((λ is. omega (arith, is), λ is. omega (arith, is)), tt)
+  where_other : (b : Bool) (subject : List ℕ) → AllByRecursion IsOther (error_where b PrivateField span subject)
+  where_other true subject = ((λ is. absurd (cc), λ is. absurd (cc)), tt)
   where_other false subject = tt
 
-  field_other : (b c : Bool) (subject : List ℕ) → AllByRecursion IsOther (cond b (error_where c 6 span subject) [])
+  field_other : (b c : Bool) (subject : List ℕ) → AllByRecursion IsOther (cond b (error_where c PrivateField span subject) [])
   field_other true c subject = where_other c subject
   field_other false c subject = tt
 
@@ -350,12 +352,12 @@ module _ (m : Assignment) (n : Numbered) where
       (names_other levels)
 
   neither : (a b c : Bool) → is_some path ≡ b → is_some mode ≡ c → lowest a b c ≡ None → (is_some path ≡ false) × (is_some mode ≡ false)
-  neither true b c pathed moded is = absurd (no_code 3 (sym is))
-  neither false true c pathed moded is = absurd (no_code 4 (sym is))
-  neither false false true pathed moded is = absurd (no_code 5 (sym is))
+  neither true b c pathed moded is = absurd (no_code PrivateTarget (sym is))
+  neither false true c pathed moded is = absurd (no_code LockPathNotConstant (sym is))
+  neither false false true pathed moded is = absurd (no_code ModeNotAllowed (sym is))
   neither false false false pathed moded is = (pathed, moded)
 
-  none_other : code_of m n ≡ None → (told : (code : ℕ) × IsTold m n code) → IsOther (Wrong told.1.error)
+  none_other : code_of m n ≡ None → (told : (code : ErrorCode) × IsTold m n code) → IsOther (Wrong told.1.error)
   none_other is told =
       let no = neither (holds_private (meant (place_of n.entity.role) n.entity.written.ctype.base levels)) (is_some path) (is_some mode) refl refl is in
       others_at (type_notes m n) (Wrong told.1.error) told.1.stands.0 told.1.stands.1 told.1.stands.2 (others no.0 no.1)
@@ -364,6 +366,6 @@ pub types_are_told : SettledStay → SettledAreCounted → TypesAreTold
 types_are_told stay counted m least n at = record {
   told = told_by m n (holds_private (meant (place_of n.entity.role) n.entity.written.ctype.base n.entity.written.ctype.levels)) (is_some (path m n)) (is_some (mode m n))
       (λ is. third m n (holds_by n.entity.role n.entity.written.ctype.base n.entity.written.ctype.levels (position_levels m n) (positions_agree stay counted m least n at) is)) refl refl;
-  no_path = λ none told. (none_other m n none (4, told)).0 told.coded;
-  no_mode = λ none told. (none_other m n none (5, told)).1 told.coded;
+  no_path = λ none told. (none_other m n none (LockPathNotConstant, told)).0 told.coded;
+  no_mode = λ none told. (none_other m n none (ModeNotAllowed, told)).1 told.coded;
 }

@@ -3,6 +3,7 @@ use Rattle.std.proofs.Common.{◌≡◌, ℕ, ℤ, zero, suc, ◌+◌, ◌^◌, 
 use Rattle.std.specs.Prelude.{length, filter, map, nat_lt, slice_set, ◌==◌}
 use Rattle.std.proofs.lemmas.Bool.Decides.{nat_tests}
 use Rattle.std.proofs.lemmas.List.{length-set, get_or-set_same, get_or-set_other}
+use Rattle.sharc_tree.specs.declared.trap.Trap.TheVariants as traps
 use Rattle.sharc_code.specs.declared.state.TheConstants.{FRAMES}
 use Rattle.sharc_code.specs.declared.code.Code.{Code}
 use Rattle.sharc_code.specs.declared.instr.Instr.TheVariants as instrs
@@ -183,7 +184,7 @@ module _ (x : Targets) (code : Code) (s : Shape) (ls : Labels) (wt : IsWellTyped
       (world, subst (λ y. State x code s ls y world) (sym (local_turn code s g tr may n e)) k, Silently (record { obj = refl; mutex = refl; passed = λ o p u b q. q; sole = λ u r e. (e, refl) })) in
       let room_at : (n : Machine) → turn code s m ≡ Local n → g.made t + counted n.at.state ≤ 100000000 = λ n e. room_of code s g tr may g.words n (local_turn code s g tr may n e) in
       let e0 = ap (λ i. Rattle.sharc_code.specs.Machine.act code s i m) is in
-      elim (has_room m ints refs) as (λ b. has_room m ints refs ≡ b → turn code s m ≡ Local (cond b m' (stopped m (Trap 10 site))) → Turned x code s ls g world tr) [
+      elim (has_room m ints refs) as (λ b. has_room m ints refs ≡ b → turn code s m ≡ Local (cond b m' (stopped m (Trap traps.CallDepth site))) → Turned x code s ls g world tr) [
         | true ↦ λ b e.
             let caller = calls.caller.0 in
             let ec : here.function ≡ Some caller = calls.caller.1 in
@@ -217,5 +218,5 @@ module _ (x : Targets) (code : Code) (s : Shape) (ls : Labels) (wt : IsWellTyped
             (subst (GateStands s world t m') (sym gate') shut)
             (λ q. let z : false ≡ true = entry.room q in absurd (cc)))
             (λ q. absurd (cc)) (room_at m' e))
-        | false ↦ λ b e. settled (stopped m (Trap 10 site)) e (stop_state x code s ls wt g world st t on go i is refl (Trap 10 site) shut (room_at (stopped m (Trap 10 site)) e))
+        | false ↦ λ b e. settled (stopped m (Trap traps.CallDepth site)) e (stop_state x code s ls wt g world st t on go i is refl (Trap traps.CallDepth site) shut (room_at (stopped m (Trap traps.CallDepth site)) e))
       ] refl e0

@@ -7,6 +7,8 @@ use Rattle.sharc_code.specs.declared.instr.Operator.TheVariants.{Add, Subtract, 
 use Rattle.sharc_code.specs.declared.instr.Width.{Width}
 use Rattle.sharc_code.specs.declared.instr.Width.TheVariants.{Char, Int, Long}
 use Rattle.std.specs.Int.{int_shr}
+use Rattle.sharc_tree.specs.declared.trap.Trap.{Trap}
+use Rattle.sharc_tree.specs.declared.trap.Trap.TheVariants as traps
 use Rattle.sharc_code.specs.declared.instr.Instr.{Instr}
 use Rattle.sharc_code.specs.declared.instr.Instr.TheVariants as instrs
 use Rattle.sharc_code.specs.declared.shape.Shape.{Shape}
@@ -26,24 +28,24 @@ use Rattle.sharc_invariant.proofs.Operators.{rem_holds, shr_holds, and_holds, or
 use Rattle.sharc_invariant.proofs.Steps.{results, numbers, of_turn}
 
 -- a stop, or a value that the width holds
-abbrev Gives : Width → Result ℤ ℕ → Type 0
+abbrev Gives : Width → Result ℤ Trap → Type 0
 Gives w (Ok v) = holds w v ≡ true
 Gives w (Err c) = Unit {0}
 
-gives_value : (w : Width) (z : Result ℤ ℕ) (v : ℤ) → Gives w z → z ≡ Ok v → holds w v ≡ true
+gives_value : (w : Width) (z : Result ℤ Trap) (v : ℤ) → Gives w z → z ≡ Ok v → holds w v ≡ true
 gives_value w z v h e = subst (Gives w) e h
 
 range_gives : (w : Width) (z : ℤ) → Gives w (in_range w z)
-range_gives w z = elim (holds w z) as (λ b. holds w z ≡ b → Gives w (cond b (Ok z) (Err 4))) [ true ↦ λ h. h | false ↦ λ h. tt ] refl
+range_gives w z = elim (holds w z) as (λ b. holds w z ≡ b → Gives w (cond b (Ok z) (Err traps.OutOfRange))) [ true ↦ λ h. h | false ↦ λ h. tt ] refl
 
 divide_gives : (w : Width) (a b : ℤ) → Gives w (divided w a b (int_div a b))
-divide_gives w a b = elim (is_zero b) as (λ z. Gives w (cond z (Err 3) (cond (holds w (int_div a b)) (Ok (int_div a b)) (Err 4)))) [
+divide_gives w a b = elim (is_zero b) as (λ z. Gives w (cond z (Err traps.DivisionByZero) (cond (holds w (int_div a b)) (Ok (int_div a b)) (Err traps.OutOfRange)))) [
   | true ↦ tt
-  | false ↦ elim (holds w (int_div a b)) as (λ c. holds w (int_div a b) ≡ c → Gives w (cond c (Ok (int_div a b)) (Err 4))) [ true ↦ λ h. h | false ↦ λ h. tt ] refl
+  | false ↦ elim (holds w (int_div a b)) as (λ c. holds w (int_div a b) ≡ c → Gives w (cond c (Ok (int_div a b)) (Err traps.OutOfRange))) [ true ↦ λ h. h | false ↦ λ h. tt ] refl
 ]
 
 shift_gives : (w : Width) (a b : ℤ) → Gives w (computed w ShiftLeft a b)
-shift_gives w a (pos n) = elim (nat_lt n (value_bits w + 1)) as (λ c. Gives w (cond c (in_range w (a *ℤ pos (2 ^ n))) (Err 4))) [ true ↦ range_gives w (a *ℤ pos (2 ^ n)) | false ↦ tt ]
+shift_gives w a (pos n) = elim (nat_lt n (value_bits w + 1)) as (λ c. Gives w (cond c (in_range w (a *ℤ pos (2 ^ n))) (Err traps.OutOfRange))) [ true ↦ range_gives w (a *ℤ pos (2 ^ n)) | false ↦ tt ]
 shift_gives w a (negsuc n) = tt
 
 truth_gives : (w : Width) (b : Bool) → holds w (truth b) ≡ true
@@ -55,13 +57,13 @@ truth_gives Long true = refl
 truth_gives Long false = refl
 
 rem_gives : (w : Width) (a b : ℤ) → holds w a ≡ true → Gives w (divided w a b (int_rem a b))
-rem_gives w a b h = elim (is_zero b) as (λ z. Gives w (cond z (Err 3) (cond (holds w (int_div a b)) (Ok (int_rem a b)) (Err 4)))) [
+rem_gives w a b h = elim (is_zero b) as (λ z. Gives w (cond z (Err traps.DivisionByZero) (cond (holds w (int_div a b)) (Ok (int_rem a b)) (Err traps.OutOfRange)))) [
   | true ↦ tt
-  | false ↦ elim (holds w (int_div a b)) as (λ c. Gives w (cond c (Ok (int_rem a b)) (Err 4))) [ true ↦ rem_holds w a b h | false ↦ tt ]
+  | false ↦ elim (holds w (int_div a b)) as (λ c. Gives w (cond c (Ok (int_rem a b)) (Err traps.OutOfRange))) [ true ↦ rem_holds w a b h | false ↦ tt ]
 ]
 
 right_gives : (w : Width) (a b : ℤ) → holds w a ≡ true → Gives w (computed w ShiftRight a b)
-right_gives w a (pos n) h = elim (nat_lt n (value_bits w + 1)) as (λ c. Gives w (cond c (Ok (int_shr a n)) (Err 4))) [ true ↦ shr_holds w a n h | false ↦ tt ]
+right_gives w a (pos n) h = elim (nat_lt n (value_bits w + 1)) as (λ c. Gives w (cond c (Ok (int_shr a n)) (Err traps.OutOfRange))) [ true ↦ shr_holds w a n h | false ↦ tt ]
 right_gives w a (negsuc n) h = tt
 
 -- of values of the width an operator gives one of it, or a stop; a comparison does so of any values

@@ -1,6 +1,8 @@
 -- Only an Exit makes a thread one that has returned.
 use Rattle.std.proofs.Common.{◌≡◌, ℕ, ℤ, zero, suc, ◌+◌, ◌||◌, ◌&&◌, Bool, true, false, cond, refl, ap, ◌∙◌}
 use Rattle.std.specs.Prelude.{pos, negsuc, length, slice_index_or, nat_lt, ◌==◌, not, Result, Ok, Err, is_some, slice_set}
+use Rattle.sharc_tree.specs.declared.trap.Trap.{Trap}
+use Rattle.sharc_tree.specs.declared.trap.Trap.TheVariants as traps
 use Rattle.sharc_word.specs.declared.step.TheConstants.{THREADS}
 use Rattle.sharc_granule.specs.State.{NewView, told, turn_of}
 use Rattle.sharc_granule.specs.declared.stage.NewTurn.{NewTurn}
@@ -45,7 +47,7 @@ still m w b e = ap (λ c. c || b) w ∙ e
 called_on : (m : Machine) → is_withdrawing m.own.stage ≡ false → (pc ints refs site : ℕ) → On (called m pc ints refs site)
 called_on m w pc ints refs site = elim (has_room m ints refs) as (λ c. On (cond c
     (record m { at = record { pc = pc; ints = m.at.ints + ints; refs = m.at.refs + refs; depth = m.at.depth + 1; state = RunsOn }; frames = slice_set m.frames m.at.depth record { pc = m.at.pc + 1; ints = m.at.ints; refs = m.at.refs } })
-    (trapped m 10 site))) [ true ↦ ap (λ c. c || false) w | false ↦ ap (λ c. c || false) w ]
+    (trapped m traps.CallDepth site))) [ true ↦ ap (λ c. c || false) w | false ↦ ap (λ c. c || false) w ]
 
 with_stage : (m : Machine) (p : Parameter) (found : ℕ) → is_withdrawing (with_parameter m p found).own.stage ≡ is_withdrawing m.own.stage
 with_stage m parameters.None found = refl
@@ -63,11 +65,11 @@ module _ (m : Machine) (w : is_withdrawing m.own.stage ≡ false) where
   if_on true a b h k = h
   if_on false a b h k = k
 
-  asserted : (c : Bool) (code site : ℕ) → On (asserts m c code site)
+  asserted : (c : Bool) (trap : Trap) (site : ℕ) → On (asserts m c trap site)
   asserted true code site = on
   asserted false code site = on
 
-  resulted : (r site : ℕ) (z : Result ℤ ℕ) → On (with_result m r site z)
+  resulted : (r site : ℕ) (z : Result ℤ Trap) → On (with_result m r site z)
   resulted r site (Ok z) = on
   resulted r site (Err code) = on
 
@@ -76,11 +78,11 @@ module _ (m : Machine) (w : is_withdrawing m.own.stage ≡ false) where
   locks false mutex site = if_on (is_held m mutex) (goes m) (stopped m (Rattle.sharc_code.specs.declared.state.Stop.TheVariants.NoLock site mutex)) on on
 
   indexes : (r : ℕ) (i : ℤ) (cells field site elements : ℕ) → On (indexed m r i cells field site elements)
-  indexes r (pos i) cells field site elements = if_on (nat_lt i elements) (goes (set_int m r _)) (trapped m 2 site) on on
+  indexes r (pos i) cells field site elements = if_on (nat_lt i elements) (goes (set_int m r _)) (trapped m traps.IndexOutOfBounds site) on on
   indexes r (negsuc i) cells field site elements = on
 
   returns : (code : Code) (site : ℕ) → On (returned code m site)
-  returns code site = if_on (m.at.depth == 0) (goes_to m (length code.instrs.items)) _ on (if_on (m.at.depth == 1 && not (holds_none m.own.held)) (trapped m 11 site) (back_to m _ (slice_index_or m.frames _ no_frame)) on on)
+  returns code site = if_on (m.at.depth == 0) (goes_to m (length code.instrs.items)) _ on (if_on (m.at.depth == 1 && not (holds_none m.own.held)) (trapped m traps.ReturnWithLockHeld site) (back_to m _ (slice_index_or m.frames _ no_frame)) on on)
 
   calls : (pc ints refs site : ℕ) → On (called m pc ints refs site)
   calls = called_on m w
@@ -148,13 +150,13 @@ module _ (m : Machine) (w : is_withdrawing m.own.stage ≡ false) where
   spawns r function from site found (Names n) = refl
   spawns r function from site found (Hands n) = refl
   spawns r function from site found (Begins n) = refl
-  spawns r function from site found _ = if_on (nat_lt found THREADS) (at_stage m (Names found)) (trapped m 8 site) refl on
+  spawns r function from site found _ = if_on (nat_lt found THREADS) (at_stage m (Names found)) (trapped m traps.ThreadLimit site) refl on
 
   joins : (site found : ℕ) → On (joined m site found)
-  joins site found = if_on (found == 0) (trapped m 7 site) _ on (if_on (found == 1 || found == 2) (fails m) (goes m) on on)
+  joins site found = if_on (found == 0) (trapped m traps.NoSuchThread site) _ on (if_on (found == 1 || found == 2) (fails m) (goes m) on on)
 
   joins_turn : (z : ℤ) (site found : ℕ) → On (after (join m z site) found)
-  joins_turn (pos n) site found = elim (nat_lt n THREADS) as (λ c. On (after (cond c (Asks (step_of (state_word n) Load) (joined m site)) (Local (trapped m 7 site))) found)) [ true ↦ joins site found | false ↦ on ]
+  joins_turn (pos n) site found = elim (nat_lt n THREADS) as (λ c. On (after (cond c (Asks (step_of (state_word n) Load) (joined m site)) (Local (trapped m traps.NoSuchThread site))) found)) [ true ↦ joins site found | false ↦ on ]
   joins_turn (negsuc n) site found = on
 
   starts : (code : Code) (site found : ℕ) (y : Stage) → On (after (start code m site y) found)
@@ -183,17 +185,17 @@ module _ (m : Machine) (w : is_withdrawing m.own.stage ≡ false) where
   goes_on code s found (instrs.Complement r a) e = on
   goes_on code s found (instrs.Not r a) e = on
   goes_on code s found (instrs.SameReference r a b) e = on
-  goes_on code s found (instrs.ChkWidth width r site) e = asserted (holds width (int m r)) 4 site
+  goes_on code s found (instrs.ChkWidth width r site) e = asserted (holds width (int m r)) traps.OutOfRange site
   goes_on code s found (instrs.Jump pc) e = on
   goes_on code s found (instrs.JumpIfZero r pc) e = if_on (is_zero (int m r)) (goes_to m pc) (goes m) on on
   goes_on code s found (instrs.JumpIfNull r pc) e = if_on (ref m r == 0) (goes_to m pc) (goes m) on on
   goes_on code s found (instrs.Call pc ints refs site) e = calls pc ints refs site
   goes_on code s found (instrs.Return site) e = returns code site
-  goes_on code s found (instrs.ChkNull r site) e = asserted (not (ref m r == 0)) 1 site
-  goes_on code s found (instrs.ChkHeld cell site) e = asserted (is_held m (word s m cell)) 5 site
-  goes_on code s found (instrs.ChkNotHeld cell site) e = asserted (not (is_held m (word s m cell))) 6 site
-  goes_on code s found (instrs.ChkPositive r site) e = asserted (is_positive (int m r)) 12 site
-  goes_on code s found (instrs.ChkRoom site) e = asserted (nat_lt (length m.own.held) 16) 13 site
+  goes_on code s found (instrs.ChkNull r site) e = asserted (not (ref m r == 0)) traps.NullPointer site
+  goes_on code s found (instrs.ChkHeld cell site) e = asserted (is_held m (word s m cell)) traps.MutexNotHeld site
+  goes_on code s found (instrs.ChkNotHeld cell site) e = asserted (not (is_held m (word s m cell))) traps.MutexAlreadyHeld site
+  goes_on code s found (instrs.ChkPositive r site) e = asserted (is_positive (int m r)) traps.SizeNotPositive site
+  goes_on code s found (instrs.ChkRoom site) e = asserted (nat_lt (length m.own.held) 16) traps.TooManyLocks site
   goes_on code s found (instrs.ChkLock cell site) e = locks (is_of_null m cell) (word s m cell) site
   goes_on code s found (instrs.ChkLockLoaded site) e = locks (m.pending == 0) (cell_word s (cell_of m.pending 0)) site
   goes_on code s found (instrs.Bounds r base cells field site) e = indexes r _ cells field site found

@@ -1,6 +1,7 @@
 -- The checks of mutexes.
 use Rattle.std.proofs.Common.{◌≡◌, ℕ, ℤ, ◌+◌, ◌⊎◌, ◌≢◌, true, false, cond, Some, None, refl, sym, ap, ◌∙◌, subst, inl, inr, ⊎_elim}
 use Rattle.std.specs.Prelude.{◌==◌}
+use Rattle.sharc_tree.specs.declared.trap.Trap.TheVariants as traps
 use Rattle.sharc_code.specs.declared.code.Code.{Code}
 use Rattle.sharc_code.specs.declared.instr.Cell.{Cell}
 use Rattle.sharc_code.specs.declared.instr.Cell.TheVariants as cells
@@ -88,7 +89,7 @@ module _ (x : Targets) (code : Code) (s : Shape) (ls : Labels) (wt : IsWellTyped
 
   pub Held_keeps : (c : Cell) (site : ℕ) → instr_at code (g.threads tr.thread).at.pc ≡ instrs.ChkHeld c site → Done
   Held_keeps c site is = let i = instrs.ChkHeld c site in let f = fine x code s ls wt g world st tr.thread may.started may.next.runs i is refl in
-      asserted x code s ls wt g world st tr may i is refl (is_held m (word s m c)) 5 site (of_turn x code s ls wt g world st tr may i is refl _ refl) f.0
+      asserted x code s ls wt g world st tr may i is refl (is_held m (word s m c)) traps.MutexNotHeld site (of_turn x code s ls wt g world st tr may i is refl _ refl) f.0
       (λ b e. go_held i is refl c here e f.0 b f.2 refl refl (top x code s ls wt g world st t may.started may.next.runs i is refl))
 
   pub Lock_check_keeps : (c : Cell) (site : ℕ) → instr_at code (g.threads tr.thread).at.pc ≡ instrs.ChkLock c site → Done
@@ -98,7 +99,7 @@ module _ (x : Targets) (code : Code) (s : Shape) (ls : Labels) (wt : IsWellTyped
       let tp = top x code s ls wt g world st t may.started may.next.runs i is refl in
       let e0 = of_turn x code s ls wt g world st tr may i is refl _ refl in
       elim (is_of_null m c) as (λ n. is_of_null m c ≡ n → turn code s m ≡ Local (lock_checked m n (word s m c) site) → Done) [
-        | true ↦ λ n e. stops x code s ls wt g world st tr may i is refl (Trap 1 site) e f.0
+        | true ↦ λ n e. stops x code s ls wt g world st tr may i is refl (Trap traps.NullPointer site) e f.0
         | false ↦ λ n e. elim (is_held m (word s m c)) as (λ b. is_held m (word s m c) ≡ b → turn code s m ≡ Local (cond b (goes m) (stopped m (NoLock site (word s m c)))) → Done) [
           | true ↦ λ b e. go_held i is refl c (knows_base here c) e f.0 b (base_leads c f.2) (base_function c) (base_room c)
               (base_top c names n (λ r. reads x code s ls wt g world st tr may i is refl r) tp)
@@ -192,7 +193,7 @@ module _ (x : Targets) (code : Code) (s : Shape) (ls : Labels) (wt : IsWellTyped
         Silently (record { obj = refl; mutex = refl; passed = λ o p u b q. q; sole = λ u r e. let ne : u ≡ t → ⊥ = λ q. alone r (ap world.win (sym q) ∙ e) in (put_other world.win t u win ne ∙ e, refl) }),
       ) in
       elim (m.pending == 0) as (λ n. (m.pending == 0) ≡ n → turn code s m ≡ Local (lock_checked m n mutex site) → Done) [
-        | true ↦ λ n e. stop_loaded i is refl (Trap 1 site) c f.2 gate' e
+        | true ↦ λ n e. stop_loaded i is refl (Trap traps.NullPointer site) c f.2 gate' e
         | false ↦ λ n e. elim (is_held m mutex) as (λ b. is_held m mutex ≡ b → turn code s m ≡ Local (cond b (goes m) (stopped m (NoLock site mutex))) → Done) [
           | true ↦ λ b e. done_with e (IsLoaded (base_of_cell m c) (number_in m c) m.pending) (subst (WinOk (lang_of x) world t) gate' (st.inv.wins t))
               (subst (GateStands s (set_win world t (IsLoaded (base_of_cell m c) (number_in m c) m.pending)) t m') (sym f.5.gate)

@@ -4,6 +4,7 @@ use Rattle.std.specs.Prelude.{slice_index, nat_lt}
 use Rattle.std.proofs.lemmas.Bool.{cases_eq}
 use Rattle.std.proofs.lemmas.Bool.Decides.{nat_tests}
 use Rattle.std.proofs.Math.Nat.{mul-le-mul_left, mul_comm}
+use Rattle.sharc_tree.specs.declared.trap.Trap.TheVariants as traps
 use Rattle.sharc_word.specs.declared.step.WordOp.TheVariants.{Load}
 use Rattle.sharc_code.specs.declared.code.Code.{Code}
 use Rattle.sharc_code.specs.declared.instr.Instr.{Instr}
@@ -107,16 +108,16 @@ module _ (x : Targets) (code : Code) (s : Shape) (ls : Labels) (wt : IsWellTyped
     same_world : (m' : Machine) → after ≡ made_turn g tr.thread g.words m' → State x code s ls (made_turn g tr.thread g.words m') world → Turned x code s ls g world tr
     same_world m' e k = (world, subst (λ y. State x code s ls y world) (sym e) k, Silently (record { obj = refl; mutex = refl; passed = λ o p u b q. q; sole = λ u r e. (e, refl) }))
 
-    stops_at : (site : ℕ) → here.gate ≡ Closed → after ≡ made_turn g tr.thread g.words (stopped (g.threads tr.thread) (Trap 2 site)) → Turned x code s ls g world tr
-    stops_at site gt e = same_world (stopped m (Trap 2 site)) e (stop_state x code s ls wt g world st t may.started may.next.runs i is single (Trap 2 site)
-        (is_shut x code s ls wt g world st t may.started may.next.runs i is single gt) (room_of code s g tr may g.words (stopped m (Trap 2 site)) e))
+    stops_at : (site : ℕ) → here.gate ≡ Closed → after ≡ made_turn g tr.thread g.words (stopped (g.threads tr.thread) (Trap traps.IndexOutOfBounds site)) → Turned x code s ls g world tr
+    stops_at site gt e = same_world (stopped m (Trap traps.IndexOutOfBounds site)) e (stop_state x code s ls wt g world st t may.started may.next.runs i is single (Trap traps.IndexOutOfBounds site)
+        (is_shut x code s ls wt g world st t may.started may.next.runs i is single gt) (room_of code s g tr may g.words (stopped m (Trap traps.IndexOutOfBounds site)) e))
 
     indexed_keeps : (r count field site elements : ℕ) (N : Element → Number) (d : Element) → here.gate ≡ Closed → IsInt code here r → IsElement here (here.ints r) d → Leads ls ((g.threads tr.thread).at.pc + 1) (set_number here r (N d))
         → ((n : ℕ) → n < elements → (f : ℕ → ℤ) → ElementStands f n d → NumberStands x st.elements (refs_at view (g.threads tr.thread).at.refs) (types_at view (g.threads tr.thread).at.refs) f (int_of (field_of n count field)) (N d))
         → (z : ℤ) → int (g.threads tr.thread) r ≡ z → after ≡ made_turn g tr.thread g.words (indexed (g.threads tr.thread) r z count field site elements) → Turned x code s ls g world tr
     indexed_keeps r count field site elements N d gt isi isd leads stands (negsuc n) ez e = stops_at site gt e
     indexed_keeps r count field site elements N d gt isi isd leads stands (pos n) ez e =
-        elim (nat_lt n elements) as (λ b. nat_lt n elements ≡ b → after ≡ made_turn g t g.words (cond b (goes (set_int m r (int_of (field_of n count field)))) (stopped m (Trap 2 site))) → Turned x code s ls g world tr) [
+        elim (nat_lt n elements) as (λ b. nat_lt n elements ≡ b → after ≡ made_turn g t g.words (cond b (goes (set_int m r (int_of (field_of n count field)))) (stopped m (Trap traps.IndexOutOfBounds site))) → Turned x code s ls g world tr) [
           | true ↦ λ b e.
               let z = int_of (field_of n count field) in
               let m' = goes (set_int m r z) in

@@ -6,6 +6,7 @@ use Rattle.std.proofs.lemmas.Bool.{cases_eq, cases_lt, eqb-true, eqb-false}
 use Rattle.std.proofs.lemmas.Bool.Decides.{nat_tests}
 use Rattle.std.proofs.lemmas.List.{set-get_or, get_or_past, length-set}
 use Rattle.std.proofs.Math.Pow.{pow_mono}
+use Rattle.sharc_tree.specs.declared.trap.Trap.TheVariants as traps
 use Rattle.sharc_word.specs.declared.step.TheConstants.{THREADS}
 use Rattle.sharc_word.specs.declared.step.WordOp.TheVariants.{Load, Swap, Cas}
 use Rattle.sharc_granule.specs.Laws.{NewLaws}
@@ -177,9 +178,9 @@ module _ (x : Targets) (code : Code) (s : Shape) (ls : Labels) (wt : IsWellTyped
       }
 
   -- the heap is full
-  full : made_turn g tr.thread g.words (trapped (g.threads tr.thread) 9 site) ≡ made_turn g tr.thread g.words (trapped (g.threads tr.thread) 9 site) → g.made tr.thread + 1 ≤ 100000000 → State x code s ls (made_turn g tr.thread g.words (trapped (g.threads tr.thread) 9 site)) world
-  full _ few = builds_state x code s ls wt fits g world st tr may r count cells site is making Stopped m.own.stage (Some (Trap 9 site)) making refl g.words same_low heap0 quiet_others
-      (quiet_stands (trapped m 9 site) (λ k _. refl)) st.sim (λ i _. refl) (λ e. absurd (cc)) few
+  full : made_turn g tr.thread g.words (trapped (g.threads tr.thread) traps.HeapFull site) ≡ made_turn g tr.thread g.words (trapped (g.threads tr.thread) traps.HeapFull site) → g.made tr.thread + 1 ≤ 100000000 → State x code s ls (made_turn g tr.thread g.words (trapped (g.threads tr.thread) traps.HeapFull site)) world
+  full _ few = builds_state x code s ls wt fits g world st tr may r count cells site is making Stopped m.own.stage (Some (Trap traps.HeapFull site)) making refl g.words same_low heap0 quiet_others
+      (quiet_stands (trapped m traps.HeapFull site) (λ k _. refl)) st.sim (λ i _. refl) (λ e. absurd (cc)) few
 
   -- a head of a list is a granule
   head_low : (k : ℕ) → k < 16 → making_of (g.threads tr.thread).own.stage ≡ None → (slice_index (g.threads tr.thread).own.heads k < granules s) × (st.heap.heads tr.thread (2 ^ (k + 1)) ≡ slice_index (g.threads tr.thread).own.heads k)
@@ -210,8 +211,8 @@ module _ (x : Targets) (code : Code) (s : Shape) (ls : Labels) (wt : IsWellTyped
             (builds_state x code s ls wt fits g world st tr may r count cells site is making RunsOn (Makes v) m.own.stop tt refl g.words same_low heap0 quiet_others (quiet_stands m' heads) st.sim (λ i _. refl)
             (λ _. (ea, subst (BuildsAt g.words heap0 t v) (sym e) (refl, le_true (found + a.block) a.end le))) few)
         | false ↦ λ le e.
-            let d : after ≡ made_turn g t g.words (trapped m 9 site) = done ∙ ap (λ y. made_turn g t g.words (after_new m r site v (turn_of_stage a y))) e in
-            silent (made_turn g t g.words (trapped m 9 site)) d (full refl (room_of code s g tr may g.words (trapped m 9 site) d))
+            let d : after ≡ made_turn g t g.words (trapped m traps.HeapFull site) = done ∙ ap (λ y. made_turn g t g.words (after_new m r site v (turn_of_stage a y))) e in
+            silent (made_turn g t g.words (trapped m traps.HeapFull site)) d (full refl (room_of code s g tr may g.words (trapped m traps.HeapFull site) d))
       ] refl ev
 
   abbrev first_view : Bool → NewView

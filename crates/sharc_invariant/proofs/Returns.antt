@@ -3,6 +3,7 @@ use Rattle.std.proofs.Common.{◌≡◌, ℕ, ℤ, zero, suc, ◌+◌, ◌-◌, 
 use Rattle.std.specs.Prelude.{length, nat_lt, slice_index_or, ◌==◌}
 use Rattle.std.proofs.lemmas.Bool.{cases_eq, cases_order}
 use Rattle.std.proofs.lemmas.Bool.Decides.{nat_tests}
+use Rattle.sharc_tree.specs.declared.trap.Trap.TheVariants as traps
 use Rattle.sharc_code.specs.declared.state.TheConstants.{FRAMES}
 use Rattle.sharc_code.specs.declared.code.Code.{Code}
 use Rattle.sharc_code.specs.declared.instr.Instr.{Instr}
@@ -149,8 +150,8 @@ module _ (x : Targets) (code : Code) (s : Shape) (ls : Labels) (wt : IsWellTyped
   room_at : (n : Machine) → turn code s (g.threads tr.thread) ≡ Local n → g.made tr.thread + counted n.at.state ≤ 100000000
   room_at n e = room_of code s g tr may g.words n (local_turn code s g tr may n e)
 
-  stops_at : turn code s (g.threads tr.thread) ≡ Local (stopped (g.threads tr.thread) (Trap 11 site)) → Done
-  stops_at e = settled (stopped m (Trap 11 site)) e (stop_state x code s ls wt g world st t may.started may.next.runs i is refl (Trap 11 site) shut (room_at (stopped m (Trap 11 site)) e))
+  stops_at : turn code s (g.threads tr.thread) ≡ Local (stopped (g.threads tr.thread) (Trap traps.ReturnWithLockHeld site)) → Done
+  stops_at e = settled (stopped m (Trap traps.ReturnWithLockHeld site)) e (stop_state x code s ls wt g world st t may.started may.next.runs i is refl (Trap traps.ReturnWithLockHeld site) shut (room_at (stopped m (Trap traps.ReturnWithLockHeld site)) e))
 
   -- back at a place whose label stands
   back : (d : ℕ) (fr : Frame) (names : ℕ → ℤ) (l : Label) → turn code s (g.threads tr.thread) ≡ Local (back_to (g.threads tr.thread) d fr) → (fr.pc ≡ 0 → ⊥) → Leads ls fr.pc l → l.gate ≡ Closed → (l.room ≡ true → length (g.threads tr.thread).own.held < 16)
@@ -196,7 +197,7 @@ module _ (x : Targets) (code : Code) (s : Shape) (ls : Labels) (wt : IsWellTyped
 
   abbrev goes_back : ℕ → Machine
   goes_back d = cond (d == 0) (goes_to (g.threads tr.thread) (length code.instrs.items))
-      (cond ((d == 1) && not (holds_none (g.threads tr.thread).own.held)) (stopped (g.threads tr.thread) (Trap 11 site)) (back_to (g.threads tr.thread) (d - 1) (slice_index_or (g.threads tr.thread).frames (d - 1) no_frame)))
+      (cond ((d == 1) && not (holds_none (g.threads tr.thread).own.held)) (stopped (g.threads tr.thread) (Trap traps.ReturnWithLockHeld site)) (back_to (g.threads tr.thread) (d - 1) (slice_index_or (g.threads tr.thread).frames (d - 1) no_frame)))
 
   none_held : (log : List _) → holds_none log ≡ true → length log ≡ 0
   none_held [] e = refl
@@ -228,7 +229,7 @@ module _ (x : Targets) (code : Code) (s : Shape) (ls : Labels) (wt : IsWellTyped
         passed = λ p q. absurd (subst (IsIn p) wt.first.2 q);
       } in
       let leads : Leads ls fr.pc l0 = subst (λ p. Leads ls p l0) (sym k.pc) start_fine.2 in
-      elim (holds_none m.own.held) as (λ b. holds_none m.own.held ≡ b → turn code s m ≡ Local (cond (not b) (stopped m (Trap 11 site)) (back_to m 0 fr)) → Done) [
+      elim (holds_none m.own.held) as (λ b. holds_none m.own.held ≡ b → turn code s m ≡ Local (cond (not b) (stopped m (Trap traps.ReturnWithLockHeld site)) (back_to m 0 fr)) → Done) [
         | true ↦ λ b e. back 0 fr names l0 e (λ z. absurd (let q = k.pc in omega arith)) leads wt.first.1 (λ _. let q = none_held m.own.held b in omega arith) tp
             (subst (FramesStand x code ls t view (back_to m 0 fr)) (sym fn) (refl, k.refs, k.first))
         | false ↦ λ b e. stops_at e
@@ -236,10 +237,10 @@ module _ (x : Targets) (code : Code) (s : Shape) (ls : Labels) (wt : IsWellTyped
   at_depth f ef ret (suc (suc d)) h le e =
       let k = h.1 in
       let fr = frame_at m.frames (suc d) in
-      let e1 : turn code s m ≡ Local (cond ((suc (suc d) == 1) && not (holds_none m.own.held)) (stopped m (Trap 11 site)) (back_to m (suc (suc d) - 1) (slice_index_or m.frames (suc (suc d) - 1) no_frame))) =
-      subst (λ b. turn code s m ≡ Local (cond b (goes_to m (length code.instrs.items)) (cond ((suc (suc d) == 1) && not (holds_none m.own.held)) (stopped m (Trap 11 site)) (back_to m (suc (suc d) - 1) (slice_index_or m.frames (suc (suc d) - 1) no_frame))))) (not_null d) e in
+      let e1 : turn code s m ≡ Local (cond ((suc (suc d) == 1) && not (holds_none m.own.held)) (stopped m (Trap traps.ReturnWithLockHeld site)) (back_to m (suc (suc d) - 1) (slice_index_or m.frames (suc (suc d) - 1) no_frame))) =
+      subst (λ b. turn code s m ≡ Local (cond b (goes_to m (length code.instrs.items)) (cond ((suc (suc d) == 1) && not (holds_none m.own.held)) (stopped m (Trap traps.ReturnWithLockHeld site)) (back_to m (suc (suc d) - 1) (slice_index_or m.frames (suc (suc d) - 1) no_frame))))) (not_null d) e in
       let e2 : turn code s m ≡ Local (back_to m (suc (suc d) - 1) (slice_index_or m.frames (suc (suc d) - 1) no_frame)) =
-      subst (λ b. turn code s m ≡ Local (cond (b && not (holds_none m.own.held)) (stopped m (Trap 11 site)) (back_to m (suc (suc d) - 1) (slice_index_or m.frames (suc (suc d) - 1) no_frame)))) (not_one d) e1 in
+      subst (λ b. turn code s m ≡ Local (cond (b && not (holds_none m.own.held)) (stopped m (Trap traps.ReturnWithLockHeld site)) (back_to m (suc (suc d) - 1) (slice_index_or m.frames (suc (suc d) - 1) no_frame)))) (not_one d) e1 in
       let e3 : turn code s m ≡ Local (back_to m (suc d) fr) = subst (λ n. turn code s m ≡ Local (back_to m n (slice_index_or m.frames n no_frame))) (let q : suc (suc d) - 1 ≡ suc d = omega arith in q) e2 in
       let l = called_label ls (ls.at k.call) f k.first k.refs in
       let names' = (runs x code s ls wt g world st t may.started may.next.runs i is refl).names in

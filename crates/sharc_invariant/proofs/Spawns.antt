@@ -5,6 +5,7 @@ use Rattle.std.specs.Prelude.{◌%◌, length, slice_index, slice_set, nat_lt, n
 use Rattle.std.proofs.lemmas.Bool.{cases_eq}
 use Rattle.std.proofs.lemmas.Bool.Decides.{nat_tests}
 use Rattle.std.proofs.lemmas.List.{length-set, get_or-set_same, get_or-set_other}
+use Rattle.sharc_tree.specs.declared.trap.Trap.TheVariants as traps
 use Rattle.sharc_word.specs.declared.step.TheConstants.{THREADS}
 use Rattle.sharc_word.specs.declared.step.WordOp.TheVariants.{Swap, Add}
 use Rattle.sharc_locks.specs.declared.held_log.HeldMutex.{HeldMutex}
@@ -437,7 +438,7 @@ module _ (x : Targets) (code : Code) (s : Shape) (ls : Labels) (wt : IsWellTyped
       let more : next_number ≤ slice_index words next_thread_word = omega arith in
       let mu = made_up 1 in
       let states : (u : ℕ) → u < THREADS → state_word u ≢ next_thread_word = λ u lt e. omega arith in
-      elim (nat_lt n THREADS) as (λ b. nat_lt n THREADS ≡ b → done_at ≡ made_turn g t words (cond b (at_stage mm (Names n)) (stopped mm (Trap 8 site))) → Turned x code s ls g world tr) [
+      elim (nat_lt n THREADS) as (λ b. nat_lt n THREADS ≡ b → done_at ≡ made_turn g t words (cond b (at_stage mm (Names n)) (stopped mm (Trap traps.ThreadLimit site))) → Turned x code s ls g world tr) [
         | true ↦ λ b e.
             let lt : n < THREADS = ltb-true n THREADS b in
             let m' = at_stage mm (Names n) in
@@ -453,7 +454,7 @@ module _ (x : Targets) (code : Code) (s : Shape) (ls : Labels) (wt : IsWellTyped
             (λ u k ne h sp. let a = st.firsts.spawns u k sp in let h' : n ≡ k = h in omega arith) (λ k h. let h' : n ≡ k = h in omega arith) (omega arith) in
             settled (made_turn g t words m') e (L (room_of code s g tr may words m' e) (λ _. R (Names n) refl refl reserves))
         | false ↦ λ b e.
-            let m' = stopped mm (Trap 8 site) in
+            let m' = stopped mm (Trap traps.ThreadLimit site) in
             let L = low_state x code s ls wt fits g world st tr may r f from site is spawning next_thread_word v (omega arith) (omega arith) (omega arith) long states (λ u lt nz. (λ e. omega arith, λ e. omega arith)) (λ u k ne sp. (λ e. omega arith, λ e. omega arith)) more
             m' refl refl refl refl refl spawning (record { number = refl; held = refl; heads = refl; making = refl; notes = refl; table = (st.threads t).has.table; refs = refl; ints = refl; frames = refl })
             (λ u k ne h sp. absurd (subst (λ y. SpawnsNow y k) rest h)) (λ k h. absurd (subst (λ y. SpawnsNow y k) rest h)) (omega arith) in

@@ -5,6 +5,7 @@ use Rattle.std.specs.Prelude.{length, slice_index, slice_index_or, slice_set, na
 use Rattle.std.proofs.lemmas.Bool.{cases_eq}
 use Rattle.std.proofs.lemmas.Bool.Decides.{nat_tests}
 use Rattle.std.proofs.lemmas.List.{length-set, get_or-set_same, get_or-set_other, set-get_or}
+use Rattle.sharc_tree.specs.declared.trap.Trap.TheVariants as traps
 use Rattle.sharc_word.specs.declared.step.TheConstants.{THREADS}
 use Rattle.sharc_word.specs.declared.step.WordOp.TheVariants.{Load}
 use Rattle.sharc_locks.specs.declared.held_log.HeldMutex.{HeldMutex}
@@ -57,10 +58,10 @@ called_first n pc site ep ei er ed lt =
     let F : ℕ → ℕ → ℕ → ℕ → Machine = λ a b c d.
     cond ((nat_lt d (length n.frames) && nat_lt (d + 1) (2 ^ 32)) && (nat_lt (b + 0) (2 ^ 32) && nat_lt (c + 0) (2 ^ 32)))
     (record n { at = record { pc = pc; ints = b + 0; refs = c + 0; depth = d + 1; state = RunsOn }; frames = slice_set n.frames d record { pc = a + 1; ints = b; refs = c } })
-    (trapped n 10 site) in
+    (trapped n traps.CallDepth site) in
     let q : nat_lt 0 (length n.frames) ≡ true = grind (arith, nat_tests) in
     ap (λ a. F a n.at.ints n.at.refs n.at.depth) ep ∙ ap (λ b. F 0 b n.at.refs n.at.depth) ei ∙ ap (λ c. F 0 0 c n.at.depth) er ∙ ap (F 0 0 0) ed
-    ∙ ap (λ b. cond ((b && true) && true) (record n { at = record { pc = pc; ints = 0; refs = 0; depth = 1; state = RunsOn }; frames = slice_set n.frames 0 record { pc = 1; ints = 0; refs = 0 } }) (trapped n 10 site)) q
+    ∙ ap (λ b. cond ((b && true) && true) (record n { at = record { pc = pc; ints = 0; refs = 0; depth = 1; state = RunsOn }; frames = slice_set n.frames 0 record { pc = 1; ints = 0; refs = 0 } }) (trapped n traps.CallDepth site)) q
 
 register_held : (code : Code) (m : Machine) → OnHold m.own.stage → (i : ℕ) → register_of code m i ≡ slice_index m.refs i
 register_held code m h i = ap (λ b. cond b 0 (slice_index m.refs i)) (freed_held (instr_at code m.at.pc) m.own.stage m.at.refs i h)

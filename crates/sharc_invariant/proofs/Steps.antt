@@ -3,6 +3,8 @@ use Rattle.std.proofs.Common.{◌≡◌, ℕ, ℤ, suc, ◌+◌, ◌<◌, ◌≤
 use Rattle.std.specs.Prelude.{neg_ℤ, length, nat_lt, ◌==◌}
 use Rattle.std.proofs.lemmas.Bool.{eqb-true}
 use Rattle.std.proofs.lemmas.Bool.Decides.{nat_tests}
+use Rattle.sharc_tree.specs.declared.trap.Trap.{Trap}
+use Rattle.sharc_tree.specs.declared.trap.Trap.TheVariants as traps
 use Rattle.sharc_code.specs.declared.code.Code.{Code}
 use Rattle.sharc_code.specs.declared.instr.Cell.{Cell}
 use Rattle.sharc_code.specs.declared.instr.Width.{Width}
@@ -11,7 +13,7 @@ use Rattle.sharc_code.specs.declared.instr.Instr.{Instr}
 use Rattle.sharc_code.specs.declared.instr.Instr.TheVariants as instrs
 use Rattle.sharc_code.specs.declared.shape.Shape.{Shape}
 use Rattle.sharc_code.specs.declared.state.Stop.{Stop}
-use Rattle.sharc_code.specs.declared.state.Stop.TheVariants.{Trap}
+use Rattle.sharc_code.specs.declared.state.Stop.TheVariants.{Trap as Trapped}
 use Rattle.sharc_code.specs.Arithmetic.{holds, in_range, negated, truth, is_zero}
 use Rattle.sharc_code.specs.Machine.{Machine, Local, Asks, instr_at, int, ref, goes, goes_to, set_int, with_result, asserts, stopped, trapped, lock_checked, is_held, is_of_null, word}
 use Rattle.sharc_code.specs.Path.{turn, counted}
@@ -78,13 +80,13 @@ named_top x t v base ints names l from name fresh tp n k = let h = tp n k in rec
       (λ j _. number_named x v.elements (refs_at v base) (types_at v base) names name (v.vals (ints + from)) (v.vals (ints + j)) (l.ints j) (fresh j) ((tp 0 (suc j)).numbers j (omega arith))) j;
 }
 
-abbrev in_result : Bool → ℤ → Result ℤ ℕ
-in_result b z = cond b (Ok z) (Err 4)
+abbrev in_result : Bool → ℤ → Result ℤ Trap
+in_result b z = cond b (Ok z) (Err traps.OutOfRange)
 
 ok_value : (z v : ℤ) → in_result true z ≡ Ok v → z ≡ v
 ok_value z v e = ap (value_in z) e
   where
-    value_in : ℤ → Result ℤ ℕ → ℤ
+    value_in : ℤ → Result ℤ Trap → ℤ
     value_in z (Ok y) = y
     value_in z (Err c) = z
 
@@ -149,14 +151,14 @@ module _ (x : Targets) (code : Code) (s : Shape) (ls : Labels) (wt : IsWellTyped
       → NumberStands x st.elements (refs_at view (g.threads tr.thread).at.refs) (types_at view (g.threads tr.thread).at.refs) names z n → After
   numbers r z n e f k = local (goes (set_int m r z)) e (numbers_state x code s ls wt g world st t may.started may.next.runs i is single r z n here names refl refl f.0 f.1 top_here k f.2 (room_at (goes (set_int m r z)) e))
 
-  pub results : (r : ℕ) (site : ℕ) (z : Result ℤ ℕ) (n : Number) → turn code s m ≡ Local (with_result m r site z) → Numbers code ls here m.at.pc r n
+  pub results : (r : ℕ) (site : ℕ) (z : Result ℤ Trap) (n : Number) → turn code s m ≡ Local (with_result m r site z) → Numbers code ls here m.at.pc r n
       → ((v : ℤ) → z ≡ Ok v → NumberStands x st.elements (refs_at view (g.threads tr.thread).at.refs) (types_at view (g.threads tr.thread).at.refs) names v n) → After
   results r site (Ok v) n e f k = numbers r v n e f (k v refl)
-  results r site (Err c) n e f k = stops (Trap c site) e f.0
+  results r site (Err c) n e f k = stops (Trapped c site) e f.0
 
-  pub asserted : (b : Bool) (c site : ℕ) → turn code s m ≡ Local (asserts m b c site) → here.gate ≡ Closed → (b ≡ true → turn code s m ≡ Local (goes m) → After) → After
+  pub asserted : (b : Bool) (c : Trap) (site : ℕ) → turn code s m ≡ Local (asserts m b c site) → here.gate ≡ Closed → (b ≡ true → turn code s m ≡ Local (goes m) → After) → After
   asserted true c site e gt k = k refl e
-  asserted false c site e gt k = stops (Trap c site) e gt
+  asserted false c site e gt k = stops (Trapped c site) e gt
 
   pub of_turn : (y : Rattle.sharc_code.specs.Machine.Turn) → Rattle.sharc_code.specs.Machine.act code s i (g.threads tr.thread) ≡ y → turn code s (g.threads tr.thread) ≡ y
   of_turn y e = ap (λ i. Rattle.sharc_code.specs.Machine.act code s i m) is ∙ e
@@ -207,23 +209,23 @@ module _ (x : Targets) (code : Code) (s : Shape) (ls : Labels) (wt : IsWellTyped
 
   pub Positive_keeps : (r site : ℕ) → instr_at code pc ≡ instrs.ChkPositive r site → Done
   Positive_keeps r site is = let i = instrs.ChkPositive r site in let f = fine x code s ls wt g world st tr.thread may.started may.next.runs i is refl in
-      asserted x code s ls wt g world st tr may i is refl (Rattle.sharc_code.specs.Machine.is_positive (int mm r)) 12 site (of_turn x code s ls wt g world st tr may i is refl _ refl) f.0
+      asserted x code s ls wt g world st tr may i is refl (Rattle.sharc_code.specs.Machine.is_positive (int mm r)) traps.SizeNotPositive site (of_turn x code s ls wt g world st tr may i is refl _ refl) f.0
       (λ _ e. leads x code s ls wt g world st tr may i is refl (pc + 1) e f.0 f.1)
 
   pub Not_held_keeps : (c : Cell) (site : ℕ) → instr_at code pc ≡ instrs.ChkNotHeld c site → Done
   Not_held_keeps c site is = let i = instrs.ChkNotHeld c site in let f = fine x code s ls wt g world st tr.thread may.started may.next.runs i is refl in
-      asserted x code s ls wt g world st tr may i is refl (not (is_held mm (word s mm c))) 6 site (of_turn x code s ls wt g world st tr may i is refl _ refl) f.0
+      asserted x code s ls wt g world st tr may i is refl (not (is_held mm (word s mm c))) traps.MutexAlreadyHeld site (of_turn x code s ls wt g world st tr may i is refl _ refl) f.0
       (λ _ e. leads x code s ls wt g world st tr may i is refl (pc + 1) e f.0 f.2)
 
   pub Room_keeps : (site : ℕ) → instr_at code pc ≡ instrs.ChkRoom site → Done
   Room_keeps site is = let i = instrs.ChkRoom site in let f = fine x code s ls wt g world st tr.thread may.started may.next.runs i is refl in
-      asserted x code s ls wt g world st tr may i is refl (nat_lt (length mm.own.held) 16) 13 site (of_turn x code s ls wt g world st tr may i is refl _ refl) f.0
+      asserted x code s ls wt g world st tr may i is refl (nat_lt (length mm.own.held) 16) traps.TooManyLocks site (of_turn x code s ls wt g world st tr may i is refl _ refl) f.0
       (λ lt e. jumps x code s ls wt g world st tr may i is refl (pc + 1) (record l { room = true }) e f.0 f.1 refl f.0 (λ _. grind (arith, nat_tests))
       (λ n k. let h = top_here x code s ls wt g world st tr may i is refl n k in record { env = h.env; same = h.same; known = h.known; numbers = h.numbers; passed = h.passed }))
 
   pub Null_check_keeps : (r site : ℕ) → instr_at code pc ≡ instrs.ChkNull r site → Done
   Null_check_keeps r site is = let i = instrs.ChkNull r site in let f = fine x code s ls wt g world st tr.thread may.started may.next.runs i is refl in
-      asserted x code s ls wt g world st tr may i is refl (not (ref mm r == 0)) 1 site (of_turn x code s ls wt g world st tr may i is refl _ refl) f.0
+      asserted x code s ls wt g world st tr may i is refl (not (ref mm r == 0)) traps.NullPointer site (of_turn x code s ls wt g world st tr may i is refl _ refl) f.0
       (λ b e. jumps x code s ls wt g world st tr may i is refl (pc + 1) (knows l r) e f.0 f.1 refl f.0 (room_here x code s ls wt g world st tr may i is refl)
       (knows_top x tr.thread (view_of st.elements world tr.thread mm) mm.at.refs mm.at.ints (names x code s ls wt g world st tr may i is refl) l r
       (λ z. let q : ref mm r ≡ 0 = reads x code s ls wt g world st tr may i is refl r ∙ z in let k : not (ref mm r == 0) ≡ false = ap (λ n. not (n == 0)) q in cc)
@@ -232,7 +234,7 @@ module _ (x : Targets) (code : Code) (s : Shape) (ls : Labels) (wt : IsWellTyped
   pub Width_keeps : (w : Width) (r site : ℕ) → instr_at code pc ≡ instrs.ChkWidth w r site → Done
   Width_keeps w r site is = let i = instrs.ChkWidth w r site in let f = fine x code s ls wt g world st tr.thread may.started may.next.runs i is refl in
       let gt : l.gate ≡ Closed = ⊎_elim (λ p. p.0) (λ n. n.0) f in
-      asserted x code s ls wt g world st tr may i is refl (holds w (int mm r)) 4 site (of_turn x code s ls wt g world st tr may i is refl _ refl) gt
+      asserted x code s ls wt g world st tr may i is refl (holds w (int mm r)) traps.OutOfRange site (of_turn x code s ls wt g world st tr may i is refl _ refl) gt
       (λ b e. ⊎_elim
       (λ p. leads x code s ls wt g world st tr may i is refl (pc + 1) e gt p.1)
       (λ n. jumps x code s ls wt g world st tr may i is refl (pc + 1) (set_number l r (Within w)) e gt n.2 refl refl (room_here x code s ls wt g world st tr may i is refl)

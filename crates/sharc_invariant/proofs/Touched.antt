@@ -1,6 +1,8 @@
 -- What a turn does to shadow words and to the notes of its thread: nothing, but for checks, for the Swaps of a Clear or a Free, and for an Exit.
 use Rattle.std.proofs.Common.{◌≡◌, ℕ, ℤ, pos, negsuc, zero, suc, ◌+◌, ◌*◌, ◌<◌, ◌≤◌, List, Bool, true, false, nat_lt, not, ◌&&◌, ◌||◌, ◌==◌, if◌then◌else◌, refl, ap, ◌∙◌, arith}
 use Rattle.std.specs.Prelude.{Result, Ok, Err, length, min}
+use Rattle.sharc_tree.specs.declared.trap.Trap.{Trap}
+use Rattle.sharc_tree.specs.declared.trap.Trap.TheVariants as traps
 use Rattle.sharc_word.specs.declared.step.TheConstants.{THREADS}
 use Rattle.sharc_word.specs.declared.step.WordOp.TheVariants as ops
 use Rattle.sharc_word.specs.declared.step.WordStep.{WordStep}
@@ -114,36 +116,36 @@ module _ (code : Code) (s : Shape) (m : Machine) (calm : is_withdrawing m.own.st
   either true x y h k = h
   either false x y h k = k
 
-  at_result : (r site : ℕ) (z : Result ℤ ℕ) → KeepsNotes m (with_result m r site z)
+  at_result : (r site : ℕ) (z : Result ℤ Trap) → KeepsNotes m (with_result m r site z)
   at_result r site (Ok z) = plain (with_result m r site (Ok z)) refl refl refl
   at_result r site (Err c) = plain (with_result m r site (Err c)) refl refl refl
 
-  at_assert : (b : Bool) (c site : ℕ) → KeepsNotes m (asserts m b c site)
+  at_assert : (b : Bool) (c : Trap) (site : ℕ) → KeepsNotes m (asserts m b c site)
   at_assert true c site = plain (asserts m true c site) refl refl refl
   at_assert false c site = plain (asserts m false c site) refl refl refl
 
-  at_trap : (c site : ℕ) → KeepsNotes m (trapped m c site)
+  at_trap : (c : Trap) (site : ℕ) → KeepsNotes m (trapped m c site)
   at_trap c site = plain (trapped m c site) refl refl refl
 
   at_called : (n : Machine) → KeepsNotes m n → (pc ints refs site : ℕ) → KeepsNotes m (called n pc ints refs site)
   at_called n h pc ints refs site = elim (has_room n ints refs) as (λ b. KeepsNotes m (if b then record n {
     at = record { pc = pc; ints = n.at.ints + ints; refs = n.at.refs + refs; depth = n.at.depth + 1; state = Rattle.sharc_code.specs.declared.state.State.TheVariants.Runs };
     frames = Rattle.std.specs.Prelude.slice_set n.frames n.at.depth record { pc = n.at.pc + 1; ints = n.at.ints; refs = n.at.refs };
-  } else trapped n 10 site)) [
+  } else trapped n traps.CallDepth site)) [
     | true ↦ record { table = h.table; stage = h.stage; ended = refl }
     | false ↦ record { table = h.table; stage = h.stage; ended = refl }
   ]
 
   at_return : (site : ℕ) → KeepsNotes m (returned code m site)
   at_return site = either (m.at.depth == 0) _ _ (plain _ refl refl refl)
-      (either (m.at.depth == 1 && not (holds_none m.own.held)) _ _ (at_trap 11 site) (plain _ refl refl refl))
+      (either (m.at.depth == 1 && not (holds_none m.own.held)) _ _ (at_trap traps.ReturnWithLockHeld site) (plain _ refl refl refl))
 
   at_index : (r : ℕ) (z : ℤ) (cells field site elements : ℕ) → KeepsNotes m (indexed m r z cells field site elements)
-  at_index r (pos i) cells field site elements = either (nat_lt i elements) _ _ (plain _ refl refl refl) (at_trap 2 site)
-  at_index r (negsuc i) cells field site elements = at_trap 2 site
+  at_index r (pos i) cells field site elements = either (nat_lt i elements) _ _ (plain _ refl refl refl) (at_trap traps.IndexOutOfBounds site)
+  at_index r (negsuc i) cells field site elements = at_trap traps.IndexOutOfBounds site
 
   at_lock_check : (b : Bool) (mutex site : ℕ) → KeepsNotes m (lock_checked m b mutex site)
-  at_lock_check true mutex site = at_trap 1 site
+  at_lock_check true mutex site = at_trap traps.NullPointer site
   at_lock_check false mutex site = either (is_held m mutex) _ _ (plain _ refl refl refl) (plain _ refl refl refl)
 
   at_raise : (h : ℕ) (x : Machine) → KeepsNotes m x → Leaves_all s m (raise s h x)
@@ -164,10 +166,10 @@ module _ (code : Code) (s : Shape) (m : Machine) (calm : is_withdrawing m.own.st
   at_after_new : (r site : ℕ) (state : NewView) (t : NewTurn) → KeepsNotes m (after_new m r site state t)
   at_after_new r site state (Do step) = staged _ refl refl refl
   at_after_new r site state (Made header) = staged _ refl refl refl
-  at_after_new r site state HeapFull = at_trap 9 site
+  at_after_new r site state HeapFull = at_trap traps.HeapFull site
 
   at_stage_of : (r site : ℕ) (state : NewView) (a : NewArguments) (stage : NewStage) → a.first ≡ first_cell s → Leaves_all s m (asks_new m r site state (turn_of_stage a stage))
-  at_stage_of r site state a news.Begins e = at_trap 9 site
+  at_stage_of r site state a news.Begins e = at_trap traps.HeapFull site
   at_stage_of r site state a news.Link e = ((λ p lp z. absurd (off_new s a (a.first + 2 * a.head + 1) e (omega arith) p lp z)), λ found. at_after_new r site (told state found) (turn_of (told state found)))
   at_stage_of r site state a (news.Cell cell) e = ((λ p lp z. absurd (off_new s a (a.first + 2 * a.head + 2 + cell) e (omega arith) p lp z)), λ found. at_after_new r site (told state found) (turn_of (told state found)))
   at_stage_of r site state a news.Top e = ((λ p lp e. absurd (off_low s 1 (omega arith) p lp e)), λ found. at_after_new r site (told state found) (turn_of (told state found)))
@@ -175,7 +177,7 @@ module _ (code : Code) (s : Shape) (m : Machine) (calm : is_withdrawing m.own.st
   at_stage_of r site state a (news.Count header) e = ((λ p lp z. absurd (off_new s a (a.first + 2 * header) e (omega arith) p lp z)), λ found. at_after_new r site (told state found) (turn_of (told state found)))
   at_stage_of r site state a (news.Length header) e = ((λ p lp z. absurd (off_new s a (a.first + 2 * header + 1) e (omega arith) p lp z)), λ found. at_after_new r site (told state found) (turn_of (told state found)))
   at_stage_of r site state a (news.Made header) e = staged _ refl refl refl
-  at_stage_of r site state a news.Full e = at_trap 9 site
+  at_stage_of r site state a news.Full e = at_trap traps.HeapFull site
 
   at_new : (r elements cells site : ℕ) (stage : Stage) → IsFit s stage → Leaves_all s m (new s m r elements cells site stage)
   at_new r elements cells site (Makes state) is = at_stage_of r site state state.arguments state.stage is
@@ -218,7 +220,7 @@ module _ (code : Code) (s : Shape) (m : Machine) (calm : is_withdrawing m.own.st
   at_locked cell mutex found = either (found == 0) _ _ (at_base cell (taken m mutex (object m cell))) (plain _ refl refl refl)
 
   at_numbered : (site n : ℕ) → KeepsNotes m (numbered m site n)
-  at_numbered site n = either (nat_lt n THREADS) _ _ (staged _ refl refl refl) (at_trap 8 site)
+  at_numbered site n = either (nat_lt n THREADS) _ _ (staged _ refl refl refl) (at_trap traps.ThreadLimit site)
 
   at_handed : (from : Register) (r n : ℕ) → KeepsNotes m (rests (set_int (handed m from) r (pos n)))
   at_handed (registers.Int q) r n = staged _ refl refl refl
@@ -231,14 +233,14 @@ module _ (code : Code) (s : Shape) (m : Machine) (calm : is_withdrawing m.own.st
   at_spawn r function from site _ is = ((λ p lp e. absurd (off_low s 2 (omega arith) p lp e)), λ found. at_numbered site found)
 
   at_joined : (site found : ℕ) → KeepsNotes m (joined m site found)
-  at_joined site found = either (found == 0) _ _ (at_trap 7 site) (either (found == 1 || found == 2) _ _ (plain _ refl refl refl) (plain _ refl refl refl))
+  at_joined site found = either (found == 0) _ _ (at_trap traps.NoSuchThread site) (either (found == 1 || found == 2) _ _ (plain _ refl refl refl) (plain _ refl refl refl))
 
   at_join : (z : ℤ) (site : ℕ) → Leaves_all s m (join m z site)
-  at_join (pos n) site = elim (nat_lt n THREADS) as (λ b. Leaves_all s m (if b then Asks (step_of (state_word n) ops.Load) (joined m site) else Local (trapped m 7 site))) [
+  at_join (pos n) site = elim (nat_lt n THREADS) as (λ b. Leaves_all s m (if b then Asks (step_of (state_word n) ops.Load) (joined m site) else Local (trapped m traps.NoSuchThread site))) [
     | true ↦ ((λ p lp e v. refl), (at_joined site))
-    | false ↦ at_trap 7 site
+    | false ↦ at_trap traps.NoSuchThread site
   ]
-  at_join (negsuc n) site = at_trap 7 site
+  at_join (negsuc n) site = at_trap traps.NoSuchThread site
 
   at_parameter : (function : ℕ) (p : Parameter) (argument : ℕ) → KeepsNotes m (with_parameter (record m { own = record m.own { stage = Rests; function = function } }) p argument)
   at_parameter function parameters.None argument = staged _ refl refl going
@@ -271,17 +273,17 @@ module _ (code : Code) (s : Shape) (m : Machine) (calm : is_withdrawing m.own.st
   leaves (Complement r a) is p = plain _ refl refl refl
   leaves (Not r a) is p = plain _ refl refl refl
   leaves (SameReference r a b) is p = plain _ refl refl refl
-  leaves (ChkWidth width r site) is p = at_assert (holds width (int m r)) 4 site
+  leaves (ChkWidth width r site) is p = at_assert (holds width (int m r)) traps.OutOfRange site
   leaves (Jump pc) is p = plain _ refl refl refl
   leaves (JumpIfZero r pc) is p = either (is_zero (int m r)) _ _ (plain _ refl refl refl) (plain _ refl refl refl)
   leaves (JumpIfNull r pc) is p = either (ref m r == 0) _ _ (plain _ refl refl refl) (plain _ refl refl refl)
   leaves (Call pc ints refs site) is p = at_called m (plain m refl refl going) pc ints refs site
   leaves (Return site) is p = at_return site
-  leaves (ChkNull r site) is p = at_assert (not (ref m r == 0)) 1 site
-  leaves (ChkHeld cell site) is p = at_assert (is_held m (word s m cell)) 5 site
-  leaves (ChkNotHeld cell site) is p = at_assert (not (is_held m (word s m cell))) 6 site
-  leaves (ChkPositive r site) is p = at_assert (is_positive (int m r)) 12 site
-  leaves (ChkRoom site) is p = at_assert (nat_lt (length m.own.held) 16) 13 site
+  leaves (ChkNull r site) is p = at_assert (not (ref m r == 0)) traps.NullPointer site
+  leaves (ChkHeld cell site) is p = at_assert (is_held m (word s m cell)) traps.MutexNotHeld site
+  leaves (ChkNotHeld cell site) is p = at_assert (not (is_held m (word s m cell))) traps.MutexAlreadyHeld site
+  leaves (ChkPositive r site) is p = at_assert (is_positive (int m r)) traps.SizeNotPositive site
+  leaves (ChkRoom site) is p = at_assert (nat_lt (length m.own.held) 16) traps.TooManyLocks site
   leaves (ChkLock cell site) is p = at_lock_check (is_of_null m cell) (word s m cell) site
   leaves (ChkLockLoaded site) is p = at_lock_check (m.pending == 0) (cell_word s (cell_of m.pending 0)) site
   leaves (Bounds r base cells field site) is p = ((λ p lp e v. refl), λ found. at_index r (int m r) cells field site found)

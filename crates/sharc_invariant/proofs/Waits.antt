@@ -5,6 +5,7 @@ use Rattle.std.specs.Prelude.{bit_or, length, slice_index, slice_set, nat_lt, �
 use Rattle.sharc_word.specs.declared.step.TheConstants.{THREADS}
 use Rattle.sharc_word.specs.declared.step.WordOp.TheVariants.{Load, Swap, Or}
 use Rattle.std.proofs.lemmas.Nat.{or_lt, pow_below}
+use Rattle.sharc_tree.specs.declared.trap.Trap.TheVariants as traps
 use Rattle.sharc_code.specs.declared.code.Code.{Code}
 use Rattle.sharc_code.specs.declared.instr.Cell.{Cell}
 use Rattle.sharc_code.specs.declared.instr.Cell.TheVariants as cells
@@ -102,8 +103,8 @@ module _ (x : Targets) (code : Code) (s : Shape) (ls : Labels) (wt : IsWellTyped
 
     joined_keeps : (site found : ℕ) → Leads ls ((g.threads tr.thread).at.pc + 1) here → after ≡ made_turn g tr.thread g.words (joined (g.threads tr.thread) site found) → Turned x code s ls g world tr
     joined_keeps site found leads e =
-        elim (found == 0) as (λ b. after ≡ made_turn g t g.words (cond b (stopped m (Trap 7 site)) (cond (found == 1 || found == 2) (fails m) (goes m))) → Turned x code s ls g world tr) [
-          | true ↦ λ e. stop_at (Trap 7 site) e
+        elim (found == 0) as (λ b. after ≡ made_turn g t g.words (cond b (stopped m (Trap traps.NoSuchThread site)) (cond (found == 1 || found == 2) (fails m) (goes m))) → Turned x code s ls g world tr) [
+          | true ↦ λ e. stop_at (Trap traps.NoSuchThread site) e
           | false ↦ λ e. elim (found == 1 || found == 2) as (λ b. after ≡ made_turn g t g.words (cond b (fails m) (goes m)) → Turned x code s ls g world tr) [
             | true ↦ λ e. tries_again e
             | false ↦ λ e. go_on leads e
@@ -111,14 +112,14 @@ module _ (x : Targets) (code : Code) (s : Shape) (ls : Labels) (wt : IsWellTyped
         ] e
 
     join_keeps : (site : ℕ) → Leads ls ((g.threads tr.thread).at.pc + 1) here → (z : ℤ) → turn code s (g.threads tr.thread) ≡ join (g.threads tr.thread) z site → Turned x code s ls g world tr
-    join_keeps site leads (negsuc n) e = stop_at (Trap 7 site) (local_turn code s g tr may (stopped m (Trap 7 site)) e)
+    join_keeps site leads (negsuc n) e = stop_at (Trap traps.NoSuchThread site) (local_turn code s g tr may (stopped m (Trap traps.NoSuchThread site)) e)
     join_keeps site leads (pos n) e =
-        elim (nat_lt n THREADS) as (λ b. turn code s m ≡ cond b (Asks (step_of (state_word n) Load) (joined m site)) (Local (stopped m (Trap 7 site))) → Turned x code s ls g world tr) [
+        elim (nat_lt n THREADS) as (λ b. turn code s m ≡ cond b (Asks (step_of (state_word n) Load) (joined m site)) (Local (stopped m (Trap traps.NoSuchThread site))) → Turned x code s ls g world tr) [
           | true ↦ λ e.
               let k = state_word n in
               let found = slice_index g.words k in
               joined_keeps site found leads (loaded_words x code s ls wt fits g world st tr may i is single k (joined m site found) (asks_turn code s g tr may (step_of k Load) (joined m site) e).0)
-          | false ↦ λ e. stop_at (Trap 7 site) (local_turn code s g tr may (stopped m (Trap 7 site)) e)
+          | false ↦ λ e. stop_at (Trap traps.NoSuchThread site) (local_turn code s g tr may (stopped m (Trap traps.NoSuchThread site)) e)
         ] e
 
   pub Join_keeps : (r site : ℕ) → instr_at code (g.threads tr.thread).at.pc ≡ instrs.Join r site → Turned x code s ls g world tr

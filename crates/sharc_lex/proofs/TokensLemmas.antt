@@ -81,7 +81,7 @@ behind_tokens-err : (before : List Token) (r : Result (List Token) LineFault) (f
 behind_tokens-err before (Ok tokens) found e = cc
 behind_tokens-err before (Err f) found e = cc
 
-with_place-err : (read : Read) (r : Result Read LineFault) (told : FaultAt) → with_place read r ≡ Err told → (found : LineFault) × (r ≡ Err found) × (fault_at read.files read.next found ≡ told)
+with_place-err : (read : Read) (r : Result Read LineFault) (told : FaultAt Fault) → with_place read r ≡ Err told → (found : LineFault) × (r ≡ Err found) × (fault_at read.files read.next found ≡ told)
 with_place-err read (Ok more) told e = cc
 with_place-err read (Err found) told e = (found, refl, cc)
 
@@ -184,7 +184,7 @@ module _ (source : List ℕ) (at : ℕ) (inside : at ≤ length source) (begins 
     | inr h ↦ placed_text read more within placed h.0 h.1
   ]
 
-  fault_placed : (read : Read) (told : FaultAt) → Placed source at read → with_place read (line_read read at line) ≡ Err told → IsFaultIn source told
+  fault_placed : (read : Read) (told : FaultAt Fault) → Placed source at read → with_place read (line_read read at line) ≡ Err told → IsFaultIn source told
   fault_placed read told placed e =
       let found = with_place-err read (line_read read at line) told e in
       let lies = line_fault read at line found.0 found.1 in
@@ -229,7 +229,7 @@ module _ (source l : List ℕ) (lines : List (List ℕ)) (at : ℕ) (all : l ∷
         placed = subst (λ o. Placed source o more) next (placed_line source at there (kept.covered.begins there) read more kept.within kept.placed here);
       }
 
-  refused_line : (read : Read) (told : FaultAt) → Kept source at read → with_place read (line_read read at l) ≡ Err told → IsFaultIn source told
+  refused_line : (read : Read) (told : FaultAt Fault) → Kept source at read → with_place read (line_read read at l) ≡ Err told → IsFaultIn source told
   refused_line read told kept e =
       fault_placed source at there (kept.covered.begins there) read told kept.placed (ap (λ k. with_place read (line_read read at k)) (sym line_is) ∙ e)
 
@@ -242,7 +242,7 @@ kept_lines source (l ∷ lines) at read more all before kept e =
     let step = bind_ok (with_place read (line_read read at l)) (λ next. lines_read next (at + length l + 1) lines) more e in
     kept_lines source lines (at + length l + 1) step.0 more (rest_is source l lines at all) (bound source l lines at all) (kept_line source l lines at all read step.0 kept step.1) step.2
 
-refused_lines : (source : List ℕ) (lines : List (List ℕ)) (at : ℕ) (read : Read) (told : FaultAt) → lines ≡ lines_from at source → Kept source at read → lines_read read at lines ≡ Err told → IsFaultIn source told
+refused_lines : (source : List ℕ) (lines : List (List ℕ)) (at : ℕ) (read : Read) (told : FaultAt Fault) → lines ≡ lines_from at source → Kept source at read → lines_read read at lines ≡ Err told → IsFaultIn source told
 refused_lines source [] at read told all kept e = cc
 refused_lines source (l ∷ lines) at read told all kept e = elim (bind_err (with_place read (line_read read at l)) (λ next. lines_read next (at + length l + 1) lines) told e) [
   | inl here ↦ refused_line source l lines at all read told kept here
@@ -276,7 +276,7 @@ tokens_are source tokens e =
       end_placed = kept.placed.here (omega arith);
     })
 
-pub fault_is : (source : List ℕ) (told : FaultAt) → reading source ≡ Err told → IsFaultIn source told
+pub fault_is : (source : List ℕ) (told : FaultAt Fault) → reading source ≡ Err told → IsFaultIn source told
 unfolding reading
 fault_is source told e = elim (bind_err (lines_read opening 0 (lines_of source)) (λ read. Ok (tokens_read read)) told e) [
   | inl refused ↦ refused_lines source (lines_of source) 0 opening told (all_lines source) (kept_first source) refused

@@ -29,16 +29,16 @@ abbrev pub Fails : {A : Type 0} → Failure → Result A LineFault → Type 0
 Fails (failure.At found) read = read ≡ Err found
 Fails failure.Memory read = Unit {0}
 
-abbrev pub Refuses : {A : Type 0} → LexFault → Result A FaultAt → Type 0
+abbrev pub Refuses : {A : Type 0} → LexFault → Result A (FaultAt Fault) → Type 0
 Refuses (lex.At found) read = read ≡ Err found
 Refuses lex.Memory read = Unit {0}
 
 -- A fault with its place is this one, or memory was wanting.
-abbrev pub Tells : LexFault → FaultAt → Type 0
+abbrev pub Tells : LexFault → FaultAt Fault → Type 0
 Tells (lex.At found) told = found ≡ told
 Tells lex.Memory told = Unit {0}
 
 -- What a call answers is what the grammar says: what it read, or the first fault. Only running out of memory is left open.
-abbrev pub Gives : {A : Type 0} → Result A LexFault → Result A FaultAt → Type 0
+abbrev pub Gives : {A : Type 0} → Result A LexFault → Result A (FaultAt Fault) → Type 0
 Gives (Ok made) read = read ≡ Ok made
 Gives (Err refused) read = Refuses refused read

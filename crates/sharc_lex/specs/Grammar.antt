@@ -11,7 +11,7 @@ use Rattle.sharc_lex.specs.declared.fault.Place.{Place}
 use Rattle.sharc_lex.specs.declared.fault.LineFault.{LineFault}
 use Rattle.sharc_lex.specs.declared.token_at.Lexeme.{Lexeme}
 use Rattle.sharc_lex.specs.Bytes.{is_blank, is_white_space}
-use Rattle.sharc_lex.specs.Faults.{digit_of, text_of}
+use Rattle.sharc_lex.specs.Faults.{text_of}
 use Rattle.sharc_lex.specs.Files.{with_file, place_of}
 use Rattle.sharc_lex.specs.Markers.{is_marker_line, marker}
 use Rattle.sharc_lex.specs.TokenAt.{token_at}
@@ -115,21 +115,21 @@ abbrev pub line_read : Read → ℕ → List ℕ → Result Read LineFault
 line_read read offset line = if is_marker_line line then marker_line read offset line else text_line read offset line
 
 -- a fault with the place of its line
-abbrev pub fault_at : List (List ℕ) → Place → LineFault → FaultAt
+abbrev pub fault_at : List (List ℕ) → Place → LineFault → FaultAt Fault
 fault_at files place found = record {
-  code = digit_of found.fault;
+  code = found.fault;
   file = slice_index_or files place.file [];
   line = place.line;
   offset = found.offset;
   text = text_of found.fault;
 }
 
-abbrev pub with_place : Read → Result Read LineFault → Result Read FaultAt
+abbrev pub with_place : Read → Result Read LineFault → Result Read (FaultAt Fault)
 with_place read (Ok more) = Ok more
 with_place read (Err found) = Err (fault_at read.files read.next found)
 
 -- lines, of which the first begins at an offset, after what was read before them
-abbrev pub lines_read : Read → ℕ → List (List ℕ) → Result Read FaultAt
+abbrev pub lines_read : Read → ℕ → List (List ℕ) → Result Read (FaultAt Fault)
 lines_read read offset [] = Ok read
 lines_read read offset (line ∷ lines) = with_place read (line_read read offset line) >>= λ more. lines_read more (offset + length line + 1) lines
 
@@ -142,7 +142,7 @@ tokens_read read = record {
 }
 
 -- the tokens of a source, or its first fault
-unfoldable pub reading : List ℕ → Result Tokens FaultAt
+unfoldable pub reading : List ℕ → Result Tokens (FaultAt Fault)
 reading source = lines_read opening 0 (lines_of source) >>= λ read. Ok (tokens_read read)
 
 -- What stays within the limits, up to an offset: each line has a byte and a newline at least, and names one file at most.

@@ -74,7 +74,7 @@ pub record AreTokensOf (source : List ℕ) (tokens : Tokens) : Type 0 where
   pub end_placed : StandsIn source (length source) (name_in tokens.files tokens.end.file) tokens.end.line
 
 -- a fault lies in the source, and in the file and the line in which its offset lies
-pub record IsFaultIn (source : List ℕ) (found : FaultAt) : Type 0 where
+pub record IsFaultIn (source : List ℕ) (found : FaultAt Fault) : Type 0 where
   pub within : found.offset ≤ length source
   pub stands : StandsIn source found.offset found.file found.line
 

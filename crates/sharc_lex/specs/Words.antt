@@ -1,5 +1,5 @@
 -- Words: keywords, left-out keywords and identifiers.
-use Rattle.std.specs.Prelude.{ℕ, List, [], ◌∷◌, Option, Some, None, Result, Ok, Err, unwrap_or, if◌then◌else◌, nat_le, length, codes}
+use Rattle.std.specs.Prelude.{ℕ, Bool, List, [], ◌∷◌, Option, Some, None, is_some, Result, Ok, Err, unwrap_or, if◌then◌else◌, nat_le, length, codes}
 use Rattle.std.specs.Str.{bytes_eq}
 use Rattle.sharc_tree.specs.declared.token.TokenKind.{TokenKind}
 use Rattle.sharc_tree.specs.declared.token.TokenKind.TheVariants as kind
@@ -75,6 +75,10 @@ keywords =
     ∷ (codes "_Static_assert", kind.LeftOut)
     ∷ (codes "_Thread_local", kind.LeftOut)
     ∷ []
+
+-- a text that no name is
+abbrev pub is_keyword : List ℕ → Bool
+is_keyword text = is_some (entry_at keywords text)
 
 -- a word is a keyword where the table has it, and else an identifier, of at most 64 bytes
 abbrev pub word : List ℕ → Result TokenKind Fault

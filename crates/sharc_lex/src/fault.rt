@@ -9,7 +9,7 @@ use sharc_tree::token::FaultAt;
 use std::alloc::{AllocError, AllocFailed, Global};
 
 /// What is wrong where a token or a line marker should be.
-#[derive(Clone, Copy)]
+#[derive(Clone, Copy, Debug)]
 pub enum Fault {
     /// L1: this byte begins no token.
     Byte(u8),
@@ -91,7 +91,7 @@ impl<T: Drop> From<AllocFailed<T>> for Failure {
 #[derive(Debug, Drop)]
 pub enum LexFault {
     /// The first place at which the grammar of tokens does not read the source.
-    At(FaultAt),
+    At(FaultAt<Fault>),
     /// There was not enough memory.
     Memory,
 }

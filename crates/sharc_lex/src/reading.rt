@@ -31,14 +31,14 @@ fn fault_at(
     files: &Files<'_>,
     place: Place,
     found: LineFault,
-) -> Result<FaultAt, AllocError>
+) -> Result<FaultAt<Fault>, AllocError>
     requires { place.file < length files.now }
     ensures { IfOk result (λ made. made ≡ fault_at files.now place found) }
 {
     let file = files.name(alloc, place.file)?;
     let text = found.fault.text(alloc)?;
     Ok(FaultAt {
-        code: found.fault.digit(),
+        code: found.fault,
         file,
         line: place.line,
         offset: found.offset as u64,

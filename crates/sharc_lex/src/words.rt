@@ -1,7 +1,7 @@
 //! Words: keywords, left-out keywords and identifiers.
 
 ghost use Rattle.std.specs.Prelude.{◌≡◌, length, map};
-ghost use Rattle.sharc_lex.specs.Words.{entry_at, keywords, word};
+ghost use Rattle.sharc_lex.specs.Words.{entry_at, keywords, is_keyword, word};
 
 use crate::fault::Fault;
 use sharc_tree::token::{Keyword, TokenKind};
@@ -314,6 +314,13 @@ fn keyword(text: &[u8]) -> Option<TokenKind>
         14 => look_up(&FOURTEEN, text),
         _ => None,
     }
+}
+
+/// Whether it is a keyword of the subset or a left-out keyword, so that no name is it.
+pub fn is_keyword(text: &[u8]) -> bool
+    ensures { result ≡ is_keyword text.now }
+{
+    keyword(text).is_some()
 }
 
 /// The kind of a word (C11 6.4.1 and 6.4.2).

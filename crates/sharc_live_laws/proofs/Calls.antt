@@ -5,6 +5,7 @@ use Rattle.std.proofs.lemmas.List.Elements.{Contains-append_left, Contains-appen
 use Rattle.std.specs.Prelude.{ℤ, pos, slice_get}
 use Rattle.sharc_tree.specs.declared.token.Site.{Site}
 use Rattle.sharc_tree.specs.declared.tree.declaration.Declaration.{Declaration}
+use Rattle.sharc_tree.specs.declared.trap.Trap.TheVariants as traps
 use Rattle.sharc_tree.specs.Tree.{Function}
 use Rattle.sharc_names.specs.Kinds.{declared_kind}
 use Rattle.sharc_ctype.specs.Resolved.{functions_in, function_at}
@@ -12,7 +13,6 @@ use Rattle.sharc_mode.specs.Moded.{Assignment}
 use Rattle.sharc_dataflow.specs.Flow.{To, Next, Ends}
 use Rattle.sharc_dataflow.specs.Code.{Code}
 use Rattle.sharc_live.specs.Flows.{goes_on, parameters_flow, function_flow}
-use Rattle.sharc_meaning.specs.Arithmetic.{calls_too_deep}
 use Rattle.sharc_meaning.specs.State.{Frame, Traced, State, Out, go, over, Run, then_on, ◌>>=◌, ◌>>◌, give, entered, in_block, without_temporaries}
 use Rattle.sharc_meaning.specs.Expressions.{Calls}
 use Rattle.sharc_meaning.specs.Statements.{exec_all}
@@ -106,7 +106,7 @@ module _ (m : Assignment) (x : ℕ) where
       call_value_along (Some f) h vs = then_calm m.typed x (function_along f (h f refl) vs) (λ left. calm_give left.1)
 
     calls_along : (n f : ℕ) (site : Site) (vs : List ℤ) → Runs m x goes_on (calls m n f site vs)
-    calls_along zero f site vs = idle m.typed x (calm_stop calls_too_deep site)
+    calls_along zero f site vs = idle m.typed x (calm_stop traps.CallDepth site)
     calls_along (suc n) f site vs = call_value_along (calls m n) (calls_along n) (function_at m.typed f) (λ g e. in_list (functions_in m.typed.program.items) f g e) vs
 
     -- ---- a thread

@@ -8,10 +8,11 @@ use Rattle.sharc_tree.specs.declared.event.CellMode.TheVariants.{Readonly, Locke
 use Rattle.sharc_tree.specs.declared.event.Object.{Object}
 use Rattle.sharc_tree.specs.declared.event.Object.TheVariants.{Global, Made}
 use Rattle.sharc_tree.specs.declared.token.Site.{Site}
+use Rattle.sharc_tree.specs.declared.trap.Trap.{Trap}
+use Rattle.sharc_tree.specs.declared.trap.Trap.TheVariants as traps
 use Rattle.sharc_names.specs.Kinds.{Kind}
 use Rattle.sharc_ctype.specs.Resolved.{Resolution}
 use Rattle.sharc_mode.specs.Sharings.{Sharing, private, readonly, locked, racy, dynamic}
-use Rattle.sharc_meaning.specs.Arithmetic.{null_base, mutex_not_held, mutex_already_held, returns_with_a_lock, too_many_locks}
 use Rattle.sharc_meaning.specs.Cells.{cell_of, Guard, mutex, behind, nothing, guard_of, instance_mode}
 use Rattle.sharc_meaning.specs.Events.{held_mutexes, holds_mutex}
 use Rattle.sharc_meaning.specs.Reference.{NULL, is_null, number_of}
@@ -64,8 +65,8 @@ calm_give v = record { keeps = λ s. (refl, refl, refl) }
 pub calm_done : Calm done
 calm_done = record { keeps = λ s. (refl, refl, refl) }
 
-pub calm_stop : {A : Type 0} (code : ℕ) (site : Site) → Calm (stop {A = A} code site)
-calm_stop code site = record { keeps = λ s. (refl, refl, refl) }
+pub calm_stop : {A : Type 0} (trap : Trap) (site : Site) → Calm (stop {A = A} trap site)
+calm_stop trap site = record { keeps = λ s. (refl, refl, refl) }
 
 pub calm_looks : {A : Type 0} (f : State → A) → Calm (looks_at f)
 calm_looks f = record { keeps = λ s. (refl, refl, refl) }
@@ -103,9 +104,9 @@ pub calm_either : {A : Type 0} (b : Bool) {m n : Run A} → Calm m → Calm n �
 calm_either true hm hn = hm
 calm_either false hm hn = hn
 
-pub calm_unless : (b : Bool) (code : ℕ) (site : Site) → Calm (unless_stop b code site)
-calm_unless true code site = calm_done
-calm_unless false code site = calm_stop code site
+pub calm_unless : (b : Bool) (trap : Trap) (site : Site) → Calm (unless_stop b trap site)
+calm_unless true trap site = calm_done
+calm_unless false trap site = calm_stop trap site
 
 pub calm_performs : (site : Site) (act : Act) → Calm (performs site act)
 calm_performs site act = calm_then (calm_answered site act) (λ v. calm_done)
@@ -119,19 +120,19 @@ calm_holds kind v = calm_either (is_reference kind) (calm_holds_reference v) cal
 pub calm_moves : (kind : Kind) → Calm (moves kind)
 calm_moves kind = calm_either (is_reference kind) (calm_moves_on 1) calm_done
 
-pub calm_resulting : (site : Site) (v : Result ℤ ℕ) → Calm (resulting site v)
+pub calm_resulting : (site : Site) (v : Result ℤ Trap) → Calm (resulting site v)
 calm_resulting site (Ok v) = calm_give v
-calm_resulting site (Err code) = calm_stop code site
+calm_resulting site (Err trap) = calm_stop trap site
 
 -- ---- places
 
 pub calm_based : (site : Site) (kind : Kind) (p : ℤ) → Calm (based site kind p)
-calm_based site kind p = calm_then (calm_holds kind p) (λ v. calm_unless (not (is_null p)) null_base site)
+calm_based site kind p = calm_then (calm_holds kind p) (λ v. calm_unless (not (is_null p)) traps.NullPointer site)
 
 calm_guarding : (site : Site) (g : Guard) → Calm (guarding site g)
 calm_guarding site (mutex c) = calm_give c
-calm_guarding site (behind c) = calm_then (calm_answered site (events.Read c Readonly)) (λ p. calm_then (calm_unless (not (is_null p)) null_base site) (λ v. calm_give (cell_of (Made (number_of p)) 0)))
-calm_guarding site nothing = calm_stop null_base site
+calm_guarding site (behind c) = calm_then (calm_answered site (events.Read c Readonly)) (λ p. calm_then (calm_unless (not (is_null p)) traps.NullPointer site) (λ v. calm_give (cell_of (Made (number_of p)) 0)))
+calm_guarding site nothing = calm_stop traps.NullPointer site
 
 pub calm_mode : (r : Resolution) (site : Site) (mode : Sharing) (o : Object) (first : ℕ) → Calm (access_mode r site mode o first)
 calm_mode r site private o first = calm_give _
@@ -159,29 +160,29 @@ calm_gives_up_base (cell (Global g) first c) = calm_done
 calm_gives_up_base (variable x) = calm_done
 
 pub calm_lock : (site : Site) (p : Place) → Calm (lock_call site p)
-calm_lock site p = calm_then (calm_looks (λ s. s.events)) (λ own. calm_then (calm_unless (not (holds_mutex own (cell_at_place p))) mutex_already_held site) (λ a.
-    calm_then (calm_unless (nat_lt (length (held_mutexes own)) 16) too_many_locks site) (λ b. calm_then (calm_performs site (events.Lock (cell_at_place p))) (λ c. calm_moves_base p))))
+calm_lock site p = calm_then (calm_looks (λ s. s.events)) (λ own. calm_then (calm_unless (not (holds_mutex own (cell_at_place p))) traps.MutexAlreadyHeld site) (λ a.
+    calm_then (calm_unless (nat_lt (length (held_mutexes own)) 16) traps.TooManyLocks site) (λ b. calm_then (calm_performs site (events.Lock (cell_at_place p))) (λ c. calm_moves_base p))))
 
 pub calm_unlock : (site : Site) (p : Place) → Calm (unlock_call site p)
-calm_unlock site p = calm_then (calm_looks (λ s. s.events)) (λ own. calm_then (calm_unless (holds_mutex own (cell_at_place p)) mutex_not_held site) (λ a.
+calm_unlock site p = calm_then (calm_looks (λ s. s.events)) (λ own. calm_then (calm_unless (holds_mutex own (cell_at_place p)) traps.MutexNotHeld site) (λ a.
     calm_then (calm_performs site (events.Unlock (cell_at_place p))) (λ b. calm_gives_up_base p)))
 
 calm_wait : (site : Site) (c m : ℤ) → Calm (wait_call site c m)
-calm_wait site c m = calm_then (calm_unless (not (is_null c)) null_base site) (λ a. calm_then (calm_unless (not (is_null m)) null_base site) (λ b. calm_then (calm_looks (λ s. s.events)) (λ own.
-    calm_then (calm_unless (holds_mutex own (cell_at_place (pointee m))) mutex_not_held site) (λ d. calm_then (calm_performs site (events.Enter (cell_at_place (pointee c)))) (λ e.
+calm_wait site c m = calm_then (calm_unless (not (is_null c)) traps.NullPointer site) (λ a. calm_then (calm_unless (not (is_null m)) traps.NullPointer site) (λ b. calm_then (calm_looks (λ s. s.events)) (λ own.
+    calm_then (calm_unless (holds_mutex own (cell_at_place (pointee m))) traps.MutexNotHeld site) (λ d. calm_then (calm_performs site (events.Enter (cell_at_place (pointee c)))) (λ e.
     calm_then (calm_performs site (events.Unlock (cell_at_place (pointee m)))) (λ f. calm_then (calm_holds_reference m) (λ g. calm_then (calm_performs site (events.Woken (cell_at_place (pointee c)))) (λ h.
     calm_then (calm_performs site (events.Lock (cell_at_place (pointee m)))) (λ i. calm_moves_on 1)))))))))
 
 calm_signal : (site : Site) (c : ℤ) → Calm (signal_call site c)
-calm_signal site c = calm_then (calm_unless (not (is_null c)) null_base site) (λ a. calm_then (calm_answered site (events.Signal (cell_at_place (pointee c)))) (λ v. calm_done))
+calm_signal site c = calm_then (calm_unless (not (is_null c)) traps.NullPointer site) (λ a. calm_then (calm_answered site (events.Signal (cell_at_place (pointee c)))) (λ v. calm_done))
 
 calm_broadcast : (site : Site) (c : ℤ) → Calm (broadcast_call site c)
-calm_broadcast site c = calm_then (calm_unless (not (is_null c)) null_base site) (λ a. calm_performs site (events.Broadcast (cell_at_place (pointee c))))
+calm_broadcast site c = calm_then (calm_unless (not (is_null c)) traps.NullPointer site) (λ a. calm_performs site (events.Broadcast (cell_at_place (pointee c))))
 
 pub calm_condition : (site : Site) (name : List ℕ) (vs : List ℤ) → Calm (condition_call site name vs)
 calm_condition site name vs = calm_either (bytes_eq name (codes "wait")) (calm_wait site (slice_index_or vs 0 NULL) (slice_index_or vs 1 NULL))
     (calm_either (bytes_eq name (codes "signal")) (calm_signal site (slice_index_or vs 0 NULL)) (calm_broadcast site (slice_index_or vs 0 NULL)))
 
 pub calm_away : (name site : Site) → Calm (goes_away name site)
-calm_away name site = calm_then (calm_looks (λ s. s.events)) (λ own. calm_then (calm_unless (not (nat_lt 0 (length (held_mutexes own)))) returns_with_a_lock site) (λ a.
+calm_away name site = calm_then (calm_looks (λ s. s.events)) (λ own. calm_then (calm_unless (not (nat_lt 0 (length (held_mutexes own)))) traps.ReturnWithLockHeld site) (λ a.
     calm_then (calm_performs name events.Return) (λ b. calm_performs name events.Gone)))

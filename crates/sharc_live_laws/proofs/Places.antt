@@ -10,6 +10,8 @@ use Rattle.sharc_tree.specs.declared.tree.expression.Access.{Access}
 use Rattle.sharc_tree.specs.declared.tree.expression.Access.TheVariants.{Dot, Arrow}
 use Rattle.sharc_tree.specs.declared.tree.expression.UnaryOperator.{UnaryOperator}
 use Rattle.sharc_tree.specs.declared.tree.expression.UnaryOperator.TheVariants.{Negate, Not, Complement, Dereference}
+use Rattle.sharc_tree.specs.declared.trap.Trap.{Trap}
+use Rattle.sharc_tree.specs.declared.trap.Trap.TheVariants as traps
 use Rattle.sharc_tree.specs.Tree.{Expression, identifier, constant, parentheses, call, spawn, on_value, on_place, cast, index, field, unary, binary, Function}
 use Rattle.sharc_names.specs.declared.fault.Named.{Named}
 use Rattle.sharc_names.specs.declared.fault.Named.TheVariants as named
@@ -22,7 +24,6 @@ use Rattle.sharc_dataflow.specs.Flow.{Act, To, Next, Broken, Continued, Ends}
 use Rattle.sharc_dataflow.specs.Code.{Code, first_then, one_of}
 use Rattle.sharc_live.specs.Flows.{goes_on, variable_named, variable_of, through, of_base, of_operand, flow, place_flow}
 use Rattle.sharc_live.specs.Flows as flows
-use Rattle.sharc_meaning.specs.Arithmetic.{out_of_bounds}
 use Rattle.sharc_meaning.specs.Cells.{element_cells, global_elements, field_place_named}
 use Rattle.sharc_meaning.specs.Reference.{number_of, elements_of}
 use Rattle.sharc_meaning.specs.State.{Run, ◌>>=◌, ◌>>◌, give, stop, entered}
@@ -65,8 +66,8 @@ module _ (r : Resolution) (x : ℕ) where
   abbrev pub names : Expression → Bool
   names e = is_named (variable_of r e) x
 
-  pub stops : {A : Type 0} (c : Code) (exit : A → To) (fact : A → Type 0) (code : ℕ) (site : Site) → Along r x c exit fact (stop {A = A} code site)
-  stops c exit fact code site = record { from_state = λ s ready. moved_not r x c Ends s.frame.call s.calls s.calls s.trace s.trace refl refl (way_stays x c) }
+  pub stops : {A : Type 0} (c : Code) (exit : A → To) (fact : A → Type 0) (trap : Trap) (site : Site) → Along r x c exit fact (stop {A = A} trap site)
+  stops c exit fact trap site = record { from_state = λ s ready. moved_not r x c Ends s.frame.call s.calls s.calls s.trace s.trace refl refl (way_stays x c) }
 
   pub either_along : {A : Type 0} {c : Code} {exit : A → To} {fact : A → Type 0} (b : Bool) {m n : Run A} → Along r x c exit fact m → Along r x c exit fact n → Along r x c exit fact (cond b m n)
   either_along true hm hn = hm
@@ -88,8 +89,8 @@ module _ (r : Resolution) (x : ℕ) where
   gives_place p b h = gives r x goes_on onward (Spot b) p (way_goes x Next) h
 
   element_along : (site : Site) (o : Object) (cells elements : ℕ) (i : ℤ) → Along r x goes_on onward (Spot false) (element site o cells elements i)
-  element_along site o cells elements (pos n) = either_along (nat_lt n elements) (gives_place _ false refl) (stops goes_on onward (Spot false) out_of_bounds site)
-  element_along site o cells elements (negsuc n) = stops goes_on onward (Spot false) out_of_bounds site
+  element_along site o cells elements (pos n) = either_along (nat_lt n elements) (gives_place _ false refl) (stops goes_on onward (Spot false) traps.IndexOutOfBounds site)
+  element_along site o cells elements (negsuc n) = stops goes_on onward (Spot false) traps.IndexOutOfBounds site
 
   pub pointee_along : (site : Site) (a : Expression) (pointer : Run ℤ) (c : Code) → Along r x c onward Any pointer → Along r x c onward (Spot false) (pointee_place r site a pointer)
   pointee_along site a pointer c h = then_idle r x h (λ p k. idle_then r x (idle r x (calm_based site (kind_at r a) p)) (λ v l. gives_place (pointee p) false refl))

@@ -6,6 +6,7 @@ use Rattle.sharc_tree.specs.declared.token.Site.{Site}
 use Rattle.sharc_tree.specs.declared.tree.declaration.Declaration.{Declaration}
 use Rattle.sharc_tree.specs.declared.tree.statement.Jump.{Jump}
 use Rattle.sharc_tree.specs.declared.tree.statement.Jump.TheVariants.{Break, Continue}
+use Rattle.sharc_tree.specs.declared.trap.Trap.TheVariants as traps
 use Rattle.sharc_tree.specs.Spans.{span_of}
 use Rattle.sharc_tree.specs.Tree.{Expression, Right, value, malloc, Simple, assign, does_call, Local, First, nothing, declares, does, Statement, empty, block, declare, simple, jump, return, if_then, if_then_else, while, for, Statements, no_statements, statement}
 use Rattle.sharc_names.specs.Kinds.{Kind, declared_kind}
@@ -17,7 +18,6 @@ use Rattle.sharc_mode.specs.Sharings.{Sharing, private}
 use Rattle.sharc_dataflow.specs.Flow.{Next, Broken, Continued, Ends}
 use Rattle.sharc_dataflow.specs.Code.{Code, goes_to, first_then, catches}
 use Rattle.sharc_live.specs.Flows.{goes_on, variable_of, flow, of_option, right_flow, simple_flow, declares_flow, local_flow, first_flow, turn_flow, test_flow, jump_flow, statement_flow, statements_flow}
-use Rattle.sharc_meaning.specs.Arithmetic.{size_not_positive}
 use Rattle.sharc_meaning.specs.Cells.{element_cells, instance_mode}
 use Rattle.sharc_meaning.specs.State.{State, Out, go, over, Run, then_on, ◌>>=◌, ◌>>◌, give, done, value_of, begins_with}
 use Rattle.sharc_meaning.specs.Places.{variable}
@@ -71,7 +71,7 @@ module _ (m : Assignment) (x : ℕ) where
 
     right_along : (kind : Kind) (target : Sharing) (y : Right) → Runs m x (right_flow m.typed y) (right_value on_call m kind target y)
     right_along kind target (value e) = fitting_along m x kind e (eval on_call m e) (flow m.typed e) (value_of_along e)
-    right_along kind target (malloc s n w) = entered_along m.typed x (then_calm m.typed x (elements_along n) (λ elements. calm_then (calm_unless (is_positive elements) size_not_positive s.first) (λ k.
+    right_along kind target (malloc s n w) = entered_along m.typed x (then_calm m.typed x (elements_along n) (λ elements. calm_then (calm_unless (is_positive elements) traps.SizeNotPositive s.first) (λ k.
         calm_then (calm_looks value_of) (λ held. calm_answered s.first (events.New (element_cells m.typed (declared_kind w)) (unsigned_abs elements) (instance_mode m.typed held target))))))
 
     simple_along : (y : Simple) → Runs m x (simple_flow m.typed y) (done_simple on_call m y)

@@ -14,6 +14,7 @@ use Rattle.sharc_tree.specs.declared.tree.expression.PlaceCall.TheVariants.{Lock
 use Rattle.sharc_tree.specs.declared.tree.expression.UnaryOperator.{UnaryOperator}
 use Rattle.sharc_tree.specs.declared.tree.expression.UnaryOperator.TheVariants.{Negate, Not, Complement, Dereference}
 use Rattle.sharc_tree.specs.declared.tree.expression.ValueCall.{ValueCall}
+use Rattle.sharc_tree.specs.declared.trap.Trap.TheVariants as traps
 use Rattle.sharc_tree.specs.Spans.{span_of}
 use Rattle.sharc_tree.specs.Tree.{Expression, identifier, constant, parentheses, call, spawn, on_value, on_place, cast, index, field, unary, binary, Arguments, no_arguments, argument}
 use Rattle.sharc_names.specs.declared.fault.Named.{Named}
@@ -29,7 +30,7 @@ use Rattle.sharc_mode.specs.Sharings.{Sharing}
 use Rattle.sharc_dataflow.specs.Code.{Code, first_then}
 use Rattle.sharc_live.specs.Flows.{goes_on, variable_named, variable_of, through, of_operands, of_place_call, of_base, flow, flow_all, place_flow}
 use Rattle.sharc_live.specs.Flows as flows
-use Rattle.sharc_meaning.specs.Arithmetic.{out_of_range, bits_of, fits, is_zero, truth, operated, negated, complement}
+use Rattle.sharc_meaning.specs.Arithmetic.{bits_of, fits, is_zero, truth, operated, negated, complement}
 use Rattle.sharc_meaning.specs.Reference.{is_null, constant_value}
 use Rattle.sharc_meaning.specs.State.{Run, ◌>>=◌, temporarily}
 use Rattle.sharc_meaning.specs.Places.{Place, cell, pointee_place}
@@ -50,7 +51,7 @@ module _ (m : Assignment) (x : ℕ) where
   operand_along a of_a c h = then_calm m.typed x h (λ v. calm_then (calm_holds (kind_at m.typed a) v) (λ k. calm_give v))
 
   pub fitting_along : (kind : Kind) (a : Expression) (of_a : Run ℤ) (c : Code) → Runs c of_a → Runs c (fitting kind a of_a)
-  fitting_along kind a of_a c h = then_calm m.typed x h (λ v. calm_then (calm_unless (fits kind v) out_of_range (span_of a).first) (λ k. calm_give v))
+  fitting_along kind a of_a c h = then_calm m.typed x h (λ v. calm_then (calm_unless (fits kind v) traps.OutOfRange (span_of a).first) (λ k. calm_give v))
 
   passed_along : (kinds : List Kind) (a : Expression) (of_a : Run ℤ) (c : Code) → Runs c of_a → Runs c (passed m.typed kinds a of_a)
   passed_along [] a of_a c h = operand_along a of_a c h

@@ -33,13 +33,13 @@ ran m f v answers more fuel d = (thread_kept (going.Going d more) (going.going d
 no_more_fuel : (o : Outcome) (d : ℕ) → o ≢ spent → NoMore o d []
 no_more_fuel (wants e) d n = refl
 no_more_fuel ended d n = tt
-no_more_fuel (stopped code site) d n = tt
+no_more_fuel (stopped trap site) d n = tt
 no_more_fuel spent d n = absurd (n refl)
 
 no_more_answers : (o : Outcome) (ys : List ℤ) → ((e : SourceEvent) → o ≢ wants e) → NoMore o 0 ys
 no_more_answers (wants e) ys n = absurd (n e refl)
 no_more_answers ended ys n = tt
-no_more_answers (stopped code site) ys n = tt
+no_more_answers (stopped trap site) ys n = tt
 no_more_answers spent ys n = refl
 
 pub more_fuel : MoreFuel

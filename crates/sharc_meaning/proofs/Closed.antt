@@ -29,12 +29,14 @@ use Rattle.sharc_tree.specs.declared.event.Act.TheVariants as acts
 use Rattle.sharc_tree.specs.declared.event.CellMode.TheVariants.{Readonly, Locked}
 use Rattle.sharc_tree.specs.declared.event.Taken.TheVariants as taken
 use Rattle.sharc_tree.specs.declared.event.TakeKind.TheVariants.{Cast, Free as ToFree}
+use Rattle.sharc_tree.specs.declared.trap.Trap.{Trap}
+use Rattle.sharc_tree.specs.declared.trap.Trap.TheVariants as traps
 use Rattle.sharc_tree.specs.Spans.{span_of}
 use Rattle.sharc_ctype.specs.Expressions.{class_of, binary_result}
 use Rattle.sharc_ctype.specs.Transfers.{parameters_named}
 use Rattle.sharc_mode.specs.Cells.{cell_at, pointed}
 use Rattle.sharc_mode.specs.Rows.{written, row_at, declared_row, cast_row}
-use Rattle.sharc_meaning.specs.Arithmetic.{null_base, out_of_range, mutex_not_held, mutex_already_held, calls_too_deep, returns_with_a_lock, size_not_positive, too_many_locks, bits_of, fits, is_zero, truth, operated, negated, complement}
+use Rattle.sharc_meaning.specs.Arithmetic.{bits_of, fits, is_zero, truth, operated, negated, complement}
 use Rattle.sharc_meaning.specs.Events.{held_mutexes, holds_mutex}
 use Rattle.sharc_meaning.specs.Reference.{NULL, is_null, number_of, elements_of, constant_value}
 use Rattle.sharc_meaning.specs.declared.given.GivenUp.{GivenUp}
@@ -50,7 +52,7 @@ use Rattle.sharc_meaning.specs.Meaning.{parameters_begin, left_at, in_frame, run
 pub record Closed (Q : Bool → (A : Type 0) → Run A → Type 0) : Type 1 where
   pub eases : (A : Type 0) (m : Run A) → Q true A m → Q false A m
   pub give : (A : Type 0) (x : A) → Q false A (give x)
-  pub stop : (A : Type 0) (code : ℕ) (site : Site) → Q false A (stop code site)
+  pub stop : (A : Type 0) (trap : Trap) (site : Site) → Q false A (stop trap site)
   pub enters : (A : Type 0) (m : Run A) → Q false A m → Q true A (entered m)
   pub event : (site : Site) (act : Act) → Q false ℤ (answered site act)
   pub events : Q false _ (looks_at (λ s. s.events))
@@ -72,9 +74,9 @@ module _ (Q : Bool → (A : Type 0) → Run A → Type 0) (q : Closed Q) where
   either true A m n hm hn = hm
   either false A m n hm hn = hn
 
-  unless : (b : Bool) (code : ℕ) (site : Site) → Keeps (unless_stop b code site)
-  unless true code site = q.give _ tt
-  unless false code site = q.stop _ code site
+  unless : (b : Bool) (trap : Trap) (site : Site) → Keeps (unless_stop b trap site)
+  unless true trap site = q.give _ tt
+  unless false trap site = q.stop _ trap site
 
   looks : (x : ℕ) → Keeps (looks_at (λ s. value_of s x))
   looks x = q.binds _ _ _ _ q.values (λ held. q.give ℤ (held x))
@@ -111,7 +113,7 @@ module _ (Q : Bool → (A : Type 0) → Run A → Type 0) (q : Closed Q) where
 
   -- ---- places
   based_kept : (site : Site) (kind : Kind) (p : ℤ) → Keeps (based site kind p)
-  based_kept site kind p = q.binds _ _ _ _ (holds_kept kind p) (λ _. unless (not (is_null p)) null_base site)
+  based_kept site kind p = q.binds _ _ _ _ (holds_kept kind p) (λ _. unless (not (is_null p)) traps.NullPointer site)
 
   element_kept : (site : Site) (o : Object) (cells elements : ℕ) (i : ℤ) → Keeps (element site o cells elements i)
   element_kept site o cells elements (pos n) = either (nat_lt n elements) _ _ _ (q.give _ _) (q.stop _ _ site)
@@ -143,7 +145,7 @@ module _ (Q : Bool → (A : Type 0) → Run A → Type 0) (q : Closed Q) where
   -- ---- accesses
   guarding_kept : (site : Site) (g : Guard) → Keeps (guarding site g)
   guarding_kept site (mutex c) = q.give _ _
-  guarding_kept site (behind c) = q.binds _ _ _ _ (q.event site (acts.Read c Readonly)) (λ p. q.binds _ _ _ _ (unless (not (is_null p)) null_base site) (λ _. q.give _ (cell_of (Made (number_of p)) 0)))
+  guarding_kept site (behind c) = q.binds _ _ _ _ (q.event site (acts.Read c Readonly)) (λ p. q.binds _ _ _ _ (unless (not (is_null p)) traps.NullPointer site) (λ _. q.give _ (cell_of (Made (number_of p)) 0)))
   guarding_kept site no_mutex = q.stop _ _ site
 
   mode_kept : (r : Resolution) (site : Site) (mode : Sharing) (o : Object) (first : ℕ) → Keeps (access_mode r site mode o first)
@@ -185,33 +187,33 @@ module _ (Q : Bool → (A : Type 0) → Run A → Type 0) (q : Closed Q) where
   gives_up_base_kept (variable x) = q.give _ tt
 
   lock_kept : (site : Site) (p : Place) → Keeps (lock_call site p)
-  lock_kept site p = q.binds _ _ _ _ q.events (λ own. q.binds _ _ _ _ (unless (not (holds_mutex own (cell_at_place p))) mutex_already_held site) (λ _.
-      q.binds _ _ _ _ (unless (nat_lt (length (held_mutexes own)) 16) too_many_locks site) (λ _. q.binds _ _ _ _ (performs_kept site (acts.Lock (cell_at_place p))) (λ _. moves_base_kept p))))
+  lock_kept site p = q.binds _ _ _ _ q.events (λ own. q.binds _ _ _ _ (unless (not (holds_mutex own (cell_at_place p))) traps.MutexAlreadyHeld site) (λ _.
+      q.binds _ _ _ _ (unless (nat_lt (length (held_mutexes own)) 16) traps.TooManyLocks site) (λ _. q.binds _ _ _ _ (performs_kept site (acts.Lock (cell_at_place p))) (λ _. moves_base_kept p))))
 
   unlock_kept : (site : Site) (p : Place) → Keeps (unlock_call site p)
-  unlock_kept site p = q.binds _ _ _ _ q.events (λ own. q.binds _ _ _ _ (unless (holds_mutex own (cell_at_place p)) mutex_not_held site) (λ _.
+  unlock_kept site p = q.binds _ _ _ _ q.events (λ own. q.binds _ _ _ _ (unless (holds_mutex own (cell_at_place p)) traps.MutexNotHeld site) (λ _.
       q.binds _ _ _ _ (performs_kept site (acts.Unlock (cell_at_place p))) (λ _. gives_up_base_kept p)))
 
   wait_kept : (site : Site) (c m : ℤ) → Keeps (wait_call site c m)
-  wait_kept site c m = q.binds _ _ _ _ (unless (not (is_null c)) null_base site) (λ _. q.binds _ _ _ _ (unless (not (is_null m)) null_base site) (λ _. q.binds _ _ _ _ q.events (λ own.
-      q.binds _ _ _ _ (unless (holds_mutex own (cell_at_place (pointee m))) mutex_not_held site) (λ _. q.binds _ _ _ _ (performs_kept site (acts.Enter (cell_at_place (pointee c)))) (λ _.
+  wait_kept site c m = q.binds _ _ _ _ (unless (not (is_null c)) traps.NullPointer site) (λ _. q.binds _ _ _ _ (unless (not (is_null m)) traps.NullPointer site) (λ _. q.binds _ _ _ _ q.events (λ own.
+      q.binds _ _ _ _ (unless (holds_mutex own (cell_at_place (pointee m))) traps.MutexNotHeld site) (λ _. q.binds _ _ _ _ (performs_kept site (acts.Enter (cell_at_place (pointee c)))) (λ _.
       q.binds _ _ _ _ (performs_kept site (acts.Unlock (cell_at_place (pointee m)))) (λ _. q.binds _ _ _ _ (held_kept m) (λ _. q.binds _ _ _ _ (performs_kept site (acts.Woken (cell_at_place (pointee c)))) (λ _.
       q.binds _ _ _ _ (performs_kept site (acts.Lock (cell_at_place (pointee m)))) (λ _. moved_kept 1)))))))))
 
   signal_kept : (site : Site) (c : ℤ) → Keeps (signal_call site c)
-  signal_kept site c = q.binds _ _ _ _ (unless (not (is_null c)) null_base site) (λ _. q.binds _ _ _ _ (q.event site (acts.Signal (cell_at_place (pointee c)))) (λ _. q.give _ tt))
+  signal_kept site c = q.binds _ _ _ _ (unless (not (is_null c)) traps.NullPointer site) (λ _. q.binds _ _ _ _ (q.event site (acts.Signal (cell_at_place (pointee c)))) (λ _. q.give _ tt))
 
   broadcast_kept : (site : Site) (c : ℤ) → Keeps (broadcast_call site c)
-  broadcast_kept site c = q.binds _ _ _ _ (unless (not (is_null c)) null_base site) (λ _. performs_kept site (acts.Broadcast (cell_at_place (pointee c))))
+  broadcast_kept site c = q.binds _ _ _ _ (unless (not (is_null c)) traps.NullPointer site) (λ _. performs_kept site (acts.Broadcast (cell_at_place (pointee c))))
 
   condition_kept : (site : Site) (name : List ℕ) (vs : List ℤ) → Keeps (condition_call site name vs)
   condition_kept site name vs = either (bytes_eq name (codes "wait")) _ _ _ (wait_kept site (slice_index_or vs 0 NULL) (slice_index_or vs 1 NULL))
       (either (bytes_eq name (codes "signal")) _ _ _ (signal_kept site (slice_index_or vs 0 NULL)) (broadcast_kept site (slice_index_or vs 0 NULL)))
 
   -- ---- expressions
-  resulting_kept : (site : Site) (v : Result ℤ ℕ) → Keeps (resulting site v)
+  resulting_kept : (site : Site) (v : Result ℤ Trap) → Keeps (resulting site v)
   resulting_kept site (Ok v) = q.give _ v
-  resulting_kept site (Err code) = q.stop _ code site
+  resulting_kept site (Err trap) = q.stop _ trap site
 
   tested_kept : (r : Resolution) (a : Expression) (of_a : Run ℤ) → Keeps of_a → Keeps (tested r a of_a)
   tested_kept r a of_a h = q.binds _ _ _ _ h (λ v. q.binds _ _ _ _ (drops_kept (kind_at r a) v) (λ _. q.give _ (not (is_zero v))))
@@ -220,7 +222,7 @@ module _ (Q : Bool → (A : Type 0) → Run A → Type 0) (q : Closed Q) where
   operand_kept r a of_a h = q.binds _ _ _ _ h (λ v. q.binds _ _ _ _ (holds_kept (kind_at r a) v) (λ _. q.give _ v))
 
   fitting_kept : (kind : Kind) (a : Expression) (of_a : Run ℤ) → Keeps of_a → Keeps (fitting kind a of_a)
-  fitting_kept kind a of_a h = q.binds _ _ _ _ h (λ v. q.binds _ _ _ _ (unless (fits kind v) out_of_range (span_of a).first) (λ _. q.give _ v))
+  fitting_kept kind a of_a h = q.binds _ _ _ _ h (λ v. q.binds _ _ _ _ (unless (fits kind v) traps.OutOfRange (span_of a).first) (λ _. q.give _ v))
 
   passed_kept : (r : Resolution) (kinds : List Kind) (a : Expression) (of_a : Run ℤ) → Keeps of_a → Keeps (passed r kinds a of_a)
   passed_kept r [] a of_a h = operand_kept r a of_a h
@@ -327,7 +329,7 @@ module _ (Q : Bool → (A : Type 0) → Run A → Type 0) (q : Closed Q) where
 
     right_kept : (kind : Kind) (target : Sharing) (x : Right) → Keeps (right_value on_call m kind target x)
     right_kept kind target (value e) = fitting_kept kind e (eval on_call m e) (value_kept e)
-    right_kept kind target (malloc s n w) = q.eases _ _ (q.enters _ _ (q.binds _ _ _ _ (elements_kept n) (λ elements. q.binds _ _ _ _ (unless (is_positive elements) size_not_positive s.first) (λ _.
+    right_kept kind target (malloc s n w) = q.eases _ _ (q.enters _ _ (q.binds _ _ _ _ (elements_kept n) (λ elements. q.binds _ _ _ _ (unless (is_positive elements) traps.SizeNotPositive s.first) (λ _.
         q.binds _ _ _ _ q.values (λ held. q.event s.first (acts.New (element_cells m.typed (declared_kind w)) (unsigned_abs elements) (instance_mode m.typed held target)))))))
 
     simple_kept : (x : Simple) → Keeps (done_simple on_call m x)
@@ -392,11 +394,11 @@ module _ (Q : Bool → (A : Type 0) → Run A → Type 0) (q : Closed Q) where
     call_value_kept (Some f) vs = q.binds _ _ _ _ (function_kept f vs) (λ left. q.give _ left.1)
 
   calls_kept : (m : Assignment) (n f : ℕ) (site : Site) (vs : List ℤ) → Keeps (calls m n f site vs)
-  calls_kept m zero f site vs = q.stop _ calls_too_deep site
+  calls_kept m zero f site vs = q.stop _ traps.CallDepth site
   calls_kept m (suc n) f site vs = call_value_kept (calls m n) (calls_kept m n) m (function_at m.typed f) vs
 
   away_kept : (name site : Site) → Keeps (goes_away name site)
-  away_kept name site = q.binds _ _ _ _ q.events (λ own. q.binds _ _ _ _ (unless (not (nat_lt 0 (length (held_mutexes own)))) returns_with_a_lock site) (λ _.
+  away_kept name site = q.binds _ _ _ _ q.events (λ own. q.binds _ _ _ _ (unless (not (nat_lt 0 (length (held_mutexes own)))) traps.ReturnWithLockHeld site) (λ _.
       q.binds _ _ _ _ (performs_kept name acts.Return) (λ _. performs_kept name acts.Gone)))
 
   pub thread_kept : (m : Assignment) (f : Option Function) (v : ℤ) → Keeps (run_thread m f v)

@@ -15,7 +15,7 @@ both s = length s.events + length s.answers
 abbrev pub NoneLeft : Outcome → List ℤ → Type 0
 NoneLeft (wants e) answers = answers ≡ []
 NoneLeft ended answers = Unit {0}
-NoneLeft (stopped code site) answers = Unit {0}
+NoneLeft (stopped trap site) answers = Unit {0}
 NoneLeft spent answers = Unit {0}
 
 abbrev pub Counts : {A : Type 0} → ℕ → Out A → Type 0
@@ -73,7 +73,7 @@ pub counting : Closed Counting
 counting = record {
   eases = λ A m h. h;
   give = λ A x s. refl;
-  stop = λ A code site s. (refl, tt);
+  stop = λ A trap site s. (refl, tt);
   enters = λ A m h s. counts_entered s.fuel m s h;
   event = λ site act s. counts_event s.answers site act s refl;
   events = λ s. refl;

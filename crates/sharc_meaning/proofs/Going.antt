@@ -22,7 +22,7 @@ abbrev pub NoMore : Outcome → ℕ → List ℤ → Type 0
 NoMore spent d ys = d ≡ 0
 NoMore (wants e) d ys = ys ≡ []
 NoMore ended d ys = Unit {0}
-NoMore (stopped code site) d ys = Unit {0}
+NoMore (stopped trap site) d ys = Unit {0}
 
 -- the event comes with this answer of the list
 pub record ComesIn (e : SourceEvent) (y : ℤ) (before all : List SourceEvent) : Type 0 where
@@ -36,14 +36,14 @@ Comes (wants e) [] before all = Unit {0}
 Comes (wants e) (y ∷ ys) before all = ComesIn e y before all
 Comes spent ys before all = Unit {0}
 Comes ended ys before all = Unit {0}
-Comes (stopped code site) ys before all = Unit {0}
+Comes (stopped trap site) ys before all = Unit {0}
 
 pub comes_on : (o : Outcome) (ys : List ℤ) (before all more : List SourceEvent) → Comes o ys before all → IsPrefix all more → Comes o ys before more
 comes_on (wants e) [] before all more h k = tt
 comes_on (wants e) (y ∷ ys) before all more h k = record { answer = h.answer; is = h.is; events = prefix_on _ all more h.events k }
 comes_on spent ys before all more h k = tt
 comes_on ended ys before all more h k = tt
-comes_on (stopped code site) ys before all more h k = tt
+comes_on (stopped trap site) ys before all more h k = tt
 
 is_answer : (held : ℕ → ℤ) (act : Act) (y : ℤ) → IsAnswer act y (answer_of held act y)
 is_answer held (acts.Read c mode) y = refl
@@ -183,7 +183,7 @@ module _ (d : ℕ) (ys : List ℤ) where
   going = record {
     eases = λ A m h. h;
     give = λ A x. (growing.give A x, λ s. refl);
-    stop = λ A code site. (growing.stop A code site, λ s. record { grows = grows_refl s; comes = tt; same = λ n. refl });
+    stop = λ A trap site. (growing.stop A trap site, λ s. record { grows = grows_refl s; comes = tt; same = λ n. refl });
     enters = λ A m h. (growing.enters A m h.0, λ s. goes_entered s.fuel m s h);
     event = λ site act. (growing.event site act, λ s. goes_event s.answers site act s);
     events = (growing.events, λ s. refl);

@@ -108,7 +108,7 @@ pub growing : Closed Growing
 growing = record {
   eases = λ A m h. h;
   give = λ A x s. grows_refl s;
-  stop = λ A code site s. grows_refl s;
+  stop = λ A trap site s. grows_refl s;
   enters = λ A m h s. grows_entered s.fuel m s h;
   event = λ site act s. grows_event s.answers site act s;
   events = λ s. grows_refl s;

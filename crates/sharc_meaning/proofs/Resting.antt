@@ -1,11 +1,11 @@
 -- What a thread holds where more fuel changes nothing.
-use Rattle.std.proofs.Common.{◌≡◌, ◌↔◌, ℕ, ◌+◌, ◌-◌, ◌<◌, ◌≤◌, List, refl, sym, subst, arith}
+use Rattle.std.proofs.Common.{◌≡◌, ℕ, ◌+◌, ◌-◌, ◌<◌, ◌≤◌, List, sym, subst, arith}
 use Rattle.std.specs.Prelude.{◌≢◌}
 use Rattle.sharc_tree.specs.declared.event.SourceEvent.{SourceEvent}
 use Rattle.sharc_mode.specs.Moded.{Assignment}
 use Rattle.sharc_meaning.specs.Events.{events_of}
-use Rattle.sharc_meaning.specs.Laws.{AllRest, ReferencesAtRest, FromSomeFuel, ReferencesFromSomeFuel}
-use Rattle.sharc_meaning.specs.References.{Begun, asked_with, held_count, ThreadHolds, ThreadHoldsWith, References, ReferencesWith, in_cell, in_argument, in_mutex, in_thread}
+use Rattle.sharc_meaning.specs.Laws.{ReferencesAtRest, ReferencesFromSomeFuel}
+use Rattle.sharc_meaning.specs.References.{Begun, asked_with, held_count, ThreadHolds, ThreadHoldsWith, in_cell, in_argument, in_mutex, in_thread}
 use Rattle.sharc_meaning.specs.Runs.{answers_of}
 use Rattle.sharc_meaning.specs.State.{spent}
 use Rattle.sharc_meaning.proofs.Asking.{more_fuel_same}

@@ -79,7 +79,7 @@ module _ (m : Assignment) (f : ℕ) (v : ℤ) (fuel t : ℕ) where
   as_many : (X Y : List SourceEvent) → map (by t) (asked (answers_of X ++ answers_of Y)).events ≡ X ++ Y → (o : Outcome) → (asked (answers_of X)).outcome ≡ o → length (asked (answers_of X)).events ≡ length X
   as_many X Y h (wants e) o = wants_behind_answers m f v (answers_of X) fuel e o ∙ map_length (λ e. e.answer) X
   as_many X Y h ended o = not_wanting X Y h (λ e w. absurd (cc))
-  as_many X Y h (stopped code site) o = not_wanting X Y h (λ e w. absurd (cc))
+  as_many X Y h (stopped trap site) o = not_wanting X Y h (λ e w. absurd (cc))
   as_many X Y h spent o = not_wanting X Y h (λ e w. absurd (cc))
 
   pub asked_before : (X Y : List SourceEvent) → map (by t) (asked (answers_of (X ++ Y))).events ≡ X ++ Y → map (by t) (asked (answers_of X)).events ≡ X

@@ -81,7 +81,7 @@ pub spending : Closed Spending
 spending = record {
   eases = λ A m h f s le. eased f (m s) (h f s le);
   give = λ A x f s le. le;
-  stop = λ A code site f s le e. absurd (cc);
+  stop = λ A trap site f s le e. absurd (cc);
   enters = λ A m h f s le. spends_entered s.fuel f m s h refl le;
   event = λ site act f s le. spends_event s.answers site act f s le;
   events = λ f s le. le;

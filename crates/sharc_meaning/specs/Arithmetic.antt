@@ -5,39 +5,9 @@ use Rattle.sharc_tree.specs.declared.ctype.Base.{Base}
 use Rattle.sharc_tree.specs.declared.ctype.Base.TheVariants.{Int, Char, Long, Mutex, Void, Struct}
 use Rattle.sharc_tree.specs.declared.tree.expression.BinaryOperator.{BinaryOperator}
 use Rattle.sharc_tree.specs.declared.tree.expression.BinaryOperator.TheVariants.{LogicalOr, LogicalAnd, BitOr, BitXor, BitAnd, Equal, NotEqual, Less, Greater, LessOrEqual, GreaterOrEqual, ShiftLeft, ShiftRight, Add, Subtract, Multiply, Divide, Remainder}
+use Rattle.sharc_tree.specs.declared.trap.Trap.{Trap}
+use Rattle.sharc_tree.specs.declared.trap.Trap.TheVariants as traps
 use Rattle.sharc_names.specs.Kinds.{Kind, object, array, null, function, is_integer}
-
--- the digits of the stops that the text of a thread alone decides: each is printed with an X before it
-
-abbrev pub null_base : ℕ
-null_base = 1
-
-abbrev pub out_of_bounds : ℕ
-out_of_bounds = 2
-
-abbrev pub zero_divisor : ℕ
-zero_divisor = 3
-
-abbrev pub out_of_range : ℕ
-out_of_range = 4
-
-abbrev pub mutex_not_held : ℕ
-mutex_not_held = 5
-
-abbrev pub mutex_already_held : ℕ
-mutex_already_held = 6
-
-abbrev pub calls_too_deep : ℕ
-calls_too_deep = 10
-
-abbrev pub returns_with_a_lock : ℕ
-returns_with_a_lock = 11
-
-abbrev pub size_not_positive : ℕ
-size_not_positive = 12
-
-abbrev pub too_many_locks : ℕ
-too_many_locks = 13
 
 -- `char`, `int` and `long` are signed, of 8, 32 and 64 bits: these are the bits of a type, but that of the sign
 
@@ -75,24 +45,24 @@ truth true = pos 1
 truth false = pos 0
 
 -- the value, or the stop: where the type does not hold it
-abbrev pub in_range : ℕ → ℤ → Result ℤ ℕ
-in_range bits v = if is_held_by bits v then Ok v else Err out_of_range
+abbrev pub in_range : ℕ → ℤ → Result ℤ Trap
+in_range bits v = if is_held_by bits v then Ok v else Err traps.OutOfRange
 
 -- 6.5.5p5: where the divisor is 0, or the type does not hold the quotient, `/` and `%` stop both: the least value is not divided by -1
-abbrev pub divided : ℕ → ℤ → ℤ → ℤ → Result ℤ ℕ
-divided bits a b result = if is_zero b then Err zero_divisor else if is_held_by bits (int_div a b) then Ok result else Err out_of_range
+abbrev pub divided : ℕ → ℤ → ℤ → ℤ → Result ℤ Trap
+divided bits a b result = if is_zero b then Err traps.DivisionByZero else if is_held_by bits (int_div a b) then Ok result else Err traps.OutOfRange
 
 -- 6.5.7p3: the count is one of the bits of the type
-abbrev pub shifted : ℕ → ℤ → (ℕ → Result ℤ ℕ) → Result ℤ ℕ
-shifted bits (pos n) by = if nat_lt n (bits + 1) then by n else Err out_of_range
-shifted bits (negsuc n) by = Err out_of_range
+abbrev pub shifted : ℕ → ℤ → (ℕ → Result ℤ Trap) → Result ℤ Trap
+shifted bits (pos n) by = if nat_lt n (bits + 1) then by n else Err traps.OutOfRange
+shifted bits (negsuc n) by = Err traps.OutOfRange
 
 abbrev pub is_equal : ℤ → ℤ → Bool
 is_equal a b = int_le a b && int_le b a
 
 -- An operator in a type with this many bits beside the sign. Division rounds toward zero (6.5.5p6), and `>>` of a negative number downward. `&&` and `||`
 -- are here what they make of two values that are both looked at.
-abbrev pub operated : ℕ → BinaryOperator → ℤ → ℤ → Result ℤ ℕ
+abbrev pub operated : ℕ → BinaryOperator → ℤ → ℤ → Result ℤ Trap
 operated bits LogicalOr a b = Ok (truth (not (is_zero a) || not (is_zero b)))
 operated bits LogicalAnd a b = Ok (truth (not (is_zero a) && not (is_zero b)))
 operated bits BitOr a b = Ok (int_bit_or w64 a b)
@@ -112,7 +82,7 @@ operated bits Multiply a b = in_range bits (a *ℤ b)
 operated bits Divide a b = divided bits a b (int_div a b)
 operated bits Remainder a b = divided bits a b (int_rem a b)
 
-abbrev pub negated : ℕ → ℤ → Result ℤ ℕ
+abbrev pub negated : ℕ → ℤ → Result ℤ Trap
 negated bits a = in_range bits (neg_ℤ a)
 
 abbrev pub complement : ℤ → ℤ

@@ -15,6 +15,8 @@ use Rattle.sharc_tree.specs.declared.tree.expression.UnaryOperator.{UnaryOperato
 use Rattle.sharc_tree.specs.declared.tree.expression.UnaryOperator.TheVariants.{Negate, Not, Complement, Dereference}
 use Rattle.sharc_tree.specs.declared.tree.expression.ValueCall.{ValueCall}
 use Rattle.sharc_tree.specs.declared.tree.expression.ValueCall.TheVariants.{Join, Print}
+use Rattle.sharc_tree.specs.declared.trap.Trap.{Trap}
+use Rattle.sharc_tree.specs.declared.trap.Trap.TheVariants as traps
 use Rattle.sharc_tree.specs.Spans.{span_of}
 use Rattle.sharc_tree.specs.Tree.{Expression, identifier, constant, parentheses, call, spawn, on_value, on_place, cast, index, field, unary, binary, Arguments, no_arguments, argument}
 use Rattle.sharc_names.specs.declared.fault.Named.{Named}
@@ -27,7 +29,7 @@ use Rattle.sharc_mode.specs.Cells.{cell_at, pointed}
 use Rattle.sharc_mode.specs.Moded.{Assignment}
 use Rattle.sharc_mode.specs.Rows.{cast_row}
 use Rattle.sharc_mode.specs.Sharings.{Sharing}
-use Rattle.sharc_meaning.specs.Arithmetic.{out_of_range, bits_of, fits, is_zero, truth, operated, negated, complement}
+use Rattle.sharc_meaning.specs.Arithmetic.{bits_of, fits, is_zero, truth, operated, negated, complement}
 use Rattle.sharc_meaning.specs.Reference.{is_null, constant_value}
 use Rattle.sharc_meaning.specs.State.{Run, Step, ◌>>=◌, ◌>>◌, give, done, stop, unless_stop, entered, answered, performs, drops, holds, moves, temporarily, reads_variable}
 use Rattle.sharc_meaning.specs.Places.{Place, cell, no_place, place_named, index_place, pointee_place, field_place, unary_place, fetched, taken_from, cast_to, freed}
@@ -38,9 +40,9 @@ abbrev pub Calls : Type 0
 Calls = ℕ → Site → List ℤ → Run ℤ
 
 -- a value, or a stop at this place
-abbrev pub resulting : Site → Result ℤ ℕ → Run ℤ
+abbrev pub resulting : Site → Result ℤ Trap → Run ℤ
 resulting site (Ok v) = give v
-resulting site (Err code) = stop code site
+resulting site (Err trap) = stop trap site
 
 -- whether a value is neither 0 nor NULL
 abbrev pub tested : Resolution → Expression → Run ℤ → Run Bool
@@ -60,7 +62,7 @@ operand r a of_a = do
 abbrev pub fitting : Kind → Expression → Run ℤ → Run ℤ
 fitting kind a of_a = do
   v ← of_a
-  unless_stop (fits kind v) out_of_range (span_of a).first
+  unless_stop (fits kind v) traps.OutOfRange (span_of a).first
   give v
 
 -- an argument for the first of the parameters that are left

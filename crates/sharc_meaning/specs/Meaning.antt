@@ -4,12 +4,12 @@ use Rattle.sharc_tree.specs.declared.event.Act.TheVariants as acts
 use Rattle.sharc_tree.specs.declared.event.SourceEvent.{SourceEvent}
 use Rattle.sharc_tree.specs.declared.token.Site.{Site}
 use Rattle.sharc_tree.specs.declared.tree.declaration.Declaration.{Declaration}
+use Rattle.sharc_tree.specs.declared.trap.Trap.TheVariants as traps
 use Rattle.sharc_tree.specs.Tree.{Function}
 use Rattle.sharc_names.specs.Kinds.{is_pointer, declared_kind}
 use Rattle.sharc_ctype.specs.Resolved.{function_at}
 use Rattle.sharc_mode.specs.Moded.{Assignment}
 use Rattle.sharc_meaning.specs.declared.given.GivenUp.{GivenUp}
-use Rattle.sharc_meaning.specs.Arithmetic.{calls_too_deep, returns_with_a_lock}
 use Rattle.sharc_meaning.specs.Events.{held_mutexes}
 use Rattle.sharc_meaning.specs.State.{Frame, Traced, State, Outcome, ended, Out, go, over, Run, Step, ◌>>=◌, ◌>>◌, give, done, stop, unless_stop, entered, performs, without_temporaries, looks_at, begins_with, in_block, held_references}
 use Rattle.sharc_meaning.specs.Expressions.{Calls}
@@ -67,14 +67,14 @@ call_value on_call m (Some f) vs = do
 
 -- a call where this many more frames are allowed
 abbrev pub calls : Assignment → ℕ → Calls
-calls m zero f site vs = stop calls_too_deep site
+calls m zero f site vs = stop traps.CallDepth site
 calls m (suc n) f site vs = call_value (calls m n) m (function_at m.typed f) vs
 
 -- A thread returns where it holds no mutex, and is then gone: both are at the name of its function, and the stop where the body was left.
 abbrev pub goes_away : Site → Site → Step
 goes_away name site = do
   own ← looks_at (λ s. s.events)
-  unless_stop (not (nat_lt 0 (length (held_mutexes own)))) returns_with_a_lock site
+  unless_stop (not (nat_lt 0 (length (held_mutexes own)))) traps.ReturnWithLockHeld site
   performs name acts.Return
   performs name acts.Gone
 

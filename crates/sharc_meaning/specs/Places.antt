@@ -13,13 +13,13 @@ use Rattle.sharc_tree.specs.declared.tree.expression.Access.{Access}
 use Rattle.sharc_tree.specs.declared.tree.expression.Access.TheVariants.{Dot, Arrow}
 use Rattle.sharc_tree.specs.declared.tree.expression.UnaryOperator.{UnaryOperator}
 use Rattle.sharc_tree.specs.declared.tree.expression.UnaryOperator.TheVariants.{Dereference}
+use Rattle.sharc_tree.specs.declared.trap.Trap.TheVariants as traps
 use Rattle.sharc_tree.specs.Tree.{Expression}
 use Rattle.sharc_names.specs.declared.fault.Named.{Named}
 use Rattle.sharc_names.specs.declared.fault.Named.TheVariants as named
 use Rattle.sharc_names.specs.Kinds.{Kind, is_array, is_pointer, element_kind}
 use Rattle.sharc_ctype.specs.Resolved.{Resolution, global_at, kind_at}
 use Rattle.sharc_mode.specs.Sharings.{Sharing, private, readonly, locked, racy, dynamic}
-use Rattle.sharc_meaning.specs.Arithmetic.{null_base, out_of_bounds}
 use Rattle.sharc_meaning.specs.Cells.{cell_of, element_cells, global_elements, field_place_named, Guard, mutex, behind, nothing as no_mutex, guard_of, instance_mode}
 use Rattle.sharc_meaning.specs.Reference.{NULL, is_null, number_of, elements_of}
 use Rattle.sharc_meaning.specs.declared.given.GivenUp.TheVariants.{Replaced, Emptied}
@@ -52,12 +52,12 @@ field_in n (cell o first c) = cell o first (first + n)
 abbrev pub based : Site → Kind → ℤ → Step
 based site kind p = do
   holds kind p
-  unless_stop (not (is_null p)) null_base site
+  unless_stop (not (is_null p)) traps.NullPointer site
 
 -- an element with this many cells, of this many elements; an index outside stops
 abbrev pub element : Site → Object → ℕ → ℕ → ℤ → Run Place
-element site o cells elements (pos n) = if nat_lt n elements then give (cell o (n * cells) (n * cells)) else stop out_of_bounds site
-element site o cells elements (negsuc n) = stop out_of_bounds site
+element site o cells elements (pos n) = if nat_lt n elements then give (cell o (n * cells) (n * cells)) else stop traps.IndexOutOfBounds site
+element site o cells elements (negsuc n) = stop traps.IndexOutOfBounds site
 
 abbrev pub element_of_array : Resolution → Site → ℕ → Place → ℤ → Run Place
 element_of_array r site cells (cell (Global g) first c) i = element site (Global g) cells (global_elements (global_at r g)) i
@@ -105,9 +105,9 @@ abbrev pub guarding : Site → Guard → Run CellAt
 guarding site (mutex c) = give c
 guarding site (behind c) = do
   p ← answered site (acts.Read c Readonly)
-  unless_stop (not (is_null p)) null_base site
+  unless_stop (not (is_null p)) traps.NullPointer site
   give (cell_of (Made (number_of p)) 0)
-guarding site no_mutex = stop null_base site
+guarding site no_mutex = stop traps.NullPointer site
 
 -- the mode in the event of an access to a cell in this element
 abbrev pub access_mode : Resolution → Site → Sharing → Object → ℕ → Run CellMode

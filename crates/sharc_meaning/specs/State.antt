@@ -7,6 +7,7 @@ use Rattle.sharc_tree.specs.declared.event.CellAt.{CellAt}
 use Rattle.sharc_tree.specs.declared.event.SourceEvent.{SourceEvent}
 use Rattle.sharc_tree.specs.declared.token.Site.{Site}
 use Rattle.sharc_tree.specs.declared.tree.declaration.Declaration.{Declaration}
+use Rattle.sharc_tree.specs.declared.trap.Trap.{Trap}
 use Rattle.sharc_names.specs.Kinds.{Kind, is_pointer, is_null, declared_kind}
 use Rattle.sharc_meaning.specs.declared.given.GivenUp.{GivenUp}
 use Rattle.sharc_meaning.specs.declared.given.GivenUp.TheVariants.{Released}
@@ -50,11 +51,11 @@ pub record State : Type 0 where
 
 -- ---- runs
 
--- how it comes to an end: it wants an event for which there is no answer, it is gone, it is stopped by an X, or the fuel is spent
+-- how it comes to an end: it wants an event for which there is no answer, it is gone, it is stopped by a trap, or the fuel is spent
 pub data Outcome : Type 0 where
   wants : SourceEvent → Outcome
   ended : Outcome
-  stopped : ℕ → Site → Outcome
+  stopped : Trap → Site → Outcome
   spent : Outcome
 
 -- a run goes on with a value, or is over
@@ -88,13 +89,13 @@ give x s = go x s
 abbrev pub done : Step
 done s = go tt s
 
-abbrev pub stop : {A : Type 0} → ℕ → Site → Run A
-stop code site s = over (stopped code site) s
+abbrev pub stop : {A : Type 0} → Trap → Site → Run A
+stop trap site s = over (stopped trap site) s
 
--- it stops with this X unless the test is met
-abbrev pub unless_stop : Bool → ℕ → Site → Step
-unless_stop true code site = done
-unless_stop false code site = stop code site
+-- it stops with this trap unless the test is met
+abbrev pub unless_stop : Bool → Trap → Site → Step
+unless_stop true trap site = done
+unless_stop false trap site = stop trap site
 
 -- one more statement or expression is entered
 

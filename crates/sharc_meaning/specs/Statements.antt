@@ -5,6 +5,7 @@ use Rattle.sharc_tree.specs.declared.token.Site.{Site}
 use Rattle.sharc_tree.specs.declared.tree.declaration.Declaration.{Declaration}
 use Rattle.sharc_tree.specs.declared.tree.statement.Jump.{Jump}
 use Rattle.sharc_tree.specs.declared.tree.statement.Jump.TheVariants.{Break, Continue}
+use Rattle.sharc_tree.specs.declared.trap.Trap.TheVariants as traps
 use Rattle.sharc_tree.specs.Spans.{span_of}
 use Rattle.sharc_tree.specs.Tree.{Expression, Right, value, malloc, Simple, assign, does_call, Local, First, nothing, declares, does, Statement, empty, block, declare, simple, jump, return, if_then, if_then_else, while, for, Statements, no_statements, statement}
 use Rattle.sharc_names.specs.Kinds.{Kind, declared_kind}
@@ -13,7 +14,6 @@ use Rattle.sharc_mode.specs.Cells.{cell_at, pointed}
 use Rattle.sharc_mode.specs.Moded.{Assignment}
 use Rattle.sharc_mode.specs.Rows.{written, row_at, declared_row}
 use Rattle.sharc_mode.specs.Sharings.{Sharing, private}
-use Rattle.sharc_meaning.specs.Arithmetic.{size_not_positive}
 use Rattle.sharc_meaning.specs.Cells.{element_cells, instance_mode}
 use Rattle.sharc_meaning.specs.State.{spent, over, Run, Step, ◌>>=◌, ◌>>◌, give, done, unless_stop, entered, answered, drops, temporarily, value_of, looks_at, begins_with, in_block}
 use Rattle.sharc_meaning.specs.Places.{variable, stored}
@@ -68,7 +68,7 @@ abbrev pub right_value : Calls → Assignment → Kind → Sharing → Right →
 right_value on_call m kind target (value e) = fitting kind e (eval on_call m e)
 right_value on_call m kind target (malloc s n w) = entered (do
   elements ← elements_made on_call m n
-  unless_stop (is_positive elements) size_not_positive s.first
+  unless_stop (is_positive elements) traps.SizeNotPositive s.first
   held ← looks_at value_of
   answered s.first (acts.New (element_cells m.typed (declared_kind w)) (unsigned_abs elements) (instance_mode m.typed held target)))
 

@@ -5,7 +5,7 @@ use Rattle.sharc_tree.specs.declared.event.Act.TheVariants as acts
 use Rattle.sharc_tree.specs.declared.event.CellAt.{CellAt}
 use Rattle.sharc_tree.specs.declared.event.Object.TheVariants.{Global, Made}
 use Rattle.sharc_tree.specs.declared.token.Site.{Site}
-use Rattle.sharc_meaning.specs.Arithmetic.{null_base, mutex_not_held, mutex_already_held, too_many_locks}
+use Rattle.sharc_tree.specs.declared.trap.Trap.TheVariants as traps
 use Rattle.sharc_meaning.specs.Cells.{cell_of}
 use Rattle.sharc_meaning.specs.Events.{held_mutexes, holds_mutex}
 use Rattle.sharc_meaning.specs.Reference.{NULL, is_null}
@@ -30,8 +30,8 @@ gives_up_base _ = done
 abbrev pub lock_call : Site → Place → Step
 lock_call site p = do
   own ← looks_at (λ s. s.events)
-  unless_stop (not (holds_mutex own (cell_at_place p))) mutex_already_held site
-  unless_stop (nat_lt (length (held_mutexes own)) 16) too_many_locks site
+  unless_stop (not (holds_mutex own (cell_at_place p))) traps.MutexAlreadyHeld site
+  unless_stop (nat_lt (length (held_mutexes own)) 16) traps.TooManyLocks site
   performs site (acts.Lock (cell_at_place p))
   moves_base p
 
@@ -39,17 +39,17 @@ lock_call site p = do
 abbrev pub unlock_call : Site → Place → Step
 unlock_call site p = do
   own ← looks_at (λ s. s.events)
-  unless_stop (holds_mutex own (cell_at_place p)) mutex_not_held site
+  unless_stop (holds_mutex own (cell_at_place p)) traps.MutexNotHeld site
   performs site (acts.Unlock (cell_at_place p))
   gives_up_base p
 
 -- `wait(c, m)`: `c` is looked at before `m`, and NULL stops before a mutex that is not held. From its Unlock to its Lock the thread holds one more reference to the object of the mutex.
 abbrev pub wait_call : Site → ℤ → ℤ → Step
 wait_call site c m = do
-  unless_stop (not (is_null c)) null_base site
-  unless_stop (not (is_null m)) null_base site
+  unless_stop (not (is_null c)) traps.NullPointer site
+  unless_stop (not (is_null m)) traps.NullPointer site
   own ← looks_at (λ s. s.events)
-  unless_stop (holds_mutex own (cell_at_place (pointee m))) mutex_not_held site
+  unless_stop (holds_mutex own (cell_at_place (pointee m))) traps.MutexNotHeld site
   performs site (acts.Enter (cell_at_place (pointee c)))
   performs site (acts.Unlock (cell_at_place (pointee m)))
   holds_reference m
@@ -59,13 +59,13 @@ wait_call site c m = do
 
 abbrev pub signal_call : Site → ℤ → Step
 signal_call site c = do
-  unless_stop (not (is_null c)) null_base site
+  unless_stop (not (is_null c)) traps.NullPointer site
   answered site (acts.Signal (cell_at_place (pointee c)))
   done
 
 abbrev pub broadcast_call : Site → ℤ → Step
 broadcast_call site c = do
-  unless_stop (not (is_null c)) null_base site
+  unless_stop (not (is_null c)) traps.NullPointer site
   performs site (acts.Broadcast (cell_at_place (pointee c)))
 
 -- a known call of this name

@@ -6,6 +6,7 @@ use Rattle.std.specs.List.{AllByRecursion}
 use Rattle.sharc_tree.specs.declared.event.Act.TheVariants as acts
 use Rattle.sharc_tree.specs.declared.token.Site.{Site}
 use Rattle.sharc_tree.specs.declared.tree.declaration.Declaration.{Declaration}
+use Rattle.sharc_tree.specs.declared.trap.Trap.TheVariants as traps
 use Rattle.sharc_tree.specs.Measures.{in_function}
 use Rattle.sharc_tree.specs.Tree.{Function}
 use Rattle.sharc_names.specs.Kinds.{is_pointer, declared_kind, declared_kinds}
@@ -13,7 +14,6 @@ use Rattle.sharc_ctype.specs.Resolved.{Resolution, function_at, variable_kind}
 use Rattle.sharc_ctype.specs.Statements.{locals_in_all}
 use Rattle.sharc_mode.specs.Moded.{Assignment}
 use Rattle.sharc_ctype_laws.specs.Rules.{MeetsRules}
-use Rattle.sharc_meaning.specs.Arithmetic.{calls_too_deep, returns_with_a_lock}
 use Rattle.sharc_meaning.specs.Events.{held_mutexes}
 use Rattle.sharc_meaning.specs.declared.variable.Variable.{Variable}
 use Rattle.sharc_meaning.specs.State.{Frame, State, writes, Out, go, over, Run, then_on, ◌>>=◌, give, entered, all_released, pointers_among, ends_variables, without_temporaries, new_variable}
@@ -245,13 +245,13 @@ module _ (m : Assignment) (n d : ℕ) where
 
   module _ (w : Facts m.typed) (known : (k : ℕ) (f : Function) → function_at m.typed k ≡ Some f → Known m.typed f) where
     calls_kept : (k : ℕ) → CallsKeep m n d (calls m k)
-    calls_kept zero j f is site vs long ts = runs.kept_atom m.typed n d _ _ (Same ts) (steps.atom_stop m.typed n d false false _ calls_too_deep site (Same ts))
+    calls_kept zero j f is site vs long ts = runs.kept_atom m.typed n d _ _ (Same ts) (steps.atom_stop m.typed n d false false _ traps.CallDepth site (Same ts))
     calls_kept (suc k) j f is site vs long ts = subst (λ z. Kept m n d (ts ++ passed_in (declared_kinds f.parameters) vs) (call_value (calls m k) m z vs) (Same ts)) (sym is)
         (runs.kept_next m.typed n d _ ts _ _ (Same ts) (called_kept (calls m k) (calls_kept k) w f (known j f is) vs long ts) (λ left. kept_give m n d ts left.1 (Same ts) refl))
 
     away_kept : (ts : List ℤ) (name site : Site) → Kept m n d ts (goes_away name site) (Same ts)
     away_kept ts name site = runs.kept_atom m.typed n d ts _ (Same ts) (runs.atom_next m.typed n d false false false ts ts _ _ (Same ts) (steps.atom_events m.typed n d false ts) (λ own.
-        runs.atom_next m.typed n d false false false ts ts _ _ (Same ts) (steps.atom_unless m.typed n d (not (nat_lt 0 (length (held_mutexes own)))) false ts returns_with_a_lock site) (λ _.
+        runs.atom_next m.typed n d false false false ts ts _ _ (Same ts) (steps.atom_unless m.typed n d (not (nat_lt 0 (length (held_mutexes own)))) false ts traps.ReturnWithLockHeld site) (λ _.
         runs.atom_weak m.typed n d ts _ (Same ts) (runs.atom_next m.typed n d false true true ts ts _ _ (Same ts) (steps.atom_performs m.typed n d false ts name acts.Return) (λ _. steps.atom_performs m.typed n d true ts name acts.Gone)))))
 
     thread_by : (j : ℕ) (f : Option Function) → function_at m.typed j ≡ f → (v : ℤ) (answers : List ℤ) (fuel : ℕ) → runs.KeptAt m.typed n d (start answers fuel) (run_thread m f v) (Same [])

@@ -17,6 +17,7 @@ use Rattle.sharc_tree.specs.declared.tree.expression.BinaryOperator.TheVariants.
 use Rattle.sharc_tree.specs.declared.tree.expression.PlaceCall.TheVariants.{Lock, Unlock, Free}
 use Rattle.sharc_tree.specs.declared.tree.expression.UnaryOperator.TheVariants.{Dereference}
 use Rattle.sharc_tree.specs.declared.tree.expression.ValueCall.{ValueCall}
+use Rattle.sharc_tree.specs.declared.trap.Trap.TheVariants as traps
 use Rattle.sharc_tree.specs.Forms.{is_lvalue}
 use Rattle.sharc_tree.specs.Spans.{span_of}
 use Rattle.sharc_tree.specs.Tree.{Expression, identifier, index, field, unary, Arguments, Function}
@@ -30,7 +31,7 @@ use Rattle.sharc_mode.specs.Cells.{cell_at, pointed}
 use Rattle.sharc_mode.specs.Moded.{Assignment}
 use Rattle.sharc_mode.specs.Rows.{cast_row}
 use Rattle.sharc_ctype_laws.specs.Constraints.{HasType, HaveTypes, Callee, of_program, of_conditions, a_variable, a_global, a_function, a_constant, in_parentheses, element_of_pointer, element_of_array, a_call, a_field, a_field_behind, negated, complemented, denied, pointed_to, arithmetic, shifted, related, equated, joined, spawned, printed_or_joined, locked, unlocked, freed, a_cast, none_left, one_more}
-use Rattle.sharc_meaning.specs.Arithmetic.{out_of_range, bits_of, fits, is_zero, truth, operated, negated as negative, complement}
+use Rattle.sharc_meaning.specs.Arithmetic.{bits_of, fits, is_zero, truth, operated, negated as negative, complement}
 use Rattle.sharc_meaning.specs.Cells.{element_cells}
 use Rattle.sharc_meaning.specs.Reference.{is_null, number_of, elements_of, constant_value}
 use Rattle.sharc_meaning.specs.State.{Run, ◌>>=◌, give, answered, moves, is_reference, temporarily}
@@ -71,7 +72,7 @@ module _ (m : Assignment) (n d : ℕ) where
 
   pub fitting_kept : (kind : Kind) (a : Expression) (of_a : Run ℤ) → Keeps of_a → Keeps (fitting kind a of_a)
   fitting_kept kind a of_a h ts = runs.kept_next m.typed n d ts ts _ _ (Same ts) (h ts) (λ v. runs.kept_atom m.typed n d ts _ (Same ts)
-      (runs.atom_next m.typed n d false false false ts ts _ _ (Same ts) (steps.atom_unless m.typed n d (fits kind v) false ts out_of_range (span_of a).first) (λ _. steps.atom_give m.typed n d false ts v (Same ts) refl)))
+      (runs.atom_next m.typed n d false false false ts ts _ _ (Same ts) (steps.atom_unless m.typed n d (fits kind v) false ts traps.OutOfRange (span_of a).first) (λ _. steps.atom_give m.typed n d false ts v (Same ts) refl)))
 
   -- one temporary more, where it may be a reference
   abbrev pub Slotted : List ℤ → Bool → ℤ → List ℤ → Type 0

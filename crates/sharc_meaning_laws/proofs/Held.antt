@@ -43,7 +43,7 @@ module _ (r : Resolution) (n d : ℕ) where
   held_by (over spent t) o' h e = let same : length (state_of o').events ≡ length t.events = ap length e in h.total (omega arith)
   held_by (over (wants x) t) o' h e = subst (λ z. total n t ≤ total n (state_of z)) (sym h) (omega arith)
   held_by (over ended t) o' h e = subst (λ z. total n t ≤ total n (state_of z)) (sym h) (omega arith)
-  held_by (over (stopped code site) t) o' h e = subst (λ z. total n t ≤ total n (state_of z)) (sym h) (omega arith)
+  held_by (over (stopped trap site) t) o' h e = subst (λ z. total n t ≤ total n (state_of z)) (sym h) (omega arith)
 
   pub held : {A : Type 0} (o o' : Out A) → runs.Goes r n d o o' → (asked_by o').events ≡ (asked_by o).events
       → held_count (asked_by o) n + released n (asked_by o).given_up ≤ held_count (asked_by o') n + released n (asked_by o').given_up

@@ -138,7 +138,7 @@ module _ (r : Resolution) (n : ℕ) where
     Past spent t o' = Up t (state_of o')
     Past (wants e) t o' = o' ≡ over (wants e) (more t)
     Past ended t o' = o' ≡ over ended (more t)
-    Past (stopped code site) t o' = o' ≡ over (stopped code site) (more t)
+    Past (stopped trap site) t o' = o' ≡ over (stopped trap site) (more t)
 
     abbrev pub Goes : {A : Type 0} → Out A → Out A → Type 0
     Goes (go x t) o' = o' ≡ go x (more t)
@@ -148,7 +148,7 @@ module _ (r : Resolution) (n : ℕ) where
     past_steady A spent t = up_level _ _ _ (omega arith)
     past_steady A (wants e) t = refl
     past_steady A ended t = refl
-    past_steady A (stopped code site) t = refl
+    past_steady A (stopped trap site) t = refl
 
     pub goes_steady : {A : Type 0} (o o' : Out A) → o' ≡ more_out o → Goes o o'
     goes_steady (go x t) o' h = h
@@ -160,7 +160,7 @@ module _ (r : Resolution) (n : ℕ) where
     past_then spent t (over o2 u) f p q e w callers h k l = h
     past_then (wants z) t o' f p q e w callers h k l = ap (λ z. then_on z f) h
     past_then ended t o' f p q e w callers h k l = ap (λ z. then_on z f) h
-    past_then (stopped code site) t o' f p q e w callers h k l = ap (λ z. then_on z f) h
+    past_then (stopped trap site) t o' f p q e w callers h k l = ap (λ z. then_on z f) h
 
     -- run by run, the second with more fuel
     pub goes_then : {A B : Type 0} (o o' : Out A) (f f' : A → Run B) (p : A → List ℤ → Type 0) (q : B → List ℤ → Type 0) (e w : ℕ) (callers : List Frame) → Goes o o' → RanBy false false e w callers p o → RanBy false false e w callers p o'
@@ -214,7 +214,7 @@ module _ (r : Resolution) (n : ℕ) where
     past_after W spent t o' ends up h = up_on _ _ _ _ _ _ h up
     past_after W (wants e) t o' ends up h = ap W h ∙ ends (wants e) (more t)
     past_after W ended t o' ends up h = ap W h ∙ ends ended (more t)
-    past_after W (stopped code site) t o' ends up h = ap W h ∙ ends (stopped code site) (more t)
+    past_after W (stopped trap site) t o' ends up h = ap W h ∙ ends (stopped trap site) (more t)
 
     pub goes_after : {A : Type 0} (W : Out A → Out A) (w : State → State) (o o' : Out A) → ((x : A) (s : State) → W (go x s) ≡ go x (w s)) → ((o : Outcome) (s : State) → W (over o s) ≡ over o s) → ((s : State) → w (more s) ≡ more (w s))
         → Up (state_of o') (state_of (W o')) → Goes o o' → Goes (W o) (W o')

@@ -259,7 +259,7 @@ calm_free m s a place q access t h = calm_freed _ (span_of a).first (taken_tempo
 pub calm : Closed Quiet
 calm = record {
   give = λ A x s h. h;
-  stop = λ A code site s h. inl h;
+  stop = λ A trap site s h. inl h;
   enters = λ A m q s h. calm_entered s.fuel m s q h;
   event = λ site act other s h. calm_event s.answers site act s other h;
   events = λ s h. h;

@@ -7,6 +7,7 @@ use Rattle.sharc_tree.specs.declared.event.Object.TheVariants.{Global, Made}
 use Rattle.sharc_tree.specs.declared.token.Site.{Site}
 use Rattle.sharc_tree.specs.declared.tree.declaration.Declaration.{Declaration}
 use Rattle.sharc_tree.specs.declared.tree.declaration.WrittenType.{WrittenType}
+use Rattle.sharc_tree.specs.declared.trap.Trap.TheVariants as traps
 use Rattle.sharc_tree.specs.Measures.{expressions, in_option, in_right, in_simple, in_local, in_first, in_head, in_statement, in_statements}
 use Rattle.sharc_tree.specs.Spans.{span_of}
 use Rattle.sharc_tree.specs.Tree.{Expression, identifier, constant, parentheses, call, spawn, on_value, on_place, cast, index, field, unary, binary, Right, value, malloc, Simple, assign, does_call, Local, First, nothing, declares, does, Statement, empty, block, declare, simple, jump, return, if_then, if_then_else, while, for, Statements, no_statements, statement}
@@ -21,7 +22,6 @@ use Rattle.sharc_mode.specs.Sharings.{Sharing, private}
 use Rattle.sharc_ctype_laws.specs.Constraints.{HasType}
 use Rattle.sharc_ctype_laws.specs.Declared.{IsItself}
 use Rattle.sharc_ctype_laws.specs.Rules.{MeetsSimple, MeetsFirst, Meets, AllMeet}
-use Rattle.sharc_meaning.specs.Arithmetic.{size_not_positive}
 use Rattle.sharc_meaning.specs.Cells.{element_cells, instance_mode}
 use Rattle.sharc_meaning.specs.State.{Run}
 use Rattle.sharc_meaning.specs.Places.{Place, variable, cell, stored}
@@ -77,7 +77,7 @@ module _ (m : Assignment) (n d : ℕ) (on_call : Calls) (hc : CallsKeep m n d on
   right_kept : (kind : Kind) (target : Sharing) (x : Right) → AreTyped m.typed (in_right x) → Keeps m n d (right_value on_call m kind target x)
   right_kept kind target (value e) h ts = fitting_kept m n d kind e (eval on_call m e) (typed_kept e h) ts
   right_kept kind target (malloc s e t) h ts = runs.kept_entered m.typed n d ts _ (Same ts) (runs.kept_next m.typed n d ts ts _ _ (Same ts) (elements_kept e h ts) (λ elements. runs.kept_atom m.typed n d ts _ (Same ts)
-      (runs.atom_next m.typed n d false false false ts ts _ _ (Same ts) (steps.atom_unless m.typed n d (is_positive elements) false ts size_not_positive s.first) (λ _.
+      (runs.atom_next m.typed n d false false false ts ts _ _ (Same ts) (steps.atom_unless m.typed n d (is_positive elements) false ts traps.SizeNotPositive s.first) (λ _.
       runs.atom_next m.typed n d false false false ts ts _ _ (Same ts) (steps.atom_values m.typed n d false ts) (λ held.
       steps.atom_level m.typed n d false ts _ (Same ts) (steps.atom_event m.typed n d false ts s.first (acts.New (element_cells m.typed (declared_kind t)) (unsigned_abs elements) (instance_mode m.typed held target))))))))
 

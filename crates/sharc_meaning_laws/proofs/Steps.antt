@@ -12,12 +12,13 @@ use Rattle.sharc_tree.specs.declared.event.TakeKind.{TakeKind}
 use Rattle.sharc_tree.specs.declared.event.Taken.TheVariants as taken
 use Rattle.sharc_tree.specs.declared.token.Site.{Site}
 use Rattle.sharc_tree.specs.declared.tree.declaration.Declaration.{Declaration}
+use Rattle.sharc_tree.specs.declared.trap.Trap.{Trap}
+use Rattle.sharc_tree.specs.declared.trap.Trap.TheVariants as traps
 use Rattle.sharc_names.specs.declared.fault.Named.{Named}
 use Rattle.sharc_names.specs.declared.fault.Named.TheVariants as named
 use Rattle.sharc_names.specs.Kinds.{Kind, is_pointer}
 use Rattle.sharc_ctype.specs.Resolved.{Resolution, declaration_at, variable_kind}
 use Rattle.sharc_mode.specs.Sharings.{Sharing, private, readonly, locked, racy, dynamic}
-use Rattle.sharc_meaning.specs.Arithmetic.{null_base, mutex_not_held, mutex_already_held, too_many_locks}
 use Rattle.sharc_meaning.specs.Cells.{cell_of, Guard, mutex, behind, nothing as no_mutex, guard_of, instance_mode}
 use Rattle.sharc_meaning.specs.Events.{held_mutexes, holds_mutex}
 use Rattle.sharc_meaning.specs.Reference.{NULL, is_null, number_of}
@@ -46,8 +47,8 @@ module _ (r : Resolution) (n d : ℕ) where
     runs = λ s at. record { moves = moves_level b _ _ _ (omega arith); callers_same = refl; declared = at.1; after = subst (p x) (sym at.0) h };
   }
 
-  pub atom_stop : {A : Type 0} (b c : Bool) (ts : List ℤ) (code : ℕ) (site : Site) (p : A → List ℤ → Type 0) → Atom b c ts (stop code site) p
-  atom_stop b c ts code site p = record { steady = λ s. refl; runs = λ s at. moves_level b _ _ _ (omega arith) }
+  pub atom_stop : {A : Type 0} (b c : Bool) (ts : List ℤ) (trap : Trap) (site : Site) (p : A → List ℤ → Type 0) → Atom b c ts (stop trap site) p
+  atom_stop b c ts trap site p = record { steady = λ s. refl; runs = λ s at. moves_level b _ _ _ (omega arith) }
 
   pub atom_either : {A : Type 0} (q b c : Bool) (ts : List ℤ) (x y : Run A) (p : A → List ℤ → Type 0) → Atom b c ts x p → Atom b c ts y p → Atom b c ts (cond q x y) p
   atom_either true b c ts x y p hx hy = hx
@@ -56,9 +57,9 @@ module _ (r : Resolution) (n d : ℕ) where
   pub atom_done : (b : Bool) (ts : List ℤ) → Atom b b ts done (Same ts)
   atom_done b ts = atom_give b ts tt (Same ts) refl
 
-  pub atom_unless : (q b : Bool) (ts : List ℤ) (code : ℕ) (site : Site) → Atom b b ts (unless_stop q code site) (Same ts)
-  atom_unless true b ts code site = atom_done b ts
-  atom_unless false b ts code site = atom_stop b b ts code site (Same ts)
+  pub atom_unless : (q b : Bool) (ts : List ℤ) (trap : Trap) (site : Site) → Atom b b ts (unless_stop q trap site) (Same ts)
+  atom_unless true b ts trap site = atom_done b ts
+  atom_unless false b ts trap site = atom_stop b b ts trap site (Same ts)
 
   pub atom_looks : {A : Type 0} (b : Bool) (ts : List ℤ) (f : State → A) → ((s : State) → f (runs.more r n d s) ≡ f s) → Atom b b ts (looks_at f) (Same ts)
   atom_looks b ts f same = record {
@@ -179,7 +180,7 @@ module _ (r : Resolution) (n d : ℕ) where
   -- ---- places and accesses
 
   pub atom_based : (b : Bool) (ts : List ℤ) (site : Site) (kind : Kind) (p : ℤ) → is_reference kind ≡ true → Atom b b ts (based site kind p) (Same (ts ++ p ∷ []))
-  atom_based b ts site kind p h = runs.atom_next r n d b b b ts (ts ++ p ∷ []) _ _ (Same (ts ++ p ∷ [])) (subst (λ q. Atom b b ts (holds kind p) (Same (ts ++ slot q p))) h (atom_holds b ts kind p)) (λ _. atom_unless (not (is_null p)) b (ts ++ p ∷ []) null_base site)
+  atom_based b ts site kind p h = runs.atom_next r n d b b b ts (ts ++ p ∷ []) _ _ (Same (ts ++ p ∷ [])) (subst (λ q. Atom b b ts (holds kind p) (Same (ts ++ slot q p))) h (atom_holds b ts kind p)) (λ _. atom_unless (not (is_null p)) b (ts ++ p ∷ []) traps.NullPointer site)
 
   pub atom_element : (b : Bool) (ts : List ℤ) (site : Site) (o : Object) (cells elements : ℕ) (i : ℤ) (p : Place → List ℤ → Type 0) → ((c e : ℕ) → p (cell o c e) ts) → Atom b b ts (element site o cells elements i) p
   atom_element b ts site o cells elements (pos k) p h = atom_either (nat_lt k elements) b b ts _ _ p (atom_give b ts _ p (h (k * cells) (k * cells))) (atom_stop b b ts _ site p)
@@ -188,7 +189,7 @@ module _ (r : Resolution) (n d : ℕ) where
   atom_guarding : (b : Bool) (ts : List ℤ) (site : Site) (g : Guard) → Atom b b ts (guarding site g) (Same ts)
   atom_guarding b ts site (mutex c) = atom_give b ts c (Same ts) refl
   atom_guarding b ts site (behind c) = runs.atom_next r n d b b b ts ts _ _ (Same ts) (atom_level b ts _ (Same ts) (atom_event b ts site (acts.Read c Readonly))) (λ p.
-      runs.atom_next r n d b b b ts ts _ _ (Same ts) (atom_unless (not (is_null p)) b ts null_base site) (λ _. atom_give b ts (cell_of (Made (number_of p)) 0) (Same ts) refl))
+      runs.atom_next r n d b b b ts ts _ _ (Same ts) (atom_unless (not (is_null p)) b ts traps.NullPointer site) (λ _. atom_give b ts (cell_of (Made (number_of p)) 0) (Same ts) refl))
   atom_guarding b ts site no_mutex = atom_stop b b ts _ site (Same ts)
 
   atom_mode : (b : Bool) (ts : List ℤ) (r2 : Resolution) (site : Site) (mode : Sharing) (o : Object) (first : ℕ) → Atom b b ts (access_mode r2 site mode o first) (Same ts)
@@ -325,8 +326,8 @@ module _ (r : Resolution) (n d : ℕ) where
 
   pub atom_lock : (ts us : List ℤ) (site : Site) (p : Place) → Based ts p us → Atom false false us (lock_call site p) (Same ts)
   atom_lock ts us site p b = runs.atom_next r n d false false false us us _ _ (Same ts) (atom_events false us) (λ own.
-      runs.atom_next r n d false false false us us _ _ (Same ts) (atom_unless (not (holds_mutex own (cell_at_place p))) false us mutex_already_held site) (λ _.
-      runs.atom_next r n d false false false us us _ _ (Same ts) (atom_unless (nat_lt (length (held_mutexes own)) 16) false us too_many_locks site) (λ _.
+      runs.atom_next r n d false false false us us _ _ (Same ts) (atom_unless (not (holds_mutex own (cell_at_place p))) false us traps.MutexAlreadyHeld site) (λ _.
+      runs.atom_next r n d false false false us us _ _ (Same ts) (atom_unless (nat_lt (length (held_mutexes own)) 16) false us traps.TooManyLocks site) (λ _.
       runs.atom_weak r n d us _ (Same ts) (runs.atom_next r n d false true true us us _ _ (Same ts) (atom_performs false us site (acts.Lock (cell_at_place p))) (λ _. base_moved ts us p b)))))
 
   base_given : (b : Bool) (ts : List ℤ) (p : Place) → Atom b b ts (gives_up_base p) (Same ts)
@@ -336,15 +337,15 @@ module _ (r : Resolution) (n d : ℕ) where
 
   pub atom_unlock : (ts : List ℤ) (site : Site) (p : Place) → Atom false false ts (unlock_call site p) (Same ts)
   atom_unlock ts site p = runs.atom_next r n d false false false ts ts _ _ (Same ts) (atom_events false ts) (λ own.
-      runs.atom_next r n d false false false ts ts _ _ (Same ts) (atom_unless (holds_mutex own (cell_at_place p)) false ts mutex_not_held site) (λ _.
+      runs.atom_next r n d false false false ts ts _ _ (Same ts) (atom_unless (holds_mutex own (cell_at_place p)) false ts traps.MutexNotHeld site) (λ _.
       runs.atom_weak r n d ts _ (Same ts) (runs.atom_next r n d false true true ts ts _ _ (Same ts) (atom_performs false ts site (acts.Unlock (cell_at_place p))) (λ _. base_given true ts p))))
 
   atom_wait : (ts : List ℤ) (site : Site) (c m : ℤ) → Atom false false ts (wait_call site c m) (Same ts)
   atom_wait ts site c m = let us = ts ++ m ∷ [] in
-      runs.atom_next r n d false false false ts ts _ _ (Same ts) (atom_unless (not (is_null c)) false ts null_base site) (λ _.
-      runs.atom_next r n d false false false ts ts _ _ (Same ts) (atom_unless (not (is_null m)) false ts null_base site) (λ _.
+      runs.atom_next r n d false false false ts ts _ _ (Same ts) (atom_unless (not (is_null c)) false ts traps.NullPointer site) (λ _.
+      runs.atom_next r n d false false false ts ts _ _ (Same ts) (atom_unless (not (is_null m)) false ts traps.NullPointer site) (λ _.
       runs.atom_next r n d false false false ts ts _ _ (Same ts) (atom_events false ts) (λ own.
-      runs.atom_next r n d false false false ts ts _ _ (Same ts) (atom_unless (holds_mutex own (cell_at_place (pointee m))) false ts mutex_not_held site) (λ _.
+      runs.atom_next r n d false false false ts ts _ _ (Same ts) (atom_unless (holds_mutex own (cell_at_place (pointee m))) false ts traps.MutexNotHeld site) (λ _.
       runs.atom_weak r n d ts _ (Same ts) (runs.atom_next r n d false true true ts ts _ _ (Same ts) (atom_performs false ts site (acts.Enter (cell_at_place (pointee c)))) (λ _.
       runs.atom_next r n d true true true ts ts _ _ (Same ts) (atom_performs true ts site (acts.Unlock (cell_at_place (pointee m)))) (λ _.
       runs.atom_next r n d true true true ts us _ _ (Same ts) (atom_held true ts m) (λ _.
@@ -352,15 +353,15 @@ module _ (r : Resolution) (n d : ℕ) where
       runs.atom_next r n d true true true us us _ _ (Same ts) (atom_performs true us site (acts.Lock (cell_at_place (pointee m)))) (λ _. atom_moved ts m))))))))))
 
   atom_signal : (ts : List ℤ) (site : Site) (c : ℤ) → Atom false false ts (signal_call site c) (Same ts)
-  atom_signal ts site c = runs.atom_next r n d false false false ts ts _ _ (Same ts) (atom_unless (not (is_null c)) false ts null_base site) (λ _. atom_level false ts _ (Same ts) (atom_performs false ts site (acts.Signal (cell_at_place (pointee c)))))
+  atom_signal ts site c = runs.atom_next r n d false false false ts ts _ _ (Same ts) (atom_unless (not (is_null c)) false ts traps.NullPointer site) (λ _. atom_level false ts _ (Same ts) (atom_performs false ts site (acts.Signal (cell_at_place (pointee c)))))
 
   atom_broadcast : (ts : List ℤ) (site : Site) (c : ℤ) → Atom false false ts (broadcast_call site c) (Same ts)
-  atom_broadcast ts site c = runs.atom_next r n d false false false ts ts _ _ (Same ts) (atom_unless (not (is_null c)) false ts null_base site) (λ _. atom_level false ts _ (Same ts) (atom_performs false ts site (acts.Broadcast (cell_at_place (pointee c)))))
+  atom_broadcast ts site c = runs.atom_next r n d false false false ts ts _ _ (Same ts) (atom_unless (not (is_null c)) false ts traps.NullPointer site) (λ _. atom_level false ts _ (Same ts) (atom_performs false ts site (acts.Broadcast (cell_at_place (pointee c)))))
 
   pub atom_condition : (ts : List ℤ) (site : Site) (name : List ℕ) (vs : List ℤ) → Atom false false ts (condition_call site name vs) (Same ts)
   atom_condition ts site name vs = atom_either (bytes_eq name (codes "wait")) false false ts _ _ (Same ts) (atom_wait ts site (slice_index_or vs 0 NULL) (slice_index_or vs 1 NULL))
       (atom_either (bytes_eq name (codes "signal")) false false ts _ _ (Same ts) (atom_signal ts site (slice_index_or vs 0 NULL)) (atom_broadcast ts site (slice_index_or vs 0 NULL)))
 
-  pub atom_result : (ts : List ℤ) (site : Site) (x : Result ℤ ℕ) → Atom false false ts (resulting site x) (Same ts)
+  pub atom_result : (ts : List ℤ) (site : Site) (x : Result ℤ Trap) → Atom false false ts (resulting site x) (Same ts)
   atom_result ts site (Ok v) = atom_give false ts v (Same ts) refl
-  atom_result ts site (Err code) = atom_stop false false ts code site (Same ts)
+  atom_result ts site (Err trap) = atom_stop false false ts trap site (Same ts)

@@ -10,6 +10,7 @@ use Rattle.sharc_tree.specs.declared.ctype.Mode.TheVariants.{Private, Dynamic}
 use Rattle.sharc_tree.specs.declared.tree.item.GlobalDefinition.{GlobalDefinition}
 use Rattle.sharc_ctype.specs.Entities.{entities_in, numbered}
 use Rattle.sharc_ctype.specs.Resolved.{globals_in, functions_in}
+use Rattle.sharc_mode.specs.declared.error.ErrorCode.TheVariants.{PrivateReachesThread}
 use Rattle.sharc_mode.specs.declared.error.ModeError.{ModeError}
 use Rattle.sharc_mode.specs.Cells.{top_of}
 use Rattle.sharc_mode.specs.Expressions.{items_notes}
@@ -47,8 +48,8 @@ same_test false false there back = refl
 same_notes : (s t : ℕ → Bool) → ((g : ℕ) → s g ≡ t g) → (n : ℕ) (list : List GlobalDefinition) → touched_notes s n list ≡ touched_notes t n list
 same_notes s t same n [] = refl
 same_notes s t same n (g ∷ rest) =
-    ap (λ b. error_where (b && is_private_level (top_of g.declaration.written.ctype.levels)) 7 g.declaration.written.span g.declaration.name.text ++ touched_notes s (n + 1) rest) (same n)
-    ∙ ap (λ x. error_where (t n && is_private_level (top_of g.declaration.written.ctype.levels)) 7 g.declaration.written.span g.declaration.name.text ++ x) (same_notes s t same (n + 1) rest)
+    ap (λ b. error_where (b && is_private_level (top_of g.declaration.written.ctype.levels)) PrivateReachesThread g.declaration.written.span g.declaration.name.text ++ touched_notes s (n + 1) rest) (same n)
+    ∙ ap (λ x. error_where (t n && is_private_level (top_of g.declaration.written.ctype.levels)) PrivateReachesThread g.declaration.written.span g.declaration.name.text ++ x) (same_notes s t same (n + 1) rest)
 
 same_errors : (m : Assignment) (s t : ℕ → Bool) → ((g : ℕ) → s g ≡ t g) → mode_errors m s ≡ mode_errors m t
 same_errors m s t same =

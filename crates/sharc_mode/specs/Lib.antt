@@ -1,4 +1,5 @@
 pub mod Cells
+pub mod Errors
 pub mod Expressions
 pub mod Flows
 pub mod Laws

@@ -19,6 +19,8 @@ use Rattle.sharc_names.specs.declared.types.Role.TheVariants as role
 use Rattle.sharc_names.specs.Kinds.{Kind, object, array, null, function}
 use Rattle.sharc_ctype.specs.Resolved.{Resolution, named_at, kind_at}
 use Rattle.sharc_ctype.specs.declared.entity.Numbered.{Numbered}
+use Rattle.sharc_mode.specs.declared.error.ErrorCode.{ErrorCode}
+use Rattle.sharc_mode.specs.declared.error.ErrorCode.TheVariants.{ModeMismatch, ReadonlyWrite, PrivateTarget, LockPathNotConstant, ModeNotAllowed, PrivateField, CastChangesInnerMode, ReadonlySource, NamedByLockPath, NeedsConstantBase}
 use Rattle.sharc_mode.specs.declared.error.ModeError.{ModeError}
 use Rattle.sharc_mode.specs.declared.finding.Finding.{Finding}
 use Rattle.sharc_mode.specs.declared.finding.Finding.TheVariants.{Wrong, Names, Takes}
@@ -39,11 +41,11 @@ abbrev pub no_type : CType
 no_type = record { base = base.Void; levels = [] }
 
 -- a case that shows no types
-abbrev pub error : ℕ → Span → List ℕ → Finding
+abbrev pub error : ErrorCode → Span → List ℕ → Finding
 error code s subject = Wrong (record { code = code; site = s.first; expected = no_type; found = no_type; subject = subject })
 
 -- a case that shows two
-abbrev pub mismatch : ℕ → Span → CType → CType → Finding
+abbrev pub mismatch : ErrorCode → Span → CType → CType → Finding
 mismatch code s expected found = Wrong (record { code = code; site = s.first; expected = expected; found = found; subject = [] })
 
 -- a type with these modes of its targets, without that of its top
@@ -58,25 +60,25 @@ base_of function = base.Void
 
 -- ---- M1: in an assignment, initialiser, argument, spawn argument or return the two types differ in the mode of some target
 
-abbrev pub unless_same : Resolution → ℕ → Span → Base → List Sharing → List Sharing → List Finding
+abbrev pub unless_same : Resolution → ErrorCode → Span → Base → List Sharing → List Sharing → List Finding
 unless_same r code s b expected found = if same_all r expected found then [] else mismatch code s (shown r b expected) (shown r b found) ∷ []
 
 -- NULL agrees with every pointer type; and nothing is expected where there is no parameter
 abbrev pub agree : Resolution → Span → Base → Option (List Sharing) → Option (List Sharing) → List Finding
 agree r s b None found = []
 agree r s b (Some expected) None = []
-agree r s b (Some expected) (Some found) = unless_same r 1 s b expected found
+agree r s b (Some expected) (Some found) = unless_same r ModeMismatch s b expected found
 
 abbrev pub agree_notes : Assignment → Option (List Sharing) → Expression → List Finding
 agree_notes m expected e = agree m.typed (span_of e) (base_of (kind_at m.typed e)) expected (modes_at m e)
 
 -- ---- M2: an assignment writes a cell of mode readonly
 
-abbrev pub error_where : Bool → ℕ → Span → List ℕ → List Finding
+abbrev pub error_where : Bool → ErrorCode → Span → List ℕ → List Finding
 error_where wrong code s subject = if wrong then error code s subject ∷ [] else []
 
 abbrev pub write_notes : Assignment → Expression → List Finding
-write_notes m u = error_where (is_readonly (cell_at m u)) 2 (span_of u) (span_text m.typed (span_of u))
+write_notes m u = error_where (is_readonly (cell_at m u)) ReadonlyWrite (span_of u) (span_text m.typed (span_of u))
 
 -- ---- M3 to M6 of a type, and the variables and globals that its paths name
 
@@ -109,17 +111,17 @@ printed_type m n = record { base = n.entity.written.ctype.base; levels = printed
 
 -- M3: a non-private level is directly above a private target
 abbrev pub private_notes : Assignment → Numbered → List Finding
-private_notes m n = if holds_private (levels_of m n) then mismatch 3 n.entity.written.span (printed_type m n) (printed_type m n) ∷ [] else []
+private_notes m n = if holds_private (levels_of m n) then mismatch PrivateTarget n.entity.written.span (printed_type m n) (printed_type m n) ∷ [] else []
 
 -- M4: a lock path is none of the allowed forms; the first of them in the source is reported
 abbrev pub path_notes : Span → Option Path → List Finding
 path_notes s None = []
-path_notes s (Some path) = error 4 s (path_text path) ∷ []
+path_notes s (Some path) = error LockPathNotConstant s (path_text path) ∷ []
 
 -- M5: a mode where it is not allowed
 abbrev pub mode_notes : Span → Option Mode → List Finding
 mode_notes s None = []
-mode_notes s (Some mode) = error 5 s (mode_text mode) ∷ []
+mode_notes s (Some mode) = error ModeNotAllowed s (mode_text mode) ∷ []
 
 -- M6: `private` written in a field
 abbrev pub is_private_level : Option Mode → Bool
@@ -131,7 +133,7 @@ is_field_role role.Field = true
 is_field_role _ = false
 
 abbrev pub private_field_notes : Resolution → Numbered → List Finding
-private_field_notes r n = if is_field_role n.entity.role then error_where (list_any is_private_level n.entity.written.ctype.levels) 6 n.entity.written.span (text_at r n.entity.token) else []
+private_field_notes r n = if is_field_role n.entity.role then error_where (list_any is_private_level n.entity.written.ctype.levels) PrivateField n.entity.written.span (text_at r n.entity.token) else []
 
 -- the variables and globals that paths name, whether or not they are allowed
 
@@ -202,7 +204,7 @@ first_unmet m ds all (d ∷ rest) = option_or (unmet_parameter m ds all d) (firs
 
 abbrev pub unmet_notes : Resolution → Span → Option Lock → List Finding
 unmet_notes r s None = []
-unmet_notes r s (Some l) = error 4 s (path_text (path_of r l)) ∷ []
+unmet_notes r s (Some l) = error LockPathNotConstant s (path_text (path_of r l)) ∷ []
 
 -- the variables and globals that the substituted paths name
 
@@ -223,7 +225,7 @@ call_notes m s ds all = unmet_notes m.typed s (first_unmet m ds all ds) ++ names
 
 abbrev pub cast_notes : Resolution → Span → Base → List Sharing → Option (List Sharing) → List Finding
 cast_notes r s b to None = []
-cast_notes r s b to (Some from) = if same_all r (drop 1 to) (drop 1 from) then [] else mismatch 8 s (shown r b to) (shown r b from) ∷ []
+cast_notes r s b to (Some from) = if same_all r (drop 1 to) (drop 1 from) then [] else mismatch CastChangesInnerMode s (shown r b to) (shown r b from) ∷ []
 
 -- ---- M9: the source of SCAST or `free` is a cell of mode readonly. A variable or a global may be one that some lock path names (M10)
 
@@ -236,13 +238,13 @@ takes s None = []
 takes s (Some x) = Takes s x ∷ []
 
 abbrev pub source_notes : Assignment → Expression → List Finding
-source_notes m a = error_where (is_readonly (cell_at m a)) 9 (span_of a) (span_text m.typed (span_of a))
+source_notes m a = error_where (is_readonly (cell_at m a)) ReadonlySource (span_of a) (span_text m.typed (span_of a))
     ++ takes (span_of a) (taken_variable m.typed (without_parentheses a))
 
 -- ---- M11: a field whose target is locked by a sibling is used in another form than `x->f` with `x` a constant variable
 
 abbrev pub sibling_notes : Resolution → Span → Option ℕ → List Finding
-sibling_notes r s None = error 11 s (span_text r s) ∷ []
+sibling_notes r s None = error NeedsConstantBase s (span_text r s) ∷ []
 sibling_notes r s (Some at) = names_of (variable_named (named_at r at))
 
 abbrev pub field_notes : Resolution → Span → Option ℕ → List Sharing → List Finding
@@ -264,7 +266,7 @@ error_of (Takes s x) = []
 abbrev pub errors_by : Resolution → List Finding → Finding → List ModeError
 errors_by r all (Wrong e) = e ∷ []
 errors_by r all (Names x) = []
-errors_by r all (Takes s x) = flat_map error_of (error_where (is_named x all) 10 s (text_at r x))
+errors_by r all (Takes s x) = flat_map error_of (error_where (is_named x all) NamedByLockPath s (text_at r x))
 
 -- the cases that arise, by what is said of all constructs
 abbrev pub errors_of : Resolution → List Finding → List ModeError

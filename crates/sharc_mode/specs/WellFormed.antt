@@ -16,6 +16,8 @@ use Rattle.sharc_names.specs.declared.types.Role.TheVariants as role
 use Rattle.sharc_names.specs.Kinds.{Kind, object, declared_kind}
 use Rattle.sharc_names.specs.Names.{field_of}
 use Rattle.sharc_ctype.specs.Resolved.{Resolution, named_at, struct_at, declaration_at, named_kind}
+use Rattle.sharc_mode.specs.declared.error.ErrorCode.{ErrorCode}
+use Rattle.sharc_mode.specs.declared.error.ErrorCode.TheVariants.{PrivateTarget, LockPathNotConstant, ModeNotAllowed}
 use Rattle.sharc_mode.specs.declared.place.Place.{Place}
 use Rattle.sharc_mode.specs.declared.place.Place.TheVariants.{Global, Field, Local, Result}
 use Rattle.sharc_ctype.specs.Constants.{is_constant}
@@ -210,8 +212,8 @@ first_unfit_mode place b (top ∷ below) = option_or (unfit_mode_in b below) (un
 
 -- ---- the lowest code that holds
 
-abbrev pub lowest : Bool → Bool → Bool → Option ℕ
-lowest third fourth fifth = if third then Some 3 else if fourth then Some 4 else if fifth then Some 5 else None
+abbrev pub lowest : Bool → Bool → Bool → Option ErrorCode
+lowest third fourth fifth = if third then Some PrivateTarget else if fourth then Some LockPathNotConstant else if fifth then Some ModeNotAllowed else None
 
-abbrev pub type_code : Resolution → Place → CType → Option ℕ
+abbrev pub type_code : Resolution → Place → CType → Option ErrorCode
 type_code r place c = lowest (holds_private (meant place c.base c.levels)) (is_some (first_unfit_path r place c.base c.levels)) (is_some (first_unfit_mode place c.base c.levels))

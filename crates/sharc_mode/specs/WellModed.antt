@@ -9,6 +9,7 @@ use Rattle.sharc_names.specs.declared.fault.Named.{Named}
 use Rattle.sharc_names.specs.declared.fault.Named.TheVariants as named
 use Rattle.sharc_ctype.specs.Reaches.{of_all, spawns, IsTouched}
 use Rattle.sharc_ctype.specs.Resolved.{Resolution, named_at, globals_in, functions_in}
+use Rattle.sharc_mode.specs.declared.error.ErrorCode.TheVariants.{PrivateReachesThread}
 use Rattle.sharc_mode.specs.declared.error.ModeError.{ModeError}
 use Rattle.sharc_mode.specs.declared.finding.Finding.{Finding}
 use Rattle.sharc_mode.specs.Cells.{top_of}
@@ -38,7 +39,7 @@ has_private_target [] = false
 has_private_target (s ∷ below) = is_private s
 
 abbrev pub parameter_notes : Assignment → List ℕ → Declaration → List Finding
-parameter_notes m name d = error_where (has_private_target (modes_of m (declared_row m.typed written d.name.site.token))) 7 d.written.span name
+parameter_notes m name d = error_where (has_private_target (modes_of m (declared_row m.typed written d.name.site.token))) PrivateReachesThread d.written.span name
 
 abbrev pub spawned_notes : Assignment → ℕ → List Function → List Finding
 spawned_notes m n [] = []
@@ -47,7 +48,7 @@ spawned_notes m n (f ∷ rest) = (if is_spawned m.typed n then flat_map (paramet
 -- by a test of which globals are touched
 abbrev pub touched_notes : (ℕ → Bool) → ℕ → List GlobalDefinition → List Finding
 touched_notes touched n [] = []
-touched_notes touched n (g ∷ rest) = error_where (touched n && is_private_level (top_of g.declaration.written.ctype.levels)) 7 g.declaration.written.span g.declaration.name.text
+touched_notes touched n (g ∷ rest) = error_where (touched n && is_private_level (top_of g.declaration.written.ctype.levels)) PrivateReachesThread g.declaration.written.span g.declaration.name.text
     ++ touched_notes touched (n + 1) rest
 
 -- of all types, of what threads get, and of all expressions and statements

@@ -10,6 +10,7 @@ ghost use Rattle.sharc_names.specs.View.{view_kind};
 ghost use Rattle.sharc_mode.specs.View.{view_lock, view_name};
 
 use crate::cell::{is_mutex_kind, named_kind, top_of};
+use crate::error::ErrorCode;
 use crate::place::Place;
 use crate::sharing::{Lock, lock_of};
 use sharc_ctype::typed::Typed;
@@ -531,18 +532,18 @@ pub fn holds_private(place: Place, base: &Base, levels: &[Option<Mode>]) -> bool
     holds_private_with(place, base, &Mode::Racy, &Mode::Dynamic, levels)
 }
 
-/// The lowest of 3, 4 and 5 that holds of a type at that place: M3, a level that is not private is directly above a private target; M4, a lock
+/// The lowest of M3, M4 and M5 that holds of a type at that place: M3, a level that is not private is directly above a private target; M4, a lock
 /// path is none of the allowed forms; M5, a mode is where it is not allowed. None where none of them holds.
-pub fn well_formed(typed: &Typed, ctype: &CType, place: Place) -> Option<u8>
+pub fn well_formed(typed: &Typed, ctype: &CType, place: Place) -> Option<ErrorCode>
     ensures { result ≡ type_code typed.now place ctype.now }
 {
     let levels = ctype.levels.as_slice();
     if holds_private(place, &ctype.base, levels) {
-        Some(3)
+        Some(ErrorCode::PrivateTarget)
     } else if first_unfit_path(typed, place, &ctype.base, levels).is_some() {
-        Some(4)
+        Some(ErrorCode::LockPathNotConstant)
     } else if first_unfit_mode(place, &ctype.base, levels).is_some() {
-        Some(5)
+        Some(ErrorCode::ModeNotAllowed)
     } else {
         None
     }

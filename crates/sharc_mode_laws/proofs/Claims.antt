@@ -8,6 +8,7 @@ use Rattle.sharc_tree.specs.declared.ctype.Mode.TheVariants.{Private, Readonly, 
 use Rattle.sharc_tree.specs.declared.ctype.Path.{Path}
 use Rattle.sharc_tree.specs.declared.token.Span.{Span}
 use Rattle.sharc_ctype.specs.Resolved.{Resolution}
+use Rattle.sharc_mode.specs.declared.error.ErrorCode.{ErrorCode}
 use Rattle.sharc_mode.specs.declared.error.ModeError.{ModeError}
 use Rattle.sharc_mode.specs.declared.finding.Finding.{Finding}
 use Rattle.sharc_mode.specs.declared.finding.Finding.TheVariants.{Wrong, Names, Takes}
@@ -41,11 +42,11 @@ module _ (W : Type 0) (N T : ℕ → Type 0) where
   abbrev pub Hold : List Finding → Type 0
   Hold notes = AllByRecursion (Said W N T) notes
 
-  pub where_said : (b : Bool) (code : ℕ) (s : Span) (text : List ℕ) → Hold (error_where b code s text) → b ≡ true → W
+  pub where_said : (b : Bool) (code : ErrorCode) (s : Span) (text : List ℕ) → Hold (error_where b code s text) → b ≡ true → W
   where_said true code s text h is = h.0
   where_said false code s text h is = absurd (false≢true is)
 
-  pub where_back : (b : Bool) (code : ℕ) (s : Span) (text : List ℕ) → (b ≡ true → W) → Hold (error_where b code s text)
+  pub where_back : (b : Bool) (code : ErrorCode) (s : Span) (text : List ℕ) → (b ≡ true → W) → Hold (error_where b code s text)
   where_back true code s text h = (h refl, tt)
   where_back false code s text h = tt
 

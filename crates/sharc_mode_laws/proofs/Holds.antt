@@ -22,6 +22,7 @@ use Rattle.sharc_ctype.specs.declared.entity.Numbered.{Numbered}
 use Rattle.sharc_ctype.specs.Entities.{entities_in, numbered}
 use Rattle.sharc_ctype.specs.Resolved.{functions_in, globals_in, named_at, kind_at, function_at, global_at}
 use Rattle.sharc_ctype.specs.Transfers.{Receiver, lvalue, variable, result, Transfer, passed, parameters_named, function_transfers}
+use Rattle.sharc_mode.specs.declared.error.ErrorCode.TheVariants.{ReadonlyWrite, PrivateField, PrivateReachesThread, ReadonlySource}
 use Rattle.sharc_mode.specs.declared.finding.Finding.{Finding}
 use Rattle.sharc_mode.specs.Cells.{cell_at, top_of}
 use Rattle.sharc_mode.specs.Expressions.{expected, place_notes, items_notes}
@@ -139,7 +140,7 @@ module _ (W : Type 0) (N T : ℕ → Type 0) (m : Assignment) where
         private_below = when_said W N T (holds_private (levels_of m n)) _ (front S a b two);
         paths = λ path is. path_said W N T s (unfit n) path (back S a b two) is;
         modes = λ mode is. mode_said W N T s (misplaced n) mode (back S (a ++ b) c three) is;
-        fields = λ field is. where_said W N T (list_any is_private_level n.entity.written.ctype.levels) 6 s (text_at m.typed n.entity.token) (chosen S (is_field_role n.entity.role) _ (back S (a ++ b ++ c) d most) field) is;
+        fields = λ field is. where_said W N T (list_any is_private_level n.entity.written.ctype.levels) PrivateField s (text_at m.typed n.entity.token) (chosen S (is_field_role n.entity.role) _ (back S (a ++ b ++ c) d most) field) is;
         named = λ path x has o. levels_said W N T m.typed n.entity.written.ctype.levels path x (back S (a ++ b ++ c ++ d) e h) has o;
       }
 
@@ -156,7 +157,7 @@ module _ (W : Type 0) (N T : ℕ → Type 0) (m : Assignment) where
       (both S (a ++ b) c
       (both S a b (when_back W N T (holds_private (levels_of m n)) _ h.private_below) (path_back W N T s (unfit n) h.paths))
       (mode_back W N T s (misplaced n) h.modes))
-      (choose S (is_field_role n.entity.role) _ (λ field. where_back W N T (list_any is_private_level n.entity.written.ctype.levels) 6 s (text_at m.typed n.entity.token) (h.fields field))))
+      (choose S (is_field_role n.entity.role) _ (λ field. where_back W N T (list_any is_private_level n.entity.written.ctype.levels) PrivateField s (text_at m.typed n.entity.token) (h.fields field))))
       (levels_back W N T m.typed n.entity.written.ctype.levels h.named)
 
   -- ---- what threads get
@@ -172,7 +173,7 @@ module _ (W : Type 0) (N T : ℕ → Type 0) (m : Assignment) where
       let all = chosen S (is_spawned m.typed k) notes (front S (cond (is_spawned m.typed k) notes []) (spawned_notes m (k + 1) rest) h) (ap (is_spawned m.typed) (sym here) ∙ spawns) in
       let each_one = spread S (parameter_notes m g.name.text) g.parameters all in
       let mine : Contains g.parameters d = subst (λ (x : Function). Contains x.parameters d) (sym (same_some g f is)) has in
-      where_said W N T (IsShown d) 7 d.written.span g.name.text (of_each (λ x. H (parameter_notes m g.name.text x)) g.parameters d each_one mine) shows
+      where_said W N T (IsShown d) PrivateReachesThread d.written.span g.name.text (of_each (λ x. H (parameter_notes m g.name.text x)) g.parameters d each_one mine) shows
   threads_said k (g ∷ rest) h (suc i) j f d at is spawns has shows =
       let later : j ≡ k + 1 + i = omega (arith, at) in
       let notes = flat_map (parameter_notes m g.name.text) g.parameters in
@@ -185,7 +186,7 @@ module _ (W : Type 0) (N T : ℕ → Type 0) (m : Assignment) where
       let notes = flat_map (parameter_notes m g.name.text) g.parameters in
       both S (cond (is_spawned m.typed k) notes []) (spawned_notes m (k + 1) rest)
       (choose S (is_spawned m.typed k) notes (λ spawns. gather S (parameter_notes m g.name.text) g.parameters
-      (to_each (λ x. H (parameter_notes m g.name.text x)) g.parameters (λ d has. where_back W N T (IsShown d) 7 d.written.span g.name.text (h zero k g d here refl spawns has)))))
+      (to_each (λ x. H (parameter_notes m g.name.text x)) g.parameters (λ d has. where_back W N T (IsShown d) PrivateReachesThread d.written.span g.name.text (h zero k g d here refl spawns has)))))
       (threads_back (k + 1) rest (λ i j f d at is. let later : j ≡ k + suc i = omega (arith, at) in h (suc i) j f d later is))
 
   abbrev shows_private : (ℕ → Bool) → ℕ → GlobalDefinition → Bool
@@ -195,20 +196,20 @@ module _ (W : Type 0) (N T : ℕ → Type 0) (m : Assignment) where
   globals_said touched k [] h i j g at is shows = absurd (none_some g is)
   globals_said touched k (x ∷ rest) h zero j g at is shows =
       let here : j ≡ k = omega (arith, at) in
-      let first = error_where (shows_private touched k x) 7 x.declaration.written.span x.declaration.name.text in
-      where_said W N T (shows_private touched k x) 7 x.declaration.written.span x.declaration.name.text (front S first (touched_notes touched (k + 1) rest) h)
+      let first = error_where (shows_private touched k x) PrivateReachesThread x.declaration.written.span x.declaration.name.text in
+      where_said W N T (shows_private touched k x) PrivateReachesThread x.declaration.written.span x.declaration.name.text (front S first (touched_notes touched (k + 1) rest) h)
       (ap (λ n. shows_private touched n x) (sym here) ∙ ap (shows_private touched j) (same_some x g is) ∙ shows)
   globals_said touched k (x ∷ rest) h (suc i) j g at is shows =
       let later : j ≡ k + 1 + i = omega (arith, at) in
-      let first = error_where (shows_private touched k x) 7 x.declaration.written.span x.declaration.name.text in
+      let first = error_where (shows_private touched k x) PrivateReachesThread x.declaration.written.span x.declaration.name.text in
       globals_said touched (k + 1) rest (back S first (touched_notes touched (k + 1) rest) h) i j g later is shows
 
   globals_back : (touched : ℕ → Bool) (k : ℕ) (gs : List GlobalDefinition) → ((i j : ℕ) (g : GlobalDefinition) → j ≡ k + i → slice_get gs i ≡ Some g → shows_private touched j g ≡ true → W) → H (touched_notes touched k gs)
   globals_back touched k [] h = tt
   globals_back touched k (x ∷ rest) h =
       let here : k ≡ k + 0 = omega arith in
-      both S (error_where (shows_private touched k x) 7 x.declaration.written.span x.declaration.name.text) (touched_notes touched (k + 1) rest)
-      (where_back W N T (shows_private touched k x) 7 x.declaration.written.span x.declaration.name.text (h zero k x here refl))
+      both S (error_where (shows_private touched k x) PrivateReachesThread x.declaration.written.span x.declaration.name.text) (touched_notes touched (k + 1) rest)
+      (where_back W N T (shows_private touched k x) PrivateReachesThread x.declaration.written.span x.declaration.name.text (h zero k x here refl))
       (globals_back touched (k + 1) rest (λ i j g at is. let later : j ≡ k + suc i = omega (arith, at) in h (suc i) j g later is))
 
   -- ---- calls
@@ -273,13 +274,13 @@ module _ (W : Type 0) (N T : ℕ → Type 0) (m : Assignment) where
 
   source_said : (a : Expression) → H (source_notes m a) → is_readonly (cell_at m a) ≡ true → W
   source_said a h is =
-      where_said W N T (is_readonly (cell_at m a)) 9 (span_of a) (span_text m.typed (span_of a))
-      (front S (error_where (is_readonly (cell_at m a)) 9 (span_of a) (span_text m.typed (span_of a))) (takes (span_of a) (taken_variable m.typed (without_parentheses a))) h) is
+      where_said W N T (is_readonly (cell_at m a)) ReadonlySource (span_of a) (span_text m.typed (span_of a))
+      (front S (error_where (is_readonly (cell_at m a)) ReadonlySource (span_of a) (span_text m.typed (span_of a))) (takes (span_of a) (taken_variable m.typed (without_parentheses a))) h) is
 
   source_taken : (a : Expression) (x : ℕ) → H (source_notes m a) → taken_variable m.typed (without_parentheses a) ≡ Some x → T x
   source_taken a x h is =
       takes_said W N T (span_of a) (taken_variable m.typed (without_parentheses a)) x
-      (back S (error_where (is_readonly (cell_at m a)) 9 (span_of a) (span_text m.typed (span_of a))) (takes (span_of a) (taken_variable m.typed (without_parentheses a))) h) is
+      (back S (error_where (is_readonly (cell_at m a)) ReadonlySource (span_of a) (span_text m.typed (span_of a))) (takes (span_of a) (taken_variable m.typed (without_parentheses a))) h) is
 
   siblings_said : (s : Span) (o : Option ℕ) → H (sibling_notes m.typed s o) → o ≡ None → W
   siblings_said s None h is = h.0
@@ -340,7 +341,7 @@ module _ (W : Type 0) (N T : ℕ → Type 0) (m : Assignment) where
     write_said : (u : Expression) (x : Right) → IsAssigned m u x → is_readonly (cell_at m u) ≡ true → W
     write_said u x a is =
         let t : TransferSaid m S a.owner.name.site.token record { receiver = lvalue u; source = x } = of_each (TransferSaid m S a.owner.name.site.token) (function_transfers m.typed a.owner) record { receiver = lvalue u; source = x } (h.functions a.owner a.stands).1 a.does in
-        where_said W N T (is_readonly (cell_at m u)) 2 (span_of u) (span_text m.typed (span_of u)) t.0 is
+        where_said W N T (is_readonly (cell_at m u)) ReadonlyWrite (span_of u) (span_text m.typed (span_of u)) t.0 is
 
     field_said : (s : Span) (a : Expression) (w : Access) (n : Identifier) → IsExpression m (tree.field s a w n)
         → list_any (is_sibling m.typed) (modes_of m (named_row m.typed written (named_at m.typed n.site.token))) ≡ true → H (sibling_notes m.typed s (base_use m.typed w a))
@@ -386,8 +387,8 @@ module _ (W : Type 0) (N T : ℕ → Type 0) (m : Assignment) where
 
     source_there : (a : Expression) → IsTaken m a → H (source_notes m a)
     source_there a t =
-        both S (error_where (is_readonly (cell_at m a)) 9 (span_of a) (span_text m.typed (span_of a))) (takes (span_of a) (taken_variable m.typed (without_parentheses a)))
-        (where_back W N T (is_readonly (cell_at m a)) 9 (span_of a) (span_text m.typed (span_of a)) (h.readonly_taken a t))
+        both S (error_where (is_readonly (cell_at m a)) ReadonlySource (span_of a) (span_text m.typed (span_of a))) (takes (span_of a) (taken_variable m.typed (without_parentheses a)))
+        (where_back W N T (is_readonly (cell_at m a)) ReadonlySource (span_of a) (span_text m.typed (span_of a)) (h.readonly_taken a t))
         (takes_back W N T (span_of a) (taken_variable m.typed (without_parentheses a)) (λ x is. h.taken a x t is))
 
     place_there_said : (s : Span) (w : PlaceCall) (a : Expression) → IsExpression m (tree.on_place s w a) → H (place_notes m w a)
@@ -421,11 +422,11 @@ module _ (W : Type 0) (N T : ℕ → Type 0) (m : Assignment) where
     transfer_there : (f : Function) → IsFunction m f → (receiver : Receiver) (source : Right) → Contains (function_transfers m.typed f) record { receiver = receiver; source = source } → ReceiverSaid m S f.name.site.token receiver source
     transfer_there f fn (lvalue u) (value e) has =
         let a : IsAssigned m u (value e) = record { owner = f; stands = fn; does = has } in (
-          where_back W N T (is_readonly (cell_at m u)) 2 (span_of u) (span_text m.typed (span_of u)) (h.assigned u (value e) a),
+          where_back W N T (is_readonly (cell_at m u)) ReadonlyWrite (span_of u) (span_text m.typed (span_of u)) (h.assigned u (value e) a),
           agree_back W N T m.typed (span_of e) (base_of (kind_at m.typed e)) (modes_at m u) (modes_at m e) (λ to from w g same. h.given to from e (assigned a w) g same),
         )
     transfer_there f fn (lvalue u) (malloc s n t) has =
-        (where_back W N T (is_readonly (cell_at m u)) 2 (span_of u) (span_text m.typed (span_of u)) (h.assigned u (malloc s n t) (record { owner = f; stands = fn; does = has })), tt)
+        (where_back W N T (is_readonly (cell_at m u)) ReadonlyWrite (span_of u) (span_text m.typed (span_of u)) (h.assigned u (malloc s n t) (record { owner = f; stands = fn; does = has })), tt)
     transfer_there f fn (variable d) x has = tt
     transfer_there f fn (result w) (value e) has = given_back (modes_of m (declared_row m.typed written f.name.site.token)) e (returned fn has)
     transfer_there f fn (result w) (malloc s n t) has = tt

@@ -13,6 +13,7 @@ use Rattle.sharc_names.specs.declared.fault.Named.{Named}
 use Rattle.sharc_names.specs.declared.fault.Named.TheVariants as named
 use Rattle.sharc_ctype.specs.Constants.{is_constant}
 use Rattle.sharc_ctype.specs.Resolved.{Resolution, named_at}
+use Rattle.sharc_mode.specs.declared.error.ErrorCode.TheVariants.{NamedByLockPath}
 use Rattle.sharc_mode.specs.declared.finding.Finding.{Finding}
 use Rattle.sharc_mode.specs.declared.finding.Finding.TheVariants.{Wrong, Names, Takes}
 use Rattle.sharc_mode.specs.Cells.{cell_at, top_of}
@@ -80,7 +81,7 @@ not_named x (Wrong e ∷ rest) h = not_named x rest h.1
 not_named x (Names y ∷ rest) h = false_or (x == y) (is_named x rest) (ne_eqb x y h.0) (not_named x rest h.1)
 not_named x (Takes s y ∷ rest) h = not_named x rest h.1
 
-untold : (b : Bool) (s : Span) (text : List ℕ) → flat_map error_of (error_where b 10 s text) ≡ [] → b ≡ false
+untold : (b : Bool) (s : Span) (text : List ℕ) → flat_map error_of (error_where b NamedByLockPath s text) ≡ [] → b ≡ false
 untold true s text h = absurd (no_head _ [] h)
 untold false s text h = refl
 
@@ -92,7 +93,7 @@ silent_fine r all (Takes s x) h = unnamed x all (untold (is_named x all) s (text
 fine_silent : (r : Resolution) (all : List Finding) (n : Finding) → Fine all n → errors_by r all n ≡ []
 fine_silent r all (Wrong e) h = absurd h
 fine_silent r all (Names x) h = refl
-fine_silent r all (Takes s x) h = ap (λ b. flat_map error_of (error_where b 10 s (text_at r x))) (not_named x all h)
+fine_silent r all (Takes s x) h = ap (λ b. flat_map error_of (error_where b NamedByLockPath s (text_at r x))) (not_named x all h)
 
 all_fine : (m : Assignment) (touched : ℕ → Bool) → [] ≡ mode_errors m touched → AllByRecursion (Fine (notes_about m touched)) (notes_about m touched)
 all_fine m touched h =

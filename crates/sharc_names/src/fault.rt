@@ -54,20 +54,22 @@ pub enum Named {
     Known,
 }
 
-/// The digit of a code.
-pub fn digit(code: FaultCode) -> u8
-    ensures { result ≡ digit code }
-{
-    match code {
-        FaultCode::UnknownName => 1,
-        FaultCode::DefinedTwice => 2,
-        FaultCode::TypeMismatch => 3,
-        FaultCode::ArgumentCount => 4,
-        FaultCode::NoLvalue => 5,
-        FaultCode::TypeNotAllowed => 6,
-        FaultCode::BadForm => 7,
-        FaultCode::NoMain => 8,
-        FaultCode::LimitPassed => 9,
+impl FaultCode {
+    /// The digit of the code.
+    pub fn digit(self) -> u8
+        ensures { result ≡ digit self }
+    {
+        match self {
+            FaultCode::UnknownName => 1,
+            FaultCode::DefinedTwice => 2,
+            FaultCode::TypeMismatch => 3,
+            FaultCode::ArgumentCount => 4,
+            FaultCode::NoLvalue => 5,
+            FaultCode::TypeNotAllowed => 6,
+            FaultCode::BadForm => 7,
+            FaultCode::NoMain => 8,
+            FaultCode::LimitPassed => 9,
+        }
     }
 }
 
@@ -75,7 +77,7 @@ pub fn digit(code: FaultCode) -> u8
 pub fn is_before(a: Fault, b: Fault) -> bool
     ensures { result ≡ is_before a b }
 {
-    a.place < b.place || (a.place == b.place && digit(a.code) < digit(b.code))
+    a.place < b.place || (a.place == b.place && a.code.digit() < b.code.digit())
 }
 
 /// The first of both; `new` where none was found before.

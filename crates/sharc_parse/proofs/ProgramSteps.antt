@@ -13,6 +13,7 @@ use Rattle.sharc_grammar.specs.Grammar.{Word, Part, IsProgram, program_words}
 use Rattle.sharc_grammar.specs.Machine.{on_top, naming, TypeWant, Top, At, with_part, first_state}
 use Rattle.sharc_grammar.specs.Limits.{LowProgram, ReadWithin, StuckAt, Over, reads_within}
 use Rattle.sharc_grammar.specs.Places.{words_of, site_in, part_size, item_at, items_at, Reads}
+use Rattle.sharc_grammar.specs.declared.fault.GrammarFault.TheVariants as grammar_faults
 use Rattle.sharc_grammar.specs.Faults.{IsFault, wrong_code}
 use Rattle.sharc_parse.specs.declared.token.Fault.{Fault}
 use Rattle.sharc_parse.specs.declared.token.Fault.TheVariants.{Memory as NoMemory, Wrong, Deep}
@@ -102,7 +103,7 @@ abbrev pub StuckAtFault : Type 0
 StuckAtFault = (all rest : List Word) (n : ℕ) → n ≡ length all - length rest → reads_within all first_state ≡ StuckAt rest → IsFault all (wrong_code rest) n
 
 abbrev pub OverAtFault : Type 0
-OverAtFault = (all rest : List Word) (n : ℕ) → n ≡ length all - length rest → reads_within all first_state ≡ Over rest → IsFault all 2 n
+OverAtFault = (all rest : List Word) (n : ℕ) → n ≡ length all - length rest → reads_within all first_state ≡ Over rest → IsFault all grammar_faults.Deep n
 
 words_before : (tokens : List Token) (n : ℕ) → n ≤ length tokens → n ≡ length (words_of tokens) - length (from tokens n)
 words_before tokens n h = omega (arith, h, words_left tokens 0, words_left tokens n)

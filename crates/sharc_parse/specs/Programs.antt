@@ -1,5 +1,5 @@
 -- What the parser answers: the program, or the first fault.
-use Rattle.std.specs.Prelude.{◌≡◌, ℕ, List, [], ◌∷◌, drop, map, slice_index_or, Result, Ok, Err, IfOk, ◌==◌, if◌then◌else◌}
+use Rattle.std.specs.Prelude.{◌≡◌, ℕ, List, [], ◌∷◌, drop, map, slice_index_or, Result, Ok, Err, IfOk}
 use Rattle.sharc_tree.specs.View.{view_items, view_program}
 use Rattle.sharc_tree.specs.declared.token.Token.{Token}
 use Rattle.sharc_tree.specs.declared.token.Tokens.{Tokens}
@@ -7,6 +7,8 @@ use Rattle.sharc_tree.specs.declared.token.Site.{Site}
 use Rattle.sharc_tree.specs.declared.token.FaultAt.{FaultAt}
 use Rattle.sharc_tree.specs.declared.tree.item.Item.{Item}
 use Rattle.sharc_tree.specs.declared.tree.item.Program.{Program}
+use Rattle.sharc_grammar.specs.declared.fault.GrammarFault.{GrammarFault}
+use Rattle.sharc_grammar.specs.declared.fault.GrammarFault.TheVariants as fault
 use Rattle.sharc_grammar.specs.Grammar.{Word, Part}
 use Rattle.sharc_grammar.specs.Machine.{first_state}
 use Rattle.sharc_grammar.specs.Limits.{ReadWithin, reads_within}
@@ -33,24 +35,26 @@ abbrev pub text_of : List Token → List ℕ
 text_of [] = []
 text_of (t ∷ rest) = t.text
 
--- what a fault with that code says of the first of the tokens: P1 and P3 its text, if there is one
-abbrev pub told_of : ℕ → List Token → List ℕ
-told_of code all = if code == 2 then [] else text_of all
+-- what a fault says of the first of the tokens: P1 and P3 its text, if there is one
+abbrev pub told_of : GrammarFault → List Token → List ℕ
+told_of fault.Unexpected all = text_of all
+told_of fault.Deep all = []
+told_of fault.LeftOut all = text_of all
 
--- the digit of the code of a fault at the first of the words: P2 over a limit, else P1 or P3
-abbrev pub code_of : Refusal → List Word → ℕ
-code_of Deep all = 2
+-- the fault at the first of the words: P2 over a limit, else P1 or P3
+abbrev pub code_of : Refusal → List Word → GrammarFault
+code_of Deep all = fault.Deep
 code_of Wrong all = wrong_code all
 
 -- what the fault says of token number n, or of the end of input
-pub record IsToldAt (tokens : Tokens) (fault : FaultAt) (n : ℕ) : Type 0 where
+pub record IsToldAt (tokens : Tokens) (fault : FaultAt GrammarFault) (n : ℕ) : Type 0 where
   pub file : fault.file ≡ slice_index_or tokens.files (file_of (drop n tokens.list) tokens.end) []
   pub line : fault.line ≡ line_of (drop n tokens.list) tokens.end
   pub offset : fault.offset ≡ 0
   pub text : fault.text ≡ told_of fault.code (drop n tokens.list)
 
 -- The fault is the first of the source: a token, counted from 0, or the end of input, with its code, its file, its line and its text.
-pub record IsFaultOf (tokens : Tokens) (fault : FaultAt) : Type 0 where
+pub record IsFaultOf (tokens : Tokens) (fault : FaultAt GrammarFault) : Type 0 where
   pub number : ℕ
   pub is : IsFault (words_of tokens.list) fault.code number
   pub told : IsToldAt tokens fault number

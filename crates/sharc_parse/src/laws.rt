@@ -4,15 +4,16 @@ ghost use Rattle.std.specs.Prelude.{◌≡◌};
 ghost use Rattle.sharc_tree.specs.Tree.{Program};
 ghost use Rattle.sharc_tree.specs.declared.token.FaultAt.{FaultAt};
 ghost use Rattle.sharc_tree.specs.declared.token.Tokens.{Tokens};
+ghost use Rattle.sharc_grammar.specs.declared.fault.GrammarFault.{GrammarFault};
 ghost use Rattle.sharc_grammar.specs.Places.{Reads};
 ghost use Rattle.sharc_parse.specs.Programs.{IsFaultOf};
 
 /// Tokens that are a program have no fault.
 pub fn programs_have_no_fault()
-    ensures { (tokens : Tokens) → (p : Program) → (fault : FaultAt) → Reads tokens p → IsFaultOf tokens fault → ⊥ }
+    ensures { (tokens : Tokens) → (p : Program) → (fault : FaultAt GrammarFault) → Reads tokens p → IsFaultOf tokens fault → ⊥ }
 {}
 
 /// Tokens have one fault at most: its code, its place and what it reports are determined.
 pub fn one_fault()
-    ensures { (tokens : Tokens) → (a : FaultAt) → (b : FaultAt) → IsFaultOf tokens a → IsFaultOf tokens b → a ≡ b }
+    ensures { (tokens : Tokens) → (a : FaultAt GrammarFault) → (b : FaultAt GrammarFault) → IsFaultOf tokens a → IsFaultOf tokens b → a ≡ b }
 {}

@@ -6,6 +6,7 @@ ghost use Rattle.sharc_parse.specs.Programs.{Parses, ReadsItems, AreItemsPlaced,
 
 use crate::item::item;
 use crate::token::Fault;
+use sharc_grammar::fault::GrammarFault;
 use sharc_grammar::laws;
 use sharc_tree::name::Name;
 use sharc_tree::token::{FaultAt, Token, TokenKind, Tokens};
@@ -16,7 +17,7 @@ use std::alloc::{AllocError, Global};
 #[derive(Drop)]
 pub enum ParseFault {
     /// The first fault, and the tokens.
-    At(FaultAt, Tokens),
+    At(FaultAt<GrammarFault>, Tokens),
     /// There was not enough memory.
     Memory,
 }
@@ -57,28 +58,33 @@ enum Refusal {
     Deep,
 }
 
-/// The digit of the code of a fault at that token.
-fn code_at(tokens: &[Token], at: usize, refusal: Refusal) -> u8
+/// The fault at that token.
+fn code_at(tokens: &[Token], at: usize, refusal: Refusal) -> GrammarFault
     ensures { result ≡ code_of refusal (from tokens.now at) }
 {
     if matches!(refusal, Refusal::Deep) {
-        return 2;
+        return GrammarFault::Deep;
     }
     if at >= tokens.len() {
-        return 1;
+        return GrammarFault::Unexpected;
     }
     let token = &tokens[at];
     match token.kind {
-        TokenKind::LeftOut => 3,
-        _ => 1,
+        TokenKind::LeftOut => GrammarFault::LeftOut,
+        _ => GrammarFault::Unexpected,
     }
 }
 
-/// What a fault with that code says of that token.
-fn told_at(alloc: Global, tokens: &[Token], at: usize, code: u8) -> Result<Name, AllocError>
+/// What such a fault says of that token.
+fn told_at(
+    alloc: Global,
+    tokens: &[Token],
+    at: usize,
+    code: GrammarFault,
+) -> Result<Name, AllocError>
     ensures { IfOk result (λ text. text ≡ told_of code (drop at tokens.now)) }
 {
-    if code == 2 || at >= tokens.len() {
+    if matches!(code, GrammarFault::Deep) || at >= tokens.len() {
         return Ok(Name::of(Vec::new(alloc)));
     }
     let token = &tokens[at];
@@ -91,7 +97,7 @@ fn fault_at(
     tokens: &Tokens,
     at: usize,
     refusal: Refusal,
-) -> Result<FaultAt, AllocError>
+) -> Result<FaultAt<GrammarFault>, AllocError>
     requires files { All (λ t. t.file < length tokens.now.files) tokens.now.list }
     requires end_file { tokens.now.end.file < length tokens.now.files }
     ensures { IfOk result (λ fault. IsToldAt tokens.now fault at × (fault.code ≡ code_of refusal (from tokens.now.list at))) }

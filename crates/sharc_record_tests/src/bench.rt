@@ -11,6 +11,7 @@ use sharc_schedule::run_schedule;
 use sharc_seq::SeqRun;
 use sharc_tree::name::Names;
 use sharc_tree::token::Site;
+use sharc_tree::trap::Trap;
 use sharc_word::THREADS;
 use std::alloc::{AllocError, Global};
 use std::sync::Wait;
@@ -83,7 +84,7 @@ pub struct Worked {
     pub end: End,
     pub printed: [Option<i64>; 3],
     pub threads: usize,
-    pub trap: Option<(u8, u32)>,
+    pub trap: Option<(Trap, u32)>,
     pub value: u64,
     pub replays: bool,
 }
@@ -97,9 +98,9 @@ fn add_prints(mut printed: [Option<i64>; 3], thread: &Thread) -> [Option<i64>; 3
     printed
 }
 
-fn trap_of(stop: Option<Stop>) -> Option<(u8, u32)> {
+fn trap_of(stop: Option<Stop>) -> Option<(Trap, u32)> {
     match stop {
-        Some(Stop::Trap(number, site)) => Some((number, site)),
+        Some(Stop::Trap(trap, site)) => Some((trap, site)),
         _ => None,
     }
 }

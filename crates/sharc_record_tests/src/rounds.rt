@@ -5,6 +5,7 @@ ghost use Rattle.std.specs.Prelude.{◌<◌, ◌≤◌};
 use crate::bench::{A, B, LIMIT, Open, VALUE, Worked, function, run};
 use sharc_code::{Function, Instr, Operator, Parameter, Register};
 use sharc_record::End;
+use sharc_tree::trap::Trap;
 use std::alloc::{AllocError, Global};
 use std::process::Abort;
 use std::sync::Wait;
@@ -189,7 +190,7 @@ fn ends(rt: HostRuntime) -> Result<(), Fail> {
         )?;
         assert_eq!(rt; ran.end, End::AllDone);
         assert!(rt; ran.replays);
-        assert_eq!(rt; ran.trap, Some((1, 4)));
+        assert_eq!(rt; ran.trap, Some((Trap::NullPointer, 4)));
         let ran = by(&rt, rt.alloc(), &[Instr::Return(4)], &[], workers, 0)?;
         assert_eq!(rt; ran.end, End::Budget);
         assert!(rt; ran.replays);
@@ -217,7 +218,7 @@ fn all_threads(rt: HostRuntime) -> Result<(), Fail> {
         )?;
         assert_eq!(rt; ran.end, End::AllDone);
         assert!(rt; ran.replays);
-        assert_eq!(rt; ran.trap, Some((8, 9)));
+        assert_eq!(rt; ran.trap, Some((Trap::ThreadLimit, 9)));
         assert_eq!(rt; ran.threads, 31);
     }
     Ok(())

@@ -7,6 +7,9 @@ use Rattle.sharc_ctype.specs.Resolved.{Resolution}
 use Rattle.sharc_mode.specs.declared.error.Cast.{Cast}
 use Rattle.sharc_mode.specs.declared.error.ModeError.{ModeError}
 use Rattle.sharc_mode.specs.declared.error.Warning.{Warning}
+use Rattle.sharc_mode.specs.declared.error.ErrorCode.{ErrorCode}
+use Rattle.sharc_mode.specs.declared.error.ErrorCode.TheVariants.{ModeMismatch, ReadonlyWrite, PrivateTarget, LockPathNotConstant, ModeNotAllowed, PrivateField, PrivateReachesThread, CastChangesInnerMode, ReadonlySource, NamedByLockPath, NeedsConstantBase}
+use Rattle.sharc_mode.specs.Errors.{number_of, is_mismatch}
 use Rattle.sharc_report.specs.Places.{site_text, tokens_between}
 
 -- a type without the mode of its top
@@ -20,25 +23,26 @@ target_text t = type_text (without_top t)
 abbrev pub expected_found : ModeError → List ℕ
 expected_found e = codes "expected " ++ target_text e.expected ++ codes ", found " ++ target_text e.found
 
--- M1 to M11; there are no other codes
+-- M1 to M11
+abbrev pub message_of : ErrorCode → ModeError → List ℕ
+message_of ModeMismatch e = codes "mode mismatch: " ++ expected_found e
+message_of ReadonlyWrite e = codes "write to readonly " ++ e.subject
+message_of PrivateTarget e = type_text e.expected ++ codes " holds a private target"
+message_of LockPathNotConstant e = codes "lock path " ++ e.subject ++ codes " is not constant"
+message_of ModeNotAllowed e = codes "mode " ++ e.subject ++ codes " not allowed"
+message_of PrivateField e = codes "private in field " ++ e.subject
+message_of PrivateReachesThread e = codes "private data reaches a thread: " ++ e.subject
+message_of CastChangesInnerMode e = codes "cast changes an inner mode: " ++ expected_found e
+message_of ReadonlySource e = codes "readonly source " ++ e.subject
+message_of NamedByLockPath e = e.subject ++ codes " is named by a lock path"
+message_of NeedsConstantBase e = codes "target of " ++ e.subject ++ codes " needs a constant base"
+
 abbrev pub error_message : ModeError → List ℕ
-error_message e =
-    if e.code == 1 then codes "mode mismatch: " ++ expected_found e
-    else (if e.code == 2 then codes "write to readonly " ++ e.subject
-    else (if e.code == 3 then type_text e.expected ++ codes " holds a private target"
-    else (if e.code == 4 then codes "lock path " ++ e.subject ++ codes " is not constant"
-    else (if e.code == 5 then codes "mode " ++ e.subject ++ codes " not allowed"
-    else (if e.code == 6 then codes "private in field " ++ e.subject
-    else (if e.code == 7 then codes "private data reaches a thread: " ++ e.subject
-    else (if e.code == 8 then codes "cast changes an inner mode: " ++ expected_found e
-    else (if e.code == 9 then codes "readonly source " ++ e.subject
-    else (if e.code == 10 then e.subject ++ codes " is named by a lock path"
-    else (if e.code == 11 then codes "target of " ++ e.subject ++ codes " needs a constant base"
-    else []))))))))))
+error_message e = message_of e.code e
 
 -- F:N: CODE text
 abbrev pub error_line : Resolution → ModeError → List ℕ
-error_line r e = site_text r e.site ++ codes ": M" ++ decimal e.code ++ codes " " ++ error_message e ++ codes "\n"
+error_line r e = site_text r e.site ++ codes ": M" ++ decimal (number_of e.code) ++ codes " " ++ error_message e ++ codes "\n"
 
 -- A cast belongs to the M1 at its place. At one token there is at most one M1, since no two expressions that are given to something begin there.
 
@@ -46,7 +50,7 @@ abbrev pub stands_at : ℕ → Cast → Bool
 stands_at token c = c.site.token == token
 
 abbrev pub cast_for : List Cast → ModeError → Option Cast
-cast_for casts e = if e.code == 1 then find (stands_at e.site.token) casts else None
+cast_for casts e = if is_mismatch e.code then find (stands_at e.site.token) casts else None
 
 -- F:N: suggest SCAST(TYPE, LV)
 abbrev pub suggestion : Resolution → Option Cast → List ℕ

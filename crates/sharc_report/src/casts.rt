@@ -42,7 +42,7 @@ pub(crate) fn cast_for<'a>(
     requires { HasFirstCasts casts.now first.now.entries }
     ensures { option_copied result ≡ cast_for casts.now error.now }
 {
-    if error.code == 1 {
+    if error.code.is_mismatch() {
         cast_at(casts, first, error.site.token)
     } else {
         None

@@ -14,5 +14,5 @@ mod refused;
 
 pub use accepted::accepted_text;
 pub use explained::explain_text;
-pub use refusal::{Stage, fault_text};
+pub use refusal::{SourceFault, fault_text};
 pub use refused::check_text;

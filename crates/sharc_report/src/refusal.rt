@@ -1,72 +1,91 @@
 //! The line that says where and why a source is refused.
 
-ghost use Rattle.std.specs.Prelude.{◌≡◌, ◌++◌, [], codes, decimal, unwrap_or, IsSome, IfOk, OnOk, OnErr};
-ghost use Rattle.sharc_report.specs.Refusals.{message_of, lexer_message, parser_message, typing_message, at_offset, unexpected, letter_of, quoted, refusal_line};
+ghost use Rattle.std.specs.Prelude.{◌≡◌, ◌++◌, [], codes, decimal, IfOk, OnOk};
+ghost use Rattle.sharc_lex.specs.Faults as lexer;
+ghost use Rattle.sharc_grammar.specs.Faults as parser;
+ghost use Rattle.sharc_names.specs.Notes as typing;
+ghost use Rattle.sharc_report.specs.Refusals.{lexer_message, parser_message, typing_message, at_offset, unexpected, quoted, head_of, refusal_line};
 
 use crate::put::{put_number, put_two};
+use sharc_grammar::fault::GrammarFault;
+use sharc_lex::Fault as LexerFault;
+use sharc_names::fault::FaultCode;
 use sharc_tree::token::FaultAt;
 use std::alloc::{AllocError, Global};
 
-/// The part of the front end that refuses a source.
-#[derive(Clone, Copy)]
-pub enum Stage {
-    /// It reads bytes into tokens: L1 to L5.
-    Lexer,
-    /// It reads tokens into a program: P1 to P3.
-    Parser,
-    /// It finds the C type of each expression: C1 to C9.
-    Typing,
+/// The first fault of a source, by the part of the front end that found it.
+#[derive(Drop)]
+pub enum SourceFault {
+    /// Bytes that are no tokens: L1 to L5.
+    Lexer(FaultAt<LexerFault>),
+    /// Tokens that are no program: P1 to P3.
+    Parser(FaultAt<GrammarFault>),
+    /// A program that is not typed: C1 to C9.
+    Typing(FaultAt<FaultCode>),
 }
 
 /// The line of a fault, `file:line: code message`, with its newline.
-pub fn fault_text(alloc: Global, stage: Stage, at: &FaultAt) -> Result<Vec<u8>, AllocError>
-    requires { IsSome (message_of stage at.now) }
-    ensures { IfOk result (λ text. text.items ≡ refusal_line stage at.now) }
+pub fn fault_text(alloc: Global, fault: &SourceFault) -> Result<Vec<u8>, AllocError>
+    ensures { IfOk result (λ text. text.items ≡ refusal_line fault.now) }
 {
-    let mut text = Vec::from_slice(alloc, at.file.as_slice())?;
-    text.extend_from_slice(b":")?;
-    put_number(&mut text, u64::from(at.line))?;
-    text.extend_from_slice(b": ")?;
-    text.extend_from_slice(letter(stage))?;
-    put_number(&mut text, u64::from(at.code))?;
-    text.extend_from_slice(b" ")?;
-    put_message(&mut text, stage, at)?;
+    let mut text = Vec::new(alloc);
+    match fault {
+        SourceFault::Lexer(at) => put_lexer_fault(&mut text, at)?,
+        SourceFault::Parser(at) => put_parser_fault(&mut text, at)?,
+        SourceFault::Typing(at) => put_typing_fault(&mut text, at)?,
+    }
     text.extend_from_slice(b"\n")?;
     Ok(text)
 }
 
-fn letter(stage: Stage) -> &'static [u8]
-    ensures { result.now ≡ letter_of stage }
+/// What stands before the message: the place and the code.
+fn put_head(
+    text: &mut Vec<u8>,
+    file: &[u8],
+    line: u32,
+    letter: &[u8],
+    digit: u8,
+) -> Result<(), AllocError>
+    ensures { OnOk result (text.new.items ≡ text.old.items ++ head_of file.now line letter.now digit) }
 {
-    match stage {
-        Stage::Lexer => b"L",
-        Stage::Parser => b"P",
-        Stage::Typing => b"C",
-    }
+    text.extend_from_slice(file)?;
+    text.extend_from_slice(b":")?;
+    put_number(text, u64::from(line))?;
+    put_two(text, b": ", letter)?;
+    put_number(text, u64::from(digit))?;
+    text.extend_from_slice(b" ")
 }
 
-fn put_message(text: &mut Vec<u8>, stage: Stage, at: &FaultAt) -> Result<(), AllocError>
-    requires { IsSome (message_of stage at.now) }
-    ensures { OnOk result (text.new.items ≡ text.old.items ++ unwrap_or (message_of stage at.now) []) }
+fn put_lexer_fault(text: &mut Vec<u8>, at: &FaultAt<LexerFault>) -> Result<(), AllocError>
+    ensures { OnOk result (text.new.items ≡ text.old.items ++ (head_of at.now.file at.now.line (codes "L") (lexer.digit_of at.now.code) ++ lexer_message at.now.code at.now.offset)) }
 {
-    match stage {
-        Stage::Lexer => put_lexer_message(text, at),
-        Stage::Parser => put_parser_message(text, at),
-        Stage::Typing => put_typing_message(text, at),
-    }
+    put_head(text, at.file.as_slice(), at.line, b"L", at.code.digit())?;
+    put_lexer_message(text, at.code, at.offset)
 }
 
-fn put_lexer_message(text: &mut Vec<u8>, at: &FaultAt) -> Result<(), AllocError>
-    requires { IsSome (lexer_message at.now) }
-    ensures { OnOk result (text.new.items ≡ text.old.items ++ unwrap_or (lexer_message at.now) []) }
+fn put_parser_fault(text: &mut Vec<u8>, at: &FaultAt<GrammarFault>) -> Result<(), AllocError>
+    ensures { OnOk result (text.new.items ≡ text.old.items ++ (head_of at.now.file at.now.line (codes "P") (parser.digit_of at.now.code) ++ parser_message at.now.code at.now.text)) }
 {
-    match at.code {
-        1 => put_byte(text, *at.text.at(0), at.offset),
-        2 => put_at_offset(text, b"number", at.offset),
-        3 => put_at_offset(text, b"line marker", at.offset),
-        4 => put_at_offset(text, b"identifier over 64 bytes", at.offset),
-        5 => put_at_offset(text, b"character constant", at.offset),
-        _ => unreachable!(),
+    put_head(text, at.file.as_slice(), at.line, b"P", at.code.digit())?;
+    put_parser_message(text, at.code, at.text.as_slice())
+}
+
+fn put_typing_fault(text: &mut Vec<u8>, at: &FaultAt<FaultCode>) -> Result<(), AllocError>
+    ensures { OnOk result (text.new.items ≡ text.old.items ++ (head_of at.now.file at.now.line (codes "C") (typing.digit at.now.code) ++ typing_message at.now.code at.now.text)) }
+{
+    put_head(text, at.file.as_slice(), at.line, b"C", at.code.digit())?;
+    put_typing_message(text, at.code, at.text.as_slice())
+}
+
+fn put_lexer_message(text: &mut Vec<u8>, fault: LexerFault, offset: u64) -> Result<(), AllocError>
+    ensures { OnOk result (text.new.items ≡ text.old.items ++ lexer_message fault offset) }
+{
+    match fault {
+        LexerFault::Byte(byte) => put_byte(text, byte, offset),
+        LexerFault::Number => put_at_offset(text, b"number", offset),
+        LexerFault::Marker => put_at_offset(text, b"line marker", offset),
+        LexerFault::Identifier => put_at_offset(text, b"identifier over 64 bytes", offset),
+        LexerFault::Character => put_at_offset(text, b"character constant", offset),
     }
 }
 
@@ -86,15 +105,17 @@ fn put_at_offset(text: &mut Vec<u8>, what: &[u8], offset: u64) -> Result<(), All
     put_number(text, offset)
 }
 
-fn put_parser_message(text: &mut Vec<u8>, at: &FaultAt) -> Result<(), AllocError>
-    requires { IsSome (parser_message at.now) }
-    ensures { OnOk result (text.new.items ≡ text.old.items ++ unwrap_or (parser_message at.now) []) }
+fn put_parser_message(
+    text: &mut Vec<u8>,
+    fault: GrammarFault,
+    token: &[u8],
+) -> Result<(), AllocError>
+    ensures { OnOk result (text.new.items ≡ text.old.items ++ parser_message fault token.now) }
 {
-    match at.code {
-        1 => put_unexpected(text, at.text.as_slice()),
-        2 => text.extend_from_slice(b"nesting over 64"),
-        3 => put_quoted(text, b"left out ", at.text.as_slice()),
-        _ => unreachable!(),
+    match fault {
+        GrammarFault::Unexpected => put_unexpected(text, token),
+        GrammarFault::Deep => text.extend_from_slice(b"nesting over 64"),
+        GrammarFault::LeftOut => put_quoted(text, b"left out ", token),
     }
 }
 
@@ -117,21 +138,18 @@ fn put_quoted(text: &mut Vec<u8>, before: &[u8], inner: &[u8]) -> Result<(), All
     text.extend_from_slice(b"'")
 }
 
-fn put_typing_message(text: &mut Vec<u8>, at: &FaultAt) -> Result<(), AllocError>
-    requires { IsSome (typing_message at.now) }
-    ensures { OnOk result (text.new.items ≡ text.old.items ++ unwrap_or (typing_message at.now) []) }
+fn put_typing_message(text: &mut Vec<u8>, fault: FaultCode, name: &[u8]) -> Result<(), AllocError>
+    ensures { OnOk result (text.new.items ≡ text.old.items ++ typing_message fault name.now) }
 {
-    let name = at.text.as_slice();
-    match at.code {
-        1 => put_two(text, b"unknown name ", name),
-        2 => put_two(text, name, b" defined twice"),
-        3 => text.extend_from_slice(b"type mismatch"),
-        4 => put_two(text, b"wrong number of arguments for ", name),
-        5 => text.extend_from_slice(b"not an lvalue"),
-        6 => text.extend_from_slice(b"type not allowed here"),
-        7 => put_two(text, b"bad form of ", name),
-        8 => text.extend_from_slice(b"no int main(void)"),
-        9 => put_two(text, b"limit passed by ", name),
-        _ => unreachable!(),
+    match fault {
+        FaultCode::UnknownName => put_two(text, b"unknown name ", name),
+        FaultCode::DefinedTwice => put_two(text, name, b" defined twice"),
+        FaultCode::TypeMismatch => text.extend_from_slice(b"type mismatch"),
+        FaultCode::ArgumentCount => put_two(text, b"wrong number of arguments for ", name),
+        FaultCode::NoLvalue => text.extend_from_slice(b"not an lvalue"),
+        FaultCode::TypeNotAllowed => text.extend_from_slice(b"type not allowed here"),
+        FaultCode::BadForm => put_two(text, b"bad form of ", name),
+        FaultCode::NoMain => text.extend_from_slice(b"no int main(void)"),
+        FaultCode::LimitPassed => put_two(text, b"limit passed by ", name),
     }
 }

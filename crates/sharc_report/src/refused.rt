@@ -9,7 +9,7 @@ ghost use Rattle.sharc_report.specs.Verdicts.{without_top, target_text, expected
 use crate::casts::{cast_for, first_casts};
 use crate::put::{put_number, put_place, put_three, put_tokens, put_two};
 use sharc_ctype::typed::Typed;
-use sharc_mode::error::{Cast, Casts, ModeError, ModeErrors};
+use sharc_mode::error::{Cast, Casts, ErrorCode, ModeError, ModeErrors};
 use sharc_mode::moded::Moded;
 use sharc_tree::ctype::CType;
 use sharc_tree::listed::Listed;
@@ -81,18 +81,27 @@ fn put_message(alloc: Global, text: &mut Vec<u8>, e: &ModeError) -> Result<(), A
     ensures { Appends result (error_message e.now) text.old.items text.new.items }
 {
     match e.code {
-        1 => put_expected(alloc, text, b"mode mismatch: ", e),
-        2 => put_subject(text, b"write to readonly ", e),
-        3 => put_type(alloc, text, &e.expected, b" holds a private target"),
-        4 => put_between(text, b"lock path ", e, b" is not constant"),
-        5 => put_between(text, b"mode ", e, b" not allowed"),
-        6 => put_subject(text, b"private in field ", e),
-        7 => put_subject(text, b"private data reaches a thread: ", e),
-        8 => put_expected(alloc, text, b"cast changes an inner mode: ", e),
-        9 => put_subject(text, b"readonly source ", e),
-        10 => put_between(text, b"", e, b" is named by a lock path"),
-        11 => put_between(text, b"target of ", e, b" needs a constant base"),
-        _ => Ok(()),
+        ErrorCode::ModeMismatch => put_expected(alloc, text, b"mode mismatch: ", e),
+        ErrorCode::ReadonlyWrite => put_subject(text, b"write to readonly ", e),
+        ErrorCode::PrivateTarget => put_type(alloc, text, &e.expected, b" holds a private target"),
+        ErrorCode::LockPathNotConstant => put_between(text, b"lock path ", e, b" is not constant"),
+        ErrorCode::ModeNotAllowed => put_between(text, b"mode ", e, b" not allowed"),
+        ErrorCode::PrivateField => put_subject(text, b"private in field ", e),
+        ErrorCode::PrivateReachesThread => put_subject(text, b"private data reaches a thread: ", e),
+        ErrorCode::CastChangesInnerMode => put_expected(
+            alloc,
+            text,
+            b"cast changes an inner mode: ",
+            e,
+        ),
+        ErrorCode::ReadonlySource => put_subject(text, b"readonly source ", e),
+        ErrorCode::NamedByLockPath => put_between(text, b"", e, b" is named by a lock path"),
+        ErrorCode::NeedsConstantBase => put_between(
+            text,
+            b"target of ",
+            e,
+            b" needs a constant base",
+        ),
     }
 }
 
@@ -106,7 +115,7 @@ fn put_error(
 {
     put_place(text, typed, e.site.file, e.site.line)?;
     text.extend_from_slice(b": M")?;
-    put_number(text, u64::from(e.code))?;
+    put_number(text, u64::from(e.code.number()))?;
     text.extend_from_slice(b" ")?;
     put_message(alloc, text, e)?;
     text.extend_from_slice(b"\n")
@@ -157,7 +166,7 @@ fn put_refusal(
 }
 
 /// The errors of a program's modes, a line each, `file:line: code message`, and after an M1 the cast that would repair it, where one is passed:
-/// that at its place. Codes past 11 have no message.
+/// that at its place.
 pub fn check_text(
     alloc: Global,
     program: &Moded,

@@ -9,6 +9,7 @@ use sharc_cpu::Thread;
 use sharc_rounds::{End, Gate, RoundsRun, run_rounds};
 use sharc_tree::name::Names;
 use sharc_tree::token::Site;
+use sharc_tree::trap::Trap;
 use sharc_word::THREADS;
 use std::alloc::{AllocError, Global};
 use std::thread::Threads;
@@ -80,7 +81,7 @@ pub struct Worked {
     pub end: End,
     pub printed: [Option<i64>; 3],
     pub threads: usize,
-    pub trap: Option<(u8, u32)>,
+    pub trap: Option<(Trap, u32)>,
     pub value: u64,
 }
 
@@ -93,9 +94,9 @@ fn add_prints(mut printed: [Option<i64>; 3], thread: &Thread) -> [Option<i64>; 3
     printed
 }
 
-fn trap_of(stop: Option<Stop>) -> Option<(u8, u32)> {
+fn trap_of(stop: Option<Stop>) -> Option<(Trap, u32)> {
     match stop {
-        Some(Stop::Trap(number, site)) => Some((number, site)),
+        Some(Stop::Trap(trap, site)) => Some((trap, site)),
         _ => None,
     }
 }

@@ -21,7 +21,7 @@ is_report None = false
 is_report (Some (Conflict c)) = true
 is_report (Some (NoLock site word)) = true
 is_report (Some (NotSole site count)) = true
-is_report (Some (Trap number site)) = false
+is_report (Some (Trap trap site)) = false
 
 abbrev pub has_reported : ThreadView → Bool
 has_reported t = is_report t.machine.own.stop

@@ -141,7 +141,7 @@ module _ (code : Code) (words : List ℕ) (ts us : List ThreadView) (are : Alike
   stop_same thread (Conflict c) = ap (λ o. code_of c.kind ++ access_text code c.kind c.site ++ other_text code o) (against_same c ts us are c.kind thread)
   stop_same thread (NoLock site word) = refl
   stop_same thread (NotSole site count) = refl
-  stop_same thread (Trap number site) = refl
+  stop_same thread (Trap trap site) = refl
 
   module _ (t u : ThreadView) (e : shown t ≡ shown u) where
     unstopped_at : (o : Option Wait) → unstopped_text code words t o ≡ unstopped_text code words u o

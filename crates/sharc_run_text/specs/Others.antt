@@ -32,7 +32,7 @@ abbrev pub refused_by : ConflictAt → Option Stop → Option ConflictAt
 refused_by c (Some (Conflict d)) = if is_same_place c d then Some d else None
 refused_by c (Some (NoLock site word)) = None
 refused_by c (Some (NotSole site count)) = None
-refused_by c (Some (Trap number site)) = None
+refused_by c (Some (Trap trap site)) = None
 refused_by c None = None
 
 abbrev pub refused : ConflictAt → ThreadView → Option ConflictAt

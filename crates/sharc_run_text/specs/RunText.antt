@@ -4,6 +4,9 @@ use Rattle.std.specs.Fmt.{signed_decimal}
 use Rattle.std.specs.List.{flat_map}
 use Rattle.std.specs.Ordering.{nat_cmp}
 use Rattle.std.specs.List.Sorted.{IsPermutation, IsSortedByKey, IsStableByKey}
+use Rattle.sharc_tree.specs.declared.trap.Trap.{Trap}
+use Rattle.sharc_tree.specs.declared.trap.Trap.TheVariants as traps
+use Rattle.sharc_tree.specs.Traps.{trap_number}
 use Rattle.sharc_shadow.specs.declared.shadow_word.Kind.{Kind}
 use Rattle.sharc_shadow.specs.declared.shadow_word.Kind.TheVariants.{Read, Write}
 use Rattle.sharc_code.specs.declared.code.Code.{Code}
@@ -14,7 +17,7 @@ use Rattle.sharc_code.specs.declared.state.Print.{Print}
 use Rattle.sharc_code.specs.declared.state.State.{State}
 use Rattle.sharc_code.specs.declared.state.State.TheVariants.{Runs, Tries, Stopped, Ended}
 use Rattle.sharc_code.specs.declared.state.Stop.{Stop}
-use Rattle.sharc_code.specs.declared.state.Stop.TheVariants.{Conflict, NoLock, NotSole, Trap}
+use Rattle.sharc_code.specs.declared.state.Stop.TheVariants.{Conflict, NoLock, NotSole, Trap as Trapped}
 use Rattle.sharc_code.specs.declared.state.Wait.{Wait}
 use Rattle.sharc_code.specs.declared.state.Wait.TheVariants.{Mutex, Join, Cond}
 use Rattle.sharc_code.specs.Says.{place_at}
@@ -82,32 +85,30 @@ abbrev pub not_sole_text : Code → ℕ → ℕ → List ℕ
 not_sole_text code site count = of_taking (place_at code site).at ++ lvalue_at code site ++ codes " with " ++ decimal count ++ codes " references"
 
 -- ---- stops
--- X1 to X13
-abbrev pub trap_words : ℕ → List ℕ
-trap_words number =
-    if number == 1 then codes "null"
-    else (if number == 2 then codes "bounds"
-    else (if number == 3 then codes "zero divisor"
-    else (if number == 4 then codes "out of range"
-    else (if number == 5 then codes "mutex not held"
-    else (if number == 6 then codes "mutex already held"
-    else (if number == 7 then codes "no such thread"
-    else (if number == 8 then codes "thread limit"
-    else (if number == 9 then codes "heap full"
-    else (if number == 10 then codes "call depth"
-    else (if number == 11 then codes "return with a lock held"
-    else (if number == 12 then codes "size not positive"
-    else (if number == 13 then codes "too many locks"
-    else []))))))))))))
+abbrev pub trap_words : Trap → List ℕ
+trap_words traps.NullPointer = codes "null"
+trap_words traps.IndexOutOfBounds = codes "bounds"
+trap_words traps.DivisionByZero = codes "zero divisor"
+trap_words traps.OutOfRange = codes "out of range"
+trap_words traps.MutexNotHeld = codes "mutex not held"
+trap_words traps.MutexAlreadyHeld = codes "mutex already held"
+trap_words traps.NoSuchThread = codes "no such thread"
+trap_words traps.ThreadLimit = codes "thread limit"
+trap_words traps.HeapFull = codes "heap full"
+trap_words traps.CallDepth = codes "call depth"
+trap_words traps.ReturnWithLockHeld = codes "return with a lock held"
+trap_words traps.SizeNotPositive = codes "size not positive"
+trap_words traps.TooManyLocks = codes "too many locks"
 
-abbrev pub trap_text : Code → ℕ → ℕ → List ℕ
-trap_text code number site = codes "X" ++ decimal number ++ codes " " ++ trap_words number ++ at_site code site
+-- X3 zero divisor at F:N
+abbrev pub trap_text : Code → Trap → ℕ → List ℕ
+trap_text code trap site = codes "X" ++ decimal (trap_number trap) ++ codes " " ++ trap_words trap ++ at_site code site
 
 abbrev pub stop_text : Code → List ThreadView → ℕ → Stop → List ℕ
 stop_text code threads thread (Conflict c) = conflict_text code threads thread c
 stop_text code threads thread (NoLock site word) = no_lock_text code site
 stop_text code threads thread (NotSole site count) = not_sole_text code site count
-stop_text code threads thread (Trap number site) = trap_text code number site
+stop_text code threads thread (Trapped trap site) = trap_text code trap site
 
 -- ---- waiting threads, and those that have made all the events that they may
 -- a mutex that is held has the number of its holder plus 1

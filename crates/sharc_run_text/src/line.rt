@@ -13,6 +13,7 @@ use sharc_code::{Code, ConflictAt, State, Stop, Use, Wait};
 use sharc_cond::waits;
 use sharc_cpu::Thread;
 use sharc_shadow::Kind;
+use sharc_tree::trap::Trap;
 use sharc_word::THREADS;
 use std::alloc::AllocError;
 
@@ -109,34 +110,33 @@ fn put_not_sole(text: &mut Vec<u8>, code: &Code, site: u32, count: u64) -> Resul
     text.extend_from_slice(b" references")
 }
 
-fn trap_words(number: u8) -> &'static [u8]
-    ensures { result.now ≡ trap_words number }
+fn trap_words(trap: Trap) -> &'static [u8]
+    ensures { result.now ≡ trap_words trap }
 {
-    match number {
-        1 => b"null",
-        2 => b"bounds",
-        3 => b"zero divisor",
-        4 => b"out of range",
-        5 => b"mutex not held",
-        6 => b"mutex already held",
-        7 => b"no such thread",
-        8 => b"thread limit",
-        9 => b"heap full",
-        10 => b"call depth",
-        11 => b"return with a lock held",
-        12 => b"size not positive",
-        13 => b"too many locks",
-        _ => b"",
+    match trap {
+        Trap::NullPointer => b"null",
+        Trap::IndexOutOfBounds => b"bounds",
+        Trap::DivisionByZero => b"zero divisor",
+        Trap::OutOfRange => b"out of range",
+        Trap::MutexNotHeld => b"mutex not held",
+        Trap::MutexAlreadyHeld => b"mutex already held",
+        Trap::NoSuchThread => b"no such thread",
+        Trap::ThreadLimit => b"thread limit",
+        Trap::HeapFull => b"heap full",
+        Trap::CallDepth => b"call depth",
+        Trap::ReturnWithLockHeld => b"return with a lock held",
+        Trap::SizeNotPositive => b"size not positive",
+        Trap::TooManyLocks => b"too many locks",
     }
 }
 
-fn put_trap(text: &mut Vec<u8>, code: &Code, number: u8, site: u32) -> Result<(), AllocError>
-    ensures { Appends result (trap_text code.now number site) text.old.items text.new.items }
+fn put_trap(text: &mut Vec<u8>, code: &Code, trap: Trap, site: u32) -> Result<(), AllocError>
+    ensures { Appends result (trap_text code.now trap site) text.old.items text.new.items }
 {
     text.extend_from_slice(b"X")?;
-    put_number(text, u64::from(number))?;
+    put_number(text, u64::from(trap.number()))?;
     text.extend_from_slice(b" ")?;
-    text.extend_from_slice(trap_words(number))?;
+    text.extend_from_slice(trap_words(trap))?;
     put_at(text, code, site)
 }
 
@@ -155,7 +155,7 @@ fn put_stop(
         Stop::Conflict(c) => put_conflict(text, code, threads, thread, c),
         Stop::NoLock(site, _) => put_no_lock(text, code, site),
         Stop::NotSole(site, count) => put_not_sole(text, code, site, count),
-        Stop::Trap(number, site) => put_trap(text, code, number, site),
+        Stop::Trap(trap, site) => put_trap(text, code, trap, site),
     }
 }
 

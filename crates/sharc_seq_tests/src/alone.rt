@@ -3,12 +3,19 @@
 use crate::bench::{LIMIT, run};
 use sharc_code::{Cell, Instr, Operator, Width};
 use sharc_cpu::{Pause, Stop};
+use sharc_tree::trap::Trap;
+use sharc_tree::trap::Trap::{DivisionByZero, HeapFull, IndexOutOfBounds, NullPointer, OutOfRange};
 use std::alloc::Global;
 use std::process::Abort;
 use std::test::Fail;
 
-// What the instruction makes of two numbers, or the X.
-fn computed(alloc: Global, compute: Instr, left: i64, right: i64) -> Result<Result<i64, u8>, Fail> {
+// What the instruction makes of two numbers, or the trap.
+fn computed(
+    alloc: Global,
+    compute: Instr,
+    left: i64,
+    right: i64,
+) -> Result<Option<Result<i64, Trap>>, Fail> {
     let body = [
         Instr::Constant(0, left),
         Instr::Constant(1, right),
@@ -18,9 +25,9 @@ fn computed(alloc: Global, compute: Instr, left: i64, right: i64) -> Result<Resu
     ];
     let ran = run(alloc, &body, &[], 20, LIMIT)?;
     match (ran.printed[0], ran.trap()) {
-        (Some(value), None) => Ok(Ok(value)),
-        (None, Some((number, 5))) => Ok(Err(number)),
-        _ => Ok(Err(99)),
+        (Some(value), None) => Ok(Some(Ok(value))),
+        (None, Some((trap, 5))) => Ok(Some(Err(trap))),
+        _ => Ok(None),
     }
 }
 
@@ -30,16 +37,16 @@ fn computes(
     alloc: Global,
     operator: Operator,
     numbers: (i64, i64),
-    int: Result<i64, u8>,
-    long: Result<i64, u8>,
+    int: Result<i64, Trap>,
+    long: Result<i64, Trap>,
 ) -> Result<(), Fail> {
     let (left, right) = numbers;
     let compute = Instr::ComputeInt(operator, 2, 0, 1, 5);
     let answer = computed(alloc, compute, left, right)?;
-    assert_eq!(rt; answer, int, "int, of {left} and {right}");
+    assert_eq!(rt; answer, Some(int), "int, of {left} and {right}");
     let compute = Instr::ComputeLong(operator, 2, 0, 1, 5);
     let answer = computed(alloc, compute, left, right)?;
-    assert_eq!(rt; answer, long, "long, of {left} and {right}");
+    assert_eq!(rt; answer, Some(long), "long, of {left} and {right}");
     Ok(())
 }
 
@@ -52,7 +59,7 @@ fn sums_and_products(rt: HostRuntime) -> Result<(), Fail> {
         alloc,
         Operator::Add,
         (2147483647, 1),
-        Err(4),
+        Err(OutOfRange),
         Ok(2147483648),
     )?;
     computes(
@@ -60,7 +67,7 @@ fn sums_and_products(rt: HostRuntime) -> Result<(), Fail> {
         alloc,
         Operator::Subtract,
         (-2147483648, 1),
-        Err(4),
+        Err(OutOfRange),
         Ok(-2147483649),
     )?;
     computes(
@@ -68,7 +75,7 @@ fn sums_and_products(rt: HostRuntime) -> Result<(), Fail> {
         alloc,
         Operator::Multiply,
         (65536, 32768),
-        Err(4),
+        Err(OutOfRange),
         Ok(2147483648),
     )?;
     computes(
@@ -76,8 +83,8 @@ fn sums_and_products(rt: HostRuntime) -> Result<(), Fail> {
         alloc,
         Operator::Multiply,
         (i64::MAX, 2),
-        Err(4),
-        Err(4),
+        Err(OutOfRange),
+        Err(OutOfRange),
     )?;
     Ok(())
 }
@@ -86,25 +93,46 @@ fn sums_and_products(rt: HostRuntime) -> Result<(), Fail> {
 fn quotients(rt: HostRuntime) -> Result<(), Fail> {
     let alloc = rt.alloc();
     computes(&rt, alloc, Operator::Divide, (-7, 2), Ok(-3), Ok(-3))?;
-    computes(&rt, alloc, Operator::Divide, (7, 0), Err(3), Err(3))?;
+    computes(
+        &rt,
+        alloc,
+        Operator::Divide,
+        (7, 0),
+        Err(DivisionByZero),
+        Err(DivisionByZero),
+    )?;
     computes(
         &rt,
         alloc,
         Operator::Divide,
         (-2147483648, -1),
-        Err(4),
+        Err(OutOfRange),
         Ok(2147483648),
     )?;
-    computes(&rt, alloc, Operator::Divide, (i64::MIN, -1), Err(4), Err(4))?;
+    computes(
+        &rt,
+        alloc,
+        Operator::Divide,
+        (i64::MIN, -1),
+        Err(OutOfRange),
+        Err(OutOfRange),
+    )?;
     computes(&rt, alloc, Operator::Remainder, (-7, 2), Ok(-1), Ok(-1))?;
-    computes(&rt, alloc, Operator::Remainder, (7, 0), Err(3), Err(3))?;
+    computes(
+        &rt,
+        alloc,
+        Operator::Remainder,
+        (7, 0),
+        Err(DivisionByZero),
+        Err(DivisionByZero),
+    )?;
     computes(
         &rt,
         alloc,
         Operator::Remainder,
         (i64::MIN, -1),
-        Err(4),
-        Err(4),
+        Err(OutOfRange),
+        Err(OutOfRange),
     )?;
     Ok(())
 }
@@ -117,7 +145,7 @@ fn shifts(rt: HostRuntime) -> Result<(), Fail> {
         alloc,
         Operator::ShiftLeft,
         (1, 31),
-        Err(4),
+        Err(OutOfRange),
         Ok(2147483648),
     )?;
     computes(
@@ -125,7 +153,7 @@ fn shifts(rt: HostRuntime) -> Result<(), Fail> {
         alloc,
         Operator::ShiftLeft,
         (1, 32),
-        Err(4),
+        Err(OutOfRange),
         Ok(4294967296),
     )?;
     computes(
@@ -133,11 +161,25 @@ fn shifts(rt: HostRuntime) -> Result<(), Fail> {
         alloc,
         Operator::ShiftLeft,
         (-1, 63),
-        Err(4),
+        Err(OutOfRange),
         Ok(i64::MIN),
     )?;
-    computes(&rt, alloc, Operator::ShiftLeft, (1, 63), Err(4), Err(4))?;
-    computes(&rt, alloc, Operator::ShiftLeft, (1, -1), Err(4), Err(4))?;
+    computes(
+        &rt,
+        alloc,
+        Operator::ShiftLeft,
+        (1, 63),
+        Err(OutOfRange),
+        Err(OutOfRange),
+    )?;
+    computes(
+        &rt,
+        alloc,
+        Operator::ShiftLeft,
+        (1, -1),
+        Err(OutOfRange),
+        Err(OutOfRange),
+    )?;
     computes(
         &rt,
         alloc,
@@ -147,7 +189,14 @@ fn shifts(rt: HostRuntime) -> Result<(), Fail> {
         Ok(-2147483648),
     )?;
     computes(&rt, alloc, Operator::ShiftRight, (-8, 1), Ok(-4), Ok(-4))?;
-    computes(&rt, alloc, Operator::ShiftRight, (8, 64), Err(4), Err(4))?;
+    computes(
+        &rt,
+        alloc,
+        Operator::ShiftRight,
+        (8, 64),
+        Err(OutOfRange),
+        Err(OutOfRange),
+    )?;
     Ok(())
 }
 
@@ -240,7 +289,7 @@ fn bounds(rt: HostRuntime) -> Result<(), Fail> {
             Instr::Return(0),
         ];
         let ran = run(rt.alloc(), &body, &[], 100, LIMIT)?;
-        assert_eq!(rt; ran.trap(), Some((2, 3)), "at {index}");
+        assert_eq!(rt; ran.trap(), Some((IndexOutOfBounds, 3)), "at {index}");
     }
     Ok(())
 }
@@ -262,7 +311,7 @@ fn frees_and_takes_again(rt: HostRuntime) -> Result<(), Fail> {
     ];
     let ran = run(rt.alloc(), &body, &[], 100, LIMIT)?;
     assert_eq!(rt; ran.printed, [Some(1), None, None]);
-    assert_eq!(rt; ran.trap(), Some((1, 8)));
+    assert_eq!(rt; ran.trap(), Some((NullPointer, 8)));
     assert_eq!(rt; ran.top, 13);
     Ok(())
 }
@@ -276,7 +325,7 @@ fn heap_full(rt: HostRuntime) -> Result<(), Fail> {
         Instr::Return(0),
     ];
     let ran = run(rt.alloc(), &body, &[], 100, LIMIT)?;
-    assert_eq!(rt; ran.trap(), Some((9, 2)));
+    assert_eq!(rt; ran.trap(), Some((HeapFull, 2)));
     Ok(())
 }
 
@@ -297,7 +346,7 @@ fn widths(rt: HostRuntime) -> Result<(), Fail> {
         let ran = run(rt.alloc(), &body, &[], 100, LIMIT)?;
         assert_eq!(rt;
             ran.trap(),
-            if fits { None } else { Some((4, 3)) },
+            if fits { None } else { Some((OutOfRange, 3)) },
             "of {value}"
         );
     }

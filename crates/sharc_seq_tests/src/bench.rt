@@ -9,6 +9,7 @@ use sharc_code::{Code, Function, Instr, Layout, Parameter, Shape, TOP, Text, ope
 use sharc_cpu::{Pause, Stop, Thread, Wait, run_quantum};
 use sharc_tree::name::Names;
 use sharc_tree::token::Site;
+use sharc_tree::trap::Trap;
 use sharc_word::{MemPort, Port, THREADS, WordOp, WordStep};
 use std::alloc::{AllocError, Global};
 
@@ -104,10 +105,10 @@ pub fn add_prints(mut printed: Printed, thread: &Thread) -> Printed {
     printed
 }
 
-/// The X at which a thread stopped, and its site.
-pub fn trap_of(stop: Option<Stop>) -> Option<(u8, u32)> {
+/// The trap at which a thread stopped, and its site.
+pub fn trap_of(stop: Option<Stop>) -> Option<(Trap, u32)> {
     match stop {
-        Some(Stop::Trap(number, site)) => Some((number, site)),
+        Some(Stop::Trap(trap, site)) => Some((trap, site)),
         _ => None,
     }
 }
@@ -125,8 +126,8 @@ pub struct Seen {
 }
 
 impl Seen {
-    /// The X at which thread 0 stopped, and its site.
-    pub fn trap(&self) -> Option<(u8, u32)> {
+    /// The trap at which thread 0 stopped, and its site.
+    pub fn trap(&self) -> Option<(Trap, u32)> {
         trap_of(self.stops.0)
     }
 }

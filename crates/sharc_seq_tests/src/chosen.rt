@@ -6,6 +6,7 @@ ghost use Rattle.sharc_code.specs.Layout.{Fits};
 use crate::bench::{LIMIT, Printed, add_prints, code, function, shape, trap_of};
 use sharc_code::{Cell, Code, Function, Instr, Operator, Parameter, Register, Shape, Stop};
 use sharc_seq::{Chooser, End, SeqRun, run_seq, seeded};
+use sharc_tree::trap::Trap;
 use std::alloc::{AllocError, Global};
 use std::process::Abort;
 use std::test::Fail;
@@ -25,7 +26,7 @@ struct Chosen {
     end: End,
     printed: Printed,
     threads: usize,
-    trap: Option<(u8, u32)>,
+    trap: Option<(Trap, u32)>,
     turns: usize,
     as_expected: bool,
 }
@@ -212,7 +213,7 @@ fn ends(rt: HostRuntime) -> Result<(), Fail> {
         b"000",
     )?;
     assert_eq!(rt; ran.end, End::AllDone);
-    assert_eq!(rt; ran.trap, Some((1, 4)));
+    assert_eq!(rt; ran.trap, Some((Trap::NullPointer, 4)));
     let ran = run(rt.alloc(), &[Instr::Return(4)], &[], Choice::First, 0, b"")?;
     assert_eq!(rt; ran.end, End::Budget);
     assert!(rt; ran.as_expected);

@@ -3,13 +3,14 @@
 use crate::bench::{LIMIT, run};
 use sharc_code::{Cell, Instr, Operator};
 use sharc_cpu::Pause;
+use sharc_tree::trap::Trap;
 use std::process::Abort;
 use std::test::Fail;
 
 // This many calls are nested, besides that of `main`.
 #[test]
 fn frames(rt: HostRuntime) -> Result<(), Fail> {
-    for (calls, trap) in [(255, None), (256, Some((10, 5)))] {
+    for (calls, trap) in [(255, None), (256, Some((Trap::CallDepth, 5)))] {
         let body = [
             Instr::Constant(1, calls),
             Instr::Call(5, 1, 1, 5),
@@ -30,7 +31,7 @@ fn frames(rt: HostRuntime) -> Result<(), Fail> {
 // This many mutexes are taken, and given back.
 #[test]
 fn mutexes(rt: HostRuntime) -> Result<(), Fail> {
-    for (mutexes, trap) in [(16u32, None), (17, Some((13, 7)))] {
+    for (mutexes, trap) in [(16u32, None), (17, Some((Trap::TooManyLocks, 7)))] {
         let mut body = Vec::new(rt.alloc());
         for mutex in 0..mutexes {
             body.push(Instr::ChkNotHeld(Cell::Global(0, 2 + mutex), 6))?;
@@ -60,11 +61,11 @@ fn held(rt: HostRuntime) -> Result<(), Fail> {
     ];
     let kept = [lock, Instr::Return(11)];
     let ran = run(rt.alloc(), &unheld, &[], 100, LIMIT)?;
-    assert_eq!(rt; ran.trap(), Some((5, 5)));
+    assert_eq!(rt; ran.trap(), Some((Trap::MutexNotHeld, 5)));
     let ran = run(rt.alloc(), &twice, &[], 100, LIMIT)?;
-    assert_eq!(rt; ran.trap(), Some((6, 6)));
+    assert_eq!(rt; ran.trap(), Some((Trap::MutexAlreadyHeld, 6)));
     let ran = run(rt.alloc(), &kept, &[], 100, LIMIT)?;
-    assert_eq!(rt; ran.trap(), Some((11, 11)));
+    assert_eq!(rt; ran.trap(), Some((Trap::ReturnWithLockHeld, 11)));
     Ok(())
 }
 

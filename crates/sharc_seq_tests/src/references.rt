@@ -3,6 +3,7 @@
 use crate::bench::{LIMIT, Seen, run};
 use sharc_code::{Cell, Instr};
 use sharc_cpu::{Pause, Stop};
+use sharc_tree::trap::Trap;
 use std::alloc::{AllocError, Global};
 use std::process::Abort;
 use std::test::Fail;
@@ -81,7 +82,7 @@ fn takes_null(rt: HostRuntime) -> Result<(), Fail> {
         20,
         LIMIT,
     )?;
-    assert_eq!(rt; ran.trap(), Some((1, 6)));
+    assert_eq!(rt; ran.trap(), Some((Trap::NullPointer, 6)));
     // Start two, the Take, and the stop.
     assert_eq!(rt; ran.made, 4);
     Ok(())
@@ -119,8 +120,8 @@ fn free_walks(rt: HostRuntime) -> Result<(), Fail> {
 fn global_bounds(rt: HostRuntime) -> Result<(), Fail> {
     for (index, printed, trap) in [
         (2, Some(8), None),
-        (3, None, Some((2, 5))),
-        (-1, None, Some((2, 5))),
+        (3, None, Some((Trap::IndexOutOfBounds, 5))),
+        (-1, None, Some((Trap::IndexOutOfBounds, 5))),
     ] {
         let body = [
             Instr::Constant(0, index),
@@ -159,6 +160,6 @@ fn lock_behind_a_pointer(rt: HostRuntime) -> Result<(), Fail> {
         Instr::ChkLockLoaded(5),
     ];
     let ran = after_both(rt.alloc(), &null)?;
-    assert_eq!(rt; ran.trap(), Some((1, 5)));
+    assert_eq!(rt; ran.trap(), Some((Trap::NullPointer, 5)));
     Ok(())
 }

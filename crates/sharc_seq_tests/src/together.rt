@@ -4,6 +4,7 @@ use crate::bench::{LIMIT, function, run};
 use sharc_code::{Cell, Instr, Parameter, Register};
 use sharc_cpu::{Pause, Stop, Wait};
 use sharc_shadow::Kind;
+use sharc_tree::trap::Trap;
 use std::process::Abort;
 use std::test::Fail;
 
@@ -39,7 +40,7 @@ fn joins_nobody(rt: HostRuntime) -> Result<(), Fail> {
     for number in [-1, 31, 5] {
         let body = [Instr::Constant(0, number), Instr::Join(0, 4)];
         let ran = run(rt.alloc(), &body, &[], 20, LIMIT)?;
-        assert_eq!(rt; ran.trap(), Some((7, 4)), "{number}");
+        assert_eq!(rt; ran.trap(), Some((Trap::NoSuchThread, 4)), "{number}");
     }
     Ok(())
 }

@@ -7,8 +7,9 @@ use Rattle.sharc_tree.specs.declared.event.Act.TheVariants as acts
 use Rattle.sharc_tree.specs.declared.event.CellAt.{CellAt}
 use Rattle.sharc_tree.specs.declared.event.CellMode.{CellMode}
 use Rattle.sharc_tree.specs.declared.event.Taken.TheVariants as taken
+use Rattle.sharc_tree.specs.declared.trap.Trap.{Trap}
+use Rattle.sharc_tree.specs.declared.trap.Trap.TheVariants as traps
 use Rattle.sharc_meaning.specs.declared.given.GivenUp.TheVariants.{Emptied, Replaced}
-use Rattle.sharc_meaning.specs.Arithmetic.{null_base, out_of_bounds, out_of_range, mutex_not_held, mutex_already_held, calls_too_deep, returns_with_a_lock, size_not_positive, too_many_locks}
 use Rattle.sharc_meaning.specs.Events.{held_mutexes, holds_mutex}
 use Rattle.sharc_meaning.specs.Meaning.{Asked}
 use Rattle.sharc_meaning.specs.Reference.{is_null, elements_of, number_of}
@@ -58,26 +59,26 @@ module _ (v : ℤ) where
   cond_freed true x y m p q = p
   cond_freed false x y m p q = q
 
-  asserts_freed : (b : Bool) (code : ℕ) (spot : Spot) (m : At) → IsFreed m v (asserts b code spot m)
-  asserts_freed b code spot m = cond_freed b (goes_on m) (stops code spot) m tt tt
+  asserts_freed : (b : Bool) (trap : Trap) (spot : Spot) (m : At) → IsFreed m v (asserts b trap spot m)
+  asserts_freed b trap spot m = cond_freed b (goes_on m) (stops trap spot) m tt tt
 
-  result_freed : (i : ℕ) (spot : Spot) (m : At) (r : Result ℤ ℕ) → IsFreed m v (with_result i spot m r)
+  result_freed : (i : ℕ) (spot : Spot) (m : At) (r : Result ℤ Trap) → IsFreed m v (with_result i spot m r)
   result_freed i spot m (Ok x) = tt
   result_freed i spot m (Err code) = tt
 
   indexed_freed : (i cells field : ℕ) (x : ℤ) (elements : ℕ) (spot : Spot) (m : At) → IsFreed m v (indexed i cells field x elements spot m)
-  indexed_freed i cells field (pos n) elements spot m = cond_freed (nat_lt n elements) (goes_on (set_int i (pos (n * cells + field)) m)) (stops out_of_bounds spot) m tt tt
+  indexed_freed i cells field (pos n) elements spot m = cond_freed (nat_lt n elements) (goes_on (set_int i (pos (n * cells + field)) m)) (stops traps.IndexOutOfBounds spot) m tt tt
   indexed_freed i cells field (negsuc n) elements spot m = tt
 
   accesses_freed : (globals : List GlobalCells) (cell : Cell) (spot : Spot) (act : CellAt → CellMode → Act) (then_ : CellAt → ℤ → At → At) (m : At) → ((c : CellAt) (mode : CellMode) → is_freed (act c mode) ≡ false)
       → IsFreed m v (accesses globals cell spot act then_ m)
   accesses_freed globals cell spot act then_ m differs =
-      cond_freed (lock_is_null m spot spot.mode) (stops null_base spot)
+      cond_freed (lock_is_null m spot spot.mode) (stops traps.NullPointer spot)
       (asks m spot.site (act (cell_at globals m cell) (mode_of globals m (cell_at globals m cell) spot.mode)) (pos 0) (λ x n. accessed (next (then_ (cell_at globals m cell) x n)))) m tt
       (other m m (act (cell_at globals m cell) (mode_of globals m (cell_at globals m cell) spot.mode)) (differs (cell_at globals m cell) (mode_of globals m (cell_at globals m cell) spot.mode)))
 
   returned_freed : (flat : Flat) (frames : List Caller) (spot : Spot) (m : At) → IsFreed m v (returned flat frames spot m)
-  returned_freed flat [] spot m = cond_freed (not (nat_lt 0 (length (held_mutexes m.events)))) (goes (record m { pc = length flat.lines })) (stops returns_with_a_lock spot) m tt tt
+  returned_freed flat [] spot m = cond_freed (not (nat_lt 0 (length (held_mutexes m.events)))) (goes (record m { pc = length flat.lines })) (stops traps.ReturnWithLockHeld spot) m tt tt
   returned_freed flat (c ∷ rest) spot m = tt
 
   takes_freed : (r x : ℕ) (spot : Spot) (m : At) (b : Bool) → IsFreed m v (takes_local r x spot m b)
@@ -90,14 +91,14 @@ module _ (v : ℤ) where
   op_freed : (flat : Flat) (o : Op) (m : At) → IsFreed m v (op_turn flat o m)
   op_freed flat (op.Compute width o i a b spot) m = result_freed i spot m (computed width o (int m a) (int m b))
   op_freed flat (op.Negate width i a spot) m = result_freed i spot m (negated width (int m a))
-  op_freed flat (op.ChkWidth width i spot) m = asserts_freed (holds width (int m i)) out_of_range spot m
-  op_freed flat (op.Call f ints refs spot) m = cond_freed (nat_lt (length m.frames) 255) (goes (called flat f ints refs m)) (stops calls_too_deep spot) m tt tt
+  op_freed flat (op.ChkWidth width i spot) m = asserts_freed (holds width (int m i)) traps.OutOfRange spot m
+  op_freed flat (op.Call f ints refs spot) m = cond_freed (nat_lt (length m.frames) 255) (goes (called flat f ints refs m)) (stops traps.CallDepth spot) m tt tt
   op_freed flat (op.Return spot) m = returned_freed flat m.frames spot m
-  op_freed flat (op.ChkNull r spot) m = asserts_freed (not (is_null (ref m r))) null_base spot m
-  op_freed flat (op.ChkPositive i spot) m = asserts_freed (is_positive (int m i)) size_not_positive spot m
-  op_freed flat (op.ChkHeld cell spot) m = asserts_freed (holds_mutex m.events (cell_at flat.globals m cell)) mutex_not_held spot m
-  op_freed flat (op.ChkNotHeld cell spot) m = asserts_freed (not (holds_mutex m.events (cell_at flat.globals m cell))) mutex_already_held spot m
-  op_freed flat (op.ChkRoom spot) m = asserts_freed (nat_lt (length (held_mutexes m.events)) 16) too_many_locks spot m
+  op_freed flat (op.ChkNull r spot) m = asserts_freed (not (is_null (ref m r))) traps.NullPointer spot m
+  op_freed flat (op.ChkPositive i spot) m = asserts_freed (is_positive (int m i)) traps.SizeNotPositive spot m
+  op_freed flat (op.ChkHeld cell spot) m = asserts_freed (holds_mutex m.events (cell_at flat.globals m cell)) traps.MutexNotHeld spot m
+  op_freed flat (op.ChkNotHeld cell spot) m = asserts_freed (not (holds_mutex m.events (cell_at flat.globals m cell))) traps.MutexAlreadyHeld spot m
+  op_freed flat (op.ChkRoom spot) m = asserts_freed (nat_lt (length (held_mutexes m.events)) 16) traps.TooManyLocks spot m
   op_freed flat (op.Bounds i r cells field spot) m = indexed_freed i cells field (int m i) (elements_of (ref m r)) spot m
   op_freed flat (op.GlobalBounds i elements cells field spot) m = indexed_freed i cells field (int m i) elements spot m
   op_freed flat (op.Load i cell spot) m = accesses_freed flat.globals cell spot acts.Read (λ c x. set_int i x) m (λ c mode. refl)

@@ -1,22 +1,23 @@
 -- What the front end makes of a source: the program that it is, with the least assignment of modes, or the reason why it is refused.
-use Rattle.std.specs.Prelude.{◌≡◌, ℕ, List, Result, Ok, Err, IsSome}
+use Rattle.std.specs.Prelude.{◌≡◌, ℕ, List, Result, Ok, Err}
 use Rattle.sharc_tree.specs.declared.token.FaultAt.{FaultAt}
 use Rattle.sharc_tree.specs.declared.token.Tokens.{Tokens}
 use Rattle.sharc_tree.specs.Tree.{Program}
 use Rattle.sharc_lex.specs.Grammar.{reading}
+use Rattle.sharc_grammar.specs.declared.fault.GrammarFault.{GrammarFault}
 use Rattle.sharc_grammar.specs.Places.{Reads}
+use Rattle.sharc_names.specs.declared.fault.FaultCode.{FaultCode}
 use Rattle.sharc_parse.specs.Programs as parser
 use Rattle.sharc_ctype.specs.Resolved.{Resolution, IsResolved}
 use Rattle.sharc_ctype.specs.Typings as typing
 use Rattle.sharc_reach.specs.Reaching.{AreReached}
 use Rattle.sharc_mode.specs.Flows.{IsLeastAssignment}
 use Rattle.sharc_mode.specs.Moded.{Assignment}
-use Rattle.sharc_report.specs.Refusals.{message_of}
-use Rattle.sharc_report.specs.declared.refusal.Stage.{Stage}
-use Rattle.sharc_report.specs.declared.refusal.Stage.TheVariants.{Lexer, Parser, Typing}
+use Rattle.sharc_report.specs.declared.refusal.SourceFault.{SourceFault}
+use Rattle.sharc_report.specs.declared.refusal.SourceFault.TheVariants.{Lexer, Parser, Typing}
 use Rattle.sharc_sound.specs.declared.program.ReachedProgram.{ReachedProgram}
 use Rattle.sharc_sound.specs.declared.program.Refusal.{Refusal}
-use Rattle.sharc_sound.specs.declared.program.Refusal.TheVariants.{Source, Modes, Memory}
+use Rattle.sharc_sound.specs.declared.program.Refusal.TheVariants.{Source, Memory}
 
 -- its tokens are those of the source, and the grammar reads them as the program, which is typed
 pub record IsTypedFrom (source : List ℕ) (r : Resolution) : Type 0 where
@@ -32,32 +33,26 @@ pub record IsFront (source : List ℕ) (m : Assignment) : Type 0 where
 
 -- ---- the first fault of the first stage that has one
 
-pub record IsMisread (source : List ℕ) (at : FaultAt) : Type 0 where
+pub record IsMisread (source : List ℕ) (at : FaultAt GrammarFault) : Type 0 where
   pub tokens : Tokens
   pub read : reading source ≡ Ok tokens
   pub fault : parser.IsFaultOf tokens at
 
-pub record IsMistyped (source : List ℕ) (at : FaultAt) : Type 0 where
+pub record IsMistyped (source : List ℕ) (at : FaultAt FaultCode) : Type 0 where
   pub tokens : Tokens
   pub program : Program
   pub read : reading source ≡ Ok tokens
   pub reads : Reads tokens program
   pub fault : typing.IsFaultOf program at
 
-abbrev pub IsFaultAt : List ℕ → Stage → FaultAt → Type 0
-IsFaultAt source Lexer at = reading source ≡ Err at
-IsFaultAt source Parser at = IsMisread source at
-IsFaultAt source Typing at = IsMistyped source at
+abbrev pub IsSourceFault : List ℕ → SourceFault → Type 0
+IsSourceFault source (Lexer at) = reading source ≡ Err at
+IsSourceFault source (Parser at) = IsMisread source at
+IsSourceFault source (Typing at) = IsMistyped source at
 
--- and it has a text
-pub record IsRefusedAt (source : List ℕ) (stage : Stage) (at : FaultAt) : Type 0 where
-  pub fault : IsFaultAt source stage at
-  pub told : IsSome (message_of stage at)
-
--- modes are not looked at here
+-- whether the modes are accepted is not looked at here
 abbrev pub IsRefusal : List ℕ → Refusal → Type 0
-IsRefusal source (Source f) = IsRefusedAt source f.stage f.at
-IsRefusal source (Modes m errors) = ⊥
+IsRefusal source (Source fault) = IsSourceFault source fault
 IsRefusal source Memory = Unit {0}
 
 abbrev pub Types : List ℕ → Result Resolution Refusal → Type 0

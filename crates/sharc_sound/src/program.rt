@@ -7,28 +7,17 @@ use sharc_ctype::typed::{TypeFault, Typed, type_program};
 use sharc_grammar::laws::programs_are_placed;
 use sharc_infer::infer;
 use sharc_lex::{LexFault, lex};
-use sharc_mode::error::ModeErrors;
 use sharc_mode::moded::Moded;
 use sharc_parse::{ParseFault, parse};
 use sharc_reach::{Reached, reach};
-use sharc_report::Stage;
-use sharc_tree::token::FaultAt;
+use sharc_report::SourceFault;
 use std::alloc::{AllocError, Global};
 
-/// A fault of the lexer, of the parser or of C typing.
-#[derive(Drop)]
-pub struct SourceFault {
-    pub stage: Stage,
-    pub at: FaultAt,
-}
-
-/// Why a source is refused.
+/// Why a source is no program with its modes. Whether these are accepted is not looked at.
 #[derive(Drop)]
 pub enum Refusal {
     /// The first fault of the first stage that has one.
     Source(SourceFault),
-    /// All cases of M1 to M11 that arise, and the program, which is handed back. `front` does not look for them.
-    Modes(Moded, ModeErrors),
     /// Memory was wanting.
     Memory,
 }
@@ -47,18 +36,12 @@ fn typed(alloc: Global, source: &[u8]) -> Result<Typed, Refusal>
 {
     let tokens = match lex(alloc, source) {
         Ok(tokens) => tokens,
-        Err(LexFault::At(at)) => return Err(Refusal::Source(SourceFault {
-            stage: Stage::Lexer,
-            at,
-        })),
+        Err(LexFault::At(at)) => return Err(Refusal::Source(SourceFault::Lexer(at))),
         Err(LexFault::Memory) => return Err(Refusal::Memory),
     };
     let program = match parse(alloc, tokens) {
         Ok(program) => program,
-        Err(ParseFault::At(at, _)) => return Err(Refusal::Source(SourceFault {
-            stage: Stage::Parser,
-            at,
-        })),
+        Err(ParseFault::At(at, _)) => return Err(Refusal::Source(SourceFault::Parser(at))),
         Err(ParseFault::Memory) => return Err(Refusal::Memory),
     };
     programs_are_placed();
@@ -67,10 +50,7 @@ fn typed(alloc: Global, source: &[u8]) -> Result<Typed, Refusal>
             let _resolved = typed.program();
             Ok(typed)
         }
-        Err(TypeFault::At(at)) => Err(Refusal::Source(SourceFault {
-            stage: Stage::Typing,
-            at,
-        })),
+        Err(TypeFault::At(at)) => Err(Refusal::Source(SourceFault::Typing(at))),
         Err(TypeFault::Memory) => Err(Refusal::Memory),
     }
 }

@@ -125,4 +125,4 @@ module _ (laws : RunLaws) (named : NamesAreCauses) (some : ReportsHaveNamed) (ac
         wants_it = wants_reported m code starts s placed run checked t (NotSole site count) stopped is report
             (not_first m code starts s placed run checked t (NotSole site count) stopped is report f.later f.test f.earlier f.parts (before_checked f.later f.test f.earlier f.parts) (no_test f.register site _ f.is_test));
       }
-  reported (Trap code_of_stop site) stopped is report = absurd report
+  reported (Trap trap site) stopped is report = absurd report

@@ -41,7 +41,7 @@ abbrev pub Shows : Targets → Code → Shape → Labels → List Turn → (t : 
 Shows x code s ls run t (Conflict c) = ((j : ℕ) (kind : Kind) (site : ℕ) → IsNamed (place_after code s run) t c j kind site → ShowsCause code s run t c j kind site) × HasNamed (place_after code s run) t c
 Shows x code s ls run t (NoLock site word) = ShowsLock code (history_of code s run) t ((place_after code s run).threads t) site
 Shows x code s ls run t (NotSole site count) = FindsOthers x code s ls run t site count
-Shows x code s ls run t (Trap code_of_stop site) = Unit {0}
+Shows x code s ls run t (Trap trap site) = Unit {0}
 
 -- By its events of the run the thread of the source wants what was refused, at the site of the report: an access in mode dynamic, an access under a mutex that it
 -- does not hold, or that a reference is given or freed.

@@ -1,6 +1,7 @@
 -- A source that holds a line of a schedule has two `%` in a row among its tokens, and so is no program.
 use Rattle.std.proofs.Common.{◌≡◌, ℕ, ◌+◌, ◌==◌, Bool, true, false, List, [], ◌∷◌, ◌++◌, drop, Option, Some, None, Result, Ok, Err, ok_or, is_ok, refl, sym, ap, ◌∙◌, subst, if◌then◌else◌}
 use Rattle.sharc_tree.specs.declared.token.FaultAt.{FaultAt}
+use Rattle.sharc_lex.specs.declared.fault.Fault.{Fault}
 use Rattle.sharc_tree.specs.declared.token.Token.{Token}
 use Rattle.sharc_tree.specs.declared.token.Tokens.{Tokens}
 use Rattle.sharc_tree.specs.declared.token.TokenKind.TheVariants as kind
@@ -58,11 +59,11 @@ module _ (read : Read) where
   placed_keeps (Ok more) h = h
   placed_keeps (Err e) h = tt
 
-  joined_keeps : (more : Read) (q : Result Read FaultAt) → (Fine more.tokens → Fine read.tokens) → Keeps more q → Keeps read q
+  joined_keeps : (more : Read) (q : Result Read (FaultAt Fault)) → (Fine more.tokens → Fine read.tokens) → Keeps more q → Keeps read q
   joined_keeps more (Ok last) h k = λ f. h (k f)
   joined_keeps more (Err e) h k = tt
 
-  then_keeps : (r : Result Read FaultAt) (f : Read → Result Read FaultAt) → Keeps read r → ((more : Read) → Keeps more (f more)) → Keeps read (r >>= f)
+  then_keeps : (r : Result Read (FaultAt Fault)) (f : Read → Result Read (FaultAt Fault)) → Keeps read r → ((more : Read) → Keeps more (f more)) → Keeps read (r >>= f)
   then_keeps (Ok more) f h k = joined_keeps more (f more) h (k more)
   then_keeps (Err e) f h k = tt
 
@@ -92,15 +93,15 @@ placed_refuses : (read : Read) (r : Result Read LineFault) → Refuses r → Ref
 placed_refuses read (Ok more) h = h
 placed_refuses read (Err e) h = tt
 
-kept_refuses : (more : Read) (q : Result Read FaultAt) → (Fine more.tokens → ⊥) → Keeps more q → Refuses q
+kept_refuses : (more : Read) (q : Result Read (FaultAt Fault)) → (Fine more.tokens → ⊥) → Keeps more q → Refuses q
 kept_refuses more (Ok last) h k = λ f. h (k f)
 kept_refuses more (Err e) h k = tt
 
-then_refuses : (r : Result Read FaultAt) (f : Read → Result Read FaultAt) → Refuses r → ((more : Read) → Keeps more (f more)) → Refuses (r >>= f)
+then_refuses : (r : Result Read (FaultAt Fault)) (f : Read → Result Read (FaultAt Fault)) → Refuses r → ((more : Read) → Keeps more (f more)) → Refuses (r >>= f)
 then_refuses (Ok more) f h k = kept_refuses more (f more) h (k more)
 then_refuses (Err e) f h k = tt
 
-later_refuses : (r : Result Read FaultAt) (f : Read → Result Read FaultAt) → ((more : Read) → Refuses (f more)) → Refuses (r >>= f)
+later_refuses : (r : Result Read (FaultAt Fault)) (f : Read → Result Read (FaultAt Fault)) → ((more : Read) → Refuses (f more)) → Refuses (r >>= f)
 later_refuses (Ok more) f k = k more
 later_refuses (Err e) f k = tt
 
@@ -148,11 +149,11 @@ source_refuses before after read offset =
     subst (λ l. Refuses (lines_read read offset l)) (sym (lines.is ∙ ap (λ l. lines.first ∷ (lines.others ++ l)) word.is))
     (lines_refuse (lines.first ∷ lines.others) word.tail word.others read offset)
 
-abbrev list_of : Result Tokens FaultAt → List Token
+abbrev list_of : Result Tokens (FaultAt Fault) → List Token
 list_of (Ok tokens) = tokens.list
 list_of (Err e) = []
 
-no_tokens : (r : Result Read FaultAt) (tokens : Tokens) → Refuses r → (r >>= λ read. Ok (tokens_read read)) ≡ Ok tokens → Fine tokens.list → ⊥
+no_tokens : (r : Result Read (FaultAt Fault)) (tokens : Tokens) → Refuses r → (r >>= λ read. Ok (tokens_read read)) ≡ Ok tokens → Fine tokens.list → ⊥
 no_tokens (Ok read) tokens refuses e h = refuses (subst Fine (sym (ap list_of e)) h)
 no_tokens (Err fault) tokens refuses e h = absurd (let no : false ≡ true = ap is_ok e in cc)
 

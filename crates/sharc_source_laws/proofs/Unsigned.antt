@@ -249,15 +249,15 @@ lines_plain : (lines : List (List ℕ)) (read : Read) → Plainly (words_of read
 lines_plain [] read h offset = h
 lines_plain (line ∷ lines) read h offset = joined (line_read read offset line) _ (line_plain read h offset line) (λ more k. lines_plain lines more k _)
   where
-    joined : (r : Result Read LineFault) (f : Read → Result Read FaultAt) → WhereAll r → ((more : Read) → Plainly (words_of more.tokens) → WhereAll (f more)) → WhereAll (with_place read r >>= f)
+    joined : (r : Result Read LineFault) (f : Read → Result Read (FaultAt Fault)) → WhereAll r → ((more : Read) → Plainly (words_of more.tokens) → WhereAll (f more)) → WhereAll (with_place read r >>= f)
     joined (Ok more) f h all = all more h
     joined (Err e) f h all = tt
 
-abbrev list_of : Result Tokens FaultAt → List Token
+abbrev list_of : Result Tokens (FaultAt Fault) → List Token
 list_of (Ok tokens) = tokens.list
 list_of (Err e) = []
 
-listed_plain : (r : Result Read FaultAt) → WhereAll r → Plainly (words_of (list_of (r >>= λ read. Ok (tokens_read read))))
+listed_plain : (r : Result Read (FaultAt Fault)) → WhereAll r → Plainly (words_of (list_of (r >>= λ read. Ok (tokens_read read))))
 listed_plain (Ok read) h = h
 listed_plain (Err e) h = tt
 

@@ -14,6 +14,7 @@ use Rattle.sharc_ctype.specs.Resolved.{named_at}
 use Rattle.sharc_ctype.specs.Transfers.{parameters_named}
 use Rattle.sharc_mode.specs.declared.error.Cast.{Cast}
 use Rattle.sharc_mode.specs.declared.error.ModeError.{ModeError}
+use Rattle.sharc_mode.specs.Errors.{is_mismatch}
 use Rattle.sharc_mode.specs.Moded.{Assignment}
 use Rattle.sharc_suggest.specs.Casts.{casts_of, casts_of_all, items_casts, cast_for, of_option}
 use Rattle.sharc_suggest.specs.Firsts.{CastRows, HasFirst, row_for}
@@ -31,7 +32,7 @@ pub casts_are : (m : Assignment) (flags : List Bool) (before after : List Cast) 
 casts_are m flags before after items none items_is is = is ∙ ap (λ c. c ++ items_casts m (told flags) items) none ∙ ap (items_casts m (told flags)) items_is
 
 row_is : (casts : List Cast) (rows : CastRows) → HasFirst casts rows → (e : ModeError) → row_for rows e ≡ cast_for casts e
-row_is casts rows first e = ap (λ o. cond (e.code == 1) o None) (first e.site.token)
+row_is casts rows first e = ap (λ o. cond (is_mismatch e.code) o None) (first e.site.token)
 
 -- by the table what is suggested for each of a list of errors
 pub all_suggested : (casts slice answer : List Cast) (rows : CastRows) (errors list : List ModeError) → slice ≡ casts → list ≡ errors → HasFirst slice rows → answer ≡ flat_map (λ e. of_option (row_for rows e)) list

@@ -9,6 +9,7 @@ use Rattle.sharc_ctype.specs.Resolved.{named_at}
 use Rattle.sharc_ctype.specs.Transfers.{parameters_named}
 use Rattle.sharc_mode.specs.declared.error.Cast.{Cast}
 use Rattle.sharc_mode.specs.declared.error.ModeError.{ModeError}
+use Rattle.sharc_mode.specs.Errors.{is_mismatch}
 use Rattle.sharc_mode.specs.Expressions.{expected}
 use Rattle.sharc_mode.specs.Moded.{Assignment}
 use Rattle.sharc_mode.specs.Notes.{is_named}
@@ -134,7 +135,7 @@ cast_at (c ∷ rest) token = if c.site.token == token then Some c else cast_at r
 
 -- the one for an error: of an M1, at its place, which is the first token of the expression found
 abbrev pub cast_for : List Cast → ModeError → Option Cast
-cast_for casts e = if e.code == 1 then cast_at casts e.site.token else None
+cast_for casts e = if is_mismatch e.code then cast_at casts e.site.token else None
 
 -- a program's cast for an error
 pub record IsSuggested (m : Assignment) (e : ModeError) (answer : Option Cast) : Type 0 where

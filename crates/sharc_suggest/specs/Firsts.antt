@@ -3,6 +3,7 @@ use Rattle.std.specs.Prelude.{◌≡◌, ℕ, ◌==◌, List, Option, Some, None
 use Rattle.std.specs.Borrow.{Bor}
 use Rattle.std.specs.Map.{lookup}
 use Rattle.sharc_mode.specs.declared.error.Cast.{Cast}
+use Rattle.sharc_mode.specs.Errors.{is_mismatch}
 use Rattle.sharc_mode.specs.declared.error.ModeError.{ModeError}
 use Rattle.sharc_suggest.specs.Casts.{cast_at}
 
@@ -20,4 +21,4 @@ abbrev pub HasFirst : List Cast → CastRows → Type 0
 HasFirst casts rows = (token : ℕ) → row_at rows token ≡ cast_at casts token
 
 abbrev pub row_for : CastRows → ModeError → Option Cast
-row_for rows e = if e.code == 1 then row_at rows e.site.token else None
+row_for rows e = if is_mismatch e.code then row_at rows e.site.token else None

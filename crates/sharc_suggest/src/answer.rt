@@ -62,7 +62,7 @@ fn copy_cast(alloc: Global, cast: &Cast) -> Result<Cast, AllocError>
 fn found<'a>(first: &IndexMap<u32, &'a Cast>, error: &ModeError) -> Option<&'a Cast>
     ensures { option_copied result ≡ row_for first.now.entries error.now }
 {
-    if error.code != 1 {
+    if !error.code.is_mismatch() {
         return None;
     }
     match first.get(&error.site.token) {

@@ -6,6 +6,7 @@ use Rattle.sharc_tree.specs.declared.token.Span.{Span}
 use Rattle.sharc_tree.specs.Spans.{span_of}
 use Rattle.sharc_tree.specs.Tree.{Expression}
 use Rattle.sharc_ctype.specs.Resolved.{Resolution, kind_at}
+use Rattle.sharc_mode.specs.declared.error.ErrorCode.TheVariants.{ModeMismatch, NamedByLockPath}
 use Rattle.sharc_mode.specs.declared.error.ModeError.{ModeError}
 use Rattle.sharc_mode.specs.declared.finding.Finding.{Finding}
 use Rattle.sharc_mode.specs.declared.finding.Finding.TheVariants.{Wrong, Names, Takes}
@@ -31,7 +32,7 @@ one_by false = let fits : 0 + 0 ≤ 0 = omega arith in fits
 least : (n : ℕ) → 0 ≤ n
 least n = omega arith
 
-unless_by : (t : ℕ) (r : Resolution) (s : Span) (b : Base) (want found : List Sharing) (same : Bool) → ones t (cond same [] (mismatch 1 s (shown r b want) (shown r b found) ∷ [])) ≤ count_of (s.first.token == t)
+unless_by : (t : ℕ) (r : Resolution) (s : Span) (b : Base) (want found : List Sharing) (same : Bool) → ones t (cond same [] (mismatch ModeMismatch s (shown r b want) (shown r b found) ∷ [])) ≤ count_of (s.first.token == t)
 unless_by t r s b want found true = least (count_of (s.first.token == t))
 unless_by t r s b want found false = one_by (s.first.token == t)
 
@@ -73,7 +74,7 @@ told_append t (e ∷ xs) ys =
     let sum : told_at t (e ∷ (xs ++ ys)) ≡ told_at t (e ∷ xs) + told_at t ys = omega (arith, here, more, first) in
     sum
 
-taken_by : (t : ℕ) (r : Resolution) (s : Span) (x : ℕ) (b : Bool) → told_at t (flat_map error_of (error_where b 10 s (text_at r x))) ≡ 0
+taken_by : (t : ℕ) (r : Resolution) (s : Span) (x : ℕ) (b : Bool) → told_at t (flat_map error_of (error_where b NamedByLockPath s (text_at r x))) ≡ 0
 taken_by t r s x true = refl
 taken_by t r s x false = refl
 

@@ -15,9 +15,12 @@ use Rattle.sharc_tree.specs.Spans.{span_of}
 use Rattle.sharc_tree.specs.Tree.{Expression, Arguments, Function}
 use Rattle.sharc_ctype.specs.declared.entity.Numbered.{Numbered}
 use Rattle.sharc_ctype.specs.Resolved.{Resolution, named_at}
+use Rattle.sharc_mode.specs.declared.error.ErrorCode.{ErrorCode}
+use Rattle.sharc_mode.specs.declared.error.ErrorCode.TheVariants.{ReadonlyWrite, PrivateTarget, PrivateField, PrivateReachesThread, CastChangesInnerMode, ReadonlySource}
 use Rattle.sharc_mode.specs.declared.finding.Finding.{Finding}
 use Rattle.sharc_mode.specs.declared.finding.Finding.TheVariants.{Wrong, Names, Takes}
 use Rattle.sharc_mode.specs.Cells.{cell_at, top_of}
+use Rattle.sharc_mode.specs.Errors.{is_mismatch}
 use Rattle.sharc_mode.specs.Expressions.{place_notes}
 use Rattle.sharc_mode.specs.Moded.{Assignment}
 use Rattle.sharc_mode.specs.Notes.{span_text, error_where, write_notes, private_notes, path_notes, mode_notes, is_private_level, is_field_role, private_field_notes, names_of, names_in, names_in_all, names_in_level, type_notes, unmet_notes, first_unmet, names_read, parameter_names, names_at_call, call_notes, cast_notes, taken_variable, takes, source_notes, sibling_notes, field_notes, levels_of, printed_type, mismatch, shown}
@@ -55,14 +58,14 @@ no_count : (b : Bool) (n k : ℕ) → b ≡ false → cond b n k + 0 ≡ k
 no_count true n k other = absurd (true≢false other)
 no_count false n k other = let same : k + 0 ≡ k = omega arith in same
 
-where_quiet : (t : ℕ) (wrong : Bool) (code : ℕ) (s : Span) (subject : List ℕ) → (code == 1) ≡ false → ones t (error_where wrong code s subject) ≡ 0
-where_quiet t true code s subject other = no_count ((code == 1) && (s.first.token == t)) 1 0 (and_left (code == 1) (s.first.token == t) other)
+where_quiet : (t : ℕ) (wrong : Bool) (code : ErrorCode) (s : Span) (subject : List ℕ) → is_mismatch code ≡ false → ones t (error_where wrong code s subject) ≡ 0
+where_quiet t true code s subject other = no_count (is_mismatch code && (s.first.token == t)) 1 0 (and_left (is_mismatch code) (s.first.token == t) other)
 where_quiet t false code s subject other = refl
 
 -- ---- of expressions
 
 pub write_quiet : (t : ℕ) (m : Assignment) (u : Expression) → ones t (write_notes m u) ≡ 0
-write_quiet t m u = where_quiet t (is_readonly (cell_at m u)) 2 (span_of u) (span_text m.typed (span_of u)) refl
+write_quiet t m u = where_quiet t (is_readonly (cell_at m u)) ReadonlyWrite (span_of u) (span_text m.typed (span_of u)) refl
 
 takes_quiet : (t : ℕ) (s : Span) (x : Option ℕ) → ones t (takes s x) ≡ 0
 takes_quiet t s None = refl
@@ -70,15 +73,15 @@ takes_quiet t s (Some x) = refl
 
 pub source_quiet : (t : ℕ) (m : Assignment) (a : Expression) → ones t (source_notes m a) ≡ 0
 source_quiet t m a =
-    both_quiet t (error_where (is_readonly (cell_at m a)) 9 (span_of a) (span_text m.typed (span_of a))) (takes (span_of a) (taken_variable m.typed (without_parentheses a)))
-    (where_quiet t (is_readonly (cell_at m a)) 9 (span_of a) (span_text m.typed (span_of a)) refl) (takes_quiet t (span_of a) (taken_variable m.typed (without_parentheses a)))
+    both_quiet t (error_where (is_readonly (cell_at m a)) ReadonlySource (span_of a) (span_text m.typed (span_of a))) (takes (span_of a) (taken_variable m.typed (without_parentheses a)))
+    (where_quiet t (is_readonly (cell_at m a)) ReadonlySource (span_of a) (span_text m.typed (span_of a)) refl) (takes_quiet t (span_of a) (taken_variable m.typed (without_parentheses a)))
 
 pub place_quiet : (t : ℕ) (m : Assignment) (w : PlaceCall) (a : Expression) → ones t (place_notes m w a) ≡ 0
 place_quiet t m Lock a = refl
 place_quiet t m Unlock a = refl
 place_quiet t m Free a = source_quiet t m a
 
-deep_by : (t : ℕ) (r : Resolution) (s : Span) (b : Base) (to from : List Sharing) (same : Bool) → ones t (cond same [] (mismatch 8 s (shown r b to) (shown r b from) ∷ [])) ≡ 0
+deep_by : (t : ℕ) (r : Resolution) (s : Span) (b : Base) (to from : List Sharing) (same : Bool) → ones t (cond same [] (mismatch CastChangesInnerMode s (shown r b to) (shown r b from) ∷ [])) ≡ 0
 deep_by t r s b to from true = refl
 deep_by t r s b to from false = refl
 
@@ -130,7 +133,7 @@ field_quiet t r s x modes = if_quiet t (list_any (is_sibling r) modes) (sibling_
 -- ---- of types
 
 private_quiet : (t : ℕ) (m : Assignment) (n : Numbered) → ones t (private_notes m n) ≡ 0
-private_quiet t m n = if_quiet t (holds_private (levels_of m n)) (mismatch 3 n.entity.written.span (printed_type m n) (printed_type m n) ∷ []) refl
+private_quiet t m n = if_quiet t (holds_private (levels_of m n)) (mismatch PrivateTarget n.entity.written.span (printed_type m n) (printed_type m n) ∷ []) refl
 
 path_quiet : (t : ℕ) (s : Span) (p : Option Path) → ones t (path_notes s p) ≡ 0
 path_quiet t s None = refl
@@ -142,8 +145,8 @@ mode_quiet t s (Some p) = refl
 
 private_field_quiet : (t : ℕ) (r : Resolution) (n : Numbered) → ones t (private_field_notes r n) ≡ 0
 private_field_quiet t r n =
-    if_quiet t (is_field_role n.entity.role) (error_where (list_any is_private_level n.entity.written.ctype.levels) 6 n.entity.written.span (text_at r n.entity.token))
-    (where_quiet t (list_any is_private_level n.entity.written.ctype.levels) 6 n.entity.written.span (text_at r n.entity.token) refl)
+    if_quiet t (is_field_role n.entity.role) (error_where (list_any is_private_level n.entity.written.ctype.levels) PrivateField n.entity.written.span (text_at r n.entity.token))
+    (where_quiet t (list_any is_private_level n.entity.written.ctype.levels) PrivateField n.entity.written.span (text_at r n.entity.token) refl)
 
 level_quiet : (t : ℕ) (r : Resolution) (level : Option Mode) → ones t (names_in_level r level) ≡ 0
 level_quiet t r None = refl
@@ -169,7 +172,7 @@ types_quiet t m list = all_quiet t (type_notes m) (type_quiet t m) list
 -- ---- of what threads get
 
 parameter_quiet : (t : ℕ) (m : Assignment) (name : List ℕ) (d : Declaration) → ones t (parameter_notes m name d) ≡ 0
-parameter_quiet t m name d = where_quiet t (has_private_target (modes_of m (declared_row m.typed written d.name.site.token))) 7 d.written.span name refl
+parameter_quiet t m name d = where_quiet t (has_private_target (modes_of m (declared_row m.typed written d.name.site.token))) PrivateReachesThread d.written.span name refl
 
 pub spawned_quiet : (t : ℕ) (m : Assignment) (n : ℕ) (list : List Function) → ones t (spawned_notes m n list) ≡ 0
 spawned_quiet t m n [] = refl
@@ -182,5 +185,5 @@ pub touched_quiet : (t : ℕ) (touched : ℕ → Bool) (n : ℕ) (list : List Gl
 touched_quiet t touched n [] = refl
 touched_quiet t touched n (g ∷ rest) =
     let wrong : Bool = touched n && is_private_level (top_of g.declaration.written.ctype.levels) in
-    both_quiet t (error_where wrong 7 g.declaration.written.span g.declaration.name.text) (touched_notes touched (n + 1) rest)
-    (where_quiet t wrong 7 g.declaration.written.span g.declaration.name.text refl) (touched_quiet t touched (n + 1) rest)
+    both_quiet t (error_where wrong PrivateReachesThread g.declaration.written.span g.declaration.name.text) (touched_notes touched (n + 1) rest)
+    (where_quiet t wrong PrivateReachesThread g.declaration.written.span g.declaration.name.text refl) (touched_quiet t touched (n + 1) rest)

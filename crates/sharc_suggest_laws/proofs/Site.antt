@@ -2,6 +2,7 @@
 use Rattle.std.proofs.Common.{◌≡◌, ℕ, ◌==◌, Bool, true, false, cond, ◌⊎◌, inl, inr, List, [], ◌∷◌, ◌++◌, Option, Some, None, refl, ap, sym, subst, ◌∙◌, eqb-true}
 use Rattle.sharc_mode.specs.declared.error.Cast.{Cast}
 use Rattle.sharc_mode.specs.declared.error.ModeError.{ModeError}
+use Rattle.sharc_mode.specs.Errors.{is_mismatch}
 use Rattle.sharc_mode.specs.Moded.{Assignment}
 use Rattle.sharc_mode.specs.Rows.{modes_at}
 use Rattle.sharc_mode.specs.Sharings.{Sharing}
@@ -106,7 +107,7 @@ pub record HasSite (m : Assignment) (e : ModeError) (c : Cast) (says : IsSuggest
 
 pub has_site : (m : Assignment) (e : ModeError) (c : Cast) (says : IsSuggested m e (Some c)) → HasSite m e c says
 has_site m e c says =
-    let first : IsFirstAt c says.casts e.site.token = for_by c says.casts (e.code == 1) e.site.token (sym says.says) in
+    let first : IsFirstAt c says.casts e.site.token = for_by c says.casts (is_mismatch e.code) e.site.token (sym says.says) in
     let there : IsAmong c (items_casts m says.are.named m.typed.program.items) = subst (IsAmong c) says.are.are first.among in
     let among : IsAmong c (suggested_in m says.are.named (items_givings m.typed.program.items)) = subst (IsAmong c) (in_items m says.are.named m.typed.program.items) there in
     record { for = for_among m says.are.named c (items_givings m.typed.program.items) among; there = first.there }

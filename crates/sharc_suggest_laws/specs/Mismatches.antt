@@ -3,12 +3,13 @@ use Rattle.std.specs.Prelude.{ℕ, ◌==◌, ◌≤◌, Bool, ◌&&◌, List, le
 use Rattle.std.specs.List.{filter}
 use Rattle.sharc_tree.specs.Placed.{IsPlaced}
 use Rattle.sharc_mode.specs.declared.error.ModeError.{ModeError}
+use Rattle.sharc_mode.specs.Errors.{is_mismatch}
 use Rattle.sharc_mode.specs.Moded.{Assignment}
 use Rattle.sharc_mode.specs.WellModed.{AreModeErrors}
 
 -- an M1 at this token
 abbrev pub is_mismatch_at : ℕ → ModeError → Bool
-is_mismatch_at token e = e.code == 1 && e.site.token == token
+is_mismatch_at token e = is_mismatch e.code && e.site.token == token
 
 -- of a program at its tokens: so an M1 is determined by its place, and a cast is suggested for one M1 alone
 abbrev pub OneMismatch : Type 0

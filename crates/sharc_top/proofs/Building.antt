@@ -1,12 +1,11 @@
 -- What is written for a source of which no code is built is what the commands write that run something.
 use Rattle.std.proofs.Common.{◌≡◌, ℕ, List}
-use Rattle.sharc_tree.specs.declared.token.FaultAt.{FaultAt}
 use Rattle.sharc_mode.specs.Moded.{Assignment}
 use Rattle.sharc_code.specs.declared.code.Code.{Code}
 use Rattle.sharc_report.specs.Refusals.{refusal_line}
-use Rattle.sharc_report.specs.declared.refusal.Stage.{Stage}
+use Rattle.sharc_report.specs.declared.refusal.SourceFault.{SourceFault}
 use Rattle.sharc_run.specs.declared.run.Ran.{Ran}
-use Rattle.sharc_sound.specs.Front.{IsFront, IsFaultAt}
+use Rattle.sharc_sound.specs.Front.{IsFront, IsSourceFault}
 use Rattle.sharc_top.specs.declared.ran.RunNumbers.{RunNumbers}
 use Rattle.sharc_top.specs.declared.status.Status.{Status}
 use Rattle.sharc_top.specs.declared.status.Status.TheVariants as status
@@ -16,16 +15,16 @@ use Rattle.sharc_top.specs.Recording.{GivesSource, at_fault, by_program, not_mad
 use Rattle.sharc_top.specs.Refused.{IsModeRefusal, Refuses, source_refused, modes_refused}
 use Rattle.sharc_top.specs.Running.{not_run}
 
-pub refuses_source : (source : List ℕ) (s : Status) (text : List ℕ) (stage : Stage) (at : FaultAt) → IsFaultAt source stage at → s ≡ status.SourceRefused → text ≡ refusal_line stage at → Refuses source s text
-refuses_source source s text stage at fault e t = rw (e, t) (source_refused stage at fault)
+pub refuses_source : (source : List ℕ) (s : Status) (text : List ℕ) (fault : SourceFault) → IsSourceFault source fault → s ≡ status.SourceRefused → text ≡ refusal_line fault → Refuses source s text
+refuses_source source s text fault is e t = rw (e, t) (source_refused fault is)
 
 pub refuses_modes : (source : List ℕ) (s : Status) (text : List ℕ) (m : Assignment) → IsFront source m → s ≡ status.ModesRefused → IsModeRefusal m text → Refuses source s text
 refuses_modes source s text m front e is = rw e (modes_refused m text front is)
 
 pub answers_refused : (n : RunNumbers) (source : List ℕ) (s : Status) (text : List ℕ) → Refuses source s text → Answers (task.Run n) source s text
-answers_refused n source s text (source_refused stage at fault) = faulty stage at fault
+answers_refused n source s text (source_refused fault is) = faulty fault is
 answers_refused n source s text (modes_refused m told front is) = program m status.ModesRefused told front (not_run told is)
 
 pub gives_unbuilt : (source : List ℕ) (Makes : Code → Ran → Type 0) (s : Status) (text : List ℕ) → Refuses source s text → GivesSource source Makes s text
-gives_unbuilt source Makes s text (source_refused stage at fault) = at_fault stage at fault
+gives_unbuilt source Makes s text (source_refused fault is) = at_fault fault is
 gives_unbuilt source Makes s text (modes_refused m told front is) = by_program m status.ModesRefused told front (not_made told is)

@@ -1,6 +1,5 @@
 -- What is written for an event file is a reply to it.
 use Rattle.std.proofs.Common.{◌≡◌, ℕ, ◌<◌, ◌≤◌, List, length, Option, Some, None, IfSome, subst}
-use Rattle.sharc_tree.specs.declared.token.FaultAt.{FaultAt}
 use Rattle.sharc_mode.specs.Moded.{Assignment}
 use Rattle.sharc_mode_laws.specs.Rules.{MeetsRules}
 use Rattle.sharc_audit.specs.declared.audit.Verdict.{Verdict}
@@ -12,8 +11,8 @@ use Rattle.sharc_audit.specs.Files.{IsFault}
 use Rattle.sharc_audit.specs.Grammar.{text_lines}
 use Rattle.sharc_audit.specs.Texts.{verdict_line, bad_line, many_line, file_fault_line}
 use Rattle.sharc_report.specs.Refusals.{refusal_line}
-use Rattle.sharc_report.specs.declared.refusal.Stage.{Stage}
-use Rattle.sharc_sound.specs.Front.{IsFront, IsFaultAt}
+use Rattle.sharc_report.specs.declared.refusal.SourceFault.{SourceFault}
+use Rattle.sharc_sound.specs.Front.{IsFront, IsSourceFault}
 use Rattle.sharc_top.specs.declared.status.Status.{Status}
 use Rattle.sharc_top.specs.declared.status.Status.TheVariants as status
 use Rattle.sharc_top.specs.EventFiles.{status_of, Judges, not_judged, judged, JudgesSource, faulty_source, of_program, IsFewIn, FileReplies, long_file, no_file, many_events, long_source, source_judged, IsFileReply}
@@ -28,9 +27,9 @@ judges_refused m fuel events s text e is = rw e (not_judged text is)
 pub judges_by : (m : Assignment) (fuel : ℕ) (events : List EventLine) (s : Status) (text : List ℕ) (v : Verdict) → MeetsRules m → Audits m fuel events v → s ≡ status_of v → text ≡ verdict_line fuel v → Judges m fuel events s text
 judges_by m fuel events s text v meets audits e t = rw (e, t) (judged v meets audits)
 
-pub source_faulty : (source : List ℕ) (fuel : ℕ) (events : List EventLine) (s : Status) (text : List ℕ) (stage : Stage) (at : FaultAt) → IsFaultAt source stage at → s ≡ status.SourceRefused → text ≡ refusal_line stage at
+pub source_faulty : (source : List ℕ) (fuel : ℕ) (events : List EventLine) (s : Status) (text : List ℕ) (fault : SourceFault) → IsSourceFault source fault → s ≡ status.SourceRefused → text ≡ refusal_line fault
     → JudgesSource source fuel events s text
-source_faulty source fuel events s text stage at is e t = rw (e, t) (faulty_source stage at is)
+source_faulty source fuel events s text fault is e t = rw (e, t) (faulty_source fault is)
 
 pub source_program : (source : List ℕ) (fuel : ℕ) (events : List EventLine) (s : Status) (text : List ℕ) (m : Assignment) → IsFront source m → Judges m fuel events s text → JudgesSource source fuel events s text
 source_program source fuel events s text m front is = of_program m s text front is

@@ -105,7 +105,7 @@ does_status task.Explain m s text d = explains_status m s text d
 does_status (task.Run n) m s text d = runs_status n m s text d
 
 answers_status : (t : Task) (source : List ℕ) (s : Status) (text : List ℕ) → Answers t source s text → IsOfReply (code_of s)
-answers_status t source s text (faulty stage at fault) = low 2 (omega arith)
+answers_status t source s text (faulty fault is) = low 2 (omega arith)
 answers_status t source s text (program m x y front d) = does_status t m x y d
 
 load_status : (number workers : ℕ) (s : Status) (text : List ℕ) → LoadReplies number workers s text → IsOfReply (code_of s)
@@ -122,7 +122,7 @@ judges_status m fuel events s text (not_judged t is) = low 1 (omega arith)
 judges_status m fuel events s text (judged v meets is) = verdict_status v
 
 source_status : (source : List ℕ) (fuel : ℕ) (events : List EventLine) (s : Status) (text : List ℕ) → JudgesSource source fuel events s text → IsOfReply (code_of s)
-source_status source fuel events s text (faulty_source stage at is) = low 2 (omega arith)
+source_status source fuel events s text (faulty_source fault is) = low 2 (omega arith)
 source_status source fuel events s text (of_program m x y front is) = judges_status m fuel events x y is
 
 file_status : (input : List ℕ) (s : Status) (text : List ℕ) → FileReplies input s text → IsOfReply (code_of s)
@@ -137,7 +137,7 @@ made_status m Makes s text (not_made t is) = low 1 (omega arith)
 made_status m Makes s text (made code run meets compiled fit is) = outcome_status run.outcome
 
 given_status : (source : List ℕ) (Makes : Code → Ran → Type 0) (s : Status) (text : List ℕ) → GivesSource source Makes s text → IsOfReply (code_of s)
-given_status source Makes s text (at_fault stage at is) = low 2 (omega arith)
+given_status source Makes s text (at_fault fault is) = low 2 (omega arith)
 given_status source Makes s text (by_program m x y front is) = made_status m Makes x y is
 
 record_status : (heap limit : ℕ) (input : List ℕ) (s : Status) (text : List ℕ) → RecordReplies heap limit input s text → IsOfReply (code_of s)

@@ -1,15 +1,14 @@
 -- What was written is what the commands write.
 use Rattle.std.proofs.Common.{◌≡◌, ℕ, List, ◌++◌}
-use Rattle.sharc_tree.specs.declared.token.FaultAt.{FaultAt}
 use Rattle.sharc_live.specs.Uses.{AreWarnings}
 use Rattle.sharc_mode.specs.declared.error.Warning.{Warning}
 use Rattle.sharc_mode.specs.Moded.{Assignment}
 use Rattle.sharc_mode_laws.specs.Rules.{MeetsRules}
-use Rattle.sharc_report.specs.declared.refusal.Stage.{Stage}
+use Rattle.sharc_report.specs.declared.refusal.SourceFault.{SourceFault}
 use Rattle.sharc_report.specs.Explanations.{explain_text}
 use Rattle.sharc_report.specs.Refusals.{refusal_line}
 use Rattle.sharc_report.specs.Verdicts.{accepted_text}
-use Rattle.sharc_sound.specs.Front.{IsFront, IsFaultAt}
+use Rattle.sharc_sound.specs.Front.{IsFront, IsSourceFault}
 use Rattle.sharc_top.specs.declared.status.Status.{Status}
 use Rattle.sharc_top.specs.declared.status.Status.TheVariants as status
 use Rattle.sharc_top.specs.declared.task.Task.{Task}
@@ -32,8 +31,8 @@ explains_both m s verdict text is t = rw t (explained s verdict is)
 pub runs_refused : (n : RunNumbers) (m : Assignment) (s : Status) (text : List ℕ) → s ≡ status.ModesRefused → IsModeRefusal m text → Runs n m s text
 runs_refused n m s text e is = rw e (not_run text is)
 
-pub answers_faulty : (t : Task) (source : List ℕ) (s : Status) (text : List ℕ) (stage : Stage) (at : FaultAt) → IsFaultAt source stage at → s ≡ status.SourceRefused → text ≡ refusal_line stage at → Answers t source s text
-answers_faulty t source s text stage at fault e is = rw (e, is) (faulty stage at fault)
+pub answers_faulty : (t : Task) (source : List ℕ) (s : Status) (text : List ℕ) (fault : SourceFault) → IsSourceFault source fault → s ≡ status.SourceRefused → text ≡ refusal_line fault → Answers t source s text
+answers_faulty t source s text fault found e is = rw (e, is) (faulty fault found)
 
 pub answers_program : (t : Task) (source : List ℕ) (m : Assignment) (s : Status) (text : List ℕ) → IsFront source m → Does t m s text → Answers t source s text
 answers_program t source m s text front does = program m s text front does

@@ -1,6 +1,5 @@
 -- What `audit` writes for an event file, and with which status it ends.
 use Rattle.std.specs.Prelude.{◌≡◌, ℕ, ◌<◌, ◌≤◌, List, length, codes, Option, IfSome}
-use Rattle.sharc_tree.specs.declared.token.FaultAt.{FaultAt}
 use Rattle.sharc_mode.specs.Moded.{Assignment}
 use Rattle.sharc_mode_laws.specs.Rules.{MeetsRules}
 use Rattle.sharc_audit.specs.declared.audit.Verdict.{Verdict}
@@ -10,8 +9,8 @@ use Rattle.sharc_audit.specs.Audited.{Audits}
 use Rattle.sharc_audit.specs.Grammar.{text_lines, IsEventFile, IsFirstBad, HasMany}
 use Rattle.sharc_audit.specs.Texts.{verdict_line, bad_line, many_line}
 use Rattle.sharc_report.specs.Refusals.{refusal_line}
-use Rattle.sharc_report.specs.declared.refusal.Stage.{Stage}
-use Rattle.sharc_sound.specs.Front.{IsFront, IsFaultAt}
+use Rattle.sharc_report.specs.declared.refusal.SourceFault.{SourceFault}
+use Rattle.sharc_sound.specs.Front.{IsFront, IsSourceFault}
 use Rattle.sharc_top.specs.declared.status.Status.{Status}
 use Rattle.sharc_top.specs.declared.status.Status.TheVariants as status
 use Rattle.sharc_top.specs.Limits.{source_limit, file_limit}
@@ -30,7 +29,7 @@ pub data Judges (m : Assignment) (fuel : ℕ) (events : List EventLine) : Status
 
 -- of events of a source within the limit: its first fault, else what becomes of the program that it is, with the least modes
 pub data JudgesSource (source : List ℕ) (fuel : ℕ) (events : List EventLine) : Status → List ℕ → Type 0 where
-  faulty_source : (stage : Stage) (at : FaultAt) → IsFaultAt source stage at → JudgesSource source fuel events status.SourceRefused (refusal_line stage at)
+  faulty_source : (fault : SourceFault) → IsSourceFault source fault → JudgesSource source fuel events status.SourceRefused (refusal_line fault)
   of_program : (m : Assignment) (s : Status) (text : List ℕ) → IsFront source m → Judges m fuel events s text → JudgesSource source fuel events s text
 
 -- an event file within the limit, with so few events that they are audited

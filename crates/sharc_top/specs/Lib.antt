@@ -1,5 +1,8 @@
 pub mod Answers
+pub mod Asked
+pub mod Ending
 pub mod EventFiles
+pub mod Input
 pub mod Limits
 pub mod Loading
 pub mod Recording

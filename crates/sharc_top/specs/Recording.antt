@@ -1,6 +1,5 @@
 -- What `record` and `replay` write, and with which status they end.
 use Rattle.std.specs.Prelude.{◌≡◌, ℕ, ◌<◌, ◌≤◌, List, ◌++◌, length, codes, decimal, Option, IfSome}
-use Rattle.sharc_tree.specs.declared.token.FaultAt.{FaultAt}
 use Rattle.sharc_mode.specs.Moded.{Assignment}
 use Rattle.sharc_mode_laws.specs.Rules.{MeetsRules}
 use Rattle.sharc_code.specs.declared.code.Code.{Code}
@@ -9,11 +8,11 @@ use Rattle.sharc_code.specs.Layout.{Fits}
 use Rattle.sharc_recorded.specs.File.{FileView, lines_in, IsFile, IsFault, AreNumbers}
 use Rattle.sharc_replay.specs.Run.{IsRecord, IsScheduledRun}
 use Rattle.sharc_report.specs.Refusals.{refusal_line}
-use Rattle.sharc_report.specs.declared.refusal.Stage.{Stage}
+use Rattle.sharc_report.specs.declared.refusal.SourceFault.{SourceFault}
 use Rattle.sharc_run.specs.declared.run.Ran.{Ran}
 use Rattle.sharc_code.specs.Ranges.{NumbersFit}
 use Rattle.sharc_sound.specs.Compiled.{IsCompiled}
-use Rattle.sharc_sound.specs.Front.{IsFront, IsFaultAt}
+use Rattle.sharc_sound.specs.Front.{IsFront, IsSourceFault}
 use Rattle.sharc_top.specs.declared.recorded.RecordNumbers.{RecordNumbers}
 use Rattle.sharc_top.specs.declared.status.Status.{Status}
 use Rattle.sharc_top.specs.declared.status.Status.TheVariants as status
@@ -52,7 +51,7 @@ pub data GivesRun (m : Assignment) (Makes : Code → Ran → Type 0) : Status �
 
 -- of a source within the limit: its first fault, else what becomes of the program that it is, with the least modes
 pub data GivesSource (source : List ℕ) (Makes : Code → Ran → Type 0) : Status → List ℕ → Type 0 where
-  at_fault : (stage : Stage) (at : FaultAt) → IsFaultAt source stage at → GivesSource source Makes status.SourceRefused (refusal_line stage at)
+  at_fault : (fault : SourceFault) → IsSourceFault source fault → GivesSource source Makes status.SourceRefused (refusal_line fault)
   by_program : (m : Assignment) (s : Status) (text : List ℕ) → IsFront source m → GivesRun m Makes s text → GivesSource source Makes s text
 
 -- ---- `record`

@@ -1,6 +1,5 @@
 -- What is written for a program whose modes are refused.
 use Rattle.std.specs.Prelude.{◌≡◌, ℕ, List, Result, Ok, Err}
-use Rattle.sharc_tree.specs.declared.token.FaultAt.{FaultAt}
 use Rattle.sharc_mode.specs.declared.error.Cast.{Cast}
 use Rattle.sharc_mode.specs.declared.error.ModeError.{ModeError}
 use Rattle.sharc_mode.specs.Moded.{Assignment}
@@ -9,8 +8,8 @@ use Rattle.sharc_check.specs.Checks.{AreAll}
 use Rattle.sharc_suggest.specs.Casts.{AreSuggested}
 use Rattle.sharc_report.specs.Refusals.{refusal_line}
 use Rattle.sharc_report.specs.Verdicts.{check_text}
-use Rattle.sharc_report.specs.declared.refusal.Stage.{Stage}
-use Rattle.sharc_sound.specs.Front.{IsFront, IsFaultAt}
+use Rattle.sharc_report.specs.declared.refusal.SourceFault.{SourceFault}
+use Rattle.sharc_sound.specs.Front.{IsFront, IsSourceFault}
 use Rattle.sharc_build.specs.declared.building.Built.{Built}
 use Rattle.sharc_build.specs.Built.{IsBuilt}
 use Rattle.sharc_top.specs.declared.reply.Reply.{Reply}
@@ -28,7 +27,7 @@ pub record IsModeRefusal (m : Assignment) (text : List ℕ) : Type 0 where
 
 -- what is written for a source of which no code is built: its first fault, or the errors of the program that it is
 pub data Refuses (source : List ℕ) : Status → List ℕ → Type 0 where
-  source_refused : (stage : Stage) (at : FaultAt) → IsFaultAt source stage at → Refuses source status.SourceRefused (refusal_line stage at)
+  source_refused : (fault : SourceFault) → IsSourceFault source fault → Refuses source status.SourceRefused (refusal_line fault)
   modes_refused : (m : Assignment) (text : List ℕ) → IsFront source m → IsModeRefusal m text → Refuses source status.ModesRefused text
 
 -- its code, or that

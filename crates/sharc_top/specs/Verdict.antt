@@ -32,9 +32,3 @@ abbrev pub IsTask : Task → Type 0
 IsTask task.Check = Unit {0}
 IsTask task.Explain = Unit {0}
 IsTask (task.Run numbers) = AreNumbers numbers
-
--- it is answered without a run
-abbrev pub IsVerdict : Task → Type 0
-IsVerdict task.Check = Unit {0}
-IsVerdict task.Explain = Unit {0}
-IsVerdict (task.Run numbers) = ⊥

@@ -8,6 +8,7 @@ ghost use Rattle.sharc_audit.specs.Grammar.{text_lines};
 ghost use Rattle.sharc_audit.specs.Files.{IsFault};
 ghost use Rattle.sharc_top.specs.EventFiles.{status_of, Judges, JudgesSource, IsFewIn, FileReplies, IsFileReply};
 
+use crate::input::input_within;
 use crate::refused::{Failure, SOURCE_LIMIT, refusal};
 use crate::reply::{Reply, line_reply};
 use crate::status::Status;
@@ -16,7 +17,7 @@ use sharc_audit::audit::{Verdict, audit};
 use sharc_audit::file::{EventFile, FileFault, read_events};
 use sharc_audit::text::{file_fault_text, verdict_text};
 use sharc_check::{CheckFault, Checked, check};
-use sharc_io::{ReadError, Source, read_all};
+use sharc_io::Source;
 use sharc_mode::moded::Moded;
 use sharc_reach::Reached;
 use sharc_sound::{ReachedProgram, Refusal, front};
@@ -79,7 +80,6 @@ fn source_judged(alloc: Global, file: &EventFile) -> Result<Reply, AllocError>
     match front(alloc, &file.source) {
         Ok(ReachedProgram { program, reached }) => judged_with(alloc, program, &reached, file),
         Err(Refusal::Source(fault)) => refusal(alloc, &fault),
-        Err(Refusal::Modes(..)) => unreachable!(),
         Err(Refusal::Memory) => Err(AllocError),
     }
 }
@@ -125,16 +125,11 @@ pub(crate) fn audited<S: Source>(alloc: Global, input: &mut S) -> Result<Reply, 
     ensures fault { IsErrOf result Failure.Source → Rose (S.faults input.old) (S.faults input.new) }
     ensures counted { S.faults input.old ≤ S.faults input.new }
 {
-    match read_all(alloc, input, FILE_LIMIT) {
+    match input_within(alloc, input, FILE_LIMIT, b"file over 16777216 bytes")? {
         Ok(bytes) => {
             let reply = input_judged(alloc, &bytes)?;
             Ok(reply)
         }
-        Err(ReadError::TooLong) => {
-            let refusal = line_reply(alloc, Status::SourceRefused, b"file over 16777216 bytes")?;
-            Ok(refusal)
-        }
-        Err(ReadError::ReadFault) => Err(Failure::Source),
-        Err(ReadError::Memory) => Err(Failure::Memory),
+        Err(refusal) => Ok(refusal),
     }
 }

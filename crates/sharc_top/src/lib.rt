@@ -5,12 +5,15 @@
 
 mod audited;
 mod built;
+mod ending;
+mod input;
 mod loaded;
 mod ran;
 mod recorded;
 mod refused;
 mod replayed;
 mod reply;
+mod returning;
 mod status;
 mod task;
 mod text;
@@ -18,4 +21,5 @@ mod top;
 mod verdict;
 mod words;
 
+pub use returning::without_waiting;
 pub use top::sharc_top;

@@ -10,12 +10,12 @@ ghost use Rattle.sharc_cli.specs.Bounds.{IsWithin};
 ghost use Rattle.sharc_top.specs.Recording.{Records, GivesRun, GivesSource, RecordReplies, IsRecordReply, AreRecordNumbers};
 
 use crate::built::built;
+use crate::input::input_within;
 use crate::ran::status_of;
 use crate::refused::{Failure, SOURCE_LIMIT};
-use crate::reply::{Reply, line_reply};
-use crate::status::Status;
+use crate::reply::Reply;
 use sharc_code::Code;
-use sharc_io::{ReadError, Source, read_all};
+use sharc_io::Source;
 use sharc_replay::record_by_workers;
 use sharc_rounds::Gate;
 use sharc_run::shape_of;
@@ -103,16 +103,11 @@ pub(crate) fn recorded<R: Threads + Wait + Sync, G: Gate + Sync, S: Source>(
         granules: granules as u32,
         events,
     };
-    match read_all(alloc, input, SOURCE_LIMIT) {
+    match input_within(alloc, input, SOURCE_LIMIT, b"source over 1048576 bytes")? {
         Ok(source) => {
             let reply = source_recorded(rt, gate, alloc, &source, numbers)?;
             Ok(reply)
         }
-        Err(ReadError::TooLong) => {
-            let refusal = line_reply(alloc, Status::SourceRefused, b"source over 1048576 bytes")?;
-            Ok(refusal)
-        }
-        Err(ReadError::ReadFault) => Err(Failure::Source),
-        Err(ReadError::Memory) => Err(Failure::Memory),
+        Err(refusal) => Ok(refusal),
     }
 }

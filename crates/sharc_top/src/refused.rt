@@ -1,13 +1,12 @@
 //! The limit of a source, what is written for a source with a fault, and why there is no reply.
 
-ghost use Rattle.std.specs.Prelude.{◌≡◌, IfOk, IsSome};
-ghost use Rattle.sharc_report.specs.Refusals.{message_of, refusal_line};
+ghost use Rattle.std.specs.Prelude.{◌≡◌, IfOk};
+ghost use Rattle.sharc_report.specs.Refusals.{refusal_line};
 ghost use Rattle.sharc_top.specs.declared.status.Status.TheVariants.{SourceRefused};
 
 use crate::reply::Reply;
 use crate::status::Status;
-use sharc_report::fault_text;
-use sharc_sound::SourceFault;
+use sharc_report::{SourceFault, fault_text};
 use std::alloc::{AllocError, Global};
 
 /// The largest source, in bytes.
@@ -32,10 +31,9 @@ impl From<AllocError> for Failure {
 
 /// What is written for a source that has a fault.
 pub fn refusal(alloc: Global, fault: &SourceFault) -> Result<Reply, AllocError>
-    requires { IsSome (message_of fault.now.stage fault.now.at) }
-    ensures { IfOk result (λ reply. (reply.status ≡ SourceRefused) × (reply.text.items ≡ refusal_line fault.now.stage fault.now.at)) }
+    ensures { IfOk result (λ reply. (reply.status ≡ SourceRefused) × (reply.text.items ≡ refusal_line fault.now)) }
 {
-    let text = fault_text(alloc, fault.stage, &fault.at)?;
+    let text = fault_text(alloc, fault)?;
     Ok(Reply {
         status: Status::SourceRefused,
         text,

@@ -11,12 +11,13 @@ ghost use Rattle.sharc_recorded.specs.Shown.{FaultIs, view_of};
 ghost use Rattle.sharc_top.specs.Recording.{Replays, GivesRun, GivesSource, ReplayReplies, IsReplayReply, bad_file_line, IsWithinFile};
 
 use crate::built::built;
+use crate::input::input_within;
 use crate::ran::status_of;
 use crate::refused::{Failure, SOURCE_LIMIT};
 use crate::reply::{Reply, line_reply};
 use crate::status::Status;
 use sharc_code::Code;
-use sharc_io::{ReadError, Source, read_all};
+use sharc_io::Source;
 use sharc_recorded::{FileFault, RecordFile, file_laws, read_file};
 use sharc_replay::run_by_schedule;
 use sharc_run::shape_of;
@@ -108,16 +109,11 @@ pub(crate) fn replayed<S: Source>(alloc: Global, input: &mut S) -> Result<Reply,
     ensures fault { IsErrOf result Failure.Source → Rose (S.faults input.old) (S.faults input.new) }
     ensures counted { S.faults input.old ≤ S.faults input.new }
 {
-    match read_all(alloc, input, FILE_LIMIT) {
+    match input_within(alloc, input, FILE_LIMIT, b"file over 1073741824 bytes")? {
         Ok(bytes) => {
             let reply = input_replayed(alloc, &bytes)?;
             Ok(reply)
         }
-        Err(ReadError::TooLong) => {
-            let refusal = line_reply(alloc, Status::SourceRefused, b"file over 1073741824 bytes")?;
-            Ok(refusal)
-        }
-        Err(ReadError::ReadFault) => Err(Failure::Source),
-        Err(ReadError::Memory) => Err(Failure::Memory),
+        Err(refusal) => Ok(refusal),
     }
 }

@@ -5,10 +5,12 @@ ghost use Rattle.sharc_io.specs.Causes.{Rose, EitherRose};
 ghost use Rattle.sharc_top.specs.Reply.{ReadsInput, Replied, RepliedInPart};
 ghost use Rattle.sharc_top.specs.Status.{IsOfReply, IsOfSilence};
 
-use crate::refused::Failure;
+use crate::ending::ended;
+use crate::recorded::recorded;
+use crate::returning::without_waiting;
 use crate::status::Status;
-use crate::text::write_lines;
-use crate::words::reply_to;
+use sharc_cli::laws::numbers_are_within;
+use sharc_cli::{Command, read_words};
 use sharc_io::{Sink, Source};
 use sharc_rounds::Gate;
 use std::alloc::Global;
@@ -22,6 +24,8 @@ use std::thread::Threads;
 /// stuck. 6: none of these, and a thread has made all the events that it may. 8: the words are no command, and nothing was
 /// read. 9: reading failed. 10: writing failed or stalled, and a front part of the reply was written, but not all of it. 11: memory was wanting. 12: an event is the first that is not
 /// asked for, not legal, or against a rule of the modes. 13: the fuel of its thread is spent before it.
+///
+/// `record` alone waits, and may not return: everything else is done by `without_waiting`.
 pub fn sharc_top<R: Threads + Wait + Sync, G: Gate + Sync, S: Source, O: Sink>(
     rt: &R,
     gate: &G,
@@ -50,12 +54,21 @@ pub fn sharc_top<R: Threads + Wait + Sync, G: Gate + Sync, S: Source, O: Sink>(
     ensures sink_faults { O.faults out.old ≤ O.faults out.new }
     ensures sink_stalls { O.stalls out.old ≤ O.stalls out.new }
 {
-    match reply_to(rt, gate, alloc, words, input) {
-        Ok(reply) => match write_lines(out, &reply.text) {
-            Ok(()) => reply.status.code(),
-            Err(_) => Status::WriteFault.code(),
-        },
-        Err(Failure::Source) => Status::ReadFault.code(),
-        Err(Failure::Memory) => Status::NoMemory.code(),
+    numbers_are_within();
+    match read_words(alloc, words) {
+        Ok(
+            Some(
+                Command::Record {
+                    workers,
+                    granules,
+                    events,
+                },
+            ),
+        ) => {
+            let reply = recorded(rt, gate, alloc, workers, granules, events, input);
+            ended(reply, out)
+        }
+        Ok(command) => without_waiting(rt, gate, alloc, command, input, out),
+        Err(_) => Status::NoMemory.code(),
     }
 }

@@ -10,11 +10,10 @@ ghost use Rattle.sharc_check.specs.Named.{TellNamed};
 ghost use Rattle.sharc_report.specs.Explanations.{explain_text};
 ghost use Rattle.sharc_top.specs.declared.status.Status.TheVariants.{ModesRefused};
 ghost use Rattle.sharc_top.specs.Refused.{IsModeRefusal};
-ghost use Rattle.sharc_top.specs.Verdict.{Checks, Explains, Does, IsVerdict};
+ghost use Rattle.sharc_top.specs.Verdict.{Checks, Explains};
 
 use crate::reply::Reply;
 use crate::status::Status;
-use crate::task::Task;
 use sharc_check::named::NamedVariables;
 use sharc_check::{CheckFault, Checked, check};
 use sharc_live::nulled_uses;
@@ -58,7 +57,7 @@ pub(crate) fn mode_refusal(
 }
 
 /// What `check` writes.
-fn checked(alloc: Global, program: Moded, reached: &Reached) -> Result<Reply, AllocError>
+pub(crate) fn checked(alloc: Global, program: Moded, reached: &Reached) -> Result<Reply, AllocError>
     requires { AreReached program.typed reached.now }
     ensures { IfOk result (λ reply. Checks program reply.status reply.text.items) }
 {
@@ -97,30 +96,16 @@ fn checked_behind(
 }
 
 /// What `explain` writes: every variable's type with its modes and reasons, and then what `check` writes.
-fn explained(alloc: Global, program: Moded, reached: &Reached) -> Result<Reply, AllocError>
+pub(crate) fn explained(
+    alloc: Global,
+    program: Moded,
+    reached: &Reached,
+) -> Result<Reply, AllocError>
     requires { AreReached program.typed reached.now }
     ensures { IfOk result (λ reply. Explains program reply.status reply.text.items) }
 {
     match explain_text(alloc, &program) {
         Ok(text) => checked_behind(alloc, program, reached, text),
         Err(_) => Err(AllocError),
-    }
-}
-
-/// What `check` and `explain` make of a program with its modes.
-pub fn done(
-    alloc: Global,
-    task: Task,
-    program: Moded,
-    reached: &Reached,
-) -> Result<Reply, AllocError>
-    requires verdict { IsVerdict task }
-    requires reached { AreReached program.typed reached.now }
-    ensures { IfOk result (λ reply. Does task program reply.status reply.text.items) }
-{
-    match task {
-        Task::Check => checked(alloc, program, reached),
-        Task::Explain => explained(alloc, program, reached),
-        Task::Run(_) => unreachable!(),
     }
 }

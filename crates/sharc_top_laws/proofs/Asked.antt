@@ -19,7 +19,7 @@ use Rattle.sharc_top_laws.proofs.Replying.{is_answer}
 
 -- what is written for a source that is this program is written for it
 does_of : SourceLaws → (t : Task) (source : List ℕ) (m : Assignment) (s : Status) (text : List ℕ) → IsFront source m → Answers t source s text → Does t m s text
-does_of laws t source m s text front (faulty stage at is) = absurd (laws.faultless source m front stage at is)
+does_of laws t source m s text front (faulty fault is) = absurd (laws.faultless source m front fault is)
 does_of laws t source m s text front (program n z other also does) = subst (λ (k : Assignment). Does t k z other) (laws.program source n m also front) does
 
 only_accepted : (m : Assignment) (s : Status) (text : List ℕ) → MeetsRules m → Checks m s text → (s ≡ status.Done) × IsAcceptance m text

@@ -62,14 +62,14 @@ one_first f g list a b =
     same_fault f g place (sym (code_back f.code) ∙ ap code_of digits ∙ code_back g.code)
 
 -- and so is what is reported of it
-pub one_told : (tokens : Tokens) (f : Fault) (x y : FaultAt) → IsToldAt tokens f x → IsToldAt tokens f y → x ≡ y
+pub one_told : (tokens : Tokens) (f : Fault) (x y : FaultAt FaultCode) → IsToldAt tokens f x → IsToldAt tokens f y → x ≡ y
 one_told tokens f x y a b =
     let code = a.code ∙ sym b.code in
     let file = a.file ∙ sym b.file in
     let line = a.line ∙ sym b.line in
     let offset = a.offset ∙ sym b.offset in
     let text = a.text ∙ sym b.text in
-    let one : x ≡ record { code = y.code; file = x.file; line = x.line; offset = x.offset; text = x.text } = ap (λ (n : ℕ). record { code = n; file = x.file; line = x.line; offset = x.offset; text = x.text }) code in
+    let one : x ≡ record { code = y.code; file = x.file; line = x.line; offset = x.offset; text = x.text } = ap (λ (n : FaultCode). record { code = n; file = x.file; line = x.line; offset = x.offset; text = x.text }) code in
     let two : record { code = y.code; file = x.file; line = x.line; offset = x.offset; text = x.text } ≡ record { code = y.code; file = y.file; line = x.line; offset = x.offset; text = x.text } =
     ap (λ (l : List ℕ). record { code = y.code; file = l; line = x.line; offset = x.offset; text = x.text }) file in
     let three : record { code = y.code; file = y.file; line = x.line; offset = x.offset; text = x.text } ≡ record { code = y.code; file = y.file; line = y.line; offset = x.offset; text = x.text } =

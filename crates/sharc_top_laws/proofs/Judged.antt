@@ -1,6 +1,5 @@
 -- The reply to an event file is one.
 use Rattle.std.proofs.Common.{◌≡◌, ℕ, ◌<◌, ◌≤◌, List, length, refl, ap, ◌∙◌, subst, arith}
-use Rattle.sharc_tree.specs.declared.token.FaultAt.{FaultAt}
 use Rattle.sharc_ctype.specs.Resolved.{IsResolved}
 use Rattle.sharc_mode.specs.Moded.{Assignment}
 use Rattle.sharc_mode_laws.specs.Rules.{MeetsRules}
@@ -12,7 +11,6 @@ use Rattle.sharc_audit.specs.FileLaws.{FileLaws}
 use Rattle.sharc_audit.specs.Grammar.{text_lines, IsFirstBad, HasMany}
 use Rattle.sharc_audit.specs.Texts.{verdict_line, bad_line}
 use Rattle.sharc_report.specs.Refusals.{refusal_line}
-use Rattle.sharc_report.specs.declared.refusal.Stage.{Stage}
 use Rattle.sharc_sound.specs.Front.{IsFront}
 use Rattle.sharc_top.specs.declared.status.Status.{Status}
 use Rattle.sharc_top.specs.EventFiles.{status_of, Judges, not_judged, judged, JudgesSource, faulty_source, of_program, IsFewIn, FileReplies, long_file, no_file, many_events, long_source, source_judged}
@@ -43,11 +41,9 @@ module _ (laws : FileReplyLaws) where
   one_judging m typed fuel events s z text other (judged v meets a) (judged w also b) = let same = laws.verdicts m fuel events v w typed a b in (ap status_of same, ap (verdict_line fuel) same)
 
   one_source : (source : List ℕ) (fuel : ℕ) (events : List EventLine) (s z : Status) (text other : List ℕ) → JudgesSource source fuel events s text → JudgesSource source fuel events z other → Same s z text other
-  one_source source fuel events s z text other (faulty_source stage at is) (faulty_source stage' at' also) =
-      let same = laws.sources.fault source stage stage' at at' is also in
-      (refl, ap (λ (k : Stage). refusal_line k at) same.0 ∙ ap (λ (a : FaultAt). refusal_line stage' a) same.1)
-  one_source source fuel events s z text other (faulty_source stage at is) (of_program m y t front does) = absurd (laws.sources.faultless source m front stage at is)
-  one_source source fuel events s z text other (of_program m y t front does) (faulty_source stage at is) = absurd (laws.sources.faultless source m front stage at is)
+  one_source source fuel events s z text other (faulty_source x is) (faulty_source y also) = (refl, ap refusal_line (laws.sources.fault source x y is also))
+  one_source source fuel events s z text other (faulty_source x is) (of_program m y t front does) = absurd (laws.sources.faultless source m front x is)
+  one_source source fuel events s z text other (of_program m y t front does) (faulty_source x is) = absurd (laws.sources.faultless source m front x is)
   one_source source fuel events s z text other (of_program m y t front does) (of_program n x u also acts) =
       one_judging n also.typed.resolved fuel events y x t u (subst (λ (k : Assignment). Judges k fuel events y t) (laws.sources.program source m n front also) does) acts
 
@@ -111,7 +107,7 @@ module _ (laws : FileReplyLaws) where
   judged_only m fuel events s text meets (judged v also a) = record { verdict = v; audits = a; ends = refl; written = refl }
 
   source_only : (source : List ℕ) (m : Assignment) (fuel : ℕ) (events : List EventLine) (s : Status) (text : List ℕ) → IsFront source m → MeetsRules m → JudgesSource source fuel events s text → IsVerdict m fuel events s text
-  source_only source m fuel events s text front meets (faulty_source stage at is) = absurd (laws.sources.faultless source m front stage at is)
+  source_only source m fuel events s text front meets (faulty_source fault is) = absurd (laws.sources.faultless source m front fault is)
   source_only source m fuel events s text front meets (of_program n y t also does) = judged_only m fuel events y t meets (subst (λ (k : Assignment). Judges k fuel events y t) (laws.sources.program source n m also front) does)
 
   pub file_only : (input source : List ℕ) (m : Assignment) (fuel : ℕ) (events : List EventLine) (s : Status) (text : List ℕ) → IsFewIn input source fuel events → length source ≤ source_limit → IsFront source m → MeetsRules m

@@ -92,7 +92,7 @@ of_replay words input s text asked (replayed z other is reply) = reply
 module _ (sources : SourceLaws) where
   -- of a source that is this program with accepted modes a run is made
   run_of_source : (source : List ℕ) (m : Assignment) (Makes : Code → Ran → Type 0) (s : Status) (text : List ℕ) → IsFront source m → GivesSource source Makes s text → GivesRun m Makes s text
-  run_of_source source m Makes s text front (at_fault stage at is) = absurd (sources.faultless source m front stage at is)
+  run_of_source source m Makes s text front (at_fault fault is) = absurd (sources.faultless source m front fault is)
   run_of_source source m Makes s text front (by_program n z other also gives) = subst (λ (k : Assignment). GivesRun k Makes z other) (sources.program source n m also front) gives
 
   -- ---- `replay`

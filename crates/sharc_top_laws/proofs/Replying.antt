@@ -1,7 +1,6 @@
 -- The reply to words and an input is one.
 use Rattle.std.proofs.Common.{◌≡◌, ℕ, ◌<◌, ◌≤◌, Bool, true, false, List, length, Option, Some, None, is_some, refl, ap, sym, ◌∙◌, subst, arith}
 use Rattle.std.proofs.lemmas.Bool.{false≢true}
-use Rattle.sharc_tree.specs.declared.token.FaultAt.{FaultAt}
 use Rattle.sharc_mode.specs.Moded.{Assignment}
 use Rattle.sharc_check.specs.Laws.{CheckLaws}
 use Rattle.sharc_suggest.specs.Laws.{SuggestLaws}
@@ -9,7 +8,6 @@ use Rattle.sharc_cli.specs.Commands.{commands}
 use Rattle.sharc_cli.specs.declared.command.Command.{Command}
 use Rattle.sharc_cli.specs.declared.command.Command.TheVariants.{Check, Explain, Run, Load, Record, Replay, Audit}
 use Rattle.sharc_report.specs.Refusals.{refusal_line}
-use Rattle.sharc_report.specs.declared.refusal.Stage.{Stage}
 use Rattle.sharc_top.specs.declared.status.Status.{Status}
 use Rattle.sharc_top.specs.declared.task.Task.{Task}
 use Rattle.sharc_top.specs.Answers.{Answers, faulty, program}
@@ -21,15 +19,10 @@ use Rattle.sharc_top.specs.declared.task.Task.TheVariants as task
 use Rattle.sharc_top_laws.specs.Laws.{WarningsAreOne, SourceLaws, RunsNothing, MakesRun, AnswersAreOne}
 use Rattle.sharc_top_laws.proofs.Verdicts.{one_done}
 
-same_line : (s t : Stage) (x y : FaultAt) → s ≡ t → x ≡ y → refusal_line s x ≡ refusal_line t y
-same_line s t x y stage at = ap (λ (k : Stage). refusal_line k x) stage ∙ ap (λ (a : FaultAt). refusal_line t a) at
-
 pub one_answer : WarningsAreOne → SourceLaws → CheckLaws → SuggestLaws → AnswersAreOne
-one_answer warnings sources checks suggests t nothing source s z text other (faulty stage at is) (faulty stage' at' also) =
-    let same = sources.fault source stage stage' at at' is also in
-    (refl, same_line stage stage' at at' same.0 same.1)
-one_answer warnings sources checks suggests t nothing source s z text other (faulty stage at is) (program m s' text' front does) = absurd (sources.faultless source m front stage at is)
-one_answer warnings sources checks suggests t nothing source s z text other (program m s' text' front does) (faulty stage at is) = absurd (sources.faultless source m front stage at is)
+one_answer warnings sources checks suggests t nothing source s z text other (faulty x is) (faulty y also) = (refl, ap refusal_line (sources.fault source x y is also))
+one_answer warnings sources checks suggests t nothing source s z text other (faulty x is) (program m s' text' front does) = absurd (sources.faultless source m front x is)
+one_answer warnings sources checks suggests t nothing source s z text other (program m s' text' front does) (faulty x is) = absurd (sources.faultless source m front x is)
 one_answer warnings sources checks suggests t nothing source s z text other (program m s' text' front does) (program n z' other' also acts) =
     one_done warnings checks suggests n t nothing s' z' text' other' (subst (λ (k : Assignment). Does t k s' text') (sources.program source m n front also) does) acts
 

@@ -2,7 +2,6 @@
 -- program.
 use Rattle.std.specs.Prelude.{◌≡◌, ℕ, ◌≤◌, List, ◌++◌, length, Option, Some, None}
 use Rattle.std.specs.Io.KnownBytes.{Appends}
-use Rattle.sharc_tree.specs.declared.token.FaultAt.{FaultAt}
 use Rattle.sharc_ctype.specs.Resolved.{Resolution}
 use Rattle.sharc_mode.specs.declared.error.Warning.{Warning}
 use Rattle.sharc_mode.specs.Moded.{Assignment}
@@ -15,10 +14,10 @@ use Rattle.sharc_cli.specs.declared.command.Command.{Command}
 use Rattle.sharc_cli.specs.declared.command.Command.TheVariants as command
 use Rattle.sharc_report.specs.Explanations.{explain_text}
 use Rattle.sharc_report.specs.Verdicts.{accepted_text}
-use Rattle.sharc_report.specs.declared.refusal.Stage.{Stage}
+use Rattle.sharc_report.specs.declared.refusal.SourceFault.{SourceFault}
 use Rattle.sharc_run.specs.declared.run.Ran.{Ran}
 use Rattle.sharc_sound.specs.Compiled.{IsCompiled}
-use Rattle.sharc_sound.specs.Front.{IsFront, IsFaultAt}
+use Rattle.sharc_sound.specs.Front.{IsFront, IsSourceFault}
 use Rattle.sharc_top.specs.declared.ran.RunNumbers.{RunNumbers}
 use Rattle.sharc_top.specs.declared.status.Status.{Status}
 use Rattle.sharc_top.specs.declared.status.Status.TheVariants as status
@@ -40,11 +39,11 @@ ProgramsAreOne = (source : List ℕ) (a b : Assignment) → IsFront source a →
 
 -- and then has no fault
 abbrev pub ProgramsHaveNoFault : Type 0
-ProgramsHaveNoFault = (source : List ℕ) (m : Assignment) → IsFront source m → (stage : Stage) (at : FaultAt) → IsFaultAt source stage at → ⊥
+ProgramsHaveNoFault = (source : List ℕ) (m : Assignment) → IsFront source m → (fault : SourceFault) → IsSourceFault source fault → ⊥
 
--- its first fault is one, of one stage
+-- its first fault is one
 abbrev pub FaultsAreOne : Type 0
-FaultsAreOne = (source : List ℕ) (s t : Stage) (x y : FaultAt) → IsFaultAt source s x → IsFaultAt source t y → (s ≡ t) × (x ≡ y)
+FaultsAreOne = (source : List ℕ) (x y : SourceFault) → IsSourceFault source x → IsSourceFault source y → x ≡ y
 
 pub record SourceLaws : Type 0 where
   pub program : ProgramsAreOne

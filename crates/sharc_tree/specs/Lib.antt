@@ -6,5 +6,6 @@ pub mod Measures
 pub mod Placed
 pub mod Spans
 pub mod Texts
+pub mod Traps
 pub mod Tree
 pub mod View

@@ -1,4 +1,4 @@
-// The trees that every crate above speaks of: tokens, types, programs and source events.
+// The trees that every crate above speaks of: tokens, types, programs, source events and traps.
 #![tactic(auto)]
 
 pub mod copy;
@@ -9,4 +9,5 @@ pub mod listed;
 pub mod name;
 pub mod print;
 pub mod token;
+pub mod trap;
 pub mod tree;

@@ -259,11 +259,11 @@ impl Tokens {
     }
 }
 
-/// Where and why a source is refused: a fault of the lexer (L), of the grammar (P) or of C typing (C).
+/// Where and why a source is refused. What is wrong is a fault of the lexer (L), of the grammar (P) or of C typing (C), which are types of their own.
 #[derive(Debug)]
-pub struct FaultAt {
-    /// The digit of the code.
-    pub code: u8,
+pub struct FaultAt<C> {
+    /// What is wrong.
+    pub code: C,
     /// The name of the file.
     pub file: Name,
     pub line: u32,
@@ -273,15 +273,16 @@ pub struct FaultAt {
     pub text: Name,
 }
 
-impl Drop for FaultAt {
+impl<C: Drop> Drop for FaultAt<C> {
     fn drop(self) {
         let FaultAt {
-            code: _,
+            code,
             file,
             line: _,
             offset: _,
             text,
         } = self;
+        drop(code);
         drop(file);
         drop(text);
     }

@@ -9,13 +9,13 @@ use Rattle.sharc_tree.specs.declared.event.CellMode.TheVariants as modes
 use Rattle.sharc_tree.specs.declared.event.SourceEvent.{SourceEvent}
 use Rattle.sharc_tree.specs.declared.event.Taken.TheVariants as taken
 use Rattle.sharc_tree.specs.declared.token.Site.{Site}
+use Rattle.sharc_tree.specs.declared.trap.Trap.TheVariants as traps
 use Rattle.sharc_shadow.specs.declared.shadow_word.Kind.TheVariants as kinds
 use Rattle.sharc_ctype.specs.Resolved.{function_at}
 use Rattle.sharc_mode.specs.Moded.{Assignment}
 use Rattle.sharc_meaning.specs.Events.{Access, access_by, held_mutexes}
 use Rattle.sharc_meaning.specs.Meaning as Meaning
 use Rattle.sharc_meaning.specs.Runs.{IsNamedAt, answers_of}
-use Rattle.sharc_meaning.specs.Arithmetic.{null_base}
 use Rattle.sharc_meaning.specs.Reference.{is_null, number_of}
 use Rattle.sharc_meaning.specs.State.{Outcome, wants, ended, stopped, event_of}
 use Rattle.sharc_code.specs.declared.code.Code.{Code}
@@ -115,9 +115,9 @@ module _ (flat : Flat) (m2 : At) (k : ℕ) (code : Code) (p : Program) (globals 
 
   -- the mutex of a lock that is looked for, where its path does not lead through NULL
   lock_wanted : (null : Bool) (mutex mutex' : CellAt) (site : ℕ) → mutex ≡ mutex' → Tells p (Form.lock_checked a null mutex site) (turn flat m2) → StopsOrWantsUnder code (o flat m2 k p) site mutex'
-  lock_wanted true mutex mutex' site e h = inl (ends_at (turn flat m2) refl h ∙ ap (λ (q : SourcePlace). stopped null_base q.site) (sites site))
+  lock_wanted true mutex mutex' site e h = inl (ends_at (turn flat m2) refl h ∙ ap (λ (q : SourcePlace). stopped traps.NullPointer q.site) (sites site))
     where
-      ends_at : (t : Turn) → turn flat m2 ≡ t → Tells p (Form.Halts (Form.Stopped 1 site)) t → o flat m2 k p ≡ stopped null_base (source_at p site).site
+      ends_at : (t : Turn) → turn flat m2 ≡ t → Tells p (Form.Halts (Form.Stopped traps.NullPointer site)) t → o flat m2 k p ≡ stopped traps.NullPointer (source_at p site).site
       ends_at (goes m3) q h = absurd h
       ends_at (asks m3 site act held go) q h = absurd h
       ends_at (halts x) q h = ap (λ t. (on_turn t [] m2 (exec flat k)).outcome) q ∙ h
@@ -167,7 +167,7 @@ module _ (flat : Flat) (m2 : At) (k : ℕ) (code : Code) (p : Program) (globals 
       by_stop (Conflict c) r h = let w = wanted (Accesses c.kind h.0) c.site h.1 in (w.0, w.1, (h.0, w.2))
       by_stop (NoLock n mutex) r h = let w = wanted (Locks h.0) n h.1 in (w.0, w.1, (h.0, w.2, sym (ap (λ log. is_held log h.0) log) ∙ h.2))
       by_stop (NotSole n count) r h = let w = wanted (IsSole h.0) n h.1 in (w.0, w.1, (h.0, w.2))
-      by_stop (Trap code n) r h = absurd r
+      by_stop (Trap trap n) r h = absurd r
 
 -- ---- a path
 module _ (runs : PathsAreRuns) (logs : LogsAreHeld) (m : Assignment) (flat : Flat) (same : AsksTheSame m flat) (dropped : ℕ → Bool) (p : Program) (guards : Guards dropped flat p) (count : length p.functions ≡ length flat.functions)

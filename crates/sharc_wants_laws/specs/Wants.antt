@@ -5,9 +5,9 @@ use Rattle.sharc_tree.specs.declared.event.Act.TheVariants as acts
 use Rattle.sharc_tree.specs.declared.event.CellAt.{CellAt}
 use Rattle.sharc_tree.specs.declared.event.CellMode.TheVariants as modes
 use Rattle.sharc_tree.specs.declared.event.SourceEvent.{SourceEvent}
+use Rattle.sharc_tree.specs.declared.trap.Trap.TheVariants as traps
 use Rattle.sharc_ctype.specs.Resolved.{function_at}
 use Rattle.sharc_mode.specs.Moded.{Assignment}
-use Rattle.sharc_meaning.specs.Arithmetic.{null_base}
 use Rattle.sharc_meaning.specs.Events.{Access, access_by, events_of}
 use Rattle.sharc_meaning.specs.Meaning.{asks}
 use Rattle.sharc_meaning.specs.Obeys.{History}
@@ -48,7 +48,7 @@ WantsUnder code o site mutex = (act : Act) × WantsAct code o site act × IsUnde
 
 -- or it is stopped there by X1, since the path of the mutex leads through NULL
 abbrev pub StopsOrWantsUnder : Code → Outcome → (site : ℕ) → CellAt → Type 0
-StopsOrWantsUnder code o site mutex = (o ≡ stopped null_base (place_at code site).site) ⊎ WantsUnder code o site mutex
+StopsOrWantsUnder code o site mutex = (o ≡ stopped traps.NullPointer (place_at code site).site) ⊎ WantsUnder code o site mutex
 
 -- the access of a cell that is made at a site, in the mode of the site
 abbrev pub access_at : Code → Machine → Cell → (site : ℕ) → (write : Bool) → Access

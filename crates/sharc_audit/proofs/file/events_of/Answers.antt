@@ -1,4 +1,4 @@
-use Rattle.std.proofs.Common.{◌≡◌, ◌<◌, ◌≤◌, ◌+◌, [], ◌∷◌, ◌++◌, cond, not, true, length, length-append, arith, ap, ◌∙◌, subst, sym}
+use Rattle.std.proofs.Common.{◌≡◌, ◌≤◌, ◌+◌, [], ◌∷◌, ◌++◌, cond, not, true, length, length-append, arith, ap, ◌∙◌, subst, sym}
 use Rattle.std.specs.Prelude.{is_ok}
 use Rattle.sharc_audit.specs.Grammar.{text_lines, IsEventLine}
 use Rattle.sharc_audit.proofs.Filing.{Listing, listing_next, listing_bad, further_fault, some_line, no_line}

@@ -1,4 +1,4 @@
-use Rattle.std.proofs.Common.{◌≡◌, ◌+◌, ◌≤◌, length}
+use Rattle.std.proofs.Common.{◌+◌, ◌≤◌, length}
 use Rattle.sharc_audit.proofs.Filing.{Heading}
 use Rattle.sharc_audit.proofs.file.head.Given as goal
 

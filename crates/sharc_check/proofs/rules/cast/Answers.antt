@@ -4,6 +4,7 @@ use Rattle.sharc_tree.specs.View.{view_expr}
 use Rattle.sharc_tree.specs.declared.ctype.Base.{Base}
 use Rattle.sharc_names.specs.View.{view_root}
 use Rattle.sharc_ctype.specs.Resolved.{Resolution}
+use Rattle.sharc_mode.specs.declared.error.ErrorCode.TheVariants.{CastChangesInnerMode}
 use Rattle.sharc_mode.specs.declared.finding.Finding.{Finding}
 use Rattle.sharc_mode.specs.Moded.{position_count}
 use Rattle.sharc_mode.specs.Notes.{cast_notes, mismatch, shown}
@@ -29,7 +30,7 @@ returns-then-same_rows c =
     let from_ends : from.first + from.count ≤ length m.modes = omega (arith, from_within, whole) in
     let row_is : row_at m.typed e ≡ Some from = ap (λ r. row_at r e) (sym typed) ∙ sym c.row_of.ensures.row ∙ ap view_rows c.in-Some.is in
     let to_is : cast_row m.typed c.args.span ≡ to = ap (λ r. cast_row r c.args.span) (sym typed) ∙ sym c.cast_row-expected.ensures.row in
-    let differs = mismatch 8 s (shown m.typed b (modes_of m to)) (shown m.typed b (modes_of m from)) ∷ [] in
+    let differs = mismatch CastChangesInnerMode s (shown m.typed b (modes_of m to)) (shown m.typed b (modes_of m from)) ∷ [] in
     let said =
     cast_said c.row_laws.ensures m s b to from (view_row c.deeper.result) (view_row c.deeper-in-Some.result) (row_at m.typed e) c.same_rows.result row_is to_ends from_ends c.deeper.ensures
     c.deeper-in-Some.ensures c.same_rows.ensures
@@ -54,7 +55,7 @@ returns-else-same_rows c =
     let from_ends : from.first + from.count ≤ length m.modes = omega (arith, from_within, whole) in
     let row_is : row_at m.typed e ≡ Some from = ap (λ r. row_at r e) (sym typed) ∙ sym c.row_of.ensures.row ∙ ap view_rows c.in-Some.is in
     let to_is : cast_row m.typed c.args.span ≡ to = ap (λ r. cast_row r c.args.span) (sym typed) ∙ sym c.cast_row-expected.ensures.row in
-    let differs : Base → List Finding = λ x. mismatch 8 s (shown m.typed x (modes_of m to)) (shown m.typed x (modes_of m from)) ∷ [] in
+    let differs : Base → List Finding = λ x. mismatch CastChangesInnerMode s (shown m.typed x (modes_of m to)) (shown m.typed x (modes_of m from)) ∷ [] in
     let said =
     cast_said c.row_laws.ensures m s b to from (view_row c.deeper.result) (view_row c.deeper-in-Some.result) (row_at m.typed e) c.same_rows.result row_is to_ends from_ends c.deeper.ensures
     c.deeper-in-Some.ensures c.same_rows.ensures

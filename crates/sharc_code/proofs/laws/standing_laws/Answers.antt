@@ -1,6 +1,4 @@
-use Rattle.sharc_code.specs.Runs.{opening_of}
-use Rattle.sharc_code.specs.Opening.{opening_words}
-use Rattle.sharc_code.specs.Whole.{one_thread, bounds, place_after}
+use Rattle.sharc_code.specs.Whole.{place_after}
 use Rattle.sharc_code.proofs.Idling.{idles}
 use Rattle.sharc_code.proofs.Standing.{sound, started_stays, started_before, started_then}
 use Rattle.sharc_code.proofs.laws.standing_laws.Goals as goal

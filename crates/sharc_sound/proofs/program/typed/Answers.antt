@@ -1,17 +1,14 @@
-use Rattle.std.proofs.Common.{sym, ap, arith, length, subst}
+use Rattle.std.proofs.Common.{◌≡◌, Err, sym, ap, arith, length, subst}
 use Rattle.std.proofs.lemmas.List.{length-map}
 use Rattle.sharc_tree.specs.View.{view_item, view_program}
-use Rattle.sharc_report.specs.declared.refusal.Stage.TheVariants.{Lexer}
-use Rattle.sharc_sound.specs.Front.{IsRefusedAt}
-use Rattle.sharc_sound.proofs.Faults.{message_of_reading}
+use Rattle.sharc_lex.specs.Grammar.{reading}
 use Rattle.sharc_sound.proofs.Typing.{few_items}
 use Rattle.sharc_sound.proofs.program.typed.Goals as goal
 
 pub returns-in-Err-At : goal.returns-in-Err-At
 returns-in-Err-At c =
     let read = rw c.in-Err-At.field-0-is at c.in-Err-At.ensures.exact in
-    let refused : IsRefusedAt c.args.source.now Lexer c.in-Err-At.at = record { fault = read; told = message_of_reading c.args.source.now c.in-Err-At.at read } in
-    subst (IsRefusedAt c.args.source.now Lexer) (sym c.in-Err-At.at-is) refused
+    subst (λ found. reading c.args.source.now ≡ Err found) (sym c.in-Err-At.at-is) read
 
 pub type_program-requires-clause-few_items : goal.type_program-requires-clause-few_items
 type_program-requires-clause-few_items c =

@@ -1,6 +1,6 @@
-use Rattle.std.proofs.Common.{◌∙◌, ap, sym, subst, IsSome}
+use Rattle.std.proofs.Common.{◌∙◌, ap}
 use Rattle.std.proofs.lemmas.Result.{IfOk-weaker}
-use Rattle.sharc_report.specs.Refusals.{message_of, refusal_line}
+use Rattle.sharc_report.specs.Refusals.{refusal_line}
 use Rattle.sharc_top.proofs.Judging.{source_faulty, source_program}
 use Rattle.sharc_top.proofs.audited.source_judged.Goals as goal
 
@@ -9,13 +9,8 @@ returns-in-Ok c =
     let front = rw c.deref.ensures.value at c.in-Ok.ensures in
     IfOk-weaker c.judged_with.result _ _ (λ reply is. source_program c.args.file.now.source.items _ _ _ _ _ front.0 is) c.judged_with.ensures
 
-pub refusal-requires : goal.refusal-requires
-refusal-requires c =
-    let told = rw c.in-Err-Source.field-0-is at c.in-Err-Source.ensures in
-    subst (λ fault. IsSome (message_of fault.stage fault.at)) (sym c.in-Err-Source.fault-is) told.told
-
 pub returns-in-Err-Source : goal.returns-in-Err-Source
 returns-in-Err-Source c =
     let told = rw c.in-Err-Source.field-0-is at c.in-Err-Source.ensures in
-    let fault = rw c.deref.ensures.value at told.fault in
-    IfOk-weaker c.refusal.result _ _ (λ reply is. source_faulty c.args.file.now.source.items _ _ _ _ _ _ fault is.0 (is.1 ∙ ap (λ fault. refusal_line fault.stage fault.at) c.in-Err-Source.fault-is)) c.refusal.ensures
+    let fault = rw c.deref.ensures.value at told in
+    IfOk-weaker c.refusal.result _ _ (λ reply is. source_faulty c.args.file.now.source.items _ _ _ _ _ fault is.0 (is.1 ∙ ap refusal_line c.in-Err-Source.fault-is)) c.refusal.ensures

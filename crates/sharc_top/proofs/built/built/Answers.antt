@@ -1,18 +1,13 @@
-use Rattle.std.proofs.Common.{◌∙◌, ap, sym, subst, IsSome}
-use Rattle.sharc_report.specs.Refusals.{message_of, refusal_line}
+use Rattle.std.proofs.Common.{◌∙◌, ap}
+use Rattle.sharc_report.specs.Refusals.{refusal_line}
 use Rattle.sharc_top.proofs.Building.{refuses_source, refuses_modes}
 use Rattle.sharc_top.proofs.built.built.Goals as goal
-
-pub refusal-requires : goal.refusal-requires
-refusal-requires c =
-    let told = rw c.in-Err-Source.field-0-is at c.in-Err-Source.ensures in
-    subst (λ fault. IsSome (message_of fault.stage fault.at)) (sym c.in-Err-Source.fault-is) told.told
 
 pub returns-in_ok-refusal-in-Err-Source : goal.returns-in_ok-refusal-in-Err-Source
 returns-in_ok-refusal-in-Err-Source c =
     let told = rw c.in-Err-Source.field-0-is at c.in-Err-Source.ensures in
     let is = c.in_ok-refusal-in-Err-Source.ensures in
-    refuses_source _ _ _ _ _ told.fault is.0 (is.1 ∙ ap (λ fault. refusal_line fault.stage fault.at) c.in-Err-Source.fault-is)
+    refuses_source _ _ _ _ told is.0 (is.1 ∙ ap refusal_line c.in-Err-Source.fault-is)
 
 pub mode_refusal-requires-clause-refused : goal.mode_refusal-requires-clause-refused
 mode_refusal-requires-clause-refused c =

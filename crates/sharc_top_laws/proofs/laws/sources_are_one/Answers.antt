@@ -6,6 +6,6 @@ returns c =
     let laws : ReadingLaws = record { one = c.one_reading.ensures; low = c.programs_are_low.ensures; placed = c.programs_are_placed.ensures; faultless = c.programs_have_no_fault.ensures; fault = c.one_fault.ensures } in
     record {
       program = λ source a b left right. one_front laws source c.least_is_one.ensures a b left right;
-      faultless = λ source m front stage at is. no_fault laws source m front stage at is;
-      fault = λ source s t x y a b. one_fault laws source s t x y a b;
+      faultless = λ source m front fault is. no_fault laws source m front fault is;
+      fault = λ source x y a b. one_fault laws source x y a b;
     }

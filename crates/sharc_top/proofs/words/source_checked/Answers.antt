@@ -1,0 +1,14 @@
+use Rattle.std.proofs.Common.{◌∙◌, ap}
+use Rattle.std.proofs.lemmas.Result.{IfOk-weaker}
+use Rattle.sharc_report.specs.Refusals.{refusal_line}
+use Rattle.sharc_top.specs.declared.task.Task.TheVariants as task
+use Rattle.sharc_top.proofs.Verdicts.{answers_faulty, answers_program}
+use Rattle.sharc_top.proofs.words.source_checked.Goals as goal
+
+pub returns-in-Ok : goal.returns-in-Ok
+returns-in-Ok c = IfOk-weaker c.checked.result _ _ (λ reply is. answers_program task.Check _ _ _ _ c.in-Ok.ensures.0 is) c.checked.ensures
+
+pub returns-in-Err-Source : goal.returns-in-Err-Source
+returns-in-Err-Source c =
+    let told = rw c.in-Err-Source.field-0-is at c.in-Err-Source.ensures in
+    IfOk-weaker c.refusal.result _ _ (λ reply is. answers_faulty _ _ _ _ _ told is.0 (is.1 ∙ ap refusal_line c.in-Err-Source.fault-is)) c.refusal.ensures
