@@ -15,8 +15,8 @@ use std::alloc::{AllocError, Global};
 // The block sizes of an arena have a head each, from two granules to 65,536.
 const HEADS: usize = 16;
 
-// The integer registers of the largest function.
-fn most_ints(code: &Code) -> u32
+/// The integer registers of the largest function.
+pub(crate) fn most_ints(code: &Code) -> u32
     ensures { result ≡ most_ints code.now.functions.items }
 {
     let mut most = 0;

@@ -2,8 +2,9 @@
 //!
 //! `Thread` is what is kept between quanta, and `run_quantum` is its one step from outside; `run_trying` is the same, but goes on behind
 //! failed tries. `specs/Thread.antt` says when a thread is one of a code and a shape (`IsThread`), and `specs/Quantum.antt` what a quantum
-//! does and answers (`IsQuantum`): its turns are a path of `sharc_code`. `act` makes one turn, by one small function for each kind that asks for a step. Only `Thread::new` and
-//! `Thread::reserve` take memory.
+//! does and answers (`IsQuantum`): its turns are a path of `sharc_code`. `act` makes one turn, by one small function for each kind that asks for a step. With a `Plan`
+//! of the code, which says where rows of turns begin, the turns of a row are made in one go. Only `Thread::new`, `Thread::reserve` and
+//! `Plan::of` take memory.
 #![tactic(auto)]
 
 mod act;
@@ -13,11 +14,14 @@ mod cells;
 mod checks;
 mod counts;
 mod laws;
+mod leap;
 mod locks;
 mod objects;
 mod parts;
 mod places;
 mod quantum;
+mod rows;
+mod stretch;
 mod thread;
 mod threads;
 mod turns;
@@ -25,5 +29,6 @@ mod waits;
 
 pub use laws::{path_laws, thread_law};
 pub use quantum::{Pause, run_quantum, run_trying};
+pub use rows::Plan;
 pub use sharc_code::{ConflictAt, Stop, Wait};
 pub use thread::Thread;

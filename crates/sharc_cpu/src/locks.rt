@@ -17,6 +17,7 @@ use sharc_code::{At, Cell, Shape, Stage};
 use sharc_word::{Port, WordOp, WordStep};
 
 /// Whether one mutex more may be held.
+#[inline(always)]
 pub(crate) fn has_room(parts: &Parts) -> bool
     ensures { result ≡ nat_lt (length parts.now.held) 16 }
 {
@@ -24,6 +25,7 @@ pub(crate) fn has_room(parts: &Parts) -> bool
 }
 
 // The log has the mutex as well.
+#[inline(always)]
 fn taken(at: At, parts: &mut Parts, mutex: u32, object: u64)
     ensures rest { rest_of parts.new ≡ record (rest_of parts.old) { own = record (rest_of parts.old).own { held = taken (machine_of at parts.old) mutex object } } }
     ensures room { vec_capacity parts.new.prints ≡ vec_capacity parts.old.prints }
@@ -34,6 +36,7 @@ fn taken(at: At, parts: &mut Parts, mutex: u32, object: u64)
 }
 
 // The mutex is the thread's where it was free, and its cell's reference goes to the log.
+#[inline(always)]
 fn locked(at: At, parts: &mut Parts, cell: Cell, mutex: u32, found: u64) -> At
     requires place { at.pc + 1 < 2 ^ 64 }
     ensures turn { machine_of result parts.new ≡ locked (machine_of at parts.old) cell mutex found }

@@ -98,6 +98,7 @@ fn has_room(at: At, parts: &Parts, ints: u32, refs: u32) -> bool
 }
 
 /// To this place, with frames that begin at these registers.
+#[inline(always)]
 pub(crate) fn called(at: At, parts: &mut Parts, pc: u32, ints: u32, refs: u32, site: u32) -> At
     requires place { at.pc + 1 < 2 ^ 64 }
     ensures turn { machine_of result parts.new ≡ called (machine_of at parts.old) pc ints refs site }
@@ -125,6 +126,7 @@ pub(crate) fn called(at: At, parts: &mut Parts, pc: u32, ints: u32, refs: u32, s
 }
 
 // Whether no mutex is held.
+#[inline(always)]
 fn holds_none(parts: &Parts) -> bool
     ensures { result ≡ holds_none parts.now.held }
 {
@@ -132,6 +134,7 @@ fn holds_none(parts: &Parts) -> bool
 }
 
 /// Back to the caller; where there is no frame, past the code.
+#[inline(always)]
 pub(crate) fn returned(code: &Code, at: At, parts: &mut Parts, site: u32) -> At
     ensures turn { machine_of result parts.new ≡ returned code.now (machine_of at parts.old) site }
     ensures room { vec_capacity parts.new.prints ≡ vec_capacity parts.old.prints }
@@ -154,6 +157,7 @@ pub(crate) fn returned(code: &Code, at: At, parts: &mut Parts, site: u32) -> At
 }
 
 /// The register, which holds an index of this many elements, becomes the number of a field of that element; X2 where there is no such element.
+#[inline(always)]
 pub(crate) fn indexed(
     at: At,
     parts: &mut Parts,
@@ -177,6 +181,7 @@ pub(crate) fn indexed(
 }
 
 /// The number of a field of an element, or the largest number where it is larger.
+#[inline(always)]
 pub(crate) fn field_of(index: u64, cells: u32, field: u32) -> u64
     ensures { result ≡ field_of index cells field }
 {

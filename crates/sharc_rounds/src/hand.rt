@@ -3,12 +3,13 @@
 ghost use Rattle.std.specs.Prelude.{◌≡◌, ◌≤◌, true, length};
 ghost use Rattle.sharc_word.specs.declared.step.TheConstants.{THREADS as threads};
 ghost use Rattle.sharc_code.specs.Layout.{Fits, words_of};
+ghost use Rattle.sharc_cpu.specs.Rows.{IsPlan};
 ghost use Rattle.sharc_rounds.specs.Round.{MayQuantum, HasRun, MayRun};
 
 use crate::gate::{Gate, GatedPort};
 use sharc_bus::{Bus, BusPort, BusSeat, name_laws};
 use sharc_code::{Code, Shape};
-use sharc_cpu::{Thread, run_trying};
+use sharc_cpu::{Plan, Thread, run_trying};
 use sharc_threads::is_on;
 use sharc_word::place_laws;
 
@@ -27,6 +28,7 @@ fn run_thread<G: Gate>(
     mut thread: Thread,
     port: BusSeat,
     code: &Code,
+    plan: &Plan,
     shape: &Shape,
     bus: &Bus,
     gate: &G,
@@ -34,6 +36,7 @@ fn run_thread<G: Gate>(
     limit: u64,
     tries: u32,
 ) -> Hand
+    requires plan { IsPlan code.now plan.now }
     requires fits { Fits code.now shape.now }
     requires words { length bus.now.opening ≡ words_of shape.now }
     requires bus { port.bus ≡ bus.now.id }
@@ -54,7 +57,16 @@ fn run_thread<G: Gate>(
         worker,
         thread: thread.number(),
     };
-    run_trying(code, shape, &mut thread, &mut port, QUANTUM, limit, tries);
+    run_trying(
+        code,
+        Some(plan),
+        shape,
+        &mut thread,
+        &mut port,
+        QUANTUM,
+        limit,
+        tries,
+    );
     let GatedPort { port, .. } = port;
     Hand {
         seat: Some(thread),
@@ -67,6 +79,7 @@ impl Hand {
     pub(crate) fn run<G: Gate>(
         self,
         code: &Code,
+        plan: &Plan,
         shape: &Shape,
         bus: &Bus,
         gate: &G,
@@ -74,6 +87,7 @@ impl Hand {
         limit: u64,
         tries: u32,
     ) -> Hand
+        requires plan { IsPlan code.now plan.now }
         requires fits { Fits code.now shape.now }
         requires words { length bus.now.opening ≡ words_of shape.now }
         requires may { MayRun code.now shape.now limit bus.now self }
@@ -82,7 +96,9 @@ impl Hand {
         let Hand { seat, port } = self;
         match seat {
             None => Hand { seat: None, port },
-            Some(thread) => run_thread(thread, port, code, shape, bus, gate, worker, limit, tries),
+            Some(thread) => run_thread(
+                thread, port, code, plan, shape, bus, gate, worker, limit, tries,
+            ),
         }
     }
 }

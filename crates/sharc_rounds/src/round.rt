@@ -3,6 +3,7 @@
 ghost use Rattle.std.specs.Prelude.{◌≡◌, ◌<◌, ℕ, None, length, IfOk, OnOk, slice_index_or};
 ghost use Rattle.sharc_word.specs.declared.step.TheConstants.{THREADS as threads};
 ghost use Rattle.sharc_code.specs.Layout.{Fits, words_of};
+ghost use Rattle.sharc_cpu.specs.Rows.{IsPlan};
 ghost use Rattle.sharc_rounds.specs.Round.{MayBegin, HasRoom, HasRoomAt, MadeRound, AreWords, KeptBus};
 
 use crate::busy::Busy;
@@ -11,7 +12,7 @@ use crate::hand::QUANTUM;
 use crate::words::Words;
 use crate::worker::{deal, gather, run_all};
 use sharc_code::{Code, Shape};
-use sharc_cpu::Thread;
+use sharc_cpu::{Plan, Thread};
 use sharc_threads::{ThreadTable, is_on};
 use sharc_word::THREADS;
 use std::alloc::{AllocError, Global};
@@ -63,12 +64,14 @@ impl Rounds {
         rt: &R,
         alloc: Global,
         code: &Code,
+        plan: &Plan,
         shape: &Shape,
         workers: u32,
         limit: u64,
         gate: &G,
         busy: Busy,
     ) -> Result<Rounds, AllocError>
+        requires plan { IsPlan code.now plan.now }
         requires fits { Fits code.now shape.now }
         requires workers { 0 < workers }
         requires words { AreWords self.words }
@@ -83,7 +86,7 @@ impl Rounds {
         reserve(&mut seats)?;
         let (ports, round) = bus.begin(alloc, rest)?;
         let mut workers = deal(alloc, workers.min(THREADS), seats, ports)?;
-        run_all(rt, code, shape, &bus, gate, limit, &mut workers, busy);
+        run_all(rt, code, plan, shape, &bus, gate, limit, &mut workers, busy);
         let (seats, ports) = gather(alloc, workers)?;
         let rest = bus.end(round, ports);
         Ok(Rounds {

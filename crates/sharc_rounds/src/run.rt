@@ -3,6 +3,7 @@
 ghost use Rattle.std.specs.Prelude.{◌≡◌, ◌≤◌, ◌<◌, ℕ, None, true, false, IfOk, slice_index_or};
 ghost use Rattle.sharc_code.specs.Layout.{Fits};
 ghost use Rattle.sharc_threads.specs.Seats.{left, may_turn_at};
+ghost use Rattle.sharc_cpu.specs.Rows.{IsPlan};
 ghost use Rattle.sharc_rounds.specs.Round.{AreRounds};
 ghost use Rattle.sharc_rounds.specs.Run.{IsRoundsRun};
 
@@ -12,7 +13,7 @@ use crate::laws::round_laws;
 use crate::round::Rounds;
 use crate::words::Words;
 use sharc_code::{Code, Shape, fits_law, opening, run_laws};
-use sharc_cpu::Thread;
+use sharc_cpu::{Plan, Thread};
 use sharc_threads::{End, ThreadTable, table_laws};
 use std::alloc::{AllocError, Global};
 use std::thread::Threads;
@@ -42,12 +43,14 @@ impl Rounds {
         rt: &R,
         alloc: Global,
         code: &Code,
+        plan: &Plan,
         shape: &Shape,
         workers: u32,
         limit: u64,
         gate: &G,
         busy: Busy,
     ) -> Result<Rounds, AllocError>
+        requires plan { IsPlan code.now plan.now }
         requires fits { Fits code.now shape.now }
         requires workers { 0 < workers }
         requires limit { limit ≤ 100000000 }
@@ -61,7 +64,7 @@ impl Rounds {
         let Rounds {
             mut threads,
             mut words,
-        } = self.make(rt, alloc, code, shape, workers, limit, gate, busy)?;
+        } = self.make(rt, alloc, code, plan, shape, workers, limit, gate, busy)?;
         words.look_at_states();
         threads.begin(alloc, code, shape, words.seen.as_slice())?;
         Ok(Rounds { threads, words })
@@ -114,12 +117,13 @@ pub fn run_rounds<R: Threads + Sync, G: Gate + Sync>(
 {
     fits_law(code, shape);
     table_laws();
+    let plan = Plan::of(alloc, code)?;
     let mut rounds = Rounds::new(alloc, code, shape, limit)?;
     'rounds: loop {
         let busy = rounds.words.busy(&rounds.threads, workers, limit);
         if busy.is_nobody() {
             return rounds.finish(alloc, code, shape, limit);
         }
-        rounds = rounds.next(rt, alloc, code, shape, workers, limit, gate, busy)?;
+        rounds = rounds.next(rt, alloc, code, &plan, shape, workers, limit, gate, busy)?;
     }
 }

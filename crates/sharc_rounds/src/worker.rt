@@ -4,6 +4,7 @@ ghost use Rattle.std.specs.Prelude.{◌≡◌, ◌<◌, ◌≤◌, ◌%◌, ◌^
 ghost use Rattle.sharc_word.specs.declared.step.TheConstants.{THREADS as threads};
 ghost use Rattle.sharc_code.specs.Layout.{Fits, words_of};
 ghost use Rattle.sharc_bus.specs.Bus.{SeatView};
+ghost use Rattle.sharc_cpu.specs.Rows.{IsPlan};
 ghost use Rattle.sharc_rounds.specs.declared.hand.Hand.{Hand};
 ghost use Rattle.sharc_rounds.specs.declared.worker.Worker.{Worker};
 ghost use Rattle.sharc_rounds.specs.Round.{MayRunAt, HasRunAt, MayAllRun, HaveAllRun, Seat, hand_at};
@@ -13,7 +14,7 @@ use crate::gate::Gate;
 use crate::hand::Hand;
 use sharc_bus::{Bus, BusSeat};
 use sharc_code::{Code, Shape};
-use sharc_cpu::Thread;
+use sharc_cpu::{Plan, Thread};
 use sharc_word::THREADS;
 use std::alloc::{AllocError, Global};
 use std::thread;
@@ -29,6 +30,7 @@ pub(crate) struct Worker {
 fn run_at<G: Gate>(
     hand: Option<Hand>,
     code: &Code,
+    plan: &Plan,
     shape: &Shape,
     bus: &Bus,
     gate: &G,
@@ -36,6 +38,7 @@ fn run_at<G: Gate>(
     limit: u64,
     tries: u32,
 ) -> Option<Hand>
+    requires plan { IsPlan code.now plan.now }
     requires fits { Fits code.now shape.now }
     requires words { length bus.now.opening ≡ words_of shape.now }
     requires may { MayRunAt code.now shape.now limit bus.now hand }
@@ -43,7 +46,7 @@ fn run_at<G: Gate>(
 {
     match hand {
         None => None,
-        Some(hand) => Some(hand.run(code, shape, bus, gate, number, limit, tries)),
+        Some(hand) => Some(hand.run(code, plan, shape, bus, gate, number, limit, tries)),
     }
 }
 
@@ -63,6 +66,7 @@ impl Worker {
     fn run<G: Gate>(
         &mut self,
         code: &Code,
+        plan: &Plan,
         shape: &Shape,
         bus: &Bus,
         gate: &G,
@@ -70,6 +74,7 @@ impl Worker {
         limit: u64,
         tries: u32,
     )
+        requires plan { IsPlan code.now plan.now }
         requires fits { Fits code.now shape.now }
         requires words { length bus.now.opening ≡ words_of shape.now }
         requires may { MayAllRun code.now shape.now limit bus.now self.old }
@@ -77,7 +82,7 @@ impl Worker {
     {
         for n in 0..self.hands.len() {
             let hand = self.hands[n].take();
-            self.hands[n] = run_at(hand, code, shape, bus, gate, number, limit, tries);
+            self.hands[n] = run_at(hand, code, plan, shape, bus, gate, number, limit, tries);
         }
     }
 }
@@ -124,6 +129,7 @@ pub(crate) fn deal(
 pub(crate) fn run_all<R: Threads + Sync, G: Gate + Sync>(
     rt: &R,
     code: &Code,
+    plan: &Plan,
     shape: &Shape,
     bus: &Bus,
     gate: &G,
@@ -131,6 +137,7 @@ pub(crate) fn run_all<R: Threads + Sync, G: Gate + Sync>(
     workers: &mut Vec<Worker>,
     busy: Busy,
 )
+    requires plan { IsPlan code.now plan.now }
     requires fits { Fits code.now shape.now }
     requires words { length bus.now.opening ≡ words_of shape.now }
     requires some { 0 < length workers.old.items }
@@ -146,12 +153,13 @@ pub(crate) fn run_all<R: Threads + Sync, G: Gate + Sync>(
         workers.as_mut_slice(),
         count,
         &|w: usize, worker: &mut Worker|
+            requires plan { IsPlan code.now plan.now }
             requires fits { Fits code.now shape.now }
             requires words { length bus.now.opening ≡ words_of shape.now }
             requires number { w < 2 ^ 32 }
             requires may { MayAllRun code.now shape.now limit bus.now worker.old }
             ensures { HaveAllRun code.entry.now shape.entry.now limit worker.old worker.new }
-        { worker.run(code, shape, bus, gate, w as u32, limit, tries) },
+        { worker.run(code, plan, shape, bus, gate, w as u32, limit, tries) },
     );
 }
 
