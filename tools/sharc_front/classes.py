@@ -16,9 +16,8 @@ class Node:
         self.globals, self.functions, self.types = {}, {}, {}  # {(symbol, path of fields): place}, ..
         # places where that was seen; indexed: another element than the one that is pointed to is used
         self.heap = self.integer = self.order = self.indexed = None
-        self.target = self.element = None  # the class of what is pointed to; of pointers to other elements
+        self.parts = {}  # target: the class of what is pointed to; element: of pointers to other elements; members ..
         self.mixed = False  # whether it points to globals that cannot be elements of one array
-        self.members, self.signature = {}, {}  # by (struct, field); by the number of an argument, or "result"
 
     def find(self):
         node = self
@@ -26,51 +25,68 @@ class Node:
             node = node.parent
         return node
 
-    def part(self, name):
+    def part(self, *key):
+        """target; element; member, struct, field; argument, number; result."""
         root = self.find()
-        if getattr(root, name) is None:
-            setattr(root, name, Node(root.place))
-        return getattr(root, name).find()
+        return root.parts.setdefault(key, Node(root.place)).find()
 
-    def pointee(self):
-        return self.part("target")
+    def known(self, *key):
+        """The same, or None where nothing has asked for it."""
+        found = self.find().parts.get(key)
+        return found and found.find()
 
-    def other_element(self):
-        return self.part("element")
-
-    def member(self, key):
-        return self.find().members.setdefault(key, Node()).find()
-
-    def argument(self, key):
-        return self.find().signature.setdefault(key, Node()).find()
-
-    def point_to(self, kind, place):
-        """The C type of what is pointed to, as far as this place knows it."""
+    def point_to(self, kind):
+        """The C type of what is pointed to, as far as it is known; rows of arrays count by their elements."""
+        kind = kind.base()
         if kind.kind not in ("void", "func"):
             self.find().types.setdefault(kind.key(), kind)
 
-
-def unite(one, other):
-    one, other = one.find(), other.find()
-    if one is other:
-        return
-    other.parent = one
-    for name in ("globals", "functions", "types"):
-        getattr(one, name).update(getattr(other, name))
-    for name in ("heap", "integer", "order", "indexed"):
-        setattr(one, name, getattr(one, name) or getattr(other, name))
-    for name in ("target", "element"):
-        left, right = getattr(one, name), getattr(other, name)
-        if left is None:
-            setattr(one, name, right)
-        elif right is not None:
-            unite(left, right)
-    for mine, theirs in ((one.members, other.members), (one.signature, other.signature)):
-        for key, node in list(theirs.items()):
-            if key in mine:
-                unite(mine[key], node)
+    def unite(self, other):
+        one, other = self.find(), other.find()
+        if one is other:
+            return
+        other.parent = one
+        for name in ("globals", "functions", "types"):
+            getattr(one, name).update(getattr(other, name))
+        for name in ("heap", "integer", "order", "indexed"):
+            setattr(one, name, getattr(one, name) or getattr(other, name))
+        for key, node in list(other.parts.items()):
+            if key in one.parts:
+                one.parts[key].unite(node)
             else:
-                mine[key] = node
+                one.parts[key] = node
+
+    def representation(self, place):
+        """heap, boxes (an array of pointers to its elements), global, function, integer or none; or a refusal."""
+        root = self.find()
+        if len(root.globals) > 1:
+            raise Refusal(place, f"pointer to different globals ({', '.join(sorted(map(named, root.globals)))})")
+        words = {"heap": root.heap and "to an object of the heap or a local",
+                 "global": root.globals and "to global " + "".join(map(named, root.globals)),
+                 "function": root.functions and "to a function", "integer": root.integer and "that is a number"}
+        kinds = [kind for kind in words if words[kind]]
+        if len(kinds) > 1:
+            raise Refusal(place, "pointer " + " and ".join(words[kind] for kind in kinds))
+        if kinds != ["heap"] and (kinds or not root.types):
+            return kinds[0] if kinds else "none"
+        element = root.known("element")
+        if element is root:
+            raise Refusal(place, "pointer arithmetic on an object of the heap or a local")
+        return "boxes" if element else "heap"
+
+    def pointee_type(self, place):
+        """The one type that pointers of this class point to."""
+        types = list(self.find().types.values())
+        if len(types) > 1:
+            raise Refusal(place, "pointer to several types (" + ", ".join(sorted(kind.shown() for kind in types)) + ")")
+        if not types:
+            raise Refusal(place, "void * whose type is not known")
+        return types[0]
+
+
+def named(key):
+    """A global or a part of it as in C."""
+    return ".".join((key[0].name,) + key[1])
 
 
 class Classes:
@@ -91,49 +107,58 @@ class Classes:
             root = todo.pop().find()
             if root not in seen:
                 seen.add(root)
-                parts = (root.target, root.element, *root.members.values(), *root.signature.values())
-                todo += [part for part in parts if part is not None]
+                todo += root.parts.values()
         return seen
 
     def settle(self):
         """Goes on until elements and members of globals are known: element i of a global is in its class."""
         for first, whole in self.firsts:
-            unite(first, whole if whole.find().element is None else whole.find().element)
-        while any([self.settled(root) for root in self.everything()]):
+            first.unite(whole.known("element") or whole)
+        while any([self.settled_element(root) | self.settled_members(root) for root in self.everything()]):
             pass
 
-    def settled(self, root):
-        """One step for one class; whether something changed."""
+    @staticmethod
+    def settled_element(root):
+        """One step for the pointers to other elements; whether something changed."""
+        root = root.find()
+        element = root.known("element")
+        if element is None or element is root:
+            return False
+        if root.globals and not root.heap or element.indexed or element.known("element"):
+            root.unite(element)
+            return True
+        changed = bool(root.heap and not element.heap)
+        element.heap = element.heap or root.heap
+        return changed
+
+    def settled_members(self, root):
         root, changed = root.find(), False
-        if root.element is not None and root.element.find() is not root:
-            if root.globals and not root.heap:
-                unite(root, root.element)
-                return True
-            if root.element.find().indexed or root.element.find().element is not None:
-                unite(root, root.element)
-                return True
-            if root.heap and not root.element.find().heap:
-                root.element.find().heap, changed = root.heap, True
-        for (struct, field), node in list(root.members.items()):
+        for key, node in list(root.parts.items()):
+            if key[0] != "member":
+                continue
             node = node.find()
             for (symbol, path), place in list(root.globals.items()):
-                if self.struct_at(symbol, path) != struct:
-                    continue
-                changed |= (symbol, path + (field,)) not in node.globals
-                node.globals.setdefault((symbol, path + (field,)), place)
+                inner = (symbol, path + key[2:])
+                if self.part_type(symbol, path).name == key[1] and inner not in node.globals:
+                    node.globals[inner] = place
+                    changed = True
             if root.heap and not root.globals:
-                made = self.structs[struct].fields[field].made
+                made = self.structs[key[1]].fields[key[2]].made
                 changed |= not node.heap or made.find() is not node
                 node.heap = node.heap or root.heap
-                unite(made, node)
-        return bool(changed)
+                made.unite(node)
+        return changed
 
-    def struct_at(self, symbol, path):
-        """The struct that a part of a global, or an element of it, is."""
+    def part_type(self, symbol, path):
+        """The type of a part of a variable, or of the elements of that part."""
         kind = symbol.type.base()
         for step in path:
             kind = self.structs[kind.name].fields[step].type.base()
-        return kind.name if kind.kind == "struct" else None
+        return kind
+
+    @staticmethod
+    def depth_and_names(root):
+        return max(len(path) for _, path in root.globals), sorted(map(named, root.globals))
 
     def merge(self, group):
         """Globals that one pointer may point to become elements of one array, which `group` makes."""
@@ -141,7 +166,7 @@ class Classes:
             several = [root for root in self.everything() if len(root.globals) > 1 and not root.mixed]
             if not several:
                 return
-            root = min(several, key=lambda root: max(len(path) for _, path in root.globals))
+            root = min(several, key=self.depth_and_names)
             keys = list(root.globals)
             made = group(keys)
             root.mixed = made is None
@@ -154,39 +179,3 @@ def moved(key, keys, made):
     symbol, path = key
     at = next((at for at in range(len(path) + 1) if (symbol, path[:at]) in keys), None)
     return key if at is None else (made, path[at:])
-
-
-def named(key):
-    """A global or a part of it as in C."""
-    return ".".join((key[0].name,) + key[1])
-
-
-def representation(node, place):
-    """heap, boxes (an array of pointers to its elements), global, function, integer or none; or a refusal."""
-    root = node.find()
-    kinds = [root.heap and "heap", root.globals and "global", root.functions and "function", root.integer and "integer"]
-    kinds = [kind for kind in kinds if kind]
-    if len(root.globals) > 1:
-        raise Refusal(place, "pointer to different globals (" + ", ".join(sorted(map(named, root.globals))) + ")")
-    if len(kinds) > 1:
-        words = {"heap": "to an object of the heap or a local", "function": "to a function",
-                 "integer": "that is a number"}
-        words["global"] = "to global " + "".join(map(named, root.globals))
-        raise Refusal(place, "pointer " + " and ".join(words[kind] for kind in kinds))
-    if kinds == ["heap"] or (not kinds and root.types):
-        if root.element is None:
-            return "heap"
-        if root.element.find() is root:
-            raise Refusal(place, "pointer arithmetic on an object of the heap or a local")
-        return "boxes"
-    return kinds[0] if kinds else "none"
-
-
-def pointee_type(node, place):
-    """The one type that pointers of this class point to."""
-    types = list(node.find().types.values())
-    if len(types) > 1:
-        raise Refusal(place, "pointer to several types (" + ", ".join(sorted(kind.shown() for kind in types)) + ")")
-    if not types:
-        raise Refusal(place, "void * whose type is not known")
-    return types[0]

@@ -12,8 +12,8 @@ INT_RANGE, LONG_RANGE = (-(1 << 31), (1 << 31) - 1), (-(1 << 63), (1 << 63) - 1)
 
 @dataclass(frozen=True)
 class Type:
-    kind: str  # int, void, ptr, array, struct, func, mutex, cond, or bad where the type was refused
-    name: str = ""  # of an int: a key of BITS; of a struct: its name
+    kind: str  # int, void, ptr, array, struct, func, mutex, cond, attr, or bad where the type was refused
+    name: str = ""  # of an int: a key of BITS; of a struct: its name; of a function with variable arguments: ...
     to: "Type" = None  # what a pointer points to, the element of an array, the result of a function
     length: int = None  # of an array; None where it is not known
     params: tuple = None  # of a function; None for `()`
@@ -25,8 +25,8 @@ class Type:
         """What is equal for compatible types: the type without its marks."""
         return (self.kind, self.name, self.length, self.to and self.to.key())
 
-    def marked(self, mode):
-        return replace(self, mode=mode)
+    def with_(self, **changes):
+        return replace(self, **changes)
 
     def bare(self):
         return replace(self, mode=None, to=self.to and self.to.bare())
@@ -47,12 +47,8 @@ class Type:
         return "struct " + self.name if self.kind == "struct" else self.name or self.kind
 
 
-def integer(name):
-    return Type("int", name)
-
-
-INT, UINT, LONG, ULONG, CHAR, VOID = (*map(integer, ("int", "uint", "long", "ulong", "char")), Type("void"))
-MUTEX, COND, BAD = Type("mutex"), Type("cond"), Type("bad")
+INT, UINT, LONG, ULONG, CHAR = (Type("int", name) for name in ("int", "uint", "long", "ulong", "char"))
+VOID, MUTEX, COND, ATTR, BAD = (Type(kind) for kind in ("void", "mutex", "cond", "attr", "bad"))
 
 
 def pointer(to):

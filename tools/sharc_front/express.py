@@ -1,482 +1,662 @@
-"""Expressions: each gets its C type, its number if it is constant, and the class of what it points to (C11 6.5)."""
+"""Expressions: each as a place or a value with its C type (C11 6.5), after the statements that come before it."""
 
 import re
 
 from pycparser import c_ast as A
 
-from .classes import unite
-from .ctype import (BITS, CHAR, INT, LONG, UINT, ULONG, UNSIGNED, VOID, Type, array, integer, limits, pointer, promoted,
-                    usual, wrapped)
-from .declare import Declarations, place_of
-from .source import Refusal
-from .tree import Expr, Symbol, null
+from .ctype import BITS, CELL, CHAR, INT, LONG, ULONG, VOID, Type, array, pointer, promoted, usual, wrapped
+from .declare import Symbol, place_of
+from .places import HEAP, MOVED, Place, Places
+from .values import COMPARISONS, PRIMARY, Value, cell, number, scaled, summed
 
-ARITHMETIC = {
-    "+": lambda a, b: a + b, "-": lambda a, b: a - b, "*": lambda a, b: a * b, "&": lambda a, b: a & b,
-    "|": lambda a, b: a | b, "^": lambda a, b: a ^ b, "<<": lambda a, b: a << b if 0 <= b < 64 else None,
-    ">>": lambda a, b: a >> b if 0 <= b < 64 else None, "/": lambda a, b: quotient(a, b),
-    "%": lambda a, b: None if b == 0 else a - quotient(a, b) * b, "==": lambda a, b: a == b, "!=": lambda a, b: a != b,
-    "<": lambda a, b: a < b, ">": lambda a, b: a > b, "<=": lambda a, b: a <= b, ">=": lambda a, b: a >= b}
-COMPARISONS = ("==", "!=", "<", ">", "<=", ">=")
+VALUE, STABLE, EFFECT = "value", "a place whose text may be written twice", "effect"
+SPOKEN = {"Compound": "statement expression"}
 
 
-def quotient(a, b):
-    return None if b == 0 else (abs(a) // abs(b)) * (1 if (a < 0) == (b < 0) else -1)
+class Expressions(Places):
+    # ---- lines
 
+    def emit(self, text, place=None):
+        if self.depth > 55:
+            self.refuse(self.here, "statements inside one another, over 55")
+        self.lines.append((place or self.here, self.depth, text))
 
-def plain(number, name):
-    """A cell's number as the C value: an unsigned long is held by its bits."""
-    return number & ((1 << 64) - 1) if name == "ulong" else number
+    def close(self, text="}"):
+        """What stays on the line before."""
+        self.lines.append((None, self.depth, text))
 
+    def inside(self, act):
+        self.depth += 1
+        made = act()
+        self.depth -= 1
+        return made
 
-def folded(op, left, right, name):
-    """The number of a binary operation in the type `name`, or None where C defines none."""
-    made = ARITHMETIC[op](plain(left, name), plain(right, name))
-    if made is None or op in COMPARISONS:
-        return None if made is None else int(made)
-    low, high = limits(name)
-    return wrapped(made, name) if name in UNSIGNED or op == "<<" or low <= made <= high else None
+    def captured(self, act):
+        """The lines that `act` wrote, which are taken out, and what it gives."""
+        kept, self.lines = self.lines, []
+        try:
+            made = act()
+            return self.lines, made
+        finally:
+            self.lines = kept
 
+    def new_name(self, name):
+        """The name of a variable of the front's own."""
+        made = self.fresh(name)
+        self.user.own.add(made)
+        self.locals += 1
+        return made
 
-class Expressions(Declarations):
-    def expr(self, node):
-        """The typed expression; a place where it is an lvalue."""
-        here, self.here = self.here, place_of(node, self.here)
+    def temporary(self, type, text=None):
+        made = self.new_name("t")
+        self.emit(f"{type} {made}{'' if text is None else ' = ' + text};")
+        return made
+
+    def spilled(self, value):
+        """A value in a variable of its own."""
+        heap = value.type is not None and value.type.kind == "ptr"
+        kind = self.type_text(value.type.bare(), value.node) if heap else "long" if value.wide else "int"
+        made = Value(self.temporary(kind, value.text), PRIMARY, value.low, value.high, value.wide)
+        return made.typed(value.type, value.node)
+
+    def stable(self, value):
+        """The value, so that its text may be written several times and evaluated later."""
+        return self.spilled(value) if value.calls or value.reads or value.height > 1 else value
+
+    def in_order(self, *makers):
+        """Values of several operands, from left to right: what an operand writes comes after those before it."""
+        values = []
+        for maker in makers:
+            lines, value = self.captured(maker)
+            if lines:
+                values = [self.spilled(old) if old.calls or old.reads else old for old in values]
+            self.lines += lines
+            values.append(value)
+        return values
+
+    # ---- the walk
+
+    def visit(self, node, use=VALUE):
+        """A place where the expression is an lvalue, else a value."""
+        here = self.here
+        if not self.inlined:
+            self.here = place_of(node, here)
         handler = getattr(self, "x_" + type(node).__name__, None)
         if handler is None:
-            self.refuse(node, {"Compound": "statement expression"}.get(type(node).__name__, type(node).__name__))
-        made = handler(node)
-        made.source = made.source or node
+            self.refuse(node, SPOKEN.get(type(node).__name__, type(node).__name__))
+        made = handler(node, use)
+        if isinstance(made, Place) and made.source is None:
+            made.source = node
+            if made.kind == "cell":
+                self.user.lvalue(self.here, made.text, node)
         self.here = here
         return made
 
-    def rvalue(self, node):
-        return self.value(self.expr(node))
+    def value(self, node):
+        made = self.visit(node)
+        made = self.loaded(made) if isinstance(made, Place) else made
+        return self.spilled(made) if made.height > 24 and made.type.kind == "int" else made
 
-    def make(self, kind, type, node=None, **parts):
-        return Expr(kind, self.here, type, node, **parts)
+    def place(self, node, use=VALUE):
+        made = self.visit(node, use)
+        made = made.struct or made.object or made if isinstance(made, Value) else made
+        return made if isinstance(made, Place) else self.refuse(self.here, "expression that is no place")
 
-    def value(self, expr):
-        """What a place holds; an array as a pointer to its first element, a function as a pointer to it."""
-        if expr.kind == "symbol":
-            return self.function_value(expr.symbol)
-        if expr.kind == "text":
-            return expr
-        if expr.kind not in ("var", "member", "index", "at"):
-            return expr
-        if expr.type.kind == "array":
-            made = self.make("decay", pointer(expr.type.to), self.address_class(expr), a=expr)
-        elif expr.type.kind == "func":
-            made = expr.a
-        else:
-            if expr.type.kind not in ("int", "ptr", "struct"):
-                self.refuse(expr.place, f"{expr.type.shown()} as a value")
-            made = self.make("value", expr.type, self.content(expr), a=expr)
-        made.source = expr.source
+    def effect(self, node):
+        made = self.visit(node, EFFECT)
+        if isinstance(made, Value) and made.calls:
+            self.spilled(made)
+
+    def peeked(self, node, act=None):
+        """The value of an expression that is not evaluated."""
+        accesses = dict(self.accesses)
+        made = self.captured(lambda: (act or self.value)(node))[1]
+        self.accesses = accesses
         return made
 
-    def content(self, place):
-        """The class of the pointers that a place holds."""
-        if place.type.base().kind != "ptr":
-            return None
-        if place.kind == "var":
-            return place.symbol.content
-        if place.kind == "member":
-            return self.structs[place.struct].fields[place.field].content
-        return self.content_of_array(place.a) if place.kind == "index" else place.a.node.pointee()
-
-    def content_of_array(self, place):
-        while place.kind == "index":
-            place = place.a
-        return self.content(place)
-
-    def address_class(self, place):
-        """The class of the pointers to a place, or to the elements of one that is an array."""
-        if place.kind == "var":
-            return place.symbol.address
-        if place.kind == "member":
-            made = self.address_class(place.a).member((place.struct, place.field))
-            self.holds(place.type, self.structs[place.struct].fields[place.field].content, made)
-            return made
-        inner = place.a.node if place.kind == "at" else self.address_class(place.a)
-        return inner if place.b.number == 0 else inner.other_element()
-
-    def function_value(self, symbol):
-        made = self.make("function", pointer(symbol.type), self.classes.new(self.here), symbol=symbol)
-        root = made.node.find()
-        root.functions[symbol] = self.here
-        symbol.pointed = True
-        for number, param in enumerate(symbol.params):
-            unite(root.argument(number), param.content)
-        unite(root.argument("result"), symbol.content)
+    def condition(self, node):
+        made = self.value(node)
+        if made.type.kind not in ("int", "ptr"):
+            self.refuse(self.here, f"{made.type.shown()} as a condition")
         return made
 
-    def flows(self, kind, content, expr):
-        """`expr` becomes the value of an object of this type and class of contents."""
-        if kind.kind == "ptr":
-            if expr.type.kind == "ptr":
-                if not null(expr):
-                    unite(content, expr.node)
-            elif not null(expr):
-                self.refuse(expr.place, "number as a pointer")
+    def truth(self, value):
+        """A condition as 0 or 1."""
+        if value.type.kind == "ptr" and not value.null() and self.how(value.node, self.here) in HEAP:
+            return value.derived(f"{value.at_level(7)} != NULL", 6, (0, 1), False)
+        return self.arithmetic.convert(value, "bool")
+
+    def flows(self, kind, content, value):
+        """`value` becomes the value of an object of this type and class of contents."""
+        if kind.kind == "ptr" and value.type.kind == "ptr":
+            if not value.null():
+                content.unite(value.node)
+        elif kind.kind == "ptr":
+            if not value.null():
+                self.refuse(self.here, "number as a pointer")
         elif kind.kind == "int":
-            if expr.type.kind == "ptr" and kind.name != "bool" or expr.type.kind not in ("int", "ptr"):
-                self.refuse(expr.place, f"{expr.type.shown()} as a number")
-        elif kind.key() != expr.type.key():
-            self.refuse(expr.place, f"{expr.type.shown()} as {kind.shown()}")
+            if value.type.kind == "ptr" and kind.name != "bool" or value.type.kind not in ("int", "ptr"):
+                self.refuse(self.here, f"{value.type.shown()} as a number")
+        elif kind.key() != value.type.key():
+            self.refuse(self.here, f"{value.type.shown()} as {kind.shown()}")
 
-    def integer_only(self, *exprs):
-        for expr in exprs:
-            if expr.type.kind != "int":
-                self.refuse(expr.place, f"operator on {expr.type.shown()}")
+    def fitting(self, value, kind, content):
+        """A value as an object of this type and class holds it."""
+        self.flows(kind, content, value)
+        if kind.kind == "ptr":
+            return value.typed(kind.bare(), content, text=self.pointer_text(value, content), place=value.place,
+                               object=value.object)
+        made = self.truth(value) if kind.name == "bool" else self.arithmetic.convert(value, kind.name)
+        return made.typed(kind.bare())
+
+    def integers(self, *values):
+        for value in values:
+            if value.type.kind != "int":
+                self.refuse(self.here, f"operator on {value.type.shown()}")
+        return values
 
     # ---- primary expressions
 
-    def x_Constant(self, node):
+    def x_Constant(self, node, _):
         if node.type == "string":
-            data = self.string_bytes(node)
-            made = self.make("text", pointer(CHAR), self.classes.new(self.here), data=data)
-            made.node.globals[(self.strings, ())] = self.here
-            made.node.point_to(CHAR, self.here)
-            unite(made.node, self.strings.address)
-            return made
+            return self.literal(self.string_bytes(node))
         if node.type == "char":
             data = self.escapes(node, node.value[1:-1]) if node.value[0] == "'" else []
-            if len(data) != 1:
-                self.refuse(node, "character of this form")
-            return self.constant(data[0], INT, self.here)
+            return number(data[0]).typed(INT) if len(data) == 1 else self.refuse(node, "character of this form")
         if "float" in node.type or "double" in node.type:
             self.refuse(node, "floating point")
         digits, suffix = re.fullmatch(r"(.*?)([uUlL]*)", node.value).groups()
-        octal = re.fullmatch(r"0[0-7]+", digits)
-        number = int(digits, 8) if octal else int(digits, 0)
-        return self.number(number, suffix.lower(), digits[0] == "0" and digits != "0")
-
-    def number(self, number, suffix, octal):
-        """A constant of the first type that holds it (C11 6.4.4.1)."""
-        for name in ("int", "uint", "long", "ulong"):
-            if name[0] == "u" and not octal and "u" not in suffix or "u" in suffix and name[0] != "u":
+        value, suffix = int(digits, 8 if re.fullmatch("0[0-7]+", digits) else 0), suffix.lower()
+        for name in ("int", "uint", "long", "ulong"):  # the first type that holds it (C11 6.4.4.1)
+            decimal = digits[0] != "0" or digits == "0"
+            if name[0] == "u" and decimal and "u" not in suffix or "u" in suffix and name[0] != "u":
                 continue
-            if "l" in suffix and BITS[name] < 64 or number >> BITS[name] - (name[0] != "u"):
-                continue
-            return self.constant(wrapped(number, name), integer(name), self.here)
-        return self.refuse(self.here, "constant over 64 bits")
+            if not ("l" in suffix and BITS[name] < 64 or value >> BITS[name] - (name[0] != "u")) or value < 0:
+                return number(wrapped(value, name)).typed(Type("int", name))
+        return self.refuse(node, "constant over 64 bits")
 
-    def x_ID(self, node):
-        found = self.lookup(node.name)
+    def literal(self, data):
+        """A string: the number of its first character among those of all, from 1."""
+        start = self.text_pool.setdefault(tuple(data), sum(map(len, self.text_pool)))
+        return number(start + 1).typed(pointer(CHAR), self.strings.address, const=False)
+
+    def x_ID(self, node, _):
+        found = self.lookup(node.name, self.scopes)
+        if isinstance(found, Value):
+            return found
         if isinstance(found, int):
-            return self.constant(found, INT, self.here)
-        if isinstance(found, Symbol):
-            found.uses += 1
-            if found.kind == "function":
-                return self.make("symbol", found.type, symbol=found)
-            return self.make("var", found.type, symbol=found)
-        if found is not None:
-            self.refuse(node, None)
-        return self.refuse(node, f"name {node.name.replace('__sharc_', '')}, which is not known")
+            return number(found).typed(INT)
+        if not isinstance(found, Symbol):
+            known = f"name {node.name.replace('__sharc_', '')}, which is not known"
+            self.refuse(node, known if found is None else None)
+        found.uses.add(id(node))
+        if found.kind == "function":
+            return self.function_value(found, node)
+        if found.kind == "global" and found not in self.globals:
+            self.late(self.here, f"variable {found.name}, which is not defined here")
+        return self.accessed(self.variable_place(found), node)
 
-    def x_StructRef(self, node):
-        base = self.expr(node.name)
+    def function_value(self, symbol, node):
+        made = self.once(node, lambda: self.classes.new(self.here))
+        made.find().functions[symbol] = self.here
+        symbol.pointed = True
+        for at, param in enumerate(symbol.params):
+            made.part("argument", at).unite(param.content)
+        made.part("result").unite(symbol.content)
+        at = self.numbers.setdefault(symbol, len(self.numbers) + 1)
+        return number(at).typed(pointer(symbol.type), made, function=symbol, const=False)
+
+    def x_StructRef(self, node, use):
+        base = self.visit(node.name, STABLE if use is STABLE else VALUE)
         if node.type == "->":
-            base = self.deref(self.value(base))
-        if base.type.kind != "struct":
+            base = self.deref(self.loaded(base) if isinstance(base, Place) else base)
+        base = base.struct if isinstance(base, Value) else base
+        if base is None or base.type.kind != "struct":
             self.refuse(node, "member of what is no struct")
-        struct = self.structs[base.type.name]
-        if node.field.name not in struct.fields:
+        field = self.structs[base.type.name].fields.get(node.field.name)
+        if field is None:
             self.refuse(node, f"member {node.field.name}")
-        kind = struct.fields[node.field.name].type
-        if kind.kind == "bad":
-            self.refuse(node, None)
-        made = self.make("member", kind, a=base, struct=struct.name, field=node.field.name)
-        if struct.fields[node.field.name].alone:
-            return self.make("index", kind.to, a=made, b=self.constant(0, INT, self.here))
-        return made
+        made = self.accessed(self.member(base, node.field.name), node)
+        return self.element(made, number(0)) if field.alone else made
 
-    def deref(self, pointer_value, index=None):
-        """Element `index` of what a pointer points to."""
-        if pointer_value.type.kind != "ptr":
-            self.refuse(self.here, "dereference of a number")
-        to = pointer_value.type.to
-        if to.kind == "void":
-            self.refuse(self.here, "dereference of void *")
-        if to.kind == "func":
-            return pointer_value
-        index = index or self.constant(0, INT, self.here)
-        if pointer_value.kind == "decay":
-            return self.make("index", to, a=pointer_value.a, b=index)
-        if pointer_value.kind == "address" and index.number == 0:
-            return pointer_value.a
-        self.points(pointer_value.node, pointer_value.type)
-        if index.number != 0:
-            pointer_value.node.find().indexed = self.here
-        return self.make("at", to, a=pointer_value, b=index)
+    def index(self, node, use):
+        value = self.integers(self.value(node))[0]
+        return self.spilled(value) if value.calls or use is STABLE and value.reads else value
 
-    def x_ArrayRef(self, node):
-        base, index = self.rvalue(node.name), self.rvalue(node.subscript)
-        if index.type.kind == "ptr":
-            base, index = index, base
-        self.integer_only(index)
-        return self.deref(base, index)
+    def x_ArrayRef(self, node, use):
+        base, other = self.value(node.name), node.subscript
+        if base.type.kind == "int":
+            base, other = self.value(node.subscript), node.name
+        if use is STABLE and base.reads and base.array is None and self.how(base.node, self.here) == "global":
+            base = self.spilled(base)
+        return self.deref(base, self.index(other, use))
 
-    def x_CompoundLiteral(self, node):
+    def x_CompoundLiteral(self, node, _):
         kind = self.type(node.type)
         if kind.kind == "array" and kind.length is None:
-            kind = array(kind.to, self.counted(kind, node.init))
+            kind = kind.with_(length=self.counted(kind, node.init))
         if self.function is None:
             self.refuse(node, "compound literal outside a function")
-        symbol = self.declare(self.fresh("literal"), "local", kind, node)
-        symbol.initial = self.initialiser(kind, node.init, symbol)
-        self.local_whole(symbol)
-        return self.make("var", kind, symbol=symbol, literal=True)
+        symbol = self.once(node, lambda: self.declare("literal", "local", kind, node))
+        symbol.initial = self.scalars(kind, node.init)
+        self.declare_local(symbol)
+        return self.variable_place(symbol)
 
     # ---- operators
 
-    def x_UnaryOp(self, node):
-        if node.op == "sizeof":
-            kind = self.type(node.expr) if isinstance(node.expr, A.Typename) else self.measured(node.expr)
-            self.complete(kind, node) if kind.kind not in ("attr", "void") else None
-            made = self.make("size", ULONG, of=kind)
-            made.number = self.size(kind)
-            return made
-        if node.op == "&":
-            if isinstance(node.expr, A.UnaryOp) and node.expr.op == "*":
-                return self.rvalue(node.expr.expr)
-            return self.address(self.expr(node.expr))
-        if node.op == "*":
-            return self.deref(self.rvalue(node.expr))
-        if node.op in ("++", "--", "p++", "p--"):
-            return self.step(self.expr(node.expr), node.op[-1], node.op[0] == "p")
-        inner = self.rvalue(node.expr)
-        if node.op == "!":
-            return self.compare("==", inner, self.constant(0, INT, self.here))
-        self.integer_only(inner)
-        name = promoted(inner.type.name)
-        made = self.make("unary", integer(name), op=node.op, a=inner)
-        if inner.number is not None:
-            number = plain(inner.number, name)
-            number = wrapped({"-": -number, "+": number, "~": ~number}[node.op], name)
-            made.number = None if name == "int" and number == -(1 << 31) and node.op == "-" else number
-        return made
+    def x_UnaryOp(self, node, use):
+        op, inner = node.op, node.expr
+        if op == "sizeof":
+            return self.sized(node)
+        if op == "&":
+            return self.address_of(inner, use)
+        if op in ("++", "--", "p++", "p--"):
+            return self.changed(inner, op[-1], lambda: number(1).typed(INT), use, after=op[0] == "p")
+        value = self.value(inner)
+        if op == "*":
+            if use is STABLE and value.reads:
+                value = self.spilled(value) if self.how(value.node, self.here) == "global" else value
+            return value if value.type.kind == "ptr" and value.type.to.kind == "func" else self.deref(value)
+        if op == "!":
+            return self.compared("==", value, number(0).typed(INT))
+        name = promoted(self.integers(value)[0].type.name)
+        return self.arithmetic.unary(op, value, name).typed(Type("int", name))
 
-    def measured(self, node):
-        """The type of the operand of sizeof, which is not evaluated."""
-        if isinstance(node, A.Constant) and node.type == "string":
-            return array(CHAR, len(self.string_bytes(node)))
-        return self.expr(node).type
+    def sized(self, node):
+        """The size of a type, which knows its type: it may be a part of what malloc takes."""
+        inner = node.expr
+        if isinstance(inner, A.Typename):
+            kind = self.type(inner)
+        elif isinstance(inner, A.Constant) and inner.type == "string":
+            kind = array(CHAR, len(self.string_bytes(inner)))
+        else:
+            kind = self.peeked(inner, self.visit).type
+        if kind.kind not in ("attr", "void"):
+            self.complete(kind, node)
+        size = self.size(kind)
+        if size is None:
+            self.refuse(node, "sizeof of this type")
+        return number(size).typed(ULONG, unit=(kind, []))
 
-    def address(self, place):
-        if place.kind == "symbol":
-            return self.function_value(place.symbol)
-        if place.kind == "at":
-            return self.add(place.a, place.b, "+", self.is_element())
-        if place.kind == "index" and place.type.kind != "array":
-            return self.add(self.value(place.a), place.b, "+", self.is_element())
-        if place.kind not in ("var", "member", "index"):
-            self.refuse(self.here, "address of this form")
-        if place.type.kind == "array":
-            return self.make("decay", pointer(place.type), self.address_class(place), a=place)
-        self.box(place)
-        return self.make("address", pointer(place.type), self.address_class(place), a=place)
+    def address_of(self, inner, use):
+        if isinstance(inner, A.UnaryOp) and inner.op == "*":
+            return self.value(inner.expr)
+        if isinstance(inner, A.ArrayRef):
+            base, at = self.in_order(lambda: self.value(inner.name), lambda: self.value(inner.subscript))
+            base, at = (at, base) if base.type.kind == "int" else (base, at)
+            if base.type.to.kind != "array":
+                return self.added(base, *self.integers(at), "+", inner)
+        made = self.visit(inner, use)
+        if isinstance(made, Value):
+            return made if made.function else self.refuse(inner, "address of this form")
+        if made.access is not None:
+            self.accesses.pop(made.access, None)
+        if made.form == "index" and made.zero and made.type.kind != "array":
+            return self.added(self.decayed(made.parent), number(0).typed(INT), "+", inner)
+        return self.address(made)
 
-    def box(self, place):
-        """The address of a local, or of a part of one, is taken."""
-        path = ()
-        while place.kind == "member":
-            path, place = (place.field,) + path, place.a
-        if place.kind == "var" and place.symbol.kind != "global":
-            if path:
-                place.symbol.boxed_parts.add(path)
-            else:
-                place.symbol.boxed = True
-
-    def is_element(self):
-        """Whether `&a[0]` is written, which may be meant as the array or as its first element."""
-        return self.classes.new(self.here)
-
-    def add(self, base, index, op, first=None):
-        """The pointer to another element; `first` is the class of one that is written &a[0]."""
-        if base.type.to.kind in ("void", "func"):
+    def added(self, base, at, op, first=None):
+        """The pointer to another element; `first` is the expression where it is written &a[0]."""
+        to = base.type.to
+        if to.kind in ("void", "func"):
             self.refuse(self.here, f"arithmetic on {base.type.shown()}")
-        if index.number == 0 and first is None:
+        if at.null() and first is None:
             return base
-        if index.number == 0:
-            self.classes.firsts.append((first, base.node))
-        node = base.node.other_element() if index.number != 0 else first
-        node.point_to(base.type.to.base() if base.type.to.kind == "array" else base.type.to, self.here)
-        if base.type.to.kind == "ptr":
-            unite(node.pointee(), base.node.pointee())
-        base.node.find().order = base.node.find().order or self.here
-        return self.make("add", base.type.bare(), node, a=base, b=index, op=op)
+        node = self.once(first, lambda: self.classes.new(self.here)) if at.null() else base.node.part("element")
+        if at.null():
+            self.classes.firsts.append((node, base.node))
+        node.point_to(to)
+        if to.kind == "ptr":
+            node.part("target").unite(base.node.part("target"))
+        root = base.node.find()
+        root.order = root.order or self.here
+        return self.moved(base, at, op, node).typed(base.type.bare(), node, element=base)
 
-    def step(self, place, op, after):
-        if place.kind not in ("var", "member", "index", "at") or place.type.kind not in ("int", "ptr"):
-            self.refuse(self.here, f"{op}{op} of this form")
-        self.written(place)
-        if place.type.kind == "ptr":
-            moved = self.add(self.value(place), self.constant(1, INT, self.here), op)
-            unite(self.content(place), moved.node)
-        return self.make("step", place.type, self.content(place), a=place, op=op, after=after)
+    def moved(self, base, at, op, node):
+        how = self.how(base.node, self.here)
+        if at.null() and node.find() is base.node.find():
+            return base
+        if how == "global":
+            return summed(base, scaled(at, base.type.to.cells()), op)
+        if how != "boxes":
+            self.late(self.here, MOVED)
+            return base
+        at = self.arithmetic.unary("-", at, "long") if op == "-" else at
+        base = self.spilled(base) if base.calls else base
+        start = base.array.start if base.array else number(0)
+        return Value(f"{base.at_level(PRIMARY)}[{summed(start, at).text}]", reads=True)
 
-    def written(self, place):
-        if place.kind == "var":
-            place.symbol.assigned = True
-
-    def x_BinaryOp(self, node):
+    def x_BinaryOp(self, node, _):
         if node.op in ("&&", "||"):
-            left, right = self.rvalue(node.left), self.rvalue(node.right)
-            for side in (left, right):
-                if side.type.kind not in ("int", "ptr"):
-                    self.refuse(node, f"{side.type.shown()} as a condition")
-            made = self.make("logical", INT, op=node.op, a=left, b=right)
-            if left.type.kind == right.type.kind == "int" and left.number is not None:
-                decided = (left.number != 0) == (node.op == "||")
-                made.number = int(node.op == "||") if decided else \
-                    None if right.number is None else int(right.number != 0)
-            return made
-        return self.binary(node.op, self.rvalue(node.left), self.rvalue(node.right))
+            return self.logical(node)
+        left, right = self.in_order(lambda: self.value(node.left), lambda: self.value(node.right))
+        return self.binary(node.op, left, right)
 
     def binary(self, op, left, right):
+        kinds = (left.type.kind, right.type.kind)
         if op in COMPARISONS:
-            return self.compare(op, left, right)
-        if "ptr" in (left.type.kind, right.type.kind):
-            if op == "-" and left.type.kind == right.type.kind:
-                unite(left.node, right.node)
-                left.node.find().order = self.here
-                return self.make("apart", LONG, a=left, b=right)
-            if op not in "+-" or op == "-" and right.type.kind == "ptr" or left.type.kind == right.type.kind:
+            return self.compared(op, left, right)
+        if kinds == ("ptr", "ptr") and op == "-":
+            left.node.unite(right.node)
+            left.node.find().order = self.here
+            if self.how(left.node, self.here) != "global":
+                self.late(self.here, "difference of pointers to an object of the heap or a local")
+            made = self.arithmetic.binary("-", left, right, "long")
+            return self.arithmetic.binary("/", made, number(left.type.to.cells()), "long").typed(LONG)
+        if "ptr" in kinds:
+            if op not in "+-" or op == "-" and kinds[1] == "ptr":
                 self.refuse(self.here, f"operator {op} on a pointer")
-            base, index = (left, right) if left.type.kind == "ptr" else (right, left)
-            self.integer_only(index)
-            return self.add(base, index, op)
-        self.integer_only(left, right)
+            left, right = (left, right) if kinds[0] == "ptr" else (right, left)
+            return self.added(left, *self.integers(right), op)
+        self.integers(left, right)
         name = promoted(left.type.name) if op in ("<<", ">>") else usual(left.type.name, right.type.name)
-        made = self.make("binary", integer(name), op=op, a=left, b=right)
-        if left.number is not None and right.number is not None:
-            second = right.number if op in ("<<", ">>") else wrapped(right.number, name)
-            made.number = folded(op, wrapped(left.number, name), second, name)
-            if op in ("<<", ">>") and not 0 <= right.number < BITS[name]:
-                made.number = None
-        return made
+        made = self.arithmetic.binary(op, left, right, name)
+        unit = None
+        if op == "*" and (left.unit or right.unit):
+            (kind, factors), other = (left.unit, right) if left.unit else (right.unit, left)
+            unit = (kind, factors + [other])
+        return made.typed(Type("int", name), unit=unit)
 
-    def compare(self, op, left, right):
-        made = self.make("compare", INT, op=op, a=left, b=right)
-        if "ptr" in (left.type.kind, right.type.kind):
-            for side, other in ((left, right), (right, left)):
-                if side.type.kind != "ptr" and not null(side):
-                    self.refuse(self.here, "comparison of a pointer with a number")
-            if not null(left) and not null(right):
-                unite(left.node, right.node)
-            if op not in ("==", "!="):
-                (right if null(left) else left).node.find().order = self.here
-            return made
-        self.integer_only(left, right)
-        if left.number is not None and right.number is not None:
-            name = usual(left.type.name, right.type.name)
-            made.number = folded(op, wrapped(left.number, name), wrapped(right.number, name), name)
-        return made
+    def compared(self, op, left, right):
+        if "ptr" not in (left.type.kind, right.type.kind):
+            self.integers(left, right)
+            return self.arithmetic.compare(op, left, right, usual(left.type.name, right.type.name)).typed(INT)
+        for side in (left, right):
+            if side.type.kind != "ptr" and not side.null():
+                self.refuse(self.here, "comparison of a pointer with a number")
+        if left.null() and right.null():
+            return number(int(op == "==")).typed(INT)
+        node = (right if left.null() else left).node
+        if not left.null() and not right.null():
+            left.node.unite(right.node)
+        if op not in ("==", "!="):
+            node.find().order = self.here
+            if self.how(node, self.here) != "global":
+                self.late(self.here, "order of pointers to objects of the heap or locals")
+        level = 6 if op in ("==", "!=") else 7
+        left, right = (side.typed(side.type, node, text=self.pointer_text(side, node)) for side in (left, right))
+        text = f"{left.at_level(level)} {op} {right.at_level(level + 1)}"
+        return left.derived(text, level, (0, 1), False, right).typed(INT)
 
-    def x_Assignment(self, node):
-        place, right = self.expr(node.lvalue), self.rvalue(node.rvalue)
-        if place.kind not in ("var", "member", "index", "at") or place.type.kind not in ("int", "ptr", "struct"):
-            self.refuse(node, "assignment of this form")
-        self.written(place)
-        if node.op != "=":
-            current = self.value(place)
-            changed = self.binary(node.op[:-1], current, right)
-            self.flows(place.type, self.content(place), changed)
-            return self.make("assign", place.type, self.content(place), a=place, b=right, op=node.op[:-1])
-        self.flows(place.type, self.content(place), right)
-        return self.make("assign", place.type, self.content(place), a=place, b=right, op=None)
+    def logical(self, node):
+        level, left = (1 if node.op == "||" else 2), self.condition(node.left)
+        lines, right = self.inside(lambda: self.captured(lambda: self.condition(node.right)))
+        decided = left.const and (left.low != 0) == (node.op == "||")
+        if decided or left.const and right.const:
+            return number(int(node.op == "||") if decided else int(right.low != 0)).typed(INT)
+        if not lines:
+            text = f"{left.at_level(level)} {node.op} {right.at_level(level + 1)}"
+            return left.derived(text, level, (0, 1), False, right).typed(INT)
+        made = self.temporary("int", "0" if node.op == "&&" else "1")
+        self.emit(f"if ({left.text if node.op == '&&' else '!' + left.at_level(PRIMARY)}) {{")
+        self.lines += lines
+        self.inside(lambda: self.emit(f"{made} = {self.truth(right).text};"))
+        self.emit("}")
+        return Value(made, PRIMARY, 0, 1).typed(INT)
 
-    def x_TernaryOp(self, node):
-        chosen, left, right = self.rvalue(node.cond), self.rvalue(node.iftrue), self.rvalue(node.iffalse)
-        made = self.make("choose", left.type, cond=chosen, a=left, b=right)
+    def x_TernaryOp(self, node, use, target=None):
+        """cond ? a : b, in a variable, or put into the place `target`."""
+        test, act = self.condition(node.cond), self.effect if use is EFFECT else self.value
+        parts = [self.inside(lambda part=part: self.captured(lambda: act(part)))
+                 for part in (node.iftrue, node.iffalse)]
+        if use is not EFFECT:
+            left, right = (value for _, value in parts)
+            kind, content = self.common_type(left, right, node)
+            if test.const and test.type.kind == "int" and left.const and right.const and target is None:
+                return (left if test.low else right).typed(kind, content)
+            target = target or self.unnamed(kind, content)
+        self.emit(f"if ({test.text}) {{")
+        for (lines, value), brace in zip(parts, ("} else {", "}")):
+            self.lines += lines
+            if use is not EFFECT:
+                value = self.arithmetic.convert(value, kind.name).typed(kind) if kind.kind == "int" else value
+                self.inside(lambda value=value: self.put(target, value))
+            self.emit(brace)
+        return None if use is EFFECT else self.loaded(target)
+
+    def unnamed(self, kind, content):
+        """A variable of the front's own as a place."""
+        if kind.kind == "struct":
+            return self.struct_object(kind)
+        return Place("cell", self.temporary(self.type_text(kind, content)), kind, content=content, reads=False)
+
+    def common_type(self, left, right, node):
+        """The type of `?:`, and the class of pointers."""
         if left.type.kind == right.type.kind == "int":
-            made.type = integer(usual(left.type.name, right.type.name))
-            if None not in (chosen.number, left.number, right.number) and chosen.type.kind == "int":
-                made.number = wrapped(left.number if chosen.number else right.number, made.type.name)
-        elif "ptr" in (left.type.kind, right.type.kind):
-            pick = right if null(left) or left.type.kind == "ptr" and left.type.to.kind == "void" else left
-            made.type, made.node = pick.type, self.classes.new(self.here)
-            self.flows(made.type, made.node, left)
-            self.flows(made.type, made.node, right)
-        elif left.type.key() != right.type.key():
+            return Type("int", usual(left.type.name, right.type.name)), None
+        if "ptr" in (left.type.kind, right.type.kind):
+            pick = right if left.null() or left.type.kind == "ptr" and left.type.to.kind == "void" else left
+            content = self.once(node, lambda: self.classes.new(self.here))
+            self.flows(pick.type, content, left)
+            self.flows(pick.type, content, right)
+            return pick.type.bare(), content
+        if left.type.key() != right.type.key():
             self.refuse(node, "?: of two types")
-        return made
+        return left.type.bare(), None
 
-    def x_ExprList(self, node):
-        parts = [self.rvalue(part) for part in node.exprs]
-        return self.make("comma", parts[-1].type, parts[-1].node, parts=parts)
+    def x_ExprList(self, node, use):
+        for part in node.exprs[:-1]:
+            self.effect(part)
+        if use is EFFECT:
+            return self.effect(node.exprs[-1])
+        return self.value(node.exprs[-1])
 
-    def x_Cast(self, node):
-        kind, inner = self.type(node.to_type), self.rvalue(node.expr)
+    def x_Cast(self, node, use):
+        kind = self.type(node.to_type)
         if kind.kind == "void":
-            return self.make("cast", VOID, a=inner)
-        if kind.kind not in ("int", "ptr") or inner.type.kind not in ("int", "ptr"):
-            self.refuse(node, f"cast of {inner.type.shown()} to {kind.shown()}")
-        made = self.make("cast", kind, a=inner)
-        if kind.kind == "int" and inner.number is not None and inner.type.kind == "int":
-            made.number = wrapped(inner.number, kind.name)
+            self.effect(node.expr)
+            return None if use is EFFECT else Value("0", type=VOID)
+        value = self.value(node.expr)
+        if kind.kind not in ("int", "ptr") or value.type.kind not in ("int", "ptr"):
+            self.refuse(node, f"cast of {value.type.shown()} to {kind.shown()}")
         if kind.kind == "ptr":
-            made.node = inner.node or self.classes.new(self.here)
-            if inner.type.kind == "int" and not null(inner):
-                made.node.find().integer = self.here
-            elif not null(inner):
-                self.points(made.node, kind)
-        elif inner.type.kind == "ptr" and kind.name != "bool" and not null(inner):
-            inner.node.find().integer = self.here
-            if kind.name not in ("long", "ulong") and BITS[kind.name] > 32:
-                self.refuse(node, "pointer as a number")
+            return self.cast_to_pointer(node, kind, value)
+        if value.type.kind == "ptr" and kind.name != "bool" and not value.null():
+            value.node.find().integer = self.here
+            if self.how(value.node, self.here) not in ("integer", "none"):
+                self.late(self.here, "address as a number")
+        made = self.truth(value) if kind.name == "bool" else self.arithmetic.convert(value, kind.name)
+        return made.typed(kind, unit=value.unit)
+
+    def cast_to_pointer(self, node, kind, value):
+        made = value.node or self.once(node, lambda: self.classes.new(self.here))
+        if value.null():
+            return number(0).typed(kind, made)
+        if value.type.kind == "int":
+            made.find().integer = self.here
+            self.how(made, self.here)
+            return self.arithmetic.convert(value, "long").typed(kind, made, const=False)
+        self.points(made, kind)
+        return value.typed(kind, made, place=value.place, object=value.object, element=getattr(value, "element", None))
+
+    # ---- assignment
+
+    def x_Assignment(self, node, use):
+        if node.op != "=":
+            return self.changed(node.lvalue, node.op[:-1], lambda: self.value(node.rvalue), use)
+        place = self.writable(self.place(node.lvalue))
+        if place.type.kind == "struct" or use is EFFECT and not place.type.atomic:
+            self.store(place, node.rvalue)
+            return Value("", struct=place, type=place.type)
+        if self.allocation(node.rvalue):
+            self.allocate(place.text, self.allocation(node.rvalue), place.type, place.content)
+            return self.read(place)
+        value = self.fitting(self.value(node.rvalue), place.type, place.content)
+        if (place.reads or place.type.atomic) and not value.const:
+            value = self.spilled(value)
+        self.atomically(place, lambda: self.emit(f"{place.text} = {value.text};"))
+        return value if place.reads else self.read(place)
+
+    def writable(self, place):
+        if place.type.kind not in ("int", "ptr", "struct"):
+            self.refuse(self.here, "assignment of this form")
+        if place.access in self.accesses:
+            self.accesses[place.access].written = True
+        return place
+
+    def atomically(self, place, act):
+        """Changes of atomic variables are made under one mutex."""
+        atomic = place.type.atomic and not self.inlined
+        if atomic:
+            self.l_sharc_lock_atomics()
+        made = act()
+        if atomic:
+            self.l_sharc_unlock_atomics()
         return made
+
+    def changed(self, target, op, by, use, after=False):
+        """a op= b, a++: b first if it calls something, then a is read and written; the old value if `after`."""
+        lines, by = self.captured(by)
+        if lines or by.calls:
+            self.lines += lines
+            by = self.stable(by)
+        place = self.writable(self.place(target, STABLE))
+        by = self.stable(by) if place.type.atomic else by
+        return self.atomically(place, lambda: self.changed_place(place, op, by, use, after))
+
+    def changed_place(self, place, op, by, use, after):
+        old, reads = self.read(place), place.reads or place.type.atomic
+        if use is not EFFECT and after:
+            old = self.spilled(old)
+        new = self.operated(old, op, by, place.type, place.content)
+        if use is not EFFECT and not after and reads:
+            new = self.spilled(new)
+        self.emit(f"{place.text} = {new.text};")
+        return None if use is EFFECT else old if after else new if reads else self.read(place)
+
+    def operated(self, old, op, by, kind, content):
+        """old op by, in the type of the place."""
+        made = self.binary(op, old, by)
+        if kind.kind == "ptr" and made.type.kind == "ptr":
+            content.unite(made.node)
+        return self.fitting(made, kind, content)
 
     # ---- calls
 
-    def x_FuncCall(self, node):
+    def x_FuncCall(self, node, use):
         args = node.args.exprs if node.args else []
-        name = node.name.name if isinstance(node.name, A.ID) else None
-        known = self.lookup(name) if name else None
-        if name and known is None:
-            return self.library(node, name, args)
-        callee = self.expr(node.name)
-        if callee.kind == "symbol":
-            return self.direct(callee.symbol, args, node)
-        callee = self.value(callee)
-        if callee.type.kind != "ptr" or callee.type.to.kind != "func" or callee.type.to.name == "...":
-            self.refuse(node, "call of this form")
-        kinds = callee.type.to.params
-        if kinds is None or len(kinds) != len(args):
-            self.refuse(node, "call through a pointer with another number of arguments")
-        values = [self.rvalue(arg) for arg in args]
-        for number, (kind, value) in enumerate(zip(kinds, values)):
-            self.flows(kind, callee.node.argument(number), value)
-        result = callee.node.argument("result")
-        if callee.type.to.to.kind == "ptr":
-            self.points(result, callee.type.to.to)
-        return self.make("through", callee.type.to.to, result, a=callee, args=values)
+        found = self.lookup(node.name.name, self.scopes) if isinstance(node.name, A.ID) else node
+        if found is None:
+            return self.library(node, node.name.name, args, use)
+        symbol = found if isinstance(found, Symbol) else found.function if isinstance(found, Value) else None
+        if symbol is None or symbol.kind != "function":
+            text, kind, result = self.through(self.value(node.name), args)
+        else:
+            self.callable(symbol, args, node)
+            if symbol.inline:
+                return self.in_line(symbol, args, node)
+            values = self.arguments([p.type for p in symbol.params], [p.content for p in symbol.params], args)
+            text = f"{self.function_name(symbol)}({', '.join(value.text for value in values)})"
+            kind, result = symbol.type.to, symbol.content
+            self.seen("call", symbol, [(v.object, ".") if v.object else (v.place, "->") for v in values])
+            if symbol in self.thread_functions and kind.kind != "void" and use is not EFFECT:
+                self.refuse(node, f"result of a call of the thread function {symbol.name}")
+        if kind.kind == "struct":
+            made = self.temporary(f"struct {self.struct_name(kind.name)} *", text)
+            return Value("", struct=Place("fields", made + "->", kind, top=kind.name, given=True), type=kind)
+        if use is EFFECT or kind.kind == "void":
+            self.emit(text + ";")
+            return Value("0", type=VOID)
+        made = cell(text, kind.name) if kind.kind == "int" else Value(text)
+        made.calls = True
+        return made.typed(kind, result)
 
-    def direct(self, symbol, args, node):
-        if symbol.name == "main":
-            self.refuse(node, "call of main")
-        if symbol.type.name == "...":
-            self.refuse(node, f"call of {symbol.name}, which has variable arguments")
+    def callable(self, symbol, args, node):
+        symbol.called = True
+        if symbol.name == "main" or symbol.type.name == "...":
+            self.refuse(node, "call of main" if symbol.name == "main" else
+                        f"call of {symbol.name}, which has variable arguments")
         if len(symbol.params) != len(args):
             self.refuse(node, f"call of {symbol.name} with another number of arguments")
-        values = []
-        for param, arg in zip(symbol.params, args):
-            value = self.shown(arg) if param.text else self.rvalue(arg)
-            values.append(value)
-            if not param.text:
-                self.flows(param.type, param.content, value)
-        symbol.called = True
-        return self.make("call", symbol.type.to, symbol.content, symbol=symbol, args=values)
 
-    def shown(self, node):
-        """A string that is only shown: what is evaluated for it."""
-        if isinstance(node, A.TernaryOp):
-            return self.make("choose", VOID, cond=self.rvalue(node.cond), a=self.shown(node.iftrue),
-                             b=self.shown(node.iffalse))
-        if isinstance(node, A.Constant):
-            return self.make("nothing", VOID)
-        if isinstance(node, A.ID) and isinstance(self.lookup(node.name), Symbol) and self.lookup(node.name).text:
-            return self.make("nothing", VOID)
-        return self.rvalue(node)
+    def function_name(self, symbol):
+        if symbol.definition is None:
+            self.late(symbol.place, f"function {symbol.name}, which is not defined here")
+        return self.piece_name(symbol, ())
+
+    def arguments(self, kinds, contents, args):
+        """The arguments of a call; a struct goes by its parts."""
+        makers = []
+        for kind, content, arg in zip(kinds, contents, args):
+            if kind.kind == "struct":
+                value = self.value(arg)
+                self.flows(kind, content, value)
+                makers += [lambda part=part: self.read(part) for part in self.parts(value.struct, kind)]
+            else:
+                makers.append(lambda arg=arg, kind=kind, content=content: self.fitting(self.value(arg), kind, content))
+        values = self.in_order(*makers)
+        if len(values) > 16:
+            self.refuse(self.here, "call with over 16 arguments")
+        return values
+
+    def parts(self, place, kind):
+        """The cells of a struct that is passed by value."""
+        for name, field in self.structs[kind.name].fields.items():
+            part = self.member(place, name)
+            if field.type.kind == "struct":
+                yield from self.parts(part, field.type)
+            elif field.type.kind in ("int", "ptr"):
+                yield part
+            else:
+                self.refuse(self.here, "struct by value, with an array or mutex in it")
+
+    def through(self, value, args):
+        """A call by a pointer: a function of its own tries the numbers of all functions that it may be."""
+        kind = value.type.to if value.type.kind == "ptr" else None
+        if kind is None or kind.kind != "func" or kind.params is None or len(kind.params) != len(args):
+            self.refuse(self.here, "call of this form")
+        root, functions = value.node.find(), list(value.node.find().functions)
+        contents, result = [root.part("argument", at) for at in range(len(args))], root.part("result")
+        if kind.to.kind == "ptr":
+            self.points(result, kind.to)
+        if not self.learning and self.how(value.node, self.here) != "function":
+            self.refuse(self.here, "call through a pointer that is always NULL")
+        for symbol in functions:
+            if symbol in self.thread_functions:
+                self.refuse(self.here, f"call of the thread function {symbol.name} through a pointer")
+        chosen = self.spilled(value.typed(INT))
+        values = self.arguments(kind.params, contents, args)
+        if root not in self.calls_by:
+            self.calls_by[root] = (self.fresh("call"), kind, functions, self.here)
+        texts = [chosen.text] + [value.text for value in values]
+        return f"{self.calls_by[root][0]}({', '.join(texts)})", kind.to, result
+
+    # ---- functions that headers/ define inline: their bodies, with the arguments in place of the parameters
+
+    def bound(self, param, arg):
+        """What a parameter stands for: a place, an array, or a value that does not change."""
+        if isinstance(arg, A.UnaryOp) and arg.op == "&" and param.kind == "ptr" and param.to.kind != "func":
+            made = self.visit(arg.expr, STABLE)
+            if isinstance(made, Place) and (made.type.kind != "int" or made.form != "index"):
+                self.accesses.pop(made.access, None)
+                return Value("", object=made, type=pointer(made.type), node=self.address_class(made))
+        value = self.value(arg)
+        if param.kind == "ptr":
+            fixed = value.array or value.function or value.null() or value.place and not value.place.reads
+            value = value if fixed else self.spilled(value)
+            if param.to.kind == "struct":
+                return Value("", object=self.deref(value), type=param, node=value.node)
+            return value
+        return value if value.unit else self.stable(self.fitting(value, param, None))
+
+    def in_line(self, symbol, args, node):
+        """A call of a function of the headers."""
+        for param, arg in zip(symbol.params, args):
+            if param.name == "none" and not self.peeked(arg).null():
+                self.refuse(arg, f"argument of {symbol.name} that is not NULL")
+        values = {param.name: self.bound(param.type, arg) for param, arg in zip(symbol.params, args)}
+        return self.scoped(lambda: self.body_in_line(symbol, values, node))
+
+    def body_in_line(self, symbol, values, node):
+        self.scopes[-1].update(values)
+        kept, self.inlined = self.inlined, self.inlined + (id(node),)
+        first = next(iter(values.values()), None)
+        if first is not None and first.type.kind == "ptr":
+            self.scopes[-1]["__sharc_value"] = first.type.to.bare().with_(atomic=False)
+        try:
+            *parts, last = symbol.definition.body.block_items
+            self.statements(parts)
+            made, kind = self.value(last.expr), self.type(symbol.definition.decl.type.type)
+            return self.stable(self.fitting(made, kind, None)) if kind.kind == "int" else made
+        finally:
+            self.inlined = kept

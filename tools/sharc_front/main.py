@@ -10,7 +10,7 @@ import os
 import subprocess
 import sys
 
-from .source import HERE, Refusal, Several, Source
+from .source import HEADERS, HERE, Refusal, Several, Source
 
 COMMANDS = ("check", "explain", "run", "record")
 
@@ -23,55 +23,47 @@ class Words:
     """The words of the command line."""
 
     def __init__(self, words):
-        self.command, self.options, self.locks, self.file, self.rest, self.arguments = None, [], False, None, [], []
-        if "--" in words:
-            at = words.index("--")
-            words, self.arguments = words[:at], words[at + 1 :]
-        words = list(words)
-        while words:
+        at = words.index("--") if "--" in words else len(words)
+        words, self.arguments = list(words[:at]), words[at + 1 :]
+        self.command, self.options, self.locks, self.file, self.rest = None, [], False, None, []
+        while words and self.file is None:
             word = words.pop(0)
-            if self.file is not None:
-                self.rest.append(word)
+            if word[:2] in ("-I", "-D", "-U"):
+                self.options += [word] + ([words.pop(0)] if len(word) == 2 and words else [])
             elif word == "--locks":
                 self.locks = True
-            elif word[:2] in ("-I", "-D", "-U"):
-                self.options.append(word)
-                if word in ("-I", "-D", "-U"):
-                    self.options.append(words.pop(0) if words else "")
             elif word in COMMANDS and self.command is None:
                 self.command = word
             elif word.startswith("-"):
                 raise Usage
             else:
-                self.file = word
+                self.file, self.rest = word, words
         if self.file is None or self.rest and self.command not in ("run", "record") or self.locks and self.command:
             raise Usage
 
 
 def lowered(words):
     """(text, names, notes), or the refusals."""
-    from .analyse import Analysis
-    from .locks import Monitors, Proposals
     from .names import Names
-    from .output import Output, text_of
+    from .output import Front, text_of
     source, alone = Source(words.file, words.options), set()
     while True:
-        program = Analysis(source, words.file, words.arguments, frozenset(alone))
-        if words.locks and not program.refusals:
-            return "\n".join([*Proposals(program).lines(), ""]), None, []
-        names = Names()
-        if not program.refusals:
-            writer = Output(program, names, Monitors(program))
-            lines = writer.everything()
-        if program.wanted_alone <= alone:
+        names, lines = Names(), []
+        front = Front(source, words.file, words.arguments, frozenset(alone), names)
+        if words.locks and not front.refusals:
+            found = front.monitors.proposals(lambda place: place[0].startswith(HEADERS))
+            return "\n".join([*found, ""]), None, []
+        if not front.refusals:
+            lines = front.everything()
+        if front.wanted_alone <= alone:
             break
-        alone |= program.wanted_alone
-    if program.refusals:
-        raise Several([Refusal(place, what) for place, what in program.refusals])
+        alone |= front.wanted_alone
+    if front.refusals:
+        raise Several([Refusal(place, what) for place, what in front.refusals])
     text = text_of(lines)
     if len(text) > 1048576:
         raise Refusal((words.file, 1), "program whose lowered text is over 1048576 bytes")
-    return text, names, writer.notes
+    return text, names, front.notes
 
 
 def guarded(words):
@@ -91,27 +83,22 @@ def guarded(words):
 
 
 def told(refusals):
-    lines = {f"{file or '?'}:{line}: refused: {what}": (file, line) for (file, line), what in
-             ((refusal.place, refusal.what) for refusal in refusals) if what}
-    for line in sorted(lines, key=lambda line: (*map(str, lines[line][:1]), lines[line][1])):
-        sys.stderr.write(line + "\n")
+    lines = {(str(refusal.place[0] or "?"), refusal.place[1], refusal.what) for refusal in refusals if refusal.what}
+    for file, line, what in sorted(lines):
+        sys.stderr.write(f"{file}:{line}: refused: {what}\n")
     return 1
-
-
-def program_path():
-    return os.environ.get("SHARC") or os.path.join(HERE, "..", "..", "sharc")
 
 
 def answered(words, text, names, notes):
     """Runs the program on the text, and puts the names back."""
-    rest = words.rest
+    program, rest = os.environ.get("SHARC") or os.path.join(HERE, "..", "..", "sharc"), words.rest
     if words.command in ("run", "record") and not any(word.startswith("--granules") for word in rest):
         rest = [*rest, "--granules", "65536"]
     try:
-        done = subprocess.run([program_path(), words.command, *rest], input=text.encode(), stdout=subprocess.PIPE,
+        done = subprocess.run([program, words.command, *rest], input=text.encode(), stdout=subprocess.PIPE,
                               check=False)
     except OSError as error:
-        sys.stderr.write(f"sharc-c: {program_path()}: {error.strerror} (set SHARC to the built program)\n")
+        sys.stderr.write(f"sharc-c: {program}: {error.strerror} (set SHARC to the built program)\n")
         return 2
     output = done.stdout.decode("utf-8", "replace")
     if words.command == "record":
@@ -137,11 +124,9 @@ def main(arguments):
         sys.stderr.write("usage: sharc-c [check | explain | run | record | --locks] [-I DIR] [-D NAME] FILE.c "
                          "[OPTIONS OF run] [-- ARGUMENTS]\n")
         return 8
-    except Refusal as refusal:
-        return told([refusal])
-    except Several as several:
-        return told(several.refusals)
-    if words.command is None:
-        sys.stdout.write(text)
-        return 0
-    return answered(words, text, names, notes)
+    except (Refusal, Several) as refused:
+        return told(getattr(refused, "refusals", [refused]))
+    if words.command is not None:
+        return answered(words, text, names, notes)
+    sys.stdout.write(text)
+    return 0

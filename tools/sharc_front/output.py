@@ -1,252 +1,362 @@
-"""The whole text: structs, globals, functions and helpers, with line markers so that each line is where it was."""
+"""The whole program: it is walked once to learn and once to be written, with line markers so that each line is where it
+was in C."""
 
-import re
+from pycparser import c_ast as A
 
-from .classes import representation
-from .ctype import INT_RANGE
-from .places import RESERVED
-from .source import Refusal
-from .statements import Statements
-from .tree import null
-from .values import HELPERS, number
+from .ctype import BAD, CHAR, Type, array, pointer
+from .declare import Symbol, place_of
+from .locks import Event, Held, Monitors
+from .source import HEADERS, Refusal
+from .threads import Threads
+from .values import Arithmetic
 
 
-class Output(Statements):
-    def everything(self):
-        """All lines, in the order of the text."""
-        self.global_names = {symbol.name for symbol in self.program.globals} | set(self.program.functions)
-        self.later, self.own_names, parts, self.defined = [], set(), [], set(self.program.globals)
-        groups = list(dict.fromkeys(group for group, _ in self.program.groups.values()))
-        for symbol in self.program.globals + groups:
-            parts += self.guarded(symbol.place, lambda symbol=symbol: self.declare_global(symbol, groups))
-        globals_, functions = parts, []
-        for symbol in self.program.wanted():
-            if symbol.body is not None:
-                functions += self.guarded(symbol.place, lambda symbol=symbol: self.function_text(symbol))
-        first = self.guarded(("", 0), self.initialisers)
-        functions = [line for each in functions for line in (first if each[2] == "%initialisers%" else [each])]
-        functions += self.guarded(("", 0), self.dispatchers)
-        structs, done = [], 0
-        while done < len(self.used_structs):
-            structs += self.guarded(("", 0), lambda at=done: self.struct_text(self.used_structs[at]))
-            done += 1
-        more = self.guarded(("", 0), self.records)
-        while done < len(self.used_structs):
-            structs += self.guarded(("", 0), lambda at=done: self.struct_text(self.used_structs[at]))
-            done += 1
-        return structs + globals_ + more + functions + self.helper_lines()
+class Front(Threads):
+    def __init__(self, source, path, arguments, alone, user):
+        super().__init__(source, alone)
+        self.here, self.arguments_given, self.user = (path, 1), [path, *arguments], user
+        self.accesses, self.lock_places, self.groups, self.numbers, self.later = {}, {}, {}, {}, []
+        self.wanted_alone, self.joins, self.started, self.giving, self.thread_functions = set(), [], [], [], []
+        self.strings = self.hidden_global("strings", array(CHAR, 1))
+        self.words = self.hidden_global("arguments", array(pointer(CHAR), len(arguments) + 1))
+        self.words.content.unite(self.strings.address)
+        self.monitors = self
+        self.begin(True)
+        for item in source.tree.ext:
+            self.guarded(item, lambda item=item: self.outside(item))
+        done = set()
+        while len(done) < len(self.wanted()):
+            for symbol in [symbol for symbol in self.wanted() if symbol not in done]:
+                done.add(symbol)
+                self.guarded(symbol.definition, lambda symbol=symbol: self.walk_function(symbol))
+        if "main" not in self.functions or self.functions["main"].definition is None:
+            self.report_at((path, 1), "program without main")
+        self.results()
+        self.classes.settle()
+        self.classes.merge(self.group)
+        self.monitors = Monitors(self, self.accesses.values())
 
-    def guarded(self, place, act):
-        self.lines, self.depth = [], 0
+    def hidden_global(self, name, kind):
+        symbol = Symbol(name, "global", kind, self.here, self.classes)
+        symbol.address.globals[(symbol, ())] = self.here
+        self.holds(kind, symbol.content, symbol.address)
+        return symbol
+
+    def begin(self, learning):
+        """What is written, from its beginning."""
+        self.learning, self.lines, self.depth, self.loops, self.notes = learning, [], 0, [], []
+        self.pieces, self.leaves, self.struct_names, self.text_pool, self.calls_by = {}, {}, {}, {}, {}
+        self.visible, self.own_names, self.merged, self.locals, self.cells = {}, set(), {}, 0, 0
+        self.needs_atomics, self.reads_strings, self.held = None, False, Held()
+        self.arithmetic = Arithmetic(self.fresh)
+        self.global_names = set(self.scopes[0])
+
+    @staticmethod
+    def lock_of(_):
+        """While locks are being learnt no condition variable has one."""
+        return None
+
+    def guarded(self, item, act):
+        self.here, self.lines, self.depth = place_of(item, self.here), [], 0
         try:
             act()
         except Refusal as refusal:
-            self.program.report(refusal)
+            self.report(refusal)
+            name = getattr(item, "name", None)
+            if isinstance(name, str):
+                self.scopes[0][name] = BAD
         return self.lines
 
-    # ---- globals: one for each part of a struct, and one for all elements of an array
+    def report_at(self, place, what):
+        self.report(Refusal(place, what))
 
-    def declare_global(self, symbol, groups):
-        if symbol.initial and (symbol not in groups):
-            self.initial_values(symbol)
-        kind = symbol.type
-        if kind.const and kind.mode is None and kind.base().kind == "int" or kind.base().const and kind.kind == "array":
-            if kind.base().kind == "int" and kind.base().mode is None and kind.mode is None:
-                from .ctype import array
-                symbol.type = kind = self.marked_base(kind, "racy")
-        self.global_part(symbol, (), kind, symbol.content, None, symbol.place)
+    # ---- what the walk notes about locks
 
-    def marked_base(self, kind, mode):
-        from dataclasses import replace
-        return replace(kind, to=self.marked_base(kind.to, mode)) if kind.kind == "array" else kind.marked(mode)
+    def seen(self, kind, *about):
+        if self.learning:
+            self.accesses[(kind, len(self.accesses))] = Event(kind, self, *about)
 
-    def initial_values(self, symbol):
-        """Constants of scalars go to their declarations, all else is assigned by main."""
-        symbol.constants = {}
-        for path, expr in symbol.initial:
-            simple = all(isinstance(step, str) for step in path) and not self.in_group(symbol, path)
-            kind = self.program.part(symbol.type, path)
-            text = self.constant_text(expr, kind) if simple and kind.kind in ("int", "ptr") else None
-            if text is None and not (expr.number == 0 or expr.type.kind == "ptr" and null(expr)):
-                self.later.append((symbol, path, expr))
-            elif text is not None:
-                symbol.constants[path] = text
+    def accessed(self, place, node):
+        if self.learning and (place.form == "member" or place.symbol.kind == "global"):
+            place.access = (self.inlined, id(node))
+            self.accesses[place.access] = Event("access", self, place)
+        return place
 
-    def in_group(self, symbol, path):
-        return any((symbol, path[:at]) in self.program.groups for at in range(len(path) + 1))
+    @staticmethod
+    def start_of(_):
+        return Held()
 
-    def constant_text(self, expr, kind):
-        if kind.kind == "int" and expr.number is None:
+    # ---- outside functions
+
+    def wanted(self):
+        """The functions to be lowered: the program's own, and those of this folder's headers that are called."""
+        return [symbol for symbol in self.functions.values() if symbol.definition is not None and not symbol.inline
+                and (symbol.uses or symbol.called or not symbol.place[0].startswith(HEADERS))]
+
+    def outside(self, item):
+        """A declaration outside functions."""
+        if isinstance(item, A.Typedef):
+            self.typedef(item)
+        elif isinstance(item, A.FuncDef):
+            symbol = self.prototype(item.decl)
+            if item.param_decls or symbol.type.name == "...":
+                self.refuse(item, "function definition in the old style" if item.param_decls else "variable arguments")
+            symbol.definition = item
+        elif isinstance(item, A.Pragma):
+            self.refuse(item, "#pragma")
+        elif isinstance(item, A.Decl) and isinstance(item.type, A.FuncDecl):
+            self.prototype(item)
+        elif isinstance(item, A.Decl):
+            if item.name is None:
+                self.type(item.type)
+            else:
+                self.variable(item, "global")
+
+    def typedef(self, item):
+        inner = getattr(item.type, "type", None)
+        if isinstance(inner, A.Struct) and inner.name is None:
+            self.typedef_names.setdefault(id(inner), item.name)
+        self.scopes[-1][item.name] = BAD
+        self.scopes[-1][item.name] = self.type(item.type)
+
+    def prototype(self, decl):
+        """The symbol of a function, with its parameters."""
+        symbol = self.functions.get(decl.name)
+        if symbol is None:
+            kind = self.type(decl.type)
+            symbol = Symbol(decl.name, "function", kind, place_of(decl, self.here), self.classes)
+            self.functions[decl.name] = symbol
+            symbol.inline, symbol.pointed = "inline" in decl.funcspec and symbol.place[0].startswith(HEADERS), False
+            if kind.to.kind == "ptr":
+                self.points(symbol.content, kind.to)
+        if self.learning and symbol.definition is None:
+            self.parameters(symbol, decl.type)
+        self.scopes[0][decl.name] = symbol
+        return symbol
+
+    def parameters(self, symbol, decl):
+        known, symbol.params = symbol.params, []
+        for node in decl.args.params if decl.args else []:
+            kind = self.adjusted(self.type(node.type)) if not isinstance(node, (A.EllipsisParam, A.ID)) else None
+            if kind is None or kind.kind == "void":
+                continue
+            param = self.declare(getattr(node, "name", None) or "unnamed", "param", kind, node)
+            if len(symbol.params) < len(known):
+                param.content.unite(known[len(symbol.params)].content)
+            symbol.params.append(param)
+        if symbol.name == "main" and len(symbol.params) > 1:
+            symbol.params[1].content.unite(self.words.address)
+        symbol.type = symbol.type.with_(params=tuple(param.type for param in symbol.params))
+
+    def group(self, keys):
+        """An array in which several globals become elements, or None where they cannot."""
+        bases = [self.part(symbol.type, path).base() for symbol, path in keys]
+        inside = [self.part(symbol.type, path[:at]).kind for symbol, path in keys for at in range(len(path))]
+        alike = len({base.key() for base in bases}) == len({base.mode for base in bases}) == 1
+        if not alike or "array" in inside or any(symbol in (self.strings, self.words) for symbol, _ in keys):
             return None
-        if expr.type.kind == "ptr" and null(expr):
-            return None
-        lines, value = self.captured(lambda: self.argument(expr, kind, expr.node))
-        if lines or value.low != value.high or not re.fullmatch(r"-?\d+L?", value.text):
-            return None
-        return value.text
+        old = [found for found, _ in self.groups.values()]
+        members = [key for key in keys if key[0] not in old] + \
+            [key for key, (found, _) in self.groups.items() if (found, ()) in keys]
+        lengths = [self.part(key[0].type, key[1]).cells() for key in members]
+        base = bases[0].with_(const=all(base.const for base in bases))
+        symbol = Symbol("_".join(sorted({key[0].name for key in members}))[:40], "global", array(base, sum(lengths)),
+                        members[0][0].place, self.classes)
+        symbol.out = self.fresh(symbol.name)
+        self.groups = {key: found for key, found in self.groups.items() if (found[0], ()) not in keys}
+        for at, key in enumerate(members):
+            symbol.content.unite(self.path_content(*key))
+            self.groups[key] = (symbol, sum(lengths[:at]))
+        return symbol
 
-    def global_part(self, symbol, path, kind, content, context, place):
-        if (symbol, path) in self.program.groups:
+    # ---- the text
+
+    def everything(self):
+        """All lines, in the order of the text."""
+        self.names = set(self.source.words) | set(self.structs) | {symbol.out for symbol in self.globals}
+        for symbol in self.giving:
+            self.names |= {symbol.record, symbol.table, symbol.given}
+        groups = list(dict.fromkeys(group for group, _ in self.groups.values()))
+        self.begin(False)
+        globals_, functions = [], []
+        for symbol in self.globals + groups:
+            globals_ += self.guarded(None, lambda symbol=symbol: self.declare_global(symbol))
+        for symbol in self.wanted():
+            functions += self.guarded(symbol.definition, lambda symbol=symbol: self.walk_function(symbol))
+        first = self.guarded(self.functions["main"].definition, self.initialisers)
+        functions = [line for each in functions for line in (first if each[2] == "%initialisers%" else [each])]
+        functions += self.guarded(None, self.dispatchers)
+        records, structs = self.guarded(None, self.records), []
+        for at in range(len(self.structs)):
+            if at < len(self.struct_names):
+                structs += self.guarded(None, lambda at=at: self.struct_text(list(self.struct_names)[at]))
+        return structs + globals_ + records + functions + self.guarded(None, self.helpers)
+
+    def declare_global(self, symbol):
+        kind, self.here = symbol.type, symbol.place
+        for path, item in symbol.initial:
+            self.initial_value(symbol, path, item)
+        if kind.base().kind == "int" and kind.base().const and not kind.base().mode and not kind.mode:
+            kind = self.racy(kind)
+        if (symbol, ()) in self.groups:
             return
-        name = self.piece_name(symbol, path)
         if kind.kind == "struct":
-            namer = (kind.name, lambda head: self.piece_name(symbol, path + (head,)))
-            for step, field in self.program.structs[kind.name].fields.items():
-                self.global_part(symbol, path + (step,), field.type, field.content, namer, field.place)
-            return
+            def name(path):
+                return None if (symbol, path) in self.groups else self.piece_name(symbol, path)
+            self.members(kind.name, (), name, lambda path, field, context: self.global_array(
+                symbol, path, field.type, field.content, context), lambda path: self.constant_text(symbol, path))
+        else:
+            self.global_part(symbol, (), kind)
+
+    def racy(self, kind):
+        return kind.with_(to=self.racy(kind.to)) if kind.kind == "array" else kind.with_(mode="racy")
+
+    def initial_value(self, symbol, path, item):
+        """Constants of scalars go to their declarations, all else is assigned by main."""
+        place, kind = self.variable_place(symbol), self.part(symbol.type, path)
+        grouped = any((symbol, path[:at]) in self.groups for at in range(len(path) + 1))
+        value = self.peeked(item)
+        if kind.kind == "struct" or grouped or any(isinstance(step, int) for step in path) or not value.const:
+            if not value.null():
+                self.later.append((symbol, path, item))
+        elif not value.null():
+            symbol.constants[path] = self.fitting(value, kind, self.path_content(symbol, path)).text
+
+    def global_part(self, symbol, path, kind):
+        content, name = self.path_content(symbol, path), self.piece_name(symbol, path)
         if kind.kind == "cond":
-            self.condition_cells(name, self.piece_name(symbol, path + ("m",)), self.monitors.lock_named(symbol, path),
-                                 context, place)
-            return
-        if kind.kind == "array":
-            self.global_array(symbol, path, kind, content, context, place)
-            return
-        if kind.kind in ("attr", "bad"):
-            return
-        value = getattr(symbol, "constants", {}).get(path)
-        if self.globals_cells(1) > 60000:
-            self.refuse(place, "globals of over 60000 cells")
-        self.emit(f"{self.type_text(kind, content, place, context, False)} {name}{' = ' + value if value else ''};",
-                  place)
+            self.condition_cells(name, self.piece_name(symbol, path + ("m",)), self.monitors.locks.get(symbol), None)
+        elif kind.kind == "array":
+            self.global_array(symbol, path, kind, content, None)
+        elif kind.kind != "attr":
+            self.count_cells(1)
+            self.emit(f"{self.type_text(kind, content, None, False)} {name}{self.constant_text(symbol, path)};")
 
-    def globals_cells(self, more):
-        self.cells = getattr(self, "cells", 0) + more
-        return self.cells
+    @staticmethod
+    def constant_text(symbol, path):
+        return f" = {symbol.constants[path]}" if path in symbol.constants else ""
 
-    def global_array(self, symbol, path, kind, content, context, place):
+    def members(self, struct, path, name, array, value=lambda path: ""):
+        """A cell for each member of a struct, as variables or fields: `name` gives names, `array` declares arrays."""
+        context = (struct, lambda head: name(path + (head,)))
+        for step, field in self.structs[struct].fields.items():
+            inner, kind, self.here = path + (step,), field.type, field.place
+            if name(inner) is None or kind.base().kind in ("attr", "bad"):
+                continue
+            if kind.kind == "struct":
+                self.members(kind.name, inner, name, array, value)
+            elif kind.kind == "cond":
+                lock = self.monitors.locks.get((struct, step))
+                self.condition_cells(name(inner), name(inner + ("m",)), lock, context)
+            elif kind.kind == "array":
+                array(inner, field, context)
+            else:
+                self.count_cells(1)
+                self.emit(f"{self.type_text(kind, field.content, context, False)} {name(inner)}{value(inner)};")
+
+    def count_cells(self, more):
+        self.cells += more
+        if self.cells > 60000:
+            self.refuse(self.here, "globals of over 60000 cells")
+
+    def global_array(self, symbol, path, kind, content, context):
         base, length = kind.base(), kind.cells()
         if base.kind in ("cond", "attr"):
             return
         if base.kind == "struct":
-            self.inner_arrays(symbol, path, base.name, length, ())
-        if kind.mode and base.mode is None:
-            base = base.marked(kind.mode)
-        if self.globals_cells(length * (8 if base.kind == "struct" else 1)) > 60000 or length > 65536:
-            self.refuse(place, f"array of {length} elements")
-        text = self.type_text(base, content, place, context, False)
-        self.emit(f"{text} {self.piece_name(symbol, path)}[{length}];", place)
+            self.inner_arrays(symbol, path, base.name, length)
+        base = base.with_(mode=base.mode or kind.mode)
+        self.count_cells(length * (8 if base.kind == "struct" else 1))
+        self.emit(f"{self.type_text(base, content, context, False)} {self.piece_name(symbol, path)}[{length}];")
 
-    def inner_arrays(self, symbol, path, struct, length, inner):
+    def inner_arrays(self, symbol, path, struct, length):
         """The arrays in the structs of an array: all of them after one another, in a global array."""
-        for step, field in self.program.structs[struct].fields.items():
-            way = path + inner + (step,)
+        for step, field in self.structs[struct].fields.items():
             if field.type.kind == "struct":
-                self.inner_arrays(symbol, path, field.type.name, length, inner + (step,))
+                self.inner_arrays(symbol, path + (step,), field.type.name, length)
             elif field.type.kind == "array":
-                from .ctype import array
-                if field.type.base().kind == "mutex" or True:
-                    self.global_array(symbol, way, array(field.type, length), field.content, None, field.place)
+                self.global_array(symbol, path + (step,), array(field.type, length), field.content, None)
 
-    def condition_cells(self, name, companion, lock, context, place, dynamic=""):
+    def condition_cells(self, name, companion, lock, context):
         """A condition variable: a pointer to the condition and one to a mutex of its own, both locked by its mutex."""
-        if lock is None:
-            return
-        path = context[1](lock) if isinstance(lock, str) else self.piece_name(lock, ())
-        self.emit(f"struct cond dynamic * locked({path}) {name};", place)
-        self.emit(f"mutex racy * locked({path}) {companion};", place)
+        if lock is not None:
+            path = context[1](lock) if isinstance(lock, str) else self.piece_name(lock, ())
+            self.emit(f"struct cond dynamic * locked({path}) {name}; mutex racy * locked({path}) {companion};")
 
     def initialisers(self):
         """What main assigns before everything else."""
-        self.function, self.depth = self.program.functions["main"], 1
-        self.own_names = set()
-        for symbol, path, expr in self.later:
-            base = self.global_place(symbol, (), symbol.type)
-            self.store(self.walk(base, path), expr, symbol.init_place)
-            self.note(symbol.place, f"the initialiser of {symbol.name} is executed by main")
-        lines, self.lines = self.lines, []
+        self.function, self.depth = self.functions["main"], 1
+        for symbol, path, item in self.later:
+            self.here = symbol.place_of_initial
+            self.store(self.walked(self.variable_place(symbol), path), item)
+            self.note(f"the initialiser of {symbol.name} is executed by main")
+        self.here, lines, self.lines = self.function.place, self.lines, []
         data = [byte for text in self.text_pool for byte in text]
-        if data and self.reads_strings():
-            places = [(symbol.place) for symbol in [self.program.functions["main"]]]
-            for at in range(0, len(data), 16):
-                text = " ".join(f"{self.program.strings.out}[{at + k}] = {byte};" for k,
-                                byte in enumerate(data[at : at + 16]) if byte)
-                if text:
-                    self.emit(text, places[0])
+        for at in range(0, len(data) if self.reads_strings else 0, 16):
+            texts = [f"{self.strings.out}[{at + k}] = {byte};" for k, byte in enumerate(data[at : at + 16]) if byte]
+            self.emit(" ".join(texts) or ";")
         self.lines += lines
-
-    def reads_strings(self):
-        return True
 
     def dispatchers(self):
         """Functions that call one of several by its number."""
-        done = 0
-        while done < len(self.calls_by):
-            root = list(self.calls_by)[done]
-            done += 1
-            name, kind, functions, place = self.calls_by[root]
-            names = [f"p{number_of}" for number_of in range(len(kind.params))]
-            texts = [f"{self.type_text(param.bare(), root.argument(number_of), place)} {names[number_of]}"
-                     for number_of, param in enumerate(kind.params)]
-            result = f"struct {self.struct_name(kind.to.name)} *" if kind.to.kind == "struct" else \
-                self.type_text(kind.to.bare(), root.argument("result"), place)
-            self.emit(f"{result} {name}({', '.join(['int function'] + texts)}) {{", place)
+        for root, (name, kind, functions, place) in self.calls_by.items():
+            self.here, names = place, [f"p{at}" for at in range(len(kind.params))]
+            texts = ["int function"] + [f"{self.type_text(param.bare(), root.part('argument', at))} {names[at]}"
+                                        for at, param in enumerate(kind.params)]
+            self.emit(f"{self.result_type(kind.to.bare(), root.part('result'))} {name}({', '.join(texts)}) {{")
             for symbol in functions:
-                if len(symbol.params) != len(kind.params) or any(param.text for param in symbol.params):
-                    self.refuse(place, f"call through a pointer of {symbol.name}, which has other parameters")
+                if len(symbol.params) != len(kind.params) or any(p.type.kind == "struct" for p in symbol.params):
+                    self.refuse(place, f"call through a pointer of {symbol.name}, with a struct or other parameters")
                 call = f"{self.function_name(symbol)}({', '.join(names)});"
                 text = f"{{ {call} return; }}" if kind.to.kind == "void" else f"return {call}"
-                self.emit(f"  if (function == {self.function_number(symbol)}) {text}", place)
+                self.emit(f"  if (function == {self.numbers[symbol]}) {text}")
             self.emit("  int zero = 0; zero = 1 / zero;", (f"{place[0]}: call through NULL", place[1]))
-            self.emit("}", None)
+            self.close()
 
     # ---- structs
 
     def struct_text(self, name):
-        struct = self.program.structs[name]
-        self.emit(f"struct {self.struct_names[name]} {{", struct.place)
-        self.depth = 1
+        struct = self.structs[name]
+        self.here = struct.place
+        self.emit(f"struct {self.struct_names[name]} {{")
         count = len(self.lines)
-        self.struct_fields(name, name, ())
+        self.inside(lambda: self.members(name, (), lambda path: self.leaf(name, path), lambda path, field, context:
+                                         self.array_field(self.leaf(name, path), field, context)))
         if len(self.lines) == count:
-            self.emit("char unused;", struct.place)
-        self.depth = 0
-        self.emit("};", None)
+            self.emit("char unused;")
+        self.close("};")
 
-    def struct_fields(self, name, top, prefix):
-        context = (name, lambda head: self.leaf(top, prefix + (head,)))
-        for step, field in self.program.structs[name].fields.items():
-            kind, path = field.type, prefix + (step,)
-            if kind.kind == "struct":
-                self.struct_fields(kind.name, top, path)
-                continue
-            if kind.kind == "cond":
-                self.condition_cells(self.leaf(top, path), self.leaf(top, path + ("m",)),
-                                     self.monitors.lock_of_field(name, step), context, field.place)
-                continue
-            if kind.base().kind in ("cond", "attr", "bad"):
-                continue
-            if kind.kind != "array":
-                text = self.type_text(kind, field.content, field.place, context, False)
-                self.emit(f"{text} {self.leaf(top, path)};", field.place)
-                continue
-            base = kind.base()
-            if representation(field.made, field.place) == "none" or not field.made.find().heap:
-                continue
-            if base.kind == "mutex":
-                self.refuse(field.place, "array of mutexes in a struct that is pointed to")
-            base = base if base.mode or base.atomic else base.marked(kind.mode or "dynamic")
-            text = self.type_text(base, field.content, field.place, context, False)
-            boxes = " * readonly" if self.boxed_field(field) else ""
-            self.emit(f"{text}{boxes} * readonly {self.leaf(top, path)};", field.place)
+    def array_field(self, name, field, context):
+        """An array in a struct: a pointer to an object of its own."""
+        base = field.type.base()
+        if base.kind == "cond" or not field.made.find().heap:
+            return
+        if base.kind == "mutex":
+            self.refuse(field.place, "array of mutexes in a struct that is pointed to")
+        base = base if base.mode or base.atomic else base.with_(mode=field.type.mode or "dynamic")
+        boxes = " * readonly" * (self.how(field.made, field.place) == "boxes")
+        self.emit(f"{self.type_text(base, field.content, context, False)}{boxes} * readonly {name};")
 
     def records(self):
         """Globals and structs that the program did not have: results of threads, strings, the mutex of atomics."""
-        for symbol in self.program.giving:
-            param = symbol.params[0]
-            self.emit(f"struct {symbol.record} {{", symbol.place)
-            self.emit(f"  {self.type_text(param.type.bare(), param.content, symbol.place)} arg;", symbol.place)
-            self.emit(f"  {self.type_text(symbol.type.to.bare(), symbol.content, symbol.place)} result;", symbol.place)
-            self.emit("};", symbol.place)
-            self.emit(f"struct {symbol.record} dynamic * {symbol.table}[32];", symbol.place)
-        if self.text_pool:
-            self.emit(f"char racy {self.program.strings.out}[{sum(map(len, self.text_pool))}];", None)
+        for symbol in self.giving:
+            param, self.here = symbol.params[0], symbol.place
+            self.emit(f"struct {symbol.record} {{")
+            self.emit(f"  {self.type_text(param.type.bare(), param.content)} arg;")
+            self.emit(f"  {self.type_text(symbol.type.to.bare(), symbol.content)} result;")
+            self.emit("};")
+            self.emit(f"struct {symbol.record} dynamic * {symbol.table}[32];")
+        if self.text_pool and self.reads_strings:
+            self.close(f"char racy {self.piece_name(self.strings, ())}[{sum(map(len, self.text_pool))}];")
+        if len(self.functions["main"].params) > 1:
+            self.close(f"int {self.piece_name(self.words, ())}[{self.words.type.length}];")
         if self.needs_atomics:
-            self.emit(f"mutex {self.needs_atomics};", None)
+            self.close(f"mutex {self.needs_atomics};")
 
-    def helper_lines(self):
-        names = self.arithmetic.helpers
-        return [(("what C does that the language does not", at + 1), 0, HELPERS[name].format(**names))
-                for at, name in enumerate(names)]
+    def helpers(self):
+        for name in list(self.arithmetic.helpers):
+            for line in self.arithmetic.helper_text(name).split("\n"):
+                self.emit(line, ("what C does that the language does not", len(self.lines) + 1))
 
 
 def text_of(lines):

@@ -1,4 +1,4 @@
-#define errno __sharc_errno()
+#define errno 0
 #define EPERM 1
 #define ENOENT 2
 #define ESRCH 3

@@ -1,7 +1,9 @@
 #ifndef SHARC_FRONT_PTHREAD_H
 #define SHARC_FRONT_PTHREAD_H
 #include <stddef.h>
+#include <sched.h>
 #include <time.h>
+#include <sharc_front.h>
 /* the names of these four are what the front looks at */
 typedef unsigned long pthread_mutex_t;
 typedef unsigned long pthread_cond_t;
@@ -11,9 +13,12 @@ typedef int pthread_t;
 typedef int pthread_key_t;
 typedef int pthread_mutexattr_t;
 typedef int pthread_condattr_t;
-typedef struct { pthread_mutex_t guard; pthread_cond_t changed; int readers; int writer; } pthread_rwlock_t;
-typedef struct { pthread_mutex_t guard; pthread_cond_t changed; int needed; int waiting; long round; } pthread_barrier_t;
-typedef struct { pthread_mutex_t guard; pthread_cond_t changed; int done; } pthread_once_t;
+#define __LOCKED __mode_locked(guard)
+typedef struct { pthread_mutex_t guard; pthread_cond_t changed; int __LOCKED readers;
+                 int __LOCKED writer; } pthread_rwlock_t;
+typedef struct { pthread_mutex_t guard; pthread_cond_t changed; int __LOCKED needed; int __LOCKED waiting;
+                 long __LOCKED round; } pthread_barrier_t;
+typedef struct { pthread_mutex_t guard; int __LOCKED done; } pthread_once_t;
 #define PTHREAD_MUTEX_INITIALIZER __sharc_init
 #define PTHREAD_COND_INITIALIZER __sharc_init
 #define PTHREAD_RWLOCK_INITIALIZER __sharc_init
@@ -24,4 +29,87 @@ typedef struct { pthread_mutex_t guard; pthread_cond_t changed; int done; } pthr
 #define PTHREAD_SCOPE_SYSTEM 0
 #define PTHREAD_PROCESS_PRIVATE 0
 #define PTHREAD_CANCELED ((void *) -1)
+static inline int pthread_mutex_init(pthread_mutex_t *m, void *none) { return 0; }
+static inline int pthread_mutex_destroy(pthread_mutex_t *m) { return 0; }
+static inline int pthread_cond_init(pthread_cond_t *c, void *none) { return 0; }
+static inline int pthread_cond_destroy(pthread_cond_t *c) { return 0; }
+static inline int pthread_spin_init(pthread_spinlock_t *m, int shared) { return 0; }
+static inline int pthread_spin_destroy(pthread_spinlock_t *m) { return 0; }
+static inline int pthread_spin_lock(pthread_spinlock_t *m) { return pthread_mutex_lock(m); }
+static inline int pthread_spin_unlock(pthread_spinlock_t *m) { return pthread_mutex_unlock(m); }
+static inline int pthread_attr_init(pthread_attr_t *a) { return 0; }
+static inline int pthread_attr_destroy(pthread_attr_t *a) { return 0; }
+static inline int pthread_attr_setdetachstate(pthread_attr_t *a, int state) { return 0; }
+static inline int pthread_attr_setstacksize(pthread_attr_t *a, size_t size) { return 0; }
+static inline int pthread_attr_setscope(pthread_attr_t *a, int scope) { return 0; }
+static inline int pthread_detach(pthread_t thread) { return 0; }
+static inline int pthread_setconcurrency(int level) { return 0; }
+static inline int pthread_rwlock_init(pthread_rwlock_t *l, void *none) { return 0; }
+static inline int pthread_rwlock_destroy(pthread_rwlock_t *l) { return 0; }
+static inline int pthread_barrier_destroy(pthread_barrier_t *b) { return 0; }
+static inline int pthread_rwlock_rdlock(pthread_rwlock_t *l)
+{
+    pthread_mutex_lock(&l->guard);
+    while (l->writer)
+        pthread_cond_wait(&l->changed, &l->guard);
+    l->readers++;
+    pthread_mutex_unlock(&l->guard);
+    return 0;
+}
+static inline int pthread_rwlock_wrlock(pthread_rwlock_t *l)
+{
+    pthread_mutex_lock(&l->guard);
+    while (l->writer || l->readers)
+        pthread_cond_wait(&l->changed, &l->guard);
+    l->writer = 1;
+    pthread_mutex_unlock(&l->guard);
+    return 0;
+}
+static inline int pthread_rwlock_unlock(pthread_rwlock_t *l)
+{
+    pthread_mutex_lock(&l->guard);
+    if (l->writer)
+        l->writer = 0;
+    else
+        l->readers--;
+    pthread_cond_broadcast(&l->changed);
+    pthread_mutex_unlock(&l->guard);
+    return 0;
+}
+static inline int pthread_barrier_init(pthread_barrier_t *b, void *none, unsigned n)
+{
+    pthread_mutex_lock(&b->guard);
+    b->needed = n;
+    b->waiting = 0;
+    pthread_mutex_unlock(&b->guard);
+    return 0;
+}
+static inline int pthread_barrier_wait(pthread_barrier_t *b)
+{
+    int last = 0;
+    pthread_mutex_lock(&b->guard);
+    b->waiting++;
+    if (b->waiting == b->needed) {
+        last = PTHREAD_BARRIER_SERIAL_THREAD;
+        b->waiting = 0;
+        b->round++;
+        pthread_cond_broadcast(&b->changed);
+    } else {
+        long round = b->round;
+        while (b->round == round)
+            pthread_cond_wait(&b->changed, &b->guard);
+    }
+    pthread_mutex_unlock(&b->guard);
+    return last;
+}
+static inline int pthread_once(pthread_once_t *o, void (*f)(void))
+{
+    pthread_mutex_lock(&o->guard);
+    if (!o->done) {
+        o->done = 1;
+        f();
+    }
+    pthread_mutex_unlock(&o->guard);
+    return 0;
+}
 #endif

@@ -319,7 +319,8 @@ class Generator:
         self.variables.append(("n", "int", 0, 1000))
         self.lines += [f"static void f{number}(int n)", "{"]
         for at, kind in enumerate(self.random.sample(kinds, 4)):
-            self.emit(f"{kind} v{at} = {self.pick('n', '1', '(n & 3)', '-1') if kind not in ('enum mood', '_Bool') else '1'};")
+            first = self.pick("n", "1", "(n & 3)", "-1") if kind not in ("enum mood", "_Bool") else "1"
+            self.emit(f"{kind} v{at} = {first};")
             self.variables.append((f"v{at}", kind, *limits(kind)))
         self.emit("struct pair p = { 3, 4 }, q = { .y = 9 };")
         self.emit("struct all a = { 5, { 1, 2 }, { 1, 2, 3, 4 }, { { 1 }, { 4, 5, 6 } } };")
@@ -338,7 +339,8 @@ class Generator:
                                                                                    "signed char", -128, 127)]
         for _ in range(5):
             self.statement(3)
-        self.emit("q = swapped(p); *pp = q; whole.in = *pp; bump(&u16, n * 200); k0 += turn(u16) + (unsigned int) twice(q.x);")
+        self.emit("q = swapped(p); *pp = q; whole.in = *pp; bump(&u16, n * 200);"
+                  " k0 += turn(u16) + (unsigned int) twice(q.x);")
         for name, kind, *_ in self.variables[len(kept):]:
             self.emit(f'printf("%ld\\n", (long) {name});')
         self.emit('printf("%u %d %u\\n", k0, u16, q.y);')

@@ -1,0 +1,49 @@
+/* What the other headers are made of.
+ *
+ * The front lowers C functions of these headers that are called. An inline function is copied to each call: its
+ * parameters stand for the arguments, which are evaluated once, and it returns at its end. There __sharc_value is the
+ * type that the first parameter points to, and an argument for a parameter with the name `none` has to be NULL.
+ */
+#ifndef SHARC_FRONT_H
+#define SHARC_FRONT_H
+typedef long __sharc_value;
+#define __FETCH(name, operator) \
+    static inline __sharc_value name(__sharc_value *p, long v) \
+    { \
+        __sharc_value old; \
+        __sharc_lock_atomics(); \
+        old = *p; \
+        *p = (unsigned long) old operator (unsigned long) v; \
+        __sharc_unlock_atomics(); \
+        return old; \
+    }
+__FETCH(atomic_fetch_add, +)
+__FETCH(atomic_fetch_sub, -)
+__FETCH(atomic_fetch_or, |)
+__FETCH(atomic_fetch_and, &)
+__FETCH(atomic_fetch_xor, ^)
+#define __sync_fetch_and_add(p, v) atomic_fetch_add(p, v)
+#define __sync_fetch_and_sub(p, v) atomic_fetch_sub(p, v)
+#define __sync_fetch_and_or(p, v) atomic_fetch_or(p, v)
+#define __sync_fetch_and_and(p, v) atomic_fetch_and(p, v)
+#define __sync_fetch_and_xor(p, v) atomic_fetch_xor(p, v)
+#define __sync_synchronize() ((void) 0)
+static inline __sharc_value __sync_add_and_fetch(__sharc_value *p, long v)
+{
+    __sharc_value now;
+    __sharc_lock_atomics();
+    *p = (unsigned long) *p + (unsigned long) v;
+    now = *p;
+    __sharc_unlock_atomics();
+    return now;
+}
+static inline __sharc_value __sync_sub_and_fetch(__sharc_value *p, long v)
+{
+    __sharc_value now;
+    __sharc_lock_atomics();
+    *p = (unsigned long) *p - (unsigned long) v;
+    now = *p;
+    __sharc_unlock_atomics();
+    return now;
+}
+#endif
