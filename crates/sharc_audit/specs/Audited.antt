@@ -8,7 +8,7 @@ use Rattle.sharc_meaning.specs.Obeys.{Obeys, until_return}
 use Rattle.sharc_meaning.specs.Runs.{SourceRunWith}
 use Rattle.sharc_meaning.specs.Store.{MayCome}
 use Rattle.sharc_judge.specs.declared.rule.Rule.{Rule}
-use Rattle.sharc_judge.specs.Judged.{number, IsLowestBroken}
+use Rattle.sharc_judge.specs.Judged.{IsLowestBroken}
 use Rattle.sharc_audit.specs.declared.audit.EventFault.{EventFault}
 use Rattle.sharc_audit.specs.declared.audit.EventFault.TheVariants as fault
 use Rattle.sharc_audit.specs.declared.audit.Verdict.{Verdict}

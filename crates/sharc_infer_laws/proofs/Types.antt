@@ -1,13 +1,12 @@
 -- What `well_formed` says of the type of an entity is reported of it.
-use Rattle.std.proofs.Common.{◌≡◌, ℕ, zero, suc, ◌+◌, ◌<◌, ◌≤◌, ◌==◌, Bool, true, false, not, ◌&&◌, ◌||◌, cond, List, [], ◌∷◌, ◌++◌, length, map, take, drop, get_or, Option, Some, None, is_some, refl, ap, sym, ◌∙◌, subst, arith}
-use Rattle.std.specs.Prelude.{Contains, slice_index_or}
+use Rattle.std.proofs.Common.{◌≡◌, ℕ, zero, suc, ◌+◌, ◌<◌, Bool, true, false, not, ◌&&◌, ◌||◌, cond, List, [], ◌∷◌, ◌++◌, length, map, take, drop, get_or, Option, Some, None, is_some, refl, ap, sym, ◌∙◌, subst, arith}
+use Rattle.std.specs.Prelude.{Contains}
 use Rattle.std.specs.List.{AllByRecursion, flat_map, list_any}
 use Rattle.std.specs.Option.{option_or}
 use Rattle.std.proofs.lemmas.Bool.{false≢true}
 use Rattle.std.proofs.lemmas.List.{drop-drop}
 use Rattle.sharc_tree.specs.declared.ctype.Base.{Base}
 use Rattle.sharc_tree.specs.declared.ctype.Base.TheVariants as base
-use Rattle.sharc_tree.specs.declared.ctype.CType.{CType}
 use Rattle.sharc_tree.specs.declared.ctype.Path.{Path}
 use Rattle.sharc_tree.specs.declared.ctype.Mode.{Mode}
 use Rattle.sharc_tree.specs.declared.ctype.Mode.TheVariants.{Private, Racy}
@@ -18,20 +17,18 @@ use Rattle.sharc_names.specs.declared.types.Role.TheVariants as role
 use Rattle.sharc_ctype.specs.declared.entity.Entity.{Entity}
 use Rattle.sharc_ctype.specs.declared.entity.Numbered.{Numbered}
 use Rattle.sharc_ctype.specs.Entities.{entities_in, first_depth, numbered, numbered_from, positions_of, written_modes}
-use Rattle.sharc_ctype.specs.Resolved.{Resolution}
 use Rattle.sharc_mode.specs.declared.error.ErrorCode.{ErrorCode}
 use Rattle.sharc_mode.specs.declared.error.ErrorCode.TheVariants.{PrivateTarget, LockPathNotConstant, ModeNotAllowed, PrivateField}
-use Rattle.sharc_mode.specs.declared.error.ModeError.{ModeError}
 use Rattle.sharc_mode.specs.declared.finding.Finding.{Finding}
 use Rattle.sharc_mode.specs.declared.finding.Finding.TheVariants.{Wrong, Names, Takes}
 use Rattle.sharc_mode.specs.Flows.{IsLeastAssignment}
 use Rattle.sharc_mode.specs.Laws.{SettledStay, SettledAreCounted}
 use Rattle.sharc_mode.specs.Moded.{Assignment, position_count}
 use Rattle.sharc_mode.specs.Notes.{error, mismatch, no_type, error_where, top_levels, position_levels, levels_of, printed_type, private_notes, path_notes, mode_notes, is_private_level, is_field_role, private_field_notes, names_of, names_in, names_in_level, type_notes}
-use Rattle.sharc_mode.specs.Settled.{is_mutex, settled, field_target, otherwise_of, settled_modes, settled_in, settled_at}
+use Rattle.sharc_mode.specs.Settled.{is_mutex, settled, field_target, otherwise_of, settled_modes, settled_in}
 use Rattle.sharc_mode.specs.Sharings.{Sharing, private, readonly, locked, racy, dynamic, sharing_of, text_at, object_of}
 use Rattle.sharc_mode.specs.WellFormed.{place_of, is_private_mode, begins_private, holds_private, meant, first_unfit_path, first_unfit_mode, lowest}
-use Rattle.sharc_infer_laws.specs.Types.{code_of, IsTold, IsToldOf, TypesAreTold}
+use Rattle.sharc_infer_laws.specs.Types.{code_of, IsTold, TypesAreTold}
 
 -- ---- levels that are known more of than others
 

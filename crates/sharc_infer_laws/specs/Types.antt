@@ -1,5 +1,5 @@
 -- What `well_formed` says of the type of an entity, beside what the checker reports of it.
-use Rattle.std.specs.Prelude.{◌≡◌, ℕ, Option, Some, None, Contains}
+use Rattle.std.specs.Prelude.{◌≡◌, Option, Some, None, Contains}
 use Rattle.sharc_ctype.specs.declared.entity.Numbered.{Numbered}
 use Rattle.sharc_ctype.specs.Entities.{entities_in, numbered}
 use Rattle.sharc_mode.specs.declared.error.ErrorCode.{ErrorCode}

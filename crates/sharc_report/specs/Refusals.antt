@@ -1,6 +1,5 @@
 -- The line that says where and why a source is refused.
-use Rattle.std.specs.Prelude.{ℕ, ◌==◌, List, [], ◌++◌, length, codes, decimal, if◌then◌else◌}
-use Rattle.sharc_tree.specs.declared.token.FaultAt.{FaultAt}
+use Rattle.std.specs.Prelude.{ℕ, ◌==◌, List, ◌++◌, length, codes, decimal, if◌then◌else◌}
 use Rattle.sharc_lex.specs.declared.fault.Fault.{Fault as LexerFault}
 use Rattle.sharc_lex.specs.declared.fault.Fault.TheVariants.{Byte, Number, Marker, Identifier, Character}
 use Rattle.sharc_lex.specs.Faults as lexer
