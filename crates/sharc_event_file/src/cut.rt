@@ -71,8 +71,8 @@ fn before(n: u32, cut: Cut) -> Front
     }
 }
 
-/// How many events of the run an event file has: the longest front part of them that has lines, no more than a file may have, and that
-/// `audit` accepts with the greatest fuel.
+/// How many events of the run an event file has: the longest front part of them that has lines, no more than a file may
+/// have, and that `audit` accepts with the greatest fuel.
 pub fn front_of(alloc: Global, checked: &Checked, events: &[Event]) -> Result<Front, AllocError>
     ensures { IfOk result (IsFront checked.now events.now) }
 {

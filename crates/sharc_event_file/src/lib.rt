@@ -1,7 +1,7 @@
 //! The event file of a run: which of its events it has, and its text.
 //!
-//! `front_of` answers how many of the first events have lines that `audit` accepts (`IsFront` of specs/Cut.antt), and `file_text` the text
-//! of the file with these (specs/Writing.antt).
+//! `front_of` answers how many of the first events have lines that `audit` accepts (`IsFront` of specs/Cut.antt), and
+//! `file_text` the text of the file with these (specs/Writing.antt).
 #![tactic(auto)]
 
 mod cut;

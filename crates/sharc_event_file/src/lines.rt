@@ -235,8 +235,8 @@ fn in_range(thread: u32) -> u32
     thread
 }
 
-/// The line of an event file that is that of this event, if a line can say it: none can say what is done with a condition variable, nor
-/// numbers that no object, cell or name of a program has.
+/// The line of an event file that is that of this event, if a line can say it: none can say what is done with a
+/// condition variable, nor numbers that no object, cell or name of a program has.
 pub(crate) fn line_of(
     alloc: Global,
     typed: &Typed,

@@ -28,7 +28,8 @@ elements_behind _ number earlier = earlier
 abbrev pub told_events : Code → Shape → List Turn → List SourceEvent
 told_events code s turns = map (λ said. said.told) (Erase code s turns)
 
--- a checked run whose turns these places choose, and which ends where no thread may make a turn; these are its events, in their order
+-- a checked run whose turns these places choose, and which ends where no thread may make a turn; these are its events,
+-- in their order
 pub record IsHistory (code : Code) (s : Shape) (places : List (ℕ × ℕ)) (limit : ℕ) (h : History) : Type 0 where
   pub turns : List Turn
   pub checked : CheckedRun code s turns

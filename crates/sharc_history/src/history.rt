@@ -19,8 +19,9 @@ pub struct History {
     pub lasts: Vec<Last>,
 }
 
-/// The events of the run of this code in which turn `i` is made by the thread at the place that is written for it, if there is one and it is
-/// below the number of threads that are enabled, and else by the first. No thread makes more than `limit` events.
+/// The events of the run of this code in which turn `i` is made by the thread at the place that is written for it, if
+/// there is one and it is below the number of threads that are enabled, and else by the first. No thread makes more
+/// than `limit` events.
 ///
 /// An `Err` says that memory was not found.
 pub fn history_by_schedule(

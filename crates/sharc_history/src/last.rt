@@ -29,7 +29,8 @@ pub struct Last {
     pub halt: Halt,
 }
 
-// More events than a thread may make, so that a thread that is not enabled with this limit waits, is stopped or is gone.
+// More events than a thread may make, so that a thread that is not enabled with this limit waits, is stopped or is
+// gone.
 const NO_LIMIT: u64 = 100_000_001;
 
 // Why this thread, which has this number, makes no turn, if it waits or was stopped.

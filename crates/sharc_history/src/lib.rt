@@ -1,7 +1,7 @@
 //! The source events of the run that a schedule chooses.
 //!
-//! `history_by_schedule` makes that run, and answers its events in their order and where each thread then is; `specs/History.antt` says what they
-//! are to the run.
+//! `history_by_schedule` makes that run, and answers its events in their order and where each thread then is;
+//! `specs/History.antt` says what they are to the run.
 #![tactic(auto)]
 
 mod elements;

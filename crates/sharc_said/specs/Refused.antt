@@ -16,7 +16,8 @@ accessed code m (Exchange r cell site) = Some (cell_at code m cell)
 accessed code m (TakeCell r cell site) = Some (cell_at code m cell)
 accessed code m _ = None
 
--- A check of a read or a write has its cell; behind that of a lock is the access; and a test of references has its object, of which it is the first cell
+-- A check of a read or a write has its cell; behind that of a lock is the access; and a test of references has its
+-- object, of which it is the first cell
 abbrev pub checked : Code → Machine → Instr → Option CellAt
 checked code m (ChkRead cell site) = Some (cell_at code m cell)
 checked code m (ChkWrite cell site) = Some (cell_at code m cell)

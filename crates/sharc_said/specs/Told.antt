@@ -167,7 +167,8 @@ tried n (nexts.Joins v) found = if found == 0 || (found == 1 || found == 2) then
 tried n (nexts.Wakes c) found = if waits_in found n then None else Some (Woken (at c))
 tried n _ found = None
 
--- what the turn of this thread tells, where its step found this, and the object of which it speaks has this many elements
+-- what the turn of this thread tells, where its step found this, and the object of which it speaks has this many
+-- elements
 abbrev pub told_of : ℕ → Next → ℕ → ℕ → Option Bare
 told_of n nexts.Nothing found elements = None
 told_of n (nexts.Reads c) found elements = Some (Read (at c) (int_of found))

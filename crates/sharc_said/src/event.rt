@@ -192,8 +192,8 @@ impl Coming {
     }
 }
 
-/// The event of a turn of this thread, if it is one, where its step found this, and the object of which it speaks has this many
-/// elements.
+/// The event of a turn of this thread, if it is one, where its step found this, and the object of which it speaks has
+/// this many elements.
 pub fn event_of(coming: Coming, thread: u32, found: u64, elements: u64) -> Option<Event>
     requires { thread < THREADS }
     ensures { (code : Code) → option_map (told code) result ≡ comes code thread coming found elements }

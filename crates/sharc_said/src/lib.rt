@@ -1,7 +1,8 @@
 //! Which event of the source a turn is, computed.
 //!
-//! `next_of` answers what is known of a thread's next turn before it is made, and `event_of` the event by what its step found.
-//! `specs/Told.antt` says what both have in common with `says` of sharc_code, which tells the event of each turn of a machine.
+//! `next_of` answers what is known of a thread's next turn before it is made, and `event_of` the event by what its step
+//! found. `specs/Told.antt` says what both have in common with `says` of sharc_code, which tells the event of each turn
+//! of a machine.
 #![tactic(auto)]
 
 mod cells;
