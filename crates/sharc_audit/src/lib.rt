@@ -1,7 +1,7 @@
 //! Event files, and whether their events are a run of the program that obeys the modes.
 //!
-//! The layer above may use `file::read_events` (`IsEventFile`, `IsFirstBad` and `HasMany` of specs/Grammar.antt), `audit::audit` (`Audits` of specs/Audited.antt) and the
-//! lines of `text` (specs/Texts.antt). The laws of src/laws.rt say that a text is one event file at most, and that a list of event lines has one verdict.
+//! The layer above may use `file::read_events` (`IsEventFile`, `IsFirstBad` and `HasMany` of specs/Grammar.antt), `audit::audit` (`Audits` of specs/Audited.antt), the
+//! lines of `text` (specs/Texts.antt), and `is_name` (`IsName` of specs/Grammar.antt). The laws of src/laws.rt say that a text is one event file at most, and that a list of event lines has one verdict.
 #![tactic(auto)]
 
 pub mod audit;
@@ -16,3 +16,5 @@ mod since;
 pub mod text;
 mod threads;
 mod words;
+
+pub use words::is_name;

@@ -32,6 +32,7 @@ impl Thread {
     ghost use Rattle.sharc_word.specs.declared.step.TheConstants.{THREADS as threads};
     ghost use Rattle.sharc_shadow.specs.Accesses.{note_of, site_at};
     ghost use Rattle.sharc_code.specs.Layout.{Fits};
+    ghost use Rattle.sharc_code.specs.Machine.{int, ref};
     ghost use Rattle.sharc_code.specs.Path.{begun};
     ghost use Rattle.sharc_code.specs.Stages.{begins_of};
     ghost use Rattle.sharc_cpu.specs.Thread.{IsThread};
@@ -99,6 +100,41 @@ impl Thread {
             Stage::Begins(number) => Some(number),
             _ => None,
         }
+    }
+
+    /// The place of its next instruction.
+    pub fn pc(&self) -> usize
+        ensures { result ≡ self.now.machine.at.pc }
+    {
+        self.at.pc
+    }
+
+    /// The integer in a register of its frame.
+    pub fn int(&self, register: u32) -> i64
+        ensures { result ≡ int self.now.machine register }
+    {
+        self.parts.int(self.at, register)
+    }
+
+    /// The reference in a register of its frame.
+    pub fn reference(&self, register: u32) -> u64
+        ensures { result ≡ ref self.now.machine register }
+    {
+        self.parts.reference(self.at, register)
+    }
+
+    /// How far its next instruction has come.
+    pub fn stage(&self) -> Stage
+        ensures { result ≡ self.now.machine.own.stage }
+    {
+        self.parts.stage
+    }
+
+    /// The number of its function.
+    pub fn function(&self) -> u64
+        ensures { result ≡ self.now.machine.own.function }
+    {
+        self.parts.function
     }
 
     /// The events that it has made.

@@ -1,10 +1,10 @@
 -- A New on its way, turn by turn: what it asks for, and how it goes on when it is given what its step found.
-use Rattle.std.specs.Prelude.{◌≡◌, ℕ, List}
+use Rattle.std.specs.Prelude.{◌≡◌, ℕ, List, Option, Some, None}
 use Rattle.sharc_granule.specs.declared.arguments.NewArguments.{NewArguments}
 use Rattle.sharc_granule.specs.declared.stage.NewTurn.{NewTurn}
 use Rattle.sharc_granule.specs.declared.stage.NewTurn.TheVariants.{Do, Made, HeapFull}
 use Rattle.sharc_granule.specs.declared.stage.Stage.{Stage}
-use Rattle.sharc_granule.specs.declared.stage.Stage.TheVariants.{Begins}
+use Rattle.sharc_granule.specs.declared.stage.Stage.TheVariants.{Begins, Length}
 use Rattle.sharc_granule.specs.Asks.{Asks, head_after}
 use Rattle.sharc_granule.specs.Stages.{turn_of_stage, next_stage, next_head, IsAtStage}
 
@@ -29,6 +29,11 @@ told state found = record {
 -- what it asked for last
 abbrev pub turn_of : NewView → NewTurn
 turn_of state = turn_of_stage state.arguments state.stage
+
+-- the header of the block whose length it asked to write last, with the elements of the object
+abbrev pub sized : NewArguments → Stage → Option (ℕ × ℕ)
+sized a (Length header) = Some (header, a.elements)
+sized a _ = None
 
 -- the turn is a step, whose result the next call is given
 abbrev pub IsStep : NewTurn → Type 0

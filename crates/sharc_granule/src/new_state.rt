@@ -31,7 +31,7 @@ impl Model for NewState {
 
 impl NewState {
     ghost use Rattle.sharc_granule.specs.Block.{block_of};
-    ghost use Rattle.sharc_granule.specs.State.{begun, told, turn_of};
+    ghost use Rattle.sharc_granule.specs.State.{begun, told, turn_of, sized};
 
     /// A New of this many elements with this many cells in all, in the arena that ends before granule `end`, where `first` is
     /// the number of the word of the first cell of granule 0, and `head` the first freed block of this size on the thread's
@@ -70,6 +70,16 @@ impl NewState {
         ensures { result ≡ self.now.arguments.block }
     {
         self.arguments.block
+    }
+
+    /// The header of the block whose length the New asked to write last, with the elements of the object, if that is what it asked for.
+    pub fn sized(&self) -> Option<(u64, u64)>
+        ensures { result ≡ sized self.now.arguments self.now.stage }
+    {
+        match self.stage {
+            Stage::Length(header) => Some((header, self.arguments.elements)),
+            _ => None,
+        }
     }
 
     /// What the New asked for last; before the first call of `next` nothing, which is reported as a full heap.

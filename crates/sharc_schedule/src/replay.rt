@@ -10,8 +10,10 @@ use sharc_code::{Code, Shape};
 use sharc_seq::{Chooser, SeqRun, run_seq};
 use std::alloc::{AllocError, Global};
 
-// After how many turns each place ends.
-fn ends_of(alloc: Global, places: &[(u32, u32)]) -> Result<Vec<u64>, AllocError>
+/// After how many turns each place ends.
+///
+/// An `Err` says that memory was not found.
+pub fn ends_of(alloc: Global, places: &[(u32, u32)]) -> Result<Vec<u64>, AllocError>
     requires { length places.now ≤ 1073741824 }
     ensures count { IfOk result (λ ends. length ends.items ≡ length places.now) }
     ensures each { IfOk result (λ ends. (k : ℕ) → k < length places.now → get_or ends.items k 0 ≡ total (take (k + 1) places.now)) }
@@ -25,8 +27,8 @@ fn ends_of(alloc: Global, places: &[(u32, u32)]) -> Result<Vec<u64>, AllocError>
     Ok(ends)
 }
 
-// The place of a turn, if one is written for it and is below the count, and else the first.
-fn place_at(places: &[(u32, u32)], ends: &[u64], turn: u64, count: u64) -> u64
+/// The place of a turn, if one is written for it and is below the count, and else the first.
+pub fn place_at(places: &[(u32, u32)], ends: &[u64], turn: u64, count: u64) -> u64
     requires count { length ends.now ≡ length places.now }
     requires each { (k : ℕ) → k < length places.now → get_or ends.now k 0 ≡ total (take (k + 1) places.now) }
     ensures is { result ≡ stored places.now turn count }

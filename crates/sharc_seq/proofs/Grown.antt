@@ -15,6 +15,7 @@ use Rattle.sharc_code.specs.Path.{turn, after, asked_by, TurnLeads, may_go, coun
 use Rattle.sharc_code.specs.Runs.{Turn, turn_with, result_of, step_of, IsOf, put, words_now, state_now, made_now, after_turn, Answered, MayTurn, is_started, threads_of}
 use Rattle.sharc_code.specs.Stages.{begins_of}
 use Rattle.sharc_code.specs.StandingLaws.{StandingLaws}
+use Rattle.sharc_code.specs.ThreadLaws.{found_now}
 use Rattle.sharc_code.specs.Whole.{one_thread, bounds, place_after, event_in}
 use Rattle.sharc_cpu.specs.Thread.{ThreadView}
 use Rattle.sharc_threads.specs.Ends.{Standing, is_enabled}
@@ -22,7 +23,7 @@ use Rattle.sharc_threads.specs.Laws.{TableLaws}
 use Rattle.sharc_threads.specs.Seats.{Sits, IsSeat, AreSeats, AreOf, may_turn_at, left, left_to}
 use Rattle.sharc_seq.specs.declared.walk.Walk.{Walk}
 use Rattle.sharc_seq.specs.Run.{enabled, IsChosen}
-use Rattle.sharc_seq.specs.Walk.{IsThreadAt, MadeTurn, MadeTurnAt, ToldAt, Began, StandsAt, WentOn, numbers_of, has_step, has_event}
+use Rattle.sharc_seq.specs.Walk.{IsThreadAt, MadeTurn, MadeTurnAt, ToldAt, FoundAt, Began, StandsAt, WentOn, numbers_of, has_step, has_event}
 use Rattle.sharc_seq.proofs.Made.{both, lt_true}
 use Rattle.sharc_seq.proofs.Choosing.{picked, any_default, filter_same, filter_less}
 
@@ -51,6 +52,10 @@ asked t (Asks step go) found = refl
 has_both : (t : ℕ) (a : Act) (found : ℕ) → has_event (event_in t a found) ≡ has_step (asked_by a)
 has_both t (Local m) found = refl
 has_both t (Asks step go) found = refl
+
+found_both : (t : ℕ) (a : Act) (found : ℕ) (words now : List ℕ) → TurnLeads LeadsInWords t a found (place_of_words words) (place_of_words now) → found_now words a ≡ result_of (event_in t a found)
+found_both t (Local m) found words now h = refl
+found_both t (Asks step go) found words now h = sym h.may_follow.result_is
 
 own : (t : ℕ) (a : Act) (found : ℕ) → IsOf t (event_in t a found)
 own t (Local m) found = tt
@@ -82,6 +87,9 @@ module _ (code : Code) (s : Shape) (g : Standing) (t : ℕ) (old new : ThreadVie
 
   new_made : new.made ≡ made_now (one_thread code s) g this_turn
   new_made = made.made ∙ ap (λ n. n + 1) is.made_is ∙ sym made_more
+
+  pub found_this : found_now g.words (turn code s (g.threads t)) ≡ result_of this_turn.event
+  found_this = found_both t (turn code s (g.threads t)) made.found g.words now led
 
   pub new_words : words_now g.words this_turn.event ≡ now
   new_words = words_are t (turn code s (g.threads t)) made.found g.words now led
@@ -282,14 +290,15 @@ module _ (standing : StandingLaws) (laws : TableLaws) (code : Code) (s : Shape) 
     }
 
     went_by : (begins : Option ℕ) → begins ≡ begins_of was.machine.own.stage → Began code s new.port.port begins seats new.threads.seats.items old.started.items new.started.items
-        → new.port.told ≡ has_step (asked_by (turn code s was.machine)) → WentOn code s t turns new.port.told new
-    went_by begins is all told =
+        → new.port.told ≡ has_step (asked_by (turn code s was.machine)) → new.port.found ≡ found_now g.words (turn code s was.machine) → WentOn code s t turns new.port.told new
+    went_by begins is all told found =
         let then = began begins is all in
         record {
           one = this;
           own = refl;
           counts = ap (λ (m : Machine). counted m.at.state) (sym (stands code s g t was now new.port.port started_g sits_t made)) ∙ made.event;
           told_is = told ∙ ap (λ (m : Machine). has_step (asked_by (turn code s m))) sits_t.machine ∙ sym (has_both t (turn code s (g.threads t)) made.found);
+          found_is = found ∙ ap (λ (m : Machine). found_now g.words (turn code s m)) sits_t.machine ∙ found_this code s g t was now new.port.port started_g sits_t made;
           stands = record {
             count = made.count ∙ ap (λ (ws : List ℕ). length ws) (sym walk.words) ∙ walk.count;
             run = (walk.run, may);
@@ -319,11 +328,11 @@ module _ (standing : StandingLaws) (laws : TableLaws) (code : Code) (s : Shape) 
     pub went : WentOn code s t turns new.port.told new
     pub less : left limit new.threads.seats.items < left limit old.threads.seats.items
 
-  pub grown : (x y : Option ThreadView) (begins : Option ℕ) → get_or old.threads.seats.items t None ≡ x → MadeTurnAt code s g.words new.port.port x y begins → ToldAt code s x new.port.told
+  pub grown : (x y : Option ThreadView) (begins : Option ℕ) → get_or old.threads.seats.items t None ≡ x → MadeTurnAt code s g.words new.port.port x y begins → ToldAt code s x new.port.told → FoundAt code s g.words x new.port.found
       → Began code s new.port.port begins (set old.threads.seats.items t y) new.threads.seats.items old.started.items new.started.items → Grown
-  grown None y begins at made told all = absurd made
-  grown (Some was) None begins at made told all = absurd made
-  grown (Some was) (Some now) begins at made told all = record { went = went_by was now at made.0 begins made.1 all told; less = less_by was now at made.0 begins all }
+  grown None y begins at made told found all = absurd made
+  grown (Some was) None begins at made told found all = absurd made
+  grown (Some was) (Some now) begins at made told found all = record { went = went_by was now at made.0 begins made.1 all told found; less = less_by was now at made.0 begins all }
 
 -- it does not matter by which run it is determined who is enabled
 pub enabled_too : (laws : TableLaws) (code : Code) (s : Shape) (limit : ℕ) (one other : List Turn) (walk : Walk) (t : ℕ) → StandsAt code s one walk → StandsAt code s other walk

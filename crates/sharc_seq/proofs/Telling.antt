@@ -1,4 +1,4 @@
--- A quantum of one turn over a port that reports whether it made a step.
+-- A quantum of one turn over a port that reports whether it made a step, and what that found.
 use Rattle.std.proofs.Common.{◌≡◌, ℕ, ◌+◌, Bool, true, false, List, [], ◌∷◌, length, refl, sym, ap, ◌∙◌, subst, arith}
 use Rattle.sharc_word.specs.declared.step.WordEvent.{WordEvent}
 use Rattle.sharc_word.specs.Place.{Place, Leads, LeadsInWords, place_of_words}
@@ -6,10 +6,11 @@ use Rattle.sharc_code.specs.declared.code.Code.{Code}
 use Rattle.sharc_code.specs.declared.shape.Shape.{Shape}
 use Rattle.sharc_code.specs.Machine.{Turn, Local, Asks}
 use Rattle.sharc_code.specs.Path.{turn, asked_by, events_of_turn, events_of_path, made_in}
+use Rattle.sharc_code.specs.ThreadLaws.{found_now}
 use Rattle.sharc_cpu.specs.Thread.{ThreadView}
 use Rattle.sharc_cpu.specs.Quantum.{IsQuantum}
 use Rattle.sharc_cpu.specs.declared.quantum.Pause.{Pause}
-use Rattle.sharc_seq.specs.Told.{as_number, place_told, told_in, words_in, LeadsTold}
+use Rattle.sharc_seq.specs.Told.{as_number, place_told, told_in, found_in, words_in, LeadsTold}
 use Rattle.sharc_seq.specs.Walk.{has_step}
 
 leads_words : (events : List WordEvent) (from to : Place) → Leads LeadsTold from events to → Leads LeadsInWords (place_of_words (words_in from.words)) events (place_of_words (words_in to.words))
@@ -22,12 +23,17 @@ number_is false false e = refl
 number_is true false e = absurd (omega (arith, e))
 number_is false true e = absurd (omega (arith, e))
 
-turn_told : (t : ℕ) (a : Turn) (found : ℕ) (told : Bool) (words now : List ℕ) → Leads LeadsTold (place_told false words) (events_of_turn t a found) (place_told told now) → told ≡ has_step (asked_by a)
-turn_told t (Local m) found told words now h = number_is told false (sym (ap (λ (p : Place). told_in p.words) h))
-turn_told t (Asks step go) found told words now h = number_is told true (sym (ap (λ (p : Place). told_in p.words) h.2) ∙ h.1.told)
+turn_told : (t : ℕ) (a : Turn) (result : ℕ) (told : Bool) (found : ℕ) (words now : List ℕ) → Leads LeadsTold (place_told false 0 words) (events_of_turn t a result) (place_told told found now) → told ≡ has_step (asked_by a)
+turn_told t (Local m) result told found words now h = number_is told false (sym (ap (λ (p : Place). told_in p.words) h))
+turn_told t (Asks step go) result told found words now h = number_is told true (sym (ap (λ (p : Place). told_in p.words) h.2) ∙ h.1.told)
 
-module _ (code : Code) (s : Shape) (limit : ℕ) (words now : List ℕ) (told : Bool) (old new : ThreadView) (pause : Pause)
-    (q : IsQuantum (λ thread. Unit {0}) LeadsTold code s 1 limit old new (place_told false words) (place_told told now) pause) where
+-- it found what the word held
+turn_found : (t : ℕ) (a : Turn) (result : ℕ) (told : Bool) (found : ℕ) (words now : List ℕ) → Leads LeadsTold (place_told false 0 words) (events_of_turn t a result) (place_told told found now) → found ≡ found_now words a
+turn_found t (Local m) result told found words now h = sym (ap (λ (p : Place). found_in p.words) h)
+turn_found t (Asks step go) result told found words now h = sym (ap (λ (p : Place). found_in p.words) h.2) ∙ h.1.found ∙ h.1.leads.may_follow.result_is
+
+module _ (code : Code) (s : Shape) (limit : ℕ) (words now : List ℕ) (told : Bool) (found : ℕ) (old new : ThreadView) (pause : Pause)
+    (q : IsQuantum (λ thread. Unit {0}) LeadsTold code s 1 limit old new (place_told false 0 words) (place_told told found now) pause) where
   -- it is one over the words alone
   pub in_words : IsQuantum (λ thread. Unit {0}) LeadsInWords code s 1 limit old new (place_of_words words) (place_of_words now) pause
   in_words = record {
@@ -38,7 +44,7 @@ module _ (code : Code) (s : Shape) (limit : ℕ) (words now : List ℕ) (told : 
       founds = q.goes.founds;
       path = q.goes.path;
       machine = q.goes.machine;
-      led = λ u. leads_words (events_of_path code s old.machine q.goes.founds) (place_told false words) (place_told told now) (q.goes.led u);
+      led = λ u. leads_words (events_of_path code s old.machine q.goes.founds) (place_told false 0 words) (place_told told found now) (q.goes.led u);
       turns_are = q.goes.turns_are;
       made_are = q.goes.made_are;
     };
@@ -48,14 +54,25 @@ module _ (code : Code) (s : Shape) (limit : ℕ) (words now : List ℕ) (told : 
     ran = q.ran;
   }
 
-  by_founds : (founds : List ℕ) → q.goes.founds ≡ founds → new.made ≡ old.made + 1 → told ≡ has_step (asked_by (turn code s old.machine))
+  record Tells : Type 0 where
+    step : told ≡ has_step (asked_by (turn code s old.machine))
+    finds : found ≡ found_now words (turn code s old.machine)
+
+  by_founds : (founds : List ℕ) → q.goes.founds ≡ founds → new.made ≡ old.made + 1 → Tells
   by_founds [] e more = absurd (omega (arith, q.made, more, q.goes.made_are ∙ ap (made_in code s old.machine) e))
-  by_founds (found ∷ []) e more =
-      turn_told old.machine.own.number (turn code s old.machine) found told words now
-      (subst (λ (xs : List ℕ). Leads LeadsTold (place_told false words) (events_of_path code s old.machine xs) (place_told told now)) e (q.goes.led tt))
+  by_founds (result ∷ []) e more =
+      let led = subst (λ (xs : List ℕ). Leads LeadsTold (place_told false 0 words) (events_of_path code s old.machine xs) (place_told told found now)) e (q.goes.led tt) in
+      record {
+        step = turn_told old.machine.own.number (turn code s old.machine) result told found words now led;
+        finds = turn_found old.machine.own.number (turn code s old.machine) result told found words now led;
+      }
   by_founds (one ∷ other ∷ rest) e more =
       absurd (omega (arith, q.few, q.goes.turns_are ∙ ap (λ (xs : List ℕ). length xs) e))
 
   -- it reports whether the turn asked for a step
   pub tells : new.made ≡ old.made + 1 → told ≡ has_step (asked_by (turn code s old.machine))
-  tells more = by_founds q.goes.founds refl more
+  tells more = (by_founds q.goes.founds refl more).step
+
+  -- and what that found
+  pub finds : new.made ≡ old.made + 1 → found ≡ found_now words (turn code s old.machine)
+  finds more = (by_founds q.goes.founds refl more).finds

@@ -3,3 +3,4 @@ pub mod Run
 pub mod Told
 pub mod Walk
 pub mod Table
+pub mod Laws

@@ -10,12 +10,13 @@ use Rattle.sharc_code.specs.declared.shape.Shape.{Shape}
 use Rattle.sharc_code.specs.Layout.{words_of}
 use Rattle.sharc_code.specs.Path.{turn, after, asked_by, counted, TurnLeads}
 use Rattle.sharc_code.specs.Opening.{opening_words}
-use Rattle.sharc_code.specs.Runs.{Turn, IsRun, opening_of, state_now}
+use Rattle.sharc_code.specs.ThreadLaws.{found_now}
+use Rattle.sharc_code.specs.Runs.{Turn, IsRun, opening_of, result_of, state_now}
 use Rattle.sharc_code.specs.Stages.{begins_of}
 use Rattle.sharc_code.specs.Whole.{one_thread, bounds, place_after}
 use Rattle.sharc_cpu.specs.Thread.{ThreadView, IsThread}
 use Rattle.sharc_threads.specs.Ends.{is_enabled}
-use Rattle.sharc_threads.specs.Seats.{AreSeats, HasBegun, left}
+use Rattle.sharc_threads.specs.Seats.{AreSeats, HasBegun, IsSeat, left}
 use Rattle.sharc_seq.specs.declared.walk.Walk.{Walk}
 
 -- ---- a turn that made one event
@@ -52,6 +53,11 @@ abbrev pub ToldAt : Code → Shape → Option ThreadView → Bool → Type 0
 ToldAt code s (Some old) told = told ≡ has_step (asked_by (turn code s old.machine))
 ToldAt code s None told = ⊥
 
+-- and what its step found, else 0
+abbrev pub FoundAt : Code → Shape → List ℕ → Option ThreadView → ℕ → Type 0
+FoundAt code s words (Some old) found = found ≡ found_now words (turn code s old.machine)
+FoundAt code s words None found = ⊥
+
 -- ---- threads that begin
 -- the numbers of the threads that are there
 abbrev pub numbers_of : List (Option ThreadView) → List ℕ
@@ -79,16 +85,21 @@ pub record StandsAt (code : Code) (s : Shape) (turns : List Turn) (walk : Walk) 
 abbrev pub IsWalk : Code → Shape → Walk → Type 0
 IsWalk code s walk = (turns : List Turn) × StandsAt code s turns walk
 
+-- the thread of this number is there as this, if it was started
+abbrev pub IsThreadThere : Code → Shape → List Turn → ℕ → Option ThreadView → Type 0
+IsThreadThere code s turns t seat = IsSeat code s (place_after code s turns).threads (place_after code s turns).made (place_after code s turns).started t seat
+
 -- and this thread is enabled there
 abbrev pub MayGoOn : Code → Shape → ℕ → ℕ → Walk → Type 0
 MayGoOn code s limit t walk = (turns : List Turn) × StandsAt code s turns walk × (is_enabled code s limit (place_after code s turns) t ≡ true)
 
--- the run has one more turn, of this thread. It is no failed try, and it is known whether it has a word operation
+-- the run has one more turn, of this thread. It is no failed try, and it is known whether it has a word operation, and what that found, else 0
 pub record WentOn (code : Code) (s : Shape) (t : ℕ) (turns : List Turn) (told : Bool) (walk : Walk) : Type 0 where
   pub one : Turn
   pub own : one.thread ≡ t
   pub counts : counted (state_now (one_thread code s) (place_after code s turns) one).at.state ≡ 1
   pub told_is : told ≡ has_event one.event
+  pub found_is : walk.port.found ≡ result_of one.event
   pub stands : StandsAt code s (one ∷ turns) walk
 
 -- the events that are left to all threads

@@ -2,11 +2,13 @@
 //!
 //! `run_seq` runs a code: among the threads that are enabled the `Chooser` says who makes the next turn, until none is. `specs/Run.antt` says
 //! who is chosen, and what a run is that was chosen: a checked run of `sharc_code`, with the threads and the end of `sharc_threads`.
-//! `seeded` is the choice by a number. A `Walk` is a run of which the caller picks each turn; `specs/Walk.antt` says where it is.
+//! `seeded` is the choice by a number. A `Walk` is a run of which the caller picks each turn; `specs/Walk.antt` says where it is, and
+//! `enabled_laws` what is known of the threads that it lists.
 #![tactic(auto)]
 
 mod choice;
 mod chooser;
+mod laws;
 mod run;
 mod table;
 mod told;
@@ -15,6 +17,7 @@ mod walk;
 
 pub use choice::seeded;
 pub use chooser::Chooser;
+pub use laws::enabled_laws;
 pub use run::{SeqRun, run_seq};
 pub use sharc_threads::End;
 pub use walk::Walk;

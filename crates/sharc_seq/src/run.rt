@@ -43,7 +43,7 @@ fn finish(alloc: Global, table: Table) -> Result<SeqRun, AllocError>
         started: _,
         port,
     } = walk;
-    let ToldPort { port, told: _ } = port;
+    let ToldPort { port, .. } = port;
     let end = threads.end(port.words());
     Ok(SeqRun {
         schedule,

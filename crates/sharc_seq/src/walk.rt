@@ -1,6 +1,7 @@
 //! A run whose turns the caller picks.
 
 ghost use Rattle.std.specs.Prelude.{◌≡◌, ◌<◌, ◌≤◌, ℕ, [], None, true, List, length, filter, is_some, IfOk, OnOk, slice_index, slice_index_or};
+ghost use Rattle.std.specs.Option.{option_copied};
 ghost use Rattle.std.specs.List.{range_with_len};
 ghost use Rattle.sharc_word.specs.declared.step.TheConstants.{THREADS as threads};
 ghost use Rattle.sharc_code.specs.declared.code.Code.{Code};
@@ -11,11 +12,12 @@ ghost use Rattle.sharc_code.specs.Whole.{place_after};
 ghost use Rattle.sharc_threads.specs.Ends.{is_enabled};
 ghost use Rattle.sharc_threads.specs.Seats.{has_number, may_turn_at};
 ghost use Rattle.sharc_seq.specs.Run.{enabled};
-ghost use Rattle.sharc_seq.specs.Walk.{Began, HaveBegun, StandsAt, IsWalk, MayGoOn, WentOn, events_left};
+ghost use Rattle.sharc_seq.specs.Walk.{Began, HaveBegun, StandsAt, IsWalk, IsThreadThere, MayGoOn, WentOn, events_left};
 
 use crate::told::ToldPort;
 use crate::turn::turn_at;
 use sharc_code::{Code, Shape, fits_law, opening, standing_laws};
+use sharc_cpu::Thread;
 use sharc_threads::{ThreadTable, may_turn_at, table_laws};
 use sharc_word::{MemPort, THREADS};
 use std::alloc::{AllocError, Global};
@@ -119,8 +121,28 @@ impl Walk {
         Ok(Walk {
             threads,
             started,
-            port: ToldPort { port, told: false },
+            port: ToldPort {
+                port,
+                told: false,
+                found: 0,
+            },
         })
+    }
+
+    /// The thread of this number, if it was started.
+    pub fn thread(&self, number: u8) -> Option<&Thread>
+        requires number { number < threads }
+        requires walk { (code : Code) × (s : Shape) × IsWalk code s self.now }
+        ensures { (code : Code) (s : Shape) (turns : List Turn) → StandsAt code s turns self.now → IsThreadThere code s turns number (option_copied result) }
+    {
+        self.threads.seats[number as usize].as_ref()
+    }
+
+    /// What the word operation of the last turn found; 0 where it had none.
+    pub fn found(&self) -> u64
+        ensures { result ≡ self.now.port.found }
+    {
+        self.port.found
     }
 
     /// Whether the thread of this number is enabled.

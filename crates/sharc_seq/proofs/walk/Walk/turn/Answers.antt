@@ -3,7 +3,7 @@ use Rattle.std.proofs.lemmas.List.{length-set}
 use Rattle.sharc_code.specs.Whole.{place_after}
 use Rattle.sharc_cpu.specs.Thread.{ThreadView}
 use Rattle.sharc_seq.specs.declared.walk.Walk.{Walk}
-use Rattle.sharc_seq.specs.Walk.{MadeTurnAt, Began}
+use Rattle.sharc_seq.specs.Walk.{MadeTurnAt, FoundAt, Began}
 use Rattle.sharc_seq.proofs.Choosing.{any_default}
 use Rattle.sharc_seq.proofs.Grown.{sits, grown, enabled_too}
 use Rattle.sharc_seq.proofs.walk.Walk.turn.Goals as goal
@@ -70,6 +70,7 @@ returns-clause-went c = λ turns stands.
     x y begins (sym is)
     (subst (λ (ws : List ℕ). MadeTurnAt code s ws c.turn_at.new.port.port x y begins) stands.words c.in_ok-begins.ensures.turn)
     c.in_ok-begins.ensures.told
+    (subst (λ (ws : List ℕ). FoundAt code s ws x c.turn_at.new.port.found) stands.words c.in_ok-begins.ensures.found)
     (subst (λ (ws : List ℕ). Began code s ws begins (set seats number y) c.begin.new.table.seats.items walk.started.items c.begin.new.started.items) c.words-now.ensures c.in_ok-begin.ensures)).went
 
 pub returns-clause-less : goal.returns-clause-less
@@ -90,4 +91,5 @@ returns-clause-less c =
     x y begins (sym is)
     (subst (λ (ws : List ℕ). MadeTurnAt code s ws c.turn_at.new.port.port x y begins) m.1.words c.in_ok-begins.ensures.turn)
     c.in_ok-begins.ensures.told
+    (subst (λ (ws : List ℕ). FoundAt code s ws x c.turn_at.new.port.found) m.1.words c.in_ok-begins.ensures.found)
     (subst (λ (ws : List ℕ). Began code s ws begins (set seats number y) c.begin.new.table.seats.items walk.started.items c.begin.new.started.items) c.words-now.ensures c.in_ok-begin.ensures)).less

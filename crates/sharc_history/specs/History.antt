@@ -1,0 +1,38 @@
+-- The source events of a run by a schedule.
+use Rattle.std.specs.Prelude.{ℕ, ◌≡◌, ◌==◌, false, List, map, reverse, nat_eq, if◌then◌else◌}
+use Rattle.std.specs.HashMap.{get, HashMap}
+use Rattle.std.specs.Option.{unwrap_or}
+use Rattle.sharc_tree.specs.declared.event.SourceEvent.{SourceEvent}
+use Rattle.sharc_code.specs.declared.code.Code.{Code}
+use Rattle.sharc_code.specs.declared.shape.Shape.{Shape}
+use Rattle.sharc_code.specs.Runs.{Turn}
+use Rattle.sharc_code.specs.Says.{number_of}
+use Rattle.sharc_code.specs.Whole.{CheckedRun, Erase, place_after}
+use Rattle.sharc_schedule.specs.Schedule.{Stored}
+use Rattle.sharc_seq.specs.Run.{AreChosen}
+use Rattle.sharc_threads.specs.Ends.{is_enabled}
+use Rattle.sharc_said.specs.Told.{Bare, New, told, told_of_event}
+use Rattle.sharc_history.specs.declared.history.History.{History}
+
+-- ---- the elements of objects
+abbrev pub elements_of : {S : Type 0} → HashMap ℕ ℕ S → ℕ → ℕ
+elements_of made number = unwrap_or (get nat_eq made number) 0
+
+-- behind an event
+abbrev pub elements_behind : Bare → ℕ → ℕ → ℕ
+elements_behind (New elements answer) number earlier = if number_of answer == number then elements else earlier
+elements_behind _ number earlier = earlier
+
+-- ---- the events
+-- those that a run reports, the newest first
+abbrev pub told_events : Code → Shape → List Turn → List SourceEvent
+told_events code s turns = map (λ said. said.told) (Erase code s turns)
+
+-- a checked run whose turns these places choose, and which ends where no thread may make a turn; these are its events,
+-- in their order
+pub record IsHistory (code : Code) (s : Shape) (places : List (ℕ × ℕ)) (limit : ℕ) (h : History) : Type 0 where
+  pub turns : List Turn
+  pub checked : CheckedRun code s turns
+  pub chosen : AreChosen (Stored places) code s limit turns
+  pub over : (t : ℕ) → is_enabled code s limit (place_after code s turns) t ≡ false
+  pub events : map (told code) h.events.items ≡ map told_of_event (reverse (told_events code s turns))
