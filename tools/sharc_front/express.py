@@ -5,7 +5,7 @@ from copy import copy
 
 from pycparser import c_ast as A
 
-from .ctype import BITS, CELL, CHAR, INT, LONG, ULONG, VOID, Type, array, pointer, promoted, usual, wrapped
+from .ctype import BITS, CHAR, INT, LONG, ULONG, VOID, Type, array, pointer, promoted, usual, wrapped
 from .declare import Symbol, place_of
 from .places import HEAP, MOVED, Place, Places
 from .values import COMPARISONS, PRIMARY, Value, cell, number, scaled, summed
