@@ -109,6 +109,8 @@ class Declarations:
             return self.specified(node)
         kind = pointer(self.type(node.type)) if isinstance(node, A.PtrDecl) else self.type(node.type)
         mode, words = self.source.qualified(node.quals)
+        if "_Atomic" in words and kind.kind != "int":
+            self.refuse(node, f"_Atomic {kind.shown()}")
         return kind.with_(mode=mode or kind.mode, atomic=kind.atomic or "_Atomic" in words,
                           const=kind.const or "const" in words)
 

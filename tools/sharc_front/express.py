@@ -1,10 +1,11 @@
 """Expressions: each as a place or a value with its C type (C11 6.5), after the statements that come before it."""
 
 import re
+from copy import copy
 
 from pycparser import c_ast as A
 
-from .ctype import BITS, CELL, CHAR, INT, LONG, ULONG, VOID, Type, array, pointer, promoted, usual, wrapped
+from .ctype import BITS, CHAR, INT, LONG, ULONG, VOID, Type, array, pointer, promoted, usual, wrapped
 from .declare import Symbol, place_of
 from .places import HEAP, MOVED, Place, Places
 from .values import COMPARISONS, PRIMARY, Value, cell, number, scaled, summed
@@ -209,7 +210,7 @@ class Expressions(Places):
     def x_StructRef(self, node, use):
         base = self.visit(node.name, STABLE if use is STABLE else VALUE)
         if node.type == "->":
-            base = self.deref(self.loaded(base) if isinstance(base, Place) else base)
+            base = self.deref(self.loaded(base) if isinstance(base, Place) else base, once=use is STABLE)
         base = base.struct if isinstance(base, Value) else base
         if base is None or base.type.kind != "struct":
             self.refuse(node, "member of what is no struct")
@@ -227,9 +228,7 @@ class Expressions(Places):
         base, other = self.value(node.name), node.subscript
         if base.type.kind == "int":
             base, other = self.value(node.subscript), node.name
-        if use is STABLE and base.reads and base.array is None and self.how(base.node, self.here) == "global":
-            base = self.spilled(base)
-        return self.deref(base, self.index(other, use))
+        return self.deref(base, self.index(other, use), use is STABLE)
 
     def x_CompoundLiteral(self, node, _):
         kind = self.type(node.type)
@@ -254,9 +253,8 @@ class Expressions(Places):
             return self.changed(inner, op[-1], lambda: number(1).typed(INT), use, after=op[0] == "p")
         value = self.value(inner)
         if op == "*":
-            if use is STABLE and value.reads:
-                value = self.spilled(value) if self.how(value.node, self.here) == "global" else value
-            return value if value.type.kind == "ptr" and value.type.to.kind == "func" else self.deref(value)
+            function = value.type.kind == "ptr" and value.type.to.kind == "func"
+            return value if function else self.deref(value, once=use is STABLE)
         if op == "!":
             return self.compared("==", value, number(0).typed(INT))
         name = promoted(self.integers(value)[0].type.name)
@@ -626,10 +624,10 @@ class Expressions(Places):
     def bound(self, param, arg):
         """What a parameter stands for: a place, an array, or a value that does not change."""
         if isinstance(arg, A.UnaryOp) and arg.op == "&" and param.kind == "ptr" and param.to.kind != "func":
-            made = self.visit(arg.expr, STABLE)
-            if isinstance(made, Place) and (made.type.kind != "int" or made.form != "index"):
-                self.accesses.pop(made.access, None)
-                return Value("", object=made, type=pointer(made.type), node=self.address_class(made))
+            bytes_ = param.to.name == "char"
+            made = self.visit(arg.expr, STABLE) if not bytes_ or isinstance(arg.expr, A.ArrayRef) else None
+            if isinstance(made, Place):
+                return self.bound_place(made, bytes_, param.to.kind == "void")
         value = self.value(arg)
         if param.kind == "ptr":
             fixed = value.array or value.function or value.null() or value.place and not value.place.reads
@@ -638,6 +636,17 @@ class Expressions(Places):
                 return Value("", object=self.deref(value), type=param, node=value.node)
             return value
         return value if value.unit else self.stable(self.fitting(value, param, None))
+
+    def bound_place(self, place, bytes_, void):
+        """`&place` as an argument: elements of an array from that on, or one object."""
+        self.accesses.pop(place.access, None)
+        if place.form == "index" and place.type.kind != "array" and (bytes_ or void):
+            whole = copy(place.parent)
+            whole.start = place.offset
+            return self.decayed(whole)
+        if bytes_:
+            return self.address(place)
+        return Value("", object=place, type=pointer(place.type), node=self.address_class(place))
 
     def in_line(self, symbol, args, node):
         """A call of a function of the headers."""

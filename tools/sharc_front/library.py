@@ -137,7 +137,9 @@ class Library(Statements):
             made = number(size.low // bytes_of_one)
         else:
             made = size if bytes_of_one == 1 else self.refuse(node, "size that is not a number of elements")
-        if not (to.text and other.text) and made.text != "1":
+        for side in (to, other):
+            side.single = not side.text
+        if (to.single or other.single) and made.text != "1":
             self.refuse(node, "size of more than the object")
         return made.typed(LONG)
 

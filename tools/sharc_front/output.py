@@ -3,7 +3,7 @@ was in C."""
 
 from pycparser import c_ast as A
 
-from .ctype import BAD, CHAR, Type, array, pointer
+from .ctype import BAD, CHAR, array, pointer
 from .declare import Symbol, place_of
 from .locks import Event, Held, Monitors
 from .source import HEADERS, Refusal
@@ -81,10 +81,6 @@ class Front(Threads):
             place.access = (self.inlined, id(node))
             self.accesses[place.access] = Event("access", self, place)
         return place
-
-    @staticmethod
-    def start_of(_):
-        return Held()
 
     # ---- outside functions
 

@@ -169,6 +169,7 @@ class Places(Declarations):
             made = Place("cells", base.text, kind, content=base.content, boxes=base.boxes, flat=base.flat, start=at)
         else:
             made = self.element_at(base, at, kind)
+        made.offset = at
         return made.formed("index", base, index.null())
 
     def element_at(self, base, at, kind):
@@ -186,11 +187,13 @@ class Places(Declarations):
             return Place("fields", pointer_value.at_level(PRIMARY) + "->", kind, top=kind.name, pointer=pointer_value)
         return Place("cell", "*" + pointer_value.at_level(UNARY), kind, content=content, pointer=pointer_value)
 
-    def deref(self, value, index=None):
-        """Element `index` of what a pointer points to."""
+    def deref(self, value, index=None, once=False):
+        """Element `index` of what a pointer points to; `once`: the text of the place may be written twice."""
         index = index or number(0)
-        if value.object is not None and (index.null() or not value.text):
+        if value.object is not None and (index.null() or value.single):
             return value.object
+        if value.object is not None and not value.text:
+            self.refuse(self.here, "element of a single object")
         if value.array is not None:
             return self.element(value.array, index)
         if value.type.kind != "ptr" or value.type.to.kind == "void":
@@ -198,14 +201,14 @@ class Places(Declarations):
         self.points(value.node, value.type)
         if not index.null():
             value.node.find().indexed = self.here
-        return self.at(value, index, value.type.to).formed("at", value, index.null())
+        return self.at(value, index, value.type.to, once).formed("at", value, index.null())
 
-    def at(self, value, index, kind):
+    def at(self, value, index, kind, once):
         node = value.node
         how = self.how(node, self.here)
         if how not in ("global", *HEAP):
             self.refuse(self.here, "use of a pointer that is always NULL" if how == "none" else NUMBER)
-        if value.calls:
+        if value.calls or once and value.reads and how == "global":
             value = self.spilled(value)
         if how == "global":
             return self.element_of_global(value, index, kind)

@@ -6,6 +6,7 @@ from pycparser import c_ast as A
 
 from .ctype import BAD, Type, promoted
 from .declare import Symbol, place_of
+from .locks import Held
 from .objects import Objects
 from .source import Refusal
 from .values import PRIMARY, number
@@ -268,7 +269,7 @@ class Statements(Objects):
     def walk_function(self, symbol):
         """Reads a function's body: to learn, or to write it."""
         self.function, self.loops, self.locals, self.own_names, self.visible = symbol, [], 0, set(), {}
-        self.held, self.here = self.start_of(symbol), symbol.place
+        self.held, self.here = Held(), symbol.place
         self.merged = {} if symbol.name == "main" else self.merging(symbol)
         self.scoped(lambda: self.function_parts(symbol))
         self.emit("}")

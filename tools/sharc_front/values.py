@@ -26,8 +26,7 @@ class Value:
 
     `type` is its type in C, and `node` the class of what it points to. Where it is known: `place` is what it was read
     from, `array` the array to whose first element it points, `object` the place whose address it is, `function` the
-    function, `unit` the type and the factors of a size, `malloc` those of an object that is to be made, `struct` the
-    place of a struct.
+    function, `unit` the type and the factors of a size, `struct` the place of a struct.
     """
 
     def __init__(self, text, level=PRIMARY, low=0, high=0, wide=False, **parts):
@@ -35,7 +34,8 @@ class Value:
         self.height, self.calls, self.reads, self.const = 1, False, False, False
         self.base, self.shift = None, 0  # of a sum with a constant: the other part, and the constant
         self.type = self.node = self.place = self.array = self.object = self.function = None
-        self.unit = self.malloc = self.struct = None
+        self.unit = self.struct = None
+        self.single = False  # whether it points to one object alone
         self.__dict__.update(parts)
 
     def at_level(self, level):
@@ -54,7 +54,7 @@ class Value:
         """The same value, as one of this type."""
         made = Value("")
         made.__dict__.update(self.__dict__)
-        made.__dict__.update(type=type, node=node, place=None, array=None, object=None, unit=None, malloc=None)
+        made.__dict__.update(type=type, node=node, place=None, array=None, object=None, unit=None)
         made.__dict__.update(parts)
         return made
 
