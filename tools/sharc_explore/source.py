@@ -114,7 +114,7 @@ class Source:
             while self.tokens[head].text != ";":
                 head = self.close(head) if self.tokens[head].text in "([" else head + 1
             called = {self.tokens[i].text for i in range(at, head) if self.tokens[i + 1].text == "("}
-            kind = next((kind for kind in KINDS if kind in called | {word}), "step")
+            kind = next((kind for kind in KINDS if kind in called or kind == word == "return"), "step")
             behind = head + 1
         text = self.text[self.tokens[at].start:self.tokens[max(head - 1, at)].end]
         text, place = re.sub(r"\s+(#.*\s+)*", " ", text), self.tokens[at].place
